@@ -1,0 +1,57 @@
+-- What a call of document 01 comes to: its values, or a refusal. And what each case of the answer enums of this layer is
+-- in these words. Definitions only.
+use Prim.Native.Nat.{ℕ}
+use mathlib.Core.Bool.{Bool, cond}
+use mathlib.Core.List.{List, [], _++_}
+use lib.ListN.{length, drop}
+use lib.Dec.{leb}
+use Rattle.lengths.specs.Refusals.{refusal, noRoom}
+use Rattle.lengths.specs.declared.Refusal.{Refusal}
+use Rattle.lengths.specs.declared.Length.{Length}
+use Rattle.lengths.specs.declared.Length.the-variants as length
+use Rattle.lengths.specs.declared.Written.{Written}
+use Rattle.lengths.specs.declared.Written.the-variants as written
+
+-- the values, or why it is refused
+pub data Answer (A : Type 0) : Type 0 where
+  done : A → Answer A
+  refused : Refusal → Answer A
+
+-- the answer that is document 01's refusal n
+abbrev pub refuse : {A : Type 0} → ℕ → Answer A
+refuse n = refused (refusal n)
+
+-- one step after the other: the first refusal is the whole's
+abbrev pub _>>=_ : {A B : Type 0} → Answer A → (A → Answer B) → Answer B
+_>>=_ (done a) next = next a
+_>>=_ (refused r) next = refused r
+
+-- a length as read: its value, and how many octets it took
+pub record LengthAnswer : Type 0 where
+  pub value : ℕ
+  pub size : ℕ
+
+-- each case of the length reader's answer, in document 01's number and values
+abbrev pub lengthOutcome : Length → Answer LengthAnswer
+lengthOutcome (length.Value v n) = done (record { value = v; size = n })
+lengthOutcome (length.Refused r) = refused r
+
+-- each case of a writer's answer, in document 01's number and value: how many octets were written
+abbrev pub writtenOutcome : Written → Answer ℕ
+writtenOutcome (written.Octets n) = done n
+writtenOutcome (written.Refused r) = refused r
+
+-- 13: the result is longer than the lent buffer
+abbrev pub fitted : Answer (List ℕ) → List ℕ → Answer (List ℕ)
+fitted (done octets) old = cond (leb (length octets) (length old)) (done octets) (refuse noRoom)
+fitted (refused r) old = refused r
+
+-- the number of octets that a writer answers with
+abbrev pub sizeOf : Answer (List ℕ) → Answer ℕ
+sizeOf (done octets) = done (length octets)
+sizeOf (refused r) = refused r
+
+-- "Every call that writes to a lent buffer writes its front, and the rest stays"; a refusal changes nothing
+abbrev pub over : Answer (List ℕ) → List ℕ → List ℕ
+over (done octets) old = octets ++ drop (length octets) old
+over (refused r) old = old

@@ -1,0 +1,42 @@
+-- The claims of this crate: statements alone. Definitions only.
+use Prim.Native.Nat.{ℕ, _≤_, _<_}
+use mathlib.Core.Path.{_≡_}
+use mathlib.Core.List.{List, [], _∷_, _++_}
+use lib.ListN.{length, getD, take}
+use Rattle.lengths.specs.Refusals.{badForm}
+use Rattle.lengths.specs.Answers.{Answer, done, refuse, LengthAnswer}
+use Rattle.lengths.specs.Length.{lengthAt, lengthOctets, lengthLimit}
+use Rattle.lengths.specs.Promise.{LengthRead, Puts}
+use Rattle.lengths.specs.declared.Length.{Length}
+use Rattle.lengths.specs.declared.Written.{Written}
+
+-- every element of a list is an octet
+abbrev pub Octets : List ℕ → Type 0
+Octets s = (i : ℕ) → getD s i 0 < 256
+
+-- a length that was written reads back to the same value and size, whatever follows it
+abbrev pub WrittenReads : Type 0
+WrittenReads = (n : ℕ) (rest : List ℕ) → n ≤ lengthLimit
+    → lengthAt (lengthOctets n ++ rest) ≡ done (record { value = n; size = length (lengthOctets n) })
+
+-- a length that was read writes back to the same octets
+abbrev pub ReadWrites : Type 0
+ReadWrites = (s : List ℕ) (a : LengthAnswer) → Octets s → lengthAt s ≡ done a → lengthOctets (a .value) ≡ take (a .size) s
+
+-- two outcomes that a promise allows are equal
+pub record OneOutcome : Type 0 where
+  pub read : {s : List ℕ} {r q : Length} → LengthRead s r → LengthRead s q → r ≡ q
+  pub written : {w : Answer (List ℕ)} {old new other : List ℕ} {r q : Written}
+      → Puts w old new r → Puts w old other q → (r ≡ q) × (new ≡ other)
+
+-- document 01's sheet, the rows of this layer: ★ length 127 is `7F`, ★ 128 is `80 80`, ★ `80 7F` is 3
+pub record Sheet : Type 0 where
+  pub length-127 : lengthOctets 127 ≡ 0x7F ∷ []
+  pub length-128 : lengthOctets 128 ≡ 0x80 ∷ 0x80 ∷ []
+  pub two-for-127 : lengthAt (0x80 ∷ 0x7F ∷ []) ≡ refuse badForm
+
+pub record Claims : Type 0 where
+  pub writtenReads : WrittenReads
+  pub readWrites : ReadWrites
+  pub oneOutcome : OneOutcome
+  pub sheet : Sheet

@@ -1,0 +1,38 @@
+-- Document 01, 'The datagram': "A length or count below 128 is one octet. From 128 to 16,383 it is two, the first 80 plus
+-- the high part (hexadecimal). A first octet of C0 or more, or two octets for less than 128, is refusal 3." And of the
+-- order: "At a length: 3 or 1 in its form". Definitions only.
+use Prim.Native.Nat.{ℕ, _+_, _-_, _*_, _/_, _%_}
+use mathlib.Core.Bool.{cond}
+use mathlib.Core.List.{List, [], _∷_}
+use lib.ListN.{length, getD}
+use lib.Dec.{leb, ltb}
+use Rattle.lengths.specs.Refusals.{endsEarly, badForm, outsideSizes}
+use Rattle.lengths.specs.Answers.{Answer, done, refuse, LengthAnswer}
+
+-- the largest length that two octets hold
+abbrev pub lengthLimit : ℕ
+lengthLimit = 16383
+
+-- what the two octets 80 plus the high part, and the low part, stand for
+abbrev pub ofTwo : ℕ → ℕ → ℕ
+ofTwo first second = (first - 0x80) * 256 + second
+
+-- the length or count at the front of some octets
+unfoldable pub lengthAt : List ℕ → Answer LengthAnswer
+lengthAt s =
+    let first = getD s 0 0 in
+    let value = ofTwo (getD s 0 0) (getD s 1 0) in
+    cond (ltb (length s) 1) (refuse endsEarly)
+    (cond (ltb first 0x80) (done (record { value = first; size = 1 }))
+    (cond (leb 0xC0 first) (refuse badForm)
+    (cond (ltb (length s) 2) (refuse endsEarly)
+    (cond (ltb value 0x80) (refuse badForm)
+    (done (record { value = value; size = 2 }))))))
+
+-- a length or count as octets
+unfoldable pub lengthOctets : ℕ → List ℕ
+lengthOctets n = cond (ltb n 0x80) (n ∷ []) ((n / 256 + 0x80) ∷ n % 256 ∷ [])
+
+-- what the length writer writes: a length over 16,383 is outside the sizes
+unfoldable pub lengthToWrite : ℕ → Answer (List ℕ)
+lengthToWrite n = cond (ltb lengthLimit n) (refuse outsideSizes) (done (lengthOctets n))

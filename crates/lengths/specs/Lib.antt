@@ -1,0 +1,5 @@
+pub mod Refusals
+pub mod Answers
+pub mod Length
+pub mod Promise
+pub mod Claims

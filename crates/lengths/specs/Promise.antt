@@ -1,0 +1,28 @@
+-- What each public call of this crate owes, a record for each, which its contract cites. Definitions only.
+use Prim.Native.Nat.{ℕ, _<_}
+use mathlib.Core.Path.{_≡_}
+use mathlib.Core.List.{List}
+use Rattle.lengths.specs.Refusals.{refusal}
+use Rattle.lengths.specs.Answers.{Answer, lengthOutcome, writtenOutcome, fitted, sizeOf, over}
+use Rattle.lengths.specs.Length.{lengthAt}
+use Rattle.lengths.specs.declared.Refusal.{Refusal}
+use Rattle.lengths.specs.declared.Length.{Length}
+use Rattle.lengths.specs.declared.Written.{Written}
+
+-- an octet as a size
+pub record Octet (octet r : ℕ) : Type 0 where
+  pub same : r ≡ octet
+  pub small : r < 256
+
+-- a refusal is made of document 01's number
+pub record RefusalMade (number : ℕ) (r : Refusal) : Type 0 where
+  pub answer : r ≡ refusal number
+
+-- what `read` owes of the octets s
+pub record LengthRead (s : List ℕ) (r : Length) : Type 0 where
+  pub answer : lengthOutcome r ≡ lengthAt s
+
+-- what a call owes that writes w to the front of a lent buffer: its answer, and all the lent octets, a refusal's too
+pub record Puts (w : Answer (List ℕ)) (old new : List ℕ) (r : Written) : Type 0 where
+  pub answer : writtenOutcome r ≡ sizeOf (fitted w old)
+  pub lent : new ≡ over (fitted w old) old

@@ -1,0 +1,75 @@
+-- Document 01, 'Refusals by number': the names that the definitions use for the numbers, and the one definition that makes
+-- a refusal. Definitions only.
+use Prim.Native.Nat.{ℕ}
+use Rattle.lengths.specs.declared.Refusal.{Refusal}
+
+-- input ends inside an item or before one that must come; empty input
+abbrev pub endsEarly : ℕ
+endsEarly = 1
+
+-- datagram over its limit, or line over its limit
+abbrev pub tooLong : ℕ
+tooLong = 2
+
+-- length or count in a form not allowed
+abbrev pub badForm : ℕ
+badForm = 3
+
+-- length, count, n or m outside the sizes; integer length octet not 01
+abbrev pub outsideSizes : ℕ
+outsideSizes = 4
+
+-- a spare bit is set
+abbrev pub spareBit : ℕ
+spareBit = 5
+
+-- octets left over
+abbrev pub leftOver : ℕ
+leftOver = 6
+
+-- repeated, too far ahead, late
+abbrev pub repeated : ℕ
+repeated = 7
+
+abbrev pub tooFar : ℕ
+tooFar = 8
+
+abbrev pub late : ℕ
+late = 9
+
+-- next: base unknown
+abbrev pub baseUnknown : ℕ
+baseUnknown = 10
+
+-- give up: base known
+abbrev pub baseKnown : ℕ
+baseKnown = 11
+
+-- extension bit, or value not assigned
+abbrev pub notAssigned : ℕ
+notAssigned = 12
+
+-- the result is longer than the lent buffer
+abbrev pub noRoom : ℕ
+noRoom = 13
+
+-- data where none may be, or none where it must
+abbrev pub wrongData : ℕ
+wrongData = 14
+
+-- settings outside the sizes; given lengths that don't sum to the data, or not one for each field type; a line not of
+-- paired hexadecimal digits
+abbrev pub wrongSettings : ℕ
+wrongSettings = 15
+
+-- 1,000,000 numbers have passed
+abbrev pub allPassed : ℕ
+allPassed = 16
+
+-- session outside its ranges
+abbrev pub outsideRanges : ℕ
+outsideRanges = 17
+
+-- "A refusal returns its number only"
+abbrev pub refusal : ℕ → Refusal
+refusal n = record { number = n }

@@ -1,0 +1,120 @@
+// A length or count at the front of some octets, read and written: document 01, 'The datagram'. One rule serves packets,
+// spares, messages and counts. The project's refusal type lives here too, below every layer that gives one.
+ghost use Rattle.lengths.specs.Promise.{LengthRead, Octet, Puts, RefusalMade};
+ghost use Rattle.lengths.specs.Length.{lengthToWrite};
+
+// Why a call was refused: document 01's number. It is made here alone and passed up whole.
+pub struct Refusal {
+    pub number: u8,
+}
+
+impl Refusal {
+    // Document 01, 'Refusals by number'.
+    pub const ENDS_EARLY: u8 = 1;
+
+    pub const TOO_LONG: u8 = 2;
+
+    pub const BAD_FORM: u8 = 3;
+
+    pub const OUTSIDE_SIZES: u8 = 4;
+
+    pub const SPARE_BIT: u8 = 5;
+
+    pub const LEFT_OVER: u8 = 6;
+
+    pub const REPEATED: u8 = 7;
+
+    pub const TOO_FAR: u8 = 8;
+
+    pub const LATE: u8 = 9;
+
+    pub const BASE_UNKNOWN: u8 = 10;
+
+    pub const BASE_KNOWN: u8 = 11;
+
+    pub const NOT_ASSIGNED: u8 = 12;
+
+    pub const NO_ROOM: u8 = 13;
+
+    pub const WRONG_DATA: u8 = 14;
+
+    pub const WRONG_SETTINGS: u8 = 15;
+
+    pub const ALL_PASSED: u8 = 16;
+
+    pub const OUTSIDE_RANGES: u8 = 17;
+
+    pub fn new(number: u8) -> Refusal
+        ensures { λ r. ⌜ RefusalMade number r ⌝ }
+    {
+        Refusal { number }
+    }
+}
+
+// What reading a length finds at the front: its value and the octets it took, or why it is refused.
+pub enum Length {
+    Value(usize, usize),
+    Refused(Refusal),
+}
+
+// What a call answers that writes to the front of a lent buffer: how many octets, or why it is refused.
+pub enum Written {
+    Octets(usize),
+    Refused(Refusal),
+}
+
+// An octet as a size.
+fn wide(octet: u8) -> usize
+    ensures { λ r. ⌜ Octet octet r ⌝ }
+{
+    octet as usize
+}
+
+// The length or count at the front of s.
+pub fn read(s: &[u8]) -> Length
+    ensures { λ r. ⌜ LengthRead (now (s .entry)) r ⌝ }
+{
+    if s.len() < 1 {
+        return Length::Refused(Refusal::new(Refusal::ENDS_EARLY));
+    }
+    let first = wide(s[0]);
+    if first < 128 {
+        return Length::Value(first, 1);
+    }
+    if 192 <= first {
+        return Length::Refused(Refusal::new(Refusal::BAD_FORM));
+    }
+    if s.len() < 2 {
+        return Length::Refused(Refusal::new(Refusal::ENDS_EARLY));
+    }
+    let second = wide(s[1]);
+    let high = (first - 128) * 256;
+    let value = high + second;
+    if value < 128 {
+        return Length::Refused(Refusal::new(Refusal::BAD_FORM));
+    }
+    Length::Value(value, 2)
+}
+
+// The length n, written to the front of out. A refusal writes nothing.
+pub fn write(n: usize, out: &mut [u8]) -> Written
+    ensures { λ r. ⌜ Puts (lengthToWrite n) (now (out .entry)) (now (out .exit)) r ⌝ }
+{
+    if 16383 < n {
+        return Written::Refused(Refusal::new(Refusal::OUTSIDE_SIZES));
+    }
+    if n < 128 {
+        if out.len() < 1 {
+            return Written::Refused(Refusal::new(Refusal::NO_ROOM));
+        }
+        out[0] = (n % 256) as u8;
+        return Written::Octets(1);
+    }
+    if out.len() < 2 {
+        return Written::Refused(Refusal::new(Refusal::NO_ROOM));
+    }
+    let high = n / 256 + 128;
+    out[0] = (high % 256) as u8;
+    out[1] = (n % 256) as u8;
+    Written::Octets(2)
+}
