@@ -1,7 +1,8 @@
 // A length or count at the front of some octets, read and written: document 01, 'The datagram'. One rule serves packets,
 // spares, messages and counts. The project's refusal type lives here too, below every layer that gives one.
 ghost use Rattle.lengths.specs.Promise.{LengthRead, Octet, Puts, RefusalMade};
-ghost use Rattle.lengths.specs.Length.{lengthToWrite};
+ghost use mathlib.Core.Path.{_≡_};
+ghost use Rattle.lengths.specs.Length.{lengthLimit, lengthToWrite};
 
 // Why a call was refused: document 01's number. It is made here alone and passed up whole.
 pub struct Refusal {
@@ -57,6 +58,17 @@ pub enum Length {
     Refused(Refusal),
 }
 
+impl Length {
+    // The largest length that two octets hold.
+    pub const LIMIT: usize = 16383;
+
+    pub fn limit() -> usize
+        ensures { λ r. ⌜ r ≡ lengthLimit ⌝ }
+    {
+        Length::LIMIT
+    }
+}
+
 // What a call answers that writes to the front of a lent buffer: how many octets, or why it is refused.
 pub enum Written {
     Octets(usize),
@@ -100,7 +112,7 @@ pub fn read(s: &[u8]) -> Length
 pub fn write(n: usize, out: &mut [u8]) -> Written
     ensures { λ r. ⌜ Puts (lengthToWrite n) (now (out .entry)) (now (out .exit)) r ⌝ }
 {
-    if 16383 < n {
+    if Length::LIMIT < n {
         return Written::Refused(Refusal::new(Refusal::OUTSIDE_SIZES));
     }
     if n < 128 {

@@ -1,0 +1,8 @@
+// Datagrams, read and written: document 01, 'The datagram' and 'Sizes'.
+mod sizes;
+
+pub use sizes::Datagram;
+pub use sizes::Message;
+pub use sizes::Packet;
+pub use sizes::Parity;
+pub use sizes::Spares;
