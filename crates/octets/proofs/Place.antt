@@ -1,0 +1,100 @@
+-- Laws of lists given by place and of tests over a range. Assumes nothing.
+use Prim.Native.Nat.{ℕ, zero, suc, _+_, _≤_, _<_}
+use mathlib.Core.Path.{_≡_, refl, sym, ap, ap₂, _∙_}
+use mathlib.Core.Logic.{⊎-elim}
+use mathlib.Core.Bool.{Bool, true, false, _&&_, false≢true}
+use mathlib.Core.List.{List, [], _∷_}
+use lib.ListN.{length, getD, set, length-set}
+use lib.Seq.{ext-getD, getD-set-same, getD-set-other}
+use native.Mathlib.Nat.{not-suc-le-zero, le-of-suc-le-suc}
+use native.Mathlib.Numerals.{add-one}
+use native.Mathlib.Omega.{arith}
+use Rattle.octets.specs.Place.{tab, allBelow}
+use Rattle.octets.proofs.Cases.{same-or-not}
+
+-- ---- tab
+pub length-tab : {A : Type 0} (n : ℕ) (f : ℕ → A) → length (tab n f) ≡ n
+unfolding tab
+length-tab zero f = refl
+length-tab (suc n) f = ap suc (length-tab n (λ k. f (suc k)))
+
+-- what stands at a place
+pub tab-at : {A : Type 0} (n : ℕ) (f : ℕ → A) (k : ℕ) (d : A) → k < n → getD (tab n f) k d ≡ f k
+unfolding tab
+tab-at zero f k d below = absurd (not-suc-le-zero below)
+tab-at (suc n) f zero d below = refl
+tab-at (suc n) f (suc k) d below = tab-at n (λ j. f (suc j)) k d (le-of-suc-le-suc below)
+
+-- lists that agree below n are one list
+pub tab-ext : {A : Type 0} (n : ℕ) (f g : ℕ → A) → ((k : ℕ) → k < n → f k ≡ g k) → tab n f ≡ tab n g
+tab-ext n f g same =
+    ext-getD (f 0) (tab n f) (tab n g) (length-tab n f ∙ sym (length-tab n g))
+    (λ i below.
+    let small : i < n = omega (arith, length-tab n f) in
+    tab-at n f i (f 0) small ∙ same i small ∙ sym (tab-at n g i (f 0) small))
+
+-- a list is the list of what stands at its places
+pub tab-getD : {A : Type 0} (l : List A) (d : A) → tab (length l) (λ k. getD l k d) ≡ l
+unfolding tab
+tab-getD [] d = refl
+tab-getD (x ∷ l) d = ap (λ (t : List _). x ∷ t) (tab-getD l d)
+
+-- equal but at one place
+pub tab-set : {A : Type 0} (n : ℕ) (f g : ℕ → A) (p : ℕ) → p < n → ((k : ℕ) → k < n → (k ≡ p → ⊥) → f k ≡ g k)
+    → tab n f ≡ set (tab n g) p (f p)
+tab-set n f g p inside same =
+    ext-getD (f 0) (tab n f) (set (tab n g) p (f p)) (length-tab n f ∙ sym (length-set (tab n g) p (f p) ∙ length-tab n g))
+    (λ i below.
+    let small : i < n = omega (arith, length-tab n f) in
+    tab-at n f i (f 0) small ∙ at i small)
+  where
+    at : (i : ℕ) → i < n → f i ≡ getD (set (tab n g) p (f p)) i (f 0)
+    at i small =
+        ⊎-elim (λ e. rw e (sym (getD-set-same (tab n g) p (f p) (f 0) (rw (length-tab n g) inside))))
+        (λ other. same i small other ∙ sym (getD-set-other (tab n g) p i (f p) (f 0) other ∙ tab-at n g i (f 0) small))
+        (same-or-not i p)
+
+-- a set of a list given by place
+pub set-tab : {A : Type 0} (n : ℕ) (g : ℕ → A) (p : ℕ) (a : A) (k : ℕ) (d : A) → k < n → (k ≡ p → ⊥)
+    → getD (set (tab n g) p a) k d ≡ g k
+set-tab n g p a k d below other = getD-set-other (tab n g) p k a d other ∙ tab-at n g k d below
+
+-- ---- allBelow
+-- one place more, as a loop's turn has it
+pub allBelow-more : (n : ℕ) (p : ℕ → Bool) → allBelow (n + 1) p ≡ (allBelow n p && p n)
+unfolding allBelow
+allBelow-more n p = rw add-one
+
+and-left : (a b : Bool) → (a && b) ≡ true → a ≡ true
+and-left true b e = refl
+and-left false b e = e
+
+and-right : (a b : Bool) → (a && b) ≡ true → b ≡ true
+and-right true b e = e
+and-right false b e = absurd (false≢true e)
+
+-- passed below n, passed at each place
+pub allBelow-at : (n : ℕ) (p : ℕ → Bool) → allBelow n p ≡ true → (k : ℕ) → k < n → p k ≡ true
+unfolding allBelow
+allBelow-at zero p all k below = absurd (not-suc-le-zero below)
+allBelow-at (suc n) p all k below =
+    ⊎-elim (λ e. rw e (and-right (allBelow n p) (p n) all))
+    (λ other. allBelow-at n p (and-left (allBelow n p) (p n) all) k (omega arith))
+    (same-or-not k n)
+
+both : (a b : Bool) → a ≡ true → b ≡ true → (a && b) ≡ true
+both a b p q = rw (p, q)
+
+-- passed at each place, passed below n
+pub allBelow-of : (n : ℕ) (p : ℕ → Bool) → ((k : ℕ) → k < n → p k ≡ true) → allBelow n p ≡ true
+unfolding allBelow
+allBelow-of zero p each = refl
+allBelow-of (suc n) p each =
+    both (allBelow n p) (p n) (allBelow-of n p (λ k below. each k (omega arith))) (each n (omega arith))
+
+-- tests that agree below n are passed alike
+pub allBelow-ext : (n : ℕ) (p q : ℕ → Bool) → ((k : ℕ) → k < n → p k ≡ q k) → allBelow n p ≡ allBelow n q
+unfolding allBelow
+allBelow-ext zero p q same = refl
+allBelow-ext (suc n) p q same =
+    ap₂ (λ (a b : Bool). a && b) (allBelow-ext n p q (λ k below. same k (omega arith))) (same n (omega arith))

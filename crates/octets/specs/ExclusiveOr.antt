@@ -1,0 +1,21 @@
+-- Document 01, 'The datagram': "the exclusive or of the members, shorter ones padded with zeros to the longest". One
+-- definition serves the sender's messages and the receiver's fills. Definitions only.
+use Prim.Native.Nat.{ℕ, max}
+use mathlib.Core.List.{List, [], _∷_}
+use lib.ListN.{length, getD}
+use lib.Bits.{bitXor}
+use Rattle.octets.specs.Place.{tab}
+
+-- the exclusive or of what stands at place k of each list; past its end a list has zeros
+unfoldable pub xorAt : List (List ℕ) → ℕ → ℕ
+xorAt [] k = 0
+xorAt (l ∷ ls) k = bitXor (getD l k 0) (xorAt ls k)
+
+-- the exclusive or of some lists over a length
+unfoldable pub exclusiveOr : ℕ → List (List ℕ) → List ℕ
+exclusiveOr n ls = tab n (xorAt ls)
+
+-- the length of the longest
+unfoldable pub longest : List (List ℕ) → ℕ
+longest [] = 0
+longest (l ∷ ls) = max (length l) (longest ls)

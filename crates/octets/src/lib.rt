@@ -1,0 +1,1 @@
+// Definitions and proofs alone: lists given by place, and the exclusive or of octets.

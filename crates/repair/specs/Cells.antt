@@ -1,0 +1,49 @@
+-- Document 01, 'The receiving session': "It keeps 64 numbers .., each unknown, received, spare, repaired or blank, with its
+-- octets." Definitions only.
+use Prim.Native.Nat.{ℕ, _+_}
+use mathlib.Core.Bool.{Bool, true, false}
+use mathlib.Core.List.{List, []}
+use lib.ListN.{getD}
+
+-- "It keeps 64 numbers, the 32 before the base and 32 from it on": in the view the base stands at place keptBefore
+abbrev pub keptBefore : ℕ
+keptBefore = 32
+
+abbrev pub keptAhead : ℕ
+keptAhead = 32
+
+abbrev pub keptNumbers : ℕ
+keptNumbers = keptBefore + keptAhead
+
+pub data State : Type 0 where
+  unknown : State
+  received : State
+  spare : State
+  repaired : State
+  blank : State
+
+-- a kept number: its state and its octets
+pub record Cell : Type 0 where
+  pub state : State
+  pub octets : List ℕ
+
+-- "Numbers before the first are blank: known, empty, never released."
+abbrev pub blankCell : Cell
+blankCell = record { state = blank; octets = [] }
+
+abbrev pub unknownCell : Cell
+unknownCell = record { state = unknown; octets = [] }
+
+abbrev pub isUnknown : State → Bool
+isUnknown unknown = true
+isUnknown received = false
+isUnknown spare = false
+isUnknown repaired = false
+isUnknown blank = false
+
+-- the number at a place of the view; a place outside the view is never asked for, and counts as known
+abbrev pub cellAt : List Cell → ℕ → Cell
+cellAt cells p = getD cells p blankCell
+
+abbrev pub unknownAt : List Cell → ℕ → Bool
+unknownAt cells p = isUnknown ((cellAt cells p) .state)

@@ -1,0 +1,35 @@
+-- Document 01, 'The receiving session': "For each number from the base on it keeps whether that datagram was accepted and
+-- its parity messages." Definitions only.
+use Prim.Native.Nat.{ℕ, suc}
+use mathlib.Core.Bool.{Bool, false}
+use mathlib.Core.List.{List, [], _∷_, _++_}
+use lib.ListN.{length, getD}
+use Rattle.octets.specs.Place.{tab}
+use Rattle.repair.specs.Cells.{keptBefore}
+use Rattle.repair.specs.Members.{membersOf}
+use Rattle.repair.specs.Repair.{Message}
+
+-- what is kept of a number from the base on: m is the number of its messages
+pub record Held : Type 0 where
+  pub accepted : Bool
+  pub n : ℕ
+  pub messages : List (List ℕ)
+
+-- a number whose datagram was not accepted holds nothing
+abbrev pub nothingHeld : Held
+nothingHeld = record { accepted = false; n = 0; messages = [] }
+
+-- the messages held at place S, the lowest first
+unfoldable pub messagesOf : ℕ → Held → List Message
+messagesOf S held =
+    tab (length (held .messages))
+    (λ i. record { members = membersOf S (held .n) (length (held .messages)) i; octets = getD (held .messages) i [] })
+
+-- those of several places in a row, from S on
+unfoldable pub messagesFrom : ℕ → List Held → List Message
+messagesFrom S [] = []
+messagesFrom S (held ∷ more) = messagesOf S held ++ messagesFrom (suc S) more
+
+-- all held messages, "counted from the base on"
+unfoldable pub heldMessages : List Held → List Message
+heldMessages held = messagesFrom keptBefore held

@@ -1,0 +1,4 @@
+pub mod Members
+pub mod Cells
+pub mod Repair
+pub mod Held

@@ -1,0 +1,1 @@
+// Definitions and proofs alone: the theory of repair.
