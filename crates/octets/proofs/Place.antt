@@ -65,11 +65,11 @@ pub allBelow-more : (n : ℕ) (p : ℕ → Bool) → allBelow (n + 1) p ≡ (all
 unfolding allBelow
 allBelow-more n p = rw add-one
 
-and-left : (a b : Bool) → (a && b) ≡ true → a ≡ true
+pub and-left : (a b : Bool) → (a && b) ≡ true → a ≡ true
 and-left true b e = refl
 and-left false b e = e
 
-and-right : (a b : Bool) → (a && b) ≡ true → b ≡ true
+pub and-right : (a b : Bool) → (a && b) ≡ true → b ≡ true
 and-right true b e = e
 and-right false b e = absurd (false≢true e)
 
@@ -82,7 +82,7 @@ allBelow-at (suc n) p all k below =
     (λ other. allBelow-at n p (and-left (allBelow n p) (p n) all) k (omega arith))
     (same-or-not k n)
 
-both : (a b : Bool) → a ≡ true → b ≡ true → (a && b) ≡ true
+pub both : (a b : Bool) → a ≡ true → b ≡ true → (a && b) ≡ true
 both a b p q = rw (p, q)
 
 -- passed at each place, passed below n

@@ -1,0 +1,5 @@
+pub mod Passing
+pub mod Fill
+pub mod Search
+pub mod Grows
+pub mod Enough

@@ -2,3 +2,4 @@ pub mod Members
 pub mod Cells
 pub mod Repair
 pub mod Held
+pub mod Reached
