@@ -5,7 +5,7 @@ use mathlib.Core.Path.{_≡_, refl, sym, ap, _∙_}
 use mathlib.Core.Logic.{_⊎_, inl, inr, ⊎-elim}
 use mathlib.Core.Bool.{Bool, true, false, not, cond, false≢true}
 use mathlib.Core.List.{List, [], _∷_, List·Memᴰ as Among}
-use mathlib.Core.List.{List·Memᴰ·eq-of-singleton}
+use mathlib.Core.List.{List·Memᴰ·eq-of-singleton, List·Memᴰ·head as here}
 use lib.ListN.{length, getD, set, length-set, List·getD-eq-default}
 use lib.Seq.{getD-set-same, getD-set-other}
 use lib.Dec.{leb, eqb}
@@ -66,7 +66,7 @@ usable-says cells message e =
         (eqb-true (length (unknownMembers cells message)) 1 (and-right (leb 1 (length (message .octets))) _ e))
 
     at : Among (missing cells message) (message .members) × Unknown cells (missing cells message)
-    at = passing-among (unknownAt cells) (message .members) (rw alone (Among.List·Memᴰ·head refl))
+    at = passing-among (unknownAt cells) (message .members) (rw alone (here refl))
 
     others : (q : ℕ) → Among q (message .members) → (q ≡ missing cells message → ⊥) → Known cells q
     others q m other =

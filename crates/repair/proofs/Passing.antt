@@ -4,7 +4,7 @@ use mathlib.Core.Path.{_≡_, refl, sym, ap, _∙_}
 use mathlib.Core.Logic.{_⊎_, inl, inr, ⊎-elim}
 use mathlib.Core.Bool.{Bool, true, false, not, cond}
 use mathlib.Core.List.{List, [], _∷_, List·Memᴰ as Among}
-use mathlib.Core.List.{List·Memᴰ·not-nil, List·Memᴰ·cases-cons, Memᴰ·cast}
+use mathlib.Core.List.{List·Memᴰ·not-nil, List·Memᴰ·cases-cons, Memᴰ·cast, List·Memᴰ·head as here, List·Memᴰ·tail as further}
 use lib.ListN.{length, getD}
 use native.Mathlib.Omega.{arith}
 use native.Mathlib.Nat.{not-suc-le-zero}
@@ -27,13 +27,13 @@ passing-among test [] m = absurd (List·Memᴰ·not-nil m)
 passing-among test (x ∷ l) {p} m =
     ⊎-elim
     (λ e.
-    ⊎-elim (λ same. (Among.List·Memᴰ·head same, rw same e)) (λ rest. later (passing-among test l rest))
+    ⊎-elim (λ same. (here same, rw same e)) (λ rest. later (passing-among test l rest))
     (List·Memᴰ·cases-cons (rw (passing-yes test x l e) at m)))
     (λ e. later (passing-among test l (rw (passing-no test x l e) at m)))
     (true-or-false (test x))
   where
     later : Among p l × (test p ≡ true) → Among p (x ∷ l) × (test p ≡ true)
-    later t = (Among.List·Memᴰ·tail t.0, t.1)
+    later t = (further t.0, t.1)
 
 -- what is in the list and passes the test is among those that pass
 pub among-passing : (test : ℕ → Bool) (l : List ℕ) {p : ℕ} → Among p l → test p ≡ true → Among p (passing test l)
@@ -41,11 +41,11 @@ among-passing test [] m pass = absurd (List·Memᴰ·not-nil m)
 among-passing test (x ∷ l) {p} m pass = ⊎-elim first (λ rest. later (among-passing test l rest pass)) (List·Memᴰ·cases-cons m)
   where
     first : p ≡ x → Among p (passing test (x ∷ l))
-    first same = rw (passing-yes test x l (rw same at pass)) (Among.List·Memᴰ·head same)
+    first same = rw (passing-yes test x l (rw same at pass)) (here same)
 
     later : Among p (passing test l) → Among p (passing test (x ∷ l))
     later rest =
-        ⊎-elim (λ e. rw (passing-yes test x l e) (Among.List·Memᴰ·tail rest)) (λ e. rw (passing-no test x l e) rest)
+        ⊎-elim (λ e. rw (passing-yes test x l e) (further rest)) (λ e. rw (passing-no test x l e) rest)
         (true-or-false (test x))
 
 -- a list of one
@@ -59,8 +59,8 @@ pub passing-none : (test : ℕ → Bool) (l : List ℕ) → ((q : ℕ) → Among
 unfolding passing
 passing-none test [] none-pass = refl
 passing-none test (x ∷ l) none-pass =
-    passing-no test x l (none-pass x (Among.List·Memᴰ·head refl))
-    ∙ passing-none test l (λ q m. none-pass q (Among.List·Memᴰ·tail m))
+    passing-no test x l (none-pass x (here refl))
+    ∙ passing-none test l (λ q m. none-pass q (further m))
 
 -- where one place of a list without repeats passes
 pub passing-one : (test : ℕ → Bool) (l : List ℕ) (p : ℕ) → Distinct l → Among p l → test p ≡ true
@@ -68,16 +68,16 @@ pub passing-one : (test : ℕ → Bool) (l : List ℕ) (p : ℕ) → Distinct l 
 passing-one test [] p d m pass others = absurd (List·Memᴰ·not-nil m)
 passing-one test (x ∷ l) p (more fresh d) m pass others =
     ⊎-elim first
-    (λ rest. later rest (passing-one test l p d rest pass (λ q at other. others q (Among.List·Memᴰ·tail at) other)))
+    (λ rest. later rest (passing-one test l p d rest pass (λ q at other. others q (further at) other)))
     (List·Memᴰ·cases-cons m)
   where
     first : p ≡ x → passing test (x ∷ l) ≡ p ∷ []
     first same =
         passing-yes test x l (rw same at pass)
         ∙ ap (λ (t : List ℕ). x ∷ t)
-        (passing-none test l (λ q at. others q (Among.List·Memᴰ·tail at) (λ e. fresh (Memᴰ·cast (sym same ∙ sym e) at))))
+        (passing-none test l (λ q at. others q (further at) (λ e. fresh (Memᴰ·cast (sym same ∙ sym e) at))))
         ∙ ap (λ (y : ℕ). y ∷ []) (sym same)
 
     later : Among p l → passing test l ≡ p ∷ [] → passing test (x ∷ l) ≡ p ∷ []
     later rest alone =
-        passing-no test x l (others x (Among.List·Memᴰ·head refl) (λ e. fresh (Memᴰ·cast e rest))) ∙ alone
+        passing-no test x l (others x (here refl) (λ e. fresh (Memᴰ·cast e rest))) ∙ alone

@@ -5,7 +5,7 @@ use mathlib.Core.Path.{_≡_, refl, sym, ap, _∙_}
 use mathlib.Core.Logic.{_⊎_, inl, inr, ⊎-elim}
 use mathlib.Core.Bool.{Bool, true, false, cond, false≢true}
 use mathlib.Core.List.{List, [], _∷_, _++_, List·Memᴰ as Among}
-use mathlib.Core.List.{List·Memᴰ·not-nil, List·Memᴰ·cases-cons}
+use mathlib.Core.List.{List·Memᴰ·not-nil, List·Memᴰ·cases-cons, List·Memᴰ·head as here, List·Memᴰ·tail as further}
 use mathlib.Core.Option.{Option, none, some, Option·some-injective, Option·none-ne-some, Option·some-ne-none}
 use Rattle.octets.proofs.Cases.{true-or-false}
 use Rattle.repair.specs.Cells.{Cell}
@@ -57,12 +57,12 @@ found-usable cells (message ∷ messages) found e =
     (λ yes.
     let same : found ≡ message =
     Option·some-injective found message (sym e ∙ firstUsable-yes cells message messages yes) in
-    (Among.List·Memᴰ·head same, rw same yes))
+    (here same, rw same yes))
     (λ no. later (found-usable cells messages found (sym (firstUsable-no cells message messages no) ∙ e)))
     (true-or-false (usable cells message))
   where
     later : Among found messages × (usable cells found ≡ true) → Among found (message ∷ messages) × (usable cells found ≡ true)
-    later t = (Among.List·Memᴰ·tail t.0, t.1)
+    later t = (further t.0, t.1)
 
 -- where none is found, none of those searched is usable
 pub none-usable : (cells : List Cell) (messages : List Message) → firstUsable cells messages ≡ none
@@ -83,5 +83,5 @@ pub none-found : (cells : List Cell) (messages : List Message)
 unfolding firstUsable
 none-found cells [] each = refl
 none-found cells (message ∷ messages) each =
-    firstUsable-no cells message messages (each message (Among.List·Memᴰ·head refl))
-    ∙ none-found cells messages (λ other m. each other (Among.List·Memᴰ·tail m))
+    firstUsable-no cells message messages (each message (here refl))
+    ∙ none-found cells messages (λ other m. each other (further m))
