@@ -3,3 +3,5 @@ pub mod Fill
 pub mod Search
 pub mod Grows
 pub mod Enough
+pub mod Least
+pub mod Honest

@@ -3,3 +3,4 @@ pub mod Cells
 pub mod Repair
 pub mod Held
 pub mod Reached
+pub mod Honest
