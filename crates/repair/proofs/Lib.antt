@@ -5,3 +5,7 @@ pub mod Grows
 pub mod Enough
 pub mod Least
 pub mod Honest
+pub mod Members
+pub mod Held
+pub mod Burst
+pub mod Claims

@@ -1,14 +1,15 @@
 -- Document 01, 'The sending session': "An honest sender is any whose datagrams .. follow this page from one row of packets,
 -- number 0 first and empty before it". The row is given here by the places of the view: the packet of each place, empty for
 -- a number before the first. Definitions only.
-use Prim.Native.Nat.{ℕ, _≤_, _<_}
+use Prim.Native.Nat.{ℕ, _*_, _≤_, _<_}
 use mathlib.Core.Path.{_≡_}
-use mathlib.Core.List.{List, map, List·Memᴰ as Among}
+use mathlib.Core.List.{List, [], map, List·Memᴰ as Among}
 use lib.ListN.{length, getD}
 use Rattle.octets.specs.ExclusiveOr.{exclusiveOr, longest}
 use Rattle.repair.specs.Cells.{Cell, cellAt}
 use Rattle.repair.specs.Repair.{Message}
 use Rattle.repair.specs.Reached.{Known}
+use Rattle.repair.specs.Held.{Held, messageAt}
 
 -- "the exclusive or of the members, shorter ones padded with zeros to the longest"
 abbrev pub messageOver : List (List ℕ) → List ℕ
@@ -21,6 +22,12 @@ pub record HonestMessage (row : ℕ → List ℕ) (size : ℕ) (message : Messag
 
 abbrev pub HonestMessages : (ℕ → List ℕ) → ℕ → List Message → Type 0
 HonestMessages row size messages = (message : Message) → Among message messages → HonestMessage row size message
+
+-- a held datagram that follows the page: its reach is in view, and each message is over its own members
+pub record HonestHeld (row : ℕ → List ℕ) (S : ℕ) (held : Held) : Type 0 where
+  pub reach : held .n * length (held .messages) ≤ S
+  pub sums : (i : ℕ) → i < length (held .messages)
+      → getD (held .messages) i [] ≡ messageOver (map row ((messageAt S held i) .members))
 
 -- x is y with zeros at the end, or y itself: at least as long, and the same at each place
 pub record UpToZeros (x y : List ℕ) : Type 0 where

@@ -4,3 +4,4 @@ pub mod Repair
 pub mod Held
 pub mod Reached
 pub mod Honest
+pub mod Claims
