@@ -2,7 +2,7 @@
 use Prim.Native.Nat.{ℕ, zero, suc, _+_, _≤_, _<_, zero-le, suc-le-suc}
 use mathlib.Core.Path.{_≡_, refl, sym, ap, ap₂, _∙_}
 use mathlib.Core.Logic.{⊎-elim}
-use mathlib.Core.Bool.{Bool, true, false, _&&_, false≢true}
+use mathlib.Core.Bool.{Bool, true, false, _&&_}
 use mathlib.Core.List.{List, [], _∷_, List·Memᴰ as Among, List·Memᴰ·head as here, List·Memᴰ·tail as further}
 use mathlib.Core.List.{List·Memᴰ·not-nil, List·Memᴰ·cases-cons}
 use lib.ListN.{length, getD, set, length-set}
@@ -11,7 +11,7 @@ use native.Mathlib.Nat.{not-suc-le-zero, le-of-suc-le-suc}
 use native.Mathlib.Numerals.{add-one}
 use native.Mathlib.Omega.{arith}
 use Rattle.octets.specs.Place.{tab, allBelow}
-use Rattle.octets.proofs.Cases.{same-or-not}
+use Rattle.octets.proofs.Cases.{same-or-not, and-left, and-right, and-both}
 
 -- ---- tab
 pub length-tab : {A : Type 0} (n : ℕ) (f : ℕ → A) → length (tab n f) ≡ n
@@ -66,14 +66,6 @@ pub allBelow-more : (n : ℕ) (p : ℕ → Bool) → allBelow (n + 1) p ≡ (all
 unfolding allBelow
 allBelow-more n p = rw add-one
 
-pub and-left : (a b : Bool) → (a && b) ≡ true → a ≡ true
-and-left true b e = refl
-and-left false b e = e
-
-pub and-right : (a b : Bool) → (a && b) ≡ true → b ≡ true
-and-right true b e = e
-and-right false b e = absurd (false≢true e)
-
 -- passed below n, passed at each place
 pub allBelow-at : (n : ℕ) (p : ℕ → Bool) → allBelow n p ≡ true → (k : ℕ) → k < n → p k ≡ true
 unfolding allBelow
@@ -83,15 +75,12 @@ allBelow-at (suc n) p all k below =
     (λ other. allBelow-at n p (and-left (allBelow n p) (p n) all) k (omega arith))
     (same-or-not k n)
 
-pub both : (a b : Bool) → a ≡ true → b ≡ true → (a && b) ≡ true
-both a b p q = rw (p, q)
-
 -- passed at each place, passed below n
 pub allBelow-of : (n : ℕ) (p : ℕ → Bool) → ((k : ℕ) → k < n → p k ≡ true) → allBelow n p ≡ true
 unfolding allBelow
 allBelow-of zero p each = refl
 allBelow-of (suc n) p each =
-    both (allBelow n p) (p n) (allBelow-of n p (λ k below. each k (omega arith))) (each n (omega arith))
+    and-both (allBelow-of n p (λ k below. each k (omega arith))) (each n (omega arith))
 
 -- tests that agree below n are passed alike
 pub allBelow-ext : (n : ℕ) (p q : ℕ → Bool) → ((k : ℕ) → k < n → p k ≡ q k) → allBelow n p ≡ allBelow n q

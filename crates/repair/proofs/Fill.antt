@@ -11,8 +11,8 @@ use lib.Seq.{getD-set-same, getD-set-other}
 use lib.Dec.{leb, eqb}
 use borrow.Author.Tests.{leb-true, eqb-true, le-leb, eq-eqb}
 use native.Mathlib.Omega.{arith}
-use Rattle.octets.proofs.Cases.{below-or-not, same-or-not, true-or-false}
-use Rattle.octets.proofs.Place.{and-left, and-right, both, length-tab}
+use Rattle.octets.proofs.Cases.{below-or-not, same-or-not, true-or-false, and-left, and-right, and-both}
+use Rattle.octets.proofs.ExclusiveOr.{length-exclusiveOr}
 use Rattle.octets.specs.ExclusiveOr.{exclusiveOr}
 use Rattle.repair.specs.Cells.{Cell, blankCell, cellAt, unknownAt, isUnknown, repaired}
 use Rattle.repair.specs.Repair.{Message, passing, unknownMembers, otherMembers, usable, mended, fill}
@@ -81,7 +81,7 @@ pub usable-of : (cells : List Cell) (message : Message) (p : ℕ) → Distinct (
     → ((q : ℕ) → Among q (message .members) → (q ≡ p → ⊥) → Known cells q) → usable cells message ≡ true
 unfolding usable
 usable-of cells message p d some m u others =
-    both (leb 1 (length (message .octets))) (eqb (length (unknownMembers cells message)) 1) (le-leb 1 _ some)
+    and-both (le-leb 1 (length (message .octets)) some)
     (eq-eqb (length (unknownMembers cells message)) 1 (ap length (passing-one (unknownAt cells) (message .members) p d m u others)))
 
 -- ---- fill
@@ -120,5 +120,5 @@ known-fill cells message q k =
 
 -- the fill's octets are as many as the message's
 pub length-mended : (cells : List Cell) (message : Message) → length (mended cells message) ≡ length (message .octets)
-unfolding mended exclusiveOr
-length-mended cells message = length-tab _ _
+unfolding mended
+length-mended cells message = length-exclusiveOr (length (message .octets)) _

@@ -1,0 +1,1 @@
+-- A packet placed. Assumes nothing.

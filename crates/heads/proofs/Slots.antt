@@ -1,0 +1,34 @@
+-- Laws of slots: places that are apart have slots that are apart, and every slot is there. Assumes nothing.
+use Prim.Native.Nat.{ℕ, _+_, _*_, _%_, _≤_, _<_}
+use mathlib.Core.Path.{_≡_}
+use mathlib.Core.List.{List}
+use lib.ListN.{length}
+use native.Mathlib.Omega.{arith}
+use Rattle.datagrams.specs.Sizes.{packetLimit, messagesLimit}
+use Rattle.repair.specs.Cells.{keptAhead, keptNumbers}
+use Rattle.stores.specs.Store.{HasSlot}
+use Rattle.heads.specs.Head.{slotAt, heardSlotAt, messageSlot, slotsKept, slotsHeard, slotsMessages, packetOctets, messageOctets}
+
+pub slot-small : (base p : ℕ) → slotAt base p < slotsKept
+slot-small base p = omega arith
+
+pub heard-small : (base d : ℕ) → heardSlotAt base d < slotsHeard
+heard-small base d = omega arith
+
+pub message-small : (j i : ℕ) → j < slotsHeard → i < messagesLimit → messageSlot j i < slotsMessages
+message-small j i small low = omega arith
+
+pub slot-apart : (base p q : ℕ) → p < keptNumbers → q < keptNumbers → slotAt base p ≡ slotAt base q → p ≡ q
+slot-apart base p q small low same = omega arith
+
+pub heard-apart : (base d e : ℕ) → d < keptAhead → e < keptAhead → heardSlotAt base d ≡ heardSlotAt base e → d ≡ e
+heard-apart base d e small low same = omega arith
+
+pub message-apart : (j i k l : ℕ) → i < messagesLimit → l < messagesLimit → messageSlot j i ≡ messageSlot k l → (j ≡ k) × (i ≡ l)
+message-apart j i k l small low same = (omega arith, omega arith)
+
+pub has-packet-slot : (o : List ℕ) (i : ℕ) → length o ≡ packetOctets → i < slotsKept → HasSlot i o
+has-packet-slot o i long small = omega arith
+
+pub has-message-slot : (g : List ℕ) (k : ℕ) → length g ≡ messageOctets → k < slotsMessages → HasSlot k g
+has-message-slot g k long small = omega arith

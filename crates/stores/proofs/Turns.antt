@@ -1,0 +1,159 @@
+-- What each loop of this crate keeps true, on plain values: where it starts, what a turn does, where it ends.
+-- Assumes nothing.
+use Prim.Native.Nat.{ℕ, zero, suc, _+_, _-_, _*_, _≤_, _<_}
+use mathlib.Core.Path.{_≡_, refl, sym, ap, ap₂, _∙_}
+use mathlib.Core.Bool.{Bool, true, false, _&&_, _||_}
+use mathlib.Core.List.{List, [], _∷_, _++_}
+use mathlib.Core.Logic.{⊎-elim}
+use lib.ListN.{length, getD, set, take, drop, replicate, length-replicate, getD-replicate, length-append, length-set, List·getD-append, length-drop, List·getD-eq-default}
+use lib.Seq.{paste, paste-zero, paste-suc, length-paste, getD-append-add, getD-take, getD-drop, length-take-le, take-length}
+use lib.Dec.{leb, ltb, eqb}
+use native.Mathlib.Nat.{zero-add}
+use native.Mathlib.Numerals.{add-one}
+use native.Mathlib.Omega.{arith}
+use borrow.Author.Tests.{lt-ltb, le-ltb, le-leb, lt-leb, eq-eqb, ne-eqb}
+use Rattle.octets.specs.Place.{allBelow}
+use Rattle.octets.proofs.Place.{allBelow-more}
+use Rattle.octets.proofs.Cases.{below-or-not, same-or-not}
+use Rattle.datagrams.specs.Sizes.{packetLimit}
+use Rattle.stores.specs.Store.{pasted, zeros, zerosPast, mask, part, HasSlot}
+
+-- ---- laying octets b into o from place `at` on: j of them are laid
+pub record Laying (start b : List ℕ) (at : ℕ) (o : List ℕ) (j : ℕ) : Type 0 where
+  pub laid : o ≡ paste start at b j
+  pub few : j ≤ length b
+  pub long : length o ≡ length start
+
+pub laying-start : (o b : List ℕ) (at : ℕ) → Laying o b at o 0
+laying-start o b at = record { laid = paste-zero o at b; few = omega arith; long = refl }
+
+module _ {start b o : List ℕ} {at j : ℕ} (l : Laying start b at o j) (fits : at + length b ≤ length start) (more : j < length b) where
+  pub laying-turn : Laying start b at (set o (at + j) (getD b j 0)) (j + 1)
+  laying-turn =
+      record {
+        laid = rw (l .laid, add-one) (paste-suc start at b j 0 (omega arith) more);
+        few = omega arith;
+        long = length-set o (at + j) (getD b j 0) ∙ l .long;
+      }
+
+pub putting-turn : (slot : ℕ) {start b o : List ℕ} {j : ℕ} → Laying start b (slot * packetLimit) o j → HasSlot slot start
+    → length b ≤ packetLimit → j < length b → Laying start b (slot * packetLimit) (set o (slot * packetLimit + j) (getD b j 0)) (j + 1)
+putting-turn slot l has fits more = laying-turn l (omega arith) more
+
+pub laying-done : (slot : ℕ) {start b o : List ℕ} {j : ℕ} → Laying start b (slot * packetLimit) o j → length b ≤ j → o ≡ pasted start slot b
+unfolding pasted
+laying-done slot {start} {b} {o} {j} l done =
+    let all : j ≡ length b = omega (arith, l .few) in
+    l .laid ∙ ap (λ (n : ℕ). paste start (slot * packetLimit) b n) all
+
+-- laying zeros
+pub length-zeros : (n : ℕ) → length (zeros n) ≡ n
+unfolding zeros
+length-zeros n = length-replicate n 0
+
+pub zeros-at : (n k : ℕ) → getD (zeros n) k 0 ≡ 0
+unfolding zeros
+zeros-at n k =
+    ⊎-elim (λ below. getD-replicate n k 0 0 below)
+    (λ past. List·getD-eq-default (replicate n 0) 0 (rw (length-replicate {A = ℕ} n 0) past))
+    (below-or-not k n)
+
+pub clearing-turn : {start o : List ℕ} {at j : ℕ} → Laying start (zeros packetLimit) at o j → at + packetLimit ≤ length start
+    → j < packetLimit → Laying start (zeros packetLimit) at (set o (at + j) 0) (j + 1)
+clearing-turn {start} {o} {at} {j} l fits more =
+    rw (zeros-at packetLimit j) at
+    (laying-turn l (rw (length-zeros packetLimit) fits) (rw (length-zeros packetLimit) more))
+
+pub clearing-done : (slot : ℕ) {start o : List ℕ} {j : ℕ} → Laying start (zeros packetLimit) (slot * packetLimit) o j → packetLimit ≤ j
+    → o ≡ pasted start slot (zeros packetLimit)
+clearing-done slot l done = laying-done slot l (rw (length-zeros packetLimit) done)
+
+-- ---- the zero check: the first j octets of the slot are right
+abbrev pub right : List ℕ → ℕ → ℕ → ℕ → Bool
+right o slot n j = ltb j n || eqb (getD o (slot * packetLimit + j) 0) 0
+
+pub record Checked (o : List ℕ) (slot n : ℕ) (ok : Bool) (j : ℕ) : Type 0 where
+  pub so : ok ≡ allBelow j (right o slot n)
+  pub few : j ≤ packetLimit
+
+pub checked-start : (o : List ℕ) (slot n : ℕ) → Checked o slot n true 0
+unfolding allBelow
+checked-start o slot n = record { so = refl; few = omega arith }
+
+pub checked-done : {o : List ℕ} {slot n : ℕ} {ok : Bool} {j : ℕ} → Checked o slot n ok j → packetLimit ≤ j → ok ≡ zerosPast o slot n
+unfolding zerosPast
+checked-done {o} {slot} {n} {ok} {j} c done = c .so ∙ ap (λ (k : ℕ). allBelow k (right o slot n)) (omega (arith, c .few))
+
+length-mask : length mask ≡ packetLimit + packetLimit
+unfolding mask
+length-mask =
+    length-append (replicate packetLimit 255) (zeros packetLimit)
+    ∙ ap₂ (λ (a b : ℕ). a + b) (length-replicate {A = ℕ} packetLimit 255) (length-zeros packetLimit)
+
+mask-low : (k : ℕ) → k < packetLimit → getD mask k 0 ≡ 255
+unfolding mask
+mask-low k below =
+    List·getD-append (replicate packetLimit 255) (zeros packetLimit) 0 k (rw (length-replicate {A = ℕ} packetLimit 255) below)
+    ∙ getD-replicate packetLimit k 255 0 below
+
+mask-high : (k : ℕ) → getD mask (packetLimit + k) 0 ≡ 0
+unfolding mask
+mask-high k =
+    ap (λ (n : ℕ). getD (replicate packetLimit 255 ++ zeros packetLimit) (n + k) 0) (sym (length-replicate {A = ℕ} packetLimit 255))
+    ∙ getD-append-add (replicate packetLimit 255) (zeros packetLimit) k 0
+    ∙ zeros-at packetLimit k
+
+-- below n the mask lets any octet pass, from n on only zero
+passes : (x n j : ℕ) → x < 256 → n ≤ packetLimit → leb x (getD mask (packetLimit - n + j) 0) ≡ (ltb j n || eqb x 0)
+passes x n j octet fits = ⊎-elim low high (below-or-not j n) where
+  low : j < n → leb x (getD mask (packetLimit - n + j) 0) ≡ (ltb j n || eqb x 0)
+  low below = rw (mask-low (packetLimit - n + j) (omega arith), lt-ltb j n below) (le-leb x 255 (omega arith))
+
+  zero? : leb x 0 ≡ eqb x 0
+  zero? = ⊎-elim (λ e. rw e) (λ other. lt-leb x 0 (omega arith) ∙ sym (ne-eqb x 0 other)) (same-or-not x 0)
+
+  high : n ≤ j → leb x (getD mask (packetLimit - n + j) 0) ≡ (ltb j n || eqb x 0)
+  high past =
+      let e : packetLimit - n + j ≡ packetLimit + (j - n) = omega arith in
+      rw (e, mask-high (j - n), le-ltb j n past) zero?
+
+pub checked-turn : {o table : List ℕ} {slot n : ℕ} {ok : Bool} {j : ℕ} → Checked o slot n ok j → j < packetLimit → n ≤ packetLimit
+    → table ≡ mask → getD o (slot * packetLimit + j) 0 < 256
+    → Checked o slot n (ok && leb (getD o (slot * packetLimit + j) 0) (getD table (packetLimit - n + j) 0)) (j + 1)
+checked-turn {o} {table} {slot} {n} {ok} {j} c more fits e octet =
+    record {
+      so =
+          ap₂ (λ (a b : Bool). a && b) (c .so)
+          (ap (λ (t : List ℕ). leb (getD o (slot * packetLimit + j) 0) (getD t (packetLimit - n + j) 0)) e
+          ∙ passes (getD o (slot * packetLimit + j) 0) n j octet fits)
+          ∙ sym (allBelow-more j (right o slot n));
+      few = omega arith;
+    }
+
+pub table-inside : {table : List ℕ} (n j : ℕ) → table ≡ mask → n ≤ packetLimit → j < packetLimit → packetLimit - n + j < length table
+table-inside n j e fits more = rw (e, length-mask) (omega arith)
+
+-- ---- copying the part of a slot to the front of a buffer: the loop that lays the part's octets from place 0 on
+pub length-part : (o : List ℕ) (slot n : ℕ) → HasSlot slot o → n ≤ packetLimit → length (part o slot n) ≡ n
+unfolding part
+length-part o slot n has fits = length-take-le n (drop (slot * packetLimit) o) (simp length-drop (omega arith))
+
+pub part-at : (o : List ℕ) (slot n j : ℕ) → j < n → getD (part o slot n) j 0 ≡ getD o (slot * packetLimit + j) 0
+unfolding part
+part-at o slot n j below = rw (getD-take n (drop (slot * packetLimit) o) j 0 below, getD-drop (slot * packetLimit) o j 0)
+
+pub copying-turn : (o : List ℕ) (slot n : ℕ) {start out : List ℕ} {j : ℕ} → Laying start (part o slot n) 0 out j → HasSlot slot o → n ≤ packetLimit
+    → n ≤ length start → j < n → Laying start (part o slot n) 0 (set out j (getD o (slot * packetLimit + j) 0)) (j + 1)
+copying-turn o slot n {start} {out} {j} l has fits room more =
+    rw (part-at o slot n j more, zero-add j) at
+    (laying-turn l (rw (length-part o slot n has fits) (omega arith)) (rw (length-part o slot n has fits) more))
+
+pub copying-done : (o : List ℕ) (slot n : ℕ) {start out : List ℕ} {j : ℕ} → Laying start (part o slot n) 0 out j → HasSlot slot o → n ≤ packetLimit
+    → n ≤ j → out ≡ part o slot n ++ drop n start
+copying-done o slot n {start} {out} {j} l has fits done =
+    let long = length-part o slot n has fits in
+    let all : j ≡ length (part o slot n) = omega (arith, l .few) in
+    let whole : j ≡ n = omega arith in
+    l .laid
+    ∙ ap (λ (k : ℕ). paste start 0 (part o slot n) k) all
+    ∙ ap₂ (λ (a : List ℕ) (k : ℕ). a ++ drop k start) (take-length (part o slot n)) (zero-add (length (part o slot n)) ∙ long)

@@ -1,0 +1,69 @@
+use Prim.Native.Nat.{_-_}
+use lib.ListN.{length}
+use native.Mathlib.Omega.{arith}
+use Rattle.datagrams.specs.Sizes.{packetLimit}
+use Rattle.stores.specs.Store.{zeros, part}
+use Rattle.stores.proofs.Turns.{Laying, laying-start, clearing-turn, clearing-done}
+use borrow.Author.Needs.{needs}
+use Rattle.stores.proofs.clear.Statement.{statement}
+use Rattle.stores.proofs.clear.Tie as tie
+use Rattle.stores.proofs.clear.Reads as reads
+use Rattle.stores.proofs.clear.Lts as lts
+
+abbrev Inv-loop : tie.InvT-loop
+Inv-loop o₀ slot at j₀ o j = Laying o₀ (zeros packetLimit) at o j
+
+abbrev μ-loop : tie.MeasureT-loop
+μ-loop o₀ slot at j₀ o j = packetLimit - j
+
+-- src/lib.rt:32:14
+mul-at : tie.Need-mul-at Inv-loop μ-loop
+mul-at c = search needs
+
+-- src/lib.rt:34:5
+loop-holds : tie.Need-loop-holds Inv-loop μ-loop
+loop-holds c = search laying-start
+
+-- src/lib.rt:35:11
+add-o : tie.Need-add-o Inv-loop μ-loop
+add-o c = search needs
+
+-- src/lib.rt:35:9
+slice-write-o : tie.Need-slice-write-o Inv-loop μ-loop
+slice-write-o c = search needs
+
+-- src/lib.rt:36:9
+add-j : tie.Need-add-j Inv-loop μ-loop
+add-j c = search needs
+
+-- src/lib.rt:34:5
+loop-less : tie.Need-loop-less Inv-loop μ-loop
+loop-less c = search needs
+
+-- src/lib.rt:34:5
+loop-again : tie.Need-loop-again Inv-loop μ-loop
+loop-again c = search (clearing-turn, arith)
+
+-- src/lib.rt:28:1
+same-length : tie.Need-same-length Inv-loop μ-loop
+same-length c = search needs
+
+-- src/lib.rt:28:1
+returns : tie.Need-returns Inv-loop μ-loop
+returns c = search clearing-done
+
+pub clear-spec : {M : Type 1} → statement M
+clear-spec =
+    tie.close
+    (tie.spec
+    Inv-loop
+    μ-loop
+    mul-at
+    loop-holds
+    add-o
+    slice-write-o
+    add-j
+    loop-less
+    loop-again
+    same-length
+    returns)

@@ -1,0 +1,33 @@
+-- A store: a run of octets cut into slots of packetLimit octets each. Definitions only.
+use Prim.Native.Nat.{ℕ, suc, _+_, _*_, _≤_}
+use mathlib.Core.Bool.{Bool, _||_}
+use mathlib.Core.List.{List, _++_}
+use lib.ListN.{length, getD, take, drop, replicate}
+use lib.Seq.{paste}
+use lib.Dec.{ltb, eqb}
+use Rattle.octets.specs.Place.{allBelow}
+use Rattle.datagrams.specs.Sizes.{packetLimit}
+
+-- the store has a slot i
+abbrev pub HasSlot : ℕ → List ℕ → Type 0
+HasSlot i o = i * packetLimit + packetLimit ≤ length o
+
+-- the first n octets of slot i
+unfoldable pub part : List ℕ → ℕ → ℕ → List ℕ
+part o i n = take n (drop (i * packetLimit) o)
+
+-- the store with the octets b at the front of slot i
+unfoldable pub pasted : List ℕ → ℕ → List ℕ → List ℕ
+pasted o i b = paste o (i * packetLimit) b (length b)
+
+-- so many zeros
+unfoldable pub zeros : ℕ → List ℕ
+zeros n = replicate n 0
+
+-- the octets of slot i past the first n are zero
+unfoldable pub zerosPast : List ℕ → ℕ → ℕ → Bool
+zerosPast o i n = allBelow packetLimit (λ j. ltb j n || eqb (getD o (i * packetLimit + j) 0) 0)
+
+-- what lets every octet pass, then what lets zero alone pass
+unfoldable pub mask : List ℕ
+mask = replicate packetLimit 255 ++ zeros packetLimit

@@ -1,0 +1,71 @@
+// A store is a run of octets cut into slots of a packet's length: the receiving session keeps its packets in one and its
+// messages in another, and the sending session its history. These functions serve callers inside this repository: they
+// require that the slot is there.
+use datagrams::Packet;
+ghost use mathlib.Core.Path.{_≡_};
+ghost use Prim.Native.Nat.{_≤_};
+ghost use lib.ListN.{length, drop};
+ghost use mathlib.Core.List.{_++_};
+ghost use Rattle.datagrams.specs.Sizes.{packetLimit};
+ghost use Rattle.stores.specs.Store.{pasted, zeros, zerosPast, mask, part, HasSlot};
+
+// The octets src, laid at the front of a slot.
+pub fn put(o: &mut [u8], slot: usize, src: &[u8])
+    requires { ⌜ HasSlot slot (now o) ⌝ }
+    requires { ⌜ length (now src) ≤ packetLimit ⌝ }
+    ensures { λ _. ⌜ now (o .exit) ≡ pasted (now (o .entry)) slot (now (src .entry)) ⌝ }
+{
+    let at = slot * Packet::LIMIT;
+    let mut j = 0;
+    while j < src.len() {
+        o[at + j] = src[j];
+        j += 1;
+    }
+}
+
+// Zeros in all of a slot.
+pub fn clear(o: &mut [u8], slot: usize)
+    requires { ⌜ HasSlot slot (now o) ⌝ }
+    ensures { λ _. ⌜ now (o .exit) ≡ pasted (now (o .entry)) slot (zeros packetLimit) ⌝ }
+{
+    let at = slot * Packet::LIMIT;
+    let mut j = 0;
+    while j < Packet::LIMIT {
+        o[at + j] = 0;
+        j += 1;
+    }
+}
+
+// Whether a slot has zeros past its first n octets. The mask lets every octet pass below n and only zero from there on, in a
+// loop without branches.
+pub fn zeros_past(o: &[u8], slot: usize, n: usize, table: &[u8]) -> bool
+    requires { ⌜ HasSlot slot (now o) ⌝ }
+    requires { ⌜ n ≤ packetLimit ⌝ }
+    requires { ⌜ now table ≡ mask ⌝ }
+    ensures { λ r. ⌜ r ≡ zerosPast (now (o .entry)) slot n ⌝ }
+{
+    let at = slot * Packet::LIMIT;
+    let from = Packet::LIMIT - n;
+    let mut ok = true;
+    let mut j = 0;
+    while j < Packet::LIMIT {
+        ok = ok & (o[at + j] <= table[from + j]);
+        j += 1;
+    }
+    ok
+}
+
+// The part of a slot, copied to the front of a lent buffer.
+pub fn copy_out(o: &[u8], slot: usize, n: usize, out: &mut [u8])
+    requires { ⌜ HasSlot slot (now o) ⌝ }
+    requires { ⌜ n ≤ packetLimit ⌝ }
+    requires { ⌜ n ≤ length (now out) ⌝ }
+    ensures { λ _. ⌜ now (out .exit) ≡ part (now (o .entry)) slot n ++ drop n (now (out .entry)) ⌝ }
+{
+    let at = slot * Packet::LIMIT;
+    let mut j = 0;
+    while j < n {
+        out[j] = o[at + j];
+        j += 1;
+    }
+}

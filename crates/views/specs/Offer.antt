@@ -1,0 +1,64 @@
+-- Document 01, 'The receiving session', "Offer. With distance d from base to S: d up to 31 may be accepted, 32 to 32,767 is
+-- refusal 8, more is 9. A number whose datagram was accepted before is 7. Accepted: its packet, then its spares in order,
+-- fill only numbers still unknown, those before the base too. Then repair". And of the order: "reading order, then 8 or 9,
+-- then 7". Definitions only.
+use Prim.Native.Nat.{ℕ, suc, _+_, _-_}
+use mathlib.Core.Bool.{Bool, true, cond}
+use mathlib.Core.List.{List, [], _∷_}
+use lib.ListN.{getD, set}
+use lib.Dec.{ltb}
+use Rattle.lengths.specs.Refusals.{repeated, tooFar, late}
+use Rattle.lengths.specs.Answers.{Answer, done, refuse}
+use Rattle.datagrams.specs.Carried.{Carried, Extra, spares, parity}
+use Rattle.repair.specs.Cells.{State, received, spare, Cell, unknownAt, keptBefore, keptAhead}
+use Rattle.repair.specs.Held.{Held, nothingHeld, heldMessages}
+use Rattle.repair.specs.Repair.{repair}
+use Rattle.views.specs.View.{View, distance}
+
+-- late from this distance on
+abbrev pub lateFrom : ℕ
+lateFrom = 32768
+
+-- "fill only numbers still unknown"
+unfoldable pub keep : State → ℕ → List ℕ → List Cell → List Cell
+keep state p octets cells = cond (unknownAt cells p) (set cells p (record { state = state; octets = octets })) cells
+
+-- "the j-th spare of datagram S is packet S−j": the first of the given spares stands before place p
+unfoldable pub keepSpares : ℕ → List (List ℕ) → List Cell → List Cell
+keepSpares p [] cells = cells
+keepSpares p (octets ∷ more) cells = keepSpares (p - 1) more (keep spare (p - 1) octets cells)
+
+-- the spares of a datagram at place p are kept
+abbrev pub keepExtra : ℕ → Extra → List Cell → List Cell
+keepExtra p (spares copies) cells = keepSpares p copies cells
+keepExtra p (parity n messages) cells = cells
+
+-- what is held of an accepted datagram: its mark, and its parity messages
+abbrev pub heldOf : Extra → Held
+heldOf (spares copies) = record { accepted = true; n = 0; messages = [] }
+heldOf (parity n messages) = record { accepted = true; n = n; messages = messages }
+
+-- an accepted datagram, at distance d
+unfoldable pub accept : ℕ → Carried → View → View
+accept d datagram view =
+    let place = keptBefore + d in
+    let filled = keepExtra place (datagram .extra) (keep received place (datagram .packet) (view .cells)) in
+    let held = set (view .held) d (heldOf (datagram .extra)) in
+    record {
+      base = view .base;
+      counts = view .counts;
+      cells = repair filled (heldMessages held);
+      held = held;
+    }
+
+-- whether the datagram at distance d was accepted before
+abbrev pub acceptedAt : View → ℕ → Bool
+acceptedAt view d = (getD (view .held) d nothingHeld) .accepted
+
+-- a datagram that was read, offered to the session
+unfoldable pub offered : Carried → View → Answer View
+offered datagram view =
+    let d = distance (view .base) (datagram .number) in
+    cond (ltb d keptAhead)
+    (cond (acceptedAt view d) (refuse repeated) (done (accept d datagram view)))
+    (cond (ltb d lateFrom) (refuse tooFar) (refuse late))
