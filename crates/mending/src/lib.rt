@@ -16,9 +16,11 @@ ghost use Rattle.datagrams.specs.Sizes.{packetLimit};
 ghost use Rattle.lengths.specs.Promise.{Octet};
 ghost use Rattle.views.specs.View.{distance, numbers};
 ghost use Rattle.stores.specs.Store.{HasSlot};
+ghost use Rattle.repair.specs.Cells.{keptAhead};
 ghost use Rattle.heads.specs.Head.{slotsKept, packetOctets, stateOf};
 ghost use Rattle.heads.specs.Within.{Within};
 ghost use Rattle.mending.specs.Back.{flag, Flags, countBack, findBack, Summed};
+ghost use Rattle.mending.specs.Promise.{Sized, LowestFound, UsableFound, MendedOctets, Points, Filled, Mended, missingOf, messageIn, heardAt};
 
 // A message that mends: the distance of its number from the base, its index, and the slot of its one unknown member.
 pub enum Usable {
@@ -124,4 +126,56 @@ fn find_back(flags: &[u8], x: u16, n: usize, m: u16) -> usize
         t += 1;
     }
     Session::KEPT
+}
+
+// How many members of a message are unknown; none where it has no octets, since such a message never mends.
+fn missing(size: u16, flags: &[u8], x: u16, n: usize, m: u16) -> usize
+    requires { ⌜ length (now flags) ≡ slotsKept ⌝ }
+    requires { ⌜ ((i : ℕ) → getD (now flags) i 0 ≤ 1) ⌝ }
+    requires { ⌜ n ≤ 255 ⌝ }
+    ensures { λ r. ⌜ r ≡ missingOf size (now (flags .entry)) x n m ⌝ }
+{
+    if size == 0 {
+        return 0;
+    }
+    count_back(flags, x, n, m)
+}
+
+// An octet as a number of 16 bits.
+fn number(octet: u8) -> u16
+    ensures { λ r. ⌜ r ≡ octet ⌝ }
+{
+    octet as u16
+}
+
+// The lowest usable message of the number at a distance from the base.
+fn lowest_usable(h: Head, flags: &[u8], distance: u16) -> Lowest
+    requires { ⌜ Sized h ⌝ }
+    requires { ⌜ Flags h (now flags) ⌝ }
+    requires { ⌜ distance < keptAhead ⌝ }
+    ensures { λ r. ⌜ LowestFound h distance r ⌝ }
+{
+    let base = h.base;
+    let at = std::num::wrapping_add_u16(base, distance);
+    let slot = wide16(at % 32);
+    let heard = h.heard[slot];
+    let n = wide(heard.n);
+    let m = number(heard.m);
+    let mut i: u16 = 0;
+    while i < m {
+        let index = wide16(i);
+        let place = slot * Parity::MESSAGES + index;
+        let size = h.sizes[place];
+        let first = std::num::wrapping_add_u16(at, i);
+        let unknown = missing(size, flags, first, n, m);
+        if unknown == 1 {
+            let target = find_back(flags, first, n, m);
+            return Lowest::Message {
+                index,
+                slot: target,
+            };
+        }
+        i += 1;
+    }
+    Lowest::Nothing
 }
