@@ -1,21 +1,19 @@
 -- What a usable message says, and what its fill does: the one unknown member, which is in the view, becomes repaired, and
 -- every other number stays as it is. Assumes nothing.
-use Prim.Native.Nat.{ℕ, zero, suc, _≤_, _<_}
+use Prim.Native.Nat.{ℕ, _≤_, _<_}
 use mathlib.Core.Path.{_≡_, refl, sym, ap, _∙_}
 use mathlib.Core.Logic.{_⊎_, inl, inr, ⊎-elim}
-use mathlib.Core.Bool.{Bool, true, false, not, cond, false≢true}
+use mathlib.Core.Bool.{true, false≢true}
 use mathlib.Core.List.{List, [], _∷_, List·Memᴰ as Among}
 use mathlib.Core.List.{List·Memᴰ·eq-of-singleton, List·Memᴰ·head as here}
-use lib.ListN.{length, getD, set, length-set, List·getD-eq-default}
+use lib.ListN.{length, getD, length-set, List·getD-eq-default}
 use lib.Seq.{getD-set-same, getD-set-other}
-use lib.Dec.{leb, eqb}
+use lib.Dec.{leb}
 use borrow.Author.Tests.{leb-true, eqb-true, le-leb, eq-eqb}
-use native.Mathlib.Omega.{arith}
 use Rattle.octets.proofs.Cases.{below-or-not, same-or-not, true-or-false, and-left, and-right, and-both}
 use Rattle.octets.proofs.ExclusiveOr.{length-exclusiveOr}
-use Rattle.octets.specs.ExclusiveOr.{exclusiveOr}
 use Rattle.repair.specs.Cells.{Cell, blankCell, cellAt, unknownAt, isUnknown, repaired}
-use Rattle.repair.specs.Repair.{Message, passing, unknownMembers, otherMembers, usable, mended, fill}
+use Rattle.repair.specs.Repair.{Message, unknownMembers, usable, mended, fill}
 use Rattle.repair.specs.Reached.{Known, Unknown, Distinct}
 use Rattle.repair.proofs.Passing.{passing-among, among-passing, passing-one, list-of-one}
 

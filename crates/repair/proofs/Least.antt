@@ -1,12 +1,12 @@
 -- Repair makes known what the messages reach, and nothing more: its result holds what was known, is closed under every
 -- message, and lies within every closed set that holds what was known. So the known numbers do not depend on the order of
 -- the messages, and they grow with what is known before and with more messages. Assumes nothing.
-use Prim.Native.Nat.{ℕ, _≤_}
-use mathlib.Core.Path.{_≡_, refl, sym, ap, _∙_, subst}
-use mathlib.Core.Logic.{_⊎_, _↔_, ⊎-elim}
-use mathlib.Core.Bool.{true, false, false≢true}
+use Prim.Native.Nat.{ℕ}
+use mathlib.Core.Path.{_≡_, sym, _∙_, subst}
+use mathlib.Core.Logic.{_↔_, ⊎-elim}
+use mathlib.Core.Bool.{false≢true}
 use mathlib.Core.List.{List, List·Memᴰ as Among}
-use mathlib.Core.Option.{none, some}
+use mathlib.Core.Option.{none}
 use Rattle.octets.proofs.Cases.{true-or-false}
 use Rattle.repair.specs.Cells.{Cell, unknownAt}
 use Rattle.repair.specs.Repair.{Message, firstUsable, repair}

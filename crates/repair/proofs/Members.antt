@@ -1,16 +1,16 @@
 -- Laws of the members of a message: no number is in it twice, all are in the reach n·m before S, two of them are at least m
 -- apart, and each number of the reach is in exactly one message. Assumes nothing.
 use Prim.Native.Nat.{ℕ, zero, suc, _+_, _-_, _*_, _/_, _%_, _≤_, _<_, zero-le, suc-le-suc}
-use mathlib.Core.Path.{_≡_, refl, sym, ap, _∙_}
+use mathlib.Core.Path.{_≡_, sym, ap, _∙_}
 use mathlib.Core.Logic.{_⊎_, _↔_, inl, inr, ⊎-elim}
-use mathlib.Core.List.{List, [], _∷_, List·Memᴰ as Among, Memᴰ·cast}
-use native.Mathlib.Nat.{suc-mul, mul-le-mul-right, div-add-mod', div-lt-iff-lt-mul, mod-lt, le-of-suc-le-suc}
+use mathlib.Core.List.{List·Memᴰ as Among, Memᴰ·cast}
+use native.Mathlib.Nat.{suc-mul, mul-le-mul-right, div-add-mod', div-lt-iff-lt-mul}
 use native.Mathlib.Omega.{arith}
 use lib.Arith.{digits-mod}
 use Rattle.octets.specs.Place.{tab}
 use Rattle.octets.proofs.Place.{tab-among, among-tab}
 use Rattle.octets.proofs.Cases.{below-or-not, same-or-not}
-use Rattle.repair.specs.Members.{membersOf}
+use Rattle.repair.specs.Members.{membersOf, InReach}
 use Rattle.repair.specs.Reached.{Distinct, none, more}
 
 -- a list given by place has no element twice if its places' elements differ
@@ -52,10 +52,7 @@ module _ (S n m i : ℕ) (reach : n * m ≤ S) (low : i < m) where
           }
 
   -- S itself is in none, and all are in the reach
-  pub member-before : {p : ℕ} → Among p (membersOf S n m i) → p < S
-  member-before at = let says = member-says at in omega arith
-
-  pub member-in-reach : {p : ℕ} → Among p (membersOf S n m i) → S - n * m ≤ p
+  pub member-in-reach : {p : ℕ} → Among p (membersOf S n m i) → InReach S n m p
   member-in-reach at = let says = member-says at in omega arith
 
   -- two members that differ are at least m apart
@@ -87,10 +84,9 @@ module _ (S n m i : ℕ) (reach : n * m ≤ S) (low : i < m) where
       (λ t u less below same. omega (arith, apart t u less, member-sum u below, member-sum t (omega arith)))
 
   -- the members of message i are exactly the numbers of the reach whose distance to S leaves m - 1 - i
-  pub members-exact : (p : ℕ)
-      → Among p (membersOf S n m i) ↔ ((S - n * m ≤ p) × (p < S) × (((S - 1) - p) % m ≡ (m - 1) - i))
+  pub members-exact : (p : ℕ) → Among p (membersOf S n m i) ↔ (InReach S n m p × (((S - 1) - p) % m ≡ (m - 1) - i))
   unfolding membersOf
-  members-exact p = (λ at. (member-in-reach at, member-before at, left at), λ x. back x.0 x.1 x.2)
+  members-exact p = (λ at. (member-in-reach at, left at), λ x. back x.0 x.1)
     where
       left : Among p (membersOf S n m i) → ((S - 1) - p) % m ≡ (m - 1) - i
       left at =
@@ -98,9 +94,9 @@ module _ (S n m i : ℕ) (reach : n * m ≤ S) (low : i < m) where
           let distance : (S - 1) - p ≡ says .t * m + ((m - 1) - i) = omega arith in
           ap (λ (d : ℕ). d % m) distance ∙ digits-mod (says .t) (omega arith)
 
-      back : S - n * m ≤ p → p < S → ((S - 1) - p) % m ≡ (m - 1) - i → Among p (membersOf S n m i)
-      back above before rest =
+      back : InReach S n m p → ((S - 1) - p) % m ≡ (m - 1) - i → Among p (membersOf S n m i)
+      back inside rest =
           let t : ℕ = ((S - 1) - p) / m in
           let whole = div-add-mod' ((S - 1) - p) m in
-          let inside : t < n = div-lt-iff-lt-mul {k = m} {x = (S - 1) - p} {y = n} (omega arith) .1 (omega arith) in
-          Memᴰ·cast (omega (arith, member-sum t inside)) (tab-among n (λ u. (S + i) - suc u * m) t inside)
+          let below : t < n = div-lt-iff-lt-mul {k = m} {x = (S - 1) - p} {y = n} (omega arith) .1 (omega arith) in
+          Memᴰ·cast (omega (arith, member-sum t below)) (tab-among n (λ u. (S + i) - suc u * m) t below)

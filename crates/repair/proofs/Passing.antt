@@ -1,16 +1,19 @@
--- Laws of `passing`, the places of a list that pass a test. Assumes nothing.
-use Prim.Native.Nat.{ℕ, zero, suc, _+_, _≤_, _<_}
-use mathlib.Core.Path.{_≡_, refl, sym, ap, _∙_}
-use mathlib.Core.Logic.{_⊎_, inl, inr, ⊎-elim}
-use mathlib.Core.Bool.{Bool, true, false, not, cond}
-use mathlib.Core.List.{List, [], _∷_, List·Memᴰ as Among}
+-- Laws of `passing`, the places of a list that pass a test: what is among them, where one alone passes, and the exclusive
+-- or of a list as that of those that pass and of the others. Assumes nothing.
+use Prim.Native.Nat.{ℕ}
+use mathlib.Core.Path.{_≡_, refl, sym, ap, ap₂, _∙_}
+use mathlib.Core.Logic.{⊎-elim}
+use mathlib.Core.Bool.{Bool, true, false, not}
+use mathlib.Core.List.{List, [], _∷_, _++_, map, List·Memᴰ as Among}
 use mathlib.Core.List.{List·Memᴰ·not-nil, List·Memᴰ·cases-cons, Memᴰ·cast, List·Memᴰ·head as here, List·Memᴰ·tail as further}
 use lib.ListN.{length, getD}
 use native.Mathlib.Omega.{arith}
-use native.Mathlib.Nat.{not-suc-le-zero}
+use lib.Bits.{bitXor}
+use Rattle.octets.specs.ExclusiveOr.{xorAt}
 use Rattle.octets.proofs.Cases.{true-or-false}
+use Rattle.octets.proofs.ExclusiveOr.{xor-assoc, xor-left-comm}
 use Rattle.repair.specs.Repair.{passing}
-use Rattle.repair.specs.Reached.{Distinct, none, more}
+use Rattle.repair.specs.Reached.{Distinct, more}
 
 pub passing-yes : (test : ℕ → Bool) (x : ℕ) (l : List ℕ) → test x ≡ true → passing test (x ∷ l) ≡ x ∷ passing test l
 unfolding passing
@@ -81,3 +84,44 @@ passing-one test (x ∷ l) p (more fresh d) m pass others =
     later : Among p l → passing test l ≡ p ∷ [] → passing test (x ∷ l) ≡ p ∷ []
     later rest alone =
         passing-no test x l (others x (here refl) (λ e. fresh (Memᴰ·cast e rest))) ∙ alone
+
+-- ---- one place more at the end
+pub passing-append : (test : ℕ → Bool) (l rest : List ℕ) → passing test (l ++ rest) ≡ passing test l ++ passing test rest
+unfolding passing
+passing-append test [] rest = refl
+passing-append test (x ∷ l) rest =
+    ⊎-elim
+    (λ e.
+    passing-yes test x (l ++ rest) e
+    ∙ ap (λ (t : List ℕ). x ∷ t) (passing-append test l rest)
+    ∙ ap (λ (t : List ℕ). t ++ passing test rest) (sym (passing-yes test x l e)))
+    (λ e.
+    passing-no test x (l ++ rest) e
+    ∙ passing-append test l rest
+    ∙ ap (λ (t : List ℕ). t ++ passing test rest) (sym (passing-no test x l e)))
+    (true-or-false (test x))
+
+-- ---- the exclusive or of a list, parted by a test
+module _ (test : ℕ → Bool) (row : ℕ → List ℕ) (k : ℕ) where
+  abbrev pub both-of : List ℕ → List ℕ → ℕ
+  both-of pass fail = bitXor (xorAt (map row pass) k) (xorAt (map row fail) k)
+
+  -- the exclusive or of those that pass and of those that don't
+  abbrev pub parted : List ℕ → ℕ
+  parted l = both-of (passing test l) (passing (λ p. not (test p)) l)
+
+  pub xorAt-parted : (l : List ℕ) → xorAt (map row l) k ≡ parted l
+  unfolding passing xorAt
+  xorAt-parted [] = refl
+  xorAt-parted (p ∷ l) =
+      ap (bitXor (getD (row p) k 0)) (xorAt-parted l) ∙ ⊎-elim passes fails (true-or-false (test p))
+    where
+      passes : test p ≡ true → bitXor (getD (row p) k 0) (parted l) ≡ parted (p ∷ l)
+      passes e =
+          sym (xor-assoc (getD (row p) k 0) (xorAt (map row (passing test l)) k) (xorAt (map row (passing (λ q. not (test q)) l)) k))
+          ∙ sym (ap₂ both-of (passing-yes test p l e) (passing-no (λ q. not (test q)) p l (ap not e)))
+
+      fails : test p ≡ false → bitXor (getD (row p) k 0) (parted l) ≡ parted (p ∷ l)
+      fails e =
+          xor-left-comm (getD (row p) k 0) (xorAt (map row (passing test l)) k) (xorAt (map row (passing (λ q. not (test q)) l)) k)
+          ∙ sym (ap₂ both-of (passing-no test p l e) (passing-yes (λ q. not (test q)) p l (ap not e)))
