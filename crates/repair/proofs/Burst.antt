@@ -68,19 +68,19 @@ module _ (row : ℕ → List ℕ) (cells : List Cell) (messages : List Message) 
   abbrev message : Message
   message = messageAt S held (c .i)
 
+  in-reach : {q : ℕ} → Among q (message .members) → InReach S (held .n) (length (held .messages)) q
+  in-reach at = member-in-reach S (held .n) (length (held .messages)) (c .i) (honest .reach) (c .low) at
+
   others-known : (q : ℕ) → Among q (message .members) → (q ≡ p → ⊥) → Known cells q
   others-known q at other =
       ⊎-elim (λ u. absurd (far u (members-apart S (held .n) (length (held .messages)) (c .i) (honest .reach) (c .low) (c .member) at other)))
       (λ k. k)
       (true-or-false (unknownAt cells q))
     where
-      in-burst : {r : ℕ} → Among r (message .members) → Unknown cells r → (a ≤ r) × (r < a + length (held .messages))
-      in-burst {r} r-at u =
-          burst r (member-in-reach S (held .n) (length (held .messages)) (c .i) (honest .reach) (c .low) r-at) u
-
+      -- both in the burst, and m apart
       far : Unknown cells q → (p + length (held .messages) ≤ q) ⊎ (q + length (held .messages) ≤ p) → ⊥
-      far u (inl over) = omega (arith, in-burst at u, in-burst (c .member) unknown-p)
-      far u (inr under) = omega (arith, in-burst at u, in-burst (c .member) unknown-p)
+      far u (inl over) = omega (arith, burst q (in-reach at) u, burst p (in-reach (c .member)) unknown-p)
+      far u (inr under) = omega (arith, burst q (in-reach at) u, burst p (in-reach (c .member)) unknown-p)
 
   never : ⊥
   unfolding messagesOf

@@ -10,6 +10,7 @@ use lib.ListN.{length, getD, length-set, List·getD-eq-default}
 use lib.Seq.{getD-set-same, getD-set-other}
 use lib.Dec.{leb}
 use borrow.Author.Tests.{leb-true, eqb-true, le-leb, eq-eqb}
+use native.Mathlib.Omega.{arith}
 use Rattle.octets.proofs.Cases.{below-or-not, same-or-not, true-or-false, and-left, and-right, and-both}
 use Rattle.octets.proofs.ExclusiveOr.{length-exclusiveOr}
 use Rattle.repair.specs.Cells.{Cell, blankCell, cellAt, unknownAt, isUnknown, repaired}
@@ -60,8 +61,8 @@ usable-says cells message e =
   where
     alone : unknownMembers cells message ≡ missing cells message ∷ []
     alone =
-        list-of-one (unknownMembers cells message)
-        (eqb-true (length (unknownMembers cells message)) 1 (and-right (leb 1 (length (message .octets))) _ e))
+        let exactly-one = and-right (leb 1 (length (message .octets))) _ e in
+        list-of-one (unknownMembers cells message) (omega (arith, eqb-true, leb-true))
 
     at : Among (missing cells message) (message .members) × Unknown cells (missing cells message)
     at = passing-among (unknownAt cells) (message .members) (rw alone (here refl))
@@ -85,7 +86,7 @@ usable-of cells message p d some m u others =
 -- ---- fill
 pub length-fill : (cells : List Cell) (message : Message) → length (fill cells message) ≡ length cells
 unfolding fill
-length-fill cells message = length-set cells (missing cells message) _
+length-fill cells message = length-set cells _ _
 
 -- the missing member becomes repaired
 pub fill-missing : (cells : List Cell) (message : Message) → usable cells message ≡ true

@@ -10,7 +10,7 @@ use lib.Arith.{digits-mod}
 use Rattle.octets.specs.Place.{tab}
 use Rattle.octets.proofs.Place.{tab-among, among-tab}
 use Rattle.octets.proofs.Cases.{below-or-not, same-or-not}
-use Rattle.repair.specs.Members.{membersOf, InReach}
+use Rattle.repair.specs.Members.{memberAt, membersOf, InReach}
 use Rattle.repair.specs.Reached.{Distinct, none, more}
 
 -- a list given by place has no element twice if its places' elements differ
@@ -26,22 +26,22 @@ distinct-tab (suc n) f differ =
 
 module _ (S n m i : ℕ) (reach : n * m ≤ S) (low : i < m) where
   -- member t, by a sum: nothing is below zero
-  member-sum : (t : ℕ) → t < n → ((S + i) - suc t * m) + (t * m + m) ≡ S + i
+  member-sum : (t : ℕ) → t < n → memberAt S m i t + (t * m + m) ≡ S + i
   member-sum t below = omega (arith, mul-le-mul-right m below, suc-mul t m)
 
   -- a member is one of n, each m before the last
   pub record Member (p : ℕ) : Type 0 where
     pub t : ℕ
     pub below : t < n
-    pub place : p ≡ (S + i) - suc t * m
+    pub place : p ≡ memberAt S m i t
     pub sum : p + (t * m + m) ≡ S + i
     pub within : t * m + m ≤ n * m
 
   pub member-says : {p : ℕ} → Among p (membersOf S n m i) → Member p
   unfolding membersOf
-  member-says {p} at = told (among-tab n (λ t. (S + i) - suc t * m) at)
+  member-says {p} at = told (among-tab n (memberAt S m i) at)
     where
-      told : (t : ℕ) × (t < n) × (p ≡ (S + i) - suc t * m) → Member p
+      told : (t : ℕ) × (t < n) × (p ≡ memberAt S m i t) → Member p
       told x =
           record {
             t = x.0;
@@ -72,7 +72,7 @@ module _ (S n m i : ℕ) (reach : n * m ≤ S) (low : i < m) where
       pick : (P .t < Q .t) ⊎ (Q .t ≤ P .t) → (p + m ≤ q) ⊎ (q + m ≤ p)
       pick (inl less) = inr (omega (arith, apart (P .t) (Q .t) less, P .sum, Q .sum))
       pick (inr not-less) =
-          ⊎-elim (λ same. absurd (other (Q .place ∙ ap (λ (t : ℕ). (S + i) - suc t * m) same ∙ sym (P .place))))
+          ⊎-elim (λ same. absurd (other (Q .place ∙ ap (memberAt S m i) same ∙ sym (P .place))))
           (λ differ. inl (omega (arith, apart (Q .t) (P .t) (omega arith), P .sum, Q .sum)))
           (same-or-not (Q .t) (P .t))
 
@@ -80,7 +80,7 @@ module _ (S n m i : ℕ) (reach : n * m ≤ S) (low : i < m) where
   pub members-distinct : Distinct (membersOf S n m i)
   unfolding membersOf
   members-distinct =
-      distinct-tab n (λ t. (S + i) - suc t * m)
+      distinct-tab n (memberAt S m i)
       (λ t u less below same. omega (arith, apart t u less, member-sum u below, member-sum t (omega arith)))
 
   -- the members of message i are exactly the numbers of the reach whose distance to S leaves m - 1 - i
@@ -99,4 +99,4 @@ module _ (S n m i : ℕ) (reach : n * m ≤ S) (low : i < m) where
           let t : ℕ = ((S - 1) - p) / m in
           let whole = div-add-mod' ((S - 1) - p) m in
           let below : t < n = div-lt-iff-lt-mul {k = m} {x = (S - 1) - p} {y = n} (omega arith) .1 (omega arith) in
-          Memᴰ·cast (omega (arith, member-sum t below)) (tab-among n (λ u. (S + i) - suc u * m) t below)
+          Memᴰ·cast (omega (arith, member-sum t below)) (tab-among n (memberAt S m i) t below)

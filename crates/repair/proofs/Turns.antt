@@ -14,7 +14,7 @@ use Rattle.octets.specs.ExclusiveOr.{exclusiveOr, xorAt}
 use Rattle.octets.proofs.Place.{length-tab, tab-at, tab-ext, tab-snoc}
 use Rattle.octets.proofs.ExclusiveOr.{exclusiveOr-more, xorAt-zeros}
 use Rattle.repair.specs.Cells.{Cell, cellAt, unknownAt, keptBefore}
-use Rattle.repair.specs.Members.{membersOf}
+use Rattle.repair.specs.Members.{memberAt, membersOf}
 use Rattle.repair.specs.Repair.{Message, passing, unknownMembers, otherMembers, mended}
 use Rattle.repair.specs.Held.{Held, nothingHeld, heldAt, messageAt, messagesOf, messagesFrom, heldMessages}
 use Rattle.repair.specs.Reached.{Unknown}
@@ -62,25 +62,25 @@ pub messagesOnFrom-end : (S : ℕ) (held : Held) (i : ℕ) → length (held .mes
 messagesOnFrom-end S held i past = drop-of-length-le (messagesOf S held) {i = i} (rw length-messagesOf past)
 
 -- ---- along the members of one message: the first t of them are those of a message over t packets
-pub members-turn : (S t m i : ℕ) → membersOf S (suc t) m i ≡ membersOf S t m i ++ (((S + i) - suc t * m) ∷ [])
+pub members-turn : (S t m i : ℕ) → membersOf S (suc t) m i ≡ membersOf S t m i ++ (memberAt S m i t ∷ [])
 unfolding membersOf
-members-turn S t m i = tab-snoc t (λ u. (S + i) - suc u * m)
+members-turn S t m i = tab-snoc t (memberAt S m i)
 
-pub passing-turn-yes : (test : ℕ → Bool) (S t m i : ℕ) → test ((S + i) - suc t * m) ≡ true
-    → passing test (membersOf S (suc t) m i) ≡ passing test (membersOf S t m i) ++ (((S + i) - suc t * m) ∷ [])
+pub passing-turn-yes : (test : ℕ → Bool) (S t m i : ℕ) → test (memberAt S m i t) ≡ true
+    → passing test (membersOf S (suc t) m i) ≡ passing test (membersOf S t m i) ++ (memberAt S m i t ∷ [])
 unfolding passing
 passing-turn-yes test S t m i e =
     ap (passing test) (members-turn S t m i)
-    ∙ passing-append test (membersOf S t m i) (((S + i) - suc t * m) ∷ [])
-    ∙ ap (λ (l : List ℕ). passing test (membersOf S t m i) ++ l) (passing-yes test ((S + i) - suc t * m) [] e)
+    ∙ passing-append test (membersOf S t m i) (memberAt S m i t ∷ [])
+    ∙ ap (λ (l : List ℕ). passing test (membersOf S t m i) ++ l) (passing-yes test (memberAt S m i t) [] e)
 
-pub passing-turn-no : (test : ℕ → Bool) (S t m i : ℕ) → test ((S + i) - suc t * m) ≡ false
+pub passing-turn-no : (test : ℕ → Bool) (S t m i : ℕ) → test (memberAt S m i t) ≡ false
     → passing test (membersOf S (suc t) m i) ≡ passing test (membersOf S t m i)
 unfolding passing
 passing-turn-no test S t m i e =
     ap (passing test) (members-turn S t m i)
-    ∙ passing-append test (membersOf S t m i) (((S + i) - suc t * m) ∷ [])
-    ∙ ap (λ (l : List ℕ). passing test (membersOf S t m i) ++ l) (passing-no test ((S + i) - suc t * m) [] e)
+    ∙ passing-append test (membersOf S t m i) (memberAt S m i t ∷ [])
+    ∙ ap (λ (l : List ℕ). passing test (membersOf S t m i) ++ l) (passing-no test (memberAt S m i t) [] e)
     ∙ append-nil (passing test (membersOf S t m i))
 
 -- ---- along the members for the sum
@@ -108,8 +108,8 @@ pub sum-turn : (cells : List Cell) (size : ℕ) (x : List ℕ) (S t m i : ℕ)
     → exclusiveOr size (x ∷ map (octetsAt cells) (membersOf S (suc t) m i))
     ≡ tab size
     (λ k. bitXor (getD (exclusiveOr size (x ∷ map (octetsAt cells) (membersOf S t m i))) k 0)
-    (getD (octetsAt cells ((S + i) - suc t * m)) k 0))
+    (getD (octetsAt cells (memberAt S m i t)) k 0))
 sum-turn cells size x S t m i =
     ap (λ (l : List (List ℕ)). exclusiveOr size (x ∷ l))
-    (ap (map (octetsAt cells)) (members-turn S t m i) ∙ map-append (octetsAt cells) (membersOf S t m i) (((S + i) - suc t * m) ∷ []))
-    ∙ exclusiveOr-more size (x ∷ map (octetsAt cells) (membersOf S t m i)) (octetsAt cells ((S + i) - suc t * m))
+    (ap (map (octetsAt cells)) (members-turn S t m i) ∙ map-append (octetsAt cells) (membersOf S t m i) (memberAt S m i t ∷ []))
+    ∙ exclusiveOr-more size (x ∷ map (octetsAt cells) (membersOf S t m i)) (octetsAt cells (memberAt S m i t))
