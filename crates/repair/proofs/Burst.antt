@@ -44,7 +44,8 @@ pub record Covered (S n m p : ℕ) : Type 0 where
 
 one-message : (n m : ℕ) → 1 ≤ n * m → 1 ≤ m
 one-message n m some =
-    ⊎-elim (λ more. more) (λ few. let none-left : n * m ≡ 0 = ap (λ (k : ℕ). n * k) (omega arith) ∙ mul-zero n in absurd (omega arith))
+    ⊎-elim (λ more. more)
+    (λ few. let none-left : n * m ≡ 0 = ap (λ (k : ℕ). n * k) (omega arith) ∙ mul-zero n in absurd (omega arith))
     (below-or-not 0 m)
 
 pub covered : (S n m p : ℕ) → n * m ≤ S → InReach S n m p → Covered S n m p

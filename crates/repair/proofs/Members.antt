@@ -11,14 +11,14 @@ use Rattle.octets.specs.Place.{tab}
 use Rattle.octets.proofs.Place.{tab-among, among-tab}
 use Rattle.octets.proofs.Cases.{below-or-not, same-or-not}
 use Rattle.repair.specs.Members.{memberAt, membersOf, InReach}
-use Rattle.repair.specs.Reached.{Distinct, none, more}
+use Rattle.repair.specs.Reached.{Distinct, nothing, fresh}
 
 -- a list given by place has no element twice if its places' elements differ
 pub distinct-tab : (n : ℕ) (f : ℕ → ℕ) → ((j k : ℕ) → j < k → k < n → f j ≡ f k → ⊥) → Distinct (tab n f)
 unfolding tab
-distinct-tab zero f differ = none
+distinct-tab zero f differ = nothing
 distinct-tab (suc n) f differ =
-    more (λ m. again (among-tab n (λ k. f (suc k)) m))
+    fresh (λ m. again (among-tab n (λ k. f (suc k)) m))
     (distinct-tab n (λ k. f (suc k)) (λ j k less below. differ (suc j) (suc k) (suc-le-suc less) (suc-le-suc below)))
   where
     again : (k : ℕ) × (k < n) × (f zero ≡ f (suc k)) → ⊥

@@ -13,7 +13,7 @@ use Rattle.octets.specs.ExclusiveOr.{xorAt}
 use Rattle.octets.proofs.Cases.{true-or-false}
 use Rattle.octets.proofs.ExclusiveOr.{xor-assoc, xor-left-comm}
 use Rattle.repair.specs.Repair.{passing}
-use Rattle.repair.specs.Reached.{Distinct, more}
+use Rattle.repair.specs.Reached.{Distinct, fresh}
 
 pub passing-yes : (test : ℕ → Bool) (x : ℕ) (l : List ℕ) → test x ≡ true → passing test (x ∷ l) ≡ x ∷ passing test l
 unfolding passing
@@ -69,7 +69,7 @@ passing-none test (x ∷ l) none-pass =
 pub passing-one : (test : ℕ → Bool) (l : List ℕ) (p : ℕ) → Distinct l → Among p l → test p ≡ true
     → ((q : ℕ) → Among q l → (q ≡ p → ⊥) → test q ≡ false) → passing test l ≡ p ∷ []
 passing-one test [] p d m pass others = absurd (List·Memᴰ·not-nil m)
-passing-one test (x ∷ l) p (more fresh d) m pass others =
+passing-one test (x ∷ l) p (fresh not-again d) m pass others =
     ⊎-elim first
     (λ rest. later rest (passing-one test l p d rest pass (λ q at other. others q (further at) other)))
     (List·Memᴰ·cases-cons m)
@@ -78,12 +78,12 @@ passing-one test (x ∷ l) p (more fresh d) m pass others =
     first same =
         passing-yes test x l (rw same at pass)
         ∙ ap (λ (t : List ℕ). x ∷ t)
-        (passing-none test l (λ q at. others q (further at) (λ e. fresh (Memᴰ·cast (sym same ∙ sym e) at))))
+        (passing-none test l (λ q at. others q (further at) (λ e. not-again (Memᴰ·cast (sym same ∙ sym e) at))))
         ∙ ap (λ (y : ℕ). y ∷ []) (sym same)
 
     later : Among p l → passing test l ≡ p ∷ [] → passing test (x ∷ l) ≡ p ∷ []
     later rest alone =
-        passing-no test x l (others x (here refl) (λ e. fresh (Memᴰ·cast e rest))) ∙ alone
+        passing-no test x l (others x (here refl) (λ e. not-again (Memᴰ·cast e rest))) ∙ alone
 
 -- ---- one place more at the end
 pub passing-append : (test : ℕ → Bool) (l rest : List ℕ) → passing test (l ++ rest) ≡ passing test l ++ passing test rest

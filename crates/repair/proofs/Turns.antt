@@ -1,7 +1,7 @@
 -- One turn of each loop that a receiver makes, on plain values: along the numbers from the base on, along the messages of
 -- one, along the members of one, and along the members again for the sum. In each, what is left is a list that gives up its
 -- first element, or what is done gains one at its end. Assumes nothing.
-use Prim.Native.Nat.{ℕ, suc, _+_, _-_, _*_, _≤_, _<_}
+use Prim.Native.Nat.{ℕ, suc, _+_, _≤_, _<_}
 use mathlib.Core.Path.{_≡_, refl, sym, ap, _∙_}
 use mathlib.Core.Bool.{Bool, true, false}
 use mathlib.Core.List.{List, [], _∷_, _++_, map, map-append, append-nil}
