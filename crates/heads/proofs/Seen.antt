@@ -48,7 +48,7 @@ unfolding zerosPast
 past-zero o slot n j zeros past small =
     eqb-true (getD o (slot * packetLimit + j) 0) 0
     (rw (le-ltb j n past) at
-      (allBelow-at packetLimit (λ k. ltb k n || eqb (getD o (slot * packetLimit + k) 0) 0) zeros j small))
+    (allBelow-at packetLimit (λ k. ltb k n || eqb (getD o (slot * packetLimit + k) 0) 0) zeros j small))
 
 -- an octet of the cell is the octet of the slot, past the length too
 pub octet-at : {h : Head} {o g : List ℕ} → Within h o g → (p : ℕ) → p < keptNumbers → (j : ℕ) → j < packetLimit
@@ -61,6 +61,6 @@ octet-at {h} {o} {g} w p below j small =
     let long = length-part o slot size (has-packet-slot o slot (w .kept .octets) (slot-small (h .base) p)) (size-right right) in
     ⊎-elim (λ low. part-at o slot size j low)
     (λ past.
-      List·getD-eq-default (part o slot size) 0 (rw long past)
-      ∙ sym (past-zero o slot size j (right .zeros) past small))
+    List·getD-eq-default (part o slot size) 0 (rw long past)
+    ∙ sym (past-zero o slot size j (right .zeros) past small))
     (below-or-not j size)

@@ -28,15 +28,15 @@ flags-start h flags long = record { long = long; few = omega arith; each = λ k 
 pub flags-turn : {h : Head} {flags : List ℕ} {i one : ℕ} → FlagsTo h flags i → i < slotsKept
     → one ≡ flag (stateOf ((keptIn h i) .state)) → FlagsTo h (set flags i one) (i + 1)
 flags-turn {h} {flags} {i} {one} f more e =
-    record
-      { long = length-set flags i one ∙ f .long
-      ; few = omega arith
-      ; each =
+    record {
+      long = length-set flags i one ∙ f .long;
+      few = omega arith;
+      each =
           λ k below.
-            ⊎-elim (λ same. rw same (getD-set-same flags i one 0 (rw (f .long) more) ∙ e))
-            (λ other. getD-set-other flags i k one 0 other ∙ f .each k (omega arith))
-            (same-or-not k i)
-      }
+          ⊎-elim (λ same. rw same (getD-set-same flags i one 0 (rw (f .long) more) ∙ e))
+          (λ other. getD-set-other flags i k one 0 other ∙ f .each k (omega arith))
+          (same-or-not k i);
+    }
 
 pub flags-done : {h : Head} {flags : List ℕ} {i : ℕ} → FlagsTo h flags i → slotsKept ≤ i → Flags h flags
 flags-done f all = record { long = f .long; each = λ k below. f .each k (omega arith) }
@@ -63,13 +63,13 @@ pub counting-turn : {flags : List ℕ} {x n m at count t member slot one : ℕ} 
     → ((i : ℕ) → getD flags i 0 ≤ 1) → member ≡ distance m at → slot ≡ slotOf member → one ≡ getD flags slot 0
     → Counting flags x n m member (count + one) (t + 1)
 counting-turn {flags} {x} {n} {m} {at} {count} {t} {member} {slot} {one} c more bound e f g =
-    record
-      { left =
+    record {
+      left =
           rw (g, f, e)
-          (add-assoc count _ _ ∙ ap (λ (k : ℕ). count + k) (sym (countBack-step flags at n m t more)) ∙ c .left)
-      ; few = omega arith
-      ; small = omega (arith, c .small, bound slot)
-      }
+          (add-assoc count _ _ ∙ ap (λ (k : ℕ). count + k) (sym (countBack-step flags at n m t more)) ∙ c .left);
+      few = omega arith;
+      small = omega (arith, c .small, bound slot);
+    }
 
 pub counting-done : {flags : List ℕ} {x n m at count t : ℕ} → Counting flags x n m at count t → n ≤ t → count ≡ countBack flags x n m
 unfolding countBack
@@ -100,7 +100,7 @@ module _ {flags : List ℕ} {x n m at t member slot one : ℕ} (c : Finding flag
   finding-turn miss =
       let here : getD flags (slotOf (distance m at)) 0 ≡ one = cc in
       let not-here : findBack flags at (n - t) m ≡ findBack flags (distance m at) (n - (t + 1)) m =
-            rw (one-left n t more, here, ne-eqb one 1 miss) in
+      rw (one-left n t more, here, ne-eqb one 1 miss) in
       record { left = ap (λ (k : ℕ). findBack flags k (n - (t + 1)) m) e ∙ sym not-here ∙ c .left; few = omega arith }
 
 pub finding-done : {flags : List ℕ} {x n m at t : ℕ} → Finding flags x n m at t → n ≤ t → slotsKept ≡ findBack flags x n m

@@ -1,14 +1,13 @@
 // Repair, as the receiving session does it: document 01, "Then repair". The search goes over small extracts, never over the
 // stores: which slots are unknown, and each held number's n, m and message sizes. These functions serve callers inside this
 // repository: they require the ranges.
+use datagrams::Packet;
+use datagrams::Parity;
 use heads::Head;
 use heads::Heard;
 use heads::Kept;
 use heads::Session;
 use heads::State;
-use datagrams::Packet;
-use datagrams::Parity;
-
 ghost use mathlib.Core.Path.{_≡_};
 ghost use mathlib.Core.List.{List};
 ghost use Prim.Native.Nat.{ℕ, _≤_, _<_, _%_, _*_};
@@ -33,10 +32,7 @@ pub enum Usable {
 
 // In a number's messages: the lowest usable one, and the slot of its unknown member.
 enum Lowest {
-    Message {
-        index: usize,
-        slot: usize,
-    },
+    Message { index: usize, slot: usize },
     Nothing,
 }
 

@@ -1,9 +1,9 @@
 -- Laws of `passing`, the places of a list that pass a test: what is among them, where one alone passes, and the exclusive
 -- or of a list as that of those that pass and of the others. Assumes nothing.
-use Prim.Native.Nat.{ℕ}
+use Prim.Native.Nat.{ℕ, _+_}
 use mathlib.Core.Path.{_≡_, refl, sym, ap, ap₂, _∙_}
 use mathlib.Core.Logic.{⊎-elim}
-use mathlib.Core.Bool.{Bool, true, false, not}
+use mathlib.Core.Bool.{Bool, true, false, not, cond}
 use mathlib.Core.List.{List, [], _∷_, _++_, map, List·Memᴰ as Among}
 use mathlib.Core.List.{List·Memᴰ·not-nil, List·Memᴰ·cases-cons, Memᴰ·cast, List·Memᴰ·head as here, List·Memᴰ·tail as further}
 use lib.ListN.{length, getD}
@@ -37,6 +37,18 @@ passing-among test (x ∷ l) {p} m =
   where
     later : Among p l × (test p ≡ true) → Among p (x ∷ l) × (test p ≡ true)
     later t = (further t.0, t.1)
+
+-- how many pass, and the first that does, with one place more in front
+pub passing-count : (test : ℕ → Bool) (x : ℕ) (l : List ℕ)
+    → length (passing test (x ∷ l)) ≡ cond (test x) 1 0 + length (passing test l)
+passing-count test x l =
+    ⊎-elim (λ e. rw (passing-yes test x l e, e) (omega arith)) (λ e. rw (passing-no test x l e, e) (omega arith))
+    (true-or-false (test x))
+
+pub passing-first : (test : ℕ → Bool) (x : ℕ) (l : List ℕ)
+    → getD (passing test (x ∷ l)) 0 0 ≡ cond (test x) x (getD (passing test l) 0 0)
+passing-first test x l =
+    ⊎-elim (λ e. rw (passing-yes test x l e, e)) (λ e. rw (passing-no test x l e, e)) (true-or-false (test x))
 
 -- what is in the list and passes the test is among those that pass
 pub among-passing : (test : ℕ → Bool) (l : List ℕ) {p : ℕ} → Among p l → test p ≡ true → Among p (passing test l)

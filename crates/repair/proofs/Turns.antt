@@ -1,14 +1,15 @@
 -- One turn of each loop that a receiver makes, on plain values: along the numbers from the base on, along the messages of
 -- one, along the members of one, and along the members again for the sum. In each, what is left is a list that gives up its
 -- first element, or what is done gains one at its end. Assumes nothing.
-use Prim.Native.Nat.{ℕ, suc, _+_, _≤_, _<_}
+use Prim.Native.Nat.{ℕ, suc, _+_, _-_, _≤_, _<_}
 use mathlib.Core.Path.{_≡_, refl, sym, ap, _∙_}
 use mathlib.Core.Bool.{Bool, true, false}
 use mathlib.Core.List.{List, [], _∷_, _++_, map, map-append, append-nil}
 use lib.ListN.{length, getD, drop, drop-of-length-le}
 use lib.Seq.{drop-cons}
 use lib.Bits.{bitXor}
-use native.Mathlib.Nat.{add-suc}
+use native.Mathlib.Nat.{add-suc, suc-mul}
+use native.Mathlib.Omega.{arith}
 use Rattle.octets.specs.Place.{tab}
 use Rattle.octets.specs.ExclusiveOr.{exclusiveOr, xorAt}
 use Rattle.octets.proofs.Place.{length-tab, tab-at, tab-ext, tab-snoc}
@@ -65,6 +66,13 @@ messagesOnFrom-end S held i past = drop-of-length-le (messagesOf S held) {i = i}
 pub members-turn : (S t m i : ℕ) → membersOf S (suc t) m i ≡ membersOf S t m i ++ (memberAt S m i t ∷ [])
 unfolding membersOf
 members-turn S t m i = tab-snoc t (memberAt S m i)
+
+-- or: the first member, and those of the datagram m before
+pub members-back : (S n m i : ℕ) → m ≤ S → membersOf S (suc n) m i ≡ memberAt S m i 0 ∷ membersOf (S - m) n m i
+unfolding membersOf tab
+members-back S n m i fits =
+    ap (λ (l : List ℕ). memberAt S m i 0 ∷ l)
+    (tab-ext n (λ t. memberAt S m i (suc t)) (memberAt (S - m) m i) (λ t below. omega (arith, suc-mul (suc t) m)))
 
 pub passing-turn-yes : (test : ℕ → Bool) (S t m i : ℕ) → test (memberAt S m i t) ≡ true
     → passing test (membersOf S (suc t) m i) ≡ passing test (membersOf S t m i) ++ (memberAt S m i t ∷ [])
