@@ -53,10 +53,9 @@ def datagrams_written(script):
     for _ in range(6):
         given = pieces.datagram(r, r.randrange(65536), 0.5)
         packet, kind, n, lengths, data = given.packet, given.kind, given.n, [len(i) for i in given.items], b''.join(given.items)
-        for _ in range(r.choice((0, 0, 0, 1, 1, 2))):
-            wrong = r.randrange(5)
+        for wrong in r.sample(range(5), r.choice((0, 0, 1, 1, 2, 2, 3))):
             if wrong == 0:
-                packet = pieces.octets(r, r.choice((0, 160, 161, 256, 300)))
+                packet = pieces.octets(r, r.choice((0, 0, 160, 161, 300)))
             elif wrong == 1 and kind == PARITY:
                 n = r.choice((0, 8, 9, 128, 255))
             elif wrong == 2:
@@ -88,6 +87,7 @@ def packets_read(script):
     script.call(0x05, b'\x01', whole)
     for _ in range(3):
         script.call(0x05, bytes([r.randrange(2), r.randrange(256)]), pieces.octets(r, r.choice((0, 1, 2))))
+        script.call(0x05, bytes([r.randrange(2), 0xC0]), r.choice(pieces.LENGTH_FORMS), pieces.octets(r, r.choice((0, 1, 16))))
 
 
 def packets_written(script):
@@ -96,8 +96,7 @@ def packets_written(script):
     for _ in range(7):
         kind, value, fields = pieces.packet(r)
         types, lengths, data = [t for t, _ in fields], [len(d) for _, d in fields], b''.join(d for _, d in fields)
-        for _ in range(r.choice((0, 0, 0, 1, 1, 2))):
-            wrong = r.randrange(7)
+        for wrong in r.sample(range(7), r.choice((0, 0, 1, 1, 2, 2, 3))):
             if wrong == 0:
                 value = r.choice((8, 9, 15, 16, 128, 255))
             elif wrong == 1 and types:
