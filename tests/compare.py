@@ -7,14 +7,13 @@ import shlex
 import sys
 
 from generate import make_script
-from making.lines import program_lines
+from making.lines import across_the_wrap, at_the_limit, program_lines
 from running import (around, call_of_answer, described, difference, expected_answers, expected_results, line_at, run, text_of)
 
 HERE = pathlib.Path(__file__).resolve().parent
 CASES = HERE / 'cases'
 CALL_SEEDS, CALLS_EACH = 5, 4000
 PROGRAM_SEEDS, LINES_EACH = 4, 1000
-GIVE_UPS = 1000000
 
 
 class Failed(Exception):
@@ -61,6 +60,7 @@ def comparisons(arguments):
         yield 'calls of seed ' + seed, arguments.calls, compare_calls, lambda s=seed: made_calls(s)
     for seed in seeds[:PROGRAM_SEEDS]:
         yield 'program lines of seed ' + seed, arguments.program, compare_program, lambda s=seed: made_lines(s)
+    yield 'program across the wrap', arguments.program, compare_program, lambda: across_the_wrap(seeds[0], LINES_EACH)
     if arguments.limit:
         yield 'program at the limit', arguments.program, compare_program, at_the_limit
 
@@ -75,12 +75,6 @@ def made_lines(seed):
     """The program's input from a seed, and its results."""
     given = program_lines(seed, LINES_EACH)
     return given, expected_results(given)
-
-
-def at_the_limit():
-    """1,000,000 give-ups; the next two are refused with 16, the offer that follows is accepted and gives no line."""
-    results = b''.join(b'03%04X\n' % (number % 65536) for number in range(GIVE_UPS))
-    return b'\n' * (GIVE_UPS + 2) + b'424001060000\n', results + b'FF10\nFF10\n'
 
 
 def compare_all(arguments, out):
@@ -147,7 +141,7 @@ def main():
     parser.add_argument('--calls', help='shell command of the calls program under test')
     parser.add_argument('--program', help='shell command of the program under test')
     parser.add_argument('--seed', default='', help='put before the numbers of the seeds, for others than the usual ones')
-    parser.add_argument('--limit', action='store_true', help='also 1,000,000 empty lines for the program')
+    parser.add_argument('--limit', action='store_true', help='also the program at 1,000,000 numbers')
     parser.add_argument('--self-test', action='store_true', help='check that an altered answer is reported')
     arguments = parser.parse_args()
     check_independent()

@@ -4,6 +4,7 @@ import random
 
 from rules.datagrams import PARITY, SPARES, written_datagram
 from rules.program import Program
+from rules.receiving import NUMBERS_LIMIT
 from rules.sending import Sending
 
 from . import pieces
@@ -15,12 +16,12 @@ ODD_LINES = (b'0', b'0G', b'00 01', b' ', b'\r', b'\t', b'\x00', b'\xFF\xFE', b'
 class Recording:
     """The lines so far, the program as it stands after them, and an honest sender."""
 
-    def __init__(self, seed):
+    def __init__(self, seed, given_up=0):
         self.random = random.Random(seed)
         self.lines = []
         self.results = []
-        self.program = Program()
-        self.sender = Sending()
+        self.program = Program(given_up)
+        self.sender = Sending(given_up)
 
     def add(self, line):
         """Adds a line, and follows what the program makes of it."""
@@ -40,9 +41,9 @@ class Recording:
         return (self.sender.sent - self.base() + 32768) % 65536 - 32768
 
 
-def record(seed, count):
-    """A recording of so many lines or a few more."""
-    recording = Recording(seed)
+def record(seed, count, given_up=0):
+    """A recording of so many lines or a few more, behind so many give-ups."""
+    recording = Recording(seed, given_up)
     while len(recording.lines) < count:
         stretch(recording)
     return recording
@@ -52,6 +53,27 @@ def program_lines(seed, count):
     """So many lines as the program reads them; some inputs end without a line feed."""
     lines = record(seed, count).lines[:count]
     return b'\n'.join(lines) + (b'' if random.Random(seed).random() < 0.3 else b'\n')
+
+
+def after_give_ups(given_up, lines):
+    """Lines behind so many empty ones, and their results; the give-ups are not done one by one."""
+    program = Program(given_up)
+    lost = b''.join(b'03%04X\n' % (number % 65536) for number in range(given_up))
+    results = b''.join(result + b'\n' for line in lines for result in program.results(line))
+    return b'\n' * given_up + b''.join(line + b'\n' for line in lines), lost + results
+
+
+def across_the_wrap(seed, count):
+    """So many lines that begin some numbers before 65,535, and their results."""
+    given_up = 65536 - count // 5
+    return after_give_ups(given_up, record(seed, count, given_up).lines)
+
+
+def at_the_limit():
+    """The last numbers before 1,000,000 and some lines more: give-ups are then refused, offers are not."""
+    given_up = NUMBERS_LIMIT - 50
+    numbers = [number % 65536 for number in range(given_up, NUMBERS_LIMIT + 20)]
+    return after_give_ups(given_up, [b'%04X01060000' % number if number % 7 else b'' for number in numbers])
 
 
 def stretch(recording):

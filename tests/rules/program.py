@@ -11,10 +11,10 @@ LOST_LINE = 3
 
 
 class Program:
-    """The program's session; each line in gives result lines."""
+    """The program's session, fresh or after so many give-ups; each line in gives result lines."""
 
-    def __init__(self):
-        self.session = Receiving()
+    def __init__(self, given_up=0):
+        self.session = Receiving(given_up)
 
     def results(self, line):
         """The result lines of one line, without their line feeds."""
