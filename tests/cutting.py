@@ -26,6 +26,8 @@ def cut_calls(command, script):
     """A script of calls, cut down so that its last line is still answered otherwise than expected."""
     answers, _ = run(command, script)
     at = difference(expected_answers(script), answers)
+    if at is None:
+        return lines_of(script)
     lines = lines_of(script)[:call_of_answer(script, at) + 1]
     last = lines[-1:]
 
