@@ -10,10 +10,11 @@ from making.lines import program_lines
 from making.script import Full, Script
 
 SINGLE = (single.lengths, single.datagrams_read, single.datagrams_written, single.packets_read, single.packets_written,
-          single.packets_written, single.round_trips, single.no_calls)
-SESSIONS = (conversations.honest, conversations.dishonest, conversations.sparse_parity, conversations.blanks,
-            conversations.damaged_offers, conversations.at_the_limit, conversations.sending, outside.receiving_outside,
-            outside.receiving_outside, outside.overwritten_inside, outside.odd_overwrites, outside.sending_outside)
+          single.packets_written, single.many_fields, single.round_trips, single.no_calls)
+SESSIONS = (conversations.honest, conversations.dishonest, conversations.sparse_parity, conversations.contested,
+            conversations.contested, conversations.blanks, conversations.damaged_offers, conversations.at_the_limit,
+            conversations.sending, outside.receiving_outside, outside.receiving_outside, outside.overwritten_inside,
+            outside.odd_overwrites, outside.sending_outside, outside.sending_outside)
 SCENES = 2 * SINGLE + SESSIONS
 
 

@@ -1,7 +1,7 @@
 """Scenes with a receiving session, and mostly an honest sender on a line that loses, repeats and reorders."""
 
 from rules.arguments import shown
-from rules.datagrams import PARITY, SPARES, written_datagram
+from rules.datagrams import PARITY, SPARES, Datagram, written_datagram
 from rules.receiving import AFTER, NUMBERS_LIMIT, UNKNOWN
 from rules.sending import Sending
 
@@ -189,6 +189,24 @@ def sparse_parity(script):
     script.next(160)
 
 
+def contested(script):
+    """Messages that contradict each other over the same few unknown numbers: which fills first can be seen."""
+    r = script.random
+    for _ in range(2):
+        script.call(0x10)
+        others = list(range(14))
+        for number in r.sample(range(10), r.choice((3, 4, 5))):
+            others.remove(number)
+        r.shuffle(others)
+        for number in others:
+            messages = tuple(pieces.octets(r, r.choice((1, 1, 1, 2))) for _ in range(r.randrange(2, 5)))
+            if script.chance(0.4):
+                script.offer(written_datagram(Datagram(number, pieces.octets(r, 1), SPARES, 0, ())))
+            else:
+                script.offer(written_datagram(Datagram(number, pieces.octets(r, 1), PARITY, r.randrange(1, 5), messages)))
+        script.look()
+
+
 def damaged_offers(script):
     """Datagrams that the reader refuses, offered; the session stays as it was."""
     r = script.random
@@ -198,6 +216,8 @@ def damaged_offers(script):
         script.offer(pieces.damaged_datagram(r, number))
         script.look(0.1)
     script.offer(bytes(r.choice((1500, 1501, 1600))))
+    for distance in (31, 32, 32767, 32768, 65535):
+        script.offer(written_datagram(pieces.datagram(r, (script.receiving.base + distance) % 65536, 0.95)))
     script.next(160)
 
 

@@ -303,34 +303,48 @@ def odd_overwrites(script):
     script.overwrite_sending(3, sent - 1)
 
 
+def sending_changes(script):
+    """One change of the sending session, mostly one that breaks a rule alone: rows of field, number, octet and value."""
+    r, sent = script.random, script.sending.sent
+    j = r.randrange(1, 33)
+    number, item = (sent - j) % 65536, script.sending.sent_before(j)
+    choice = r.randrange(6)
+    if choice == 0:
+        return [(0, 0, 0, r.choice((NUMBERS_LIMIT + 1, 1048576 + sent % 32, 0xFFFFFFFF, max(0, sent - 1), sent + 1, 0, sent % 32)))]
+    if choice == 1:
+        return [(1, number, 0, r.choice((161, 256, 257, 65535)))]
+    if choice == 2:
+        if j > sent:
+            return [(1, number, 0, 1)]
+        return [(2, number, octet, 0) for octet in range(item.length)][:8] + [(1, number, 0, 0)]
+    if choice == 3:
+        return [(2, number, r.choice((min(item.length, 159), 159)), r.choice((1, 255)))]
+    if choice == 4:
+        return [(1, number, 0, r.randrange(161))]
+    return [(2, number, 0, r.randrange(256))]
+
+
+def sending_value(session, field, number, octet):
+    """What a field of the sending session holds now."""
+    item = session.history[number % len(session.history)]
+    return session.sent if field == 0 else item.length if field == 1 else item.octets[octet]
+
+
 def sending_outside(script):
     """A sending session with each rule broken alone, then mended."""
     r = script.random
-    script.call(0x22, shown(r.choice((0, 1, 20, 31, 32, 50, 65540, 999999)), 4))
+    script.call(0x22, shown(r.choice((0, 1, 20, 31, 32, 50, 65540, 999990)), 4))
     for _ in range(4):
         script.send(pieces.opaque(r, 0.9), SPARES, r.randrange(9), 0)
-    for _ in range(6):
-        sent, choice = script.sending.sent, r.randrange(6)
-        j = r.randrange(1, 33)
-        number, item = (sent - j) % 65536, script.sending.sent_before(j)
-        field, octet = 1, 0
-        if choice == 0:
-            field, new = 0, r.choice((NUMBERS_LIMIT + 1, 1048576 + sent % 32, 0xFFFFFFFF, max(0, sent - 1), sent + 1, 0, sent % 32))
-        elif choice == 1:
-            new = r.choice((161, 256, 257, 65535))
-        elif choice == 2:
-            new = 1 if j > sent else 0
-        elif choice == 3:
-            field, octet, new = 2, r.choice((min(item.length, 159), 159)), r.choice((1, 255))
-        elif choice == 4:
-            new = r.randrange(161)
-        else:
-            field, octet, new = 2, 0, r.randrange(256)
-        old = sent if field == 0 else item.length if field == 1 else item.octets[octet]
-        script.overwrite_sending(field, number, octet, new)
+    for _ in range(7):
+        changes = sending_changes(script)
+        before = [change[:3] + (sending_value(script.sending, *change[:3]),) for change in changes]
+        for change in changes:
+            script.overwrite_sending(*change)
         for _ in range(2):
             settings = r.choice(((SPARES, 0, 0), (SPARES, 3, 0), (PARITY, 3, 2), (PARITY, 8, 4), (SPARES, 9, 0)))
             script.send(r.choice((b'\x06', b'', pieces.opaque(r, 0.9))), *settings, r.choice((3, 1500)))
         if not script.sending.in_ranges():
-            script.overwrite_sending(field, number, octet, old)
+            for change in reversed(before):
+                script.overwrite_sending(*change)
         script.send(pieces.opaque(r, 0.9), *r.choice(((SPARES, 8, 0), (PARITY, 8, 4), (PARITY, 4, 3))))

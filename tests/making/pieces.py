@@ -101,7 +101,7 @@ def changed(r, role, item):
     if role in ('one', 'n'):
         return bytes([r.choice((0, 1, 2, 8, 9, 0x7F, 0x80, 0xC0, 0xFF))])
     if role == 'header':
-        return bytes([item[0] ^ r.choice((0x80, 0x80, 0x70, 0x10, 0x20, 0x60, 0x01, 0x08, 0x0F, 0x81, 0x88))])
+        return bytes([item[0] ^ r.choice((0x80, 0x80, 0x70, 0x10, 0x20, 0x60, 0x01, 0x08, 0x0F, 0x81, 0x88, 0x8F, 0x81))])
     if role == 'size':
         return r.choice((b'\xFF\xFF', b'\x00\xA0', b'\x00\x9F', b'\x01\x00', b'\x00\x00', item[:1],
                          bytes([item[0], (item[1] + 1) % 256]), bytes([item[0], (item[1] - 1) % 256])))

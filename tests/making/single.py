@@ -123,6 +123,16 @@ def packets_written(script):
                         b''.join(shown(one, 2) for one in lengths), sized(data), shown(cap, 2))
 
 
+def many_fields(script):
+    """Packets written with 15 to 18 types and lengths, the two counts alike or not."""
+    r = script.random
+    for _ in range(6):
+        types = [r.randrange(1, 6) if script.chance(0.95) else r.choice((0, 7, 8)) for _ in range(r.choice((15, 16, 16, 17, 18)))]
+        count = r.choice((len(types), len(types), 15, 16, 17, 18))
+        script.call(0x06, bytes([r.choice((0, 1, 1, 1)), r.choice((0, 8, 9)), len(types)] + types + [count]), bytes(2 * count + 2),
+                    shown(r.choice((0, 17, 18, 160)), 2))
+
+
 def round_trips(script):
     """What a writer has written is read, and what a reader has read is written."""
     r = script.random
