@@ -113,8 +113,8 @@ def changed(r, role, item):
 def damaged(r, row):
     """The octets of a row with one or two items changed, and perhaps cut short or gone on with."""
     row = list(row)
-    for _ in range(r.choice((0, 1, 1, 1, 1, 2))):
-        at = r.randrange(len(row))
+    places = r.sample(range(len(row)), min(len(row), r.choice((0, 1, 1, 1, 1, 2))))
+    for at in sorted(places, reverse=True):
         row[at] = row[at][0], changed(r, *row[at])
         if r.random() < 0.2:
             row = row[:at + 1]
