@@ -1,3 +1,5 @@
 mod Turns
 mod Members
 mod Search
+mod First
+mod Sums

@@ -54,6 +54,19 @@ sized-within {h} {o} {g} w =
           rw (d .2) at (sized-at w (d .0) (d .1) .1);
     }
 
+-- how far the messages of a number reach, and how long one is
+pub reach-within : {h : Head} {o g : List ℕ} → Within h o g → (d : ℕ) → d < keptAhead
+    → ((heardAt h d) .n * (heardAt h d) .m ≤ keptBefore) × ((heardAt h d) .m ≤ messagesLimit)
+reach-within w d near =
+    let sizes = sized-at w d near in
+    (mul-le-mul (sizes .0) (sizes .1), sizes .1)
+
+pub size-within : {h : Head} {o g : List ℕ} → Within h o g → (d : ℕ) → d < keptAhead → (i : ℕ) → i < (heardAt h d) .m
+    → sizeIn h (messageSlot (heardSlotAt (h .base) d) i) ≤ packetLimit
+size-within {h} {o} {g} w d near i low =
+    let few : i < messagesLimit = omega (arith, sized-at w d near .1) in
+    message-size h g _ _ i ((heard-right h g d (w .heard .each d near)) .message i few)
+
 -- ---- a message as the code sees it
 module _ {h : Head} {o g : List ℕ} (w : Within h o g) (d : ℕ) (near : d < keptAhead) (i : ℕ) (low : i < (heardAt h d) .m) where
   slot : ℕ

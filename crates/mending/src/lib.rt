@@ -12,7 +12,7 @@ ghost use mathlib.Core.Path.{_≡_};
 ghost use mathlib.Core.List.{List};
 ghost use Prim.Native.Nat.{ℕ, _≤_, _<_, _%_, _*_};
 ghost use lib.ListN.{length, getD};
-ghost use Rattle.datagrams.specs.Sizes.{packetLimit};
+ghost use Rattle.datagrams.specs.Sizes.{packetLimit, messagesLimit};
 ghost use Rattle.lengths.specs.Promise.{Octet};
 ghost use Rattle.views.specs.View.{distance, numbers};
 ghost use Rattle.stores.specs.Store.{HasSlot};
@@ -178,4 +178,65 @@ fn lowest_usable(h: Head, flags: &[u8], distance: u16) -> Lowest
         i += 1;
     }
     Lowest::Nothing
+}
+
+// The first usable message, of the numbers counted from the base on.
+fn first_usable(h: Head) -> Usable
+    requires { ⌜ Sized h ⌝ }
+    ensures { λ r. ⌜ UsableFound h r ⌝ }
+{
+    let flags = unknown_slots(h);
+    let mut distance: u16 = 0;
+    while distance < 32 {
+        let found = lowest_usable(h, &flags, distance);
+        if let Lowest::Message { index, slot } = found {
+            return Usable::Message {
+                distance,
+                index,
+                slot,
+            };
+        }
+        distance += 1;
+    }
+    Usable::Nothing
+}
+
+// The octets of the n numbers x - m, x - 2m, .., added to sum.
+fn add_members(o: &[u8], x: u16, n: usize, m: u16, sum: &mut [u8])
+    requires { ⌜ length (now o) ≡ packetOctets ⌝ }
+    requires { ⌜ length (now sum) ≡ packetLimit ⌝ }
+    ensures { λ _. ⌜ Summed (now (o .entry)) x n m (now (sum .entry)) (now (sum .exit)) ⌝ }
+{
+    let mut at = x;
+    let mut t = 0;
+    while t < n {
+        let member = back(at, m);
+        at = member;
+        let slot = wide16(member % 64);
+        stores::add(o, slot, sum);
+        t += 1;
+    }
+}
+
+// The exclusive or of a message and its members: the octets that mend stand at the front.
+fn mended(h: Head, o: &[u8], g: &[u8], distance: u16, index: usize) -> [u8; Packet::LIMIT]
+    requires { ⌜ Within h (now o) (now g) ⌝ }
+    requires { ⌜ distance < keptAhead ⌝ }
+    requires { ⌜ index < messagesLimit ⌝ }
+    requires { ⌜ index < (heardAt h distance) .m ⌝ }
+    ensures { λ r. ⌜ MendedOctets h (now (o .entry)) (now (g .entry)) distance index r ⌝ }
+{
+    let base = h.base;
+    let at = std::num::wrapping_add_u16(base, distance);
+    let slot = wide16(at % 32);
+    let heard = h.heard[slot];
+    let n = wide(heard.n);
+    let m = number(heard.m);
+    let place = slot * Parity::MESSAGES + index;
+    let size = wide16(h.sizes[place]);
+    let mut sum = [0u8; Packet::LIMIT];
+    stores::copy_out(g, place, size, &mut sum);
+    let first = std::num::wrapping_add_u16(at, index as u16);
+    add_members(o, first, n, m, &mut sum);
+    sum
 }
