@@ -3,3 +3,4 @@ mod Members
 mod Search
 mod First
 mod Sums
+mod Fills

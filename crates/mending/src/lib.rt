@@ -17,7 +17,9 @@ ghost use Rattle.lengths.specs.Promise.{Octet};
 ghost use Rattle.views.specs.View.{distance, numbers};
 ghost use Rattle.stores.specs.Store.{HasSlot};
 ghost use Rattle.repair.specs.Cells.{keptAhead};
-ghost use Rattle.heads.specs.Head.{slotsKept, packetOctets, stateOf};
+ghost use mathlib.Core.Bool.{true};
+ghost use Rattle.repair.specs.Repair.{usable};
+ghost use Rattle.heads.specs.Head.{slotsKept, packetOctets, stateOf, cellsOf, sizeIn, messageSlot, heardSlotAt};
 ghost use Rattle.heads.specs.Within.{Within};
 ghost use Rattle.mending.specs.Back.{flag, Flags, countBack, findBack, Summed};
 ghost use Rattle.mending.specs.Promise.{Sized, LowestFound, UsableFound, MendedOctets, Points, Filled, Mended, missingOf, messageIn, heardAt};
@@ -239,4 +241,62 @@ fn mended(h: Head, o: &[u8], g: &[u8], distance: u16, index: usize) -> [u8; Pack
     let first = std::num::wrapping_add_u16(at, index as u16);
     add_members(o, first, n, m, &mut sum);
     sum
+}
+
+// How many octets message `index` has, of the number at a distance.
+fn size_of(h: Head, distance: u16, index: usize) -> u16
+    requires { ⌜ index < messagesLimit ⌝ }
+    ensures { λ r. ⌜ r ≡ sizeIn h (messageSlot (heardSlotAt (h .base) distance) index) ⌝ }
+{
+    let base = h.base;
+    let at = std::num::wrapping_add_u16(base, distance);
+    let slot = wide16(at % 32);
+    let place = slot * Parity::MESSAGES + index;
+    h.sizes[place]
+}
+
+// One usable message used: its unknown member becomes repaired.
+fn fill(h: Head, o: &mut [u8], g: &[u8], distance: u16, index: usize, slot: usize) -> Head
+    requires { ⌜ Within h (now o) (now g) ⌝ }
+    requires { ⌜ Points h distance index slot ⌝ }
+    requires { ⌜ index < messagesLimit ⌝ }
+    requires { ⌜ usable (cellsOf h (now o)) (messageIn h (now g) distance index) ≡ true ⌝ }
+    ensures { λ r. ⌜ Filled h (now (o .entry)) (now (g .entry)) distance index r (now (o .exit)) ⌝ }
+{
+    let sum = mended(h, &o[..], g, distance, index);
+    let size = size_of(h, distance, index);
+    let end = wide16(size);
+    stores::put(o, slot, &sum[..end]);
+    heads::place(
+        h,
+        slot,
+        Kept {
+            state: State::Repaired,
+            size,
+        },
+    )
+}
+
+// Repair to the end: document 01's rule, until no message is usable.
+pub fn mend(h: Head, o: &mut [u8], g: &[u8]) -> Head
+    requires { ⌜ Within h (now o) (now g) ⌝ }
+    ensures { λ r. ⌜ Mended h (now (o .entry)) (now (g .entry)) r (now (o .exit)) ⌝ }
+{
+    let mut next = h;
+    let mut left = Session::KEPT;
+    while 0 < left {
+        let found = first_usable(next);
+        let Usable::Message {
+            distance,
+            index,
+            slot,
+        } = found
+        else {
+            return next;
+        };
+        let filled = fill(next, o, g, distance, index, slot);
+        next = filled;
+        left -= 1;
+    }
+    next
 }
