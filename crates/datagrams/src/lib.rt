@@ -1,6 +1,8 @@
 // Datagrams, read and written: document 01, 'The datagram' and 'Sizes'.
+mod kind;
 mod sizes;
 
+pub use kind::Kind;
 pub use sizes::Datagram;
 pub use sizes::Message;
 pub use sizes::Packet;
