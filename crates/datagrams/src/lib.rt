@@ -1,8 +1,13 @@
 // Datagrams, read and written: document 01, 'The datagram' and 'Sizes'.
 mod kind;
+mod reader;
 mod sizes;
 
 pub use kind::Kind;
+pub use reader::DatagramRead;
+pub use reader::Part;
+pub use reader::Reading;
+pub use reader::read;
 pub use sizes::Datagram;
 pub use sizes::Message;
 pub use sizes::Packet;

@@ -1,0 +1,186 @@
+-- Laws of the datagram reader's definitions, for this crate and those above: what a reading that is no refusal says of the
+-- octets. Assumes nothing.
+use Prim.Native.Nat.{ℕ, zero, suc, _+_, _-_, _*_, _/_, _%_, _≤_, _<_}
+use mathlib.Core.Path.{_≡_, refl, sym, ap, _∙_}
+use mathlib.Core.Bool.{Bool, true, false, cond}
+use mathlib.Core.List.{List, [], _∷_, _++_, map}
+use lib.ListN.{length, getD, take, drop, length-drop}
+use lib.Dec.{leb, ltb, eqb}
+use native.Mathlib.Omega.{arith}
+use borrow.Author.Tests.{ltb-true, ltb-false, leb-false, eqb-true, lt-ltb, le-ltb, le-leb, lt-leb, eq-eqb}
+use Rattle.lengths.specs.Answers.{Answer, done, refused, refuse, _>>=_, LengthAnswer}
+use Rattle.lengths.specs.Length.{lengthAt}
+use Rattle.lengths.proofs.Laws.{sizes-read}
+use Rattle.datagrams.specs.Sizes.{packetLeast, packetLimit, datagramLimit, sparesLimit, coveredLimit, messagesLimit}
+use Rattle.datagrams.specs.Read.{DatagramParts, ExtraHead, after, within, octetAt, sizedAt, itemAt, itemsAt, endOf, sparesAt, parityAt, extraAt, leastOf, mostOf, numberOf, restOf, readDatagram}
+use Rattle.datagrams.specs.declared.reader.Part.{Part}
+use Rattle.datagrams.specs.declared.kind.Kind.{Kind}
+use Rattle.datagrams.specs.declared.kind.Kind.the-variants as kind
+
+-- ---- answers that are no refusal
+
+-- a refusal is never a value
+pub not-done : {A : Type 0} {n : ℕ} {a : A} → refuse n ≡ done a → ⊥
+not-done e = let z : _≡_ {A = ℕ} 0 1 = cc in omega arith
+
+-- two steps that end in a value both have one
+pub bind-done : {A B : Type 0} (m : Answer A) (f : A → Answer B) (b : B) → _>>=_ m f ≡ done b
+    → (a : A) × (m ≡ done a) × (f a ≡ done b)
+bind-done (done a) f b e = (a, refl, e)
+bind-done (refused r) f b e = let z : _≡_ {A = ℕ} 0 1 = cc in absurd (omega arith)
+
+-- a test that refuses was not met
+pub cond-done : {A : Type 0} (t : Bool) (n : ℕ) (m : Answer A) (a : A) → cond t (refuse n) m ≡ done a → (t ≡ false) × (m ≡ done a)
+cond-done true n m a e = absurd (not-done e)
+cond-done false n m a e = (refl, e)
+
+-- the same of a test that must be met
+pub cond-met : {A : Type 0} (t : Bool) (n : ℕ) (m : Answer A) (a : A) → cond t m (refuse n) ≡ done a → (t ≡ true) × (m ≡ done a)
+cond-met true n m a e = (refl, e)
+cond-met false n m a e = absurd (not-done e)
+
+pub done-same : {A : Type 0} {a b : A} → done a ≡ done b → a ≡ b
+done-same e = cc
+
+-- ---- the pieces
+
+-- a value within the sizes
+pub within-done : (least most : ℕ) (l k : LengthAnswer) → within least most l ≡ done k → (l ≡ k) × (least ≤ k .value) × (k .value ≤ most)
+unfolding within
+within-done least most l k e =
+    let low = cond-done (ltb (l .value) least) 4 _ k e in
+    let high = cond-done (ltb most (l .value)) 4 _ k (low .1) in
+    let same : l ≡ k = done-same (high .1) in
+    rw (← same) (refl, ltb-false (l .value) least (low .0), ltb-false most (l .value) (high .0))
+
+-- an octet that reads
+pub record Octet (least most : ℕ) (s : List ℕ) (at : ℕ) (l : LengthAnswer) : Type 0 where
+  pub inside : at < length s
+  pub value : l .value ≡ getD s at 0
+  pub size : l .size ≡ 1
+  pub low : least ≤ l .value
+  pub high : l .value ≤ most
+
+pub octet-done : (least most : ℕ) (s : List ℕ) (at : ℕ) (l : LengthAnswer) → octetAt least most s at ≡ done l → Octet least most s at l
+unfolding octetAt
+octet-done least most s at l e =
+    let some = cond-done (leb (length s) at) 1 _ l e in
+    let fits = within-done least most (record { value = getD s at 0; size = 1 }) l (some .1) in
+    record {
+      inside = leb-false (length s) at (some .0);
+      value = sym (ap (λ (k : LengthAnswer). k .value) (fits .0));
+      size = sym (ap (λ (k : LengthAnswer). k .size) (fits .0));
+      low = fits .1;
+      high = fits .2;
+    }
+
+-- a length or count that reads
+pub record Sized (least most : ℕ) (s : List ℕ) (at : ℕ) (l : LengthAnswer) : Type 0 where
+  pub read : lengthAt (drop at s) ≡ done l
+  pub inside : at ≤ length s → at + l .size ≤ length s
+  pub low : least ≤ l .value
+  pub high : l .value ≤ most
+
+pub sized-done : (least most : ℕ) (s : List ℕ) (at : ℕ) (l : LengthAnswer) → sizedAt least most s at ≡ done l → Sized least most s at l
+unfolding sizedAt
+sized-done least most s at l e =
+    let found = bind-done (lengthAt (drop at s)) (λ (k : LengthAnswer). within least most k) l e in
+    let fits = within-done least most (found .0) l (found .2) in
+    let read : lengthAt (drop at s) ≡ done l = rw (fits .0) at (found .1) in
+    record {
+      read = read;
+      inside = λ h. omega (arith, sizes-read (drop at s) l read .inside, length-drop at s);
+      low = fits .1;
+      high = fits .2;
+    }
+
+-- a packet, spare or message that reads
+pub record Item (least most : ℕ) (s : List ℕ) (at : ℕ) (p : Part) : Type 0 where
+  pub length : LengthAnswer
+  pub read : lengthAt (drop at s) ≡ done length
+  pub start : p .start ≡ at + length .size
+  pub size : p .size ≡ length .value
+  pub low : least ≤ p .size
+  pub high : p .size ≤ most
+  pub inside : at ≤ lib.ListN.length s → after p ≤ lib.ListN.length s
+
+pub item-done : (least most : ℕ) (s : List ℕ) (at : ℕ) (p : Part) → itemAt least most s at ≡ done p → Item least most s at p
+unfolding itemAt
+item-done least most s at p e =
+    let found = bind-done (sizedAt least most s at) _ p e in
+    let l = found .0 in
+    let fits = sized-done least most s at (found .0) (found .1) in
+    let some = cond-done (ltb (length s - (at + found .0 .size)) (found .0 .value)) 1 _ p (found .2) in
+    let room = ltb-false (length s - (at + found .0 .size)) (found .0 .value) (some .0) in
+    let same : _≡_ {A = Part} (record { start = at + found .0 .size; size = found .0 .value }) p = done-same (some .1) in
+    let start = ap (λ (q : Part). q .start) same in
+    let size = ap (λ (q : Part). q .size) same in
+    record {
+      length = found .0;
+      read = fits .read;
+      start = sym start;
+      size = sym size;
+      low = rw (← size) (fits .low);
+      high = rw (← size) (fits .high);
+      inside = λ h. omega (arith, fits .inside h);
+    }
+
+-- so many items that read
+pub record Items (least most : ℕ) (s : List ℕ) (at count : ℕ) (ps : List Part) : Type 0 where
+  pub counted : length ps ≡ count
+  pub inside : at ≤ length s → endOf at ps ≤ length s
+
+pub items-done : (least most : ℕ) (s : List ℕ) (at count : ℕ) (ps : List Part) → itemsAt least most s at count ≡ done ps
+    → Items least most s at count ps
+unfolding itemsAt endOf
+items-done least most s at zero ps e =
+    let same : [] ≡ ps = done-same e in
+    rw (← same) (record { counted = refl; inside = λ h. h })
+items-done least most s at (suc left) ps e =
+    let found = bind-done (itemAt least most s at) _ ps e in
+    let more = bind-done (itemsAt least most s (after (found .0)) left) _ ps (found .2) in
+    let same : (found .0 ∷ more .0) ≡ ps = done-same (more .2) in
+    let rest = items-done least most s (after (found .0)) left (more .0) (more .1) in
+    rw (← same)
+    (record { counted = ap suc (rest .counted); inside = λ h. rest .inside (item-done least most s at (found .0) (found .1) .inside h) })
+
+-- what follows the newest packet, up to the items
+pub record Extra (s : List ℕ) (h : ExtraHead) : Type 0 where
+  pub inside : h .first ≤ length s
+  pub few : h .count ≤ sparesLimit
+
+spares-done : (s : List ℕ) (at : ℕ) (h : ExtraHead) → at ≤ length s → sparesAt s at ≡ done h → Extra s h
+unfolding sparesAt
+spares-done s at h room e =
+    let found = bind-done (sizedAt 0 sparesLimit s at) _ h e in
+    let fits = sized-done 0 sparesLimit s at (found .0) (found .1) in
+    rw (← done-same (found .2)) (record { inside = fits .inside room; few = fits .high })
+
+parity-done : (s : List ℕ) (at : ℕ) (h : ExtraHead) → at ≤ length s → parityAt s at ≡ done h → Extra s h
+unfolding parityAt
+parity-done s at h room e =
+    let one = bind-done (octetAt 1 1 s at) _ h e in
+    let n = bind-done (octetAt 1 coveredLimit s (at + 1)) _ h (one .2) in
+    let m = bind-done (sizedAt 1 messagesLimit s (at + 2)) _ h (n .2) in
+    let next = octet-done 1 coveredLimit s (at + 1) (n .0) (n .1) .inside in
+    let fits = sized-done 1 messagesLimit s (at + 2) (m .0) (m .1) in
+    rw (← done-same (m .2)) (record { inside = fits .inside (omega arith); few = omega (arith, fits .high) })
+
+pub extra-done : (s : List ℕ) (at : ℕ) (h : ExtraHead) → extraAt s at ≡ done h → Extra s h
+unfolding extraAt
+extra-done s at h e =
+    let some = cond-done (leb (length s) at) 1 _ h e in
+    let clear = cond-met (eqb (getD s at 0 % 128) 0) 5 _ h (some .1) in
+    let room : at + 1 ≤ length s = omega (arith, leb-false (length s) at (some .0)) in
+    pick (ltb (getD s at 0) 128) room (clear .1) where
+      pick : (t : Bool) → at + 1 ≤ length s → cond t (sparesAt s (at + 1)) (parityAt s (at + 1)) ≡ done h → Extra s h
+      pick true room q = spares-done s (at + 1) h room q
+      pick false room q = parity-done s (at + 1) h room q
+
+-- ---- what makes a reading
+
+pub rest-reads : (s : List ℕ) (number : ℕ) (packet : Part) (h : ExtraHead) (items : List Part) → extraAt s (after packet) ≡ done h
+    → itemsAt (leastOf (h .kind)) (mostOf (h .kind)) s (h .first) (h .count) ≡ done items → length s ≤ endOf (h .first) items
+    → restOf s number packet ≡ done (record { number = number; packet = packet; kind = h .kind; items = items })
+unfolding restOf
+rest-reads s number packet h items head all none = rw (head, all, le-ltb (endOf (h .first) items) (length s) none)
