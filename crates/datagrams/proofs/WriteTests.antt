@@ -95,7 +95,7 @@ pub record SumLeft (lengths : List ℕ) (total left i : ℕ) : Type 0 where
   pub bound : i ≤ length lengths
   pub owed : sumOf (drop i lengths) + total ≡ sumOf lengths + left
 
-sum-next : (lengths : List ℕ) (i : ℕ) → i < length lengths → sumOf (drop i lengths) ≡ getD lengths i 0 + sumOf (drop (i + 1) lengths)
+pub sum-next : (lengths : List ℕ) (i : ℕ) → i < length lengths → sumOf (drop i lengths) ≡ getD lengths i 0 + sumOf (drop (i + 1) lengths)
 unfolding sumOf
 sum-next lengths i more = rw (add-one, drop-cons lengths i 0 more)
 

@@ -3,9 +3,10 @@
 -- Definitions only.
 use Prim.Native.Nat.{ℕ, _+_, _≤_}
 use mathlib.Core.Path.{_≡_}
-use mathlib.Core.Bool.{true}
+use mathlib.Core.Bool.{Bool, true}
 use mathlib.Core.List.{List, [], _∷_, _++_}
 use lib.ListN.{length, drop}
+use lib.Dec.{ltb}
 use Rattle.lengths.specs.Length.{lengthOctets}
 use Rattle.datagrams.specs.Write.{countInside, sumOf, lengthsInside}
 use Rattle.datagrams.specs.declared.kind.Kind.{Kind}
@@ -13,6 +14,7 @@ use Rattle.datagrams.specs.declared.kind.Kind.the-variants as kind
 
 -- octets written to the front of a lent part, whose rest stays
 pub record Put (octets old new : List ℕ) (size : ℕ) : Type 0 where
+  pub inside : length octets ≤ length old
   pub answer : size ≡ length octets
   pub lent : new ≡ octets ++ drop (length octets) old
 
@@ -20,6 +22,11 @@ pub record Put (octets old new : List ℕ) (size : ℕ) : Type 0 where
 abbrev pub kindOctets : Kind → List ℕ
 kindOctets kind.Spares = 0x00 ∷ []
 kindOctets (kind.Parity n) = 0x80 ∷ 0x01 ∷ n ∷ []
+
+-- n is an octet
+abbrev pub nFits : Kind → Bool
+nFits kind.Spares = true
+nFits (kind.Parity n) = ltb n 256
 
 -- how many octets an item of n octets takes, with its length
 abbrev pub itemSize : ℕ → ℕ
