@@ -1,2 +1,6 @@
+mod WriteTests
+pub mod PutLaws
+mod PutSteps
+mod ItemSteps
 pub mod ReadLaws
 mod ReadSteps

@@ -2,17 +2,19 @@
 -- octets. Assumes nothing.
 use Prim.Native.Nat.{ℕ, zero, suc, _+_, _-_, _*_, _/_, _%_, _≤_, _<_}
 use mathlib.Core.Path.{_≡_, refl, sym, ap, _∙_}
-use mathlib.Core.Bool.{Bool, true, false, cond}
+use mathlib.Core.Bool.{Bool, true, false, cond, _&&_}
 use mathlib.Core.List.{List, [], _∷_, _++_, map}
 use lib.ListN.{length, getD, take, drop, length-drop}
 use lib.Dec.{leb, ltb, eqb}
 use native.Mathlib.Omega.{arith}
-use borrow.Author.Tests.{ltb-true, ltb-false, leb-false, eqb-true, lt-ltb, le-ltb, le-leb, lt-leb, eq-eqb}
+use borrow.Author.Tests.{ltb-true, ltb-false, leb-true, leb-false, eqb-true, lt-ltb, le-ltb, le-leb, lt-leb, eq-eqb}
+use Rattle.lengths.specs.Refusals.{outsideSizes}
 use Rattle.lengths.specs.Answers.{Answer, done, refused, refuse, _>>=_, LengthAnswer}
 use Rattle.lengths.specs.Length.{lengthAt}
 use Rattle.lengths.proofs.Laws.{sizes-read}
 use Rattle.datagrams.specs.Sizes.{packetLeast, packetLimit, datagramLimit, sparesLimit, coveredLimit, messagesLimit}
-use Rattle.datagrams.specs.Read.{DatagramParts, ExtraHead, after, within, octetAt, sizedAt, itemAt, itemsAt, endOf, sparesAt, parityAt, extraAt, leastOf, mostOf, numberOf, restOf, readDatagram}
+use Rattle.datagrams.specs.Write.{within}
+use Rattle.datagrams.specs.Read.{DatagramParts, ExtraHead, after, allowed, octetAt, sizedAt, itemAt, itemsAt, endOf, sparesAt, parityAt, extraAt, leastOf, mostOf, numberOf, restOf, readDatagram}
 use Rattle.datagrams.specs.declared.reader.Part.{Part}
 use Rattle.datagrams.specs.declared.kind.Kind.{Kind}
 use Rattle.datagrams.specs.declared.kind.Kind.the-variants as kind
@@ -45,13 +47,29 @@ done-same e = cc
 -- ---- the pieces
 
 -- a value within the sizes
-pub within-done : (least most : ℕ) (l k : LengthAnswer) → within least most l ≡ done k → (l ≡ k) × (least ≤ k .value) × (k .value ≤ most)
-unfolding within
-within-done least most l k e =
-    let low = cond-done (ltb (l .value) least) 4 _ k e in
-    let high = cond-done (ltb most (l .value)) 4 _ k (low .1) in
-    let same : l ≡ k = done-same (high .1) in
-    rw (← same) (refl, ltb-false (l .value) least (low .0), ltb-false most (l .value) (high .0))
+pub both-true : (a b : Bool) → (a && b) ≡ true → (a ≡ true) × (b ≡ true)
+both-true true b e = (refl, e)
+both-true false b e = let z : _≡_ {A = ℕ} 0 1 = cc in absurd (omega arith)
+
+pub within-true : (least most n : ℕ) → within least most n ≡ true → (least ≤ n) × (n ≤ most)
+within-true least most n e =
+    let both = both-true (leb least n) (leb n most) e in
+    (leb-true least n (both .0), leb-true n most (both .1))
+
+pub true-within : (least most n : ℕ) → least ≤ n → n ≤ most → within least most n ≡ true
+true-within least most n low high = rw (le-leb least n low, le-leb n most high)
+
+pub allowed-done : (least most : ℕ) (l k : LengthAnswer) → allowed least most l ≡ done k → (l ≡ k) × (least ≤ k .value) × (k .value ≤ most)
+unfolding allowed
+allowed-done least most l k e =
+    let met = cond-met (within least most (l .value)) outsideSizes (done l) k e in
+    let fits = within-true least most (l .value) (met .0) in
+    let same : l ≡ k = done-same (met .1) in
+    rw (← same) (refl, fits .0, fits .1)
+
+pub allowed-sizes : (least most : ℕ) (l : LengthAnswer) → least ≤ l .value → l .value ≤ most → allowed least most l ≡ done l
+unfolding allowed
+allowed-sizes least most l low high = rw (true-within least most (l .value) low high)
 
 -- an octet that reads
 pub record Octet (least most : ℕ) (s : List ℕ) (at : ℕ) (l : LengthAnswer) : Type 0 where
@@ -65,7 +83,7 @@ pub octet-done : (least most : ℕ) (s : List ℕ) (at : ℕ) (l : LengthAnswer)
 unfolding octetAt
 octet-done least most s at l e =
     let some = cond-done (leb (length s) at) 1 _ l e in
-    let fits = within-done least most (record { value = getD s at 0; size = 1 }) l (some .1) in
+    let fits = allowed-done least most (record { value = getD s at 0; size = 1 }) l (some .1) in
     record {
       inside = leb-false (length s) at (some .0);
       value = sym (ap (λ (k : LengthAnswer). k .value) (fits .0));
@@ -84,8 +102,8 @@ pub record Sized (least most : ℕ) (s : List ℕ) (at : ℕ) (l : LengthAnswer)
 pub sized-done : (least most : ℕ) (s : List ℕ) (at : ℕ) (l : LengthAnswer) → sizedAt least most s at ≡ done l → Sized least most s at l
 unfolding sizedAt
 sized-done least most s at l e =
-    let found = bind-done (lengthAt (drop at s)) (λ (k : LengthAnswer). within least most k) l e in
-    let fits = within-done least most (found .0) l (found .2) in
+    let found = bind-done (lengthAt (drop at s)) (λ (k : LengthAnswer). allowed least most k) l e in
+    let fits = allowed-done least most (found .0) l (found .2) in
     let read : lengthAt (drop at s) ≡ done l = rw (fits .0) at (found .1) in
     record {
       read = read;

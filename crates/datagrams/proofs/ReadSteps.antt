@@ -17,7 +17,7 @@ use Rattle.lengths.specs.declared.Refusal.{Refusal}
 use Rattle.lengths.specs.declared.Length.{Length}
 use Rattle.lengths.specs.declared.Length.the-variants as length
 use Rattle.datagrams.specs.Sizes.{packetLeast, packetLimit, datagramLimit, sparesLimit, coveredLimit, messagesLimit}
-use Rattle.datagrams.specs.Read.{DatagramParts, ExtraHead, after, within, octetAt, sizedAt, itemAt, itemsAt, endOf, sparesAt, parityAt, extraAt, leastOf, mostOf, numberOf, restOf, readDatagram}
+use Rattle.datagrams.specs.Read.{DatagramParts, ExtraHead, after, allowed, octetAt, sizedAt, itemAt, itemsAt, endOf, sparesAt, parityAt, extraAt, leastOf, mostOf, numberOf, restOf, readDatagram}
 use Rattle.datagrams.specs.Promise.{RefusalPassed, OctetRead, SizedRead, ItemRead, SparesRead, ParityRead, ExtraRead, ItemsAsked, ItemsRead, Refuses, DatagramReads, places, nowhere, itemsOf, RestRead, datagramRead, readOutcome}
 use Rattle.datagrams.specs.declared.reader.Part.{Part}
 use Rattle.datagrams.specs.declared.reader.Item.{Item}
@@ -30,7 +30,7 @@ use Rattle.datagrams.specs.declared.reader.Reading.the-variants as readi
 use Rattle.datagrams.specs.declared.reader.DatagramRead.{DatagramRead}
 use Rattle.datagrams.specs.declared.kind.Kind.{Kind}
 use Rattle.datagrams.specs.declared.kind.Kind.the-variants as kind
-use Rattle.datagrams.proofs.ReadLaws.{octet-done, sized-done, item-done, items-done, extra-done, rest-reads}
+use Rattle.datagrams.proofs.ReadLaws.{allowed-sizes, octet-done, sized-done, item-done, items-done, extra-done, rest-reads}
 
 -- ---- a refusal is passed up
 
@@ -44,17 +44,13 @@ pub ruleset passings = (passed-never, passed-up)
 
 -- ---- octets and lengths
 
-within-low : (least most : ℕ) (l : LengthAnswer) → l .value < least → within least most l ≡ refuse outsideSizes
-unfolding within
-within-low least most l low = rw (lt-ltb (l .value) least low)
+allowed-low : (least most : ℕ) (l : LengthAnswer) → l .value < least → allowed least most l ≡ refuse outsideSizes
+unfolding allowed
+allowed-low least most l low = rw (lt-leb least (l .value) low)
 
-within-high : (least most : ℕ) (l : LengthAnswer) → least ≤ l .value → most < l .value → within least most l ≡ refuse outsideSizes
-unfolding within
-within-high least most l low high = rw (le-ltb (l .value) least low, lt-ltb most (l .value) high)
-
-within-sizes : (least most : ℕ) (l : LengthAnswer) → least ≤ l .value → l .value ≤ most → within least most l ≡ done l
-unfolding within
-within-sizes least most l low high = rw (le-ltb (l .value) least low, le-ltb most (l .value) high)
+allowed-high : (least most : ℕ) (l : LengthAnswer) → least ≤ l .value → most < l .value → allowed least most l ≡ refuse outsideSizes
+unfolding allowed
+allowed-high least most l low high = rw (le-leb least (l .value) low, lt-leb (l .value) most high)
 
 module _ {least most : ℕ} {s : List ℕ} {at : ℕ} where
   pub octet-missing : {r : Refusal} → RefusalMade endsEarly r → length s ≤ at → OctetRead least most s at (length.Refused r)
@@ -65,18 +61,18 @@ module _ {least most : ℕ} {s : List ℕ} {at : ℕ} where
       → OctetRead least most s at (length.Refused r)
   unfolding octetAt
   octet-low {v} made octet some low =
-      record { answer = rw (made .answer, lt-leb (length s) at some, ← octet .same, within-low least most (record { value = v; size = 1 }) low) }
+      record { answer = rw (made .answer, lt-leb (length s) at some, ← octet .same, allowed-low least most (record { value = v; size = 1 }) low) }
 
   pub octet-high : {v : ℕ} {r : Refusal} → RefusalMade outsideSizes r → Octet (getD s at 0) v → at < length s → least ≤ v → most < v
       → OctetRead least most s at (length.Refused r)
   unfolding octetAt
   octet-high {v} made octet some low high =
-      record { answer = rw (made .answer, lt-leb (length s) at some, ← octet .same, within-high least most (record { value = v; size = 1 }) low high) }
+      record { answer = rw (made .answer, lt-leb (length s) at some, ← octet .same, allowed-high least most (record { value = v; size = 1 }) low high) }
 
   pub octet-read : {v : ℕ} → Octet (getD s at 0) v → at < length s → least ≤ v → v ≤ most → OctetRead least most s at (length.Value v 1)
   unfolding octetAt
   octet-read {v} octet some low high =
-      record { answer = rw (lt-leb (length s) at some, ← octet .same, within-sizes least most (record { value = v; size = 1 }) low high) }
+      record { answer = rw (lt-leb (length s) at some, ← octet .same, allowed-sizes least most (record { value = v; size = 1 }) low high) }
 
 pub ruleset octets = (octet-missing, octet-low, octet-high, octet-read)
 
@@ -97,21 +93,21 @@ module _ {least most : ℕ} {s : List ℕ} {at : ℕ} {found : Length} where
   unfolding sizedAt
   sized-low {v} {n} made read is low =
       let e : done (record { value = v; size = n }) ≡ lengthAt (drop at s) = rw is at (rest-read s at read) in
-      record { answer = rw (made .answer, ← e, within-low least most (record { value = v; size = n }) low) }
+      record { answer = rw (made .answer, ← e, allowed-low least most (record { value = v; size = n }) low) }
 
   pub sized-high : {v n : ℕ} {r : Refusal} → RefusalMade outsideSizes r → LengthRead (take (length s - at) (drop at s)) found
       → found ≡ length.Value v n → least ≤ v → most < v → SizedRead least most s at (length.Refused r)
   unfolding sizedAt
   sized-high {v} {n} made read is low high =
       let e : done (record { value = v; size = n }) ≡ lengthAt (drop at s) = rw is at (rest-read s at read) in
-      record { answer = rw (made .answer, ← e, within-high least most (record { value = v; size = n }) low high) }
+      record { answer = rw (made .answer, ← e, allowed-high least most (record { value = v; size = n }) low high) }
 
   pub sized-read : {v n : ℕ} → LengthRead (take (length s - at) (drop at s)) found
       → found ≡ length.Value v n → least ≤ v → v ≤ most → SizedRead least most s at (length.Value v n)
   unfolding sizedAt
   sized-read {v} {n} read is low high =
       let e : done (record { value = v; size = n }) ≡ lengthAt (drop at s) = rw is at (rest-read s at read) in
-      record { answer = rw (← e, within-sizes least most (record { value = v; size = n }) low high) }
+      record { answer = rw (← e, allowed-sizes least most (record { value = v; size = n }) low high) }
 
 pub ruleset counts = (sized-refused, sized-low, sized-high, sized-read)
 

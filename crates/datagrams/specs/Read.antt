@@ -11,7 +11,8 @@ use Rattle.lengths.specs.Refusals.{endsEarly, tooLong, outsideSizes, spareBit, 
 use Rattle.lengths.specs.Answers.{Answer, done, refused, refuse, _>>=_, LengthAnswer}
 use Rattle.lengths.specs.Length.{lengthAt}
 use Rattle.datagrams.specs.Sizes.{packetLeast, packetLimit, messageLeast, messageLimit, datagramLimit, sparesLimit, coveredLimit, messagesLimit}
-use Rattle.datagrams.specs.Carried.{Carried, Extra, spares, parity}
+use Rattle.datagrams.specs.Carried.{Carried}
+use Rattle.datagrams.specs.Write.{within, extraOf}
 use Rattle.datagrams.specs.declared.reader.Part.{Part}
 use Rattle.datagrams.specs.declared.kind.Kind.{Kind}
 use Rattle.datagrams.specs.declared.kind.Kind.the-variants as kind
@@ -30,23 +31,20 @@ abbrev pub after : Part → ℕ
 after p = p .start + p .size
 
 -- 4: a length, count, n or m outside the sizes
-unfoldable pub within : ℕ → ℕ → LengthAnswer → Answer LengthAnswer
-within least most l =
-    cond (ltb (l .value) least) (refuse outsideSizes)
-    (cond (ltb most (l .value)) (refuse outsideSizes)
-    (done l))
+unfoldable pub allowed : ℕ → ℕ → LengthAnswer → Answer LengthAnswer
+allowed least most l = cond (within least most (l .value)) (done l) (refuse outsideSizes)
 
 -- a plain octet from least to most, that is no length
 unfoldable pub octetAt : ℕ → ℕ → List ℕ → ℕ → Answer LengthAnswer
 octetAt least most s at =
     cond (leb (length s) at) (refuse endsEarly)
-    (within least most (record { value = getD s at 0; size = 1 }))
+    (allowed least most (record { value = getD s at 0; size = 1 }))
 
 -- a length or count from least to most
 unfoldable pub sizedAt : ℕ → ℕ → List ℕ → ℕ → Answer LengthAnswer
 sizedAt least most s at = do
   l ← lengthAt (drop at s)
-  within least most l
+  allowed least most l
 
 -- a packet, spare or message: length, octets
 unfoldable pub itemAt : ℕ → ℕ → List ℕ → ℕ → Answer Part
@@ -135,10 +133,6 @@ readDatagram s =
 -- a part's octets
 abbrev pub octetsOf : List ℕ → Part → List ℕ
 octetsOf s p = take (p .size) (drop (p .start) s)
-
-abbrev pub extraOf : Kind → List (List ℕ) → Extra
-extraOf kind.Spares items = spares items
-extraOf (kind.Parity n) items = parity n items
 
 -- what the datagram s carries, of which d was read
 unfoldable pub carriedBy : List ℕ → DatagramParts → Carried

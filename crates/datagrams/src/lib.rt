@@ -2,6 +2,7 @@
 mod kind;
 mod reader;
 mod sizes;
+mod writer;
 
 pub use kind::Kind;
 pub use reader::DatagramRead;

@@ -1,0 +1,1 @@
+-- The claims of this crate: statements alone. Definitions only.
