@@ -4,3 +4,5 @@ mod PutSteps
 mod ItemSteps
 pub mod ReadLaws
 mod ReadSteps
+pub mod ReadBack
+pub mod WriteBack

@@ -8,13 +8,15 @@ use lib.ListN.{length, getD, take, drop, length-drop}
 use lib.Dec.{leb, ltb, eqb}
 use native.Mathlib.Omega.{arith}
 use borrow.Author.Tests.{ltb-true, ltb-false, leb-true, leb-false, eqb-true, lt-ltb, le-ltb, le-leb, lt-leb, eq-eqb}
-use Rattle.lengths.specs.Refusals.{outsideSizes}
+use Rattle.lengths.specs.Refusals.{endsEarly, tooLong, outsideSizes, leftOver}
 use Rattle.lengths.specs.Answers.{Answer, done, refused, refuse, _>>=_, LengthAnswer}
 use Rattle.lengths.specs.Length.{lengthAt}
 use Rattle.lengths.proofs.Laws.{sizes-read}
 use Rattle.datagrams.specs.Sizes.{packetLeast, packetLimit, datagramLimit, sparesLimit, coveredLimit, messagesLimit}
-use Rattle.datagrams.specs.Write.{within}
+use Rattle.datagrams.specs.Write.{within, countInside}
 use Rattle.datagrams.specs.Read.{DatagramParts, ExtraHead, after, allowed, octetAt, sizedAt, itemAt, itemsAt, endOf, sparesAt, parityAt, extraAt, leastOf, mostOf, numberOf, restOf, readDatagram}
+use Rattle.datagrams.specs.Promise.{nowhere}
+use Rattle.datagrams.specs.Claims.{PartInside, Inside}
 use Rattle.datagrams.specs.declared.reader.Part.{Part}
 use Rattle.datagrams.specs.declared.kind.Kind.{Kind}
 use Rattle.datagrams.specs.declared.kind.Kind.the-variants as kind
@@ -162,17 +164,39 @@ items-done least most s at (suc left) ps e =
     rw (← same)
     (record { counted = ap suc (rest .counted); inside = λ h. rest .inside (item-done least most s at (found .0) (found .1) .inside h) })
 
+-- every one of them lies within the octets
+pub items-each : (least most : ℕ) (s : List ℕ) (at count : ℕ) (ps : List Part) → at ≤ length s → itemsAt least most s at count ≡ done ps
+    → (j : ℕ) → j < length ps → PartInside least most s (getD ps j nowhere)
+unfolding itemsAt
+items-each least most s at zero ps room e j more =
+    let same : [] ≡ ps = done-same e in
+    let none : j < length {A = Part} [] = rw (← same) at more in
+    absurd (omega arith)
+items-each least most s at (suc left) ps room e j more =
+    let found = bind-done (itemAt least most s at) _ ps e in
+    let rest = bind-done (itemsAt least most s (after (found .0)) left) _ ps (found .2) in
+    let same : (found .0 ∷ rest .0) ≡ ps = done-same (rest .2) in
+    let i = item-done least most s at (found .0) (found .1) in
+    rw (← same) (pick (found .0) (rest .0) j (record { low = i .low; high = i .high; inside = i .inside room })
+    (items-each least most s (after (found .0)) left (rest .0) (i .inside room) (rest .1))
+    (rw (← same) at more)) where
+      pick : (p : Part) (ps : List Part) (j : ℕ) → PartInside least most s p
+          → ((i : ℕ) → i < length ps → PartInside least most s (getD ps i nowhere)) → j < length (p ∷ ps)
+          → PartInside least most s (getD (p ∷ ps) j nowhere)
+      pick p ps zero one others less = one
+      pick p ps (suc i) one others less = others i (omega arith)
+
 -- what follows the newest packet, up to the items
 pub record Extra (s : List ℕ) (h : ExtraHead) : Type 0 where
   pub inside : h .first ≤ length s
-  pub few : h .count ≤ sparesLimit
+  pub counted : countInside (h .kind) (h .count) ≡ true
 
 spares-done : (s : List ℕ) (at : ℕ) (h : ExtraHead) → at ≤ length s → sparesAt s at ≡ done h → Extra s h
 unfolding sparesAt
 spares-done s at h room e =
     let found = bind-done (sizedAt 0 sparesLimit s at) _ h e in
     let fits = sized-done 0 sparesLimit s at (found .0) (found .1) in
-    rw (← done-same (found .2)) (record { inside = fits .inside room; few = fits .high })
+    rw (← done-same (found .2)) (record { inside = fits .inside room; counted = le-leb (found .0 .value) sparesLimit (fits .high) })
 
 parity-done : (s : List ℕ) (at : ℕ) (h : ExtraHead) → at ≤ length s → parityAt s at ≡ done h → Extra s h
 unfolding parityAt
@@ -180,9 +204,16 @@ parity-done s at h room e =
     let one = bind-done (octetAt 1 1 s at) _ h e in
     let n = bind-done (octetAt 1 coveredLimit s (at + 1)) _ h (one .2) in
     let m = bind-done (sizedAt 1 messagesLimit s (at + 2)) _ h (n .2) in
-    let next = octet-done 1 coveredLimit s (at + 1) (n .0) (n .1) .inside in
+    let next = octet-done 1 coveredLimit s (at + 1) (n .0) (n .1) in
+    let some = next .inside in
     let fits = sized-done 1 messagesLimit s (at + 2) (m .0) (m .1) in
-    rw (← done-same (m .2)) (record { inside = fits .inside (omega arith); few = omega (arith, fits .high) })
+    rw (← done-same (m .2))
+    (record {
+      inside = fits .inside (omega arith);
+      counted =
+          rw
+          (true-within 1 coveredLimit (n .0 .value) (next .low) (next .high), true-within 1 messagesLimit (m .0 .value) (fits .low) (fits .high));
+    })
 
 pub extra-done : (s : List ℕ) (at : ℕ) (h : ExtraHead) → extraAt s at ≡ done h → Extra s h
 unfolding extraAt
@@ -194,6 +225,82 @@ extra-done s at h e =
       pick : (t : Bool) → at + 1 ≤ length s → cond t (sparesAt s (at + 1)) (parityAt s (at + 1)) ≡ done h → Extra s h
       pick true room q = spares-done s (at + 1) h room q
       pick false room q = parity-done s (at + 1) h room q
+
+-- n and the count within the sizes: never more items than there are places
+pub few-items : (k : Kind) (count : ℕ) → countInside k count ≡ true → count ≤ sparesLimit
+few-items kind.Spares count e = leb-true count sparesLimit e
+few-items (kind.Parity n) count e =
+    let both = both-true (within 1 coveredLimit n) (within 1 messagesLimit count) e in
+    let fits = within-true 1 messagesLimit count (both .1) in
+    omega arith
+
+-- what follows the number and the newest packet
+pub record Rest (s : List ℕ) (d : DatagramParts) : Type 0 where
+  pub count : ℕ
+  pub first : ℕ
+  pub extra : extraAt s (after (d .packet)) ≡ done (record { kind = d .kind; count = count; first = first })
+  pub items : itemsAt (leastOf (d .kind)) (mostOf (d .kind)) s first count ≡ done (d .items)
+  pub ends : length s ≤ endOf first (d .items)
+
+pub rest-done : (s : List ℕ) (number : ℕ) (packet : Part) (d : DatagramParts) → restOf s number packet ≡ done d
+    → (d .number ≡ number) × (d .packet ≡ packet) × Rest s d
+unfolding restOf
+rest-done s number packet d e =
+    let extra = bind-done (extraAt s (after packet)) _ d e in
+    let items = bind-done (itemsAt (leastOf (extra .0 .kind)) (mostOf (extra .0 .kind)) s (extra .0 .first) (extra .0 .count)) _ d (extra .2) in
+    let none = cond-done (ltb (endOf (extra .0 .first) (items .0)) (length s)) leftOver _ d (items .2) in
+    rw (← done-same (none .1)) (
+      refl,
+      refl,
+      record {
+        count = extra .0 .count;
+        first = extra .0 .first;
+        extra = extra .1;
+        items = items .1;
+        ends = ltb-false (endOf (extra .0 .first) (items .0)) (length s) (none .0);
+      },
+    )
+
+number-done : (s : List ℕ) (number : ℕ) → numberOf s ≡ done number → (2 ≤ length s) × (number ≡ getD s 0 0 * 256 + getD s 1 0)
+unfolding numberOf
+number-done s number e =
+    let two = cond-done (ltb (length s) 2) endsEarly _ number e in
+    (ltb-false (length s) 2 (two .0), sym (done-same (two .1)))
+
+-- a datagram that reads
+pub record Datagram (s : List ℕ) (d : DatagramParts) : Type 0 where
+  pub two : 2 ≤ length s
+  pub number : d .number ≡ getD s 0 0 * 256 + getD s 1 0
+  pub packet : itemAt packetLeast packetLimit s 2 ≡ done (d .packet)
+  pub rest : Rest s d
+
+pub read-done : (s : List ℕ) (d : DatagramParts) → readDatagram s ≡ done d → Datagram s d
+unfolding readDatagram
+read-done s d e =
+    let short = cond-done (ltb datagramLimit (length s)) tooLong _ d e in
+    let number = bind-done (numberOf s) _ d (short .1) in
+    let packet = bind-done (itemAt packetLeast packetLimit s 2) _ d (number .2) in
+    let rest = rest-done s (number .0) (packet .0) d (packet .2) in
+    let two = number-done s (number .0) (number .1) in
+    record {
+      two = two .0;
+      number = rest .0 ∙ two .1;
+      packet = packet .1 ∙ ap (λ (p : Part). done p) (sym (rest .1));
+      rest = rest .2;
+    }
+
+-- what an accepted datagram names is within the sizes and the octets
+pub read-inside : (s : List ℕ) (d : DatagramParts) → readDatagram s ≡ done d → Inside s (d .packet) (d .kind) (length (d .items)) (d .items)
+read-inside s d e =
+    let so = read-done s d e in
+    let newest = item-done packetLeast packetLimit s 2 (d .packet) (so .packet) in
+    let head = extra-done s (after (d .packet)) _ (so .rest .extra) in
+    let all = items-done (leastOf (d .kind)) (mostOf (d .kind)) s (so .rest .first) (so .rest .count) (d .items) (so .rest .items) in
+    record {
+      newest = record { low = newest .low; high = newest .high; inside = newest .inside (so .two) };
+      counted = rw (all .counted) (head .counted);
+      each = items-each (leastOf (d .kind)) (mostOf (d .kind)) s (so .rest .first) (so .rest .count) (d .items) (head .inside) (so .rest .items);
+    }
 
 -- ---- what makes a reading
 

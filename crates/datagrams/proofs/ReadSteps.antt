@@ -30,7 +30,7 @@ use Rattle.datagrams.specs.declared.reader.Reading.the-variants as readi
 use Rattle.datagrams.specs.declared.reader.DatagramRead.{DatagramRead}
 use Rattle.datagrams.specs.declared.kind.Kind.{Kind}
 use Rattle.datagrams.specs.declared.kind.Kind.the-variants as kind
-use Rattle.datagrams.proofs.ReadLaws.{allowed-sizes, octet-done, sized-done, item-done, items-done, extra-done, rest-reads}
+use Rattle.datagrams.proofs.ReadLaws.{allowed-sizes, octet-done, sized-done, item-done, items-done, extra-done, few-items, rest-reads}
 
 -- ---- a refusal is passed up
 
@@ -401,9 +401,9 @@ head-read s at read is = sym (rw is at (read .answer))
 -- the items begin within the octets, and are no more than there are places
 pub extra-asked : {s : List ℕ} {at : ℕ} {e : Extra} {k : Kind} {count first : ℕ} → ExtraRead s at e → e ≡ extra.Found k count first
     → ItemsAsked s first count
-extra-asked {s} {at} read is =
+extra-asked {s} {at} {e} {k} {count} read is =
     let h = extra-done s at _ (head-read s at read is) in
-    record { inside = h .inside; few = h .few }
+    record { inside = h .inside; few = few-items k count (h .counted) }
 
 -- the items are read with their kind's sizes
 kind-read : (k : Kind) {least most : ℕ} {s : List ℕ} {first count : ℕ} {found : Items} → least ≡ leastOf k → most ≡ mostOf k
