@@ -6,3 +6,4 @@ pub mod ReadLaws
 mod ReadSteps
 pub mod ReadBack
 pub mod WriteBack
+pub mod Claims

@@ -5,6 +5,7 @@ use mathlib.Core.Path.{_≡_, refl, sym, ap, _∙_}
 use mathlib.Core.Bool.{Bool, true, false, cond, _&&_}
 use mathlib.Core.List.{List, [], _∷_, _++_, map}
 use lib.ListN.{length, getD, take, drop, length-drop}
+use lib.Seq.{getD-take}
 use lib.Dec.{leb, ltb, eqb}
 use native.Mathlib.Omega.{arith}
 use borrow.Author.Tests.{ltb-true, ltb-false, leb-true, leb-false, eqb-true, lt-ltb, le-ltb, le-leb, lt-leb, eq-eqb}
@@ -15,9 +16,11 @@ use Rattle.lengths.proofs.Laws.{sizes-read}
 use Rattle.datagrams.specs.Sizes.{packetLeast, packetLimit, datagramLimit, sparesLimit, coveredLimit, messagesLimit}
 use Rattle.datagrams.specs.Write.{within, countInside}
 use Rattle.datagrams.specs.Read.{DatagramParts, ExtraHead, after, allowed, octetAt, sizedAt, itemAt, itemsAt, endOf, sparesAt, parityAt, extraAt, leastOf, mostOf, numberOf, restOf, readDatagram}
-use Rattle.datagrams.specs.Promise.{nowhere}
+use Rattle.datagrams.specs.Promise.{DatagramReads, datagramRead, nowhere}
 use Rattle.datagrams.specs.Claims.{PartInside, Inside}
 use Rattle.datagrams.specs.declared.reader.Part.{Part}
+use Rattle.datagrams.specs.declared.reader.Reading.the-variants as reading
+use Rattle.datagrams.specs.declared.reader.DatagramRead.{DatagramRead}
 use Rattle.datagrams.specs.declared.kind.Kind.{Kind}
 use Rattle.datagrams.specs.declared.kind.Kind.the-variants as kind
 
@@ -300,6 +303,23 @@ read-inside s d e =
       newest = record { low = newest .low; high = newest .high; inside = newest .inside (so .two) };
       counted = rw (all .counted) (head .counted);
       each = items-each (leastOf (d .kind)) (mostOf (d .kind)) s (so .rest .first) (so .rest .count) (d .items) (head .inside) (so .rest .items);
+    }
+
+-- the same of the reader's answer, in the words of a caller that has taken it apart
+pub accepted-inside : {s : List ℕ} {r : DatagramRead} {number : ℕ} {packet : Part} {k : Kind} {count : ℕ} → DatagramReads s r
+    → r .reading ≡ reading.Datagram number packet k count → Inside s packet k count (r .items)
+unfolding datagramRead
+accepted-inside {s} {r} {number} {packet} {k} {count} reads is =
+    let e : done (record { number = number; packet = packet; kind = k; items = take count (r .items) }) ≡ readDatagram s =
+    rw is at (reads .answer) in
+    let so = read-inside s (record { number = number; packet = packet; kind = k; items = take count (r .items) }) (sym e) in
+    let told : r .reading ≡ reading.Datagram number packet k (length (take count (r .items))) =
+    ap (λ (q : DatagramRead). q .reading) (reads .whole ∙ ap datagramRead (sym e)) in
+    let counted : count ≡ length (take count (r .items)) = cc in
+    record {
+      newest = so .newest;
+      counted = rw (← counted) at (so .counted);
+      each = λ j more. rw (getD-take count (r .items) j nowhere more) at (so .each j (rw (← counted) more));
     }
 
 -- ---- what makes a reading

@@ -4,7 +4,7 @@ use Prim.Native.Nat.{ℕ, zero, suc, _+_, _-_, _*_, _/_, _%_, _≤_, _<_}
 use mathlib.Core.Path.{_≡_, refl, sym, ap, ap₂, _∙_}
 use mathlib.Core.Bool.{Bool, true, false, cond, not, _&&_}
 use mathlib.Core.List.{List, [], _∷_, _++_, map, flatten, append-assoc, append-nil}
-use lib.ListN.{length, getD, take, drop, length-append, length-drop, length-take, take-append-drop, drop-of-length-le}
+use lib.ListN.{length, getD, take, drop, length-append, length-drop, length-take, take-append-drop, drop-of-length-le, length-map}
 use lib.Seq.{length-take-le, drop-drop, drop-cons, take-append-seam, drop-append-seam, getD-drop}
 use lib.Dec.{leb, ltb, eqb}
 use native.Mathlib.Numerals.{add-one}
@@ -16,14 +16,14 @@ use Rattle.lengths.specs.Length.{lengthAt, lengthOctets}
 use Rattle.lengths.specs.Claims.{Octets}
 use Rattle.lengths.proofs.Laws.{read-writes}
 use Rattle.datagrams.specs.Sizes.{packetLeast, packetLimit, datagramLimit, sparesLimit, coveredLimit, messagesLimit}
-use Rattle.datagrams.specs.Write.{numberOctets, itemOctets, itemsOctets, countedOctets, extraOctets, extraOf, datagramOctets, countInside, itemInside, itemsInside, cut, sumOf, datagramToWrite}
+use Rattle.datagrams.specs.Write.{numberOctets, itemOctets, itemsOctets, countedOctets, extraOctets, extraOf, datagramOctets, carriedOf, within, countInside, itemInside, itemsInside, cut, sumOf, datagramToWrite}
 use Rattle.datagrams.specs.Put.{kindOctets}
 use Rattle.datagrams.specs.Read.{DatagramParts, ExtraHead, after, octetsOf, octetAt, sizedAt, itemAt, itemsAt, endOf, sparesAt, parityAt, extraAt, leastOf, mostOf, numberOf, restOf, readDatagram}
 use Rattle.datagrams.specs.Claims.{ReadWrites, lengthsOf, runOf}
 use Rattle.datagrams.specs.declared.reader.Part.{Part}
 use Rattle.datagrams.specs.declared.kind.Kind.{Kind}
 use Rattle.datagrams.specs.declared.kind.Kind.the-variants as kind
-use Rattle.datagrams.proofs.ReadLaws.{bind-done, cond-done, cond-met, done-same, true-within, octet-done, sized-done, item-done}
+use Rattle.datagrams.proofs.ReadLaws.{bind-done, cond-done, cond-met, done-same, true-within, octet-done, sized-done, item-done, items-done, extra-done, Datagram, read-done}
 
 -- ---- the pieces
 
@@ -89,3 +89,137 @@ items-forth k s at (suc left) ps octets room e =
       sizes = ap₂ (λ (n : ℕ) (l : List ℕ). n ∷ l) (sym (part-length s (found .0) (i .inside room))) (rest .sizes);
       sized = rw (item-fits k (found .0 .size) (i .low) (i .high)) (rest .sized);
     })
+
+-- ---- what follows the newest packet
+
+-- kind and count stand at their place
+record ExtraForth (s : List ℕ) (at : ℕ) (h : ExtraHead) : Type 0 where
+  whole : drop at s ≡ kindOctets (h .kind) ++ (lengthOctets (h .count) ++ drop (h .first) s)
+
+spares-forth : (s : List ℕ) (at : ℕ) (h : ExtraHead) → Octets s → at < length s → getD s at 0 ≡ 0 → sparesAt s (at + 1) ≡ done h
+    → ExtraForth s at h
+unfolding sparesAt
+spares-forth s at h octets some is e =
+    let found = bind-done (sizedAt 0 sparesLimit s (at + 1)) _ h e in
+    let fits = sized-done 0 sparesLimit s (at + 1) (found .0) (found .1) in
+    rw (← done-same (found .2))
+    (record {
+      whole =
+          octet-forth s at some
+          ∙ ap₂ (λ (a : ℕ) (l : List ℕ). a ∷ l) is (length-forth s (at + 1) (found .0) octets (fits .read));
+    })
+
+parity-forth : (s : List ℕ) (at : ℕ) (h : ExtraHead) → Octets s → at < length s → getD s at 0 ≡ 128 → parityAt s (at + 1) ≡ done h
+    → ExtraForth s at h
+unfolding parityAt
+parity-forth s at h octets some is e =
+    let one = bind-done (octetAt 1 1 s (at + 1)) _ h e in
+    let n = bind-done (octetAt 1 coveredLimit s (at + 1 + 1)) _ h (one .2) in
+    let m = bind-done (sizedAt 1 messagesLimit s (at + 1 + 2)) _ h (n .2) in
+    let first = octet-done 1 1 s (at + 1) (one .0) (one .1) in
+    let second = octet-done 1 coveredLimit s (at + 1 + 1) (n .0) (n .1) in
+    let third = sized-done 1 messagesLimit s (at + 1 + 2) (m .0) (m .1) in
+    let is-one : getD s (at + 1) 0 ≡ 1 = omega (arith, first .value, first .low, first .high) in
+    let on : at + 1 + 1 + 1 ≡ at + 1 + 2 = omega arith in
+    rw (← done-same (m .2))
+    (record {
+      whole =
+          octet-forth s at some
+          ∙ ap₂ (λ (a : ℕ) (l : List ℕ). a ∷ l) is
+          (octet-forth s (at + 1) (first .inside)
+          ∙ ap₂ (λ (a : ℕ) (l : List ℕ). a ∷ l) is-one
+          (octet-forth s (at + 1 + 1) (second .inside)
+          ∙ ap₂ (λ (a : ℕ) (l : List ℕ). a ∷ l) (sym (second .value))
+          (ap (λ (k : ℕ). drop k s) on ∙ length-forth s (at + 1 + 2) (m .0) octets (third .read))));
+    })
+
+extra-forth : (s : List ℕ) (at : ℕ) (h : ExtraHead) → Octets s → extraAt s at ≡ done h → ExtraForth s at h
+unfolding extraAt
+extra-forth s at h octets e =
+    let some = cond-done (leb (length s) at) endsEarly _ h e in
+    let clear = cond-met (eqb (getD s at 0 % 128) 0) spareBit _ h (some .1) in
+    pick (ltb (getD s at 0) 128) refl (leb-false (length s) at (some .0)) (eqb-true (getD s at 0 % 128) 0 (clear .0)) (clear .1) where
+      pick : (t : Bool) → ltb (getD s at 0) 128 ≡ t → at < length s → getD s at 0 % 128 ≡ 0
+          → cond t (sparesAt s (at + 1)) (parityAt s (at + 1)) ≡ done h → ExtraForth s at h
+      pick true low some clear q =
+          spares-forth s at h octets some (omega (arith, ltb-true (getD s at 0) 128 low, clear)) q
+      pick false high some clear q =
+          parity-forth s at h octets some (omega (arith, ltb-false (getD s at 0) 128 high, clear, octets at)) q
+
+-- the octets of kind and count, then the items, are those of what follows the newest packet
+extra-octets : (k : Kind) (xs : List (List ℕ)) → kindOctets k ++ (lengthOctets (length xs) ++ itemsOctets xs) ≡ extraOctets (extraOf k xs)
+unfolding countedOctets
+extra-octets kind.Spares xs = refl
+extra-octets (kind.Parity n) xs = refl
+
+-- ---- what the writer is given
+
+-- pieces put together are cut into the same pieces again
+cut-flatten : (xs : List (List ℕ)) → cut (map length xs) (flatten xs) ≡ xs
+unfolding cut flatten
+cut-flatten [] = refl
+cut-flatten (x ∷ xs) = rw (take-append-seam x (flatten xs), drop-append-seam x (flatten xs), cut-flatten xs)
+
+sum-flatten : (xs : List (List ℕ)) → sumOf (map length xs) ≡ length (flatten xs)
+unfolding sumOf flatten
+sum-flatten [] = refl
+sum-flatten (x ∷ xs) = rw (length-append x (flatten xs), sum-flatten xs)
+
+-- ---- the datagram
+
+number-forth : (s : List ℕ) (number : ℕ) → Octets s → 2 ≤ length s → number ≡ getD s 0 0 * 256 + getD s 1 0
+    → numberOctets number ++ drop 2 s ≡ s
+unfolding numberOctets
+number-forth s number octets two is =
+    let low = octets 1 in
+    let high : number / 256 ≡ getD s 0 0 = omega arith in
+    let rest : number % 256 ≡ getD s 1 0 = omega arith in
+    rw (high, rest) (sym (octet-forth s 0 (omega arith) ∙ ap (λ (l : List ℕ). getD s 0 0 ∷ l) (octet-forth s 1 (omega arith))))
+
+datagram-forth : (s : List ℕ) (d : DatagramParts) → Octets s → Datagram s d
+    → datagramOctets (record { number = d .number; packet = octetsOf s (d .packet); extra = extraOf (d .kind) (map (octetsOf s) (d .items)) }) ≡ s
+unfolding datagramOctets
+datagram-forth s d octets so =
+    let head = extra-done s (after (d .packet)) _ (so .rest .extra) in
+    let all = items-forth (d .kind) s (so .rest .first) (so .rest .count) (d .items) octets (head .inside) (so .rest .items) in
+    let counted = items-done (leastOf (d .kind)) (mostOf (d .kind)) s (so .rest .first) (so .rest .count) (d .items) (so .rest .items) .counted in
+    let count : so .rest .count ≡ length (map (octetsOf s) (d .items)) = sym (length-map (d .items) (octetsOf s) ∙ counted) in
+    let end = drop-of-length-le s (so .rest .ends) in
+    let items : drop (so .rest .first) s ≡ itemsOctets (map (octetsOf s) (d .items)) =
+    all .whole ∙ ap (λ (l : List ℕ). itemsOctets (map (octetsOf s) (d .items)) ++ l) end ∙ append-nil _ in
+    let extra : drop (after (d .packet)) s ≡ extraOctets (extraOf (d .kind) (map (octetsOf s) (d .items))) =
+    extra-forth s (after (d .packet)) _ octets (so .rest .extra) .whole
+    ∙ ap₂ (λ (n : ℕ) (l : List ℕ). kindOctets (d .kind) ++ (lengthOctets n ++ l)) count items
+    ∙ extra-octets (d .kind) (map (octetsOf s) (d .items)) in
+    let packet = item-forth packetLeast packetLimit s 2 (d .packet) octets (so .two) (so .packet) in
+    ap (λ (l : List ℕ). numberOctets (d .number) ++ (itemOctets (octetsOf s (d .packet)) ++ l)) (sym extra)
+    ∙ ap (λ (l : List ℕ). numberOctets (d .number) ++ l) (sym packet)
+    ∙ number-forth s (d .number) octets (so .two) (so .number)
+
+-- what passes the writer's tests is written
+pub writes : (number : ℕ) (packet : List ℕ) (k : Kind) (lengths run s : List ℕ) → countInside k (length lengths) ≡ true
+    → sumOf lengths ≡ length run → within packetLeast packetLimit (length packet) ≡ true → itemsInside k lengths ≡ true
+    → datagramOctets (carriedOf number packet k lengths run) ≡ s → datagramToWrite number packet k lengths run ≡ done s
+unfolding datagramToWrite
+writes number packet k lengths run s counted sum newest sized e =
+    rw (counted, eq-eqb (sumOf lengths) (length run) sum, newest, sized, e)
+
+pub read-back : ReadWrites
+read-back s d octets e =
+    let so = read-done s d e in
+    let head = extra-done s (after (d .packet)) _ (so .rest .extra) in
+    let all = items-forth (d .kind) s (so .rest .first) (so .rest .count) (d .items) octets (head .inside) (so .rest .items) in
+    let counted = items-done (leastOf (d .kind)) (mostOf (d .kind)) s (so .rest .first) (so .rest .count) (d .items) (so .rest .items) .counted in
+    let newest = item-done packetLeast packetLimit s 2 (d .packet) (so .packet) in
+    let long = part-length s (d .packet) (newest .inside (so .two)) in
+    let pieces : cut (lengthsOf d) (runOf s d) ≡ map (octetsOf s) (d .items) =
+    ap (λ (l : List ℕ). cut l (runOf s d)) (all .sizes) ∙ cut-flatten (map (octetsOf s) (d .items)) in
+    writes (d .number) (octetsOf s (d .packet)) (d .kind) (lengthsOf d) (runOf s d) s
+    (rw (length-map (d .items) (λ (p : Part). p .size), counted) (head .counted))
+    (ap sumOf (all .sizes) ∙ sum-flatten (map (octetsOf s) (d .items)))
+    (rw long (true-within packetLeast packetLimit (d .packet .size) (newest .low) (newest .high)))
+    (all .sized)
+    (ap
+    (λ (l : List (List ℕ)). datagramOctets (record { number = d .number; packet = octetsOf s (d .packet); extra = extraOf (d .kind) l }))
+    pieces
+    ∙ datagram-forth s d octets so)
