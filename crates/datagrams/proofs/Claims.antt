@@ -1,18 +1,9 @@
 -- The claims of this crate, each proved by a law. Assumes nothing.
-use Prim.Native.Nat.{ℕ, _<_}
-use mathlib.Core.Path.{_≡_, refl, sym, ap, _∙_}
-use mathlib.Core.List.{List}
-use lib.ListN.{length, getD, List·getD-append}
-use Rattle.lengths.specs.Answers.{done}
+use mathlib.Core.Path.{refl, sym, _∙_}
 use Rattle.lengths.specs.Length.{lengthAt}
 use Rattle.lengths.proofs.Claims as lengths
-use Rattle.datagrams.specs.Read.{DatagramParts, leastOf, mostOf, allowed, octetAt, sizedAt, itemAt, itemsAt, endOf, sparesAt, parityAt, extraAt, numberOf, restOf, readDatagram}
-use Rattle.datagrams.specs.Promise.{DatagramReads, datagramRead, places, nowhere}
-use Rattle.datagrams.specs.Claims.{AcceptedInside, Inside, PartInside, OneOutcome, Cases, Claims}
-use Rattle.datagrams.specs.declared.reader.Part.{Part}
-use Rattle.datagrams.specs.declared.reader.Reading.the-variants as reading
-use Rattle.datagrams.specs.declared.reader.DatagramRead.{DatagramRead}
-use Rattle.datagrams.specs.declared.kind.Kind.{Kind}
+use Rattle.datagrams.specs.Read.{allowed, octetAt, sizedAt, itemAt, itemsAt, endOf, sparesAt, parityAt, extraAt, numberOf, wholeOf, readDatagram}
+use Rattle.datagrams.specs.Claims.{OneOutcome, Cases, Claims}
 use Rattle.datagrams.proofs.ReadLaws.{accepted-inside}
 use Rattle.datagrams.proofs.ReadBack.{written-back}
 use Rattle.datagrams.proofs.WriteBack.{read-back}
@@ -22,7 +13,7 @@ one-outcome =
     record { read = λ p q. p .whole ∙ sym (q .whole); written = λ p q. lengths.one-outcome .written p q }
 
 cases : Cases
-unfolding readDatagram numberOf restOf extraAt sparesAt parityAt itemsAt itemAt sizedAt octetAt allowed endOf lengthAt
+unfolding readDatagram numberOf wholeOf extraAt sparesAt parityAt itemsAt itemAt sizedAt octetAt allowed endOf lengthAt
 cases =
     record {
       one-is-octet = refl;

@@ -2,8 +2,11 @@ mod WriteTests
 pub mod PutLaws
 mod PutSteps
 mod ItemSteps
+pub mod AnswerLaws
 pub mod ReadLaws
 mod ReadSteps
+mod ReadTurn
+mod ReadWhole
 pub mod ReadBack
 pub mod WriteBack
 pub mod Claims

@@ -1,27 +1,27 @@
 -- What the writer writes reads back: each piece at its place of the octets, then the whole datagram. A piece that stands at a
 -- place is told by what is left from there on, so that none of this looks at what stands before it. Assumes nothing.
-use Prim.Native.Nat.{ℕ, zero, suc, _+_, _-_, _*_, _/_, _%_, _≤_, _<_}
-use mathlib.Core.Path.{_≡_, refl, sym, ap, ap₂, _∙_}
-use mathlib.Core.Bool.{Bool, true, false, cond, not, _&&_}
+use Prim.Native.Nat.{ℕ, suc, _+_, _-_, _*_, _/_, _%_, _≤_, _<_}
+use mathlib.Core.Path.{_≡_, refl, sym, ap, _∙_}
+use mathlib.Core.Bool.{true}
 use mathlib.Core.List.{List, [], _∷_, _++_, map, append-assoc, append-nil}
-use lib.ListN.{length, getD, take, drop, length-append, length-drop}
+use lib.ListN.{length, getD, drop, length-append, length-drop}
 use lib.Seq.{length-take-le, drop-drop, drop-append-seam, take-append-seam, getD-drop}
-use lib.Dec.{leb, ltb, eqb}
+use lib.Dec.{eqb}
 use native.Mathlib.Omega.{arith}
-use borrow.Author.Tests.{lt-ltb, le-ltb, le-leb, lt-leb, eq-eqb, leb-true, eqb-true, not-false}
+use borrow.Author.Tests.{le-ltb, lt-leb, eqb-true}
 use Rattle.lengths.specs.Refusals.{outsideSizes, wrongSettings}
-use Rattle.lengths.specs.Answers.{Answer, done, refused, refuse, _>>=_, LengthAnswer}
-use Rattle.lengths.specs.Length.{lengthAt, lengthOctets, lengthLimit}
+use Rattle.lengths.specs.Answers.{done}
+use Rattle.lengths.specs.Length.{lengthOctets, lengthLimit}
 use Rattle.lengths.proofs.Laws.{written-reads, size-written}
 use Rattle.datagrams.specs.Sizes.{packetLeast, packetLimit, datagramLimit, sparesLimit, coveredLimit, messagesLimit}
-use Rattle.datagrams.specs.Carried.{Carried}
-use Rattle.datagrams.specs.Write.{numberOctets, itemOctets, itemsOctets, countedOctets, extraOctets, extraOf, datagramOctets, within, countInside, itemInside, itemsInside, lengthsInside, cut, sumOf, carriedOf, datagramToWrite}
-use Rattle.datagrams.specs.Read.{DatagramParts, ExtraHead, after, octetsOf, octetAt, sizedAt, itemAt, itemsAt, endOf, sparesAt, parityAt, extraAt, leastOf, mostOf, numberOf, restOf, readDatagram, carriedBy}
+use Rattle.datagrams.specs.Write.{numberOctets, itemOctets, itemsOctets, countedOctets, extraOctets, extraOf, datagramOctets, within, countInside, itemInside, itemsInside, lengthsInside, cut, sumOf, datagramToWrite}
+use Rattle.datagrams.specs.Read.{after, octetsOf, octetAt, sizedAt, itemAt, itemsAt, endOf, sparesAt, parityAt, extraAt, leastOf, mostOf, numberOf, readDatagram, carriedBy}
 use Rattle.datagrams.specs.Claims.{ReadsAs, WrittenReads}
 use Rattle.datagrams.specs.declared.reader.Part.{Part}
 use Rattle.datagrams.specs.declared.kind.Kind.{Kind}
 use Rattle.datagrams.specs.declared.kind.Kind.the-variants as kind
-use Rattle.datagrams.proofs.ReadLaws.{both-true, within-true, allowed-sizes, not-done, done-same, few-items, rest-reads}
+use Rattle.datagrams.proofs.AnswerLaws.{done-same, both-true, within-true, cond-must}
+use Rattle.datagrams.proofs.ReadLaws.{allowed-sizes, few-items, whole-reads}
 
 -- ---- places
 
@@ -215,10 +215,10 @@ datagram-back s number packet k xs fit e =
     let head = extra-back s (after (first .part)) k xs (first .next) (fit .counted) in
     let all = items-back k s (head .first) xs [] (head .next ∙ sym (append-nil (itemsOctets xs))) (fit .sized) in
     let none : length s ≤ endOf (head .first) (all .parts) = omega (arith, length-drop (endOf (head .first) (all .parts)) s, ap length (all .next)) in
-    let rest = rest-reads s number (first .part) _ (all .parts) (head .read) (all .read) none in
+    let rest = whole-reads s number (first .part) (record { kind = k; count = length xs; first = head .first }) (all .parts) (all .read) none in
     record {
       parts = record { number = number; packet = first .part; kind = k; items = all .parts };
-      read = rw (le-ltb datagramLimit (length s) short, number-back s number _ e, first .read, rest);
+      read = rw (le-ltb datagramLimit (length s) short, number-back s number _ e, first .read, head .read, rest);
       carried = rw (first .octets, all .octets);
     }
 
@@ -237,17 +237,12 @@ unfolding cut
 cut-count [] run = refl
 cut-count (n ∷ lengths) run = ap suc (cut-count lengths (drop n run))
 
--- a test that must be met was met
-must : {A : Type 0} (t : Bool) (n : ℕ) (m : Answer A) (a : A) → cond (not t) (refuse n) m ≡ done a → (t ≡ true) × (m ≡ done a)
-must true n m a e = (refl, e)
-must false n m a e = absurd (not-done e)
-
 pub written-back : WrittenReads
 unfolding datagramToWrite
 written-back number packet k lengths run s e =
-    let counted = must (countInside k (length lengths)) outsideSizes _ s e in
-    let summed = must (eqb (sumOf lengths) (length run)) wrongSettings _ s (counted .1) in
-    let sized = must (lengthsInside packet k lengths) outsideSizes _ s (summed .1) in
+    let counted = cond-must (countInside k (length lengths)) outsideSizes _ s e in
+    let summed = cond-must (eqb (sumOf lengths) (length run)) wrongSettings _ s (counted .1) in
+    let sized = cond-must (lengthsInside packet k lengths) outsideSizes _ s (summed .1) in
     let both = both-true (within packetLeast packetLimit (length packet)) (itemsInside k lengths) (sized .0) in
     let sum = eqb-true (sumOf lengths) (length run) (summed .0) in
     let fit : Fit packet k (cut lengths run) =

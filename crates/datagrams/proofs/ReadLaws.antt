@@ -1,69 +1,33 @@
 -- Laws of the datagram reader's definitions, for this crate and those above: what a reading that is no refusal says of the
 -- octets. Assumes nothing.
-use Prim.Native.Nat.{ℕ, zero, suc, _+_, _-_, _*_, _/_, _%_, _≤_, _<_}
+use Prim.Native.Nat.{ℕ, zero, suc, _+_, _-_, _*_, _%_, _≤_, _<_}
 use mathlib.Core.Path.{_≡_, refl, sym, ap, _∙_}
-use mathlib.Core.Bool.{Bool, true, false, cond, _&&_}
-use mathlib.Core.List.{List, [], _∷_, _++_, map}
+use mathlib.Core.Bool.{Bool, true, false, cond}
+use mathlib.Core.List.{List, [], _∷_}
 use lib.ListN.{length, getD, take, drop, length-drop}
-use lib.Seq.{getD-take}
+use lib.Seq.{getD-take, take-append-seam}
 use lib.Dec.{leb, ltb, eqb}
 use native.Mathlib.Omega.{arith}
-use borrow.Author.Tests.{ltb-true, ltb-false, leb-true, leb-false, eqb-true, lt-ltb, le-ltb, le-leb, lt-leb, eq-eqb}
+use borrow.Author.Tests.{ltb-false, leb-true, leb-false, le-ltb, le-leb}
 use Rattle.lengths.specs.Refusals.{endsEarly, tooLong, outsideSizes, leftOver}
-use Rattle.lengths.specs.Answers.{Answer, done, refused, refuse, _>>=_, LengthAnswer}
+use Rattle.lengths.specs.Answers.{Answer, done, refused, _>>=_, LengthAnswer}
 use Rattle.lengths.specs.Length.{lengthAt}
 use Rattle.lengths.proofs.Laws.{sizes-read}
 use Rattle.datagrams.specs.Sizes.{packetLeast, packetLimit, datagramLimit, sparesLimit, coveredLimit, messagesLimit}
 use Rattle.datagrams.specs.Write.{within, countInside}
-use Rattle.datagrams.specs.Read.{DatagramParts, ExtraHead, after, allowed, octetAt, sizedAt, itemAt, itemsAt, endOf, sparesAt, parityAt, extraAt, leastOf, mostOf, numberOf, restOf, readDatagram}
-use Rattle.datagrams.specs.Promise.{DatagramReads, datagramRead, nowhere}
+use Rattle.datagrams.specs.Read.{DatagramParts, ExtraHead, after, allowed, octetAt, sizedAt, itemAt, itemsAt, endOf, sparesAt, parityAt, extraAt, leastOf, mostOf, numberOf, wholeOf, readDatagram}
+use Rattle.datagrams.specs.Promise.{DatagramReads, datagramRead, readOutcome, places, nowhere}
 use Rattle.datagrams.specs.Claims.{PartInside, Inside}
 use Rattle.datagrams.specs.declared.reader.Part.{Part}
 use Rattle.datagrams.specs.declared.reader.Reading.the-variants as reading
 use Rattle.datagrams.specs.declared.reader.DatagramRead.{DatagramRead}
 use Rattle.datagrams.specs.declared.kind.Kind.{Kind}
 use Rattle.datagrams.specs.declared.kind.Kind.the-variants as kind
-
--- ---- answers that are no refusal
-
--- a refusal is never a value
-pub not-done : {A : Type 0} {n : ℕ} {a : A} → refuse n ≡ done a → ⊥
-not-done e = let z : _≡_ {A = ℕ} 0 1 = cc in omega arith
-
--- two steps that end in a value both have one
-pub bind-done : {A B : Type 0} (m : Answer A) (f : A → Answer B) (b : B) → _>>=_ m f ≡ done b
-    → (a : A) × (m ≡ done a) × (f a ≡ done b)
-bind-done (done a) f b e = (a, refl, e)
-bind-done (refused r) f b e = let z : _≡_ {A = ℕ} 0 1 = cc in absurd (omega arith)
-
--- a test that refuses was not met
-pub cond-done : {A : Type 0} (t : Bool) (n : ℕ) (m : Answer A) (a : A) → cond t (refuse n) m ≡ done a → (t ≡ false) × (m ≡ done a)
-cond-done true n m a e = absurd (not-done e)
-cond-done false n m a e = (refl, e)
-
--- the same of a test that must be met
-pub cond-met : {A : Type 0} (t : Bool) (n : ℕ) (m : Answer A) (a : A) → cond t m (refuse n) ≡ done a → (t ≡ true) × (m ≡ done a)
-cond-met true n m a e = (refl, e)
-cond-met false n m a e = absurd (not-done e)
-
-pub done-same : {A : Type 0} {a b : A} → done a ≡ done b → a ≡ b
-done-same e = cc
+use Rattle.datagrams.proofs.AnswerLaws.{bind-done, cond-done, cond-met, done-same, both-true, within-true, true-within}
 
 -- ---- the pieces
 
 -- a value within the sizes
-pub both-true : (a b : Bool) → (a && b) ≡ true → (a ≡ true) × (b ≡ true)
-both-true true b e = (refl, e)
-both-true false b e = let z : _≡_ {A = ℕ} 0 1 = cc in absurd (omega arith)
-
-pub within-true : (least most n : ℕ) → within least most n ≡ true → (least ≤ n) × (n ≤ most)
-within-true least most n e =
-    let both = both-true (leb least n) (leb n most) e in
-    (leb-true least n (both .0), leb-true n most (both .1))
-
-pub true-within : (least most n : ℕ) → least ≤ n → n ≤ most → within least most n ≡ true
-true-within least most n low high = rw (le-leb least n low, le-leb n most high)
-
 pub allowed-done : (least most : ℕ) (l k : LengthAnswer) → allowed least most l ≡ done k → (l ≡ k) × (least ≤ k .value) × (k .value ≤ most)
 unfolding allowed
 allowed-done least most l k e =
@@ -237,32 +201,25 @@ few-items (kind.Parity n) count e =
     let fits = within-true 1 messagesLimit count (both .1) in
     omega arith
 
--- what follows the number and the newest packet
-pub record Rest (s : List ℕ) (d : DatagramParts) : Type 0 where
-  pub count : ℕ
-  pub first : ℕ
-  pub extra : extraAt s (after (d .packet)) ≡ done (record { kind = d .kind; count = count; first = first })
-  pub items : itemsAt (leastOf (d .kind)) (mostOf (d .kind)) s first count ≡ done (d .items)
-  pub ends : length s ≤ endOf first (d .items)
+-- the items of a datagram that reads, and nothing after them
+record Whole (s : List ℕ) (number : ℕ) (packet : Part) (h : ExtraHead) (d : DatagramParts) : Type 0 where
+  parts : List Part
+  same : record { number = number; packet = packet; kind = h .kind; items = parts } ≡ d
+  read : itemsAt (leastOf (h .kind)) (mostOf (h .kind)) s (h .first) (h .count) ≡ done parts
+  ends : length s ≤ endOf (h .first) parts
 
-pub rest-done : (s : List ℕ) (number : ℕ) (packet : Part) (d : DatagramParts) → restOf s number packet ≡ done d
-    → (d .number ≡ number) × (d .packet ≡ packet) × Rest s d
-unfolding restOf
-rest-done s number packet d e =
-    let extra = bind-done (extraAt s (after packet)) _ d e in
-    let items = bind-done (itemsAt (leastOf (extra .0 .kind)) (mostOf (extra .0 .kind)) s (extra .0 .first) (extra .0 .count)) _ d (extra .2) in
-    let none = cond-done (ltb (endOf (extra .0 .first) (items .0)) (length s)) leftOver _ d (items .2) in
-    rw (← done-same (none .1)) (
-      refl,
-      refl,
-      record {
-        count = extra .0 .count;
-        first = extra .0 .first;
-        extra = extra .1;
-        items = items .1;
-        ends = ltb-false (endOf (extra .0 .first) (items .0)) (length s) (none .0);
-      },
-    )
+whole-done : (s : List ℕ) (number : ℕ) (packet : Part) (h : ExtraHead) (d : DatagramParts) → wholeOf s number packet h ≡ done d
+    → Whole s number packet h d
+unfolding wholeOf
+whole-done s number packet h d e =
+    let found = bind-done (itemsAt (leastOf (h .kind)) (mostOf (h .kind)) s (h .first) (h .count)) _ d e in
+    let none = cond-done (ltb (endOf (h .first) (found .0)) (length s)) leftOver _ d (found .2) in
+    record {
+      parts = found .0;
+      same = done-same (none .1);
+      read = found .1;
+      ends = ltb-false (endOf (h .first) (found .0)) (length s) (none .0);
+    }
 
 number-done : (s : List ℕ) (number : ℕ) → numberOf s ≡ done number → (2 ≤ length s) × (number ≡ getD s 0 0 * 256 + getD s 1 0)
 unfolding numberOf
@@ -275,7 +232,11 @@ pub record Datagram (s : List ℕ) (d : DatagramParts) : Type 0 where
   pub two : 2 ≤ length s
   pub number : d .number ≡ getD s 0 0 * 256 + getD s 1 0
   pub packet : itemAt packetLeast packetLimit s 2 ≡ done (d .packet)
-  pub rest : Rest s d
+  pub count : ℕ
+  pub first : ℕ
+  pub extra : extraAt s (after (d .packet)) ≡ done (record { kind = d .kind; count = count; first = first })
+  pub items : itemsAt (leastOf (d .kind)) (mostOf (d .kind)) s first count ≡ done (d .items)
+  pub ends : length s ≤ endOf first (d .items)
 
 pub read-done : (s : List ℕ) (d : DatagramParts) → readDatagram s ≡ done d → Datagram s d
 unfolding readDatagram
@@ -283,26 +244,32 @@ read-done s d e =
     let short = cond-done (ltb datagramLimit (length s)) tooLong _ d e in
     let number = bind-done (numberOf s) _ d (short .1) in
     let packet = bind-done (itemAt packetLeast packetLimit s 2) _ d (number .2) in
-    let rest = rest-done s (number .0) (packet .0) d (packet .2) in
+    let extra = bind-done (extraAt s (after (packet .0))) _ d (packet .2) in
+    let whole = whole-done s (number .0) (packet .0) (extra .0) d (extra .2) in
     let two = number-done s (number .0) (number .1) in
-    record {
+    rw (← whole .same)
+    (record {
       two = two .0;
-      number = rest .0 ∙ two .1;
-      packet = packet .1 ∙ ap (λ (p : Part). done p) (sym (rest .1));
-      rest = rest .2;
-    }
+      number = two .1;
+      packet = packet .1;
+      count = extra .0 .count;
+      first = extra .0 .first;
+      extra = extra .1;
+      items = whole .read;
+      ends = whole .ends;
+    })
 
 -- what an accepted datagram names is within the sizes and the octets
 pub read-inside : (s : List ℕ) (d : DatagramParts) → readDatagram s ≡ done d → Inside s (d .packet) (d .kind) (length (d .items)) (d .items)
 read-inside s d e =
     let so = read-done s d e in
     let newest = item-done packetLeast packetLimit s 2 (d .packet) (so .packet) in
-    let head = extra-done s (after (d .packet)) _ (so .rest .extra) in
-    let all = items-done (leastOf (d .kind)) (mostOf (d .kind)) s (so .rest .first) (so .rest .count) (d .items) (so .rest .items) in
+    let head = extra-done s (after (d .packet)) _ (so .extra) in
+    let all = items-done (leastOf (d .kind)) (mostOf (d .kind)) s (so .first) (so .count) (d .items) (so .items) in
     record {
       newest = record { low = newest .low; high = newest .high; inside = newest .inside (so .two) };
       counted = rw (all .counted) (head .counted);
-      each = items-each (leastOf (d .kind)) (mostOf (d .kind)) s (so .rest .first) (so .rest .count) (d .items) (head .inside) (so .rest .items);
+      each = items-each (leastOf (d .kind)) (mostOf (d .kind)) s (so .first) (so .count) (d .items) (head .inside) (so .items);
     }
 
 -- the same of the reader's answer, in the words of a caller that has taken it apart
@@ -324,8 +291,14 @@ accepted-inside {s} {r} {number} {packet} {k} {count} reads is =
 
 -- ---- what makes a reading
 
-pub rest-reads : (s : List ℕ) (number : ℕ) (packet : Part) (h : ExtraHead) (items : List Part) → extraAt s (after packet) ≡ done h
+pub whole-reads : (s : List ℕ) (number : ℕ) (packet : Part) (h : ExtraHead) (items : List Part)
     → itemsAt (leastOf (h .kind)) (mostOf (h .kind)) s (h .first) (h .count) ≡ done items → length s ≤ endOf (h .first) items
-    → restOf s number packet ≡ done (record { number = number; packet = packet; kind = h .kind; items = items })
-unfolding restOf
-rest-reads s number packet h items head all none = rw (head, all, le-ltb (endOf (h .first) items) (length s) none)
+    → wholeOf s number packet h ≡ done (record { number = number; packet = packet; kind = h .kind; items = items })
+unfolding wholeOf
+whole-reads s number packet h items all none = rw (all, le-ltb (endOf (h .first) items) (length s) none)
+
+-- what is handed back says the whole of what was read
+pub outcome-whole : (a : Answer DatagramParts) → readOutcome (datagramRead a) ≡ a
+unfolding datagramRead places
+outcome-whole (done d) = rw (take-append-seam (d .items))
+outcome-whole (refused r) = refl

@@ -1,29 +1,30 @@
 -- What reads without refusal, written from its fields, gives the same octets: each piece that was read is what the octets
 -- hold from its place on, in front of what is left after it. Assumes nothing.
-use Prim.Native.Nat.{ℕ, zero, suc, _+_, _-_, _*_, _/_, _%_, _≤_, _<_}
+use Prim.Native.Nat.{ℕ, zero, suc, _+_, _*_, _/_, _%_, _≤_, _<_}
 use mathlib.Core.Path.{_≡_, refl, sym, ap, ap₂, _∙_}
-use mathlib.Core.Bool.{Bool, true, false, cond, not, _&&_}
+use mathlib.Core.Bool.{Bool, true, false, cond}
 use mathlib.Core.List.{List, [], _∷_, _++_, map, flatten, append-assoc, append-nil}
-use lib.ListN.{length, getD, take, drop, length-append, length-drop, length-take, take-append-drop, drop-of-length-le, length-map}
+use lib.ListN.{length, getD, drop, length-append, length-drop, take-append-drop, drop-of-length-le, length-map}
 use lib.Seq.{length-take-le, drop-drop, drop-cons, take-append-seam, drop-append-seam, getD-drop}
 use lib.Dec.{leb, ltb, eqb}
 use native.Mathlib.Numerals.{add-one}
 use native.Mathlib.Omega.{arith}
-use borrow.Author.Tests.{ltb-true, ltb-false, leb-false, eqb-true, le-leb, eq-eqb}
-use Rattle.lengths.specs.Refusals.{endsEarly, spareBit, leftOver, tooLong}
-use Rattle.lengths.specs.Answers.{Answer, done, LengthAnswer}
+use borrow.Author.Tests.{ltb-true, ltb-false, leb-false, eqb-true, eq-eqb}
+use Rattle.lengths.specs.Refusals.{endsEarly, spareBit}
+use Rattle.lengths.specs.Answers.{done, LengthAnswer}
 use Rattle.lengths.specs.Length.{lengthAt, lengthOctets}
 use Rattle.lengths.specs.Claims.{Octets}
 use Rattle.lengths.proofs.Laws.{read-writes}
-use Rattle.datagrams.specs.Sizes.{packetLeast, packetLimit, datagramLimit, sparesLimit, coveredLimit, messagesLimit}
+use Rattle.datagrams.specs.Sizes.{packetLeast, packetLimit, sparesLimit, coveredLimit, messagesLimit}
 use Rattle.datagrams.specs.Write.{numberOctets, itemOctets, itemsOctets, countedOctets, extraOctets, extraOf, datagramOctets, carriedOf, within, countInside, itemInside, itemsInside, cut, sumOf, datagramToWrite}
 use Rattle.datagrams.specs.Put.{kindOctets}
-use Rattle.datagrams.specs.Read.{DatagramParts, ExtraHead, after, octetsOf, octetAt, sizedAt, itemAt, itemsAt, endOf, sparesAt, parityAt, extraAt, leastOf, mostOf, numberOf, restOf, readDatagram}
+use Rattle.datagrams.specs.Read.{DatagramParts, ExtraHead, after, octetsOf, octetAt, sizedAt, itemAt, itemsAt, endOf, sparesAt, parityAt, extraAt, leastOf, mostOf}
 use Rattle.datagrams.specs.Claims.{ReadWrites, lengthsOf, runOf}
 use Rattle.datagrams.specs.declared.reader.Part.{Part}
 use Rattle.datagrams.specs.declared.kind.Kind.{Kind}
 use Rattle.datagrams.specs.declared.kind.Kind.the-variants as kind
-use Rattle.datagrams.proofs.ReadLaws.{bind-done, cond-done, cond-met, done-same, true-within, octet-done, sized-done, item-done, items-done, extra-done, Datagram, read-done}
+use Rattle.datagrams.proofs.AnswerLaws.{bind-done, cond-done, cond-met, done-same, true-within}
+use Rattle.datagrams.proofs.ReadLaws.{octet-done, sized-done, item-done, items-done, extra-done, Datagram, read-done}
 
 -- ---- the pieces
 
@@ -180,15 +181,15 @@ datagram-forth : (s : List ℕ) (d : DatagramParts) → Octets s → Datagram s 
     → datagramOctets (record { number = d .number; packet = octetsOf s (d .packet); extra = extraOf (d .kind) (map (octetsOf s) (d .items)) }) ≡ s
 unfolding datagramOctets
 datagram-forth s d octets so =
-    let head = extra-done s (after (d .packet)) _ (so .rest .extra) in
-    let all = items-forth (d .kind) s (so .rest .first) (so .rest .count) (d .items) octets (head .inside) (so .rest .items) in
-    let counted = items-done (leastOf (d .kind)) (mostOf (d .kind)) s (so .rest .first) (so .rest .count) (d .items) (so .rest .items) .counted in
-    let count : so .rest .count ≡ length (map (octetsOf s) (d .items)) = sym (length-map (d .items) (octetsOf s) ∙ counted) in
-    let end = drop-of-length-le s (so .rest .ends) in
-    let items : drop (so .rest .first) s ≡ itemsOctets (map (octetsOf s) (d .items)) =
+    let head = extra-done s (after (d .packet)) _ (so .extra) in
+    let all = items-forth (d .kind) s (so .first) (so .count) (d .items) octets (head .inside) (so .items) in
+    let counted = items-done (leastOf (d .kind)) (mostOf (d .kind)) s (so .first) (so .count) (d .items) (so .items) .counted in
+    let count : so .count ≡ length (map (octetsOf s) (d .items)) = sym (length-map (d .items) (octetsOf s) ∙ counted) in
+    let end = drop-of-length-le s (so .ends) in
+    let items : drop (so .first) s ≡ itemsOctets (map (octetsOf s) (d .items)) =
     all .whole ∙ ap (λ (l : List ℕ). itemsOctets (map (octetsOf s) (d .items)) ++ l) end ∙ append-nil _ in
     let extra : drop (after (d .packet)) s ≡ extraOctets (extraOf (d .kind) (map (octetsOf s) (d .items))) =
-    extra-forth s (after (d .packet)) _ octets (so .rest .extra) .whole
+    extra-forth s (after (d .packet)) _ octets (so .extra) .whole
     ∙ ap₂ (λ (n : ℕ) (l : List ℕ). kindOctets (d .kind) ++ (lengthOctets n ++ l)) count items
     ∙ extra-octets (d .kind) (map (octetsOf s) (d .items)) in
     let packet = item-forth packetLeast packetLimit s 2 (d .packet) octets (so .two) (so .packet) in
@@ -207,9 +208,9 @@ writes number packet k lengths run s counted sum newest sized e =
 pub read-back : ReadWrites
 read-back s d octets e =
     let so = read-done s d e in
-    let head = extra-done s (after (d .packet)) _ (so .rest .extra) in
-    let all = items-forth (d .kind) s (so .rest .first) (so .rest .count) (d .items) octets (head .inside) (so .rest .items) in
-    let counted = items-done (leastOf (d .kind)) (mostOf (d .kind)) s (so .rest .first) (so .rest .count) (d .items) (so .rest .items) .counted in
+    let head = extra-done s (after (d .packet)) _ (so .extra) in
+    let all = items-forth (d .kind) s (so .first) (so .count) (d .items) octets (head .inside) (so .items) in
+    let counted = items-done (leastOf (d .kind)) (mostOf (d .kind)) s (so .first) (so .count) (d .items) (so .items) .counted in
     let newest = item-done packetLeast packetLimit s 2 (d .packet) (so .packet) in
     let long = part-length s (d .packet) (newest .inside (so .two)) in
     let pieces : cut (lengthsOf d) (runOf s d) ≡ map (octetsOf s) (d .items) =

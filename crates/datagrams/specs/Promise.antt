@@ -4,12 +4,12 @@ use Prim.Native.Nat.{ℕ, _-_, _≤_}
 use mathlib.Core.Path.{_≡_}
 use mathlib.Core.List.{List, [], _++_}
 use lib.ListN.{length, take, replicate}
-use Rattle.lengths.specs.Answers.{Answer, done, refused, LengthAnswer, lengthOutcome}
+use Rattle.lengths.specs.Answers.{Answer, done, refused, lengthOutcome}
 use Rattle.lengths.specs.declared.Refusal.{Refusal}
 use Rattle.lengths.specs.declared.Length.{Length}
 use Rattle.lengths.specs.declared.Length.the-variants as length
 use Rattle.datagrams.specs.Sizes.{sparesLimit}
-use Rattle.datagrams.specs.Read.{DatagramParts, ExtraHead, octetAt, sizedAt, itemAt, itemsAt, endOf, sparesAt, parityAt, extraAt, restOf, readDatagram}
+use Rattle.datagrams.specs.Read.{DatagramParts, ExtraHead, octetAt, sizedAt, itemAt, sparesAt, parityAt, extraAt, wholeOf, readDatagram}
 use Rattle.datagrams.specs.declared.reader.Part.{Part}
 use Rattle.datagrams.specs.declared.reader.Reading.{Reading}
 use Rattle.datagrams.specs.declared.reader.Reading.the-variants as reading
@@ -18,8 +18,7 @@ use Rattle.datagrams.specs.declared.reader.Item.{Item}
 use Rattle.datagrams.specs.declared.reader.Item.the-variants as item
 use Rattle.datagrams.specs.declared.reader.Extra.{Extra}
 use Rattle.datagrams.specs.declared.reader.Extra.the-variants as extra
-use Rattle.datagrams.specs.declared.reader.Ending.the-variants as ending
-use Rattle.datagrams.specs.declared.reader.Items.{Items}
+use Rattle.datagrams.specs.declared.kind.Kind.{Kind}
 
 -- ---- the public call
 
@@ -85,21 +84,14 @@ pub record ParityRead (s : List ℕ) (at : ℕ) (r : Extra) : Type 0 where
 pub record ExtraRead (s : List ℕ) (at : ℕ) (r : Extra) : Type 0 where
   pub answer : extraOutcome r ≡ extraAt s at
 
-unfoldable pub itemsOf : ℕ → Answer (List Part) → Items
-itemsOf at (done ps) = record { ending = ending.At (endOf at ps); parts = places ps }
-itemsOf at (refused r) = record { ending = ending.Refused r; parts = places [] }
-
--- the items begin within the octets, and are no more than there are places
-pub record ItemsAsked (s : List ℕ) (at count : ℕ) : Type 0 where
-  pub inside : at ≤ length s
-  pub few : count ≤ sparesLimit
-
-pub record ItemsRead (least most : ℕ) (s : List ℕ) (at count : ℕ) (r : Items) : Type 0 where
-  pub whole : r ≡ itemsOf at (itemsAt least most s at count)
-
-pub record RestRead (s : List ℕ) (number : ℕ) (packet : Part) (r : DatagramRead) : Type 0 where
-  pub whole : r ≡ datagramRead (restOf s number packet)
-
 -- a refusal, which leaves every place unused
 pub record Refuses (why : Refusal) (r : DatagramRead) : Type 0 where
   pub whole : r ≡ datagramRead (refused why)
+
+-- the items begin within the octets, and are no more than there are places
+pub record ItemsAsked (s : List ℕ) (count first : ℕ) : Type 0 where
+  pub inside : first ≤ length s
+  pub few : count ≤ sparesLimit
+
+pub record WholeRead (s : List ℕ) (number : ℕ) (packet : Part) (k : Kind) (count first : ℕ) (r : DatagramRead) : Type 0 where
+  pub whole : r ≡ datagramRead (wholeOf s number packet (record { kind = k; count = count; first = first }))

@@ -3,12 +3,12 @@
 -- Parity: octet 01, octet n, count m, then m messages, each with its length. Nothing follows." And of the order: "At a
 -- length: 3 or 1 in its form, then 4, then 1 for missing octets", "Datagram reader: 2, then reading order". Definitions only.
 use Prim.Native.Nat.{ℕ, zero, suc, _+_, _-_, _*_, _%_}
-use mathlib.Core.Bool.{Bool, cond}
-use mathlib.Core.List.{List, [], _∷_, _++_, map}
-use lib.ListN.{length, getD, take, drop, replicate}
+use mathlib.Core.Bool.{cond}
+use mathlib.Core.List.{List, [], _∷_, map}
+use lib.ListN.{length, getD, take, drop}
 use lib.Dec.{leb, ltb, eqb}
 use Rattle.lengths.specs.Refusals.{endsEarly, tooLong, outsideSizes, spareBit, leftOver}
-use Rattle.lengths.specs.Answers.{Answer, done, refused, refuse, _>>=_, LengthAnswer}
+use Rattle.lengths.specs.Answers.{Answer, done, refuse, _>>=_, LengthAnswer}
 use Rattle.lengths.specs.Length.{lengthAt}
 use Rattle.datagrams.specs.Sizes.{packetLeast, packetLimit, messageLeast, messageLimit, datagramLimit, sparesLimit, coveredLimit, messagesLimit}
 use Rattle.datagrams.specs.Carried.{Carried}
@@ -111,10 +111,9 @@ mostOf (kind.Parity n) = messageLimit
 unfoldable pub numberOf : List ℕ → Answer ℕ
 numberOf s = cond (ltb (length s) 2) (refuse endsEarly) (done (getD s 0 0 * 256 + getD s 1 0))
 
--- what follows the number and the newest packet; 6: "Nothing follows"
-unfoldable pub restOf : List ℕ → ℕ → Part → Answer DatagramParts
-restOf s number packet = do
-  extra ← extraAt s (after packet)
+-- the spares or messages of a datagram of which all before them is read; 6: "Nothing follows"
+unfoldable pub wholeOf : List ℕ → ℕ → Part → ExtraHead → Answer DatagramParts
+wholeOf s number packet extra = do
   items ← itemsAt (leastOf (extra .kind)) (mostOf (extra .kind)) s (extra .first) (extra .count)
   cond (ltb (endOf (extra .first) items) (length s)) (refuse leftOver)
       (done (record { number = number; packet = packet; kind = extra .kind; items = items }))
@@ -126,7 +125,8 @@ readDatagram s =
     do
       number ← numberOf s
       packet ← itemAt packetLeast packetLimit s 2
-      restOf s number packet
+      extra ← extraAt s (after packet)
+      wholeOf s number packet extra
 
 -- ---- what the parts stand for
 

@@ -12,8 +12,8 @@ ghost use mathlib.Core.Path.{_≡_};
 ghost use Prim.Native.Nat.{_+_, _*_, _≤_};
 ghost use lib.ListN.{length};
 ghost use Rattle.lengths.specs.Promise.{Octet};
-ghost use Rattle.datagrams.specs.Read.{after, leastOf, mostOf};
-ghost use Rattle.datagrams.specs.Promise.{DatagramReads, RefusalPassed, OctetRead, SizedRead, ItemRead, SparesRead, ParityRead, ExtraRead, ItemsAsked, ItemsRead, RestRead, Refuses};
+ghost use Rattle.datagrams.specs.Read.{leastOf, mostOf};
+ghost use Rattle.datagrams.specs.Promise.{DatagramReads, RefusalPassed, OctetRead, SizedRead, ItemRead, SparesRead, ParityRead, ExtraRead, Refuses, ItemsAsked, WholeRead};
 
 // A packet, spare or message as a part of the datagram.
 pub struct Part {
@@ -53,17 +53,6 @@ enum Extra {
         first: usize,
     },
     Refused(Refusal),
-}
-
-// Where the items end, or why one is refused.
-enum Ending {
-    At(usize),
-    Refused(Refusal),
-}
-
-struct Items {
-    ending: Ending,
-    parts: [Part; Spares::LIMIT],
 }
 
 // The number: two octets, high first.
@@ -224,37 +213,6 @@ fn most(kind: Kind) -> usize
     }
 }
 
-// So many items, one after the other from a place on.
-fn items_at(s: &[u8], at: usize, count: usize, least: usize, most: usize) -> Items
-    requires { ⌜ ItemsAsked (now s) at count ⌝ }
-    ensures { λ r. ⌜ ItemsRead least most (now (s .entry)) at count r ⌝ }
-{
-    let nowhere = Part { start: 0, size: 0 };
-    let mut parts = [nowhere; Spares::LIMIT];
-    let mut next = at;
-    let mut i = 0;
-    while i < count {
-        match item_at(s, next, least, most) {
-            Item::Refused(why) => {
-                let none = [nowhere; Spares::LIMIT];
-                return Items {
-                    ending: Ending::Refused(why),
-                    parts: none,
-                };
-            }
-            Item::Found(part) => {
-                parts[i] = part;
-                next = part.start + part.size;
-            }
-        }
-        i += 1;
-    }
-    Items {
-        ending: Ending::At(next),
-        parts,
-    }
-}
-
 // A refusal: every place is unused.
 fn refused(why: Refusal) -> DatagramRead
     ensures { λ r. ⌜ Refuses why r ⌝ }
@@ -266,40 +224,51 @@ fn refused(why: Refusal) -> DatagramRead
     }
 }
 
-// What follows the number and the newest packet.
-fn rest_of(s: &[u8], number: u16, packet: Part) -> DatagramRead
-    requires { ⌜ after packet ≤ length (now s) ⌝ }
-    ensures { λ r. ⌜ RestRead (now (s .entry)) number packet r ⌝ }
+// The spares or messages, one after the other, of a datagram of which all before them is read. Nothing follows.
+fn whole_of(
+    s: &[u8],
+    number: u16,
+    packet: Part,
+    kind: Kind,
+    count: usize,
+    first: usize,
+) -> DatagramRead
+    requires { ⌜ ItemsAsked (now s) count first ⌝ }
+    ensures { λ r. ⌜ WholeRead (now (s .entry)) number packet kind count first r ⌝ }
 {
-    let at = packet.start + packet.size;
-    match extra_at(s, at) {
-        Extra::Refused(why) => refused(why),
-        Extra::Found { kind, count, first } => {
-            let found = items_at(s, first, count, least(kind), most(kind));
-            let ending = found.ending;
-            match ending {
-                Ending::Refused(why) => refused(why),
-                Ending::At(end) => {
-                    if end < s.len() {
-                        return refused(Refusal::new(Refusal::LEFT_OVER));
-                    }
-                    let items = found.parts;
-                    DatagramRead {
-                        reading: Reading::Datagram {
-                            number,
-                            packet,
-                            kind,
-                            count,
-                        },
-                        items,
-                    }
-                }
+    let low = least(kind);
+    let high = most(kind);
+    let nowhere = Part { start: 0, size: 0 };
+    let mut items = [nowhere; Spares::LIMIT];
+    let mut at = first;
+    let mut i = 0;
+    while i < count {
+        match item_at(s, at, low, high) {
+            Item::Refused(why) => {
+                return refused(why);
+            }
+            Item::Found(part) => {
+                items[i] = part;
+                at = part.start + part.size;
             }
         }
+        i += 1;
+    }
+    if at < s.len() {
+        return refused(Refusal::new(Refusal::LEFT_OVER));
+    }
+    DatagramRead {
+        reading: Reading::Datagram {
+            number,
+            packet,
+            kind,
+            count,
+        },
+        items,
     }
 }
 
-// The datagram s.
+// The datagram s, in reading order.
 pub fn read(s: &[u8]) -> DatagramRead
     ensures { λ r. ⌜ DatagramReads (now (s .entry)) r ⌝ }
 {
@@ -312,6 +281,19 @@ pub fn read(s: &[u8]) -> DatagramRead
     let number = number_of(s[0], s[1]);
     match item_at(s, 2, 1, Packet::LIMIT) {
         Item::Refused(why) => refused(why),
-        Item::Found(packet) => rest_of(s, number, packet),
+        Item::Found(packet) => {
+            let at = packet.start + packet.size;
+            match extra_at(s, at) {
+                Extra::Refused(why) => refused(why),
+                Extra::Found { kind, count, first } => whole_of(
+                    s,
+                    number,
+                    packet,
+                    kind,
+                    count,
+                    first,
+                ),
+            }
+        }
     }
 }

@@ -1,83 +1,62 @@
+-- `datagrams::reader::parity_at` meets its contract: octet 01, octet n and the count in turn give each answer; an octet that reads lies within the octets. Assumes nothing.
 use Rattle.datagrams.proofs.ReadSteps.{sized-ends, octet-ends}
 use native.Mathlib.Omega.{arith}
 use borrow.Author.Needs.{needs}
 use Rattle.datagrams.proofs.ReadSteps.{parities}
 use Rattle.datagrams.proofs.reader.parity_at.Statement.{statement}
 use Rattle.datagrams.proofs.reader.parity_at.Tie as tie
-use Rattle.datagrams.proofs.reader.parity_at.Reads as reads
-use Rattle.datagrams.proofs.reader.parity_at.Lts as lts
-use Rattle.datagrams.proofs.reader.octet_at.Reads as octet-at-reads
-use Rattle.datagrams.proofs.reader.refusal_of.Reads as refusal-of-reads
-use Rattle.datagrams.proofs.reader.sized_at.Reads as sized-at-reads
 
--- src/reader.rt:165:9
 octet-at-requires : tie.Need-octet-at-requires
 octet-at-requires c κs = search needs
 
 enum-told : tie.Need-enum-told
 enum-told c = search needs
 
--- src/reader.rt:167:31
 enum-told-2 : tie.Need-enum-told-2
 enum-told-2 c = search needs
 
--- src/reader.rt:167:31
 refusal-of-requires : tie.Need-refusal-of-requires
 refusal-of-requires c κs = search needs
 
--- src/reader.rt:167:9
 returns : tie.Need-returns
 returns c = search parities
 
--- src/reader.rt:169:18
 add-second : tie.Need-add-second
 add-second c = search needs
 
--- src/reader.rt:170:9
 octet-at-requires-2 : tie.Need-octet-at-requires-2
 octet-at-requires-2 c κs = search needs
 
--- src/reader.rt:171:23
 enum-known-covered : tie.Need-enum-known-covered
 enum-known-covered c = search needs
 
--- src/reader.rt:172:31
 enum-told-3 : tie.Need-enum-told-3
 enum-told-3 c = search needs
 
--- src/reader.rt:172:31
 refusal-of-requires-2 : tie.Need-refusal-of-requires-2
 refusal-of-requires-2 c κs = search needs
 
--- src/reader.rt:172:9
 returns-2 : tie.Need-returns-2
 returns-2 c = search parities
 
--- src/reader.rt:174:17
 add-third : tie.Need-add-third
 add-third c = search needs
 
--- src/reader.rt:175:9
 sized-at-requires : tie.Need-sized-at-requires
 sized-at-requires c κs = omega (arith, octet-ends (c .before .before .before .octet-at2 .ensures) (c .before .covered .given .1))
 
--- src/reader.rt:176:23
 enum-known-found : tie.Need-enum-known-found
 enum-known-found c = search needs
 
--- src/reader.rt:177:31
 enum-told-4 : tie.Need-enum-told-4
 enum-told-4 c = search needs
 
--- src/reader.rt:177:31
 refusal-of-requires-3 : tie.Need-refusal-of-requires-3
 refusal-of-requires-3 c κs = search needs
 
--- src/reader.rt:177:9
 returns-3 : tie.Need-returns-3
 returns-3 c = search parities
 
--- src/reader.rt:179:17
 add-first : tie.Need-add-first
 add-first c = omega (
   arith,
@@ -85,7 +64,6 @@ add-first c = omega (
       (omega (arith, octet-ends (c .before .before .before .before .before .before .before .octet-at2 .ensures) (c .before .before .before .before .before .covered .given .1))),
 )
 
--- src/reader.rt:161:1
 returns-4 : tie.Need-returns-4
 returns-4 c = search parities
 

@@ -1,78 +1,76 @@
+-- `datagrams::reader::read` meets its contract: each test or piece in reading order gives its answer. Assumes nothing.
+use native.Mathlib.Omega.{arith}
+use Rattle.datagrams.proofs.ReadSteps.{item-ends}
+use Rattle.datagrams.proofs.ReadWhole.{readings, extra-asked}
 use borrow.Author.Needs.{needs}
-use Rattle.datagrams.proofs.ReadSteps.{readings, item-ends}
 use Rattle.datagrams.proofs.reader.read.Statement.{statement}
 use Rattle.datagrams.proofs.reader.read.Tie as tie
-use Rattle.datagrams.proofs.reader.read.Reads as reads
-use Rattle.datagrams.proofs.reader.read.Lts as lts
-use Rattle.datagrams.proofs.reader.item_at.Reads as item-at-reads
-use Rattle.datagrams.proofs.reader.number_of.Reads as number-of-reads
-use Rattle.datagrams.proofs.reader.refused.Reads as refused-reads
-use Rattle.datagrams.proofs.reader.rest_of.Reads as rest-of-reads
-use Rattle.lengths.proofs.Refusal.new.Reads as new-reads
 
--- src/reader.rt:307:24
 new-requires : tie.Need-new-requires
 new-requires c κs = search needs
 
--- src/reader.rt:307:9
 refused-requires : tie.Need-refused-requires
 refused-requires c κs = search needs
 
--- src/reader.rt:307:9
 returns : tie.Need-returns
 returns c = search readings
 
--- src/reader.rt:310:24
 new-requires-2 : tie.Need-new-requires-2
 new-requires-2 c κs = search needs
 
--- src/reader.rt:310:9
 refused-requires-2 : tie.Need-refused-requires-2
 refused-requires-2 c κs = search needs
 
--- src/reader.rt:310:9
 returns-2 : tie.Need-returns-2
 returns-2 c = search readings
 
--- src/reader.rt:312:28
 shared-slice-read-number-of : tie.Need-shared-slice-read-number-of
 shared-slice-read-number-of c = search needs
 
--- src/reader.rt:312:34
 shared-slice-read-number-of-2 : tie.Need-shared-slice-read-number-of-2
 shared-slice-read-number-of-2 c = search needs
 
--- src/reader.rt:312:9
 number-of-requires : tie.Need-number-of-requires
 number-of-requires c κs = search needs
 
--- src/reader.rt:313:11
 item-at-requires : tie.Need-item-at-requires
 item-at-requires c κs = search needs
 
--- src/reader.rt:314:23
 enum-known-why : tie.Need-enum-known-why
 enum-known-why c = search needs
 
--- src/reader.rt:314:31
 refused-requires-3 : tie.Need-refused-requires-3
 refused-requires-3 c κs = search needs
 
--- src/reader.rt:315:21
 enum-known-packet : tie.Need-enum-known-packet
 enum-known-packet c = search needs
 
--- src/reader.rt:315:32
-rest-of-requires : tie.Need-rest-of-requires
-rest-of-requires c κs = search item-ends
+add-at : tie.Need-add-at
+add-at c = omega (arith, item-ends (c .before .before .before .before .item-at .ensures) (c .before .before .packet .given .1) (search needs))
 
--- src/reader.rt:303:1
+extra-at-requires : tie.Need-extra-at-requires
+extra-at-requires c κs = search needs
+
+enum-known-why-2 : tie.Need-enum-known-why-2
+enum-known-why-2 c = search needs
+
+refused-requires-4 : tie.Need-refused-requires-4
+refused-requires-4 c κs = search needs
+
+enum-known-kind : tie.Need-enum-known-kind
+enum-known-kind c = search needs
+
+whole-of-requires : tie.Need-whole-of-requires
+whole-of-requires c κs = search extra-asked
+
 returns-3 : tie.Need-returns-3
 returns-3 c = search readings
 
--- src/reader.rt:303:1
 returns-4 : tie.Need-returns-4
 returns-4 c = search readings
+
+returns-5 : tie.Need-returns-5
+returns-5 c = search readings
 
 pub read-spec : {M : Type 1} → statement M
 read-spec =
@@ -91,6 +89,12 @@ read-spec =
     enum-known-why
     refused-requires-3
     enum-known-packet
-    rest-of-requires
+    add-at
+    extra-at-requires
+    enum-known-why-2
+    refused-requires-4
+    enum-known-kind
+    whole-of-requires
     returns-3
-    returns-4)
+    returns-4
+    returns-5)

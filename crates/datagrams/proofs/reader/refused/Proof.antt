@@ -1,10 +1,8 @@
-use Rattle.datagrams.proofs.ReadSteps.{refuses}
+-- `datagrams::reader::refused` meets its contract: every place is unused. Assumes nothing.
+use Rattle.datagrams.proofs.ReadWhole.{refuses}
 use Rattle.datagrams.proofs.reader.refused.Statement.{statement}
 use Rattle.datagrams.proofs.reader.refused.Tie as tie
-use Rattle.datagrams.proofs.reader.refused.Reads as reads
-use Rattle.datagrams.proofs.reader.refused.Lts as lts
 
--- src/reader.rt:258:1
 returns : tie.Need-returns
 returns c = search refuses
 
