@@ -8,7 +8,7 @@ use mathlib.Core.List.{List, [], _∷_, _++_}
 use lib.ListN.{length, drop}
 use lib.Dec.{ltb}
 use Rattle.lengths.specs.Length.{lengthOctets, lengthLimit}
-use Rattle.datagrams.specs.Write.{sumOf}
+use Rattle.datagrams.specs.Write.{numberOctets, sumOf}
 use Rattle.datagrams.specs.declared.kind.Kind.{Kind}
 use Rattle.datagrams.specs.declared.kind.Kind.the-variants as kind
 
@@ -31,6 +31,11 @@ abbrev pub kindHead : Kind → ℕ → List ℕ
 kindHead kind.Spares count = sparesHead count
 kindHead (kind.Parity n) count = parityHead n count
 
+-- how many octets a length or count takes
+pub record LengthSize (n r : ℕ) : Type 0 where
+  pub answer : r ≡ length (lengthOctets n)
+  pub small : r ≤ 2
+
 -- how many octets an item of n octets takes, with its length
 abbrev pub itemSize : ℕ → ℕ
 itemSize n = length (lengthOctets n) + n
@@ -39,6 +44,11 @@ itemSize n = length (lengthOctets n) + n
 unfoldable pub itemsSize : List ℕ → ℕ
 itemsSize [] = 0
 itemsSize (n ∷ lengths) = itemSize n + itemsSize lengths
+
+-- and a whole datagram
+unfoldable pub datagramSize : ℕ → List ℕ → Kind → List ℕ → ℕ
+datagramSize number packet kind lengths =
+    length (numberOctets number) + itemSize (length packet) + length (kindHead kind (length lengths)) + itemsSize lengths
 
 -- n is an octet, and the count has the form of a length
 abbrev pub nFits : Kind → Bool

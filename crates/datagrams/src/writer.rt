@@ -19,7 +19,7 @@ ghost use Rattle.lengths.specs.Promise.{Puts};
 ghost use Rattle.datagrams.specs.Sizes.{packetLimit, sparesLimit};
 ghost use Rattle.datagrams.specs.Write.{numberOctets, itemOctets, itemsOctets, datagramOctets, datagramToWrite, carriedOf, cut, sumOf, countInside, itemInside, itemsInside, lengthsInside};
 ghost use Rattle.datagrams.specs.Write.{within as isWithin};
-ghost use Rattle.datagrams.specs.Put.{Put, Bounded, KindFits, sparesHead, parityHead, kindHead, itemSize, itemsSize};
+ghost use Rattle.datagrams.specs.Put.{Put, Bounded, LengthSize, KindFits, sparesHead, parityHead, kindHead, itemSize, itemsSize, datagramSize};
 
 // ---- what is refused
 
@@ -214,4 +214,62 @@ fn put_items(lengths: &[u16], data: &[u8], out: &mut [u8]) -> usize
         i += 1;
     }
     at
+}
+
+// ---- how many octets it takes
+
+pub fn length_size(n: usize) -> usize
+    ensures { λ r. ⌜ LengthSize n r ⌝ }
+{
+    if n < 128 {
+        return 1;
+    }
+    2
+}
+
+// An item of n octets, with its length.
+pub fn item_size(n: usize) -> usize
+    requires { ⌜ n ≤ lengthLimit ⌝ }
+    ensures { λ r. ⌜ r ≡ itemSize n ⌝ }
+{
+    let size = length_size(n);
+    size + n
+}
+
+// What stands before the spares or messages.
+fn kind_size(kind: Kind, count: usize) -> usize
+    ensures { λ r. ⌜ r ≡ length (kindHead kind count) ⌝ }
+{
+    let size = length_size(count);
+    match kind {
+        Kind::Spares => size + 1,
+        Kind::Parity(_) => size + 3,
+    }
+}
+
+// Spares or messages of these lengths.
+fn items_size(lengths: &[u16]) -> usize
+    requires { ⌜ sumOf (now lengths) ≤ lengthLimit ⌝ }
+    ensures { λ r. ⌜ r ≡ itemsSize (now (lengths .entry)) ⌝ }
+{
+    let mut size = 0;
+    let mut i = 0;
+    while i < lengths.len() {
+        size += item_size(wide(lengths[i]));
+        i += 1;
+    }
+    size
+}
+
+// The whole datagram.
+fn datagram_size(number: u16, packet: &[u8], kind: Kind, lengths: &[u16]) -> usize
+    requires { ⌜ (length (now packet) ≤ lengthLimit) × (sumOf (now lengths) ≤ lengthLimit) ⌝ }
+    ensures { λ r. ⌜ r ≡ datagramSize number (now (packet .entry)) kind (now (lengths .entry)) ⌝ }
+{
+    let newest = item_size(packet.len());
+    let before = kind_size(kind, lengths.len());
+    let items = items_size(lengths);
+    let head = 2 + newest;
+    let all = head + before;
+    all + items
 }
