@@ -90,7 +90,6 @@ datagram-bound n k count lengths a b c =
 pub datagram-sized : (number : ℕ) (packet : List ℕ) (k : Kind) (lengths : List ℕ) {newest before items : ℕ}
     → newest ≡ itemSize (length packet) → before ≡ length (kindHead k (length lengths)) → items ≡ itemsSize lengths
     → 2 + newest + before + items ≡ datagramSize number packet k lengths
-unfolding datagramSize
 datagram-sized number packet k lengths a b c = rw (number-room number, a, b, c)
 
 -- the sizes' answers

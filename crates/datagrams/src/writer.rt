@@ -273,3 +273,71 @@ fn datagram_size(number: u16, packet: &[u8], kind: Kind, lengths: &[u16]) -> usi
     let all = head + before;
     all + items
 }
+
+// ---- the writer
+
+// The whole datagram, each item into the part still free after the last.
+fn put_datagram(
+    number: u16,
+    packet: &[u8],
+    kind: Kind,
+    lengths: &[u16],
+    data: &[u8],
+    out: &mut [u8],
+) -> usize
+    requires { ⌜ (Bounded (now packet) kind (now lengths) (now «data»)) × (datagramSize number (now packet) kind (now lengths) ≤ length (now out)) ⌝ }
+    ensures { λ r. ⌜ Put (datagramOctets (carriedOf number (now (packet .entry)) kind (now (lengths .entry)) (now («data» .entry)))) (now (out .entry)) (now (out .exit)) r ⌝ }
+{
+    let head = put_head(number, packet, out);
+    let before = put_kind(kind, lengths.len(), &mut out[head..]);
+    let at = head + before;
+    let items = put_items(lengths, data, &mut out[at..]);
+    at + items
+}
+
+// What is allowed, written if there is room.
+fn write_allowed(
+    number: u16,
+    packet: &[u8],
+    kind: Kind,
+    lengths: &[u16],
+    data: &[u8],
+    out: &mut [u8],
+) -> Written
+    requires { ⌜ Bounded (now packet) kind (now lengths) (now «data») ⌝ }
+    ensures { λ r. ⌜ Puts (done (datagramOctets (carriedOf number (now (packet .entry)) kind (now (lengths .entry)) (now («data» .entry))))) (now (out .entry)) (now (out .exit)) r ⌝ }
+{
+    let size = datagram_size(number, packet, kind, lengths);
+    if out.len() < size {
+        return Written::Refused(Refusal::new(Refusal::NO_ROOM));
+    }
+    let written = put_datagram(number, packet, kind, lengths, data, out);
+    Written::Octets(written)
+}
+
+// A datagram of the number, the newest packet, and spares or messages, given as their lengths and one run of data. A
+// refusal writes nothing.
+pub fn write(
+    number: u16,
+    packet: &[u8],
+    kind: Kind,
+    lengths: &[u16],
+    data: &[u8],
+    out: &mut [u8],
+) -> Written
+    ensures { λ r. ⌜ Puts (datagramToWrite number (now (packet .entry)) kind (now (lengths .entry)) (now («data» .entry))) (now (out .entry)) (now (out .exit)) r ⌝ }
+{
+    let counted = count_inside(kind, lengths.len());
+    let summed = sums_to(lengths, data.len());
+    let sized = lengths_inside(packet, kind, lengths);
+    if !counted {
+        return Written::Refused(Refusal::new(Refusal::OUTSIDE_SIZES));
+    }
+    if !summed {
+        return Written::Refused(Refusal::new(Refusal::WRONG_SETTINGS));
+    }
+    if !sized {
+        return Written::Refused(Refusal::new(Refusal::OUTSIDE_SIZES));
+    }
+    write_allowed(number, packet, kind, lengths, data, out)
+}
