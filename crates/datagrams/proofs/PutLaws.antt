@@ -1,14 +1,14 @@
 -- Laws of `Put`, octets written to the front of a lent part: none, one more, and a writer after another, lent what is still
 -- free after the last. Whoever writes a datagram item by item composes its writers by `put-then`. Assumes nothing.
 use Prim.Native.Nat.{ℕ, suc, _+_, _-_, _≤_, _<_}
-use mathlib.Core.Path.{_≡_, refl, sym, ap, _∙_}
+use mathlib.Core.Path.{_≡_, refl, sym}
 use mathlib.Core.List.{List, [], _∷_, _++_, append-assoc, append-nil}
-use lib.ListN.{length, getD, take, drop, set, length-append, length-drop, length-set, drop-of-length-le}
-use lib.Seq.{take-at, drop-at, set-at, drop-cons, drop-drop, take-suc, length-take-le, append-snoc, take-all}
+use lib.ListN.{length, getD, take, drop, set, length-append, length-drop, drop-of-length-le}
+use lib.Seq.{take-at, drop-at, set-at, drop-cons, drop-drop, append-snoc, take-all}
 use native.Mathlib.Numerals.{add-one}
 use native.Mathlib.Omega.{arith}
 use borrow.Author.Tests.{le-leb, lt-leb}
-use borrow.Rule.Slice.PartMut.{midOf, postOf, putMid}
+use borrow.Rule.Slice.PartMut.{midOf, putMid}
 use Rattle.lengths.specs.Refusals.{noRoom}
 use Rattle.lengths.specs.Answers.{done}
 use Rattle.lengths.specs.Promise.{Puts, RefusalMade}

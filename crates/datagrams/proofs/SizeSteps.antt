@@ -1,13 +1,13 @@
 -- How many octets a datagram and its parts take, in the words of the code: one law for each answer, and for each turn of the
 -- loop over the lengths. Assumes nothing.
-use Prim.Native.Nat.{ℕ, suc, _+_, _*_, _≤_, _<_}
-use mathlib.Core.Path.{_≡_, refl, sym, ap, _∙_}
+use Prim.Native.Nat.{ℕ, _+_, _*_, _≤_, _<_}
+use mathlib.Core.Path.{_≡_, ap}
 use mathlib.Core.List.{List, [], _∷_}
 use lib.ListN.{length, getD, drop, drop-of-length-le}
 use native.Mathlib.Omega.{arith}
-use Rattle.lengths.specs.Length.{lengthOctets, lengthLimit}
+use Rattle.lengths.specs.Length.{lengthLimit}
 use Rattle.lengths.proofs.Laws.{lengthOctets-one, lengthOctets-two, size-written}
-use Rattle.datagrams.specs.Write.{sumOf, numberOctets}
+use Rattle.datagrams.specs.Write.{sumOf}
 use Rattle.datagrams.specs.Put.{LengthSize, kindHead, itemSize, itemsSize, datagramSize}
 use Rattle.datagrams.specs.declared.kind.Kind.{Kind}
 use Rattle.datagrams.specs.declared.kind.Kind.the-variants as kind

@@ -1,22 +1,20 @@
 -- Laws of what the datagram writer writes, for this crate and those above: its octets part by part, how many they are, and
 -- what is true of whatever is not refused. Assumes nothing.
-use Prim.Native.Nat.{ℕ, suc, _+_, _*_, _≤_, _<_}
+use Prim.Native.Nat.{ℕ, suc, _*_, _≤_}
 use mathlib.Core.Path.{_≡_, refl, sym, ap, _∙_}
 use mathlib.Core.Bool.{Bool, true, false, cond, not, _&&_, true≢false}
 use mathlib.Core.List.{List, [], _∷_, _++_, append-assoc}
 use lib.ListN.{length, take, drop, length-append, length-drop}
-use lib.Dec.{leb, eqb, ltb}
+use lib.Dec.{leb, eqb}
 use lib.Seq.{length-take-le}
 use native.Mathlib.Omega.{arith}
 use borrow.Author.Tests.{leb-true, eqb-true, eq-eqb, lt-ltb}
 use Rattle.lengths.specs.Refusals.{outsideSizes, wrongSettings}
-use Rattle.lengths.specs.Answers.{Answer, done, refused, refuse}
-use Rattle.lengths.specs.Length.{lengthOctets, lengthLimit}
+use Rattle.lengths.specs.Answers.{done, refuse}
 use Rattle.lengths.proofs.Laws.{size-written}
 use Rattle.datagrams.specs.Sizes.{packetLeast, packetLimit, messageLeast, messageLimit, sparesLimit, coveredLimit, messagesLimit, datagramLimit}
-use Rattle.datagrams.specs.Carried.{Extra, spares, parity, Carried}
 use Rattle.datagrams.specs.Write.{numberOctets, itemOctets, itemsOctets, countedOctets, datagramOctets, extraOctets, cut, extraOf, carriedOf, sumOf, within, countInside, itemInside, itemsInside, lengthsInside, datagramToWrite}
-use Rattle.datagrams.specs.Put.{kindHead, itemSize, itemsSize, datagramSize, nFits, KindFits, Bounded}
+use Rattle.datagrams.specs.Put.{kindHead, itemsSize, datagramSize, nFits, Bounded}
 use Rattle.datagrams.specs.declared.kind.Kind.{Kind}
 use Rattle.datagrams.specs.declared.kind.Kind.the-variants as kind
 use Rattle.datagrams.proofs.PutSteps.{number-room}

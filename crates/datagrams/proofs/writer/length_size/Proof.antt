@@ -1,15 +1,11 @@
-use borrow.Author.Needs.{needs}
+-- `writer::length_size` meets its contract. Assumes nothing.
 use Rattle.datagrams.proofs.SizeSteps.{sizes}
 use Rattle.datagrams.proofs.writer.length_size.Statement.{statement}
 use Rattle.datagrams.proofs.writer.length_size.Tie as tie
-use Rattle.datagrams.proofs.writer.length_size.Reads as reads
-use Rattle.datagrams.proofs.writer.length_size.Lts as lts
 
--- src/writer.rt:225:9
 returns : tie.Need-returns
 returns c = search sizes
 
--- src/writer.rt:221:1
 returns-2 : tie.Need-returns-2
 returns-2 c = search sizes
 
