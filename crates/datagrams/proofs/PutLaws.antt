@@ -14,7 +14,9 @@ use Rattle.lengths.specs.Answers.{done}
 use Rattle.lengths.specs.Promise.{Puts, RefusalMade}
 use Rattle.lengths.specs.declared.Refusal.{Refusal}
 use Rattle.lengths.specs.declared.Written.the-variants as written
-use Rattle.datagrams.specs.Put.{Put}
+use Rattle.lengths.specs.Length.{lengthOctets}
+use Rattle.datagrams.specs.Write.{numberOctets, itemOctets}
+use Rattle.datagrams.specs.Put.{Put, itemSize}
 
 -- ---- none, one more, one writer after another
 pub put-none : {old : List ℕ} → Put [] old old 0
@@ -68,6 +70,15 @@ room-left mid at k room = rw (rest-of mid at, length-drop at mid) (omega arith)
 pub put-long : {octets old new : List ℕ} {n : ℕ} → Put octets old new n → length new ≡ length old
 put-long {octets} {old} p =
     rw (p .lent, length-append octets (drop (length octets) old), length-drop (length octets) old) (let room = p .inside in omega arith)
+
+-- ---- how many octets
+pub number-length : (number : ℕ) → length (numberOctets number) ≡ 2
+unfolding numberOctets
+number-length number = refl
+
+pub item-length : (item : List ℕ) → length (itemOctets item) ≡ itemSize (length item)
+unfolding itemOctets
+item-length item = length-append (lengthOctets (length item)) item
 
 -- ---- a call's whole promise: what is put where it has room, and 13 where it has none
 pub put-puts : {octets old new : List ℕ} {n : ℕ} → Put octets old new n → Puts (done octets) old new (written.Octets n)

@@ -70,10 +70,6 @@ module _ (n : ℕ) {old new : List ℕ} (fits : n ≤ lengthLimit) (room : lengt
       absurd (omega arith)
 
 -- ---- put_number
-pub number-room : (number : ℕ) → length (numberOctets number) ≡ 2
-unfolding numberOctets
-number-room number = refl
-
 pub number-put : (number : ℕ) {old new : List ℕ} {n : ℕ} → Put (number / 256 ∷ number % 256 ∷ []) old new n
     → Put (numberOctets number) old new n
 unfolding numberOctets

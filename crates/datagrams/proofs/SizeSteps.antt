@@ -12,7 +12,7 @@ use Rattle.datagrams.specs.Put.{LengthSize, kindHead, itemSize, itemsSiz
 use Rattle.datagrams.specs.declared.kind.Kind.{Kind}
 use Rattle.datagrams.specs.declared.kind.Kind.the-variants as kind
 use Rattle.datagrams.proofs.WriteTests.{sum-next}
-use Rattle.datagrams.proofs.PutSteps.{number-room}
+use Rattle.datagrams.proofs.PutLaws.{number-length}
 use Rattle.datagrams.proofs.ItemSteps.{size-next}
 
 -- ---- length_size, kind_size
@@ -90,7 +90,7 @@ datagram-bound n k count lengths a b c =
 pub datagram-sized : (number : ℕ) (packet : List ℕ) (k : Kind) (lengths : List ℕ) {newest before items : ℕ}
     → newest ≡ itemSize (length packet) → before ≡ length (kindHead k (length lengths)) → items ≡ itemsSize lengths
     → 2 + newest + before + items ≡ datagramSize number packet k lengths
-datagram-sized number packet k lengths a b c = rw (number-room number, a, b, c)
+datagram-sized number packet k lengths a b c = rw (number-length number, a, b, c)
 
 -- the sizes' answers
 pub ruleset sizes = (length-one, length-two, spares-size, parity-size, sizing-start, sizing-turn, sizing-done, datagram-sized)

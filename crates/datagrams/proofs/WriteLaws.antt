@@ -17,8 +17,7 @@ use Rattle.datagrams.specs.Write.{numberOctets, itemOctets, itemsOctets,
 use Rattle.datagrams.specs.Put.{kindHead, itemsSize, datagramSize, nFits, Bounded}
 use Rattle.datagrams.specs.declared.kind.Kind.{Kind}
 use Rattle.datagrams.specs.declared.kind.Kind.the-variants as kind
-use Rattle.datagrams.proofs.PutSteps.{number-room}
-use Rattle.datagrams.proofs.ItemSteps.{item-size}
+use Rattle.datagrams.proofs.PutLaws.{number-length, item-length}
 use Rattle.datagrams.proofs.SizeSteps.{items-bound, kind-bound}
 
 -- ---- the octets, part by part
@@ -27,7 +26,7 @@ unfolding cut
 cut-length [] run = refl
 cut-length (n ∷ lengths) run = ap suc (cut-length lengths (drop n run))
 
-extra-form : (k : Kind) (items : List (List ℕ)) → extraOctets (extraOf k items) ≡ kindHead k (length items) ++ itemsOctets items
+pub extra-form : (k : Kind) (items : List (List ℕ)) → extraOctets (extraOf k items) ≡ kindHead k (length items) ++ itemsOctets items
 unfolding countedOctets
 extra-form kind.Spares items = refl
 extra-form (kind.Parity n) items = refl
@@ -49,7 +48,7 @@ items-length (n ∷ lengths) run enough =
     let rest : sumOf lengths ≤ length (drop n run) = rw (length-drop n run) (omega arith) in
     rw (
       length-append (itemOctets (take n run)) (itemsOctets (cut lengths (drop n run))),
-      item-size (take n run),
+      item-length (take n run),
       first,
       items-length lengths (drop n run) rest,
     )
@@ -62,7 +61,7 @@ datagram-length number packet k lengths run enough =
       length-append (numberOctets number ++ itemOctets packet ++ kindHead k (length lengths)) (itemsOctets (cut lengths run)),
       length-append (numberOctets number ++ itemOctets packet) (kindHead k (length lengths)),
       length-append (numberOctets number) (itemOctets packet),
-      item-size packet,
+      item-length packet,
       items-length lengths run enough,
     )
 
@@ -132,7 +131,7 @@ allowed-short number {packet} {k} {lengths} {run} a =
     let sizes = items-bound lengths in
     let head = kind-bound k (length lengths) in
     let few = size-written (length packet) .1 in
-    let two = number-room number in
+    let two = number-length number in
     let sum = a .summed in
     rw (datagram-length number packet k lengths run (omega arith)) (omega arith)
 

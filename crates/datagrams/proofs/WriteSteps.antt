@@ -18,14 +18,13 @@ use Rattle.lengths.specs.declared.Written.the-variants as written
 use Rattle.datagrams.specs.Write.{numberOctets, itemOctets, itemsOctets, datagramOctets, datagramToWrite, carriedOf, cut, sumOf, countInside, lengthsInside}
 use Rattle.datagrams.specs.Put.{Put, Bounded, KindFits, kindHead, itemSize, itemsSize, datagramSize}
 use Rattle.datagrams.specs.declared.kind.Kind.{Kind}
-use Rattle.datagrams.proofs.PutLaws.{put-next, put-long, put-puts, full-puts, room-left}
-use Rattle.datagrams.proofs.ItemSteps.{item-size}
+use Rattle.datagrams.proofs.PutLaws.{put-next, put-long, put-puts, full-puts, room-left, item-length}
 use Rattle.datagrams.proofs.WriteLaws.{Allowed, allowed-bounded, allowed-written, datagram-form, datagram-length, both}
 
 module _ (number : ℕ) (packet : List ℕ) (k : Kind) (lengths run : List ℕ) where
   -- ---- put_datagram
   head-size : length (numberOctets number ++ itemOctets packet) ≡ length (numberOctets number) + itemSize (length packet)
-  head-size = rw (length-append (numberOctets number) (itemOctets packet), item-size packet)
+  head-size = rw (length-append (numberOctets number) (itemOctets packet), item-length packet)
 
   pub kind-asked : {old mid : List ℕ} {at : ℕ} → Bounded packet k lengths run → datagramSize number packet k lengths ≤ length old
       → Put (numberOctets number ++ itemOctets packet) old mid at

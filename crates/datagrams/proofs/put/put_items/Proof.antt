@@ -1,11 +1,11 @@
--- `writer::put_items` meets its contract. Assumes nothing.
+-- `put::put_items` meets its contract. Assumes nothing.
 use Prim.Native.Nat.{_-_}
 use lib.ListN.{length}
 use native.Mathlib.Omega.{arith}
 use borrow.Author.Needs.{needs}
 use Rattle.datagrams.proofs.ItemSteps.{goings, Going, turning, item-asked}
-use Rattle.datagrams.proofs.writer.put_items.Statement.{statement}
-use Rattle.datagrams.proofs.writer.put_items.Tie as tie
+use Rattle.datagrams.proofs.put.put_items.Statement.{statement}
+use Rattle.datagrams.proofs.put.put_items.Tie as tie
 
 abbrev Inv-loop : tie.InvT-loop
 Inv-loop lengths «data» out₀ i₀ from₀ at₀ out i from at = Going lengths «data» out₀ out i from at

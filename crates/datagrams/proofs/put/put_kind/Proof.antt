@@ -1,8 +1,8 @@
--- `writer::put_kind` meets its contract. Assumes nothing.
+-- `put::put_kind` meets its contract. Assumes nothing.
 use borrow.Author.Needs.{needs}
 use Rattle.datagrams.proofs.PutSteps.{puts, spares-asked, parity-asked}
-use Rattle.datagrams.proofs.writer.put_kind.Statement.{statement}
-use Rattle.datagrams.proofs.writer.put_kind.Tie as tie
+use Rattle.datagrams.proofs.put.put_kind.Statement.{statement}
+use Rattle.datagrams.proofs.put.put_kind.Tie as tie
 
 enum-told : tie.Need-enum-told
 enum-told c = search needs

@@ -1,8 +1,8 @@
--- `writer::put_parity` meets its contract. Assumes nothing.
+-- `put::put_parity` meets its contract. Assumes nothing.
 use borrow.Author.Needs.{needs}
 use Rattle.datagrams.proofs.PutSteps.{puts}
-use Rattle.datagrams.proofs.writer.put_parity.Statement.{statement}
-use Rattle.datagrams.proofs.writer.put_parity.Tie as tie
+use Rattle.datagrams.proofs.put.put_parity.Statement.{statement}
+use Rattle.datagrams.proofs.put.put_parity.Tie as tie
 
 cast-octet : tie.Need-cast-octet
 cast-octet c = search needs

@@ -1,8 +1,8 @@
--- `writer::put_spares` meets its contract. Assumes nothing.
+-- `put::put_spares` meets its contract. Assumes nothing.
 use borrow.Author.Needs.{needs}
 use Rattle.datagrams.proofs.PutSteps.{puts}
-use Rattle.datagrams.proofs.writer.put_spares.Statement.{statement}
-use Rattle.datagrams.proofs.writer.put_spares.Tie as tie
+use Rattle.datagrams.proofs.put.put_spares.Statement.{statement}
+use Rattle.datagrams.proofs.put.put_spares.Tie as tie
 
 slice-aggregate-put-octets : tie.Need-slice-aggregate-put-octets
 slice-aggregate-put-octets c = search needs

@@ -1,9 +1,10 @@
--- `writer::put_number` meets its contract. Assumes nothing.
+-- `put::put_number` meets its contract. Assumes nothing.
 use native.Mathlib.Omega.{arith}
 use borrow.Author.Needs.{needs}
-use Rattle.datagrams.proofs.PutSteps.{puts, number-room}
-use Rattle.datagrams.proofs.writer.put_number.Statement.{statement}
-use Rattle.datagrams.proofs.writer.put_number.Tie as tie
+use Rattle.datagrams.proofs.PutSteps.{puts}
+use Rattle.datagrams.proofs.PutLaws.{number-length}
+use Rattle.datagrams.proofs.put.put_number.Statement.{statement}
+use Rattle.datagrams.proofs.put.put_number.Tie as tie
 
 cast-high : tie.Need-cast-high
 cast-high c = search needs
@@ -15,7 +16,7 @@ slice-aggregate-put-octets : tie.Need-slice-aggregate-put-octets
 slice-aggregate-put-octets c = search needs
 
 put-octets-requires : tie.Need-put-octets-requires
-put-octets-requires c κs = omega (arith, number-room (c .before .before .before .args .number))
+put-octets-requires c κs = omega (arith, number-length (c .before .before .before .args .number))
 
 same-length : tie.Need-same-length
 same-length c = search needs

@@ -1,8 +1,8 @@
--- `writer::put_length` meets its contract. Assumes nothing.
+-- `put::put_length` meets its contract. Assumes nothing.
 use borrow.Author.Needs.{needs}
 use Rattle.datagrams.proofs.PutSteps.{puts}
-use Rattle.datagrams.proofs.writer.put_length.Statement.{statement}
-use Rattle.datagrams.proofs.writer.put_length.Tie as tie
+use Rattle.datagrams.proofs.put.put_length.Statement.{statement}
+use Rattle.datagrams.proofs.put.put_length.Tie as tie
 
 write-requires : tie.Need-write-requires
 write-requires c κs = search needs

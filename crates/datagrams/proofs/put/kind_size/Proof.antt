@@ -1,8 +1,8 @@
--- `writer::kind_size` meets its contract. Assumes nothing.
+-- `put::kind_size` meets its contract. Assumes nothing.
 use borrow.Author.Needs.{needs}
 use Rattle.datagrams.proofs.SizeSteps.{sizes}
-use Rattle.datagrams.proofs.writer.kind_size.Statement.{statement}
-use Rattle.datagrams.proofs.writer.kind_size.Tie as tie
+use Rattle.datagrams.proofs.put.kind_size.Statement.{statement}
+use Rattle.datagrams.proofs.put.kind_size.Tie as tie
 
 length-size-requires : tie.Need-length-size-requires
 length-size-requires c κs = search needs

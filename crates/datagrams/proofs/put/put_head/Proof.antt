@@ -1,8 +1,8 @@
--- `writer::put_head` meets its contract. Assumes nothing.
+-- `put::put_head` meets its contract. Assumes nothing.
 use borrow.Author.Needs.{needs}
 use Rattle.datagrams.proofs.PutSteps.{puts}
-use Rattle.datagrams.proofs.writer.put_head.Statement.{statement}
-use Rattle.datagrams.proofs.writer.put_head.Tie as tie
+use Rattle.datagrams.proofs.put.put_head.Statement.{statement}
+use Rattle.datagrams.proofs.put.put_head.Tie as tie
 
 put-number-requires : tie.Need-put-number-requires
 put-number-requires c κs = search needs

@@ -1,7 +1,7 @@
--- `writer::length_size` meets its contract. Assumes nothing.
+-- `put::length_size` meets its contract. Assumes nothing.
 use Rattle.datagrams.proofs.SizeSteps.{sizes}
-use Rattle.datagrams.proofs.writer.length_size.Statement.{statement}
-use Rattle.datagrams.proofs.writer.length_size.Tie as tie
+use Rattle.datagrams.proofs.put.length_size.Statement.{statement}
+use Rattle.datagrams.proofs.put.length_size.Tie as tie
 
 returns : tie.Need-returns
 returns c = search sizes

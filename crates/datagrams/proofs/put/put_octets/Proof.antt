@@ -1,10 +1,10 @@
--- `writer::put_octets` meets its contract. Assumes nothing.
+-- `put::put_octets` meets its contract. Assumes nothing.
 use Prim.Native.Nat.{_-_}
 use lib.ListN.{length}
 use borrow.Author.Needs.{needs}
 use Rattle.datagrams.proofs.PutSteps.{puts, Copied}
-use Rattle.datagrams.proofs.writer.put_octets.Statement.{statement}
-use Rattle.datagrams.proofs.writer.put_octets.Tie as tie
+use Rattle.datagrams.proofs.put.put_octets.Statement.{statement}
+use Rattle.datagrams.proofs.put.put_octets.Tie as tie
 
 abbrev Inv-loop : tie.InvT-loop
 Inv-loop octets out₀ i₀ out i = Copied octets out₀ out i

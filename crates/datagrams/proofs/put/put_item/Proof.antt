@@ -1,8 +1,8 @@
--- `writer::put_item` meets its contract. Assumes nothing.
+-- `put::put_item` meets its contract. Assumes nothing.
 use borrow.Author.Needs.{needs}
 use Rattle.datagrams.proofs.PutSteps.{puts}
-use Rattle.datagrams.proofs.writer.put_item.Statement.{statement}
-use Rattle.datagrams.proofs.writer.put_item.Tie as tie
+use Rattle.datagrams.proofs.put.put_item.Statement.{statement}
+use Rattle.datagrams.proofs.put.put_item.Tie as tie
 
 put-length-requires : tie.Need-put-length-requires
 put-length-requires c κs = search needs

@@ -1,11 +1,11 @@
--- `writer::items_size` meets its contract. Assumes nothing.
+-- `put::items_size` meets its contract. Assumes nothing.
 use Prim.Native.Nat.{_-_}
 use lib.ListN.{length}
 use native.Mathlib.Omega.{arith}
 use borrow.Author.Needs.{needs}
 use Rattle.datagrams.proofs.SizeSteps.{sizes, Sizing, sizing}
-use Rattle.datagrams.proofs.writer.items_size.Statement.{statement}
-use Rattle.datagrams.proofs.writer.items_size.Tie as tie
+use Rattle.datagrams.proofs.put.items_size.Statement.{statement}
+use Rattle.datagrams.proofs.put.items_size.Tie as tie
 
 abbrev Inv-loop : tie.InvT-loop
 Inv-loop lengths size₀ i₀ size i = Sizing lengths size i
