@@ -2,10 +2,9 @@
 -- Assumes nothing.
 use Prim.Native.Nat.{ℕ, _≤_}
 use mathlib.Core.Path.{_≡_, refl}
-use mathlib.Core.Bool.{Bool, true, false, cond, not, _&&_}
-use lib.Dec.{leb}
+use mathlib.Core.Bool.{Bool, true, false, cond}
 use native.Mathlib.Omega.{arith}
-use borrow.Author.Tests.{leb-true, le-leb}
+use borrow.Author.Tests.{le-leb}
 use Rattle.lengths.specs.Answers.{Answer, done, refused, refuse, _>>=_}
 use Rattle.datagrams.specs.Write.{within}
 
@@ -32,21 +31,6 @@ cond-met false n m a e = absurd (not-done e)
 pub done-same : {A : Type 0} {a b : A} → done a ≡ done b → a ≡ b
 done-same e = cc
 
--- the same of a test that is written the other way round
-pub cond-must : {A : Type 0} (t : Bool) (n : ℕ) (m : Answer A) (a : A) → cond (not t) (refuse n) m ≡ done a → (t ≡ true) × (m ≡ done a)
-cond-must true n m a e = (refl, e)
-cond-must false n m a e = absurd (not-done e)
-
--- ---- the sizes
-
-pub both-true : (a b : Bool) → (a && b) ≡ true → (a ≡ true) × (b ≡ true)
-both-true true b e = (refl, e)
-both-true false b e = let z : _≡_ {A = ℕ} 0 1 = cc in absurd (omega arith)
-
-pub within-true : (least most n : ℕ) → within least most n ≡ true → (least ≤ n) × (n ≤ most)
-within-true least most n e =
-    let both = both-true (leb least n) (leb n most) e in
-    (leb-true least n (both .0), leb-true n most (both .1))
-
+-- a number within the sizes
 pub true-within : (least most n : ℕ) → least ≤ n → n ≤ most → within least most n ≡ true
 true-within least most n low high = rw (le-leb least n low, le-leb n most high)

@@ -2,6 +2,9 @@ mod WriteTests
 pub mod PutLaws
 mod PutSteps
 mod ItemSteps
+mod SizeSteps
+pub mod WriteLaws
+mod WriteSteps
 pub mod AnswerLaws
 pub mod ReadLaws
 mod ReadSteps

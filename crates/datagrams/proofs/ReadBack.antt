@@ -1,27 +1,25 @@
 -- What the writer writes reads back: each piece at its place of the octets, then the whole datagram. A piece that stands at a
 -- place is told by what is left from there on, so that none of this looks at what stands before it. Assumes nothing.
-use Prim.Native.Nat.{ℕ, suc, _+_, _-_, _*_, _/_, _%_, _≤_, _<_}
+use Prim.Native.Nat.{ℕ, _+_, _-_, _*_, _/_, _%_, _≤_, _<_}
 use mathlib.Core.Path.{_≡_, refl, sym, ap, _∙_}
 use mathlib.Core.Bool.{true}
-use mathlib.Core.List.{List, [], _∷_, _++_, map, append-assoc, append-nil}
-use lib.ListN.{length, getD, drop, length-append, length-drop}
+use mathlib.Core.List.{List, [], _∷_, _++_, map, flatten, append-assoc, append-nil}
+use lib.ListN.{length, length-map, getD, drop, length-append, length-drop}
 use lib.Seq.{length-take-le, drop-drop, drop-append-seam, take-append-seam, getD-drop}
-use lib.Dec.{eqb}
 use native.Mathlib.Omega.{arith}
-use borrow.Author.Tests.{le-ltb, lt-leb, eqb-true}
-use Rattle.lengths.specs.Refusals.{outsideSizes, wrongSettings}
+use borrow.Author.Tests.{le-ltb, lt-leb}
 use Rattle.lengths.specs.Answers.{done}
 use Rattle.lengths.specs.Length.{lengthOctets, lengthLimit}
-use Rattle.lengths.proofs.Laws.{written-reads, size-written}
+use Rattle.lengths.proofs.Laws.{written-reads}
 use Rattle.datagrams.specs.Sizes.{packetLeast, packetLimit, datagramLimit, sparesLimit, coveredLimit, messagesLimit}
-use Rattle.datagrams.specs.Write.{numberOctets, itemOctets, itemsOctets, countedOctets, extraOctets, extraOf, datagramOctets, within, countInside, itemInside, itemsInside, lengthsInside, cut, sumOf, datagramToWrite}
+use Rattle.datagrams.specs.Write.{numberOctets, itemOctets, itemsOctets, countedOctets, extraOctets, extraOf, datagramOctets, within, countInside, itemInside, itemsInside, cut, sumOf}
 use Rattle.datagrams.specs.Read.{after, octetsOf, octetAt, sizedAt, itemAt, itemsAt, endOf, sparesAt, parityAt, extraAt, leastOf, mostOf, numberOf, readDatagram, carriedBy}
 use Rattle.datagrams.specs.Claims.{ReadsAs, WrittenReads}
 use Rattle.datagrams.specs.declared.reader.Part.{Part}
 use Rattle.datagrams.specs.declared.kind.Kind.{Kind}
 use Rattle.datagrams.specs.declared.kind.Kind.the-variants as kind
-use Rattle.datagrams.proofs.AnswerLaws.{done-same, both-true, within-true, cond-must}
-use Rattle.datagrams.proofs.ReadLaws.{allowed-sizes, few-items, whole-reads}
+use Rattle.datagrams.proofs.WriteLaws.{both, within-true, count-few, cut-length, Allowed, allowed-short, written-allowed}
+use Rattle.datagrams.proofs.ReadLaws.{allowed-sizes, whole-reads}
 
 -- ---- places
 
@@ -100,7 +98,7 @@ pub items-back : (k : Kind) (s : List ℕ) (at : ℕ) (xs : List (List ℕ)) (re
 unfolding itemsOctets itemsInside itemsAt endOf
 items-back k s at [] rest e inside = record { parts = []; read = refl; octets = refl; next = e }
 items-back k s at (x ∷ xs) rest e inside =
-    let both = both-true (itemInside k (length x)) (itemsInside k (map length xs)) inside in
+    let both = both (itemInside k (length x)) (itemsInside k (map length xs)) inside in
     let sizes = item-sizes k (length x) (both .0) in
     let first = item-back (leastOf k) (mostOf k) s at x (itemsOctets xs ++ rest) (e ∙ append-assoc (itemOctets x) (itemsOctets xs) rest)
     (sizes .0)
@@ -126,7 +124,7 @@ pub extra-back : (s : List ℕ) (at : ℕ) (k : Kind) (xs : List (List ℕ)) →
 unfolding extraAt sparesAt parityAt countedOctets
 extra-back s at kind.Spares xs e inside =
     let next = rest-after s (0 ∷ []) (countedOctets xs) at e in
-    let few = few-items kind.Spares (length xs) inside in
+    let few = count-few kind.Spares (length xs) inside in
     let count = sized-is 0 sparesLimit s (at + 1) (length xs) (itemsOctets xs) next (omega arith) few (omega arith) in
     record {
       first = at + 1 + length (lengthOctets (length xs));
@@ -135,7 +133,7 @@ extra-back s at kind.Spares xs e inside =
       next = rest-after s (lengthOctets (length xs)) (itemsOctets xs) (at + 1) next;
     }
 extra-back s at (kind.Parity n) xs e inside =
-    let both = both-true (within 1 coveredLimit n) (within 1 messagesLimit (length xs)) inside in
+    let both = both (within 1 coveredLimit n) (within 1 messagesLimit (length xs)) inside in
     let covered = within-true 1 coveredLimit n (both .0) in
     let few = within-true 1 messagesLimit (length xs) (both .1) in
     let next = rest-after s (128 ∷ []) (1 ∷ n ∷ countedOctets xs) at e in
@@ -154,33 +152,35 @@ extra-back s at (kind.Parity n) xs e inside =
 
 -- ---- the datagram
 
--- with every part at its largest a datagram is within its limit
-items-long : (k : Kind) (xs : List (List ℕ)) → itemsInside k (map length xs) ≡ true → length (itemsOctets xs) ≤ length xs * (2 + packetLimit)
-unfolding itemsOctets itemOctets itemsInside
-items-long k [] inside = omega arith
-items-long k (x ∷ xs) inside =
-    let both = both-true (itemInside k (length x)) (itemsInside k (map length xs)) inside in
-    let size = item-sizes k (length x) (both .0) .1 in
-    let more = items-long k xs (both .1) in
-    let most = most-fits k .0 in
-    omega (arith, length-append (lengthOctets (length x) ++ x) (itemsOctets xs), length-append (lengthOctets (length x)) x, size-written (length x) .1)
+-- the run of data is cut into pieces of the given lengths
+cut-lengths : (lengths run : List ℕ) → sumOf lengths ≤ length run → map length (cut lengths run) ≡ lengths
+unfolding cut sumOf
+cut-lengths [] run e = refl
+cut-lengths (n ∷ lengths) run e =
+    let more = cut-lengths lengths (drop n run) (omega (arith, length-drop n run)) in
+    rw (length-take-le n run (omega arith), more)
 
-counted-long : (k : Kind) (xs : List (List ℕ)) → countInside k (length xs) ≡ true → itemsInside k (map length xs) ≡ true
-    → length (countedOctets xs) ≤ 2 + sparesLimit * (2 + packetLimit)
-unfolding countedOctets
-counted-long k xs count inside =
-    omega (arith, length-append (lengthOctets (length xs)) (itemsOctets xs), size-written (length xs) .1, items-long k xs inside, few-items k (length xs) count)
+-- pieces put together are cut into the same pieces again
+pub cut-flatten : (xs : List (List ℕ)) → cut (map length xs) (flatten xs) ≡ xs
+unfolding cut flatten
+cut-flatten [] = refl
+cut-flatten (x ∷ xs) = rw (take-append-seam x (flatten xs), drop-append-seam x (flatten xs), cut-flatten xs)
 
-extra-long : (k : Kind) (xs : List (List ℕ)) → countInside k (length xs) ≡ true → itemsInside k (map length xs) ≡ true
-    → length (extraOctets (extraOf k xs)) ≤ 5 + sparesLimit * (2 + packetLimit)
-extra-long kind.Spares xs count inside = omega (arith, counted-long kind.Spares xs count inside)
-extra-long (kind.Parity n) xs count inside = omega (arith, counted-long (kind.Parity n) xs count inside)
+pub sum-flatten : (xs : List (List ℕ)) → sumOf (map length xs) ≡ length (flatten xs)
+unfolding sumOf flatten
+sum-flatten [] = refl
+sum-flatten (x ∷ xs) = rw (length-append x (flatten xs), sum-flatten xs)
 
 -- what a datagram may carry
 pub record Fit (packet : List ℕ) (k : Kind) (xs : List (List ℕ)) : Type 0 where
   pub newest : within packetLeast packetLimit (length packet) ≡ true
   pub counted : countInside k (length xs) ≡ true
   pub sized : itemsInside k (map length xs) ≡ true
+
+-- the writer allows it
+pub fit-allowed : (packet : List ℕ) (k : Kind) (xs : List (List ℕ)) → Fit packet k xs → Allowed packet k (map length xs) (flatten xs)
+fit-allowed packet k xs fit =
+    record { counted = rw (length-map xs length) (fit .counted); summed = sum-flatten xs; newest = fit .newest; items = fit .sized }
 
 number-back : (s : List ℕ) (number : ℕ) (t : List ℕ) → s ≡ numberOctets number ++ t → numberOf s ≡ done number
 unfolding numberOf numberOctets
@@ -189,18 +189,9 @@ number-back s number t e =
     let whole : number / 256 * 256 + number % 256 ≡ number = omega arith in
     rw (le-ltb (length s) 2 two, e, whole)
 
-datagram-long : (number : ℕ) (packet : List ℕ) (k : Kind) (xs : List (List ℕ)) → Fit packet k xs
+datagram-short : (number : ℕ) (packet : List ℕ) (k : Kind) (xs : List (List ℕ)) → Fit packet k xs
     → length (datagramOctets (record { number = number; packet = packet; extra = extraOf k xs })) ≤ datagramLimit
-unfolding datagramOctets numberOctets itemOctets
-datagram-long number packet k xs fit =
-    let newest = within-true packetLeast packetLimit (length packet) (fit .newest) .1 in
-    omega (
-      arith,
-      length-append (lengthOctets (length packet) ++ packet) (extraOctets (extraOf k xs)),
-      length-append (lengthOctets (length packet)) packet,
-      size-written (length packet) .1,
-      extra-long k xs (fit .counted) (fit .sized),
-    )
+datagram-short number packet k xs fit = rw (cut-flatten xs) at (allowed-short number (fit-allowed packet k xs fit))
 
 pub datagram-back : (s : List ℕ) (number : ℕ) (packet : List ℕ) (k : Kind) (xs : List (List ℕ)) → Fit packet k xs
     → s ≡ datagramOctets (record { number = number; packet = packet; extra = extraOf k xs })
@@ -208,7 +199,7 @@ pub datagram-back : (s : List ℕ) (number : ℕ) (packet : List ℕ) (k : Kind)
 unfolding datagramOctets readDatagram carriedBy
 datagram-back s number packet k xs fit e =
     let newest = within-true packetLeast packetLimit (length packet) (fit .newest) in
-    let short : length s ≤ datagramLimit = rw e (datagram-long number packet k xs fit) in
+    let short : length s ≤ datagramLimit = rw e (datagram-short number packet k xs fit) in
     let begins : drop 2 s ≡ itemOctets packet ++ extraOctets (extraOf k xs) = unfold numberOctets in ap (drop 2) e in
     let first = item-back packetLeast packetLimit s 2 packet (extraOctets (extraOf k xs)) begins (newest .0) (newest .1)
     (omega (arith, newest .1)) in
@@ -222,33 +213,16 @@ datagram-back s number packet k xs fit e =
       carried = rw (first .octets, all .octets);
     }
 
--- ---- what the writer is given
-
--- the run of data is cut into pieces of the given lengths
-cut-lengths : (lengths run : List ℕ) → sumOf lengths ≤ length run → map length (cut lengths run) ≡ lengths
-unfolding cut sumOf
-cut-lengths [] run e = refl
-cut-lengths (n ∷ lengths) run e =
-    let more = cut-lengths lengths (drop n run) (omega (arith, length-drop n run)) in
-    rw (length-take-le n run (omega arith), more)
-
-cut-count : (lengths run : List ℕ) → length (cut lengths run) ≡ length lengths
-unfolding cut
-cut-count [] run = refl
-cut-count (n ∷ lengths) run = ap suc (cut-count lengths (drop n run))
+-- ---- what the writer writes
 
 pub written-back : WrittenReads
-unfolding datagramToWrite
 written-back number packet k lengths run s e =
-    let counted = cond-must (countInside k (length lengths)) outsideSizes _ s e in
-    let summed = cond-must (eqb (sumOf lengths) (length run)) wrongSettings _ s (counted .1) in
-    let sized = cond-must (lengthsInside packet k lengths) outsideSizes _ s (summed .1) in
-    let both = both-true (within packetLeast packetLimit (length packet)) (itemsInside k lengths) (sized .0) in
-    let sum = eqb-true (sumOf lengths) (length run) (summed .0) in
+    let allowed = written-allowed number packet k lengths run s e in
+    let sum = allowed .0 .summed in
     let fit : Fit packet k (cut lengths run) =
     record {
-      newest = both .0;
-      counted = rw (cut-count lengths run) (counted .0);
-      sized = rw (cut-lengths lengths run (omega arith)) (both .1);
+      newest = allowed .0 .newest;
+      counted = rw (cut-length lengths run) (allowed .0 .counted);
+      sized = rw (cut-lengths lengths run (omega arith)) (allowed .0 .items);
     } in
-    datagram-back s number packet k (cut lengths run) fit (sym (done-same (sized .1)))
+    datagram-back s number packet k (cut lengths run) fit (allowed .1)

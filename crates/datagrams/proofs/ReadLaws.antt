@@ -8,10 +8,12 @@ use lib.ListN.{length, getD, take, drop, length-drop}
 use lib.Seq.{getD-take, take-append-seam}
 use lib.Dec.{leb, ltb, eqb}
 use native.Mathlib.Omega.{arith}
-use borrow.Author.Tests.{ltb-false, leb-true, leb-false, le-ltb, le-leb}
+use borrow.Author.Tests.{ltb-false, leb-false, le-ltb, le-leb}
 use Rattle.lengths.specs.Refusals.{endsEarly, tooLong, outsideSizes, leftOver}
 use Rattle.lengths.specs.Answers.{Answer, done, refused, _>>=_, LengthAnswer}
 use Rattle.lengths.specs.Length.{lengthAt}
+use Rattle.lengths.specs.Claims.{Octets}
+use Rattle.lengths.specs.declared.Refusal.{Refusal}
 use Rattle.lengths.proofs.Laws.{sizes-read}
 use Rattle.datagrams.specs.Sizes.{packetLeast, packetLimit, datagramLimit, sparesLimit, coveredLimit, messagesLimit}
 use Rattle.datagrams.specs.Write.{within, countInside}
@@ -22,8 +24,8 @@ use Rattle.datagrams.specs.declared.reader.Part.{Part}
 use Rattle.datagrams.specs.declared.reader.Reading.the-variants as reading
 use Rattle.datagrams.specs.declared.reader.DatagramRead.{DatagramRead}
 use Rattle.datagrams.specs.declared.kind.Kind.{Kind}
-use Rattle.datagrams.specs.declared.kind.Kind.the-variants as kind
-use Rattle.datagrams.proofs.AnswerLaws.{bind-done, cond-done, cond-met, done-same, both-true, within-true, true-within}
+use Rattle.datagrams.proofs.AnswerLaws.{bind-done, cond-done, cond-met, done-same, true-within}
+use Rattle.datagrams.proofs.WriteLaws.{within-true}
 
 -- ---- the pieces
 
@@ -193,14 +195,6 @@ extra-done s at h e =
       pick true room q = spares-done s (at + 1) h room q
       pick false room q = parity-done s (at + 1) h room q
 
--- n and the count within the sizes: never more items than there are places
-pub few-items : (k : Kind) (count : ℕ) → countInside k count ≡ true → count ≤ sparesLimit
-few-items kind.Spares count e = leb-true count sparesLimit e
-few-items (kind.Parity n) count e =
-    let both = both-true (within 1 coveredLimit n) (within 1 messagesLimit count) e in
-    let fits = within-true 1 messagesLimit count (both .1) in
-    omega arith
-
 -- the items of a datagram that reads, and nothing after them
 record Whole (s : List ℕ) (number : ℕ) (packet : Part) (h : ExtraHead) (d : DatagramParts) : Type 0 where
   parts : List Part
@@ -272,22 +266,35 @@ read-inside s d e =
       each = items-each (leastOf (d .kind)) (mostOf (d .kind)) s (so .first) (so .count) (d .items) (head .inside) (so .items);
     }
 
--- the same of the reader's answer, in the words of a caller that has taken it apart
-pub accepted-inside : {s : List ℕ} {r : DatagramRead} {number : ℕ} {packet : Part} {k : Kind} {count : ℕ} → DatagramReads s r
-    → r .reading ≡ reading.Datagram number packet k count → Inside s packet k count (r .items)
-unfolding datagramRead
-accepted-inside {s} {r} {number} {packet} {k} {count} reads is =
-    let e : done (record { number = number; packet = packet; kind = k; items = take count (r .items) }) ≡ readDatagram s =
-    rw is at (reads .answer) in
-    let so = read-inside s (record { number = number; packet = packet; kind = k; items = take count (r .items) }) (sym e) in
-    let told : r .reading ≡ reading.Datagram number packet k (length (take count (r .items))) =
-    ap (λ (q : DatagramRead). q .reading) (reads .whole ∙ ap datagramRead (sym e)) in
-    let counted : count ≡ length (take count (r .items)) = cc in
-    record {
-      newest = so .newest;
-      counted = rw (← counted) at (so .counted);
-      each = λ j more. rw (getD-take count (r .items) j nowhere more) at (so .each j (rw (← counted) more));
-    }
+-- the number is one of 65,536
+pub number-small : (s : List ℕ) (d : DatagramParts) → Octets s → readDatagram s ≡ done d → d .number < 65536
+number-small s d octets e = omega (arith, read-done s d e .number, octets 0, octets 1)
+
+-- ---- the reader's answer, in the words of a caller that has taken it apart
+
+module _ {s : List ℕ} {r : DatagramRead} (reads : DatagramReads s r) where
+  pub refused-read : {why : Refusal} → r .reading ≡ reading.Refused why → readDatagram s ≡ refused why
+  refused-read {why} is = sym (rw is at (reads .answer))
+
+  module _ {number : ℕ} {packet : Part} {k : Kind} {count : ℕ} (is : r .reading ≡ reading.Datagram number packet k count) where
+    pub accepted-read : readDatagram s ≡ done (record { number = number; packet = packet; kind = k; items = take count (r .items) })
+    accepted-read = sym (rw is at (reads .answer))
+
+    pub accepted-count : length (take count (r .items)) ≡ count
+    unfolding datagramRead
+    accepted-count =
+        let told : r .reading ≡ reading.Datagram number packet k (length (take count (r .items))) =
+        ap (λ (q : DatagramRead). q .reading) (reads .whole ∙ ap datagramRead accepted-read) in
+        cc
+
+    pub accepted-inside : Inside s packet k count (r .items)
+    accepted-inside =
+        let so = read-inside s _ accepted-read in
+        record {
+          newest = so .newest;
+          counted = rw accepted-count at (so .counted);
+          each = λ j more. rw (getD-take count (r .items) j nowhere more) at (so .each j (rw accepted-count more));
+        }
 
 -- ---- what makes a reading
 

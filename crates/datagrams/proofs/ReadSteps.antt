@@ -16,7 +16,7 @@ use Rattle.lengths.specs.declared.Length.{Length}
 use Rattle.lengths.specs.declared.Length.the-variants as length
 use Rattle.datagrams.specs.Sizes.{sparesLimit, coveredLimit, messagesLimit}
 use Rattle.datagrams.specs.Read.{allowed, octetAt, sizedAt, itemAt, sparesAt, parityAt, extraAt}
-use Rattle.datagrams.specs.Promise.{RefusalPassed, OctetRead, SizedRead, ItemRead, SparesRead, ParityRead, ExtraRead}
+use Rattle.datagrams.specs.Pieces.{RefusalPassed, OctetRead, SizedRead, ItemRead, SparesRead, ParityRead, ExtraRead}
 use Rattle.datagrams.specs.declared.reader.Part.{Part}
 use Rattle.datagrams.specs.declared.reader.Item.{Item}
 use Rattle.datagrams.specs.declared.reader.Item.the-variants as item

@@ -10,7 +10,8 @@ use Rattle.lengths.specs.Answers.{Answer, done, refused, _>>=_}
 use Rattle.lengths.specs.declared.Refusal.{Refusal}
 use Rattle.datagrams.specs.Sizes.{sparesLimit}
 use Rattle.datagrams.specs.Read.{after, itemAt, itemsAt, endOf}
-use Rattle.datagrams.specs.Promise.{ItemRead, ItemsAsked, places, nowhere}
+use Rattle.datagrams.specs.Promise.{places, nowhere}
+use Rattle.datagrams.specs.Pieces.{ItemRead, ItemsAsked}
 use Rattle.datagrams.specs.declared.reader.Part.{Part}
 use Rattle.datagrams.specs.declared.reader.Item.{Item}
 use Rattle.datagrams.specs.declared.reader.Item.the-variants as item

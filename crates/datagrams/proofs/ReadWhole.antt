@@ -12,7 +12,8 @@ use Rattle.lengths.specs.Promise.{RefusalMade}
 use Rattle.lengths.specs.declared.Refusal.{Refusal}
 use Rattle.datagrams.specs.Sizes.{packetLeast, packetLimit, datagramLimit, sparesLimit}
 use Rattle.datagrams.specs.Read.{after, itemAt, itemsAt, endOf, extraAt, leastOf, mostOf, numberOf, wholeOf, readDatagram}
-use Rattle.datagrams.specs.Promise.{ItemRead, ExtraRead, Refuses, ItemsAsked, WholeRead, DatagramReads, places, nowhere, datagramRead}
+use Rattle.datagrams.specs.Promise.{DatagramReads, places, nowhere, datagramRead}
+use Rattle.datagrams.specs.Pieces.{ItemRead, ExtraRead, Refuses, ItemsAsked, WholeRead}
 use Rattle.datagrams.specs.declared.reader.Part.{Part}
 use Rattle.datagrams.specs.declared.reader.Item.{Item}
 use Rattle.datagrams.specs.declared.reader.Item.the-variants as item
@@ -21,7 +22,8 @@ use Rattle.datagrams.specs.declared.reader.Extra.the-variants as extra
 use Rattle.datagrams.specs.declared.reader.Reading.the-variants as reading
 use Rattle.datagrams.specs.declared.reader.DatagramRead.{DatagramRead}
 use Rattle.datagrams.specs.declared.kind.Kind.{Kind}
-use Rattle.datagrams.proofs.ReadLaws.{items-done, extra-done, few-items, whole-reads, outcome-whole}
+use Rattle.datagrams.proofs.WriteLaws.{count-few}
+use Rattle.datagrams.proofs.ReadLaws.{items-done, extra-done, whole-reads, outcome-whole}
 use Rattle.datagrams.proofs.ReadTurn.{Turning, turn-refused, turn-done}
 
 -- ---- refused
@@ -76,7 +78,7 @@ pub extra-asked : {s : List ℕ} {at : ℕ} {e : Extra} {k : Kind} {count first 
     → ItemsAsked s count first
 extra-asked {s} {at} {e} {k} {count} read is =
     let h = extra-done s at _ (head-read s at read is) in
-    record { inside = h .inside; few = few-items k count (h .counted) }
+    record { inside = h .inside; few = count-few k count (h .counted) }
 
 reads : {s : List ℕ} {r : DatagramRead} → r ≡ datagramRead (readDatagram s) → DatagramReads s r
 reads {s} e = record { answer = rw e (outcome-whole (readDatagram s)); whole = e }

@@ -3,28 +3,30 @@
 use Prim.Native.Nat.{ℕ, zero, suc, _+_, _*_, _/_, _%_, _≤_, _<_}
 use mathlib.Core.Path.{_≡_, refl, sym, ap, ap₂, _∙_}
 use mathlib.Core.Bool.{Bool, true, false, cond}
-use mathlib.Core.List.{List, [], _∷_, _++_, map, flatten, append-assoc, append-nil}
-use lib.ListN.{length, getD, drop, length-append, length-drop, take-append-drop, drop-of-length-le, length-map}
-use lib.Seq.{length-take-le, drop-drop, drop-cons, take-append-seam, drop-append-seam, getD-drop}
+use mathlib.Core.List.{List, [], _∷_, _++_, map, append-assoc, append-nil}
+use lib.ListN.{length, getD, drop, length-drop, take-append-drop, drop-of-length-le, length-map}
+use lib.Seq.{length-take-le, drop-drop, drop-cons, getD-drop}
 use lib.Dec.{leb, ltb, eqb}
 use native.Mathlib.Numerals.{add-one}
 use native.Mathlib.Omega.{arith}
-use borrow.Author.Tests.{ltb-true, ltb-false, leb-false, eqb-true, eq-eqb}
+use borrow.Author.Tests.{ltb-true, ltb-false, leb-false, eqb-true}
 use Rattle.lengths.specs.Refusals.{endsEarly, spareBit}
 use Rattle.lengths.specs.Answers.{done, LengthAnswer}
 use Rattle.lengths.specs.Length.{lengthAt, lengthOctets}
 use Rattle.lengths.specs.Claims.{Octets}
 use Rattle.lengths.proofs.Laws.{read-writes}
 use Rattle.datagrams.specs.Sizes.{packetLeast, packetLimit, sparesLimit, coveredLimit, messagesLimit}
-use Rattle.datagrams.specs.Write.{numberOctets, itemOctets, itemsOctets, countedOctets, extraOctets, extraOf, datagramOctets, carriedOf, within, countInside, itemInside, itemsInside, cut, sumOf, datagramToWrite}
-use Rattle.datagrams.specs.Put.{kindOctets}
+use Rattle.datagrams.specs.Write.{numberOctets, itemOctets, itemsOctets, extraOctets, extraOf, datagramOctets, itemInside, itemsInside, cut, sumOf}
+use Rattle.datagrams.specs.Put.{kindHead}
 use Rattle.datagrams.specs.Read.{DatagramParts, ExtraHead, after, octetsOf, octetAt, sizedAt, itemAt, itemsAt, endOf, sparesAt, parityAt, extraAt, leastOf, mostOf}
 use Rattle.datagrams.specs.Claims.{ReadWrites, lengthsOf, runOf}
 use Rattle.datagrams.specs.declared.reader.Part.{Part}
 use Rattle.datagrams.specs.declared.kind.Kind.{Kind}
 use Rattle.datagrams.specs.declared.kind.Kind.the-variants as kind
 use Rattle.datagrams.proofs.AnswerLaws.{bind-done, cond-done, cond-met, done-same, true-within}
+use Rattle.datagrams.proofs.WriteLaws.{extra-form, Allowed, allowed-written}
 use Rattle.datagrams.proofs.ReadLaws.{octet-done, sized-done, item-done, items-done, extra-done, Datagram, read-done}
+use Rattle.datagrams.proofs.ReadBack.{cut-flatten, sum-flatten}
 
 -- ---- the pieces
 
@@ -95,7 +97,7 @@ items-forth k s at (suc left) ps octets room e =
 
 -- kind and count stand at their place
 record ExtraForth (s : List ℕ) (at : ℕ) (h : ExtraHead) : Type 0 where
-  whole : drop at s ≡ kindOctets (h .kind) ++ (lengthOctets (h .count) ++ drop (h .first) s)
+  whole : drop at s ≡ kindHead (h .kind) (h .count) ++ drop (h .first) s
 
 spares-forth : (s : List ℕ) (at : ℕ) (h : ExtraHead) → Octets s → at < length s → getD s at 0 ≡ 0 → sparesAt s (at + 1) ≡ done h
     → ExtraForth s at h
@@ -147,25 +149,6 @@ extra-forth s at h octets e =
       pick false high some clear q =
           parity-forth s at h octets some (omega (arith, ltb-false (getD s at 0) 128 high, clear, octets at)) q
 
--- the octets of kind and count, then the items, are those of what follows the newest packet
-extra-octets : (k : Kind) (xs : List (List ℕ)) → kindOctets k ++ (lengthOctets (length xs) ++ itemsOctets xs) ≡ extraOctets (extraOf k xs)
-unfolding countedOctets
-extra-octets kind.Spares xs = refl
-extra-octets (kind.Parity n) xs = refl
-
--- ---- what the writer is given
-
--- pieces put together are cut into the same pieces again
-cut-flatten : (xs : List (List ℕ)) → cut (map length xs) (flatten xs) ≡ xs
-unfolding cut flatten
-cut-flatten [] = refl
-cut-flatten (x ∷ xs) = rw (take-append-seam x (flatten xs), drop-append-seam x (flatten xs), cut-flatten xs)
-
-sum-flatten : (xs : List (List ℕ)) → sumOf (map length xs) ≡ length (flatten xs)
-unfolding sumOf flatten
-sum-flatten [] = refl
-sum-flatten (x ∷ xs) = rw (length-append x (flatten xs), sum-flatten xs)
-
 -- ---- the datagram
 
 number-forth : (s : List ℕ) (number : ℕ) → Octets s → 2 ≤ length s → number ≡ getD s 0 0 * 256 + getD s 1 0
@@ -190,20 +173,12 @@ datagram-forth s d octets so =
     all .whole ∙ ap (λ (l : List ℕ). itemsOctets (map (octetsOf s) (d .items)) ++ l) end ∙ append-nil _ in
     let extra : drop (after (d .packet)) s ≡ extraOctets (extraOf (d .kind) (map (octetsOf s) (d .items))) =
     extra-forth s (after (d .packet)) _ octets (so .extra) .whole
-    ∙ ap₂ (λ (n : ℕ) (l : List ℕ). kindOctets (d .kind) ++ (lengthOctets n ++ l)) count items
-    ∙ extra-octets (d .kind) (map (octetsOf s) (d .items)) in
+    ∙ ap₂ (λ (n : ℕ) (l : List ℕ). kindHead (d .kind) n ++ l) count items
+    ∙ sym (extra-form (d .kind) (map (octetsOf s) (d .items))) in
     let packet = item-forth packetLeast packetLimit s 2 (d .packet) octets (so .two) (so .packet) in
     ap (λ (l : List ℕ). numberOctets (d .number) ++ (itemOctets (octetsOf s (d .packet)) ++ l)) (sym extra)
     ∙ ap (λ (l : List ℕ). numberOctets (d .number) ++ l) (sym packet)
     ∙ number-forth s (d .number) octets (so .two) (so .number)
-
--- what passes the writer's tests is written
-pub writes : (number : ℕ) (packet : List ℕ) (k : Kind) (lengths run s : List ℕ) → countInside k (length lengths) ≡ true
-    → sumOf lengths ≡ length run → within packetLeast packetLimit (length packet) ≡ true → itemsInside k lengths ≡ true
-    → datagramOctets (carriedOf number packet k lengths run) ≡ s → datagramToWrite number packet k lengths run ≡ done s
-unfolding datagramToWrite
-writes number packet k lengths run s counted sum newest sized e =
-    rw (counted, eq-eqb (sumOf lengths) (length run) sum, newest, sized, e)
 
 pub read-back : ReadWrites
 read-back s d octets e =
@@ -215,12 +190,15 @@ read-back s d octets e =
     let long = part-length s (d .packet) (newest .inside (so .two)) in
     let pieces : cut (lengthsOf d) (runOf s d) ≡ map (octetsOf s) (d .items) =
     ap (λ (l : List ℕ). cut l (runOf s d)) (all .sizes) ∙ cut-flatten (map (octetsOf s) (d .items)) in
-    writes (d .number) (octetsOf s (d .packet)) (d .kind) (lengthsOf d) (runOf s d) s
-    (rw (length-map (d .items) (λ (p : Part). p .size), counted) (head .counted))
-    (ap sumOf (all .sizes) ∙ sum-flatten (map (octetsOf s) (d .items)))
-    (rw long (true-within packetLeast packetLimit (d .packet .size) (newest .low) (newest .high)))
-    (all .sized)
-    (ap
-    (λ (l : List (List ℕ)). datagramOctets (record { number = d .number; packet = octetsOf s (d .packet); extra = extraOf (d .kind) l }))
+    let allowed : Allowed (octetsOf s (d .packet)) (d .kind) (lengthsOf d) (runOf s d) =
+    record {
+      counted = rw (length-map (d .items) (λ (p : Part). p .size), counted) (head .counted);
+      summed = ap sumOf (all .sizes) ∙ sum-flatten (map (octetsOf s) (d .items));
+      newest = rw long (true-within packetLeast packetLimit (d .packet .size) (newest .low) (newest .high));
+      items = all .sized;
+    } in
+    allowed-written (d .number) allowed
+    ∙ ap
+    (λ (l : List (List ℕ)). done (datagramOctets (record { number = d .number; packet = octetsOf s (d .packet); extra = extraOf (d .kind) l })))
     pieces
-    ∙ datagram-forth s d octets so)
+    ∙ ap (λ (l : List ℕ). done l) (datagram-forth s d octets so)

@@ -13,7 +13,8 @@ ghost use Prim.Native.Nat.{_+_, _*_, _≤_};
 ghost use lib.ListN.{length};
 ghost use Rattle.lengths.specs.Promise.{Octet};
 ghost use Rattle.datagrams.specs.Read.{leastOf, mostOf};
-ghost use Rattle.datagrams.specs.Promise.{DatagramReads, RefusalPassed, OctetRead, SizedRead, ItemRead, SparesRead, ParityRead, ExtraRead, Refuses, ItemsAsked, WholeRead};
+ghost use Rattle.datagrams.specs.Promise.{DatagramReads};
+ghost use Rattle.datagrams.specs.Pieces.{RefusalPassed, OctetRead, SizedRead, ItemRead, SparesRead, ParityRead, ExtraRead, Refuses, ItemsAsked, WholeRead};
 
 // A packet, spare or message as a part of the datagram.
 pub struct Part {
