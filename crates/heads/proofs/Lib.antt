@@ -1,2 +1,4 @@
 pub mod Slots
+pub mod Parts
+pub mod Seen
 pub mod Placed

@@ -3,7 +3,7 @@
 use Prim.Native.Nat.{ℕ, _+_, _*_, _%_}
 use mathlib.Core.Bool.{Bool, false}
 use mathlib.Core.List.{List}
-use lib.ListN.{getD}
+use lib.ListN.{getD, set}
 use Rattle.octets.specs.Place.{tab}
 use Rattle.datagrams.specs.Sizes.{packetLimit, messagesLimit}
 use Rattle.repair.specs.Cells as cells
@@ -95,3 +95,7 @@ viewIn h o g = record { base = h .base; counts = countsOf (h .counts); cells = c
 
 abbrev pub viewOf : Session → View
 viewOf s = viewIn (s .head) (s .octets) (s .messages)
+
+-- the head with another kept number in a slot
+abbrev pub placed : Head → ℕ → Kept → Head
+placed h slot k = record { base = h .base; counts = h .counts; kept = set (h .kept) slot k; heard = h .heard; sizes = h .sizes }
