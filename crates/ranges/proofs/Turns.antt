@@ -1,17 +1,16 @@
 -- What each loop of this crate keeps true, and one law for each answer, on plain values. Assumes nothing.
 use Prim.Native.Nat.{ℕ, zero, suc, _+_, _-_, _*_, _%_, _≤_, _<_}
 use mathlib.Core.Path.{_≡_, refl, sym, ap, ap₂, _∙_}
-use mathlib.Core.Bool.{Bool, true, false, not, cond, _&&_, false≢true}
+use mathlib.Core.Bool.{Bool, true, false, cond, _&&_}
 use mathlib.Core.List.{List, _++_}
 use lib.ListN.{length, getD, set, drop, replicate, length-replicate, replicate-append-replicate}
 use lib.Seq.{drop-at}
 use lib.Dec.{leb, ltb, eqb}
 use native.Mathlib.Omega.{arith}
 use borrow.Author.Fill.{fill-none, fill-more}
-use borrow.Author.Tests.{lt-ltb, le-ltb, le-leb, lt-leb, eq-eqb, ne-eqb, leb-true, eqb-true}
+use borrow.Author.Tests.{lt-ltb, le-ltb, le-leb, lt-leb, eq-eqb, ne-eqb}
 use Rattle.octets.specs.Place.{allBelow}
 use Rattle.octets.proofs.Place.{allBelow-more}
-use Rattle.octets.proofs.Cases.{and-left, and-right}
 use Rattle.datagrams.specs.Sizes.{packetLeast, packetLimit, coveredLimit, messageLimit, messagesLimit}
 use Rattle.repair.specs.Cells.{keptBefore, keptAhead, keptNumbers}
 use Rattle.stores.specs.Store.{HasSlot, zeros, zerosPast, mask}
@@ -20,8 +19,8 @@ use Rattle.views.specs.View.{sum, numbers, sessionLimit}
 use Rattle.heads.specs.Head.{countsOf, slotAt, heardSlotAt, messageSlot, keptIn, heardIn, sizeIn, packetOctets, messageOctets}
 use Rattle.heads.specs.Ranges.{blankAt, stateInRange, keptInRange, isKnown, markInRange, messageInRange, heardInRange, sumInRange, inRanges}
 use Rattle.heads.specs.declared.State.{State}
-use Rattle.heads.specs.declared.State.the-variants.{Unknown, Received, Spare, Repaired, Blank}
 use Rattle.heads.specs.declared.Head.{Head}
+use Rattle.heads.proofs.Parts.{size-range}
 use Rattle.ranges.specs.Pieces.{messageFits}
 
 -- ---- a loop over places: ok says whether the test passed at each place below p
@@ -49,25 +48,9 @@ pub blank-after : (whole p : ℕ) → keptBefore ≤ p → false ≡ blankAt who
 blank-after whole p after = rw (le-ltb p keptBefore after)
 
 -- ---- a kept number in its slot
-within : (size : ℕ) (a : Bool) → ((leb packetLeast size && leb size packetLimit) && a) ≡ true → size ≤ packetLimit
-within size a e =
-    leb-true size packetLimit
-    (and-right (leb packetLeast size) (leb size packetLimit) (and-left (leb packetLeast size && leb size packetLimit) a e))
-
-none : (size : ℕ) (a : Bool) → (eqb size 0 && a) ≡ true → size ≤ packetLimit
-none size a e = omega (arith, eqb-true size 0 (and-left (eqb size 0) a e))
-
-size-of : (state : State) (size : ℕ) (blank : Bool) → stateInRange state size blank ≡ true → size ≤ packetLimit
-unfolding stateInRange
-size-of Unknown size blank e = none size (not blank) e
-size-of Received size blank e = within size (not blank) e
-size-of Spare size blank e = within size (not blank) e
-size-of Repaired size blank e = within size (not blank) e
-size-of Blank size blank e = none size blank e
-
 -- a state that was found right has a size that a slot holds
 pub size-right : (state : State) (size : ℕ) (blank : Bool) {right : Bool} → right ≡ stateInRange state size blank → right ≡ true → size ≤ packetLimit
-size-right state size blank so passed = size-of state size blank (sym so ∙ passed)
+size-right state size blank so passed = size-range state size blank (sym so ∙ passed)
 
 -- the first test failed, or was passed and the second decides
 pub first-failed : {test a : Bool} (b : Bool) → test ≡ a → test ≡ false → false ≡ (a && b)
