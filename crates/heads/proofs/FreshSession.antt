@@ -22,7 +22,7 @@ use Rattle.stores.specs.Store.{part, zerosPast}
 use Rattle.views.specs.View.{View, freshView}
 use Rattle.heads.specs.Head.{slotsKept, slotAt, heardSlotAt, messageSlot, stateOf, countsOf, keptIn, heardIn, sizeIn, cellIn, heldIn, cellsOf, heldOf, viewIn, viewOf}
 use Rattle.heads.specs.Ranges.{sumInRange, stateInRange, keptInRange, isKnown, markInRange, messageInRange, heardInRange, inRanges, blankAt}
-use Rattle.heads.specs.Promise.{freshKept, Fresh}
+use Rattle.heads.specs.Promise.{Sized, freshKept, Fresh}
 use Rattle.heads.specs.declared.State.the-variants.{Unknown, Blank}
 use Rattle.heads.specs.declared.Kept.{Kept}
 use Rattle.heads.specs.declared.Heard.{Heard}
@@ -211,5 +211,9 @@ module _ {h : Head} {o g : List ℕ} (f : FreshParts h o g) where
       (and-both sum-fresh (allBelow-of keptNumbers (keptInRange h o) (λ p small. right-kept (kept-fresh p small))))
       (allBelow-of keptAhead (heardInRange h g) (λ d small. right-heard (heard-fresh d)))
 
-pub fresh-made : {r : Session} → FreshParts (r .head) (r .octets) (r .messages) → Fresh r
-fresh-made f = record { view = fresh-view f; ranges = fresh-ranges f }
+pub fresh-made : {r : Session} → FreshParts (r .head) (r .octets) (r .messages) → Sized (r .head) (r .octets) (r .messages) → Fresh r
+fresh-made f sized = record { view = fresh-view f; ranges = fresh-ranges f; sized = sized }
+
+pub length-fresh-kept : {kept : List Kept} → kept ≡ freshKept → length kept ≡ slotsKept
+unfolding freshKept
+length-fresh-kept e = rw e

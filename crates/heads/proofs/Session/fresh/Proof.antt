@@ -1,6 +1,8 @@
+use Prim.Native.Nat.{ℕ}
+use lib.ListN.{length-replicate}
 use mathlib.Core.Path.{refl}
 use Rattle.heads.specs.Head.{slotsHeard, slotsMessages, packetOctets, messageOctets}
-use Rattle.heads.proofs.FreshSession.{FreshParts, fresh-made, replicate-at, nothingHeard}
+use Rattle.heads.proofs.FreshSession.{FreshParts, fresh-made, length-fresh-kept, replicate-at, nothingHeard}
 use borrow.Author.Needs.{needs}
 use Rattle.heads.proofs.Session.fresh.Statement.{statement}
 use Rattle.heads.proofs.Session.fresh.Tie as tie
@@ -24,6 +26,13 @@ returns c =
       sizes = λ k. replicate-at slotsMessages 0 k;
       octets = λ k. replicate-at packetOctets 0 k;
       messages = λ k. replicate-at messageOctets 0 k;
+    })
+    (record {
+      kept = length-fresh-kept (c .fresh-kept .ensures);
+      heard = length-replicate slotsHeard nothingHeard;
+      sizes = length-replicate {A = ℕ} slotsMessages 0;
+      octets = length-replicate {A = ℕ} packetOctets 0;
+      messages = length-replicate {A = ℕ} messageOctets 0;
     })
 
 pub fresh-spec : {M : Type 1} → statement M
