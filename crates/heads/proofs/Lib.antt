@@ -3,3 +3,4 @@ pub mod Parts
 pub mod Seen
 pub mod Placed
 pub mod FreshSession
+pub mod Injective

@@ -1,10 +1,9 @@
 -- The ranges as one test and as a record, each from the other: a call decides the test, and what it calls asks for the
 -- record. Assumes nothing.
 use Prim.Native.Nat.{ℕ, _%_, _<_}
-use mathlib.Core.Path.{_≡_}
+use mathlib.Core.Path.{_≡_, sym, ap, _∙_}
 use mathlib.Core.Bool.{Bool, true, _&&_}
 use mathlib.Core.List.{List}
-use lib.ListN.{length}
 use lib.Dec.{leb, eqb}
 use native.Mathlib.Omega.{arith}
 use borrow.Author.Tests.{eqb-true}
@@ -13,10 +12,13 @@ use Rattle.octets.proofs.Place.{allBelow-at, allBelow-of}
 use Rattle.octets.proofs.Cases.{and-left, and-right, and-both}
 use Rattle.repair.specs.Cells.{keptAhead, keptNumbers}
 use Rattle.views.specs.View.{sum, numbers, sessionLimit}
-use Rattle.heads.specs.Head.{countsOf, slotsKept, slotsHeard, slotsMessages, packetOctets, messageOctets}
-use Rattle.heads.specs.Ranges.{sumInRange, keptInRange, heardInRange, inRanges}
+use Rattle.heads.specs.Head.{countsOf, viewOf}
+use Rattle.heads.specs.Ranges.{sumInRange, keptInRange, heardInRange, inRanges, sessionInRanges}
+use Rattle.heads.specs.Promise.{Sized, Fresh}
 use Rattle.heads.specs.Within.{Within}
 use Rattle.heads.specs.declared.Head.{Head}
+use Rattle.heads.specs.declared.Session.{Session}
+use Rattle.heads.proofs.Injective.{head-same, octets-same, messages-same}
 
 -- a base that equals a sum modulo 65,536 is a number
 base-small : (h : Head) → sumInRange h ≡ true → h .base < numbers
@@ -27,10 +29,9 @@ base-small h e =
     omega arith
 
 -- what passes the test, with the lengths that arrays have, is within the ranges
-pub within-of : (h : Head) (o g : List ℕ) → inRanges h o g ≡ true → length (h .kept) ≡ slotsKept → length (h .heard) ≡ slotsHeard
-    → length (h .sizes) ≡ slotsMessages → length o ≡ packetOctets → length g ≡ messageOctets → Within h o g
+pub within-of : (h : Head) (o g : List ℕ) → inRanges h o g ≡ true → Sized h o g → Within h o g
 unfolding inRanges
-within-of h o g e kept heard sizes octets messages =
+within-of h o g e sized =
     let first = and-left (sumInRange h && allBelow keptNumbers (keptInRange h o)) (allBelow keptAhead (heardInRange h g)) e in
     let total = and-left (sumInRange h) (allBelow keptNumbers (keptInRange h o)) first in
     record {
@@ -38,17 +39,17 @@ within-of h o g e kept heard sizes octets messages =
       total = total;
       kept =
           record {
-            slots = kept;
-            octets = octets;
+            slots = sized .kept;
+            octets = sized .octets;
             each =
                 allBelow-at keptNumbers (keptInRange h o)
                 (and-right (sumInRange h) (allBelow keptNumbers (keptInRange h o)) first);
           };
       heard =
           record {
-            slots = heard;
-            sizes = sizes;
-            octets = messages;
+            slots = sized .heard;
+            sizes = sized .sizes;
+            octets = sized .messages;
             each =
                 allBelow-at keptAhead (heardInRange h g)
                 (and-right (sumInRange h && allBelow keptNumbers (keptInRange h o)) (allBelow keptAhead (heardInRange h g)) e);
@@ -61,3 +62,21 @@ unfolding inRanges
 inRanges-of {h} {o} {g} w =
     and-both (and-both (w .total) (allBelow-of keptNumbers (keptInRange h o) (w .kept .each)))
     (allBelow-of keptAhead (heardInRange h g) (w .heard .each))
+
+-- ---- one session for one view
+abbrev SizedSession : Session → Type 0
+SizedSession s = Sized (s .head) (s .octets) (s .messages)
+
+-- two sessions within their ranges in which document 01 sees the same are the same
+pub session-same : (s t : Session) → sessionInRanges s ≡ true → SizedSession s → sessionInRanges t ≡ true → SizedSession t
+    → viewOf s ≡ viewOf t → s ≡ t
+session-same s t in-s sized-s in-t sized-t same =
+    let w = within-of (s .head) (s .octets) (s .messages) in-s sized-s in
+    let v = within-of (t .head) (t .octets) (t .messages) in-t sized-t in
+    ap (λ (x : Head). record { head = x; octets = s .octets; messages = s .messages }) (head-same w v same)
+    ∙ ap (λ (x : List ℕ). record { head = t .head; octets = x; messages = s .messages }) (octets-same w v same)
+    ∙ ap (λ (x : List ℕ). record { head = t .head; octets = t .octets; messages = x }) (messages-same w v same)
+
+-- a fresh session is one session
+pub fresh-same : (r q : Session) → Fresh r → Fresh q → r ≡ q
+fresh-same r q f e = session-same r q (f .ranges) (f .sized) (e .ranges) (e .sized) (f .view ∙ sym (e .view))
