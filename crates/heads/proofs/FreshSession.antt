@@ -1,27 +1,27 @@
 -- A fresh session: its arrays as the code makes them, what document 01 sees in them, and that they are within the ranges.
 -- Assumes nothing.
-use Prim.Native.Nat.{ℕ, zero, suc, _+_, _-_, _*_, _%_, _≤_, _<_}
-use mathlib.Core.Path.{_≡_, refl, sym, ap, ap₂, _∙_}
-use mathlib.Core.Bool.{Bool, true, false, cond, _&&_, _||_}
+use Prim.Native.Nat.{ℕ, zero, suc, _+_, _-_, _*_, _≤_, _<_}
+use mathlib.Core.Path.{_≡_, refl, sym, ap, _∙_}
+use mathlib.Core.Bool.{Bool, true, false, cond, _||_}
 use mathlib.Core.List.{List, [], _∷_, _++_}
 use mathlib.Core.Logic.{⊎-elim}
-use lib.ListN.{length, getD, set, take, drop, replicate, length-replicate, replicate-append-replicate, getD-replicate, List·getD-append, List·getD-eq-default}
+use lib.ListN.{length, getD, set, drop, replicate, length-replicate, replicate-append-replicate, getD-replicate, List·getD-append, List·getD-eq-default}
 use lib.Seq.{drop-at, getD-append-add}
-use lib.Dec.{leb, ltb, eqb}
+use lib.Dec.{ltb}
 use native.Mathlib.Nat.{not-suc-le-zero, le-of-suc-le-suc}
 use native.Mathlib.Numerals.{add-one}
 use native.Mathlib.Omega.{arith}
 use borrow.Author.Tests.{lt-ltb, le-ltb, le-leb}
-use Rattle.octets.specs.Place.{tab, allBelow}
+use Rattle.octets.specs.Place.{tab}
 use Rattle.octets.proofs.Place.{tab-ext, allBelow-of}
 use Rattle.octets.proofs.Cases.{below-or-not, and-both}
-use Rattle.datagrams.specs.Sizes.{packetLimit, messagesLimit, messageLimit}
-use Rattle.repair.specs.Cells.{Cell, blankCell, unknownCell, keptBefore, keptAhead, keptNumbers}
-use Rattle.repair.specs.Held.{Held, nothingHeld}
+use Rattle.datagrams.specs.Sizes.{packetLimit, messageLimit}
+use Rattle.repair.specs.Cells.{blankCell, unknownCell, keptBefore, keptAhead, keptNumbers}
+use Rattle.repair.specs.Held.{nothingHeld}
 use Rattle.stores.specs.Store.{part, zerosPast}
-use Rattle.views.specs.View.{View, freshView}
-use Rattle.heads.specs.Head.{slotsKept, slotAt, heardSlotAt, messageSlot, stateOf, countsOf, keptIn, heardIn, sizeIn, cellIn, heldIn, cellsOf, heldOf, viewIn, viewOf}
-use Rattle.heads.specs.Ranges.{sumInRange, stateInRange, keptInRange, isKnown, markInRange, messageInRange, heardInRange, inRanges, blankAt}
+use Rattle.views.specs.View.{freshView}
+use Rattle.heads.specs.Head.{slotsKept, slotAt, heardSlotAt, messageSlot, stateOf, keptIn, heardIn, sizeIn, cellIn, heldIn, cellsOf, heldOf, viewIn}
+use Rattle.heads.specs.Ranges.{sumInRange, stateInRange, keptInRange, markInRange, messageInRange, heardInRange, inRanges}
 use Rattle.heads.specs.Promise.{Sized, freshKept, Fresh}
 use Rattle.heads.specs.declared.State.the-variants.{Unknown, Blank}
 use Rattle.heads.specs.declared.Kept.{Kept}
@@ -66,7 +66,7 @@ starting-turn {kept} {i} s more =
       few = omega arith;
     }
 
-drop-replicate : {A : Type 0} (n k : ℕ) (a : A) → drop n (replicate (n + k) a) ≡ replicate k a
+pub drop-replicate : {A : Type 0} (n k : ℕ) (a : A) → drop n (replicate (n + k) a) ≡ replicate k a
 drop-replicate n k a = rw (← replicate-append-replicate n k a) (drop-at (replicate n a) (replicate k a) n (length-replicate n a))
 
 pub starting-done : {kept : List Kept} {i : ℕ} → Starting kept i → keptAhead ≤ i → kept ≡ freshKept

@@ -3,26 +3,27 @@
 -- there are zeros. Assumes nothing.
 use Prim.Native.Nat.{ℕ, _+_, _-_, _*_, _/_, _%_, _≤_, _<_}
 use mathlib.Core.Path.{_≡_, refl, sym, ap, ap₂, _∙_}
-use mathlib.Core.Bool.{Bool, true, false, cond, _&&_, _||_}
+use mathlib.Core.Bool.{Bool, true, false, cond, _||_}
 use mathlib.Core.List.{List, []}
 use mathlib.Core.Logic.{⊎-elim}
 use lib.ListN.{length, getD, take, drop, List·getD-eq-default}
 use lib.Seq.{ext-getD}
 use lib.Dec.{leb, ltb, eqb}
 use native.Mathlib.Omega.{arith}
-use borrow.Author.Tests.{lt-ltb, le-ltb, leb-true, eqb-true}
-use Rattle.octets.specs.Place.{tab, allBelow}
+use borrow.Author.Tests.{le-ltb, leb-true, eqb-true}
+use Rattle.octets.specs.Place.{tab}
 use Rattle.octets.proofs.Place.{tab-at, length-tab, allBelow-at}
 use Rattle.octets.proofs.Cases.{below-or-not, and-left, and-right}
 use Rattle.datagrams.specs.Sizes.{packetLimit, messageLimit, messagesLimit}
 use Rattle.repair.specs.Cells as cells
-use Rattle.repair.specs.Cells.{Cell, cellAt, blankCell, keptBefore, keptAhead, keptNumbers}
+use Rattle.repair.specs.Cells.{Cell, cellAt, keptAhead, keptNumbers}
 use Rattle.repair.specs.Held.{Held, nothingHeld}
 use Rattle.stores.specs.Store.{part, zerosPast, HasSlot}
 use Rattle.stores.proofs.Laws.{length-part, part-at}
 use Rattle.views.specs.View as views
 use Rattle.views.specs.View.{View}
-use Rattle.heads.specs.Head.{slotsKept, slotsHeard, slotsMessages, packetOctets, messageOctets, slotAt, heardSlotAt, messageSlot, stateOf, countsOf, keptIn, heardIn, sizeIn, cellIn, heldIn, cellsOf, heldOf, viewIn}
+use Rattle.heads.specs.Head.{slotsKept, slotsHeard, slotsMessages, packetOctets, messageOctets, slotAt, heardSlotAt, messageSlot}
+use Rattle.heads.specs.Head.{stateOf, countsOf, keptIn, heardIn, sizeIn, cellIn, heldIn, cellsOf, heldOf, viewIn}
 use Rattle.heads.specs.Ranges.{messageInRange}
 use Rattle.heads.specs.Within.{Within}
 use Rattle.heads.specs.declared.State.{State}
@@ -33,7 +34,7 @@ use Rattle.heads.specs.declared.Counts.{Counts}
 use Rattle.heads.specs.declared.Head.{Head}
 use Rattle.heads.proofs.Parts.{kept-right, size-right, heard-right}
 use Rattle.heads.proofs.Seen.{cell-at, held-at, octet-at}
-use Rattle.heads.proofs.Slots.{slot-small, heard-small, message-small, has-packet-slot, has-message-slot}
+use Rattle.heads.proofs.Slots.{slot-small, message-small, has-packet-slot, has-message-slot}
 
 -- ---- every slot is the slot of a place
 pub slot-of : (base i : ℕ) → i < slotsKept → (p : ℕ) × (p < keptNumbers) × (slotAt base p ≡ i)
@@ -170,7 +171,8 @@ state-in-same h k o q i e = state-same ((keptIn h i) .state) ((keptIn k i) .stat
 counts-same : (c d : Counts) → countsOf c ≡ countsOf d → c ≡ d
 counts-same c d e = ap (λ (v : views.Counts). record { received = v .received; spare = v .spare; repaired = v .repaired; lost = v .lost }) e
 
-head-of-fields : (h k : Head) → h .base ≡ k .base → h .counts ≡ k .counts → h .kept ≡ k .kept → h .heard ≡ k .heard → h .sizes ≡ k .sizes → h ≡ k
+head-of-fields : (h k : Head) → h .base ≡ k .base → h .counts ≡ k .counts → h .kept ≡ k .kept → h .heard ≡ k .heard
+    → h .sizes ≡ k .sizes → h ≡ k
 head-of-fields h k base counts kept heard sizes =
     ap (λ (x : ℕ). record { base = x; counts = h .counts; kept = h .kept; heard = h .heard; sizes = h .sizes }) base
     ∙ ap (λ (x : Counts). record { base = k .base; counts = x; kept = h .kept; heard = h .heard; sizes = h .sizes }) counts

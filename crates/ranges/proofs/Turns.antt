@@ -1,26 +1,27 @@
 -- What each loop of this crate keeps true, and one law for each answer, on plain values. Assumes nothing.
-use Prim.Native.Nat.{ℕ, zero, suc, _+_, _-_, _*_, _%_, _≤_, _<_}
+use Prim.Native.Nat.{ℕ, _+_, _-_, _%_, _≤_, _<_}
 use mathlib.Core.Path.{_≡_, refl, sym, ap, ap₂, _∙_}
 use mathlib.Core.Bool.{Bool, true, false, cond, _&&_}
 use mathlib.Core.List.{List, _++_}
-use lib.ListN.{length, getD, set, drop, replicate, length-replicate, replicate-append-replicate}
+use lib.ListN.{getD, set, drop, replicate, length-replicate, replicate-append-replicate}
 use lib.Seq.{drop-at}
 use lib.Dec.{leb, ltb, eqb}
 use native.Mathlib.Omega.{arith}
 use borrow.Author.Fill.{fill-none, fill-more}
-use borrow.Author.Tests.{lt-ltb, le-ltb, le-leb, lt-leb, eq-eqb, ne-eqb}
+use borrow.Author.Tests.{lt-ltb, le-ltb, le-leb, lt-leb, ne-eqb}
 use Rattle.octets.specs.Place.{allBelow}
 use Rattle.octets.proofs.Place.{allBelow-more}
-use Rattle.datagrams.specs.Sizes.{packetLeast, packetLimit, coveredLimit, messageLimit, messagesLimit}
+use Rattle.datagrams.specs.Sizes.{packetLimit, coveredLimit, messageLimit, messagesLimit}
 use Rattle.repair.specs.Cells.{keptBefore, keptAhead, keptNumbers}
-use Rattle.stores.specs.Store.{HasSlot, zeros, zerosPast, mask}
+use Rattle.stores.specs.Store.{zeros, zerosPast, mask}
 use Rattle.stores.proofs.Laws.{length-zeros}
 use Rattle.views.specs.View.{sum, numbers, sessionLimit}
-use Rattle.heads.specs.Head.{countsOf, slotAt, heardSlotAt, messageSlot, keptIn, heardIn, sizeIn, packetOctets, messageOctets}
+use Rattle.heads.specs.Head.{countsOf, slotAt, heardSlotAt, messageSlot, keptIn, heardIn}
 use Rattle.heads.specs.Ranges.{blankAt, stateInRange, keptInRange, isKnown, markInRange, messageInRange, heardInRange, sumInRange, inRanges}
 use Rattle.heads.specs.declared.State.{State}
 use Rattle.heads.specs.declared.Head.{Head}
 use Rattle.heads.proofs.Parts.{size-range}
+use Rattle.heads.proofs.FreshSession.{drop-replicate}
 use Rattle.ranges.specs.Pieces.{messageFits}
 
 -- ---- a loop over places: ok says whether the test passed at each place below p
@@ -142,18 +143,13 @@ filled-turn {table} {j} f more =
       few = omega arith;
     }
 
-drop-zeros : (n k : ℕ) → drop n (zeros (n + k)) ≡ zeros k
-unfolding zeros
-drop-zeros n k =
-    rw (← replicate-append-replicate {A = ℕ} n k 0) (drop-at (replicate n 0) (replicate k 0) n (length-replicate n 0))
-
 pub filled-done : {table : List ℕ} {j : ℕ} → Filled table j → packetLimit ≤ j → table ≡ mask
-unfolding mask
+unfolding mask zeros
 filled-done {table} {j} f done =
     let all : j ≡ packetLimit = omega (arith, f .few) in
     f .so
     ∙ ap (λ (k : ℕ). replicate k 255 ++ drop k (zeros (packetLimit + packetLimit))) all
-    ∙ ap (λ (t : List ℕ). replicate packetLimit 255 ++ t) (drop-zeros packetLimit packetLimit)
+    ∙ ap (λ (t : List ℕ). replicate packetLimit 255 ++ t) (drop-replicate packetLimit packetLimit 0)
 
 -- ---- the whole paragraph
 pub whole-right : (h : Head) (o g : List ℕ) {whole : ℕ} {summed kept heard : Bool} → whole ≡ sum (countsOf (h .counts))

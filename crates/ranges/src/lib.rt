@@ -11,15 +11,15 @@ use heads::Session;
 use heads::State;
 ghost use mathlib.Core.Path.{_≡_};
 ghost use mathlib.Core.Bool.{_&&_, cond};
-ghost use Prim.Native.Nat.{_+_, _*_, _%_, _≤_, _<_};
+ghost use Prim.Native.Nat.{_%_, _≤_, _<_};
 ghost use lib.Dec.{leb, ltb, eqb};
-ghost use lib.ListN.{length, getD};
+ghost use lib.ListN.{length};
 ghost use Rattle.octets.specs.Place.{allBelow};
 ghost use Rattle.datagrams.specs.Sizes.{messageLimit, messagesLimit};
 ghost use Rattle.repair.specs.Cells.{keptAhead, keptNumbers};
 ghost use Rattle.stores.specs.Store.{HasSlot, zerosPast, mask};
 ghost use Rattle.views.specs.View.{sum, numbers, sessionLimit};
-ghost use Rattle.heads.specs.Head.{countsOf, packetOctets, messageOctets, messageSlot, slotsMessages, slotsHeard};
+ghost use Rattle.heads.specs.Head.{countsOf, packetOctets, messageOctets, slotsMessages, slotsHeard};
 ghost use Rattle.heads.specs.Ranges.{blankAt, stateInRange, keptInRange, isKnown, markInRange, heardInRange, inRanges};
 ghost use Rattle.ranges.specs.Pieces.{messageFits};
 

@@ -1,16 +1,12 @@
+-- `ranges::all_heard_right` meets its contract. The loop's invariant: ok says whether what is held at distances below d is
+-- right. The measure is the distances left. Assumes nothing.
 use Prim.Native.Nat.{_-_}
-use native.Mathlib.Omega.{arith}
 use borrow.Author.Needs.{needs}
 use Rattle.repair.specs.Cells.{keptAhead}
 use Rattle.heads.specs.Ranges.{heardInRange}
 use Rattle.ranges.proofs.Turns.{Checked, checked-start, heard-turn, checked-done}
 use Rattle.ranges.proofs.all_heard_right.Statement.{statement}
 use Rattle.ranges.proofs.all_heard_right.Tie as tie
-use Rattle.ranges.proofs.all_heard_right.Reads as reads
-use Rattle.ranges.proofs.all_heard_right.Lts as lts
-use Rattle.ranges.proofs.known.Reads as known-reads
-use Rattle.ranges.proofs.mark_right.Reads as mark-right-reads
-use Rattle.ranges.proofs.messages_right.Reads as messages-right-reads
 
 abbrev Inv-loop : tie.InvT-loop
 Inv-loop g table h base ok₀ d₀ ok d = Checked keptAhead (heardInRange h g) ok d
@@ -18,71 +14,54 @@ Inv-loop g table h base ok₀ d₀ ok d = Checked keptAhead (heardInRange h g) o
 abbrev μ-loop : tie.MeasureT-loop
 μ-loop g table h base ok₀ d₀ ok d = keptAhead - d
 
--- src/lib.rt:197:16
 cast-base : tie.Need-cast-base Inv-loop μ-loop
 cast-base c = search needs
 
--- src/lib.rt:200:5
 loop-holds : tie.Need-loop-holds Inv-loop μ-loop
 loop-holds c = search checked-start
 
--- src/lib.rt:201:21
 add-slot : tie.Need-add-slot Inv-loop μ-loop
 add-slot c = search needs
 
--- src/lib.rt:202:22
 add-place : tie.Need-add-place Inv-loop μ-loop
 add-place c = search needs
 
--- src/lib.rt:202:48
 add-place-2 : tie.Need-add-place-2 Inv-loop μ-loop
 add-place-2 c = search needs
 
--- src/lib.rt:202:22
 add-place-3 : tie.Need-add-place-3 Inv-loop μ-loop
 add-place-3 c = search needs
 
--- src/lib.rt:203:21
 mul-heard : tie.Need-mul-heard Inv-loop μ-loop
 mul-heard c = search needs
 
--- src/lib.rt:203:21
 element-copy-out-heard : tie.Need-element-copy-out-heard Inv-loop μ-loop
 element-copy-out-heard c = search needs
 
--- src/lib.rt:204:20
 mul-kept : tie.Need-mul-kept Inv-loop μ-loop
 mul-kept c = search needs
 
--- src/lib.rt:204:20
 element-copy-out-kept : tie.Need-element-copy-out-kept Inv-loop μ-loop
 element-copy-out-kept c = search needs
 
--- src/lib.rt:205:40
 known-requires : tie.Need-known-requires Inv-loop μ-loop
 known-requires c κs = search needs
 
--- src/lib.rt:205:13
 mark-right-requires : tie.Need-mark-right-requires Inv-loop μ-loop
 mark-right-requires c κs = search needs
 
--- src/lib.rt:206:45
 cast-messages-right : tie.Need-cast-messages-right Inv-loop μ-loop
 cast-messages-right c = search needs
 
--- src/lib.rt:206:13
 messages-right-requires : tie.Need-messages-right-requires Inv-loop μ-loop
 messages-right-requires c κs = (search needs, (search needs, (search needs, search needs)))
 
--- src/lib.rt:208:9
 add-d : tie.Need-add-d Inv-loop μ-loop
 add-d c = search needs
 
--- src/lib.rt:200:5
 loop-less : tie.Need-loop-less Inv-loop μ-loop
 loop-less c = search needs
 
--- src/lib.rt:200:5
 loop-again : tie.Need-loop-again Inv-loop μ-loop
 loop-again c =
     let marked = c .before .before .before .before .before in
@@ -91,7 +70,6 @@ loop-again c =
     heard-turn _ _ (turn .before .loop .inv) (turn .loop-test .taken) (known .known .ensures) (marked .mark-right .ensures)
     (c .messages-right .ensures)
 
--- src/lib.rt:192:1
 returns : tie.Need-returns Inv-loop μ-loop
 returns c = search checked-done
 

@@ -1,3 +1,5 @@
+-- `ranges::all_kept_right` meets its contract. The loop's invariant: ok says whether the places below p are right. The measure
+-- is the places left. Assumes nothing.
 use Prim.Native.Nat.{_-_}
 use native.Mathlib.Omega.{arith}
 use borrow.Author.Needs.{needs}
@@ -6,10 +8,6 @@ use Rattle.heads.specs.Ranges.{keptInRange}
 use Rattle.ranges.proofs.Turns.{Checked, checked-start, kept-turn, checked-done}
 use Rattle.ranges.proofs.all_kept_right.Statement.{statement}
 use Rattle.ranges.proofs.all_kept_right.Tie as tie
-use Rattle.ranges.proofs.all_kept_right.Reads as reads
-use Rattle.ranges.proofs.all_kept_right.Lts as lts
-use Rattle.ranges.proofs.kept_right.Reads as kept-right-reads
-use Rattle.ranges.proofs.must_be_blank.Reads as must-be-blank-reads
 
 abbrev Inv-loop : tie.InvT-loop
 Inv-loop whole o table h base first ok₀ p₀ ok p = Checked keptNumbers (keptInRange h o) ok p
@@ -17,51 +15,39 @@ Inv-loop whole o table h base first ok₀ p₀ ok p = Checked keptNumbers (keptI
 abbrev μ-loop : tie.MeasureT-loop
 μ-loop whole o table h base first ok₀ p₀ ok p = keptNumbers - p
 
--- src/lib.rt:94:16
 cast-base : tie.Need-cast-base Inv-loop μ-loop
 cast-base c = search needs
 
--- src/lib.rt:95:17
 add-first : tie.Need-add-first Inv-loop μ-loop
 add-first c = search needs
 
--- src/lib.rt:98:5
 loop-holds : tie.Need-loop-holds Inv-loop μ-loop
 loop-holds c = search checked-start
 
--- src/lib.rt:99:21
 add-slot : tie.Need-add-slot Inv-loop μ-loop
 add-slot c = search needs
 
--- src/lib.rt:100:20
 mul-kept : tie.Need-mul-kept Inv-loop μ-loop
 mul-kept c = search needs
 
--- src/lib.rt:100:20
 element-copy-out-kept : tie.Need-element-copy-out-kept Inv-loop μ-loop
 element-copy-out-kept c = search needs
 
--- src/lib.rt:101:13
 must-be-blank-requires : tie.Need-must-be-blank-requires Inv-loop μ-loop
 must-be-blank-requires c κs = search needs
 
--- src/lib.rt:102:13
 kept-right-requires : tie.Need-kept-right-requires Inv-loop μ-loop
 kept-right-requires c κs = search needs
 
--- src/lib.rt:104:9
 add-p : tie.Need-add-p Inv-loop μ-loop
 add-p c = search needs
 
--- src/lib.rt:98:5
 loop-less : tie.Need-loop-less Inv-loop μ-loop
 loop-less c = search needs
 
--- src/lib.rt:98:5
 loop-again : tie.Need-loop-again Inv-loop μ-loop
 loop-again c = search (kept-turn, arith)
 
--- src/lib.rt:88:1
 returns : tie.Need-returns Inv-loop μ-loop
 returns c = search checked-done
 

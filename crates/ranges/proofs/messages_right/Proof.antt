@@ -1,3 +1,5 @@
+-- `ranges::messages_right` meets its contract. The loop's invariant: ok says whether the messages below i are right. The
+-- measure is the messages left. Assumes nothing.
 use Prim.Native.Nat.{_-_}
 use native.Mathlib.Omega.{arith}
 use borrow.Author.Needs.{needs}
@@ -6,11 +8,6 @@ use Rattle.ranges.specs.Pieces.{messageFits}
 use Rattle.ranges.proofs.Turns.{Checked, checked-start, message-turn, most-few, checked-done}
 use Rattle.ranges.proofs.messages_right.Statement.{statement}
 use Rattle.ranges.proofs.messages_right.Tie as tie
-use Rattle.ranges.proofs.messages_right.Reads as reads
-use Rattle.ranges.proofs.messages_right.Lts as lts
-use Rattle.ranges.proofs.message_right.Reads as message-right-reads
-use Rattle.ranges.proofs.most.Reads as most-reads
-use Rattle.ranges.proofs.wide.Reads as wide-reads
 
 abbrev Inv-loop : tie.InvT-loop
 Inv-loop sizes m g slot table at ok₀ i₀ ok i = Checked messagesLimit (messageFits sizes g slot m) ok i
@@ -18,51 +15,39 @@ Inv-loop sizes m g slot table at ok₀ i₀ ok i = Checked messagesLimit (messag
 abbrev μ-loop : tie.MeasureT-loop
 μ-loop sizes m g slot table at ok₀ i₀ ok i = messagesLimit - i
 
--- src/lib.rt:177:14
 mul-at : tie.Need-mul-at Inv-loop μ-loop
 mul-at c = search needs
 
--- src/lib.rt:180:5
 loop-holds : tie.Need-loop-holds Inv-loop μ-loop
 loop-holds c = search checked-start
 
--- src/lib.rt:181:21
 add-place : tie.Need-add-place Inv-loop μ-loop
 add-place c = search needs
 
--- src/lib.rt:182:25
 mul-wide : tie.Need-mul-wide Inv-loop μ-loop
 mul-wide c = search needs
 
--- src/lib.rt:182:25
 shared-slice-read-wide : tie.Need-shared-slice-read-wide Inv-loop μ-loop
 shared-slice-read-wide c = search needs
 
--- src/lib.rt:182:13
 wide-requires : tie.Need-wide-requires Inv-loop μ-loop
 wide-requires c κs = search needs
 
--- src/lib.rt:183:13
 most-requires : tie.Need-most-requires Inv-loop μ-loop
 most-requires c κs = search needs
 
--- src/lib.rt:184:13
 message-right-requires : tie.Need-message-right-requires Inv-loop μ-loop
 message-right-requires c κs = (search needs, (search most-few, search needs))
 
--- src/lib.rt:186:9
 add-i : tie.Need-add-i Inv-loop μ-loop
 add-i c = search needs
 
--- src/lib.rt:180:5
 loop-less : tie.Need-loop-less Inv-loop μ-loop
 loop-less c = search needs
 
--- src/lib.rt:180:5
 loop-again : tie.Need-loop-again Inv-loop μ-loop
 loop-again c = search (message-turn, arith)
 
--- src/lib.rt:170:1
 returns : tie.Need-returns Inv-loop μ-loop
 returns c = search checked-done
 

@@ -1,14 +1,11 @@
+-- `ranges::most` meets its contract. Assumes nothing.
 use Rattle.ranges.proofs.Turns.{most-inside, most-past}
 use Rattle.ranges.proofs.most.Statement.{statement}
 use Rattle.ranges.proofs.most.Tie as tie
-use Rattle.ranges.proofs.most.Reads as reads
-use Rattle.ranges.proofs.most.Lts as lts
 
--- src/lib.rt:151:9
 returns : tie.Need-returns
 returns c = search most-inside
 
--- src/lib.rt:147:1
 returns-2 : tie.Need-returns-2
 returns-2 c = search most-past
 

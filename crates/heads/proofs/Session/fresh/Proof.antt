@@ -1,20 +1,16 @@
+-- `heads::Session::fresh` meets its contract: each array is one value throughout, but for the kept numbers, which a call makes. Assumes nothing.
 use Prim.Native.Nat.{ℕ}
 use lib.ListN.{length-replicate}
 use mathlib.Core.Path.{refl}
 use Rattle.heads.specs.Head.{slotsHeard, slotsMessages, packetOctets, messageOctets}
-use Rattle.heads.proofs.FreshSession.{FreshParts, fresh-made, length-fresh-kept, replicate-at, nothingHeard}
+use Rattle.heads.proofs.FreshSession.{fresh-made, length-fresh-kept, replicate-at, nothingHeard}
 use borrow.Author.Needs.{needs}
 use Rattle.heads.proofs.Session.fresh.Statement.{statement}
 use Rattle.heads.proofs.Session.fresh.Tie as tie
-use Rattle.heads.proofs.Session.fresh.Reads as reads
-use Rattle.heads.proofs.Session.fresh.Lts as lts
-use Rattle.heads.proofs.Session.fresh_kept.Reads as fresh-kept-reads
 
--- src/fresh.rt:48:13
 fresh-kept-requires : tie.Need-fresh-kept-requires
 fresh-kept-requires c κs = search needs
 
--- src/fresh.rt:34:5
 returns : tie.Need-returns
 returns c =
     fresh-made
