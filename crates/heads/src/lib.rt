@@ -1,5 +1,6 @@
 // The receiving session as it is held: a small head by value, and two stores of octets, one slot for each kept packet and one
 // for each held message. A number's slot is the number modulo the count of slots, so that nothing moves when the base goes on.
+mod fresh;
 mod laid;
 
 use datagrams::Packet;
