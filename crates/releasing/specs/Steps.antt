@@ -1,0 +1,25 @@
+-- What the inner functions of this crate owe. Definitions only.
+use Prim.Native.Nat.{ℕ, _≤_, _<_}
+use mathlib.Core.Path.{_≡_}
+use mathlib.Core.Bool.{true}
+use mathlib.Core.List.{List}
+use lib.ListN.{length}
+use Rattle.datagrams.specs.Sizes.{packetLimit, messagesLimit}
+use Rattle.stores.specs.Store.{HasSlot, part, zerosPast}
+use Rattle.heads.specs.Head.{messageSlot, messageOctets, slotsHeard}
+
+-- a number of sixteen bits as a size
+pub record Wide (n r : ℕ) : Type 0 where
+  pub same : r ≡ n
+  pub small : r < 65536
+
+-- slot k is none of the first m message slots of slot j
+abbrev pub Apart : ℕ → ℕ → ℕ → Type 0
+Apart j m k = (i : ℕ) → i < m → k ≡ messageSlot j i → ⊥
+
+-- the first m messages of slot j are cleared, and every other is as it was
+pub record Freed (j m : ℕ) (old new : List ℕ) : Type 0 where
+  pub long : length new ≡ length old
+  pub cleared : (i n : ℕ) → i < m → zerosPast new (messageSlot j i) n ≡ true
+  pub parts : (k n : ℕ) → HasSlot k old → n ≤ packetLimit → Apart j m k → part new k n ≡ part old k n
+  pub zeros : (k n : ℕ) → Apart j m k → zerosPast new k n ≡ zerosPast old k n

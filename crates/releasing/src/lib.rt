@@ -1,0 +1,139 @@
+// The calls that move the base of a receiving session: document 01, 'The receiving session', Next and Give up, over a head by
+// value and two lent stores. They serve callers inside this repository: they require the session's ranges, which the public
+// calls check (refusal 17), and keep them. Only the slots of the number that leaves and of the one that comes into view are
+// written.
+use lengths::Refusal;
+use datagrams::Parity;
+use heads::Counts;
+use heads::Head;
+use heads::Heard;
+use heads::Kept;
+use heads::Session;
+use heads::State;
+ghost use mathlib.Core.Path.{_≡_};
+ghost use mathlib.Core.Bool.{true, false};
+ghost use Prim.Native.Nat.{_+_, _%_, _≤_, _<_};
+ghost use lib.ListN.{length};
+ghost use Rattle.datagrams.specs.Sizes.{messagesLimit};
+ghost use Rattle.repair.specs.Cells.{isUnknown};
+ghost use Rattle.views.specs.View.{following, sum, sessionLimit};
+ghost use Rattle.views.specs.Release.{released, booked};
+ghost use Rattle.heads.specs.Head.{countsOf, stateOf, slotsHeard, messageOctets};
+ghost use Rattle.heads.specs.Within.{Within};
+ghost use Rattle.releasing.specs.Steps.{Wide, Freed};
+ghost use Rattle.releasing.specs.Promise.{OneMore, BaseMoved};
+
+// What next answers: the kind, the number and the size of the packet that it handed out, or why it is refused.
+pub enum Released {
+    Packet {
+        kind: State,
+        number: u16,
+        size: usize,
+    },
+    Refused(Refusal),
+}
+
+pub struct NextDone {
+    pub head: Head,
+    pub answer: Released,
+}
+
+// What give up answers: the number that was booked lost, or why it is refused.
+pub enum Lost {
+    Number(u16),
+    Refused(Refusal),
+}
+
+pub struct GivenUp {
+    pub head: Head,
+    pub answer: Lost,
+}
+
+// A number of sixteen bits as a size.
+fn wide(n: u16) -> usize
+    ensures { λ r. ⌜ Wide n r ⌝ }
+{
+    n as usize
+}
+
+// The number after n: "All arithmetic on numbers is modulo 65,536".
+fn number_after(n: u16) -> u16
+    ensures { λ r. ⌜ r ≡ following n ⌝ }
+{
+    std::num::wrapping_add_u16(n, 1)
+}
+
+// The moves so far.
+fn total(c: Counts) -> u64
+    ensures { λ r. ⌜ r ≡ sum (countsOf c) ⌝ }
+{
+    let known = c.received as u64 + c.spare as u64;
+    let settled = known + c.repaired as u64;
+    settled + c.lost as u64
+}
+
+fn is_unknown(state: State) -> bool
+    ensures { λ r. ⌜ r ≡ isUnknown (stateOf state) ⌝ }
+{
+    match state {
+        State::Unknown => true,
+        State::Received => false,
+        State::Spare => false,
+        State::Repaired => false,
+        State::Blank => false,
+    }
+}
+
+// The first m messages of the number in slot j of those from the base on, cleared.
+fn free_messages(g: &mut [u8], j: usize, m: usize)
+    requires { ⌜ j < slotsHeard ⌝ }
+    requires { ⌜ length (now g) ≡ messageOctets ⌝ }
+    requires { ⌜ m ≤ messagesLimit ⌝ }
+    ensures { λ _. ⌜ Freed j m (now (g .entry)) (now (g .exit)) ⌝ }
+{
+    let at = j * Parity::MESSAGES;
+    let mut i = 0;
+    while i < m {
+        stores::clear(g, at + i);
+        i += 1;
+    }
+}
+
+// "the base goes on by one": "The number that leaves drops its accepted mark and messages; the one that comes into view is
+// unknown." The number that comes into view has the slot of the oldest before the base, which leaves the view.
+pub fn go_on(
+    h: Head,
+    o: &mut [u8; Session::PACKET_OCTETS],
+    g: &mut [u8; Session::MESSAGE_OCTETS],
+    counts: Counts,
+) -> Head
+    requires { ⌜ Within h (now o) (now g) ⌝ }
+    requires { ⌜ OneMore (h .counts) counts ⌝ }
+    ensures { λ r. ⌜ BaseMoved counts h (now (o .entry)) (now (g .entry)) r (now (o .exit)) (now (g .exit)) ⌝ }
+{
+    let base = wide(h.base);
+    let comes = (base + Session::BEFORE) % Session::KEPT;
+    let leaves = base % Session::HEARD;
+    let heard = h.heard[leaves];
+    let m = heard.m as usize;
+    stores::clear(o, comes);
+    free_messages(g, leaves, m);
+    let at = leaves * Parity::MESSAGES;
+    let mut r = h;
+    r.base = number_after(h.base);
+    r.counts = counts;
+    r.kept[comes] = Kept {
+        state: State::Unknown,
+        size: 0,
+    };
+    r.heard[leaves] = Heard {
+        accepted: false,
+        n: 0,
+        m: 0,
+    };
+    r.sizes[at] = 0;
+    r.sizes[at + 1] = 0;
+    r.sizes[at + 2] = 0;
+    r.sizes[at + 3] = 0;
+    r
+}
