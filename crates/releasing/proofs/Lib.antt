@@ -1,1 +1,4 @@
 pub mod Freeing
+pub mod Reading
+pub mod Shift
+pub mod Moving

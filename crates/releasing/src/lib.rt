@@ -2,7 +2,6 @@
 // value and two lent stores. They serve callers inside this repository: they require the session's ranges, which the public
 // calls check (refusal 17), and keep them. Only the slots of the number that leaves and of the one that comes into view are
 // written.
-use lengths::Refusal;
 use datagrams::Parity;
 use heads::Counts;
 use heads::Head;
@@ -10,6 +9,7 @@ use heads::Heard;
 use heads::Kept;
 use heads::Session;
 use heads::State;
+use lengths::Refusal;
 ghost use mathlib.Core.Path.{_≡_};
 ghost use mathlib.Core.Bool.{true, false};
 ghost use Prim.Native.Nat.{_+_, _%_, _≤_, _<_};

@@ -1,3 +1,4 @@
+use Rattle.releasing.proofs.Moving.{few-leave, base-moved}
 use borrow.Author.Needs.{needs}
 use Rattle.releasing.proofs.go_on.Statement.{statement}
 use Rattle.releasing.proofs.go_on.Tie as tie
@@ -34,7 +35,7 @@ clear-requires c κs = search needs
 
 -- src/lib.rt:120:5
 free-messages-requires : tie.Need-free-messages-requires
-free-messages-requires c κs = ?
+free-messages-requires c κs = (search needs, (search needs, search few-leave))
 
 -- src/lib.rt:121:14
 mul-at : tie.Need-mul-at
@@ -106,7 +107,7 @@ element-write-r-4 c = search needs
 
 -- src/lib.rt:104:1
 returns : tie.Need-returns
-returns c = ?
+returns c = search base-moved
 
 pub go-on-spec : {M : Type 1} → statement M
 go-on-spec =
