@@ -2,3 +2,4 @@ pub mod Freeing
 pub mod Reading
 pub mod Shift
 pub mod Moving
+pub mod Steps

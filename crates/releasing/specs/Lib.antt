@@ -1,2 +1,3 @@
-pub mod Steps
+pub mod Outcome
 pub mod Promise
+pub mod Steps

@@ -4,9 +4,22 @@ use mathlib.Core.Path.{_≡_}
 use mathlib.Core.Bool.{true}
 use mathlib.Core.List.{List}
 use lib.ListN.{length}
+use Rattle.lengths.specs.Refusals.{refusal}
 use Rattle.datagrams.specs.Sizes.{packetLimit, messagesLimit}
 use Rattle.stores.specs.Store.{HasSlot, part, zerosPast}
 use Rattle.heads.specs.Head.{messageSlot, messageOctets, slotsHeard}
+use Rattle.heads.specs.declared.Head.{Head}
+use Rattle.releasing.specs.declared.NextDone.{NextDone}
+use Rattle.releasing.specs.declared.GivenUp.{GivenUp}
+use Rattle.releasing.specs.declared.Released.the-variants as released
+use Rattle.releasing.specs.declared.Lost.the-variants as lost
+
+-- refusals as they are handed back: the head, and document 01's number
+abbrev pub nextRefused : Head → ℕ → NextDone
+nextRefused h number = record { head = h; answer = released.Refused (refusal number) }
+
+abbrev pub giveUpRefused : Head → ℕ → GivenUp
+giveUpRefused h number = record { head = h; answer = lost.Refused (refusal number) }
 
 -- a number of sixteen bits as a size
 pub record Wide (n r : ℕ) : Type 0 where

@@ -20,8 +20,8 @@ ghost use Rattle.views.specs.View.{following, sum, sessionLimit};
 ghost use Rattle.views.specs.Release.{released, booked};
 ghost use Rattle.heads.specs.Head.{countsOf, stateOf, slotsHeard, messageOctets};
 ghost use Rattle.heads.specs.Within.{Within};
-ghost use Rattle.releasing.specs.Steps.{Wide, Freed};
-ghost use Rattle.releasing.specs.Promise.{OneMore, BaseMoved};
+ghost use Rattle.releasing.specs.Steps.{Wide, Freed, nextRefused, giveUpRefused};
+ghost use Rattle.releasing.specs.Promise.{OneMore, BaseMoved, NextMade, GiveUpMade};
 
 // What next answers: the kind, the number and the size of the packet that it handed out, or why it is refused.
 pub enum Released {
@@ -84,6 +84,49 @@ fn is_unknown(state: State) -> bool
     }
 }
 
+// One more released of its kind: a count is of releases, never of arrivals. An unknown or blank number is not released.
+fn counted(kind: State, c: Counts) -> Counts
+    requires { ⌜ sum (countsOf c) < sessionLimit ⌝ }
+    ensures { λ r. ⌜ countsOf r ≡ released (stateOf kind) (countsOf c) ⌝ }
+{
+    let received = c.received;
+    let spare = c.spare;
+    let repaired = c.repaired;
+    let lost = c.lost;
+    match kind {
+        State::Unknown => c,
+        State::Received => Counts {
+            received: received + 1,
+            spare,
+            repaired,
+            lost,
+        },
+        State::Spare => Counts {
+            received,
+            spare: spare + 1,
+            repaired,
+            lost,
+        },
+        State::Repaired => Counts {
+            received,
+            spare,
+            repaired: repaired + 1,
+            lost,
+        },
+        State::Blank => c,
+    }
+}
+
+// One more lost.
+fn book_lost(c: Counts) -> Counts
+    requires { ⌜ sum (countsOf c) < sessionLimit ⌝ }
+    ensures { λ r. ⌜ countsOf r ≡ booked (countsOf c) ⌝ }
+{
+    let mut r = c;
+    r.lost = c.lost + 1;
+    r
+}
+
 // The first m messages of the number in slot j of those from the base on, cleared.
 fn free_messages(g: &mut [u8], j: usize, m: usize)
     requires { ⌜ j < slotsHeard ⌝ }
@@ -136,4 +179,87 @@ pub fn go_on(
     r.sizes[at + 2] = 0;
     r.sizes[at + 3] = 0;
     r
+}
+
+// A refusal leaves the head as it is.
+fn next_refused(head: Head, number: u8) -> NextDone
+    ensures { λ r. ⌜ r ≡ nextRefused head number ⌝ }
+{
+    let refusal = Refusal::new(number);
+    NextDone {
+        head,
+        answer: Released::Refused(refusal),
+    }
+}
+
+fn give_up_refused(head: Head, number: u8) -> GivenUp
+    ensures { λ r. ⌜ r ≡ giveUpRefused head number ⌝ }
+{
+    let refusal = Refusal::new(number);
+    GivenUp {
+        head,
+        answer: Lost::Refused(refusal),
+    }
+}
+
+// Next: refusals 16, 10 and 13 in this order, else the packet at the base to the front of out, and the base goes on by one.
+pub fn next_core(
+    h: Head,
+    o: &mut [u8; Session::PACKET_OCTETS],
+    g: &mut [u8; Session::MESSAGE_OCTETS],
+    out: &mut [u8],
+) -> NextDone
+    requires { ⌜ Within h (now o) (now g) ⌝ }
+    ensures { λ r. ⌜ NextMade h (now (o .entry)) (now (g .entry)) (now (out .entry)) r (now (o .exit)) (now (g .exit)) (now (out .exit)) ⌝ }
+{
+    let moves = h.counts;
+    if Session::LIMIT <= total(moves) {
+        return next_refused(h, Refusal::ALL_PASSED);
+    }
+    let number = h.base;
+    let slot = wide(number) % Session::KEPT;
+    let kept = h.kept[slot];
+    let kind = kept.state;
+    if is_unknown(kind) {
+        return next_refused(h, Refusal::BASE_UNKNOWN);
+    }
+    let size = wide(kept.size);
+    if out.len() < size {
+        return next_refused(h, Refusal::NO_ROOM);
+    }
+    stores::copy_out(o, slot, size, out);
+    let counts = counted(kind, moves);
+    let head = go_on(h, o, g, counts);
+    NextDone {
+        head,
+        answer: Released::Packet { kind, number, size },
+    }
+}
+
+// Give up: refusals 16 and 11 in this order, else the unknown number at the base is booked lost and the base goes on by one.
+pub fn give_up_core(
+    h: Head,
+    o: &mut [u8; Session::PACKET_OCTETS],
+    g: &mut [u8; Session::MESSAGE_OCTETS],
+) -> GivenUp
+    requires { ⌜ Within h (now o) (now g) ⌝ }
+    ensures { λ r. ⌜ GiveUpMade h (now (o .entry)) (now (g .entry)) r (now (o .exit)) (now (g .exit)) ⌝ }
+{
+    let moves = h.counts;
+    if Session::LIMIT <= total(moves) {
+        return give_up_refused(h, Refusal::ALL_PASSED);
+    }
+    let number = h.base;
+    let slot = wide(number) % Session::KEPT;
+    let kept = h.kept[slot];
+    let state = kept.state;
+    if is_unknown(state) {
+        let counts = book_lost(moves);
+        let head = go_on(h, o, g, counts);
+        return GivenUp {
+            head,
+            answer: Lost::Number(number),
+        };
+    }
+    give_up_refused(h, Refusal::BASE_KNOWN)
 }

@@ -1,0 +1,192 @@
+-- One law for each answer of `next_core` and of `give_up_core`, in the words of the code: the tests that led there give the
+-- promise. Assumes nothing.
+use Prim.Native.Nat.{ℕ, suc, _+_, _-_, _*_, _%_, _≤_, _<_}
+use mathlib.Core.Path.{_≡_, refl, sym, ap, ap₂, _∙_}
+use mathlib.Core.Bool.{Bool, true, false, cond, _&&_, false≢true, true≢false}
+use mathlib.Core.List.{List, [], _∷_, _++_}
+use lib.ListN.{length, getD, drop}
+use lib.Dec.{leb, ltb, eqb}
+use native.Mathlib.Omega.{arith}
+use borrow.Author.Tests.{lt-ltb, le-ltb, le-leb, lt-leb}
+use Rattle.octets.proofs.Place.{tab-at}
+use Rattle.octets.proofs.Cases.{and-right}
+use Rattle.lengths.specs.Refusals.{refusal, baseUnknown, baseKnown, noRoom, allPassed}
+use Rattle.lengths.specs.Answers.{Answer, done, refused, refuse, over}
+use Rattle.lengths.specs.declared.Refusal.{Refusal}
+use Rattle.datagrams.specs.Sizes.{packetLimit}
+use Rattle.repair.specs.Cells as cells
+use Rattle.repair.specs.Cells.{Cell, blankCell, isUnknown, cellAt, unknownAt, keptBefore, keptNumbers}
+use Rattle.stores.specs.Store.{HasSlot, part}
+use Rattle.stores.proofs.Laws.{length-part}
+use Rattle.views.specs.View as views
+use Rattle.views.specs.View.{View, sum, sessionLimit, goneOn}
+use Rattle.views.specs.Release.{Release, Loss, next, giveUp, atBase}
+use Rattle.views.specs.Release as release
+use Rattle.heads.specs.Head.{slotAt, slotsKept, keptIn, cellIn, cellsOf, viewIn, countsOf, stateOf}
+use Rattle.heads.specs.Ranges.{stateInRange}
+use Rattle.heads.specs.Within.{Within}
+use Rattle.heads.specs.declared.State.{State}
+use Rattle.heads.specs.declared.State.the-variants.{Unknown, Received, Spare, Repaired, Blank}
+use Rattle.heads.specs.declared.Counts.{Counts}
+use Rattle.heads.specs.declared.Head.{Head}
+use Rattle.heads.proofs.Slots.{has-packet-slot}
+use Rattle.releasing.specs.Steps.{Wide, nextRefused, giveUpRefused}
+use Rattle.releasing.specs.Outcome.{releasedOutcome, lostOutcome, handedOf, octetsOf, afterNext, numberOf, afterGiveUp}
+use Rattle.releasing.specs.Promise.{OneMore, BaseMoved, Same, NextMade, GiveUpMade}
+use Rattle.releasing.specs.declared.NextDone.{NextDone}
+use Rattle.releasing.specs.declared.GivenUp.{GivenUp}
+use Rattle.releasing.specs.declared.Released.the-variants as released
+use Rattle.releasing.specs.declared.Lost.the-variants as lost
+use Rattle.releasing.proofs.Reading.{kept-state, kept-size}
+
+-- ---- counts
+-- a number at the base that is known is received, spare or repaired: one count is one more
+sum-released : (s : State) (n : ℕ) (c : views.Counts) → stateInRange s n false ≡ true → isUnknown (stateOf s) ≡ false
+    → sum (release.released (stateOf s) c) ≡ sum c + 1
+unfolding stateInRange
+sum-released Unknown n c e known = absurd (true≢false known)
+sum-released Received n c e known = omega arith
+sum-released Spare n c e known = omega arith
+sum-released Repaired n c e known = omega arith
+sum-released Blank n c e known = absurd (false≢true (and-right (eqb n 0) false e))
+
+-- ---- the number at the base
+module _ {h : Head} {o g : List ℕ} (w : Within h o g) {b : ℕ} (wide : Wide (h .base) b) where
+  base-slot : slotAt (h .base) keptBefore ≡ b % slotsKept
+  base-slot = omega (arith, wide .same)
+
+  pub base-there : HasSlot (b % slotsKept) o
+  base-there = has-packet-slot o (b % slotsKept) (w .kept .octets) (omega arith)
+
+  base-cell : cellAt (cellsOf h o) keptBefore ≡ cellIn h o (b % slotsKept)
+  unfolding cellsOf
+  base-cell =
+      tab-at keptNumbers (λ p. cellIn h o (slotAt (h .base) p)) keptBefore blankCell (omega arith)
+      ∙ ap (λ (i : ℕ). cellIn h o i) base-slot
+
+  base-state : stateInRange ((keptIn h (b % slotsKept)) .state) ((keptIn h (b % slotsKept)) .size) false ≡ true
+  base-state = rw base-slot at (kept-state w keptBefore (omega arith))
+
+  pub base-size : (keptIn h (b % slotsKept)) .size ≤ packetLimit
+  base-size = rw base-slot at (kept-size w keptBefore (omega arith))
+
+  base-unknown : unknownAt (cellsOf h o) keptBefore ≡ isUnknown (stateOf ((keptIn h (b % slotsKept)) .state))
+  unfolding cellIn
+  base-unknown = ap (λ (c : Cell). isUnknown (c .state)) base-cell
+
+-- ---- next: what the definition says, by the tests of the code
+module _ {h : Head} {o g : List ℕ} (w : Within h o g) {t : ℕ} (total : t ≡ sum (countsOf (h .counts))) (room : ℕ) where
+  next-passed : sessionLimit ≤ t → next room (viewIn h o g) ≡ refuse allPassed
+  unfolding next viewIn
+  next-passed passed =
+      let e : sessionLimit ≤ sum (countsOf (h .counts)) = omega arith in
+      rw (le-leb sessionLimit (sum (countsOf (h .counts))) e)
+
+  module _ (more : t < sessionLimit) {b : ℕ} (wide : Wide (h .base) b) where
+    goes-on : sum (countsOf (h .counts)) < sessionLimit
+    goes-on = omega arith
+
+    next-unknown : isUnknown (stateOf ((keptIn h (b % slotsKept)) .state)) ≡ true → next room (viewIn h o g) ≡ refuse baseUnknown
+    unfolding next viewIn
+    next-unknown unknown =
+        rw (lt-leb sessionLimit (sum (countsOf (h .counts))) goes-on, base-unknown w wide, unknown)
+
+    base-octets : isUnknown (stateOf ((keptIn h (b % slotsKept)) .state)) ≡ false
+        → length ((cellAt (cellsOf h o) keptBefore) .octets) ≡ (keptIn h (b % slotsKept)) .size
+    unfolding cellIn
+    base-octets known =
+        ap (λ (c : Cell). length (c .octets)) (base-cell w wide)
+        ∙ length-part o (b % slotsKept) ((keptIn h (b % slotsKept)) .size) (base-there w wide) (base-size w wide)
+
+    next-short : isUnknown (stateOf ((keptIn h (b % slotsKept)) .state)) ≡ false → room < (keptIn h (b % slotsKept)) .size
+        → next room (viewIn h o g) ≡ refuse noRoom
+    unfolding next viewIn
+    next-short known short =
+        rw (
+          lt-leb sessionLimit (sum (countsOf (h .counts))) goes-on,
+          base-unknown w wide,
+          known,
+          base-octets known,
+          lt-ltb room ((keptIn h (b % slotsKept)) .size) short,
+        )
+
+    next-done : isUnknown (stateOf ((keptIn h (b % slotsKept)) .state)) ≡ false → (keptIn h (b % slotsKept)) .size ≤ room
+        → next room (viewIn h o g)
+        ≡ done
+        (record {
+          kind = stateOf ((keptIn h (b % slotsKept)) .state);
+          number = h .base;
+          octets = part o (b % slotsKept) ((keptIn h (b % slotsKept)) .size);
+          after = goneOn (release.released (stateOf ((keptIn h (b % slotsKept)) .state)) (countsOf (h .counts))) (viewIn h o g);
+        })
+    unfolding next viewIn cellIn
+    next-done known fits =
+        rw (
+          lt-leb sessionLimit (sum (countsOf (h .counts))) goes-on,
+          base-unknown w wide,
+          known,
+          base-octets known,
+          le-ltb room ((keptIn h (b % slotsKept)) .size) fits,
+          base-cell w wide,
+        )
+
+-- ---- next: each answer
+-- a refusal: the very session and buffer
+refused-next : {h : Head} {o g old : List ℕ} {r : NextDone} (n : ℕ) → Within h o g → next (length old) (viewIn h o g) ≡ refuse n
+    → r ≡ nextRefused h n → NextMade h o g old r o g old
+refused-next {h} {o} {g} {old} {r} n w e made =
+    rw made
+    (record {
+      answer = rw e;
+      lent = rw e;
+      state = rw e;
+      within = w;
+      stays = λ x same. record { head = refl; octets = refl; messages = refl };
+    })
+
+module _ {h : Head} {o g old : List ℕ} {t : ℕ} (w : Within h o g) (total : t ≡ sum (countsOf (h .counts))) where
+  pub next-16 : {r : NextDone} → sessionLimit ≤ t → r ≡ nextRefused h allPassed → NextMade h o g old r o g old
+  next-16 passed made = refused-next allPassed w (next-passed w total (length old) passed) made
+
+  module _ {b : ℕ} {u : Bool} (more : t < sessionLimit) (wide : Wide (h .base) b)
+      (test : u ≡ isUnknown (stateOf ((keptIn h (b % slotsKept)) .state))) where
+    pub next-10 : {r : NextDone} → u ≡ true → r ≡ nextRefused h baseUnknown → NextMade h o g old r o g old
+    next-10 unknown made = refused-next baseUnknown w (next-unknown w total (length old) more wide (sym test ∙ unknown)) made
+
+    module _ {s : ℕ} (known : u ≡ false) (size : Wide ((keptIn h (b % slotsKept)) .size) s) where
+      pub next-13 : {r : NextDone} → length old < s → r ≡ nextRefused h noRoom → NextMade h o g old r o g old
+      next-13 short made =
+          refused-next noRoom w (next-short w total (length old) more wide (sym test ∙ known) (rw (size .same) at short)) made
+
+      pub next-released : {counts : Counts} {after : Head} {newO newG new : List ℕ} → s ≤ length old
+          → new ≡ part o (b % slotsKept) s ++ drop s old
+          → countsOf counts ≡ release.released (stateOf ((keptIn h (b % slotsKept)) .state)) (countsOf (h .counts))
+          → BaseMoved counts h o g after newO newG
+          → NextMade h o g old
+          (record { head = after; answer = released.Packet ((keptIn h (b % slotsKept)) .state) (h .base) s })
+          newO newG new
+      next-released fits copied e moved =
+          let long = length-part o (b % slotsKept) ((keptIn h (b % slotsKept)) .size) (base-there w wide) (base-size w wide) in
+          let whole = next-done w total (length old) more wide (sym test ∙ known) (rw (size .same) at fits) in
+          record {
+            answer = rw (whole, long, size .same);
+            lent = rw (whole, long) (copied ∙ rw (size .same));
+            state = rw whole (moved .state ∙ rw e);
+            within = moved .within;
+            stays = λ x same. let z : _≡_ {A = ℕ} 0 1 = cc in absurd (omega arith);
+          }
+
+-- what the calls on the way to a release require
+pub size-fits : {h : Head} {o g : List ℕ} {b s : ℕ} → Within h o g → Wide (h .base) b → Wide ((keptIn h (b % slotsKept)) .size) s → s ≤ packetLimit
+size-fits w wide size = rw (size .same) (base-size w wide)
+
+pub one-released : {h : Head} {o g : List ℕ} {b t : ℕ} {u : Bool} {counts : Counts} → Within h o g → t ≡ sum (countsOf (h .counts)) → t < sessionLimit
+    → Wide (h .base) b → u ≡ isUnknown (stateOf ((keptIn h (b % slotsKept)) .state)) → u ≡ false
+    → countsOf counts ≡ release.released (stateOf ((keptIn h (b % slotsKept)) .state)) (countsOf (h .counts)) → OneMore (h .counts) counts
+one-released {h} {o} {g} {b} {t} {u} {counts} w total below wide test known e =
+    let one : sum (countsOf counts) ≡ sum (countsOf (h .counts)) + 1 =
+        ap (λ (c : views.Counts). sum c) e
+        ∙ sum-released ((keptIn h (b % slotsKept)) .state) ((keptIn h (b % slotsKept)) .size) (countsOf (h .counts)) (base-state w wide)
+        (sym test ∙ known)
+    in
+    record { more = one; fits = omega arith }

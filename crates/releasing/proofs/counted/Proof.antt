@@ -1,0 +1,75 @@
+use borrow.Author.Needs.{needs}
+use Rattle.releasing.proofs.counted.Statement.{statement}
+use Rattle.releasing.proofs.counted.Tie as tie
+use Rattle.releasing.proofs.counted.Reads as reads
+use Rattle.releasing.proofs.counted.Lts as lts
+
+-- src/lib.rt:97:27
+enum-told : tie.Need-enum-told
+enum-told c = search needs
+
+-- src/lib.rt:99:23
+enum-told-2 : tie.Need-enum-told-2
+enum-told-2 c = search needs
+
+-- src/lib.rt:99:23
+add-t8 : tie.Need-add-t8
+add-t8 c = search needs
+
+-- src/lib.rt:106:20
+enum-told-3 : tie.Need-enum-told-3
+enum-told-3 c = search needs
+
+-- src/lib.rt:106:20
+add-t9 : tie.Need-add-t9
+add-t9 c = search needs
+
+-- src/lib.rt:113:23
+enum-told-4 : tie.Need-enum-told-4
+enum-told-4 c = search needs
+
+-- src/lib.rt:113:23
+add-t10 : tie.Need-add-t10
+add-t10 c = search needs
+
+-- src/lib.rt:116:25
+enum-told-5 : tie.Need-enum-told-5
+enum-told-5 c = search needs
+
+-- src/lib.rt:88:1
+returns : tie.Need-returns
+returns c = rw (c .enum-told .given .1)
+
+-- src/lib.rt:88:1
+returns-2 : tie.Need-returns-2
+returns-2 c = rw (c .enum-told2 .given .1)
+
+-- src/lib.rt:88:1
+returns-3 : tie.Need-returns-3
+returns-3 c = rw (c .enum-told3 .given .1)
+
+-- src/lib.rt:88:1
+returns-4 : tie.Need-returns-4
+returns-4 c = rw (c .enum-told4 .given .1)
+
+-- src/lib.rt:88:1
+returns-5 : tie.Need-returns-5
+returns-5 c = rw (c .enum-told5 .given .1)
+
+pub counted-spec : {M : Type 1} → statement M
+counted-spec =
+    tie.close
+    (tie.spec
+    enum-told
+    enum-told-2
+    add-t8
+    enum-told-3
+    add-t9
+    enum-told-4
+    add-t10
+    enum-told-5
+    returns
+    returns-2
+    returns-3
+    returns-4
+    returns-5)
