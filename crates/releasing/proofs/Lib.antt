@@ -2,4 +2,6 @@ pub mod Freeing
 pub mod Reading
 pub mod Shift
 pub mod Moving
-pub mod Steps
+pub mod Base
+pub mod Next
+pub mod GiveUp

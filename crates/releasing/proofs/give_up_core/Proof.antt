@@ -1,3 +1,4 @@
+use Rattle.releasing.proofs.GiveUp.{give-up-16, give-up-11, give-up-lost, one-booked}
 use borrow.Author.Needs.{needs}
 use Rattle.releasing.proofs.give_up_core.Statement.{statement}
 use Rattle.releasing.proofs.give_up_core.Tie as tie
@@ -20,7 +21,8 @@ give-up-refused-requires c κs = search needs
 
 -- src/lib.rt:250:9
 returns : tie.Need-returns
-returns c = ?
+returns c =
+    give-up-16 (c .before .before .before .before .pre) (c .before .before .total .ensures) (c .before .if1 .taken) (c .give-up-refused .ensures)
 
 -- src/lib.rt:253:16
 wide-requires : tie.Need-wide-requires
@@ -44,11 +46,18 @@ book-lost-requires c κs = search needs
 
 -- src/lib.rt:258:13
 go-on-requires : tie.Need-go-on-requires
-go-on-requires c κs = ?
+go-on-requires c κs =
+    let total = c .before .before .before .before .before .before .before .before in
+    (total .before .before .pre, one-booked (total .total .ensures) (c .before .before .before .before .before .before .before .if1 .left) (c .before .before .book-lost .ensures))
 
 -- src/lib.rt:259:9
 returns-2 : tie.Need-returns-2
-returns-2 c = ?
+returns-2 c =
+    let test = c .before .before .before .before .before in
+    let wide = test .before .before in
+    let total = wide .before .before in
+    give-up-lost (total .before .before .pre) (total .total .ensures) (wide .before .if1 .left) (wide .wide .ensures)
+    (test .is-unknown .ensures) (c .before .before .before .before .if2 .taken) (c .before .before .before .book-lost .ensures) (c .go-on .ensures)
 
 -- src/lib.rt:264:5
 give-up-refused-requires-2 : tie.Need-give-up-refused-requires-2
@@ -56,7 +65,12 @@ give-up-refused-requires-2 c κs = search needs
 
 -- src/lib.rt:240:1
 returns-3 : tie.Need-returns-3
-returns-3 c = ?
+returns-3 c =
+    let test = c .before .before in
+    let wide = test .before .before in
+    let total = wide .before .before in
+    give-up-11 (total .before .before .pre) (total .total .ensures) (wide .before .if1 .left) (wide .wide .ensures)
+    (test .is-unknown .ensures) (c .before .if2 .left) (c .give-up-refused2 .ensures)
 
 pub give-up-core-spec : {M : Type 1} → statement M
 give-up-core-spec =

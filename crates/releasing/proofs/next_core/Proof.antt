@@ -1,4 +1,5 @@
-use Rattle.releasing.proofs.Steps.{next-16, next-10, next-13, next-released, base-there, size-fits, one-released}
+use Rattle.releasing.proofs.Base.{base-there, size-fits}
+use Rattle.releasing.proofs.Next.{next-16, next-10, next-13, next-released, one-released}
 use borrow.Author.Needs.{needs}
 use Rattle.releasing.proofs.next_core.Statement.{statement}
 use Rattle.releasing.proofs.next_core.Tie as tie
@@ -76,9 +77,10 @@ copy-out-requires c κs =
     let room = c .before .before .before in
     let size = room .before in
     let wide = size .before .before .before .before in
-    let start = wide .before .before .before .before .before in
-    (base-there (start .pre) (wide .wide .ensures),
-    (size-fits (start .pre) (wide .wide .ensures) (size .wide2 .ensures), room .if3 .left))
+    let start = wide .before .before .before .before .before in (
+      base-there (start .pre) (wide .wide .ensures),
+      (size-fits (start .pre) (wide .wide .ensures) (size .wide2 .ensures), room .if3 .left),
+    )
 
 -- src/lib.rt:231:9
 counted-requires : tie.Need-counted-requires
@@ -91,10 +93,11 @@ go-on-requires c κs =
     let test = counted .before .before .before .before .before .before .before .before .before .before in
     let wide = test .before .before in
     let total = wide .before .before in
-    let start = total .before .before .before in
-    (start .pre,
-    one-released (start .pre) (total .total .ensures) (wide .before .if1 .left) (wide .wide .ensures) (test .is-unknown .ensures)
-    (c .before .before .before .before .before .before .before .before .before .before .before .if2 .left) (counted .counted .ensures))
+    let start = total .before .before .before in (
+      start .pre,
+      one-released (start .pre) (total .total .ensures) (wide .before .if1 .left) (wide .wide .ensures) (test .is-unknown .ensures)
+          (c .before .before .before .before .before .before .before .before .before .before .before .if2 .left) (counted .counted .ensures),
+    )
 
 -- src/lib.rt:206:1
 same-length : tie.Need-same-length

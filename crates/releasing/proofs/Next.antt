@@ -1,78 +1,30 @@
--- One law for each answer of `next_core` and of `give_up_core`, in the words of the code: the tests that led there give the
+-- What `next` is by the tests of the code, and one law for each answer of `next_core`: the tests that led there give the
 -- promise. Assumes nothing.
-use Prim.Native.Nat.{ℕ, suc, _+_, _-_, _*_, _%_, _≤_, _<_}
-use mathlib.Core.Path.{_≡_, refl, sym, ap, ap₂, _∙_}
-use mathlib.Core.Bool.{Bool, true, false, cond, _&&_, false≢true, true≢false}
-use mathlib.Core.List.{List, [], _∷_, _++_}
-use lib.ListN.{length, getD, drop}
-use lib.Dec.{leb, ltb, eqb}
+use Prim.Native.Nat.{ℕ, _+_, _-_, _%_, _≤_, _<_}
+use mathlib.Core.Path.{_≡_, refl, sym, ap, _∙_}
+use mathlib.Core.Bool.{Bool, true, false}
+use mathlib.Core.List.{List, _++_}
+use lib.ListN.{length, drop}
 use native.Mathlib.Omega.{arith}
 use borrow.Author.Tests.{lt-ltb, le-ltb, le-leb, lt-leb}
-use Rattle.octets.proofs.Place.{tab-at}
-use Rattle.octets.proofs.Cases.{and-right}
-use Rattle.lengths.specs.Refusals.{refusal, baseUnknown, baseKnown, noRoom, allPassed}
-use Rattle.lengths.specs.Answers.{Answer, done, refused, refuse, over}
-use Rattle.lengths.specs.declared.Refusal.{Refusal}
-use Rattle.datagrams.specs.Sizes.{packetLimit}
-use Rattle.repair.specs.Cells as cells
-use Rattle.repair.specs.Cells.{Cell, blankCell, isUnknown, cellAt, unknownAt, keptBefore, keptNumbers}
-use Rattle.stores.specs.Store.{HasSlot, part}
+use Rattle.lengths.specs.Refusals.{refusal, baseUnknown, noRoom, allPassed}
+use Rattle.lengths.specs.Answers.{done, refuse}
+use Rattle.repair.specs.Cells.{Cell, isUnknown, cellAt, keptBefore}
+use Rattle.stores.specs.Store.{part}
 use Rattle.stores.proofs.Laws.{length-part}
 use Rattle.views.specs.View as views
-use Rattle.views.specs.View.{View, sum, sessionLimit, goneOn}
-use Rattle.views.specs.Release.{Release, Loss, next, giveUp, atBase}
+use Rattle.views.specs.View.{sum, sessionLimit, goneOn}
+use Rattle.views.specs.Release.{next}
 use Rattle.views.specs.Release as release
-use Rattle.heads.specs.Head.{slotAt, slotsKept, keptIn, cellIn, cellsOf, viewIn, countsOf, stateOf}
-use Rattle.heads.specs.Ranges.{stateInRange}
+use Rattle.heads.specs.Head.{slotsKept, keptIn, cellIn, cellsOf, viewIn, countsOf, stateOf}
 use Rattle.heads.specs.Within.{Within}
-use Rattle.heads.specs.declared.State.{State}
-use Rattle.heads.specs.declared.State.the-variants.{Unknown, Received, Spare, Repaired, Blank}
 use Rattle.heads.specs.declared.Counts.{Counts}
 use Rattle.heads.specs.declared.Head.{Head}
-use Rattle.heads.proofs.Slots.{has-packet-slot}
-use Rattle.releasing.specs.Steps.{Wide, nextRefused, giveUpRefused}
-use Rattle.releasing.specs.Outcome.{releasedOutcome, lostOutcome, handedOf, octetsOf, afterNext, numberOf, afterGiveUp}
-use Rattle.releasing.specs.Promise.{OneMore, BaseMoved, Same, NextMade, GiveUpMade}
+use Rattle.releasing.specs.Steps.{Wide, nextRefused}
+use Rattle.releasing.specs.Promise.{OneMore, BaseMoved, NextMade}
 use Rattle.releasing.specs.declared.NextDone.{NextDone}
-use Rattle.releasing.specs.declared.GivenUp.{GivenUp}
 use Rattle.releasing.specs.declared.Released.the-variants as released
-use Rattle.releasing.specs.declared.Lost.the-variants as lost
-use Rattle.releasing.proofs.Reading.{kept-state, kept-size}
-
--- ---- counts
--- a number at the base that is known is received, spare or repaired: one count is one more
-sum-released : (s : State) (n : ℕ) (c : views.Counts) → stateInRange s n false ≡ true → isUnknown (stateOf s) ≡ false
-    → sum (release.released (stateOf s) c) ≡ sum c + 1
-unfolding stateInRange
-sum-released Unknown n c e known = absurd (true≢false known)
-sum-released Received n c e known = omega arith
-sum-released Spare n c e known = omega arith
-sum-released Repaired n c e known = omega arith
-sum-released Blank n c e known = absurd (false≢true (and-right (eqb n 0) false e))
-
--- ---- the number at the base
-module _ {h : Head} {o g : List ℕ} (w : Within h o g) {b : ℕ} (wide : Wide (h .base) b) where
-  base-slot : slotAt (h .base) keptBefore ≡ b % slotsKept
-  base-slot = omega (arith, wide .same)
-
-  pub base-there : HasSlot (b % slotsKept) o
-  base-there = has-packet-slot o (b % slotsKept) (w .kept .octets) (omega arith)
-
-  base-cell : cellAt (cellsOf h o) keptBefore ≡ cellIn h o (b % slotsKept)
-  unfolding cellsOf
-  base-cell =
-      tab-at keptNumbers (λ p. cellIn h o (slotAt (h .base) p)) keptBefore blankCell (omega arith)
-      ∙ ap (λ (i : ℕ). cellIn h o i) base-slot
-
-  base-state : stateInRange ((keptIn h (b % slotsKept)) .state) ((keptIn h (b % slotsKept)) .size) false ≡ true
-  base-state = rw base-slot at (kept-state w keptBefore (omega arith))
-
-  pub base-size : (keptIn h (b % slotsKept)) .size ≤ packetLimit
-  base-size = rw base-slot at (kept-size w keptBefore (omega arith))
-
-  base-unknown : unknownAt (cellsOf h o) keptBefore ≡ isUnknown (stateOf ((keptIn h (b % slotsKept)) .state))
-  unfolding cellIn
-  base-unknown = ap (λ (c : Cell). isUnknown (c .state)) base-cell
+use Rattle.releasing.proofs.Base.{sum-released, base-there, base-cell, base-state, base-size, base-unknown}
 
 -- ---- next: what the definition says, by the tests of the code
 module _ {h : Head} {o g : List ℕ} (w : Within h o g) {t : ℕ} (total : t ≡ sum (countsOf (h .counts))) (room : ℕ) where
@@ -176,17 +128,14 @@ module _ {h : Head} {o g old : List ℕ} {t : ℕ} (w : Within h o g) (total : t
             stays = λ x same. let z : _≡_ {A = ℕ} 0 1 = cc in absurd (omega arith);
           }
 
--- what the calls on the way to a release require
-pub size-fits : {h : Head} {o g : List ℕ} {b s : ℕ} → Within h o g → Wide (h .base) b → Wide ((keptIn h (b % slotsKept)) .size) s → s ≤ packetLimit
-size-fits w wide size = rw (size .same) (base-size w wide)
-
+-- a release is one move more
 pub one-released : {h : Head} {o g : List ℕ} {b t : ℕ} {u : Bool} {counts : Counts} → Within h o g → t ≡ sum (countsOf (h .counts)) → t < sessionLimit
     → Wide (h .base) b → u ≡ isUnknown (stateOf ((keptIn h (b % slotsKept)) .state)) → u ≡ false
     → countsOf counts ≡ release.released (stateOf ((keptIn h (b % slotsKept)) .state)) (countsOf (h .counts)) → OneMore (h .counts) counts
 one-released {h} {o} {g} {b} {t} {u} {counts} w total below wide test known e =
     let one : sum (countsOf counts) ≡ sum (countsOf (h .counts)) + 1 =
-        ap (λ (c : views.Counts). sum c) e
-        ∙ sum-released ((keptIn h (b % slotsKept)) .state) ((keptIn h (b % slotsKept)) .size) (countsOf (h .counts)) (base-state w wide)
-        (sym test ∙ known)
+    ap (λ (c : views.Counts). sum c) e
+    ∙ sum-released ((keptIn h (b % slotsKept)) .state) ((keptIn h (b % slotsKept)) .size) (countsOf (h .counts)) (base-state w wide)
+    (sym test ∙ known)
     in
     record { more = one; fits = omega arith }
