@@ -1,27 +1,29 @@
 -- The number at the base of a session within its ranges: where it stands, that it is not blank, and how long it is.
 -- Assumes nothing.
-use Prim.Native.Nat.{ℕ, _+_, _-_, _%_, _≤_}
-use mathlib.Core.Path.{_≡_, ap, _∙_}
-use mathlib.Core.Bool.{true, false, false≢true, true≢false}
+use Prim.Native.Nat.{ℕ, _+_, _%_, _≤_, _<_}
+use mathlib.Core.Path.{_≡_, sym, ap, _∙_}
+use mathlib.Core.Bool.{Bool, true, false, false≢true, true≢false}
 use mathlib.Core.List.{List}
 use lib.Dec.{eqb}
 use native.Mathlib.Omega.{arith}
+use borrow.Author.Tests.{leb-false}
 use Rattle.octets.proofs.Place.{tab-at}
 use Rattle.octets.proofs.Cases.{and-right}
 use Rattle.datagrams.specs.Sizes.{packetLimit}
 use Rattle.repair.specs.Cells.{Cell, blankCell, isUnknown, cellAt, unknownAt, keptBefore, keptNumbers}
 use Rattle.stores.specs.Store.{HasSlot}
 use Rattle.views.specs.View as views
-use Rattle.views.specs.View.{sum}
+use Rattle.views.specs.View.{sum, sessionLimit}
 use Rattle.views.specs.Release as release
-use Rattle.heads.specs.Head.{slotAt, slotsKept, keptIn, cellIn, cellsOf, stateOf}
+use Rattle.heads.specs.Head.{slotAt, slotsKept, keptIn, cellIn, cellsOf, countsOf, stateOf}
 use Rattle.heads.specs.Ranges.{stateInRange}
 use Rattle.heads.specs.Within.{Within}
 use Rattle.heads.specs.declared.State.{State}
 use Rattle.heads.specs.declared.State.the-variants.{Unknown, Received, Spare, Repaired, Blank}
+use Rattle.heads.specs.declared.Counts.{Counts}
 use Rattle.heads.specs.declared.Head.{Head}
 use Rattle.heads.proofs.Slots.{has-packet-slot}
-use Rattle.releasing.specs.Steps.{Wide}
+use Rattle.releasing.specs.Steps.{Wide, Passed}
 use Rattle.releasing.proofs.Reading.{kept-state, kept-size}
 
 -- ---- counts
@@ -34,6 +36,10 @@ sum-released Received n c e known = omega arith
 sum-released Spare n c e known = omega arith
 sum-released Repaired n c e known = omega arith
 sum-released Blank n c e known = absurd (false≢true (and-right (eqb n 0) false e))
+
+-- fewer numbers have passed than the session's limit
+pub goes-on : {c : Counts} {p : Bool} → Passed c p → p ≡ false → sum (countsOf c) < sessionLimit
+goes-on {c} limit more = leb-false sessionLimit (sum (countsOf c)) (sym (limit .test) ∙ more)
 
 -- ---- the number at the base
 module _ {h : Head} {o g : List ℕ} (w : Within h o g) {b : ℕ} (wide : Wide (h .base) b) where

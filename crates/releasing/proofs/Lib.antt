@@ -5,3 +5,4 @@ pub mod Moving
 pub mod Base
 pub mod Next
 pub mod GiveUp
+pub mod Laws

@@ -6,7 +6,7 @@ use mathlib.Core.Bool.{Bool, true, false}
 use mathlib.Core.List.{List, _++_}
 use lib.ListN.{length, drop}
 use native.Mathlib.Omega.{arith}
-use borrow.Author.Tests.{lt-ltb, le-ltb, le-leb, lt-leb}
+use borrow.Author.Tests.{lt-ltb, le-ltb}
 use Rattle.lengths.specs.Refusals.{refusal, baseUnknown, noRoom, allPassed}
 use Rattle.lengths.specs.Answers.{done, refuse}
 use Rattle.repair.specs.Cells.{Cell, isUnknown, cellAt, keptBefore}
@@ -20,28 +20,23 @@ use Rattle.heads.specs.Head.{slotsKept, keptIn, cellIn, cellsOf, viewIn, counts
 use Rattle.heads.specs.Within.{Within}
 use Rattle.heads.specs.declared.Counts.{Counts}
 use Rattle.heads.specs.declared.Head.{Head}
-use Rattle.releasing.specs.Steps.{Wide, nextRefused}
+use Rattle.releasing.specs.Steps.{Wide, Passed, nextRefused}
 use Rattle.releasing.specs.Promise.{OneMore, BaseMoved, NextMade}
 use Rattle.releasing.specs.declared.NextDone.{NextDone}
 use Rattle.releasing.specs.declared.Released.the-variants as released
-use Rattle.releasing.proofs.Base.{sum-released, base-there, base-cell, base-state, base-size, base-unknown}
+use Rattle.releasing.proofs.Base.{sum-released, goes-on, base-there, base-cell, base-state, base-size, base-unknown}
 
 -- ---- next: what the definition says, by the tests of the code
-module _ {h : Head} {o g : List ℕ} (w : Within h o g) {t : ℕ} (total : t ≡ sum (countsOf (h .counts))) (room : ℕ) where
-  next-passed : sessionLimit ≤ t → next room (viewIn h o g) ≡ refuse allPassed
+module _ {h : Head} {o g : List ℕ} (w : Within h o g) {p : Bool} (limit : Passed (h .counts) p) (room : ℕ) where
+  next-passed : p ≡ true → next room (viewIn h o g) ≡ refuse allPassed
   unfolding next viewIn
-  next-passed passed =
-      let e : sessionLimit ≤ sum (countsOf (h .counts)) = omega arith in
-      rw (le-leb sessionLimit (sum (countsOf (h .counts))) e)
+  next-passed passed = rw (sym (limit .test) ∙ passed)
 
-  module _ (more : t < sessionLimit) {b : ℕ} (wide : Wide (h .base) b) where
-    goes-on : sum (countsOf (h .counts)) < sessionLimit
-    goes-on = omega arith
-
+  module _ (more : p ≡ false) {b : ℕ} (wide : Wide (h .base) b) where
     next-unknown : isUnknown (stateOf ((keptIn h (b % slotsKept)) .state)) ≡ true → next room (viewIn h o g) ≡ refuse baseUnknown
     unfolding next viewIn
     next-unknown unknown =
-        rw (lt-leb sessionLimit (sum (countsOf (h .counts))) goes-on, base-unknown w wide, unknown)
+        rw (sym (limit .test) ∙ more, base-unknown w wide, unknown)
 
     base-octets : isUnknown (stateOf ((keptIn h (b % slotsKept)) .state)) ≡ false
         → length ((cellAt (cellsOf h o) keptBefore) .octets) ≡ (keptIn h (b % slotsKept)) .size
@@ -55,7 +50,7 @@ module _ {h : Head} {o g : List ℕ} (w : Within h o g) {t : ℕ} (total : t ≡
     unfolding next viewIn
     next-short known short =
         rw (
-          lt-leb sessionLimit (sum (countsOf (h .counts))) goes-on,
+          sym (limit .test) ∙ more,
           base-unknown w wide,
           known,
           base-octets known,
@@ -74,7 +69,7 @@ module _ {h : Head} {o g : List ℕ} (w : Within h o g) {t : ℕ} (total : t ≡
     unfolding next viewIn cellIn
     next-done known fits =
         rw (
-          lt-leb sessionLimit (sum (countsOf (h .counts))) goes-on,
+          sym (limit .test) ∙ more,
           base-unknown w wide,
           known,
           base-octets known,
@@ -96,19 +91,19 @@ refused-next {h} {o} {g} {old} {r} n w e made =
       stays = λ x same. record { head = refl; octets = refl; messages = refl };
     })
 
-module _ {h : Head} {o g old : List ℕ} {t : ℕ} (w : Within h o g) (total : t ≡ sum (countsOf (h .counts))) where
-  pub next-16 : {r : NextDone} → sessionLimit ≤ t → r ≡ nextRefused h allPassed → NextMade h o g old r o g old
-  next-16 passed made = refused-next allPassed w (next-passed w total (length old) passed) made
+module _ {h : Head} {o g old : List ℕ} {p : Bool} (w : Within h o g) (limit : Passed (h .counts) p) where
+  pub next-16 : {r : NextDone} → p ≡ true → r ≡ nextRefused h allPassed → NextMade h o g old r o g old
+  next-16 passed made = refused-next allPassed w (next-passed w limit (length old) passed) made
 
-  module _ {b : ℕ} {u : Bool} (more : t < sessionLimit) (wide : Wide (h .base) b)
+  module _ {b : ℕ} {u : Bool} (more : p ≡ false) (wide : Wide (h .base) b)
       (test : u ≡ isUnknown (stateOf ((keptIn h (b % slotsKept)) .state))) where
     pub next-10 : {r : NextDone} → u ≡ true → r ≡ nextRefused h baseUnknown → NextMade h o g old r o g old
-    next-10 unknown made = refused-next baseUnknown w (next-unknown w total (length old) more wide (sym test ∙ unknown)) made
+    next-10 unknown made = refused-next baseUnknown w (next-unknown w limit (length old) more wide (sym test ∙ unknown)) made
 
     module _ {s : ℕ} (known : u ≡ false) (size : Wide ((keptIn h (b % slotsKept)) .size) s) where
       pub next-13 : {r : NextDone} → length old < s → r ≡ nextRefused h noRoom → NextMade h o g old r o g old
       next-13 short made =
-          refused-next noRoom w (next-short w total (length old) more wide (sym test ∙ known) (rw (size .same) at short)) made
+          refused-next noRoom w (next-short w limit (length old) more wide (sym test ∙ known) (rw (size .same) at short)) made
 
       pub next-released : {counts : Counts} {after : Head} {newO newG new : List ℕ} → s ≤ length old
           → new ≡ part o (b % slotsKept) s ++ drop s old
@@ -119,7 +114,7 @@ module _ {h : Head} {o g old : List ℕ} {t : ℕ} (w : Within h o g) (total : t
           newO newG new
       next-released fits copied e moved =
           let long = length-part o (b % slotsKept) ((keptIn h (b % slotsKept)) .size) (base-there w wide) (base-size w wide) in
-          let whole = next-done w total (length old) more wide (sym test ∙ known) (rw (size .same) at fits) in
+          let whole = next-done w limit (length old) more wide (sym test ∙ known) (rw (size .same) at fits) in
           record {
             answer = rw (whole, long, size .same);
             lent = rw (whole, long) (copied ∙ rw (size .same));
@@ -129,13 +124,13 @@ module _ {h : Head} {o g old : List ℕ} {t : ℕ} (w : Within h o g) (total : t
           }
 
 -- a release is one move more
-pub one-released : {h : Head} {o g : List ℕ} {b t : ℕ} {u : Bool} {counts : Counts} → Within h o g → t ≡ sum (countsOf (h .counts)) → t < sessionLimit
+pub one-released : {h : Head} {o g : List ℕ} {b : ℕ} {p u : Bool} {counts : Counts} → Within h o g → Passed (h .counts) p → p ≡ false
     → Wide (h .base) b → u ≡ isUnknown (stateOf ((keptIn h (b % slotsKept)) .state)) → u ≡ false
     → countsOf counts ≡ release.released (stateOf ((keptIn h (b % slotsKept)) .state)) (countsOf (h .counts)) → OneMore (h .counts) counts
-one-released {h} {o} {g} {b} {t} {u} {counts} w total below wide test known e =
+one-released {h} {o} {g} {b} {p} {u} {counts} w limit more wide test known e =
     let one : sum (countsOf counts) ≡ sum (countsOf (h .counts)) + 1 =
     ap (λ (c : views.Counts). sum c) e
     ∙ sum-released ((keptIn h (b % slotsKept)) .state) ((keptIn h (b % slotsKept)) .size) (countsOf (h .counts)) (base-state w wide)
     (sym test ∙ known)
     in
-    record { more = one; fits = omega arith }
+    record { more = one; fits = omega (arith, goes-on limit more) }

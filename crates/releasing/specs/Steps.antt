@@ -1,13 +1,16 @@
 -- What the inner functions of this crate owe. Definitions only.
 use Prim.Native.Nat.{ℕ, _≤_, _<_}
 use mathlib.Core.Path.{_≡_}
-use mathlib.Core.Bool.{true}
+use mathlib.Core.Bool.{Bool, true}
 use mathlib.Core.List.{List}
 use lib.ListN.{length}
+use lib.Dec.{leb}
 use Rattle.lengths.specs.Refusals.{refusal}
 use Rattle.datagrams.specs.Sizes.{packetLimit, messagesLimit}
 use Rattle.stores.specs.Store.{HasSlot, part, zerosPast}
-use Rattle.heads.specs.Head.{messageSlot, messageOctets, slotsHeard}
+use Rattle.views.specs.View.{sum, sessionLimit}
+use Rattle.heads.specs.Head.{countsOf, messageSlot, messageOctets, slotsHeard}
+use Rattle.heads.specs.declared.Counts.{Counts}
 use Rattle.heads.specs.declared.Head.{Head}
 use Rattle.releasing.specs.declared.NextDone.{NextDone}
 use Rattle.releasing.specs.declared.GivenUp.{GivenUp}
@@ -25,6 +28,10 @@ giveUpRefused h number = record { head = h; answer = lost.Refused (refusal numbe
 pub record Wide (n r : ℕ) : Type 0 where
   pub same : r ≡ n
   pub small : r < 65536
+
+-- whether 1,000,000 numbers have passed
+pub record Passed (c : Counts) (p : Bool) : Type 0 where
+  pub test : p ≡ leb sessionLimit (sum (countsOf c))
 
 -- slot k is none of the first m message slots of slot j
 abbrev pub Apart : ℕ → ℕ → ℕ → Type 0

@@ -11,16 +11,15 @@ use heads::Session;
 use heads::State;
 use lengths::Refusal;
 ghost use mathlib.Core.Path.{_≡_};
-ghost use mathlib.Core.Bool.{true, false};
-ghost use Prim.Native.Nat.{_+_, _%_, _≤_, _<_};
+ghost use Prim.Native.Nat.{_≤_, _<_};
 ghost use lib.ListN.{length};
 ghost use Rattle.datagrams.specs.Sizes.{messagesLimit};
-ghost use Rattle.repair.specs.Cells.{isUnknown};
+ghost use Rattle.repair.specs.Cells.{received, spare, repaired, isUnknown};
 ghost use Rattle.views.specs.View.{following, sum, sessionLimit};
 ghost use Rattle.views.specs.Release.{released, booked};
 ghost use Rattle.heads.specs.Head.{countsOf, stateOf, slotsHeard, messageOctets};
 ghost use Rattle.heads.specs.Within.{Within};
-ghost use Rattle.releasing.specs.Steps.{Wide, Freed, nextRefused, giveUpRefused};
+ghost use Rattle.releasing.specs.Steps.{Wide, Passed, Freed, nextRefused, giveUpRefused};
 ghost use Rattle.releasing.specs.Promise.{OneMore, BaseMoved, NextMade, GiveUpMade};
 
 // What next answers: the kind, the number and the size of the packet that it handed out, or why it is refused.
@@ -84,47 +83,62 @@ fn is_unknown(state: State) -> bool
     }
 }
 
-// One more released of its kind: a count is of releases, never of arrivals. An unknown or blank number is not released.
-fn counted(kind: State, c: Counts) -> Counts
-    requires { ⌜ sum (countsOf c) < sessionLimit ⌝ }
-    ensures { λ r. ⌜ countsOf r ≡ released (stateOf kind) (countsOf c) ⌝ }
+// Whether 1,000,000 numbers have passed.
+fn all_passed(c: Counts) -> bool
+    ensures { λ r. ⌜ Passed c r ⌝ }
 {
-    let received = c.received;
-    let spare = c.spare;
-    let repaired = c.repaired;
-    let lost = c.lost;
-    match kind {
-        State::Unknown => c,
-        State::Received => Counts {
-            received: received + 1,
-            spare,
-            repaired,
-            lost,
-        },
-        State::Spare => Counts {
-            received,
-            spare: spare + 1,
-            repaired,
-            lost,
-        },
-        State::Repaired => Counts {
-            received,
-            spare,
-            repaired: repaired + 1,
-            lost,
-        },
-        State::Blank => c,
-    }
+    Session::LIMIT <= total(c)
 }
 
-// One more lost.
-fn book_lost(c: Counts) -> Counts
+// One more received, spare or repaired number released, and one more lost.
+fn one_received(c: Counts) -> Counts
+    requires { ⌜ sum (countsOf c) < sessionLimit ⌝ }
+    ensures { λ r. ⌜ countsOf r ≡ released received (countsOf c) ⌝ }
+{
+    let mut r = c;
+    r.received = c.received + 1;
+    r
+}
+
+fn one_spare(c: Counts) -> Counts
+    requires { ⌜ sum (countsOf c) < sessionLimit ⌝ }
+    ensures { λ r. ⌜ countsOf r ≡ released spare (countsOf c) ⌝ }
+{
+    let mut r = c;
+    r.spare = c.spare + 1;
+    r
+}
+
+fn one_repaired(c: Counts) -> Counts
+    requires { ⌜ sum (countsOf c) < sessionLimit ⌝ }
+    ensures { λ r. ⌜ countsOf r ≡ released repaired (countsOf c) ⌝ }
+{
+    let mut r = c;
+    r.repaired = c.repaired + 1;
+    r
+}
+
+fn one_lost(c: Counts) -> Counts
     requires { ⌜ sum (countsOf c) < sessionLimit ⌝ }
     ensures { λ r. ⌜ countsOf r ≡ booked (countsOf c) ⌝ }
 {
     let mut r = c;
     r.lost = c.lost + 1;
     r
+}
+
+// One more released of its kind: a count is of releases, never of arrivals. An unknown or blank number is not released.
+fn counted(kind: State, c: Counts) -> Counts
+    requires { ⌜ sum (countsOf c) < sessionLimit ⌝ }
+    ensures { λ r. ⌜ countsOf r ≡ released (stateOf kind) (countsOf c) ⌝ }
+{
+    match kind {
+        State::Unknown => c,
+        State::Received => one_received(c),
+        State::Spare => one_spare(c),
+        State::Repaired => one_repaired(c),
+        State::Blank => c,
+    }
 }
 
 // The first m messages of the number in slot j of those from the base on, cleared.
@@ -213,7 +227,7 @@ pub fn next_core(
     ensures { λ r. ⌜ NextMade h (now (o .entry)) (now (g .entry)) (now (out .entry)) r (now (o .exit)) (now (g .exit)) (now (out .exit)) ⌝ }
 {
     let moves = h.counts;
-    if Session::LIMIT <= total(moves) {
+    if all_passed(moves) {
         return next_refused(h, Refusal::ALL_PASSED);
     }
     let number = h.base;
@@ -246,7 +260,7 @@ pub fn give_up_core(
     ensures { λ r. ⌜ GiveUpMade h (now (o .entry)) (now (g .entry)) r (now (o .exit)) (now (g .exit)) ⌝ }
 {
     let moves = h.counts;
-    if Session::LIMIT <= total(moves) {
+    if all_passed(moves) {
         return give_up_refused(h, Refusal::ALL_PASSED);
     }
     let number = h.base;
@@ -254,7 +268,7 @@ pub fn give_up_core(
     let kept = h.kept[slot];
     let state = kept.state;
     if is_unknown(state) {
-        let counts = book_lost(moves);
+        let counts = one_lost(moves);
         let head = go_on(h, o, g, counts);
         return GivenUp {
             head,

@@ -5,9 +5,6 @@ use borrow.Author.Needs.{needs}
 use Rattle.releasing.proofs.Freeing.{Freeing, freeings}
 use Rattle.releasing.proofs.free_messages.Statement.{statement}
 use Rattle.releasing.proofs.free_messages.Tie as tie
-use Rattle.releasing.proofs.free_messages.Reads as reads
-use Rattle.releasing.proofs.free_messages.Lts as lts
-use Rattle.stores.proofs.clear.Reads as clear-reads
 
 abbrev Inv-loop : tie.InvT-loop
 Inv-loop g₀ j m at i₀ g i = Freeing j m g₀ g i
@@ -15,39 +12,30 @@ Inv-loop g₀ j m at i₀ g i = Freeing j m g₀ g i
 abbrev μ-loop : tie.MeasureT-loop
 μ-loop g₀ j m at i₀ g i = m - i
 
--- src/lib.rt:91:14
 mul-at : tie.Need-mul-at Inv-loop μ-loop
 mul-at c = search needs
 
--- src/lib.rt:93:5
 loop-holds : tie.Need-loop-holds Inv-loop μ-loop
 loop-holds c = search freeings
 
--- src/lib.rt:94:26
 add-clear : tie.Need-add-clear Inv-loop μ-loop
 add-clear c = search needs
 
--- src/lib.rt:94:9
 clear-requires : tie.Need-clear-requires Inv-loop μ-loop
 clear-requires c κs = search freeings
 
--- src/lib.rt:95:9
 add-i : tie.Need-add-i Inv-loop μ-loop
 add-i c = search needs
 
--- src/lib.rt:93:5
 loop-less : tie.Need-loop-less Inv-loop μ-loop
 loop-less c = search needs
 
--- src/lib.rt:93:5
 loop-again : tie.Need-loop-again Inv-loop μ-loop
 loop-again c = search freeings
 
--- src/lib.rt:86:1
 same-length : tie.Need-same-length Inv-loop μ-loop
 same-length c = c .before .loop .inv .freed .long
 
--- src/lib.rt:86:1
 returns : tie.Need-returns Inv-loop μ-loop
 returns c = search freeings
 

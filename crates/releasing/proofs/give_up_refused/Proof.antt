@@ -1,15 +1,11 @@
+-- `releasing::give_up_refused` meets its contract: the refusal is made of its number. Assumes nothing.
 use borrow.Author.Needs.{needs}
 use Rattle.releasing.proofs.give_up_refused.Statement.{statement}
 use Rattle.releasing.proofs.give_up_refused.Tie as tie
-use Rattle.releasing.proofs.give_up_refused.Reads as reads
-use Rattle.releasing.proofs.give_up_refused.Lts as lts
-use Rattle.lengths.proofs.Refusal.new.Reads as new-reads
 
--- src/lib.rt:198:9
 new-requires : tie.Need-new-requires
 new-requires c κs = search needs
 
--- src/lib.rt:195:1
 returns : tie.Need-returns
 returns c = rw (c .new .ensures .answer)
 

@@ -1,15 +1,11 @@
+-- `releasing::next_refused` meets its contract: the refusal is made of its number. Assumes nothing.
 use borrow.Author.Needs.{needs}
 use Rattle.releasing.proofs.next_refused.Statement.{statement}
 use Rattle.releasing.proofs.next_refused.Tie as tie
-use Rattle.releasing.proofs.next_refused.Reads as reads
-use Rattle.releasing.proofs.next_refused.Lts as lts
-use Rattle.lengths.proofs.Refusal.new.Reads as new-reads
 
--- src/lib.rt:188:9
 new-requires : tie.Need-new-requires
 new-requires c κs = search needs
 
--- src/lib.rt:185:1
 returns : tie.Need-returns
 returns c = rw (c .new .ensures .answer)
 
