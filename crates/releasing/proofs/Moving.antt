@@ -1,6 +1,6 @@
 -- The base goes on by one: slot by slot, all but two slots of kept numbers and marks are as they were; then place by place,
 -- the view is the one before, one place further, and its ranges are kept. Assumes nothing.
-use Prim.Native.Nat.{ℕ, zero, suc, _+_, _-_, _*_, _%_, _≤_, _<_}
+use Prim.Native.Nat.{ℕ, zero, suc, _+_, _*_, _%_, _≤_, _<_}
 use mathlib.Core.Path.{_≡_, refl, sym, ap, ap₂, _∙_}
 use mathlib.Core.Bool.{Bool, true, false, cond, _&&_}
 use mathlib.Core.List.{List, [], _∷_, _++_}
@@ -9,10 +9,10 @@ use lib.ListN.{length, getD, set, drop, length-set}
 use lib.Seq.{getD-set-same, getD-set-other}
 use lib.Dec.{leb, ltb, eqb}
 use native.Mathlib.Omega.{arith}
-use borrow.Author.Tests.{le-leb, eq-eqb, eqb-true, leb-true}
-use Rattle.octets.specs.Place.{tab, allBelow}
+use borrow.Author.Tests.{le-leb, eq-eqb, eqb-true}
+use Rattle.octets.specs.Place.{tab}
 use Rattle.octets.proofs.Place.{tab-ext, allBelow-ext, allBelow-of}
-use Rattle.octets.proofs.Cases.{same-or-not, below-or-not, and-left, and-right, and-both}
+use Rattle.octets.proofs.Cases.{same-or-not, below-or-not, and-left, and-both}
 use Rattle.datagrams.specs.Sizes.{packetLimit, messageLimit, messagesLimit}
 use Rattle.repair.specs.Cells.{Cell, unknownCell, keptBefore, keptAhead, keptNumbers}
 use Rattle.repair.specs.Held.{Held, nothingHeld}
@@ -20,8 +20,8 @@ use Rattle.stores.specs.Store.{HasSlot, part, zerosPast, pasted, zeros}
 use Rattle.stores.proofs.Laws.{length-zeros, length-cleared, part-pasted-other, zerosPast-other, zerosPast-cleared}
 use Rattle.views.specs.View as views
 use Rattle.views.specs.View.{View, following, numbers, sum, sessionLimit, goneOn}
-use Rattle.heads.specs.Head.{slotAt, heardSlotAt, messageSlot, slotsKept, slotsHeard, slotsMessages, packetOctets, messageOctets, keptIn, heardIn, sizeIn, cellIn, heldIn, cellsOf, heldOf, viewIn, countsOf, stateOf}
-use Rattle.heads.specs.Ranges.{sumInRange, stateInRange, keptInRange, blankAt, isKnown, markInRange, messageInRange, heardInRange}
+use Rattle.heads.specs.Head.{slotAt, heardSlotAt, messageSlot, slotsKept, slotsHeard, keptIn, heardIn, sizeIn, cellIn, heldIn, cellsOf, heldOf, viewIn, countsOf}
+use Rattle.heads.specs.Ranges.{sumInRange, stateInRange, keptInRange, isKnown, markInRange, messageInRange, heardInRange}
 use Rattle.heads.specs.Within.{Within, KeptWithin, HeardWithin}
 use Rattle.heads.specs.declared.State.the-variants.{Unknown}
 use Rattle.heads.specs.declared.Kept.{Kept}
