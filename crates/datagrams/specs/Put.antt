@@ -1,0 +1,67 @@
+-- What the writers inside a datagram owe: "each item into the part still free after the last". Each writes to the front of
+-- the part that it is lent, which its caller has made sure is long enough, and answers how many octets it wrote.
+-- Definitions only.
+use Prim.Native.Nat.{ℕ, _+_, _≤_}
+use mathlib.Core.Path.{_≡_}
+use mathlib.Core.Bool.{Bool, true}
+use mathlib.Core.List.{List, [], _∷_, _++_}
+use lib.ListN.{length, drop}
+use lib.Dec.{ltb}
+use Rattle.lengths.specs.Length.{lengthOctets, lengthLimit}
+use Rattle.datagrams.specs.Write.{numberOctets, sumOf}
+use Rattle.datagrams.specs.declared.kind.Kind.{Kind}
+use Rattle.datagrams.specs.declared.kind.Kind.the-variants as kind
+
+-- octets written to the front of a lent part, whose rest stays
+pub record Put (octets old new : List ℕ) (size : ℕ) : Type 0 where
+  pub inside : length octets ≤ length old
+  pub answer : size ≡ length octets
+  pub lent : new ≡ octets ++ drop (length octets) old
+
+-- what stands before the spares: octet 00 and their count
+abbrev pub sparesHead : ℕ → List ℕ
+sparesHead count = 0x00 ∷ lengthOctets count
+
+-- what stands before the messages: octets 80, 01 and n, and their count
+abbrev pub parityHead : ℕ → ℕ → List ℕ
+parityHead n count = 0x80 ∷ 0x01 ∷ n ∷ lengthOctets count
+
+-- and before what a kind has
+abbrev pub kindHead : Kind → ℕ → List ℕ
+kindHead kind.Spares count = sparesHead count
+kindHead (kind.Parity n) count = parityHead n count
+
+-- how many octets a length or count takes
+pub record LengthSize (n r : ℕ) : Type 0 where
+  pub answer : r ≡ length (lengthOctets n)
+  pub small : r ≤ 2
+
+-- how many octets an item of n octets takes, with its length
+abbrev pub itemSize : ℕ → ℕ
+itemSize n = length (lengthOctets n) + n
+
+-- and items of these lengths
+unfoldable pub itemsSize : List ℕ → ℕ
+itemsSize [] = 0
+itemsSize (n ∷ lengths) = itemSize n + itemsSize lengths
+
+-- and a whole datagram
+abbrev pub datagramSize : ℕ → List ℕ → Kind → List ℕ → ℕ
+datagramSize number packet kind lengths =
+    length (numberOctets number) + itemSize (length packet) + length (kindHead kind (length lengths)) + itemsSize lengths
+
+-- n is an octet, and the count has the form of a length
+abbrev pub nFits : Kind → Bool
+nFits kind.Spares = true
+nFits (kind.Parity n) = ltb n 256
+
+pub record KindFits (kind : Kind) (count : ℕ) : Type 0 where
+  pub n : nFits kind ≡ true
+  pub counted : count ≤ lengthLimit
+
+-- what is given has the form that its writers ask for: only the room is left to ask
+pub record Bounded (packet : List ℕ) (kind : Kind) (lengths run : List ℕ) : Type 0 where
+  pub newest : length packet ≤ lengthLimit
+  pub head : KindFits kind (length lengths)
+  pub summed : sumOf lengths ≡ length run
+  pub few : length run ≤ lengthLimit
