@@ -24,19 +24,8 @@ use Rattle.heads.specs.declared.Head.{Head}
 use Rattle.heads.proofs.Placed.{placed-within, placed-cells}
 use Rattle.heads.proofs.Seen.{unknown-at, unknown-state}
 use Rattle.mending.specs.Promise.{SameBeside}
+use Rattle.mending.proofs.Beside.{same-beside, beside-twice}
 use Rattle.receiving.specs.Keep.{CellsNow, Keeps, KeepsSpares}
-
-pub same-beside : (h : Head) → SameBeside h h
-same-beside h = record { base = refl; counts = refl; heard = refl; sizes = refl }
-
-pub beside-twice : {h q r : Head} → SameBeside h q → SameBeside q r → SameBeside h r
-beside-twice a b =
-    record {
-      base = b .base ∙ a .base;
-      counts = b .counts ∙ a .counts;
-      heard = b .heard ∙ a .heard;
-      sizes = b .sizes ∙ a .sizes;
-    }
 
 slot-is : (base number slot p : ℕ) → slot ≡ number % slotsKept → number ≡ numberAt base p → slot ≡ slotAt base p
 slot-is base number slot p e-slot e = omega arith

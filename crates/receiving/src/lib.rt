@@ -1,6 +1,8 @@
 // Offer, over a head by value and two lent stores: document 01, 'The receiving session'. These functions serve callers inside
 // this repository: they require the session's ranges, which the public calls check (refusal 17), and keep them.
+use datagrams::Kind;
 use datagrams::Part;
+use datagrams::Reading;
 use datagrams::Spares;
 use heads::Head;
 use heads::Kept;
@@ -16,7 +18,24 @@ ghost use Rattle.datagrams.specs.Claims.{PartInside};
 ghost use Rattle.datagrams.specs.Promise.{nowhere};
 ghost use Rattle.heads.specs.Head.{packetOctets, slotsKept};
 ghost use Rattle.heads.specs.Ranges.{isFill};
+ghost use Rattle.lengths.specs.Answers.{refused, refuse};
+ghost use Rattle.views.specs.Offer.{offer, offered};
+ghost use Rattle.heads.specs.Head.{viewIn, heardSlotAt, heardIn};
+ghost use Rattle.heads.specs.Within.{Within};
+ghost use Rattle.holding.specs.Promise.{Unmarked, Carries, heldOfParts};
 ghost use Rattle.receiving.specs.Keep.{Keeps, KeepsSpares};
+ghost use Rattle.receiving.specs.Promise.{MayBeAccepted, carriedOf, Finished, Accepted, OfferMade};
+
+// What offer answers: accepted, or why it is refused.
+pub enum Offered {
+    Accepted,
+    Refused(Refusal),
+}
+
+pub struct OfferDone {
+    pub head: Head,
+    pub answer: Offered,
+}
 
 // The slot of a number.
 fn slot_of(number: u16) -> usize
@@ -73,4 +92,56 @@ fn keep_spares(
         j += 1;
     }
     next
+}
+
+// The mark and the messages of an accepted datagram held at its number, then repair.
+fn finish(
+    h: Head,
+    o: &mut [u8],
+    g: &mut [u8],
+    s: &[u8],
+    distance: u16,
+    n: u8,
+    items: [Part; Spares::LIMIT],
+    count: usize,
+) -> Head
+    requires { ⌜ Unmarked h (now o) (now g) distance ⌝ }
+    requires { ⌜ Carries (now s) distance n items count ⌝ }
+    ensures { λ r. ⌜ Finished (heldOfParts (now (s .entry)) n items count) distance h (now (o .entry)) (now (g .entry)) r (now (o .exit)) (now (g .exit)) ⌝ }
+{
+    let held = holding::hold(h, g, s, distance, n, items, count);
+    mending::mend(held, o, g)
+}
+
+// An accepted datagram, at its distance from the base: its packet, then its spares in order, then its mark and messages, then
+// repair.
+fn accept(
+    h: Head,
+    o: &mut [u8],
+    g: &mut [u8],
+    s: &[u8],
+    number: u16,
+    distance: u16,
+    packet: Part,
+    kind: Kind,
+    count: usize,
+    items: [Part; Spares::LIMIT],
+) -> Head
+    requires { ⌜ Within h (now o) (now g) ⌝ }
+    requires { ⌜ MayBeAccepted h (now s) number distance packet kind count items ⌝ }
+    ensures { λ r. ⌜ Accepted (carriedOf (now (s .entry)) number packet kind count items) distance h (now (o .entry)) (now (g .entry)) r (now (o .exit)) (now (g .exit)) ⌝ }
+{
+    let start = packet.start;
+    let end = start + packet.size;
+    let first = keep(h, o, number, State::Received, &s[start..end]);
+    match kind {
+        Kind::Spares => {
+            let second = keep_spares(first, o, s, number, items, count);
+            finish(second, o, g, s, distance, 0, items, 0)
+        }
+        Kind::Parity(n) => {
+            let covered = (n % 256) as u8;
+            finish(first, o, g, s, distance, covered, items, count)
+        }
+    }
 }
