@@ -1,2 +1,3 @@
 mod Keeping
 mod Accepting
+mod Offering

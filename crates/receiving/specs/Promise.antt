@@ -11,6 +11,8 @@ use Rattle.datagrams.specs.Claims.{Inside}
 use Rattle.datagrams.specs.Read.{carriedBy}
 use Rattle.datagrams.specs.declared.reader.Part.{Part}
 use Rattle.datagrams.specs.declared.kind.Kind.{Kind}
+use Rattle.datagrams.specs.declared.reader.Reading.{Reading}
+use Rattle.datagrams.specs.declared.reader.Reading.the-variants as reading
 use Rattle.repair.specs.Cells.{keptBefore, keptAhead}
 use Rattle.repair.specs.Held.{Held, heldMessages}
 use Rattle.repair.specs.Repair.{repair}
@@ -75,3 +77,11 @@ pub record OfferMade (a : Answer View) (h : Head) (o g : List ℕ) (r : OfferDon
   pub state : viewIn (r .head) newO newG ≡ afterOffer a (viewIn h o g)
   pub within : Within (r .head) newO newG
   pub stays : (x : Refusal) → a ≡ refused x → Same h o g (r .head) newO newG
+
+-- a refusal leaves the head as it is
+abbrev pub refusedDone : Head → Refusal → OfferDone
+refusedDone h why = record { head = h; answer = offered.Refused why }
+
+-- the reader's refusal is passed up whole
+pub record PassedOn (read : Reading) (why : Refusal) : Type 0 where
+  pub whole : (x : Refusal) → read ≡ reading.Refused x → why ≡ x

@@ -14,17 +14,16 @@ ghost use mathlib.Core.Bool.{true};
 ghost use Prim.Native.Nat.{ℕ, _≤_, _<_, _%_};
 ghost use lib.ListN.{length, getD};
 ghost use Rattle.datagrams.specs.Sizes.{packetLeast, packetLimit, sparesLimit};
-ghost use Rattle.datagrams.specs.Claims.{PartInside};
+ghost use Rattle.datagrams.specs.Claims.{Inside, PartInside};
 ghost use Rattle.datagrams.specs.Promise.{nowhere};
 ghost use Rattle.heads.specs.Head.{packetOctets, slotsKept};
 ghost use Rattle.heads.specs.Ranges.{isFill};
-ghost use Rattle.lengths.specs.Answers.{refused, refuse};
 ghost use Rattle.views.specs.Offer.{offer, offered};
 ghost use Rattle.heads.specs.Head.{viewIn, heardSlotAt, heardIn};
 ghost use Rattle.heads.specs.Within.{Within};
 ghost use Rattle.holding.specs.Promise.{Unmarked, Carries, heldOfParts};
 ghost use Rattle.receiving.specs.Keep.{Keeps, KeepsSpares};
-ghost use Rattle.receiving.specs.Promise.{MayBeAccepted, carriedOf, Finished, Accepted, OfferMade};
+ghost use Rattle.receiving.specs.Promise.{MayBeAccepted, carriedOf, Finished, Accepted, OfferMade, refusedDone, PassedOn};
 
 // What offer answers: accepted, or why it is refused.
 pub enum Offered {
@@ -144,4 +143,100 @@ fn accept(
             finish(first, o, g, s, distance, covered, items, count)
         }
     }
+}
+
+// Whether the datagram at a distance from the base was accepted before.
+fn accepted_at(h: Head, distance: u16) -> bool
+    ensures { λ r. ⌜ r ≡ (heardIn h (heardSlotAt (h .base) distance)) .accepted ⌝ }
+{
+    let base = h.base;
+    let at = std::num::wrapping_add_u16(base, distance);
+    let slot = (at % 32) as usize;
+    let heard = h.heard[slot];
+    heard.accepted
+}
+
+// A refusal leaves the head as it is.
+fn refused(head: Head, why: Refusal) -> OfferDone
+    ensures { λ r. ⌜ r ≡ refusedDone head why ⌝ }
+{
+    OfferDone {
+        head,
+        answer: Offered::Refused(why),
+    }
+}
+
+// A datagram that was read, offered: too far ahead, late or repeated, or accepted.
+fn offer_read(
+    h: Head,
+    o: &mut [u8],
+    g: &mut [u8],
+    s: &[u8],
+    number: u16,
+    packet: Part,
+    kind: Kind,
+    count: usize,
+    items: [Part; Spares::LIMIT],
+) -> OfferDone
+    requires { ⌜ Within h (now o) (now g) ⌝ }
+    requires { ⌜ Inside (now s) packet kind count items ⌝ }
+    requires { ⌜ count ≤ length items ⌝ }
+    ensures { λ r. ⌜ OfferMade (offered (carriedOf (now (s .entry)) number packet kind count items) (viewIn h (now (o .entry)) (now (g .entry)))) h (now (o .entry)) (now (g .entry)) r (now (o .exit)) (now (g .exit)) ⌝ }
+{
+    let base = h.base;
+    let distance = std::num::wrapping_sub_u16(number, base);
+    if 32 <= distance {
+        if distance < 32768 {
+            return refused(h, Refusal::new(Refusal::TOO_FAR));
+        }
+        return refused(h, Refusal::new(Refusal::LATE));
+    }
+    if accepted_at(h, distance) {
+        return refused(h, Refusal::new(Refusal::REPEATED));
+    }
+    let head = accept(h, o, g, s, number, distance, packet, kind, count, items);
+    OfferDone {
+        head,
+        answer: Offered::Accepted,
+    }
+}
+
+// Why a reading is refused: it is asked of a refused one alone.
+fn refusal_of(reading: Reading) -> Refusal
+    ensures { λ r. ⌜ PassedOn reading r ⌝ }
+{
+    match reading {
+        Reading::Datagram {
+            number: _,
+            packet: _,
+            kind: _,
+            count: _,
+        } => Refusal::new(Refusal::ENDS_EARLY),
+        Reading::Refused(why) => why,
+    }
+}
+
+// Any octets offered to the session.
+pub fn offer_core(
+    h: Head,
+    o: &mut [u8; Session::PACKET_OCTETS],
+    g: &mut [u8; Session::MESSAGE_OCTETS],
+    s: &[u8],
+) -> OfferDone
+    requires { ⌜ Within h (now o) (now g) ⌝ }
+    ensures { λ r. ⌜ OfferMade (offer (now (s .entry)) (viewIn h (now (o .entry)) (now (g .entry)))) h (now (o .entry)) (now (g .entry)) r (now (o .exit)) (now (g .exit)) ⌝ }
+{
+    let read = datagrams::read(s);
+    let reading = read.reading;
+    let items = read.items;
+    let Reading::Datagram {
+        number,
+        packet,
+        kind,
+        count,
+    } = reading
+    else {
+        return refused(h, refusal_of(reading));
+    };
+    offer_read(h, o, g, s, number, packet, kind, count, items)
 }
