@@ -10,6 +10,7 @@ use Rattle.lengths.specs.Answers.{Answer, done, refused, refuse}
 use Rattle.lengths.specs.Promise.{RefusalMade}
 use Rattle.lengths.specs.declared.Refusal.{Refusal}
 use Rattle.views.specs.View.{View}
+use Rattle.views.specs.Offer as offers
 use Rattle.views.specs.Release as release
 use Rattle.views.specs.Release.{Release, Loss}
 use Rattle.heads.specs.Head.{viewIn, viewOf}
@@ -25,7 +26,11 @@ use Rattle.releasing.specs.declared.NextDone.{NextDone}
 use Rattle.releasing.specs.declared.GivenUp.{GivenUp}
 use Rattle.releasing.specs.declared.Released.the-variants as released
 use Rattle.releasing.specs.declared.Lost.the-variants as lost
-use Rattle.sessions.specs.Receiver.{SeenAs, After, inRangesThen, nextOf, viewAfterNext, NextOwes, giveUpOf, viewAfterLoss, GiveUpOwes}
+use Rattle.receiving.specs.Promise as received
+use Rattle.receiving.specs.Promise.{OfferMade, afterOffer}
+use Rattle.receiving.specs.declared.OfferDone.{OfferDone}
+use Rattle.receiving.specs.declared.Offered.the-variants as offered
+use Rattle.sessions.specs.Receiver.{SeenAs, After, inRangesThen, offerOf, OfferOwes, nextOf, viewAfterNext, NextOwes, giveUpOf, viewAfterLoss, GiveUpOwes}
 
 -- the session of a head and its stores
 abbrev pub sessionOf : Head → List ℕ → List ℕ → Session
@@ -35,6 +40,9 @@ sessionOf h o g = record { head = h; octets = o; messages = g }
 same-session : {h r : Head} {o g after messages : List ℕ} → Same h o g r after messages → sessionOf r after messages ≡ sessionOf h o g
 same-session s = rw (s .head, s .octets, s .messages)
 
+same-offer : {h r : Head} {o g after messages : List ℕ} → received.Same h o g r after messages → sessionOf r after messages ≡ sessionOf h o g
+same-offer s = rw (s .head, s .octets, s .messages)
+
 -- the state after a call: by what it came to
 stands : {A : Type 0} (a : Answer A) (seen : A → View) (viewed : Answer View) (s r : Session)
     → ((x : A) → a ≡ done x → SeenAs (seen x) r) → ((x : Refusal) → a ≡ refused x → r ≡ s)
@@ -42,6 +50,32 @@ stands : {A : Type 0} (a : Answer A) (seen : A → View) (viewed : Answer View) 
     → After viewed s r
 stands (done x) seen viewed s r did stay is-done is-refused = subst (λ (v : Answer View). After v s r) (sym (is-done x refl)) (did x refl)
 stands (refused x) seen viewed s r did stay is-done is-refused = subst (λ (v : Answer View). After v s r) (sym (is-refused x refl)) (stay x refl)
+
+-- ---- offer
+module _ {s : Session} {octets : List ℕ} {ok : Bool} (e : ok ≡ inRanges (s .head) (s .octets) (s .messages)) where
+  pub offer-outside : {why : Refusal} → RefusalMade outsideRanges why → ok ≡ false
+      → OfferOwes s octets (record { session = s; answer = offered.Refused why })
+  unfolding offerOf
+  offer-outside made out =
+      let outside : sessionInRanges s ≡ false = sym e ∙ out in
+      record { answer = rw (outside, made .answer); state = rw outside refl }
+
+  pub offer-inside : {d : OfferDone} {o g : List ℕ} → ok ≡ true
+      → OfferMade (offers.offer octets (viewOf s)) (s .head) (s .octets) (s .messages) d o g
+      → OfferOwes s octets (record { session = sessionOf (d .head) o g; answer = d .answer })
+  unfolding offerOf
+  offer-inside {d} {o} {g} yes-in m =
+      let inside : sessionInRanges s ≡ true = sym e ∙ yes-in in
+      record {
+        answer = rw inside (m .answer);
+        state =
+            rw inside
+            (stands (offers.offer octets (viewOf s)) (λ v. v) _ s (sessionOf (d .head) o g)
+            (λ v is. record { within = m .within; view = m .state ∙ ap (λ (x : Answer View). afterOffer x (viewOf s)) is })
+            (λ x is. same-offer (m .stays x is))
+            (λ v is. is)
+            (λ x is. is));
+      }
 
 -- ---- next
 module _ {s : Session} {old : List ℕ} {ok : Bool} (e : ok ≡ inRanges (s .head) (s .octets) (s .messages)) where
@@ -104,7 +138,7 @@ pub within-session : {s : Session} {ok : Bool} → ok ≡ inRanges (s .head) (s 
     → Sized (s .head) (s .octets) (s .messages) → Within (s .head) (s .octets) (s .messages)
 within-session {s} e yes-in sized = within-of (s .head) (s .octets) (s .messages) (sym e ∙ yes-in) sized
 
-pub ruleset calls = (next-outside, next-inside, give-up-outside, give-up-inside)
+pub ruleset calls = (offer-outside, offer-inside, next-outside, next-inside, give-up-outside, give-up-inside)
 
 -- an array of structs has the length of its type
 pub mapped-long : {A B : Type 0} (f : A → B) (l : List A) (n : ℕ) → length (map f l) ≡ n → length l ≡ n

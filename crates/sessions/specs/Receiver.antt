@@ -10,6 +10,7 @@ use Rattle.lengths.specs.Refusals.{outsideRanges}
 use Rattle.lengths.specs.Answers.{Answer, done, refused, refuse, over}
 use Rattle.lengths.specs.declared.Refusal.{Refusal}
 use Rattle.views.specs.View.{View}
+use Rattle.views.specs.Offer as offers
 use Rattle.views.specs.Release as release
 use Rattle.views.specs.Release.{Release, Loss}
 use Rattle.heads.specs.Head.{viewOf}
@@ -17,6 +18,8 @@ use Rattle.heads.specs.Ranges.{sessionInRanges}
 use Rattle.heads.specs.Within.{Within}
 use Rattle.heads.specs.declared.Session.{Session}
 use Rattle.releasing.specs.Outcome.{releasedOutcome, lostOutcome, handedOf, octetsOf, numberOf}
+use Rattle.receiving.specs.Promise.{offeredOutcome, acceptedOf}
+use Rattle.sessions.specs.declared.receiver.AfterOffer.{AfterOffer}
 use Rattle.sessions.specs.declared.receiver.AfterNext.{AfterNext}
 use Rattle.sessions.specs.declared.receiver.AfterGiveUp.{AfterGiveUp}
 
@@ -33,6 +36,14 @@ After (refused why) before after = after ≡ before
 -- 17 exactly where the session is outside its ranges; else what the call comes to on the session as document 01 sees it
 abbrev pub inRangesThen : {A : Type 0} → (View → Answer A) → Session → Answer A
 inRangesThen call s = cond (sessionInRanges s) (call (viewOf s)) (refuse outsideRanges)
+
+-- ---- offer
+unfoldable pub offerOf : List ℕ → Session → Answer View
+offerOf octets s = inRangesThen (offers.offer octets) s
+
+pub record OfferOwes (s : Session) (octets : List ℕ) (r : AfterOffer) : Type 0 where
+  pub answer : offeredOutcome (r .answer) ≡ acceptedOf (offerOf octets s)
+  pub state : After (offerOf octets s) s (r .session)
 
 -- ---- next, with a lent buffer of so many octets
 unfoldable pub nextOf : ℕ → Session → Answer Release

@@ -6,5 +6,7 @@ mod receiver;
 pub use heads::Session;
 pub use receiver::AfterGiveUp;
 pub use receiver::AfterNext;
+pub use receiver::AfterOffer;
 pub use receiver::give_up;
 pub use receiver::next;
+pub use receiver::offer;

@@ -1,9 +1,16 @@
 // The receiving session: document 01, 'The receiving session'.
 use heads::Session;
 use lengths::Refusal;
+use receiving::Offered;
 use releasing::Lost;
 use releasing::Released;
-ghost use Rattle.sessions.specs.Receiver.{NextOwes, GiveUpOwes};
+ghost use Rattle.sessions.specs.Receiver.{OfferOwes, NextOwes, GiveUpOwes};
+
+// What offer answers, and the session after.
+pub struct AfterOffer {
+    pub session: Session,
+    pub answer: Offered,
+}
 
 // What next answers, and the session after.
 pub struct AfterNext {
@@ -15,6 +22,31 @@ pub struct AfterNext {
 pub struct AfterGiveUp {
     pub session: Session,
     pub answer: Lost,
+}
+
+// Any octets from the network, offered to the session.
+pub fn offer(s: Session, datagram: &[u8]) -> AfterOffer
+    ensures { λ r. ⌜ OfferOwes s (now (datagram .entry)) r ⌝ }
+{
+    let head = s.head;
+    let mut octets = s.octets;
+    let mut messages = s.messages;
+    if ranges::in_ranges(head, &octets, &messages) {
+        let done = receiving::offer_core(head, &mut octets, &mut messages, datagram);
+        let after = done.head;
+        let answer = done.answer;
+        let session = Session {
+            head: after,
+            octets,
+            messages,
+        };
+        return AfterOffer { session, answer };
+    }
+    let why = Refusal::new(Refusal::OUTSIDE_RANGES);
+    AfterOffer {
+        session: s,
+        answer: Offered::Refused(why),
+    }
 }
 
 // Hands out the packet at the base into the front of out, and the base goes on by one.
