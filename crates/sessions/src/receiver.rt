@@ -33,10 +33,10 @@ pub fn offer(s: Session, datagram: &[u8]) -> AfterOffer
     let mut messages = s.messages;
     if ranges::in_ranges(head, &octets, &messages) {
         let done = receiving::offer_core(head, &mut octets, &mut messages, datagram);
-        let after = done.head;
+        let accepted = done.head;
         let answer = done.answer;
         let session = Session {
-            head: after,
+            head: accepted,
             octets,
             messages,
         };
@@ -58,10 +58,10 @@ pub fn next(s: Session, out: &mut [u8]) -> AfterNext
     let mut messages = s.messages;
     if ranges::in_ranges(head, &octets, &messages) {
         let done = releasing::next_core(head, &mut octets, &mut messages, out);
-        let after = done.head;
+        let released = done.head;
         let answer = done.answer;
         let session = Session {
-            head: after,
+            head: released,
             octets,
             messages,
         };
