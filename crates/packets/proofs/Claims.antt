@@ -1,0 +1,16 @@
+use mathlib.Core.Path.{_≡_, refl}
+use Rattle.lengths.specs.Length.{lengthAt}
+use Rattle.packets.specs.Read.{readPacket, firstAt, countAt, fieldsAt, fieldAt, headerAt, sizeAt, afterHeader, endAt, allZero}
+use Rattle.packets.specs.Claims.{Sheet}
+
+pub sheet : Sheet
+unfolding readPacket firstAt countAt fieldsAt fieldAt headerAt sizeAt afterHeader endAt allZero lengthAt
+sheet =
+    record {
+      indicator-3 = refl;
+      spare-bit = refl;
+      extension = refl;
+      data-9 = refl;
+      indicator-with-data = refl;
+      two-fields = refl;
+    }

@@ -1,0 +1,8 @@
+// Packets, read and written: document 01, 'The packet'.
+mod types;
+
+pub use types::Ending;
+pub use types::Field;
+pub use types::Kind;
+pub use types::PacketRead;
+pub use types::Reading;
