@@ -1,1 +1,4 @@
+mod Tests
+mod Forms
+mod ReadItems
 pub mod Claims

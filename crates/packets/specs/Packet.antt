@@ -37,9 +37,9 @@ rightData kind present =
     (cond (eqb kind 6) present
     true))
 
--- the bit of an octet that stands k places above the lowest
-abbrev pub bit : ℕ → ℕ → ℕ
-bit k octet = octet / 2 ^ k % 2
+-- whether the bit of an octet is set that stands k places above the lowest
+abbrev pub isSet : ℕ → ℕ → Bool
+isSet k octet = ltb 0 (octet / 2 ^ k % 2)
 
 -- what a first octet says
 pub record First : Type 0 where
@@ -48,10 +48,10 @@ pub record First : Type 0 where
   pub present : Bool
 
 abbrev pub kindOf : ℕ → Kind
-kindOf octet = cond (eqb (bit 6 octet) 1) Data Indicator
+kindOf octet = cond (isSet 6 octet) Data Indicator
 
 abbrev pub firstOf : ℕ → First
-firstOf octet = record { kind = kindOf octet; value = octet / 2 % 16; present = eqb (bit 7 octet) 1 }
+firstOf octet = record { kind = kindOf octet; value = octet / 2 % 16; present = isSet 7 octet }
 
 -- what a field header says
 pub record Header : Type 0 where
@@ -60,7 +60,7 @@ pub record Header : Type 0 where
 
 -- the four bits of a header: one for data present, three for the field type
 abbrev pub headerOf : ℕ → Header
-headerOf bits = record { kind = bits % 8; present = eqb (bits / 8) 1 }
+headerOf bits = record { kind = bits % 8; present = isSet 3 bits }
 
 -- the same bits, written
 abbrev pub ofFlag : ℕ → Bool → ℕ

@@ -10,7 +10,7 @@ use Rattle.lengths.specs.Refusals.{endsEarly, outsideSizes, spareBit, leftOver,
 use Rattle.lengths.specs.Answers.{Answer, done, refuse, _>>=_, LengthAnswer}
 use Rattle.lengths.specs.Length.{lengthAt}
 use Rattle.datagrams.specs.Sizes.{packetLimit}
-use Rattle.packets.specs.Packet.{Place, First, Header, firstOf, headerOf, bit, assigned, rightFields, rightData, fieldsLimit}
+use Rattle.packets.specs.Packet.{Place, First, Header, firstOf, headerOf, isSet, assigned, rightFields, rightData, fieldsLimit}
 use Rattle.packets.specs.declared.types.Kind.{Kind}
 use Rattle.packets.specs.declared.types.Ending.{Ending}
 use Rattle.packets.specs.declared.types.Ending.the-variants.{Whole, Repaired}
@@ -28,9 +28,9 @@ firstAt s =
     let octet = getD s 0 0 in
     let first = firstOf (getD s 0 0) in
     cond (ltb (length s) 1) (refuse endsEarly)
-    (cond (eqb (bit 5 octet) 1) (refuse notAssigned)
+    (cond (isSet 5 octet) (refuse notAssigned)
     (cond (leb (assigned (first .kind)) (first .value)) (refuse notAssigned)
-    (cond (eqb (bit 0 octet) 1) (refuse spareBit)
+    (cond (ltb 0 (octet % 2)) (refuse spareBit)
     (cond (rightFields (first .kind) (first .present)) (done first) (refuse wrongData)))))
 
 -- ---- the count of fields

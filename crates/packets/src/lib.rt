@@ -1,5 +1,6 @@
 // Packets, read and written: document 01, 'The packet'.
 mod types;
+mod reader;
 
 pub use types::Ending;
 pub use types::Field;

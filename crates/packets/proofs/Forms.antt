@@ -1,0 +1,135 @@
+-- What it says of the octets that an item of a packet reads: each test of its definition that was passed, and the answer.
+-- Assumes nothing.
+use Prim.Native.Nat.{ℕ, zero, suc, _+_, _-_, _*_, _/_, _%_, _≤_, _<_}
+use mathlib.Core.Path.{_≡_, refl, sym, ap, _∙_}
+use mathlib.Core.Bool.{Bool, true, false, cond}
+use mathlib.Core.List.{List, [], _∷_}
+use lib.ListN.{length, getD, drop, length-drop}
+use lib.Dec.{leb, ltb, eqb}
+use native.Mathlib.Omega.{arith}
+use borrow.Author.Tests.{ltb-true, ltb-false, leb-true, leb-false}
+use Rattle.lengths.specs.Refusals.{endsEarly, outsideSizes, spareBit, leftOver, notAssigned, wrongData}
+use Rattle.lengths.specs.Answers.{Answer, done, refused, refuse, _>>=_, LengthAnswer}
+use Rattle.lengths.specs.Length.{lengthAt}
+use Rattle.lengths.proofs.Laws.{sizes-read}
+use Rattle.datagrams.specs.Sizes.{packetLimit}
+use Rattle.packets.specs.Packet.{Place, First, Header, firstOf, headerOf, isSet, assigned, rightFields, rightData, fieldsLimit}
+use Rattle.packets.specs.Read.{PacketAnswer, firstAt, Count, countIn, countAt, HeaderAnswer, headerAt, sizeAt, FieldAnswer, afterHeader, fieldAt, FieldsAnswer, fieldsAt, mayFollow, endAt, readPacket}
+use Rattle.packets.specs.declared.types.Ending.{Ending}
+
+-- ---- steps
+module _ {A : Type 0} where
+  -- a test that refuses was not met
+  pub past : (b : Bool) (n : ℕ) (on : Answer A) (a : A) → cond b (refuse n) on ≡ done a → (b ≡ false) × (on ≡ done a)
+  past true n on a e = let z : _≡_ {A = ℕ} 0 1 = cc in absurd (omega arith)
+  past false n on a e = (refl, e)
+
+  -- a test that must hold was met
+  pub kept : (b : Bool) (n : ℕ) (x a : A) → cond b (done x) (refuse n) ≡ done a → (b ≡ true) × (a ≡ x)
+  kept true n x a e = (refl, cc)
+  kept false n x a e = let z : _≡_ {A = ℕ} 0 1 = cc in absurd (omega arith)
+
+module _ {A B : Type 0} where
+  -- the step that came first was done, and the next one with its value
+  pub record Stepped (first : Answer A) (next : A → Answer B) (b : B) : Type 0 where
+    pub value : A
+    pub was : first ≡ done value
+    pub gave : next value ≡ done b
+
+  pub stepped : (first : Answer A) (next : A → Answer B) (b : B) → _>>=_ first next ≡ done b → Stepped first next b
+  stepped (done a) next b e = record { value = a; was = refl; gave = e }
+  stepped (refused r) next b e = let z : _≡_ {A = ℕ} 0 1 = cc in absurd (omega arith)
+
+-- ---- the first octet
+pub record FirstForm (s : List ℕ) (f : First) : Type 0 where
+  pub some : 1 ≤ length s
+  pub plain : isSet 5 (getD s 0 0) ≡ false
+  pub known : f .value < assigned (f .kind)
+  pub spare : ltb 0 (getD s 0 0 % 2) ≡ false
+  pub right : rightFields (f .kind) (f .present) ≡ true
+  pub is : f ≡ firstOf (getD s 0 0)
+
+pub first-form : (s : List ℕ) (f : First) → firstAt s ≡ done f → FirstForm s f
+unfolding firstAt
+first-form s f e =
+    let octet = getD s 0 0 in
+    let o = firstOf (getD s 0 0) in
+    let some = past (ltb (length s) 1) endsEarly _ f e in
+    let plain = past (isSet 5 octet) notAssigned _ f (some .1) in
+    let known = past (leb (assigned (o .kind)) (o .value)) notAssigned _ f (plain .1) in
+    let spare = past (ltb 0 (octet % 2)) spareBit _ f (known .1) in
+    let right = kept (rightFields (o .kind) (o .present)) wrongData o f (spare .1) in
+    record {
+      some = ltb-false _ _ (some .0);
+      plain = plain .0;
+      known = rw (right .1) (leb-false _ _ (known .0));
+      spare = spare .0;
+      right = rw (right .1) (right .0);
+      is = right .1;
+    }
+
+-- ---- the count of fields
+pub record CountForm (s : List ℕ) (c : Count) : Type 0 where
+  pub length : LengthAnswer
+  pub reads : lengthAt (drop 1 s) ≡ done length
+  pub some : 1 ≤ c .value
+  pub few : c .value ≤ fieldsLimit
+  pub value : c .value ≡ length .value
+  pub next : c .next ≡ 1 + length .size
+
+pub count-form : (s : List ℕ) (c : Count) → countAt s true ≡ done c → CountForm s c
+unfolding countAt
+count-form s c e =
+    let n = stepped (lengthAt (drop 1 s)) countIn c e in
+    let low = past (ltb (n .value .value) 1) outsideSizes _ c (n .gave) in
+    let high = past (ltb fieldsLimit (n .value .value)) outsideSizes _ c (low .1) in
+    let is : c ≡ record { value = n .value .value; next = 1 + n .value .size } = cc (high .1) in
+    record {
+      length = n .value;
+      reads = n .was;
+      some = rw is (ltb-false _ _ (low .0));
+      few = rw is (ltb-false _ _ (high .0));
+      value = ap (λ (x : Count). x .value) is;
+      next = ap (λ (x : Count). x .next) is;
+    }
+
+-- ---- a field
+pub record HeaderForm (s : List ℕ) (at : Place) (h : HeaderAnswer) : Type 0 where
+  pub some : at < length s
+  pub spare : getD s at 0 % 16 ≤ 0
+  pub right : rightData (h .header .kind) (h .header .present) ≡ true
+  pub header : h .header ≡ headerOf (getD s at 0 / 16)
+  pub next : h .next ≡ at + 1
+
+pub header-form : (s : List ℕ) (at : Place) (h : HeaderAnswer) → headerAt s at ≡ done h → HeaderForm s at h
+unfolding headerAt
+header-form s at h e =
+    let o = headerOf (getD s at 0 / 16) in
+    let some = past (leb (length s) at) endsEarly _ h e in
+    let spare = past (ltb 0 (getD s at 0 % 16)) spareBit _ h (some .1) in
+    let right = kept (rightData (o .kind) (o .present)) wrongData (record { header = o; next = at + 1 }) h (spare .1) in
+    record {
+      some = leb-false _ _ (some .0);
+      spare = ltb-false _ _ (spare .0);
+      right = rw (right .1) (right .0);
+      header = ap (λ (x : HeaderAnswer). x .header) (right .1);
+      next = ap (λ (x : HeaderAnswer). x .next) (right .1);
+    }
+
+pub record SizeForm (s : List ℕ) (n : ℕ) : Type 0 where
+  pub inside : n + 2 ≤ length s
+  pub few : n ≤ packetLimit
+  pub is : n ≡ getD s 0 0 * 256 + getD s 1 0 + 1
+
+pub size-form : (s : List ℕ) (n : ℕ) → sizeAt s ≡ done n → SizeForm s n
+unfolding sizeAt
+size-form s n e =
+    let size = getD s 0 0 * 256 + getD s 1 0 + 1 in
+    let two = past (ltb (length s) 2) endsEarly _ n e in
+    let few = past (ltb packetLimit size) outsideSizes _ n (two .1) in
+    let all = past (ltb (length s - 2) size) endsEarly _ n (few .1) in
+    let is : n ≡ size = cc (all .1) in
+    let h = ltb-false (length s) 2 (two .0) in
+    let k = ltb-false packetLimit size (few .0) in
+    let l = ltb-false (length s - 2) size (all .0) in
+    record { inside = omega arith; few = omega arith; is = is }

@@ -1,0 +1,31 @@
+-- What each item's reader inside this crate owes, so that the calls above it can rely on it: the answer's cases in the words
+-- of `Read`, and where the item ends. Definitions only.
+use Prim.Native.Nat.{ℕ, zero, _+_, _-_, _≤_}
+use mathlib.Core.Path.{_≡_}
+use mathlib.Core.Bool.{Bool}
+use mathlib.Core.List.{List, [], _++_}
+use mathlib.Core.Logic.{_⊎_}
+use lib.ListN.{length, replicate, drop}
+use Rattle.lengths.specs.Answers.{Answer, done, refused}
+use Rattle.lengths.specs.declared.Refusal.{Refusal}
+use Rattle.packets.specs.Packet.{Place, First, Header, fieldsLimit, noField}
+use Rattle.packets.specs.Read.{firstAt, Count, countAt, HeaderAnswer, headerAt, sizeAt, FieldAnswer, fieldAt, FieldsAnswer, fieldsAt}
+use Rattle.packets.specs.declared.types.Field.{Field}
+use Rattle.packets.specs.declared.reader.FirstRead.{FirstRead}
+use Rattle.packets.specs.declared.reader.FirstRead.the-variants as first
+use Rattle.packets.specs.declared.reader.CountRead.{CountRead}
+use Rattle.packets.specs.declared.reader.CountRead.the-variants as count
+
+abbrev pub firstOutcome : FirstRead → Answer First
+firstOutcome (first.First k v p) = done (record { kind = k; value = v; present = p })
+firstOutcome (first.Refused r) = refused r
+
+pub record FirstTold (s : List ℕ) (r : FirstRead) : Type 0 where
+  pub answer : firstOutcome r ≡ firstAt s
+
+abbrev pub countOutcome : CountRead → Answer Count
+countOutcome (count.Count n next) = done (record { value = n; next = next })
+countOutcome (count.Refused r) = refused r
+
+pub record CountTold (s : List ℕ) (present : Bool) (r : CountRead) : Type 0 where
+  pub answer : countOutcome r ≡ countAt s present

@@ -1,0 +1,153 @@
+// Document 01, 'The packet', read in reading order: the first octet, the count of fields, each field, the end. Each item has
+// a function of its own, which answers with the item or with the refusal that is the whole packet's.
+use datagrams::Packet;
+use lengths::Length;
+use lengths::Refusal;
+use crate::types::Ending;
+use crate::types::Field;
+use crate::types::Kind;
+use crate::types::PacketRead;
+use crate::types::Reading;
+
+ghost use mathlib.Core.Path.{_≡_};
+ghost use Prim.Native.Nat.{_≤_};
+ghost use mathlib.Core.List.{[]};
+ghost use lib.ListN.{length, drop};
+ghost use Rattle.packets.specs.Packet as packet;
+ghost use Rattle.packets.specs.Packet.{kindOf, rightFields, rightData};
+ghost use Rattle.packets.specs.Read.{allZero, mayFollow};
+ghost use Rattle.packets.specs.Items.{FirstTold, CountTold};
+
+// What the first octet says.
+enum FirstRead {
+    First(Kind, u8, bool),
+    Refused(Refusal),
+}
+
+// The count of fields, and the place after it.
+enum CountRead {
+    Count(usize, usize),
+    Refused(Refusal),
+}
+
+// A field's type, whether it has data, and the place after the header.
+enum HeaderRead {
+    Header(u8, bool, usize),
+    Refused(Refusal),
+}
+
+// The length of a field's data.
+enum SizeRead {
+    Size(usize),
+    Refused(Refusal),
+}
+
+// A field, and the place after it.
+enum FieldRead {
+    Field(Field, usize),
+    Refused(Refusal),
+}
+
+// The place after the last field.
+enum FieldsEnd {
+    Next(usize),
+    Refused(Refusal),
+}
+
+struct FieldsRead {
+    end: FieldsEnd,
+    fields: [Field; Field::LIMIT],
+}
+
+fn kind_of(octet: u8) -> Kind
+    ensures { λ r. ⌜ r ≡ kindOf octet ⌝ }
+{
+    if 0 < octet / 64 % 2 {
+        return Kind::Data;
+    }
+    Kind::Indicator
+}
+
+// How many values of a kind are assigned.
+fn assigned(kind: Kind) -> u8
+    ensures { λ r. ⌜ r ≡ packet.assigned kind ⌝ }
+{
+    match kind {
+        Kind::Indicator => 16,
+        Kind::Data => 9,
+    }
+}
+
+fn right_fields(kind: Kind, present: bool) -> bool
+    ensures { λ r. ⌜ r ≡ rightFields kind present ⌝ }
+{
+    match kind {
+        Kind::Indicator => !present,
+        Kind::Data => true,
+    }
+}
+
+fn right_data(kind: u8, present: bool) -> bool
+    ensures { λ r. ⌜ r ≡ rightData kind present ⌝ }
+{
+    if kind == 0 {
+        return present;
+    }
+    if kind < 6 {
+        return !present;
+    }
+    if kind == 6 {
+        return present;
+    }
+    true
+}
+
+fn read_first(s: &[u8]) -> FirstRead
+    ensures { λ r. ⌜ FirstTold (now (s .entry)) r ⌝ }
+{
+    if s.len() < 1 {
+        return FirstRead::Refused(Refusal::new(Refusal::ENDS_EARLY));
+    }
+    let octet = s[0];
+    if 0 < octet / 32 % 2 {
+        return FirstRead::Refused(Refusal::new(Refusal::NOT_ASSIGNED));
+    }
+    let kind = kind_of(octet);
+    let value = octet / 2 % 16;
+    if assigned(kind) <= value {
+        return FirstRead::Refused(Refusal::new(Refusal::NOT_ASSIGNED));
+    }
+    if 0 < octet % 2 {
+        return FirstRead::Refused(Refusal::new(Refusal::SPARE_BIT));
+    }
+    let present = 0 < octet / 128 % 2;
+    if right_fields(kind, present) {
+        return FirstRead::First(kind, value, present);
+    }
+    FirstRead::Refused(Refusal::new(Refusal::WRONG_DATA))
+}
+
+// The count of fields, where the first octet says that they are present.
+fn read_count(s: &[u8], present: bool) -> CountRead
+    requires { ⌜ 1 ≤ length (now s) ⌝ }
+    ensures { λ r. ⌜ CountTold (now (s .entry)) present r ⌝ }
+{
+    if !present {
+        return CountRead::Count(0, 1);
+    }
+    let got = lengths::read(&s[1..]);
+    let Length::Value(value, size) = got else {
+        let Length::Refused(refusal) = got else {
+            return CountRead::Count(0, 1);
+        };
+        return CountRead::Refused(refusal);
+    };
+    if value < 1 {
+        return CountRead::Refused(Refusal::new(Refusal::OUTSIDE_SIZES));
+    }
+    if Field::LIMIT < value {
+        return CountRead::Refused(Refusal::new(Refusal::OUTSIDE_SIZES));
+    }
+    let next = 1 + size;
+    CountRead::Count(value, next)
+}
