@@ -15,6 +15,12 @@ use Rattle.packets.specs.declared.reader.FirstRead.{FirstRead}
 use Rattle.packets.specs.declared.reader.FirstRead.the-variants as first
 use Rattle.packets.specs.declared.reader.CountRead.{CountRead}
 use Rattle.packets.specs.declared.reader.CountRead.the-variants as count
+use Rattle.packets.specs.declared.reader.HeaderRead.{HeaderRead}
+use Rattle.packets.specs.declared.reader.HeaderRead.the-variants as header
+use Rattle.packets.specs.declared.reader.SizeRead.{SizeRead}
+use Rattle.packets.specs.declared.reader.SizeRead.the-variants as size
+use Rattle.packets.specs.declared.reader.FieldRead.{FieldRead}
+use Rattle.packets.specs.declared.reader.FieldRead.the-variants as field
 
 abbrev pub firstOutcome : FirstRead → Answer First
 firstOutcome (first.First k v p) = done (record { kind = k; value = v; present = p })
@@ -29,3 +35,24 @@ countOutcome (count.Refused r) = refused r
 
 pub record CountTold (s : List ℕ) (present : Bool) (r : CountRead) : Type 0 where
   pub answer : countOutcome r ≡ countAt s present
+
+abbrev pub headerOutcome : HeaderRead → Answer HeaderAnswer
+headerOutcome (header.Header k p next) = done (record { header = record { kind = k; present = p }; next = next })
+headerOutcome (header.Refused r) = refused r
+
+pub record HeaderTold (s : List ℕ) (at : Place) (r : HeaderRead) : Type 0 where
+  pub answer : headerOutcome r ≡ headerAt s at
+
+abbrev pub sizeOutcome : SizeRead → Answer ℕ
+sizeOutcome (size.Size n) = done n
+sizeOutcome (size.Refused r) = refused r
+
+pub record SizeTold (s : List ℕ) (r : SizeRead) : Type 0 where
+  pub answer : sizeOutcome r ≡ sizeAt s
+
+abbrev pub fieldOutcome : FieldRead → Answer FieldAnswer
+fieldOutcome (field.Field f next) = done (record { field = f; next = next })
+fieldOutcome (field.Refused r) = refused r
+
+pub record FieldTold (s : List ℕ) (at : Place) (r : FieldRead) : Type 0 where
+  pub answer : fieldOutcome r ≡ fieldAt s at

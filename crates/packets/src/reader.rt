@@ -13,10 +13,11 @@ ghost use mathlib.Core.Path.{_≡_};
 ghost use Prim.Native.Nat.{_≤_};
 ghost use mathlib.Core.List.{[]};
 ghost use lib.ListN.{length, drop};
+ghost use Rattle.lengths.specs.Promise.{Octet};
 ghost use Rattle.packets.specs.Packet as packet;
 ghost use Rattle.packets.specs.Packet.{kindOf, rightFields, rightData};
 ghost use Rattle.packets.specs.Read.{allZero, mayFollow};
-ghost use Rattle.packets.specs.Items.{FirstTold, CountTold};
+ghost use Rattle.packets.specs.Items.{FirstTold, CountTold, HeaderTold, SizeTold, FieldTold};
 
 // What the first octet says.
 enum FirstRead {
@@ -57,6 +58,13 @@ enum FieldsEnd {
 struct FieldsRead {
     end: FieldsEnd,
     fields: [Field; Field::LIMIT],
+}
+
+// An octet as a size.
+fn wide(octet: u8) -> usize
+    ensures { λ r. ⌜ Octet octet r ⌝ }
+{
+    octet as usize
 }
 
 fn kind_of(octet: u8) -> Kind
@@ -150,4 +158,64 @@ fn read_count(s: &[u8], present: bool) -> CountRead
     }
     let next = 1 + size;
     CountRead::Count(value, next)
+}
+
+fn read_header(s: &[u8], at: usize) -> HeaderRead
+    ensures { λ r. ⌜ HeaderTold (now (s .entry)) at r ⌝ }
+{
+    if s.len() <= at {
+        return HeaderRead::Refused(Refusal::new(Refusal::ENDS_EARLY));
+    }
+    let octet = s[at];
+    if 0 < octet % 16 {
+        return HeaderRead::Refused(Refusal::new(Refusal::SPARE_BIT));
+    }
+    let bits = octet / 16;
+    let kind = bits % 8;
+    let present = 0 < bits / 8 % 2;
+    let next = at + 1;
+    if right_data(kind, present) {
+        return HeaderRead::Header(kind, present, next);
+    }
+    HeaderRead::Refused(Refusal::new(Refusal::WRONG_DATA))
+}
+
+// The length of the data that begins after the two octets at the front of s.
+fn read_size(s: &[u8]) -> SizeRead
+    ensures { λ r. ⌜ SizeTold (now (s .entry)) r ⌝ }
+{
+    if s.len() < 2 {
+        return SizeRead::Refused(Refusal::new(Refusal::ENDS_EARLY));
+    }
+    let high = wide(s[0]) * 256;
+    let size = high + wide(s[1]) + 1;
+    if Packet::LIMIT < size {
+        return SizeRead::Refused(Refusal::new(Refusal::OUTSIDE_SIZES));
+    }
+    let left = s.len() - 2;
+    if left < size {
+        return SizeRead::Refused(Refusal::new(Refusal::ENDS_EARLY));
+    }
+    SizeRead::Size(size)
+}
+
+fn read_field(s: &[u8], at: usize) -> FieldRead
+    ensures { λ r. ⌜ FieldTold (now (s .entry)) at r ⌝ }
+{
+    match read_header(s, at) {
+        HeaderRead::Refused(refusal) => FieldRead::Refused(refusal),
+        HeaderRead::Header(kind, present, next) => {
+            if !present {
+                return FieldRead::Field(Field { kind, start: 0, size: 0 }, next);
+            }
+            match read_size(&s[next..]) {
+                SizeRead::Refused(refusal) => FieldRead::Refused(refusal),
+                SizeRead::Size(size) => {
+                    let start = next + 2;
+                    let end = start + size;
+                    FieldRead::Field(Field { kind, start, size }, end)
+                }
+            }
+        }
+    }
 }
