@@ -1,4 +1,6 @@
 mod Tests
 mod Forms
 mod ReadItems
+mod FieldsTurn
+mod ReadPacket
 pub mod Claims

@@ -1,16 +1,12 @@
 -- What each item's reader inside this crate owes, so that the calls above it can rely on it: the answer's cases in the words
 -- of `Read`, and where the item ends. Definitions only.
-use Prim.Native.Nat.{ℕ, zero, _+_, _-_, _≤_}
+use Prim.Native.Nat.{ℕ}
 use mathlib.Core.Path.{_≡_}
 use mathlib.Core.Bool.{Bool}
-use mathlib.Core.List.{List, [], _++_}
-use mathlib.Core.Logic.{_⊎_}
-use lib.ListN.{length, replicate, drop}
+use mathlib.Core.List.{List, []}
 use Rattle.lengths.specs.Answers.{Answer, done, refused}
-use Rattle.lengths.specs.declared.Refusal.{Refusal}
-use Rattle.packets.specs.Packet.{Place, First, Header, fieldsLimit, noField}
+use Rattle.packets.specs.Packet.{Place, First, Header}
 use Rattle.packets.specs.Read.{firstAt, Count, countAt, HeaderAnswer, headerAt, sizeAt, FieldAnswer, fieldAt, FieldsAnswer, fieldsAt}
-use Rattle.packets.specs.declared.types.Field.{Field}
 use Rattle.packets.specs.declared.reader.FirstRead.{FirstRead}
 use Rattle.packets.specs.declared.reader.FirstRead.the-variants as first
 use Rattle.packets.specs.declared.reader.CountRead.{CountRead}
@@ -21,6 +17,9 @@ use Rattle.packets.specs.declared.reader.SizeRead.{SizeRead}
 use Rattle.packets.specs.declared.reader.SizeRead.the-variants as size
 use Rattle.packets.specs.declared.reader.FieldRead.{FieldRead}
 use Rattle.packets.specs.declared.reader.FieldRead.the-variants as field
+use Rattle.packets.specs.declared.reader.FieldsEnd.the-variants as end
+use Rattle.packets.specs.declared.reader.FieldsRead.{FieldsRead}
+use Rattle.packets.specs.Promise.{padded}
 
 abbrev pub firstOutcome : FirstRead → Answer First
 firstOutcome (first.First k v p) = done (record { kind = k; value = v; present = p })
@@ -56,3 +55,10 @@ fieldOutcome (field.Refused r) = refused r
 
 pub record FieldTold (s : List ℕ) (at : Place) (r : FieldRead) : Type 0 where
   pub answer : fieldOutcome r ≡ fieldAt s at
+
+abbrev pub fieldsRead : Answer FieldsAnswer → FieldsRead
+fieldsRead (done a) = record { end = end.Next (a .next); fields = padded (a .fields) }
+fieldsRead (refused r) = record { end = end.Refused r; fields = padded [] }
+
+pub record FieldsTold (count : ℕ) (s : List ℕ) (at : Place) (r : FieldsRead) : Type 0 where
+  pub answer : r ≡ fieldsRead (fieldsAt count s at)

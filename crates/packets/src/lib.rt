@@ -1,7 +1,8 @@
 // Packets, read and written: document 01, 'The packet'.
-mod types;
 mod reader;
+mod types;
 
+pub use reader::read;
 pub use types::Ending;
 pub use types::Field;
 pub use types::Kind;

@@ -1,23 +1,24 @@
 // Document 01, 'The packet', read in reading order: the first octet, the count of fields, each field, the end. Each item has
 // a function of its own, which answers with the item or with the refusal that is the whole packet's.
-use datagrams::Packet;
-use lengths::Length;
-use lengths::Refusal;
 use crate::types::Ending;
 use crate::types::Field;
 use crate::types::Kind;
 use crate::types::PacketRead;
 use crate::types::Reading;
-
+use datagrams::Packet;
+use lengths::Length;
+use lengths::Refusal;
 ghost use mathlib.Core.Path.{_≡_};
 ghost use Prim.Native.Nat.{_≤_};
 ghost use mathlib.Core.List.{[]};
 ghost use lib.ListN.{length, drop};
 ghost use Rattle.lengths.specs.Promise.{Octet};
 ghost use Rattle.packets.specs.Packet as packet;
-ghost use Rattle.packets.specs.Packet.{kindOf, rightFields, rightData};
+ghost use Rattle.packets.specs.Packet.{fieldsLimit, kindOf, rightFields, rightData};
 ghost use Rattle.packets.specs.Read.{allZero, mayFollow};
-ghost use Rattle.packets.specs.Items.{FirstTold, CountTold, HeaderTold, SizeTold, FieldTold};
+ghost use Rattle.packets.specs.Items.{FirstTold, CountTold, HeaderTold, SizeTold, FieldTold, FieldsTold};
+ghost use Rattle.packets.specs.Promise.{PacketTold, packetRead, padded};
+ghost use Rattle.lengths.specs.Answers as answers;
 
 // What the first octet says.
 enum FirstRead {
@@ -206,7 +207,14 @@ fn read_field(s: &[u8], at: usize) -> FieldRead
         HeaderRead::Refused(refusal) => FieldRead::Refused(refusal),
         HeaderRead::Header(kind, present, next) => {
             if !present {
-                return FieldRead::Field(Field { kind, start: 0, size: 0 }, next);
+                return FieldRead::Field(
+                    Field {
+                        kind,
+                        start: 0,
+                        size: 0,
+                    },
+                    next,
+                );
             }
             match read_size(&s[next..]) {
                 SizeRead::Refused(refusal) => FieldRead::Refused(refusal),
@@ -217,5 +225,110 @@ fn read_field(s: &[u8], at: usize) -> FieldRead
                 }
             }
         }
+    }
+}
+
+fn no_fields() -> [Field; Field::LIMIT]
+    ensures { λ r. ⌜ r ≡ padded [] ⌝ }
+{
+    [Field {
+        kind: 0,
+        start: 0,
+        size: 0,
+    }; Field::LIMIT]
+}
+
+// So many fields, the first of which begins at `from`.
+fn read_fields(s: &[u8], count: usize, from: usize) -> FieldsRead
+    requires { ⌜ count ≤ fieldsLimit ⌝ }
+    ensures { λ r. ⌜ FieldsTold count (now (s .entry)) from r ⌝ }
+{
+    let mut fields = no_fields();
+    let mut at = from;
+    let mut i: usize = 0;
+    while i < count {
+        match read_field(s, at) {
+            FieldRead::Refused(refusal) => {
+                let none = no_fields();
+                return FieldsRead {
+                    end: FieldsEnd::Refused(refusal),
+                    fields: none,
+                };
+            }
+            FieldRead::Field(field, next) => {
+                fields[i] = field;
+                at = next;
+                i += 1;
+            }
+        }
+    }
+    FieldsRead {
+        end: FieldsEnd::Next(at),
+        fields,
+    }
+}
+
+fn all_zero(s: &[u8]) -> bool
+    ensures { λ r. ⌜ r ≡ allZero (now (s .entry)) ⌝ }
+{
+    let mut i: usize = 0;
+    while i < s.len() {
+        if 0 < s[i] {
+            return false;
+        }
+        i += 1;
+    }
+    true
+}
+
+// Whether what is left after the last field may be there.
+fn may_follow(left: &[u8], ending: Ending) -> bool
+    ensures { λ r. ⌜ r ≡ mayFollow ending (now (left .entry)) ⌝ }
+{
+    match ending {
+        Ending::Whole => left.len() == 0,
+        Ending::Repaired => all_zero(left),
+    }
+}
+
+fn refused(refusal: Refusal) -> PacketRead
+    ensures { λ r. ⌜ r ≡ packetRead (answers.refused refusal) ⌝ }
+{
+    let none = no_fields();
+    PacketRead {
+        reading: Reading::Refused(refusal),
+        fields: none,
+    }
+}
+
+// A packet's kind, value and fields.
+pub fn read(s: &[u8], ending: Ending) -> PacketRead
+    ensures { λ r. ⌜ PacketTold ending (now (s .entry)) r ⌝ }
+{
+    if Packet::LIMIT < s.len() {
+        return refused(Refusal::new(Refusal::OUTSIDE_SIZES));
+    }
+    match read_first(s) {
+        FirstRead::Refused(refusal) => refused(refusal),
+        FirstRead::First(kind, value, present) => match read_count(s, present) {
+            CountRead::Refused(refusal) => refused(refusal),
+            CountRead::Count(count, at) => {
+                let all = read_fields(s, count, at);
+                let end = all.end;
+                match end {
+                    FieldsEnd::Refused(refusal) => refused(refusal),
+                    FieldsEnd::Next(next) => {
+                        if may_follow(&s[next..], ending) {
+                            let fields = all.fields;
+                            return PacketRead {
+                                reading: Reading::Packet { kind, value, count },
+                                fields,
+                            };
+                        }
+                        refused(Refusal::new(Refusal::LEFT_OVER))
+                    }
+                }
+            }
+        },
     }
 }
