@@ -1,5 +1,5 @@
--- The loops of the packet reader, one turn each: the fields that are left to read, put after those that were read, are the
--- fields of the packet; and what is left of the octets is zero exactly if all of them are. Assumes nothing.
+-- The loop of the packet reader, one turn: the fields that are left to read, put after those that were read, are the fields
+-- of the packet. Assumes nothing.
 use Prim.Native.Nat.{ℕ, zero, suc, _+_, _-_, _≤_, _<_}
 use mathlib.Core.Path.{_≡_, refl, sym, ap, _∙_}
 use mathlib.Core.Bool.{Bool, true, false, cond, _&&_}
@@ -20,40 +20,6 @@ use Rattle.packets.specs.declared.types.Field.{Field}
 use Rattle.packets.specs.declared.reader.FieldRead.{FieldRead}
 use Rattle.packets.specs.declared.reader.FieldRead.the-variants as field
 use Rattle.packets.specs.declared.reader.FieldsEnd.the-variants as end
-
--- ---- all zero
--- what is left of the octets s from i on decides
-pub record ZerosLeft (s : List ℕ) (i : ℕ) : Type 0 where
-  pub so : allZero s ≡ allZero (drop i s)
-
-pub zero-start : (s : List ℕ) → ZerosLeft s 0
-zero-start s = record { so = refl }
-
-drop-next : (s : List ℕ) (i : ℕ) → i < length s → drop i s ≡ getD s i 0 ∷ drop (i + 1) s
-drop-next s i h = drop-cons s i 0 h ∙ ap (λ (n : ℕ). getD s i 0 ∷ drop n s) (sym (add-one i))
-
-module _ {s : List ℕ} {i : ℕ} where
-  pub zero-turn : ZerosLeft s i → i < length s → getD s i 0 ≤ 0 → ZerosLeft s (i + 1)
-  unfolding allZero
-  zero-turn left h none =
-      record {
-        so =
-            left .so ∙ ap allZero (drop-next s i h)
-            ∙ ap (λ (b : Bool). b && allZero (drop (i + 1) s)) (eq-eqb (getD s i 0) 0 (omega arith));
-      }
-
-  pub zero-not : ZerosLeft s i → i < length s → 0 < getD s i 0 → false ≡ allZero s
-  unfolding allZero
-  zero-not left h some =
-      sym
-      (left .so ∙ ap allZero (drop-next s i h)
-      ∙ ap (λ (b : Bool). b && allZero (drop (i + 1) s)) (ne-eqb (getD s i 0) 0 (λ (e : getD s i 0 ≡ 0). omega arith)))
-
-  pub zero-done : ZerosLeft s i → length s ≤ i → true ≡ allZero s
-  unfolding allZero
-  zero-done left h = sym (left .so ∙ ap allZero (drop-of-length-le s h))
-
-pub ruleset zeros = (zero-start, zero-turn, zero-not, zero-done)
 
 -- ---- fields before those that follow
 abbrev pub after : List Field → Answer FieldsAnswer → Answer FieldsAnswer

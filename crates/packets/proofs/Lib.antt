@@ -1,4 +1,5 @@
 mod Tests
+mod Every
 mod Forms
 mod ReadItems
 mod FieldsTurn

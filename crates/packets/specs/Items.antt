@@ -1,11 +1,11 @@
 -- What each item's reader inside this crate owes, so that the calls above it can rely on it: the answer's cases in the words
 -- of `Read`, and where the item ends. Definitions only.
-use Prim.Native.Nat.{ℕ}
+use Prim.Native.Nat.{ℕ, _+_, _*_, _<_, _≤_}
 use mathlib.Core.Path.{_≡_}
-use mathlib.Core.Bool.{Bool}
+use mathlib.Core.Bool.{Bool, cond}
 use mathlib.Core.List.{List, []}
 use Rattle.lengths.specs.Answers.{Answer, done, refused}
-use Rattle.packets.specs.Packet.{Place, First, Header}
+use Rattle.packets.specs.Packet.{Place, First, Header, fieldsLimit}
 use Rattle.packets.specs.Read.{firstAt, Count, countAt, HeaderAnswer, headerAt, sizeAt, FieldAnswer, fieldAt, FieldsAnswer, fieldsAt}
 use Rattle.packets.specs.declared.reader.FirstRead.{FirstRead}
 use Rattle.packets.specs.declared.reader.FirstRead.the-variants as first
@@ -20,6 +20,7 @@ use Rattle.packets.specs.declared.reader.FieldRead.the-variants as field
 use Rattle.packets.specs.declared.reader.FieldsEnd.the-variants as end
 use Rattle.packets.specs.declared.reader.FieldsRead.{FieldsRead}
 use Rattle.packets.specs.Promise.{padded}
+use Rattle.packets.specs.Write.{withData, total}
 
 abbrev pub firstOutcome : FirstRead → Answer First
 firstOutcome (first.First k v p) = done (record { kind = k; value = v; present = p })
@@ -62,3 +63,21 @@ fieldsRead (refused r) = record { end = end.Refused r; fields = padded [] }
 
 pub record FieldsTold (count : ℕ) (s : List ℕ) (at : Place) (r : FieldsRead) : Type 0 where
   pub answer : r ≡ fieldsRead (fieldsAt count s at)
+
+-- a length as a size
+pub record Wide (length r : ℕ) : Type 0 where
+  pub same : r ≡ length
+  pub small : r < 65536
+
+-- ---- writing
+-- how many octets a field takes whose data has this length
+abbrev pub fieldSize : ℕ → ℕ
+fieldSize size = cond (withData size) (3 + size) 1
+
+pub record Sized (size r : ℕ) : Type 0 where
+  pub answer : r ≡ fieldSize size
+  pub small : r ≤ 65538
+
+pub record FieldsSized (lengths : List ℕ) (r : ℕ) : Type 0 where
+  pub answer : r ≡ total fieldSize lengths
+  pub small : r ≤ fieldsLimit * 65538

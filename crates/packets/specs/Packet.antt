@@ -3,7 +3,7 @@
 -- field begins on an octet of its own: top bit data present, three bits field type, four zero bits. With data, two octets
 -- hold its length minus one, then the data." Definitions only.
 use Prim.Native.Nat.{ℕ, _+_, _-_, _*_, _/_, _%_, _^_}
-use mathlib.Core.Bool.{Bool, true, not, cond}
+use mathlib.Core.Bool.{Bool, true, not, cond, _&&_}
 use mathlib.Core.List.{List, [], _∷_}
 use lib.ListN.{take, drop}
 use lib.Dec.{ltb, eqb}
@@ -36,6 +36,11 @@ rightData kind present =
     (cond (ltb kind 6) (not present)
     (cond (eqb kind 6) present
     true))
+
+-- whether a test holds of every element of a list
+unfoldable pub every : (ℕ → Bool) → List ℕ → Bool
+every test [] = true
+every test (x ∷ s) = test x && every test s
 
 -- whether the bit of an octet is set that stands k places above the lowest
 abbrev pub isSet : ℕ → ℕ → Bool

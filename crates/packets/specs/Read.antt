@@ -2,7 +2,7 @@
 -- over 160 octets 4, then reading order; in the first octet extension 12, value 12, spare bit 5, indicator with data 14; in
 -- a field header 5 before 14. At a length: 3 or 1 in its form, then 4, then 1 for missing octets." Definitions only.
 use Prim.Native.Nat.{ℕ, zero, suc, _+_, _-_, _*_, _/_, _%_}
-use mathlib.Core.Bool.{Bool, true, not, cond, _&&_}
+use mathlib.Core.Bool.{Bool, true, not, cond}
 use mathlib.Core.List.{List, [], _∷_}
 use lib.ListN.{length, getD, drop}
 use lib.Dec.{leb, ltb, eqb}
@@ -10,7 +10,7 @@ use Rattle.lengths.specs.Refusals.{endsEarly, outsideSizes, spareBit, leftOver,
 use Rattle.lengths.specs.Answers.{Answer, done, refuse, _>>=_, LengthAnswer}
 use Rattle.lengths.specs.Length.{lengthAt}
 use Rattle.datagrams.specs.Sizes.{packetLimit}
-use Rattle.packets.specs.Packet.{Place, First, Header, firstOf, headerOf, isSet, assigned, rightFields, rightData, fieldsLimit}
+use Rattle.packets.specs.Packet.{Place, First, Header, firstOf, headerOf, isSet, assigned, rightFields, rightData, fieldsLimit, every}
 use Rattle.packets.specs.declared.types.Kind.{Kind}
 use Rattle.packets.specs.declared.types.Ending.{Ending}
 use Rattle.packets.specs.declared.types.Ending.the-variants.{Whole, Repaired}
@@ -108,9 +108,8 @@ fieldsAt (suc n) s at = do
   done (record { fields = f .field ∷ rest .fields; next = rest .next })
 
 -- ---- the end
-unfoldable pub allZero : List ℕ → Bool
-allZero [] = true
-allZero (x ∷ s) = eqb x 0 && allZero s
+abbrev pub allZero : List ℕ → Bool
+allZero s = every (λ x. eqb x 0) s
 
 -- "A received or spare packet ends at its last field. A repaired one may go on with zeros only": what may follow
 abbrev pub mayFollow : Ending → List ℕ → Bool

@@ -1,6 +1,7 @@
 // Packets, read and written: document 01, 'The packet'.
 mod reader;
 mod types;
+mod writer;
 
 pub use reader::read;
 pub use types::Ending;

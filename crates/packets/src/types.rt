@@ -1,7 +1,7 @@
 // Document 01, 'The packet': what a packet is to those who read and write it.
 use lengths::Refusal;
 ghost use mathlib.Core.Path.{_≡_};
-ghost use Rattle.packets.specs.Packet.{fieldsLimit};
+ghost use Rattle.packets.specs.Packet.{fieldsLimit, typesLimit};
 
 // A packet is an indicator or data.
 pub enum Kind {
@@ -25,10 +25,19 @@ pub struct Field {
 impl Field {
     pub const LIMIT: usize = 16;
 
+    // The highest field type.
+    pub const TYPES: u8 = 7;
+
     pub fn limit() -> usize
         ensures { λ r. ⌜ r ≡ fieldsLimit ⌝ }
     {
         Field::LIMIT
+    }
+
+    pub fn types_limit() -> u8
+        ensures { λ r. ⌜ r ≡ typesLimit ⌝ }
+    {
+        Field::TYPES
     }
 }
 
