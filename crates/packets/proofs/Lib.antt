@@ -1,5 +1,6 @@
 mod Tests
 mod Every
+mod Measure
 mod Forms
 mod ReadItems
 mod FieldsTurn

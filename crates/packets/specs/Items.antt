@@ -4,7 +4,11 @@ use Prim.Native.Nat.{ℕ, _+_, _*_, _<_, _≤_}
 use mathlib.Core.Path.{_≡_}
 use mathlib.Core.Bool.{Bool, cond}
 use mathlib.Core.List.{List, []}
-use Rattle.lengths.specs.Answers.{Answer, done, refused}
+use lib.ListN.{length}
+use lib.Dec.{ltb}
+use Rattle.lengths.specs.Answers.{Answer, done, refused, writtenOutcome, sizeOf}
+use Rattle.lengths.specs.declared.Written.{Written}
+use Rattle.packets.specs.declared.types.Kind.{Kind}
 use Rattle.packets.specs.Packet.{Place, First, Header, fieldsLimit}
 use Rattle.packets.specs.Read.{firstAt, Count, countAt, HeaderAnswer, headerAt, sizeAt, FieldAnswer, fieldAt, FieldsAnswer, fieldsAt}
 use Rattle.packets.specs.declared.reader.FirstRead.{FirstRead}
@@ -20,7 +24,7 @@ use Rattle.packets.specs.declared.reader.FieldRead.the-variants as field
 use Rattle.packets.specs.declared.reader.FieldsEnd.the-variants as end
 use Rattle.packets.specs.declared.reader.FieldsRead.{FieldsRead}
 use Rattle.packets.specs.Promise.{padded}
-use Rattle.packets.specs.Write.{withData, total}
+use Rattle.packets.specs.Write.{withData, total, packetToWrite}
 
 abbrev pub firstOutcome : FirstRead → Answer First
 firstOutcome (first.First k v p) = done (record { kind = k; value = v; present = p })
@@ -81,3 +85,11 @@ pub record Sized (size r : ℕ) : Type 0 where
 pub record FieldsSized (lengths : List ℕ) (r : ℕ) : Type 0 where
   pub answer : r ≡ total fieldSize lengths
   pub small : r ≤ fieldsLimit * 65538
+
+-- how many octets a packet has whose fields' data have these lengths
+abbrev pub packetSize : List ℕ → ℕ
+packetSize lengths = cond (ltb 0 (length lengths)) (2 + total fieldSize lengths) 1
+
+-- what is to be written, measured
+pub record Measured (kind : Kind) (value : ℕ) (types lengths octets : List ℕ) (r : Written) : Type 0 where
+  pub answer : writtenOutcome r ≡ sizeOf (packetToWrite kind value types lengths octets)

@@ -53,11 +53,11 @@ abbrev pub sum : List ℕ → ℕ
 sum s = total (λ x. x) s
 
 -- 15: "given lengths that don't sum to the data, or not one for each field type"
-abbrev pub oneEach : List ℕ → List ℕ → List ℕ → Bool
+unfoldable pub oneEach : List ℕ → List ℕ → List ℕ → Bool
 oneEach types lengths octets = eqb (length types) (length lengths) && eqb (sum lengths) (length octets)
 
 -- 12: value not assigned; "a type over 7 is refusal 12"
-abbrev pub allAssigned : Kind → ℕ → List ℕ → Bool
+unfoldable pub allAssigned : Kind → ℕ → List ℕ → Bool
 allAssigned kind value types = ltb value (assigned kind) && every (λ t. leb t typesLimit) types
 
 -- each type has data or not, as it may
@@ -67,12 +67,12 @@ rightTypes (kind ∷ types) [] = true
 rightTypes (kind ∷ types) (size ∷ lengths) = rightData kind (withData size) && rightTypes types lengths
 
 -- 14: "data where none may be, or none where it must"; an indicator with fields
-abbrev pub allRight : Kind → List ℕ → List ℕ → Bool
+unfoldable pub allRight : Kind → List ℕ → List ℕ → Bool
 allRight kind types lengths = rightFields kind (ltb 0 (length types)) && rightTypes types lengths
 
 -- 4: "the data of each at most the packet limit", and the whole
-abbrev pub inSizes : List ℕ → List ℕ → Bool
-inSizes lengths packet = every (λ n. leb n packetLimit) lengths && leb (length packet) packetLimit
+unfoldable pub inSizes : List ℕ → ℕ → Bool
+inSizes lengths size = every (λ n. leb n packetLimit) lengths && leb size packetLimit
 
 unfoldable pub packetToWrite : Kind → ℕ → List ℕ → List ℕ → List ℕ → Answer (List ℕ)
 packetToWrite kind value types lengths octets =
@@ -81,5 +81,5 @@ packetToWrite kind value types lengths octets =
     (cond (not (oneEach types lengths octets)) (refuse wrongSettings)
     (cond (not (allAssigned kind value types)) (refuse notAssigned)
     (cond (not (allRight kind types lengths)) (refuse wrongData)
-    (cond (not (inSizes lengths packet)) (refuse outsideSizes)
+    (cond (not (inSizes lengths (length packet))) (refuse outsideSizes)
     (done packet)))))

@@ -1,5 +1,6 @@
 // Packets, read and written: document 01, 'The packet'.
 mod reader;
+mod rules;
 mod types;
 mod writer;
 

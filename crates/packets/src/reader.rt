@@ -1,5 +1,6 @@
 // Document 01, 'The packet', read in reading order: the first octet, the count of fields, each field, the end. Each item has
 // a function of its own, which answers with the item or with the refusal that is the whole packet's.
+use crate::rules;
 use crate::types::Ending;
 use crate::types::Field;
 use crate::types::Kind;
@@ -13,8 +14,7 @@ ghost use Prim.Native.Nat.{_≤_};
 ghost use mathlib.Core.List.{[]};
 ghost use lib.ListN.{length, drop};
 ghost use Rattle.lengths.specs.Promise.{Octet};
-ghost use Rattle.packets.specs.Packet as packet;
-ghost use Rattle.packets.specs.Packet.{fieldsLimit, kindOf, rightFields, rightData};
+ghost use Rattle.packets.specs.Packet.{fieldsLimit, kindOf};
 ghost use Rattle.packets.specs.Read.{allZero, mayFollow};
 ghost use Rattle.packets.specs.Items.{FirstTold, CountTold, HeaderTold, SizeTold, FieldTold, FieldsTold};
 ghost use Rattle.packets.specs.Promise.{PacketTold, packetRead, padded};
@@ -77,40 +77,6 @@ fn kind_of(octet: u8) -> Kind
     Kind::Indicator
 }
 
-// How many values of a kind are assigned.
-fn assigned(kind: Kind) -> u8
-    ensures { λ r. ⌜ r ≡ packet.assigned kind ⌝ }
-{
-    match kind {
-        Kind::Indicator => 16,
-        Kind::Data => 9,
-    }
-}
-
-fn right_fields(kind: Kind, present: bool) -> bool
-    ensures { λ r. ⌜ r ≡ rightFields kind present ⌝ }
-{
-    match kind {
-        Kind::Indicator => !present,
-        Kind::Data => true,
-    }
-}
-
-fn right_data(kind: u8, present: bool) -> bool
-    ensures { λ r. ⌜ r ≡ rightData kind present ⌝ }
-{
-    if kind == 0 {
-        return present;
-    }
-    if kind < 6 {
-        return !present;
-    }
-    if kind == 6 {
-        return present;
-    }
-    true
-}
-
 fn read_first(s: &[u8]) -> FirstRead
     ensures { λ r. ⌜ FirstTold (now (s .entry)) r ⌝ }
 {
@@ -123,14 +89,14 @@ fn read_first(s: &[u8]) -> FirstRead
     }
     let kind = kind_of(octet);
     let value = octet / 2 % 16;
-    if assigned(kind) <= value {
+    if rules::assigned(kind) <= value {
         return FirstRead::Refused(Refusal::new(Refusal::NOT_ASSIGNED));
     }
     if 0 < octet % 2 {
         return FirstRead::Refused(Refusal::new(Refusal::SPARE_BIT));
     }
     let present = 0 < octet / 128 % 2;
-    if right_fields(kind, present) {
+    if rules::right_fields(kind, present) {
         return FirstRead::First(kind, value, present);
     }
     FirstRead::Refused(Refusal::new(Refusal::WRONG_DATA))
@@ -175,7 +141,7 @@ fn read_header(s: &[u8], at: usize) -> HeaderRead
     let kind = bits % 8;
     let present = 0 < bits / 8 % 2;
     let next = at + 1;
-    if right_data(kind, present) {
+    if rules::right_data(kind, present) {
         return HeaderRead::Header(kind, present, next);
     }
     HeaderRead::Refused(Refusal::new(Refusal::WRONG_DATA))

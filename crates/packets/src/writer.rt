@@ -1,18 +1,18 @@
 // Document 01, 'The packet', written. Everything is decided first, over the whole packet and in the order of the refusals, so
 // that a refusal has written nothing; then each item is put at the front of the part of the buffer that is still free.
+use crate::rules;
 use crate::types::Field;
 use crate::types::Kind;
 use datagrams::Packet;
 use lengths::Refusal;
 use lengths::Written;
 ghost use mathlib.Core.Path.{_≡_};
-ghost use mathlib.Core.Bool.{_&&_};
 ghost use Prim.Native.Nat.{_≤_, _<_};
 ghost use lib.ListN.{length};
 ghost use lib.Dec.{leb};
 ghost use Rattle.packets.specs.Packet.{fieldsLimit, typesLimit, every};
-ghost use Rattle.packets.specs.Write.{sum, total, oneEach, allAssigned, rightTypes, allRight};
-ghost use Rattle.packets.specs.Items.{Wide, Sized, FieldsSized};
+ghost use Rattle.packets.specs.Write.{sum, total, oneEach, allAssigned, rightTypes, allRight, inSizes};
+ghost use Rattle.packets.specs.Items.{Wide, Sized, FieldsSized, packetSize, Measured};
 ghost use Rattle.datagrams.specs.Sizes.{packetLimit};
 
 // A length as a size.
@@ -89,4 +89,95 @@ fn all_short(lengths: &[u16]) -> bool
         i += 1;
     }
     true
+}
+
+// Whether each of as many fields as there are types has data or not, as its type may.
+fn right_types(types: &[u8], lengths: &[u16]) -> bool
+    requires { ⌜ length (now types) ≡ length (now lengths) ⌝ }
+    ensures { λ r. ⌜ r ≡ rightTypes (now (types .entry)) (now (lengths .entry)) ⌝ }
+{
+    let mut i: usize = 0;
+    while i < types.len() {
+        let size = wide(lengths[i]);
+        let present = 0 < size;
+        if !rules::right_data(types[i], present) {
+            return false;
+        }
+        i += 1;
+    }
+    true
+}
+
+fn one_each(types: &[u8], lengths: &[u16], data: &[u8]) -> bool
+    requires { ⌜ length (now types) ≤ fieldsLimit ⌝ }
+    ensures { λ r. ⌜ r ≡ oneEach (now (types .entry)) (now (lengths .entry)) (now («data» .entry)) ⌝ }
+{
+    if types.len() == lengths.len() {
+        return sum_of(lengths) == data.len();
+    }
+    false
+}
+
+fn all_assigned(kind: Kind, value: u8, types: &[u8]) -> bool
+    ensures { λ r. ⌜ r ≡ allAssigned kind value (now (types .entry)) ⌝ }
+{
+    if value < rules::assigned(kind) {
+        return all_types(types);
+    }
+    false
+}
+
+fn all_right(kind: Kind, types: &[u8], lengths: &[u16]) -> bool
+    requires { ⌜ length (now types) ≡ length (now lengths) ⌝ }
+    ensures { λ r. ⌜ r ≡ allRight kind (now (types .entry)) (now (lengths .entry)) ⌝ }
+{
+    let present = 0 < types.len();
+    if rules::right_fields(kind, present) {
+        return right_types(types, lengths);
+    }
+    false
+}
+
+fn in_sizes(lengths: &[u16], size: usize) -> bool
+    ensures { λ r. ⌜ r ≡ inSizes (now (lengths .entry)) size ⌝ }
+{
+    if all_short(lengths) {
+        return size <= Packet::LIMIT;
+    }
+    false
+}
+
+// The octets of a packet with at most 16 fields.
+fn packet_size(lengths: &[u16]) -> usize
+    requires { ⌜ length (now lengths) ≤ fieldsLimit ⌝ }
+    ensures { λ r. ⌜ r ≡ packetSize (now (lengths .entry)) ⌝ }
+{
+    if 0 < lengths.len() {
+        let octets = fields_size(lengths);
+        return 2 + octets;
+    }
+    1
+}
+
+// How many octets a packet has, or why it is refused, but for room.
+fn measure(kind: Kind, value: u8, types: &[u8], lengths: &[u16], data: &[u8]) -> Written
+    ensures { λ r. ⌜ Measured kind value (now (types .entry)) (now (lengths .entry)) (now («data» .entry)) r ⌝ }
+{
+    if Field::LIMIT < types.len() {
+        return Written::Refused(Refusal::new(Refusal::OUTSIDE_SIZES));
+    }
+    if !one_each(types, lengths, data) {
+        return Written::Refused(Refusal::new(Refusal::WRONG_SETTINGS));
+    }
+    if !all_assigned(kind, value, types) {
+        return Written::Refused(Refusal::new(Refusal::NOT_ASSIGNED));
+    }
+    if !all_right(kind, types, lengths) {
+        return Written::Refused(Refusal::new(Refusal::WRONG_DATA));
+    }
+    let size = packet_size(lengths);
+    if !in_sizes(lengths, size) {
+        return Written::Refused(Refusal::new(Refusal::OUTSIDE_SIZES));
+    }
+    Written::Octets(size)
 }

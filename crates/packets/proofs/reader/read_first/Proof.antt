@@ -5,9 +5,9 @@ use Rattle.packets.proofs.reader.read_first.Tie as tie
 use Rattle.packets.proofs.reader.read_first.Reads as reads
 use Rattle.packets.proofs.reader.read_first.Lts as lts
 use Rattle.lengths.proofs.Refusal.new.Reads as new-reads
-use Rattle.packets.proofs.reader.assigned.Reads as assigned-reads
+use Rattle.packets.proofs.rules.assigned.Reads as assigned-reads
 use Rattle.packets.proofs.reader.kind_of.Reads as kind-of-reads
-use Rattle.packets.proofs.reader.right_fields.Reads as right-fields-reads
+use Rattle.packets.proofs.rules.right_fields.Reads as right-fields-reads
 
 -- src/reader.rt:109:35
 new-requires : tie.Need-new-requires

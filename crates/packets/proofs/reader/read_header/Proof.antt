@@ -5,7 +5,7 @@ use Rattle.packets.proofs.reader.read_header.Tie as tie
 use Rattle.packets.proofs.reader.read_header.Reads as reads
 use Rattle.packets.proofs.reader.read_header.Lts as lts
 use Rattle.lengths.proofs.Refusal.new.Reads as new-reads
-use Rattle.packets.proofs.reader.right_data.Reads as right-data-reads
+use Rattle.packets.proofs.rules.right_data.Reads as right-data-reads
 
 -- src/reader.rt:167:36
 new-requires : tie.Need-new-requires

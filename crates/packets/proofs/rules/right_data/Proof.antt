@@ -1,8 +1,8 @@
 use Rattle.packets.proofs.Tests.{tests}
-use Rattle.packets.proofs.reader.right_data.Statement.{statement}
-use Rattle.packets.proofs.reader.right_data.Tie as tie
-use Rattle.packets.proofs.reader.right_data.Reads as reads
-use Rattle.packets.proofs.reader.right_data.Lts as lts
+use Rattle.packets.proofs.rules.right_data.Statement.{statement}
+use Rattle.packets.proofs.rules.right_data.Tie as tie
+use Rattle.packets.proofs.rules.right_data.Reads as reads
+use Rattle.packets.proofs.rules.right_data.Lts as lts
 
 -- src/reader.rt:94:9
 returns : tie.Need-returns
