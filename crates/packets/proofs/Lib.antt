@@ -1,6 +1,7 @@
 mod Tests
 mod Every
 mod Measure
+mod Putting
 mod Forms
 mod ReadItems
 mod FieldsTurn

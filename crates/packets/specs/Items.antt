@@ -3,13 +3,14 @@
 use Prim.Native.Nat.{ℕ, _+_, _*_, _<_, _≤_}
 use mathlib.Core.Path.{_≡_}
 use mathlib.Core.Bool.{Bool, cond}
-use mathlib.Core.List.{List, []}
-use lib.ListN.{length}
+use mathlib.Core.List.{List, [], _++_}
+use lib.ListN.{length, drop}
 use lib.Dec.{ltb}
 use Rattle.lengths.specs.Answers.{Answer, done, refused, writtenOutcome, sizeOf}
 use Rattle.lengths.specs.declared.Written.{Written}
 use Rattle.packets.specs.declared.types.Kind.{Kind}
-use Rattle.packets.specs.Packet.{Place, First, Header, fieldsLimit}
+use Rattle.datagrams.specs.Sizes.{packetLimit}
+use Rattle.packets.specs.Packet.{Place, First, Header, fieldsLimit, typesLimit}
 use Rattle.packets.specs.Read.{firstAt, Count, countAt, HeaderAnswer, headerAt, sizeAt, FieldAnswer, fieldAt, FieldsAnswer, fieldsAt}
 use Rattle.packets.specs.declared.reader.FirstRead.{FirstRead}
 use Rattle.packets.specs.declared.reader.FirstRead.the-variants as first
@@ -24,7 +25,7 @@ use Rattle.packets.specs.declared.reader.FieldRead.the-variants as field
 use Rattle.packets.specs.declared.reader.FieldsEnd.the-variants as end
 use Rattle.packets.specs.declared.reader.FieldsRead.{FieldsRead}
 use Rattle.packets.specs.Promise.{padded}
-use Rattle.packets.specs.Write.{withData, total, packetToWrite}
+use Rattle.packets.specs.Write.{withData, total, fieldOctets, packetToWrite}
 
 abbrev pub firstOutcome : FirstRead → Answer First
 firstOutcome (first.First k v p) = done (record { kind = k; value = v; present = p })
@@ -93,3 +94,22 @@ packetSize lengths = cond (ltb 0 (length lengths)) (2 + total fieldSize lengths)
 -- what is to be written, measured
 pub record Measured (kind : Kind) (value : ℕ) (types lengths octets : List ℕ) (r : Written) : Type 0 where
   pub answer : writtenOutcome r ≡ sizeOf (packetToWrite kind value types lengths octets)
+
+-- octets lie at the front of a lent part, and the rest of it stays
+pub record Laid (octets old new : List ℕ) : Type 0 where
+  pub lent : new ≡ octets ++ drop (length octets) old
+
+pub record FullFits (kind : ℕ) (octets old : List ℕ) : Type 0 where
+  pub type : kind ≤ typesLimit
+  pub some : 1 ≤ length octets
+  pub short : length octets ≤ packetLimit
+  pub room : 3 + length octets ≤ length old
+
+pub record FieldFits (kind : ℕ) (octets old : List ℕ) : Type 0 where
+  pub type : kind ≤ typesLimit
+  pub short : length octets ≤ packetLimit
+  pub room : length (fieldOctets kind octets) ≤ length old
+
+pub record FieldLaid (kind : ℕ) (octets old new : List ℕ) (r : ℕ) : Type 0 where
+  pub answer : r ≡ length (fieldOctets kind octets)
+  pub lent : new ≡ fieldOctets kind octets ++ drop (length (fieldOctets kind octets)) old

@@ -8,11 +8,12 @@ use lengths::Refusal;
 use lengths::Written;
 ghost use mathlib.Core.Path.{_≡_};
 ghost use Prim.Native.Nat.{_≤_, _<_};
+ghost use mathlib.Core.List.{[]};
 ghost use lib.ListN.{length};
 ghost use lib.Dec.{leb};
 ghost use Rattle.packets.specs.Packet.{fieldsLimit, typesLimit, every};
 ghost use Rattle.packets.specs.Write.{sum, total, oneEach, allAssigned, rightTypes, allRight, inSizes};
-ghost use Rattle.packets.specs.Items.{Wide, Sized, FieldsSized, packetSize, Measured};
+ghost use Rattle.packets.specs.Items.{Wide, Sized, FieldsSized, packetSize, Measured, Laid, FullFits, FieldFits, FieldLaid};
 ghost use Rattle.datagrams.specs.Sizes.{packetLimit};
 
 // A length as a size.
@@ -180,4 +181,52 @@ fn measure(kind: Kind, value: u8, types: &[u8], lengths: &[u16], data: &[u8]) ->
         return Written::Refused(Refusal::new(Refusal::OUTSIDE_SIZES));
     }
     Written::Octets(size)
+}
+
+// The octets of src, at the front of out.
+fn put_octets(src: &[u8], out: &mut [u8])
+    requires { ⌜ length (now src) ≤ length (now out) ⌝ }
+    ensures { λ _. ⌜ Laid (now (src .entry)) (now (out .entry)) (now (out .exit)) ⌝ }
+{
+    let mut i: usize = 0;
+    while i < src.len() {
+        out[i] = src[i];
+        i += 1;
+    }
+}
+
+// A field without data at the front of out, and how many octets it took.
+fn put_bare(kind: u8, out: &mut [u8]) -> usize
+    requires { ⌜ (kind ≤ typesLimit) × (1 ≤ length (now out)) ⌝ }
+    ensures { λ r. ⌜ FieldLaid kind [] (now (out .entry)) (now (out .exit)) r ⌝ }
+{
+    out[0] = kind * 16;
+    1
+}
+
+// A field with data at the front of out, and how many octets it took.
+fn put_full(kind: u8, data: &[u8], out: &mut [u8]) -> usize
+    requires { ⌜ FullFits kind (now «data») (now out) ⌝ }
+    ensures { λ r. ⌜ FieldLaid kind (now («data» .entry)) (now (out .entry)) (now (out .exit)) r ⌝ }
+{
+    let size = data.len();
+    let bits = 8 + kind;
+    let less = size - 1;
+    let high = less / 256;
+    out[0] = bits * 16;
+    out[1] = (high % 256) as u8;
+    out[2] = (less % 256) as u8;
+    put_octets(data, &mut out[3..]);
+    3 + size
+}
+
+// A field at the front of out, and how many octets it took.
+fn put_field(kind: u8, data: &[u8], out: &mut [u8]) -> usize
+    requires { ⌜ FieldFits kind (now «data») (now out) ⌝ }
+    ensures { λ r. ⌜ FieldLaid kind (now («data» .entry)) (now (out .entry)) (now (out .exit)) r ⌝ }
+{
+    if data.len() < 1 {
+        return put_bare(kind, out);
+    }
+    put_full(kind, data, out)
 }
