@@ -62,7 +62,7 @@ pub record Summing (measure : ℕ → ℕ) (s : List ℕ) (i sum : ℕ) : Type 0
 pub sum-start : (measure : ℕ → ℕ) (s : List ℕ) → Summing measure s 0 0
 sum-start measure s = record { inside = omega arith; few = omega arith; so = omega arith }
 
-total-next : (measure : ℕ → ℕ) (s : List ℕ) (i : ℕ) → i < length s → total measure (drop i s) ≡ measure (getD s i 0) + total measure (drop (i + 1) s)
+pub total-next : (measure : ℕ → ℕ) (s : List ℕ) (i : ℕ) → i < length s → total measure (drop i s) ≡ measure (getD s i 0) + total measure (drop (i + 1) s)
 unfolding total
 total-next measure s i h = ap (total measure) (drop-next s i h)
 

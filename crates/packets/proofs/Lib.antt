@@ -2,6 +2,8 @@ mod Tests
 mod Every
 mod Measure
 mod Putting
+mod PutFields
+mod WritePacket
 mod Forms
 mod ReadItems
 mod FieldsTurn

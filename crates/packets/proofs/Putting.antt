@@ -63,7 +63,7 @@ pub field-full : (k : ℕ) (d : List ℕ) → 1 ≤ length d
 unfolding fieldOctets headerBits
 field-full k d some = rw (lt-ltb 0 (length d) some)
 
-one-set : (old : List ℕ) (a : ℕ) → 1 ≤ length old → set old 0 a ≡ a ∷ drop 1 old
+pub one-set : (old : List ℕ) (a : ℕ) → 1 ≤ length old → set old 0 a ≡ a ∷ drop 1 old
 one-set [] a h = absurd (omega arith)
 one-set (x ∷ l) a h = refl
 

@@ -2,15 +2,16 @@
 -- of `Read`, and where the item ends. Definitions only.
 use Prim.Native.Nat.{ℕ, _+_, _*_, _<_, _≤_}
 use mathlib.Core.Path.{_≡_}
-use mathlib.Core.Bool.{Bool, cond}
+use mathlib.Core.Bool.{Bool, true, cond}
 use mathlib.Core.List.{List, [], _++_}
 use lib.ListN.{length, drop}
-use lib.Dec.{ltb}
+use lib.Dec.{leb, ltb}
 use Rattle.lengths.specs.Answers.{Answer, done, refused, writtenOutcome, sizeOf}
 use Rattle.lengths.specs.declared.Written.{Written}
 use Rattle.packets.specs.declared.types.Kind.{Kind}
+use Rattle.lengths.specs.Length.{lengthOctets}
 use Rattle.datagrams.specs.Sizes.{packetLimit}
-use Rattle.packets.specs.Packet.{Place, First, Header, fieldsLimit, typesLimit}
+use Rattle.packets.specs.Packet.{Place, First, Header, fieldsLimit, typesLimit, every}
 use Rattle.packets.specs.Read.{firstAt, Count, countAt, HeaderAnswer, headerAt, sizeAt, FieldAnswer, fieldAt, FieldsAnswer, fieldsAt}
 use Rattle.packets.specs.declared.reader.FirstRead.{FirstRead}
 use Rattle.packets.specs.declared.reader.FirstRead.the-variants as first
@@ -25,7 +26,7 @@ use Rattle.packets.specs.declared.reader.FieldRead.the-variants as field
 use Rattle.packets.specs.declared.reader.FieldsEnd.the-variants as end
 use Rattle.packets.specs.declared.reader.FieldsRead.{FieldsRead}
 use Rattle.packets.specs.Promise.{padded}
-use Rattle.packets.specs.Write.{withData, total, fieldOctets, packetToWrite}
+use Rattle.packets.specs.Write.{withData, total, sum, fieldOctets, fieldsOctets, packetOctets, packetToWrite}
 
 abbrev pub firstOutcome : FirstRead → Answer First
 firstOutcome (first.First k v p) = done (record { kind = k; value = v; present = p })
@@ -113,3 +114,32 @@ pub record FieldFits (kind : ℕ) (octets old : List ℕ) : Type 0 where
 pub record FieldLaid (kind : ℕ) (octets old new : List ℕ) (r : ℕ) : Type 0 where
   pub answer : r ≡ length (fieldOctets kind octets)
   pub lent : new ≡ fieldOctets kind octets ++ drop (length (fieldOctets kind octets)) old
+
+pub record FieldsFit (types lengths octets old : List ℕ) : Type 0 where
+  pub same : length types ≡ length lengths
+  pub all : sum lengths ≡ length octets
+  pub known : every (λ t. leb t typesLimit) types ≡ true
+  pub short : every (λ n. leb n packetLimit) lengths ≡ true
+  pub room : length (fieldsOctets types lengths octets) ≤ length old
+
+-- the count of fields, then the fields
+abbrev pub countedOctets : List ℕ → List ℕ → List ℕ → List ℕ
+countedOctets types lengths octets = lengthOctets (length types) ++ fieldsOctets types lengths octets
+
+pub record CountedFit (types lengths octets old : List ℕ) : Type 0 where
+  pub few : length types ≤ fieldsLimit
+  pub same : length types ≡ length lengths
+  pub all : sum lengths ≡ length octets
+  pub known : every (λ t. leb t typesLimit) types ≡ true
+  pub short : every (λ n. leb n packetLimit) lengths ≡ true
+  pub room : length (countedOctets types lengths octets) ≤ length old
+
+-- a bit of the first octet, at its weight
+pub record Mark (mark limit r : ℕ) : Type 0 where
+  pub same : r ≡ mark
+  pub small : r ≤ limit
+
+-- what may be written, and has room
+pub record PacketFits (kind : Kind) (value : ℕ) (types lengths octets old : List ℕ) : Type 0 where
+  pub allowed : packetToWrite kind value types lengths octets ≡ done (packetOctets kind value types lengths octets)
+  pub room : length (packetOctets kind value types lengths octets) ≤ length old

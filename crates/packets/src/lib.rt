@@ -10,3 +10,4 @@ pub use types::Field;
 pub use types::Kind;
 pub use types::PacketRead;
 pub use types::Reading;
+pub use writer::write;

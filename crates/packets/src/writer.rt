@@ -11,9 +11,10 @@ ghost use Prim.Native.Nat.{_≤_, _<_};
 ghost use mathlib.Core.List.{[]};
 ghost use lib.ListN.{length};
 ghost use lib.Dec.{leb};
-ghost use Rattle.packets.specs.Packet.{fieldsLimit, typesLimit, every};
-ghost use Rattle.packets.specs.Write.{sum, total, oneEach, allAssigned, rightTypes, allRight, inSizes};
-ghost use Rattle.packets.specs.Items.{Wide, Sized, FieldsSized, packetSize, Measured, Laid, FullFits, FieldFits, FieldLaid};
+ghost use Rattle.lengths.specs.Promise.{Puts};
+ghost use Rattle.packets.specs.Packet.{fieldsLimit, typesLimit, every, ofFlag, ofKind, firstOctet};
+ghost use Rattle.packets.specs.Write.{sum, total, oneEach, allAssigned, rightTypes, allRight, inSizes, fieldsOctets, packetOctets, packetToWrite};
+ghost use Rattle.packets.specs.Items.{Wide, Sized, FieldsSized, packetSize, Measured, Laid, FullFits, FieldFits, FieldLaid, FieldsFit, CountedFit, countedOctets, Mark, PacketFits};
 ghost use Rattle.datagrams.specs.Sizes.{packetLimit};
 
 // A length as a size.
@@ -229,4 +230,99 @@ fn put_field(kind: u8, data: &[u8], out: &mut [u8]) -> usize
         return put_bare(kind, out);
     }
     put_full(kind, data, out)
+}
+
+// As many fields as there are types at the front of out, the data of each the next part of data.
+fn put_fields(types: &[u8], lengths: &[u16], data: &[u8], out: &mut [u8])
+    requires { ⌜ FieldsFit (now types) (now lengths) (now «data») (now out) ⌝ }
+    ensures { λ _. ⌜ Laid (fieldsOctets (now (types .entry)) (now (lengths .entry)) (now («data» .entry))) (now (out .entry)) (now (out .exit)) ⌝ }
+{
+    let mut i: usize = 0;
+    let mut from: usize = 0;
+    let mut at: usize = 0;
+    while i < types.len() {
+        let size = wide(lengths[i]);
+        let to = from + size;
+        let octets = put_field(types[i], &data[from..to], &mut out[at..]);
+        at += octets;
+        from = to;
+        i += 1;
+    }
+}
+
+// The count of fields and the fields at the front of out.
+fn put_counted(types: &[u8], lengths: &[u16], data: &[u8], out: &mut [u8])
+    requires { ⌜ CountedFit (now types) (now lengths) (now «data») (now out) ⌝ }
+    ensures { λ _. ⌜ Laid (countedOctets (now (types .entry)) (now (lengths .entry)) (now («data» .entry))) (now (out .entry)) (now (out .exit)) ⌝ }
+{
+    let count = lengths::write(types.len(), &mut *out);
+    let Written::Octets(size) = count else {
+        return;
+    };
+    put_fields(types, lengths, data, &mut out[size..]);
+}
+
+// The top bit of the first octet: data field present.
+fn present_bit(present: bool) -> u8
+    ensures { λ r. ⌜ Mark (ofFlag 128 present) 128 r ⌝ }
+{
+    if present {
+        return 128;
+    }
+    0
+}
+
+// The bit after it: indicator or data.
+fn kind_bit(kind: Kind) -> u8
+    ensures { λ r. ⌜ Mark (ofKind kind) 64 r ⌝ }
+{
+    match kind {
+        Kind::Indicator => 0,
+        Kind::Data => 64,
+    }
+}
+
+fn first_octet(kind: Kind, value: u8, present: bool) -> u8
+    requires { ⌜ value ≤ 15 ⌝ }
+    ensures { λ r. ⌜ r ≡ firstOctet (record { kind = kind; value = value; present = present }) ⌝ }
+{
+    let high = present_bit(present) + kind_bit(kind);
+    let low = value * 2;
+    high + low
+}
+
+// A packet at the front of out.
+fn put_packet(kind: Kind, value: u8, types: &[u8], lengths: &[u16], data: &[u8], out: &mut [u8])
+    requires { ⌜ PacketFits kind value (now types) (now lengths) (now «data») (now out) ⌝ }
+    ensures { λ _. ⌜ Laid (packetOctets kind value (now (types .entry)) (now (lengths .entry)) (now («data» .entry))) (now (out .entry)) (now (out .exit)) ⌝ }
+{
+    let present = 0 < types.len();
+    out[0] = first_octet(kind, value, present);
+    if !present {
+        return;
+    }
+    put_counted(types, lengths, data, &mut out[1..]);
+}
+
+// A packet, written to the front of out. A refusal writes nothing.
+pub fn write(
+    kind: Kind,
+    value: u8,
+    types: &[u8],
+    lengths: &[u16],
+    data: &[u8],
+    out: &mut [u8],
+) -> Written
+    ensures { λ r. ⌜ Puts (packetToWrite kind value (now (types .entry)) (now (lengths .entry)) (now («data» .entry))) (now (out .entry)) (now (out .exit)) r ⌝ }
+{
+    match measure(kind, value, types, lengths, data) {
+        Written::Refused(refusal) => Written::Refused(refusal),
+        Written::Octets(size) => {
+            if out.len() < size {
+                return Written::Refused(Refusal::new(Refusal::NO_ROOM));
+            }
+            put_packet(kind, value, types, lengths, data, out);
+            Written::Octets(size)
+        }
+    }
 }
