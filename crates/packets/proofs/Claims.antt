@@ -14,4 +14,5 @@ sheet =
       data-9 = refl;
       indicator-with-data = refl;
       two-fields = refl;
+      true-zero = refl;
     }

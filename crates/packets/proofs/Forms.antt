@@ -7,7 +7,7 @@ use mathlib.Core.List.{List, [], _∷_}
 use lib.ListN.{length, getD, drop, length-drop}
 use lib.Dec.{leb, ltb, eqb}
 use native.Mathlib.Omega.{arith}
-use borrow.Author.Tests.{ltb-true, ltb-false, leb-true, leb-false}
+use borrow.Author.Tests.{ltb-true, ltb-false, leb-true, leb-false, lt-leb, le-ltb}
 use Rattle.lengths.specs.Refusals.{endsEarly, outsideSizes, spareBit, leftOver, notAssigned, wrongData}
 use Rattle.lengths.specs.Answers.{Answer, done, refused, refuse, _>>=_, LengthAnswer}
 use Rattle.lengths.specs.Length.{lengthAt}
@@ -133,3 +133,111 @@ size-form s n e =
     let k = ltb-false packetLimit size (few .0) in
     let l = ltb-false (length s - 2) size (all .0) in
     record { inside = omega arith; few = omega arith; is = is }
+
+-- ---- and back: what passes each test reads
+pub first-of : (s : List ℕ) (f : First) → FirstForm s f → firstAt s ≡ done f
+unfolding firstAt
+first-of s f form =
+    let o = firstOf (getD s 0 0) in
+    let known : o .value < assigned (o .kind) = rw (form .is) at (form .known) in
+    let right : rightFields (o .kind) (o .present) ≡ true = rw (form .is) at (form .right) in
+    rw (le-ltb (length s) 1 (form .some), form .plain, lt-leb (assigned (o .kind)) (o .value) known, form .spare, right, form .is)
+
+pub count-of : (s : List ℕ) (a : LengthAnswer) → lengthAt (drop 1 s) ≡ done a → 1 ≤ a .value → a .value ≤ fieldsLimit
+    → countAt s true ≡ done (record { value = a .value; next = 1 + a .size })
+unfolding countAt
+count-of s a reads some few = rw (reads, le-ltb (a .value) 1 some, le-ltb fieldsLimit (a .value) few)
+
+pub header-of : (s : List ℕ) (at : Place) (k : ℕ) (p : Bool) → at < length s → getD s at 0 % 16 ≤ 0
+    → headerOf (getD s at 0 / 16) ≡ record { kind = k; present = p } → rightData k p ≡ true
+    → headerAt s at ≡ done (record { header = record { kind = k; present = p }; next = at + 1 })
+unfolding headerAt
+header-of s at k p some spare is right =
+    let o = headerOf (getD s at 0 / 16) in
+    let fine : rightData (o .kind) (o .present) ≡ true = ap (λ (h : Header). rightData (h .kind) (h .present)) is ∙ right in
+    rw (lt-leb (length s) at some, le-ltb 0 (getD s at 0 % 16) spare, fine)
+    (ap (λ (h : Header). done (record { header = h; next = at + 1 })) is)
+
+pub size-of : (s : List ℕ) (n : ℕ) → n + 2 ≤ length s → n ≤ packetLimit → n ≡ getD s 0 0 * 256 + getD s 1 0 + 1 → sizeAt s ≡ done n
+unfolding sizeAt
+size-of s n inside few is =
+    let size = getD s 0 0 * 256 + getD s 1 0 + 1 in
+    rw (le-ltb (length s) 2 (omega arith), le-ltb packetLimit size (omega arith), le-ltb (length s - 2) size (omega arith))
+    (ap (λ (k : ℕ). done k) (sym is))
+
+-- a field without data, and one with it
+pub bare-of : (s : List ℕ) (at : Place) (k : ℕ) → headerAt s at ≡ done (record { header = record { kind = k; present = false }; next = at + 1 })
+    → fieldAt s at ≡ done (record { field = record { kind = k; start = 0; size = 0 }; next = at + 1 })
+unfolding fieldAt afterHeader
+bare-of s at k e = rw e
+
+pub full-of : (s : List ℕ) (at : Place) (k n : ℕ)
+    → headerAt s at ≡ done (record { header = record { kind = k; present = true }; next = at + 1 }) → sizeAt (drop (at + 1) s) ≡ done n
+    → fieldAt s at ≡ done (record { field = record { kind = k; start = at + 1 + 2; size = n }; next = at + 1 + 2 + n })
+unfolding fieldAt afterHeader
+full-of s at k n e size = rw (e, size)
+
+-- what a field that reads is: one of these two
+pub data FieldForm (s : List ℕ) (at : Place) (f : FieldAnswer) : Type 0 where
+  bare : (k : ℕ) → headerAt s at ≡ done (record { header = record { kind = k; present = false }; next = at + 1 })
+      → f ≡ record { field = record { kind = k; start = 0; size = 0 }; next = at + 1 } → FieldForm s at f
+  full : (k n : ℕ) → headerAt s at ≡ done (record { header = record { kind = k; present = true }; next = at + 1 })
+      → sizeAt (drop (at + 1) s) ≡ done n
+      → f ≡ record { field = record { kind = k; start = at + 1 + 2; size = n }; next = at + 1 + 2 + n } → FieldForm s at f
+
+after-form : (s : List ℕ) (at : Place) (k : ℕ) (p : Bool) (f : FieldAnswer)
+    → headerAt s at ≡ done (record { header = record { kind = k; present = p }; next = at + 1 })
+    → afterHeader s (record { header = record { kind = k; present = p }; next = at + 1 }) ≡ done f → FieldForm s at f
+unfolding afterHeader
+after-form s at k true f head e =
+    let n = stepped (sizeAt (drop (at + 1) s)) _ f e in
+    full k (n .value) head (n .was) (cc (n .gave))
+after-form s at k false f head e = bare k head (cc)
+
+pub field-form : (s : List ℕ) (at : Place) (f : FieldAnswer) → fieldAt s at ≡ done f → FieldForm s at f
+unfolding fieldAt
+field-form s at f e =
+    let h = stepped (headerAt s at) (afterHeader s) f e in
+    let form = header-form s at (h .value) (h .was) in
+    let k = h .value .header .kind in
+    let p = h .value .header .present in
+    let is : h .value ≡ record { header = record { kind = k; present = p }; next = at + 1 } = ap (λ (n : ℕ). record { header = h .value .header; next = n }) (form .next) in
+    after-form s at k p f (h .was ∙ ap (λ (x : HeaderAnswer). done x) is) (ap (λ (x : HeaderAnswer). afterHeader s x) (sym is) ∙ h .gave)
+
+-- ---- the packet
+pub record PacketForm (ending : Ending) (s : List ℕ) (p : PacketAnswer) : Type 0 where
+  pub fits : length s ≤ packetLimit
+  pub first : First
+  pub firstWas : firstAt s ≡ done first
+  pub count : Count
+  pub countWas : countAt s (first .present) ≡ done count
+  pub all : FieldsAnswer
+  pub allWas : fieldsAt (count .value) s (count .next) ≡ done all
+  pub follows : mayFollow ending (drop (all .next) s) ≡ true
+  pub is : p ≡ record { kind = first .kind; value = first .value; fields = all .fields }
+
+pub packet-form : (ending : Ending) (s : List ℕ) (p : PacketAnswer) → readPacket ending s ≡ done p → PacketForm ending s p
+unfolding readPacket endAt
+packet-form ending s p e =
+    let fits = past (ltb packetLimit (length s)) outsideSizes _ p e in
+    let f = stepped (firstAt s) _ p (fits .1) in
+    let c = stepped (countAt s (f .value .present)) _ p (f .gave) in
+    let a = stepped (fieldsAt (c .value .value) s (c .value .next)) _ p (c .gave) in
+    let end = kept (mayFollow ending (drop (a .value .next) s)) leftOver _ p (a .gave) in
+    record {
+      fits = ltb-false _ _ (fits .0);
+      first = f .value;
+      firstWas = f .was;
+      count = c .value;
+      countWas = c .was;
+      all = a .value;
+      allWas = a .was;
+      follows = end .0;
+      is = end .1;
+    }
+
+pub packet-of : (ending : Ending) (s : List ℕ) (f : First) (c : Count) (a : FieldsAnswer) → length s ≤ packetLimit → firstAt s ≡ done f
+    → countAt s (f .present) ≡ done c → fieldsAt (c .value) s (c .next) ≡ done a → mayFollow ending (drop (a .next) s) ≡ true
+    → readPacket ending s ≡ done (record { kind = f .kind; value = f .value; fields = a .fields })
+unfolding readPacket endAt
+packet-of ending s f c a fits first count all follows = rw (le-ltb packetLimit (length s) fits, first, count, all, follows)

@@ -4,6 +4,8 @@ mod Measure
 mod Putting
 mod PutFields
 mod WritePacket
+mod WrittenReads
+mod ReadWrites
 mod Forms
 mod ReadItems
 mod FieldsTurn

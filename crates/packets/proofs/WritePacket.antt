@@ -9,7 +9,7 @@ use lib.Seq.{take-at, drop-at, drop-drop}
 use lib.Dec.{leb, ltb, eqb}
 use native.Mathlib.Omega.{arith}
 use borrow.Rule.Slice.PartMut.{putMid}
-use borrow.Author.Tests.{lt-ltb, le-ltb, le-leb, lt-leb, ltb-true, ltb-false, leb-true, not-true, not-false}
+use borrow.Author.Tests.{lt-ltb, le-ltb, le-leb, lt-leb, ltb-true, ltb-false, leb-true, eq-eqb, not-true, not-false}
 use Rattle.lengths.specs.Refusals.{outsideSizes, wrongSettings, notAssigned, wrongData, noRoom}
 use Rattle.lengths.specs.Answers.{Answer, done, refused, refuse, writtenOutcome, fitted, sizeOf, over}
 use Rattle.lengths.specs.Length.{lengthOctets, lengthToWrite, lengthLimit}
@@ -161,12 +161,12 @@ module _ {ts ns d old mid : List ℕ} {r : Written} where
 pub ruleset counteds = (count-never, count-inside, count-fits, count-laid)
 
 -- ---- the packet
-packet-bare : (k : Kind) (v : ℕ) (ts ns d : List ℕ) → ltb 0 (length ts) ≡ false
+pub packet-bare : (k : Kind) (v : ℕ) (ts ns d : List ℕ) → ltb 0 (length ts) ≡ false
     → packetOctets k v ts ns d ≡ firstOctet (record { kind = k; value = v; present = ltb 0 (length ts) }) ∷ []
 unfolding packetOctets
 packet-bare k v ts ns d none = ap (λ (b : Bool). firstOctet (record { kind = k; value = v; present = ltb 0 (length ts) }) ∷ cond b (countedOctets ts ns d) []) none
 
-packet-full : (k : Kind) (v : ℕ) (ts ns d : List ℕ) → ltb 0 (length ts) ≡ true
+pub packet-full : (k : Kind) (v : ℕ) (ts ns d : List ℕ) → ltb 0 (length ts) ≡ true
     → packetOctets k v ts ns d ≡ firstOctet (record { kind = k; value = v; present = ltb 0 (length ts) }) ∷ countedOctets ts ns d
 unfolding packetOctets
 packet-full k v ts ns d some = ap (λ (b : Bool). firstOctet (record { kind = k; value = v; present = ltb 0 (length ts) }) ∷ cond b (countedOctets ts ns d) []) some
@@ -264,3 +264,20 @@ module _ {k : Kind} {v : ℕ} {ts ns d old : List ℕ} {r : Written} where
         record { answer = rw (w .0, fits, w .1); lent = rw (w .0, fits) (laid .lent) }
 
 pub ruleset writes = (write-refused, write-fits, write-full, write-done)
+
+-- ---- and back: what passes each test is written
+pub write-of : (k : Kind) (v : ℕ) (ts ns d : List ℕ) → WriteForm k v ts ns d (packetOctets k v ts ns d)
+    → packetToWrite k v ts ns d ≡ done (packetOctets k v ts ns d)
+unfolding packetToWrite oneEach allAssigned allRight inSizes
+write-of k v ts ns d form =
+    rw (
+      le-ltb fieldsLimit (length ts) (form .few),
+      eq-eqb (length ts) (length ns) (form .same),
+      eq-eqb (sum ns) (length d) (form .all),
+      lt-ltb v (assigned k) (form .known),
+      form .types,
+      form .fields,
+      form .right,
+      form .short,
+      le-leb (length (packetOctets k v ts ns d)) packetLimit (form .size),
+    )

@@ -4,7 +4,7 @@
 -- hold its length minus one, then the data." Definitions only.
 use Prim.Native.Nat.{ℕ, _+_, _-_, _*_, _/_, _%_, _^_}
 use mathlib.Core.Bool.{Bool, true, not, cond, _&&_}
-use mathlib.Core.List.{List, [], _∷_}
+use mathlib.Core.List.{List, [], _∷_, _++_}
 use lib.ListN.{take, drop}
 use lib.Dec.{ltb, eqb}
 use Rattle.packets.specs.declared.types.Kind.{Kind}
@@ -92,3 +92,8 @@ noField = record { kind = 0; start = 0; size = 0 }
 -- a field's data, as a part of the packet's octets
 abbrev pub dataOf : List ℕ → Field → List ℕ
 dataOf s field = take (field .size) (drop (field .start) s)
+
+-- the data of some fields, one after the other
+unfoldable pub allData : List ℕ → List Field → List ℕ
+allData s [] = []
+allData s (field ∷ fields) = dataOf s field ++ allData s fields
