@@ -6,6 +6,7 @@ mod PutFields
 mod WritePacket
 mod WrittenReads
 mod ReadWrites
+mod Follow
 mod Forms
 mod ReadItems
 mod FieldsTurn

@@ -31,7 +31,7 @@ use Rattle.packets.specs.declared.reader.CountRead.the-variants as count
 use Rattle.packets.specs.declared.reader.FieldsEnd.{FieldsEnd}
 use Rattle.packets.specs.declared.reader.FieldsEnd.the-variants as end
 use Rattle.packets.specs.declared.reader.FieldsRead.{FieldsRead}
-use Rattle.packets.proofs.Forms.{Stepped, stepped, FirstForm, first-form, CountForm, count-form, header-form, size-form}
+use Rattle.packets.proofs.Forms.{Stepped, stepped, FirstForm, first-form, CountForm, count-form, header-form, size-form, FieldForm, bare, full, field-form}
 use Rattle.packets.proofs.ReadItems.{rest, rest-is}
 
 -- ---- where the items of a packet end
@@ -40,29 +40,17 @@ pub record FieldInside (s : List ℕ) (f : FieldAnswer) : Type 0 where
   pub part : f .field .start + f .field .size ≤ length s
   pub next : f .next ≤ length s
 
-after-inside : (s : List ℕ) (h : HeaderAnswer) (f : FieldAnswer) → h .next ≤ length s → afterHeader s h ≡ done f → FieldInside s f
-unfolding afterHeader
-after-inside s h f inside e = by (h .header .present) e where
-  by : (b : Bool)
-      → cond b (_>>=_ (sizeAt (drop (h .next) s)) (λ size. done (record { field = record { kind = h .header .kind; start = h .next + 2; size = size }; next = h .next + 2 + size })))
-      (done (record { field = record { kind = h .header .kind; start = 0; size = 0 }; next = h .next })) ≡ done f
-      → FieldInside s f
-  by true e =
-      let n = stepped (sizeAt (drop (h .next) s)) _ f e in
-      let is : f ≡ record { field = record { kind = h .header .kind; start = h .next + 2; size = n .value }; next = h .next + 2 + n .value } = cc (n .gave) in
-      let form = size-form (drop (h .next) s) (n .value) (n .was) in
-      let all : h .next + 2 + n .value ≤ length s = omega (arith, form .inside, length-drop (h .next) s) in
-      rw is (record { part = all; next = all })
-  by false e =
-      let is : f ≡ record { field = record { kind = h .header .kind; start = 0; size = 0 }; next = h .next } = cc in
-      rw is (record { part = omega arith; next = inside })
+form-inside : (s : List ℕ) (at : Place) (f : FieldAnswer) → FieldForm s at f → FieldInside s f
+form-inside s at f (bare k head is) =
+    let some = header-form s at _ head .some in
+    rw is (record { part = omega arith; next = omega arith })
+form-inside s at f (full k n head size is) =
+    let some = header-form s at _ head .some in
+    let all : at + 1 + 2 + n ≤ length s = omega (arith, size-form (drop (at + 1) s) n size .inside, length-drop (at + 1) s) in
+    rw is (record { part = all; next = all })
 
-pub field-inside : (s : List ℕ) (at : Place) (f : FieldAnswer) → fieldAt s at ≡ done f → FieldInside s f
-unfolding fieldAt
-field-inside s at f e =
-    let h = stepped (headerAt s at) (afterHeader s) f e in
-    let form = header-form s at (h .value) (h .was) in
-    after-inside s (h .value) f (omega (arith, form .some, form .next)) (h .gave)
+field-inside : (s : List ℕ) (at : Place) (f : FieldAnswer) → fieldAt s at ≡ done f → FieldInside s f
+field-inside s at f e = form-inside s at f (field-form s at f e)
 
 -- what holds of fields that read
 pub record FieldsInside (n : ℕ) (s : List ℕ) (a : FieldsAnswer) : Type 0 where
@@ -89,6 +77,23 @@ fields-inside (suc n) s at a inside e =
     let all = fields-inside n s (f .value .next) (more .value) (here .next) (more .was) in
     rw is (record { many = ap suc (all .many); next = all .next; parts = parts-cons s (f .value .field) (more .value .fields) (here .part) (all .parts) })
 
+-- a count that reads: at most as many as a packet may have, and the place after it lies inside the octets
+count-limit : (s : List ℕ) (p : Bool) (c : Count) → countAt s p ≡ done c → c .value ≤ fieldsLimit
+unfolding countAt
+count-limit s true c e = count-form s c e .few
+count-limit s false c e =
+    let is : c ≡ record { value = 0; next = 1 } = cc in
+    omega (arith, ap (λ (x : Count). x .value) is)
+
+pub count-within : (s : List ℕ) (p : Bool) (c : Count) → 1 ≤ length s → countAt s p ≡ done c → c .next ≤ length s
+unfolding countAt
+count-within s true c some e =
+    let f = count-form s c e in
+    omega (arith, f .next, sizes-read (drop 1 s) (f .length) (f .reads) .inside, length-drop 1 s)
+count-within s false c some e =
+    let is : c ≡ record { value = 0; next = 1 } = cc in
+    omega (arith, ap (λ (x : Count). x .next) is)
+
 -- ---- from the items' answers to the definitions
 module _ {s : List ℕ} where
   first-is : {r : FirstRead} {k : Kind} {v : ℕ} {p : Bool} → FirstTold s r → r ≡ first.First k v p
@@ -103,25 +108,10 @@ module _ {s : List ℕ} where
     count-is told is = sym (told .answer) ∙ ap countOutcome is
 
     pub count-few : {c : CountRead} {n at : ℕ} → CountTold s p c → c ≡ count.Count n at → n ≤ fieldsLimit
-    unfolding countAt
-    count-few {c} {n} {at} told is = by p (count-is told is) where
-      by : (b : Bool) → countAt s b ≡ done (record { value = n; next = at }) → n ≤ fieldsLimit
-      by true e = count-form s _ e .few
-      by false e =
-          let same : _≡_ {A = Count} (record { value = n; next = at }) (record { value = 0; next = 1 }) = cc in
-          omega (arith, ap (λ (x : Count). x .value) same)
+    count-few told is = count-limit s p _ (count-is told is)
 
     count-inside : {c : CountRead} {n at : ℕ} → 1 ≤ length s → CountTold s p c → c ≡ count.Count n at → at ≤ length s
-    unfolding countAt
-    count-inside {c} {n} {at} some told is = by p (count-is told is) where
-      by : (b : Bool) → countAt s b ≡ done (record { value = n; next = at }) → at ≤ length s
-      by true e =
-          let f = count-form s _ e in
-          let few = sizes-read (drop 1 s) (f .length) (f .reads) in
-          omega (arith, few .inside, length-drop 1 s, f .next)
-      by false e =
-          let same : _≡_ {A = Count} (record { value = n; next = at }) (record { value = 0; next = 1 }) = cc in
-          omega (arith, ap (λ (x : Count). x .next) same)
+    count-inside some told is = count-within s p _ some (count-is told is)
 
 -- fields that were read, from the answer and its end
 record AllRead (n : ℕ) (s : List ℕ) (at m : ℕ) (r : FieldsRead) : Type 0 where

@@ -4,7 +4,7 @@ use Prim.Native.Nat.{ℕ, zero, suc, _+_, _-_, _*_, _/_, _%_, _≤_, _<_}
 use mathlib.Core.Path.{_≡_, refl, sym, ap, ap₂, _∙_}
 use mathlib.Core.Bool.{Bool, true, false, not, cond, _&&_, _||_}
 use mathlib.Core.List.{List, [], _∷_, _++_, map, append-assoc, append-nil}
-use lib.ListN.{length, getD, take, drop, length-append, length-drop, drop-of-length-le, take-append-drop}
+use lib.ListN.{length, getD, take, drop, length-append, length-drop, take-append-drop, length-map}
 use lib.Seq.{length-take-le, take-at, drop-at, drop-drop, getD-drop}
 use lib.Dec.{leb, ltb, eqb}
 use native.Mathlib.Numerals.{add-one}
@@ -195,10 +195,6 @@ fields-writes (suc n) s at a octets e =
     (fields-writes n s (f .value .next) (more .value) octets (more .was)))
 
 -- ---- the packet
-length-map : {A B : Type 0} (g : A → B) (l : List A) → length (map g l) ≡ length l
-length-map g [] = refl
-length-map g (x ∷ l) = ap suc (length-map g l)
-
 length-none : (l : List ℕ) → length l ≡ 0 → l ≡ []
 length-none [] e = refl
 length-none (x ∷ l) e = absurd (omega arith)
@@ -227,7 +223,7 @@ after-first s true c a octets some count all ends =
     let form = count-form s c count in
     let size = sizes-read (drop 1 s) (form .length) (form .reads) in
     let inside = fields-inside (c .value) s (c .next) a (omega (arith, form .next, size .inside, length-drop 1 s)) all in
-    let many : length (kinds (a .fields)) ≡ form .length .value = length-map (λ (f : Field). f .kind) (a .fields) ∙ inside .many ∙ form .value in
+    let many : length (kinds (a .fields)) ≡ form .length .value = length-map (a .fields) (λ (f : Field). f .kind) ∙ inside .many ∙ form .value in
     let w = fields-writes (c .value) s (c .next) a octets all in
     let counted = read-writes (drop 1 s) (form .length) (octets-drop 1 s octets) (form .reads) in
     let fs = fieldsOctets (kinds (a .fields)) (sizes (a .fields)) (allData s (a .fields)) in
@@ -247,7 +243,7 @@ after-first s false c a octets some count all ends =
     let none : fieldsAt 0 s 1 ≡ done a = ap (λ (x : Count). fieldsAt (x .value) s (x .next)) (sym isCount) ∙ all in
     let w = fields-writes 0 s 1 a octets none in
     let inside = fields-inside 0 s 1 a some none in
-    let no-fields : length (kinds (a .fields)) ≡ 0 = length-map (λ (f : Field). f .kind) (a .fields) ∙ inside .many in
+    let no-fields : length (kinds (a .fields)) ≡ 0 = length-map (a .fields) (λ (f : Field). f .kind) ∙ inside .many in
     record {
       few = omega arith;
       present = le-ltb 0 (length (kinds (a .fields))) (omega arith);
@@ -274,7 +270,7 @@ writes-of s f a octets fits form after =
     write-of (f .kind) (f .value) (kinds (a .fields)) (sizes (a .fields)) (allData s (a .fields))
     (record {
       few = after .few;
-      same = length-map (λ (x : Field). x .kind) (a .fields) ∙ sym (length-map (λ (x : Field). x .size) (a .fields));
+      same = length-map (a .fields) (λ (x : Field). x .kind) ∙ sym (length-map (a .fields) (λ (x : Field). x .size));
       all = after .fields .all;
       known = form .known;
       types = after .fields .types;
