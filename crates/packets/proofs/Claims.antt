@@ -1,6 +1,6 @@
--- The claims of this crate, each proved by a law. Two outcomes are equal because the promise gives the whole answer. Assumes
--- nothing.
-use mathlib.Core.Path.{_≡_, refl, sym, _∙_}
+-- The claims of this crate, each proved by a law. Two outcomes are equal because the promise gives the whole answer.
+-- Assumes nothing.
+use mathlib.Core.Path.{refl, sym, _∙_}
 use Rattle.lengths.specs.Length.{lengthAt}
 use Rattle.lengths.proofs.Claims as lengths
 use Rattle.packets.specs.Packet.{every}

@@ -1,14 +1,14 @@
 -- The loops that test or sum every element, one turn each: what is left decides. Assumes nothing.
-use Prim.Native.Nat.{ℕ, zero, suc, _+_, _*_, _≤_, _<_}
+use Prim.Native.Nat.{ℕ, _+_, _*_, _≤_, _<_}
 use mathlib.Core.Path.{_≡_, refl, sym, ap, _∙_}
-use mathlib.Core.Bool.{Bool, true, false, not, cond, _&&_}
-use mathlib.Core.List.{List, [], _∷_}
+use mathlib.Core.Bool.{Bool, true, false, _&&_}
+use mathlib.Core.List.{List, _∷_}
 use lib.ListN.{length, getD, drop, drop-of-length-le}
 use lib.Seq.{drop-cons}
-use lib.Dec.{eqb, ltb, leb}
+use lib.Dec.{eqb, leb}
 use native.Mathlib.Numerals.{add-one}
 use native.Mathlib.Omega.{arith}
-use borrow.Author.Tests.{lt-ltb, le-ltb, le-leb, lt-leb, eq-eqb, ne-eqb, not-true, not-false}
+use borrow.Author.Tests.{lt-ltb, le-ltb, le-leb, lt-leb, eq-eqb, ne-eqb}
 use Rattle.packets.specs.Packet.{fieldsLimit, every}
 use Rattle.packets.specs.Write.{total}
 use Rattle.packets.specs.Items.{Wide, Sized, FieldsSized, fieldSize}
@@ -62,7 +62,8 @@ pub record Summing (measure : ℕ → ℕ) (s : List ℕ) (i sum : ℕ) : Type 0
 pub sum-start : (measure : ℕ → ℕ) (s : List ℕ) → Summing measure s 0 0
 sum-start measure s = record { inside = omega arith; few = omega arith; so = omega arith }
 
-pub total-next : (measure : ℕ → ℕ) (s : List ℕ) (i : ℕ) → i < length s → total measure (drop i s) ≡ measure (getD s i 0) + total measure (drop (i + 1) s)
+pub total-next : (measure : ℕ → ℕ) (s : List ℕ) (i : ℕ) → i < length s
+    → total measure (drop i s) ≡ measure (getD s i 0) + total measure (drop (i + 1) s)
 unfolding total
 total-next measure s i h = ap (total measure) (drop-next s i h)
 
@@ -78,7 +79,8 @@ module _ {measure : ℕ → ℕ} {s : List ℕ} {i sum : ℕ} where
   unfolding total
   sum-done g all = let e : total measure (drop i s) ≡ 0 = ap (total measure) (drop-of-length-le s all) in omega (arith, g .so)
 
-pub sum-length : {s : List ℕ} {i sum n : ℕ} → Summing (λ x. x) s i sum → i < length s → Wide (getD s i 0) n → Summing (λ x. x) s (i + 1) (sum + n)
+pub sum-length : {s : List ℕ} {i sum n : ℕ} → Summing (λ x. x) s i sum → i < length s → Wide (getD s i 0) n
+    → Summing (λ x. x) s (i + 1) (sum + n)
 sum-length g h wide = sum-turn g h (wide .same) (omega (arith, wide .small))
 
 -- a field's size

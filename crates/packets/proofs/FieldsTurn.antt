@@ -1,21 +1,17 @@
 -- The loop of the packet reader, one turn: the fields that are left to read, put after those that were read, are the fields
 -- of the packet. Assumes nothing.
-use Prim.Native.Nat.{ℕ, zero, suc, _+_, _-_, _≤_, _<_}
+use Prim.Native.Nat.{ℕ, suc, _+_, _-_, _≤_, _<_}
 use mathlib.Core.Path.{_≡_, refl, sym, ap, _∙_}
-use mathlib.Core.Bool.{Bool, true, false, cond, _&&_}
 use mathlib.Core.List.{List, [], _∷_, _++_, append-assoc, append-nil}
-use lib.ListN.{length, getD, set, take, drop, replicate, length-append, drop-of-length-le}
-use lib.Seq.{set-at, append-snoc, drop-cons}
-use lib.Dec.{eqb}
-use native.Mathlib.Numerals.{add-one}
+use lib.ListN.{length, set, replicate, length-append}
+use lib.Seq.{set-at, append-snoc}
 use native.Mathlib.Omega.{arith}
-use borrow.Author.Tests.{eq-eqb, ne-eqb}
 use Rattle.lengths.specs.Answers.{Answer, done, refused, _>>=_}
 use Rattle.lengths.specs.declared.Refusal.{Refusal}
 use Rattle.packets.specs.Packet.{fieldsLimit, noField}
-use Rattle.packets.specs.Read.{FieldAnswer, fieldAt, FieldsAnswer, fieldsAt, allZero}
 use Rattle.packets.specs.Promise.{padded}
-use Rattle.packets.specs.Items.{FieldTold, FieldsTold, fieldOutcome, fieldsRead}
+use Rattle.packets.specs.Read.{FieldAnswer, fieldAt, FieldsAnswer, fieldsAt}
+use Rattle.packets.specs.Items.{FieldTold, FieldsTold, fieldOutcome}
 use Rattle.packets.specs.declared.types.Field.{Field}
 use Rattle.packets.specs.declared.reader.FieldRead.{FieldRead}
 use Rattle.packets.specs.declared.reader.FieldRead.the-variants as field
@@ -75,7 +71,8 @@ module _ {s : List ℕ} {count from : ℕ} where
       }
 
   module _ {fields : List Field} {at i : ℕ} where
-    pub going-turn : {r : FieldRead} {f : Field} {next : ℕ} → Going s count from fields at i → count ≤ fieldsLimit → i < count → FieldTold s at r
+    pub going-turn : {r : FieldRead} {f : Field} {next : ℕ} → Going s count from fields at i → count ≤ fieldsLimit → i < count
+        → FieldTold s at r
         → r ≡ field.Field f next → Going s count from (set fields i f) next (i + 1)
     going-turn {r} {f} {next} g limit more told is =
         let e : fieldAt s at ≡ done (record { field = f; next = next }) = sym (told .answer) ∙ ap fieldOutcome is in

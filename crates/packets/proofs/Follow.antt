@@ -1,27 +1,25 @@
--- What follows a packet changes no item of it: octets that read still read the same with more after them. So a repaired packet
--- reads the same whatever zeros follow. Assumes nothing.
-use Prim.Native.Nat.{ℕ, zero, suc, _+_, _-_, _*_, _/_, _%_, _≤_, _<_}
+-- What follows a packet changes no item of it: octets that read still read the same with more after them. So a repaired
+-- packet reads the same whatever zeros follow. Assumes nothing.
+use Prim.Native.Nat.{ℕ, zero, suc, _+_, _-_, _≤_, _<_}
 use mathlib.Core.Path.{_≡_, refl, sym, ap, _∙_}
-use mathlib.Core.Logic.{_⊎_, inl, inr, ⊎-elim}
-use mathlib.Core.Bool.{Bool, true, false, _&&_}
+use mathlib.Core.Bool.{Bool, true, false}
 use mathlib.Core.List.{List, [], _∷_, _++_, append-assoc}
-use lib.ListN.{length, getD, drop, replicate, length-append, length-drop, length-replicate, replicate-append-replicate, List·getD-append}
+use lib.ListN.{length, getD, drop, replicate, length-append, length-replicate, replicate-append-replicate, List·getD-append}
 use lib.Seq.{drop-append-le}
-use lib.Dec.{ltb, leb, eqb}
+use lib.Dec.{leb, eqb}
 use native.Mathlib.Omega.{arith}
 use borrow.Author.Tests.{leb-true, leb-false}
-use Rattle.lengths.specs.Answers.{Answer, done, LengthAnswer}
+use Rattle.lengths.specs.Answers.{done, LengthAnswer}
 use Rattle.lengths.specs.Length.{lengthAt, ofTwo}
-use Rattle.lengths.proofs.Laws.{Form, one, two, form, lengthAt-one, lengthAt-two, sizes-read}
-use Rattle.datagrams.specs.Sizes.{packetLimit}
-use Rattle.packets.specs.Packet.{Place, First, every, isSet, firstOf, headerOf}
-use Rattle.packets.specs.Read.{PacketAnswer, firstAt, Count, countAt, headerAt, sizeAt, FieldAnswer, fieldAt, FieldsAnswer, fieldsAt, mayFollow, readPacket}
+use Rattle.lengths.proofs.Laws.{Form, one, two, form, lengthAt-one, lengthAt-two}
+use Rattle.packets.specs.Packet.{Place, First, every}
+use Rattle.packets.specs.Read.{PacketAnswer, firstAt, Count, countAt, headerAt, sizeAt, FieldAnswer, fieldAt, FieldsAnswer, fieldsAt, readPacket}
 use Rattle.packets.specs.Claims.{PartsWithin, ZerosFollow, ZerosAlike}
 use Rattle.packets.specs.declared.types.Ending.{Ending}
-use Rattle.packets.specs.declared.types.Ending.the-variants.{Whole, Repaired}
-use Rattle.packets.proofs.Forms.{stepped, FirstForm, first-form, first-of, CountForm, count-form, count-of, HeaderForm, header-form, header-of, SizeForm, size-form, size-of, FieldForm, bare, full, field-form, bare-of, full-of, PacketForm, packet-form, packet-of}
+use Rattle.packets.specs.declared.types.Ending.the-variants.{Repaired}
+use Rattle.packets.proofs.ReadLaws.{stepped, first-form, first-of, count-form, count-of, header-form, header-of, size-form, size-of, FieldForm, bare, full, field-form, bare-of, full-of, PacketForm, packet-form, packet-of}
 use Rattle.packets.proofs.ReadPacket.{count-within, fields-inside, FieldsInside}
-use Rattle.packets.proofs.Measure.{both-first, both-second}
+use Rattle.packets.proofs.WriteLaws.{both-first, both-second}
 use Rattle.packets.proofs.WrittenReads.{zeros-all}
 
 module _ (s more : List ℕ) where

@@ -1,5 +1,10 @@
 mod Tests
 mod Every
+pub mod ReadLaws
+mod ReadItems
+mod FieldsTurn
+mod ReadPacket
+pub mod WriteLaws
 mod Measure
 mod Putting
 mod PutFields
@@ -7,8 +12,4 @@ mod WritePacket
 mod WrittenReads
 mod ReadWrites
 mod Follow
-mod Forms
-mod ReadItems
-mod FieldsTurn
-mod ReadPacket
 pub mod Claims

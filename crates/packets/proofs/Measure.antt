@@ -1,28 +1,24 @@
--- What the writer decides before it writes: one law for each answer, in the words of the code; and the size of what is to be
--- written. Assumes nothing.
-use Prim.Native.Nat.{ℕ, zero, suc, _+_, _-_, _*_, _/_, _%_, _≤_, _<_}
+-- What the writer decides before it writes: one law for each answer, in the words of the code; and the size of what is
+-- to be written. Assumes nothing.
+use Prim.Native.Nat.{ℕ, _+_, _-_, _≤_, _<_}
 use mathlib.Core.Path.{_≡_, refl, sym, ap, ap₂, _∙_}
-use mathlib.Core.Bool.{Bool, true, false, not, cond, _&&_}
-use mathlib.Core.List.{List, [], _∷_, _++_}
-use lib.ListN.{length, getD, take, drop, length-append, length-drop, drop-of-length-le}
-use lib.Seq.{length-take-le}
+use mathlib.Core.Bool.{Bool, true, false, not, _&&_}
+use mathlib.Core.List.{List}
+use lib.ListN.{length, getD, drop, drop-of-length-le}
 use lib.Dec.{leb, ltb, eqb}
 use native.Mathlib.Omega.{arith}
-use borrow.Author.Tests.{lt-ltb, le-ltb, le-leb, lt-leb, eq-eqb, ne-eqb, eqb-true, not-true, not-false}
+use borrow.Author.Tests.{lt-ltb, le-ltb, eq-eqb, ne-eqb, not-true, not-false}
 use Rattle.lengths.specs.Refusals.{outsideSizes, wrongSettings, notAssigned, wrongData}
-use Rattle.lengths.specs.Answers.{Answer, done, refused, refuse}
-use Rattle.lengths.specs.Length.{lengthOctets}
 use Rattle.lengths.specs.Promise.{RefusalMade}
 use Rattle.lengths.specs.declared.Refusal.{Refusal}
-use Rattle.lengths.specs.declared.Written.{Written}
 use Rattle.lengths.specs.declared.Written.the-variants as written
-use Rattle.lengths.proofs.Laws.{lengthOctets-one}
 use Rattle.datagrams.specs.Sizes.{packetLimit}
 use Rattle.packets.specs.Packet.{fieldsLimit, typesLimit, assigned, rightFields, rightData, every}
-use Rattle.packets.specs.Write.{withData, fieldOctets, fieldsOctets, packetOctets, sum, total, oneEach, allAssigned, rightTypes, allRight, inSizes, packetToWrite}
-use Rattle.packets.specs.Items.{Wide, FieldsSized, fieldSize, packetSize, Measured}
+use Rattle.packets.specs.Write.{withData, packetOctets, sum, oneEach, allAssigned, rightTypes, allRight, inSizes, packetToWrite}
+use Rattle.packets.specs.Items.{Wide, FieldsSized, packetSize, Measured}
 use Rattle.packets.specs.declared.types.Kind.{Kind}
 use Rattle.packets.proofs.Every.{drop-next}
+use Rattle.packets.proofs.WriteLaws.{each-length, packet-length}
 
 -- ---- both of two tests
 both-left : (a b : Bool) → a ≡ false → false ≡ (a && b)
@@ -30,14 +26,6 @@ both-left a b no-a = rw no-a
 
 both-right : (a b c : Bool) → a ≡ true → c ≡ b → c ≡ (a && b)
 both-right a b c yes-a same = rw (yes-a) same
-
-pub both-first : (a b : Bool) → (a && b) ≡ true → a ≡ true
-both-first true b e = refl
-both-first false b e = e
-
-pub both-second : (a b : Bool) → (a && b) ≡ true → b ≡ true
-both-second true b e = e
-both-second false b e = let z : true ≡ false = sym e in cc
 
 -- ---- 15
 module _ (ts ns d : List ℕ) where
@@ -51,16 +39,8 @@ module _ (ts ns d : List ℕ) where
       both-right (eqb (length ts) (length ns)) (eqb (sum ns) (length d)) _ (eq-eqb (length ts) (length ns) same)
       (ap (λ (k : ℕ). eqb k (length d)) is)
 
-  pub each-sum : oneEach ts ns d ≡ true → sum ns ≡ length d
-  unfolding oneEach
-  each-sum is = eqb-true _ _ (both-second (eqb (length ts) (length ns)) _ is)
-
-  pub each-length : oneEach ts ns d ≡ true → length ts ≡ length ns
-  unfolding oneEach
-  each-length is = eqb-true _ _ (both-first _ (eqb (sum ns) (length d)) is)
-
   pub each-same : {b : Bool} → b ≡ oneEach ts ns d → not b ≡ false → length ts ≡ length ns
-  each-same {b} is fine = each-length (sym is ∙ not-false b fine)
+  each-same {b} is fine = each-length ts ns d (sym is ∙ not-false b fine)
 
   pub each-few : {b : Bool} → length ts ≤ fieldsLimit → b ≡ oneEach ts ns d → not b ≡ false → length ns ≤ fieldsLimit
   each-few few is fine = let e = each-same is fine in omega arith
@@ -152,41 +132,9 @@ pub ruleset decided = (
   few-same,
 )
 
--- ---- the size
-pub field-length : (k : ℕ) (d : List ℕ) → length (fieldOctets k d) ≡ fieldSize (length d)
-unfolding fieldOctets
-field-length k d = by (withData (length d)) where
-  by : (b : Bool) → suc (length (cond b (((length d - 1) / 256) ∷ ((length d - 1) % 256) ∷ d) [])) ≡ cond b (3 + length d) 1
-  by true = omega arith
-  by false = refl
-
-pub fields-length : (ts ns d : List ℕ) → length ts ≡ length ns → sum ns ≡ length d → length (fieldsOctets ts ns d) ≡ total fieldSize ns
-unfolding fieldsOctets total
-fields-length [] [] d same all = refl
-fields-length [] (n ∷ ns) d same all = absurd (omega arith)
-fields-length (t ∷ ts) [] d same all = absurd (omega arith)
-fields-length (t ∷ ts) (n ∷ ns) d same all =
-    let more = fields-length ts ns (drop n d) (omega arith) (omega (arith, length-drop n d)) in
-    let here = field-length t (take n d) in
-    let part : fieldSize (length (take n d)) ≡ fieldSize n = ap fieldSize (length-take-le n d (omega arith)) in
-    length-append (fieldOctets t (take n d)) (fieldsOctets ts ns (drop n d)) ∙ ap₂ (λ (x y : ℕ). x + y) (here ∙ part) more
-
-pub packet-length : (k : Kind) (v : ℕ) (ts ns d : List ℕ) → length ts ≤ fieldsLimit → oneEach ts ns d ≡ true
-    → length (packetOctets k v ts ns d) ≡ packetSize ns
-unfolding packetOctets
-packet-length k v ts ns d few each = rw (← same) (by (ltb 0 (length ts))) where
-  same : length ts ≡ length ns
-  same = each-length ts ns d each
-
-  by : (b : Bool) → suc (length (cond b (lengthOctets (length ts) ++ fieldsOctets ts ns d) [])) ≡ cond b (2 + total fieldSize ns) 1
-  by true =
-      let fields = fields-length ts ns d same (each-sum ts ns d each) in
-      let count : length (lengthOctets (length ts)) ≡ 1 = ap length (lengthOctets-one (length ts) (omega arith)) in
-      omega (arith, length-append (lengthOctets (length ts)) (fieldsOctets ts ns d))
-  by false = refl
-
 -- ---- the answers
-size-is : (k : Kind) (v : ℕ) (ts ns d : List ℕ) (each : Bool) (size : ℕ) → length ts ≤ fieldsLimit → each ≡ oneEach ts ns d → not each ≡ false
+size-is : (k : Kind) (v : ℕ) (ts ns d : List ℕ) (each : Bool) (size : ℕ) → length ts ≤ fieldsLimit → each ≡ oneEach ts ns d
+    → not each ≡ false
     → size ≡ packetSize ns → length (packetOctets k v ts ns d) ≡ size
 size-is k v ts ns d each size few isEach so isSize =
     packet-length k v ts ns d few (sym isEach ∙ not-false each so) ∙ sym isSize

@@ -1,8 +1,9 @@
--- The loop that puts the fields, one turn: what is left to put, put after what is there now, gives the whole. Assumes nothing.
-use Prim.Native.Nat.{ℕ, zero, suc, _+_, _-_, _*_, _≤_, _<_}
+-- The loop that puts the fields, one turn: what is left to put, put after what is there now, gives the whole. Assumes
+-- nothing.
+use Prim.Native.Nat.{ℕ, zero, suc, _+_, _-_, _≤_, _<_}
 use mathlib.Core.Path.{_≡_, refl, sym, ap, ap₂, _∙_}
-use mathlib.Core.Bool.{Bool, true, false, cond, _&&_}
-use mathlib.Core.List.{List, [], _∷_, _++_, append-assoc, append-nil}
+use mathlib.Core.Bool.{Bool, true}
+use mathlib.Core.List.{List, [], _∷_, _++_, append-assoc}
 use lib.ListN.{length, getD, take, drop, length-append, length-drop, take-append-drop, drop-of-length-le}
 use lib.Seq.{length-take-le, take-at, drop-append-add, drop-drop}
 use lib.Dec.{leb}
@@ -11,11 +12,11 @@ use borrow.Rule.Slice.PartMut.{putMid}
 use borrow.Author.Tests.{leb-true}
 use Rattle.datagrams.specs.Sizes.{packetLimit}
 use Rattle.packets.specs.Packet.{typesLimit, every}
-use Rattle.packets.specs.Write.{fieldOctets, fieldsOctets, sum, total}
+use Rattle.packets.specs.Write.{fieldOctets, fieldsOctets, sum}
 use Rattle.packets.specs.Items.{Laid, FieldFits, FieldLaid, FieldsFit, Wide}
 use Rattle.packets.proofs.ReadItems.{rest, rest-is}
 use Rattle.packets.proofs.Every.{drop-next, total-next}
-use Rattle.packets.proofs.Measure.{both-first, both-second}
+use Rattle.packets.proofs.WriteLaws.{both-first, both-second}
 use Rattle.packets.proofs.Putting.{put-rest}
 
 -- octets in the place of those from `at` on
@@ -158,7 +159,8 @@ module _ {ts ns d old out : List ℕ} {i from at n : ℕ} where
               ∙ ap (λ (l : List ℕ). laidAt at l out) (sym (s .both)) ∙ g .whole;
         }
 
-pub fill-done : {ts ns d old out : List ℕ} {i from at : ℕ} → Filling ts ns d old out i from at → length ts ≤ i → Laid (fieldsOctets ts ns d) old out
+pub fill-done : {ts ns d old out : List ℕ} {i from at : ℕ} → Filling ts ns d old out i from at → length ts ≤ i
+    → Laid (fieldsOctets ts ns d) old out
 unfolding fieldsOctets
 fill-done {ts} {ns} {d} {old} {out} {i} {from} {at} g all =
     let none : fieldsOctets (drop i ts) (drop i ns) (drop from d) ≡ []

@@ -1,22 +1,18 @@
--- What the writer puts into the lent buffer: one law for each answer, and one turn of each loop. What is left to put, put after
--- what is there now, gives the whole. Assumes nothing.
-use Prim.Native.Nat.{ℕ, zero, suc, _+_, _-_, _*_, _/_, _%_, _≤_, _<_}
-use mathlib.Core.Path.{_≡_, refl, sym, ap, ap₂, _∙_, subst}
-use mathlib.Core.Bool.{Bool, true, false, cond, _&&_}
-use mathlib.Core.List.{List, [], _∷_, _++_, append-assoc, append-nil}
-use lib.ListN.{length, getD, set, take, drop, length-append, length-take, length-drop, length-set, take-append-drop, drop-of-length-le}
-use lib.Seq.{set-at, append-snoc, drop-cons, take-suc, length-take-le, take-length, take-all, drop-drop, drop-at, take-at}
-use lib.Dec.{leb, ltb, eqb}
+-- What the writer puts into the lent buffer: one law for each answer, and one turn of each loop. What is left to put,
+-- put after what is there now, gives the whole. Assumes nothing.
+use Prim.Native.Nat.{ℕ, suc, _+_, _-_, _*_, _/_, _%_, _≤_, _<_}
+use mathlib.Core.Path.{_≡_, refl, sym, ap, _∙_, subst}
+use mathlib.Core.List.{List, [], _∷_, _++_, append-nil}
+use lib.ListN.{length, getD, set, take, drop, length-drop, length-set, drop-of-length-le}
+use lib.Seq.{set-at, append-snoc, drop-cons, take-suc, length-take-le, take-length, drop-drop}
 use native.Mathlib.Nat.{mod-eq-of-lt}
 use native.Mathlib.Numerals.{add-one}
 use native.Mathlib.Omega.{arith}
 use borrow.Rule.Slice.PartMut.{putMid}
-use borrow.Author.Tests.{lt-ltb, le-ltb, leb-true}
-use Rattle.packets.specs.Packet.{typesLimit, headerBits, every}
-use Rattle.packets.specs.Write.{withData, fieldOctets, fieldsOctets}
-use Rattle.packets.specs.Items.{Laid, FullFits, FieldFits, FieldLaid, fieldSize}
+use borrow.Author.Tests.{lt-ltb, le-ltb}
+use Rattle.packets.specs.Items.{Laid, FullFits, FieldFits, FieldLaid}
 use Rattle.packets.proofs.ReadItems.{rest, rest-is}
-use Rattle.packets.proofs.Measure.{field-length}
+use Rattle.packets.proofs.WriteLaws.{field-length, field-bare, field-full}
 
 -- ---- octets
 pub record Copying (src old out : List ℕ) (i : ℕ) : Type 0 where
@@ -54,15 +50,6 @@ module _ {src old out : List ℕ} {i : ℕ} where
 pub ruleset copies = (copy-start, copy-turn, copy-done)
 
 -- ---- one field
-pub field-bare : (k : ℕ) → fieldOctets k [] ≡ (k * 16) ∷ []
-unfolding fieldOctets headerBits
-field-bare k = ap (λ (n : ℕ). (n * 16) ∷ []) (omega arith)
-
-pub field-full : (k : ℕ) (d : List ℕ) → 1 ≤ length d
-    → fieldOctets k d ≡ ((8 + k) * 16) ∷ ((length d - 1) / 256) ∷ ((length d - 1) % 256) ∷ d
-unfolding fieldOctets headerBits
-field-full k d some = rw (lt-ltb 0 (length d) some)
-
 pub one-set : (old : List ℕ) (a : ℕ) → 1 ≤ length old → set old 0 a ≡ a ∷ drop 1 old
 one-set [] a h = absurd (omega arith)
 one-set (x ∷ l) a h = refl

@@ -1,36 +1,35 @@
--- One law for each answer of the functions that read an item of a packet, in the words of the code: the tests that led there
--- give the promise. Assumes nothing.
-use Prim.Native.Nat.{ℕ, suc, _+_, _-_, _*_, _/_, _%_, _≤_, _<_, _^_}
-use mathlib.Core.Path.{_≡_, refl, sym, ap, _∙_}
-use mathlib.Core.Bool.{Bool, true, false, not, cond}
-use mathlib.Core.List.{List, [], _∷_, _++_}
+-- One law for each answer of the functions that read an item of a packet, in the words of the code: the tests that led
+-- there give the promise. Assumes nothing.
+use Prim.Native.Nat.{ℕ, _+_, _-_, _*_, _/_, _%_, _≤_, _<_, _^_}
+use mathlib.Core.Path.{_≡_, sym, ap, _∙_}
+use mathlib.Core.Bool.{Bool, true, false, not}
+use mathlib.Core.List.{List}
 use lib.ListN.{length, getD, take, drop, length-drop}
 use lib.Seq.{take-all}
-use lib.Dec.{leb, ltb}
+use lib.Dec.{ltb}
 use native.Mathlib.Omega.{arith}
 use borrow.Author.Tests.{lt-ltb, le-ltb, le-leb, lt-leb, not-true, not-false}
-use Rattle.lengths.specs.Refusals.{endsEarly, outsideSizes, spareBit, leftOver, notAssigned, wrongData}
-use Rattle.lengths.specs.Answers.{Answer, done, refused, lengthOutcome}
+use Rattle.lengths.specs.Refusals.{endsEarly, outsideSizes, spareBit, notAssigned, wrongData}
+use Rattle.lengths.specs.Answers.{done, refused, lengthOutcome}
 use Rattle.lengths.specs.Length.{lengthAt}
 use Rattle.lengths.specs.Promise.{Octet, RefusalMade, LengthRead}
 use Rattle.lengths.proofs.Laws.{sizes-read}
 use Rattle.lengths.specs.declared.Length.{Length}
-use Rattle.lengths.specs.declared.Length.the-variants as length
 use Rattle.lengths.specs.declared.Refusal.{Refusal}
+use Rattle.lengths.specs.declared.Length.the-variants as length
 use Rattle.datagrams.specs.Sizes.{packetLimit}
-use Rattle.packets.specs.Packet.{Header, fieldsLimit, kindOf, assigned, rightFields, rightData, isSet}
-use Rattle.packets.specs.Read.{HeaderAnswer, firstAt, countAt, headerAt, sizeAt, afterHeader, fieldAt}
+use Rattle.packets.specs.Packet.{Header, fieldsLimit, kindOf, assigned, rightFields, rightData}
+use Rattle.packets.specs.Read.{firstAt, countAt, headerAt, sizeAt, afterHeader, fieldAt}
 use Rattle.packets.specs.Items.{FirstTold, CountTold, HeaderTold, SizeTold, FieldTold, headerOutcome, sizeOutcome}
 use Rattle.packets.specs.declared.types.Kind.{Kind}
+use Rattle.packets.specs.declared.reader.HeaderRead.{HeaderRead}
+use Rattle.packets.specs.declared.reader.SizeRead.{SizeRead}
 use Rattle.packets.specs.declared.reader.FirstRead.the-variants as first
 use Rattle.packets.specs.declared.reader.CountRead.the-variants as count
-use Rattle.packets.specs.declared.reader.HeaderRead.{HeaderRead}
 use Rattle.packets.specs.declared.reader.HeaderRead.the-variants as header
-use Rattle.packets.specs.declared.reader.SizeRead.{SizeRead}
 use Rattle.packets.specs.declared.reader.SizeRead.the-variants as size
-use Rattle.packets.specs.declared.reader.FieldRead.{FieldRead}
 use Rattle.packets.specs.declared.reader.FieldRead.the-variants as field
-use Rattle.packets.proofs.Forms.{header-form, size-form}
+use Rattle.packets.proofs.ReadLaws.{header-form, size-form}
 
 -- ---- the first octet
 module _ {s : List ℕ} where

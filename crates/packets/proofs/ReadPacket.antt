@@ -2,36 +2,33 @@
 -- nothing.
 use Prim.Native.Nat.{ℕ, zero, suc, _+_, _-_, _≤_, _<_}
 use mathlib.Core.Path.{_≡_, refl, sym, ap, ap₂, _∙_}
-use mathlib.Core.Bool.{Bool, true, false, cond}
-use mathlib.Core.List.{List, [], _∷_, _++_}
-use lib.ListN.{length, getD, take, drop, replicate, length-append, length-drop}
-use lib.Seq.{take-at}
-use lib.Dec.{ltb}
+use mathlib.Core.Bool.{Bool, true, false}
+use mathlib.Core.List.{List, [], _∷_}
+use lib.ListN.{length, getD, drop, length-drop}
 use native.Mathlib.Omega.{arith}
 use borrow.Author.Tests.{lt-ltb, le-ltb}
 use Rattle.lengths.specs.Refusals.{outsideSizes, leftOver}
-use Rattle.lengths.specs.Answers.{Answer, done, refused, _>>=_}
+use Rattle.lengths.specs.Answers.{Answer, done, refused}
 use Rattle.lengths.specs.Promise.{RefusalMade}
 use Rattle.lengths.specs.declared.Refusal.{Refusal}
 use Rattle.lengths.proofs.Laws.{sizes-read}
 use Rattle.datagrams.specs.Sizes.{packetLimit}
 use Rattle.packets.specs.Packet.{Place, fieldsLimit, noField, First}
-use Rattle.packets.specs.Read.{PacketAnswer, firstAt, Count, countAt, HeaderAnswer, FieldAnswer, headerAt, sizeAt, afterHeader, fieldAt, FieldsAnswer, fieldsAt, mayFollow, endAt, readPacket}
 use Rattle.packets.specs.Promise.{PacketTold, packetOutcome, packetRead, padded}
+use Rattle.packets.specs.Read.{PacketAnswer, firstAt, Count, countAt, FieldAnswer, fieldAt, FieldsAnswer, fieldsAt, mayFollow, endAt, readPacket}
 use Rattle.packets.specs.Items.{FirstTold, CountTold, FieldsTold, firstOutcome, countOutcome, fieldsRead}
 use Rattle.packets.specs.declared.types.Field.{Field}
 use Rattle.packets.specs.declared.types.Kind.{Kind}
 use Rattle.packets.specs.declared.types.Ending.{Ending}
-use Rattle.packets.specs.declared.types.Reading.the-variants as reading
 use Rattle.packets.specs.declared.types.PacketRead.{PacketRead}
 use Rattle.packets.specs.declared.reader.FirstRead.{FirstRead}
-use Rattle.packets.specs.declared.reader.FirstRead.the-variants as first
 use Rattle.packets.specs.declared.reader.CountRead.{CountRead}
-use Rattle.packets.specs.declared.reader.CountRead.the-variants as count
-use Rattle.packets.specs.declared.reader.FieldsEnd.{FieldsEnd}
-use Rattle.packets.specs.declared.reader.FieldsEnd.the-variants as end
 use Rattle.packets.specs.declared.reader.FieldsRead.{FieldsRead}
-use Rattle.packets.proofs.Forms.{Stepped, stepped, FirstForm, first-form, CountForm, count-form, header-form, size-form, FieldForm, bare, full, field-form}
+use Rattle.packets.specs.declared.types.Reading.the-variants as reading
+use Rattle.packets.specs.declared.reader.FirstRead.the-variants as first
+use Rattle.packets.specs.declared.reader.CountRead.the-variants as count
+use Rattle.packets.specs.declared.reader.FieldsEnd.the-variants as end
+use Rattle.packets.proofs.ReadLaws.{stepped, first-form, count-form, header-form, size-form, FieldForm, bare, full, field-form, read-outcome}
 use Rattle.packets.proofs.ReadItems.{rest, rest-is}
 
 -- ---- where the items of a packet end
@@ -140,14 +137,8 @@ fields-refused n s at x r told next = by (fieldsAt n s at) refl (told .answer) w
       let same : y ≡ x = cc (ap (λ (q : FieldsRead). q .end) is, next) in
       e ∙ ap (λ (q : Refusal). refused q) same
 
--- ---- the answer's cases are the definition's
-pub read-outcome : (x : Answer PacketAnswer) → packetOutcome (packetRead x) ≡ x
-unfolding padded
-read-outcome (done p) =
-    ap (λ (l : List Field). done (record { kind = p .kind; value = p .value; fields = l })) (take-at (p .fields) _ (length (p .fields)) refl)
-read-outcome (refused r) = refl
-
-pub told-of : (e : Ending) (s : List ℕ) (r : PacketRead) (x : Answer PacketAnswer) → readPacket e s ≡ x → r ≡ packetRead x → PacketTold e s r
+pub told-of : (e : Ending) (s : List ℕ) (r : PacketRead) (x : Answer PacketAnswer) → readPacket e s ≡ x → r ≡ packetRead x
+    → PacketTold e s r
 told-of e s r x is image =
     record { answer = ap packetOutcome image ∙ read-outcome x ∙ sym is; whole = image ∙ ap packetRead (sym is) }
 
@@ -192,7 +183,8 @@ module _ {e : Ending} {s : List ℕ} where
             image
 
         module _ {m : ℕ} {b : Bool} (ends : all .end ≡ end.Next m) (follows : b ≡ mayFollow e (rest m s)) where
-          pub packet-left : {x : Refusal} {r : PacketRead} → b ≡ false → RefusalMade leftOver x → r ≡ packetRead (refused x) → PacketTold e s r
+          pub packet-left : {x : Refusal} {r : PacketRead} → b ≡ false → RefusalMade leftOver x → r ≡ packetRead (refused x)
+              → PacketTold e s r
           unfolding readPacket endAt
           packet-left {x} {r} not-so made image =
               let a = all-read n s at m all read ends in

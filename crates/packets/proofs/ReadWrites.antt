@@ -1,33 +1,29 @@
--- What reads as received writes back to the same octets: the first octet, the count and each field are what their values make
--- them. Facts about one octet's bits are tests computed over all octets. Assumes nothing.
+-- What reads as received writes back to the same octets: the first octet, the count and each field are what their
+-- values make them. Facts about one octet's bits are tests computed over all octets. Assumes nothing.
 use Prim.Native.Nat.{ℕ, zero, suc, _+_, _-_, _*_, _/_, _%_, _≤_, _<_}
 use mathlib.Core.Path.{_≡_, refl, sym, ap, ap₂, _∙_}
-use mathlib.Core.Bool.{Bool, true, false, not, cond, _&&_, _||_}
+use mathlib.Core.Bool.{Bool, true, false, cond, _&&_, _||_}
 use mathlib.Core.List.{List, [], _∷_, _++_, map, append-assoc, append-nil}
 use lib.ListN.{length, getD, take, drop, length-append, length-drop, take-append-drop, length-map}
 use lib.Seq.{length-take-le, take-at, drop-at, drop-drop, getD-drop}
 use lib.Dec.{leb, ltb, eqb}
-use native.Mathlib.Numerals.{add-one}
 use native.Mathlib.Omega.{arith}
-use borrow.Author.Tests.{lt-ltb, le-ltb, le-leb, lt-leb, eq-eqb, eqb-true, ltb-true, ltb-false}
-use Rattle.lengths.specs.Answers.{Answer, done, refuse}
+use borrow.Author.Tests.{lt-ltb, le-ltb, le-leb, eqb-true, ltb-true, ltb-false}
+use Rattle.lengths.specs.Answers.{done}
 use Rattle.lengths.specs.Claims.{Octets}
-use Rattle.lengths.specs.Length.{lengthAt, lengthOctets}
+use Rattle.lengths.specs.Length.{lengthOctets}
 use Rattle.lengths.proofs.Laws.{read-writes, sizes-read}
 use Rattle.datagrams.specs.Sizes.{packetLimit}
-use Rattle.packets.specs.Packet.{Place, First, Header, fieldsLimit, typesLimit, assigned, rightFields, rightData, every, isSet, kindOf, firstOf, headerOf, firstOctet, headerBits, dataOf, allData}
-use Rattle.packets.specs.Read.{PacketAnswer, firstAt, Count, countAt, HeaderAnswer, headerAt, sizeAt, FieldAnswer, fieldAt, FieldsAnswer, fieldsAt, mayFollow, readPacket}
-use Rattle.packets.specs.Write.{withData, fieldOctets, fieldsOctets, packetOctets, sum, total, oneEach, allAssigned, rightTypes, allRight, inSizes, packetToWrite}
+use Rattle.packets.specs.Packet.{Place, First, Header, fieldsLimit, typesLimit, rightFields, rightData, every, isSet, firstOf, headerOf, firstOctet, headerBits, dataOf, allData}
+use Rattle.packets.specs.Read.{Count, countAt, headerAt, sizeAt, FieldAnswer, fieldAt, FieldsAnswer, fieldsAt}
+use Rattle.packets.specs.Write.{withData, fieldOctets, fieldsOctets, packetOctets, sum, total, rightTypes, packetToWrite}
 use Rattle.packets.specs.Items.{countedOctets}
 use Rattle.packets.specs.Claims.{ReadWrites}
-use Rattle.packets.specs.declared.types.Kind.{Kind}
 use Rattle.packets.specs.declared.types.Ending.the-variants.{Whole}
 use Rattle.packets.specs.declared.types.Field.{Field}
 use Rattle.packets.proofs.Every.{drop-next}
-use Rattle.packets.proofs.Forms.{stepped, FirstForm, first-form, CountForm, count-form, HeaderForm, header-form, size-form, FieldForm, bare, full, field-form, PacketForm, packet-form}
-use Rattle.packets.proofs.Measure.{both-first, both-second}
-use Rattle.packets.proofs.Putting.{field-bare, field-full}
-use Rattle.packets.proofs.WritePacket.{WriteForm, write-of}
+use Rattle.packets.proofs.ReadLaws.{stepped, FirstForm, first-form, count-form, header-form, size-form, FieldForm, bare, full, field-form, packet-form}
+use Rattle.packets.proofs.WriteLaws.{both-first, both-second, field-bare, field-full, write-of}
 use Rattle.packets.proofs.ReadPacket.{fields-inside}
 
 -- ---- a test computed over all numbers below a bound

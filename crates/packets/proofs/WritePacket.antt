@@ -1,77 +1,30 @@
--- What the writer's definition says of a packet that it writes, and one law for each answer of `write` and of the functions that
--- put the count and the packet. Assumes nothing.
-use Prim.Native.Nat.{ℕ, zero, suc, _+_, _-_, _*_, _≤_, _<_}
+-- What the writer's definition says of a packet that it writes, and one law for each answer of `write` and of the
+-- functions that put the count and the packet. Assumes nothing.
+use Prim.Native.Nat.{ℕ, _+_, _-_, _≤_, _<_}
 use mathlib.Core.Path.{_≡_, refl, sym, ap, ap₂, _∙_}
-use mathlib.Core.Bool.{Bool, true, false, not, cond, _&&_}
+use mathlib.Core.Bool.{true, false, not}
 use mathlib.Core.List.{List, [], _∷_, _++_, append-assoc}
-use lib.ListN.{length, getD, set, take, drop, length-append, length-drop, length-set}
+use lib.ListN.{length, set, take, drop, length-append, length-drop, length-set}
 use lib.Seq.{take-at, drop-at, drop-drop}
-use lib.Dec.{leb, ltb, eqb}
+use lib.Dec.{leb, ltb}
 use native.Mathlib.Omega.{arith}
 use borrow.Rule.Slice.PartMut.{putMid}
-use borrow.Author.Tests.{lt-ltb, le-ltb, le-leb, lt-leb, ltb-true, ltb-false, leb-true, eq-eqb, not-true, not-false}
-use Rattle.lengths.specs.Refusals.{outsideSizes, wrongSettings, notAssigned, wrongData, noRoom}
-use Rattle.lengths.specs.Answers.{Answer, done, refused, refuse, writtenOutcome, fitted, sizeOf, over}
+use borrow.Author.Tests.{le-ltb, le-leb, lt-leb, not-true, not-false}
+use Rattle.lengths.specs.Refusals.{noRoom}
+use Rattle.lengths.specs.Answers.{Answer, done, refused, writtenOutcome, sizeOf}
 use Rattle.lengths.specs.Length.{lengthOctets, lengthToWrite, lengthLimit}
 use Rattle.lengths.specs.Promise.{RefusalMade, Puts}
 use Rattle.lengths.specs.declared.Refusal.{Refusal}
 use Rattle.lengths.specs.declared.Written.{Written}
 use Rattle.lengths.specs.declared.Written.the-variants as written
-use Rattle.datagrams.specs.Sizes.{packetLimit}
-use Rattle.packets.specs.Packet.{First, fieldsLimit, typesLimit, assigned, rightFields, every, firstOctet}
-use Rattle.packets.specs.Write.{fieldsOctets, packetOctets, sum, oneEach, allAssigned, rightTypes, allRight, inSizes, packetToWrite}
+use Rattle.packets.specs.Packet.{firstOctet}
+use Rattle.packets.specs.Write.{fieldsOctets, packetOctets, packetToWrite}
 use Rattle.packets.specs.Items.{Laid, FieldsFit, CountedFit, countedOctets, PacketFits, Measured}
 use Rattle.packets.specs.declared.types.Kind.{Kind}
-use Rattle.packets.specs.declared.types.Kind.the-variants.{Indicator, Data}
-use Rattle.packets.proofs.Forms.{past}
 use Rattle.packets.proofs.ReadItems.{rest, rest-is}
-use Rattle.packets.proofs.Measure.{both-first, both-second, each-sum, each-length}
-use Rattle.packets.proofs.Putting.{one-set, put-rest}
+use Rattle.packets.proofs.WriteLaws.{write-form, assigned-few, packet-bare, packet-full}
+use Rattle.packets.proofs.Putting.{one-set}
 use Rattle.packets.proofs.PutFields.{out-is}
-
--- ---- a packet that is written
-pub record WriteForm (k : Kind) (v : ℕ) (ts ns d w : List ℕ) : Type 0 where
-  pub few : length ts ≤ fieldsLimit
-  pub same : length ts ≡ length ns
-  pub all : sum ns ≡ length d
-  pub known : v < assigned k
-  pub types : every (λ t. leb t typesLimit) ts ≡ true
-  pub fields : rightFields k (ltb 0 (length ts)) ≡ true
-  pub right : rightTypes ts ns ≡ true
-  pub short : every (λ n. leb n packetLimit) ns ≡ true
-  pub size : length w ≤ packetLimit
-  pub is : w ≡ packetOctets k v ts ns d
-
-pub write-form : (k : Kind) (v : ℕ) (ts ns d w : List ℕ) → packetToWrite k v ts ns d ≡ done w → WriteForm k v ts ns d w
-unfolding packetToWrite allAssigned allRight inSizes
-write-form k v ts ns d w e =
-    let packet = packetOctets k v ts ns d in
-    let few = past (ltb fieldsLimit (length ts)) outsideSizes _ w e in
-    let each = past (not (oneEach ts ns d)) wrongSettings _ w (few .1) in
-    let known = past (not (allAssigned k v ts)) notAssigned _ w (each .1) in
-    let right = past (not (allRight k ts ns)) wrongData _ w (known .1) in
-    let sizes = past (not (inSizes ns (length packet))) outsideSizes _ w (right .1) in
-    let is : w ≡ packetOctets k v ts ns d = cc (sizes .1) in
-    let one = not-false (oneEach ts ns d) (each .0) in
-    let assignedAll = not-false (ltb v (assigned k) && every (λ t. leb t typesLimit) ts) (known .0) in
-    let rightAll = not-false (rightFields k (ltb 0 (length ts)) && rightTypes ts ns) (right .0) in
-    let sizesAll = not-false (every (λ n. leb n packetLimit) ns && leb (length packet) packetLimit) (sizes .0) in
-    record {
-      few = ltb-false _ _ (few .0);
-      same = each-length ts ns d one;
-      all = each-sum ts ns d one;
-      known = ltb-true v (assigned k) (both-first _ (every (λ t. leb t typesLimit) ts) assignedAll);
-      types = both-second (ltb v (assigned k)) _ assignedAll;
-      fields = both-first _ (rightTypes ts ns) rightAll;
-      right = both-second (rightFields k (ltb 0 (length ts))) _ rightAll;
-      short = both-first _ (leb (length packet) packetLimit) sizesAll;
-      size = rw is (leb-true (length packet) packetLimit (both-second (every (λ n. leb n packetLimit) ns) _ sizesAll));
-      is = is;
-    }
-
-pub assigned-few : (k : Kind) → assigned k ≤ 16
-assigned-few Indicator = omega arith
-assigned-few Data = omega arith
 
 -- ---- one part after another
 pub laid-twice : (w f old mid part : List ℕ) → mid ≡ w ++ drop (length w) old → part ≡ f ++ drop (length f) (rest (length w) mid)
@@ -161,16 +114,6 @@ module _ {ts ns d old mid : List ℕ} {r : Written} where
 pub ruleset counteds = (count-never, count-inside, count-fits, count-laid)
 
 -- ---- the packet
-pub packet-bare : (k : Kind) (v : ℕ) (ts ns d : List ℕ) → ltb 0 (length ts) ≡ false
-    → packetOctets k v ts ns d ≡ firstOctet (record { kind = k; value = v; present = ltb 0 (length ts) }) ∷ []
-unfolding packetOctets
-packet-bare k v ts ns d none = ap (λ (b : Bool). firstOctet (record { kind = k; value = v; present = ltb 0 (length ts) }) ∷ cond b (countedOctets ts ns d) []) none
-
-pub packet-full : (k : Kind) (v : ℕ) (ts ns d : List ℕ) → ltb 0 (length ts) ≡ true
-    → packetOctets k v ts ns d ≡ firstOctet (record { kind = k; value = v; present = ltb 0 (length ts) }) ∷ countedOctets ts ns d
-unfolding packetOctets
-packet-full k v ts ns d some = ap (λ (b : Bool). firstOctet (record { kind = k; value = v; present = ltb 0 (length ts) }) ∷ cond b (countedOctets ts ns d) []) some
-
 module _ {k : Kind} {v : ℕ} {ts ns d old : List ℕ} where
   pub packet-value : PacketFits k v ts ns d old → v ≤ 15
   packet-value fits = omega (arith, write-form k v ts ns d _ (fits .allowed) .known, assigned-few k)
@@ -212,7 +155,8 @@ module _ {k : Kind} {v : ℕ} {ts ns d old : List ℕ} where
               ));
         }
 
-    pub packet-laid : {part : List ℕ} → PacketFits k v ts ns d old → r ≡ firstOctet (record { kind = k; value = v; present = ltb 0 (length ts) })
+    pub packet-laid : {part : List ℕ} → PacketFits k v ts ns d old
+        → r ≡ firstOctet (record { kind = k; value = v; present = ltb 0 (length ts) })
         → not (ltb 0 (length ts)) ≡ false → Laid (countedOctets ts ns d) (rest 1 (set old 0 r)) part
         → Laid (packetOctets k v ts ns d) old (putMid 1 (length (set old 0 r) - 1) (set old 0 r) part)
     packet-laid {part} fits is some laid =
@@ -239,7 +183,8 @@ write-is {k} {v} {ts} {ns} {d} {r} {n} measured is = by (packetToWrite k v ts ns
   by (refused x) e size = let z : _≡_ {A = ℕ} 0 1 = cc in absurd (omega arith)
 
 module _ {k : Kind} {v : ℕ} {ts ns d old : List ℕ} {r : Written} where
-  pub write-refused : {x : Refusal} → Measured k v ts ns d r → r ≡ written.Refused x → Puts (packetToWrite k v ts ns d) old old (written.Refused x)
+  pub write-refused : {x : Refusal} → Measured k v ts ns d r → r ≡ written.Refused x
+      → Puts (packetToWrite k v ts ns d) old old (written.Refused x)
   write-refused {x} measured is = by (packetToWrite k v ts ns d) (sym (measured .answer) ∙ ap writtenOutcome is) where
     by : (a : Answer (List ℕ)) → sizeOf a ≡ refused x → Puts a old old (written.Refused x)
     by (done w) e = let z : _≡_ {A = ℕ} 0 1 = cc in absurd (omega arith)
@@ -256,7 +201,8 @@ module _ {k : Kind} {v : ℕ} {ts ns d old : List ℕ} {r : Written} where
         let short : leb (length (packetOctets k v ts ns d)) (length old) ≡ false = lt-leb (length (packetOctets k v ts ns d)) (length old) (omega (arith, w .1)) in
         record { answer = rw (w .0, short, made .answer); lent = rw (w .0, short) }
 
-    pub write-done : {new : List ℕ} → Measured k v ts ns d r → r ≡ written.Octets n → n ≤ length old → Laid (packetOctets k v ts ns d) old new
+    pub write-done : {new : List ℕ} → Measured k v ts ns d r → r ≡ written.Octets n → n ≤ length old
+        → Laid (packetOctets k v ts ns d) old new
         → Puts (packetToWrite k v ts ns d) old new (written.Octets n)
     write-done {new} measured is room laid =
         let w = write-is measured is in
@@ -264,20 +210,3 @@ module _ {k : Kind} {v : ℕ} {ts ns d old : List ℕ} {r : Written} where
         record { answer = rw (w .0, fits, w .1); lent = rw (w .0, fits) (laid .lent) }
 
 pub ruleset writes = (write-refused, write-fits, write-full, write-done)
-
--- ---- and back: what passes each test is written
-pub write-of : (k : Kind) (v : ℕ) (ts ns d : List ℕ) → WriteForm k v ts ns d (packetOctets k v ts ns d)
-    → packetToWrite k v ts ns d ≡ done (packetOctets k v ts ns d)
-unfolding packetToWrite oneEach allAssigned allRight inSizes
-write-of k v ts ns d form =
-    rw (
-      le-ltb fieldsLimit (length ts) (form .few),
-      eq-eqb (length ts) (length ns) (form .same),
-      eq-eqb (sum ns) (length d) (form .all),
-      lt-ltb v (assigned k) (form .known),
-      form .types,
-      form .fields,
-      form .right,
-      form .short,
-      le-leb (length (packetOctets k v ts ns d)) packetLimit (form .size),
-    )

@@ -1,32 +1,28 @@
 -- What is written reads back: the first octet, the count, each field in turn and the end. Assumes nothing.
 use Prim.Native.Nat.{ℕ, zero, suc, _+_, _-_, _*_, _/_, _%_, _≤_, _<_}
 use mathlib.Core.Path.{_≡_, refl, sym, ap, ap₂, _∙_}
-use mathlib.Core.Bool.{Bool, true, false, not, cond, _&&_}
+use mathlib.Core.Bool.{Bool, true, false, cond}
 use mathlib.Core.List.{List, [], _∷_, _++_, map, append-assoc, append-nil}
-use lib.ListN.{length, getD, take, drop, replicate, length-append, length-drop, length-replicate, drop-of-length-le, take-append-drop}
-use lib.Seq.{length-take-le, take-at, drop-at, drop-append-add, getD-append-add, drop-drop, take-length}
+use lib.ListN.{length, getD, take, drop, replicate, length-append, length-drop, length-replicate, take-append-drop}
+use lib.Seq.{length-take-le, take-at, drop-at, drop-append-add, getD-append-add}
 use lib.Dec.{leb, ltb, eqb}
 use native.Mathlib.Omega.{arith}
-use borrow.Author.Tests.{lt-ltb, le-ltb, leb-true, ltb-true, ltb-false}
-use Rattle.lengths.specs.Answers.{Answer, done, refuse, _>>=_}
+use borrow.Author.Tests.{lt-ltb, leb-true}
+use Rattle.lengths.specs.Answers.{done}
 use Rattle.lengths.specs.Length.{lengthAt, lengthOctets}
 use Rattle.lengths.proofs.Laws.{written-reads}
 use Rattle.datagrams.specs.Sizes.{packetLimit}
-use Rattle.packets.specs.Packet.{Place, First, Header, fieldsLimit, typesLimit, assigned, rightFields, rightData, every, isSet, kindOf, firstOf, headerOf, firstOctet, headerBits, dataOf, allData}
-use Rattle.packets.specs.Read.{PacketAnswer, firstAt, countAt, headerAt, sizeAt, FieldAnswer, fieldAt, FieldsAnswer, fieldsAt, mayFollow, endAt, readPacket}
-use Rattle.packets.specs.Write.{withData, fieldOctets, fieldsOctets, packetOctets, sum, total, rightTypes, packetToWrite}
-use Rattle.packets.specs.Items.{countedOctets}
+use Rattle.packets.specs.Packet.{Place, First, Header, typesLimit, assigned, rightFields, rightData, every, isSet, kindOf, firstOctet, dataOf, allData}
+use Rattle.packets.specs.Read.{firstAt, countAt, sizeAt, FieldAnswer, fieldAt, fieldsAt, mayFollow}
+use Rattle.packets.specs.Write.{withData, fieldOctets, fieldsOctets, sum, total, rightTypes}
 use Rattle.packets.specs.Claims.{ReadsAs, WrittenReads, RepairedReads}
 use Rattle.packets.specs.declared.types.Kind.{Kind}
 use Rattle.packets.specs.declared.types.Kind.the-variants.{Indicator, Data}
 use Rattle.packets.specs.declared.types.Ending.{Ending}
 use Rattle.packets.specs.declared.types.Ending.the-variants.{Whole, Repaired}
 use Rattle.packets.specs.declared.types.Field.{Field}
-use Rattle.packets.proofs.Forms.{FirstForm, first-of, count-of, header-of, size-of, bare-of, full-of, packet-of}
-use Rattle.packets.proofs.FieldsTurn.{fields-step}
-use Rattle.packets.proofs.Measure.{both-first, both-second}
-use Rattle.packets.proofs.Putting.{field-bare, field-full}
-use Rattle.packets.proofs.WritePacket.{WriteForm, write-form, assigned-few, packet-bare, packet-full}
+use Rattle.packets.proofs.ReadLaws.{first-of, count-of, header-of, size-of, bare-of, full-of, packet-of}
+use Rattle.packets.proofs.WriteLaws.{both-first, both-second, field-bare, field-full, WriteForm, write-form, assigned-few, packet-bare, packet-full}
 
 -- ---- the first octet: its bits come back
 record Bits (o : ℕ) (k : Kind) (v : ℕ) (p : Bool) : Type 0 where
@@ -37,7 +33,8 @@ record Bits (o : ℕ) (k : Kind) (v : ℕ) (p : Bool) : Type 0 where
   present : isSet 7 o ≡ p
 
 -- an octet of three upper bits u, four bits of value v and a zero
-bits-of : (u v o : ℕ) (k : Kind) (p : Bool) → v < 16 → o ≡ u * 32 + v * 2 → ltb 0 (u % 2) ≡ false → cond (ltb 0 (u / 2 % 2)) Data Indicator ≡ k
+bits-of : (u v o : ℕ) (k : Kind) (p : Bool) → v < 16 → o ≡ u * 32 + v * 2 → ltb 0 (u % 2) ≡ false
+    → cond (ltb 0 (u / 2 % 2)) Data Indicator ≡ k
     → ltb 0 (u / 4 % 2) ≡ p → Bits o k v p
 bits-of u v o k p small is plain kind present =
     let five : o / 32 ≡ u = omega arith in
@@ -82,7 +79,8 @@ record FieldBack (t : ℕ) (x s : List ℕ) (at : Place) : Type 0 where
   next : field .next ≡ at + length (fieldOctets t x)
 
 -- the octets from a place on
-at-front : (s pre q : List ℕ) (at : ℕ) → s ≡ pre ++ q → at ≡ length pre → (n : ℕ) → (getD s (at + n) 0 ≡ getD q n 0) × (drop (at + n) s ≡ drop n q)
+at-front : (s pre q : List ℕ) (at : ℕ) → s ≡ pre ++ q → at ≡ length pre → (n : ℕ)
+    → (getD s (at + n) 0 ≡ getD q n 0) × (drop (at + n) s ≡ drop n q)
 at-front s pre q at is place n = (
   ap₂ (λ (l : List ℕ) (i : ℕ). getD l (i + n) 0) is place ∙ getD-append-add pre q n 0,
   ap₂ (λ (l : List ℕ) (i : ℕ). drop (i + n) l) is place ∙ drop-append-add pre q n,
@@ -108,7 +106,8 @@ bare-back t s pre more at is place known right =
       octets = refl;
       next = omega arith;
     } where
-      same : {x : ℕ} {c : Bool} → x ≡ t → c ≡ false → _≡_ {A = Header} (record { kind = x; present = c }) (record { kind = t; present = false })
+      same : {x : ℕ} {c : Bool} → x ≡ t → c ≡ false
+          → _≡_ {A = Header} (record { kind = x; present = c }) (record { kind = t; present = false })
       same e f = rw (e, f)
 
 full-back : (t : ℕ) (x s pre more : List ℕ) (at : Place) → s ≡ pre ++ (fieldOctets t x ++ more) → at ≡ length pre → t ≤ typesLimit
@@ -140,7 +139,8 @@ full-back t x s pre more at is place known some short right =
       octets = ap (λ (i : ℕ). take (length x) (drop i s)) three ∙ ap (take (length x)) (front 3 .1) ∙ take-at x more (length x) refl;
       next = omega arith;
     } where
-      same : {y : ℕ} {c : Bool} → y ≡ t → c ≡ true → _≡_ {A = Header} (record { kind = y; present = c }) (record { kind = t; present = true })
+      same : {y : ℕ} {c : Bool} → y ≡ t → c ≡ true
+          → _≡_ {A = Header} (record { kind = y; present = c }) (record { kind = t; present = true })
       same e f = rw (e, f)
 
 field-back : (t : ℕ) (x s pre more : List ℕ) (at : Place) → s ≡ pre ++ (fieldOctets t x ++ more) → at ≡ length pre → t ≤ typesLimit
@@ -179,7 +179,8 @@ empty : (d : List ℕ) → 0 ≡ length d → [] ≡ d
 empty [] e = refl
 empty (x ∷ d) e = absurd (omega arith)
 
-fields-back : (ts ns d s pre more : List ℕ) (at : Place) → s ≡ pre ++ (fieldsOctets ts ns d ++ more) → at ≡ length pre → length ts ≡ length ns
+fields-back : (ts ns d s pre more : List ℕ) (at : Place) → s ≡ pre ++ (fieldsOctets ts ns d ++ more) → at ≡ length pre
+    → length ts ≡ length ns
     → sum ns ≡ length d → every (λ t. leb t typesLimit) ts ≡ true → every (λ n. leb n packetLimit) ns ≡ true → rightTypes ts ns ≡ true
     → FieldsBack ts ns d s at
 unfolding fieldsOctets fieldsAt total every rightTypes allData

@@ -1,5 +1,5 @@
--- What each item's reader inside this crate owes, so that the calls above it can rely on it: the answer's cases in the words
--- of `Read`, and where the item ends. Definitions only.
+-- What each item's reader inside this crate owes, so that the calls above it can rely on it: the answer's cases in the
+-- words of `Read`, and where the item ends. Definitions only.
 use Prim.Native.Nat.{ℕ, _+_, _*_, _<_, _≤_}
 use mathlib.Core.Path.{_≡_}
 use mathlib.Core.Bool.{Bool, true, cond}

@@ -1,7 +1,7 @@
--- Document 01, 'The packet': what its first octet, its field headers and its data lengths say, for reading and writing alike.
--- "First octet, from the top: data-field present; 0 indicator or 1 data; extension; four bits of value; one zero. .. Each
--- field begins on an octet of its own: top bit data present, three bits field type, four zero bits. With data, two octets
--- hold its length minus one, then the data." Definitions only.
+-- Document 01, 'The packet': what its first octet, its field headers and its data lengths say, for reading and writing
+-- alike. "First octet, from the top: data-field present; 0 indicator or 1 data; extension; four bits of value; one
+-- zero. .. Each field begins on an octet of its own: top bit data present, three bits field type, four zero bits. With
+-- data, two octets hold its length minus one, then the data." Definitions only.
 use Prim.Native.Nat.{ℕ, _+_, _-_, _*_, _/_, _%_, _^_}
 use mathlib.Core.Bool.{Bool, true, not, cond, _&&_}
 use mathlib.Core.List.{List, [], _∷_, _++_}

@@ -1,6 +1,7 @@
--- Document 01, 'The packet', read: a packet's octets and its ending give kind, value and fields, or a refusal. "Packet reader:
--- over 160 octets 4, then reading order; in the first octet extension 12, value 12, spare bit 5, indicator with data 14; in
--- a field header 5 before 14. At a length: 3 or 1 in its form, then 4, then 1 for missing octets." Definitions only.
+-- Document 01, 'The packet', read: a packet's octets and its ending give kind, value and fields, or a refusal. "Packet
+-- reader: over 160 octets 4, then reading order; in the first octet extension 12, value 12, spare bit 5, indicator with
+-- data 14; in a field header 5 before 14. At a length: 3 or 1 in its form, then 4, then 1 for missing octets."
+-- Definitions only.
 use Prim.Native.Nat.{ℕ, zero, suc, _+_, _-_, _*_, _/_, _%_}
 use mathlib.Core.Bool.{Bool, true, not, cond}
 use mathlib.Core.List.{List, [], _∷_}

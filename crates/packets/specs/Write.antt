@@ -1,6 +1,6 @@
--- Document 01, 'The packet', written: kind, value, the fields' types, the length of each one's data and all the data give the
--- packet's octets, or a refusal. "Packet writer: over 16 fields 4, then 15, 12, 14, 4, 13, each over the whole packet." 13 is
--- the promise's, which knows the lent buffer. Definitions only.
+-- Document 01, 'The packet', written: kind, value, the fields' types, the length of each one's data and all the data
+-- give the packet's octets, or a refusal. "Packet writer: over 16 fields 4, then 15, 12, 14, 4, 13, each over the whole
+-- packet." 13 is the promise's, which knows the lent buffer. Definitions only.
 use Prim.Native.Nat.{ℕ, _+_, _-_, _*_, _/_, _%_}
 use mathlib.Core.Bool.{Bool, true, not, cond, _&&_}
 use mathlib.Core.List.{List, [], _∷_, _++_}

@@ -1,12 +1,12 @@
+-- `packets::reader::all_zero` meets its contract. The loop's invariant: what is left decides. The measure is how much
+-- is left. Assumes nothing.
+use Prim.Native.Nat.{_-_}
 use lib.Dec.{eqb}
 use lib.ListN.{length}
-use Rattle.packets.proofs.Every.{EveryLeft, evers}
-use Prim.Native.Nat.{_-_}
 use borrow.Author.Needs.{needs}
+use Rattle.packets.proofs.Every.{EveryLeft, evers}
 use Rattle.packets.proofs.reader.all_zero.Statement.{statement}
 use Rattle.packets.proofs.reader.all_zero.Tie as tie
-use Rattle.packets.proofs.reader.all_zero.Reads as reads
-use Rattle.packets.proofs.reader.all_zero.Lts as lts
 
 abbrev Inv-loop : tie.InvT-loop
 Inv-loop s i₀ i = EveryLeft (λ x. eqb x 0) s i
@@ -14,31 +14,24 @@ Inv-loop s i₀ i = EveryLeft (λ x. eqb x 0) s i
 abbrev μ-loop : tie.MeasureT-loop
 μ-loop s i₀ i = length s - i
 
--- src/reader.rt:269:5
 loop-holds : tie.Need-loop-holds Inv-loop μ-loop
 loop-holds c = search evers
 
--- src/reader.rt:270:16
 shared-slice-read-if1 : tie.Need-shared-slice-read-if1 Inv-loop μ-loop
 shared-slice-read-if1 c = search needs
 
--- src/reader.rt:271:13
 returns : tie.Need-returns Inv-loop μ-loop
 returns c = search evers
 
--- src/reader.rt:273:9
 add-i : tie.Need-add-i Inv-loop μ-loop
 add-i c = search needs
 
--- src/reader.rt:269:5
 loop-less : tie.Need-loop-less Inv-loop μ-loop
 loop-less c = search needs
 
--- src/reader.rt:269:5
 loop-again : tie.Need-loop-again Inv-loop μ-loop
 loop-again c = search evers
 
--- src/reader.rt:265:1
 returns-2 : tie.Need-returns-2 Inv-loop μ-loop
 returns-2 c = search evers
 

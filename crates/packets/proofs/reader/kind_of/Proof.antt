@@ -1,14 +1,11 @@
+-- `packets::reader::kind_of` meets its contract. The test of the bit is the definition's. Assumes nothing.
 use Rattle.packets.proofs.Tests.{tests}
 use Rattle.packets.proofs.reader.kind_of.Statement.{statement}
 use Rattle.packets.proofs.reader.kind_of.Tie as tie
-use Rattle.packets.proofs.reader.kind_of.Reads as reads
-use Rattle.packets.proofs.reader.kind_of.Lts as lts
 
--- src/reader.rt:66:9
 returns : tie.Need-returns
 returns c = search tests
 
--- src/reader.rt:62:1
 returns-2 : tie.Need-returns-2
 returns-2 c = search tests
 

@@ -1,117 +1,85 @@
-use Rattle.packets.proofs.ReadPacket.{packets}
+-- `packets::reader::read` meets its contract. Each answer is a law of `ReadPacket`: what the items' readers ensure
+-- gives the promise. Assumes nothing.
 use borrow.Author.Needs.{needs}
+use Rattle.packets.proofs.ReadPacket.{packets}
 use Rattle.packets.proofs.reader.read.Statement.{statement}
 use Rattle.packets.proofs.reader.read.Tie as tie
-use Rattle.packets.proofs.reader.read.Reads as reads
-use Rattle.packets.proofs.reader.read.Lts as lts
-use Rattle.lengths.proofs.Refusal.new.Reads as new-reads
-use Rattle.packets.proofs.reader.may_follow.Reads as may-follow-reads
-use Rattle.packets.proofs.reader.read_count.Reads as read-count-reads
-use Rattle.packets.proofs.reader.read_fields.Reads as read-fields-reads
-use Rattle.packets.proofs.reader.read_first.Reads as read-first-reads
-use Rattle.packets.proofs.reader.refused.Reads as refused-reads
 
--- src/reader.rt:303:24
 new-requires : tie.Need-new-requires
 new-requires c κs = search needs
 
--- src/reader.rt:303:9
 refused-requires : tie.Need-refused-requires
 refused-requires c κs = search needs
 
--- src/reader.rt:303:9
 returns : tie.Need-returns
 returns c = search packets
 
--- src/reader.rt:305:11
 read-first-requires : tie.Need-read-first-requires
 read-first-requires c κs = search needs
 
--- src/reader.rt:306:28
 enum-known-refusal : tie.Need-enum-known-refusal
 enum-known-refusal c = search needs
 
--- src/reader.rt:306:40
 refused-requires-2 : tie.Need-refused-requires-2
 refused-requires-2 c κs = search needs
 
--- src/reader.rt:307:26
 enum-known-kind : tie.Need-enum-known-kind
 enum-known-kind c = search needs
 
--- src/reader.rt:307:57
 read-count-requires : tie.Need-read-count-requires
 read-count-requires c κs = search packets
 
--- src/reader.rt:308:32
 enum-known-refusal-2 : tie.Need-enum-known-refusal-2
 enum-known-refusal-2 c = search needs
 
--- src/reader.rt:308:44
 refused-requires-3 : tie.Need-refused-requires-3
 refused-requires-3 c κs = search needs
 
--- src/reader.rt:309:30
 enum-known-count : tie.Need-enum-known-count
 enum-known-count c = search needs
 
--- src/reader.rt:310:21
 read-fields-requires : tie.Need-read-fields-requires
 read-fields-requires c κs = search packets
 
--- src/reader.rt:313:40
 enum-known-end : tie.Need-enum-known-end
 enum-known-end c = search needs
 
--- src/reader.rt:313:52
 refused-requires-4 : tie.Need-refused-requires-4
 refused-requires-4 c κs = search needs
 
--- src/reader.rt:314:37
 enum-known-end-2 : tie.Need-enum-known-end-2
 enum-known-end-2 c = search needs
 
--- src/reader.rt:315:39
 sub-may-follow : tie.Need-sub-may-follow
 sub-may-follow c = search packets
 
--- src/reader.rt:315:39
 part-may-follow-start : tie.Need-part-may-follow-start
 part-may-follow-start c = search packets
 
--- src/reader.rt:315:39
 part-may-follow-end : tie.Need-part-may-follow-end
 part-may-follow-end c = search needs
 
--- src/reader.rt:315:28
 may-follow-requires : tie.Need-may-follow-requires
 may-follow-requires c κs = search needs
 
--- src/reader.rt:317:29
 returns-2 : tie.Need-returns-2
 returns-2 c = search packets
 
--- src/reader.rt:322:33
 new-requires-2 : tie.Need-new-requires-2
 new-requires-2 c κs = search needs
 
--- src/reader.rt:322:25
 refused-requires-5 : tie.Need-refused-requires-5
 refused-requires-5 c κs = search needs
 
--- src/reader.rt:299:1
 returns-3 : tie.Need-returns-3
 returns-3 c = search packets
 
--- src/reader.rt:299:1
 returns-4 : tie.Need-returns-4
 returns-4 c = search packets
 
--- src/reader.rt:299:1
 returns-5 : tie.Need-returns-5
 returns-5 c = search packets
 
--- src/reader.rt:299:1
 returns-6 : tie.Need-returns-6
 returns-6 c = search packets
 

@@ -1,12 +1,10 @@
-use Rattle.packets.proofs.FieldsTurn.{Going, goings}
+-- `packets::reader::read_fields` meets its contract. The loop's invariant: the fields that are left, read from the
+-- place that was reached, come after those that were read. The measure is how many are left. Assumes nothing.
 use Prim.Native.Nat.{_-_}
 use borrow.Author.Needs.{needs}
+use Rattle.packets.proofs.FieldsTurn.{Going, goings}
 use Rattle.packets.proofs.reader.read_fields.Statement.{statement}
 use Rattle.packets.proofs.reader.read_fields.Tie as tie
-use Rattle.packets.proofs.reader.read_fields.Reads as reads
-use Rattle.packets.proofs.reader.read_fields.Lts as lts
-use Rattle.packets.proofs.reader.no_fields.Reads as no-fields-reads
-use Rattle.packets.proofs.reader.read_field.Reads as read-field-reads
 
 abbrev Inv-loop : tie.InvT-loop
 Inv-loop s count from fields₀ at₀ i₀ fields at i = Going s count from fields at i
@@ -14,55 +12,42 @@ Inv-loop s count from fields₀ at₀ i₀ fields at i = Going s count from fiel
 abbrev μ-loop : tie.MeasureT-loop
 μ-loop s count from fields₀ at₀ i₀ fields at i = count - i
 
--- src/reader.rt:240:22
 no-fields-requires : tie.Need-no-fields-requires Inv-loop μ-loop
 no-fields-requires c κs = search needs
 
--- src/reader.rt:243:5
 loop-holds : tie.Need-loop-holds Inv-loop μ-loop
 loop-holds c = search goings
 
--- src/reader.rt:244:15
 read-field-requires : tie.Need-read-field-requires Inv-loop μ-loop
 read-field-requires c κs = search needs
 
--- src/reader.rt:245:32
 enum-known-refusal : tie.Need-enum-known-refusal Inv-loop μ-loop
 enum-known-refusal c = search needs
 
--- src/reader.rt:246:21
 no-fields-requires-2 : tie.Need-no-fields-requires-2 Inv-loop μ-loop
 no-fields-requires-2 c κs = search needs
 
--- src/reader.rt:247:17
 returns : tie.Need-returns Inv-loop μ-loop
 returns c = search goings
 
--- src/reader.rt:252:30
 enum-known-field : tie.Need-enum-known-field Inv-loop μ-loop
 enum-known-field c = search needs
 
--- src/reader.rt:253:17
 mul-fields : tie.Need-mul-fields Inv-loop μ-loop
 mul-fields c = search needs
 
--- src/reader.rt:253:17
 array-set-from-fields : tie.Need-array-set-from-fields Inv-loop μ-loop
 array-set-from-fields c = search needs
 
--- src/reader.rt:255:17
 add-i : tie.Need-add-i Inv-loop μ-loop
 add-i c = search needs
 
--- src/reader.rt:243:5
 loop-less : tie.Need-loop-less Inv-loop μ-loop
 loop-less c = search needs
 
--- src/reader.rt:243:5
 loop-again : tie.Need-loop-again Inv-loop μ-loop
 loop-again c = search goings
 
--- src/reader.rt:236:1
 returns-2 : tie.Need-returns-2 Inv-loop μ-loop
 returns-2 c = search goings
 

@@ -1,25 +1,18 @@
-use Rattle.packets.proofs.Measure.{decided}
+-- `packets::writer::all_assigned` meets its contract. Each answer is a law of `Measure`. Assumes nothing.
 use borrow.Author.Needs.{needs}
+use Rattle.packets.proofs.Measure.{decided}
 use Rattle.packets.proofs.writer.all_assigned.Statement.{statement}
 use Rattle.packets.proofs.writer.all_assigned.Tie as tie
-use Rattle.packets.proofs.writer.all_assigned.Reads as reads
-use Rattle.packets.proofs.writer.all_assigned.Lts as lts
-use Rattle.packets.proofs.rules.assigned.Reads as assigned-reads
-use Rattle.packets.proofs.writer.all_types.Reads as all-types-reads
 
--- src/writer.rt:124:16
 assigned-requires : tie.Need-assigned-requires
 assigned-requires c κs = search needs
 
--- src/writer.rt:125:9
 all-types-requires : tie.Need-all-types-requires
 all-types-requires c κs = search needs
 
--- src/writer.rt:125:9
 returns : tie.Need-returns
 returns c = search decided
 
--- src/writer.rt:121:1
 returns-2 : tie.Need-returns-2
 returns-2 c = search decided
 

@@ -1,14 +1,12 @@
+-- `packets::writer::fields_size` meets its contract. The loop's invariant: the sum so far and the sum of what is left
+-- are the whole sum. The measure is how many are left. Assumes nothing.
 use Prim.Native.Nat.{_-_}
 use lib.ListN.{length}
+use borrow.Author.Needs.{needs}
 use Rattle.packets.specs.Items.{fieldSize}
 use Rattle.packets.proofs.Every.{Summing, sums}
-use borrow.Author.Needs.{needs}
 use Rattle.packets.proofs.writer.fields_size.Statement.{statement}
 use Rattle.packets.proofs.writer.fields_size.Tie as tie
-use Rattle.packets.proofs.writer.fields_size.Reads as reads
-use Rattle.packets.proofs.writer.fields_size.Lts as lts
-use Rattle.packets.proofs.writer.field_size.Reads as field-size-reads
-use Rattle.packets.proofs.writer.wide.Reads as wide-reads
 
 abbrev Inv-loop : tie.InvT-loop
 Inv-loop lengths sum₀ i₀ sum i = Summing fieldSize lengths i sum
@@ -16,43 +14,33 @@ Inv-loop lengths sum₀ i₀ sum i = Summing fieldSize lengths i sum
 abbrev μ-loop : tie.MeasureT-loop
 μ-loop lengths sum₀ i₀ sum i = length lengths - i
 
--- src/writer.rt:59:5
 loop-holds : tie.Need-loop-holds Inv-loop μ-loop
 loop-holds c = search sums
 
--- src/writer.rt:60:25
 mul-wide : tie.Need-mul-wide Inv-loop μ-loop
 mul-wide c = search needs
 
--- src/writer.rt:60:25
 shared-slice-read-wide : tie.Need-shared-slice-read-wide Inv-loop μ-loop
 shared-slice-read-wide c = search needs
 
--- src/writer.rt:60:13
 wide-requires : tie.Need-wide-requires Inv-loop μ-loop
 wide-requires c κs = search needs
 
--- src/writer.rt:61:13
 field-size-requires : tie.Need-field-size-requires Inv-loop μ-loop
 field-size-requires c κs = search needs
 
--- src/writer.rt:62:9
 add-sum : tie.Need-add-sum Inv-loop μ-loop
 add-sum c = search needs
 
--- src/writer.rt:63:9
 add-i : tie.Need-add-i Inv-loop μ-loop
 add-i c = search needs
 
--- src/writer.rt:59:5
 loop-less : tie.Need-loop-less Inv-loop μ-loop
 loop-less c = search needs
 
--- src/writer.rt:59:5
 loop-again : tie.Need-loop-again Inv-loop μ-loop
 loop-again c = search sums
 
--- src/writer.rt:53:1
 returns : tie.Need-returns Inv-loop μ-loop
 returns c = search sums
 

@@ -1,24 +1,18 @@
-use Rattle.packets.proofs.Measure.{decided}
+-- `packets::writer::packet_size` meets its contract. Each answer is a law of `Measure`. Assumes nothing.
 use borrow.Author.Needs.{needs}
+use Rattle.packets.proofs.Measure.{decided}
 use Rattle.packets.proofs.writer.packet_size.Statement.{statement}
 use Rattle.packets.proofs.writer.packet_size.Tie as tie
-use Rattle.packets.proofs.writer.packet_size.Reads as reads
-use Rattle.packets.proofs.writer.packet_size.Lts as lts
-use Rattle.packets.proofs.writer.fields_size.Reads as fields-size-reads
 
--- src/writer.rt:156:13
 fields-size-requires : tie.Need-fields-size-requires
 fields-size-requires c κs = search needs
 
--- src/writer.rt:157:16
 add-result : tie.Need-add-result
 add-result c = search needs
 
--- src/writer.rt:157:9
 returns : tie.Need-returns
 returns c = search decided
 
--- src/writer.rt:151:1
 returns-2 : tie.Need-returns-2
 returns-2 c = search decided
 

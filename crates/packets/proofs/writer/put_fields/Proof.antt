@@ -1,14 +1,13 @@
-use native.Mathlib.Omega.{arith}
-use borrow.Author.Needs.{needs}
+-- `packets::writer::put_fields` meets its contract. The loop's invariant: what is left to put, put after what is there
+-- now, gives the whole. The measure is how many are left. The sums fit because the fields end inside data and buffer.
+-- Assumes nothing.
 use Prim.Native.Nat.{_-_}
 use lib.ListN.{length}
+use native.Mathlib.Omega.{arith}
+use borrow.Author.Needs.{needs}
 use Rattle.packets.proofs.PutFields.{Filling, fills, fill-data, fill-next}
 use Rattle.packets.proofs.writer.put_fields.Statement.{statement}
 use Rattle.packets.proofs.writer.put_fields.Tie as tie
-use Rattle.packets.proofs.writer.put_fields.Reads as reads
-use Rattle.packets.proofs.writer.put_fields.Lts as lts
-use Rattle.packets.proofs.writer.put_field.Reads as put-field-reads
-use Rattle.packets.proofs.writer.wide.Reads as wide-reads
 
 abbrev Inv-loop : tie.InvT-loop
 Inv-loop types lengths «data» out₀ i₀ from₀ at₀ out i from at = Filling types lengths «data» out₀ out i from at
@@ -16,62 +15,48 @@ Inv-loop types lengths «data» out₀ i₀ from₀ at₀ out i from at = Fillin
 abbrev μ-loop : tie.MeasureT-loop
 μ-loop types lengths «data» out₀ i₀ from₀ at₀ out i from at = length types - i
 
--- src/writer.rt:243:5
 loop-holds : tie.Need-loop-holds Inv-loop μ-loop
 loop-holds c = search fills
 
--- src/writer.rt:244:25
 mul-wide : tie.Need-mul-wide Inv-loop μ-loop
 mul-wide c = search needs
 
--- src/writer.rt:244:25
 shared-slice-read-wide : tie.Need-shared-slice-read-wide Inv-loop μ-loop
 shared-slice-read-wide c = search needs
 
--- src/writer.rt:244:13
 wide-requires : tie.Need-wide-requires Inv-loop μ-loop
 wide-requires c κs = search needs
 
--- src/writer.rt:245:18
 add-to : tie.Need-add-to Inv-loop μ-loop
 add-to c =
     let test = c .before .before in
     let inside = fill-data (test .before .before .before .before .before .before .pre) (test .before .loop .inv) (test .loop-test .taken) (c .wide .ensures) in
     omega arith
 
--- src/writer.rt:246:32
 shared-slice-read-put-field : tie.Need-shared-slice-read-put-field Inv-loop μ-loop
 shared-slice-read-put-field c = search needs
 
--- src/writer.rt:246:42
 sub-put-field : tie.Need-sub-put-field Inv-loop μ-loop
 sub-put-field c = search needs
 
--- src/writer.rt:246:42
 part-put-field-start : tie.Need-part-put-field-start Inv-loop μ-loop
 part-put-field-start c = search needs
 
--- src/writer.rt:246:42
 part-put-field-end : tie.Need-part-put-field-end Inv-loop μ-loop
 part-put-field-end c = search fills
 
--- src/writer.rt:246:59
 sub-put-field-2 : tie.Need-sub-put-field-2 Inv-loop μ-loop
 sub-put-field-2 c = search fills
 
--- src/writer.rt:246:59
 part-put-field-start-2 : tie.Need-part-put-field-start-2 Inv-loop μ-loop
 part-put-field-start-2 c = search fills
 
--- src/writer.rt:246:59
 part-put-field-end-2 : tie.Need-part-put-field-end-2 Inv-loop μ-loop
 part-put-field-end-2 c = search needs
 
--- src/writer.rt:246:13
 put-field-requires : tie.Need-put-field-requires Inv-loop μ-loop
 put-field-requires c κs = search fills
 
--- src/writer.rt:247:9
 add-at : tie.Need-add-at Inv-loop μ-loop
 add-at c =
     let wide = c .before .before .before .before .before .before in
@@ -81,23 +66,18 @@ add-at c =
     (c .before .before .put-field .ensures) in
     omega arith
 
--- src/writer.rt:249:9
 add-i : tie.Need-add-i Inv-loop μ-loop
 add-i c = search needs
 
--- src/writer.rt:243:5
 loop-less : tie.Need-loop-less Inv-loop μ-loop
 loop-less c = search needs
 
--- src/writer.rt:243:5
 loop-again : tie.Need-loop-again Inv-loop μ-loop
 loop-again c = search fills
 
--- src/writer.rt:236:1
 same-length : tie.Need-same-length Inv-loop μ-loop
 same-length c = search needs
 
--- src/writer.rt:236:1
 returns : tie.Need-returns Inv-loop μ-loop
 returns c = search fills
 

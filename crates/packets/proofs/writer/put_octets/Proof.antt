@@ -1,11 +1,11 @@
-use borrow.Author.Needs.{needs}
+-- `packets::writer::put_octets` meets its contract. The loop's invariant: the buffer is what was copied and then what
+-- it was. The measure is how much is left. Assumes nothing.
 use Prim.Native.Nat.{_-_}
 use lib.ListN.{length}
+use borrow.Author.Needs.{needs}
 use Rattle.packets.proofs.Putting.{Copying, copies}
 use Rattle.packets.proofs.writer.put_octets.Statement.{statement}
 use Rattle.packets.proofs.writer.put_octets.Tie as tie
-use Rattle.packets.proofs.writer.put_octets.Reads as reads
-use Rattle.packets.proofs.writer.put_octets.Lts as lts
 
 abbrev Inv-loop : tie.InvT-loop
 Inv-loop src out₀ i₀ out i = Copying src out₀ out i
@@ -13,35 +13,27 @@ Inv-loop src out₀ i₀ out i = Copying src out₀ out i
 abbrev μ-loop : tie.MeasureT-loop
 μ-loop src out₀ i₀ out i = length src - i
 
--- src/writer.rt:191:5
 loop-holds : tie.Need-loop-holds Inv-loop μ-loop
 loop-holds c = search copies
 
--- src/writer.rt:192:18
 shared-slice-read-out : tie.Need-shared-slice-read-out Inv-loop μ-loop
 shared-slice-read-out c = search needs
 
--- src/writer.rt:192:9
 slice-write-out : tie.Need-slice-write-out Inv-loop μ-loop
 slice-write-out c = search needs
 
--- src/writer.rt:193:9
 add-i : tie.Need-add-i Inv-loop μ-loop
 add-i c = search needs
 
--- src/writer.rt:191:5
 loop-less : tie.Need-loop-less Inv-loop μ-loop
 loop-less c = search needs
 
--- src/writer.rt:191:5
 loop-again : tie.Need-loop-again Inv-loop μ-loop
 loop-again c = search copies
 
--- src/writer.rt:186:1
 same-length : tie.Need-same-length Inv-loop μ-loop
 same-length c = search needs
 
--- src/writer.rt:186:1
 returns : tie.Need-returns Inv-loop μ-loop
 returns c = search copies
 

@@ -1,13 +1,11 @@
+-- `packets::writer::right_types` meets its contract. The loop's invariant: what is left of types and lengths decides.
+-- The measure is how many are left. Assumes nothing.
 use Prim.Native.Nat.{_-_}
 use lib.ListN.{length}
-use Rattle.packets.proofs.Measure.{RightLeft, decided}
 use borrow.Author.Needs.{needs}
+use Rattle.packets.proofs.Measure.{RightLeft, decided}
 use Rattle.packets.proofs.writer.right_types.Statement.{statement}
 use Rattle.packets.proofs.writer.right_types.Tie as tie
-use Rattle.packets.proofs.writer.right_types.Reads as reads
-use Rattle.packets.proofs.writer.right_types.Lts as lts
-use Rattle.packets.proofs.rules.right_data.Reads as right-data-reads
-use Rattle.packets.proofs.writer.wide.Reads as wide-reads
 
 abbrev Inv-loop : tie.InvT-loop
 Inv-loop types lengths i₀ i = RightLeft types lengths i
@@ -15,47 +13,36 @@ Inv-loop types lengths i₀ i = RightLeft types lengths i
 abbrev μ-loop : tie.MeasureT-loop
 μ-loop types lengths i₀ i = length types - i
 
--- src/writer.rt:100:5
 loop-holds : tie.Need-loop-holds Inv-loop μ-loop
 loop-holds c = search decided
 
--- src/writer.rt:101:25
 mul-wide : tie.Need-mul-wide Inv-loop μ-loop
 mul-wide c = search needs
 
--- src/writer.rt:101:25
 shared-slice-read-wide : tie.Need-shared-slice-read-wide Inv-loop μ-loop
 shared-slice-read-wide c = search needs
 
--- src/writer.rt:101:13
 wide-requires : tie.Need-wide-requires Inv-loop μ-loop
 wide-requires c κs = search needs
 
--- src/writer.rt:103:31
 shared-slice-read-right-data : tie.Need-shared-slice-read-right-data Inv-loop μ-loop
 shared-slice-read-right-data c = search needs
 
--- src/writer.rt:103:13
 right-data-requires : tie.Need-right-data-requires Inv-loop μ-loop
 right-data-requires c κs = search needs
 
--- src/writer.rt:104:13
 returns : tie.Need-returns Inv-loop μ-loop
 returns c = search decided
 
--- src/writer.rt:106:9
 add-i : tie.Need-add-i Inv-loop μ-loop
 add-i c = search needs
 
--- src/writer.rt:100:5
 loop-less : tie.Need-loop-less Inv-loop μ-loop
 loop-less c = search needs
 
--- src/writer.rt:100:5
 loop-again : tie.Need-loop-again Inv-loop μ-loop
 loop-again c = search decided
 
--- src/writer.rt:95:1
 returns-2 : tie.Need-returns-2 Inv-loop μ-loop
 returns-2 c = search decided
 

@@ -1,12 +1,11 @@
+-- `packets::writer::sum_of` meets its contract. The loop's invariant: the sum so far and the sum of what is left are
+-- the whole sum. The measure is how many are left. Assumes nothing.
 use Prim.Native.Nat.{_-_}
 use lib.ListN.{length}
-use Rattle.packets.proofs.Every.{Summing, sums}
 use borrow.Author.Needs.{needs}
+use Rattle.packets.proofs.Every.{Summing, sums}
 use Rattle.packets.proofs.writer.sum_of.Statement.{statement}
 use Rattle.packets.proofs.writer.sum_of.Tie as tie
-use Rattle.packets.proofs.writer.sum_of.Reads as reads
-use Rattle.packets.proofs.writer.sum_of.Lts as lts
-use Rattle.packets.proofs.writer.wide.Reads as wide-reads
 
 abbrev Inv-loop : tie.InvT-loop
 Inv-loop lengths sum₀ i₀ sum i = Summing (λ x. x) lengths i sum
@@ -14,39 +13,30 @@ Inv-loop lengths sum₀ i₀ sum i = Summing (λ x. x) lengths i sum
 abbrev μ-loop : tie.MeasureT-loop
 μ-loop lengths sum₀ i₀ sum i = length lengths - i
 
--- src/writer.rt:33:5
 loop-holds : tie.Need-loop-holds Inv-loop μ-loop
 loop-holds c = search sums
 
--- src/writer.rt:34:25
 mul-wide : tie.Need-mul-wide Inv-loop μ-loop
 mul-wide c = search needs
 
--- src/writer.rt:34:25
 shared-slice-read-wide : tie.Need-shared-slice-read-wide Inv-loop μ-loop
 shared-slice-read-wide c = search needs
 
--- src/writer.rt:34:13
 wide-requires : tie.Need-wide-requires Inv-loop μ-loop
 wide-requires c κs = search needs
 
--- src/writer.rt:35:9
 add-sum : tie.Need-add-sum Inv-loop μ-loop
 add-sum c = search needs
 
--- src/writer.rt:36:9
 add-i : tie.Need-add-i Inv-loop μ-loop
 add-i c = search needs
 
--- src/writer.rt:33:5
 loop-less : tie.Need-loop-less Inv-loop μ-loop
 loop-less c = search needs
 
--- src/writer.rt:33:5
 loop-again : tie.Need-loop-again Inv-loop μ-loop
 loop-again c = search sums
 
--- src/writer.rt:27:1
 returns : tie.Need-returns Inv-loop μ-loop
 returns c = search sums
 

@@ -1,21 +1,24 @@
--- What it says of the octets that an item of a packet reads: each test of its definition that was passed, and the answer.
--- Assumes nothing.
-use Prim.Native.Nat.{ℕ, zero, suc, _+_, _-_, _*_, _/_, _%_, _≤_, _<_}
+-- Laws of the reader's definitions, for this crate and those above: what it says of the octets that an item of a packet
+-- reads, each test of its definition that was passed and the answer; and that octets which pass the tests read. Assumes
+-- nothing.
+use Prim.Native.Nat.{ℕ, _+_, _-_, _*_, _/_, _%_, _≤_, _<_}
 use mathlib.Core.Path.{_≡_, refl, sym, ap, _∙_}
 use mathlib.Core.Bool.{Bool, true, false, cond}
-use mathlib.Core.List.{List, [], _∷_}
-use lib.ListN.{length, getD, drop, length-drop}
-use lib.Dec.{leb, ltb, eqb}
+use mathlib.Core.List.{List}
+use lib.ListN.{length, getD, drop}
+use lib.Dec.{leb, ltb}
+use lib.Seq.{take-at}
 use native.Mathlib.Omega.{arith}
-use borrow.Author.Tests.{ltb-true, ltb-false, leb-true, leb-false, lt-leb, le-ltb}
+use borrow.Author.Tests.{ltb-false, leb-false, lt-leb, le-ltb}
 use Rattle.lengths.specs.Refusals.{endsEarly, outsideSizes, spareBit, leftOver, notAssigned, wrongData}
 use Rattle.lengths.specs.Answers.{Answer, done, refused, refuse, _>>=_, LengthAnswer}
 use Rattle.lengths.specs.Length.{lengthAt}
-use Rattle.lengths.proofs.Laws.{sizes-read}
 use Rattle.datagrams.specs.Sizes.{packetLimit}
 use Rattle.packets.specs.Packet.{Place, First, Header, firstOf, headerOf, isSet, assigned, rightFields, rightData, fieldsLimit}
+use Rattle.packets.specs.Promise.{packetOutcome, packetRead, padded}
 use Rattle.packets.specs.Read.{PacketAnswer, firstAt, Count, countIn, countAt, HeaderAnswer, headerAt, sizeAt, FieldAnswer, afterHeader, fieldAt, FieldsAnswer, fieldsAt, mayFollow, endAt, readPacket}
 use Rattle.packets.specs.declared.types.Ending.{Ending}
+use Rattle.packets.specs.declared.types.Field.{Field}
 
 -- ---- steps
 module _ {A : Type 0} where
@@ -166,7 +169,8 @@ size-of s n inside few is =
     (ap (λ (k : ℕ). done k) (sym is))
 
 -- a field without data, and one with it
-pub bare-of : (s : List ℕ) (at : Place) (k : ℕ) → headerAt s at ≡ done (record { header = record { kind = k; present = false }; next = at + 1 })
+pub bare-of : (s : List ℕ) (at : Place) (k : ℕ)
+    → headerAt s at ≡ done (record { header = record { kind = k; present = false }; next = at + 1 })
     → fieldAt s at ≡ done (record { field = record { kind = k; start = 0; size = 0 }; next = at + 1 })
 unfolding fieldAt afterHeader
 bare-of s at k e = rw e
@@ -241,3 +245,10 @@ pub packet-of : (ending : Ending) (s : List ℕ) (f : First) (c : Count) (a : Fi
     → readPacket ending s ≡ done (record { kind = f .kind; value = f .value; fields = a .fields })
 unfolding readPacket endAt
 packet-of ending s f c a fits first count all follows = rw (le-ltb packetLimit (length s) fits, first, count, all, follows)
+
+-- ---- the answer's cases are the definition's
+pub read-outcome : (x : Answer PacketAnswer) → packetOutcome (packetRead x) ≡ x
+unfolding padded
+read-outcome (done p) =
+    ap (λ (l : List Field). done (record { kind = p .kind; value = p .value; fields = l })) (take-at (p .fields) _ (length (p .fields)) refl)
+read-outcome (refused r) = refl
