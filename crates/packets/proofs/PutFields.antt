@@ -66,7 +66,7 @@ pub record Filling (ts ns d old out : List ℕ) (i from at : ℕ) : Type 0 where
   pub whole : laidAt at (fieldsOctets (drop i ts) (drop i ns) (drop from d)) out ≡ laidAt 0 (fieldsOctets ts ns d) old
 
 pub fill-start : {ts ns d old : List ℕ} → FieldsFit ts ns d old → Filling ts ns d old old 0 0 0
-fill-start fits = record { inside = omega arith; long = refl; left = omega (arith, fits .all); room = omega (arith, fits .room); whole = refl }
+fill-start fits = record { inside = omega arith; long = refl; left = omega (arith, fits .right .all); room = omega (arith, fits .room); whole = refl }
 
 pub fill-at : {ts ns d old out : List ℕ} {i from at : ℕ} → Filling ts ns d old out i from at → at ≤ length out
 fill-at g = omega (arith, g .room, g .long)
@@ -93,10 +93,10 @@ out-is f out part at lent =
 module _ {ts ns d old out : List ℕ} {i from at n : ℕ} where
   step : FieldsFit ts ns d old → Filling ts ns d old out i from at → i < length ts → Wide (getD ns i 0) n → Step ts ns d old i from at n
   step fits g h size =
-      let next = total-next (λ x. x) ns i (omega (arith, fits .same)) in
+      let next = total-next (λ x. x) ns i (omega (arith, fits .right .same)) in
       let part : from + n - from ≡ getD ns i 0 = omega (arith, size .same) in
       let both : fieldsOctets (drop i ts) (drop i ns) (drop from d) ≡ hereOf ts d i from n ++ moreOf ts ns d i from n
-      = fields-next ts ns (drop from d) i h (fits .same)
+      = fields-next ts ns (drop from d) i h (fits .right .same)
       ∙ ap₂ (λ (a b : List ℕ). fieldOctets (getD ts i 0) a ++ fieldsOctets (drop (i + 1) ts) (drop (i + 1) ns) b)
       (ap (λ (k : ℕ). take k (drop from d)) (sym part))
       (drop-drop (getD ns i 0) from d ∙ ap (λ (k : ℕ). drop (from + k) d) (sym (size .same))) in
@@ -116,12 +116,12 @@ module _ {ts ns d old out : List ℕ} {i from at n : ℕ} where
       let part : from + n - from ≡ getD ns i 0 = omega (arith, size .same) in
       let within : from + n - from ≤ length (drop from d) = omega (arith, length-drop from d, s .left) in
       record {
-        type = leb-true _ _ (every-at (λ t. leb t typesLimit) ts i (fits .known) h);
+        type = leb-true _ _ (every-at (λ t. leb t typesLimit) ts i (fits .right .known) h);
         short =
             omega (
               arith,
               length-take-le (from + n - from) (drop from d) within,
-              leb-true (getD ns i 0) packetLimit (every-at (λ k. leb k packetLimit) ns i (fits .short) (omega (arith, fits .same))),
+              leb-true (getD ns i 0) packetLimit (every-at (λ k. leb k packetLimit) ns i (fits .right .short) (omega (arith, fits .right .same))),
             );
         room = rw (rest-is at out) (omega (arith, length-drop at out, s .room, g .long));
       }

@@ -80,10 +80,7 @@ module _ {ts ns d old mid : List ℕ} {r : Written} where
     count-fits fits puts is =
         let w = lengthOctets (length ts) in
         record {
-          same = fits .same;
-          all = fits .all;
-          known = fits .known;
-          short = fits .short;
+          right = fits .right;
           room =
               rw (rest-is size mid)
               (omega (
@@ -140,10 +137,7 @@ module _ {k : Kind} {v : ℕ} {ts ns d old : List ℕ} where
         let form = write-form k v ts ns d _ (fits .allowed) in
         record {
           few = form .few;
-          same = form .same;
-          all = form .all;
-          known = form .types;
-          short = form .short;
+          right = record { same = form .same; all = form .all; known = form .types; short = form .short };
           room =
               rw (rest-is 1 (set old 0 r))
               (omega (

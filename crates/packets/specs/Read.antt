@@ -24,6 +24,7 @@ pub record PacketAnswer : Type 0 where
   pub fields : List Field
 
 -- ---- the first octet
+-- "in the first octet extension 12, value 12, spare bit 5, indicator with data 14"
 unfoldable pub firstAt : List ℕ → Answer First
 firstAt s =
     let octet = getD s 0 0 in
@@ -53,20 +54,33 @@ countAt s present =
     (done (record { value = 0; next = 1 }))
 
 -- ---- a field
+-- the four bits of the header at a place, the four zero bits after them, and the place after both: "Each field begins on an
+-- octet of its own"
+abbrev pub bitsAt : List ℕ → Place → ℕ
+bitsAt s at = getD s at 0 / 16
+
+abbrev pub spareAt : List ℕ → Place → ℕ
+spareAt s at = getD s at 0 % 16
+
+abbrev pub pastHeader : Place → Place
+pastHeader at = at + 1
+
 -- a field's header, and the place after it
 pub record HeaderAnswer : Type 0 where
   pub header : Header
   pub next : Place
 
+-- "in a field header 5 before 14"
 unfoldable pub headerAt : List ℕ → Place → Answer HeaderAnswer
 headerAt s at =
-    let octet = getD s at 0 in
-    let header = headerOf (getD s at 0 / 16) in
+    let header = headerOf (bitsAt s at) in
     let right = rightData (header .kind) (header .present) in
+    let read : HeaderAnswer = record { header = header; next = pastHeader at } in
     cond (leb (length s) at) (refuse endsEarly)
-    (cond (ltb 0 (octet % 16)) (refuse spareBit) (cond right (done (record { header = header; next = at + 1 })) (refuse wrongData)))
+    (cond (ltb 0 (spareAt s at)) (refuse spareBit) (cond right (done read) (refuse wrongData)))
 
--- "two octets hold its length minus one, then the data": the data's length, at the front of some octets that hold it all
+-- "two octets hold its length minus one, then the data": the data's length, at the front of octets that must hold it all. The
+-- two octets have no form to refuse, so it is 1, then 4, then 1 for missing octets
 unfoldable pub sizeAt : List ℕ → Answer ℕ
 sizeAt s =
     let size = getD s 0 0 * 256 + getD s 1 0 + 1 in
@@ -122,6 +136,7 @@ unfoldable pub endAt : {A : Type 0} → Ending → List ℕ → Place → A → 
 endAt ending s at a = cond (mayFollow ending (drop at s)) (done a) (refuse leftOver)
 
 -- ---- the packet
+-- "over 160 octets 4, then reading order"
 unfoldable pub readPacket : Ending → List ℕ → Answer PacketAnswer
 readPacket ending s =
     cond (ltb packetLimit (length s)) (refuse outsideSizes)
