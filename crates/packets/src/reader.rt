@@ -56,6 +56,7 @@ enum FieldsEnd {
     Refused(Refusal),
 }
 
+// The fields that were read, and where they end.
 struct FieldsRead {
     end: FieldsEnd,
     fields: [Field; Field::LIMIT],
@@ -68,6 +69,7 @@ fn wide(octet: u8) -> usize
     octet as usize
 }
 
+// The kind that a first octet says.
 fn kind_of(octet: u8) -> Kind
     ensures { λ r. ⌜ r ≡ kindOf octet ⌝ }
 {
@@ -77,6 +79,7 @@ fn kind_of(octet: u8) -> Kind
     Kind::Indicator
 }
 
+// The first octet of s.
 fn read_first(s: &[u8]) -> FirstRead
     ensures { λ r. ⌜ FirstTold (now (s .entry)) r ⌝ }
 {
@@ -112,6 +115,7 @@ fn read_count(s: &[u8], present: bool) -> CountRead
     }
     let got = lengths::read(&s[1..]);
     let Length::Value(value, size) = got else {
+        // an answer that is no value is a refusal, so this is never reached
         let Length::Refused(refusal) = got else {
             return CountRead::Count(0, 1);
         };
@@ -127,6 +131,7 @@ fn read_count(s: &[u8], present: bool) -> CountRead
     CountRead::Count(value, next)
 }
 
+// The field header at a place.
 fn read_header(s: &[u8], at: usize) -> HeaderRead
     ensures { λ r. ⌜ HeaderTold (now (s .entry)) at r ⌝ }
 {
@@ -166,6 +171,7 @@ fn read_size(s: &[u8]) -> SizeRead
     SizeRead::Size(size)
 }
 
+// The field at a place: its header, and with data the length and the data.
 fn read_field(s: &[u8], at: usize) -> FieldRead
     ensures { λ r. ⌜ FieldTold (now (s .entry)) at r ⌝ }
 {
@@ -194,6 +200,7 @@ fn read_field(s: &[u8], at: usize) -> FieldRead
     }
 }
 
+// As many places as a packet may have fields, all zero.
 fn no_fields() -> [Field; Field::LIMIT]
     ensures { λ r. ⌜ r ≡ padded [] ⌝ }
 {
@@ -234,6 +241,7 @@ fn read_fields(s: &[u8], count: usize, from: usize) -> FieldsRead
     }
 }
 
+// Whether s holds zeros only.
 fn all_zero(s: &[u8]) -> bool
     ensures { λ r. ⌜ r ≡ allZero (now (s .entry)) ⌝ }
 {
@@ -257,6 +265,7 @@ fn may_follow(left: &[u8], ending: Ending) -> bool
     }
 }
 
+// The answer of a refused packet.
 fn refused(refusal: Refusal) -> PacketRead
     ensures { λ r. ⌜ r ≡ packetRead (answers.refused refusal) ⌝ }
 {
@@ -267,7 +276,7 @@ fn refused(refusal: Refusal) -> PacketRead
     }
 }
 
-// A packet's kind, value and fields.
+// A packet's kind, value and fields, or the first refusal in reading order.
 pub fn read(s: &[u8], ending: Ending) -> PacketRead
     ensures { λ r. ⌜ PacketTold ending (now (s .entry)) r ⌝ }
 {

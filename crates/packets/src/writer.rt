@@ -66,6 +66,7 @@ fn fields_size(lengths: &[u16]) -> usize
     sum
 }
 
+// Whether each type is one of 0 to 7.
 fn all_types(types: &[u8]) -> bool
     ensures { λ r. ⌜ r ≡ every (λ t. leb t typesLimit) (now (types .entry)) ⌝ }
 {
@@ -79,6 +80,7 @@ fn all_types(types: &[u8]) -> bool
     true
 }
 
+// Whether the data of each field is within the packet limit.
 fn all_short(lengths: &[u16]) -> bool
     ensures { λ r. ⌜ r ≡ every (λ n. leb n packetLimit) (now (lengths .entry)) ⌝ }
 {
@@ -110,6 +112,7 @@ fn right_types(types: &[u8], lengths: &[u16]) -> bool
     true
 }
 
+// Not 15: one length for each type, and together they are the data.
 fn one_each(types: &[u8], lengths: &[u16], data: &[u8]) -> bool
     requires { ⌜ length (now types) ≤ fieldsLimit ⌝ }
     ensures { λ r. ⌜ r ≡ oneEach (now (types .entry)) (now (lengths .entry)) (now («data» .entry)) ⌝ }
@@ -120,6 +123,7 @@ fn one_each(types: &[u8], lengths: &[u16], data: &[u8]) -> bool
     false
 }
 
+// Not 12: the value and each type are assigned.
 fn all_assigned(kind: Kind, value: u8, types: &[u8]) -> bool
     ensures { λ r. ⌜ r ≡ allAssigned kind value (now (types .entry)) ⌝ }
 {
@@ -129,17 +133,19 @@ fn all_assigned(kind: Kind, value: u8, types: &[u8]) -> bool
     false
 }
 
+// Not 14: data where it must be, and none where none may be.
 fn all_right(kind: Kind, types: &[u8], lengths: &[u16]) -> bool
     requires { ⌜ length (now types) ≡ length (now lengths) ⌝ }
     ensures { λ r. ⌜ r ≡ allRight kind (now (types .entry)) (now (lengths .entry)) ⌝ }
 {
-    let present = 0 < types.len();
-    if rules::right_fields(kind, present) {
+    let some = 0 < types.len();
+    if rules::right_fields(kind, some) {
         return right_types(types, lengths);
     }
     false
 }
 
+// Not the second 4: the data of each field and the whole are within the packet limit.
 fn in_sizes(lengths: &[u16], size: usize) -> bool
     ensures { λ r. ⌜ r ≡ inSizes (now (lengths .entry)) size ⌝ }
 {
@@ -256,6 +262,7 @@ fn put_counted(types: &[u8], lengths: &[u16], data: &[u8], out: &mut [u8])
     ensures { λ _. ⌜ Laid (countedOctets (now (types .entry)) (now (lengths .entry)) (now («data» .entry))) (now (out .entry)) (now (out .exit)) ⌝ }
 {
     let count = lengths::write(types.len(), &mut *out);
+    // at most 16 fields, and room for their count: it is never refused
     let Written::Octets(size) = count else {
         return;
     };
@@ -282,6 +289,7 @@ fn kind_bit(kind: Kind) -> u8
     }
 }
 
+// The first octet.
 fn first_octet(kind: Kind, value: u8, present: bool) -> u8
     requires { ⌜ value ≤ 15 ⌝ }
     ensures { λ r. ⌜ r ≡ firstOctet (record { kind = kind; value = value; present = present }) ⌝ }
