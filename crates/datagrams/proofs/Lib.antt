@@ -1,0 +1,4 @@
+mod WriteTests
+pub mod PutLaws
+mod PutSteps
+mod ItemSteps

@@ -1,0 +1,212 @@
+// Document 01, 'The datagram': the datagram writer. It decides everything first, the room included, and then lends the rest
+// of the buffer to the item writers in turn, each item into the part still free after the last.
+use crate::kind::Kind;
+use crate::sizes::Message;
+use crate::sizes::Packet;
+use crate::sizes::Parity;
+use crate::sizes::Spares;
+use lengths::Length;
+use lengths::Refusal;
+use lengths::Written;
+ghost use Prim.Native.Nat.{_+_, _≤_, _<_};
+ghost use mathlib.Core.Path.{_≡_};
+ghost use mathlib.Core.Bool.{true};
+ghost use mathlib.Core.List.{_++_};
+ghost use lib.ListN.{length};
+ghost use lib.Dec.{eqb};
+ghost use Rattle.lengths.specs.Answers.{done};
+ghost use Rattle.lengths.specs.Length.{lengthOctets, lengthLimit};
+ghost use Rattle.lengths.specs.Promise.{Puts};
+ghost use Rattle.datagrams.specs.Sizes.{packetLimit, sparesLimit};
+ghost use Rattle.datagrams.specs.Write.{numberOctets, itemOctets, itemsOctets, datagramOctets, datagramToWrite, carriedOf, cut, sumOf, countInside, itemInside, itemsInside, lengthsInside};
+ghost use Rattle.datagrams.specs.Write.{within as isWithin};
+ghost use Rattle.datagrams.specs.Put.{Put, Allowed, nFits, kindOctets, itemSize, itemsSize};
+
+// ---- what is refused
+
+// A length as a size.
+fn wide(length: u16) -> usize
+    ensures { λ r. ⌜ r ≡ length ⌝ }
+{
+    length as usize
+}
+
+fn within(least: usize, limit: usize, n: usize) -> bool
+    ensures { λ r. ⌜ r ≡ isWithin least limit n ⌝ }
+{
+    if n < least {
+        return false;
+    }
+    n <= limit
+}
+
+// n and the count are inside the sizes.
+pub fn count_inside(kind: Kind, count: usize) -> bool
+    ensures { λ r. ⌜ r ≡ countInside kind count ⌝ }
+{
+    match kind {
+        Kind::Spares => count <= Spares::LIMIT,
+        Kind::Parity(n) => {
+            if !within(1, Parity::PACKETS, n) {
+                return false;
+            }
+            within(1, Parity::MESSAGES, count)
+        }
+    }
+}
+
+// The length of a spare, or of a message, is inside the sizes.
+fn item_inside(kind: Kind, n: usize) -> bool
+    ensures { λ r. ⌜ r ≡ itemInside kind n ⌝ }
+{
+    match kind {
+        Kind::Spares => within(1, Packet::LIMIT, n),
+        Kind::Parity(_) => within(0, Message::LIMIT, n),
+    }
+}
+
+fn items_inside(kind: Kind, lengths: &[u16]) -> bool
+    ensures { λ r. ⌜ r ≡ itemsInside kind (now (lengths .entry)) ⌝ }
+{
+    let mut i = 0;
+    while i < lengths.len() {
+        if !item_inside(kind, wide(lengths[i])) {
+            return false;
+        }
+        i += 1;
+    }
+    true
+}
+
+// Every length is inside the sizes: the newest packet's, then those of the spares or messages.
+pub fn lengths_inside(packet: &[u8], kind: Kind, lengths: &[u16]) -> bool
+    ensures { λ r. ⌜ r ≡ lengthsInside (now (packet .entry)) kind (now (lengths .entry)) ⌝ }
+{
+    if !within(1, Packet::LIMIT, packet.len()) {
+        return false;
+    }
+    items_inside(kind, lengths)
+}
+
+// The lengths sum to the total. What is left of the total goes down to nothing, so no sum can wrap.
+pub fn sums_to(lengths: &[u16], total: usize) -> bool
+    ensures { λ r. ⌜ r ≡ eqb (sumOf (now (lengths .entry))) total ⌝ }
+{
+    let mut left = total;
+    let mut i = 0;
+    while i < lengths.len() {
+        let n = wide(lengths[i]);
+        if left < n {
+            return false;
+        }
+        left -= n;
+        i += 1;
+    }
+    left == 0
+}
+
+// ---- the item writers: each writes to the front of the part that it is lent, which is long enough, and answers how many
+// octets it wrote
+
+// Some octets as they are.
+pub fn put_octets(octets: &[u8], out: &mut [u8]) -> usize
+    requires { ⌜ length (now octets) ≤ length (now out) ⌝ }
+    ensures { λ r. ⌜ Put (now (octets .entry)) (now (out .entry)) (now (out .exit)) r ⌝ }
+{
+    let mut i = 0;
+    while i < octets.len() {
+        out[i] = octets[i];
+        i += 1;
+    }
+    i
+}
+
+// A length or count. The length writer refuses nothing here: the length has its form, and the part has room.
+pub fn put_length(n: usize, out: &mut [u8]) -> usize
+    requires { ⌜ (n ≤ lengthLimit) × (length (lengthOctets n) ≤ length (now out)) ⌝ }
+    ensures { λ r. ⌜ Put (lengthOctets n) (now (out .entry)) (now (out .exit)) r ⌝ }
+{
+    let written = lengths::write(n, out);
+    match written {
+        Written::Octets(size) => size,
+        Written::Refused(_) => 0,
+    }
+}
+
+// A packet, spare or message: length, octets.
+pub fn put_item(item: &[u8], out: &mut [u8]) -> usize
+    requires { ⌜ (length (now item) ≤ lengthLimit) × (itemSize (length (now item)) ≤ length (now out)) ⌝ }
+    ensures { λ r. ⌜ Put (itemOctets (now (item .entry))) (now (out .entry)) (now (out .exit)) r ⌝ }
+{
+    let at = put_length(item.len(), out);
+    let size = put_octets(item, &mut out[at..]);
+    at + size
+}
+
+// The number: two octets, high first.
+pub fn put_number(number: u16, out: &mut [u8]) -> usize
+    requires { ⌜ length (numberOctets number) ≤ length (now out) ⌝ }
+    ensures { λ r. ⌜ Put (numberOctets number) (now (out .entry)) (now (out .exit)) r ⌝ }
+{
+    out[0] = (number / 256) as u8;
+    out[1] = (number % 256) as u8;
+    2
+}
+
+// The number and the newest packet.
+pub fn put_head(number: u16, packet: &[u8], out: &mut [u8]) -> usize
+    requires { ⌜ (length (now packet) ≤ lengthLimit) × (length (numberOctets number) + itemSize (length (now packet)) ≤ length (now out)) ⌝ }
+    ensures { λ r. ⌜ Put (numberOctets number ++ itemOctets (now (packet .entry))) (now (out .entry)) (now (out .exit)) r ⌝ }
+{
+    let at = put_number(number, out);
+    let size = put_item(packet, &mut out[at..]);
+    at + size
+}
+
+// One octet, 00 for spares or 80 for parity; for parity then octet 01 and octet n.
+pub fn put_kind(kind: Kind, out: &mut [u8]) -> usize
+    requires { ⌜ (nFits kind ≡ true) × (length (kindOctets kind) ≤ length (now out)) ⌝ }
+    ensures { λ r. ⌜ Put (kindOctets kind) (now (out .entry)) (now (out .exit)) r ⌝ }
+{
+    match kind {
+        Kind::Spares => {
+            out[0] = 0;
+            1
+        }
+        Kind::Parity(n) => {
+            out[0] = 128;
+            out[1] = 1;
+            out[2] = (n % 256) as u8;
+            3
+        }
+    }
+}
+
+// What stands before the spares or messages: their kind, and how many there are.
+pub fn put_count(kind: Kind, count: usize, out: &mut [u8]) -> usize
+    requires { ⌜ (nFits kind ≡ true) × (count ≤ lengthLimit) × (length (kindOctets kind) + length (lengthOctets count) ≤ length (now out)) ⌝ }
+    ensures { λ r. ⌜ Put (kindOctets kind ++ lengthOctets count) (now (out .entry)) (now (out .exit)) r ⌝ }
+{
+    let at = put_kind(kind, out);
+    let size = put_length(count, &mut out[at..]);
+    at + size
+}
+
+// Spares or messages, each with its length.
+fn put_items(lengths: &[u16], data: &[u8], out: &mut [u8]) -> usize
+    requires { ⌜ (sumOf (now lengths) ≡ length (now «data»)) × (length (now «data») ≤ lengthLimit) × (itemsSize (now lengths) ≤ length (now out)) ⌝ }
+    ensures { λ r. ⌜ Put (itemsOctets (cut (now (lengths .entry)) (now («data» .entry)))) (now (out .entry)) (now (out .exit)) r ⌝ }
+{
+    let mut i = 0;
+    let mut from = 0;
+    let mut at = 0;
+    while i < lengths.len() {
+        let to = from + wide(lengths[i]);
+        let item = &data[from..to];
+        let size = put_item(item, &mut out[at..]);
+        from = to;
+        at += size;
+        i += 1;
+    }
+    at
+}
