@@ -1,9 +1,10 @@
 -- Laws of lists given by place and of tests over a range. Assumes nothing.
-use Prim.Native.Nat.{ℕ, zero, suc, _+_, _≤_, _<_}
+use Prim.Native.Nat.{ℕ, zero, suc, _+_, _≤_, _<_, zero-le, suc-le-suc}
 use mathlib.Core.Path.{_≡_, refl, sym, ap, ap₂, _∙_}
 use mathlib.Core.Logic.{⊎-elim}
 use mathlib.Core.Bool.{Bool, true, false, _&&_}
-use mathlib.Core.List.{List, [], _∷_}
+use mathlib.Core.List.{List, [], _∷_, List·Memᴰ as Among, List·Memᴰ·head as here, List·Memᴰ·tail as further}
+use mathlib.Core.List.{List·Memᴰ·not-nil, List·Memᴰ·cases-cons}
 use lib.ListN.{length, getD, set, length-set}
 use lib.Seq.{ext-getD, getD-set-same, getD-set-other}
 use native.Mathlib.Nat.{not-suc-le-zero, le-of-suc-le-suc}
@@ -87,3 +88,20 @@ unfolding allBelow
 allBelow-ext zero p q same = refl
 allBelow-ext (suc n) p q same =
     ap₂ (λ (a b : Bool). a && b) (allBelow-ext n p q (λ k below. same k (omega arith))) (same n (omega arith))
+
+-- ---- what is in a tab
+-- each element stands at a place
+pub tab-among : {A : Type 0} (n : ℕ) (f : ℕ → A) (k : ℕ) → k < n → Among (f k) (tab n f)
+unfolding tab
+tab-among zero f k below = absurd (not-suc-le-zero below)
+tab-among (suc n) f zero below = here refl
+tab-among (suc n) f (suc k) below = further (tab-among n (λ j. f (suc j)) k (le-of-suc-le-suc below))
+
+pub among-tab : {A : Type 0} (n : ℕ) (f : ℕ → A) {a : A} → Among a (tab n f) → (k : ℕ) × (k < n) × (a ≡ f k)
+unfolding tab
+among-tab zero f m = absurd (List·Memᴰ·not-nil m)
+among-tab (suc n) f {a} m =
+    ⊎-elim (λ same. (zero, suc-le-suc zero-le, same)) (λ rest. later (among-tab n (λ k. f (suc k)) rest)) (List·Memᴰ·cases-cons m)
+  where
+    later : (k : ℕ) × (k < n) × (a ≡ f (suc k)) → (k : ℕ) × (k < suc n) × (a ≡ f k)
+    later t = (suc t.0, suc-le-suc t.1, t.2)

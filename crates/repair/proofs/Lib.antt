@@ -1,0 +1,11 @@
+pub mod Passing
+pub mod Fill
+pub mod Search
+pub mod Grows
+pub mod Enough
+pub mod Least
+pub mod Honest
+pub mod Members
+pub mod Held
+pub mod Burst
+pub mod Claims

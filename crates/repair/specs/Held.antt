@@ -19,11 +19,14 @@ pub record Held : Type 0 where
 abbrev pub nothingHeld : Held
 nothingHeld = record { accepted = false; n = 0; messages = [] }
 
+-- message i of the datagram at place S
+abbrev pub messageAt : ℕ → Held → ℕ → Message
+messageAt S held i =
+    record { members = membersOf S (held .n) (length (held .messages)) i; octets = getD (held .messages) i [] }
+
 -- the messages held at place S, the lowest first
 unfoldable pub messagesOf : ℕ → Held → List Message
-messagesOf S held =
-    tab (length (held .messages))
-    (λ i. record { members = membersOf S (held .n) (length (held .messages)) i; octets = getD (held .messages) i [] })
+messagesOf S held = tab (length (held .messages)) (messageAt S held)
 
 -- those of several places in a row, from S on
 unfoldable pub messagesFrom : ℕ → List Held → List Message

@@ -2,3 +2,6 @@ pub mod Members
 pub mod Cells
 pub mod Repair
 pub mod Held
+pub mod Reached
+pub mod Honest
+pub mod Claims

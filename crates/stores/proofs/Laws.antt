@@ -7,6 +7,7 @@ use mathlib.Core.List.{List, [], _∷_, _++_}
 use mathlib.Core.Logic.{_⊎_, inl, inr, ⊎-elim}
 use lib.ListN.{length, getD, set, take, drop, length-append, length-take, List·getD-append}
 use lib.Seq.{paste, length-paste, length-paste-head, getD-append-add, getD-take, getD-drop, length-take-le, take-length, ext-getD}
+use lib.Bits.{bitXor}
 use lib.Dec.{leb, ltb, eqb}
 use native.Mathlib.Omega.{arith}
 use borrow.Author.Tests.{lt-ltb, le-ltb, eq-eqb}
@@ -14,7 +15,7 @@ use Rattle.octets.specs.Place.{allBelow}
 use Rattle.octets.proofs.Place.{allBelow-at, allBelow-of, allBelow-ext}
 use Rattle.octets.proofs.Cases.{below-or-not, same-or-not}
 use Rattle.datagrams.specs.Sizes.{packetLimit}
-use Rattle.stores.specs.Store.{pasted, zeros, zerosPast, part, HasSlot}
+use Rattle.stores.specs.Store.{pasted, zeros, zerosPast, part, added, HasSlot}
 use Rattle.stores.proofs.Turns as turns
 
 pub length-zeros : (n : ℕ) → length (zeros n) ≡ n
@@ -139,3 +140,11 @@ module _ (o : List ℕ) (i : ℕ) (has : HasSlot i o) where
       or-true : (b : Bool) → (b || true) ≡ true
       or-true true = refl
       or-true false = refl
+
+-- ---- adding a slot
+pub length-added : (sum o : List ℕ) (slot : ℕ) → length (added sum o slot) ≡ packetLimit
+length-added = turns.length-added
+
+pub added-at : (sum o : List ℕ) (slot j : ℕ) → j < packetLimit
+    → getD (added sum o slot) j 0 ≡ bitXor (getD sum j 0) (getD o (slot * packetLimit + j) 0)
+added-at = turns.added-at

@@ -3,20 +3,21 @@
 use Prim.Native.Nat.{ℕ, zero, suc, _+_, _-_, _*_, _≤_, _<_}
 use mathlib.Core.Path.{_≡_, refl, sym, ap, ap₂, _∙_}
 use mathlib.Core.Bool.{Bool, true, false, _&&_, _||_}
-use mathlib.Core.List.{List, [], _∷_, _++_}
+use mathlib.Core.List.{List, [], _∷_, _++_, append-nil}
 use mathlib.Core.Logic.{⊎-elim}
-use lib.ListN.{length, getD, set, take, drop, replicate, length-replicate, getD-replicate, length-append, length-set, List·getD-append, length-drop, List·getD-eq-default}
+use lib.ListN.{length, getD, set, take, drop, replicate, length-replicate, getD-replicate, length-append, length-set, List·getD-append, length-drop, drop-of-length-le, List·getD-eq-default}
 use lib.Seq.{paste, paste-zero, paste-suc, length-paste, getD-append-add, getD-take, getD-drop, length-take-le, take-length}
+use lib.Bits.{bitXor}
 use lib.Dec.{leb, ltb, eqb}
-use native.Mathlib.Nat.{zero-add}
+use native.Mathlib.Nat.{zero-add, add-zero}
 use native.Mathlib.Numerals.{add-one}
 use native.Mathlib.Omega.{arith}
 use borrow.Author.Tests.{lt-ltb, le-ltb, le-leb, lt-leb, eq-eqb, ne-eqb}
 use Rattle.octets.specs.Place.{allBelow}
-use Rattle.octets.proofs.Place.{allBelow-more}
+use Rattle.octets.proofs.Place.{allBelow-more, length-tab, tab-at}
 use Rattle.octets.proofs.Cases.{below-or-not, same-or-not}
 use Rattle.datagrams.specs.Sizes.{packetLimit}
-use Rattle.stores.specs.Store.{pasted, zeros, zerosPast, mask, part, HasSlot}
+use Rattle.stores.specs.Store.{pasted, zeros, zerosPast, mask, part, added, HasSlot}
 
 -- ---- laying octets b into o from place `at` on: j of them are laid
 pub record Laying (start b : List ℕ) (at : ℕ) (o : List ℕ) (j : ℕ) : Type 0 where
@@ -157,3 +158,41 @@ copying-done o slot n {start} {out} {j} l has fits done =
     l .laid
     ∙ ap (λ (k : ℕ). paste start 0 (part o slot n) k) all
     ∙ ap₂ (λ (a : List ℕ) (k : ℕ). a ++ drop k start) (take-length (part o slot n)) (zero-add (length (part o slot n)) ∙ long)
+
+-- ---- adding a slot: the loop that lays the sums from place 0 on
+-- what is not laid yet is as it was
+not-yet : {start b o : List ℕ} {j : ℕ} → Laying start b 0 o j → getD o j 0 ≡ getD start j 0
+not-yet {start} {b} {o} {j} l =
+    let long : length (take j b) ≡ j = length-take-le j b (l .few) in
+    ap (λ (x : List ℕ). getD x j 0) (l .laid)
+    ∙ ap₂ (λ (k d : ℕ). getD (take j b ++ drop d start) k 0) (sym (add-zero j) ∙ ap (λ (k : ℕ). k + 0) (sym long)) (zero-add j)
+    ∙ getD-append-add (take j b) (drop j start) 0 0
+    ∙ getD-drop j start 0 0
+    ∙ ap (λ (k : ℕ). getD start k 0) (add-zero j)
+
+pub length-added : (sum o : List ℕ) (slot : ℕ) → length (added sum o slot) ≡ packetLimit
+unfolding added
+length-added sum o slot = length-tab packetLimit _
+
+pub added-at : (sum o : List ℕ) (slot j : ℕ) → j < packetLimit
+    → getD (added sum o slot) j 0 ≡ bitXor (getD sum j 0) (getD o (slot * packetLimit + j) 0)
+unfolding added
+added-at sum o slot j below = tab-at packetLimit _ j 0 below
+
+pub adding-turn : (start o : List ℕ) (slot : ℕ) {sum : List ℕ} {j : ℕ} → Laying start (added start o slot) 0 sum j
+    → length start ≡ packetLimit → j < packetLimit
+    → Laying start (added start o slot) 0 (set sum j (bitXor (getD sum j 0) (getD o (slot * packetLimit + j) 0))) (j + 1)
+adding-turn start o slot {sum} {j} l long more =
+    rw (not-yet l, ← (added-at start o slot j more))
+    (rw (zero-add j) at
+    (laying-turn l (omega (arith, length-added start o slot)) (rw (length-added start o slot) more)))
+
+pub adding-done : (start o : List ℕ) (slot : ℕ) {sum : List ℕ} {j : ℕ} → Laying start (added start o slot) 0 sum j
+    → length start ≡ packetLimit → packetLimit ≤ j → sum ≡ added start o slot
+adding-done start o slot {sum} {j} l long done =
+    let all : j ≡ length (added start o slot) = omega (arith, l .few, length-added start o slot) in
+    let past : length start ≤ 0 + length (added start o slot) = omega (arith, length-added start o slot) in
+    l .laid
+    ∙ ap (λ (k : ℕ). paste start 0 (added start o slot) k) all
+    ∙ ap₂ (λ (a b : List ℕ). a ++ b) (take-length (added start o slot)) (drop-of-length-le start past)
+    ∙ append-nil (added start o slot)

@@ -5,7 +5,8 @@ use mathlib.Core.List.{List, _++_}
 use lib.ListN.{length, getD, take, drop, replicate}
 use lib.Seq.{paste}
 use lib.Dec.{ltb, eqb}
-use Rattle.octets.specs.Place.{allBelow}
+use lib.Bits.{bitXor}
+use Rattle.octets.specs.Place.{allBelow, tab}
 use Rattle.datagrams.specs.Sizes.{packetLimit}
 
 -- the store has a slot i
@@ -31,3 +32,7 @@ zerosPast o i n = allBelow packetLimit (λ j. ltb j n || eqb (getD o (i * packet
 -- what lets every octet pass, then what lets zero alone pass
 unfoldable pub mask : List ℕ
 mask = replicate packetLimit 255 ++ zeros packetLimit
+
+-- packetLimit octets, to which those of slot i are added by exclusive or
+unfoldable pub added : List ℕ → List ℕ → ℕ → List ℕ
+added sum o i = tab packetLimit (λ j. bitXor (getD sum j 0) (getD o (i * packetLimit + j) 0))

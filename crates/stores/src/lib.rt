@@ -7,7 +7,7 @@ ghost use Prim.Native.Nat.{_≤_};
 ghost use lib.ListN.{length, drop};
 ghost use mathlib.Core.List.{_++_};
 ghost use Rattle.datagrams.specs.Sizes.{packetLimit};
-ghost use Rattle.stores.specs.Store.{pasted, zeros, zerosPast, mask, part, HasSlot};
+ghost use Rattle.stores.specs.Store.{added, pasted, zeros, zerosPast, mask, part, HasSlot};
 
 // The octets src, laid at the front of a slot.
 pub fn put(o: &mut [u8], slot: usize, src: &[u8])
@@ -66,6 +66,20 @@ pub fn copy_out(o: &[u8], slot: usize, n: usize, out: &mut [u8])
     let mut j = 0;
     while j < n {
         out[j] = o[at + j];
+        j += 1;
+    }
+}
+
+// The octets of a slot, added to sum by exclusive or.
+pub fn add(o: &[u8], slot: usize, sum: &mut [u8])
+    requires { ⌜ HasSlot slot (now o) ⌝ }
+    requires { ⌜ length (now sum) ≡ packetLimit ⌝ }
+    ensures { λ _. ⌜ now (sum .exit) ≡ added (now (sum .entry)) (now (o .entry)) slot ⌝ }
+{
+    let at = slot * Packet::LIMIT;
+    let mut j = 0;
+    while j < Packet::LIMIT {
+        sum[j] = sum[j] ^ o[at + j];
         j += 1;
     }
 }

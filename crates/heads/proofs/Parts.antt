@@ -1,0 +1,76 @@
+-- The ranges taken apart, number by number, and put together again. Assumes nothing.
+use Prim.Native.Nat.{ℕ, _+_, _≤_, _<_}
+use mathlib.Core.Path.{_≡_}
+use mathlib.Core.Bool.{Bool, true, not, _&&_}
+use mathlib.Core.List.{List}
+use lib.Dec.{leb, eqb}
+use native.Mathlib.Omega.{arith}
+use borrow.Author.Tests.{leb-true, eqb-true}
+use Rattle.octets.proofs.Cases.{and-left, and-right, and-both}
+use Rattle.octets.proofs.Place.{allBelow-at, allBelow-of}
+use Rattle.octets.specs.Place.{allBelow}
+use Rattle.datagrams.specs.Sizes.{packetLeast, packetLimit, messagesLimit}
+use Rattle.repair.specs.Cells.{keptBefore}
+use Rattle.stores.specs.Store.{zerosPast}
+use Rattle.views.specs.View.{sum}
+use Rattle.heads.specs.Head.{slotAt, heardSlotAt, countsOf, keptIn, heardIn}
+use Rattle.heads.specs.Ranges.{stateInRange, keptInRange, isKnown, markInRange, messageInRange, heardInRange, blankAt}
+use Rattle.heads.specs.declared.State.{State}
+use Rattle.heads.specs.declared.State.the-variants.{Unknown, Received, Spare, Repaired, Blank}
+use Rattle.heads.specs.declared.Head.{Head}
+
+-- the test of a kept number's state and length, and that of a mark with its n and m
+abbrev pub stateTest : Head → ℕ → Bool
+stateTest h p =
+    stateInRange ((keptIn h (slotAt (h .base) p)) .state) ((keptIn h (slotAt (h .base) p)) .size)
+    (blankAt (sum (countsOf (h .counts))) p)
+
+abbrev pub markTest : Head → ℕ → Bool
+markTest h d =
+    markInRange ((heardIn h (heardSlotAt (h .base) d)) .accepted)
+    (isKnown ((keptIn h (slotAt (h .base) (keptBefore + d))) .state))
+    ((heardIn h (heardSlotAt (h .base) d)) .n)
+    ((heardIn h (heardSlotAt (h .base) d)) .m)
+
+-- a kept number: its state and length, and zeros past it
+pub record KeptRight (h : Head) (o : List ℕ) (p : ℕ) : Type 0 where
+  pub state : stateTest h p ≡ true
+  pub zeros : zerosPast o (slotAt (h .base) p) ((keptIn h (slotAt (h .base) p)) .size) ≡ true
+
+pub kept-right : (h : Head) (o : List ℕ) (p : ℕ) → keptInRange h o p ≡ true → KeptRight h o p
+unfolding keptInRange
+kept-right h o p e = record { state = and-left (stateTest h p) _ e; zeros = and-right (stateTest h p) _ e }
+
+pub right-kept : {h : Head} {o : List ℕ} {p : ℕ} → KeptRight h o p → keptInRange h o p ≡ true
+unfolding keptInRange
+right-kept r = and-both (r .state) (r .zeros)
+
+within-sizes : (size : ℕ) (blank : Bool) → ((leb packetLeast size && leb size packetLimit) && blank) ≡ true → size ≤ packetLimit
+within-sizes size blank e = leb-true size packetLimit (and-right (leb packetLeast size) _ (and-left _ blank e))
+
+-- no length is over the limit
+pub size-range : (st : State) (size : ℕ) (blank : Bool) → stateInRange st size blank ≡ true → size ≤ packetLimit
+unfolding stateInRange
+size-range Unknown size blank e = omega (arith, eqb-true size 0 (and-left (eqb size 0) _ e))
+size-range Received size blank e = within-sizes size (not blank) e
+size-range Spare size blank e = within-sizes size (not blank) e
+size-range Repaired size blank e = within-sizes size (not blank) e
+size-range Blank size blank e = omega (arith, eqb-true size 0 (and-left (eqb size 0) _ e))
+
+pub size-right : {h : Head} {o : List ℕ} {p : ℕ} → KeptRight h o p → (keptIn h (slotAt (h .base) p)) .size ≤ packetLimit
+size-right r = size-range _ _ _ (r .state)
+
+-- what is held at a distance: mark, n and m, and each message place
+pub record HeardRight (h : Head) (g : List ℕ) (d : ℕ) : Type 0 where
+  pub mark : markTest h d ≡ true
+  pub message : (i : ℕ) → i < messagesLimit
+      → messageInRange h g (heardSlotAt (h .base) d) ((heardIn h (heardSlotAt (h .base) d)) .m) i ≡ true
+
+pub heard-right : (h : Head) (g : List ℕ) (d : ℕ) → heardInRange h g d ≡ true → HeardRight h g d
+unfolding heardInRange
+heard-right h g d e =
+    record { mark = and-left (markTest h d) _ e; message = allBelow-at messagesLimit _ (and-right (markTest h d) _ e) }
+
+pub right-heard : {h : Head} {g : List ℕ} {d : ℕ} → HeardRight h g d → heardInRange h g d ≡ true
+unfolding heardInRange
+right-heard r = and-both (r .mark) (allBelow-of messagesLimit _ (r .message))

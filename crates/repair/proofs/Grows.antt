@@ -1,0 +1,74 @@
+-- Repair keeps what is known: a number known before is the same after, its state and its octets, and the view keeps its
+-- length. Assumes nothing.
+use Prim.Native.Nat.{ℕ, zero, suc}
+use mathlib.Core.Path.{_≡_, refl, sym, ap, _∙_}
+use mathlib.Core.Logic.{_⊎_, inl, inr, ⊎-elim}
+use mathlib.Core.List.{List}
+use mathlib.Core.Option.{Option, none, some}
+use lib.ListN.{length}
+use Rattle.repair.specs.Cells.{Cell, cellAt}
+use Rattle.repair.specs.Repair.{Message, firstUsable, fill, repairF, repair}
+use Rattle.repair.specs.Reached.{Known}
+use Rattle.repair.proofs.Fill.{length-fill, fill-known, same-unknown}
+use Rattle.repair.proofs.Search.{found-usable}
+
+-- ---- steps
+-- nothing found, nothing done
+pub repairF-done : (k : ℕ) (cells : List Cell) (messages : List Message) → firstUsable cells messages ≡ none
+    → repairF k cells messages ≡ cells
+unfolding repairF
+repairF-done zero cells messages e = refl
+repairF-done (suc k) cells messages e = rw (e, repairF)
+
+-- one step: the message that is found fills, and repair begins again
+pub repairF-fill : (k : ℕ) (cells : List Cell) (messages : List Message) (found : Message)
+    → firstUsable cells messages ≡ some found → repairF (suc k) cells messages ≡ repairF k (fill cells found) messages
+unfolding repairF
+repairF-fill k cells messages found e = rw (e, repairF)
+
+-- found, or not
+pub found-or-none : (cells : List Cell) (messages : List Message)
+    → ((found : Message) × (firstUsable cells messages ≡ some found)) ⊎ (firstUsable cells messages ≡ none)
+found-or-none cells messages = pick (firstUsable cells messages) refl where
+  pick : (o : Option Message) → firstUsable cells messages ≡ o
+      → ((found : Message) × (firstUsable cells messages ≡ some found)) ⊎ (firstUsable cells messages ≡ none)
+  pick none e = inr e
+  pick (some found) e = inl (found, e)
+
+-- what every fill by a usable message keeps, repair keeps
+pub repairF-keeps : (P : List Cell → Type 0) (messages : List Message)
+    → ((cells : List Cell) (found : Message) → firstUsable cells messages ≡ some found → P cells → P (fill cells found))
+    → (k : ℕ) (cells : List Cell) → P cells → P (repairF k cells messages)
+unfolding repairF
+repairF-keeps P messages step zero cells start = start
+repairF-keeps P messages step (suc k) cells start =
+    ⊎-elim
+    (λ t.
+    rw (repairF-fill k cells messages t.0 t.1)
+    (repairF-keeps P messages step k (fill cells t.0) (step cells t.0 t.1 start)))
+    (λ e. rw (repairF-done (suc k) cells messages e) start)
+    (found-or-none cells messages)
+
+pub repair-keeps : (P : List Cell → Type 0) (messages : List Message)
+    → ((cells : List Cell) (found : Message) → firstUsable cells messages ≡ some found → P cells → P (fill cells found))
+    → (cells : List Cell) → P cells → P (repair cells messages)
+unfolding repair
+repair-keeps P messages step cells start = repairF-keeps P messages step (length cells) cells start
+
+-- ---- length and growth
+pub length-repair : (cells : List Cell) (messages : List Message) → length (repair cells messages) ≡ length cells
+length-repair cells messages =
+    repair-keeps (λ now. length now ≡ length cells) messages (λ now found e same. length-fill now found ∙ same) cells refl
+
+-- "What is known is never written over."
+pub repair-known : (cells : List Cell) (messages : List Message) (p : ℕ) → Known cells p
+    → cellAt (repair cells messages) p ≡ cellAt cells p
+repair-known cells messages p k =
+    repair-keeps (λ now. cellAt now p ≡ cellAt cells p) messages
+    (λ now found e same. fill-known now found p (found-usable now messages found e .1) (same-unknown cells now p same ∙ k) ∙ same)
+    cells
+    refl
+
+-- what is known stays known
+pub known-repair : (cells : List Cell) (messages : List Message) (p : ℕ) → Known cells p → Known (repair cells messages) p
+known-repair cells messages p k = same-unknown cells (repair cells messages) p (repair-known cells messages p k) ∙ k

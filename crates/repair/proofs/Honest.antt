@@ -1,0 +1,125 @@
+-- With an honest sender repair is right: where every known number has the sender's packet up to zeros at the end, and every
+-- message is the exclusive or of its members, each number that repair fills has the sender's packet up to zeros too. At each
+-- place the other members cancel, and the message is as long as the longest member. Assumes nothing.
+use Prim.Native.Nat.{ℕ, _≤_, _<_}
+use mathlib.Core.Path.{_≡_, refl, sym, ap, ap₂, _∙_, subst}
+use mathlib.Core.Logic.{⊎-elim}
+use mathlib.Core.Bool.{Bool, true, false, not}
+use mathlib.Core.List.{List, [], _∷_, map, List·Memᴰ as Among, Memᴰ·map}
+use lib.ListN.{length, getD, List·getD-eq-default}
+use lib.Bits.{bitXor, xor-zero-r}
+use native.Mathlib.Omega.{arith}
+use borrow.Author.Tests.{not-true}
+use Rattle.octets.specs.ExclusiveOr.{xorAt, exclusiveOr, longest}
+use Rattle.octets.proofs.Cases.{below-or-not, same-or-not, true-or-false}
+use Rattle.octets.proofs.ExclusiveOr.{xor-assoc, xor-left-comm, xor-cancel-right, xorAt-cons, xorAt-same, exclusiveOr-at, exclusiveOr-longest, exclusiveOr-past, length-exclusiveOr, longest-reaches}
+use Rattle.repair.specs.Cells.{Cell, cellAt, unknownAt}
+use Rattle.repair.specs.Repair.{Message, passing, unknownMembers, otherMembers, usable, mended, fill, firstUsable, repair}
+use Rattle.repair.specs.Reached.{Known}
+use Rattle.repair.specs.Honest.{messageOver, HonestMessage, HonestMessages, UpToZeros, TrueCells}
+use Rattle.repair.proofs.Passing.{passing-yes, passing-no, passing-among}
+use Rattle.repair.proofs.Fill.{missing, Usable, usable-says, length-fill, length-mended, fill-missing, fill-other, known-fill, same-unknown}
+use Rattle.repair.proofs.Search.{found-usable}
+use Rattle.repair.proofs.Grows.{repair-keeps, length-repair}
+
+-- ---- the members, parted by a test
+module _ (test : ℕ → Bool) (row : ℕ → List ℕ) (k : ℕ) where
+  abbrev both-of : List ℕ → List ℕ → ℕ
+  both-of pass fail = bitXor (xorAt (map row pass) k) (xorAt (map row fail) k)
+
+  -- the exclusive or of those that pass and of those that don't
+  abbrev parted : List ℕ → ℕ
+  parted l = both-of (passing test l) (passing (λ p. not (test p)) l)
+
+  xorAt-parted : (l : List ℕ) → xorAt (map row l) k ≡ parted l
+  unfolding passing xorAt
+  xorAt-parted [] = refl
+  xorAt-parted (p ∷ l) =
+      ap (bitXor (getD (row p) k 0)) (xorAt-parted l) ∙ ⊎-elim passes fails (true-or-false (test p))
+    where
+      passes : test p ≡ true → bitXor (getD (row p) k 0) (parted l) ≡ parted (p ∷ l)
+      passes e =
+          sym (xor-assoc (getD (row p) k 0) (xorAt (map row (passing test l)) k) (xorAt (map row (passing (λ q. not (test q)) l)) k))
+          ∙ sym (ap₂ both-of (passing-yes test p l e) (passing-no (λ q. not (test q)) p l (ap not e)))
+
+      fails : test p ≡ false → bitXor (getD (row p) k 0) (parted l) ≡ parted (p ∷ l)
+      fails e =
+          xor-left-comm (getD (row p) k 0) (xorAt (map row (passing test l)) k) (xorAt (map row (passing (λ q. not (test q)) l)) k)
+          ∙ sym (ap₂ both-of (passing-no test p l e) (passing-yes (λ q. not (test q)) p l (ap not e)))
+
+-- ---- one fill
+module _ (row : ℕ → List ℕ) (cells : List Cell) (message : Message) (can : usable cells message ≡ true)
+    (honest : HonestMessage row (length cells) message) (right : TrueCells row cells) where
+  abbrev filled : ℕ
+  filled = missing cells message
+
+  -- the message is at least as long as the packet that it mends
+  long-enough : length (row filled) ≤ length (message .octets)
+  long-enough =
+      let reaches = longest-reaches (row filled) (map row (message .members)) (Memᴰ·map row (usable-says cells message can .member)) in
+      omega (arith, ap length (honest .sum) ∙ length-exclusiveOr (longest (map row (message .members))) (map row (message .members)))
+
+  -- at each place the known members have what the sender's have
+  others-right : (k : ℕ)
+      → xorAt (map (λ p. (cellAt cells p) .octets) (otherMembers cells message)) k ≡ xorAt (map row (otherMembers cells message)) k
+  others-right k =
+      xorAt-same (λ p. (cellAt cells p) .octets) row (otherMembers cells message) k
+      (λ q m.
+      let in-others = passing-among (λ p. not (unknownAt cells p)) (message .members) m in
+      right q (honest .inside q (in-others .0)) (not-true (unknownAt cells q) (in-others .1)) .same k)
+
+  -- the message is the missing packet and the other members
+  message-parts : (k : ℕ)
+      → getD (message .octets) k 0 ≡ bitXor (getD (row filled) k 0) (xorAt (map row (otherMembers cells message)) k)
+  unfolding xorAt
+  message-parts k =
+      ap (λ (l : List ℕ). getD l k 0) (honest .sum)
+      ∙ exclusiveOr-longest (map row (message .members)) k
+      ∙ xorAt-parted (unknownAt cells) row k (message .members)
+      ∙ ap (λ (l : List ℕ). bitXor (xorAt (map row l) k) (xorAt (map row (otherMembers cells message)) k))
+      (usable-says cells message can .alone)
+      ∙ ap (λ (x : ℕ). bitXor x (xorAt (map row (otherMembers cells message)) k)) (xor-zero-r (getD (row filled) k 0))
+
+  mended-at : (k : ℕ) → getD (mended cells message) k 0 ≡ getD (row filled) k 0
+  unfolding mended xorAt
+  mended-at k =
+      ⊎-elim
+      (λ inside.
+      exclusiveOr-at (length (message .octets)) (message .octets ∷ map (λ p. (cellAt cells p) .octets) (otherMembers cells message)) k
+      inside
+      ∙ ap₂ bitXor (message-parts k) (others-right k)
+      ∙ xor-cancel-right (getD (row filled) k 0) (xorAt (map row (otherMembers cells message)) k))
+      (λ past.
+      exclusiveOr-past (length (message .octets)) (message .octets ∷ map (λ p. (cellAt cells p) .octets) (otherMembers cells message)) k
+      past
+      ∙ sym (List·getD-eq-default (row filled) 0 {n = k} (omega (arith, long-enough))))
+      (below-or-not k (length (message .octets)))
+
+  pub mended-right : UpToZeros (mended cells message) (row filled)
+  mended-right = record { long = omega (arith, long-enough, length-mended cells message); same = mended-at }
+
+  pub fill-right : TrueCells row (fill cells message)
+  fill-right p inside k =
+      ⊎-elim
+      (λ same.
+      subst (λ (q : ℕ). UpToZeros ((cellAt (fill cells message) q) .octets) (row q)) (sym same)
+      (subst (λ (c : Cell). UpToZeros (c .octets) (row filled)) (sym (fill-missing cells message can)) mended-right))
+      (λ other.
+      subst (λ (c : Cell). UpToZeros (c .octets) (row p)) (sym (fill-other cells message p other))
+      (right p (omega (arith, length-fill cells message))
+      (sym (same-unknown cells (fill cells message) p (fill-other cells message p other)) ∙ k)))
+      (same-or-not p filled)
+
+-- ---- repair
+pub repair-right : (row : ℕ → List ℕ) (cells : List Cell) (messages : List Message) → HonestMessages row (length cells) messages
+    → TrueCells row cells → TrueCells row (repair cells messages)
+repair-right row cells messages honest right =
+    repair-keeps (λ now. (length now ≡ length cells) × TrueCells row now) messages
+    (λ now found e kept.
+    let got = found-usable now messages found e in (
+      length-fill now found ∙ kept .0,
+      fill-right row now found (got .1) (rw (kept .0) (honest found (got .0))) (kept .1),
+    ))
+    cells
+    (refl, right)
+    .1

@@ -1,0 +1,122 @@
+-- The claims of this crate: statements alone. Definitions only.
+use Prim.Native.Nat.{ℕ, _+_, _-_, _*_, _%_, _≤_, _<_}
+use mathlib.Core.Path.{_≡_}
+use mathlib.Core.Logic.{_↔_}
+use mathlib.Core.Bool.{true}
+use mathlib.Core.List.{List, [], _∷_, map, List·Memᴰ as Among}
+use mathlib.Core.Option.{none}
+use lib.ListN.{length, getD}
+use Rattle.repair.specs.Members.{membersOf}
+use Rattle.repair.specs.Cells.{Cell, received, repaired, unknownCell, cellAt, keptBefore}
+use Rattle.repair.specs.Repair.{Message, firstUsable, repair}
+use Rattle.repair.specs.Held.{Held, nothingHeld, messagesOf, heldMessages}
+use Rattle.repair.specs.Reached.{Known, Unknown, Closed, Reached, Distinct, DistinctMembers}
+use Rattle.repair.specs.Honest.{messageOver, HonestMessages, HonestHeld, TrueCells}
+
+-- ---- members
+-- "Message i .. covers S+i−m, S+i−2m, up to n members; S itself is in none", where the reach n·m does not go below zero: no
+-- number is in a message twice; and message i has exactly the numbers of the reach whose distance to the one before S
+-- leaves m - 1 - i, so that each number of the reach is in exactly one message, and S in none
+pub record MembersExact : Type 0 where
+  pub distinct : (S n m i : ℕ) → n * m ≤ S → i < m → Distinct (membersOf S n m i)
+  pub exact : (S n m i : ℕ) → n * m ≤ S → i < m → (p : ℕ)
+      → Among p (membersOf S n m i) ↔ ((S - n * m ≤ p) × (p < S) × (((S - 1) - p) % m ≡ (m - 1) - i))
+
+-- the messages that a session holds have no member twice, since no reach goes further back than the view
+abbrev pub HeldDistinct : Type 0
+HeldDistinct = (held : List Held)
+    → ((j : ℕ) → j < length held → (getD held j nothingHeld) .n * length ((getD held j nothingHeld) .messages) ≤ keptBefore)
+    → DistinctMembers (heldMessages held)
+
+-- ---- repair
+-- "What is known is never written over."
+abbrev pub KnownKept : Type 0
+KnownKept = (cells : List Cell) (messages : List Message) (p : ℕ) → Known cells p
+    → cellAt (repair cells messages) p ≡ cellAt cells p
+
+-- the view keeps its length
+abbrev pub LengthKept : Type 0
+LengthKept = (cells : List Cell) (messages : List Message) → length (repair cells messages) ≡ length cells
+
+-- "stop when no such message is left": afterwards no message is usable
+abbrev pub NoneLeft : Type 0
+NoneLeft = (cells : List Cell) (messages : List Message) → firstUsable (repair cells messages) messages ≡ none
+
+-- nothing is filled but what must be: each set of places that holds the known ones, and to which no message adds another,
+-- holds all that are known afterwards
+abbrev pub NothingMore : Type 1
+NothingMore = (K : ℕ → Type 0) (cells : List Cell) (messages : List Message) → ((p : ℕ) → Known cells p → K p)
+    → Closed messages K → (p : ℕ) → Known (repair cells messages) p → K p
+
+-- known afterwards are exactly the places that the messages reach
+abbrev pub KnownReached : Type 0
+KnownReached = (cells : List Cell) (messages : List Message) → DistinctMembers messages
+    → (p : ℕ) → Known (repair cells messages) p ↔ Reached cells messages p
+
+-- which numbers are known afterwards does not depend on the order of the messages
+abbrev pub AnyOrder : Type 0
+AnyOrder = (cells : List Cell) (messages others : List Message) → DistinctMembers messages
+    → ((message : Message) → Among message messages ↔ Among message others)
+    → (p : ℕ) → Known (repair cells messages) p ↔ Known (repair cells others) p
+
+-- with more known before and more messages, no less is known afterwards
+abbrev pub NoLess : Type 0
+NoLess = (cells wider : List Cell) (messages more : List Message) → DistinctMembers more
+    → ((p : ℕ) → Known cells p → Known wider p) → ((message : Message) → Among message messages → Among message more)
+    → (p : ℕ) → Known (repair cells messages) p → Known (repair wider more) p
+
+-- ---- an honest sender
+-- where all known numbers have the sender's packets up to zeros at the end, so have those that repair fills
+abbrev pub StaysTrue : Type 0
+StaysTrue = (row : ℕ → List ℕ) (cells : List Cell) (messages : List Message) → HonestMessages row (length cells) messages
+    → TrueCells row cells → TrueCells row (repair cells messages)
+
+-- a burst is mended: where no message is usable any more, an honest datagram is held at S, and of its reach at most m
+-- numbers in a row are unknown, each with a packet of one octet or more, all of the reach is known
+abbrev pub BurstMended : Type 0
+BurstMended = (row : ℕ → List ℕ) (cells : List Cell) (messages : List Message) (S : ℕ) (held : Held) (a : ℕ)
+    → HonestHeld row S held
+    → firstUsable cells messages ≡ none
+    → ((message : Message) → Among message (messagesOf S held) → Among message messages)
+    → ((p : ℕ) → p < S → Unknown cells p → 1 ≤ length (row p))
+    → ((p : ℕ) → S - held .n * length (held .messages) ≤ p → p < S → Unknown cells p
+    → (a ≤ p) × (p < a + length (held .messages)))
+    → (p : ℕ) → S - held .n * length (held .messages) ≤ p → p < S → Known cells p
+
+-- ---- document 01's sheet, the rows of this layer
+-- "Packets 0 `06` and 1 `C0 01 80 00 00 55`"
+abbrev pub packet0 : List ℕ
+packet0 = 0x06 ∷ []
+
+abbrev pub packet1 : List ℕ
+packet1 = 0xC0 ∷ 0x01 ∷ 0x80 ∷ 0x00 ∷ 0x00 ∷ 0x55 ∷ []
+
+-- "message `C6 01 80 00 00 55`"
+abbrev pub message2 : List ℕ
+message2 = 0xC6 ∷ 0x01 ∷ 0x80 ∷ 0x00 ∷ 0x00 ∷ 0x55 ∷ []
+
+abbrev pub received1 : Cell
+received1 = record { state = received; octets = packet1 }
+
+pub record Sheet : Type 0 where
+  -- ★ "Packets 0 `06` and 1 `C0 01 80 00 00 55`, n=2, m=1, datagram 2: message `C6 01 80 00 00 55`."
+  pub message-of-two : messageOver (map (λ p. getD (packet0 ∷ packet1 ∷ []) p []) (membersOf 2 2 1 0)) ≡ message2
+  -- ★ "Losing 0 there gives `06` and five zeros"
+  pub losing-0 : repair (unknownCell ∷ received1 ∷ []) (messagesOf 2 (record { accepted = true; n = 2; messages = message2 ∷ [] }))
+      ≡ record { state = repaired; octets = 0x06 ∷ 0 ∷ 0 ∷ 0 ∷ 0 ∷ 0 ∷ [] } ∷ received1 ∷ []
+  -- ★ "n=2, m=2, datagram 4: members 2, 0 and 3, 1."
+  pub members-of-4 : (membersOf 4 2 2 0 ≡ 2 ∷ 0 ∷ []) × (membersOf 4 2 2 1 ≡ 3 ∷ 1 ∷ [])
+
+pub record Claims : Type 1 where
+  pub membersExact : MembersExact
+  pub heldDistinct : HeldDistinct
+  pub knownKept : KnownKept
+  pub lengthKept : LengthKept
+  pub noneLeft : NoneLeft
+  pub nothingMore : NothingMore
+  pub knownReached : KnownReached
+  pub anyOrder : AnyOrder
+  pub noLess : NoLess
+  pub staysTrue : StaysTrue
+  pub burstMended : BurstMended
+  pub sheet : Sheet
