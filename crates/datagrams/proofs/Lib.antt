@@ -2,3 +2,4 @@ mod WriteTests
 pub mod PutLaws
 mod PutSteps
 mod ItemSteps
+mod SizeSteps

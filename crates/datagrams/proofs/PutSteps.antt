@@ -16,7 +16,7 @@ use Rattle.lengths.specs.declared.Refusal.{Refusal}
 use Rattle.lengths.specs.declared.Written.{Written}
 use Rattle.lengths.specs.declared.Written.the-variants as written
 use Rattle.datagrams.specs.Write.{numberOctets, itemOctets}
-use Rattle.datagrams.specs.Put.{Put, kindOctets, nFits}
+use Rattle.datagrams.specs.Put.{Put, sparesHead, parityHead, kindHead, KindFits, nFits}
 use Rattle.datagrams.specs.declared.kind.Kind.{Kind}
 use Rattle.datagrams.specs.declared.kind.Kind.the-variants as kind
 use Rattle.datagrams.proofs.PutLaws.{put-none, put-one, put-next}
@@ -75,11 +75,10 @@ pub number-room : (number : ℕ) → length (numberOctets number) ≡ 2
 unfolding numberOctets
 number-room number = refl
 
-pub number-put : (number : ℕ) {old : List ℕ} → length (numberOctets number) ≤ length old
-    → Put (numberOctets number) old (set (set old 0 (number / 256)) 1 (number % 256)) 2
+pub number-put : (number : ℕ) {old new : List ℕ} {n : ℕ} → Put (number / 256 ∷ number % 256 ∷ []) old new n
+    → Put (numberOctets number) old new n
 unfolding numberOctets
-number-put number {old} room =
-    put-one (number % 256) (put-one (number / 256) put-none (omega arith)) (omega arith)
+number-put number p = p
 
 -- ---- put_item
 pub item-put : (item : List ℕ) {old mid part : List ℕ} {at n : ℕ} → Put (lengthOctets (length item)) old mid at
@@ -93,27 +92,50 @@ pub head-put : (number : ℕ) (packet : List ℕ) {old mid part : List ℕ} {at 
     → Put (numberOctets number ++ itemOctets packet) old (putMid at (length mid - at) mid part) (at + n)
 head-put number packet p q = put-next p q
 
--- ---- put_kind
-pub spares-room : (k : Kind) → k ≡ kind.Spares → length (kindOctets k) ≡ 1
-spares-room k e = rw e
-
-pub parity-room : (k : Kind) {n : ℕ} → k ≡ kind.Parity n → length (kindOctets k) ≡ 3
-parity-room k e = rw e
-
-pub spares-put : (k : Kind) {old : List ℕ} → k ≡ kind.Spares → length (kindOctets k) ≤ length old → Put (kindOctets k) old (set old 0 0) 1
-spares-put k {old} e room = let size = spares-room k e in rw e (put-one 0 put-none (omega arith))
-
-pub parity-put : (k : Kind) {n : ℕ} {old : List ℕ} → k ≡ kind.Parity n → nFits k ≡ true → length (kindOctets k) ≤ length old
-    → Put (kindOctets k) old (set (set (set old 0 128) 1 1) 2 (n % 256)) 3
-parity-put k {n} {old} e small room =
-    let size = parity-room k e in
-    let octet : n < 256 = ltb-true n 256 (rw e at small) in
-    rw (e, mod-eq-of-lt octet) (put-one n (put-one 1 (put-one 128 put-none (omega arith)) (omega arith)) (omega arith))
-
--- ---- put_count
-pub count-put : (k : Kind) (count : ℕ) {old mid part : List ℕ} {at n : ℕ} → Put (kindOctets k) old mid at
+-- ---- put_spares, put_parity
+pub spares-put : (count : ℕ) {old mid part : List ℕ} {at n : ℕ} → Put (0x00 ∷ []) old mid at
     → Put (lengthOctets count) (midOf at (length mid - at) mid) part n
-    → Put (kindOctets k ++ lengthOctets count) old (putMid at (length mid - at) mid part) (at + n)
-count-put k count p q = put-next p q
+    → Put (sparesHead count) old (putMid at (length mid - at) mid part) (at + n)
+spares-put count p q = put-next p q
 
-pub ruleset puts = (copy-start, copy-turn, copy-done, length-put, length-never, number-put, item-put, head-put, spares-put, parity-put, count-put)
+pub parity-put : (n m : ℕ) {old mid part : List ℕ} {at size : ℕ} → n < 256 → Put (0x80 ∷ 0x01 ∷ n % 256 ∷ []) old mid at
+    → Put (lengthOctets m) (midOf at (length mid - at) mid) part size
+    → Put (parityHead n m) old (putMid at (length mid - at) mid part) (at + size)
+parity-put n m octet p q = rw (mod-eq-of-lt octet) at (put-next p q)
+
+-- ---- put_kind
+pub spares-asked : (k : Kind) (count : ℕ) {room : ℕ} → k ≡ kind.Spares → KindFits k count → length (kindHead k count) ≤ room
+    → (count ≤ lengthLimit) × (1 + length (lengthOctets count) ≤ room)
+spares-asked k count {room} e fits enough = let some : length (sparesHead count) ≤ room = rw e at enough in omega arith
+
+pub parity-asked : (k : Kind) (count : ℕ) {n room : ℕ} → k ≡ kind.Parity n → KindFits k count → length (kindHead k count) ≤ room
+    → (n < 256) × (count ≤ lengthLimit) × (3 + length (lengthOctets count) ≤ room)
+parity-asked k count {n} {room} e fits enough =
+    let some : length (parityHead n count) ≤ room = rw e at enough in
+    let octet : n < 256 = ltb-true n 256 (rw e at (fits .n)) in
+    omega arith
+
+pub kind-spares : (k : Kind) (count : ℕ) {n : ℕ} {old new : List ℕ} → k ≡ kind.Spares → Put (sparesHead count) old new n
+    → Put (kindHead k count) old new n
+kind-spares k count e p = rw e p
+
+pub kind-parity : (k : Kind) (count : ℕ) {p n : ℕ} {old new : List ℕ} → k ≡ kind.Parity p → Put (parityHead p count) old new n
+    → Put (kindHead k count) old new n
+kind-parity k count e p = rw e p
+
+pub ruleset puts = (
+  copy-start,
+  copy-turn,
+  copy-done,
+  length-put,
+  length-never,
+  number-put,
+  item-put,
+  head-put,
+  spares-put,
+  parity-put,
+  spares-asked,
+  parity-asked,
+  kind-spares,
+  kind-parity,
+)

@@ -7,8 +7,8 @@ use mathlib.Core.Bool.{Bool, true}
 use mathlib.Core.List.{List, [], _∷_, _++_}
 use lib.ListN.{length, drop}
 use lib.Dec.{ltb}
-use Rattle.lengths.specs.Length.{lengthOctets}
-use Rattle.datagrams.specs.Write.{countInside, sumOf, lengthsInside}
+use Rattle.lengths.specs.Length.{lengthOctets, lengthLimit}
+use Rattle.datagrams.specs.Write.{numberOctets, sumOf}
 use Rattle.datagrams.specs.declared.kind.Kind.{Kind}
 use Rattle.datagrams.specs.declared.kind.Kind.the-variants as kind
 
@@ -18,15 +18,23 @@ pub record Put (octets old new : List ℕ) (size : ℕ) : Type 0 where
   pub answer : size ≡ length octets
   pub lent : new ≡ octets ++ drop (length octets) old
 
--- what stands before the count: one octet, 00 for spares or 80 for parity; for parity then octet 01 and octet n
-abbrev pub kindOctets : Kind → List ℕ
-kindOctets kind.Spares = 0x00 ∷ []
-kindOctets (kind.Parity n) = 0x80 ∷ 0x01 ∷ n ∷ []
+-- what stands before the spares: octet 00 and their count
+abbrev pub sparesHead : ℕ → List ℕ
+sparesHead count = 0x00 ∷ lengthOctets count
 
--- n is an octet
-abbrev pub nFits : Kind → Bool
-nFits kind.Spares = true
-nFits (kind.Parity n) = ltb n 256
+-- what stands before the messages: octets 80, 01 and n, and their count
+abbrev pub parityHead : ℕ → ℕ → List ℕ
+parityHead n count = 0x80 ∷ 0x01 ∷ n ∷ lengthOctets count
+
+-- and before what a kind has
+abbrev pub kindHead : Kind → ℕ → List ℕ
+kindHead kind.Spares count = sparesHead count
+kindHead (kind.Parity n) count = parityHead n count
+
+-- how many octets a length or count takes
+pub record LengthSize (n r : ℕ) : Type 0 where
+  pub answer : r ≡ length (lengthOctets n)
+  pub small : r ≤ 2
 
 -- how many octets an item of n octets takes, with its length
 abbrev pub itemSize : ℕ → ℕ
@@ -37,8 +45,23 @@ unfoldable pub itemsSize : List ℕ → ℕ
 itemsSize [] = 0
 itemsSize (n ∷ lengths) = itemSize n + itemsSize lengths
 
--- what the writer is given passed every test but the last: only the room is left to ask for
-pub record Allowed (packet : List ℕ) (kind : Kind) (lengths run : List ℕ) : Type 0 where
-  pub counted : countInside kind (length lengths) ≡ true
+-- and a whole datagram
+unfoldable pub datagramSize : ℕ → List ℕ → Kind → List ℕ → ℕ
+datagramSize number packet kind lengths =
+    length (numberOctets number) + itemSize (length packet) + length (kindHead kind (length lengths)) + itemsSize lengths
+
+-- n is an octet, and the count has the form of a length
+abbrev pub nFits : Kind → Bool
+nFits kind.Spares = true
+nFits (kind.Parity n) = ltb n 256
+
+pub record KindFits (kind : Kind) (count : ℕ) : Type 0 where
+  pub n : nFits kind ≡ true
+  pub counted : count ≤ lengthLimit
+
+-- what is given has the form that its writers ask for: only the room is left to ask
+pub record Bounded (packet : List ℕ) (kind : Kind) (lengths run : List ℕ) : Type 0 where
+  pub newest : length packet ≤ lengthLimit
+  pub head : KindFits kind (length lengths)
   pub summed : sumOf lengths ≡ length run
-  pub sized : lengthsInside packet kind lengths ≡ true
+  pub few : length run ≤ lengthLimit

@@ -10,7 +10,6 @@ use lengths::Refusal;
 use lengths::Written;
 ghost use Prim.Native.Nat.{_+_, _≤_, _<_};
 ghost use mathlib.Core.Path.{_≡_};
-ghost use mathlib.Core.Bool.{true};
 ghost use mathlib.Core.List.{_++_};
 ghost use lib.ListN.{length};
 ghost use lib.Dec.{eqb};
@@ -20,7 +19,7 @@ ghost use Rattle.lengths.specs.Promise.{Puts};
 ghost use Rattle.datagrams.specs.Sizes.{packetLimit, sparesLimit};
 ghost use Rattle.datagrams.specs.Write.{numberOctets, itemOctets, itemsOctets, datagramOctets, datagramToWrite, carriedOf, cut, sumOf, countInside, itemInside, itemsInside, lengthsInside};
 ghost use Rattle.datagrams.specs.Write.{within as isWithin};
-ghost use Rattle.datagrams.specs.Put.{Put, Allowed, nFits, kindOctets, itemSize, itemsSize};
+ghost use Rattle.datagrams.specs.Put.{Put, Bounded, LengthSize, KindFits, sparesHead, parityHead, kindHead, itemSize, itemsSize, datagramSize};
 
 // ---- what is refused
 
@@ -148,9 +147,10 @@ pub fn put_number(number: u16, out: &mut [u8]) -> usize
     requires { ⌜ length (numberOctets number) ≤ length (now out) ⌝ }
     ensures { λ r. ⌜ Put (numberOctets number) (now (out .entry)) (now (out .exit)) r ⌝ }
 {
-    out[0] = (number / 256) as u8;
-    out[1] = (number % 256) as u8;
-    2
+    let high = (number / 256) as u8;
+    let low = (number % 256) as u8;
+    let octets = [high, low];
+    put_octets(&octets, out)
 }
 
 // The number and the newest packet.
@@ -163,33 +163,38 @@ pub fn put_head(number: u16, packet: &[u8], out: &mut [u8]) -> usize
     at + size
 }
 
-// One octet, 00 for spares or 80 for parity; for parity then octet 01 and octet n.
-pub fn put_kind(kind: Kind, out: &mut [u8]) -> usize
-    requires { ⌜ (nFits kind ≡ true) × (length (kindOctets kind) ≤ length (now out)) ⌝ }
-    ensures { λ r. ⌜ Put (kindOctets kind) (now (out .entry)) (now (out .exit)) r ⌝ }
+// Octet 00, and how many spares there are.
+pub fn put_spares(count: usize, out: &mut [u8]) -> usize
+    requires { ⌜ (count ≤ lengthLimit) × (1 + length (lengthOctets count) ≤ length (now out)) ⌝ }
+    ensures { λ r. ⌜ Put (sparesHead count) (now (out .entry)) (now (out .exit)) r ⌝ }
 {
-    match kind {
-        Kind::Spares => {
-            out[0] = 0;
-            1
-        }
-        Kind::Parity(n) => {
-            out[0] = 128;
-            out[1] = 1;
-            out[2] = (n % 256) as u8;
-            3
-        }
-    }
-}
-
-// What stands before the spares or messages: their kind, and how many there are.
-pub fn put_count(kind: Kind, count: usize, out: &mut [u8]) -> usize
-    requires { ⌜ (nFits kind ≡ true) × (count ≤ lengthLimit) × (length (kindOctets kind) + length (lengthOctets count) ≤ length (now out)) ⌝ }
-    ensures { λ r. ⌜ Put (kindOctets kind ++ lengthOctets count) (now (out .entry)) (now (out .exit)) r ⌝ }
-{
-    let at = put_kind(kind, out);
+    let marks = [0u8];
+    let at = put_octets(&marks, out);
     let size = put_length(count, &mut out[at..]);
     at + size
+}
+
+// Octet 80, octet 01, octet n, and m, how many messages there are.
+pub fn put_parity(n: usize, m: usize, out: &mut [u8]) -> usize
+    requires { ⌜ (n < 256) × (m ≤ lengthLimit) × (3 + length (lengthOctets m) ≤ length (now out)) ⌝ }
+    ensures { λ r. ⌜ Put (parityHead n m) (now (out .entry)) (now (out .exit)) r ⌝ }
+{
+    let octet = (n % 256) as u8;
+    let marks = [128u8, 1, octet];
+    let at = put_octets(&marks, out);
+    let size = put_length(m, &mut out[at..]);
+    at + size
+}
+
+// What stands before the spares or messages.
+fn put_kind(kind: Kind, count: usize, out: &mut [u8]) -> usize
+    requires { ⌜ (KindFits kind count) × (length (kindHead kind count) ≤ length (now out)) ⌝ }
+    ensures { λ r. ⌜ Put (kindHead kind count) (now (out .entry)) (now (out .exit)) r ⌝ }
+{
+    match kind {
+        Kind::Spares => put_spares(count, out),
+        Kind::Parity(n) => put_parity(n, count, out),
+    }
 }
 
 // Spares or messages, each with its length.
@@ -209,4 +214,62 @@ fn put_items(lengths: &[u16], data: &[u8], out: &mut [u8]) -> usize
         i += 1;
     }
     at
+}
+
+// ---- how many octets it takes
+
+pub fn length_size(n: usize) -> usize
+    ensures { λ r. ⌜ LengthSize n r ⌝ }
+{
+    if n < 128 {
+        return 1;
+    }
+    2
+}
+
+// An item of n octets, with its length.
+pub fn item_size(n: usize) -> usize
+    requires { ⌜ n ≤ lengthLimit ⌝ }
+    ensures { λ r. ⌜ r ≡ itemSize n ⌝ }
+{
+    let size = length_size(n);
+    size + n
+}
+
+// What stands before the spares or messages.
+fn kind_size(kind: Kind, count: usize) -> usize
+    ensures { λ r. ⌜ r ≡ length (kindHead kind count) ⌝ }
+{
+    let size = length_size(count);
+    match kind {
+        Kind::Spares => size + 1,
+        Kind::Parity(_) => size + 3,
+    }
+}
+
+// Spares or messages of these lengths.
+fn items_size(lengths: &[u16]) -> usize
+    requires { ⌜ sumOf (now lengths) ≤ lengthLimit ⌝ }
+    ensures { λ r. ⌜ r ≡ itemsSize (now (lengths .entry)) ⌝ }
+{
+    let mut size = 0;
+    let mut i = 0;
+    while i < lengths.len() {
+        size += item_size(wide(lengths[i]));
+        i += 1;
+    }
+    size
+}
+
+// The whole datagram.
+fn datagram_size(number: u16, packet: &[u8], kind: Kind, lengths: &[u16]) -> usize
+    requires { ⌜ (length (now packet) ≤ lengthLimit) × (sumOf (now lengths) ≤ lengthLimit) ⌝ }
+    ensures { λ r. ⌜ r ≡ datagramSize number (now (packet .entry)) kind (now (lengths .entry)) ⌝ }
+{
+    let newest = item_size(packet.len());
+    let before = kind_size(kind, lengths.len());
+    let items = items_size(lengths);
+    let head = 2 + newest;
+    let all = head + before;
+    all + items
 }
