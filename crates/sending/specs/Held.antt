@@ -1,0 +1,32 @@
+-- What the calls inside the session ask and owe: the history slot by slot. Definitions only.
+use Prim.Native.Nat.{ℕ, _%_, _≤_, _<_}
+use mathlib.Core.Path.{_≡_}
+use mathlib.Core.Bool.{true}
+use mathlib.Core.List.{List}
+use lib.ListN.{length, set}
+use Rattle.datagrams.specs.Sizes.{packetLimit}
+use Rattle.stores.specs.Store.{pasted, zeros, zerosPast}
+use Rattle.sending.specs.Sending.{historyKept}
+use Rattle.sending.specs.Sender.{historyOctets, sizeIn}
+
+-- the lengths that the arrays have
+pub record Arrays (sizes o : List ℕ) : Type 0 where
+  pub slots : length sizes ≡ historyKept
+  pub octets : length o ≡ historyOctets
+
+-- and each slot within the ranges: its length is a packet's, and past it are zeros
+pub record Stored (sizes o : List ℕ) : Type 0 where
+  pub arrays : Arrays sizes o
+  pub small : (i : ℕ) → i < historyKept → sizeIn sizes i ≤ packetLimit
+  pub clean : (i : ℕ) → i < historyKept → zerosPast o i (sizeIn sizes i) ≡ true
+
+-- the sizes and the store once a packet has joined: its slot is that of its number, and was cleared first
+abbrev pub sizesKept : ℕ → List ℕ → List ℕ → List ℕ
+sizesKept number packet sizes = set sizes (number % historyKept) (length packet)
+
+abbrev pub octetsKept : ℕ → List ℕ → List ℕ → List ℕ
+octetsKept number packet o = pasted (pasted o (number % historyKept) (zeros packetLimit)) (number % historyKept) packet
+
+pub record Keeps (number : ℕ) (packet sizes o sizes′ o′ : List ℕ) : Type 0 where
+  pub size : sizes′ ≡ sizesKept number packet sizes
+  pub octets : o′ ≡ octetsKept number packet o
