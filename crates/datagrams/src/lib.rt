@@ -1,7 +1,7 @@
 // Datagrams, read and written: document 01, 'The datagram' and 'Sizes'.
 mod kind;
 mod sizes;
-pub mod writer;
+mod writer;
 
 pub use kind::Kind;
 pub use sizes::Datagram;

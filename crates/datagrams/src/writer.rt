@@ -187,7 +187,7 @@ pub fn put_parity(n: usize, m: usize, out: &mut [u8]) -> usize
 }
 
 // What stands before the spares or messages.
-pub fn put_kind(kind: Kind, count: usize, out: &mut [u8]) -> usize
+fn put_kind(kind: Kind, count: usize, out: &mut [u8]) -> usize
     requires { ⌜ (KindFits kind count) × (length (kindHead kind count) ≤ length (now out)) ⌝ }
     ensures { λ r. ⌜ Put (kindHead kind count) (now (out .entry)) (now (out .exit)) r ⌝ }
 {
@@ -237,7 +237,7 @@ pub fn item_size(n: usize) -> usize
 }
 
 // What stands before the spares or messages.
-pub fn kind_size(kind: Kind, count: usize) -> usize
+fn kind_size(kind: Kind, count: usize) -> usize
     ensures { λ r. ⌜ r ≡ length (kindHead kind count) ⌝ }
 {
     let size = length_size(count);
