@@ -1,17 +1,17 @@
 -- The loop that writes spares or messages, and the size that it takes: what is left to write, after what is written, gives
 -- the whole. Assumes nothing.
-use Prim.Native.Nat.{ℕ, suc, _+_, _-_, _≤_, _<_}
+use Prim.Native.Nat.{ℕ, _+_, _-_, _≤_, _<_}
 use mathlib.Core.Path.{_≡_, refl, sym, ap, _∙_}
-use mathlib.Core.List.{List, [], _∷_, _++_, append-assoc, append-nil}
-use lib.ListN.{length, getD, take, drop, drop-of-length-le, length-append, length-drop}
+use mathlib.Core.List.{List, [], _++_, append-assoc, append-nil}
+use lib.ListN.{length, getD, take, drop, drop-of-length-le, length-drop}
 use lib.Seq.{drop-cons, drop-drop, length-take-le}
 use native.Mathlib.Numerals.{add-one}
 use native.Mathlib.Omega.{arith}
 use borrow.Rule.Slice.PartMut.{midOf, putMid}
-use Rattle.lengths.specs.Length.{lengthOctets, lengthLimit}
+use Rattle.lengths.specs.Length.{lengthLimit}
 use Rattle.datagrams.specs.Write.{itemOctets, itemsOctets, cut, sumOf}
 use Rattle.datagrams.specs.Put.{Put, itemSize, itemsSize}
-use Rattle.datagrams.proofs.PutLaws.{put-none, put-next, put-long, room-left}
+use Rattle.datagrams.proofs.PutLaws.{item-length, put-none, put-next, put-long, room-left}
 use Rattle.datagrams.proofs.WriteTests.{sum-next}
 
 -- ---- one item more
@@ -30,10 +30,6 @@ cut-next lengths run i from more =
 cut-none : (lengths run : List ℕ) (i from : ℕ) → length lengths ≤ i → itemsOctets (cut (drop i lengths) (drop from run)) ≡ []
 unfolding cut itemsOctets
 cut-none lengths run i from end = rw (drop-of-length-le lengths end)
-
-pub item-size : (item : List ℕ) → length (itemOctets item) ≡ itemSize (length item)
-unfolding itemOctets
-item-size item = length-append (lengthOctets (length item)) item
 
 -- ---- put_items
 
@@ -94,7 +90,7 @@ module _ {lengths run old : List ℕ} where
       let sizes = size-next lengths i more in
       let t = turning v more e in
       let whole = put-next (v .put) q in
-      let octets = q .answer ∙ item-size _ ∙ ap itemSize (t .size ∙ e) in
+      let octets = q .answer ∙ item-length _ ∙ ap itemSize (t .size ∙ e) in
       let item : from + n - from ≡ getD lengths i 0 = omega arith in
       record {
         bound = omega arith;

@@ -3,3 +3,5 @@ pub mod PutLaws
 mod PutSteps
 mod ItemSteps
 mod SizeSteps
+pub mod WriteLaws
+mod WriteSteps

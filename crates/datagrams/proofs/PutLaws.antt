@@ -1,14 +1,22 @@
 -- Laws of `Put`, octets written to the front of a lent part: none, one more, and a writer after another, lent what is still
 -- free after the last. Whoever writes a datagram item by item composes its writers by `put-then`. Assumes nothing.
 use Prim.Native.Nat.{ℕ, suc, _+_, _-_, _≤_, _<_}
-use mathlib.Core.Path.{_≡_, refl, sym, ap, _∙_}
+use mathlib.Core.Path.{_≡_, refl, sym}
 use mathlib.Core.List.{List, [], _∷_, _++_, append-assoc, append-nil}
-use lib.ListN.{length, getD, take, drop, set, length-append, length-drop, length-set, drop-of-length-le}
-use lib.Seq.{take-at, drop-at, set-at, drop-cons, drop-drop, take-suc, length-take-le, append-snoc, take-all}
+use lib.ListN.{length, getD, take, drop, set, length-append, length-drop, drop-of-length-le}
+use lib.Seq.{take-at, drop-at, set-at, drop-cons, drop-drop, append-snoc, take-all}
 use native.Mathlib.Numerals.{add-one}
 use native.Mathlib.Omega.{arith}
-use borrow.Rule.Slice.PartMut.{midOf, postOf, putMid}
-use Rattle.datagrams.specs.Put.{Put}
+use borrow.Author.Tests.{le-leb, lt-leb}
+use borrow.Rule.Slice.PartMut.{midOf, putMid}
+use Rattle.lengths.specs.Refusals.{noRoom}
+use Rattle.lengths.specs.Answers.{done}
+use Rattle.lengths.specs.Promise.{Puts, RefusalMade}
+use Rattle.lengths.specs.declared.Refusal.{Refusal}
+use Rattle.lengths.specs.declared.Written.the-variants as written
+use Rattle.lengths.specs.Length.{lengthOctets}
+use Rattle.datagrams.specs.Write.{numberOctets, itemOctets}
+use Rattle.datagrams.specs.Put.{Put, itemSize}
 
 -- ---- none, one more, one writer after another
 pub put-none : {old : List ℕ} → Put [] old old 0
@@ -62,3 +70,24 @@ room-left mid at k room = rw (rest-of mid at, length-drop at mid) (omega arith)
 pub put-long : {octets old new : List ℕ} {n : ℕ} → Put octets old new n → length new ≡ length old
 put-long {octets} {old} p =
     rw (p .lent, length-append octets (drop (length octets) old), length-drop (length octets) old) (let room = p .inside in omega arith)
+
+-- ---- how many octets
+pub number-length : (number : ℕ) → length (numberOctets number) ≡ 2
+unfolding numberOctets
+number-length number = refl
+
+pub item-length : (item : List ℕ) → length (itemOctets item) ≡ itemSize (length item)
+unfolding itemOctets
+item-length item = length-append (lengthOctets (length item)) item
+
+-- ---- a call's whole promise: what is put where it has room, and 13 where it has none
+pub put-puts : {octets old new : List ℕ} {n : ℕ} → Put octets old new n → Puts (done octets) old new (written.Octets n)
+put-puts {octets} {old} p =
+    let fits = le-leb (length octets) (length old) (p .inside) in
+    record { answer = rw (fits, p .answer); lent = rw fits (p .lent) }
+
+pub full-puts : {octets old : List ℕ} {r : Refusal} → RefusalMade noRoom r → length old < length octets
+    → Puts (done octets) old old (written.Refused r)
+full-puts {octets} {old} made full =
+    let short = lt-leb (length octets) (length old) full in
+    record { answer = rw (short, made .answer); lent = rw short }

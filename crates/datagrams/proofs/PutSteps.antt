@@ -1,26 +1,25 @@
 -- The item writers, in the words of the code: one law for each answer, and for each turn of a loop. Assumes nothing.
-use Prim.Native.Nat.{ℕ, suc, _+_, _-_, _/_, _%_, _≤_, _<_}
-use mathlib.Core.Path.{_≡_, refl, sym, ap, _∙_}
-use mathlib.Core.Bool.{true}
+use Prim.Native.Nat.{ℕ, _+_, _-_, _/_, _%_, _≤_, _<_}
+use mathlib.Core.Path.{_≡_, refl}
 use mathlib.Core.List.{List, [], _∷_, _++_}
-use lib.ListN.{length, getD, take, drop, set, length-set}
-use lib.Seq.{take-suc, length-take-le, take-all}
+use lib.ListN.{length, getD, take, set, length-set}
+use lib.Seq.{take-suc, take-all}
 use native.Mathlib.Nat.{mod-eq-of-lt}
 use native.Mathlib.Numerals.{add-one}
 use native.Mathlib.Omega.{arith}
 use borrow.Author.Tests.{le-ltb, le-leb, ltb-true}
-use Rattle.lengths.specs.Answers.{Answer, done, refused, fitted, sizeOf, over, writtenOutcome}
+use borrow.Rule.Slice.PartMut.{midOf, putMid}
+use Rattle.lengths.specs.Answers.{done, refused, fitted, sizeOf}
 use Rattle.lengths.specs.Length.{lengthOctets, lengthToWrite, lengthLimit}
 use Rattle.lengths.specs.Promise.{Puts}
 use Rattle.lengths.specs.declared.Refusal.{Refusal}
 use Rattle.lengths.specs.declared.Written.{Written}
 use Rattle.lengths.specs.declared.Written.the-variants as written
 use Rattle.datagrams.specs.Write.{numberOctets, itemOctets}
-use Rattle.datagrams.specs.Put.{Put, sparesHead, parityHead, kindHead, KindFits, nFits}
+use Rattle.datagrams.specs.Put.{Put, sparesHead, parityHead, kindHead, KindFits}
 use Rattle.datagrams.specs.declared.kind.Kind.{Kind}
 use Rattle.datagrams.specs.declared.kind.Kind.the-variants as kind
 use Rattle.datagrams.proofs.PutLaws.{put-none, put-one, put-next}
-use borrow.Rule.Slice.PartMut.{midOf, putMid}
 
 -- ---- put_octets
 
@@ -71,10 +70,6 @@ module _ (n : ℕ) {old new : List ℕ} (fits : n ≤ lengthLimit) (room : lengt
       absurd (omega arith)
 
 -- ---- put_number
-pub number-room : (number : ℕ) → length (numberOctets number) ≡ 2
-unfolding numberOctets
-number-room number = refl
-
 pub number-put : (number : ℕ) {old new : List ℕ} {n : ℕ} → Put (number / 256 ∷ number % 256 ∷ []) old new n
     → Put (numberOctets number) old new n
 unfolding numberOctets

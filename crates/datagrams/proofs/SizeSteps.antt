@@ -1,18 +1,18 @@
 -- How many octets a datagram and its parts take, in the words of the code: one law for each answer, and for each turn of the
 -- loop over the lengths. Assumes nothing.
-use Prim.Native.Nat.{ℕ, suc, _+_, _*_, _≤_, _<_}
-use mathlib.Core.Path.{_≡_, refl, sym, ap, _∙_}
+use Prim.Native.Nat.{ℕ, _+_, _*_, _≤_, _<_}
+use mathlib.Core.Path.{_≡_, ap}
 use mathlib.Core.List.{List, [], _∷_}
 use lib.ListN.{length, getD, drop, drop-of-length-le}
 use native.Mathlib.Omega.{arith}
-use Rattle.lengths.specs.Length.{lengthOctets, lengthLimit}
+use Rattle.lengths.specs.Length.{lengthLimit}
 use Rattle.lengths.proofs.Laws.{lengthOctets-one, lengthOctets-two, size-written}
-use Rattle.datagrams.specs.Write.{sumOf, numberOctets}
+use Rattle.datagrams.specs.Write.{sumOf}
 use Rattle.datagrams.specs.Put.{LengthSize, kindHead, itemSize, itemsSize, datagramSize}
 use Rattle.datagrams.specs.declared.kind.Kind.{Kind}
 use Rattle.datagrams.specs.declared.kind.Kind.the-variants as kind
 use Rattle.datagrams.proofs.WriteTests.{sum-next}
-use Rattle.datagrams.proofs.PutSteps.{number-room}
+use Rattle.datagrams.proofs.PutLaws.{number-length}
 use Rattle.datagrams.proofs.ItemSteps.{size-next}
 
 -- ---- length_size, kind_size
@@ -90,8 +90,7 @@ datagram-bound n k count lengths a b c =
 pub datagram-sized : (number : ℕ) (packet : List ℕ) (k : Kind) (lengths : List ℕ) {newest before items : ℕ}
     → newest ≡ itemSize (length packet) → before ≡ length (kindHead k (length lengths)) → items ≡ itemsSize lengths
     → 2 + newest + before + items ≡ datagramSize number packet k lengths
-unfolding datagramSize
-datagram-sized number packet k lengths a b c = rw (number-room number, a, b, c)
+datagram-sized number packet k lengths a b c = rw (number-length number, a, b, c)
 
 -- the sizes' answers
 pub ruleset sizes = (length-one, length-two, spares-size, parity-size, sizing-start, sizing-turn, sizing-done, datagram-sized)

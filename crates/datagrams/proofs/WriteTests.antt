@@ -1,10 +1,10 @@
 -- The datagram writer's tests, in the words of the code: one law for each answer of `within`, `count_inside`, `item_inside`,
 -- `items_inside`, `lengths_inside` and `sums_to`. Assumes nothing.
 use Prim.Native.Nat.{ℕ, zero, suc, _+_, _-_, _≤_, _<_}
-use mathlib.Core.Path.{_≡_, refl, sym, ap, _∙_}
+use mathlib.Core.Path.{_≡_, refl, sym, _∙_}
 use mathlib.Core.Logic.{_⊎_, inl, inr, ⊎-elim}
 use mathlib.Core.Bool.{Bool, true, false, not, _&&_}
-use mathlib.Core.List.{List, [], _∷_}
+use mathlib.Core.List.{List}
 use lib.ListN.{length, getD, drop, drop-of-length-le}
 use lib.Dec.{leb, eqb}
 use lib.Seq.{drop-cons}

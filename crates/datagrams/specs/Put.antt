@@ -46,7 +46,7 @@ itemsSize [] = 0
 itemsSize (n ∷ lengths) = itemSize n + itemsSize lengths
 
 -- and a whole datagram
-unfoldable pub datagramSize : ℕ → List ℕ → Kind → List ℕ → ℕ
+abbrev pub datagramSize : ℕ → List ℕ → Kind → List ℕ → ℕ
 datagramSize number packet kind lengths =
     length (numberOctets number) + itemSize (length packet) + length (kindHead kind (length lengths)) + itemsSize lengths
 

@@ -1,35 +1,33 @@
 // Document 01, 'The datagram': the datagram writer. It decides everything first, the room included, and then lends the rest
 // of the buffer to the item writers in turn, each item into the part still free after the last.
 use crate::kind::Kind;
+use crate::put::item_size;
+use crate::put::items_size;
+use crate::put::kind_size;
+use crate::put::put_head;
+use crate::put::put_items;
+use crate::put::put_kind;
+use crate::put::wide;
 use crate::sizes::Message;
 use crate::sizes::Packet;
 use crate::sizes::Parity;
 use crate::sizes::Spares;
-use lengths::Length;
 use lengths::Refusal;
 use lengths::Written;
-ghost use Prim.Native.Nat.{_+_, _≤_, _<_};
+ghost use Prim.Native.Nat.{_≤_};
 ghost use mathlib.Core.Path.{_≡_};
-ghost use mathlib.Core.List.{_++_};
 ghost use lib.ListN.{length};
 ghost use lib.Dec.{eqb};
 ghost use Rattle.lengths.specs.Answers.{done};
-ghost use Rattle.lengths.specs.Length.{lengthOctets, lengthLimit};
+ghost use Rattle.lengths.specs.Length.{lengthLimit};
 ghost use Rattle.lengths.specs.Promise.{Puts};
-ghost use Rattle.datagrams.specs.Sizes.{packetLimit, sparesLimit};
-ghost use Rattle.datagrams.specs.Write.{numberOctets, itemOctets, itemsOctets, datagramOctets, datagramToWrite, carriedOf, cut, sumOf, countInside, itemInside, itemsInside, lengthsInside};
+ghost use Rattle.datagrams.specs.Write.{datagramOctets, datagramToWrite, carriedOf, sumOf, countInside, itemInside, itemsInside, lengthsInside};
 ghost use Rattle.datagrams.specs.Write.{within as isWithin};
-ghost use Rattle.datagrams.specs.Put.{Put, Bounded, LengthSize, KindFits, sparesHead, parityHead, kindHead, itemSize, itemsSize, datagramSize};
+ghost use Rattle.datagrams.specs.Put.{Put, Bounded, datagramSize};
 
 // ---- what is refused
 
-// A length as a size.
-fn wide(length: u16) -> usize
-    ensures { λ r. ⌜ r ≡ length ⌝ }
-{
-    length as usize
-}
-
+// From least to limit.
 fn within(least: usize, limit: usize, n: usize) -> bool
     ensures { λ r. ⌜ r ≡ isWithin least limit n ⌝ }
 {
@@ -64,6 +62,7 @@ fn item_inside(kind: Kind, n: usize) -> bool
     }
 }
 
+// The length of every spare, or of every message.
 fn items_inside(kind: Kind, lengths: &[u16]) -> bool
     ensures { λ r. ⌜ r ≡ itemsInside kind (now (lengths .entry)) ⌝ }
 {
@@ -78,7 +77,7 @@ fn items_inside(kind: Kind, lengths: &[u16]) -> bool
 }
 
 // Every length is inside the sizes: the newest packet's, then those of the spares or messages.
-pub fn lengths_inside(packet: &[u8], kind: Kind, lengths: &[u16]) -> bool
+fn lengths_inside(packet: &[u8], kind: Kind, lengths: &[u16]) -> bool
     ensures { λ r. ⌜ r ≡ lengthsInside (now (packet .entry)) kind (now (lengths .entry)) ⌝ }
 {
     if !within(1, Packet::LIMIT, packet.len()) {
@@ -88,7 +87,7 @@ pub fn lengths_inside(packet: &[u8], kind: Kind, lengths: &[u16]) -> bool
 }
 
 // The lengths sum to the total. What is left of the total goes down to nothing, so no sum can wrap.
-pub fn sums_to(lengths: &[u16], total: usize) -> bool
+fn sums_to(lengths: &[u16], total: usize) -> bool
     ensures { λ r. ⌜ r ≡ eqb (sumOf (now (lengths .entry))) total ⌝ }
 {
     let mut left = total;
@@ -104,162 +103,7 @@ pub fn sums_to(lengths: &[u16], total: usize) -> bool
     left == 0
 }
 
-// ---- the item writers: each writes to the front of the part that it is lent, which is long enough, and answers how many
-// octets it wrote
-
-// Some octets as they are.
-pub fn put_octets(octets: &[u8], out: &mut [u8]) -> usize
-    requires { ⌜ length (now octets) ≤ length (now out) ⌝ }
-    ensures { λ r. ⌜ Put (now (octets .entry)) (now (out .entry)) (now (out .exit)) r ⌝ }
-{
-    let mut i = 0;
-    while i < octets.len() {
-        out[i] = octets[i];
-        i += 1;
-    }
-    i
-}
-
-// A length or count. The length writer refuses nothing here: the length has its form, and the part has room.
-pub fn put_length(n: usize, out: &mut [u8]) -> usize
-    requires { ⌜ (n ≤ lengthLimit) × (length (lengthOctets n) ≤ length (now out)) ⌝ }
-    ensures { λ r. ⌜ Put (lengthOctets n) (now (out .entry)) (now (out .exit)) r ⌝ }
-{
-    let written = lengths::write(n, out);
-    match written {
-        Written::Octets(size) => size,
-        Written::Refused(_) => 0,
-    }
-}
-
-// A packet, spare or message: length, octets.
-pub fn put_item(item: &[u8], out: &mut [u8]) -> usize
-    requires { ⌜ (length (now item) ≤ lengthLimit) × (itemSize (length (now item)) ≤ length (now out)) ⌝ }
-    ensures { λ r. ⌜ Put (itemOctets (now (item .entry))) (now (out .entry)) (now (out .exit)) r ⌝ }
-{
-    let at = put_length(item.len(), out);
-    let size = put_octets(item, &mut out[at..]);
-    at + size
-}
-
-// The number: two octets, high first.
-pub fn put_number(number: u16, out: &mut [u8]) -> usize
-    requires { ⌜ length (numberOctets number) ≤ length (now out) ⌝ }
-    ensures { λ r. ⌜ Put (numberOctets number) (now (out .entry)) (now (out .exit)) r ⌝ }
-{
-    let high = (number / 256) as u8;
-    let low = (number % 256) as u8;
-    let octets = [high, low];
-    put_octets(&octets, out)
-}
-
-// The number and the newest packet.
-pub fn put_head(number: u16, packet: &[u8], out: &mut [u8]) -> usize
-    requires { ⌜ (length (now packet) ≤ lengthLimit) × (length (numberOctets number) + itemSize (length (now packet)) ≤ length (now out)) ⌝ }
-    ensures { λ r. ⌜ Put (numberOctets number ++ itemOctets (now (packet .entry))) (now (out .entry)) (now (out .exit)) r ⌝ }
-{
-    let at = put_number(number, out);
-    let size = put_item(packet, &mut out[at..]);
-    at + size
-}
-
-// Octet 00, and how many spares there are.
-pub fn put_spares(count: usize, out: &mut [u8]) -> usize
-    requires { ⌜ (count ≤ lengthLimit) × (1 + length (lengthOctets count) ≤ length (now out)) ⌝ }
-    ensures { λ r. ⌜ Put (sparesHead count) (now (out .entry)) (now (out .exit)) r ⌝ }
-{
-    let marks = [0u8];
-    let at = put_octets(&marks, out);
-    let size = put_length(count, &mut out[at..]);
-    at + size
-}
-
-// Octet 80, octet 01, octet n, and m, how many messages there are.
-pub fn put_parity(n: usize, m: usize, out: &mut [u8]) -> usize
-    requires { ⌜ (n < 256) × (m ≤ lengthLimit) × (3 + length (lengthOctets m) ≤ length (now out)) ⌝ }
-    ensures { λ r. ⌜ Put (parityHead n m) (now (out .entry)) (now (out .exit)) r ⌝ }
-{
-    let octet = (n % 256) as u8;
-    let marks = [128u8, 1, octet];
-    let at = put_octets(&marks, out);
-    let size = put_length(m, &mut out[at..]);
-    at + size
-}
-
-// What stands before the spares or messages.
-fn put_kind(kind: Kind, count: usize, out: &mut [u8]) -> usize
-    requires { ⌜ (KindFits kind count) × (length (kindHead kind count) ≤ length (now out)) ⌝ }
-    ensures { λ r. ⌜ Put (kindHead kind count) (now (out .entry)) (now (out .exit)) r ⌝ }
-{
-    match kind {
-        Kind::Spares => put_spares(count, out),
-        Kind::Parity(n) => put_parity(n, count, out),
-    }
-}
-
-// Spares or messages, each with its length.
-fn put_items(lengths: &[u16], data: &[u8], out: &mut [u8]) -> usize
-    requires { ⌜ (sumOf (now lengths) ≡ length (now «data»)) × (length (now «data») ≤ lengthLimit) × (itemsSize (now lengths) ≤ length (now out)) ⌝ }
-    ensures { λ r. ⌜ Put (itemsOctets (cut (now (lengths .entry)) (now («data» .entry)))) (now (out .entry)) (now (out .exit)) r ⌝ }
-{
-    let mut i = 0;
-    let mut from = 0;
-    let mut at = 0;
-    while i < lengths.len() {
-        let to = from + wide(lengths[i]);
-        let item = &data[from..to];
-        let size = put_item(item, &mut out[at..]);
-        from = to;
-        at += size;
-        i += 1;
-    }
-    at
-}
-
-// ---- how many octets it takes
-
-pub fn length_size(n: usize) -> usize
-    ensures { λ r. ⌜ LengthSize n r ⌝ }
-{
-    if n < 128 {
-        return 1;
-    }
-    2
-}
-
-// An item of n octets, with its length.
-pub fn item_size(n: usize) -> usize
-    requires { ⌜ n ≤ lengthLimit ⌝ }
-    ensures { λ r. ⌜ r ≡ itemSize n ⌝ }
-{
-    let size = length_size(n);
-    size + n
-}
-
-// What stands before the spares or messages.
-fn kind_size(kind: Kind, count: usize) -> usize
-    ensures { λ r. ⌜ r ≡ length (kindHead kind count) ⌝ }
-{
-    let size = length_size(count);
-    match kind {
-        Kind::Spares => size + 1,
-        Kind::Parity(_) => size + 3,
-    }
-}
-
-// Spares or messages of these lengths.
-fn items_size(lengths: &[u16]) -> usize
-    requires { ⌜ sumOf (now lengths) ≤ lengthLimit ⌝ }
-    ensures { λ r. ⌜ r ≡ itemsSize (now (lengths .entry)) ⌝ }
-{
-    let mut size = 0;
-    let mut i = 0;
-    while i < lengths.len() {
-        size += item_size(wide(lengths[i]));
-        i += 1;
-    }
-    size
-}
+// ---- what is written
 
 // The whole datagram.
 fn datagram_size(number: u16, packet: &[u8], kind: Kind, lengths: &[u16]) -> usize
@@ -272,4 +116,70 @@ fn datagram_size(number: u16, packet: &[u8], kind: Kind, lengths: &[u16]) -> usi
     let head = 2 + newest;
     let all = head + before;
     all + items
+}
+
+// The whole datagram, each item into the part still free after the last.
+fn put_datagram(
+    number: u16,
+    packet: &[u8],
+    kind: Kind,
+    lengths: &[u16],
+    data: &[u8],
+    out: &mut [u8],
+) -> usize
+    requires { ⌜ (Bounded (now packet) kind (now lengths) (now «data»)) × (datagramSize number (now packet) kind (now lengths) ≤ length (now out)) ⌝ }
+    ensures { λ r. ⌜ Put (datagramOctets (carriedOf number (now (packet .entry)) kind (now (lengths .entry)) (now («data» .entry)))) (now (out .entry)) (now (out .exit)) r ⌝ }
+{
+    let head = put_head(number, packet, out);
+    let before = put_kind(kind, lengths.len(), &mut out[head..]);
+    let at = head + before;
+    let items = put_items(lengths, data, &mut out[at..]);
+    at + items
+}
+
+// What is allowed, written if there is room.
+fn write_allowed(
+    number: u16,
+    packet: &[u8],
+    kind: Kind,
+    lengths: &[u16],
+    data: &[u8],
+    out: &mut [u8],
+) -> Written
+    requires { ⌜ Bounded (now packet) kind (now lengths) (now «data») ⌝ }
+    ensures { λ r. ⌜ Puts (done (datagramOctets (carriedOf number (now (packet .entry)) kind (now (lengths .entry)) (now («data» .entry))))) (now (out .entry)) (now (out .exit)) r ⌝ }
+{
+    let size = datagram_size(number, packet, kind, lengths);
+    if out.len() < size {
+        return Written::Refused(Refusal::new(Refusal::NO_ROOM));
+    }
+    let written = put_datagram(number, packet, kind, lengths, data, out);
+    Written::Octets(written)
+}
+
+// A datagram of the number, the newest packet, and spares or messages, given as their lengths and one run of data. A
+// refusal writes nothing.
+pub fn write(
+    number: u16,
+    packet: &[u8],
+    kind: Kind,
+    lengths: &[u16],
+    data: &[u8],
+    out: &mut [u8],
+) -> Written
+    ensures { λ r. ⌜ Puts (datagramToWrite number (now (packet .entry)) kind (now (lengths .entry)) (now («data» .entry))) (now (out .entry)) (now (out .exit)) r ⌝ }
+{
+    let counted = count_inside(kind, lengths.len());
+    let summed = sums_to(lengths, data.len());
+    let sized = lengths_inside(packet, kind, lengths);
+    if !counted {
+        return Written::Refused(Refusal::new(Refusal::OUTSIDE_SIZES));
+    }
+    if !summed {
+        return Written::Refused(Refusal::new(Refusal::WRONG_SETTINGS));
+    }
+    if !sized {
+        return Written::Refused(Refusal::new(Refusal::OUTSIDE_SIZES));
+    }
+    write_allowed(number, packet, kind, lengths, data, out)
 }

@@ -1,32 +1,24 @@
-use Rattle.datagrams.proofs.WriteTests.{tests}
+-- `writer::item_inside` meets its contract. Assumes nothing.
 use borrow.Author.Needs.{needs}
+use Rattle.datagrams.proofs.WriteTests.{tests}
 use Rattle.datagrams.proofs.writer.item_inside.Statement.{statement}
 use Rattle.datagrams.proofs.writer.item_inside.Tie as tie
-use Rattle.datagrams.proofs.writer.item_inside.Reads as reads
-use Rattle.datagrams.proofs.writer.item_inside.Lts as lts
-use Rattle.datagrams.proofs.writer.within.Reads as within-reads
 
--- src/writer.rt:63:25
 enum-told : tie.Need-enum-told
 enum-told c = search needs
 
--- src/writer.rt:63:25
 within-requires : tie.Need-within-requires
 within-requires c κs = search needs
 
--- src/writer.rt:64:28
 enum-told-2 : tie.Need-enum-told-2
 enum-told-2 c = search needs
 
--- src/writer.rt:64:28
 within-requires-2 : tie.Need-within-requires-2
 within-requires-2 c κs = search needs
 
--- src/writer.rt:59:1
 returns : tie.Need-returns
 returns c = search tests
 
--- src/writer.rt:59:1
 returns-2 : tie.Need-returns-2
 returns-2 c = search tests
 

@@ -1,13 +1,10 @@
-use borrow.Author.Needs.{needs}
-use Rattle.datagrams.proofs.WriteTests.{tests}
-use Rattle.datagrams.proofs.WriteTests.{SumLeft}
+-- `writer::sums_to` meets its contract. Assumes nothing.
 use Prim.Native.Nat.{_-_}
 use lib.ListN.{length}
+use borrow.Author.Needs.{needs}
+use Rattle.datagrams.proofs.WriteTests.{tests, SumLeft}
 use Rattle.datagrams.proofs.writer.sums_to.Statement.{statement}
 use Rattle.datagrams.proofs.writer.sums_to.Tie as tie
-use Rattle.datagrams.proofs.writer.sums_to.Reads as reads
-use Rattle.datagrams.proofs.writer.sums_to.Lts as lts
-use Rattle.datagrams.proofs.writer.wide.Reads as wide-reads
 
 abbrev Inv-loop : tie.InvT-loop
 Inv-loop lengths total left₀ i₀ left i = SumLeft lengths total left i
@@ -15,39 +12,30 @@ Inv-loop lengths total left₀ i₀ left i = SumLeft lengths total left i
 abbrev μ-loop : tie.MeasureT-loop
 μ-loop lengths total left₀ i₀ left i = length lengths - i
 
--- src/writer.rt:97:5
 loop-holds : tie.Need-loop-holds Inv-loop μ-loop
 loop-holds c = search tests
 
--- src/writer.rt:98:22
 mul-wide : tie.Need-mul-wide Inv-loop μ-loop
 mul-wide c = search needs
 
--- src/writer.rt:98:22
 shared-slice-read-wide : tie.Need-shared-slice-read-wide Inv-loop μ-loop
 shared-slice-read-wide c = search needs
 
--- src/writer.rt:98:13
 wide-requires : tie.Need-wide-requires Inv-loop μ-loop
 wide-requires c κs = search needs
 
--- src/writer.rt:100:13
 returns : tie.Need-returns Inv-loop μ-loop
 returns c = search tests
 
--- src/writer.rt:103:9
 add-i : tie.Need-add-i Inv-loop μ-loop
 add-i c = search needs
 
--- src/writer.rt:97:5
 loop-less : tie.Need-loop-less Inv-loop μ-loop
 loop-less c = search needs
 
--- src/writer.rt:97:5
 loop-again : tie.Need-loop-again Inv-loop μ-loop
 loop-again c = search tests
 
--- src/writer.rt:92:1
 returns-2 : tie.Need-returns-2 Inv-loop μ-loop
 returns-2 c = search tests
 

@@ -1,15 +1,11 @@
-use borrow.Author.Needs.{needs}
-use Rattle.datagrams.proofs.ItemSteps.{goings}
-use Rattle.datagrams.proofs.ItemSteps.{Going, turning, item-asked}
+-- `put::put_items` meets its contract. Assumes nothing.
 use Prim.Native.Nat.{_-_}
 use lib.ListN.{length}
 use native.Mathlib.Omega.{arith}
-use Rattle.datagrams.proofs.writer.put_items.Statement.{statement}
-use Rattle.datagrams.proofs.writer.put_items.Tie as tie
-use Rattle.datagrams.proofs.writer.put_items.Reads as reads
-use Rattle.datagrams.proofs.writer.put_items.Lts as lts
-use Rattle.datagrams.proofs.writer.put_item.Reads as put-item-reads
-use Rattle.datagrams.proofs.writer.wide.Reads as wide-reads
+use borrow.Author.Needs.{needs}
+use Rattle.datagrams.proofs.ItemSteps.{goings, Going, turning, item-asked}
+use Rattle.datagrams.proofs.put.put_items.Statement.{statement}
+use Rattle.datagrams.proofs.put.put_items.Tie as tie
 
 abbrev Inv-loop : tie.InvT-loop
 Inv-loop lengths «data» out₀ i₀ from₀ at₀ out i from at = Going lengths «data» out₀ out i from at
@@ -17,77 +13,59 @@ Inv-loop lengths «data» out₀ i₀ from₀ at₀ out i from at = Going length
 abbrev μ-loop : tie.MeasureT-loop
 μ-loop lengths «data» out₀ i₀ from₀ at₀ out i from at = length lengths - i
 
--- src/writer.rt:203:5
 loop-holds : tie.Need-loop-holds Inv-loop μ-loop
 loop-holds c = search goings
 
--- src/writer.rt:204:30
 mul-wide : tie.Need-mul-wide Inv-loop μ-loop
 mul-wide c = search needs
 
--- src/writer.rt:204:30
 shared-slice-read-wide : tie.Need-shared-slice-read-wide Inv-loop μ-loop
 shared-slice-read-wide c = search needs
 
--- src/writer.rt:204:25
 wide-requires : tie.Need-wide-requires Inv-loop μ-loop
 wide-requires c κs = search needs
 
--- src/writer.rt:204:18
 add-to : tie.Need-add-to Inv-loop μ-loop
 add-to c = let t = turning (c .before .before .before .loop .inv) (c .before .before .loop-test .taken) (c .wide .ensures) in omega arith
 
--- src/writer.rt:205:20
 sub-item : tie.Need-sub-item Inv-loop μ-loop
 sub-item c = search needs
 
--- src/writer.rt:205:20
 part-item-start : tie.Need-part-item-start Inv-loop μ-loop
 part-item-start c = search needs
 
--- src/writer.rt:205:20
 part-item-end : tie.Need-part-item-end Inv-loop μ-loop
 part-item-end c = let t = turning (c .before .before .before .loop .inv) (c .before .before .loop-test .taken) (c .wide .ensures) in omega arith
 
--- src/writer.rt:206:35
 sub-put-item : tie.Need-sub-put-item Inv-loop μ-loop
 sub-put-item c = search needs
 
--- src/writer.rt:206:35
 part-put-item-start : tie.Need-part-put-item-start Inv-loop μ-loop
 part-put-item-start c = search needs
 
--- src/writer.rt:206:35
 part-put-item-end : tie.Need-part-put-item-end Inv-loop μ-loop
 part-put-item-end c = search needs
 
--- src/writer.rt:206:13
 put-item-requires : tie.Need-put-item-requires Inv-loop μ-loop
 put-item-requires c κs =
     let w = c .before .before in
     item-asked (turning (w .before .before .before .loop .inv) (w .before .before .loop-test .taken) (w .wide .ensures)) (omega arith)
 
--- src/writer.rt:208:9
 add-at : tie.Need-add-at Inv-loop μ-loop
 add-at c = search needs
 
--- src/writer.rt:209:9
 add-i : tie.Need-add-i Inv-loop μ-loop
 add-i c = search needs
 
--- src/writer.rt:203:5
 loop-less : tie.Need-loop-less Inv-loop μ-loop
 loop-less c = search needs
 
--- src/writer.rt:203:5
 loop-again : tie.Need-loop-again Inv-loop μ-loop
 loop-again c = search goings
 
--- src/writer.rt:196:1
 same-length : tie.Need-same-length Inv-loop μ-loop
 same-length c = search needs
 
--- src/writer.rt:196:1
 returns : tie.Need-returns Inv-loop μ-loop
 returns c = search goings
 

@@ -1,45 +1,34 @@
+-- `put::put_kind` meets its contract. Assumes nothing.
 use borrow.Author.Needs.{needs}
 use Rattle.datagrams.proofs.PutSteps.{puts, spares-asked, parity-asked}
-use Rattle.datagrams.proofs.writer.put_kind.Statement.{statement}
-use Rattle.datagrams.proofs.writer.put_kind.Tie as tie
-use Rattle.datagrams.proofs.writer.put_kind.Reads as reads
-use Rattle.datagrams.proofs.writer.put_kind.Lts as lts
-use Rattle.datagrams.proofs.writer.put_parity.Reads as put-parity-reads
-use Rattle.datagrams.proofs.writer.put_spares.Reads as put-spares-reads
+use Rattle.datagrams.proofs.put.put_kind.Statement.{statement}
+use Rattle.datagrams.proofs.put.put_kind.Tie as tie
 
--- src/writer.rt:194:43
 enum-told : tie.Need-enum-told
 enum-told c = search needs
 
--- src/writer.rt:194:25
 put-spares-requires : tie.Need-put-spares-requires
 put-spares-requires c κs =
     let asked = c .before .before .before .before .pre in
     spares-asked _ _ (c .before .enum-told .given .1) (asked .0) (asked .1)
 
--- src/writer.rt:195:22
 enum-known-kind : tie.Need-enum-known-kind
 enum-known-kind c = search needs
 
--- src/writer.rt:195:28
 put-parity-requires : tie.Need-put-parity-requires
 put-parity-requires c κs =
     let asked = c .before .before .before .before .before .pre in
     parity-asked _ _ (c .before .before .kind .given .1) (asked .0) (asked .1)
 
--- src/writer.rt:189:1
 same-length : tie.Need-same-length
 same-length c = search needs
 
--- src/writer.rt:189:1
 returns : tie.Need-returns
 returns c = search puts
 
--- src/writer.rt:189:1
 same-length-2 : tie.Need-same-length-2
 same-length-2 c = search needs
 
--- src/writer.rt:189:1
 returns-2 : tie.Need-returns-2
 returns-2 c = search puts
 
