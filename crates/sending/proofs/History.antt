@@ -19,8 +19,8 @@ use Rattle.views.specs.View.{numbers}
 use Rattle.sending.specs.Sending.{historyKept}
 use Rattle.sending.specs.Send.{packetOf}
 use Rattle.sending.specs.Sender.{slotAt, sizeIn, packetIn, historyIn}
-use Rattle.sending.specs.Held.{Arrays, Stored}
-use Rattle.sending.proofs.Slots.{has-slot, slot-number}
+use Rattle.sending.specs.Held.{Stored}
+use Rattle.sending.proofs.Slots.{has-slot, slot-small, slot-number}
 
 pub length-history : (sent : ℕ) (sizes o : List ℕ) → length (historyIn sent sizes o) ≡ historyKept
 unfolding historyIn
@@ -41,7 +41,7 @@ history-number sent sizes o =
 
 module _ {sizes o : List ℕ} (stored : Stored sizes o) (i : ℕ) (small : i < historyKept) where
   pub length-packet : length (packetIn sizes o i) ≡ sizeIn sizes i
-  length-packet = length-part o i (sizeIn sizes i) (has-slot sizes o i (stored .arrays) small) (stored .small i small)
+  length-packet = length-part o i (sizeIn sizes i) (has-slot o i (stored .octets) small) (stored .lengths .small i small)
 
   -- past its length a slot has zeros, as a packet is read past its end
   pub packet-octet : (k : ℕ) → k < packetLimit → getD (packetIn sizes o i) k 0 ≡ getD o (i * packetLimit + k) 0
@@ -54,3 +54,13 @@ module _ {sizes o : List ℕ} (stored : Stored sizes o) (i : ℕ) (small : i < h
       (rw (le-ltb k (sizeIn sizes i) past) at
       (allBelow-at packetLimit (λ j. ltb j (sizeIn sizes i) || eqb (getD o (i * packetLimit + j) 0) 0) (stored .clean i small) k low))))
       (below-or-not k (sizeIn sizes i))
+
+-- no packet is over the limit; outside the history there is none
+pub packet-short : {sizes o : List ℕ} → Stored sizes o → (sent p : ℕ) → length (packetOf (historyIn sent sizes o) p) ≤ packetLimit
+packet-short {sizes} {o} stored sent p =
+    ⊎-elim (λ inside.
+    rw (history-at sent sizes o p inside, length-packet stored (slotAt sent p) (slot-small sent p))
+    (stored .lengths .small (slotAt sent p) (slot-small sent p)))
+    (λ past.
+    rw (List·getD-eq-default (historyIn sent sizes o) [] {n = p} (rw (length-history sent sizes o) past)) (omega arith))
+    (below-or-not p historyKept)

@@ -4,3 +4,7 @@ pub mod KeepSteps
 pub mod History
 pub mod Walk
 pub mod MessageSteps
+pub mod ItemSteps
+pub mod ItemsSteps
+pub mod NextSteps
+pub mod Kept

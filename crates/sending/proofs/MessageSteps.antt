@@ -15,7 +15,7 @@ use Rattle.stores.specs.Store.{added, HasSlot}
 use Rattle.repair.specs.Members.{membersOf}
 use Rattle.sending.specs.Sending.{historyKept}
 use Rattle.sending.specs.Sender.{slotAt, sizeIn, packetIn, historyOctets}
-use Rattle.sending.specs.Held.{Stored}
+use Rattle.sending.specs.Held.{Sizes, Stored}
 use Rattle.sending.specs.Items.{Reach, membersIn, MessageSize, MessageSum}
 use Rattle.sending.proofs.History.{length-packet, packet-octet}
 use Rattle.sending.proofs.Walk.{Standing, standing-start, standing-turn, standing-slot, place-inside, members-more}
@@ -29,21 +29,28 @@ longest-more (first ∷ ls) l = let rest = longest-more ls l in omega arith
 pub record Sizing (number : ℕ) (sizes : List ℕ) (n m i at size t : ℕ) : Type 0 where
   pub standing : Standing number m i at t
   pub bound : t ≤ n
+  pub small : size ≤ packetLimit
   pub so : (o : List ℕ) → Stored sizes o → size ≡ longest (membersIn number sizes o t m i)
 
 pub sizing-start : (number : ℕ) (sizes : List ℕ) (n m i at : ℕ) → at ≡ (number + i) % 65536 → Sizing number sizes n m i at 0 0
 unfolding longest membersOf tab
-sizing-start number sizes n m i at e = record { standing = standing-start number m i at e; bound = omega arith; so = λ o stored. refl }
+sizing-start number sizes n m i at e =
+    record { standing = standing-start number m i at e; bound = omega arith; small = omega arith; so = λ o stored. refl }
 
 module _ {number : ℕ} {sizes : List ℕ} {n m i at size t : ℕ} (v : Sizing number sizes n m i at size t) where
-  pub sizing-turn : {r slot s g : ℕ} → Reach n m i → t < n → (r + m) % 65536 ≡ at → slot ≡ r % 32
+  pub sizing-turn : {r slot s g : ℕ} → Sizes sizes → Reach n m i → t < n → (r + m) % 65536 ≡ at → slot ≡ r % 32
       → s ≡ sizeIn sizes slot → g ≡ max size s → Sizing number sizes n m i r g (t + 1)
-  sizing-turn {r} {slot} {s} {g} reach more back found at-slot most =
+  sizing-turn {r} {slot} {s} {g} lengths reach more back found at-slot most =
       let inside = place-inside reach number t more in
       let same : slot ≡ slotAt number ((historyKept + i) - suc t * m) = found ∙ standing-slot reach number t more (v .standing) r back in
       record {
         standing = standing-turn reach number t more (v .standing) r back;
         bound = omega arith;
+        small =
+            (let low : slot < historyKept = omega arith in
+            let one : s ≤ packetLimit = rw at-slot (lengths .small slot low) in
+            let before = v .small in
+            omega arith);
         so = λ o stored.
             most
             ∙ ap₂ max (v .so o stored)
@@ -55,7 +62,7 @@ module _ {number : ℕ} {sizes : List ℕ} {n m i at size t : ℕ} (v : Sizing n
   pub sizing-done : n ≤ t → MessageSize number sizes n m i size
   sizing-done end =
       let all : t ≡ n = (let few = v .bound in omega arith) in
-      record { answer = λ o stored. v .so o stored ∙ ap (λ (k : ℕ). longest (membersIn number sizes o k m i)) all }
+      record { small = v .small; answer = λ o stored. v .so o stored ∙ ap (λ (k : ℕ). longest (membersIn number sizes o k m i)) all }
 
 pub ruleset sizings = (sizing-start, sizing-turn, sizing-done)
 
@@ -116,6 +123,6 @@ module _ {number : ℕ} {o : List ℕ} {n m i at : ℕ} {sum : List ℕ} {t : �
   pub summing-done : n ≤ t → MessageSum number o n m i sum
   summing-done end =
       let all : t ≡ n = (let few = v .bound in omega arith) in
-      record { answer = λ sizes stored. v .so sizes stored ∙ ap (λ (k : ℕ). exclusiveOr packetLimit (membersIn number sizes o k m i)) all }
+      record { long = v .long; answer = λ sizes stored. v .so sizes stored ∙ ap (λ (k : ℕ). exclusiveOr packetLimit (membersIn number sizes o k m i)) all }
 
 pub ruleset summings = (summing-start, summing-turn, summing-done)

@@ -60,7 +60,7 @@ module _ (sent p : ℕ) (sizes o : List ℕ) {size : ℕ} {b : Bool} where
 
 -- what the zero check asks
 pub slot-there : (sent p : ℕ) (sizes o : List ℕ) → Arrays sizes o → HasSlot ((sent + p) % 32) o
-slot-there sent p sizes o arrays = has-slot sizes o (slotAt sent p) arrays (slot-small sent p)
+slot-there sent p sizes o arrays = has-slot o (slotAt sent p) (arrays .octets) (slot-small sent p)
 
 pub size-told : (at : ℕ) {size : ℕ} {b : Bool} → b ≡ sizeInRange at size → not b ≡ false → size ≤ packetLimit
 size-told at {size} tested in′ = size-limit at size (sym tested ∙ not-false _ in′)

@@ -11,7 +11,6 @@ use Rattle.stores.specs.Store.{HasSlot}
 use Rattle.views.specs.View.{numbers}
 use Rattle.sending.specs.Sending.{historyKept}
 use Rattle.sending.specs.Sender.{slotAt, historyOctets}
-use Rattle.sending.specs.Held.{Arrays}
 
 pub slot-small : (sent p : ℕ) → slotAt sent p < historyKept
 slot-small sent p = omega arith
@@ -32,8 +31,8 @@ place-slot sent i small =
 pub place-small : (sent i : ℕ) → placeOf sent i < historyKept
 place-small sent i = omega arith
 
-pub has-slot : (sizes o : List ℕ) (i : ℕ) → Arrays sizes o → i < historyKept → HasSlot i o
-has-slot sizes o i arrays small = let long = arrays .octets in omega arith
+pub has-slot : (o : List ℕ) (i : ℕ) → length o ≡ historyOctets → i < historyKept → HasSlot i o
+has-slot o i long small = omega arith
 
 -- the number goes modulo 65,536, the slot modulo 32
 pub slot-number : (sent p : ℕ) → slotAt (sent % numbers) p ≡ slotAt sent p

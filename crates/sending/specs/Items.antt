@@ -6,7 +6,7 @@ use mathlib.Core.Bool.{true}
 use mathlib.Core.List.{List, [], map}
 use lib.ListN.{length, getD}
 use Rattle.octets.specs.ExclusiveOr.{exclusiveOr, longest}
-use Rattle.datagrams.specs.Sizes.{packetLimit, coveredLimit, messagesLimit}
+use Rattle.datagrams.specs.Sizes.{packetLimit, sparesLimit, coveredLimit, messagesLimit}
 use Rattle.datagrams.specs.Write.{countInside, itemsOctets}
 use Rattle.datagrams.specs.Put.{itemSize}
 use Rattle.datagrams.specs.declared.kind.Kind.{Kind}
@@ -16,7 +16,7 @@ use Rattle.repair.specs.Honest.{messageOver}
 use Rattle.sending.specs.Sending.{historyKept}
 use Rattle.sending.specs.Carries.{sparesFrom, messagesFrom}
 use Rattle.sending.specs.Send.{packetOf}
-use Rattle.sending.specs.Sender.{historyIn}
+use Rattle.sending.specs.Sender.{slotAt, sizeIn, historyIn}
 use Rattle.sending.specs.Held.{Stored}
 
 -- ---- messages
@@ -35,11 +35,19 @@ abbrev pub messageIn : ℕ → List ℕ → List ℕ → ℕ → ℕ → ℕ →
 messageIn number sizes o n m i = messageOver (membersIn number sizes o n m i)
 
 pub record MessageSize (number : ℕ) (sizes : List ℕ) (n m i size : ℕ) : Type 0 where
+  pub small : size ≤ packetLimit
   pub answer : (o : List ℕ) → Stored sizes o → size ≡ longest (membersIn number sizes o n m i)
 
 -- the exclusive or of the members, padded to the longest packet that there may be
 pub record MessageSum (number : ℕ) (o : List ℕ) (n m i : ℕ) (sum : List ℕ) : Type 0 where
+  pub long : length sum ≡ packetLimit
   pub answer : (sizes : List ℕ) → Stored sizes o → sum ≡ exclusiveOr packetLimit (membersIn number sizes o n m i)
+
+-- the message is one of those that there are, and there is room for it
+pub record MessageAsked (number : ℕ) (sizes o : List ℕ) (n m i : ℕ) (out : List ℕ) : Type 0 where
+  pub reach : Reach n m i
+  pub stored : Stored sizes o
+  pub room : itemSize (length (messageIn number sizes o n m i)) ≤ length out
 
 -- ---- spares
 
@@ -48,7 +56,13 @@ abbrev pub spareIn : ℕ → List ℕ → List ℕ → ℕ → List ℕ
 spareIn number sizes o j = packetOf (historyIn number sizes o) (historyKept - suc j)
 
 pub record SpareSize (number : ℕ) (sizes : List ℕ) (j size : ℕ) : Type 0 where
-  pub answer : (o : List ℕ) → Stored sizes o → size ≡ length (spareIn number sizes o j)
+  pub small : size ≤ packetLimit
+  pub answer : size ≡ sizeIn sizes (slotAt number (historyKept - suc j))
+
+pub record SpareAsked (number : ℕ) (sizes o : List ℕ) (j : ℕ) (out : List ℕ) : Type 0 where
+  pub near : j < historyKept
+  pub stored : Stored sizes o
+  pub room : itemSize (length (spareIn number sizes o j)) ≤ length out
 
 -- ---- both
 abbrev pub itemsFrom : Kind → ℕ → (ℕ → List ℕ) → ℕ → List (List ℕ)
@@ -66,15 +80,19 @@ pub record ItemSize (kind : Kind) (count number : ℕ) (sizes : List ℕ) (j siz
   pub small : size ≤ packetLimit
   pub answer : (o : List ℕ) → Stored sizes o → size ≡ length (itemIn kind count number sizes o j)
 
--- item j is one of those, and there is room for it
-pub record ItemAsked (kind : Kind) (count number : ℕ) (sizes o : List ℕ) (j : ℕ) (out : List ℕ) : Type 0 where
+-- item j is one of those that the settings give
+pub record ItemOf (kind : Kind) (count j : ℕ) : Type 0 where
   pub counted : countInside kind count ≡ true
   pub below : j < count
+
+-- and there is room for it
+pub record ItemAsked (kind : Kind) (count number : ℕ) (sizes o : List ℕ) (j : ℕ) (out : List ℕ) : Type 0 where
+  pub one : ItemOf kind count j
   pub stored : Stored sizes o
   pub room : itemSize (length (itemIn kind count number sizes o j)) ≤ length out
 
 pub record ItemsSize (kind : Kind) (count number : ℕ) (sizes : List ℕ) (size : ℕ) : Type 0 where
-  pub small : size ≤ 8 * (packetLimit + 2)
+  pub small : size ≤ sparesLimit * (packetLimit + 2)
   pub answer : (o : List ℕ) → Stored sizes o → size ≡ length (itemsOctets (itemsIn kind count number sizes o))
 
 pub record ItemsAsked (kind : Kind) (count number : ℕ) (sizes o out : List ℕ) : Type 0 where

@@ -5,3 +5,4 @@ pub mod Sender
 pub mod Ranges
 pub mod Held
 pub mod Items
+pub mod Next

@@ -1,6 +1,7 @@
 // The sending session: document 01, 'The sending session'.
 mod held;
 mod items;
+mod next;
 
 use datagrams::Packet;
 use lengths::Written;
