@@ -8,3 +8,5 @@ pub mod ItemSteps
 pub mod ItemsSteps
 pub mod NextSteps
 pub mod Kept
+pub mod SendSteps
+pub mod SenderSteps

@@ -6,3 +6,5 @@ pub mod Ranges
 pub mod Held
 pub mod Items
 pub mod Next
+pub mod Promise
+pub mod Inner

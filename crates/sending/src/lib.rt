@@ -1,14 +1,17 @@
 // The sending session: document 01, 'The sending session'.
 mod held;
+mod inner;
 mod items;
 mod next;
 
 use datagrams::Packet;
+use lengths::Refusal;
 use lengths::Written;
 ghost use mathlib.Core.Path.{_≡_};
 ghost use Rattle.views.specs.View.{sessionLimit};
 ghost use Rattle.sending.specs.Sending.{historyKept};
 ghost use Rattle.sending.specs.Sender.{historyOctets};
+ghost use Rattle.sending.specs.Promise.{FreshMade, RangesTold, Sends};
 
 // Beside its packet a datagram carries k spares, or m messages, each over n packets.
 pub enum Settings {
@@ -50,9 +53,64 @@ impl Sender {
         Sender::HISTORY
     }
 
-    pub fn octets() -> usize
+    pub fn history_octets() -> usize
         ensures { λ r. ⌜ r ≡ historyOctets ⌝ }
     {
         Sender::OCTETS
+    }
+
+    // A session that has sent nothing.
+    pub fn fresh() -> Sender
+        ensures { λ r. ⌜ FreshMade r ⌝ }
+    {
+        Sender {
+            sent: 0,
+            sizes: [0; Sender::HISTORY],
+            octets: [0; Sender::OCTETS],
+        }
+    }
+}
+
+// Whether a session is within its ranges.
+pub fn in_ranges(s: Sender) -> bool
+    ensures { λ r. ⌜ RangesTold s r ⌝ }
+{
+    let sent = s.sent as usize;
+    let sizes = s.sizes;
+    let octets = s.octets;
+    held::in_ranges(sent, &sizes, &octets)
+}
+
+// The packet, sent with these settings: its datagram is written to the front of out.
+pub fn send(s: Sender, packet: &[u8], settings: Settings, out: &mut [u8]) -> Sent
+    ensures { λ r. ⌜ Sends s settings (now (packet .entry)) (now (out .entry)) (now (out .exit)) r ⌝ }
+{
+    let sent = s.sent as usize;
+    let mut sizes = s.sizes;
+    let mut octets = s.octets;
+    if !held::in_ranges(sent, &sizes, &octets) {
+        return Sent {
+            sender: s,
+            answer: Written::Refused(Refusal::new(Refusal::OUTSIDE_RANGES)),
+        };
+    }
+    let answer = inner::send_held(sent, &mut sizes, &mut octets, packet, settings, out);
+    match answer {
+        Written::Octets(n) => {
+            let next = s.sent + 1;
+            let sender = Sender {
+                sent: next,
+                sizes,
+                octets,
+            };
+            Sent {
+                sender,
+                answer: Written::Octets(n),
+            }
+        }
+        Written::Refused(r) => Sent {
+            sender: s,
+            answer: Written::Refused(r),
+        },
     }
 }
