@@ -5,3 +5,11 @@ mod ItemSteps
 mod SizeSteps
 pub mod WriteLaws
 mod WriteSteps
+pub mod AnswerLaws
+pub mod ReadLaws
+mod ReadSteps
+mod ReadTurn
+mod ReadWhole
+pub mod ReadBack
+pub mod WriteBack
+pub mod Claims

@@ -1,6 +1,7 @@
 // Datagrams, read and written: document 01, 'The datagram' and 'Sizes'.
 mod kind;
 mod put;
+mod reader;
 mod sizes;
 mod writer;
 
@@ -13,6 +14,10 @@ pub use put::put_item;
 pub use put::put_kind;
 pub use put::put_parity;
 pub use put::put_spares;
+pub use reader::DatagramRead;
+pub use reader::Part;
+pub use reader::Reading;
+pub use reader::read;
 pub use sizes::Datagram;
 pub use sizes::Message;
 pub use sizes::Packet;

@@ -1,19 +1,19 @@
 -- The ranges taken apart, number by number, and put together again. Assumes nothing.
-use Prim.Native.Nat.{ℕ, _+_, _≤_, _<_}
-use mathlib.Core.Path.{_≡_}
-use mathlib.Core.Bool.{Bool, true, not, _&&_}
+use Prim.Native.Nat.{ℕ, _+_, _-_, _%_, _≤_, _<_}
+use mathlib.Core.Path.{_≡_, refl}
+use mathlib.Core.Bool.{Bool, true, false, not, cond, _&&_}
 use mathlib.Core.List.{List}
-use lib.Dec.{leb, eqb}
+use lib.Dec.{leb, ltb, eqb}
 use native.Mathlib.Omega.{arith}
 use borrow.Author.Tests.{leb-true, eqb-true}
 use Rattle.octets.proofs.Cases.{and-left, and-right, and-both}
 use Rattle.octets.proofs.Place.{allBelow-at, allBelow-of}
 use Rattle.octets.specs.Place.{allBelow}
-use Rattle.datagrams.specs.Sizes.{packetLeast, packetLimit, messagesLimit}
-use Rattle.repair.specs.Cells.{keptBefore}
+use Rattle.datagrams.specs.Sizes.{packetLeast, packetLimit, messageLimit, coveredLimit, messagesLimit}
+use Rattle.repair.specs.Cells.{keptBefore, keptAhead}
 use Rattle.stores.specs.Store.{zerosPast}
-use Rattle.views.specs.View.{sum}
-use Rattle.heads.specs.Head.{slotAt, heardSlotAt, countsOf, keptIn, heardIn}
+use Rattle.views.specs.View.{sum, numbers}
+use Rattle.heads.specs.Head.{slotAt, heardSlotAt, messageSlot, countsOf, keptIn, heardIn, sizeIn}
 use Rattle.heads.specs.Ranges.{stateInRange, keptInRange, isKnown, markInRange, messageInRange, heardInRange, blankAt}
 use Rattle.heads.specs.declared.State.{State}
 use Rattle.heads.specs.declared.State.the-variants.{Unknown, Received, Spare, Repaired, Blank}
@@ -74,3 +74,35 @@ heard-right h g d e =
 pub right-heard : {h : Head} {g : List ℕ} {d : ℕ} → HeardRight h g d → heardInRange h g d ≡ true
 unfolding heardInRange
 right-heard r = and-both (r .mark) (allBelow-of messagesLimit _ (r .message))
+
+-- ---- n, m and message lengths are within the sizes
+settings-range : (b : Bool) (n m : ℕ) → eqb m 0 ≡ b → cond b (eqb n 0) ((leb 1 n && leb n coveredLimit) && leb m messagesLimit) ≡ true
+    → (n ≤ coveredLimit) × (m ≤ messagesLimit)
+settings-range true n m e t =
+    let none : m ≡ 0 = eqb-true m 0 e in
+    let no : n ≡ 0 = eqb-true n 0 t in
+    (omega arith, omega arith)
+settings-range false n m e t =
+    (leb-true n coveredLimit (and-right (leb 1 n) _ (and-left _ (leb m messagesLimit) t)), leb-true m messagesLimit (and-right (leb 1 n && leb n coveredLimit) _ t))
+
+pub mark-range : (accepted known : Bool) (n m : ℕ) → markInRange accepted known n m ≡ true → (n ≤ coveredLimit) × (m ≤ messagesLimit)
+unfolding markInRange
+mark-range accepted known n m e = settings-range (eqb m 0) n m refl (and-right (cond accepted known (eqb m 0)) _ e)
+
+most-limit : (b : Bool) (size : ℕ) → leb size (cond b messageLimit 0) ≡ true → size ≤ packetLimit
+most-limit true size e = leb-true size messageLimit e
+most-limit false size e = omega (arith, leb-true size 0 e)
+
+pub message-size : (h : Head) (g : List ℕ) (slot m i : ℕ) → messageInRange h g slot m i ≡ true
+    → sizeIn h (messageSlot slot i) ≤ packetLimit
+unfolding messageInRange
+message-size h g slot m i e = most-limit (ltb i m) (sizeIn h (messageSlot slot i)) (and-left _ _ e)
+
+pub message-zeros : (h : Head) (g : List ℕ) (slot m i : ℕ) → messageInRange h g slot m i ≡ true
+    → zerosPast g (messageSlot slot i) (sizeIn h (messageSlot slot i)) ≡ true
+unfolding messageInRange
+message-zeros h g slot m i e = and-right (leb (sizeIn h (messageSlot slot i)) (cond (ltb i m) messageLimit 0)) _ e
+
+-- every slot is that of a distance
+pub distance-of : (base j : ℕ) → base < numbers → j < keptAhead → (d : ℕ) × (d < keptAhead) × (heardSlotAt base d ≡ j)
+distance-of base j small low = ((j + (numbers - base)) % keptAhead, omega arith, omega arith)

@@ -1,9 +1,9 @@
 -- From the held session to the one that document 01 sees: which slot a number has, and what stands there. One abstraction,
 -- `viewOf`, serves every promise. Definitions only.
-use Prim.Native.Nat.{ℕ, _+_, _*_, _%_}
+use Prim.Native.Nat.{ℕ, _+_, _-_, _*_, _%_}
 use mathlib.Core.Bool.{Bool, false}
 use mathlib.Core.List.{List}
-use lib.ListN.{getD}
+use lib.ListN.{getD, set}
 use Rattle.octets.specs.Place.{tab}
 use Rattle.datagrams.specs.Sizes.{packetLimit, messagesLimit}
 use Rattle.repair.specs.Cells as cells
@@ -39,6 +39,10 @@ messageOctets = slotsMessages * packetLimit
 -- the slot of the kept number at place p of the view: that number is base − keptBefore + p, and slots go by number modulo 64
 abbrev pub slotAt : ℕ → ℕ → ℕ
 slotAt base p = (base + keptBefore + p) % slotsKept
+
+-- that number
+abbrev pub numberAt : ℕ → ℕ → ℕ
+numberAt base p = (base + (views.numbers - keptBefore) + p) % views.numbers
 
 -- the slot of the number at distance d from the base
 abbrev pub heardSlotAt : ℕ → ℕ → ℕ
@@ -95,3 +99,7 @@ viewIn h o g = record { base = h .base; counts = countsOf (h .counts); cells = c
 
 abbrev pub viewOf : Session → View
 viewOf s = viewIn (s .head) (s .octets) (s .messages)
+
+-- the head with another kept number in a slot
+abbrev pub placed : Head → ℕ → Kept → Head
+placed h slot k = record { base = h .base; counts = h .counts; kept = set (h .kept) slot k; heard = h .heard; sizes = h .sizes }

@@ -1,3 +1,4 @@
 pub mod Head
 pub mod Ranges
 pub mod Within
+pub mod Promise

@@ -1,7 +1,12 @@
 // The receiving session as it is held: a small head by value, and two stores of octets, one slot for each kept packet and one
 // for each held message. A number's slot is the number modulo the count of slots, so that nothing moves when the base goes on.
+mod fresh;
+mod laid;
+
 use datagrams::Packet;
 use datagrams::Parity;
+pub use laid::is_unknown;
+pub use laid::place;
 ghost use mathlib.Core.Path.{_≡_};
 ghost use Rattle.views.specs.View.{sessionLimit};
 ghost use Rattle.heads.specs.Head.{slotsKept, slotsHeard, packetOctets, messageOctets};

@@ -1,21 +1,23 @@
 -- Laws of the exclusive or: of two numbers, of several lists at a place, and of several lists over a length. Order and
 -- grouping don't matter, and what is added twice is gone. Assumes nothing.
-use Prim.Native.Nat.{ℕ, zero, suc, _+_, _*_, _/_, _%_, _^_, _≤_, _<_, max}
+use Prim.Native.Nat.{ℕ, zero, suc, _+_, _*_, _/_, _%_, _≤_, _<_}
 use mathlib.Core.Path.{_≡_, refl, sym, ap, ap₂, _∙_}
 use mathlib.Core.Logic.{⊎-elim}
-use mathlib.Core.List.{List, [], _∷_, _++_, map, List·Memᴰ as Among, List·Permᴰ, List·Permᴰ·nil, List·Permᴰ·cons, List·Permᴰ·swap, List·Permᴰ·trans}
+use mathlib.Core.List.{List, [], _∷_, _++_, map, List·Memᴰ as Among}
+use mathlib.Core.List.{List·Permᴰ, List·Permᴰ·nil, List·Permᴰ·cons, List·Permᴰ·swap, List·Permᴰ·trans}
 use mathlib.Core.List.{List·Memᴰ·not-nil, List·Memᴰ·cases-cons, List·Memᴰ·head as here, List·Memᴰ·tail as further}
 use lib.ListN.{length, getD, List·getD-eq-default}
-use lib.Bits.{bitXor, differ, xor-step, xor-shr, xor-mod, xor-comm, xor-self, xor-zero-l, xor-zero-r, xor-lt}
+use lib.Bits.{bitXor, differ, xor-step, xor-shr, xor-mod, xor-comm, xor-self, xor-zero-r, xor-lt}
 use lib.Arith.{bin-ind}
-use native.Mathlib.Nat.{mod-lt, not-suc-le-zero, le-of-suc-le-suc}
+use native.Mathlib.Nat.{mod-lt}
 use native.Mathlib.Omega.{arith}
 use Rattle.octets.specs.Place.{tab}
 use Rattle.octets.specs.ExclusiveOr.{xorAt, exclusiveOr, longest}
 use Rattle.octets.proofs.Cases.{below-or-not}
-use Rattle.octets.proofs.Place.{length-tab, tab-at, tab-ext}
+use Rattle.octets.proofs.Place.{length-tab, tab-at, tab-ext, tab-getD}
 
 -- ---- of two numbers
+-- of two digits and a third, however they are grouped
 digits : (x y z : ℕ) → x < 2 → y < 2 → z < 2 → differ (bitXor x y) z ≡ differ x (bitXor y z)
 digits zero zero z hx hy hz = refl
 digits zero (suc zero) zero hx hy hz = refl
@@ -35,7 +37,8 @@ xor-assoc a =
     (λ n below b c.
     xor-step (bitXor n b) c
     ∙ ap₂ (λ (x y : ℕ). bitXor x (c / 2) * 2 + differ y (c % 2)) (xor-shr n b 1) (xor-mod n b 1)
-    ∙ ap₂ (λ (x y : ℕ). x * 2 + y) (below (b / 2) (c / 2)) (digits (n % 2) (b % 2) (c % 2) (mod-lt n (omega arith)) (mod-lt b (omega arith)) (mod-lt c (omega arith)))
+    ∙ ap₂ (λ (x y : ℕ). x * 2 + y) (below (b / 2) (c / 2))
+    (digits (n % 2) (b % 2) (c % 2) (mod-lt n (omega arith)) (mod-lt b (omega arith)) (mod-lt c (omega arith)))
     ∙ sym (xor-step n (bitXor b c) ∙ ap₂ (λ (x y : ℕ). bitXor (n / 2) x * 2 + differ (n % 2) y) (xor-shr b c 1) (xor-mod b c 1)))
     a
 
@@ -81,6 +84,14 @@ unfolding xorAt
 xorAt-same f g [] k same = refl
 xorAt-same f g (a ∷ l) k same =
     ap₂ bitXor (same a (here refl)) (xorAt-same f g l k (λ b m. same b (further m)))
+
+-- lists that have zero at the place
+pub xorAt-zeros : {A : Type 0} (f : A → List ℕ) (l : List A) (k : ℕ) → ((a : A) → Among a l → getD (f a) k 0 ≡ 0)
+    → xorAt (map f l) k ≡ 0
+unfolding xorAt
+xorAt-zeros f [] k zeros = refl
+xorAt-zeros f (a ∷ l) k zeros =
+    ap₂ bitXor (zeros a (here refl)) (xorAt-zeros f l k (λ b m. zeros b (further m)))
 
 -- of octets
 pub xorAt-octet : (ls : List (List ℕ)) (k : ℕ) → ((l : List ℕ) → Among l ls → getD l k 0 < 256) → xorAt ls k < 256
@@ -155,3 +166,9 @@ exclusiveOr-more n ls l =
 pub exclusiveOr-permuted : (n : ℕ) {ls more : List (List ℕ)} → List·Permᴰ ls more → exclusiveOr n ls ≡ exclusiveOr n more
 unfolding exclusiveOr
 exclusiveOr-permuted n {ls} {more} same = tab-ext n (xorAt ls) (xorAt more) (λ k inside. xorAt-permuted same k)
+
+-- of one list over its length
+pub exclusiveOr-one : (l : List ℕ) → exclusiveOr (length l) (l ∷ []) ≡ l
+unfolding exclusiveOr xorAt
+exclusiveOr-one l =
+    tab-ext (length l) (xorAt (l ∷ [])) (λ k. getD l k 0) (λ k inside. xor-zero-r (getD l k 0)) ∙ tab-getD l 0

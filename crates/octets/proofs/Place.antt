@@ -3,7 +3,7 @@ use Prim.Native.Nat.{ℕ, zero, suc, _+_, _≤_, _<_, zero-le, suc-le-suc}
 use mathlib.Core.Path.{_≡_, refl, sym, ap, ap₂, _∙_}
 use mathlib.Core.Logic.{⊎-elim}
 use mathlib.Core.Bool.{Bool, true, false, _&&_}
-use mathlib.Core.List.{List, [], _∷_, List·Memᴰ as Among, List·Memᴰ·head as here, List·Memᴰ·tail as further}
+use mathlib.Core.List.{List, [], _∷_, _++_, List·Memᴰ as Among, List·Memᴰ·head as here, List·Memᴰ·tail as further}
 use mathlib.Core.List.{List·Memᴰ·not-nil, List·Memᴰ·cases-cons}
 use lib.ListN.{length, getD, set, length-set}
 use lib.Seq.{ext-getD, getD-set-same, getD-set-other}
@@ -105,3 +105,9 @@ among-tab (suc n) f {a} m =
   where
     later : (k : ℕ) × (k < n) × (a ≡ f (suc k)) → (k : ℕ) × (k < suc n) × (a ≡ f k)
     later t = (suc t.0, suc-le-suc t.1, t.2)
+
+-- one place more, at the end
+pub tab-snoc : {A : Type 0} (n : ℕ) (f : ℕ → A) → tab (suc n) f ≡ tab n f ++ (f n ∷ [])
+unfolding tab
+tab-snoc zero f = refl
+tab-snoc (suc n) f = ap (λ (t : List _). f zero ∷ t) (tab-snoc n (λ k. f (suc k)))

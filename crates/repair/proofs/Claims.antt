@@ -1,5 +1,5 @@
 -- The claims of this crate, each proved by a law. Assumes nothing.
-use mathlib.Core.Path.{_≡_, refl}
+use mathlib.Core.Path.{refl}
 use Rattle.octets.specs.Place.{tab}
 use Rattle.octets.specs.ExclusiveOr.{xorAt, exclusiveOr, longest}
 use Rattle.repair.specs.Members.{membersOf}
@@ -12,7 +12,7 @@ use Rattle.repair.proofs.Grows.{repair-known, length-repair}
 use Rattle.repair.proofs.Enough.{repair-closed}
 use Rattle.repair.proofs.Least.{known-within, known-reached, reached-known, known-any-order, known-more}
 use Rattle.repair.proofs.Honest.{repair-right}
-use Rattle.repair.proofs.Burst.{burst-mended}
+use Rattle.repair.proofs.Burst.{burst-mended, burst-repaired}
 
 pub sheet : Sheet
 unfolding tab xorAt exclusiveOr longest membersOf passing usable firstUsable mended fill repairF repair messagesOf
@@ -32,5 +32,6 @@ claims =
       noLess = known-more;
       staysTrue = repair-right;
       burstMended = burst-mended;
+      burstRepaired = burst-repaired;
       sheet = sheet;
     }

@@ -1,18 +1,16 @@
 -- Repair comes to its end: each fill makes one unknown number known, so as many steps as there are numbers are enough, and
 -- after them no message is usable. Assumes nothing.
-use Prim.Native.Nat.{ℕ, zero, suc, _≤_, _<_}
+use Prim.Native.Nat.{ℕ, zero, suc, _≤_}
 use mathlib.Core.Path.{_≡_, refl, sym, ap, _∙_}
-use mathlib.Core.Logic.{_⊎_, inl, inr, ⊎-elim}
+use mathlib.Core.Logic.{⊎-elim}
 use mathlib.Core.Bool.{Bool, true, false, cond, false≢true}
 use mathlib.Core.List.{List, [], _∷_}
 use mathlib.Core.Option.{none, some}
-use lib.ListN.{length, getD, set}
-use native.Mathlib.Nat.{not-suc-le-zero, le-of-suc-le-suc}
+use lib.ListN.{length, set}
 use native.Mathlib.Omega.{arith}
-use Rattle.octets.proofs.Cases.{true-or-false}
-use Rattle.repair.specs.Cells.{Cell, blankCell, isUnknown, cellAt, unknownAt, repaired}
+use Rattle.repair.specs.Cells.{Cell, isUnknown, repaired}
 use Rattle.repair.specs.Repair.{Message, usable, firstUsable, fill, mended, repairF, repair}
-use Rattle.repair.specs.Reached.{Known, Unknown}
+use Rattle.repair.specs.Reached.{Unknown}
 use Rattle.repair.proofs.Fill.{missing, usable-says, length-fill}
 use Rattle.repair.proofs.Search.{found-usable}
 use Rattle.repair.proofs.Grows.{repairF-done, repairF-fill, found-or-none}

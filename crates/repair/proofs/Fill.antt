@@ -1,21 +1,20 @@
 -- What a usable message says, and what its fill does: the one unknown member, which is in the view, becomes repaired, and
 -- every other number stays as it is. Assumes nothing.
-use Prim.Native.Nat.{ℕ, zero, suc, _≤_, _<_}
-use mathlib.Core.Path.{_≡_, refl, sym, ap, _∙_}
+use Prim.Native.Nat.{ℕ, _≤_, _<_}
+use mathlib.Core.Path.{_≡_, refl, sym, ap, _∙_, subst}
 use mathlib.Core.Logic.{_⊎_, inl, inr, ⊎-elim}
-use mathlib.Core.Bool.{Bool, true, false, not, cond, false≢true}
-use mathlib.Core.List.{List, [], _∷_, List·Memᴰ as Among}
-use mathlib.Core.List.{List·Memᴰ·eq-of-singleton, List·Memᴰ·head as here}
-use lib.ListN.{length, getD, set, length-set, List·getD-eq-default}
+use mathlib.Core.Bool.{true, false≢true}
+use mathlib.Core.List.{List, [], _∷_, map, List·Memᴰ as Among}
+use mathlib.Core.List.{List·Memᴰ·eq-of-singleton, List·Memᴰ·cases-cons, Memᴰ·of-map, List·Memᴰ·head as here}
+use lib.ListN.{length, getD, length-set, List·getD-eq-default}
 use lib.Seq.{getD-set-same, getD-set-other}
-use lib.Dec.{leb, eqb}
+use lib.Dec.{leb}
 use borrow.Author.Tests.{leb-true, eqb-true, le-leb, eq-eqb}
 use native.Mathlib.Omega.{arith}
 use Rattle.octets.proofs.Cases.{below-or-not, same-or-not, true-or-false, and-left, and-right, and-both}
-use Rattle.octets.proofs.ExclusiveOr.{length-exclusiveOr}
-use Rattle.octets.specs.ExclusiveOr.{exclusiveOr}
+use Rattle.octets.proofs.ExclusiveOr.{length-exclusiveOr, exclusiveOr-octet}
 use Rattle.repair.specs.Cells.{Cell, blankCell, cellAt, unknownAt, isUnknown, repaired}
-use Rattle.repair.specs.Repair.{Message, passing, unknownMembers, otherMembers, usable, mended, fill}
+use Rattle.repair.specs.Repair.{Message, unknownMembers, otherMembers, usable, mended, fill}
 use Rattle.repair.specs.Reached.{Known, Unknown, Distinct}
 use Rattle.repair.proofs.Passing.{passing-among, among-passing, passing-one, list-of-one}
 
@@ -62,8 +61,8 @@ usable-says cells message e =
   where
     alone : unknownMembers cells message ≡ missing cells message ∷ []
     alone =
-        list-of-one (unknownMembers cells message)
-        (eqb-true (length (unknownMembers cells message)) 1 (and-right (leb 1 (length (message .octets))) _ e))
+        let exactly-one = and-right (leb 1 (length (message .octets))) _ e in
+        list-of-one (unknownMembers cells message) (omega (arith, eqb-true, leb-true))
 
     at : Among (missing cells message) (message .members) × Unknown cells (missing cells message)
     at = passing-among (unknownAt cells) (message .members) (rw alone (here refl))
@@ -87,7 +86,7 @@ usable-of cells message p d some m u others =
 -- ---- fill
 pub length-fill : (cells : List Cell) (message : Message) → length (fill cells message) ≡ length cells
 unfolding fill
-length-fill cells message = length-set cells (missing cells message) _
+length-fill cells message = length-set cells _ _
 
 -- the missing member becomes repaired
 pub fill-missing : (cells : List Cell) (message : Message) → usable cells message ≡ true
@@ -122,3 +121,17 @@ known-fill cells message q k =
 pub length-mended : (cells : List Cell) (message : Message) → length (mended cells message) ≡ length (message .octets)
 unfolding mended
 length-mended cells message = length-exclusiveOr (length (message .octets)) _
+
+-- and they are octets where the message's and the numbers' are
+pub mended-octet : (cells : List Cell) (message : Message) (k : ℕ) → getD (message .octets) k 0 < 256
+    → ((p : ℕ) → getD ((cellAt cells p) .octets) k 0 < 256) → getD (mended cells message) k 0 < 256
+unfolding mended
+mended-octet cells message k small each =
+    exclusiveOr-octet (length (message .octets)) (message .octets ∷ map (λ p. (cellAt cells p) .octets) (otherMembers cells message)) k
+    (λ l m.
+    ⊎-elim (λ same. rw same small)
+    (λ rest. of-member l (Memᴰ·of-map (λ p. (cellAt cells p) .octets) (otherMembers cells message) rest))
+    (List·Memᴰ·cases-cons m))
+  where
+    of-member : (l : List ℕ) → (p : ℕ) × Among p (otherMembers cells message) × ((cellAt cells p) .octets ≡ l) → getD l k 0 < 256
+    of-member l t = subst (λ (x : List ℕ). getD x k 0 < 256) t.2 (each t.0)

@@ -1,15 +1,17 @@
 -- Repair keeps what is known: a number known before is the same after, its state and its octets, and the view keeps its
 -- length. Assumes nothing.
 use Prim.Native.Nat.{ℕ, zero, suc}
-use mathlib.Core.Path.{_≡_, refl, sym, ap, _∙_}
+use mathlib.Core.Path.{_≡_, refl, sym, _∙_, subst}
 use mathlib.Core.Logic.{_⊎_, inl, inr, ⊎-elim}
-use mathlib.Core.List.{List}
+use mathlib.Core.Bool.{true}
+use mathlib.Core.List.{List, List·Memᴰ as Among}
 use mathlib.Core.Option.{Option, none, some}
 use lib.ListN.{length}
-use Rattle.repair.specs.Cells.{Cell, cellAt}
-use Rattle.repair.specs.Repair.{Message, firstUsable, fill, repairF, repair}
+use Rattle.octets.proofs.Cases.{same-or-not}
+use Rattle.repair.specs.Cells.{Cell, cellAt, repaired}
+use Rattle.repair.specs.Repair.{Message, usable, firstUsable, mended, fill, repairF, repair}
 use Rattle.repair.specs.Reached.{Known}
-use Rattle.repair.proofs.Fill.{length-fill, fill-known, same-unknown}
+use Rattle.repair.proofs.Fill.{missing, length-fill, fill-missing, fill-other, fill-known, same-unknown}
 use Rattle.repair.proofs.Search.{found-usable}
 
 -- ---- steps
@@ -55,6 +57,22 @@ pub repair-keeps : (P : List Cell → Type 0) (messages : List Message)
 unfolding repair
 repair-keeps P messages step cells start = repairF-keeps P messages step (length cells) cells start
 
+-- what holds of each number, and of each that a usable message fills, holds of each number after repair
+pub repair-each : (P : ℕ → Cell → Type 0) (messages : List Message)
+    → ((cells : List Cell) (found : Message) → Among found messages → usable cells found ≡ true
+    → ((p : ℕ) → P p (cellAt cells p)) → P (missing cells found) (record { state = repaired; octets = mended cells found }))
+    → (cells : List Cell) → ((p : ℕ) → P p (cellAt cells p)) → (p : ℕ) → P p (cellAt (repair cells messages) p)
+repair-each P messages step =
+    repair-keeps (λ now. (p : ℕ) → P p (cellAt now p)) messages
+    (λ now found e each p.
+    let got = found-usable now messages found e in
+    ⊎-elim
+    (λ same.
+    subst (λ (q : ℕ). P q (cellAt (fill now found) q)) (sym same)
+    (subst (P (missing now found)) (sym (fill-missing now found (got .1))) (step now found (got .0) (got .1) each)))
+    (λ other. subst (P p) (sym (fill-other now found p other)) (each p))
+    (same-or-not p (missing now found)))
+
 -- ---- length and growth
 pub length-repair : (cells : List Cell) (messages : List Message) → length (repair cells messages) ≡ length cells
 length-repair cells messages =
@@ -72,3 +90,10 @@ repair-known cells messages p k =
 -- what is known stays known
 pub known-repair : (cells : List Cell) (messages : List Message) (p : ℕ) → Known cells p → Known (repair cells messages) p
 known-repair cells messages p k = same-unknown cells (repair cells messages) p (repair-known cells messages p k) ∙ k
+
+-- every number is as it was, or it is repaired
+pub repair-state : (cells : List Cell) (messages : List Message) (p : ℕ)
+    → (cellAt (repair cells messages) p ≡ cellAt cells p) ⊎ ((cellAt (repair cells messages) p) .state ≡ repaired)
+repair-state cells messages =
+    repair-each (λ p cell. (cell ≡ cellAt cells p) ⊎ (cell .state ≡ repaired)) messages (λ now found m can each. inr refl) cells
+    (λ p. inl refl)

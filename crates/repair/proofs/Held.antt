@@ -1,29 +1,28 @@
 -- Laws of the held messages: each stands at a place of a datagram from the base on, and each datagram's messages are among
 -- them. So they have no member twice, and they are honest if the held datagrams are. Assumes nothing.
 use Prim.Native.Nat.{ℕ, zero, suc, _+_, _*_, _≤_, _<_, zero-le, suc-le-suc}
-use mathlib.Core.Path.{_≡_, refl, sym, ap, _∙_, subst}
-use mathlib.Core.Logic.{_⊎_, inl, inr, ⊎-elim}
-use mathlib.Core.List.{List, [], _∷_, _++_, map, List·Memᴰ as Among}
-use mathlib.Core.List.{List·Memᴰ·not-nil, List·Memᴰ·append-cases, Memᴰ·append-left, Memᴰ·append-right, Memᴰ·cast}
-use lib.ListN.{length, getD}
+use mathlib.Core.Path.{_≡_, sym, ap, _∙_, subst}
+use mathlib.Core.Logic.{⊎-elim}
+use mathlib.Core.List.{List, [], _∷_, List·Memᴰ as Among}
+use mathlib.Core.List.{List·Memᴰ·not-nil, List·Memᴰ·append-cases, Memᴰ·append-left, Memᴰ·append-right}
+use lib.ListN.{length}
 use native.Mathlib.Nat.{add-zero, add-suc, suc-add, not-suc-le-zero, le-of-suc-le-suc}
 use native.Mathlib.Omega.{arith}
-use Rattle.octets.proofs.Place.{tab-among, among-tab}
+use Rattle.octets.proofs.Place.{among-tab}
 use Rattle.repair.specs.Cells.{keptBefore, keptAhead, keptNumbers}
-use Rattle.repair.specs.Members.{membersOf}
 use Rattle.repair.specs.Repair.{Message}
-use Rattle.repair.specs.Held.{Held, nothingHeld, messageAt, messagesOf, messagesFrom, heldMessages}
+use Rattle.repair.specs.Held.{Held, heldAt, messageAt, messagesOf, messagesFrom, heldMessages}
 use Rattle.repair.specs.Reached.{Distinct, DistinctMembers}
 use Rattle.repair.specs.Honest.{HonestHeld, HonestMessage, HonestMessages}
-use Rattle.repair.proofs.Members.{members-distinct, member-before}
+use Rattle.repair.proofs.Members.{members-distinct, member-in-reach}
 
 -- where a message stands: message i of the datagram j after the first place
 pub record HeldAt (S : ℕ) (held : List Held) (message : Message) : Type 0 where
   pub j : ℕ
   pub i : ℕ
   pub inside : j < length held
-  pub low : i < length ((getD held j nothingHeld) .messages)
-  pub same : message ≡ messageAt (S + j) (getD held j nothingHeld) i
+  pub low : i < length ((heldAt held j) .messages)
+  pub same : message ≡ messageAt (S + j) (heldAt held j) i
 
 messagesOf-held : (S : ℕ) (held : Held) (more : List Held) (message : Message) → Among message (messagesOf S held)
     → HeldAt S (held ∷ more) message
@@ -50,7 +49,7 @@ later-held S held more message t =
       low = t .low;
       same =
           t .same
-          ∙ ap (λ (at : ℕ). messageAt at (getD more (t .j) nothingHeld) (t .i)) (suc-add S (t .j) ∙ sym (add-suc S (t .j)));
+          ∙ ap (λ (at : ℕ). messageAt at (heldAt more (t .j)) (t .i)) (suc-add S (t .j) ∙ sym (add-suc S (t .j)));
     }
 
 -- every held message stands at a place
@@ -63,7 +62,7 @@ held-at S (held ∷ more) message m =
 
 -- the messages of each datagram are held
 pub messagesOf-among : (S : ℕ) (held : List Held) (j : ℕ) (message : Message) → j < length held
-    → Among message (messagesOf (S + j) (getD held j nothingHeld)) → Among message (messagesFrom S held)
+    → Among message (messagesOf (S + j) (heldAt held j)) → Among message (messagesFrom S held)
 unfolding messagesFrom
 messagesOf-among S [] j message inside m = absurd (not-suc-le-zero inside)
 messagesOf-among S (held ∷ more) zero message inside m =
@@ -71,34 +70,34 @@ messagesOf-among S (held ∷ more) zero message inside m =
 messagesOf-among S (held ∷ more) (suc j) message inside m =
     Memᴰ·append-right (messagesOf S held)
     (messagesOf-among (suc S) more j message (le-of-suc-le-suc inside)
-    (subst (λ (at : ℕ). Among message (messagesOf at (getD more j nothingHeld))) (add-suc S j ∙ sym (suc-add S j)) m))
+    (subst (λ (at : ℕ). Among message (messagesOf at (heldAt more j))) (add-suc S j ∙ sym (suc-add S j)) m))
 
 -- ---- no held message has a member twice
 pub held-distinct : (held : List Held)
-    → ((j : ℕ) → j < length held → (getD held j nothingHeld) .n * length ((getD held j nothingHeld) .messages) ≤ keptBefore)
+    → ((j : ℕ) → j < length held → (heldAt held j) .n * length ((heldAt held j) .messages) ≤ keptBefore)
     → DistinctMembers (heldMessages held)
 unfolding heldMessages
 held-distinct held reach message m =
     let at = held-at keptBefore held message m in
-    let h : Held = getD held (at .j) nothingHeld in
+    let h : Held = heldAt held (at .j) in
     subst (λ (x : Message). Distinct (x .members)) (sym (at .same))
     (members-distinct (keptBefore + at .j) (h .n) (length (h .messages)) (at .i) (omega (arith, reach (at .j) (at .inside))) (at .low))
 
 -- ---- honest datagrams hold honest messages
 pub held-honest : (row : ℕ → List ℕ) (held : List Held) → length held ≤ keptAhead
-    → ((j : ℕ) → j < length held → HonestHeld row (keptBefore + j) (getD held j nothingHeld))
+    → ((j : ℕ) → j < length held → HonestHeld row (keptBefore + j) (heldAt held j))
     → HonestMessages row keptNumbers (heldMessages held)
 unfolding heldMessages
 held-honest row held few honest message m =
     let at = held-at keptBefore held message m in
-    let h : Held = getD held (at .j) nothingHeld in
+    let h : Held = heldAt held (at .j) in
     let true-held = honest (at .j) (at .inside) in
     subst (HonestMessage row keptNumbers) (sym (at .same))
     (record {
       sum = true-held .sums (at .i) (at .low);
       inside = λ p member.
           let before =
-          member-before (keptBefore + at .j) (h .n) (length (h .messages)) (at .i) (true-held .reach) (at .low) {p = p} member in
+          member-in-reach (keptBefore + at .j) (h .n) (length (h .messages)) (at .i) (true-held .reach) (at .low) {p = p} member in
           let inside = at .inside in
           omega arith;
     })

@@ -1,51 +1,26 @@
 -- With an honest sender repair is right: where every known number has the sender's packet up to zeros at the end, and every
 -- message is the exclusive or of its members, each number that repair fills has the sender's packet up to zeros too. At each
 -- place the other members cancel, and the message is as long as the longest member. Assumes nothing.
-use Prim.Native.Nat.{ℕ, _≤_, _<_}
+use Prim.Native.Nat.{ℕ, _≤_}
 use mathlib.Core.Path.{_≡_, refl, sym, ap, ap₂, _∙_, subst}
 use mathlib.Core.Logic.{⊎-elim}
-use mathlib.Core.Bool.{Bool, true, false, not}
-use mathlib.Core.List.{List, [], _∷_, map, List·Memᴰ as Among, Memᴰ·map}
+use mathlib.Core.Bool.{true, not}
+use mathlib.Core.List.{List, _∷_, map, Memᴰ·map}
 use lib.ListN.{length, getD, List·getD-eq-default}
 use lib.Bits.{bitXor, xor-zero-r}
 use native.Mathlib.Omega.{arith}
 use borrow.Author.Tests.{not-true}
-use Rattle.octets.specs.ExclusiveOr.{xorAt, exclusiveOr, longest}
-use Rattle.octets.proofs.Cases.{below-or-not, same-or-not, true-or-false}
-use Rattle.octets.proofs.ExclusiveOr.{xor-assoc, xor-left-comm, xor-cancel-right, xorAt-cons, xorAt-same, exclusiveOr-at, exclusiveOr-longest, exclusiveOr-past, length-exclusiveOr, longest-reaches}
+use Rattle.octets.specs.ExclusiveOr.{xorAt, longest}
+use Rattle.octets.proofs.Cases.{below-or-not, same-or-not}
+use Rattle.octets.proofs.ExclusiveOr.{xor-cancel-right, xorAt-same, longest-reaches}
+use Rattle.octets.proofs.ExclusiveOr.{exclusiveOr-at, exclusiveOr-longest, exclusiveOr-past, length-exclusiveOr}
 use Rattle.repair.specs.Cells.{Cell, cellAt, unknownAt}
-use Rattle.repair.specs.Repair.{Message, passing, unknownMembers, otherMembers, usable, mended, fill, firstUsable, repair}
-use Rattle.repair.specs.Reached.{Known}
-use Rattle.repair.specs.Honest.{messageOver, HonestMessage, HonestMessages, UpToZeros, TrueCells}
-use Rattle.repair.proofs.Passing.{passing-yes, passing-no, passing-among}
-use Rattle.repair.proofs.Fill.{missing, Usable, usable-says, length-fill, length-mended, fill-missing, fill-other, known-fill, same-unknown}
+use Rattle.repair.specs.Repair.{Message, otherMembers, usable, mended, fill, repair}
+use Rattle.repair.specs.Honest.{HonestMessage, HonestMessages, UpToZeros, TrueCells}
+use Rattle.repair.proofs.Passing.{passing-among, xorAt-parted}
+use Rattle.repair.proofs.Fill.{missing, usable-says, length-fill, length-mended, fill-missing, fill-other, same-unknown}
 use Rattle.repair.proofs.Search.{found-usable}
-use Rattle.repair.proofs.Grows.{repair-keeps, length-repair}
-
--- ---- the members, parted by a test
-module _ (test : ℕ → Bool) (row : ℕ → List ℕ) (k : ℕ) where
-  abbrev both-of : List ℕ → List ℕ → ℕ
-  both-of pass fail = bitXor (xorAt (map row pass) k) (xorAt (map row fail) k)
-
-  -- the exclusive or of those that pass and of those that don't
-  abbrev parted : List ℕ → ℕ
-  parted l = both-of (passing test l) (passing (λ p. not (test p)) l)
-
-  xorAt-parted : (l : List ℕ) → xorAt (map row l) k ≡ parted l
-  unfolding passing xorAt
-  xorAt-parted [] = refl
-  xorAt-parted (p ∷ l) =
-      ap (bitXor (getD (row p) k 0)) (xorAt-parted l) ∙ ⊎-elim passes fails (true-or-false (test p))
-    where
-      passes : test p ≡ true → bitXor (getD (row p) k 0) (parted l) ≡ parted (p ∷ l)
-      passes e =
-          sym (xor-assoc (getD (row p) k 0) (xorAt (map row (passing test l)) k) (xorAt (map row (passing (λ q. not (test q)) l)) k))
-          ∙ sym (ap₂ both-of (passing-yes test p l e) (passing-no (λ q. not (test q)) p l (ap not e)))
-
-      fails : test p ≡ false → bitXor (getD (row p) k 0) (parted l) ≡ parted (p ∷ l)
-      fails e =
-          xor-left-comm (getD (row p) k 0) (xorAt (map row (passing test l)) k) (xorAt (map row (passing (λ q. not (test q)) l)) k)
-          ∙ sym (ap₂ both-of (passing-no test p l e) (passing-yes (λ q. not (test q)) p l (ap not e)))
+use Rattle.repair.proofs.Grows.{repair-keeps}
 
 -- ---- one fill
 module _ (row : ℕ → List ℕ) (cells : List Cell) (message : Message) (can : usable cells message ≡ true)

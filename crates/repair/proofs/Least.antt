@@ -1,16 +1,16 @@
 -- Repair makes known what the messages reach, and nothing more: its result holds what was known, is closed under every
 -- message, and lies within every closed set that holds what was known. So the known numbers do not depend on the order of
 -- the messages, and they grow with what is known before and with more messages. Assumes nothing.
-use Prim.Native.Nat.{ℕ, _≤_}
-use mathlib.Core.Path.{_≡_, refl, sym, ap, _∙_, subst}
-use mathlib.Core.Logic.{_⊎_, _↔_, ⊎-elim}
-use mathlib.Core.Bool.{true, false, false≢true}
+use Prim.Native.Nat.{ℕ}
+use mathlib.Core.Path.{_≡_, sym, _∙_, subst}
+use mathlib.Core.Logic.{_↔_, ⊎-elim}
+use mathlib.Core.Bool.{false≢true}
 use mathlib.Core.List.{List, List·Memᴰ as Among}
-use mathlib.Core.Option.{none, some}
+use mathlib.Core.Option.{none}
 use Rattle.octets.proofs.Cases.{true-or-false}
 use Rattle.repair.specs.Cells.{Cell, unknownAt}
 use Rattle.repair.specs.Repair.{Message, firstUsable, repair}
-use Rattle.repair.specs.Reached.{Known, Closed, Reached, known, mended, DistinctMembers}
+use Rattle.repair.specs.Reached.{Known, Closed, Reached, known, byMessage, DistinctMembers}
 use Rattle.repair.proofs.Fill.{missing, usable-says, usable-of, known-fill}
 use Rattle.repair.proofs.Search.{found-usable, none-usable}
 use Rattle.repair.proofs.Grows.{repair-keeps, known-repair}
@@ -21,7 +21,7 @@ use Rattle.repair.proofs.Enough.{repair-closed}
 pub reached-within : (K : ℕ → Type 0) (cells : List Cell) (messages : List Message) → ((p : ℕ) → Known cells p → K p)
     → Closed messages K → {p : ℕ} → Reached cells messages p → K p
 reached-within K cells messages start closed {p} (known k) = start p k
-reached-within K cells messages start closed {p} (mended message m long at others) =
+reached-within K cells messages start closed {p} (byMessage message m long at others) =
     closed message p m long at (λ q member other. reached-within K cells messages start closed (others q member other))
 
 -- they grow with the known places and with the messages
@@ -30,7 +30,7 @@ pub reached-more : (cells wider : List Cell) (messages more : List Message) → 
     → {p : ℕ} → Reached cells messages p → Reached wider more p
 reached-more cells wider messages more start held =
     reached-within (Reached wider more) cells messages (λ p k. known (start p k))
-    (λ message p m long at others. mended message (held message m) long at others)
+    (λ message p m long at others. byMessage message (held message m) long at others)
 
 -- ---- after repair
 -- every known place lies within every closed set that holds those known before
@@ -70,7 +70,7 @@ known-closed cells messages distinct =
 pub known-reached : (cells : List Cell) (messages : List Message) (p : ℕ) → Known (repair cells messages) p → Reached cells messages p
 known-reached cells messages =
     known-within (Reached cells messages) cells messages (λ p k. known k)
-    (λ message p m long at others. mended message m long at others)
+    (λ message p m long at others. byMessage message m long at others)
 
 pub reached-known : (cells : List Cell) (messages : List Message) → DistinctMembers messages
     → (p : ℕ) → Reached cells messages p → Known (repair cells messages) p

@@ -4,8 +4,10 @@ pub mod Search
 pub mod Grows
 pub mod Enough
 pub mod Least
-pub mod Honest
 pub mod Members
 pub mod Held
+pub mod Zeros
+pub mod Honest
 pub mod Burst
+pub mod Turns
 pub mod Claims

@@ -6,10 +6,10 @@ use mathlib.Core.Bool.{true}
 use mathlib.Core.List.{List, [], _∷_, map, List·Memᴰ as Among}
 use mathlib.Core.Option.{none}
 use lib.ListN.{length, getD}
-use Rattle.repair.specs.Members.{membersOf}
+use Rattle.repair.specs.Members.{membersOf, InReach}
 use Rattle.repair.specs.Cells.{Cell, received, repaired, unknownCell, cellAt, keptBefore}
 use Rattle.repair.specs.Repair.{Message, firstUsable, repair}
-use Rattle.repair.specs.Held.{Held, nothingHeld, messagesOf, heldMessages}
+use Rattle.repair.specs.Held.{Held, heldAt, messagesOf, heldMessages}
 use Rattle.repair.specs.Reached.{Known, Unknown, Closed, Reached, Distinct, DistinctMembers}
 use Rattle.repair.specs.Honest.{messageOver, HonestMessages, HonestHeld, TrueCells}
 
@@ -20,12 +20,12 @@ use Rattle.repair.specs.Honest.{messageOver, HonestMessages, HonestHeld,
 pub record MembersExact : Type 0 where
   pub distinct : (S n m i : ℕ) → n * m ≤ S → i < m → Distinct (membersOf S n m i)
   pub exact : (S n m i : ℕ) → n * m ≤ S → i < m → (p : ℕ)
-      → Among p (membersOf S n m i) ↔ ((S - n * m ≤ p) × (p < S) × (((S - 1) - p) % m ≡ (m - 1) - i))
+      → Among p (membersOf S n m i) ↔ (InReach S n m p × (((S - 1) - p) % m ≡ (m - 1) - i))
 
 -- the messages that a session holds have no member twice, since no reach goes further back than the view
 abbrev pub HeldDistinct : Type 0
 HeldDistinct = (held : List Held)
-    → ((j : ℕ) → j < length held → (getD held j nothingHeld) .n * length ((getD held j nothingHeld) .messages) ≤ keptBefore)
+    → ((d : ℕ) → d < length held → (heldAt held d) .n * length ((heldAt held d) .messages) ≤ keptBefore)
     → DistinctMembers (heldMessages held)
 
 -- ---- repair
@@ -71,17 +71,35 @@ abbrev pub StaysTrue : Type 0
 StaysTrue = (row : ℕ → List ℕ) (cells : List Cell) (messages : List Message) → HonestMessages row (length cells) messages
     → TrueCells row cells → TrueCells row (repair cells messages)
 
+-- of the reach of S at most m numbers in a row are unknown, those from a on
+abbrev pub BurstAt : List Cell → ℕ → ℕ → ℕ → ℕ → Type 0
+BurstAt cells S n m a = (p : ℕ) → InReach S n m p → Unknown cells p → (a ≤ p) × (p < a + m)
+
+-- an unknown number before S has a packet of one octet or more: numbers before the first are known, being blank
+abbrev pub SentBefore : (ℕ → List ℕ) → List Cell → ℕ → Type 0
+SentBefore row cells S = (p : ℕ) → p < S → Unknown cells p → 1 ≤ length (row p)
+
 -- a burst is mended: where no message is usable any more, an honest datagram is held at S, and of its reach at most m
--- numbers in a row are unknown, each with a packet of one octet or more, all of the reach is known
+-- numbers in a row are unknown, all of the reach is known
 abbrev pub BurstMended : Type 0
 BurstMended = (row : ℕ → List ℕ) (cells : List Cell) (messages : List Message) (S : ℕ) (held : Held) (a : ℕ)
     → HonestHeld row S held
     → firstUsable cells messages ≡ none
     → ((message : Message) → Among message (messagesOf S held) → Among message messages)
-    → ((p : ℕ) → p < S → Unknown cells p → 1 ≤ length (row p))
-    → ((p : ℕ) → S - held .n * length (held .messages) ≤ p → p < S → Unknown cells p
-    → (a ≤ p) × (p < a + length (held .messages)))
-    → (p : ℕ) → S - held .n * length (held .messages) ≤ p → p < S → Known cells p
+    → SentBefore row cells S
+    → BurstAt cells S (held .n) (length (held .messages)) a
+    → (p : ℕ) → InReach S (held .n) (length (held .messages)) p → Known cells p
+
+-- the same of what a session holds, before and after repair: at distance d from the base an honest datagram is held, and of
+-- its reach at most m numbers in a row are unknown; after repair all of it is known
+abbrev pub BurstRepaired : Type 0
+BurstRepaired = (row : ℕ → List ℕ) (cells : List Cell) (held : List Held) (d a : ℕ)
+    → d < length held
+    → HonestHeld row (keptBefore + d) (heldAt held d)
+    → SentBefore row cells (keptBefore + d)
+    → BurstAt cells (keptBefore + d) ((heldAt held d) .n) (length ((heldAt held d) .messages)) a
+    → (p : ℕ) → InReach (keptBefore + d) ((heldAt held d) .n) (length ((heldAt held d) .messages)) p
+    → Known (repair cells (heldMessages held)) p
 
 -- ---- document 01's sheet, the rows of this layer
 -- "Packets 0 `06` and 1 `C0 01 80 00 00 55`"
@@ -119,4 +137,5 @@ pub record Claims : Type 1 where
   pub noLess : NoLess
   pub staysTrue : StaysTrue
   pub burstMended : BurstMended
+  pub burstRepaired : BurstRepaired
   pub sheet : Sheet

@@ -19,6 +19,10 @@ pub record Held : Type 0 where
 abbrev pub nothingHeld : Held
 nothingHeld = record { accepted = false; n = 0; messages = [] }
 
+-- what is held at distance d from the base
+abbrev pub heldAt : List Held → ℕ → Held
+heldAt held d = getD held d nothingHeld
+
 -- message i of the datagram at place S
 abbrev pub messageAt : ℕ → Held → ℕ → Message
 messageAt S held i =

@@ -25,13 +25,13 @@ Closed messages K = (message : Message) (p : ℕ) → Among message messages →
 -- the places that the messages reach from the known ones
 pub data Reached (cells : List Cell) (messages : List Message) : ℕ → Type 0 where
   known : {p : ℕ} → Known cells p → Reached cells messages p
-  mended : {p : ℕ} (message : Message) → Among message messages → 1 ≤ length (message .octets) → Among p (message .members)
+  byMessage : {p : ℕ} (message : Message) → Among message messages → 1 ≤ length (message .octets) → Among p (message .members)
       → ((q : ℕ) → Among q (message .members) → (q ≡ p → ⊥) → Reached cells messages q) → Reached cells messages p
 
 -- no number is in the list twice
 pub data Distinct : List ℕ → Type 0 where
-  none : Distinct []
-  more : {x : ℕ} {l : List ℕ} → (Among x l → ⊥) → Distinct l → Distinct (x ∷ l)
+  nothing : Distinct []
+  fresh : {x : ℕ} {l : List ℕ} → (Among x l → ⊥) → Distinct l → Distinct (x ∷ l)
 
 -- no message has a member twice
 abbrev pub DistinctMembers : List Message → Type 0

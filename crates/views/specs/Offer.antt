@@ -8,8 +8,9 @@ use mathlib.Core.List.{List, [], _∷_}
 use lib.ListN.{getD, set}
 use lib.Dec.{ltb}
 use Rattle.lengths.specs.Refusals.{repeated, tooFar, late}
-use Rattle.lengths.specs.Answers.{Answer, done, refuse}
+use Rattle.lengths.specs.Answers.{Answer, done, refuse, _>>=_}
 use Rattle.datagrams.specs.Carried.{Carried, Extra, spares, parity}
+use Rattle.datagrams.specs.Read.{readDatagram, carriedBy}
 use Rattle.repair.specs.Cells.{State, received, spare, Cell, unknownAt, keptBefore, keptAhead}
 use Rattle.repair.specs.Held.{Held, nothingHeld, heldMessages}
 use Rattle.repair.specs.Repair.{repair}
@@ -62,3 +63,9 @@ offered datagram view =
     cond (ltb d keptAhead)
     (cond (acceptedAt view d) (refuse repeated) (done (accept d datagram view)))
     (cond (ltb d lateFrom) (refuse tooFar) (refuse late))
+
+-- any octets offered: read first, so that a refusal of the reader is the offer's
+unfoldable pub offer : List ℕ → View → Answer View
+offer octets view = do
+  parts ← readDatagram octets
+  offered (carriedBy octets parts) view

@@ -1,0 +1,36 @@
+-- The claims of this crate, each proved by a law. Assumes nothing.
+use mathlib.Core.Path.{refl, sym, _∙_}
+use Rattle.lengths.specs.Length.{lengthAt}
+use Rattle.lengths.proofs.Claims as lengths
+use Rattle.datagrams.specs.Read.{allowed, octetAt, sizedAt, itemAt, itemsAt, endOf, sparesAt, parityAt, extraAt, numberOf, wholeOf, readDatagram}
+use Rattle.datagrams.specs.Claims.{OneOutcome, Cases, Claims}
+use Rattle.datagrams.proofs.ReadLaws.{accepted-inside}
+use Rattle.datagrams.proofs.ReadBack.{written-back}
+use Rattle.datagrams.proofs.WriteBack.{read-back}
+
+one-outcome : OneOutcome
+one-outcome =
+    record { read = λ p q. p .whole ∙ sym (q .whole); written = λ p q. lengths.one-outcome .written p q }
+
+cases : Cases
+unfolding readDatagram numberOf wholeOf extraAt sparesAt parityAt itemsAt itemAt sizedAt octetAt allowed endOf lengthAt
+cases =
+    record {
+      one-is-octet = refl;
+      not-one = refl;
+      empty-spare = refl;
+      last-c0 = refl;
+      last-80 = refl;
+      low-bits = refl;
+      left-over = refl;
+    }
+
+pub claims : Claims
+claims =
+    record {
+      writtenReads = written-back;
+      readWrites = read-back;
+      acceptedInside = λ s r number packet k count reads is. accepted-inside reads is;
+      oneOutcome = one-outcome;
+      cases = cases;
+    }

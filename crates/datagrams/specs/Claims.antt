@@ -1,0 +1,92 @@
+-- The claims of this crate: statements alone. Definitions only.
+use Prim.Native.Nat.{ℕ, _+_, _≤_, _<_}
+use mathlib.Core.Path.{_≡_}
+use mathlib.Core.Bool.{true}
+use mathlib.Core.List.{List, [], _∷_, map, flatten}
+use lib.ListN.{length, getD}
+use Rattle.lengths.specs.Refusals.{endsEarly, badForm, outsideSizes, spareBit, leftOver}
+use Rattle.lengths.specs.Answers.{Answer, done, refuse}
+use Rattle.lengths.specs.Claims.{Octets}
+use Rattle.lengths.specs.Promise.{Puts}
+use Rattle.lengths.specs.declared.Written.{Written}
+use Rattle.datagrams.specs.Sizes.{packetLeast, packetLimit}
+use Rattle.datagrams.specs.Carried.{Carried}
+use Rattle.datagrams.specs.Write.{countInside, carriedOf, datagramToWrite}
+use Rattle.datagrams.specs.Read.{DatagramParts, leastOf, mostOf, octetsOf, readDatagram, carriedBy}
+use Rattle.datagrams.specs.Promise.{DatagramReads, nowhere}
+use Rattle.datagrams.specs.declared.reader.Part.{Part}
+use Rattle.datagrams.specs.declared.reader.Reading.the-variants as reading
+use Rattle.datagrams.specs.declared.reader.DatagramRead.{DatagramRead}
+use Rattle.datagrams.specs.declared.kind.Kind.{Kind}
+
+-- ---- round trips
+
+-- the octets s read as a datagram that carries c
+pub record ReadsAs (s : List ℕ) (c : Carried) : Type 0 where
+  pub parts : DatagramParts
+  pub read : readDatagram s ≡ done parts
+  pub carried : carriedBy s parts ≡ c
+
+-- what the writer writes reads back to the same number, packet, spares or n and messages
+abbrev pub WrittenReads : Type 0
+WrittenReads = (number : ℕ) (packet : List ℕ) (k : Kind) (lengths run s : List ℕ) → datagramToWrite number packet k lengths run ≡ done s
+    → ReadsAs s (carriedOf number packet k lengths run)
+
+-- the spares or messages of a reading as the writer takes them: their lengths, and one run of data
+abbrev pub lengthsOf : DatagramParts → List ℕ
+lengthsOf d = map (λ (p : Part). p .size) (d .items)
+
+abbrev pub runOf : List ℕ → DatagramParts → List ℕ
+runOf s d = flatten (map (octetsOf s) (d .items))
+
+-- what reads without refusal, written from its fields, gives the same octets
+abbrev pub ReadWrites : Type 0
+ReadWrites = (s : List ℕ) (d : DatagramParts) → Octets s → readDatagram s ≡ done d
+    → datagramToWrite (d .number) (octetsOf s (d .packet)) (d .kind) (lengthsOf d) (runOf s d) ≡ done s
+
+-- ---- what an accepted datagram names
+
+-- a part has from least to most octets and lies within the octets s
+pub record PartInside (least most : ℕ) (s : List ℕ) (p : Part) : Type 0 where
+  pub low : least ≤ p .size
+  pub high : p .size ≤ most
+  pub inside : p .start + p .size ≤ length s
+
+-- the newest packet, n and the count, and each spare or message are within the sizes and the octets s
+pub record Inside (s : List ℕ) (packet : Part) (k : Kind) (count : ℕ) (items : List Part) : Type 0 where
+  pub newest : PartInside packetLeast packetLimit s packet
+  pub counted : countInside k count ≡ true
+  pub each : (j : ℕ) → j < count → PartInside (leastOf k) (mostOf k) s (getD items j nowhere)
+
+abbrev pub AcceptedInside : Type 0
+AcceptedInside = (s : List ℕ) (r : DatagramRead) (number : ℕ) (packet : Part) (k : Kind) (count : ℕ) → DatagramReads s r
+    → r .reading ≡ reading.Datagram number packet k count → Inside s packet k count (r .items)
+
+-- ---- one outcome
+
+-- two outcomes that a promise allows are equal
+pub record OneOutcome : Type 0 where
+  pub read : {s : List ℕ} {r q : DatagramRead} → DatagramReads s r → DatagramReads s q → r ≡ q
+  pub written : {w : Answer (List ℕ)} {old new other : List ℕ} {r q : Written}
+      → Puts w old new r → Puts w old other q → (r ≡ q) × (new ≡ other)
+
+-- ---- cases in which another reading of document 01 was possible
+
+pub record Cases : Type 0 where
+  -- octet 01 and octet n are plain octets: 4 at once, before what follows is missed
+  pub one-is-octet : readDatagram (0x00 ∷ 0x00 ∷ 0x01 ∷ 0x06 ∷ 0x80 ∷ 0xC0 ∷ []) ≡ refuse outsideSizes
+  pub not-one : readDatagram (0x00 ∷ 0x00 ∷ 0x01 ∷ 0x06 ∷ 0x80 ∷ 0x02 ∷ []) ≡ refuse outsideSizes
+  -- a spare is a packet: never empty
+  pub empty-spare : readDatagram (0x00 ∷ 0x00 ∷ 0x01 ∷ 0x06 ∷ 0x00 ∷ 0x01 ∷ 0x00 ∷ []) ≡ refuse outsideSizes
+  -- C0 or more as the last octet is 3, not 1
+  pub last-c0 : readDatagram (0x00 ∷ 0x00 ∷ 0xC0 ∷ []) ≡ refuse badForm
+  pub last-80 : readDatagram (0x00 ∷ 0x00 ∷ 0x80 ∷ []) ≡ refuse endsEarly
+  pub low-bits : readDatagram (0x00 ∷ 0x00 ∷ 0x01 ∷ 0x06 ∷ 0x81 ∷ []) ≡ refuse spareBit
+  pub left-over : readDatagram (0x00 ∷ 0x00 ∷ 0x01 ∷ 0x06 ∷ 0x00 ∷ 0x00 ∷ 0x00 ∷ []) ≡ refuse leftOver
+
+pub record Claims : Type 0 where
+  pub writtenReads : WrittenReads
+  pub readWrites : ReadWrites
+  pub acceptedInside : AcceptedInside
+  pub oneOutcome : OneOutcome
+  pub cases : Cases

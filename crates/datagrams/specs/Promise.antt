@@ -1,0 +1,43 @@
+-- What the datagram reader owes, a record which its contract cites, and what each case of its answer is in document 01's
+-- number and values. What the datagram writer owes is the length layer's `Puts`, of `datagramToWrite`. Definitions only.
+use Prim.Native.Nat.{ℕ, _-_}
+use mathlib.Core.Path.{_≡_}
+use mathlib.Core.List.{List, [], _++_}
+use lib.ListN.{length, take, replicate}
+use Rattle.lengths.specs.Answers.{Answer, done, refused}
+use Rattle.datagrams.specs.Sizes.{sparesLimit}
+use Rattle.datagrams.specs.Read.{DatagramParts, readDatagram}
+use Rattle.datagrams.specs.declared.reader.Part.{Part}
+use Rattle.datagrams.specs.declared.reader.Reading.{Reading}
+use Rattle.datagrams.specs.declared.reader.Reading.the-variants as reading
+use Rattle.datagrams.specs.declared.reader.DatagramRead.{DatagramRead}
+
+-- each case of the datagram reader's answer, in document 01's number and values
+abbrev pub readingOutcome : Reading → List Part → Answer DatagramParts
+readingOutcome (reading.Datagram number packet kind count) items =
+    done (record { number = number; packet = packet; kind = kind; items = take count items })
+readingOutcome (reading.Refused r) items = refused r
+
+abbrev pub readOutcome : DatagramRead → Answer DatagramParts
+readOutcome r = readingOutcome (r .reading) (r .items)
+
+-- an empty part, at the places past the count
+abbrev pub nowhere : Part
+nowhere = record { start = 0; size = 0 }
+
+unfoldable pub places : List Part → List Part
+places ps = ps ++ replicate (sparesLimit - length ps) nowhere
+
+-- the whole answer, unused places too
+unfoldable pub datagramRead : Answer DatagramParts → DatagramRead
+datagramRead (done d) =
+    record {
+      reading = reading.Datagram (d .number) (d .packet) (d .kind) (length (d .items));
+      items = places (d .items);
+    }
+datagramRead (refused r) = record { reading = reading.Refused r; items = places [] }
+
+-- what `read` owes of the octets s: its answer, and the whole of what it hands back
+pub record DatagramReads (s : List ℕ) (r : DatagramRead) : Type 0 where
+  pub answer : readOutcome r ≡ readDatagram s
+  pub whole : r ≡ datagramRead (readDatagram s)

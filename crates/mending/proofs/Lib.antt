@@ -1,0 +1,6 @@
+mod Turns
+mod Members
+mod Search
+mod First
+mod Sums
+mod Fills

@@ -1,0 +1,59 @@
+-- `ranges::state_right` meets its contract: each arm is the definition's line for that state. Assumes nothing.
+use Rattle.heads.specs.Ranges.{stateInRange}
+use borrow.Author.Needs.{needs}
+use Rattle.ranges.proofs.state_right.Statement.{statement}
+use Rattle.ranges.proofs.state_right.Tie as tie
+
+cast-size : tie.Need-cast-size
+cast-size c = search needs
+
+enum-told : tie.Need-enum-told
+enum-told c = search needs
+
+enum-told-2 : tie.Need-enum-told-2
+enum-told-2 c = search needs
+
+enum-told-3 : tie.Need-enum-told-3
+enum-told-3 c = search needs
+
+enum-told-4 : tie.Need-enum-told-4
+enum-told-4 c = search needs
+
+enum-told-5 : tie.Need-enum-told-5
+enum-told-5 c = search needs
+
+returns : tie.Need-returns
+unfolding stateInRange
+returns c = rw (c .enum-told .given .1)
+
+returns-2 : tie.Need-returns-2
+unfolding stateInRange
+returns-2 c = rw (c .enum-told2 .given .1)
+
+returns-3 : tie.Need-returns-3
+unfolding stateInRange
+returns-3 c = rw (c .enum-told3 .given .1)
+
+returns-4 : tie.Need-returns-4
+unfolding stateInRange
+returns-4 c = rw (c .enum-told4 .given .1)
+
+returns-5 : tie.Need-returns-5
+unfolding stateInRange
+returns-5 c = rw (c .enum-told5 .given .1)
+
+pub state-right-spec : {M : Type 1} → statement M
+state-right-spec =
+    tie.close
+    (tie.spec
+    cast-size
+    enum-told
+    enum-told-2
+    enum-told-3
+    enum-told-4
+    enum-told-5
+    returns
+    returns-2
+    returns-3
+    returns-4
+    returns-5)

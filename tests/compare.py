@@ -1,0 +1,158 @@
+#!/usr/bin/env python3
+"""Compares programs under test with the independent program, over stored cases and over scripts made from seeds."""
+
+import argparse
+import pathlib
+import shlex
+import sys
+
+from generate import make_script
+from making.lines import across_the_wrap, at_the_limit, program_lines
+from running import (around, call_of_answer, described, difference, expected_answers, expected_results, line_at, run, text_of)
+
+HERE = pathlib.Path(__file__).resolve().parent
+CASES = HERE / 'cases'
+CALL_SEEDS, CALLS_EACH = 5, 4000
+PROGRAM_SEEDS, LINES_EACH = 4, 1000
+
+
+class Failed(Exception):
+    """A comparison that found a difference; its text says which."""
+
+
+def compare_calls(name, command, script, expected):
+    """One script of calls against the answers expected."""
+    written, remark = run(command, script)
+    at = difference(expected, written)
+    if at is not None:
+        line = call_of_answer(script, at)
+        call = line_at(script, line)
+        raise Failed('\n'.join(['differs %s: script line %d %s' % (name, line + 1, remark), '  call     %s' % around(call, 0)]
+                               + described(expected, written, at)))
+    if remark:
+        raise Failed('differs %s: all answers are right, but %s' % (name, remark))
+
+
+def compare_program(name, command, given, expected):
+    """One input of the program against the results expected."""
+    written, remark = run(command, given)
+    at = difference(expected, written)
+    if at is not None:
+        raise Failed('\n'.join(['differs %s: result line %d %s' % (name, at + 1, remark)] + described(expected, written, at)))
+    if remark:
+        raise Failed('differs %s: all results are right, but %s' % (name, remark))
+
+
+def stored(ending, answered):
+    """The stored cases with these two endings: name, input, what is expected."""
+    for path in sorted(CASES.glob('*' + ending)):
+        yield path.name, path.read_bytes(), path.with_suffix(answered).read_bytes()
+
+
+def comparisons(arguments):
+    """All comparisons: a name, and what does it."""
+    seeds = [arguments.seed + str(number) for number in range(max(CALL_SEEDS, PROGRAM_SEEDS))]
+    for name, given, expected in stored('.calls', '.answers'):
+        yield 'stored ' + name, arguments.calls, compare_calls, lambda g=given, e=expected: (g, e)
+    for name, given, expected in stored('.lines', '.results'):
+        yield 'stored ' + name, arguments.program, compare_program, lambda g=given, e=expected: (g, e)
+    for seed in seeds[:CALL_SEEDS]:
+        yield 'calls of seed ' + seed, arguments.calls, compare_calls, lambda s=seed: made_calls(s)
+    for seed in seeds[:PROGRAM_SEEDS]:
+        yield 'program lines of seed ' + seed, arguments.program, compare_program, lambda s=seed: made_lines(s)
+    yield 'program across the wrap', arguments.program, compare_program, lambda: across_the_wrap(seeds[0], LINES_EACH)
+    if arguments.limit:
+        yield 'program at the limit', arguments.program, compare_program, at_the_limit
+
+
+def made_calls(seed):
+    """A script of calls from a seed, and its answers."""
+    script = make_script(seed, CALLS_EACH)
+    return text_of(script.lines), text_of(answer for answer in script.answers if answer)
+
+
+def made_lines(seed):
+    """The program's input from a seed, and its results."""
+    given = program_lines(seed, LINES_EACH)
+    return given, expected_results(given)
+
+
+def compare_all(arguments, out):
+    """Does each comparison that has a command; how many passed, and whether all did."""
+    passed = 0
+    for name, command, compare, make in comparisons(arguments):
+        if command is None:
+            continue
+        try:
+            compare(name, command, *make())
+        except Failed as failed:
+            print(failed, file=out)
+            print('%d passed, 1 failed' % passed, file=out)
+            return passed, False
+        passed += 1
+        print('ok', name, file=out, flush=True)
+    print('%d passed, 0 failed' % passed, file=out)
+    return passed, True
+
+
+def check_independent():
+    """The independent program against the stored answers, before anything is compared with it."""
+    for name, given, expected in stored('.calls', '.answers'):
+        check_stored(name, expected, expected_answers(given))
+    for name, given, expected in stored('.lines', '.results'):
+        check_stored(name, expected, expected_results(given))
+
+
+def check_stored(name, expected, written):
+    """One stored case against the independent program."""
+    at = difference(expected, written)
+    if at is not None:
+        sys.exit('\n'.join(['the independent program differs from stored %s: answer %d' % (name, at + 1)]
+                           + described(expected, written, at)))
+
+
+def self_test():
+    """An altered, a missing and an added answer, and a bad end, are each reported; unaltered ones pass."""
+    own = shlex.quote(sys.executable) + ' ' + shlex.quote(str(HERE / 'independent.py'))
+    script, answers = made_calls('self-test')
+    given, results = made_lines('self-test')
+    alterations = (('', None), ("| sed '700s/.$/x/'", 'script line'), ("| sed '$d'", 'script line'), ('; echo 00', 'script line'),
+                   ('; exit 3', 'status 3'), ("| sed '$s/^/0/'", 'script line'))
+    passed = 0
+    for compare, command, given_one, expected in ((compare_calls, own, script, answers),
+                                                  (compare_program, own + ' program', given, results)):
+        for alteration, report in alterations:
+            found = ''
+            try:
+                compare('self-test', command + alteration, given_one, expected)
+            except Failed as failed:
+                found = str(failed)
+            wanted = report if compare is compare_calls or report != 'script line' else 'result line'
+            if bool(found) != bool(report) or wanted and wanted not in found:
+                sys.exit('self-test: with %r this was reported: %r' % (alteration, found))
+            passed += 1
+            print('ok self-test', compare.__name__, alteration or 'unaltered')
+    print('%d passed, 0 failed' % passed)
+
+
+def main():
+    """Compares, and ends with status 1 at the first difference."""
+    parser = argparse.ArgumentParser(description=__doc__)
+    parser.add_argument('--calls', help='shell command of the calls program under test')
+    parser.add_argument('--program', help='shell command of the program under test')
+    parser.add_argument('--seed', default='', help='put before the numbers of the seeds, for others than the usual ones')
+    parser.add_argument('--limit', action='store_true', help='also the program at 1,000,000 numbers')
+    parser.add_argument('--self-test', action='store_true', help='check that an altered answer is reported')
+    arguments = parser.parse_args()
+    check_independent()
+    if arguments.self_test:
+        self_test()
+        return
+    if not (arguments.calls or arguments.program):
+        parser.error('a command is needed: --calls, --program or both')
+    if not compare_all(arguments, sys.stdout)[1]:
+        sys.exit(1)
+
+
+if __name__ == '__main__':
+    main()

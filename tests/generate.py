@@ -1,0 +1,65 @@
+#!/usr/bin/env python3
+"""Makes a script of calls, or with --program lines for the program, from a seed."""
+
+import argparse
+import collections
+import sys
+
+from making import conversations, outside, single
+from making.lines import program_lines
+from making.script import Full, Script
+
+SINGLE = (single.lengths, single.datagrams_read, single.datagrams_written, single.packets_read, single.packets_written,
+          single.packets_written, single.many_fields, single.round_trips, single.no_calls)
+SESSIONS = (conversations.honest, conversations.dishonest, conversations.sparse_parity, conversations.contested,
+            conversations.contested, conversations.blanks, conversations.damaged_offers, conversations.at_the_limit,
+            conversations.sending, outside.receiving_outside, outside.receiving_outside, outside.overwritten_inside,
+            outside.odd_overwrites, outside.sending_outside, outside.sending_outside)
+SCENES = 2 * SINGLE + SESSIONS
+
+
+def make_script(seed, count):
+    """A script of so many lines; the scenes come in rounds, each round in another order."""
+    script = Script(seed, count)
+    try:
+        while True:
+            for scene in script.random.sample(SCENES, len(SCENES)):
+                scene(script)
+    except Full:
+        return script
+
+
+def print_statistics(script, out):
+    """How many of each call were done, and how many of each refusal were met."""
+    table = collections.defaultdict(collections.Counter)
+    for line, answer in zip(script.lines, script.answers):
+        if line:
+            kind = 'EE' if answer == b'EE' else 'done' if answer[:2] == b'00' else int(answer[2:4], 16)
+            table['EE' if kind == 'EE' else line[:2].decode()][kind] += 1
+    for call in sorted(table):
+        refusals = ' '.join('%s:%d' % pair for pair in sorted(table[call].items(), key=lambda pair: (str(type(pair[0])), pair[0])))
+        print('call', call, refusals, file=out)
+    total = sum(sum(kinds.values()) for kinds in table.values())
+    done = sum(kinds['done'] for kinds in table.values())
+    print('lines %d, done %d (%d %%)' % (total, done, 100 * done // max(1, total)), file=out)
+
+
+def main():
+    """Writes the script or the lines to standard output."""
+    parser = argparse.ArgumentParser(description=__doc__)
+    parser.add_argument('seed')
+    parser.add_argument('count', nargs='?', type=int, default=4000)
+    parser.add_argument('--program', action='store_true', help='lines for the program instead of calls')
+    parser.add_argument('--stats', action='store_true', help='print how many of each call were done or refused')
+    arguments = parser.parse_args()
+    if arguments.program:
+        sys.stdout.buffer.write(program_lines(arguments.seed, arguments.count))
+        return
+    script = make_script(arguments.seed, arguments.count)
+    sys.stdout.buffer.writelines(line + b'\n' for line in script.lines)
+    if arguments.stats:
+        print_statistics(script, sys.stderr)
+
+
+if __name__ == '__main__':
+    main()

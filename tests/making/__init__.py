@@ -1,0 +1,1 @@
+"""Scripts of calls and lines for the program, made from a seed."""

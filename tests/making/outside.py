@@ -1,0 +1,350 @@
+"""Scenes with sessions outside their ranges: each rule is broken alone, seen refused, then mended or left behind."""
+
+from rules.arguments import shown
+from rules.datagrams import PARITY, SPARES, written_datagram
+from rules.receiving import AFTER, BEFORE, BLANK, NUMBERS_LIMIT, RECEIVED, REPAIRED, SPARE, UNKNOWN
+
+from . import pieces
+
+KNOWN = (RECEIVED, SPARE, REPAIRED)
+
+
+class Session:
+    """The held receiving session, with what a caller could do to it."""
+
+    def __init__(self, script):
+        self.script = script
+        self.r = script.random
+        self.held = script.receiving
+
+    def numbers(self, condition, first=-BEFORE, end=AFTER):
+        """The numbers in view, counted from the base, whose place meets the condition."""
+        return [(self.held.base + d) % 65536 for d in range(first, end) if condition(self.held.place(self.held.base + d))]
+
+    def accepted(self, condition):
+        """The numbers from the base on whose mark meets the condition."""
+        return [(self.held.base + d) % 65536 for d in range(AFTER) if condition(self.held.mark(self.held.base + d))]
+
+
+def one(r, numbers):
+    """One of the numbers; none at all is told by raising LookupError."""
+    if not numbers:
+        raise LookupError
+    return r.choice(numbers)
+
+
+def of_state(*states):
+    """The condition that a place has one of the states."""
+    return lambda place: place.state in states
+
+
+def base_off(s):
+    """Base is not the sum modulo 65,536."""
+    return [(0, dict(value=(s.held.base + s.r.choice((1, 65535, 64, 32, 32768))) % 65536))]
+
+
+def count_off(s):
+    """A count is one too many or too few."""
+    field = s.r.randrange(1, 5)
+    old = list(s.held.counts.values())[field - 1]
+    return [(field, dict(value=s.r.choice((old + 1, max(0, old - 1), old + 32, old + 1 << 16)) % (1 << 32)))]
+
+
+def sum_too_great(s):
+    """The sum passes 1,000,000 while base is still the sum modulo 65,536."""
+    field = s.r.randrange(1, 5)
+    old = list(s.held.counts.values())[field - 1]
+    step = 65536 * (s.r.choice((0, 0, 1, 100)) + (NUMBERS_LIMIT - s.held.total()) // 65536 + 1)
+    return [(field, dict(value=old + step))]
+
+
+def sum_wraps(s):
+    """The sum is the base only if sums wrap at 32 bits."""
+    fields = s.r.sample(range(1, 5), 2)
+    old = list(s.held.counts.values())
+    return [(field, dict(value=old[field - 1] + (1 << 31))) for field in fields]
+
+
+def not_blank(s):
+    """A number before the first is not blank."""
+    number = one(s.r, s.numbers(of_state(BLANK), end=0))
+    if s.r.random() < 0.5:
+        return [(5, dict(number=number, value=UNKNOWN))]
+    return [(5, dict(number=number, value=s.r.choice(KNOWN))), (6, dict(number=number, value=1))]
+
+
+def blank_before(s):
+    """A number that has left is blank."""
+    return [(5, dict(number=one(s.r, s.numbers(of_state(UNKNOWN), end=0)), value=BLANK))]
+
+
+def blank_ahead(s):
+    """A number from the base on is blank."""
+    return [(5, dict(number=one(s.r, s.numbers(of_state(UNKNOWN), first=0)), value=BLANK))]
+
+
+def length_where_none(s):
+    """Unknown or blank has a length."""
+    number = one(s.r, s.numbers(of_state(UNKNOWN, BLANK)))
+    return [(6, dict(number=number, value=s.r.choice((1, 160, 161, 256, 65535))))]
+
+
+def no_length(s):
+    """A known packet has length 0, its octets all zero."""
+    number = one(s.r, s.numbers(lambda place: place.state in KNOWN and place.length <= 3))
+    octets = [(7, dict(number=number, octet=o, value=0)) for o in range(s.held.place(number).length)]
+    return octets + [(6, dict(number=number, value=0))]
+
+
+def length_too_great(s):
+    """A known packet is longer than 160."""
+    return [(6, dict(number=one(s.r, s.numbers(of_state(*KNOWN))), value=s.r.choice((161, 162, 256, 257, 416, 65535))))]
+
+
+def octet_past(s):
+    """An octet past a length is not zero."""
+    number = one(s.r, s.numbers(lambda place: place.length < 160))
+    length = s.held.place(number).length
+    return [(7, dict(number=number, octet=s.r.choice((length, 159, s.r.randrange(length, 160))), value=s.r.choice((1, 128, 255))))]
+
+
+def accepted_unknown(s):
+    """An accepted number is unknown."""
+    return [(8, dict(number=one(s.r, s.numbers(of_state(UNKNOWN), first=0)), value=1))]
+
+
+def messages_unaccepted(s):
+    """Messages stand at a number that is not accepted."""
+    return [(8, dict(number=one(s.r, s.accepted(lambda mark: mark.m)), value=0))]
+
+
+def messages_from_nowhere(s):
+    """n and m are set at a number that is not accepted."""
+    number = one(s.r, s.accepted(lambda mark: not mark.accepted))
+    return [(9, dict(number=number, value=1)), (10, dict(number=number, value=1))]
+
+
+def n_without_m(s):
+    """n is set where there are no messages."""
+    return [(9, dict(number=one(s.r, s.accepted(lambda mark: mark.m == 0)), value=s.r.choice((1, 8, 255))))]
+
+
+def n_outside(s):
+    """n of messages is outside the sizes."""
+    return [(9, dict(number=one(s.r, s.accepted(lambda mark: mark.m)), value=s.r.choice((0, 9, 9, 128, 255))))]
+
+
+def m_outside(s):
+    """m is over 4."""
+    return [(10, dict(number=one(s.r, s.accepted(lambda mark: mark.m)), value=s.r.choice((5, 5, 8, 255))))]
+
+
+def m_without_n(s):
+    """m is set where n is 0."""
+    return [(10, dict(number=one(s.r, s.accepted(lambda mark: mark.accepted and mark.m == 0)), value=s.r.choice((1, 4))))]
+
+
+def message_too_long(s):
+    """A message is longer than 160."""
+    number = one(s.r, s.accepted(lambda mark: mark.m))
+    message = s.r.randrange(s.held.mark(number).m)
+    return [(11, dict(number=number, message=message, value=s.r.choice((161, 162, 256, 300, 65535))))]
+
+
+def message_octet_past(s):
+    """An octet past a message's length is not zero."""
+    number = one(s.r, s.accepted(lambda mark: mark.accepted))
+    message = s.r.randrange(4)
+    length = s.held.mark(number).messages[message].length
+    if length >= 160:
+        raise LookupError
+    return [(12, dict(number=number, message=message, octet=s.r.choice((length, 159)), value=s.r.choice((1, 255))))]
+
+
+def message_past_m(s):
+    """A message place past m has a length."""
+    number = one(s.r, s.accepted(lambda mark: mark.m < 4))
+    message = s.r.randrange(s.held.mark(number).m, 4)
+    return [(11, dict(number=number, message=message, value=s.r.choice((1, 160))))]
+
+
+def message_octet_anywhere(s):
+    """A message's octet is set at a number that is not accepted."""
+    number = one(s.r, s.accepted(lambda mark: not mark.accepted))
+    return [(12, dict(number=number, message=s.r.randrange(4), octet=s.r.choice((0, 159)), value=1))]
+
+
+BREAKS = (base_off, count_off, sum_too_great, sum_wraps, not_blank, blank_before, blank_ahead, length_where_none, no_length,
+          length_too_great, octet_past, accepted_unknown, messages_unaccepted, messages_from_nowhere, n_without_m, n_outside,
+          m_outside, m_without_n, message_too_long, message_octet_past, message_past_m, message_octet_anywhere)
+
+
+def field_value(session, field, number=0, message=0, octet=0, **_):
+    """What a field of the receiving session holds now."""
+    place, mark = session.place(number), session.mark(number)
+    if field == 0:
+        return session.base
+    if field <= 4:
+        return list(session.counts.values())[field - 1]
+    return {5: lambda: place.state, 6: lambda: place.length, 7: lambda: place.octets[octet], 8: lambda: mark.accepted,
+            9: lambda: mark.n, 10: lambda: mark.m, 11: lambda: mark.messages[message].length,
+            12: lambda: mark.messages[message].octets[octet]}[field]()
+
+
+def furnish(script):
+    """A session with something of every kind in it: given up, received, spare, repaired, parity, unknown."""
+    r = script.random
+    if script.chance(0.5):
+        script.call(0x10)
+    else:
+        script.call(0x16, shown(r.choice((3, 20, 31, 32, 33, 65530, 65600, 999990)), 4))
+    for _ in range(r.randrange(1, 4)):
+        script.give_up()
+    for distance in r.sample(range(12), 7):
+        script.offer(written_datagram(pieces.datagram(r, (script.receiving.base + distance) % 65536, 0.97)))
+    for _ in range(r.randrange(4)):
+        script.next(160)
+
+
+def try_all(script, chance_of_view=0.2):
+    """Offer, next and give up, in any order."""
+    r = script.random
+    number = (script.receiving.base + r.randrange(14)) % 65536
+    tries = [lambda: script.offer(written_datagram(pieces.datagram(r, number, 0.97))), lambda: script.next(r.choice((160, 160, 0))),
+             script.give_up]
+    if script.chance(0.1):
+        tries.append(lambda: script.offer(pieces.damaged_datagram(r, number)))
+    r.shuffle(tries)
+    for one_try in tries:
+        one_try()
+    script.look(chance_of_view)
+
+
+def receiving_outside(script):
+    """Several rules broken, each alone; the session is mended and goes on, or a fresh one follows."""
+    r = script.random
+    furnish(script)
+    for broken in r.sample(BREAKS, 8):
+        session = Session(script)
+        try:
+            changes = broken(session)
+        except LookupError:
+            continue
+        before = [(field, dict(place, value=field_value(script.receiving, field, **place))) for field, place in changes]
+        for field, place in changes:
+            script.overwrite(field, **place)
+        try_all(script)
+        if script.receiving.in_ranges():
+            continue
+        if script.chance(0.1):
+            furnish(script)
+            continue
+        for field, place in reversed(before):
+            script.overwrite(field, **place)
+        if script.chance(0.6):
+            try_all(script, 0.05)
+
+
+def overwritten_inside(script):
+    """Fields overwritten so that the session stays inside its ranges, though no moves have led there."""
+    r = script.random
+    furnish(script)
+    for _ in range(8):
+        held = script.receiving
+        d = r.randrange(14)
+        number, place, mark = (held.base + d) % 65536, held.place(held.base + d), held.mark(held.base + d)
+        choice = r.randrange(7)
+        if choice == 0 and place.state in KNOWN:
+            script.overwrite(5, number, value=r.choice(KNOWN))
+        elif choice == 1 and place.length:
+            script.overwrite(7, number, octet=r.randrange(place.length), value=r.randrange(256))
+        elif choice == 2 and place.state in KNOWN and not mark.m:
+            script.overwrite(8, number, value=1 - mark.accepted)
+        elif choice == 3 and mark.m:
+            script.overwrite(9, number, value=r.randrange(1, 9))
+        elif choice == 4 and mark.accepted:
+            script.overwrite(9, number, value=mark.n or r.randrange(1, 9))
+            script.overwrite(10, number, value=max(mark.m, r.randrange(1, 5)))
+        elif choice == 5 and mark.m:
+            message = r.randrange(mark.m)
+            script.overwrite(11, number, message, value=mark.messages[message].length + r.choice((0, 1)))
+        elif choice == 6:
+            counts = list(held.counts.values())
+            if counts[3]:
+                script.overwrite(4, value=counts[3] - 1)
+                script.overwrite(r.randrange(1, 4), value=counts[0] + 1)
+        if script.chance(0.5):
+            try_all(script, 0.3)
+    if not script.receiving.in_ranges():
+        script.look()
+
+
+def odd_overwrites(script):
+    """Values that a field cannot hold and places that are not there."""
+    r = script.random
+    base = script.receiving.base
+    script.overwrite(r.choice((0, 6)), base, value=r.choice((65536, 0xFFFFFFFF)))
+    script.overwrite(5, base, value=r.choice((5, 255, 256)))
+    script.overwrite(7, base, octet=r.choice((159, 160, 65535)), value=0)
+    script.overwrite(7, base, octet=r.randrange(160), value=256)
+    script.overwrite(r.choice((5, 6, 7)), base + r.choice((32, -33, 1000)))
+    script.overwrite(5, base + r.choice((-32, 31)), value=5)
+    script.overwrite(8, base, value=2)
+    script.overwrite(r.choice((9, 10)), base, value=256)
+    script.overwrite(r.choice((8, 9, 10, 11, 12)), base + r.choice((-1, 32, 40)))
+    script.overwrite(r.choice((11, 12)), base, message=r.choice((4, 255)))
+    script.overwrite(12, base, message=3, octet=160)
+    script.overwrite(r.choice((13, 128, 255)), base)
+    sent = script.sending.sent
+    script.overwrite_sending(r.choice((1, 2)), sent + r.choice((0, 1, -33)))
+    script.overwrite_sending(1, sent - 1, value=65536)
+    script.overwrite_sending(2, sent - 1, octet=160)
+    script.overwrite_sending(2, sent - 1, octet=0, value=256)
+    script.overwrite_sending(3, sent - 1)
+
+
+def sending_changes(script):
+    """One change of the sending session, mostly one that breaks a rule alone: rows of field, number, octet and value."""
+    r, sent = script.random, script.sending.sent
+    j = r.randrange(1, 33)
+    number, item = (sent - j) % 65536, script.sending.sent_before(j)
+    choice = r.randrange(6)
+    if choice == 0:
+        return [(0, 0, 0, r.choice((NUMBERS_LIMIT + 1, 1048576 + sent % 32, 0xFFFFFFFF, max(0, sent - 1), sent + 1, 0, sent % 32)))]
+    if choice == 1:
+        return [(1, number, 0, r.choice((161, 256, 257, 65535)))]
+    if choice == 2:
+        if j > sent:
+            return [(1, number, 0, 1)]
+        return [(2, number, octet, 0) for octet in range(item.length)][:8] + [(1, number, 0, 0)]
+    if choice == 3:
+        return [(2, number, r.choice((min(item.length, 159), 159)), r.choice((1, 255)))]
+    if choice == 4:
+        return [(1, number, 0, r.randrange(161))]
+    return [(2, number, 0, r.randrange(256))]
+
+
+def sending_value(session, field, number, octet):
+    """What a field of the sending session holds now."""
+    item = session.history[number % len(session.history)]
+    return session.sent if field == 0 else item.length if field == 1 else item.octets[octet]
+
+
+def sending_outside(script):
+    """A sending session with each rule broken alone, then mended."""
+    r = script.random
+    script.call(0x22, shown(r.choice((0, 1, 20, 31, 32, 50, 65540, 999990)), 4))
+    for _ in range(4):
+        script.send(pieces.opaque(r, 0.9), SPARES, r.randrange(9), 0)
+    for _ in range(7):
+        changes = sending_changes(script)
+        before = [change[:3] + (sending_value(script.sending, *change[:3]),) for change in changes]
+        for change in changes:
+            script.overwrite_sending(*change)
+        for _ in range(2):
+            settings = r.choice(((SPARES, 0, 0), (SPARES, 3, 0), (PARITY, 3, 2), (PARITY, 8, 4), (SPARES, 9, 0)))
+            script.send(r.choice((b'\x06', b'', pieces.opaque(r, 0.9))), *settings, r.choice((3, 1500)))
+        if not script.sending.in_ranges():
+            for change in reversed(before):
+                script.overwrite_sending(*change)
+        script.send(pieces.opaque(r, 0.9), *r.choice(((SPARES, 8, 0), (PARITY, 8, 4), (PARITY, 4, 3))))

@@ -1,0 +1,80 @@
+"""A script of calls while it is made: each line is answered at once, so that the next can build on the answer."""
+
+import random
+
+from rules.arguments import shown, sized
+from rules.calls import Calls
+
+
+class Full(Exception):
+    """The script has all its lines."""
+
+
+class Script:
+    """The lines so far, their answers, and the sessions as they now stand."""
+
+    def __init__(self, seed, count):
+        self.random = random.Random(seed)
+        self.count = count
+        self.lines = []
+        self.answers = []
+        self.calls = Calls()
+
+    @property
+    def receiving(self):
+        """The receiving session that the script has led to."""
+        return self.calls.receiving
+
+    @property
+    def sending(self):
+        """The sending session that the script has led to."""
+        return self.calls.sending
+
+    def line(self, text):
+        """Adds a line as it stands; its answer."""
+        if len(self.lines) >= self.count:
+            raise Full
+        self.lines.append(text)
+        self.answers.append(self.calls.answer(text) if text else b'')
+        return self.answers[-1]
+
+    def call(self, first, *parts):
+        """Adds a call of octets; its answer as octets. Now and then the line has small letters."""
+        text = (bytes([first]) + b''.join(parts)).hex()
+        text = text if self.random.random() < 0.05 else text.upper()
+        return bytes.fromhex(self.line(text.encode()).decode())
+
+    def offer(self, octets):
+        """11."""
+        return self.call(0x11, octets)
+
+    def next(self, cap=160):
+        """12."""
+        return self.call(0x12, shown(cap, 2))
+
+    def give_up(self):
+        """13."""
+        return self.call(0x13)
+
+    def send(self, packet, kind, a, b, cap=1500):
+        """21: the answer, and the datagram if there is one."""
+        answer = self.call(0x21, sized(packet), bytes([kind, a, b]), shown(cap, 2))
+        return answer, answer[3:3 + int.from_bytes(answer[1:3], 'big')] if answer[0] == 0 else None
+
+    def overwrite(self, field, number=0, message=0, octet=0, value=0):
+        """17."""
+        return self.call(0x17, shown(field, 1), shown(number % 65536, 2), shown(message, 1), shown(octet, 2), shown(value, 4))
+
+    def overwrite_sending(self, field, number=0, octet=0, value=0):
+        """23."""
+        return self.call(0x23, shown(field, 1), shown(number % 65536, 2), shown(octet, 2), shown(value, 4))
+
+    def look(self, chance=1.0):
+        """Shows the counts and the view, with this chance."""
+        if self.random.random() < chance:
+            self.call(0x14)
+            self.call(0x15)
+
+    def chance(self, part):
+        """True with this chance."""
+        return self.random.random() < part

@@ -1,0 +1,75 @@
+"""Lengths and counts: one rule for packets, spares, messages and counts. Also the reader of items in order."""
+
+from .refusals import ENDS, FORM, SIZE, must_fit, refuse_if
+
+GREATEST_LENGTH = 16383
+
+
+class Items:
+    """Octets from which items are read in order."""
+
+    def __init__(self, octets):
+        self.all = octets
+        self.at = 0
+
+    def octet(self):
+        """The next octet, which must come."""
+        return self.octets(1)[0]
+
+    def octets(self, count):
+        """The next so many octets, which must come."""
+        refuse_if(self.at + count > len(self.all), ENDS)
+        self.at += count
+        return bytes(self.all[self.at - count:self.at])
+
+    def length(self):
+        """A length or count: one octet below 128, two from 128 to 16,383."""
+        first = self.octet()
+        refuse_if(first >= 0xC0, FORM)
+        if first < 0x80:
+            return first
+        value = (first - 0x80) * 256 + self.octet()
+        refuse_if(value < 128, FORM)
+        return value
+
+    def sized_octets(self, least, most):
+        """A length within the sizes, and the octets it promises."""
+        length = self.length()
+        refuse_if(not least <= length <= most, SIZE)
+        return self.octets(length)
+
+    def left_over(self):
+        """What has not been read."""
+        return bytes(self.all[self.at:])
+
+
+def read_length(octets):
+    """A length at the front of the octets, and how many octets it takes."""
+    items = Items(octets)
+    value = items.length()
+    return value, items.at
+
+
+def written_length(value):
+    """The octets of a length."""
+    refuse_if(value > GREATEST_LENGTH, SIZE)
+    return bytes([value]) if value < 128 else bytes([0x80 + value // 256, value % 256])
+
+
+def write_length(value, room):
+    """The octets of a length, if there is room."""
+    return must_fit(written_length(value), room)
+
+
+def written_sized(octets):
+    """Octets behind their length."""
+    return written_length(len(octets)) + octets
+
+
+def cut(data, lengths):
+    """The data in pieces of the given lengths."""
+    pieces, at = [], 0
+    for length in lengths:
+        pieces.append(data[at:at + length])
+        at += length
+    return pieces

@@ -1,0 +1,87 @@
+"""The packet: first octet, then fields, each beginning on an octet of its own."""
+
+from typing import NamedTuple, Tuple
+
+from .lengths import Items, cut, written_length
+from .refusals import (DATA, LEFT_OVER, NOT_ASSIGNED, SETTINGS, SIZE, SPARE_BIT, must_fit, refuse_if)
+
+PACKET_LIMIT = 160
+FIELDS_LIMIT = 16
+INDICATOR, DATA_PACKET = 0, 1
+LAST_VALUE = {INDICATOR: 15, DATA_PACKET: 8}
+LAST_TYPE = 7
+WITHOUT_DATA = (1, 2, 3, 4, 5)
+WITH_DATA = (0, 6)
+
+
+class Packet(NamedTuple):
+    """A packet: indicator or data, its value, and the fields as pairs of type and data."""
+
+    kind: int
+    value: int
+    fields: Tuple[Tuple[int, bytes], ...]
+
+
+def data_misplaced(field_type, has_data):
+    """Data where none may be, or none where it must."""
+    return field_type in WITHOUT_DATA if has_data else field_type in WITH_DATA
+
+
+def read_packet(octets, repaired):
+    """The packet that the octets are; a repaired one may go on with zeros."""
+    refuse_if(len(octets) > PACKET_LIMIT, SIZE)
+    items = Items(octets)
+    first = items.octet()
+    present, kind, extension, value = first >> 7, first >> 6 & 1, first >> 5 & 1, first >> 1 & 15
+    refuse_if(extension, NOT_ASSIGNED)
+    refuse_if(value > LAST_VALUE[kind], NOT_ASSIGNED)
+    refuse_if(first & 1, SPARE_BIT)
+    refuse_if(present and kind == INDICATOR, DATA)
+    fields = ()
+    if present:
+        count = items.length()
+        refuse_if(not 1 <= count <= FIELDS_LIMIT, SIZE)
+        fields = tuple(read_field(items) for _ in range(count))
+    left = items.left_over()
+    refuse_if(any(left) if repaired else left, LEFT_OVER)
+    return Packet(kind, value, fields)
+
+
+def read_field(items):
+    """A field: its type and its data."""
+    header = items.octet()
+    refuse_if(header & 0x0F, SPARE_BIT)
+    has_data, field_type = header >> 7, header >> 4 & 7
+    refuse_if(data_misplaced(field_type, has_data), DATA)
+    if not has_data:
+        return field_type, b''
+    length = int.from_bytes(items.octets(2), 'big') + 1
+    refuse_if(length > PACKET_LIMIT, SIZE)
+    return field_type, items.octets(length)
+
+
+def write_packet(kind, value, types, lengths, data, room):
+    """The octets of a packet whose fields have these types and the data cut by the lengths."""
+    refuse_if(len(types) > FIELDS_LIMIT, SIZE)
+    refuse_if(len(lengths) != len(types) or sum(lengths) != len(data), SETTINGS)
+    refuse_if(value > LAST_VALUE[kind] or any(t > LAST_TYPE for t in types), NOT_ASSIGNED)
+    refuse_if(kind == INDICATOR and types, DATA)
+    refuse_if(any(data_misplaced(t, length > 0) for t, length in zip(types, lengths)), DATA)
+    refuse_if(any(length > PACKET_LIMIT for length in lengths), SIZE)
+    octets = written_packet(Packet(kind, value, tuple(zip(types, cut(data, lengths)))))
+    refuse_if(len(octets) > PACKET_LIMIT, SIZE)
+    return must_fit(octets, room)
+
+
+def written_packet(packet):
+    """The octets of a packet; a data packet with no field has the top bit clear."""
+    first = bytes([(packet.fields != ()) << 7 | packet.kind << 6 | packet.value << 1])
+    count = written_length(len(packet.fields)) if packet.fields else b''
+    return first + count + b''.join(written_field(*field) for field in packet.fields)
+
+
+def written_field(field_type, data):
+    """The octets of a field."""
+    if not data:
+        return bytes([field_type << 4])
+    return bytes([0x80 | field_type << 4]) + (len(data) - 1).to_bytes(2, 'big') + data

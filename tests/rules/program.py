@@ -1,0 +1,54 @@
+"""The program: lines of hexadecimal in, result lines out."""
+
+import binascii
+
+from .packets import PACKET_LIMIT
+from .receiving import RECEIVED, Receiving
+from .refusals import BASE_UNKNOWN, LIMIT, OVERLONG, SETTINGS, Refusal, refuse_if
+
+LINE_LIMIT = 3000
+LOST_LINE = 3
+
+
+class Program:
+    """The program's session, fresh or after so many give-ups; each line in gives result lines."""
+
+    def __init__(self, given_up=0):
+        self.session = Receiving(given_up)
+
+    def results(self, line):
+        """The result lines of one line, without their line feeds."""
+        try:
+            lines = self.take(line)
+        except Refusal as refusal:
+            lines = [bytes([0xFF, refusal.number])]
+        return [octets.hex().upper().encode() for octets in lines + self.released()]
+
+    def take(self, line):
+        """Offers the line's datagram; an empty line is one give-up, which has a result line."""
+        if not line:
+            return [bytes([LOST_LINE]) + self.session.give_up().to_bytes(2, 'big')]
+        refuse_if(len(line) > LINE_LIMIT, OVERLONG)
+        try:
+            octets = binascii.unhexlify(line)
+        except binascii.Error:
+            raise Refusal(SETTINGS)
+        self.session.offer(octets)
+        return []
+
+    def released(self):
+        """Releases all that can be released."""
+        lines = []
+        while True:
+            try:
+                state, number, octets = self.session.next(PACKET_LIMIT)
+            except Refusal as refusal:
+                assert refusal.number in (BASE_UNKNOWN, LIMIT)
+                return lines
+            lines.append(bytes([state - RECEIVED]) + number.to_bytes(2, 'big') + octets)
+
+
+def results_of(lines):
+    """The result lines of all lines."""
+    program = Program()
+    return [result for line in lines for result in program.results(line)]

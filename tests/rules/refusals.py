@@ -1,0 +1,39 @@
+"""The refusals by number, with a name for each."""
+
+ENDS = 1            # input ends inside an item or before one that must come
+OVERLONG = 2        # datagram over 1,500 octets, or line over 3,000 characters
+FORM = 3            # length or count in a form not allowed
+SIZE = 4            # length, count, n or m outside the sizes
+SPARE_BIT = 5       # a spare bit is set
+LEFT_OVER = 6       # octets left over
+REPEATED = 7
+AHEAD = 8
+LATE = 9
+BASE_UNKNOWN = 10
+BASE_KNOWN = 11
+NOT_ASSIGNED = 12   # extension bit, or value not assigned
+NO_ROOM = 13        # the result is longer than the lent buffer
+DATA = 14           # data where none may be, or none where it must
+SETTINGS = 15       # settings, given lengths, or a line's digits
+LIMIT = 16          # 1,000,000 numbers have passed
+RANGES = 17         # session outside its ranges
+
+
+class Refusal(Exception):
+    """A refused call; it has its number only, and nothing was changed."""
+
+    def __init__(self, number):
+        super().__init__(number)
+        self.number = number
+
+
+def refuse_if(condition, number):
+    """Refuses with the number if the condition holds."""
+    if condition:
+        raise Refusal(number)
+
+
+def must_fit(result, room):
+    """The result, if it is no longer than the lent buffer."""
+    refuse_if(len(result) > room, NO_ROOM)
+    return result
