@@ -25,7 +25,7 @@ use Rattle.sending.specs.Held.{Arrays, Within, Stored, sizesKept, octets
 use Rattle.sending.proofs.Slots.{slot-small, slot-apart, slot-number, placeOf, place-slot, place-small, has-slot}
 use Rattle.sending.proofs.RangeSteps.{size-limit}
 use Rattle.sending.proofs.NextSteps.{packet-fits}
-use Rattle.sending.proofs.Walk.{tab-more}
+use Rattle.sending.proofs.Tabs.{tab-more}
 
 -- ---- the ranges, place by place and slot by slot
 module _ {sent : ℕ} {sizes o : List ℕ} (within : Within sent sizes o) where

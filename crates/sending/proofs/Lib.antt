@@ -1,3 +1,4 @@
+pub mod Tabs
 pub mod Slots
 pub mod RangeSteps
 pub mod KeepSteps
@@ -10,3 +11,6 @@ pub mod NextSteps
 pub mod Kept
 pub mod SendSteps
 pub mod SenderSteps
+pub mod HonestLaws
+pub mod Outcome
+pub mod Chain

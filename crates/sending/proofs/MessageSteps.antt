@@ -17,6 +17,7 @@ use Rattle.sending.specs.Sending.{historyKept}
 use Rattle.sending.specs.Sender.{slotAt, sizeIn, packetIn, historyOctets}
 use Rattle.sending.specs.Held.{Sizes, Stored}
 use Rattle.sending.specs.Items.{Reach, membersIn, MessageSize, MessageSum}
+use Rattle.sending.proofs.Tabs.{tab-same}
 use Rattle.sending.proofs.History.{length-packet, packet-octet}
 use Rattle.sending.proofs.Walk.{Standing, standing-start, standing-turn, standing-slot, place-inside, members-more}
 
@@ -73,14 +74,9 @@ pub record Summing (number : ℕ) (o : List ℕ) (n m i at : ℕ) (sum : List �
   pub long : length sum ≡ packetLimit
   pub so : (sizes : List ℕ) → Stored sizes o → sum ≡ exclusiveOr packetLimit (membersIn number sizes o t m i)
 
-none-summed : (n : ℕ) → tab {A = ℕ} n (λ k. 0) ≡ replicate n 0
-unfolding tab
-none-summed zero = refl
-none-summed (suc n) = ap (λ (l : List ℕ). 0 ∷ l) (none-summed n)
-
 exclusiveOr-none : (n : ℕ) → replicate n 0 ≡ exclusiveOr n []
 unfolding exclusiveOr xorAt
-exclusiveOr-none n = sym (none-summed n)
+exclusiveOr-none n = sym (tab-same n 0)
 
 pub summing-start : (number : ℕ) (o : List ℕ) (n m i at : ℕ) → at ≡ (number + i) % 65536
     → Summing number o n m i at (replicate packetLimit 0) 0

@@ -29,15 +29,11 @@ use Rattle.sending.specs.Inner.{SendsHeld}
 use Rattle.sending.specs.Promise.{Proper, FreshMade, toSend, SentOn, Sends}
 use Rattle.sending.specs.declared.Sender.{Sender}
 use Rattle.sending.specs.declared.Settings.{Settings}
+use Rattle.sending.proofs.Tabs.{tab-same}
 use Rattle.sending.proofs.Kept.{sent-limit, arrays-kept, history-kept, ranges-kept}
 use Rattle.sending.proofs.SendSteps.{size-done, size-refused, Accepted, accepted}
 
 -- ---- fresh
-none-tab : {A : Type 0} (n : ℕ) (a : A) → tab n (λ k. a) ≡ replicate n a
-unfolding tab
-none-tab zero a = refl
-none-tab (suc n) a = ap (λ (l : List _). a ∷ l) (none-tab n a)
-
 or-true : (b : Bool) → (b || true) ≡ true
 or-true true = refl
 or-true false = refl
@@ -48,7 +44,7 @@ module _ (sizes o : List ℕ) (arrays : Arrays sizes o) (none : (i : ℕ) → ge
   history-none =
       tab-ext historyKept (λ p. packetIn sizes o (slotAt 0 p)) (λ p. [])
       (λ p small. ap (λ (n : ℕ). part o (slotAt 0 p) n) (none (slotAt 0 p)))
-      ∙ none-tab historyKept []
+      ∙ tab-same historyKept []
 
   zeros-none : (i n : ℕ) → zerosPast o i n ≡ true
   unfolding zerosPast

@@ -12,6 +12,7 @@ use Rattle.sending.specs.Sending.{historyKept}
 use Rattle.sending.specs.Send.{packetOf}
 use Rattle.sending.specs.Sender.{slotAt, packetIn, historyIn}
 use Rattle.sending.specs.Items.{Reach, membersIn}
+use Rattle.sending.proofs.Tabs.{tab-more}
 use Rattle.sending.proofs.History.{history-at}
 
 -- after t turns the number `at` has the place of member t − 1, counted from number − 32
@@ -63,14 +64,6 @@ module _ {n m i : ℕ} (reach : Reach n m i) (number t : ℕ) (more : t < n) whe
         omega arith
 
 -- ---- one member more
-snoc : {A : Type 0} (n : ℕ) (f : ℕ → A) → tab (suc n) f ≡ tab n f ++ (f n ∷ [])
-unfolding tab
-snoc zero f = refl
-snoc (suc n) f = ap (λ (l : List _). f zero ∷ l) (snoc n (λ k. f (suc k)))
-
-pub tab-more : {A : Type 0} (n : ℕ) (f : ℕ → A) → tab (n + 1) f ≡ tab n f ++ (f n ∷ [])
-tab-more n f = rw add-one (snoc n f)
-
 pub members-more : (number : ℕ) (sizes o : List ℕ) (t m i : ℕ) → (historyKept + i) - suc t * m < historyKept
     → membersIn number sizes o (t + 1) m i
     ≡ membersIn number sizes o t m i ++ (packetIn sizes o (slotAt number ((historyKept + i) - suc t * m)) ∷ [])

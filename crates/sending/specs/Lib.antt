@@ -8,3 +8,6 @@ pub mod Items
 pub mod Next
 pub mod Promise
 pub mod Inner
+pub mod Honest
+pub mod Run
+pub mod Claims

@@ -9,9 +9,10 @@ use Rattle.datagrams.specs.Carried.{Carried}
 use Rattle.datagrams.specs.Write.{extraOf, countInside, datagramOctets}
 use Rattle.datagrams.specs.declared.kind.Kind.{Kind}
 use Rattle.datagrams.specs.declared.kind.Kind.the-variants as kind
-use Rattle.sending.specs.Send.{packetInside}
+use Rattle.sending.specs.Sending.{Sending, historyKept}
+use Rattle.sending.specs.Send.{packetOf, packetInside}
 use Rattle.sending.specs.Held.{Sizes, Stored}
-use Rattle.sending.specs.Items.{itemsIn}
+use Rattle.sending.specs.Items.{itemsFrom, itemsIn}
 use Rattle.sending.specs.declared.Settings.{Settings}
 use Rattle.sending.specs.declared.Settings.the-variants as settings
 
@@ -23,6 +24,10 @@ kindOf (settings.Parity n m) = kind.Parity n
 abbrev pub countOf : Settings → ℕ → ℕ
 countOf (settings.Spares k) sent = min k sent
 countOf (settings.Parity n m) sent = m
+
+-- the spares or messages of the next datagram
+abbrev pub itemsNext : Settings → Sending → List (List ℕ)
+itemsNext settings s = itemsFrom (kindOf settings) (countOf settings (s .sent)) (packetOf (s .history)) historyKept
 
 -- what the datagram with this number carries
 abbrev pub carriedIn : ℕ → List ℕ → List ℕ → List ℕ → Kind → ℕ → Carried
