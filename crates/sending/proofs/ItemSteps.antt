@@ -61,7 +61,7 @@ module _ {number : ℕ} {sizes o : List ℕ} {j : ℕ} {out : List ℕ} (asked :
   spare-put p = rw spare-part at p
 
 -- ---- a message
-members-short : {sizes o : List ℕ} → Stored sizes o → (number n m i : ℕ) → longest (membersIn number sizes o n m i) ≤ packetLimit
+pub members-short : {sizes o : List ℕ} → Stored sizes o → (number n m i : ℕ) → longest (membersIn number sizes o n m i) ≤ packetLimit
 members-short {sizes} {o} stored number n m i =
     longest-least packetLimit (membersIn number sizes o n m i)
     (λ l among. each l (Memᴰ·of-map (packetOf (historyIn number sizes o)) (membersOf historyKept n m i) among))
@@ -123,13 +123,13 @@ one-reach k {n} {count} e one =
       one = one .below;
     }
 
-item-spare : (k : Kind) (count number : ℕ) (sizes o : List ℕ) (j : ℕ) → k ≡ kind.Spares → j < count
+pub item-spare : (k : Kind) (count number : ℕ) (sizes o : List ℕ) (j : ℕ) → k ≡ kind.Spares → j < count
     → itemIn k count number sizes o j ≡ spareIn number sizes o j
 unfolding sparesFrom
 item-spare k count number sizes o j e below =
     rw e (tab-at count (λ i. packetOf (historyIn number sizes o) (historyKept - suc i)) j [] below)
 
-item-message : (k : Kind) {n : ℕ} (count number : ℕ) (sizes o : List ℕ) (j : ℕ) → k ≡ kind.Parity n → j < count
+pub item-message : (k : Kind) {n : ℕ} (count number : ℕ) (sizes o : List ℕ) (j : ℕ) → k ≡ kind.Parity n → j < count
     → itemIn k count number sizes o j ≡ messageIn number sizes o n count j
 unfolding messagesFrom
 item-message k {n} count number sizes o j e below =

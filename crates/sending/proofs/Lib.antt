@@ -14,3 +14,6 @@ pub mod SenderSteps
 pub mod HonestLaws
 pub mod Outcome
 pub mod Chain
+pub mod Faithful
+pub mod Back
+pub mod Claims

@@ -58,7 +58,7 @@ module _ (s : Settings) where
 pub ruleset settingses = (inside-spares, inside-parity, kind-spares, kind-parity, count-few, count-sent, count-messages)
 
 -- settings inside the sizes give a count inside the sizes
-count-inside : (s : Settings) (sent : ℕ) → settingsInside s ≡ true → countInside (kindOf s) (countOf s sent) ≡ true
+pub count-inside : (s : Settings) (sent : ℕ) → settingsInside s ≡ true → countInside (kindOf s) (countOf s sent) ≡ true
 count-inside (settings.Spares k) sent inside =
     let few = leb-true k sparesLimit inside in
     le-leb (min k sent) sparesLimit (omega arith)

@@ -12,6 +12,7 @@ use Rattle.views.specs.View.{numbers}
 use Rattle.sending.specs.Sending.{freshSending}
 use Rattle.sending.specs.Send.{carriedNext, datagramToSend}
 use Rattle.sending.specs.Sender.{sendingOf}
+use Rattle.sending.specs.Held.{Arrays}
 use Rattle.sending.specs.Next.{kindOf, itemsNext}
 use Rattle.sending.specs.Promise.{Proper, FreshMade, RangesTold, Sends}
 use Rattle.sending.specs.Honest.{HonestSender}
@@ -23,17 +24,18 @@ use Rattle.sending.specs.declared.Settings.the-variants as settings
 
 -- ---- what is written
 
+-- of a session whose arrays have their lengths, as every one has that the code holds
 pub record WrittenRight : Type 0 where
   -- what a send leaves at the front of the buffer is what the datagram writer writes for that number, packet, and spares or
   -- messages
-  pub writer : {s : Sender} {settings : Settings} {packet old new : List ℕ} {r : Sent} {n : ℕ} → Sends s settings packet old new r
-      → r .answer ≡ written.Octets n
+  pub writer : {s : Sender} {settings : Settings} {packet old new : List ℕ} {r : Sent} {n : ℕ} → Arrays (s .sizes) (s .octets)
+      → Sends s settings packet old new r → r .answer ≡ written.Octets n
       → datagramToWrite (s .sent % numbers) packet (kindOf settings) (map length (itemsNext settings (sendingOf s)))
       (flatten (itemsNext settings (sendingOf s)))
       ≡ done (take n new)
   -- and it reads back as a datagram that carries them
-  pub reads : {s : Sender} {settings : Settings} {packet old new : List ℕ} {r : Sent} {n : ℕ} → Sends s settings packet old new r
-      → r .answer ≡ written.Octets n → ReadsAs (take n new) (carriedNext settings packet (sendingOf s))
+  pub reads : {s : Sender} {settings : Settings} {packet old new : List ℕ} {r : Sent} {n : ℕ} → Arrays (s .sizes) (s .octets)
+      → Sends s settings packet old new r → r .answer ≡ written.Octets n → ReadsAs (take n new) (carriedNext settings packet (sendingOf s))
 
 -- ---- chains of sends from a fresh session, with settings free at each
 
