@@ -67,8 +67,10 @@ module _ {sent : ℕ} {sizes o : List ℕ} (inside : Within sent sizes o) where
       rw (item-spare kind.Spares (min k sent) sent sizes o j refl below) (spare-inside j (omega arith) (omega arith))
   item-inside (settings.Parity n m) right j below =
       let short = members-short (stored-of inside) sent n m j in
-      rw (item-message (kind.Parity n) m sent sizes o j refl below,
-        length-exclusiveOr (longest (membersIn sent sizes o n m j)) (membersIn sent sizes o n m j))
+      rw (
+        item-message (kind.Parity n) m sent sizes o j refl below,
+        length-exclusiveOr (longest (membersIn sent sizes o n m j)) (membersIn sent sizes o n m j),
+      )
       (and-both (le-leb 0 (longest (membersIn sent sizes o n m j)) (omega arith)) (le-leb (longest (membersIn sent sizes o n m j)) messageLimit short))
 
   next-fit : (s : Settings) (packet octets : List ℕ) → Accepted s packet (sendingIn sent sizes o) octets

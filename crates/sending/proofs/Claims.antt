@@ -31,11 +31,12 @@ state-one (refused r) s packet t u p q = p ∙ sym q
 
 sent-one : {s : Sender} {settings : Settings} {packet old new other : List ℕ} {r q : Sent} → Sends s settings packet old new r
     → Sends s settings packet old other q → (r ≡ q) × (new ≡ other)
-sent-one {s} {settings} {packet} {old} {new} {other} {r} {q} p t =
-    (ap₂ (λ (x : Sender) (y : Written). record { sender = x; answer = y })
+sent-one {s} {settings} {packet} {old} {new} {other} {r} {q} p t = (
+  ap₂ (λ (x : Sender) (y : Written). record { sender = x; answer = y })
       (state-one (fitted (toSend s settings packet) old) s packet (r .sender) (q .sender) (p .state) (t .state))
       (written-told (r .answer) (q .answer) (p .answer ∙ sym (t .answer))),
-    p .lent ∙ sym (t .lent))
+  p .lent ∙ sym (t .lent),
+)
 
 pub one-outcome : OneOutcome
 one-outcome =

@@ -58,7 +58,7 @@ pub faithful : {s t : Sender} → Proper s → Proper t → sendingOf s ≡ send
 faithful {s} {t} p q same =
     let count : s .sent ≡ t .sent = ap (λ (x : Sending). x .sent) same in
     let history : historyIn (s .sent) (s .sizes) (s .octets) ≡ historyIn (s .sent) (t .sizes) (t .octets) =
-        ap (λ (x : Sending). x .history) same ∙ ap (λ (n : ℕ). historyIn n (t .sizes) (t .octets)) (sym count) in
+    ap (λ (x : Sending). x .history) same ∙ ap (λ (n : ℕ). historyIn n (t .sizes) (t .octets)) (sym count) in
     let sizes = sizes-same (s .sent) (stored s p) (stored t q) history in
     let octets = octets-same (s .sent) (stored s p) (stored t q) history in
     ap (λ (n : ℕ). record { sent = n; sizes = s .sizes; octets = s .octets }) count

@@ -46,16 +46,16 @@ module _ (s : Settings) where
   pub kind-parity : {n m : ℕ} → s ≡ settings.Parity n m → kind.Parity n ≡ kindOf s
   kind-parity e = rw e
 
-  pub count-few : (sent : ℕ) {k : ℕ} → s ≡ settings.Spares k → k < sent → k ≡ countOf s sent
-  count-few sent e more = rw e (omega arith)
-
-  pub count-sent : (sent : ℕ) {k : ℕ} → s ≡ settings.Spares k → sent ≤ k → sent ≡ countOf s sent
+  pub count-sent : (sent : ℕ) {k : ℕ} → s ≡ settings.Spares k → sent < k → sent ≡ countOf s sent
   count-sent sent e fewer = rw e (omega arith)
+
+  pub count-asked : (sent : ℕ) {k : ℕ} → s ≡ settings.Spares k → k ≤ sent → k ≡ countOf s sent
+  count-asked sent e enough = rw e (omega arith)
 
   pub count-messages : (sent : ℕ) {n m : ℕ} → s ≡ settings.Parity n m → m ≡ countOf s sent
   count-messages sent e = rw e
 
-pub ruleset settingses = (inside-spares, inside-parity, kind-spares, kind-parity, count-few, count-sent, count-messages)
+pub ruleset settingses = (inside-spares, inside-parity, kind-spares, kind-parity, count-sent, count-asked, count-messages)
 
 -- settings inside the sizes give a count inside the sizes
 pub count-inside : (s : Settings) (sent : ℕ) → settingsInside s ≡ true → countInside (kindOf s) (countOf s sent) ≡ true

@@ -25,9 +25,10 @@ use Rattle.sending.specs.Send.{datagramToSend}
 use Rattle.sending.specs.Sender.{slotAt, sizeIn, packetIn, historyIn, historyOctets, sendingOf, sendingIn}
 use Rattle.sending.specs.Ranges.{sizeInRange, placeInRange, inRanges, senderInRanges}
 use Rattle.sending.specs.Held.{Arrays, Within, Keeps}
-use Rattle.sending.specs.Inner.{SendsHeld}
+use Rattle.sending.specs.Inner.{SendsHeld, Unchanged}
 use Rattle.sending.specs.Promise.{Proper, FreshMade, toSend, SentOn, Sends}
 use Rattle.sending.specs.declared.Sender.{Sender}
+use Rattle.sending.specs.declared.Sent.{Sent}
 use Rattle.sending.specs.declared.Settings.{Settings}
 use Rattle.sending.proofs.Tabs.{tab-same}
 use Rattle.sending.proofs.Kept.{sent-limit, arrays-kept, history-kept, ranges-kept}
@@ -86,12 +87,12 @@ pub sent-few : (sent : ℕ) (sizes o : List ℕ) → Within sent sizes o → sen
 sent-few sent sizes o within = leb-true sent sessionLimit (sent-limit within)
 
 module _ (s : Sender) (settings : Settings) (packet old : List ℕ) where
-  pub sends-outside : {b : Bool} {r : Refusal} → RefusalMade outsideRanges r → b ≡ inRanges (s .sent) (s .sizes) (s .octets) → not b ≡ true
-      → Sends s settings packet old old (record { sender = s; answer = written.Refused r })
+  pub sends-outside : {b : Bool} {why : Refusal} {r : Sent} → RefusalMade outsideRanges why → b ≡ inRanges (s .sent) (s .sizes) (s .octets)
+      → not b ≡ true → Unchanged s why r → Sends s settings packet old old r
   unfolding toSend
-  sends-outside {b} made found out =
+  sends-outside {b} made found out same =
       let e : senderInRanges s ≡ false = sym found ∙ not-true b out in
-      record { answer = rw (e, made .answer); lent = rw e; state = rw e refl }
+      rw (same .whole) (record { answer = rw (e, made .answer); lent = rw e; state = rw e refl })
 
   inside : Within (s .sent) (s .sizes) (s .octets) → toSend s settings packet ≡ datagramToSend settings packet (sendingOf s)
   unfolding toSend
@@ -99,16 +100,15 @@ module _ (s : Sender) (settings : Settings) (packet old : List ℕ) where
 
   module _ {sizes o new : List ℕ} {answer : Written} (within : Within (s .sent) (s .sizes) (s .octets))
       (sends : SendsHeld (s .sent) settings packet (s .sizes) (s .octets) old sizes o new answer) where
-    pub sends-refused : {r : Refusal} → answer ≡ written.Refused r
-        → Sends s settings packet old new (record { sender = s; answer = written.Refused r })
-    sends-refused {r} e =
+    pub sends-refused : {why : Refusal} {r : Sent} → Unchanged s why r → answer ≡ written.Refused why → Sends s settings packet old new r
+    sends-refused {why} {r} same e =
         let puts = rw e at (sends .puts) in
         let none = size-refused (fitted (datagramToSend settings packet (sendingOf s)) old) (puts .answer) in
-        record {
+        rw (same .whole) (record {
           answer = rw (inside within) (puts .answer);
           lent = rw (inside within) (puts .lent);
           state = rw (inside within, none) refl;
-        }
+        })
 
     joined : (n : ℕ) → answer ≡ written.Octets n → Keeps (s .sent % numbers) packet (s .sizes) (s .octets) sizes o
     joined n e = rw e at (sends .history)
@@ -132,5 +132,3 @@ module _ (s : Sender) (settings : Settings) (packet old : List ℕ) where
           lent = rw (inside within) (puts .lent);
           state = rw (inside within, t .1) on;
         }
-
-pub ruleset sends = (sends-outside, sends-refused, sends-kept)

@@ -45,10 +45,11 @@ fn count_of(settings: Settings, sent: usize) -> usize
 {
     match settings {
         Settings::Spares(k) => {
-            if (k as usize) < sent {
-                return k as usize;
+            let asked = k as usize;
+            if sent < asked {
+                return sent;
             }
-            sent
+            asked
         }
         Settings::Parity { n: _, m } => m as usize,
     }

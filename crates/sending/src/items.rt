@@ -46,12 +46,12 @@ fn message_sum(number: u16, o: &[u8], n: usize, m: usize, i: usize) -> [u8; Pack
     requires { ⌜ (length (now o) ≡ historyOctets) × (Reach n m i) ⌝ }
     ensures { λ r. ⌜ MessageSum number (now (o .entry)) n m i r ⌝ }
 {
-    let mut at = std::num::wrapping_add_u16(number, i as u16);
+    let mut member = std::num::wrapping_add_u16(number, i as u16);
     let mut sum = [0; Packet::LIMIT];
     let mut t = 0;
     while t < n {
-        at = std::num::wrapping_sub_u16(at, m as u16);
-        stores::add(o, slot_of(at), &mut sum);
+        member = std::num::wrapping_sub_u16(member, m as u16);
+        stores::add(o, slot_of(member), &mut sum);
         t += 1;
     }
     sum

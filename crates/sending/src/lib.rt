@@ -11,6 +11,7 @@ ghost use mathlib.Core.Path.{_≡_};
 ghost use Rattle.views.specs.View.{sessionLimit};
 ghost use Rattle.sending.specs.Sending.{historyKept};
 ghost use Rattle.sending.specs.Sender.{historyOctets};
+ghost use Rattle.sending.specs.Inner.{Unchanged};
 ghost use Rattle.sending.specs.Promise.{FreshMade, RangesTold, Sends};
 
 // Beside its packet a datagram carries k spares, or m messages, each over n packets.
@@ -81,6 +82,16 @@ pub fn in_ranges(s: Sender) -> bool
     held::in_ranges(sent, &sizes, &octets)
 }
 
+// "A refusal .. changes nothing."
+fn unchanged(s: Sender, why: Refusal) -> Sent
+    ensures { λ r. ⌜ Unchanged s why r ⌝ }
+{
+    Sent {
+        sender: s,
+        answer: Written::Refused(why),
+    }
+}
+
 // The packet, sent with these settings: its datagram is written to the front of out.
 pub fn send(s: Sender, packet: &[u8], settings: Settings, out: &mut [u8]) -> Sent
     ensures { λ r. ⌜ Sends s settings (now (packet .entry)) (now (out .entry)) (now (out .exit)) r ⌝ }
@@ -89,28 +100,20 @@ pub fn send(s: Sender, packet: &[u8], settings: Settings, out: &mut [u8]) -> Sen
     let mut sizes = s.sizes;
     let mut octets = s.octets;
     if !held::in_ranges(sent, &sizes, &octets) {
-        return Sent {
-            sender: s,
-            answer: Written::Refused(Refusal::new(Refusal::OUTSIDE_RANGES)),
-        };
+        return unchanged(s, Refusal::new(Refusal::OUTSIDE_RANGES));
     }
     let answer = inner::send_held(sent, &mut sizes, &mut octets, packet, settings, out);
+    let next = s.sent + 1;
+    let moved = Sender {
+        sent: next,
+        sizes,
+        octets,
+    };
     match answer {
-        Written::Octets(n) => {
-            let next = s.sent + 1;
-            let sender = Sender {
-                sent: next,
-                sizes,
-                octets,
-            };
-            Sent {
-                sender,
-                answer: Written::Octets(n),
-            }
-        }
-        Written::Refused(r) => Sent {
-            sender: s,
-            answer: Written::Refused(r),
+        Written::Octets(n) => Sent {
+            sender: moved,
+            answer: Written::Octets(n),
         },
+        Written::Refused(why) => unchanged(s, why),
     }
 }

@@ -9,25 +9,21 @@ use Rattle.sending.proofs.inner.count_of.Lts as lts
 enum-known-settings : tie.Need-enum-known-settings
 enum-known-settings c = search needs
 
--- src/inner.rt:48:17
-cast-if1 : tie.Need-cast-if1
-cast-if1 c = search needs
+-- src/inner.rt:48:25
+cast-asked : tie.Need-cast-asked
+cast-asked c = search needs
 
--- src/inner.rt:49:24
-cast-result : tie.Need-cast-result
-cast-result c = search needs
-
--- src/inner.rt:49:17
+-- src/inner.rt:50:17
 returns : tie.Need-returns
 returns c = search settingses
 
--- src/inner.rt:53:34
+-- src/inner.rt:54:34
 enum-known-settings-2 : tie.Need-enum-known-settings-2
 enum-known-settings-2 c = search needs
 
--- src/inner.rt:53:41
-cast-result-2 : tie.Need-cast-result-2
-cast-result-2 c = search needs
+-- src/inner.rt:54:41
+cast-result : tie.Need-cast-result
+cast-result c = search needs
 
 -- src/inner.rt:43:1
 returns-2 : tie.Need-returns-2
@@ -42,10 +38,9 @@ count-of-spec =
     tie.close
     (tie.spec
     enum-known-settings
-    cast-if1
-    cast-result
+    cast-asked
     returns
     enum-known-settings-2
-    cast-result-2
+    cast-result
     returns-2
     returns-3)

@@ -11,10 +11,10 @@ use Rattle.std.proofs.num.wrapping_sub_u16.Reads as wrapping-sub-u16-reads
 use Rattle.stores.proofs.add.Reads as add-reads
 
 abbrev Inv-loop : tie.InvT-loop
-Inv-loop number o n m i at₀ sum₀ t₀ at sum t = Summing number o n m i at sum t
+Inv-loop number o n m i member₀ sum₀ t₀ member sum t = Summing number o n m i member sum t
 
 abbrev μ-loop : tie.MeasureT-loop
-μ-loop number o n m i at₀ sum₀ t₀ at sum t = n - t
+μ-loop number o n m i member₀ sum₀ t₀ member sum t = n - t
 
 -- src/items.rt:53:53
 cast-wrapping-add-u16 : tie.Need-cast-wrapping-add-u16 Inv-loop μ-loop
