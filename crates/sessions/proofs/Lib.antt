@@ -1,1 +1,3 @@
 mod Called
+mod Outcomes
+pub mod Claims

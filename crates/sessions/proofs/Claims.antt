@@ -1,0 +1,183 @@
+-- The claims of the receiving session. Assumes nothing.
+use Prim.Native.Nat.{ℕ, _+_, _-_, _≤_, _<_}
+use mathlib.Core.Path.{_≡_, refl, sym, ap, ap₂, subst, _∙_}
+use mathlib.Core.Bool.{Bool, true, false, cond, true≢false}
+use mathlib.Core.List.{List, [], _∷_}
+use mathlib.Core.Logic.{⊎-elim}
+use lib.ListN.{length, getD, set}
+use lib.Seq.{getD-set-same, getD-set-other}
+use lib.Dec.{ltb}
+use native.Mathlib.Omega.{arith}
+use borrow.Author.Tests.{ltb-true}
+use Rattle.octets.proofs.Cases.{true-or-false}
+use Rattle.lengths.specs.Refusals.{repeated, tooFar, late}
+use Rattle.lengths.specs.Answers.{Answer, done, refused, refuse, _>>=_, over}
+use Rattle.lengths.specs.declared.Refusal.{Refusal}
+use Rattle.datagrams.specs.Carried.{Carried, Extra, spares, parity}
+use Rattle.datagrams.specs.Read.{DatagramParts, readDatagram, carriedBy}
+use Rattle.repair.specs.Cells.{State, received, spare, Cell, isUnknown, cellAt, unknownAt, keptBefore, keptAhead}
+use Rattle.repair.specs.Held.{Held, nothingHeld, heldMessages}
+use Rattle.repair.specs.Reached.{Known}
+use Rattle.repair.proofs.Grows.{repair-known}
+use Rattle.views.specs.View.{View, distance}
+use Rattle.views.specs.Offer as offers
+use Rattle.heads.specs.Ranges.{sessionInRanges}
+use Rattle.heads.specs.declared.Session.{Session}
+use Rattle.ranges.proofs.Laws.{inRanges-of, fresh-same}
+use Rattle.releasing.specs.Outcome.{octetsOf}
+use Rattle.releasing.proofs.Laws.{released-told, lost-told}
+use Rattle.sessions.specs.Receiver.{SeenAs, After, OfferOwes, offerOf, NextOwes, nextOf, viewAfterNext, GiveUpOwes, giveUpOf, viewAfterLoss}
+use Rattle.sessions.specs.Claims.{RefusedStays, OneOutcome, AcceptedOffer, Claims}
+use Rattle.sessions.specs.declared.receiver.AfterOffer.{AfterOffer}
+use Rattle.sessions.specs.declared.receiver.AfterNext.{AfterNext}
+use Rattle.sessions.specs.declared.receiver.AfterGiveUp.{AfterGiveUp}
+use Rattle.sessions.proofs.Outcomes.{after-same, after-refused, offered-told}
+
+refused-stays : RefusedStays
+refused-stays =
+    record {
+      offer = λ {s} {octets} {r} x o is. after-refused (offerOf octets s) x (o .state) is;
+      next =
+          λ {s} {old} {new} {r} x o is. (
+            after-refused (viewAfterNext (nextOf (length old) s)) x (o .state) (ap viewAfterNext is),
+            o .lent ∙ ap (λ (a : Answer (List ℕ)). over a old) (ap octetsOf is),
+          );
+      giveUp = λ {s} {r} x o is. after-refused (viewAfterLoss (giveUpOf s)) x (o .state) (ap viewAfterLoss is);
+    }
+
+one-outcome : OneOutcome
+one-outcome =
+    record {
+      offer =
+          λ {s} {octets} {r} {q} a b.
+          ap₂ (λ x y. record { session = x; answer = y }) (after-same (offerOf octets s) s (a .state) (b .state))
+          (offered-told (r .answer) (q .answer) (a .answer ∙ sym (b .answer)));
+      next =
+          λ {s} {old} {new} {other} {r} {q} a b. (
+            ap₂ (λ x y. record { session = x; answer = y }) (after-same (viewAfterNext (nextOf (length old) s)) s (a .state) (b .state))
+                (released-told (r .answer) (q .answer) (a .answer ∙ sym (b .answer))),
+            a .lent ∙ sym (b .lent),
+          );
+      giveUp =
+          λ {s} {r} {q} a b.
+          ap₂ (λ x y. record { session = x; answer = y }) (after-same (viewAfterLoss (giveUpOf s)) s (a .state) (b .state))
+          (lost-told (r .answer) (q .answer) (a .answer ∙ sym (b .answer)));
+      fresh = λ {r} {q} a b. fresh-same r q a b;
+    }
+
+-- ---- an accepted offer
+-- what the tests say of an offer that is not refused
+both-tests : (b c d : Bool) (after v : View) → cond b (cond c (refuse repeated) (done v)) (cond d (refuse tooFar) (refuse late)) ≡ done after
+    → (b ≡ true) × (after ≡ v)
+both-tests true true d after v e = let z : _≡_ {A = ℕ} 0 1 = cc in absurd (omega arith)
+both-tests true false d after v e = (refl, cc)
+both-tests false c true after v e = let z : _≡_ {A = ℕ} 0 1 = cc in absurd (omega arith)
+both-tests false c false after v e = let z : _≡_ {A = ℕ} 0 1 = cc in absurd (omega arith)
+
+offered-done : (c : Carried) (view after : View) → offers.offered c view ≡ done after
+    → (distance (view .base) (c .number) < keptAhead) × (after ≡ offers.accept (distance (view .base) (c .number)) c view)
+unfolding offers.offered
+offered-done c view after e =
+    let t =
+    both-tests (ltb (distance (view .base) (c .number)) keptAhead) (offers.acceptedAt view (distance (view .base) (c .number)))
+    (ltb (distance (view .base) (c .number)) 32768) after (offers.accept (distance (view .base) (c .number)) c view) e in
+    (ltb-true (distance (view .base) (c .number)) keptAhead (t .0), t .1)
+
+offer-done : (a : Answer DatagramParts) (octets : List ℕ) (view after : View)
+    → _>>=_ a (λ parts. offers.offered (carriedBy octets parts) view) ≡ done after
+    → (parts : DatagramParts) × (a ≡ done parts) × (offers.offered (carriedBy octets parts) view ≡ done after)
+offer-done (done parts) octets view after e = (parts, refl, e)
+offer-done (refused x) octets view after e = let z : _≡_ {A = ℕ} 0 1 = cc in absurd (omega arith)
+
+-- what is known is never written over
+keep-known : (state : State) (q : ℕ) (b : List ℕ) (cells : List Cell) (p : ℕ) → Known cells p
+    → cellAt (offers.keep state q b cells) p ≡ cellAt cells p
+unfolding offers.keep
+keep-known state q b cells p known =
+    ⊎-elim
+    (λ t. rw t (getD-set-other cells q p _ _ (λ same. true≢false (sym t ∙ ap (unknownAt cells) (sym same) ∙ known))))
+    (λ f. rw f)
+    (true-or-false (unknownAt cells q))
+
+still-known : (cells after : List Cell) (p : ℕ) → cellAt after p ≡ cellAt cells p → Known cells p → Known after p
+still-known cells after p same known = ap (λ (c : Cell). isUnknown (c .state)) same ∙ known
+
+spares-known : (q : ℕ) (copies : List (List ℕ)) (cells : List Cell) (p : ℕ) → Known cells p
+    → cellAt (offers.keepSpares q copies cells) p ≡ cellAt cells p
+unfolding offers.keepSpares
+spares-known q [] cells p known = refl
+spares-known q (b ∷ more) cells p known =
+    let one = keep-known spare (q - 1) b cells p known in
+    spares-known (q - 1) more (offers.keep spare (q - 1) b cells) p (still-known cells (offers.keep spare (q - 1) b cells) p one known) ∙ one
+
+extra-known : (q : ℕ) (x : Extra) (cells : List Cell) (p : ℕ) → Known cells p → cellAt (offers.keepExtra q x cells) p ≡ cellAt cells p
+extra-known q (spares copies) cells p known = spares-known q copies cells p known
+extra-known q (parity n messages) cells p known = refl
+
+accept-known : (d : ℕ) (c : Carried) (view : View) (p : ℕ) → Known (view .cells) p
+    → cellAt ((offers.accept d c view) .cells) p ≡ cellAt (view .cells) p
+unfolding offers.accept
+accept-known d c view p known =
+    let one = keep-known received (keptBefore + d) (c .packet) (view .cells) p known in
+    let first = offers.keep received (keptBefore + d) (c .packet) (view .cells) in
+    let kept = still-known (view .cells) first p one known in
+    let two = extra-known (keptBefore + d) (c .extra) first p kept in
+    repair-known _ _ p (still-known first (offers.keepExtra (keptBefore + d) (c .extra) first) p two kept) ∙ two ∙ one
+
+held-accepted : (x : Extra) → (offers.heldOf x) .accepted ≡ true
+held-accepted (spares copies) = refl
+held-accepted (parity n messages) = refl
+
+accept-marked : (d : ℕ) (c : Carried) (view : View) → d < length (view .held) → offers.acceptedAt (offers.accept d c view) d ≡ true
+unfolding offers.accept
+accept-marked d c view inside =
+    ap (λ (x : Held). x .accepted) (getD-set-same (view .held) d (offers.heldOf (c .extra)) nothingHeld inside) ∙ held-accepted (c .extra)
+
+number-carried : (octets : List ℕ) (parts : DatagramParts) → (carriedBy octets parts) .number ≡ parts .number
+unfolding carriedBy
+number-carried octets parts = refl
+
+accept-counts : (d : ℕ) (c : Carried) (view : View) → (offers.accept d c view) .counts ≡ view .counts
+unfolding offers.accept
+accept-counts d c view = refl
+
+accept-base : (d : ℕ) (c : Carried) (view : View) → (offers.accept d c view) .base ≡ view .base
+unfolding offers.accept
+accept-base d c view = refl
+
+accepted-offer : (octets : List ℕ) (view after : View) → offers.offer octets view ≡ done after → AcceptedOffer octets view after
+unfolding offers.offer
+accepted-offer octets view after e =
+    let r = offer-done (readDatagram octets) octets view after e in
+    let c = carriedBy octets (r .0) in
+    let t = offered-done c view after (r .2) in
+    let n = number-carried octets (r .0) in
+    let d-is = ap (distance (view .base)) n in
+    record {
+      parts = r .0;
+      read = r .1;
+      near = rw d-is at (t .0);
+      marked =
+          λ long.
+          rw (← d-is)
+          (ap (λ (v : View). offers.acceptedAt v (distance (view .base) (c .number))) (t .1)
+          ∙ accept-marked (distance (view .base) (c .number)) c view (rw long (t .0)));
+      known =
+          λ p known. ap (λ (v : View). cellAt (v .cells) p) (t .1) ∙ accept-known (distance (view .base) (c .number)) c view p known;
+      counts = ap (λ (v : View). v .counts) (t .1) ∙ accept-counts (distance (view .base) (c .number)) c view;
+      base = ap (λ (v : View). v .base) (t .1) ∙ accept-base (distance (view .base) (c .number)) c view;
+    }
+
+-- ---- within the ranges
+after-ranges : (a : Answer View) (s r : Session) → After a s r → sessionInRanges s ≡ true → sessionInRanges r ≡ true
+after-ranges (done v) s r x inside = inRanges-of (x .within)
+after-ranges (refused why) s r x inside = ap (λ (q : Session). sessionInRanges q) x ∙ inside
+
+pub claims : Claims
+claims =
+    record {
+      refusedStays = refused-stays;
+      oneOutcome = one-outcome;
+      accepted = accepted-offer;
+      handedOut = λ {s} {octets} {r} o inside. after-ranges (offerOf octets s) s (r .session) (o .state) inside;
+    }
