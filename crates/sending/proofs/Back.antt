@@ -37,7 +37,8 @@ use Rattle.sending.specs.declared.Settings.the-variants as settings
 use Rattle.sending.proofs.Slots.{slot-small}
 use Rattle.sending.proofs.History.{history-at, length-packet}
 use Rattle.sending.proofs.Kept.{place-size, stored-of}
-use Rattle.sending.proofs.SendSteps.{Accepted, count-inside}
+use Rattle.sending.proofs.Accepted.{Accepted}
+use Rattle.sending.proofs.SendSteps.{count-inside}
 use Rattle.sending.proofs.ItemSteps.{item-spare, item-message, members-short}
 use Rattle.sending.proofs.ItemsSteps.{items-count}
 use Rattle.sending.proofs.Outcome.{sent-says}

@@ -28,7 +28,7 @@ use Rattle.sending.specs.declared.Sent.{Sent}
 use Rattle.sending.specs.declared.Settings.{Settings}
 use Rattle.sending.proofs.Tabs.{tab-more, tab-same}
 use Rattle.sending.proofs.HonestLaws.{extra-same, packetAt-none, packetAt-old, packetAt-new, row-old, row-new, carriedAt-old}
-use Rattle.sending.proofs.SendSteps.{Accepted}
+use Rattle.sending.proofs.Accepted.{Accepted}
 use Rattle.sending.proofs.Outcome.{sent-says, refused-says}
 
 -- the session after a row: so many sent, and the last 32 places

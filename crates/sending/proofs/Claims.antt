@@ -12,7 +12,7 @@ use Rattle.octets.specs.ExclusiveOr.{xorAt, exclusiveOr, longest}
 use Rattle.lengths.specs.Length.{lengthOctets}
 use Rattle.datagrams.specs.Write.{numberOctets, itemOctets, itemsOctets, countedOctets, datagramOctets}
 use Rattle.repair.specs.Members.{membersOf}
-use Rattle.sending.specs.Sending.{Sending, freshSending}
+use Rattle.sending.specs.Sending.{Sending, freshSending, sentOn}
 use Rattle.sending.specs.Carries.{sparesFrom, messagesFrom}
 use Rattle.sending.specs.Send.{datagramToSend}
 use Rattle.sending.specs.Promise.{StateAfter, toSend, Sends}
@@ -59,8 +59,8 @@ chains =
     }
 
 pub cases : Cases
-unfolding datagramToSend freshSending sparesFrom messagesFrom membersOf tab xorAt exclusiveOr longest lengthOctets numberOctets itemOctets itemsOctets countedOctets datagramOctets
-cases = record { first-parity = refl; first-spares = refl }
+unfolding datagramToSend freshSending sentOn sparesFrom messagesFrom membersOf tab xorAt exclusiveOr longest lengthOctets numberOctets itemOctets itemsOctets countedOctets datagramOctets
+cases = record { first-parity = refl; message-of-two = refl; number-0-again = refl; first-spares = refl }
 
 pub claims : Claims
 claims = record { writtenRight = written-right; chains = chains; oneOutcome = one-outcome; cases = cases }

@@ -1,16 +1,17 @@
-pub mod Tabs
-pub mod Slots
-pub mod RangeSteps
-pub mod KeepSteps
+mod Tabs
+mod Slots
+mod RangeSteps
+mod KeepSteps
 pub mod History
-pub mod Walk
-pub mod MessageSteps
-pub mod ItemSteps
-pub mod ItemsSteps
-pub mod NextSteps
+mod Walk
+mod MessageSteps
+mod ItemSteps
+mod ItemsSteps
+mod NextSteps
 pub mod Kept
-pub mod SendSteps
-pub mod SenderSteps
+pub mod Accepted
+mod SendSteps
+mod SenderSteps
 pub mod HonestLaws
 pub mod Outcome
 pub mod Chain

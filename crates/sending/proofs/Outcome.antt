@@ -19,7 +19,7 @@ use Rattle.sending.specs.Promise.{Proper, SentOn, StateAfter, toSend, Se
 use Rattle.sending.specs.declared.Sender.{Sender}
 use Rattle.sending.specs.declared.Sent.{Sent}
 use Rattle.sending.specs.declared.Settings.{Settings}
-use Rattle.sending.proofs.SendSteps.{size-done, size-refused, Accepted, accepted}
+use Rattle.sending.proofs.Accepted.{size-done, size-refused, Accepted, accepted}
 
 ranges-told : (b : Bool) (w : Answer (List ℕ)) (old octets : List ℕ) → fitted (cond b w (refuse outsideRanges)) old ≡ done octets
     → (b ≡ true) × (fitted w old ≡ done octets)

@@ -7,7 +7,7 @@ use lib.ListN.{length}
 use lib.Dec.{leb}
 use native.Mathlib.Omega.{arith}
 use borrow.Author.Tests.{le-leb, lt-leb, leb-true, leb-false, not-true, not-false}
-use Rattle.lengths.specs.Refusals.{outsideSizes, noRoom, wrongSettings, allPassed}
+use Rattle.lengths.specs.Refusals.{outsideSizes, wrongSettings, allPassed}
 use Rattle.lengths.specs.Answers.{Answer, done, refused, refuse, writtenOutcome, fitted, sizeOf, over}
 use Rattle.lengths.specs.Promise.{Puts, RefusalMade}
 use Rattle.lengths.specs.declared.Refusal.{Refusal}
@@ -31,6 +31,7 @@ use Rattle.sending.specs.declared.Settings.the-variants as settings
 use Rattle.sending.proofs.History.{history-number}
 use Rattle.sending.proofs.NextSteps.{packet-fits}
 use Rattle.sending.proofs.Kept.{stored-of}
+use Rattle.sending.proofs.Accepted.{size-done, accepted}
 
 -- ---- the settings
 module _ (s : Settings) where
@@ -127,43 +128,6 @@ held-asked s sent packet sizes o {b} {d} within found in′ told in″ kind-is c
     })
 
 pub ruleset helds = (held-all, held-settings, held-packet, held-written)
-
--- ---- what an answer tells
-pub size-done : {n : ℕ} (a : Answer (List ℕ)) → done n ≡ sizeOf a → (octets : List ℕ) × (a ≡ done octets) × (n ≡ length octets)
-size-done (done octets) e = (octets, refl, cc)
-size-done (refused r) e = let z : _≡_ {A = ℕ} 0 1 = cc in absurd (omega arith)
-
-pub size-refused : {r : Refusal} (a : Answer (List ℕ)) → refused r ≡ sizeOf a → a ≡ refused r
-size-refused (done octets) e = let z : _≡_ {A = ℕ} 0 1 = cc in absurd (omega arith)
-size-refused (refused r) e = cc
-
--- a datagram that is written was allowed, and had room
-pub record Accepted (s : Settings) (packet : List ℕ) (session : Sending) (octets : List ℕ) : Type 0 where
-  pub free : session .sent < sessionLimit
-  pub inside : settingsInside s ≡ true
-  pub newest : packetInside packet ≡ true
-  pub same : octets ≡ datagramOctets (carriedNext s packet session)
-
-room-told : (b : Bool) (octets other : List ℕ) → cond b (done octets) (refuse noRoom) ≡ done other → other ≡ octets
-room-told true octets other e = cc
-room-told false octets other e = let z : _≡_ {A = ℕ} 0 1 = cc in absurd (omega arith)
-
-tests-told : (b₁ b₂ b₃ : Bool) (octets old other : List ℕ)
-    → fitted (cond b₁ (refuse allPassed) (cond (not b₂) (refuse wrongSettings) (cond (not b₃) (refuse outsideSizes) (done octets)))) old
-    ≡ done other
-    → (b₁ ≡ false) × (b₂ ≡ true) × (b₃ ≡ true) × (other ≡ octets)
-tests-told true b₂ b₃ octets old other e = let z : _≡_ {A = ℕ} 0 1 = cc in absurd (omega arith)
-tests-told false false b₃ octets old other e = let z : _≡_ {A = ℕ} 0 1 = cc in absurd (omega arith)
-tests-told false true false octets old other e = let z : _≡_ {A = ℕ} 0 1 = cc in absurd (omega arith)
-tests-told false true true octets old other e = (refl, refl, refl, room-told (leb (length octets) (length old)) octets other e)
-
-pub accepted : (s : Settings) (packet : List ℕ) (session : Sending) (old octets : List ℕ)
-    → fitted (datagramToSend s packet session) old ≡ done octets → Accepted s packet session octets
-unfolding datagramToSend
-accepted s packet session old octets e =
-    let t = tests-told (leb sessionLimit (session .sent)) (settingsInside s) (packetInside packet)
-    (datagramOctets (carriedNext s packet session)) old octets e in
-    record { free = leb-false sessionLimit (session .sent) (t .0); inside = t .1; newest = t .2; same = t .3 }
 
 -- ---- send_held
 module _ (s : Settings) (sent : ℕ) (packet sizes o old : List ℕ) {new : List ℕ} {answer : Written} where

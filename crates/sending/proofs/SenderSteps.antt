@@ -32,7 +32,7 @@ use Rattle.sending.specs.declared.Sent.{Sent}
 use Rattle.sending.specs.declared.Settings.{Settings}
 use Rattle.sending.proofs.Tabs.{tab-same}
 use Rattle.sending.proofs.Kept.{sent-limit, arrays-kept, history-kept, ranges-kept}
-use Rattle.sending.proofs.SendSteps.{size-done, size-refused, Accepted, accepted}
+use Rattle.sending.proofs.Accepted.{size-done, size-refused, Accepted, accepted}
 
 -- ---- fresh
 or-true : (b : Bool) → (b || true) ≡ true

@@ -1,13 +1,10 @@
-use native.Mathlib.Omega.{arith}
+-- `items::items_size` meets its contract. Assumes nothing.
 use Prim.Native.Nat.{_-_}
-use Rattle.sending.proofs.ItemsSteps.{Totalling, totallings, total-fits}
+use native.Mathlib.Omega.{arith}
 use borrow.Author.Needs.{needs}
+use Rattle.sending.proofs.ItemsSteps.{Totalling, totallings, total-fits}
 use Rattle.sending.proofs.items.items_size.Statement.{statement}
 use Rattle.sending.proofs.items.items_size.Tie as tie
-use Rattle.sending.proofs.items.items_size.Reads as reads
-use Rattle.sending.proofs.items.items_size.Lts as lts
-use Rattle.datagrams.proofs.item_size.Reads as item-size-reads
-use Rattle.sending.proofs.items.one_size.Reads as one-size-reads
 
 abbrev Inv-loop : tie.InvT-loop
 Inv-loop number sizes kind count size₀ j₀ size j = Totalling kind count number sizes size j
@@ -15,19 +12,15 @@ Inv-loop number sizes kind count size₀ j₀ size j = Totalling kind count numb
 abbrev μ-loop : tie.MeasureT-loop
 μ-loop number sizes kind count size₀ j₀ size j = count - j
 
--- src/items.rt:127:5
 loop-holds : tie.Need-loop-holds Inv-loop μ-loop
 loop-holds c = search totallings
 
--- src/items.rt:128:13
 one-size-requires : tie.Need-one-size-requires Inv-loop μ-loop
 one-size-requires c κs = (search needs, search totallings)
 
--- src/items.rt:129:17
 item-size-requires : tie.Need-item-size-requires Inv-loop μ-loop
 item-size-requires c κs = search needs
 
--- src/items.rt:129:9
 add-size : tie.Need-add-size Inv-loop μ-loop
 add-size c =
     let at-loop = c .before .before .before in
@@ -35,19 +28,15 @@ add-size c =
     (c .before .one-size .ensures) (c .item-size .ensures) in
     omega arith
 
--- src/items.rt:130:9
 add-j : tie.Need-add-j Inv-loop μ-loop
 add-j c = search needs
 
--- src/items.rt:127:5
 loop-less : tie.Need-loop-less Inv-loop μ-loop
 loop-less c = search needs
 
--- src/items.rt:127:5
 loop-again : tie.Need-loop-again Inv-loop μ-loop
 loop-again c = search totallings
 
--- src/items.rt:121:1
 returns : tie.Need-returns Inv-loop μ-loop
 returns c = search totallings
 
