@@ -1,4 +1,5 @@
 pub mod Appending
 pub mod Digits
 pub mod HexSteps
+pub mod ResultSteps
 pub mod Claims
