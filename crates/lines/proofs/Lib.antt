@@ -2,4 +2,6 @@ pub mod Appending
 pub mod Digits
 pub mod HexSteps
 pub mod ResultSteps
+pub mod Stepping
+pub mod ReleaseLoop
 pub mod Claims

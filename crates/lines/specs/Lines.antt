@@ -62,10 +62,15 @@ abbrev pub _then_ : Made → (View → Made) → Made
 first then second =
     record { text = first .text ++ (second (first .after)) .text; after = (second (first .after)) .after }
 
--- a release, and what comes after it; "Releasing stops without a line at 10 or 16"
+-- a release's line; "Releasing stops without a line at 10 or 16"
+abbrev pub released : Answer Release → View → Made
+released (done r) view = record { text = resultLine (kindOf (r .kind)) (r .number) (r .octets); after = r .after }
+released (refused x) view = silent view
+
+-- a release, and what comes after it
 abbrev pub onward : Answer Release → (View → Made) → View → Made
-onward (done r) more view = record { text = resultLine (kindOf (r .kind)) (r .number) (r .octets); after = r .after } then more
-onward (refused x) more view = silent view
+onward (done r) more view = released (done r) view then more
+onward (refused x) more view = released (refused x) view
 
 -- at most so many releases, with room for any packet
 unfoldable pub releasesF : ℕ → View → Made

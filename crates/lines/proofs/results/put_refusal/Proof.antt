@@ -26,7 +26,7 @@ same-length c = search needs
 
 -- src/results.rt:50:1
 returns : tie.Need-returns
-returns c = 
+returns c =
     let feed = c .before .before in
     refusal-put _ (feed .before .before .before .before .put-octets .ensures) (feed .end-line .ensures)
 

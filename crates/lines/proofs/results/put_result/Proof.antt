@@ -40,7 +40,7 @@ same-length c = search needs
 
 -- src/results.rt:38:1
 returns : tie.Need-returns
-returns c = 
+returns c =
     let feed = c .before .before in
     let two = feed .before .before .before .before in
     result-put _ _ _ (two .before .before .before .before .put-octets .ensures) (two .put-octets2 .ensures) (feed .end-line .ensures)
