@@ -4,4 +4,5 @@ pub mod HexSteps
 pub mod ResultSteps
 pub mod Stepping
 pub mod ReleaseLoop
+pub mod Feeding
 pub mod Claims

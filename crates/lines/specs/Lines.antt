@@ -111,10 +111,14 @@ step line view = answerLine line view then releases
 
 -- ---- the whole
 
+-- "A last line without a line feed counts unless it is empty"
+abbrev pub lastLine : List ℕ → List (List ℕ)
+lastLine [] = []
+lastLine (c ∷ line) = (c ∷ line) ∷ []
+
 -- the lines of some input, of which the first has begun
 unfoldable pub linesFrom : List ℕ → List ℕ → List (List ℕ)
-linesFrom [] [] = []
-linesFrom (c ∷ begun) [] = (c ∷ begun) ∷ []
+linesFrom begun [] = lastLine begun
 linesFrom begun (c ∷ input) = cond (eqb c lineFeed) (begun ∷ linesFrom [] input) (linesFrom (begun ++ (c ∷ [])) input)
 
 -- line after line
