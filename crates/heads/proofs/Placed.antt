@@ -20,7 +20,7 @@ use Rattle.stores.specs.Store.{pasted, zerosPast, part, HasSlot}
 use Rattle.stores.proofs.Laws.{length-pasted, part-pasted, part-pasted-other, zerosPast-pasted, zerosPast-other}
 use Rattle.views.specs.View.{sum}
 use Rattle.heads.specs.Head.{placed, slotAt, heardSlotAt, slotsKept, packetOctets, stateOf, countsOf, keptIn, heardIn, cellIn, heldIn, cellsOf, heldOf}
-use Rattle.heads.specs.Ranges.{sumInRange, stateInRange, keptInRange, isKnown, markInRange, messageInRange, heardInRange, blankAt}
+use Rattle.heads.specs.Ranges.{sumInRange, stateInRange, keptInRange, isKnown, isFill, markInRange, messageInRange, heardInRange, blankAt}
 use Rattle.heads.specs.Within.{KeptWithin, HeardWithin, Within}
 use Rattle.heads.specs.declared.State.{State}
 use Rattle.heads.specs.declared.State.the-variants.{Unknown, Received, Spare, Repaired, Blank}
@@ -28,14 +28,6 @@ use Rattle.heads.specs.declared.Kept.{Kept}
 use Rattle.heads.specs.declared.Head.{Head}
 use Rattle.heads.proofs.Parts.{markTest, KeptRight, kept-right, right-kept, size-right, HeardRight, heard-right, right-heard}
 use Rattle.heads.proofs.Slots.{slot-small, slot-apart, has-packet-slot}
-
--- a state that a number is filled with
-abbrev pub isFill : State → Bool
-isFill Unknown = false
-isFill Received = true
-isFill Spare = true
-isFill Repaired = true
-isFill Blank = false
 
 -- ---- the tests of one number
 pub unknown-range : (size : ℕ) (blank : Bool) → stateInRange Unknown size blank ≡ true → (size ≡ 0) × (not blank ≡ true)

@@ -1,6 +1,6 @@
 -- From the held session to the one that document 01 sees: which slot a number has, and what stands there. One abstraction,
 -- `viewOf`, serves every promise. Definitions only.
-use Prim.Native.Nat.{ℕ, _+_, _*_, _%_}
+use Prim.Native.Nat.{ℕ, _+_, _-_, _*_, _%_}
 use mathlib.Core.Bool.{Bool, false}
 use mathlib.Core.List.{List}
 use lib.ListN.{getD, set}
@@ -39,6 +39,10 @@ messageOctets = slotsMessages * packetLimit
 -- the slot of the kept number at place p of the view: that number is base − keptBefore + p, and slots go by number modulo 64
 abbrev pub slotAt : ℕ → ℕ → ℕ
 slotAt base p = (base + keptBefore + p) % slotsKept
+
+-- that number
+abbrev pub numberAt : ℕ → ℕ → ℕ
+numberAt base p = (base + (views.numbers - keptBefore) + p) % views.numbers
 
 -- the slot of the number at distance d from the base
 abbrev pub heardSlotAt : ℕ → ℕ → ℕ

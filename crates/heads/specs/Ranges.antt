@@ -48,6 +48,14 @@ isKnown Spare = true
 isKnown Repaired = true
 isKnown Blank = true
 
+-- the states that a number is filled with
+abbrev pub isFill : State → Bool
+isFill Unknown = false
+isFill Received = true
+isFill Spare = true
+isFill Repaired = true
+isFill Blank = false
+
 -- "An accepted number is known. Messages stand only at accepted numbers, and with m = 0 also n = 0, otherwise n [and] m .. are
 -- within the sizes"
 unfoldable pub markInRange : Bool → Bool → ℕ → ℕ → Bool

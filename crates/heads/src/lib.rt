@@ -5,6 +5,7 @@ mod laid;
 
 use datagrams::Packet;
 use datagrams::Parity;
+pub use laid::is_unknown;
 pub use laid::place;
 ghost use mathlib.Core.Path.{_≡_};
 ghost use Rattle.views.specs.View.{sessionLimit};

@@ -84,7 +84,7 @@ last-steps (c ∷ line) kept view k some =
     append-nil ((step (c ∷ line) view) .text) ∙ ap (λ (m : Made). m .text) (sym (step-kept (c ∷ line) kept view k))
 
 last-line : (line : List ℕ) (now : Going) → Keeps line (now .begun) → (atEnd now) .text ≡ now .text ++ onFrom line [] (now .view)
-unfolding atEnd onFrom linesFrom lineDone
+unfolding atEnd onFrom linesFrom lineDone steps
 last-line line now k =
     ⊎-elim (λ none. rw (eq-eqb (length (now .begun)) 0 none) (sym (nothing (no-line line (now .begun) k none))))
     (λ some.
@@ -93,27 +93,49 @@ last-line line now k =
     (same-or-not (length (now .begun)) 0)
   where
     nothing : line ≡ [] → now .text ++ (steps (lastLine line) (now .view)) .text ≡ now .text
-    nothing e = rw (e, steps) (append-nil (now .text))
+    nothing e = rw e (append-nil (now .text))
+
+-- the definitions at a line feed, and at another character
+takenIn-feed : (c : ℕ) (now : Going) → c ≡ lineFeed → takenIn c now ≡ lineDone now
+unfolding takenIn
+takenIn-feed c now e = rw (eq-eqb c lineFeed e)
+
+takenIn-other : (c : ℕ) (now : Going) → (c ≡ lineFeed → ⊥)
+    → takenIn c now ≡ record { text = now .text; view = now .view; begun = longer c (now .begun) }
+unfolding takenIn
+takenIn-other c now other = rw (ne-eqb c lineFeed other)
+
+onFrom-feed : (c : ℕ) (line input : List ℕ) (view : View) → c ≡ lineFeed
+    → onFrom line (c ∷ input) view ≡ (step line view) .text ++ onFrom [] input ((step line view) .after)
+unfolding onFrom linesFrom steps
+onFrom-feed c line input view e = rw (eq-eqb c lineFeed e)
+
+onFrom-other : (c : ℕ) (line input : List ℕ) (view : View) → (c ≡ lineFeed → ⊥)
+    → onFrom line (c ∷ input) view ≡ onFrom (line ++ (c ∷ [])) input view
+unfolding onFrom linesFrom
+onFrom-other c line input view other = rw (ne-eqb c lineFeed other)
 
 -- a line feed
 ended : (c : ℕ) (input line : List ℕ) (now : Going) → Keeps line (now .begun) → c ≡ lineFeed
     → (atEnd (fed input (lineDone now))) .text ≡ (lineDone now) .text ++ onFrom [] input ((lineDone now) .view)
     → (atEnd (fed input (takenIn c now))) .text ≡ now .text ++ onFrom line (c ∷ input) (now .view)
-unfolding takenIn lineDone onFrom linesFrom steps
+unfolding lineDone
 ended c input line now k e more =
-    let same = step-kept line (now .begun) (now .view) k in
-    rw (eq-eqb c lineFeed e)
-    (more
-    ∙ ap (λ (m : Made). now .text ++ m .text ++ (steps (linesFrom [] input) (m .after)) .text) same
-    ∙ append-assoc (now .text) ((step line (now .view)) .text) _)
+    ap (λ (s : Going). (atEnd (fed input s)) .text) (takenIn-feed c now e)
+    ∙ more
+    ∙ ap (λ (m : Made). now .text ++ m .text ++ onFrom [] input (m .after)) (step-kept line (now .begun) (now .view) k)
+    ∙ append-assoc (now .text) ((step line (now .view)) .text) (onFrom [] input ((step line (now .view)) .after))
+    ∙ ap (λ (t : List ℕ). now .text ++ t) (sym (onFrom-feed c line input (now .view) e))
 
 -- another character
 added : (c : ℕ) (input line : List ℕ) (now : Going) → (c ≡ lineFeed → ⊥)
     → (atEnd (fed input (record { text = now .text; view = now .view; begun = longer c (now .begun) }))) .text
     ≡ now .text ++ onFrom (line ++ (c ∷ [])) input (now .view)
     → (atEnd (fed input (takenIn c now))) .text ≡ now .text ++ onFrom line (c ∷ input) (now .view)
-unfolding takenIn onFrom linesFrom
-added c input line now other more = rw (ne-eqb c lineFeed other) more
+added c input line now other more =
+    ap (λ (s : Going). (atEnd (fed input s)) .text) (takenIn-other c now other)
+    ∙ more
+    ∙ ap (λ (t : List ℕ). now .text ++ t) (sym (onFrom-other c line input (now .view) other))
 
 fresh-line : (now : Going) → Keeps [] ((lineDone now) .begun)
 unfolding lineDone

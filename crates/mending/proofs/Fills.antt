@@ -26,6 +26,7 @@ use Rattle.heads.proofs.Slots.{slot-small}
 use Rattle.mending.specs.Promise.{Sized, heardAt, messageIn, Points, UsableFound, UsableAnswer, UsablePoints, MendedOctets, SameBeside, Filled, Mended}
 use Rattle.mending.specs.declared.Usable.{Usable}
 use Rattle.mending.specs.declared.Usable.the-variants as usables
+use Rattle.mending.proofs.Beside.{same-beside, beside-twice, held-beside}
 use Rattle.mending.proofs.Search.{octets-long, size-within, reach-within, sized-within}
 
 -- the size that the code reads
@@ -88,23 +89,6 @@ module _ {h : Head} {o g : List ℕ} (w : Within h o g) {d i slot : ℕ} (at : P
       }
 
 -- ---- the loop: what is left of the steps, done to what is there now, gives the whole
-pub same-beside : (h : Head) → SameBeside h h
-same-beside h = record { base = refl; counts = refl; heard = refl; sizes = refl }
-
-beside-twice : {h q r : Head} → SameBeside h q → SameBeside q r → SameBeside h r
-beside-twice a b =
-    record {
-      base = b .base ∙ a .base;
-      counts = b .counts ∙ a .counts;
-      heard = b .heard ∙ a .heard;
-      sizes = b .sizes ∙ a .sizes;
-    }
-
--- what is held goes by the base, the marks and the messages alone
-pub held-beside : {h r : Head} (g : List ℕ) → SameBeside h r → heldOf r g ≡ heldOf h g
-unfolding heldOf heldIn
-held-beside {h} {r} g s = rw (s .base, s .heard, s .sizes)
-
 pub record Mending (h : Head) (start g : List ℕ) (next : Head) (o : List ℕ) (left : ℕ) : Type 0 where
   pub within : Within next o g
   pub beside : SameBeside h next

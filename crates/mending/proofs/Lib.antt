@@ -1,3 +1,4 @@
+pub mod Beside
 mod Turns
 mod Members
 mod Search

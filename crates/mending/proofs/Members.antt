@@ -20,16 +20,12 @@ use Rattle.repair.specs.Cells.{Cell, cellAt, unknownAt, isUnknown, keptBefore, 
 use Rattle.repair.specs.Repair.{passing}
 use Rattle.repair.proofs.Passing.{passing-yes, passing-no}
 use Rattle.views.specs.View.{distance, numbers}
-use Rattle.heads.specs.Head.{slotAt, slotsKept, stateOf, keptIn, cellIn, cellsOf}
+use Rattle.heads.specs.Head.{numberAt, slotAt, slotsKept, stateOf, keptIn, cellIn, cellsOf}
 use Rattle.heads.specs.Within.{Within}
 use Rattle.heads.specs.declared.Head.{Head}
 use Rattle.heads.proofs.Seen.{cell-at, unknown-at, octet-at, unknown-empty}
 use Rattle.heads.proofs.Slots.{slot-small}
 use Rattle.mending.specs.Back.{flag, Flags, slotOf, countBack, findBack, xorBack}
-
--- the number at place p of the view
-abbrev pub numberAt : ℕ → ℕ → ℕ
-numberAt base p = (base + (numbers - keptBefore) + p) % numbers
 
 -- the members, from place P back by m
 abbrev pub membersBack : ℕ → ℕ → ℕ → List ℕ

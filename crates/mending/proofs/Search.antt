@@ -22,7 +22,7 @@ use Rattle.repair.specs.Held.{Held, messagesOf, messageAt, heldMessages}
 use Rattle.stores.specs.Store.{part}
 use Rattle.stores.proofs.Laws.{length-part}
 use Rattle.views.specs.View.{numbers}
-use Rattle.heads.specs.Head.{slotAt, heardSlotAt, messageSlot, slotsKept, slotsHeard, stateOf, keptIn, slotsMessages, heardIn, sizeIn, heldIn, cellsOf, heldOf}
+use Rattle.heads.specs.Head.{numberAt, slotAt, heardSlotAt, messageSlot, slotsKept, slotsHeard, stateOf, keptIn, slotsMessages, heardIn, sizeIn, heldIn, cellsOf, heldOf}
 use Rattle.heads.specs.Within.{Within}
 use Rattle.heads.specs.declared.Head.{Head}
 use Rattle.heads.specs.declared.Heard.{Heard}
@@ -34,7 +34,7 @@ use Rattle.mending.specs.declared.Lowest.{Lowest}
 use Rattle.mending.specs.declared.Lowest.the-variants as lowest
 use Rattle.mending.specs.declared.Usable.{Usable}
 use Rattle.mending.specs.declared.Usable.the-variants as usables
-use Rattle.mending.proofs.Members.{numberAt, membersBack, unseen, counted, found-slot}
+use Rattle.mending.proofs.Members.{membersBack, unseen, counted, found-slot}
 
 -- ---- within the ranges n and m of every number are within the sizes
 sized-at : {h : Head} {o g : List ℕ} → Within h o g → (d : ℕ) → d < keptAhead

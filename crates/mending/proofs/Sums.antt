@@ -18,12 +18,12 @@ use Rattle.repair.proofs.Fill.{length-mended}
 use Rattle.stores.specs.Store.{added, part}
 use Rattle.stores.proofs.Laws.{length-added, added-at, length-part}
 use Rattle.views.specs.View.{distance, numbers}
-use Rattle.heads.specs.Head.{heardSlotAt, messageSlot, slotsHeard, heardIn, sizeIn, cellsOf}
+use Rattle.heads.specs.Head.{numberAt, heardSlotAt, messageSlot, slotsHeard, heardIn, sizeIn, cellsOf}
 use Rattle.heads.specs.Within.{Within}
 use Rattle.heads.specs.declared.Head.{Head}
 use Rattle.mending.specs.Back.{slotOf, xorBack, Summed}
 use Rattle.mending.specs.Promise.{heardAt, messageIn, MendedOctets}
-use Rattle.mending.proofs.Members.{numberAt, summed}
+use Rattle.mending.proofs.Members.{summed}
 use Rattle.mending.proofs.Search.{octets-long, sized-within, reach-within, size-within}
 
 -- ---- the loop over the members: what is summed, with what is left to sum, is the whole

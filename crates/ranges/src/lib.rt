@@ -26,13 +26,14 @@ ghost use Rattle.ranges.specs.Pieces.{messageFits};
 // Numbers are counted modulo this.
 const NUMBERS: u64 = 65536;
 
+// A length as a size.
 fn wide(x: u16) -> usize
     ensures { λ r. ⌜ r ≡ x ⌝ }
 {
     x as usize
 }
 
-// The sum of the counts. Four numbers of 32 bits never pass 64.
+// The sum of the counts: four numbers of 32 bits never pass 64 bits.
 fn total(c: Counts) -> u64
     ensures { λ r. ⌜ r ≡ sum (countsOf c) ⌝ }
 {

@@ -4,6 +4,7 @@ use Prim.Native.Nat.{ℕ, _+_, _%_, _≤_, _<_}
 use mathlib.Core.Path.{_≡_, sym, ap, _∙_}
 use mathlib.Core.Bool.{Bool, true, false, false≢true, true≢false}
 use mathlib.Core.List.{List}
+use lib.ListN.{length}
 use lib.Dec.{eqb}
 use native.Mathlib.Omega.{arith}
 use borrow.Author.Tests.{leb-false}
@@ -12,6 +13,7 @@ use Rattle.octets.proofs.Cases.{and-right}
 use Rattle.datagrams.specs.Sizes.{packetLimit}
 use Rattle.repair.specs.Cells.{Cell, blankCell, isUnknown, cellAt, unknownAt, keptBefore, keptNumbers}
 use Rattle.stores.specs.Store.{HasSlot}
+use Rattle.stores.proofs.Laws.{length-part}
 use Rattle.views.specs.View as views
 use Rattle.views.specs.View.{sum, sessionLimit}
 use Rattle.views.specs.Release as release
@@ -64,6 +66,12 @@ module _ {h : Head} {o g : List ℕ} (w : Within h o g) {b : ℕ} (wide : Wide (
   pub base-unknown : unknownAt (cellsOf h o) keptBefore ≡ isUnknown (stateOf ((keptIn h (b % slotsKept)) .state))
   unfolding cellIn
   base-unknown = ap (λ (c : Cell). isUnknown (c .state)) base-cell
+
+  pub base-octets : length ((cellAt (cellsOf h o) keptBefore) .octets) ≡ (keptIn h (b % slotsKept)) .size
+  unfolding cellIn
+  base-octets =
+      ap (λ (c : Cell). length (c .octets)) base-cell
+      ∙ length-part o (b % slotsKept) ((keptIn h (b % slotsKept)) .size) base-there base-size
 
 -- what is handed out there is no longer than a packet
 pub size-fits : {h : Head} {o g : List ℕ} {b s : ℕ} → Within h o g → Wide (h .base) b → Wide ((keptIn h (b % slotsKept)) .size) s → s ≤ packetLimit

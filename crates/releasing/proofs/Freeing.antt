@@ -1,7 +1,6 @@
 -- What the loop that clears messages keeps true: where it starts, what a turn does. Assumes nothing.
-use Prim.Native.Nat.{ℕ, _+_, _*_, _≤_, _<_}
-use mathlib.Core.Path.{_≡_, refl, sym, _∙_}
-use mathlib.Core.Bool.{true}
+use Prim.Native.Nat.{ℕ, _+_, _≤_, _<_}
+use mathlib.Core.Path.{_≡_, refl, _∙_}
 use mathlib.Core.List.{List}
 use mathlib.Core.Logic.{⊎-elim}
 use lib.ListN.{length}
@@ -9,7 +8,7 @@ use native.Mathlib.Nat.{not-suc-le-zero}
 use native.Mathlib.Omega.{arith}
 use Rattle.octets.proofs.Cases.{same-or-not}
 use Rattle.datagrams.specs.Sizes.{packetLimit, messagesLimit}
-use Rattle.stores.specs.Store.{HasSlot, part, zerosPast, pasted, zeros}
+use Rattle.stores.specs.Store.{HasSlot, pasted, zeros}
 use Rattle.stores.proofs.Laws.{length-zeros, length-cleared, part-pasted-other, zerosPast-other, zerosPast-cleared}
 use Rattle.heads.specs.Head.{messageSlot, slotsHeard, messageOctets}
 use Rattle.heads.proofs.Slots.{message-small, has-message-slot}

@@ -1,15 +1,15 @@
 -- What `giveUp` is by the tests of the code, and one law for each answer of `give_up_core`: the tests that led there give the
 -- promise. Assumes nothing.
-use Prim.Native.Nat.{ℕ, _+_, _-_, _%_, _≤_, _<_}
+use Prim.Native.Nat.{ℕ, _+_, _%_}
 use mathlib.Core.Path.{_≡_, refl, sym, ap, _∙_}
 use mathlib.Core.Bool.{Bool, true, false}
 use mathlib.Core.List.{List}
 use native.Mathlib.Omega.{arith}
-use Rattle.lengths.specs.Refusals.{refusal, baseKnown, allPassed}
+use Rattle.lengths.specs.Refusals.{baseKnown, allPassed}
 use Rattle.lengths.specs.Answers.{done, refuse}
 use Rattle.repair.specs.Cells.{isUnknown}
 use Rattle.views.specs.View as views
-use Rattle.views.specs.View.{sum, sessionLimit, goneOn}
+use Rattle.views.specs.View.{sum, goneOn}
 use Rattle.views.specs.Release.{giveUp}
 use Rattle.views.specs.Release as release
 use Rattle.heads.specs.Head.{slotsKept, keptIn, viewIn, countsOf, stateOf}

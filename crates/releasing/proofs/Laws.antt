@@ -4,7 +4,6 @@ use Prim.Native.Nat.{ℕ}
 use mathlib.Core.Path.{_≡_, refl, sym, ap, _∙_}
 use mathlib.Core.List.{List}
 use native.Mathlib.Omega.{arith}
-use Rattle.lengths.specs.Answers.{Answer, done, refused}
 use Rattle.repair.specs.Cells as cells
 use Rattle.heads.specs.Head.{stateOf, viewIn}
 use Rattle.heads.specs.declared.State.{State}

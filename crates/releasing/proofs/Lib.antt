@@ -1,6 +1,7 @@
 pub mod Freeing
 pub mod Reading
 pub mod Shift
+pub mod Advanced
 pub mod Moving
 pub mod Base
 pub mod Next

@@ -1,31 +1,27 @@
 -- The base goes on by one: slot by slot, all but two slots of kept numbers and marks are as they were; then place by place,
 -- the view is the one before, one place further, and its ranges are kept. Assumes nothing.
-use Prim.Native.Nat.{ℕ, zero, suc, _+_, _-_, _*_, _%_, _≤_, _<_}
-use mathlib.Core.Path.{_≡_, refl, sym, ap, ap₂, _∙_}
-use mathlib.Core.Bool.{Bool, true, false, cond, _&&_}
+use Prim.Native.Nat.{ℕ, suc, _+_, _*_, _%_, _≤_, _<_}
+use mathlib.Core.Path.{_≡_, sym, ap, ap₂, _∙_}
+use mathlib.Core.Bool.{Bool, true, cond, _&&_}
 use mathlib.Core.List.{List, [], _∷_, _++_}
 use mathlib.Core.Logic.{⊎-elim}
-use lib.ListN.{length, getD, set, drop, length-set}
+use lib.ListN.{length, set, drop, length-set}
 use lib.Seq.{getD-set-same, getD-set-other}
 use lib.Dec.{leb, ltb, eqb}
 use native.Mathlib.Omega.{arith}
-use borrow.Author.Tests.{le-leb, eq-eqb, eqb-true, leb-true}
-use Rattle.octets.specs.Place.{tab, allBelow}
+use borrow.Author.Tests.{le-leb, eq-eqb, eqb-true}
+use Rattle.octets.specs.Place.{tab}
 use Rattle.octets.proofs.Place.{tab-ext, allBelow-ext, allBelow-of}
-use Rattle.octets.proofs.Cases.{same-or-not, below-or-not, and-left, and-right, and-both}
+use Rattle.octets.proofs.Cases.{same-or-not, below-or-not, and-left, and-both}
 use Rattle.datagrams.specs.Sizes.{packetLimit, messageLimit, messagesLimit}
-use Rattle.repair.specs.Cells.{Cell, unknownCell, keptBefore, keptAhead, keptNumbers}
-use Rattle.repair.specs.Held.{Held, nothingHeld}
+use Rattle.repair.specs.Cells.{unknownCell, keptBefore, keptAhead, keptNumbers}
+use Rattle.repair.specs.Held.{nothingHeld}
 use Rattle.stores.specs.Store.{HasSlot, part, zerosPast, pasted, zeros}
 use Rattle.stores.proofs.Laws.{length-zeros, length-cleared, part-pasted-other, zerosPast-other, zerosPast-cleared}
-use Rattle.views.specs.View as views
-use Rattle.views.specs.View.{View, following, numbers, sum, sessionLimit, goneOn}
-use Rattle.heads.specs.Head.{slotAt, heardSlotAt, messageSlot, slotsKept, slotsHeard, slotsMessages, packetOctets, messageOctets, keptIn, heardIn, sizeIn, cellIn, heldIn, cellsOf, heldOf, viewIn, countsOf, stateOf}
-use Rattle.heads.specs.Ranges.{sumInRange, stateInRange, keptInRange, blankAt, isKnown, markInRange, messageInRange, heardInRange}
+use Rattle.views.specs.View.{following, numbers, sum, sessionLimit, goneOn}
+use Rattle.heads.specs.Head.{slotAt, heardSlotAt, messageSlot, slotsKept, slotsHeard, keptIn, heardIn, sizeIn, cellIn, heldIn, cellsOf, heldOf, viewIn, countsOf}
+use Rattle.heads.specs.Ranges.{sumInRange, stateInRange, keptInRange, isKnown, markInRange, messageInRange, heardInRange}
 use Rattle.heads.specs.Within.{Within, KeptWithin, HeardWithin}
-use Rattle.heads.specs.declared.State.the-variants.{Unknown}
-use Rattle.heads.specs.declared.Kept.{Kept}
-use Rattle.heads.specs.declared.Heard.{Heard}
 use Rattle.heads.specs.declared.Counts.{Counts}
 use Rattle.heads.specs.declared.Head.{Head}
 use Rattle.heads.proofs.Slots.{slot-small, heard-small, message-small, slot-apart, heard-apart, message-apart, has-packet-slot, has-message-slot}
@@ -33,72 +29,7 @@ use Rattle.releasing.specs.Steps.{Apart, Freed, Wide}
 use Rattle.releasing.specs.Promise.{OneMore, BaseMoved}
 use Rattle.releasing.proofs.Reading.{kept-size, heard-few, heard-message, message-size, message-none, message-zeros}
 use Rattle.releasing.proofs.Shift.{tab-shift, slot-after, slot-comes, heard-after, heard-leaves, blank-after}
-
--- ---- the head after: the number that comes into view is unknown, the one that leaves has no mark and no messages
-abbrev noPacket : Kept
-noPacket = record { state = Unknown; size = 0 }
-
-abbrev nothing : Heard
-nothing = record { accepted = false; n = 0; m = 0 }
-
-abbrev freedSizes : List ℕ → ℕ → List ℕ
-freedSizes sizes at = set (set (set (set sizes at 0) (at + 1) 0) (at + 2) 0) (at + 3) 0
-
-abbrev advanced : Head → Counts → Head
-advanced h counts =
-    record {
-      base = following (h .base);
-      counts = counts;
-      kept = set (h .kept) (slotAt (h .base) 0) noPacket;
-      heard = set (h .heard) (heardSlotAt (h .base) 0) nothing;
-      sizes = freedSizes (h .sizes) (heardSlotAt (h .base) 0 * messagesLimit);
-    }
-
-abbrev seen : ℕ → views.Counts → List Cell → List Held → View
-seen base counts cells held = record { base = base; counts = counts; cells = cells; held = held }
-
--- ---- sizes of messages
--- a zero stored leaves each place as it was, or zero
-zero-stays : (l : List ℕ) (i k : ℕ) → getD l k 0 ≡ 0 → getD (set l i 0) k 0 ≡ 0
-zero-stays [] i k e = e
-zero-stays (x ∷ l) zero zero e = refl
-zero-stays (x ∷ l) zero (suc k) e = e
-zero-stays (x ∷ l) (suc i) zero e = e
-zero-stays (x ∷ l) (suc i) (suc k) e = zero-stays l i k e
-
-zero-stored : (l : List ℕ) (i k : ℕ) → k ≡ i → getD (set l i 0) k 0 ≡ 0
-zero-stored l i k e = rw e (here l i) where
-  here : (s : List ℕ) (n : ℕ) → getD (set s n 0) n 0 ≡ 0
-  here [] n = refl
-  here (x ∷ s) zero = refl
-  here (x ∷ s) (suc n) = here s n
-
-sizes-freed : (sizes : List ℕ) (j i : ℕ) → i < messagesLimit → getD (freedSizes sizes (j * messagesLimit)) (messageSlot j i) 0 ≡ 0
-sizes-freed sizes j i below =
-    let at = j * messagesLimit in
-    let one = set sizes at 0 in
-    let two = set one (at + 1) 0 in
-    let three = set two (at + 2) 0 in
-    ⊎-elim (λ (e : i ≡ 3). zero-stored three (at + 3) (messageSlot j i) (omega arith))
-    (λ no3.
-    zero-stays three (at + 3) (messageSlot j i)
-    (⊎-elim (λ (e : i ≡ 2). zero-stored two (at + 2) (messageSlot j i) (omega arith))
-    (λ no2.
-    zero-stays two (at + 2) (messageSlot j i)
-    (⊎-elim (λ (e : i ≡ 1). zero-stored one (at + 1) (messageSlot j i) (omega arith))
-    (λ no1. zero-stays one (at + 1) (messageSlot j i) (zero-stored sizes at (messageSlot j i) (omega arith)))
-    (same-or-not i 1)))
-    (same-or-not i 2)))
-    (same-or-not i 3)
-
-sizes-other : (sizes : List ℕ) (j k i : ℕ) → i < messagesLimit → (k ≡ j → ⊥)
-    → getD (freedSizes sizes (j * messagesLimit)) (messageSlot k i) 0 ≡ getD sizes (messageSlot k i) 0
-sizes-other sizes j k i below other =
-    let at = j * messagesLimit in
-    getD-set-other (set (set (set sizes at 0) (at + 1) 0) (at + 2) 0) (at + 3) (messageSlot k i) 0 0 (λ same. other (omega arith))
-    ∙ getD-set-other (set (set sizes at 0) (at + 1) 0) (at + 2) (messageSlot k i) 0 0 (λ same. other (omega arith))
-    ∙ getD-set-other (set sizes at 0) (at + 1) (messageSlot k i) 0 0 (λ same. other (omega arith))
-    ∙ getD-set-other sizes at (messageSlot k i) 0 0 (λ same. other (omega arith))
+use Rattle.releasing.proofs.Advanced.{noPacket, nothing, freedSizes, advanced, seen, sizes-freed, sizes-other}
 
 -- ---- slot by slot
 module _ {h : Head} {o g newO newG : List ℕ} (counts : Counts) (w : Within h o g)

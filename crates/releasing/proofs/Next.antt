@@ -1,22 +1,22 @@
 -- What `next` is by the tests of the code, and one law for each answer of `next_core`: the tests that led there give the
 -- promise. Assumes nothing.
-use Prim.Native.Nat.{ℕ, _+_, _-_, _%_, _≤_, _<_}
+use Prim.Native.Nat.{ℕ, _+_, _%_, _≤_, _<_}
 use mathlib.Core.Path.{_≡_, refl, sym, ap, _∙_}
 use mathlib.Core.Bool.{Bool, true, false}
 use mathlib.Core.List.{List, _++_}
 use lib.ListN.{length, drop}
 use native.Mathlib.Omega.{arith}
 use borrow.Author.Tests.{lt-ltb, le-ltb}
-use Rattle.lengths.specs.Refusals.{refusal, baseUnknown, noRoom, allPassed}
+use Rattle.lengths.specs.Refusals.{baseUnknown, noRoom, allPassed}
 use Rattle.lengths.specs.Answers.{done, refuse}
-use Rattle.repair.specs.Cells.{Cell, isUnknown, cellAt, keptBefore}
+use Rattle.repair.specs.Cells.{isUnknown}
 use Rattle.stores.specs.Store.{part}
 use Rattle.stores.proofs.Laws.{length-part}
 use Rattle.views.specs.View as views
-use Rattle.views.specs.View.{sum, sessionLimit, goneOn}
+use Rattle.views.specs.View.{sum, goneOn}
 use Rattle.views.specs.Release.{next}
 use Rattle.views.specs.Release as release
-use Rattle.heads.specs.Head.{slotsKept, keptIn, cellIn, cellsOf, viewIn, countsOf, stateOf}
+use Rattle.heads.specs.Head.{slotsKept, keptIn, cellIn, viewIn, countsOf, stateOf}
 use Rattle.heads.specs.Within.{Within}
 use Rattle.heads.specs.declared.Counts.{Counts}
 use Rattle.heads.specs.declared.Head.{Head}
@@ -24,7 +24,7 @@ use Rattle.releasing.specs.Steps.{Wide, Passed, nextRefused}
 use Rattle.releasing.specs.Promise.{OneMore, BaseMoved, NextMade}
 use Rattle.releasing.specs.declared.NextDone.{NextDone}
 use Rattle.releasing.specs.declared.Released.the-variants as released
-use Rattle.releasing.proofs.Base.{sum-released, goes-on, base-there, base-cell, base-state, base-size, base-unknown}
+use Rattle.releasing.proofs.Base.{sum-released, goes-on, base-there, base-cell, base-state, base-size, base-unknown, base-octets}
 
 -- ---- next: what the definition says, by the tests of the code
 module _ {h : Head} {o g : List ℕ} (w : Within h o g) {p : Bool} (limit : Passed (h .counts) p) (room : ℕ) where
@@ -38,13 +38,6 @@ module _ {h : Head} {o g : List ℕ} (w : Within h o g) {p : Bool} (limit : Pass
     next-unknown unknown =
         rw (sym (limit .test) ∙ more, base-unknown w wide, unknown)
 
-    base-octets : isUnknown (stateOf ((keptIn h (b % slotsKept)) .state)) ≡ false
-        → length ((cellAt (cellsOf h o) keptBefore) .octets) ≡ (keptIn h (b % slotsKept)) .size
-    unfolding cellIn
-    base-octets known =
-        ap (λ (c : Cell). length (c .octets)) (base-cell w wide)
-        ∙ length-part o (b % slotsKept) ((keptIn h (b % slotsKept)) .size) (base-there w wide) (base-size w wide)
-
     next-short : isUnknown (stateOf ((keptIn h (b % slotsKept)) .state)) ≡ false → room < (keptIn h (b % slotsKept)) .size
         → next room (viewIn h o g) ≡ refuse noRoom
     unfolding next viewIn
@@ -53,7 +46,7 @@ module _ {h : Head} {o g : List ℕ} (w : Within h o g) {p : Bool} (limit : Pass
           sym (limit .test) ∙ more,
           base-unknown w wide,
           known,
-          base-octets known,
+          base-octets w wide,
           lt-ltb room ((keptIn h (b % slotsKept)) .size) short,
         )
 
@@ -72,7 +65,7 @@ module _ {h : Head} {o g : List ℕ} (w : Within h o g) {p : Bool} (limit : Pass
           sym (limit .test) ∙ more,
           base-unknown w wide,
           known,
-          base-octets known,
+          base-octets w wide,
           le-ltb room ((keptIn h (b % slotsKept)) .size) fits,
           base-cell w wide,
         )

@@ -1,18 +1,16 @@
 -- The view after the base went on by one is the view before, one place further: of lists given by place, of slots, and of
 -- which numbers before the base are blank. Assumes nothing.
-use Prim.Native.Nat.{ℕ, zero, suc, _+_, _-_, _*_, _%_, _≤_, _<_}
-use mathlib.Core.Path.{_≡_, refl, sym, ap, ap₂, _∙_}
-use mathlib.Core.Bool.{Bool, true, false, _&&_}
+use Prim.Native.Nat.{ℕ, zero, suc, _+_, _-_, _≤_, _<_}
+use mathlib.Core.Path.{_≡_, refl, ap, ap₂, _∙_}
 use mathlib.Core.List.{List, [], _∷_, _++_}
 use mathlib.Core.Logic.{⊎-elim}
-use lib.ListN.{length, drop}
-use lib.Dec.{leb, ltb, eqb}
+use lib.ListN.{drop}
 use native.Mathlib.Omega.{arith}
 use borrow.Author.Tests.{lt-ltb, le-ltb}
 use Rattle.octets.specs.Place.{tab}
 use Rattle.octets.proofs.Place.{tab-ext}
-use Rattle.octets.proofs.Cases.{same-or-not, below-or-not}
-use Rattle.repair.specs.Cells.{keptBefore, keptAhead, keptNumbers}
+use Rattle.octets.proofs.Cases.{below-or-not}
+use Rattle.repair.specs.Cells.{keptBefore}
 use Rattle.views.specs.View.{following, numbers}
 use Rattle.heads.specs.Head.{slotAt, heardSlotAt}
 use Rattle.heads.specs.Ranges.{blankAt}

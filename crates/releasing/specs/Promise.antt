@@ -3,9 +3,9 @@ use Prim.Native.Nat.{ℕ, _+_, _≤_}
 use mathlib.Core.Path.{_≡_}
 use mathlib.Core.List.{List}
 use lib.ListN.{length}
-use Rattle.lengths.specs.Answers.{Answer, refused, over}
+use Rattle.lengths.specs.Answers.{refused, over}
 use Rattle.lengths.specs.declared.Refusal.{Refusal}
-use Rattle.views.specs.View.{View, sum, sessionLimit, goneOn}
+use Rattle.views.specs.View.{sum, sessionLimit, goneOn}
 use Rattle.views.specs.Release.{next, giveUp}
 use Rattle.heads.specs.Head.{countsOf, viewIn}
 use Rattle.heads.specs.Within.{Within}

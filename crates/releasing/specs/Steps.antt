@@ -6,10 +6,10 @@ use mathlib.Core.List.{List}
 use lib.ListN.{length}
 use lib.Dec.{leb}
 use Rattle.lengths.specs.Refusals.{refusal}
-use Rattle.datagrams.specs.Sizes.{packetLimit, messagesLimit}
+use Rattle.datagrams.specs.Sizes.{packetLimit}
 use Rattle.stores.specs.Store.{HasSlot, part, zerosPast}
 use Rattle.views.specs.View.{sum, sessionLimit}
-use Rattle.heads.specs.Head.{countsOf, messageSlot, messageOctets, slotsHeard}
+use Rattle.heads.specs.Head.{countsOf, messageSlot}
 use Rattle.heads.specs.declared.Counts.{Counts}
 use Rattle.heads.specs.declared.Head.{Head}
 use Rattle.releasing.specs.declared.NextDone.{NextDone}

@@ -1,0 +1,88 @@
+-- `holding::lay` meets its contract: after i turns i messages are laid and every other slot is as it was. The measure is what
+-- is left of the count. Assumes nothing.
+use Prim.Native.Nat.{_-_}
+use borrow.Author.Needs.{needs}
+use Rattle.holding.proofs.Laying.{Laying, layings}
+use Rattle.holding.proofs.lay.Statement.{statement}
+use Rattle.holding.proofs.lay.Tie as tie
+use Rattle.holding.proofs.lay.Reads as reads
+use Rattle.holding.proofs.lay.Lts as lts
+use Rattle.holding.proofs.put_part.Reads as put-part-reads
+
+abbrev Inv-loop : tie.InvT-loop
+Inv-loop g₀ s j count items at next₀ i₀ g next i = Laying next₀ g₀ s j items count next g i
+
+abbrev μ-loop : tie.MeasureT-loop
+μ-loop g₀ s j count items at next₀ i₀ g next i = count - i
+
+-- src/lib.rt:54:14
+mul-at : tie.Need-mul-at Inv-loop μ-loop
+mul-at c = search needs
+
+-- src/lib.rt:57:5
+loop-holds : tie.Need-loop-holds Inv-loop μ-loop
+loop-holds c = search layings
+
+-- src/lib.rt:58:20
+mul-item : tie.Need-mul-item Inv-loop μ-loop
+mul-item c = search needs
+
+-- src/lib.rt:58:20
+array-copy-out-item : tie.Need-array-copy-out-item Inv-loop μ-loop
+array-copy-out-item c = search needs
+
+-- src/lib.rt:59:21
+add-place : tie.Need-add-place Inv-loop μ-loop
+add-place c = search needs
+
+-- src/lib.rt:60:13
+put-part-requires : tie.Need-put-part-requires Inv-loop μ-loop
+put-part-requires c κs = search layings
+
+-- src/lib.rt:61:9
+mul-next : tie.Need-mul-next Inv-loop μ-loop
+mul-next c = search needs
+
+-- src/lib.rt:61:9
+element-write-next : tie.Need-element-write-next Inv-loop μ-loop
+element-write-next c = search needs
+
+-- src/lib.rt:62:9
+add-i : tie.Need-add-i Inv-loop μ-loop
+add-i c = search needs
+
+-- src/lib.rt:57:5
+loop-less : tie.Need-loop-less Inv-loop μ-loop
+loop-less c = search needs
+
+-- src/lib.rt:57:5
+loop-again : tie.Need-loop-again Inv-loop μ-loop
+loop-again c = search layings
+
+-- src/lib.rt:41:1
+same-length : tie.Need-same-length Inv-loop μ-loop
+same-length c = search needs
+
+-- src/lib.rt:41:1
+returns : tie.Need-returns Inv-loop μ-loop
+returns c = search layings
+
+pub lay-spec : {M : Type 1} → statement M
+lay-spec =
+    tie.close
+    (tie.spec
+    Inv-loop
+    μ-loop
+    mul-at
+    loop-holds
+    mul-item
+    array-copy-out-item
+    add-place
+    put-part-requires
+    mul-next
+    element-write-next
+    add-i
+    loop-less
+    loop-again
+    same-length
+    returns)

@@ -1,0 +1,3 @@
+mod Keeping
+mod Accepting
+mod Offering

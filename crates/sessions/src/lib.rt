@@ -1,0 +1,12 @@
+// The sessions' public calls: each checks the session's ranges once (refusal 17) and then calls the core, which requires them.
+// A session goes in by value and comes back by value with the answer; a refusal hands the very session back and leaves a lent
+// buffer as it is.
+mod receiver;
+
+pub use heads::Session;
+pub use receiver::AfterGiveUp;
+pub use receiver::AfterNext;
+pub use receiver::AfterOffer;
+pub use receiver::give_up;
+pub use receiver::next;
+pub use receiver::offer;

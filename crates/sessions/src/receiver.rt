@@ -1,0 +1,100 @@
+// The receiving session: document 01, 'The receiving session'.
+use heads::Session;
+use lengths::Refusal;
+use receiving::Offered;
+use releasing::Lost;
+use releasing::Released;
+ghost use Rattle.sessions.specs.Receiver.{OfferOwes, NextOwes, GiveUpOwes};
+
+// What offer answers, and the session after.
+pub struct AfterOffer {
+    pub session: Session,
+    pub answer: Offered,
+}
+
+// What next answers, and the session after.
+pub struct AfterNext {
+    pub session: Session,
+    pub answer: Released,
+}
+
+// What give up answers, and the session after.
+pub struct AfterGiveUp {
+    pub session: Session,
+    pub answer: Lost,
+}
+
+// Any octets from the network, offered to the session.
+pub fn offer(s: Session, datagram: &[u8]) -> AfterOffer
+    ensures { λ r. ⌜ OfferOwes s (now (datagram .entry)) r ⌝ }
+{
+    let head = s.head;
+    let mut octets = s.octets;
+    let mut messages = s.messages;
+    if ranges::in_ranges(head, &octets, &messages) {
+        let done = receiving::offer_core(head, &mut octets, &mut messages, datagram);
+        let accepted = done.head;
+        let answer = done.answer;
+        let session = Session {
+            head: accepted,
+            octets,
+            messages,
+        };
+        return AfterOffer { session, answer };
+    }
+    let why = Refusal::new(Refusal::OUTSIDE_RANGES);
+    AfterOffer {
+        session: s,
+        answer: Offered::Refused(why),
+    }
+}
+
+// Hands out the packet at the base into the front of out, and the base goes on by one.
+pub fn next(s: Session, out: &mut [u8]) -> AfterNext
+    ensures { λ r. ⌜ NextOwes s (now (out .entry)) (now (out .exit)) r ⌝ }
+{
+    let head = s.head;
+    let mut octets = s.octets;
+    let mut messages = s.messages;
+    if ranges::in_ranges(head, &octets, &messages) {
+        let done = releasing::next_core(head, &mut octets, &mut messages, out);
+        let released = done.head;
+        let answer = done.answer;
+        let session = Session {
+            head: released,
+            octets,
+            messages,
+        };
+        return AfterNext { session, answer };
+    }
+    let why = Refusal::new(Refusal::OUTSIDE_RANGES);
+    AfterNext {
+        session: s,
+        answer: Released::Refused(why),
+    }
+}
+
+// Gives an unknown base up: books it lost, and the base goes on by one.
+pub fn give_up(s: Session) -> AfterGiveUp
+    ensures { λ r. ⌜ GiveUpOwes s r ⌝ }
+{
+    let head = s.head;
+    let mut octets = s.octets;
+    let mut messages = s.messages;
+    if ranges::in_ranges(head, &octets, &messages) {
+        let done = releasing::give_up_core(head, &mut octets, &mut messages);
+        let after = done.head;
+        let answer = done.answer;
+        let session = Session {
+            head: after,
+            octets,
+            messages,
+        };
+        return AfterGiveUp { session, answer };
+    }
+    let why = Refusal::new(Refusal::OUTSIDE_RANGES);
+    AfterGiveUp {
+        session: s,
+        answer: Lost::Refused(why),
+    }
+}
