@@ -108,12 +108,14 @@ takenIn-other c now other = rw (ne-eqb c lineFeed other)
 onFrom-feed : (c : ℕ) (line input : List ℕ) (view : View) → c ≡ lineFeed
     → onFrom line (c ∷ input) view ≡ (step line view) .text ++ onFrom [] input ((step line view) .after)
 unfolding onFrom linesFrom steps
-onFrom-feed c line input view e = rw (eq-eqb c lineFeed e)
+onFrom-feed c line input view e =
+    ap (λ (b : Bool). (steps (cond b (line ∷ linesFrom [] input) (linesFrom (line ++ (c ∷ [])) input)) view) .text) (eq-eqb c lineFeed e)
 
 onFrom-other : (c : ℕ) (line input : List ℕ) (view : View) → (c ≡ lineFeed → ⊥)
     → onFrom line (c ∷ input) view ≡ onFrom (line ++ (c ∷ [])) input view
 unfolding onFrom linesFrom
-onFrom-other c line input view other = rw (ne-eqb c lineFeed other)
+onFrom-other c line input view other =
+    ap (λ (b : Bool). (steps (cond b (line ∷ linesFrom [] input) (linesFrom (line ++ (c ∷ [])) input)) view) .text) (ne-eqb c lineFeed other)
 
 -- a line feed
 ended : (c : ℕ) (input line : List ℕ) (now : Going) → Keeps line (now .begun) → c ≡ lineFeed

@@ -4,5 +4,7 @@ pub mod HexSteps
 pub mod ResultSteps
 pub mod Stepping
 pub mod ReleaseLoop
+pub mod Offering
+pub mod StepLaws
 pub mod Feeding
 pub mod Claims

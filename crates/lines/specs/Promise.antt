@@ -5,7 +5,7 @@ use mathlib.Core.Bool.{Bool, true, false}
 use mathlib.Core.List.{List, _++_}
 use lib.ListN.{length, take, drop}
 use Rattle.lengths.specs.Answers.{Answer, done, refused}
-use Rattle.datagrams.specs.Sizes.{packetLimit}
+use Rattle.datagrams.specs.Sizes.{packetLimit, datagramLimit}
 use Rattle.repair.specs.Cells.{keptAhead}
 use Rattle.views.specs.View.{View}
 use Rattle.views.specs.Release.{Release, next}
@@ -34,6 +34,12 @@ pub record Appends (text old : List ℕ) (at : ℕ) (new : List ℕ) (end : ℕ)
 pub record Ready (most : ℕ) (h : Head) (o g p out : List ℕ) (at : ℕ) : Type 0 where
   pub within : Within h o g
   pub packet : length p ≡ packetLimit
+  pub room : at + most ≤ length out
+
+-- the same where a line is read: room for its octets
+pub record Able (most : ℕ) (h : Head) (o g w out : List ℕ) (at : ℕ) : Type 0 where
+  pub within : Within h o g
+  pub work : datagramLimit ≤ length w
   pub room : at + most ≤ length out
 
 -- what a part of a step owes, of which m is the meaning: the text that it lays into the lent buffer, and the session after,

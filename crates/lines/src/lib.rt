@@ -4,6 +4,8 @@ mod results;
 mod steps;
 
 pub use hex::hex_to_octets;
+pub use steps::Stepped;
+pub use steps::step;
 ghost use mathlib.Core.Path.{_≡_};
 ghost use Rattle.lines.specs.Hex.{lineLimit};
 ghost use Rattle.lines.specs.Promise.{stepLimit};

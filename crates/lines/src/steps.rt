@@ -1,22 +1,27 @@
 // One line of the program: its answer, then all releases. The head goes by value, the stores and buffers are lent: nothing is
 // checked or copied for each line. These functions require the session's ranges and keep them.
 use crate::Line;
+use crate::hex::hex_to_octets;
 use crate::results::kind_octet;
 use crate::results::put_refusal;
 use crate::results::put_result;
+use datagrams::Packet;
 use heads::Head;
 use heads::Session;
+use lengths::Written;
+use receiving::Offered;
 use releasing::Lost;
 use releasing::Released;
 ghost use mathlib.Core.Path.{_≡_};
 ghost use Prim.Native.Nat.{_+_, _≤_};
 ghost use lib.ListN.{length};
 ghost use Rattle.datagrams.specs.Sizes.{packetLimit};
+ghost use Rattle.views.specs.Offer.{offer};
 ghost use Rattle.views.specs.Release.{giveUp};
 ghost use Rattle.heads.specs.Head.{viewIn};
 ghost use Rattle.heads.specs.Within.{Within};
-ghost use Rattle.lines.specs.Lines.{giveUpMade, releases as allReleases};
-ghost use Rattle.lines.specs.Promise.{Does, Ready, Releases, resultLimit, releasesLimit};
+ghost use Rattle.lines.specs.Lines.{giveUpMade, offerMade, offerLine, answerLine, releases as allReleases, step as wholeStep};
+ghost use Rattle.lines.specs.Promise.{Does, Ready, Able, Releases, resultLimit, releasesLimit, stepLimit};
 
 // The session's head after a part of a step, and the place after what it wrote.
 pub struct Stepped {
@@ -117,4 +122,90 @@ fn give_up_line(
             Stepped { head, end }
         }
     }
+}
+
+// Octets offered: a line for a refusal alone.
+fn offer_octets(
+    h: Head,
+    o: &mut [u8; Session::PACKET_OCTETS],
+    g: &mut [u8; Session::MESSAGE_OCTETS],
+    octets: &[u8],
+    out: &mut [u8],
+    at: usize,
+) -> Stepped
+    requires { ⌜ Within h (now o) (now g) ⌝ }
+    requires { ⌜ at + resultLimit ≤ length (now out) ⌝ }
+    ensures { λ r. ⌜ Does (offerMade (offer (now (octets .entry)) (viewIn h (now (o .entry)) (now (g .entry)))) (viewIn h (now (o .entry)) (now (g .entry)))) (now (out .entry)) at (r .head) (r .end) (now (o .exit)) (now (g .exit)) (now (out .exit)) ⌝ }
+{
+    let done = receiving::offer_core(h, o, g, octets);
+    let head = done.head;
+    let answer = done.answer;
+    match answer {
+        Offered::Accepted => Stepped { head, end: at },
+        Offered::Refused(why) => {
+            let end = put_refusal(why, out, at);
+            Stepped { head, end }
+        }
+    }
+}
+
+// "one datagram a line": its octets, by way of the lent work.
+fn offer_line(
+    h: Head,
+    o: &mut [u8; Session::PACKET_OCTETS],
+    g: &mut [u8; Session::MESSAGE_OCTETS],
+    work: &mut [u8],
+    line: &[u8],
+    out: &mut [u8],
+    at: usize,
+) -> Stepped
+    requires { ⌜ Able resultLimit h (now o) (now g) (now work) (now out) at ⌝ }
+    ensures { λ r. ⌜ Does (offerLine (now (line .entry)) (viewIn h (now (o .entry)) (now (g .entry)))) (now (out .entry)) at (r .head) (r .end) (now (o .exit)) (now (g .exit)) (now (out .exit)) ⌝ }
+{
+    let read = hex_to_octets(line, work);
+    match read {
+        Written::Octets(size) => offer_octets(h, o, g, &work[..size], out, at),
+        Written::Refused(why) => {
+            let end = put_refusal(why, out, at);
+            Stepped { head: h, end }
+        }
+    }
+}
+
+// A line's own answer.
+fn answer_line(
+    h: Head,
+    o: &mut [u8; Session::PACKET_OCTETS],
+    g: &mut [u8; Session::MESSAGE_OCTETS],
+    work: &mut [u8],
+    line: &[u8],
+    out: &mut [u8],
+    at: usize,
+) -> Stepped
+    requires { ⌜ Able resultLimit h (now o) (now g) (now work) (now out) at ⌝ }
+    ensures { λ r. ⌜ Does (answerLine (now (line .entry)) (viewIn h (now (o .entry)) (now (g .entry)))) (now (out .entry)) at (r .head) (r .end) (now (o .exit)) (now (g .exit)) (now (out .exit)) ⌝ }
+{
+    if line.len() == 0 {
+        return give_up_line(h, o, g, out, at);
+    }
+    offer_line(h, o, g, work, line, out, at)
+}
+
+// One line: its answer, then releases.
+pub fn step(
+    h: Head,
+    o: &mut [u8; Session::PACKET_OCTETS],
+    g: &mut [u8; Session::MESSAGE_OCTETS],
+    work: &mut [u8],
+    line: &[u8],
+    out: &mut [u8],
+    at: usize,
+) -> Stepped
+    requires { ⌜ Able stepLimit h (now o) (now g) (now work) (now out) at ⌝ }
+    ensures { λ r. ⌜ Does (wholeStep (now (line .entry)) (viewIn h (now (o .entry)) (now (g .entry)))) (now (out .entry)) at (r .head) (r .end) (now (o .exit)) (now (g .exit)) (now (out .exit)) ⌝ }
+{
+    let first = answer_line(h, o, g, work, line, out, at);
+    let head = first.head;
+    let end = first.end;
+    releases(head, o, g, &mut work[..Packet::LIMIT], out, end)
 }
