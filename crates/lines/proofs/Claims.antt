@@ -1,0 +1,19 @@
+-- The claims of this crate, each proved by a law. Assumes nothing.
+use mathlib.Core.Path.{_≡_, refl}
+use Rattle.octets.specs.Place.{tab, allBelow}
+use Rattle.octets.specs.ExclusiveOr.{xorAt, exclusiveOr}
+use Rattle.lengths.specs.Length.{lengthAt}
+use Rattle.datagrams.specs.Read.{allowed, octetAt, sizedAt, itemAt, itemsAt, endOf, sparesAt, parityAt, extraAt, numberOf, wholeOf, readDatagram, carriedBy}
+use Rattle.repair.specs.Repair.{passing, usable, firstUsable, mended, fill, repairF, repair}
+use Rattle.repair.specs.Held.{messagesOf, messagesFrom, heldMessages}
+use Rattle.repair.specs.Members.{membersOf}
+use Rattle.views.specs.View.{freshView, goneOn}
+use Rattle.views.specs.Offer.{keep, keepSpares, accept, offered, offer}
+use Rattle.views.specs.Release.{next, giveUp}
+use Rattle.lines.specs.Hex.{digitOf, digitFor, allDigits, octetsIn, lineOctets, hexOf}
+use Rattle.lines.specs.Lines.{resultLine, refusalLine, releasesF, lineOffered, offerLine, answerLine, step, linesFrom, steps, program}
+use Rattle.lines.specs.Claims.{WholeCase}
+
+pub whole-case : WholeCase
+unfolding program steps linesFrom step answerLine offerLine lineOffered releasesF resultLine refusalLine lineOctets octetsIn allDigits digitOf hexOf digitFor next giveUp offer offered accept keep keepSpares freshView goneOn messagesOf messagesFrom heldMessages membersOf repair repairF firstUsable usable passing mended fill readDatagram wholeOf numberOf extraAt parityAt sparesAt endOf itemsAt itemAt sizedAt octetAt allowed carriedBy lengthAt tab allBelow exclusiveOr xorAt
+whole-case = refl

@@ -1,0 +1,160 @@
+-- The program's input taken in character by character writes what the program writes, however it is cut. Assumes nothing.
+use Prim.Native.Nat.{ℕ, zero, suc, _+_, _-_, _*_, _≤_, _<_}
+use mathlib.Core.Path.{_≡_, refl, sym, ap, ap₂, _∙_}
+use mathlib.Core.Bool.{Bool, true, false, cond}
+use mathlib.Core.List.{List, [], _∷_, _++_, append-assoc, append-nil}
+use mathlib.Core.Logic.{⊎-elim}
+use lib.ListN.{length, take, drop, length-append}
+use lib.Seq.{take-all, take-append-le, length-take-le}
+use lib.Dec.{leb, ltb, eqb}
+use native.Mathlib.Omega.{arith}
+use borrow.Author.Tests.{le-leb, lt-leb, lt-ltb, eq-eqb, ne-eqb}
+use Rattle.octets.proofs.Cases.{below-or-not, same-or-not}
+use Rattle.lengths.specs.Answers.{Answer, done, refuse}
+use Rattle.lengths.specs.Refusals.{tooLong}
+use Rattle.views.specs.View.{View, freshView}
+use Rattle.lines.specs.Hex.{lineLimit, lineOctets}
+use Rattle.lines.specs.Lines.{Made, _then_, lineFeed, lineOffered, offerLine, answerLine, step, lastLine, linesFrom, steps, program}
+use Rattle.lines.specs.Feed.{Going, atStart, lineDone, longer, takenIn, fed, atEnd}
+
+-- ---- taken in block after block
+pub fed-append : (a b : List ℕ) (now : Going) → fed (a ++ b) now ≡ fed b (fed a now)
+unfolding fed
+fed-append [] b now = refl
+fed-append (c ∷ a) b now = fed-append a b (takenIn c now)
+
+-- ---- a line that is too long
+-- of a line over the limit, what is kept is over it too, and is answered alike
+lineOctets-long : (line : List ℕ) → lineLimit < length line → lineOctets line ≡ refuse tooLong
+unfolding lineOctets
+lineOctets-long line long = rw (lt-ltb lineLimit (length line) long)
+
+answerLine-long : (line : List ℕ) (view : View) → lineLimit < length line → answerLine line view ≡ offerLine line view
+unfolding answerLine
+answerLine-long [] view long = absurd (omega (arith, long))
+answerLine-long (c ∷ line) view long = refl
+
+offerLine-alike : (a b : List ℕ) (view : View) → lineLimit < length a → lineLimit < length b → offerLine a view ≡ offerLine b view
+unfolding offerLine lineOffered
+offerLine-alike a b view long also = rw (lineOctets-long a long, lineOctets-long b also)
+
+step-alike : (a b : List ℕ) (view : View) → lineLimit < length a → lineLimit < length b → step a view ≡ step b view
+unfolding step
+step-alike a b view long also =
+    rw (answerLine-long a view long, answerLine-long b view also, offerLine-alike a b view long also)
+
+-- ---- what is kept of a line that has begun
+-- the line itself, or something over the limit in place of a line over it
+pub data Keeps (line kept : List ℕ) : Type 0 where
+  whole : kept ≡ line → Keeps line kept
+  cut : lineLimit < length line → lineLimit < length kept → Keeps line kept
+
+step-kept : (line kept : List ℕ) (view : View) → Keeps line kept → step kept view ≡ step line view
+step-kept line kept view (whole e) = ap (λ (l : List ℕ). step l view) e
+step-kept line kept view (cut long also) = step-alike kept line view also long
+
+keeps-longer : (c : ℕ) (line kept : List ℕ) → Keeps line kept → Keeps (line ++ (c ∷ [])) (longer c kept)
+unfolding longer
+keeps-longer c line kept (whole e) =
+    ⊎-elim
+    (λ long.
+    rw (lt-leb (length kept) lineLimit long)
+    (cut (omega (arith, length-append line (c ∷ []), ap length e)) long))
+    (λ short. rw (le-leb (length kept) lineLimit short) (whole (ap (λ (l : List ℕ). l ++ (c ∷ [])) e)))
+    (below-or-not lineLimit (length kept))
+keeps-longer c line kept (cut long also) =
+    rw (lt-leb (length kept) lineLimit also) (cut (omega (arith, length-append line (c ∷ []))) also)
+
+-- ---- the whole
+-- what the program writes from here on, after what is written so far
+onFrom : List ℕ → List ℕ → View → List ℕ
+onFrom line input view = (steps (linesFrom line input) view) .text
+
+no-line : (line kept : List ℕ) → Keeps line kept → length kept ≡ 0 → line ≡ []
+no-line [] kept k e = refl
+no-line (c ∷ line) kept (whole same) e = absurd (omega (arith, ap length same))
+no-line (c ∷ line) kept (cut long also) e = absurd (omega arith)
+
+last-steps : (line kept : List ℕ) (view : View) → Keeps line kept → (length kept ≡ 0 → ⊥)
+    → (steps (lastLine line) view) .text ≡ (step kept view) .text
+unfolding steps
+last-steps [] kept view (whole same) some = absurd (some (ap length same))
+last-steps [] kept view (cut long also) some = absurd (omega (arith, long))
+last-steps (c ∷ line) kept view k some =
+    append-nil ((step (c ∷ line) view) .text) ∙ ap (λ (m : Made). m .text) (sym (step-kept (c ∷ line) kept view k))
+
+last-line : (line : List ℕ) (now : Going) → Keeps line (now .begun) → (atEnd now) .text ≡ now .text ++ onFrom line [] (now .view)
+unfolding atEnd onFrom linesFrom lineDone steps
+last-line line now k =
+    ⊎-elim (λ none. rw (eq-eqb (length (now .begun)) 0 none) (sym (nothing (no-line line (now .begun) k none))))
+    (λ some.
+    rw (ne-eqb (length (now .begun)) 0 some)
+    (ap (λ (t : List ℕ). now .text ++ t) (sym (last-steps line (now .begun) (now .view) k some))))
+    (same-or-not (length (now .begun)) 0)
+  where
+    nothing : line ≡ [] → now .text ++ (steps (lastLine line) (now .view)) .text ≡ now .text
+    nothing e = rw e (append-nil (now .text))
+
+-- the definitions at a line feed, and at another character
+takenIn-feed : (c : ℕ) (now : Going) → c ≡ lineFeed → takenIn c now ≡ lineDone now
+unfolding takenIn
+takenIn-feed c now e = rw (eq-eqb c lineFeed e)
+
+takenIn-other : (c : ℕ) (now : Going) → (c ≡ lineFeed → ⊥)
+    → takenIn c now ≡ record { text = now .text; view = now .view; begun = longer c (now .begun) }
+unfolding takenIn
+takenIn-other c now other = rw (ne-eqb c lineFeed other)
+
+onFrom-feed : (c : ℕ) (line input : List ℕ) (view : View) → c ≡ lineFeed
+    → onFrom line (c ∷ input) view ≡ (step line view) .text ++ onFrom [] input ((step line view) .after)
+unfolding onFrom linesFrom steps
+onFrom-feed c line input view e =
+    ap (λ (b : Bool). (steps (cond b (line ∷ linesFrom [] input) (linesFrom (line ++ (c ∷ [])) input)) view) .text) (eq-eqb c lineFeed e)
+
+onFrom-other : (c : ℕ) (line input : List ℕ) (view : View) → (c ≡ lineFeed → ⊥)
+    → onFrom line (c ∷ input) view ≡ onFrom (line ++ (c ∷ [])) input view
+unfolding onFrom linesFrom
+onFrom-other c line input view other =
+    ap (λ (b : Bool). (steps (cond b (line ∷ linesFrom [] input) (linesFrom (line ++ (c ∷ [])) input)) view) .text) (ne-eqb c lineFeed other)
+
+-- a line feed
+ended : (c : ℕ) (input line : List ℕ) (now : Going) → Keeps line (now .begun) → c ≡ lineFeed
+    → (atEnd (fed input (lineDone now))) .text ≡ (lineDone now) .text ++ onFrom [] input ((lineDone now) .view)
+    → (atEnd (fed input (takenIn c now))) .text ≡ now .text ++ onFrom line (c ∷ input) (now .view)
+unfolding lineDone
+ended c input line now k e more =
+    ap (λ (s : Going). (atEnd (fed input s)) .text) (takenIn-feed c now e)
+    ∙ more
+    ∙ ap (λ (m : Made). now .text ++ m .text ++ onFrom [] input (m .after)) (step-kept line (now .begun) (now .view) k)
+    ∙ append-assoc (now .text) ((step line (now .view)) .text) (onFrom [] input ((step line (now .view)) .after))
+    ∙ ap (λ (t : List ℕ). now .text ++ t) (sym (onFrom-feed c line input (now .view) e))
+
+-- another character
+added : (c : ℕ) (input line : List ℕ) (now : Going) → (c ≡ lineFeed → ⊥)
+    → (atEnd (fed input (record { text = now .text; view = now .view; begun = longer c (now .begun) }))) .text
+    ≡ now .text ++ onFrom (line ++ (c ∷ [])) input (now .view)
+    → (atEnd (fed input (takenIn c now))) .text ≡ now .text ++ onFrom line (c ∷ input) (now .view)
+added c input line now other more =
+    ap (λ (s : Going). (atEnd (fed input s)) .text) (takenIn-other c now other)
+    ∙ more
+    ∙ ap (λ (t : List ℕ). now .text ++ t) (sym (onFrom-other c line input (now .view) other))
+
+fresh-line : (now : Going) → Keeps [] ((lineDone now) .begun)
+unfolding lineDone
+fresh-line now = whole refl
+
+fed-writes : (input line : List ℕ) (now : Going) → Keeps line (now .begun)
+    → (atEnd (fed input now)) .text ≡ now .text ++ onFrom line input (now .view)
+unfolding fed
+fed-writes [] line now k = last-line line now k
+fed-writes (c ∷ input) line now k =
+    ⊎-elim (λ e. ended c input line now k e (fed-writes input [] (lineDone now) (fresh-line now)))
+    (λ other.
+    added c input line now other
+    (fed-writes input (line ++ (c ∷ [])) (record { text = now .text; view = now .view; begun = longer c (now .begun) })
+    (keeps-longer c line (now .begun) k)))
+    (same-or-not c lineFeed)
+
+pub program-fed : (input : List ℕ) → program input ≡ (atEnd (fed input atStart)) .text
+unfolding program onFrom
+program-fed input = sym (fed-writes input [] atStart (whole refl))

@@ -1,0 +1,10 @@
+pub mod Appending
+pub mod Digits
+pub mod HexSteps
+pub mod ResultSteps
+pub mod Stepping
+pub mod ReleaseLoop
+pub mod Offering
+pub mod StepLaws
+pub mod Feeding
+pub mod Claims

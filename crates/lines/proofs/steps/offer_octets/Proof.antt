@@ -1,0 +1,53 @@
+use native.Mathlib.Omega.{arith}
+use Rattle.lines.proofs.Offering.{offer-taken, offer-not-taken}
+use borrow.Author.Needs.{needs}
+use Rattle.lines.proofs.steps.offer_octets.Statement.{statement}
+use Rattle.lines.proofs.steps.offer_octets.Tie as tie
+use Rattle.lines.proofs.steps.offer_octets.Reads as reads
+use Rattle.lines.proofs.steps.offer_octets.Lts as lts
+use Rattle.lines.proofs.results.put_refusal.Reads as put-refusal-reads
+use Rattle.receiving.proofs.offer_core.Reads as offer-core-reads
+
+-- src/steps.rt:140:9
+offer-core-requires : tie.Need-offer-core-requires
+offer-core-requires c κs = search needs
+
+-- src/steps.rt:144:30
+enum-told : tie.Need-enum-told
+enum-told c = search needs
+
+-- src/steps.rt:145:26
+enum-known-answer : tie.Need-enum-known-answer
+enum-known-answer c = search needs
+
+-- src/steps.rt:146:17
+put-refusal-requires : tie.Need-put-refusal-requires
+put-refusal-requires c κs = search needs
+
+-- src/steps.rt:128:1
+returns : tie.Need-returns
+returns c =
+    offer-taken (c .before .before .before .offer-core .ensures) (c .enum-told .given .1) (omega arith)
+
+-- src/steps.rt:128:1
+same-length : tie.Need-same-length
+same-length c = search needs
+
+-- src/steps.rt:128:1
+returns-2 : tie.Need-returns-2
+returns-2 c =
+    let put = c .before .before in
+    let told = put .before .before .before in
+    offer-not-taken (told .before .before .before .offer-core .ensures) (told .answer .given .1) (put .put-refusal .ensures)
+
+pub offer-octets-spec : {M : Type 1} → statement M
+offer-octets-spec =
+    tie.close
+    (tie.spec
+    offer-core-requires
+    enum-told
+    enum-known-answer
+    put-refusal-requires
+    returns
+    same-length
+    returns-2)

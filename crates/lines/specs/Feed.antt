@@ -1,0 +1,49 @@
+-- The program part way through its input: document 01, 'The program', taken in character by character, so that it does not
+-- matter how the input is cut into blocks. Definitions only.
+use Prim.Native.Nat.{ℕ, _+_}
+use mathlib.Core.Bool.{cond}
+use mathlib.Core.List.{List, [], _∷_, _++_}
+use lib.ListN.{length, take}
+use lib.Dec.{leb, eqb}
+use Rattle.views.specs.View.{View, freshView}
+use Rattle.heads.specs.Head.{viewIn}
+use Rattle.heads.specs.declared.Head.{Head}
+use Rattle.lines.specs.Hex.{lineLimit}
+use Rattle.lines.specs.Lines.{lineFeed, step}
+
+-- what is written so far, the session, and the line that has begun
+pub record Going : Type 0 where
+  pub text : List ℕ
+  pub view : View
+  pub begun : List ℕ
+
+abbrev pub atStart : Going
+atStart = record { text = []; view = freshView; begun = [] }
+
+-- a line feed: the line is done
+unfoldable pub lineDone : Going → Going
+lineDone now =
+    let made = step (now .begun) (now .view) in
+    record { text = now .text ++ made .text; view = made .after; begun = [] }
+
+-- another character: of a line that is too long no more is kept than shows it
+unfoldable pub longer : ℕ → List ℕ → List ℕ
+longer c begun = cond (leb (length begun) lineLimit) (begun ++ (c ∷ [])) begun
+
+-- one character
+unfoldable pub takenIn : ℕ → Going → Going
+takenIn c now =
+    cond (eqb c lineFeed) (lineDone now) (record { text = now .text; view = now .view; begun = longer c (now .begun) })
+
+-- some characters
+unfoldable pub fed : List ℕ → Going → Going
+fed [] now = now
+fed (c ∷ block) now = fed block (takenIn c now)
+
+-- "A last line without a line feed counts unless it is empty"
+unfoldable pub atEnd : Going → Going
+atEnd now = cond (eqb (length (now .begun)) 0) now (lineDone now)
+
+-- the program part way as the code holds it: the text is the front of out, the line that has begun the front of line
+abbrev pub goingIn : Head → List ℕ → List ℕ → List ℕ → ℕ → List ℕ → ℕ → Going
+goingIn h o g line begun out end = record { text = take end out; view = viewIn h o g; begun = take begun line }

@@ -1,0 +1,5 @@
+pub mod Hex
+pub mod Lines
+pub mod Feed
+pub mod Promise
+pub mod Claims

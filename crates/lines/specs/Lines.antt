@@ -1,0 +1,131 @@
+-- Document 01, 'The program': "Reads lines of hexadecimal, one datagram a line, and after each releases all it can. An empty
+-- line is one give-up, then releases. Releasing stops without a line at 10 or 16. Each result is a line: kind (00 received,
+-- 01 spare, 02 repaired, 03 lost), number, octets; a refusal is FF and its number as two hexadecimal digits. Both cases are
+-- read; upper case is written, each line ended by a line feed. A last line without a line feed counts unless it is empty."
+-- Definitions only.
+use Prim.Native.Nat.{ℕ, zero, suc, _/_, _%_}
+use mathlib.Core.Bool.{cond}
+use mathlib.Core.List.{List, [], _∷_, _++_}
+use lib.Dec.{eqb}
+use Rattle.lengths.specs.Answers.{Answer, done, refused, _>>=_}
+use Rattle.lengths.specs.declared.Refusal.{Refusal}
+use Rattle.datagrams.specs.Sizes.{packetLimit}
+use Rattle.repair.specs.Cells.{State, unknown, received, spare, repaired, blank, keptAhead}
+use Rattle.views.specs.View.{View, numbers, freshView}
+use Rattle.views.specs.Offer.{offer}
+use Rattle.views.specs.Release.{Release, next, Loss, giveUp}
+use Rattle.lines.specs.Hex.{hexOf, lineOctets}
+
+-- ---- result lines
+
+abbrev pub lineFeed : ℕ
+lineFeed = 0x0A
+
+-- "kind (00 received, 01 spare, 02 repaired, 03 lost)"
+abbrev pub lostKind : ℕ
+lostKind = 0x03
+
+-- the kind of a released number; an unknown or blank one is never released
+abbrev pub kindOf : State → ℕ
+kindOf received = 0x00
+kindOf spare = 0x01
+kindOf repaired = 0x02
+kindOf unknown = lostKind
+kindOf blank = lostKind
+
+-- "each line ended by a line feed"
+abbrev pub lineOf : List ℕ → List ℕ
+lineOf octets = hexOf octets ++ (lineFeed ∷ [])
+
+-- "kind .., number, octets"
+unfoldable pub resultLine : ℕ → ℕ → List ℕ → List ℕ
+resultLine kind number octets = lineOf (kind ∷ number / 256 ∷ number % 256 ∷ octets)
+
+-- "a refusal is FF and its number as two hexadecimal digits"
+unfoldable pub refusalLine : Refusal → List ℕ
+refusalLine r = lineOf (0xFF ∷ r .number ∷ [])
+
+-- ---- steps of the program
+
+-- what is written, and the session after
+pub record Made : Type 0 where
+  pub text : List ℕ
+  pub after : View
+
+-- nothing written, nothing changed
+abbrev pub silent : View → Made
+silent view = record { text = []; after = view }
+
+-- one after the other
+infixl 10 _then_
+abbrev pub _then_ : Made → (View → Made) → Made
+first then second =
+    record { text = first .text ++ (second (first .after)) .text; after = (second (first .after)) .after }
+
+-- a release's line; "Releasing stops without a line at 10 or 16"
+abbrev pub released : Answer Release → View → Made
+released (done r) view = record { text = resultLine (kindOf (r .kind)) (r .number) (r .octets); after = r .after }
+released (refused x) view = silent view
+
+-- a release, and what comes after it
+abbrev pub onward : Answer Release → (View → Made) → View → Made
+onward (done r) more view = released (done r) view then more
+onward (refused x) more view = released (refused x) view
+
+-- at most so many releases, with room for any packet
+unfoldable pub releasesF : ℕ → View → Made
+releasesF zero view = silent view
+releasesF (suc left) view = onward (next packetLimit view) (releasesF left) view
+
+-- "releases all it can": after keptAhead releases the base is a number that came into view unknown (Claims, ReleasesAll)
+abbrev pub releases : View → Made
+releases view = releasesF keptAhead view
+
+-- a datagram's answer: a line for a refusal alone
+abbrev pub offerMade : Answer View → View → Made
+offerMade (done after) view = silent after
+offerMade (refused r) view = record { text = refusalLine r; after = view }
+
+-- "one datagram a line"
+unfoldable pub lineOffered : List ℕ → View → Answer View
+lineOffered line view = do
+  octets ← lineOctets line
+  offer octets view
+
+unfoldable pub offerLine : List ℕ → View → Made
+offerLine line view = offerMade (lineOffered line view) view
+
+-- a give-up's answer: "03 lost", and the number
+abbrev pub giveUpMade : Answer Loss → View → Made
+giveUpMade (done l) view = record { text = resultLine lostKind (l .number) []; after = l .after }
+giveUpMade (refused r) view = record { text = refusalLine r; after = view }
+
+-- "An empty line is one give-up"
+unfoldable pub answerLine : List ℕ → View → Made
+answerLine [] view = giveUpMade (giveUp view) view
+answerLine (c ∷ line) view = offerLine (c ∷ line) view
+
+-- one line
+unfoldable pub step : List ℕ → View → Made
+step line view = answerLine line view then releases
+
+-- ---- the whole
+
+-- "A last line without a line feed counts unless it is empty"
+abbrev pub lastLine : List ℕ → List (List ℕ)
+lastLine [] = []
+lastLine (c ∷ line) = (c ∷ line) ∷ []
+
+-- the lines of some input, of which the first has begun
+unfoldable pub linesFrom : List ℕ → List ℕ → List (List ℕ)
+linesFrom begun [] = lastLine begun
+linesFrom begun (c ∷ input) = cond (eqb c lineFeed) (begun ∷ linesFrom [] input) (linesFrom (begun ++ (c ∷ [])) input)
+
+-- line after line
+unfoldable pub steps : List (List ℕ) → View → Made
+steps [] view = silent view
+steps (line ∷ lines) view = step line view then steps lines
+
+-- all that the program writes
+unfoldable pub program : List ℕ → List ℕ
+program input = (steps (linesFrom [] input) freshView) .text

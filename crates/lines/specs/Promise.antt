@@ -1,0 +1,61 @@
+-- What each call of this crate owes, a record for each, which its contract cites. Definitions only.
+use Prim.Native.Nat.{ℕ, _+_, _*_, _≤_, _<_}
+use mathlib.Core.Path.{_≡_}
+use mathlib.Core.Bool.{Bool, true, false}
+use mathlib.Core.List.{List, _++_}
+use lib.ListN.{length, take, drop}
+use Rattle.lengths.specs.Answers.{Answer, done, refused}
+use Rattle.datagrams.specs.Sizes.{packetLimit, datagramLimit}
+use Rattle.repair.specs.Cells.{keptAhead}
+use Rattle.views.specs.View.{View}
+use Rattle.views.specs.Release.{Release, next}
+use Rattle.heads.specs.Head.{viewIn}
+use Rattle.heads.specs.Within.{Within}
+use Rattle.heads.specs.declared.Head.{Head}
+use Rattle.lines.specs.Lines.{Made, released}
+
+-- the most characters of a result line, of all releases after a line, and of all that a line can write
+abbrev pub resultLimit : ℕ
+resultLimit = 7 + 2 * packetLimit
+
+abbrev pub releasesLimit : ℕ
+releasesLimit = keptAhead * resultLimit
+
+abbrev pub stepLimit : ℕ
+stepLimit = resultLimit + releasesLimit
+
+-- some text laid into a lent buffer from a place on, and the place after it; the rest stays
+pub record Appends (text old : List ℕ) (at : ℕ) (new : List ℕ) (end : ℕ) : Type 0 where
+  pub lent : new ≡ take at old ++ text ++ drop (at + length text) old
+  pub after : end ≡ at + length text
+  pub fits : at + length text ≤ length old
+
+-- what a part of a step asks for: the session's ranges, room for a packet, and room for so many characters
+pub record Ready (most : ℕ) (h : Head) (o g p out : List ℕ) (at : ℕ) : Type 0 where
+  pub within : Within h o g
+  pub packet : length p ≡ packetLimit
+  pub room : at + most ≤ length out
+
+-- the same where a line is read: room for its octets
+pub record Able (most : ℕ) (h : Head) (o g w out : List ℕ) (at : ℕ) : Type 0 where
+  pub within : Within h o g
+  pub work : datagramLimit ≤ length w
+  pub room : at + most ≤ length out
+
+-- what a part of a step owes, of which m is the meaning: the text that it lays into the lent buffer, and the session after,
+-- within its ranges
+pub record Does (m : Made) (old : List ℕ) (at : ℕ) (h : Head) (end : ℕ) (o g new : List ℕ) : Type 0 where
+  pub lent : Appends (m .text) old at new end
+  pub state : viewIn h o g ≡ m .after
+  pub within : Within h o g
+
+-- whether there was something to release
+abbrev pub goesOn : Answer Release → Bool
+goesOn (done r) = true
+goesOn (refused x) = false
+
+-- what one release owes, from a session that is seen as view
+pub record Releases (view : View) (old : List ℕ) (at : ℕ) (h : Head) (end : ℕ) (more : Bool) (o g new : List ℕ) : Type 0 where
+  pub does : Does (released (next packetLimit view) view) old at h end o g new
+  pub goes : more ≡ goesOn (next packetLimit view)
+  pub few : end ≤ at + resultLimit

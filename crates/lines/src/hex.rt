@@ -1,0 +1,112 @@
+// Hexadecimal digits: "Both cases are read; upper case is written". The loops have no branch on what a digit is, so that the
+// compiler takes many characters at a time.
+use crate::Line;
+use lengths::Refusal;
+use lengths::Written;
+ghost use mathlib.Core.Path.{_≡_};
+ghost use mathlib.Core.Bool.{true};
+ghost use Prim.Native.Nat.{_+_, _*_, _/_, _%_, _≤_, _<_};
+ghost use lib.ListN.{length, drop};
+ghost use mathlib.Core.List.{_++_};
+ghost use Rattle.lengths.specs.Promise.{Puts};
+ghost use Rattle.lines.specs.Hex.{digitOf, digitFor, allDigits, octetsIn, lineOctets, hexOf};
+ghost use Rattle.lines.specs.Promise.{Appends};
+
+// The value of a digit, or 16 for a character that is none.
+fn digit(c: u8) -> u8
+    ensures { λ r. ⌜ r ≡ digitOf c ⌝ }
+{
+    let decimal = std::num::wrapping_sub_u8(c, b'0');
+    if decimal < 10 {
+        return decimal;
+    }
+    let upper = std::num::wrapping_sub_u8(c, b'A');
+    if upper < 6 {
+        return upper + 10;
+    }
+    let lower = std::num::wrapping_sub_u8(c, b'a');
+    if lower < 6 {
+        return lower + 10;
+    }
+    16
+}
+
+// A digit below 16, in upper case.
+fn digit_for(n: u8) -> u8
+    requires { ⌜ n < 16 ⌝ }
+    ensures { λ r. ⌜ r ≡ digitFor n ⌝ }
+{
+    if n < 10 {
+        return b'0' + n;
+    }
+    b'A' + (n - 10)
+}
+
+// Whether every character is a digit.
+fn all_digits(line: &[u8]) -> bool
+    ensures { λ r. ⌜ r ≡ allDigits (now (line .entry)) ⌝ }
+{
+    let mut all = true;
+    let mut i = 0;
+    while i < line.len() {
+        all = all & (digit(line[i]) < 16);
+        i += 1;
+    }
+    all
+}
+
+// The octets of a line of paired digits, to the front of out.
+fn pair_up(line: &[u8], out: &mut [u8])
+    requires { ⌜ allDigits (now line) ≡ true ⌝ }
+    requires { ⌜ length (now line) / 2 ≤ length (now out) ⌝ }
+    ensures { λ _. ⌜ now (out .exit) ≡ octetsIn (now (line .entry)) ++ drop (length (now (line .entry)) / 2) (now (out .entry)) ⌝ }
+{
+    let n = line.len() / 2;
+    let mut i = 0;
+    while i < n {
+        let at = 2 * i;
+        let high = digit(line[at]);
+        let low = digit(line[at + 1]);
+        out[i] = (high % 16) * 16 + (low % 16);
+        i += 1;
+    }
+}
+
+// The octets of a line, to the front of out: 2 for a line that is too long, then 15 for one that is not of paired digits.
+pub fn hex_to_octets(line: &[u8], out: &mut [u8]) -> Written
+    ensures { λ r. ⌜ Puts (lineOctets (now (line .entry))) (now (out .entry)) (now (out .exit)) r ⌝ }
+{
+    let size = line.len();
+    if Line::LIMIT < size {
+        return Written::Refused(Refusal::new(Refusal::TOO_LONG));
+    }
+    let odd = size % 2;
+    if odd != 0 {
+        return Written::Refused(Refusal::new(Refusal::WRONG_SETTINGS));
+    }
+    if !all_digits(line) {
+        return Written::Refused(Refusal::new(Refusal::WRONG_SETTINGS));
+    }
+    let count = size / 2;
+    if out.len() < count {
+        return Written::Refused(Refusal::new(Refusal::NO_ROOM));
+    }
+    pair_up(line, out);
+    Written::Octets(count)
+}
+
+// Two digits for each octet, into out from place at on. Answers the place after them.
+pub fn put_octets(octets: &[u8], out: &mut [u8], at: usize) -> usize
+    requires { ⌜ at + 2 * length (now octets) ≤ length (now out) ⌝ }
+    ensures { λ r. ⌜ Appends (hexOf (now (octets .entry))) (now (out .entry)) at (now (out .exit)) r ⌝ }
+{
+    let mut i = 0;
+    while i < octets.len() {
+        let octet = octets[i];
+        let place = at + 2 * i;
+        out[place] = digit_for(octet / 16);
+        out[place + 1] = digit_for(octet % 16);
+        i += 1;
+    }
+    at + 2 * octets.len()
+}

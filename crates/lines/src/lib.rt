@@ -1,0 +1,45 @@
+// Document 01, 'The program'.
+mod hex;
+mod results;
+mod steps;
+
+pub use hex::hex_to_octets;
+pub use steps::Stepped;
+pub use steps::step;
+ghost use mathlib.Core.Path.{_≡_};
+ghost use Rattle.lines.specs.Hex.{lineLimit};
+ghost use Rattle.lines.specs.Promise.{stepLimit};
+use datagrams::Datagram;
+use datagrams::Packet;
+use heads::Session;
+
+// A line of the program's input.
+pub struct Line {}
+
+impl Line {
+    // Document 01: "line over 3,000 characters".
+    pub const LIMIT: usize = 2 * Datagram::LIMIT;
+
+    // The most characters of a result line, of all releases after a line, and of all that a line can write.
+    pub const RESULT: usize = 7 + 2 * Packet::LIMIT;
+
+    pub const RELEASES: usize = Session::HEARD * Line::RESULT;
+
+    pub const STEP: usize = Line::RESULT + Line::RELEASES;
+    // The kind of a lost number in a result line.
+    pub const LOST: u8 = 3;
+    // A line feed.
+    pub const FEED: u8 = 10;
+
+    pub fn limit() -> usize
+        ensures { λ r. ⌜ r ≡ lineLimit ⌝ }
+    {
+        Line::LIMIT
+    }
+
+    pub fn step_limit() -> usize
+        ensures { λ r. ⌜ r ≡ stepLimit ⌝ }
+    {
+        Line::STEP
+    }
+}
