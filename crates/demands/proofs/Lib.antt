@@ -1,0 +1,4 @@
+pub mod OneOutcome
+pub mod Growing
+pub mod Shifted
+pub mod InRanges

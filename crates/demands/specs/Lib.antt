@@ -1,0 +1,5 @@
+pub mod History
+pub mod Ranges
+pub mod Calls
+pub mod Demand2
+pub mod OneOutcome
