@@ -1,4 +1,3 @@
 pub mod OneOutcome
 pub mod Growing
 pub mod Shifted
-pub mod InRanges
