@@ -1,0 +1,161 @@
+-- What follows a packet changes no item of it: octets that read still read the same with more after them. So a repaired
+-- packet reads the same whatever zeros follow. Assumes nothing.
+use Prim.Native.Nat.{ℕ, zero, suc, _+_, _-_, _≤_, _<_}
+use mathlib.Core.Path.{_≡_, refl, sym, ap, _∙_}
+use mathlib.Core.Bool.{Bool, true, false}
+use mathlib.Core.List.{List, [], _∷_, _++_, append-assoc}
+use lib.ListN.{length, getD, drop, replicate, length-append, length-replicate, replicate-append-replicate, List·getD-append}
+use lib.Seq.{drop-append-le}
+use lib.Dec.{leb, eqb}
+use native.Mathlib.Omega.{arith}
+use borrow.Author.Tests.{leb-true, leb-false}
+use Rattle.lengths.specs.Answers.{done, LengthAnswer}
+use Rattle.lengths.specs.Length.{lengthAt, ofTwo}
+use Rattle.lengths.proofs.Laws.{Form, one, two, form, lengthAt-one, lengthAt-two}
+use Rattle.packets.specs.Packet.{Place, First, every}
+use Rattle.packets.specs.Read.{PacketAnswer, firstAt, Count, countAt, headerAt, sizeAt, FieldAnswer, fieldAt, FieldsAnswer, fieldsAt, readPacket}
+use Rattle.packets.specs.Claims.{PartsWithin, ZerosFollow, ZerosAlike}
+use Rattle.packets.specs.declared.types.Ending.{Ending}
+use Rattle.packets.specs.declared.types.Ending.the-variants.{Repaired}
+use Rattle.packets.proofs.ReadLaws.{stepped, first-form, first-of, count-form, count-of, header-form, header-of, size-form, size-of, FieldForm, bare, full, field-form, bare-of, full-of, PacketForm, packet-form, packet-of}
+use Rattle.packets.proofs.ReadPacket.{count-within, fields-inside, FieldsInside}
+use Rattle.packets.proofs.WriteLaws.{both-first, both-second}
+use Rattle.packets.proofs.WrittenReads.{zeros-all}
+
+module _ (s more : List ℕ) where
+  same-at : (i : ℕ) → i < length s → getD (s ++ more) i 0 ≡ getD s i 0
+  same-at i h = List·getD-append s more 0 i h
+
+  length-more : (a : LengthAnswer) → Form s a → lengthAt (s ++ more) ≡ done a
+  length-more a (one some low value size) =
+      let zero-same = same-at 0 (omega arith) in
+      let long = length-append s more in
+      lengthAt-one (s ++ more) (omega arith) (rw zero-same low) ∙ rw zero-same (answer value size) where
+        answer : a .value ≡ getD s 0 0 → a .size ≡ 1 → done (record { value = getD s 0 0; size = 1 }) ≡ done a
+        answer v n = rw (← v, ← n)
+  length-more a (two some long low large value size) =
+      let zero-same = same-at 0 (omega arith) in
+      let one-same = same-at 1 (omega arith) in
+      let all = length-append s more in
+      lengthAt-two (s ++ more) (omega arith) (rw zero-same long) (rw zero-same low) (rw (zero-same, one-same) large)
+      ∙ rw (zero-same, one-same) (answer value size) where
+        answer : a .value ≡ ofTwo (getD s 0 0) (getD s 1 0) → a .size ≡ 2
+            → done (record { value = ofTwo (getD s 0 0) (getD s 1 0); size = 2 }) ≡ done a
+        answer v n = rw (← v, ← n)
+
+  drop-more : (n : ℕ) → n ≤ length s → drop n (s ++ more) ≡ drop n s ++ more
+  drop-more n h = drop-append-le n s more h
+
+first-more : (s more : List ℕ) (f : First) → firstAt s ≡ done f → firstAt (s ++ more) ≡ done f
+first-more s more f e =
+    let form = first-form s f e in
+    let same = same-at s more 0 (form .some) in
+    first-of (s ++ more) f
+    (record {
+      some = omega (arith, form .some, length-append s more);
+      plain = rw same (form .plain);
+      known = form .known;
+      spare = rw same (form .spare);
+      right = form .right;
+      is = rw same (form .is);
+    })
+
+count-more : (s more : List ℕ) (p : Bool) (c : Count) → 1 ≤ length s → countAt s p ≡ done c → countAt (s ++ more) p ≡ done c
+unfolding countAt
+count-more s more true c some e =
+    let f = count-form s c e in
+    let reads : lengthAt (drop 1 (s ++ more)) ≡ done (f .length)
+    = ap lengthAt (drop-more s more 1 some) ∙ length-more (drop 1 s) more (f .length) (form (drop 1 s) (f .length) (f .reads)) in
+    count-of (s ++ more) (f .length) reads (omega (arith, f .some, f .value)) (omega (arith, f .few, f .value)) ∙ answer (f .value) (f .next) where
+      answer : {v n : ℕ} → c .value ≡ v → c .next ≡ n → done (record { value = v; next = n }) ≡ done c
+      answer v n = rw (← v, ← n)
+count-more s more false c some e = e
+
+header-more : (s more : List ℕ) (at : Place) (k : ℕ) (p : Bool)
+    → headerAt s at ≡ done (record { header = record { kind = k; present = p }; next = at + 1 })
+    → headerAt (s ++ more) at ≡ done (record { header = record { kind = k; present = p }; next = at + 1 })
+header-more s more at k p e =
+    let f = header-form s at _ e in
+    let same = same-at s more at (f .some) in
+    header-of (s ++ more) at k p (omega (arith, f .some, length-append s more)) (rw same (f .spare)) (rw same (sym (f .header))) (f .right)
+
+size-more : (s more : List ℕ) (n : ℕ) → sizeAt s ≡ done n → sizeAt (s ++ more) ≡ done n
+size-more s more n e =
+    let f = size-form s n e in
+    let inside = f .inside in
+    size-of (s ++ more) n (omega (arith, length-append s more)) (f .few)
+    (rw (same-at s more 0 (omega arith), same-at s more 1 (omega arith)) (f .is))
+
+field-more : (s more : List ℕ) (at : Place) (f : FieldAnswer) → FieldForm s at f → fieldAt (s ++ more) at ≡ done f
+field-more s more at f (bare k head is) = rw is (bare-of (s ++ more) at k (header-more s more at k false head))
+field-more s more at f (full k n head size is) =
+    let some = header-form s at _ head .some in
+    rw is
+    (full-of (s ++ more) at k n (header-more s more at k true head)
+    (ap sizeAt (drop-more s more (at + 1) (omega arith)) ∙ size-more (drop (at + 1) s) more n size))
+
+fields-more : (n : ℕ) (s more : List ℕ) (at : Place) (a : FieldsAnswer) → fieldsAt n s at ≡ done a → fieldsAt n (s ++ more) at ≡ done a
+unfolding fieldsAt
+fields-more zero s more at a e = e
+fields-more (suc n) s more at a e =
+    let f = stepped (fieldAt s at) _ a e in
+    let rest = stepped (fieldsAt n s (f .value .next)) _ a (f .gave) in
+    rw (
+      field-more s more at (f .value) (field-form s at (f .value) (f .was)),
+      fields-more n s more (f .value .next) (rest .value) (rest .was),
+    )
+    (rest .gave)
+
+-- ---- the packet
+-- its fields lie within its octets
+inside-packet : {e : Ending} {s : List ℕ} {p : PacketAnswer} (f : PacketForm e s p) → FieldsInside (f .count .value) s (f .all)
+inside-packet {e} {s} f =
+    let some = first-form s (f .first) (f .firstWas) .some in
+    fields-inside (f .count .value) s (f .count .next) (f .all) (count-within s (f .first .present) (f .count) some (f .countWas)) (f .allWas)
+
+pub parts-within : PartsWithin
+parts-within e s p reads i =
+    let f = packet-form e s p reads in
+    rw (f .is) (inside-packet f .parts i)
+
+zeros-more : (s : List ℕ) (n : ℕ) → every (λ x. eqb x 0) s ≡ true → every (λ x. eqb x 0) (s ++ replicate n 0) ≡ true
+unfolding every
+zeros-more [] n all = zeros-all n
+zeros-more (x ∷ s) n all =
+    rw (both-first (eqb x 0) (every (λ y. eqb y 0) s) all) (zeros-more s n (both-second (eqb x 0) (every (λ y. eqb y 0) s) all))
+
+pub zeros-follow : ZerosFollow
+zeros-follow s p n reads room =
+    let f = packet-form Repaired s p reads in
+    let some = first-form s (f .first) (f .firstWas) .some in
+    let zeros : List ℕ = replicate n 0 in
+    let left = drop-more s zeros (f .all .next) (inside-packet f .next) in
+    rw (f .is)
+    (packet-of Repaired (s ++ zeros) (f .first) (f .count) (f .all) (omega (arith, length-append s zeros, length-replicate {A = ℕ} n 0))
+    (first-more s zeros (f .first) (f .firstWas))
+    (count-more s zeros (f .first .present) (f .count) some (f .countWas))
+    (fields-more (f .count .value) s zeros (f .count .next) (f .all) (f .allWas))
+    (ap (every (λ x. eqb x 0)) left ∙ zeros-more (drop (f .all .next) s) n (f .follows)))
+
+-- with fewer zeros and with more
+zeros-up : (s : List ℕ) (p q : PacketAnswer) (n m : ℕ) → n ≤ m → readPacket Repaired (s ++ replicate n 0) ≡ done p
+    → readPacket Repaired (s ++ replicate m 0) ≡ done q → p ≡ q
+zeros-up s p q n m few less more =
+    let longer : (s ++ replicate n 0) ++ replicate (m - n) 0 ≡ s ++ replicate m 0
+    = append-assoc s (replicate n 0) (replicate (m - n) 0)
+    ∙ ap (λ (l : List ℕ). s ++ l) (replicate-append-replicate n (m - n) 0)
+    ∙ ap (λ (k : ℕ). s ++ replicate k 0) (rejoined n m few) in
+    let fits = packet-form Repaired (s ++ replicate m 0) q more .fits in
+    let goes : readPacket Repaired (s ++ replicate m 0) ≡ done p
+    = ap (readPacket Repaired) (sym longer)
+    ∙ zeros-follow (s ++ replicate n 0) p (m - n) less
+    (omega (arith, ap length longer, length-append (s ++ replicate n 0) (replicate (m - n) 0), length-replicate {A = ℕ} (m - n) 0)) in
+    cc where
+      rejoined : (a b : ℕ) → a ≤ b → a + (b - a) ≡ b
+      rejoined a b h = omega arith
+
+pub zeros-alike : ZerosAlike
+zeros-alike s p q n m left right = by (leb n m) refl where
+  by : (b : Bool) → leb n m ≡ b → p ≡ q
+  by true e = zeros-up s p q n m (leb-true n m e) left right
+  by false e = let less = leb-false n m e in sym (zeros-up s q p m n (omega arith) right left)

@@ -1,0 +1,157 @@
+-- Laws of the writer's definitions, for this crate and those above: the octets of a field and of a packet, how many
+-- they are, and what it says of kind, value, types, lengths and data that a packet is written. Assumes nothing.
+use Prim.Native.Nat.{ℕ, suc, _+_, _-_, _/_, _%_, _≤_, _<_, _*_}
+use mathlib.Core.Path.{_≡_, refl, sym, ap, ap₂, _∙_}
+use mathlib.Core.Bool.{Bool, true, false, not, cond, _&&_}
+use mathlib.Core.List.{List, [], _∷_, _++_}
+use lib.ListN.{length, take, drop, length-append, length-drop}
+use lib.Seq.{length-take-le}
+use lib.Dec.{leb, ltb, eqb}
+use native.Mathlib.Omega.{arith}
+use borrow.Author.Tests.{lt-ltb, le-ltb, eq-eqb, eqb-true, not-false, le-leb, ltb-true, ltb-false, leb-true}
+use Rattle.lengths.specs.Refusals.{outsideSizes, wrongSettings, notAssigned, wrongData}
+use Rattle.lengths.specs.Length.{lengthOctets}
+use Rattle.lengths.proofs.Laws.{lengthOctets-one}
+use Rattle.lengths.specs.Answers.{done}
+use Rattle.lengths.specs.declared.Written.the-variants as written
+use Rattle.datagrams.specs.Sizes.{packetLimit}
+use Rattle.packets.specs.Packet.{fieldsLimit, typesLimit, assigned, rightFields, every, headerBits, firstOctet}
+use Rattle.packets.specs.Write.{withData, fieldOctets, fieldsOctets, packetOctets, sum, total, oneEach, allAssigned, rightTypes, allRight, inSizes, packetToWrite}
+use Rattle.packets.specs.Items.{fieldSize, packetSize, countedOctets}
+use Rattle.packets.specs.declared.types.Kind.{Kind}
+use Rattle.packets.specs.declared.types.Kind.the-variants.{Indicator, Data}
+use Rattle.packets.proofs.ReadLaws.{past}
+
+-- ---- both of two tests
+pub both-first : (a b : Bool) → (a && b) ≡ true → a ≡ true
+both-first true b e = refl
+both-first false b e = e
+
+pub both-second : (a b : Bool) → (a && b) ≡ true → b ≡ true
+both-second true b e = e
+both-second false b e = let z : true ≡ false = sym e in cc
+
+-- ---- one length for each type, and all of them the data's
+module _ (ts ns d : List ℕ) where
+  pub each-sum : oneEach ts ns d ≡ true → sum ns ≡ length d
+  unfolding oneEach
+  each-sum is = eqb-true _ _ (both-second (eqb (length ts) (length ns)) _ is)
+
+  pub each-length : oneEach ts ns d ≡ true → length ts ≡ length ns
+  unfolding oneEach
+  each-length is = eqb-true _ _ (both-first _ (eqb (sum ns) (length d)) is)
+
+-- ---- the size
+pub field-length : (k : ℕ) (d : List ℕ) → length (fieldOctets k d) ≡ fieldSize (length d)
+unfolding fieldOctets
+field-length k d = by (withData (length d)) where
+  by : (b : Bool) → suc (length (cond b (((length d - 1) / 256) ∷ ((length d - 1) % 256) ∷ d) [])) ≡ cond b (3 + length d) 1
+  by true = omega arith
+  by false = refl
+
+pub fields-length : (ts ns d : List ℕ) → length ts ≡ length ns → sum ns ≡ length d → length (fieldsOctets ts ns d) ≡ total fieldSize ns
+unfolding fieldsOctets total
+fields-length [] [] d same all = refl
+fields-length [] (n ∷ ns) d same all = absurd (omega arith)
+fields-length (t ∷ ts) [] d same all = absurd (omega arith)
+fields-length (t ∷ ts) (n ∷ ns) d same all =
+    let more = fields-length ts ns (drop n d) (omega arith) (omega (arith, length-drop n d)) in
+    let here = field-length t (take n d) in
+    let part : fieldSize (length (take n d)) ≡ fieldSize n = ap fieldSize (length-take-le n d (omega arith)) in
+    length-append (fieldOctets t (take n d)) (fieldsOctets ts ns (drop n d)) ∙ ap₂ (λ (x y : ℕ). x + y) (here ∙ part) more
+
+pub packet-length : (k : Kind) (v : ℕ) (ts ns d : List ℕ) → length ts ≤ fieldsLimit → oneEach ts ns d ≡ true
+    → length (packetOctets k v ts ns d) ≡ packetSize ns
+unfolding packetOctets
+packet-length k v ts ns d few each = rw (← same) (by (ltb 0 (length ts))) where
+  same : length ts ≡ length ns
+  same = each-length ts ns d each
+
+  by : (b : Bool) → suc (length (cond b (lengthOctets (length ts) ++ fieldsOctets ts ns d) [])) ≡ cond b (2 + total fieldSize ns) 1
+  by true =
+      let fields = fields-length ts ns d same (each-sum ts ns d each) in
+      let count : length (lengthOctets (length ts)) ≡ 1 = ap length (lengthOctets-one (length ts) (omega arith)) in
+      omega (arith, length-append (lengthOctets (length ts)) (fieldsOctets ts ns d))
+  by false = refl
+
+-- ---- the octets of a field, without data and with it
+pub field-bare : (k : ℕ) → fieldOctets k [] ≡ (k * 16) ∷ []
+unfolding fieldOctets headerBits
+field-bare k = ap (λ (n : ℕ). (n * 16) ∷ []) (omega arith)
+
+pub field-full : (k : ℕ) (d : List ℕ) → 1 ≤ length d
+    → fieldOctets k d ≡ ((8 + k) * 16) ∷ ((length d - 1) / 256) ∷ ((length d - 1) % 256) ∷ d
+unfolding fieldOctets headerBits
+field-full k d some = rw (lt-ltb 0 (length d) some)
+
+-- ---- the octets of a packet, without fields and with them
+pub packet-bare : (k : Kind) (v : ℕ) (ts ns d : List ℕ) → ltb 0 (length ts) ≡ false
+    → packetOctets k v ts ns d ≡ firstOctet (record { kind = k; value = v; present = ltb 0 (length ts) }) ∷ []
+unfolding packetOctets
+packet-bare k v ts ns d none = ap (λ (b : Bool). firstOctet (record { kind = k; value = v; present = ltb 0 (length ts) }) ∷ cond b (countedOctets ts ns d) []) none
+
+pub packet-full : (k : Kind) (v : ℕ) (ts ns d : List ℕ) → ltb 0 (length ts) ≡ true
+    → packetOctets k v ts ns d ≡ firstOctet (record { kind = k; value = v; present = ltb 0 (length ts) }) ∷ countedOctets ts ns d
+unfolding packetOctets
+packet-full k v ts ns d some = ap (λ (b : Bool). firstOctet (record { kind = k; value = v; present = ltb 0 (length ts) }) ∷ cond b (countedOctets ts ns d) []) some
+
+-- ---- a packet that is written
+pub record WriteForm (k : Kind) (v : ℕ) (ts ns d w : List ℕ) : Type 0 where
+  pub few : length ts ≤ fieldsLimit
+  pub same : length ts ≡ length ns
+  pub all : sum ns ≡ length d
+  pub known : v < assigned k
+  pub types : every (λ t. leb t typesLimit) ts ≡ true
+  pub fields : rightFields k (ltb 0 (length ts)) ≡ true
+  pub right : rightTypes ts ns ≡ true
+  pub short : every (λ n. leb n packetLimit) ns ≡ true
+  pub size : length w ≤ packetLimit
+  pub is : w ≡ packetOctets k v ts ns d
+
+pub write-form : (k : Kind) (v : ℕ) (ts ns d w : List ℕ) → packetToWrite k v ts ns d ≡ done w → WriteForm k v ts ns d w
+unfolding packetToWrite allAssigned allRight inSizes
+write-form k v ts ns d w e =
+    let packet = packetOctets k v ts ns d in
+    let few = past (ltb fieldsLimit (length ts)) outsideSizes _ w e in
+    let each = past (not (oneEach ts ns d)) wrongSettings _ w (few .1) in
+    let known = past (not (allAssigned k v ts)) notAssigned _ w (each .1) in
+    let right = past (not (allRight k ts ns)) wrongData _ w (known .1) in
+    let sizes = past (not (inSizes ns (length packet))) outsideSizes _ w (right .1) in
+    let is : w ≡ packetOctets k v ts ns d = cc (sizes .1) in
+    let one = not-false (oneEach ts ns d) (each .0) in
+    let assignedAll = not-false (ltb v (assigned k) && every (λ t. leb t typesLimit) ts) (known .0) in
+    let rightAll = not-false (rightFields k (ltb 0 (length ts)) && rightTypes ts ns) (right .0) in
+    let sizesAll = not-false (every (λ n. leb n packetLimit) ns && leb (length packet) packetLimit) (sizes .0) in
+    record {
+      few = ltb-false _ _ (few .0);
+      same = each-length ts ns d one;
+      all = each-sum ts ns d one;
+      known = ltb-true v (assigned k) (both-first _ (every (λ t. leb t typesLimit) ts) assignedAll);
+      types = both-second (ltb v (assigned k)) _ assignedAll;
+      fields = both-first _ (rightTypes ts ns) rightAll;
+      right = both-second (rightFields k (ltb 0 (length ts))) _ rightAll;
+      short = both-first _ (leb (length packet) packetLimit) sizesAll;
+      size = rw is (leb-true (length packet) packetLimit (both-second (every (λ n. leb n packetLimit) ns) _ sizesAll));
+      is = is;
+    }
+
+pub assigned-few : (k : Kind) → assigned k ≤ 16
+assigned-few Indicator = omega arith
+assigned-few Data = omega arith
+
+-- ---- and back: what passes each test is written
+pub write-of : (k : Kind) (v : ℕ) (ts ns d : List ℕ) → WriteForm k v ts ns d (packetOctets k v ts ns d)
+    → packetToWrite k v ts ns d ≡ done (packetOctets k v ts ns d)
+unfolding packetToWrite oneEach allAssigned allRight inSizes
+write-of k v ts ns d form =
+    rw (
+      le-ltb fieldsLimit (length ts) (form .few),
+      eq-eqb (length ts) (length ns) (form .same),
+      eq-eqb (sum ns) (length d) (form .all),
+      lt-ltb v (assigned k) (form .known),
+      form .types,
+      form .fields,
+      form .right,
+      form .short,
+      le-leb (length (packetOctets k v ts ns d)) packetLimit (form .size),
+    )

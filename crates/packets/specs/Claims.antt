@@ -1,0 +1,111 @@
+-- The claims of this crate: statements alone. Definitions only.
+use Prim.Native.Nat.{ℕ, _+_, _≤_}
+use mathlib.Core.Path.{_≡_}
+use mathlib.Core.List.{List, [], _∷_, _++_, map}
+use lib.ListN.{length, getD, replicate}
+use Rattle.lengths.specs.Refusals.{spareBit, notAssigned, wrongData}
+use Rattle.lengths.specs.Answers.{Answer, done, refuse}
+use Rattle.lengths.specs.Promise.{Puts}
+use Rattle.lengths.specs.Claims.{Octets}
+use Rattle.lengths.specs.declared.Written.{Written}
+use Rattle.datagrams.specs.Sizes.{packetLimit}
+use Rattle.packets.specs.Packet.{noField, allData}
+use Rattle.packets.specs.Read.{readPacket, PacketAnswer}
+use Rattle.packets.specs.Write.{packetToWrite}
+use Rattle.packets.specs.Promise.{PacketTold}
+use Rattle.packets.specs.declared.types.Kind.{Kind}
+use Rattle.packets.specs.declared.types.Kind.the-variants.{Indicator, Data}
+use Rattle.packets.specs.declared.types.Ending.{Ending}
+use Rattle.packets.specs.declared.types.Ending.the-variants.{Whole, Repaired}
+use Rattle.packets.specs.declared.types.PacketRead.{PacketRead}
+
+-- some octets, read with this ending, are a packet of this kind and value, with fields of these types and lengths and, one
+-- after the other, this data
+pub record ReadsAs (ending : Ending) (s : List ℕ) (kind : Kind) (value : ℕ) (types lengths octets : List ℕ) : Type 0 where
+  pub packet : PacketAnswer
+  pub reads : readPacket ending s ≡ done packet
+  pub kindSame : packet .kind ≡ kind
+  pub valueSame : packet .value ≡ value
+  pub typesSame : map (λ f. f .kind) (packet .fields) ≡ types
+  pub lengthsSame : map (λ f. f .size) (packet .fields) ≡ lengths
+  pub octetsSame : allData s (packet .fields) ≡ octets
+
+-- what is written reads back, as received
+abbrev pub WrittenReads : Type 0
+WrittenReads = (kind : Kind) (value : ℕ) (types lengths octets w : List ℕ)
+    → packetToWrite kind value types lengths octets ≡ done w
+    → ReadsAs Whole w kind value types lengths octets
+
+-- and as repaired, with any zeros after it that the packet limit leaves room for
+abbrev pub RepairedReads : Type 0
+RepairedReads = (kind : Kind) (value : ℕ) (types lengths octets w : List ℕ) (n : ℕ)
+    → packetToWrite kind value types lengths octets ≡ done w
+    → length w + n ≤ packetLimit
+    → ReadsAs Repaired (w ++ replicate n 0) kind value types lengths octets
+
+-- what reads as received writes back to the same octets
+abbrev pub ReadWrites : Type 0
+ReadWrites = (s : List ℕ) (p : PacketAnswer)
+    → Octets s
+    → readPacket Whole s ≡ done p
+    → packetToWrite (p .kind) (p .value) (map (λ f. f .kind) (p .fields)) (map (λ f. f .size) (p .fields)) (allData s (p .fields)) ≡ done s
+
+-- the parts of a packet that reads lie within its octets
+abbrev pub PartsWithin : Type 0
+PartsWithin = (ending : Ending) (s : List ℕ) (p : PacketAnswer)
+    → readPacket ending s ≡ done p
+    → (i : ℕ)
+    → getD (p .fields) i noField .start + getD (p .fields) i noField .size ≤ length s
+
+-- a repaired packet reads the same with any more zeros after it that the packet limit leaves room for
+abbrev pub ZerosFollow : Type 0
+ZerosFollow = (s : List ℕ) (p : PacketAnswer) (n : ℕ)
+    → readPacket Repaired s ≡ done p
+    → length s + n ≤ packetLimit
+    → readPacket Repaired (s ++ replicate n 0) ≡ done p
+
+-- so what it reads as does not depend on how many zeros follow
+abbrev pub ZerosAlike : Type 0
+ZerosAlike = (s : List ℕ) (p q : PacketAnswer) (n m : ℕ)
+    → readPacket Repaired (s ++ replicate n 0) ≡ done p
+    → readPacket Repaired (s ++ replicate m 0) ≡ done q
+    → p ≡ q
+
+-- two outcomes that a promise allows are equal
+pub record OneOutcome : Type 0 where
+  pub read : {ending : Ending} {s : List ℕ} {r q : PacketRead} → PacketTold ending s r → PacketTold ending s q → r ≡ q
+  pub written : {w : Answer (List ℕ)} {old new other : List ℕ} {r q : Written}
+      → Puts w old new r → Puts w old other q → (r ≡ q) × (new ≡ other)
+
+-- document 01's sheet, the rows of this layer
+pub record Sheet : Type 0 where
+  -- ★ `06` is indicator 3
+  pub indicator-3 : readPacket Whole (0x06 ∷ []) ≡ done (record { kind = Indicator; value = 3; fields = [] })
+  -- ★ `01` is refusal 5
+  pub spare-bit : readPacket Whole (0x01 ∷ []) ≡ refuse spareBit
+  -- ★ `20 00` is 12
+  pub extension : readPacket Whole (0x20 ∷ 0x00 ∷ []) ≡ refuse notAssigned
+  -- ★ `D2` (data 9) is 12
+  pub data-9 : readPacket Whole (0xD2 ∷ []) ≡ refuse notAssigned
+  -- ★ `80` is 14
+  pub indicator-with-data : readPacket Whole (0x80 ∷ []) ≡ refuse wrongData
+  -- ★ `C0 02 80 00 02 FF 13 80 40`: V.21, data FF 13 80, then type 4
+  pub two-fields : readPacket Whole (0xC0 ∷ 0x02 ∷ 0x80 ∷ 0x00 ∷ 0x02 ∷ 0xFF ∷ 0x13 ∷ 0x80 ∷ 0x40 ∷ [])
+      ≡ done (record {
+        kind = Data;
+        value = 0;
+        fields = record { kind = 0; start = 5; size = 3 } ∷ record { kind = 4; start = 0; size = 0 } ∷ [];
+      })
+  -- a true last octet may be zero: `C0 01 80 00 01 55 00`, repaired, has data 55 00, whatever zeros follow
+  pub true-zero : readPacket Repaired (0xC0 ∷ 0x01 ∷ 0x80 ∷ 0x00 ∷ 0x01 ∷ 0x55 ∷ 0x00 ∷ [])
+      ≡ done (record { kind = Data; value = 0; fields = record { kind = 0; start = 5; size = 2 } ∷ [] })
+
+pub record Claims : Type 0 where
+  pub writtenReads : WrittenReads
+  pub repairedReads : RepairedReads
+  pub readWrites : ReadWrites
+  pub partsWithin : PartsWithin
+  pub zerosFollow : ZerosFollow
+  pub zerosAlike : ZerosAlike
+  pub oneOutcome : OneOutcome
+  pub sheet : Sheet

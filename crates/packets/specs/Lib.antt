@@ -1,0 +1,6 @@
+pub mod Packet
+pub mod Read
+pub mod Write
+pub mod Promise
+pub mod Items
+pub mod Claims

@@ -1,0 +1,35 @@
+-- What each public call of this crate owes, a record for each, which its contract cites. Definitions only.
+use Prim.Native.Nat.{ℕ, _-_}
+use mathlib.Core.Path.{_≡_}
+use mathlib.Core.List.{List, [], _++_}
+use lib.ListN.{length, take, replicate}
+use Rattle.lengths.specs.Answers.{Answer, done, refused}
+use Rattle.packets.specs.Packet.{fieldsLimit, noField}
+use Rattle.packets.specs.Read.{PacketAnswer, readPacket}
+use Rattle.packets.specs.declared.types.Field.{Field}
+use Rattle.packets.specs.declared.types.Ending.{Ending}
+use Rattle.packets.specs.declared.types.Reading.{Reading}
+use Rattle.packets.specs.declared.types.Reading.the-variants as reading
+use Rattle.packets.specs.declared.types.PacketRead.{PacketRead}
+
+-- each case of the packet reader's answer, in document 01's number and values; the fields are the first of the places
+abbrev pub readingOutcome : Reading → List Field → Answer PacketAnswer
+readingOutcome (reading.Packet k v n) fields = done (record { kind = k; value = v; fields = take n fields })
+readingOutcome (reading.Refused r) fields = refused r
+
+abbrev pub packetOutcome : PacketRead → Answer PacketAnswer
+packetOutcome r = readingOutcome (r .reading) (r .fields)
+
+-- a packet's fields in as many places as a packet may have; those that are left are zero
+unfoldable pub padded : List Field → List Field
+padded fields = fields ++ replicate (fieldsLimit - length fields) noField
+
+-- the whole answer to what a packet reads as, unused places too
+abbrev pub packetRead : Answer PacketAnswer → PacketRead
+packetRead (done p) = record { reading = reading.Packet (p .kind) (p .value) (length (p .fields)); fields = padded (p .fields) }
+packetRead (refused r) = record { reading = reading.Refused r; fields = padded [] }
+
+-- what `read` owes of the octets s: its outcome, and no other answer for it
+pub record PacketTold (ending : Ending) (s : List ℕ) (r : PacketRead) : Type 0 where
+  pub answer : packetOutcome r ≡ readPacket ending s
+  pub whole : r ≡ packetRead (readPacket ending s)

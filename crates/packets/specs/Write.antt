@@ -1,0 +1,85 @@
+-- Document 01, 'The packet', written: kind, value, the fields' types, the length of each one's data and all the data
+-- give the packet's octets, or a refusal. "Packet writer: over 16 fields 4, then 15, 12, 14, 4, 13, each over the whole
+-- packet." 13 is the promise's, which knows the lent buffer. Definitions only.
+use Prim.Native.Nat.{ℕ, _+_, _-_, _*_, _/_, _%_}
+use mathlib.Core.Bool.{Bool, true, not, cond, _&&_}
+use mathlib.Core.List.{List, [], _∷_, _++_}
+use lib.ListN.{length, take, drop}
+use lib.Dec.{leb, ltb, eqb}
+use Rattle.lengths.specs.Refusals.{outsideSizes, wrongSettings, notAssigned, wrongData}
+use Rattle.lengths.specs.Answers.{Answer, done, refuse}
+use Rattle.lengths.specs.Length.{lengthOctets}
+use Rattle.datagrams.specs.Sizes.{packetLimit}
+use Rattle.packets.specs.Packet.{fieldsLimit, typesLimit, assigned, rightFields, rightData, every, firstOctet, headerBits}
+use Rattle.packets.specs.declared.types.Kind.{Kind}
+
+-- ---- a field
+-- "To the writer a field of length 0 has no data"
+abbrev pub withData : ℕ → Bool
+withData size = ltb 0 size
+
+-- "two octets hold its length minus one"
+abbrev pub sizeOctets : ℕ → List ℕ
+sizeOctets size = ((size - 1) / 256) ∷ ((size - 1) % 256) ∷ []
+
+-- "Each field begins on an octet of its own: .. four zero bits. With data, two octets hold its length minus one, then the data"
+unfoldable pub fieldOctets : ℕ → List ℕ → List ℕ
+fieldOctets kind octets =
+    let present = withData (length octets) in
+    (headerBits (record { kind = kind; present = withData (length octets) }) * 16)
+    ∷ cond present (sizeOctets (length octets) ++ octets) []
+
+-- the fields in order; each has the next part of the data, of its length
+unfoldable pub fieldsOctets : List ℕ → List ℕ → List ℕ → List ℕ
+fieldsOctets [] lengths octets = []
+fieldsOctets (kind ∷ types) [] octets = []
+fieldsOctets (kind ∷ types) (size ∷ lengths) octets = fieldOctets kind (take size octets) ++ fieldsOctets types lengths (drop size octets)
+
+-- ---- the packet
+-- "If present, a count of fields follows"; "A data packet with no field has the top bit clear"
+unfoldable pub packetOctets : Kind → ℕ → List ℕ → List ℕ → List ℕ → List ℕ
+packetOctets kind value types lengths octets =
+    let present = ltb 0 (length types) in
+    firstOctet (record { kind = kind; value = value; present = ltb 0 (length types) })
+    ∷ cond present (lengthOctets (length types) ++ fieldsOctets types lengths octets) []
+
+-- ---- the refusals, each over the whole packet
+-- the sum of what a measure gives for each element
+unfoldable pub total : (ℕ → ℕ) → List ℕ → ℕ
+total measure [] = 0
+total measure (x ∷ s) = measure x + total measure s
+
+abbrev pub sum : List ℕ → ℕ
+sum s = total (λ x. x) s
+
+-- 15: "given lengths that don't sum to the data, or not one for each field type"
+unfoldable pub oneEach : List ℕ → List ℕ → List ℕ → Bool
+oneEach types lengths octets = eqb (length types) (length lengths) && eqb (sum lengths) (length octets)
+
+-- 12: value not assigned; "a type over 7 is refusal 12"
+unfoldable pub allAssigned : Kind → ℕ → List ℕ → Bool
+allAssigned kind value types = ltb value (assigned kind) && every (λ t. leb t typesLimit) types
+
+-- each type has data or not, as it may
+unfoldable pub rightTypes : List ℕ → List ℕ → Bool
+rightTypes [] lengths = true
+rightTypes (kind ∷ types) [] = true
+rightTypes (kind ∷ types) (size ∷ lengths) = rightData kind (withData size) && rightTypes types lengths
+
+-- 14: "data where none may be, or none where it must"; an indicator with fields
+unfoldable pub allRight : Kind → List ℕ → List ℕ → Bool
+allRight kind types lengths = rightFields kind (ltb 0 (length types)) && rightTypes types lengths
+
+-- 4: "the data of each at most the packet limit", and the whole
+unfoldable pub inSizes : List ℕ → ℕ → Bool
+inSizes lengths size = every (λ n. leb n packetLimit) lengths && leb size packetLimit
+
+unfoldable pub packetToWrite : Kind → ℕ → List ℕ → List ℕ → List ℕ → Answer (List ℕ)
+packetToWrite kind value types lengths octets =
+    let packet = packetOctets kind value types lengths octets in
+    cond (ltb fieldsLimit (length types)) (refuse outsideSizes)
+    (cond (not (oneEach types lengths octets)) (refuse wrongSettings)
+    (cond (not (allAssigned kind value types)) (refuse notAssigned)
+    (cond (not (allRight kind types lengths)) (refuse wrongData)
+    (cond (not (inSizes lengths (length packet))) (refuse outsideSizes)
+    (done packet)))))

@@ -1,0 +1,41 @@
+// Document 01, 'The packet': what a packet may hold, to the reader and the writer alike.
+use crate::types::Kind;
+ghost use mathlib.Core.Path.{_≡_};
+ghost use Rattle.packets.specs.Packet as packet;
+ghost use Rattle.packets.specs.Packet.{rightFields, rightData};
+
+// How many values of a kind are assigned.
+pub fn assigned(kind: Kind) -> u8
+    ensures { λ r. ⌜ r ≡ packet.assigned kind ⌝ }
+{
+    match kind {
+        Kind::Indicator => 16,
+        Kind::Data => 9,
+    }
+}
+
+// Whether a packet of this kind may be so, with or without a data field.
+pub fn right_fields(kind: Kind, present: bool) -> bool
+    ensures { λ r. ⌜ r ≡ rightFields kind present ⌝ }
+{
+    match kind {
+        Kind::Indicator => !present,
+        Kind::Data => true,
+    }
+}
+
+// Whether a field of this type may be so, with or without data.
+pub fn right_data(kind: u8, present: bool) -> bool
+    ensures { λ r. ⌜ r ≡ rightData kind present ⌝ }
+{
+    if kind == 0 {
+        return present;
+    }
+    if kind < 6 {
+        return !present;
+    }
+    if kind == 6 {
+        return present;
+    }
+    true
+}

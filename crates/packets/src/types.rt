@@ -1,0 +1,54 @@
+// Document 01, 'The packet': what a packet is to those who read and write it.
+use lengths::Refusal;
+ghost use mathlib.Core.Path.{_≡_};
+ghost use Rattle.packets.specs.Packet.{fieldsLimit, typesLimit};
+
+// A packet is an indicator or data.
+pub enum Kind {
+    Indicator,
+    Data,
+}
+
+// How a packet came: received or as a spare it is whole, and ends at its last field; repaired it may go on with zeros.
+pub enum Ending {
+    Whole,
+    Repaired,
+}
+
+// A field of a packet: its type, 0 to 7, and its data as a part of the packet. Without data its size is 0, and so is start.
+pub struct Field {
+    pub kind: u8,
+    pub start: usize,
+    pub size: usize,
+}
+
+impl Field {
+    pub const LIMIT: usize = 16;
+
+    // The highest field type.
+    pub const TYPES: u8 = 7;
+
+    pub fn limit() -> usize
+        ensures { λ r. ⌜ r ≡ fieldsLimit ⌝ }
+    {
+        Field::LIMIT
+    }
+
+    pub fn types_limit() -> u8
+        ensures { λ r. ⌜ r ≡ typesLimit ⌝ }
+    {
+        Field::TYPES
+    }
+}
+
+// What reading a packet finds: its kind, its value and how many fields it has, or why it is refused.
+pub enum Reading {
+    Packet { kind: Kind, value: u8, count: usize },
+    Refused(Refusal),
+}
+
+// The answer of `read`: the first `count` places of `fields` are the packet's; all others are zero.
+pub struct PacketRead {
+    pub reading: Reading,
+    pub fields: [Field; Field::LIMIT],
+}
