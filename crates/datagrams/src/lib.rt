@@ -7,9 +7,11 @@ mod writer;
 
 pub use kind::Kind;
 pub use put::item_size;
+pub use put::kind_size;
 pub use put::length_size;
 pub use put::put_head;
 pub use put::put_item;
+pub use put::put_kind;
 pub use put::put_parity;
 pub use put::put_spares;
 pub use reader::DatagramRead;

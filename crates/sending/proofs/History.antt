@@ -1,0 +1,66 @@
+-- Laws of the history as it is held: what stands at a place, and that a packet's octets are those of its slot.
+-- Assumes nothing.
+use Prim.Native.Nat.{ℕ, zero, suc, _+_, _-_, _*_, _%_, _≤_, _<_}
+use mathlib.Core.Path.{_≡_, refl, sym, ap, _∙_}
+use mathlib.Core.Logic.{⊎-elim}
+use mathlib.Core.Bool.{true, _||_}
+use mathlib.Core.List.{List, [], _∷_, _++_, map}
+use lib.ListN.{length, getD, List·getD-eq-default}
+use lib.Dec.{ltb, eqb}
+use native.Mathlib.Omega.{arith}
+use borrow.Author.Tests.{le-ltb, eqb-true}
+use Rattle.octets.specs.Place.{tab}
+use Rattle.octets.proofs.Place.{length-tab, tab-at, tab-ext, allBelow-at}
+use Rattle.octets.proofs.Cases.{below-or-not}
+use Rattle.datagrams.specs.Sizes.{packetLimit}
+use Rattle.stores.specs.Store.{part, zerosPast}
+use Rattle.stores.proofs.Laws.{length-part, part-at}
+use Rattle.views.specs.View.{numbers}
+use Rattle.sending.specs.Sending.{historyKept}
+use Rattle.sending.specs.Send.{packetOf}
+use Rattle.sending.specs.Sender.{slotAt, sizeIn, packetIn, historyIn}
+use Rattle.sending.specs.Held.{Stored}
+use Rattle.sending.proofs.Slots.{has-slot, slot-small, slot-number}
+
+pub length-history : (sent : ℕ) (sizes o : List ℕ) → length (historyIn sent sizes o) ≡ historyKept
+unfolding historyIn
+length-history sent sizes o = length-tab historyKept (λ p. packetIn sizes o (slotAt sent p))
+
+-- what stands at a place
+pub history-at : (sent : ℕ) (sizes o : List ℕ) (p : ℕ) → p < historyKept
+    → packetOf (historyIn sent sizes o) p ≡ packetIn sizes o (slotAt sent p)
+unfolding historyIn
+history-at sent sizes o p small = tab-at historyKept (λ q. packetIn sizes o (slotAt sent q)) p [] small
+
+-- numbers go modulo 65,536, slots modulo 32
+pub history-number : (sent : ℕ) (sizes o : List ℕ) → historyIn (sent % numbers) sizes o ≡ historyIn sent sizes o
+unfolding historyIn
+history-number sent sizes o =
+    tab-ext historyKept (λ p. packetIn sizes o (slotAt (sent % numbers) p)) (λ p. packetIn sizes o (slotAt sent p))
+    (λ p small. ap (packetIn sizes o) (slot-number sent p))
+
+module _ {sizes o : List ℕ} (stored : Stored sizes o) (i : ℕ) (small : i < historyKept) where
+  pub length-packet : length (packetIn sizes o i) ≡ sizeIn sizes i
+  length-packet = length-part o i (sizeIn sizes i) (has-slot o i (stored .octets) small) (stored .lengths .small i small)
+
+  -- past its length a slot has zeros, as a packet is read past its end
+  pub packet-octet : (k : ℕ) → k < packetLimit → getD (packetIn sizes o i) k 0 ≡ getD o (i * packetLimit + k) 0
+  unfolding zerosPast
+  packet-octet k low =
+      ⊎-elim (λ inside. part-at o i (sizeIn sizes i) k inside)
+      (λ past.
+      List·getD-eq-default (packetIn sizes o i) 0 {n = k} (rw length-packet past)
+      ∙ sym (eqb-true (getD o (i * packetLimit + k) 0) 0
+      (rw (le-ltb k (sizeIn sizes i) past) at
+      (allBelow-at packetLimit (λ j. ltb j (sizeIn sizes i) || eqb (getD o (i * packetLimit + j) 0) 0) (stored .clean i small) k low))))
+      (below-or-not k (sizeIn sizes i))
+
+-- no packet is over the limit; outside the history there is none
+pub packet-short : {sizes o : List ℕ} → Stored sizes o → (sent p : ℕ) → length (packetOf (historyIn sent sizes o) p) ≤ packetLimit
+packet-short {sizes} {o} stored sent p =
+    ⊎-elim (λ inside.
+    rw (history-at sent sizes o p inside, length-packet stored (slotAt sent p) (slot-small sent p))
+    (stored .lengths .small (slotAt sent p) (slot-small sent p)))
+    (λ past.
+    rw (List·getD-eq-default (historyIn sent sizes o) [] {n = p} (rw (length-history sent sizes o) past)) (omega arith))
+    (below-or-not p historyKept)

@@ -1,0 +1,181 @@
+-- The ranges slot by slot, and a packet that has joined: the history has gone on by one, and the ranges stay. Assumes nothing.
+use Prim.Native.Nat.{ℕ, zero, suc, _+_, _-_, _*_, _%_, _≤_, _<_}
+use mathlib.Core.Path.{_≡_, refl, sym, ap, ap₂, _∙_}
+use mathlib.Core.Logic.{⊎-elim}
+use mathlib.Core.Bool.{Bool, true, _&&_}
+use mathlib.Core.List.{List, [], _∷_, _++_}
+use lib.ListN.{length, getD, set, drop, length-set}
+use lib.Seq.{getD-set-same, getD-set-other}
+use lib.Dec.{leb}
+use native.Mathlib.Numerals.{add-one}
+use native.Mathlib.Omega.{arith}
+use borrow.Author.Tests.{le-leb, le-ltb}
+use Rattle.octets.specs.Place.{tab, allBelow}
+use Rattle.octets.proofs.Place.{tab-ext, allBelow-at, allBelow-of}
+use Rattle.octets.proofs.Cases.{same-or-not, and-left, and-right, and-both}
+use Rattle.datagrams.specs.Sizes.{packetLeast, packetLimit}
+use Rattle.stores.specs.Store.{part, pasted, zeros, zerosPast, HasSlot}
+use Rattle.stores.proofs.Laws.{length-zeros, length-pasted, length-cleared, part-pasted, part-pasted-other, zerosPast-pasted, zerosPast-other, zerosPast-cleared}
+use Rattle.views.specs.View.{numbers, sessionLimit}
+use Rattle.sending.specs.Sending.{historyKept}
+use Rattle.sending.specs.Send.{packetInside}
+use Rattle.sending.specs.Sender.{slotAt, sizeIn, packetIn, historyIn}
+use Rattle.sending.specs.Ranges.{sizeInRange, placeInRange, inRanges}
+use Rattle.sending.specs.Held.{Arrays, Within, Stored, sizesKept, octetsKept, Keeps}
+use Rattle.sending.proofs.Slots.{slot-small, slot-apart, slot-number, placeOf, place-slot, place-small, has-slot}
+use Rattle.sending.proofs.RangeSteps.{size-limit}
+use Rattle.sending.proofs.NextSteps.{packet-fits}
+use Rattle.sending.proofs.Tabs.{tab-more}
+
+-- ---- the ranges, place by place and slot by slot
+module _ {sent : ℕ} {sizes o : List ℕ} (within : Within sent sizes o) where
+  pub sent-limit : leb sent sessionLimit ≡ true
+  unfolding inRanges
+  sent-limit = and-left (leb sent sessionLimit) _ (within .ranges)
+
+  place-right : (p : ℕ) → p < historyKept → placeInRange sent sizes o p ≡ true
+  unfolding inRanges
+  place-right p small =
+      allBelow-at historyKept (placeInRange sent sizes o) (and-right (leb sent sessionLimit) _ (within .ranges)) p small
+
+  pub place-size : (p : ℕ) → p < historyKept → sizeInRange (sent + p) (sizeIn sizes (slotAt sent p)) ≡ true
+  unfolding placeInRange
+  place-size p small = and-left (sizeInRange (sent + p) (sizeIn sizes (slotAt sent p))) _ (place-right p small)
+
+  pub place-zeros : (p : ℕ) → p < historyKept → zerosPast o (slotAt sent p) (sizeIn sizes (slotAt sent p)) ≡ true
+  unfolding placeInRange
+  place-zeros p small = and-right (sizeInRange (sent + p) (sizeIn sizes (slotAt sent p))) _ (place-right p small)
+
+  pub stored-of : Stored sizes o
+  stored-of =
+      record {
+        lengths =
+            record {
+              slots = within .arrays .slots;
+              small = λ i low.
+                  rw (place-slot sent i low) at
+                  (size-limit (sent + placeOf sent i) (sizeIn sizes (slotAt sent (placeOf sent i)))
+                  (place-size (placeOf sent i) (place-small sent i)));
+            };
+        octets = within .arrays .octets;
+        clean = λ i low. rw (place-slot sent i low) at (place-zeros (placeOf sent i) (place-small sent i));
+      }
+
+-- ---- a packet joins
+-- the slot of the packet now sent
+abbrev slot : ℕ → ℕ
+slot sent = sent % numbers % historyKept
+
+-- the slot of the newest place
+slot-last : (sent : ℕ) → slotAt (sent + 1) 31 ≡ slot sent
+slot-last sent =
+    let zero-place : sent % numbers + 0 ≡ sent % numbers = omega arith in
+    let wrap : slotAt (sent + 1) 31 ≡ slotAt sent 0 = omega arith in
+    wrap ∙ sym (slot-number sent 0) ∙ ap (λ (k : ℕ). k % historyKept) zero-place
+
+slot-low : (sent : ℕ) → slot sent < historyKept
+slot-low sent = omega arith
+
+-- places go on by one
+slot-on : (sent p : ℕ) → slotAt (sent + 1) p ≡ slotAt sent (suc p)
+slot-on sent p = omega arith
+
+slot-other : (sent p : ℕ) → p < 31 → slotAt sent (suc p) ≡ slot sent → ⊥
+slot-other sent p low same =
+    let e : p ≡ 31 = slot-apart (sent + 1) p 31 (omega arith) (omega arith) (slot-on sent p ∙ same ∙ sym (slot-last sent)) in
+    omega arith
+
+-- the sizes and the store after it
+abbrev pub sizesOn : ℕ → List ℕ → List ℕ → List ℕ
+sizesOn sent packet sizes = sizesKept (sent % numbers) packet sizes
+
+abbrev pub octetsOn : ℕ → List ℕ → List ℕ → List ℕ
+octetsOn sent packet o = octetsKept (sent % numbers) packet o
+
+abbrev cleared : ℕ → List ℕ → List ℕ
+cleared sent o = pasted o (slot sent) (zeros packetLimit)
+
+zeros-fit : length (zeros packetLimit) ≤ packetLimit
+zeros-fit = omega (arith, length-zeros packetLimit)
+
+module _ {sent : ℕ} {sizes o : List ℕ} (within : Within sent sizes o) (packet : List ℕ) (inside : packetInside packet ≡ true) where
+  has : HasSlot (slot sent) o
+  has = has-slot o (slot sent) (within .arrays .octets) (slot-low sent)
+
+  has-cleared : HasSlot (slot sent) (cleared sent o)
+  has-cleared = rw (length-cleared o (slot sent) has) has
+
+  fits : length packet ≤ packetLimit
+  fits = packet-fits packet inside
+
+  pub arrays-kept : Arrays (sizesOn sent packet sizes) (octetsOn sent packet o)
+  arrays-kept =
+      record {
+        slots = length-set sizes (slot sent) (length packet) ∙ within .arrays .slots;
+        octets = length-pasted (cleared sent o) (slot sent) packet has-cleared fits ∙ length-cleared o (slot sent) has ∙ within .arrays .octets;
+      }
+
+  -- the newest
+  size-new : sizeIn (sizesOn sent packet sizes) (slot sent) ≡ length packet
+  size-new = getD-set-same sizes (slot sent) (length packet) 0 (let long = within .arrays .slots in let low = slot-low sent in omega arith)
+
+  packet-new : packetIn (sizesOn sent packet sizes) (octetsOn sent packet o) (slot sent) ≡ packet
+  packet-new = ap (part (octetsOn sent packet o) (slot sent)) size-new ∙ part-pasted (cleared sent o) (slot sent) packet has-cleared fits
+
+  zeros-new : zerosPast (octetsOn sent packet o) (slot sent) (length packet) ≡ true
+  zeros-new = zerosPast-pasted (cleared sent o) (slot sent) packet has-cleared fits (zerosPast-cleared o (slot sent) has 0)
+
+  -- the others
+  size-other : (i : ℕ) → (i ≡ slot sent → ⊥) → sizeIn (sizesOn sent packet sizes) i ≡ sizeIn sizes i
+  size-other i other = getD-set-other sizes (slot sent) i (length packet) 0 other
+
+  zeros-other : (i n : ℕ) → (i ≡ slot sent → ⊥) → zerosPast (octetsOn sent packet o) i n ≡ zerosPast o i n
+  zeros-other i n other =
+      zerosPast-other (cleared sent o) (slot sent) packet has-cleared fits i n other
+      ∙ zerosPast-other o (slot sent) (zeros packetLimit) has zeros-fit i n other
+
+  part-other : (i n : ℕ) → i < historyKept → n ≤ packetLimit → (i ≡ slot sent → ⊥) → part (octetsOn sent packet o) i n ≡ part o i n
+  part-other i n low small other =
+      let there : HasSlot i o = has-slot o i (within .arrays .octets) low in
+      part-pasted-other (cleared sent o) (slot sent) packet has-cleared fits i n (rw (length-cleared o (slot sent) has) there) small other
+      ∙ part-pasted-other o (slot sent) (zeros packetLimit) has zeros-fit i n there small other
+
+  packet-other : (p : ℕ) → p < 31 → packetIn (sizesOn sent packet sizes) (octetsOn sent packet o) (slotAt (sent + 1) p) ≡ packetIn sizes o (slotAt sent (suc p))
+  packet-other p low =
+      let i = slotAt sent (suc p) in
+      ap (packetIn (sizesOn sent packet sizes) (octetsOn sent packet o)) (slot-on sent p)
+      ∙ ap (part (octetsOn sent packet o) i) (size-other i (slot-other sent p low))
+      ∙ part-other i (sizeIn sizes i) (slot-small sent (suc p))
+      (size-limit (sent + suc p) (sizeIn sizes i) (place-size within (suc p) (omega arith)))
+      (slot-other sent p low)
+
+  -- ---- the history has gone on by one
+  pub history-kept : historyIn (sent + 1) (sizesOn sent packet sizes) (octetsOn sent packet o) ≡ drop 1 (historyIn sent sizes o) ++ (packet ∷ [])
+  unfolding historyIn tab
+  history-kept =
+      tab-more 31 (λ p. packetIn (sizesOn sent packet sizes) (octetsOn sent packet o) (slotAt (sent + 1) p))
+      ∙ ap₂ (λ (l : List (List ℕ)) (x : List ℕ). l ++ (x ∷ []))
+      (tab-ext 31 (λ p. packetIn (sizesOn sent packet sizes) (octetsOn sent packet o) (slotAt (sent + 1) p)) (λ p. packetIn sizes o (slotAt sent (suc p))) packet-other)
+      (ap (packetIn (sizesOn sent packet sizes) (octetsOn sent packet o)) (slot-last sent) ∙ packet-new)
+
+  -- ---- the ranges stay
+  right-new : placeInRange (sent + 1) (sizesOn sent packet sizes) (octetsOn sent packet o) 31 ≡ true
+  unfolding placeInRange sizeInRange
+  right-new =
+      rw (slot-last sent, size-new, le-ltb (sent + 1 + 31) historyKept (omega arith)) (and-both inside zeros-new)
+
+  right-other : (p : ℕ) → p < 31 → placeInRange (sent + 1) (sizesOn sent packet sizes) (octetsOn sent packet o) p ≡ true
+  unfolding placeInRange
+  right-other p low =
+      let i = slotAt sent (suc p) in
+      let same : sent + 1 + p ≡ sent + suc p = omega arith in
+      rw (slot-on sent p, size-other i (slot-other sent p low), zeros-other i (sizeIn sizes i) (slot-other sent p low), same)
+      (and-both (place-size within (suc p) (omega arith)) (place-zeros within (suc p) (omega arith)))
+
+  pub ranges-kept : sent < sessionLimit → inRanges (sent + 1) (sizesOn sent packet sizes) (octetsOn sent packet o) ≡ true
+  unfolding inRanges
+  ranges-kept free =
+      and-both (le-leb (sent + 1) sessionLimit (omega arith))
+      (allBelow-of historyKept (placeInRange (sent + 1) (sizesOn sent packet sizes) (octetsOn sent packet o))
+      (λ p small.
+      ⊎-elim (λ newest. rw newest right-new) (λ older. right-other p (omega arith)) (same-or-not p 31)))

@@ -1,0 +1,39 @@
+-- Laws of slots: places that are apart have slots that are apart, every slot is there, and a number has the slot that the
+-- count of packets sent has. Assumes nothing.
+use Prim.Native.Nat.{ℕ, _+_, _-_, _*_, _/_, _%_, _≤_, _<_}
+use mathlib.Core.Path.{_≡_, sym, ap, _∙_}
+use mathlib.Core.List.{List}
+use lib.ListN.{length}
+use native.Mathlib.Nat.{div-add-mod'}
+use native.Mathlib.Omega.{arith}
+use Rattle.datagrams.specs.Sizes.{packetLimit}
+use Rattle.stores.specs.Store.{HasSlot}
+use Rattle.views.specs.View.{numbers}
+use Rattle.sending.specs.Sending.{historyKept}
+use Rattle.sending.specs.Sender.{slotAt, historyOctets}
+
+pub slot-small : (sent p : ℕ) → slotAt sent p < historyKept
+slot-small sent p = omega arith
+
+pub slot-apart : (sent p q : ℕ) → p < historyKept → q < historyKept → slotAt sent p ≡ slotAt sent q → p ≡ q
+slot-apart sent p q small low same = omega arith
+
+-- the place of a slot
+abbrev pub placeOf : ℕ → ℕ → ℕ
+placeOf sent i = (i + (historyKept - sent % historyKept)) % historyKept
+
+pub place-slot : (sent i : ℕ) → i < historyKept → slotAt sent (placeOf sent i) ≡ i
+place-slot sent i small =
+    let whole = div-add-mod' sent historyKept in
+    let low : sent % historyKept < historyKept = omega arith in
+    omega arith
+
+pub place-small : (sent i : ℕ) → placeOf sent i < historyKept
+place-small sent i = omega arith
+
+pub has-slot : (o : List ℕ) (i : ℕ) → length o ≡ historyOctets → i < historyKept → HasSlot i o
+has-slot o i long small = omega arith
+
+-- the number goes modulo 65,536, the slot modulo 32
+pub slot-number : (sent p : ℕ) → slotAt (sent % numbers) p ≡ slotAt sent p
+slot-number sent p = let whole = div-add-mod' sent numbers in omega arith

@@ -1,0 +1,79 @@
+use Rattle.sending.proofs.SendSteps.{packet-kept, keepings}
+use borrow.Author.Needs.{needs}
+use Rattle.sending.proofs.inner.send_held.Statement.{statement}
+use Rattle.sending.proofs.inner.send_held.Tie as tie
+use Rattle.sending.proofs.inner.send_held.Reads as reads
+use Rattle.sending.proofs.inner.send_held.Lts as lts
+use Rattle.sending.proofs.held.keep.Reads as keep-reads
+use Rattle.sending.proofs.inner.number_of.Reads as number-of-reads
+use Rattle.sending.proofs.inner.write_held.Reads as write-held-reads
+
+-- src/inner.rt:100:9
+write-held-requires : tie.Need-write-held-requires
+write-held-requires c κs = search needs
+
+-- src/inner.rt:102:25
+enum-known-answer : tie.Need-enum-known-answer
+enum-known-answer c = search needs
+
+-- src/inner.rt:103:18
+number-of-requires : tie.Need-number-of-requires
+number-of-requires c κs = search needs
+
+-- src/inner.rt:103:13
+keep-requires : tie.Need-keep-requires
+keep-requires c κs = (search needs, search packet-kept)
+
+-- src/inner.rt:106:26
+enum-known-answer-2 : tie.Need-enum-known-answer-2
+enum-known-answer-2 c = search needs
+
+-- src/inner.rt:96:1
+same-length : tie.Need-same-length
+same-length c = search needs
+
+-- src/inner.rt:96:1
+same-length-2 : tie.Need-same-length-2
+same-length-2 c = search needs
+
+-- src/inner.rt:96:1
+same-length-3 : tie.Need-same-length-3
+same-length-3 c = search needs
+
+-- src/inner.rt:96:1
+returns : tie.Need-returns
+returns c = search keepings
+
+-- src/inner.rt:96:1
+same-length-4 : tie.Need-same-length-4
+same-length-4 c = search needs
+
+-- src/inner.rt:96:1
+same-length-5 : tie.Need-same-length-5
+same-length-5 c = search needs
+
+-- src/inner.rt:96:1
+same-length-6 : tie.Need-same-length-6
+same-length-6 c = search needs
+
+-- src/inner.rt:96:1
+returns-2 : tie.Need-returns-2
+returns-2 c = search keepings
+
+pub send-held-spec : {M : Type 1} → statement M
+send-held-spec =
+    tie.close
+    (tie.spec
+    write-held-requires
+    enum-known-answer
+    number-of-requires
+    keep-requires
+    enum-known-answer-2
+    same-length
+    same-length-2
+    same-length-3
+    returns
+    same-length-4
+    same-length-5
+    same-length-6
+    returns-2)

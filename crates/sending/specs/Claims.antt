@@ -1,0 +1,72 @@
+-- The claims of this crate: statements alone. Definitions only.
+use Prim.Native.Nat.{ℕ, _%_}
+use mathlib.Core.Path.{_≡_}
+use mathlib.Core.Bool.{Bool}
+use mathlib.Core.List.{List, [], _∷_, map, flatten}
+use lib.ListN.{length, take}
+use Rattle.lengths.specs.Answers.{done}
+use Rattle.lengths.specs.declared.Written.the-variants as written
+use Rattle.datagrams.specs.Write.{datagramToWrite}
+use Rattle.datagrams.specs.Claims.{ReadsAs}
+use Rattle.views.specs.View.{numbers}
+use Rattle.sending.specs.Sending.{freshSending}
+use Rattle.sending.specs.Send.{carriedNext, datagramToSend}
+use Rattle.sending.specs.Sender.{sendingOf}
+use Rattle.sending.specs.Held.{Arrays}
+use Rattle.sending.specs.Next.{kindOf, itemsNext}
+use Rattle.sending.specs.Promise.{Proper, FreshMade, RangesTold, Sends}
+use Rattle.sending.specs.Honest.{HonestSender}
+use Rattle.sending.specs.Run.{Run}
+use Rattle.sending.specs.declared.Sender.{Sender}
+use Rattle.sending.specs.declared.Sent.{Sent}
+use Rattle.sending.specs.declared.Settings.{Settings}
+use Rattle.sending.specs.declared.Settings.the-variants as settings
+
+-- ---- what is written
+
+-- of a session whose arrays have their lengths, as every one has that the code holds
+pub record WrittenRight : Type 0 where
+  -- what a send leaves at the front of the buffer is what the datagram writer writes for that number, packet, and spares or
+  -- messages
+  pub writer : {s : Sender} {settings : Settings} {packet old new : List ℕ} {r : Sent} {n : ℕ} → Arrays (s .sizes) (s .octets)
+      → Sends s settings packet old new r → r .answer ≡ written.Octets n
+      → datagramToWrite (s .sent % numbers) packet (kindOf settings) (map length (itemsNext settings (sendingOf s)))
+      (flatten (itemsNext settings (sendingOf s)))
+      ≡ done (take n new)
+  -- and it reads back as a datagram that carries them
+  pub reads : {s : Sender} {settings : Settings} {packet old new : List ℕ} {r : Sent} {n : ℕ} → Arrays (s .sizes) (s .octets)
+      → Sends s settings packet old new r → r .answer ≡ written.Octets n → ReadsAs (take n new) (carriedNext settings packet (sendingOf s))
+
+-- ---- chains of sends from a fresh session, with settings free at each
+
+pub record Chains : Type 0 where
+  -- such a chain is an honest sender
+  pub honest : {s : Sender} {row datagrams : List (List ℕ)} → Run s row datagrams → HonestSender row datagrams
+  -- its session has sent as many as were accepted, and is within its ranges
+  pub counted : {s : Sender} {row datagrams : List (List ℕ)} → Run s row datagrams → s .sent ≡ length row
+  pub proper : {s : Sender} {row datagrams : List (List ℕ)} → Run s row datagrams → Proper s
+
+-- ---- one outcome
+
+-- two outcomes that a promise allows are equal
+pub record OneOutcome : Type 0 where
+  -- within the ranges the abstraction loses nothing
+  pub faithful : {s t : Sender} → Proper s → Proper t → sendingOf s ≡ sendingOf t → s ≡ t
+  pub fresh : {s t : Sender} → FreshMade s → FreshMade t → s ≡ t
+  pub ranges : {s : Sender} {r q : Bool} → RangesTold s r → RangesTold s q → r ≡ q
+  pub sent : {s : Sender} {settings : Settings} {packet old new other : List ℕ} {r q : Sent} → Sends s settings packet old new r
+      → Sends s settings packet old other q → (r ≡ q) × (new ≡ other)
+
+-- ---- cases in which another reading of document 01 was possible
+pub record Cases : Type 0 where
+  -- a first send with n 8, m 4: messages over nothing but numbers before the first have length 0
+  pub first-parity : datagramToSend (settings.Parity 8 4) (0x06 ∷ []) freshSending
+      ≡ done (0x00 ∷ 0x00 ∷ 0x01 ∷ 0x06 ∷ 0x80 ∷ 0x01 ∷ 0x08 ∷ 0x04 ∷ 0x00 ∷ 0x00 ∷ 0x00 ∷ 0x00 ∷ [])
+  -- a first send with k 8: no spares
+  pub first-spares : datagramToSend (settings.Spares 8) (0x06 ∷ []) freshSending ≡ done (0x00 ∷ 0x00 ∷ 0x01 ∷ 0x06 ∷ 0x00 ∷ 0x00 ∷ [])
+
+pub record Claims : Type 0 where
+  pub writtenRight : WrittenRight
+  pub chains : Chains
+  pub oneOutcome : OneOutcome
+  pub cases : Cases

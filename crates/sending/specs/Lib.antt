@@ -1,0 +1,13 @@
+pub mod Sending
+pub mod Carries
+pub mod Send
+pub mod Sender
+pub mod Ranges
+pub mod Held
+pub mod Items
+pub mod Next
+pub mod Promise
+pub mod Inner
+pub mod Honest
+pub mod Run
+pub mod Claims

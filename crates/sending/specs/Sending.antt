@@ -1,0 +1,22 @@
+-- Document 01, 'The sending session': "Holds its moves so far and the last 32 packets." Definitions only.
+use Prim.Native.Nat.{ℕ, _+_}
+use mathlib.Core.List.{List, [], _∷_, _++_}
+use lib.ListN.{drop, replicate}
+
+-- "the last 32 packets"
+abbrev pub historyKept : ℕ
+historyKept = 32
+
+-- the session: at place p of the history stands the packet of number sent − historyKept + p, empty for a number before the
+-- first. The packet that is sent next stands at place historyKept.
+pub record Sending : Type 0 where
+  pub sent : ℕ
+  pub history : List (List ℕ)
+
+-- nothing sent: "number 0 first and empty before it"
+unfoldable pub freshSending : Sending
+freshSending = record { sent = 0; history = replicate historyKept [] }
+
+-- a packet was sent: it joins the history, and the oldest leaves
+unfoldable pub sentOn : List ℕ → Sending → Sending
+sentOn packet s = record { sent = s .sent + 1; history = drop 1 (s .history) ++ (packet ∷ []) }
