@@ -80,7 +80,7 @@ grown-set cells p cell u fills =
           inr (
             rw same u,
             subst (λ (c : Cell). Fills (c .state))
-            (sym (ap (cellAt (set cells p cell)) same ∙ getD-set-same cells p cell _ (unknown-inside cells p u))) fills,
+                (sym (ap (cellAt (set cells p cell)) same ∙ getD-set-same cells p cell _ (unknown-inside cells p u))) fills,
           ))
           (λ other. inl (getD-set-other cells p q cell _ other))
           (same-or-not q p);
