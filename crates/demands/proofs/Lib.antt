@@ -1,3 +1,9 @@
 pub mod OneOutcome
 pub mod Growing
 pub mod Shifted
+pub mod InRanges
+pub mod Steps
+pub mod Leaving
+pub mod Knowing
+pub mod Calling
+pub mod Demand2

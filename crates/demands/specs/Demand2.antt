@@ -1,8 +1,7 @@
 -- Demand 2: "What you write reads back to the same fields, and what you read as received writes back to the same octets. In a
 -- session fresh at its start, the known numbers are exactly those reached from arrived, spare and parity octets by 01's repair
 -- rule. Numbers leave in order, each place once, released or lost, and the counts match the history. One saved within its
--- ranges goes on from what it holds, each call as 01 says." Statements alone, which
--- proofs/ does not prove whole yet: docs/DECISIONS.md, 36. Definitions only.
+-- ranges goes on from what it holds, each call as 01 says." Statements alone. Definitions only.
 use Prim.Native.Nat.{ℕ, suc, _+_, _-_, _%_, _≤_, _<_}
 use mathlib.Core.Path.{_≡_}
 use mathlib.Core.Logic.{_↔_, _⊎_}

@@ -1,0 +1,214 @@
+-- The public calls follow the history: a session within its ranges that is seen as a view answers, and hands back, what the
+-- definitions make of that view. Assumes nothing.
+use Prim.Native.Nat.{ℕ, zero, suc, _+_, _%_, _≤_, _<_}
+use mathlib.Core.Path.{_≡_, refl, sym, ap, ap₂, subst, _∙_}
+use mathlib.Core.Bool.{Bool, true, false, cond, _&&_, false≢true}
+use mathlib.Core.List.{List, [], _∷_, _++_}
+use lib.ListN.{length, take, drop}
+use lib.Seq.{take-append-seam}
+use lib.Dec.{leb, ltb, eqb}
+use native.Mathlib.Omega.{arith}
+use borrow.Author.Tests.{eqb-true, le-ltb}
+use Rattle.octets.proofs.Cases.{and-left, and-right}
+use Rattle.octets.proofs.Place.{length-tab}
+use Rattle.lengths.specs.Refusals.{outsideRanges}
+use Rattle.lengths.specs.Answers.{Answer, done, refused, refuse, over}
+use Rattle.datagrams.specs.Sizes.{coveredLimit, messagesLimit}
+use Rattle.repair.specs.Cells as cells
+use Rattle.repair.specs.Cells.{Cell, cellAt, keptBefore, keptAhead, keptNumbers}
+use Rattle.repair.specs.Held.{Held, heldAt}
+use Rattle.views.specs.View.{View, sum, numbers, sessionLimit, freshView}
+use Rattle.views.specs.Offer as offers
+use Rattle.views.specs.Release as releases
+use Rattle.views.specs.Release.{Release, Loss}
+use Rattle.heads.specs.Head.{slotAt, heardSlotAt, stateOf, countsOf, keptIn, heardIn, cellIn, heldIn, cellsOf, heldOf, viewIn, viewOf}
+use Rattle.heads.specs.Ranges.{blankAt, sumInRange, stateInRange, sessionInRanges}
+use Rattle.heads.specs.Promise.{Sized, Fresh}
+use Rattle.heads.specs.Within.{Within}
+use Rattle.heads.specs.declared.State.{State}
+use Rattle.heads.specs.declared.State.the-variants.{Unknown, Received, Spare, Repaired, Blank}
+use Rattle.heads.specs.declared.Head.{Head}
+use Rattle.heads.specs.declared.Session.{Session}
+use Rattle.heads.proofs.Parts.{kept-right, heard-right, mark-range}
+use Rattle.heads.proofs.Seen.{length-cells, length-held, cell-at, held-at}
+use Rattle.ranges.proofs.Laws.{within-of, inRanges-of}
+use Rattle.releasing.specs.Outcome.{Handed, releasedOutcome, lostOutcome, handedOf, octetsOf, numberOf, afterNext, afterGiveUp}
+use Rattle.releasing.specs.declared.Released.{Released}
+use Rattle.releasing.specs.declared.Released.the-variants as answer
+use Rattle.releasing.specs.declared.Lost.{Lost}
+use Rattle.releasing.specs.declared.Lost.the-variants as loss
+use Rattle.receiving.specs.Promise.{afterOffer}
+use Rattle.sessions.specs.Receiver.{SeenAs, After, inRangesThen, offerOf, OfferOwes, nextOf, viewAfterNext, NextOwes, giveUpOf, viewAfterLoss, GiveUpOwes}
+use Rattle.sessions.specs.declared.receiver.AfterOffer.{AfterOffer}
+use Rattle.sessions.specs.declared.receiver.AfterNext.{AfterNext}
+use Rattle.sessions.specs.declared.receiver.AfterGiveUp.{AfterGiveUp}
+use Rattle.demands.specs.History.{Move, offer, next, giveUp, Left, released, lost, after, leaving, releasedBy, lostBy, run, history}
+use Rattle.demands.specs.Ranges.{ViewInRanges}
+use Rattle.demands.specs.Calls.{handedOut, givenUp, Called, none, offered, asked, gaveUp}
+use Rattle.demands.specs.Demand2.{CallsFollow}
+
+-- ---- a session within its ranges
+pub fresh-seen : (s : Session) → Fresh s → SeenAs freshView s
+fresh-seen s f = record { within = within-of (s .head) (s .octets) (s .messages) (f .ranges) (f .sized); view = f .view }
+
+saved-seen : (s : Session) → Sized (s .head) (s .octets) (s .messages) → sessionInRanges s ≡ true → SeenAs (viewOf s) s
+saved-seen s sized e = record { within = within-of (s .head) (s .octets) (s .messages) e sized; view = refl }
+
+pub seen-in-ranges : (view : View) (s : Session) → SeenAs view s → sessionInRanges s ≡ true
+seen-in-ranges view s seen = inRanges-of (seen .within)
+
+-- ---- and its view is within them
+-- no number from the base on is blank
+not-blank : (st : State) (size : ℕ) → stateInRange st size false ≡ true → stateOf st ≡ cells.blank → ⊥
+unfolding stateInRange
+not-blank Unknown size e is = let z : _≡_ {A = ℕ} 0 1 = cc in omega arith
+not-blank Received size e is = let z : _≡_ {A = ℕ} 0 1 = cc in omega arith
+not-blank Spare size e is = let z : _≡_ {A = ℕ} 0 1 = cc in omega arith
+not-blank Repaired size e is = let z : _≡_ {A = ℕ} 0 1 = cc in omega arith
+not-blank Blank size e is = false≢true (and-right (eqb size 0) false e)
+
+module _ {h : Head} {o g : List ℕ} (w : Within h o g) where
+  base-is : h .base ≡ sum (countsOf (h .counts)) % numbers
+  unfolding sumInRange
+  base-is =
+      eqb-true (h .base) (sum (countsOf (h .counts)) % numbers)
+      (and-left (eqb (h .base) (sum (countsOf (h .counts)) % numbers)) (leb (sum (countsOf (h .counts))) sessionLimit) (w .total))
+
+  no-blank : (p : ℕ) → keptBefore ≤ p → p < keptNumbers → (cellAt (cellsOf h o) p) .state ≡ cells.blank → ⊥
+  unfolding cellIn
+  no-blank p past small e =
+      let right = kept-right h o p (w .kept .each p small) .state in
+      not-blank _ _ (rw (le-ltb p keptBefore past) at right) (sym (ap (λ (c : Cell). c .state) (cell-at h o p small)) ∙ e)
+
+  settings : (d : ℕ) → d < keptAhead
+      → ((heldAt (heldOf h g) d) .n ≤ coveredLimit) × (length ((heldAt (heldOf h g) d) .messages) ≤ messagesLimit)
+  unfolding heldIn
+  settings d small =
+      let range = mark-range _ _ _ _ (heard-right h g d (w .heard .each d small) .mark) in
+      rw (held-at h g d small) (range .0, rw (length-tab ((heardIn h (heardSlotAt (h .base) d)) .m) _) (range .1))
+
+  pub within-view : ViewInRanges (viewIn h o g)
+  unfolding viewIn
+  within-view =
+      record {
+        kept = length-cells h o;
+        heard = length-held h g;
+        base = base-is;
+        noBlank = no-blank;
+        covered = λ d small. settings d small .0;
+        messages = λ d small. settings d small .1;
+      }
+
+pub seen-ranges : (view : View) (s : Session) → SeenAs view s → ViewInRanges view
+seen-ranges view s seen = subst ViewInRanges (seen .view) (within-view (seen .within))
+
+-- ---- what a call comes to
+in-ranges-then : {A : Type 0} (call : View → Answer A) {view : View} {s : Session} → SeenAs view s → inRangesThen call s ≡ call view
+in-ranges-then call {view} {s} seen =
+    ap (λ (b : Bool). cond b (call (viewOf s)) (refuse outsideRanges)) (seen-in-ranges view s seen) ∙ ap call (seen .view)
+
+module _ {view : View} {s : Session} (seen : SeenAs view s) where
+  pub offer-is : (octets : List ℕ) → offerOf octets s ≡ offers.offer octets view
+  unfolding offerOf
+  offer-is octets = in-ranges-then (offers.offer octets) seen
+
+  pub next-is : (room : ℕ) → nextOf room s ≡ releases.next room view
+  unfolding nextOf
+  next-is room = in-ranges-then (releases.next room) seen
+
+  pub give-up-is : giveUpOf s ≡ releases.giveUp view
+  unfolding giveUpOf
+  give-up-is = in-ranges-then releases.giveUp seen
+
+  -- the session after it
+  after-offer : (a : Answer View) (t : Session) → After a s t → SeenAs (afterOffer a view) t
+  after-offer (done v) t state = state
+  after-offer (refused why) t state = subst (SeenAs view) (sym state) seen
+
+  after-next : (a : Answer Release) (t : Session) → After (viewAfterNext a) s t → SeenAs (afterNext a view) t
+  after-next (done v) t state = state
+  after-next (refused why) t state = subst (SeenAs view) (sym state) seen
+
+  after-give-up : (a : Answer Loss) (t : Session) → After (viewAfterLoss a) s t → SeenAs (afterGiveUp a view) t
+  after-give-up (done v) t state = state
+  after-give-up (refused why) t state = subst (SeenAs view) (sym state) seen
+
+  pub offered-seen : {octets : List ℕ} {r : AfterOffer} → OfferOwes s octets r → SeenAs (after (offer octets) view) (r .session)
+  unfolding after
+  offered-seen {octets} {r} owes =
+      after-offer (offers.offer octets view) (r .session)
+      (subst (λ (a : Answer View). After a s (r .session)) (offer-is octets) (owes .state))
+
+  pub asked-seen : {old new : List ℕ} {r : AfterNext} → NextOwes s old new r → SeenAs (after (next (length old)) view) (r .session)
+  unfolding after
+  asked-seen {old} {new} {r} owes =
+      after-next (releases.next (length old) view) (r .session)
+      (subst (λ (a : Answer Release). After (viewAfterNext a) s (r .session)) (next-is (length old)) (owes .state))
+
+  pub gave-up-seen : {r : AfterGiveUp} → GiveUpOwes s r → SeenAs (after giveUp view) (r .session)
+  unfolding after
+  gave-up-seen {r} owes =
+      after-give-up (releases.giveUp view) (r .session)
+      (subst (λ (a : Answer Loss). After (viewAfterLoss a) s (r .session)) give-up-is (owes .state))
+
+-- ---- what the answers hand out
+handed-out : (a : Answer Release) (r : Released) (old : List ℕ) → releasedOutcome r ≡ handedOf a
+    → handedOut r (over (octetsOf a) old) ≡ releasedBy a
+handed-out (done a) (answer.Packet kind number size) old e =
+    let same : _≡_ {A = Handed} (record { kind = stateOf kind; number = number; size = size })
+    (record { kind = a .kind; number = a .number; size = length (a .octets) }) = cc in
+    let word = ap (λ (x : Handed). x .kind) same in
+    let place = ap (λ (x : Handed). x .number) same in
+    let long = ap (λ (x : Handed). x .size) same in
+    rw (word, place, long, take-append-seam (a .octets) (drop (length (a .octets)) old))
+handed-out (done a) (answer.Refused why) old e = let z : _≡_ {A = ℕ} 0 1 = cc in absurd (omega arith)
+handed-out (refused x) (answer.Packet kind number size) old e = let z : _≡_ {A = ℕ} 0 1 = cc in absurd (omega arith)
+handed-out (refused x) (answer.Refused why) old e = refl
+
+given-up : (a : Answer Loss) (r : Lost) → lostOutcome r ≡ numberOf a → givenUp r ≡ lostBy a
+given-up (done a) (loss.Number number) e = let same : number ≡ a .number = cc in rw same
+given-up (done a) (loss.Refused why) e = let z : _≡_ {A = ℕ} 0 1 = cc in absurd (omega arith)
+given-up (refused x) (loss.Number number) e = let z : _≡_ {A = ℕ} 0 1 = cc in absurd (omega arith)
+given-up (refused x) (loss.Refused why) e = refl
+
+module _ {view : View} {s : Session} (seen : SeenAs view s) where
+  asked-left : {old new : List ℕ} {r : AfterNext} → NextOwes s old new r → handedOut (r .answer) new ≡ leaving (next (length old)) view
+  unfolding leaving
+  asked-left {old} {new} {r} owes =
+      ap (handedOut (r .answer)) (owes .lent)
+      ∙ handed-out (nextOf (length old) s) (r .answer) old (owes .answer)
+      ∙ ap releasedBy (next-is seen (length old))
+
+  gave-up-left : {r : AfterGiveUp} → GiveUpOwes s r → givenUp (r .answer) ≡ leaving giveUp view
+  unfolding leaving
+  gave-up-left {r} owes = given-up (giveUpOf s) (r .answer) (owes .answer) ∙ ap lostBy (give-up-is seen)
+
+-- ---- chains
+pub called-seen : {s t : Session} {moves : List Move} {left : List Left} (view : View) → SeenAs view s → Called s moves left t
+    → SeenAs (run moves view) t
+unfolding run
+called-seen view seen none = seen
+called-seen view seen (offered owes rest) = called-seen _ (offered-seen seen owes) rest
+called-seen view seen (asked owes rest) = called-seen _ (asked-seen seen owes) rest
+called-seen view seen (gaveUp owes rest) = called-seen _ (gave-up-seen seen owes) rest
+
+pub called-left : {s t : Session} {moves : List Move} {left : List Left} (view : View) → SeenAs view s → Called s moves left t
+    → left ≡ history moves view
+unfolding history leaving
+called-left view seen none = refl
+called-left view seen (offered owes rest) = called-left _ (offered-seen seen owes) rest
+called-left view seen (asked owes rest) =
+    ap₂ (λ (a b : List Left). a ++ b) (asked-left seen owes) (called-left _ (asked-seen seen owes) rest)
+called-left view seen (gaveUp owes rest) =
+    ap₂ (λ (a b : List Left). a ++ b) (gave-up-left seen owes) (called-left _ (gave-up-seen seen owes) rest)
+
+pub calls-follow : CallsFollow
+calls-follow =
+    record {
+      fresh = fresh-seen;
+      saved = saved-seen;
+      inRanges = seen-ranges;
+      seen = called-seen;
+      handed = called-left;
+      never17 = seen-in-ranges;
+    }

@@ -1,0 +1,134 @@
+-- The known numbers, from the start on and call by call. Assumes nothing.
+use Prim.Native.Nat.{ℕ, zero, suc, _+_, _-_, _≤_, _<_}
+use mathlib.Core.Path.{_≡_, refl, sym, ap, subst, _∙_}
+use mathlib.Core.Logic.{_↔_, _⊎_, inl, inr, ⊎-elim}
+use mathlib.Core.Bool.{true, false, true≢false}
+use mathlib.Core.List.{List, []}
+use lib.ListN.{length, set}
+use native.Mathlib.Omega.{arith}
+use Rattle.octets.proofs.Cases.{below-or-not}
+use Rattle.lengths.specs.Answers.{done}
+use Rattle.datagrams.specs.Carried.{Extra, spares, parity, Carried}
+use Rattle.datagrams.specs.Read.{carriedBy}
+use Rattle.repair.specs.Cells.{Cell, received, cellAt, isUnknown, keptBefore, keptAhead, keptNumbers}
+use Rattle.repair.specs.Held.{heldMessages}
+use Rattle.repair.specs.Repair.{repair}
+use Rattle.repair.specs.Reached.{Known, Unknown, Reached, DistinctMembers}
+use Rattle.repair.proofs.Least.{known-reached, reached-known}
+use Rattle.views.specs.View.{View, Counts, distance, freshView, goneOn}
+use Rattle.views.specs.Offer as offers
+use Rattle.views.specs.Offer.{keep, keepExtra, heldOf, accept}
+use Rattle.demands.specs.Ranges.{ViewInRanges}
+use Rattle.demands.specs.Demand2.{sparesIn, Brings, packet, copy, kept, Accepted, KnownNumbers}
+use Rattle.demands.proofs.Growing.{asReceived, grown-keep, grown-extra, known-grown, known-kept, kept-known, known-spares, spares-known}
+use Rattle.demands.proofs.Shifted.{cell-last, unknown-on}
+use Rattle.demands.proofs.InRanges.{fresh-before, fresh-ahead, filled, read-held, accept-in-ranges, distinct-held}
+use Rattle.demands.proofs.Steps.{OfferDone, offer-done}
+
+-- ---- with its packet and spares: what was known, and what the datagram brings
+module _ (datagram : Carried) (d : ℕ) (view : View) (long : length (view .cells) ≡ keptNumbers) (low : d < keptAhead) where
+  abbrev arrived : List Cell
+  arrived = keep received (keptBefore + d) (datagram .packet) (view .cells)
+
+  arrived-long : length arrived ≡ keptNumbers
+  arrived-long = grown-keep (keptBefore + d) (datagram .packet) (view .cells) asReceived .long ∙ long
+
+  abbrev Extras : Extra → Type 0
+  Extras extra = (p : ℕ) → Known (keepExtra (keptBefore + d) extra arrived) p
+      ↔ (Known arrived p ⊎ ((j : ℕ) × (j < sparesIn extra) × (p ≡ keptBefore + d - suc j)))
+
+  extras : (extra : Extra) → Extras extra
+  extras (spares copies) p = (
+    spares-known (keptBefore + d) copies arrived p,
+    ⊎-elim (known-grown (grown-extra (keptBefore + d) (spares copies) arrived) p)
+        (λ t.
+        rw (t .2)
+        (known-spares (keptBefore + d) copies arrived (let long = arrived-long in omega arith) (let long = arrived-long in omega arith) (t .0)
+        (t .1))),
+  )
+  extras (parity n messages) p = (λ k. inl k, ⊎-elim (λ k. k) (λ t. absurd (let none = t .1 in omega arith)))
+
+  pub brought : (p : ℕ) → Known (kept datagram d view) p ↔ (Known (view .cells) p ⊎ Brings datagram d p)
+  brought p = (
+    λ k.
+        ⊎-elim
+        (λ first.
+        ⊎-elim inl (λ same. inr (subst (Brings datagram d) (sym same) packet))
+        (kept-known received (keptBefore + d) (datagram .packet) (view .cells) p first))
+        (λ t. inr (subst (Brings datagram d) (sym (t .2)) (copy (t .0) (t .1))))
+        (extras (datagram .extra) p .0 k),
+    ⊎-elim
+        (λ k. extras (datagram .extra) p .1 (inl (known-grown (grown-keep (keptBefore + d) (datagram .packet) (view .cells) asReceived) p k)))
+        (brings p),
+  )
+    where
+      brings : (q : ℕ) → Brings datagram d q → Known (kept datagram d view) q
+      brings q packet =
+          extras (datagram .extra) (keptBefore + d) .1
+          (inl (known-kept (keptBefore + d) (datagram .packet) (view .cells) (rw long (omega arith)) asReceived))
+      brings q (copy j few) = extras (datagram .extra) (keptBefore + d - suc j) .1 (inr (j, few, refl))
+
+-- ---- an accepted offer
+accept-held : (d : ℕ) (datagram : Carried) (view : View)
+    → (accept d datagram view) .held ≡ set (view .held) d (heldOf (datagram .extra))
+unfolding accept
+accept-held d datagram view = refl
+
+accept-cells : (d : ℕ) (datagram : Carried) (view : View)
+    → (accept d datagram view) .cells ≡ repair (filled d datagram view) (heldMessages ((accept d datagram view) .held))
+unfolding accept
+accept-cells d datagram view = refl
+
+-- known after it: what the messages then held reach
+pub accept-known : (d : ℕ) (datagram : Carried) (view : View) → DistinctMembers (heldMessages ((accept d datagram view) .held)) → (p : ℕ)
+    → Known ((accept d datagram view) .cells) p
+    ↔ Reached (filled d datagram view) (heldMessages ((accept d datagram view) .held)) p
+accept-known d datagram view distinct p = (
+  λ k. known-reached (filled d datagram view) (heldMessages ((accept d datagram view) .held)) p (rw (accept-cells d datagram view) at k),
+  λ t.
+      rw (accept-cells d datagram view)
+      (reached-known (filled d datagram view) (heldMessages ((accept d datagram view) .held)) distinct p t),
+)
+
+pub accepted-offer : (view : View) → ViewInRanges view → (octets : List ℕ) (after : View) → offers.offer octets view ≡ done after
+    → Accepted octets view after
+accepted-offer view r octets after e =
+    let o = offer-done octets view after e in
+    let d = distance (view .base) (o .parts .number) in
+    let datagram = carriedBy octets (o .parts) in
+    let ranges = accept-in-ranges d datagram view r (o .near) (read-held octets (o .parts) (o .read)) in
+    subst (Accepted octets view) (o .is)
+    (record {
+      parts = o .parts;
+      read = o .read;
+      near = o .near;
+      held = accept-held d datagram view;
+      brought = λ p small. brought datagram d view (r .kept) (o .near) p;
+      known = accept-known d datagram view (distinct-held (accept d datagram view) ranges);
+    })
+
+-- ---- from the start
+fresh-known : (p : ℕ) → p < keptNumbers → Known (freshView .cells) p ↔ (p < keptBefore)
+fresh-known p small = (
+  λ k.
+      ⊎-elim (λ low. low)
+      (λ past. absurd (true≢false (sym (ap (λ (c : Cell). isUnknown (c .state)) (fresh-ahead p past small)) ∙ k)))
+      (below-or-not p keptBefore),
+  λ low. ap (λ (c : Cell). isUnknown (c .state)) (fresh-before p low),
+)
+
+-- ---- a number leaves
+left-known : (view : View) → ViewInRanges view → (counts : Counts) (p : ℕ) → p < keptNumbers
+    → Known ((goneOn counts view) .cells) p ↔ ((suc p < keptNumbers) × Known (view .cells) (suc p))
+left-known view r counts p small = (
+  λ k.
+      ⊎-elim (λ inside. (inside, sym (unknown-on counts view p (rw (r .kept) inside)) ∙ k))
+      (λ last.
+      absurd
+      (true≢false (sym (ap (λ (c : Cell). isUnknown (c .state)) (cell-last counts view p (omega (arith, r .kept)))) ∙ k)))
+      (below-or-not (suc p) keptNumbers),
+  λ t. unknown-on counts view p (rw (r .kept) (t .0)) ∙ t .1,
+)
+
+pub known-numbers : KnownNumbers
+known-numbers = record { fresh = fresh-known; offered = accepted-offer; left = left-known }
