@@ -4,7 +4,7 @@ use mathlib.Core.Path.{_≡_, refl, sym, ap, ap₂, _∙_}
 use mathlib.Core.Bool.{Bool, true, false, cond}
 use mathlib.Core.List.{List, [], _∷_, _++_, append-assoc, append-nil}
 use mathlib.Core.Logic.{⊎-elim}
-use lib.ListN.{length, take, drop, length-append}
+use lib.ListN.{length, take, drop, getD, length-append, length-take}
 use lib.Seq.{take-all, take-append-le, length-take-le}
 use lib.Dec.{leb, ltb, eqb}
 use native.Mathlib.Omega.{arith}
@@ -15,7 +15,7 @@ use Rattle.lengths.specs.Refusals.{tooLong}
 use Rattle.views.specs.View.{View, freshView}
 use Rattle.lines.specs.Hex.{lineLimit, lineOctets}
 use Rattle.lines.specs.Lines.{Made, _then_, lineFeed, lineOffered, offerLine, answerLine, step, lastLine, linesFrom, steps, program}
-use Rattle.lines.specs.Feed.{Going, atStart, lineDone, longer, takenIn, fed, atEnd}
+use Rattle.lines.specs.Feed.{Going, atStart, keptLimit, lineDone, longer, takenIn, fed, atEnd}
 
 -- ---- taken in block after block
 pub fed-append : (a b : List ℕ) (now : Going) → fed (a ++ b) now ≡ fed b (fed a now)
@@ -53,17 +53,62 @@ step-kept : (line kept : List ℕ) (view : View) → Keeps line kept → step ke
 step-kept line kept view (whole e) = ap (λ (l : List ℕ). step l view) e
 step-kept line kept view (cut long also) = step-alike kept line view also long
 
+over-kept : (c : ℕ) (kept : List ℕ) → lineLimit < length kept → lineLimit < length (take keptLimit (kept ++ (c ∷ [])))
+over-kept c kept long =
+    omega (arith, length-take-le keptLimit (kept ++ (c ∷ [])) (omega (arith, length-append kept (c ∷ []))))
+
 keeps-longer : (c : ℕ) (line kept : List ℕ) → Keeps line kept → Keeps (line ++ (c ∷ [])) (longer c kept)
 unfolding longer
 keeps-longer c line kept (whole e) =
-    ⊎-elim
-    (λ long.
-    rw (lt-leb (length kept) lineLimit long)
-    (cut (omega (arith, length-append line (c ∷ []), ap length e)) long))
-    (λ short. rw (le-leb (length kept) lineLimit short) (whole (ap (λ (l : List ℕ). l ++ (c ∷ [])) e)))
+    ⊎-elim (λ long. cut (omega (arith, length-append line (c ∷ []), ap length e)) (over-kept c kept long))
+    (λ short.
+    whole
+    (take-all keptLimit (kept ++ (c ∷ [])) (omega (arith, length-append kept (c ∷ [])))
+    ∙ ap (λ (l : List ℕ). l ++ (c ∷ [])) e))
     (below-or-not lineLimit (length kept))
-keeps-longer c line kept (cut long also) =
-    rw (lt-leb (length kept) lineLimit also) (cut (omega (arith, length-append line (c ∷ []))) also)
+keeps-longer c line kept (cut long also) = cut (omega (arith, length-append line (c ∷ []))) (over-kept c kept also)
+
+-- the definitions at a line feed, and at another character
+takenIn-feed : (c : ℕ) (now : Going) → c ≡ lineFeed → takenIn c now ≡ lineDone now
+unfolding takenIn
+takenIn-feed c now e = rw (eq-eqb c lineFeed e)
+
+takenIn-other : (c : ℕ) (now : Going) → (c ≡ lineFeed → ⊥)
+    → takenIn c now ≡ record { text = now .text; view = now .view; begun = longer c (now .begun) }
+unfolding takenIn
+takenIn-other c now other = rw (ne-eqb c lineFeed other)
+
+-- ---- characters that are no line feeds
+-- no line feed stands in the first n characters
+pub NoFeed : List ℕ → ℕ → Type 0
+NoFeed s n = (k : ℕ) → k < n → getD s k 0 ≡ lineFeed → ⊥
+
+take-again : (n : ℕ) (a b : List ℕ) → take n (take n a ++ b) ≡ take n (a ++ b)
+take-again zero a b = refl
+take-again (suc n) [] b = refl
+take-again (suc n) (x ∷ a) b = ap (λ (l : List ℕ). x ∷ l) (take-again n a b)
+
+-- they are put after the line that has begun
+pub fed-plain : (s : List ℕ) (now : Going) → NoFeed s (length s) → length (now .begun) ≤ keptLimit
+    → fed s now ≡ record { text = now .text; view = now .view; begun = take keptLimit (now .begun ++ s) }
+unfolding fed longer NoFeed
+fed-plain [] now none short =
+    ap (λ (l : List ℕ). record { text = now .text; view = now .view; begun = l })
+    (sym (ap (λ (l : List ℕ). take keptLimit l) (append-nil (now .begun)) ∙ take-all keptLimit (now .begun) short))
+fed-plain (c ∷ s) now none short =
+    let begun = take keptLimit (now .begun ++ (c ∷ [])) in
+    ap (fed s) (takenIn-other c now (none 0 (omega arith)))
+    ∙ fed-plain s (record { text = now .text; view = now .view; begun = begun }) (λ k below. none (suc k) (omega arith))
+    (omega (arith, length-take keptLimit (now .begun ++ (c ∷ []))))
+    ∙ ap (λ (l : List ℕ). record { text = now .text; view = now .view; begun = l })
+    (take-again keptLimit (now .begun ++ (c ∷ [])) s ∙ ap (λ (l : List ℕ). take keptLimit l) (append-assoc (now .begun) (c ∷ []) s))
+
+-- what is kept of a line that was read at once
+pub keeps-all : (line : List ℕ) → Keeps line (take keptLimit line)
+keeps-all line =
+    ⊎-elim (λ long. cut long (omega (arith, length-take-le keptLimit line (omega arith))))
+    (λ short. whole (take-all keptLimit line (omega arith)))
+    (below-or-not lineLimit (length line))
 
 -- ---- the whole
 -- what the program writes from here on, after what is written so far
@@ -95,16 +140,7 @@ last-line line now k =
     nothing : line ≡ [] → now .text ++ (steps (lastLine line) (now .view)) .text ≡ now .text
     nothing e = rw e (append-nil (now .text))
 
--- the definitions at a line feed, and at another character
-takenIn-feed : (c : ℕ) (now : Going) → c ≡ lineFeed → takenIn c now ≡ lineDone now
-unfolding takenIn
-takenIn-feed c now e = rw (eq-eqb c lineFeed e)
-
-takenIn-other : (c : ℕ) (now : Going) → (c ≡ lineFeed → ⊥)
-    → takenIn c now ≡ record { text = now .text; view = now .view; begun = longer c (now .begun) }
-unfolding takenIn
-takenIn-other c now other = rw (ne-eqb c lineFeed other)
-
+-- the lines at a line feed, and at another character
 onFrom-feed : (c : ℕ) (line input : List ℕ) (view : View) → c ≡ lineFeed
     → onFrom line (c ∷ input) view ≡ (step line view) .text ++ onFrom [] input ((step line view) .after)
 unfolding onFrom linesFrom steps

@@ -7,4 +7,5 @@ pub mod ReleaseLoop
 pub mod Offering
 pub mod StepLaws
 pub mod Feeding
+pub mod FeedSteps
 pub mod Claims

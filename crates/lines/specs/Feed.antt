@@ -4,7 +4,7 @@ use Prim.Native.Nat.{ℕ, _+_}
 use mathlib.Core.Bool.{cond}
 use mathlib.Core.List.{List, [], _∷_, _++_}
 use lib.ListN.{length, take}
-use lib.Dec.{leb, eqb}
+use lib.Dec.{eqb}
 use Rattle.views.specs.View.{View, freshView}
 use Rattle.heads.specs.Head.{viewIn}
 use Rattle.heads.specs.declared.Head.{Head}
@@ -26,9 +26,13 @@ lineDone now =
     let made = step (now .begun) (now .view) in
     record { text = now .text ++ made .text; view = made .after; begun = [] }
 
--- another character: of a line that is too long no more is kept than shows it
+-- of a line that is too long no more is kept than shows it
+abbrev pub keptLimit : ℕ
+keptLimit = lineLimit + 1
+
+-- another character
 unfoldable pub longer : ℕ → List ℕ → List ℕ
-longer c begun = cond (leb (length begun) lineLimit) (begun ++ (c ∷ [])) begun
+longer c begun = take keptLimit (begun ++ (c ∷ []))
 
 -- one character
 unfoldable pub takenIn : ℕ → Going → Going

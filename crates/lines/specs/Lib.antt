@@ -2,4 +2,5 @@ pub mod Hex
 pub mod Lines
 pub mod Feed
 pub mod Promise
+pub mod FeedPromise
 pub mod Claims

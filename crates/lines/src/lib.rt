@@ -1,4 +1,5 @@
 // Document 01, 'The program'.
+mod feed;
 mod hex;
 mod results;
 mod steps;
@@ -20,6 +21,10 @@ impl Line {
     // Document 01: "line over 3,000 characters".
     pub const LIMIT: usize = 2 * Datagram::LIMIT;
 
+    // Of a line that is too long no more is kept than shows it.
+    pub const KEPT: usize = Line::LIMIT + 1;
+    // So many characters are looked at together in the search for a line feed.
+    pub const NEAR: usize = 64;
     // The most characters of a result line, of all releases after a line, and of all that a line can write.
     pub const RESULT: usize = 7 + 2 * Packet::LIMIT;
 

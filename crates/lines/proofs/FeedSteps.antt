@@ -1,0 +1,116 @@
+-- The search for a line feed, and the line that has begun, on plain values. Assumes nothing.
+use Prim.Native.Nat.{ℕ, zero, suc, _+_, _-_, _*_, _≤_, _<_, min}
+use mathlib.Core.Path.{_≡_, refl, sym, ap, ap₂, _∙_}
+use mathlib.Core.Bool.{Bool, true, false, not, _&&_}
+use mathlib.Core.List.{List, [], _∷_, _++_}
+use mathlib.Core.Logic.{⊎-elim}
+use lib.ListN.{length, getD, set, take, drop, length-set, length-append}
+use lib.Seq.{paste, paste-zero, paste-suc, length-paste, take-paste, take-append-add, length-take-le, take-all}
+use lib.Dec.{eqb, leb, ltb}
+use native.Mathlib.Numerals.{add-one}
+use native.Mathlib.Omega.{arith}
+use borrow.Author.Count.{below-more}
+use borrow.Author.Tests.{eqb-false, not-true, not-false}
+use Rattle.octets.specs.Place.{allBelow}
+use Rattle.octets.proofs.Place.{allBelow-more, allBelow-at}
+use Rattle.octets.proofs.Cases.{below-or-not}
+use Rattle.lines.specs.Lines.{lineFeed}
+use Rattle.lines.specs.Feed.{keptLimit}
+use Rattle.lines.specs.FeedPromise.{plainAt, Begun, Found, LineKept}
+
+-- ---- the next characters
+pub record Plain (s : List ℕ) (at : ℕ) (plain : Bool) (j : ℕ) : Type 0 where
+  pub so : plain ≡ allBelow j (plainAt s at)
+  pub few : j ≤ 64
+
+pub plain-start : (s : List ℕ) (at : ℕ) → Plain s at true 0
+unfolding allBelow
+plain-start s at = record { so = refl; few = omega arith }
+
+pub plain-turn : {s : List ℕ} {at : ℕ} {plain : Bool} {j : ℕ} → Plain s at plain j → j < 64
+    → Plain s at (plain && not (eqb (getD s (at + j) 0) 10)) (j + 1)
+plain-turn {s} {at} {plain} {j} p more =
+    record { so = ap (λ (b : Bool). b && plainAt s at j) (p .so) ∙ sym (allBelow-more j (plainAt s at)); few = omega arith }
+
+pub plain-done : {s : List ℕ} {at : ℕ} {plain : Bool} {j : ℕ} → Plain s at plain j → 64 ≤ j → plain ≡ allBelow 64 (plainAt s at)
+plain-done {s} {at} {plain} {j} p end = p .so ∙ ap (λ (k : ℕ). allBelow k (plainAt s at)) (omega (arith, p .few))
+
+-- ---- the search
+pub begun-start : (s : List ℕ) → Begun s 0
+begun-start s = record { plain = λ k below e. absurd (omega arith); inside = omega arith }
+
+pub begun-turn : {s : List ℕ} {at : ℕ} → Begun s at → at < length s → (getD s at 0 ≡ 10 → ⊥) → Begun s (at + 1)
+begun-turn {s} {at} b more other =
+    record { plain = below-more (λ (k : ℕ). getD s k 0 ≡ lineFeed → ⊥) at (b .plain) other; inside = omega arith }
+
+far : (s : List ℕ) (at : ℕ) → allBelow 64 (plainAt s at) ≡ true → (k : ℕ) → k < at + 64 → at ≤ k → getD s k 0 ≡ lineFeed → ⊥
+far s at all k below past =
+    let near : k - at < 64 = omega arith in
+    let place : at + (k - at) ≡ k = omega arith in
+    let clear : eqb (getD s (at + (k - at)) 0) lineFeed ≡ false = not-true _ (allBelow-at 64 (plainAt s at) all (k - at) near) in
+    rw place at (eqb-false (getD s (at + (k - at)) 0) lineFeed clear)
+
+pub begun-far : {s : List ℕ} {at : ℕ} {plain : Bool} → Begun s at → 64 ≤ length s - at → plain ≡ allBelow 64 (plainAt s at)
+    → plain ≡ true → Begun s (at + 64)
+begun-far {s} {at} {plain} b room told yet =
+    record {
+      plain =
+          λ k below.
+          ⊎-elim (λ before. b .plain k before) (λ past. far s at (sym told ∙ yet) k below past) (below-or-not k at);
+      inside = omega (arith, b .inside);
+    }
+
+pub found-feed : {s : List ℕ} {at : ℕ} → Begun s at → getD s at 0 ≡ 10 → Found s at
+found-feed b e = record { begun = b; feed = λ inside. e }
+
+pub found-end : {s : List ℕ} {at : ℕ} → Begun s at → length s ≤ at → Found s at
+found-end b past = record { begun = b; feed = λ inside. absurd (omega arith) }
+
+-- ---- the line that has begun
+pub record Keeping (old more : List ℕ) (begun count : ℕ) (new : List ℕ) (j : ℕ) : Type 0 where
+  pub laid : new ≡ paste old begun more j
+  pub few : j ≤ count
+  pub long : length new ≡ length old
+
+pub keeping-start : (old more : List ℕ) (begun count : ℕ) → Keeping old more begun count old 0
+keeping-start old more begun count = record { laid = paste-zero old begun more; few = omega arith; long = refl }
+
+pub keeping-turn : {old more : List ℕ} {begun count : ℕ} {new : List ℕ} {j : ℕ} → Keeping old more begun count new j → j < count
+    → count ≡ min (3001 - begun) (length more) → keptLimit ≡ length old → begun ≤ keptLimit
+    → Keeping old more begun count (set new (begun + j) (getD more j 0)) (j + 1)
+keeping-turn {old} {more} {begun} {count} {new} {j} k less is size short =
+    record {
+      laid = rw (k .laid, add-one) (paste-suc old begun more j 0 (omega arith) (omega arith));
+      few = omega arith;
+      long = length-set new (begun + j) (getD more j 0) ∙ k .long;
+    }
+
+take-least : (n : ℕ) (l : List ℕ) → take (min n (length l)) l ≡ take n l
+take-least n l =
+    ⊎-elim
+    (λ below.
+    let few : min n (length l) ≡ n = omega arith in
+    ap (λ (k : ℕ). take k l) few)
+    (λ past.
+    let all : min n (length l) ≡ length l = omega arith in
+    ap (λ (k : ℕ). take k l) all ∙ take-all (length l) l (omega arith) ∙ sym (take-all n l past))
+    (below-or-not n (length l))
+
+pub keeping-done : {old more : List ℕ} {begun count : ℕ} {new : List ℕ} {j : ℕ} → Keeping old more begun count new j → count ≤ j
+    → count ≡ min (3001 - begun) (length more) → keptLimit ≡ length old → begun ≤ keptLimit
+    → LineKept old begun more new (begun + count)
+keeping-done {old} {more} {begun} {count} {new} {j} k end is size short =
+    let all : j ≡ count = omega (arith, k .few) in
+    let front : length (take begun old) ≡ begun = length-take-le begun old (omega arith) in
+    let place : length (take begun old) + (3001 - begun) ≡ keptLimit = omega arith in
+    record {
+      line =
+          ap (λ (l : List ℕ). take (begun + count) l) (k .laid ∙ ap (λ (n : ℕ). paste old begun more n) all)
+          ∙ take-paste old begun more count (omega arith) (omega arith)
+          ∙ ap (λ (n : ℕ). take begun old ++ take n more) is
+          ∙ ap (λ (l : List ℕ). take begun old ++ l) (take-least (3001 - begun) more)
+          ∙ sym (take-append-add (take begun old) more (3001 - begun))
+          ∙ ap (λ (n : ℕ). take n (take begun old ++ more)) place;
+      short = omega arith;
+      long = k .long;
+    }
