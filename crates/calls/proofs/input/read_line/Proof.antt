@@ -1,14 +1,9 @@
+-- `calls::input::read_line` is safe and ends. The turns left are the measure, and both buffers keep their lengths. Assumes nothing.
 use mathlib.Core.Path.{_≡_}
 use lib.ListN.{length}
 use borrow.Author.Needs.{needs}
 use Rattle.calls.proofs.input.read_line.Statement.{statement}
 use Rattle.calls.proofs.input.read_line.Tie as tie
-use Rattle.calls.proofs.input.read_line.Reads as reads
-use Rattle.calls.proofs.input.read_line.Lts as lts
-use Rattle.calls.proofs.arguments.octet_at.Reads as octet-at-reads
-use Rattle.calls.proofs.input.filled.Reads as filled-reads
-use Rattle.calls.proofs.input.step.Reads as step-reads
-use Rattle.calls.proofs.shown.put.Reads as put-reads
 
 abbrev Inv-loop : tie.InvT-loop
 Inv-loop block₀ line₀ input₀ size₀ turns₀ block line input size turns = (length block ≡ length block₀) × (length line ≡ length line₀)
@@ -16,47 +11,36 @@ Inv-loop block₀ line₀ input₀ size₀ turns₀ block line input size turns 
 abbrev μ-loop : tie.MeasureT-loop
 μ-loop block₀ line₀ input₀ size₀ turns₀ block line input size turns = turns
 
--- src/input.rt:46:5
 loop-holds : tie.Need-loop-holds Inv-loop μ-loop
 loop-holds c = search needs
 
--- src/input.rt:47:13
 filled-requires : tie.Need-filled-requires Inv-loop μ-loop
 filled-requires c κs = search needs
 
--- src/input.rt:50:13
 returns : tie.Need-returns Inv-loop μ-loop
 returns c = search needs
 
--- src/input.rt:53:13
 octet-at-requires : tie.Need-octet-at-requires Inv-loop μ-loop
 octet-at-requires c κs = search needs
 
--- src/input.rt:54:9
 step-requires : tie.Need-step-requires Inv-loop μ-loop
 step-requires c κs = search needs
 
--- src/input.rt:56:13
 returns-2 : tie.Need-returns-2 Inv-loop μ-loop
 returns-2 c = search needs
 
--- src/input.rt:58:9
 put-requires : tie.Need-put-requires Inv-loop μ-loop
 put-requires c κs = search needs
 
--- src/input.rt:60:9
 sub-turns : tie.Need-sub-turns Inv-loop μ-loop
 sub-turns c = search needs
 
--- src/input.rt:46:5
 loop-less : tie.Need-loop-less Inv-loop μ-loop
 loop-less c = search needs
 
--- src/input.rt:46:5
 loop-again : tie.Need-loop-again Inv-loop μ-loop
 loop-again c = search needs
 
--- src/input.rt:42:1
 returns-3 : tie.Need-returns-3 Inv-loop μ-loop
 returns-3 c = search needs
 

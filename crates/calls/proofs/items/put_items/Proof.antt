@@ -1,13 +1,10 @@
+-- `calls::items::put_items` is safe and ends. The items left are the measure, and the lent buffer keeps its length. Assumes nothing.
 use Prim.Native.Nat.{_-_}
 use mathlib.Core.Path.{_≡_}
 use lib.ListN.{length}
 use borrow.Author.Needs.{needs}
 use Rattle.calls.proofs.items.put_items.Statement.{statement}
 use Rattle.calls.proofs.items.put_items.Tie as tie
-use Rattle.calls.proofs.items.put_items.Reads as reads
-use Rattle.calls.proofs.items.put_items.Lts as lts
-use Rattle.calls.proofs.items.item_at.Reads as item-at-reads
-use Rattle.calls.proofs.items.put_item.Reads as put-item-reads
 
 abbrev Inv-loop : tie.InvT-loop
 Inv-loop out₀ from datagram items count at₀ i₀ out at i = length out ≡ length out₀
@@ -15,35 +12,27 @@ Inv-loop out₀ from datagram items count at₀ i₀ out at i = length out ≡ l
 abbrev μ-loop : tie.MeasureT-loop
 μ-loop out₀ from datagram items count at₀ i₀ out at i = count - i
 
--- src/items.rt:51:5
 loop-holds : tie.Need-loop-holds Inv-loop μ-loop
 loop-holds c = search needs
 
--- src/items.rt:52:42
 item-at-requires : tie.Need-item-at-requires Inv-loop μ-loop
 item-at-requires c κs = search needs
 
--- src/items.rt:52:9
 put-item-requires : tie.Need-put-item-requires Inv-loop μ-loop
 put-item-requires c κs = search needs
 
--- src/items.rt:53:9
 add-i : tie.Need-add-i Inv-loop μ-loop
 add-i c = search needs
 
--- src/items.rt:51:5
 loop-less : tie.Need-loop-less Inv-loop μ-loop
 loop-less c = search needs
 
--- src/items.rt:51:5
 loop-again : tie.Need-loop-again Inv-loop μ-loop
 loop-again c = search needs
 
--- src/items.rt:42:1
 same-length : tie.Need-same-length Inv-loop μ-loop
 same-length c = search needs
 
--- src/items.rt:42:1
 returns : tie.Need-returns Inv-loop μ-loop
 returns c = search needs
 

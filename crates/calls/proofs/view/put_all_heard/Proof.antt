@@ -1,12 +1,9 @@
+-- `calls::view::put_all_heard` is safe and ends. The numbers left are the measure, and the lent buffer keeps its length. Assumes nothing.
 use mathlib.Core.Path.{_≡_}
 use lib.ListN.{length}
 use borrow.Author.Needs.{needs}
 use Rattle.calls.proofs.view.put_all_heard.Statement.{statement}
 use Rattle.calls.proofs.view.put_all_heard.Tie as tie
-use Rattle.calls.proofs.view.put_all_heard.Reads as reads
-use Rattle.calls.proofs.view.put_all_heard.Lts as lts
-use Rattle.calls.proofs.view.put_heard.Reads as put-heard-reads
-use Rattle.std.proofs.num.wrapping_add_u16.Reads as wrapping-add-u16-reads
 
 abbrev Inv-loop : tie.InvT-loop
 Inv-loop h g out₀ from at₀ number₀ left₀ out at number left = length out ≡ length out₀
@@ -14,35 +11,27 @@ Inv-loop h g out₀ from at₀ number₀ left₀ out at number left = length out
 abbrev μ-loop : tie.MeasureT-loop
 μ-loop h g out₀ from at₀ number₀ left₀ out at number left = left
 
--- src/view.rt:83:5
 loop-holds : tie.Need-loop-holds Inv-loop μ-loop
 loop-holds c = search needs
 
--- src/view.rt:84:9
 put-heard-requires : tie.Need-put-heard-requires Inv-loop μ-loop
 put-heard-requires c κs = search needs
 
--- src/view.rt:85:9
 wrapping-add-u16-requires : tie.Need-wrapping-add-u16-requires Inv-loop μ-loop
 wrapping-add-u16-requires c κs = search needs
 
--- src/view.rt:86:9
 sub-left : tie.Need-sub-left Inv-loop μ-loop
 sub-left c = search needs
 
--- src/view.rt:83:5
 loop-less : tie.Need-loop-less Inv-loop μ-loop
 loop-less c = search needs
 
--- src/view.rt:83:5
 loop-again : tie.Need-loop-again Inv-loop μ-loop
 loop-again c = search needs
 
--- src/view.rt:79:1
 same-length : tie.Need-same-length Inv-loop μ-loop
 same-length c = search needs
 
--- src/view.rt:79:1
 returns : tie.Need-returns Inv-loop μ-loop
 returns c = search needs
 
