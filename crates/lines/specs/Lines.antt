@@ -77,7 +77,7 @@ unfoldable pub releasesF : ℕ → View → Made
 releasesF zero view = silent view
 releasesF (suc left) view = onward (next packetLimit view) (releasesF left) view
 
--- "releases all it can": after keptAhead releases the base is a number that came into view unknown (Claims, ReleasesAll)
+-- "releases all it can": after keptAhead releases the base is a number that came into view unknown
 abbrev pub releases : View → Made
 releases view = releasesF keptAhead view
 

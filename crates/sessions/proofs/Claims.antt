@@ -179,5 +179,8 @@ claims =
       refusedStays = refused-stays;
       oneOutcome = one-outcome;
       accepted = accepted-offer;
-      handedOut = λ {s} {octets} {r} o inside. after-ranges (offerOf octets s) s (r .session) (o .state) inside;
+      afterOffer = λ {s} {octets} {r} o inside. after-ranges (offerOf octets s) s (r .session) (o .state) inside;
+      afterNext =
+          λ {s} {old} {new} {r} o inside. after-ranges (viewAfterNext (nextOf (length old) s)) s (r .session) (o .state) inside;
+      afterGiveUp = λ {s} {r} o inside. after-ranges (viewAfterLoss (giveUpOf s)) s (r .session) (o .state) inside;
     }

@@ -52,6 +52,9 @@ pub record Claims : Type 0 where
   pub refusedStays : RefusedStays
   pub oneOutcome : OneOutcome
   pub accepted : (octets : List ℕ) (view after : View) → offers.offer octets view ≡ done after → AcceptedOffer octets view after
-  -- 17 never meets a session that the library handed out
-  pub handedOut : {s : Session} {octets : List ℕ} {r : AfterOffer} → OfferOwes s octets r → sessionInRanges s ≡ true
+  -- a session within its ranges stays so, whatever is called: 17 never meets one that the library handed out
+  pub afterOffer : {s : Session} {octets : List ℕ} {r : AfterOffer} → OfferOwes s octets r → sessionInRanges s ≡ true
       → sessionInRanges (r .session) ≡ true
+  pub afterNext : {s : Session} {old new : List ℕ} {r : AfterNext} → NextOwes s old new r → sessionInRanges s ≡ true
+      → sessionInRanges (r .session) ≡ true
+  pub afterGiveUp : {s : Session} {r : AfterGiveUp} → GiveUpOwes s r → sessionInRanges s ≡ true → sessionInRanges (r .session) ≡ true
