@@ -7,3 +7,6 @@ pub mod Leaving
 pub mod Knowing
 pub mod Calling
 pub mod Demand2
+pub mod Sheet
+pub mod Tables
+pub mod Demand1

@@ -1,0 +1,109 @@
+-- Demand 1: "Any octets may come from the network, and any saved session from a caller. Every public call ends, and refuses what
+-- document 01 says, with the number it says, and then only. A refused call leaves the session and each lent buffer as they
+-- were." That a call ends is part of the proof of its contract, which asks nothing of its caller. Of each call: `exactly`, its
+-- refusal is the first row of its table (Refusals) that is given, and it is not refused where none is; `unchanged`, what a
+-- refusal leaves. The readers' refusals are those of their definitions, met in reading order; what they do not refuse is told
+-- apart from that order. Statements alone. Definitions only.
+use Prim.Native.Nat.{ℕ}
+use mathlib.Core.Path.{_≡_}
+use mathlib.Core.Logic.{_↔_}
+use mathlib.Core.List.{List}
+use mathlib.Core.Option.{none, some}
+use Rattle.lengths.specs.Answers.{Answer, done, lengthOutcome, writtenOutcome}
+use Rattle.lengths.specs.Length.{lengthToWrite}
+use Rattle.lengths.specs.Promise.{LengthRead, Puts}
+use Rattle.lengths.specs.Claims.{Octets}
+use Rattle.lengths.specs.declared.Length.{Length}
+use Rattle.lengths.specs.declared.Written.{Written}
+use Rattle.datagrams.specs.Read.{readDatagram}
+use Rattle.datagrams.specs.Write.{datagramToWrite}
+use Rattle.datagrams.specs.Promise.{DatagramReads, readOutcome}
+use Rattle.datagrams.specs.declared.kind.Kind.{Kind}
+use Rattle.datagrams.specs.declared.reader.DatagramRead.{DatagramRead}
+use Rattle.packets.specs.Read.{readPacket}
+use Rattle.packets.specs.Write.{packetToWrite}
+use Rattle.packets.specs.Promise.{PacketTold, packetOutcome}
+use Rattle.packets.specs.declared.types.Kind as packets
+use Rattle.packets.specs.declared.types.Ending.{Ending}
+use Rattle.packets.specs.declared.types.Ending.the-variants.{Whole}
+use Rattle.packets.specs.declared.types.PacketRead.{PacketRead}
+use Rattle.releasing.specs.Outcome.{releasedOutcome, lostOutcome}
+use Rattle.receiving.specs.Promise.{offeredOutcome}
+use Rattle.heads.specs.declared.Session.{Session}
+use Rattle.sessions.specs.Receiver.{OfferOwes, NextOwes, GiveUpOwes}
+use Rattle.sessions.specs.declared.receiver.AfterOffer.{AfterOffer}
+use Rattle.sessions.specs.declared.receiver.AfterNext.{AfterNext}
+use Rattle.sessions.specs.declared.receiver.AfterGiveUp.{AfterGiveUp}
+use Rattle.sending.specs.Promise.{Sends}
+use Rattle.sending.specs.declared.Sender.{Sender}
+use Rattle.sending.specs.declared.Sent.{Sent}
+use Rattle.sending.specs.declared.Settings.{Settings}
+use Rattle.demands.specs.Refusals.{first, refusalIn, lengthRows, lengthWriterRows, datagramWriterRows, packetWriterRows}
+use Rattle.demands.specs.Refusals.{offerRows, nextRows, giveUpRows, sendRows}
+
+-- ---- readers
+-- some octets are what the datagram writer writes of some fields; or the packet writer
+pub record IsDatagram (s : List ℕ) : Type 0 where
+  pub number : ℕ
+  pub packet : List ℕ
+  pub kind : Kind
+  pub lengths : List ℕ
+  pub run : List ℕ
+  pub written : datagramToWrite number packet kind lengths run ≡ done s
+
+pub record IsPacket (s : List ℕ) : Type 0 where
+  pub kind : packets.Kind
+  pub value : ℕ
+  pub types : List ℕ
+  pub lengths : List ℕ
+  pub octets : List ℕ
+  pub written : packetToWrite kind value types lengths octets ≡ done s
+
+pub record Readers : Type 0 where
+  pub length : {s : List ℕ} {r : Length} → LengthRead s r → refusalIn (lengthOutcome r) ≡ first (lengthRows s)
+  pub datagram : {s : List ℕ} {r : DatagramRead} → DatagramReads s r → refusalIn (readOutcome r) ≡ refusalIn (readDatagram s)
+  pub packet : {ending : Ending} {s : List ℕ} {r : PacketRead} → PacketTold ending s r
+      → refusalIn (packetOutcome r) ≡ refusalIn (readPacket ending s)
+  -- a datagram reads exactly if it is one, and so does a packet as received
+  pub isDatagram : (s : List ℕ) → Octets s → (refusalIn (readDatagram s) ≡ none) ↔ IsDatagram s
+  pub isPacket : (s : List ℕ) → Octets s → (refusalIn (readPacket Whole s) ≡ none) ↔ IsPacket s
+
+-- ---- writers
+pub record Writers : Type 0 where
+  pub length : (n : ℕ) {old new : List ℕ} {r : Written} → Puts (lengthToWrite n) old new r
+      → refusalIn (writtenOutcome r) ≡ first (lengthWriterRows n old)
+  pub datagram : (number : ℕ) (packet : List ℕ) (kind : Kind) (lengths run : List ℕ) {old new : List ℕ} {r : Written}
+      → Puts (datagramToWrite number packet kind lengths run) old new r
+      → refusalIn (writtenOutcome r) ≡ first (datagramWriterRows number packet kind lengths run old)
+  pub packet : (kind : packets.Kind) (value : ℕ) (types lengths octets : List ℕ) {old new : List ℕ} {r : Written}
+      → Puts (packetToWrite kind value types lengths octets) old new r
+      → refusalIn (writtenOutcome r) ≡ first (packetWriterRows kind value types lengths octets old)
+  pub unchanged : {w : Answer (List ℕ)} {old new : List ℕ} {r : Written} {n : ℕ} → Puts w old new r
+      → refusalIn (writtenOutcome r) ≡ some n → new ≡ old
+
+-- ---- the receiving session
+pub record Receiving : Type 0 where
+  pub offer : {s : Session} {octets : List ℕ} {r : AfterOffer} → OfferOwes s octets r
+      → refusalIn (offeredOutcome (r .answer)) ≡ first (offerRows octets s)
+  pub offerUnchanged : {s : Session} {octets : List ℕ} {r : AfterOffer} {n : ℕ} → OfferOwes s octets r
+      → refusalIn (offeredOutcome (r .answer)) ≡ some n → r .session ≡ s
+  pub next : {s : Session} {old new : List ℕ} {r : AfterNext} → NextOwes s old new r
+      → refusalIn (releasedOutcome (r .answer)) ≡ first (nextRows old s)
+  pub nextUnchanged : {s : Session} {old new : List ℕ} {r : AfterNext} {n : ℕ} → NextOwes s old new r
+      → refusalIn (releasedOutcome (r .answer)) ≡ some n → (r .session ≡ s) × (new ≡ old)
+  pub giveUp : {s : Session} {r : AfterGiveUp} → GiveUpOwes s r → refusalIn (lostOutcome (r .answer)) ≡ first (giveUpRows s)
+  pub giveUpUnchanged : {s : Session} {r : AfterGiveUp} {n : ℕ} → GiveUpOwes s r → refusalIn (lostOutcome (r .answer)) ≡ some n
+      → r .session ≡ s
+
+-- ---- the sending session
+pub record Sending : Type 0 where
+  pub send : {s : Sender} {settings : Settings} {packet old new : List ℕ} {r : Sent} → Sends s settings packet old new r
+      → refusalIn (writtenOutcome (r .answer)) ≡ first (sendRows s settings packet old)
+  pub sendUnchanged : {s : Sender} {settings : Settings} {packet old new : List ℕ} {r : Sent} {n : ℕ} → Sends s settings packet old new r
+      → refusalIn (writtenOutcome (r .answer)) ≡ some n → (r .sender ≡ s) × (new ≡ old)
+
+pub record Demand1 : Type 0 where
+  pub readers : Readers
+  pub writers : Writers
+  pub receiving : Receiving
+  pub sending : Sending
