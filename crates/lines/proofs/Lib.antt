@@ -8,4 +8,5 @@ pub mod Offering
 pub mod StepLaws
 pub mod Feeding
 pub mod FeedSteps
+pub mod FeedTurn
 pub mod Claims

@@ -1,0 +1,105 @@
+use Rattle.lines.proofs.feed.feed.Statement.{statement}
+use Rattle.lines.proofs.feed.feed.Tie as tie
+use Rattle.lines.proofs.feed.feed.Reads as reads
+use Rattle.lines.proofs.feed.feed.Lts as lts
+use Rattle.lines.proofs.feed.take_line.Reads as take-line-reads
+
+abbrev Inv-loop : tie.InvT-loop
+Inv-loop o₀ g₀ work₀ line₀ begun block out₀ at head₀ kept₀ taken₀ end₀ o g work line out head kept taken end =
+    ?
+
+abbrev μ-loop : tie.MeasureT-loop
+μ-loop o₀ g₀ work₀ line₀ begun block out₀ at head₀ kept₀ taken₀ end₀ o g work line out head kept taken end =
+    ?
+
+-- src/feed.rt:164:5
+loop-holds : tie.Need-loop-holds Inv-loop μ-loop
+loop-holds c = ?
+
+-- src/feed.rt:165:12
+sub-if1 : tie.Need-sub-if1 Inv-loop μ-loop
+sub-if1 c = ?
+
+-- src/feed.rt:166:13
+same-length : tie.Need-same-length Inv-loop μ-loop
+same-length c = ?
+
+-- src/feed.rt:166:13
+same-length-2 : tie.Need-same-length-2 Inv-loop μ-loop
+same-length-2 c = ?
+
+-- src/feed.rt:166:13
+same-length-3 : tie.Need-same-length-3 Inv-loop μ-loop
+same-length-3 c = ?
+
+-- src/feed.rt:166:13
+returns : tie.Need-returns Inv-loop μ-loop
+returns c = ?
+
+-- src/feed.rt:173:60
+sub-take-line : tie.Need-sub-take-line Inv-loop μ-loop
+sub-take-line c = ?
+
+-- src/feed.rt:173:60
+part-take-line-start : tie.Need-part-take-line-start Inv-loop μ-loop
+part-take-line-start c = ?
+
+-- src/feed.rt:173:60
+part-take-line-end : tie.Need-part-take-line-end Inv-loop μ-loop
+part-take-line-end c = ?
+
+-- src/feed.rt:173:13
+take-line-requires : tie.Need-take-line-requires Inv-loop μ-loop
+take-line-requires c κs = ?
+
+-- src/feed.rt:177:9
+add-taken : tie.Need-add-taken Inv-loop μ-loop
+add-taken c = ?
+
+-- src/feed.rt:164:5
+loop-less : tie.Need-loop-less Inv-loop μ-loop
+loop-less c = ?
+
+-- src/feed.rt:164:5
+loop-again : tie.Need-loop-again Inv-loop μ-loop
+loop-again c = ?
+
+-- src/feed.rt:146:1
+same-length-4 : tie.Need-same-length-4 Inv-loop μ-loop
+same-length-4 c = ?
+
+-- src/feed.rt:146:1
+same-length-5 : tie.Need-same-length-5 Inv-loop μ-loop
+same-length-5 c = ?
+
+-- src/feed.rt:146:1
+same-length-6 : tie.Need-same-length-6 Inv-loop μ-loop
+same-length-6 c = ?
+
+-- src/feed.rt:146:1
+returns-2 : tie.Need-returns-2 Inv-loop μ-loop
+returns-2 c = ?
+
+pub feed-spec : {M : Type 1} → statement M
+feed-spec =
+    tie.close
+    (tie.spec
+    Inv-loop
+    μ-loop
+    loop-holds
+    sub-if1
+    same-length
+    same-length-2
+    same-length-3
+    returns
+    sub-take-line
+    part-take-line-start
+    part-take-line-end
+    take-line-requires
+    add-taken
+    loop-less
+    loop-again
+    same-length-4
+    same-length-5
+    same-length-6
+    returns-2)
