@@ -67,8 +67,8 @@ module _ {h : Head} {o g w line : List ℕ} {begun : ℕ} {s out : List ℕ} {at
                   ∙ sym
                   (ap (λ (l : List ℕ). fed l (goingIn h o g line begun out at)) whole
                   ∙ fed-plain s (goingIn h o g line begun out at)
-                      (rw whole at (plain-part s stop (f .begun)))
-                      (length-begun line begun (able .short)));
+                  (rw whole at (plain-part s stop (f .begun)))
+                  (length-begun line begun (able .short)));
               within = able .able .within;
               short = k .short;
               inside = omega arith;
@@ -118,41 +118,55 @@ pub begun-length : (line : List ℕ) (begun : ℕ) → keptLimit ≡ length line
 begun-length line begun size short = length-take-le begun line (omega arith)
 
 module _ {h : Head} {o g w line : List ℕ} {begun : ℕ} {out : List ℕ} {at : ℕ} (able : Feedable stepLimit h o g w line begun out at)
-    where
-  pub ends-between : begun ≡ 0 → Ends (goingIn h o g line begun out at) out h o g line out at
-  unfolding atEnd
-  ends-between none =
-      record {
-        state =
-            rw (eq-eqb (length (take begun line)) 0 (begun-length line begun (able .line) (able .short) ∙ none))
-            (ap (λ (n : ℕ). goingIn h o g line n out at) (sym none));
-        within = able .able .within;
-        fits = omega (arith, able .able .room);
-      }
+  where
+    pub ends-between : begun ≡ 0 → Ends (goingIn h o g line begun out at) out h o g line out at
+    unfolding atEnd
+    ends-between none =
+        record {
+          state =
+              rw (eq-eqb (length (take begun line)) 0 (begun-length line begun (able .line) (able .short) ∙ none))
+              (ap (λ (n : ℕ). goingIn h o g line n out at) (sym none));
+          within = able .able .within;
+          fits = omega (arith, able .able .room);
+        }
 
-  pub ends-line : {k : Head} {end : ℕ} {newO newG new : List ℕ} → (begun ≡ 0 → ⊥)
-      → Does (step (take begun line) (viewIn h o g)) out at k end newO newG new
-      → Ends (goingIn h o g line begun out at) out k newO newG line new end
-  unfolding atEnd
-  ends-line some d =
-      record {
-        state =
-            rw (ne-eqb (length (take begun line)) 0 (λ e. some (sym (begun-length line begun (able .line) (able .short)) ∙ e)))
-            (does-going _ _ line d);
-        within = d .within;
-        fits = omega (arith, d .lent .after, d .lent .fits);
-      }
+    pub ends-line : {k : Head} {end : ℕ} {newO newG new : List ℕ} → (begun ≡ 0 → ⊥)
+        → Does (step (take begun line) (viewIn h o g)) out at k end newO newG new
+        → Ends (goingIn h o g line begun out at) out k newO newG line new end
+    unfolding atEnd
+    ends-line some d =
+        record {
+          state =
+              rw (ne-eqb (length (take begun line)) 0 (λ e. some (sym (begun-length line begun (able .line) (able .short)) ∙ e)))
+              (does-going _ _ line d);
+          within = d .within;
+          fits = omega (arith, d .lent .after, d .lent .fits);
+        }
 
 -- ---- one line after the other
 -- some of the block is taken in
-pub record Fed (before : Going) (s old : List ℕ) (h : Head) (o g w l : List ℕ) (kept taken : ℕ) (out : List ℕ) (end : ℕ) : Type 0 where
+pub record Fed (before : Going) (s old w₀ l₀ : List ℕ) (h : Head) (o g w l : List ℕ) (kept taken : ℕ) (out : List ℕ) (end : ℕ) : Type 0 where
   pub takes : Takes before s old h o g l kept taken out end
   pub line : keptLimit ≡ length l
   pub work : datagramLimit ≤ length w
   pub long : length out ≡ length old
+  pub line-long : length l ≡ length l₀
+  pub work-long : length w ≡ length w₀
+
+-- what is left of the block
+left-of : (s : List ℕ) (taken : ℕ) → take (length s - taken) (drop taken s) ≡ drop taken s
+left-of s taken = take-all (length s - taken) (drop taken s) (omega (arith, length-drop taken s))
+
+pub left-some : (s : List ℕ) (taken : ℕ) → taken < length s → 1 ≤ length (take (length s - taken) (drop taken s))
+left-some s taken left = rw (left-of s taken) (omega (arith, length-drop taken s))
+
+pub left-inside : {before : Going} (s : List ℕ) {out : List ℕ} {at : ℕ} {h : Head} {o g l : List ℕ} {begun took : ℕ} {new : List ℕ} {end : ℕ}
+    (taken : ℕ) → taken < length s → TakesLine before (take (length s - taken) (drop taken s)) out at h o g l begun took new end
+    → taken + took ≤ length s
+left-inside s taken left t = omega (arith, t .takes .inside, ap length (left-of s taken), length-drop taken s)
 
 pub fed-start : {h : Head} {o g w l : List ℕ} {begun : ℕ} {out : List ℕ} {at : ℕ} (s : List ℕ) → Feedable 0 h o g w l begun out at
-    → Fed (goingIn h o g l begun out at) s out h o g w l begun 0 out at
+    → Fed (goingIn h o g l begun out at) s out w l h o g w l begun 0 out at
 unfolding fed
 fed-start s able =
     record {
@@ -168,10 +182,12 @@ fed-start s able =
       line = able .line;
       work = able .able .work;
       long = refl;
+      line-long = refl;
+      work-long = refl;
     }
 
-module _ {before : Going} {s old : List ℕ} {h : Head} {o g w l : List ℕ} {kept taken : ℕ} {out : List ℕ} {end : ℕ}
-    (f : Fed before s old h o g w l kept taken out end) where
+module _ {before : Going} {s old w₀ l₀ : List ℕ} {h : Head} {o g w l : List ℕ} {kept taken : ℕ} {out : List ℕ} {end : ℕ}
+    (f : Fed before s old w₀ l₀ h o g w l kept taken out end) where
   -- before a turn
   pub fed-ready : stepLimit ≤ length out - end → Feedable stepLimit h o g w l kept out end
   fed-ready room =
@@ -183,34 +199,37 @@ module _ {before : Going} {s old : List ℕ} {h : Head} {o g w l : List ℕ} {ke
 
   -- a turn
   pub fed-turn : {k : Head} {newO newG newW newL : List ℕ} {more took : ℕ} {new : List ℕ} {later : ℕ} → taken < length s
-      → TakesLine (goingIn h o g l kept out end) (drop taken s) out end k newO newG newL more took new later
+      → TakesLine (goingIn h o g l kept out end) (take (length s - taken) (drop taken s)) out end k newO newG newL more took new later
       → length newW ≡ length w → length newL ≡ length l → length new ≡ length out
-      → Fed before s old k newO newG newW newL more (taken + took) new later
+      → Fed before s old w₀ l₀ k newO newG newW newL more (taken + took) new later
   fed-turn {k} {newO} {newG} {newW} {newL} {more} {took} {new} {later} left t sameW sameL sameO =
       let tail : drop later out ≡ drop later old =
-          let place : end + (later - end) ≡ later = omega (arith, t .later) in
-          ap (λ (n : ℕ). drop n out) (sym place)
-          ∙ sym (drop-drop (later - end) end out)
-          ∙ ap (λ (x : List ℕ). drop (later - end) x) (f .takes .rest)
-          ∙ drop-drop (later - end) end old
-          ∙ ap (λ (n : ℕ). drop n old) place in
+      let place : end + (later - end) ≡ later = omega (arith, t .later) in
+      ap (λ (n : ℕ). drop n out) (sym place)
+      ∙ sym (drop-drop (later - end) end out)
+      ∙ ap (λ (x : List ℕ). drop (later - end) x) (f .takes .rest)
+      ∙ drop-drop (later - end) end old
+      ∙ ap (λ (n : ℕ). drop n old) place in
       record {
         takes =
             record {
               state =
                   t .takes .state
+                  ∙ ap (λ (x : List ℕ). fed (take took x) (goingIn h o g l kept out end)) (left-of s taken)
                   ∙ ap (λ (n : Going). fed (take took (drop taken s)) n) (f .takes .state)
                   ∙ sym (fed-append (take taken s) (take took (drop taken s)) before)
                   ∙ ap (λ (x : List ℕ). fed x before) (sym (take-add taken took s));
               within = t .takes .within;
               short = t .takes .short;
-              inside = omega (arith, t .takes .inside, length-drop taken s);
+              inside = left-inside s taken left t;
               fits = omega (arith, t .takes .fits, f .long);
               rest = t .takes .rest ∙ tail;
             };
         line = f .line ∙ sym sameL;
         work = omega (arith, f .work);
         long = sameO ∙ f .long;
+        line-long = sameL ∙ f .line-long;
+        work-long = sameW ∙ f .work-long;
       }
 
   pub fed-full : length out - end < stepLimit → Feeds before s old h o g l kept taken out end
