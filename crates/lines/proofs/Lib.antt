@@ -9,4 +9,5 @@ pub mod StepLaws
 pub mod Feeding
 pub mod FeedSteps
 pub mod FeedTurn
+pub mod Laws
 pub mod Claims

@@ -143,7 +143,7 @@ fn take_line(
 }
 
 // A block of the input: its lines one after the other, as long as out is sure to have room for the next.
-pub fn feed(
+pub fn take_block(
     h: Head,
     o: &mut [u8; Session::PACKET_OCTETS],
     g: &mut [u8; Session::MESSAGE_OCTETS],

@@ -4,10 +4,10 @@ use lib.ListN.{length}
 use native.Mathlib.Omega.{arith}
 use Rattle.lines.specs.Feed.{goingIn}
 use Rattle.lines.proofs.FeedTurn.{Fed, left-some, left-inside, fed-start, fed-ready, fed-turn, fed-full, fed-whole}
-use Rattle.lines.proofs.feed.feed.Statement.{statement}
-use Rattle.lines.proofs.feed.feed.Tie as tie
-use Rattle.lines.proofs.feed.feed.Reads as reads
-use Rattle.lines.proofs.feed.feed.Lts as lts
+use Rattle.lines.proofs.feed.take_block.Statement.{statement}
+use Rattle.lines.proofs.feed.take_block.Tie as tie
+use Rattle.lines.proofs.feed.take_block.Reads as reads
+use Rattle.lines.proofs.feed.take_block.Lts as lts
 use Rattle.lines.proofs.feed.take_line.Reads as take-line-reads
 
 abbrev Inv-loop : tie.InvT-loop
@@ -104,8 +104,8 @@ returns-2 : tie.Need-returns-2 Inv-loop μ-loop
 returns-2 c =
     fed-whole (c .before .loop .inv) (c .loop-test .left)
 
-pub feed-spec : {M : Type 1} → statement M
-feed-spec =
+pub take-block-spec : {M : Type 1} → statement M
+take-block-spec =
     tie.close
     (tie.spec
     Inv-loop
