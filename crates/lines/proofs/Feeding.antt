@@ -49,7 +49,7 @@ pub data Keeps (line kept : List ℕ) : Type 0 where
   whole : kept ≡ line → Keeps line kept
   cut : lineLimit < length line → lineLimit < length kept → Keeps line kept
 
-step-kept : (line kept : List ℕ) (view : View) → Keeps line kept → step kept view ≡ step line view
+pub step-kept : (line kept : List ℕ) (view : View) → Keeps line kept → step kept view ≡ step line view
 step-kept line kept view (whole e) = ap (λ (l : List ℕ). step l view) e
 step-kept line kept view (cut long also) = step-alike kept line view also long
 
@@ -69,7 +69,7 @@ keeps-longer c line kept (whole e) =
 keeps-longer c line kept (cut long also) = cut (omega (arith, length-append line (c ∷ []))) (over-kept c kept also)
 
 -- the definitions at a line feed, and at another character
-takenIn-feed : (c : ℕ) (now : Going) → c ≡ lineFeed → takenIn c now ≡ lineDone now
+pub takenIn-feed : (c : ℕ) (now : Going) → c ≡ lineFeed → takenIn c now ≡ lineDone now
 unfolding takenIn
 takenIn-feed c now e = rw (eq-eqb c lineFeed e)
 
@@ -80,7 +80,7 @@ takenIn-other c now other = rw (ne-eqb c lineFeed other)
 
 -- ---- characters that are no line feeds
 -- no line feed stands in the first n characters
-pub NoFeed : List ℕ → ℕ → Type 0
+abbrev pub NoFeed : List ℕ → ℕ → Type 0
 NoFeed s n = (k : ℕ) → k < n → getD s k 0 ≡ lineFeed → ⊥
 
 take-again : (n : ℕ) (a b : List ℕ) → take n (take n a ++ b) ≡ take n (a ++ b)
@@ -91,7 +91,7 @@ take-again (suc n) (x ∷ a) b = ap (λ (l : List ℕ). x ∷ l) (take-again n a
 -- they are put after the line that has begun
 pub fed-plain : (s : List ℕ) (now : Going) → NoFeed s (length s) → length (now .begun) ≤ keptLimit
     → fed s now ≡ record { text = now .text; view = now .view; begun = take keptLimit (now .begun ++ s) }
-unfolding fed longer NoFeed
+unfolding fed longer
 fed-plain [] now none short =
     ap (λ (l : List ℕ). record { text = now .text; view = now .view; begun = l })
     (sym (ap (λ (l : List ℕ). take keptLimit l) (append-nil (now .begun)) ∙ take-all keptLimit (now .begun) short))

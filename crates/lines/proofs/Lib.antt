@@ -8,4 +8,6 @@ pub mod Offering
 pub mod StepLaws
 pub mod Feeding
 pub mod FeedSteps
+pub mod FeedTurn
+pub mod Laws
 pub mod Claims

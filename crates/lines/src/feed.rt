@@ -1,14 +1,18 @@
 // The program's input, block by block: whole lines are answered as they come, and what is left of the last one is kept for
 // the next block. It does not matter how the input is cut.
 use crate::Line;
+use crate::steps::Stepped;
+use crate::steps::step;
 use heads::Head;
+use heads::Session;
 ghost use mathlib.Core.Path.{_≡_};
 ghost use mathlib.Core.List.{_++_};
 ghost use Prim.Native.Nat.{_+_, _≤_, min};
 ghost use lib.ListN.{length, take};
 ghost use Rattle.octets.specs.Place.{allBelow};
-ghost use Rattle.lines.specs.Feed.{keptLimit};
-ghost use Rattle.lines.specs.FeedPromise.{plainAt, Found, Begun, LineKept};
+ghost use Rattle.lines.specs.Feed.{keptLimit, goingIn};
+ghost use Rattle.lines.specs.Promise.{stepLimit};
+ghost use Rattle.lines.specs.FeedPromise.{plainAt, Found, Begun, LineKept, Feedable, TakesLine, Feeds, Ends};
 
 // The program part way: the head, how much of the line that has begun is kept, how many characters of the block were taken in,
 // and the place after what was written.
@@ -86,4 +90,117 @@ fn keep_line(line: &mut [u8], begun: usize, more: &[u8]) -> usize
         j += 1;
     }
     begun + count
+}
+
+// The next line of s, or what there is of it. The line that has begun is kept in the front of line.
+fn take_line(
+    h: Head,
+    o: &mut [u8; Session::PACKET_OCTETS],
+    g: &mut [u8; Session::MESSAGE_OCTETS],
+    work: &mut [u8],
+    line: &mut [u8],
+    begun: usize,
+    s: &[u8],
+    out: &mut [u8],
+    at: usize,
+) -> Fed
+    requires { ⌜ Feedable stepLimit h (now o) (now g) (now work) (now line) begun (now out) at ⌝ }
+    requires { ⌜ 1 ≤ length (now s) ⌝ }
+    ensures { λ r. ⌜ TakesLine (goingIn h (now (o .entry)) (now (g .entry)) (now (line .entry)) begun (now (out .entry)) at) (now (s .entry)) (now (out .entry)) at (r .head) (now (o .exit)) (now (g .exit)) (now (line .exit)) (r .begun) (r .taken) (now (out .exit)) (r .end) ⌝ }
+{
+    let stop = find_feed(s);
+    if s.len() <= stop {
+        let kept = keep_line(line, begun, s);
+        return Fed {
+            head: h,
+            begun: kept,
+            taken: stop,
+            end: at,
+        };
+    }
+    let taken = stop + 1;
+    if begun == 0 {
+        let made = step(h, o, g, work, &s[..stop], out, at);
+        let head = made.head;
+        let end = made.end;
+        return Fed {
+            head,
+            begun: 0,
+            taken,
+            end,
+        };
+    }
+    let kept = keep_line(line, begun, &s[..stop]);
+    let made = step(h, o, g, work, &line[..kept], out, at);
+    let head = made.head;
+    let end = made.end;
+    Fed {
+        head,
+        begun: 0,
+        taken,
+        end,
+    }
+}
+
+// A block of the input: its lines one after the other, as long as out is sure to have room for the next.
+pub fn take_block(
+    h: Head,
+    o: &mut [u8; Session::PACKET_OCTETS],
+    g: &mut [u8; Session::MESSAGE_OCTETS],
+    work: &mut [u8],
+    line: &mut [u8],
+    begun: usize,
+    block: &[u8],
+    out: &mut [u8],
+    at: usize,
+) -> Fed
+    requires { ⌜ Feedable 0 h (now o) (now g) (now work) (now line) begun (now out) at ⌝ }
+    ensures { λ r. ⌜ Feeds (goingIn h (now (o .entry)) (now (g .entry)) (now (line .entry)) begun (now (out .entry)) at) (now (block .entry)) (now (out .entry)) (r .head) (now (o .exit)) (now (g .exit)) (now (line .exit)) (r .begun) (r .taken) (now (out .exit)) (r .end) ⌝ }
+{
+    let mut head = h;
+    let mut kept = begun;
+    let mut taken = 0;
+    let mut end = at;
+    while taken < block.len() {
+        if out.len() - end < Line::STEP {
+            return Fed {
+                head,
+                begun: kept,
+                taken,
+                end,
+            };
+        }
+        let part = take_line(head, o, g, work, line, kept, &block[taken..], out, end);
+        let next = part.head;
+        head = next;
+        kept = part.begun;
+        taken += part.taken;
+        end = part.end;
+    }
+    Fed {
+        head,
+        begun: kept,
+        taken,
+        end,
+    }
+}
+
+// The end of the input: "A last line without a line feed counts unless it is empty".
+pub fn finish(
+    h: Head,
+    o: &mut [u8; Session::PACKET_OCTETS],
+    g: &mut [u8; Session::MESSAGE_OCTETS],
+    work: &mut [u8],
+    line: &mut [u8],
+    begun: usize,
+    out: &mut [u8],
+    at: usize,
+) -> Stepped
+    requires { ⌜ Feedable stepLimit h (now o) (now g) (now work) (now line) begun (now out) at ⌝ }
+    ensures { λ r. ⌜ Ends (goingIn h (now (o .entry)) (now (g .entry)) (now (line .entry)) begun (now (out .entry)) at) (now (out .entry)) (r .head) (now (o .exit)) (now (g .exit)) (now (line .exit)) (now (out .exit)) (r .end) ⌝ }
+{
+    if begun == 0 {
+        return Stepped { head: h, end: at };
+    }
+    step(h, o, g, work, &line[..begun], out, at)
 }

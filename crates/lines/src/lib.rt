@@ -4,6 +4,9 @@ mod hex;
 mod results;
 mod steps;
 
+pub use feed::Fed;
+pub use feed::finish;
+pub use feed::take_block;
 pub use hex::hex_to_octets;
 pub use steps::Stepped;
 pub use steps::step;
