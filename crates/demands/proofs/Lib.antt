@@ -10,3 +10,7 @@ pub mod Demand2
 pub mod Sheet
 pub mod Tables
 pub mod Demand1
+pub mod Sent
+pub mod Sound
+pub mod Fed
+pub mod Demand3

@@ -6,3 +6,5 @@ pub mod OneOutcome
 pub mod Refusals
 pub mod Demand1
 pub mod Sheet
+pub mod Feeding
+pub mod Demand3
