@@ -14,3 +14,5 @@ pub mod Sent
 pub mod Sound
 pub mod Fed
 pub mod Demand3
+pub mod Example
+pub mod Claims

@@ -105,16 +105,20 @@ module _ {row datagrams : List (List ℕ)} (honest : HonestSender row datagrams)
   packet-sized S low = within-true packetLeast packetLimit (length (getD row S [])) (honest .packets S low)
 
   -- and at any place
-  pub packet-short : (p : ℕ) → length (packetAt row p) ≤ packetLimit
-  packet-short p =
-      ⊎-elim (λ low. rw (packetAt-before row p low) (omega arith))
-      (λ past.
-      let place : p ≡ historyKept + (p - historyKept) = omega arith in
-      rw (place, packetAt-sent row (p - historyKept))
-      (⊎-elim (λ sent. packet-sized (p - historyKept) sent .1)
-      (λ none. rw (List·getD-eq-default row [] {n = p - historyKept} none) (omega arith))
-      (below-or-not (p - historyKept) (length row))))
-      (below-or-not p historyKept)
+  short-or-none : (S : ℕ) → length (getD row S []) ≤ packetLimit
+  short-or-none S =
+      ⊎-elim (λ sent. packet-sized S sent .1) (λ past. rw (List·getD-eq-default row [] {n = S} past) (omega arith))
+      (below-or-not S (length row))
+
+  packet-short : (p : ℕ) → length (packetAt row p) ≤ packetLimit
+  packet-short p = ⊎-elim low high (below-or-not p historyKept) where
+    low : p < historyKept → length (packetAt row p) ≤ packetLimit
+    low before = rw (packetAt-before row p before) (omega arith)
+
+    high : historyKept ≤ p → length (packetAt row p) ≤ packetLimit
+    high past =
+        let place : p ≡ historyKept + (p - historyKept) = omega arith in
+        rw (place, packetAt-sent row (p - historyKept)) (short-or-none (p - historyKept))
 
   message-short : (members : List ℕ) → length (messageOver (map (packetAt row) members)) ≤ messageLimit
   message-short members =

@@ -8,3 +8,5 @@ pub mod Demand1
 pub mod Sheet
 pub mod Feeding
 pub mod Demand3
+pub mod Example
+pub mod Claims
