@@ -160,16 +160,17 @@ module _ (d : ℕ) (datagram : Carried) (view : View) (r : ViewInRanges view) (l
         messages = λ e small. held-all e small .messages;
       }
 
+-- a reach within the sizes does not go further back than the view
+pub small-reach : (n m : ℕ) → n ≤ coveredLimit → m ≤ messagesLimit → n * m ≤ keptBefore
+small-reach n m few less = le-trans (mul-le-mul-right m few) (mul-le-mul-left coveredLimit less)
+
 -- no message that is held has a member twice
 pub distinct-held : (view : View) → ViewInRanges view → DistinctMembers (heldMessages (view .held))
 distinct-held view r =
     held-distinct (view .held)
     (λ d inside.
     let small : d < keptAhead = rw (r .heard) at inside in
-    reach-small ((heldAt (view .held) d) .n) (length ((heldAt (view .held) d) .messages)) (r .covered d small) (r .messages d small))
-  where
-    reach-small : (n m : ℕ) → n ≤ coveredLimit → m ≤ messagesLimit → n * m ≤ keptBefore
-    reach-small n m few less = le-trans (mul-le-mul-right m few) (mul-le-mul-left coveredLimit less)
+    small-reach ((heldAt (view .held) d) .n) (length ((heldAt (view .held) d) .messages)) (r .covered d small) (r .messages d small))
 
 -- ---- a number leaves
 pub on-in-ranges : (counts : Counts) (view : View) → ViewInRanges view → sum counts ≡ sum (view .counts) + 1

@@ -74,7 +74,7 @@ accept-held : (d : ℕ) (datagram : Carried) (view : View)
 unfolding accept
 accept-held d datagram view = refl
 
-accept-cells : (d : ℕ) (datagram : Carried) (view : View)
+pub accept-cells : (d : ℕ) (datagram : Carried) (view : View)
     → (accept d datagram view) .cells ≡ repair (filled d datagram view) (heldMessages ((accept d datagram view) .held))
 unfolding accept
 accept-cells d datagram view = refl

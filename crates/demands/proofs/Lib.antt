@@ -10,3 +10,9 @@ pub mod Demand2
 pub mod Sheet
 pub mod Tables
 pub mod Demand1
+pub mod Sent
+pub mod Sound
+pub mod Fed
+pub mod Demand3
+pub mod Example
+pub mod Claims

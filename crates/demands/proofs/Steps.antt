@@ -155,7 +155,7 @@ lost-grown : (number : ℕ) (c : Counts) → booked c ≡ grown c (countsOf (los
 unfolding many
 lost-grown number c = counts-path (omega arith) (omega arith) (omega arith) (omega arith)
 
-released-sum : {st : State} → Fills st → (c : Counts) → sum (releases.released st c) ≡ sum c + 1
+pub released-sum : {st : State} → Fills st → (c : Counts) → sum (releases.released st c) ≡ sum c + 1
 released-sum asReceived c = omega arith
 released-sum asSpare c = omega arith
 released-sum asRepaired c = omega arith
@@ -168,16 +168,16 @@ gone-counts : (counts : Counts) (view : View) → (goneOn counts view) .counts �
 unfolding goneOn
 gone-counts counts view = refl
 
-accept-base : (d : ℕ) (datagram : Carried) (view : View) → (accept d datagram view) .base ≡ view .base
+pub accept-base : (d : ℕ) (datagram : Carried) (view : View) → (accept d datagram view) .base ≡ view .base
 unfolding accept
 accept-base d datagram view = refl
 
-accept-counts : (d : ℕ) (datagram : Carried) (view : View) → (accept d datagram view) .counts ≡ view .counts
+pub accept-counts : (d : ℕ) (datagram : Carried) (view : View) → (accept d datagram view) .counts ≡ view .counts
 unfolding accept
 accept-counts d datagram view = refl
 
 -- the number at the base, where it is known
-base-fills : (view : View) → ViewInRanges view → Known (view .cells) keptBefore → Fills ((atBase view) .state)
+pub base-fills : (view : View) → ViewInRanges view → Known (view .cells) keptBefore → Fills ((atBase view) .state)
 base-fills view r known = fills-of ((atBase view) .state) known (r .noBlank keptBefore (omega arith) (omega arith))
 
 pub step : (move : Move) (view : View) → ViewInRanges view → Step view (after move view) (leaving move view)

@@ -6,3 +6,7 @@ pub mod OneOutcome
 pub mod Refusals
 pub mod Demand1
 pub mod Sheet
+pub mod Feeding
+pub mod Demand3
+pub mod Example
+pub mod Claims

@@ -1,0 +1,19 @@
+-- The demands, each proved in its file. Assumes nothing.
+use Rattle.demands.specs.Claims.{Claims}
+use Rattle.demands.proofs.Demand1.{demand-1}
+use Rattle.demands.proofs.Demand2.{demand-2}
+use Rattle.demands.proofs.Demand3.{demand-3}
+use Rattle.demands.proofs.Example as example
+use Rattle.demands.proofs.OneOutcome.{one-outcome}
+use Rattle.demands.proofs.Sheet.{twelve-cases}
+
+pub claims : Claims
+claims =
+    record {
+      demand1 = demand-1;
+      demand2 = demand-2;
+      demand3 = demand-3;
+      example = example.example;
+      oneOutcome = one-outcome;
+      twelveCases = twelve-cases;
+    }

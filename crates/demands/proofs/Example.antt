@@ -1,0 +1,144 @@
+-- The example, computed. Assumes nothing.
+use Prim.Native.Nat.{ℕ, zero, suc, _<_}
+use mathlib.Core.Path.{_≡_, refl, _∙_}
+use mathlib.Core.Logic.{⊎-elim}
+use mathlib.Core.Bool.{true}
+use mathlib.Core.List.{List, [], _∷_, List·Memᴰ as Among, List·Memᴰ·head as here, List·Memᴰ·tail as further, List·Memᴰ·not-nil, List·Memᴰ·cases-cons}
+use lib.ListN.{length, getD}
+use native.Mathlib.Omega.{arith}
+use Rattle.octets.specs.Place.{tab}
+use Rattle.octets.specs.ExclusiveOr.{xorAt, exclusiveOr, longest}
+use Rattle.lengths.specs.Refusals as refusals
+use Rattle.lengths.specs.Answers.{done, refuse}
+use Rattle.lengths.specs.Length.{lengthAt, lengthOctets}
+use Rattle.datagrams.specs.Carried.{spares, parity, Carried}
+use Rattle.datagrams.specs.Read.{allowed, octetAt, sizedAt, itemAt, itemsAt, endOf, sparesAt, parityAt, extraAt, numberOf, wholeOf, readDatagram, carriedBy}
+use Rattle.datagrams.specs.Write.{numberOctets, itemOctets, itemsOctets, countedOctets, datagramOctets}
+use Rattle.repair.specs.Cells.{repaired, cellAt, keptBefore}
+use Rattle.repair.specs.Members.{membersOf}
+use Rattle.repair.specs.Repair.{passing, usable, firstUsable, mended, fill, repairF, repair}
+use Rattle.repair.specs.Held.{heldAt, messagesOf, messagesFrom, heldMessages}
+use Rattle.repair.specs.Reached.{Unknown}
+use Rattle.repair.specs.Claims.{packet0, packet1, message2}
+use Rattle.views.specs.View.{View, freshView}
+use Rattle.views.specs.Offer as offers
+use Rattle.views.specs.Offer.{keep, keepSpares, accept, offered}
+use Rattle.sending.specs.Send.{packetInside}
+use Rattle.sending.specs.Carries as carries
+use Rattle.sending.specs.Honest.{packetAt, HonestAt, HonestSender}
+use Rattle.sending.specs.declared.Settings.the-variants as settings
+use Rattle.demands.specs.Feeding.{placeOf, Near, Fed, fresh, Takes, none, accepted, repeated}
+use Rattle.demands.specs.Example.{exampleRow, datagram0, datagram1, datagram2, exampleDatagrams, Example}
+
+-- ---- the sender
+sized : (S : ℕ) → S < length exampleRow → packetInside (getD exampleRow S []) ≡ true
+sized zero low = refl
+sized (suc zero) low = refl
+sized (suc (suc zero)) low = refl
+sized (suc (suc (suc S))) low = absurd (omega arith)
+
+follow : (S : ℕ) → S < length exampleRow → HonestAt exampleRow S (getD exampleDatagrams S [])
+unfolding datagramOctets numberOctets itemOctets itemsOctets countedOctets lengthOctets carries.sparesFrom carries.messagesFrom tab membersOf packetAt
+    xorAt exclusiveOr longest
+follow zero low = record { settings = settings.Spares 0; inside = refl; follows = refl }
+follow (suc zero) low = record { settings = settings.Spares 0; inside = refl; follows = refl }
+follow (suc (suc zero)) low = record { settings = settings.Parity 2 1; inside = refl; follows = refl }
+follow (suc (suc (suc S))) low = absurd (omega arith)
+
+honest : HonestSender exampleRow exampleDatagrams
+honest = record { packets = sized; places = refl; follow = follow }
+
+-- ---- what arrives
+abbrev carried1 : Carried
+carried1 = record { number = 1; packet = packet1; extra = spares [] }
+
+abbrev carried2 : Carried
+carried2 = record { number = 2; packet = packet0; extra = parity 2 (message2 ∷ []) }
+
+abbrev with1 : View
+with1 = accept 1 carried1 freshView
+
+near-fresh : (S : ℕ) → S < 3 → Near S freshView
+unfolding freshView
+near-fresh S low = record { ahead = omega arith; behind = omega arith }
+
+-- a read datagram, offered
+reads-1 : (view : View) → offers.offer datagram1 view ≡ offered carried1 view
+unfolding offers.offer readDatagram carriedBy numberOf wholeOf extraAt sparesAt parityAt itemsAt itemAt sizedAt octetAt allowed endOf lengthAt
+reads-1 view = refl
+
+reads-2 : (view : View) → offers.offer datagram2 view ≡ offered carried2 view
+unfolding offers.offer readDatagram carriedBy numberOf wholeOf extraAt sparesAt parityAt itemsAt itemAt sizedAt octetAt allowed endOf lengthAt
+reads-2 view = refl
+
+-- ---- the two lists
+abbrev only2 : View
+only2 = accept 2 carried2 freshView
+
+abbrev with12 : View
+with12 = accept 2 carried2 with1
+
+near-1 : (S : ℕ) → S < 3 → Near S with1
+unfolding freshView accept
+near-1 S low = record { ahead = omega arith; behind = omega arith }
+
+near-12 : (S : ℕ) → S < 3 → Near S with12
+unfolding freshView accept
+near-12 S low = record { ahead = omega arith; behind = omega arith }
+
+fresh-takes-1 : offered carried1 freshView ≡ done with1
+unfolding offered freshView
+fresh-takes-1 = refl
+
+fresh-takes-2 : offered carried2 freshView ≡ done only2
+unfolding offered freshView
+fresh-takes-2 = refl
+
+with1-takes-2 : offered carried2 with1 ≡ done with12
+unfolding offered accept freshView
+with1-takes-2 = refl
+
+again-1 : offered carried1 with12 ≡ refuse refusals.repeated
+unfolding offered accept freshView
+again-1 = refl
+
+first : Takes exampleRow exampleDatagrams (2 ∷ []) freshView only2
+first = accepted {S = 2} (omega arith) (near-fresh 2 (omega arith)) (reads-2 freshView ∙ fresh-takes-2) none
+
+second : Takes exampleRow exampleDatagrams (1 ∷ 2 ∷ 1 ∷ []) freshView with12
+second =
+    accepted {S = 1} (omega arith) (near-fresh 1 (omega arith)) (reads-1 freshView ∙ fresh-takes-1)
+    (accepted {S = 2} (omega arith) (near-1 2 (omega arith)) (reads-2 with1 ∙ with1-takes-2)
+    (repeated {S = 1} (omega arith) (near-12 1 (omega arith)) (reads-1 with12 ∙ again-1) none))
+
+all : (S : ℕ) → Among S (2 ∷ []) → Among S (1 ∷ 2 ∷ 1 ∷ [])
+all S among = ⊎-elim (λ same. further (here same)) (λ later. absurd (List·Memᴰ·not-nil later)) (List·Memᴰ·cases-cons among)
+
+missing : Unknown (only2 .cells) keptBefore
+unfolding freshView accept keep keepSpares tab xorAt exclusiveOr membersOf passing usable firstUsable mended fill repairF repair messagesOf messagesFrom
+    heldMessages
+missing = refl
+
+back : cellAt (with12 .cells) keptBefore ≡ record { state = repaired; octets = 0x06 ∷ 0 ∷ 0 ∷ 0 ∷ 0 ∷ 0 ∷ [] }
+unfolding freshView accept keep keepSpares tab xorAt exclusiveOr membersOf passing usable firstUsable mended fill repairF repair messagesOf messagesFrom
+    heldMessages
+back = refl
+
+held : heldAt (with12 .held) 2 ≡ record { accepted = true; n = 2; messages = message2 ∷ [] }
+unfolding freshView accept
+held = refl
+
+pub example : Example
+example =
+    record {
+      honest = honest;
+      fed = fresh;
+      one = only2;
+      two = with12;
+      first = first;
+      second = second;
+      all = all;
+      missing = missing;
+      back = back;
+      held = held;
+    }

@@ -1,0 +1,170 @@
+-- Sessions that an honest sender alone feeds: every offer of its datagrams is refused, or accepted at its own place; so all of
+-- them are sound. Assumes nothing.
+use Prim.Native.Nat.{ℕ, zero, suc, _+_, _-_, _%_, _≤_, _<_}
+use mathlib.Core.Path.{_≡_, refl, sym, ap, ap₂, subst, _∙_}
+use mathlib.Core.Bool.{Bool, true, false, cond}
+use mathlib.Core.List.{List, []}
+use lib.ListN.{length}
+use lib.Dec.{ltb}
+use native.Mathlib.Omega.{arith}
+use borrow.Author.Tests.{ltb-true}
+use Rattle.lengths.specs.Refusals as refusals
+use Rattle.lengths.specs.Answers.{Answer, done, refused, refuse}
+use Rattle.datagrams.specs.Carried.{Carried}
+use Rattle.datagrams.specs.Read.{DatagramParts, readDatagram, carriedBy}
+use Rattle.datagrams.proofs.AnswerLaws.{done-same}
+use Rattle.repair.specs.Cells.{keptBefore, keptAhead}
+use Rattle.repair.specs.Held.{heldAt}
+use Rattle.views.specs.View.{View, sum, numbers, distance}
+use Rattle.views.specs.Offer as offers
+use Rattle.views.specs.Offer.{accept, acceptedAt, offered, lateFrom}
+use Rattle.views.specs.Release as releases
+use Rattle.views.specs.Release.{Release, Loss}
+use Rattle.releasing.specs.Outcome.{afterNext, afterGiveUp}
+use Rattle.receiving.specs.Promise.{afterOffer}
+use Rattle.sending.specs.Honest.{carriedAt, HonestSender}
+use Rattle.demands.specs.History as moves
+use Rattle.demands.specs.History.{after, offer}
+use Rattle.demands.specs.Ranges.{ViewInRanges}
+use Rattle.demands.specs.Feeding.{placeOf, Near, datagramAt, Fed, fresh, arrives, asks, givesUp}
+use Rattle.demands.proofs.Steps.{OfferDone, offer-done, next-done, give-up-done, base-fills, released-sum}
+use Rattle.demands.proofs.Sent.{Follows, follows-of}
+use Rattle.demands.proofs.Sound.{Sound, fresh-sound, accept-sound, on-sound}
+
+-- ---- places and numbers: within 32,000 places a number tells its place
+place-of : (B S : ℕ) → S ≤ B + 32000 → B ≤ S + 32000 → distance (B % numbers) (S % numbers) < keptAhead
+    → S ≡ B + distance (B % numbers) (S % numbers)
+place-of B S ahead behind low = omega arith
+
+-- an honest datagram at its own place
+pub record Took (row datagrams : List (List ℕ)) (view : View) (S : ℕ) (last : View) : Type 0 where
+  pub d : ℕ
+  pub low : d < keptAhead
+  pub place : S ≡ placeOf view + d
+  pub carried : Carried
+  pub follows : Follows row datagrams (placeOf view + d) carried
+  pub is : accept d carried view ≡ last
+
+pub record Again (view : View) (S : ℕ) : Type 0 where
+  pub d : ℕ
+  pub low : d < keptAhead
+  pub place : S ≡ placeOf view + d
+  pub marked : (heldAt (view .held) d) .accepted ≡ true
+
+abbrev numberIn : {A : Type 0} → Answer A → ℕ
+numberIn (done a) = 0
+numberIn (refused why) = why .number
+
+-- refused as repeated: near, and accepted before
+offered-again : (c : Carried) (view : View) → offered c view ≡ refuse refusals.repeated
+    → (distance (view .base) (c .number) < keptAhead) × (acceptedAt view (distance (view .base) (c .number)) ≡ true)
+unfolding offered
+offered-again c view e =
+    pick (ltb (distance (view .base) (c .number)) keptAhead) (acceptedAt view (distance (view .base) (c .number)))
+    (ltb (distance (view .base) (c .number)) lateFrom)
+    refl
+    refl
+    (ap numberIn e)
+  where
+    pick : (b again : Bool) (far : Bool) → ltb (distance (view .base) (c .number)) keptAhead ≡ b
+        → acceptedAt view (distance (view .base) (c .number)) ≡ again
+        → numberIn
+        (cond b (cond again (refuse refusals.repeated) (done (accept (distance (view .base) (c .number)) c view)))
+        (cond far (refuse refusals.tooFar) (refuse refusals.late)))
+        ≡ 7
+        → (distance (view .base) (c .number) < keptAhead) × (acceptedAt view (distance (view .base) (c .number)) ≡ true)
+    pick true true far near marked n = (ltb-true (distance (view .base) (c .number)) keptAhead near, marked)
+    pick true false far near marked n = absurd (omega arith)
+    pick false again true near marked n = absurd (omega arith)
+    pick false again false near marked n = absurd (omega arith)
+
+module _ {row datagrams : List (List ℕ)} (honest : HonestSender row datagrams) {view : View} (r : ViewInRanges view) (S : ℕ)
+    (low : S < length row) (near : Near S view) where
+  abbrev octets : List ℕ
+  octets = datagramAt datagrams S
+
+  abbrev here : Carried
+  here = follows-of honest S low .0
+
+  fits : Follows row datagrams S here
+  fits = follows-of honest S low .1
+
+  -- its number is that of its place
+  number-here : here .number ≡ S % numbers
+  number-here = ap (λ (c : Carried). c .number) (fits .is)
+
+  distance-here : distance (view .base) (here .number) ≡ distance (placeOf view % numbers) (S % numbers)
+  distance-here = ap₂ distance (r .base) number-here
+
+  at-place : distance (view .base) (here .number) < keptAhead → S ≡ placeOf view + distance (view .base) (here .number)
+  at-place small =
+      rw distance-here (place-of (placeOf view) S (near .ahead) (near .behind) (rw distance-here at small))
+
+  pub took : (last : View) → offers.offer octets view ≡ done last → Took row datagrams view S last
+  unfolding carriedBy
+  took last e =
+      let o = offer-done octets view last e in
+      let parts : fits .reads .parts ≡ o .parts = done-same (sym (fits .reads .read) ∙ o .read) in
+      let same : carriedBy octets (o .parts) ≡ here = ap (carriedBy octets) (sym parts) ∙ fits .reads .carried in
+      let d-is : distance (view .base) (o .parts .number) ≡ distance (view .base) (here .number) =
+      ap (λ (c : Carried). distance (view .base) (c .number)) same in
+      let small : distance (view .base) (here .number) < keptAhead = rw d-is at (o .near) in
+      let place = at-place small in
+      record {
+        d = distance (view .base) (here .number);
+        low = small;
+        place = place;
+        carried = here;
+        follows = subst (λ (x : ℕ). Follows row datagrams x here) place fits;
+        is = ap₂ (λ (d : ℕ) (c : Carried). accept d c view) (sym d-is) (sym same) ∙ o .is;
+      }
+
+  offer-here : offers.offer octets view ≡ offered here view
+  unfolding offers.offer
+  offer-here = rw (fits .reads .read, fits .reads .carried)
+
+  pub again : offers.offer octets view ≡ refuse refusals.repeated → Again view S
+  again e = pick (offered-again here view (sym offer-here ∙ e))
+    where
+      pick : (distance (view .base) (here .number) < keptAhead) × (acceptedAt view (distance (view .base) (here .number)) ≡ true)
+          → Again view S
+      pick t = record { d = distance (view .base) (here .number); low = t .0; place = at-place (t .0); marked = t .1 }
+
+-- ---- every such session is sound
+pub took-sound : {row datagrams : List (List ℕ)} {view last : View} {S : ℕ} → S < length row → Sound row datagrams view
+    → Took row datagrams view S last → Sound row datagrams last
+took-sound {row} {datagrams} low s t =
+    subst (Sound row datagrams) (t .is) (accept-sound s (t .d) (t .low) (t .carried) (subst (λ (x : ℕ). x < length row) (t .place) low) (t .follows))
+
+module _ {row datagrams : List (List ℕ)} (honest : HonestSender row datagrams) {view : View} (s : Sound row datagrams view) where
+  arrives-sound : (S : ℕ) → S < length row → Near S view → Sound row datagrams (after (offer (datagramAt datagrams S)) view)
+  unfolding after
+  arrives-sound S low near = pick (offers.offer (datagramAt datagrams S) view) refl where
+    pick : (a : Answer View) → offers.offer (datagramAt datagrams S) view ≡ a → Sound row datagrams (afterOffer a view)
+    pick (done last) e = took-sound low s (took honest (s .ranges) S low near last e)
+    pick (refused why) e = s
+
+  asks-sound : (room : ℕ) → Sound row datagrams (after (moves.next room) view)
+  unfolding after
+  asks-sound room = pick (releases.next room view) refl where
+    pick : (a : Answer Release) → releases.next room view ≡ a → Sound row datagrams (afterNext a view)
+    pick (done a) e =
+        let o = next-done room view a e in
+        subst (Sound row datagrams) (sym (o .after)) (on-sound s _ (released-sum (base-fills view (s .ranges) (o .known)) (view .counts)))
+    pick (refused why) e = s
+
+  gives-up-sound : Sound row datagrams (after moves.giveUp view)
+  unfolding after
+  gives-up-sound = pick (releases.giveUp view) refl where
+    pick : (a : Answer Loss) → releases.giveUp view ≡ a → Sound row datagrams (afterGiveUp a view)
+    pick (done a) e =
+        let o = give-up-done view a e in
+        subst (Sound row datagrams) (sym (o .after)) (on-sound s _ (omega arith))
+    pick (refused why) e = s
+
+pub fed-sound : {row datagrams : List (List ℕ)} → HonestSender row datagrams → {view : View} → Fed row datagrams view
+    → Sound row datagrams view
+fed-sound {row} {datagrams} honest fresh = fresh-sound row datagrams
+fed-sound honest (arrives f S low near) = arrives-sound honest (fed-sound honest f) S low near
+fed-sound honest (asks f room) = asks-sound honest (fed-sound honest f) room
+fed-sound honest (givesUp f) = gives-up-sound honest (fed-sound honest f)

@@ -1,0 +1,70 @@
+-- Demand 3: "Take an honest sender, a session fresh at its start and fed only by it, nothing ever offered over 32,000 places
+-- from the base, and no release or give-up meanwhile. From one state, of two lists of accepted or repeated datagrams, let the
+-- second hold all of the first, in any order. Then every number known after the first is known after the second, both equal to
+-- the sender's packet up to zeros at the end. And one accepted datagram, still held, with m parity messages brings back any m or
+-- fewer numbers in a row within its reach, if the rest of its reach is known." Statements alone. Definitions only.
+use Prim.Native.Nat.{ℕ, _+_, _≤_, _<_}
+use mathlib.Core.Path.{_≡_}
+use mathlib.Core.Logic.{_⊎_}
+use mathlib.Core.Bool.{true}
+use mathlib.Core.List.{List, [], _∷_, List·Memᴰ as Among}
+use lib.ListN.{length}
+use Rattle.repair.specs.Members.{InReach}
+use Rattle.repair.specs.Cells.{Cell, repaired, cellAt, keptBefore, keptAhead, keptNumbers}
+use Rattle.repair.specs.Held.{heldAt}
+use Rattle.repair.specs.Reached.{Known}
+use Rattle.repair.specs.Honest.{TrueCells}
+use Rattle.views.specs.View.{View, freshView}
+use Rattle.sending.specs.Honest.{HonestSender}
+use Rattle.demands.specs.Feeding.{sentAt, Fed, Takes}
+
+-- ---- two lists from one state
+pub record TwoLists (row : List (List ℕ)) (one two : View) : Type 0 where
+  -- every number known after the first is known after the second
+  pub known : (p : ℕ) → p < keptNumbers → Known (one .cells) p → Known (two .cells) p
+  -- both equal to the sender's packet up to zeros at the end
+  pub firstRight : TrueCells (sentAt row one) (one .cells)
+  pub secondRight : TrueCells (sentAt row two) (two .cells)
+  -- and both count from the same base
+  pub sameBase : one .base ≡ two .base
+  pub sameCounts : one .counts ≡ two .counts
+
+abbrev pub NoLessKnown : Type 0
+NoLessKnown = (row datagrams : List (List ℕ)) → HonestSender row datagrams
+    → (view : View) → Fed row datagrams view
+    → (first second : List ℕ) (one two : View) → Takes row datagrams first view one → Takes row datagrams second view two
+    → ((S : ℕ) → Among S first → Among S second)
+    → TwoLists row one two
+
+-- ---- in every session that the sender alone feeds, what is known is the sender's
+abbrev pub KnownRight : Type 0
+KnownRight = (row datagrams : List (List ℕ)) → HonestSender row datagrams → (view : View) → Fed row datagrams view
+    → TrueCells (sentAt row view) (view .cells)
+
+-- ---- a burst
+-- of the reach of the datagram held at distance d, all is known but for k numbers in a row, those from place a on
+abbrev pub RestKnown : View → ℕ → ℕ → ℕ → Type 0
+RestKnown view d a k = (p : ℕ)
+    → InReach (keptBefore + d) ((heldAt (view .held) d) .n) (length ((heldAt (view .held) d) .messages)) p
+    → ((p < a) ⊎ (a + k ≤ p))
+    → Known (view .cells) p
+
+-- then all is known: whatever the order in which the datagram and the rest of its reach came, and with releases among them
+abbrev pub BurstBack : Type 0
+BurstBack = (row datagrams : List (List ℕ)) → HonestSender row datagrams → (view : View) → Fed row datagrams view
+    → (d : ℕ) → d < keptAhead → (heldAt (view .held) d) .accepted ≡ true
+    → (a k : ℕ) → k ≤ length ((heldAt (view .held) d) .messages) → RestKnown view d a k
+    → (p : ℕ) → InReach (keptBefore + d) ((heldAt (view .held) d) .n) (length ((heldAt (view .held) d) .messages)) p
+    → Known (view .cells) p
+
+-- a session after a list of accepted or repeated datagrams is again one that the sender alone feeds
+abbrev pub TakesFed : Type 0
+TakesFed = (row datagrams : List (List ℕ)) (places : List ℕ) (view last : View) → Fed row datagrams view
+    → Takes row datagrams places view last
+    → Fed row datagrams last
+
+pub record Demand3 : Type 0 where
+  pub noLessKnown : NoLessKnown
+  pub knownRight : KnownRight
+  pub burstBack : BurstBack
+  pub takesFed : TakesFed
