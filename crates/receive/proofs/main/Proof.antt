@@ -1,0 +1,25 @@
+use Rattle.ranges.proofs.Laws.{within-of}
+use borrow.Author.Needs.{needs}
+use Rattle.receive.proofs.main.Statement.{statement}
+use Rattle.receive.proofs.main.Tie as tie
+use Rattle.receive.proofs.main.Reads as reads
+use Rattle.receive.proofs.main.Lts as lts
+use Rattle.heads.proofs.Session.fresh.Reads as fresh-reads
+use Rattle.receive.proofs.serve.Reads as serve-reads
+
+-- src/main.rt:88:9
+fresh-requires : tie.Need-fresh-requires
+fresh-requires c κs = search needs
+
+-- src/main.rt:92:5
+serve-requires : tie.Need-serve-requires
+serve-requires c κs =
+    let fresh = c .before .before .before .before .before .fresh .ensures in
+    within-of _ _ _ (fresh .ranges) (fresh .sized)
+
+-- src/main.rt:87:1
+returns : tie.Need-returns
+returns c = search needs
+
+pub main-spec : {M : Type 1} → statement M
+main-spec = tie.close (tie.spec fresh-requires serve-requires returns)
