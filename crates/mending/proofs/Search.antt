@@ -29,7 +29,7 @@ use Rattle.heads.specs.declared.Heard.{Heard}
 use Rattle.heads.proofs.Parts.{HeardRight, heard-right, mark-range, message-size, distance-of}
 use Rattle.heads.proofs.Slots.{heard-small, message-small, has-message-slot}
 use Rattle.mending.specs.Back.{flag, Flags, countBack, findBack}
-use Rattle.mending.specs.Promise.{Sized, heardAt, messageIn, missingOf, Points, LowestFound, UsableFound}
+use Rattle.mending.specs.Promise.{Sized, heardAt, messageIn, missingOf, Points, LowestFound, Sees, LowestSeen, UsableFound}
 use Rattle.mending.specs.declared.Lowest.{Lowest}
 use Rattle.mending.specs.declared.Lowest.the-variants as lowest
 use Rattle.mending.specs.declared.Usable.{Usable}
@@ -44,6 +44,7 @@ sized-at {h} {o} {g} w d near = mark-range _ _ _ _ ((heard-right h g d (w .heard
 pub sized-within : {h : Head} {o g : List ℕ} → Within h o g → Sized h
 sized-within {h} {o} {g} w =
     record {
+      sizes = w .heard .sizes;
       covered =
           λ j small.
           let d = distance-of (h .base) j (w .base) small in
@@ -251,6 +252,50 @@ lowest-none {h} {d} {i} {m} {slot} {at} b all e-at e-slot e-m =
           (first-none (cellsOf h o) ((heardAt h d) .m) (messageIn h g d) (λ k small. b .none k (omega arith) o g w));
       points = tt;
     }
+
+-- ---- the same for every head in which the search sees a number
+pub record SeenBelow (flags sizes : List ℕ) (at slot n m i : ℕ) : Type 0 where
+  pub below : (h : Head) (d : ℕ) → Sees h d flags sizes at slot n m → NoneBelow h d i
+
+pub seen-start : {flags sizes : List ℕ} {at slot n m : ℕ} → SeenBelow flags sizes at slot n m 0
+seen-start = record { below = λ h d e. below-start h d }
+
+module _ {flags sizes : List ℕ} {at slot index n m i first unknown : ℕ} (b : SeenBelow flags sizes at slot n m i) (more : i < m)
+    (e-index : index ≡ i) (e-first : first ≡ (at + i) % numbers)
+    (e-unknown : unknown ≡ missingOf (getD sizes (slot * messagesLimit + index) 0) flags first n m) where
+  of-head : {h : Head} {d : ℕ} → Sees h d flags sizes at slot n m
+      → unknown ≡ missingOf (sizeIn h (slot * messagesLimit + index)) flags first n m
+  of-head {h} e =
+      e-unknown ∙ ap (λ (l : List ℕ). missingOf (getD l (slot * messagesLimit + index) 0) flags first n m) (e .lengths)
+
+  pub seen-turn : (unknown ≡ 1 → ⊥) → SeenBelow flags sizes at slot n m (i + 1)
+  seen-turn miss =
+      record {
+        below =
+            λ h d e.
+            below-turn (b .below h d e) more (e .unknown) (e .near) (e .number) (e .place) (e .covered) (e .count) e-index e-first
+            (of-head e) miss;
+      }
+
+  pub seen-hit : {target : ℕ} → unknown ≡ 1 → target ≡ findBack flags first n m
+      → LowestSeen flags sizes at slot n m (lowest.Message index target)
+  seen-hit {target} hit e-target =
+      record {
+        found =
+            λ h d e.
+            lowest-hit (b .below h d e) more (e .unknown) (e .near) (e .number) (e .place) (e .covered) (e .count) e-index e-first
+            (of-head e) target hit e-target;
+      }
+
+-- a head and its sizes
+pub sees-at : {h : Head} {flags : List ℕ} {d at slot n m : ℕ} → Flags h flags → d < keptAhead → at ≡ (h .base + d) % numbers
+    → slot ≡ at % slotsHeard → n ≡ (heardIn h slot) .n → m ≡ (heardIn h slot) .m → Sees h d flags (h .sizes) at slot n m
+sees-at f near e-at e-slot e-n e-m =
+    record { unknown = f; lengths = refl; near = near; number = e-at; place = e-slot; covered = e-n; count = e-m }
+
+pub seen-none : {flags sizes : List ℕ} {at slot n m i : ℕ} → SeenBelow flags sizes at slot n m i → m ≤ i
+    → LowestSeen flags sizes at slot n m lowest.Nothing
+seen-none b all = record { found = λ h d e. lowest-none (b .below h d e) all (e .number) (e .place) (e .count) }
 
 -- a flag is one or zero
 flag-small : (b : Bool) → cond b 1 0 ≤ 1

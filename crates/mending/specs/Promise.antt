@@ -1,6 +1,6 @@
 -- What the searches, the fill and the whole repair owe, a record for each. A search looks at the head alone, so what it owes
 -- holds of every pair of stores with which the head is within its ranges. Definitions only.
-use Prim.Native.Nat.{ℕ, _+_, _≤_, _<_}
+use Prim.Native.Nat.{ℕ, _+_, _%_, _≤_, _<_}
 use mathlib.Core.Path.{_≡_}
 use mathlib.Core.Bool.{true, cond}
 use mathlib.Core.List.{List}
@@ -13,18 +13,20 @@ use Rattle.repair.specs.Members.{membersOf}
 use Rattle.repair.specs.Repair.{Message, unknownMembers, usable, firstUsable, mended, fill, repair}
 use Rattle.repair.specs.Held.{messagesOf, heldMessages}
 use Rattle.stores.specs.Store.{part}
-use Rattle.heads.specs.Head.{slotAt, heardSlotAt, messageSlot, slotsHeard, heardIn, sizeIn, heldIn, cellsOf, heldOf}
+use Rattle.views.specs.View.{numbers}
+use Rattle.heads.specs.Head.{slotAt, heardSlotAt, messageSlot, slotsKept, slotsHeard, slotsMessages, heardIn, sizeIn, heldIn, cellsOf, heldOf}
 use Rattle.heads.specs.Within.{Within}
 use Rattle.heads.specs.declared.Head.{Head}
 use Rattle.heads.specs.declared.Heard.{Heard}
-use Rattle.mending.specs.Back.{countBack}
+use Rattle.mending.specs.Back.{Flags, countBack}
 use Rattle.mending.specs.declared.Usable.{Usable}
 use Rattle.mending.specs.declared.Usable.the-variants as usables
 use Rattle.mending.specs.declared.Lowest.{Lowest}
 use Rattle.mending.specs.declared.Lowest.the-variants as lowest
 
--- n and m of every number are within the sizes
+-- n and m of every number are within the sizes, and every message has a size
 pub record Sized (h : Head) : Type 0 where
+  pub sizes : length (h .sizes) ≡ slotsMessages
   pub covered : (j : ℕ) → j < slotsHeard → (heardIn h j) .n ≤ coveredLimit
   pub messages : (j : ℕ) → j < slotsHeard → (heardIn h j) .m ≤ messagesLimit
 
@@ -63,6 +65,29 @@ pub record LowestFound (h : Head) (d : ℕ) (r : Lowest) : Type 0 where
   pub answer : (o g : List ℕ) → Within h o g
       → firstUsable (cellsOf h o) (messagesOf (keptBefore + d) (heldIn h g (heardSlotAt (h .base) d))) ≡ LowestAnswer h d r g
   pub points : LowestPoints h d r
+
+-- what the search of a number's messages asks for: places and sizes within their limits, and flags of one or zero
+pub record Seeable (flags sizes : List ℕ) (slot n m : ℕ) : Type 0 where
+  pub flags-long : length flags ≡ slotsKept
+  pub flags-small : (i : ℕ) → getD flags i 0 ≤ 1
+  pub sizes-long : length sizes ≡ slotsMessages
+  pub slot-small : slot < slotsHeard
+  pub covered : n ≤ coveredLimit
+  pub few : m ≤ messagesLimit
+
+-- it sees the number at distance d of a head
+pub record Sees (h : Head) (d : ℕ) (flags sizes : List ℕ) (at slot n m : ℕ) : Type 0 where
+  pub unknown : Flags h flags
+  pub lengths : sizes ≡ h .sizes
+  pub near : d < keptAhead
+  pub number : at ≡ (h .base + d) % numbers
+  pub place : slot ≡ at % slotsHeard
+  pub covered : n ≡ (heardIn h slot) .n
+  pub count : m ≡ (heardIn h slot) .m
+
+-- what it owes: the answer for every head in which it sees a number
+pub record LowestSeen (flags sizes : List ℕ) (at slot n m : ℕ) (r : Lowest) : Type 0 where
+  pub found : (h : Head) (d : ℕ) → Sees h d flags sizes at slot n m → LowestFound h d r
 
 -- the first usable message, counted from the base on
 abbrev pub UsableAnswer : Head → Usable → List ℕ → Option Message

@@ -22,7 +22,7 @@ ghost use Rattle.repair.specs.Repair.{usable};
 ghost use Rattle.heads.specs.Head.{slotsKept, packetOctets, stateOf, cellsOf, sizeIn, messageSlot, heardSlotAt};
 ghost use Rattle.heads.specs.Within.{Within};
 ghost use Rattle.mending.specs.Back.{flag, Flags, countBack, findBack, Summed};
-ghost use Rattle.mending.specs.Promise.{Sized, LowestFound, UsableFound, MendedOctets, Points, Filled, Mended, missingOf, messageIn, heardAt};
+ghost use Rattle.mending.specs.Promise.{Sized, Seeable, LowestSeen, UsableFound, MendedOctets, Points, Filled, Mended, missingOf, messageIn, heardAt};
 
 // A message that mends: the distance of its number from the base, its index, and the slot of its one unknown member.
 pub enum Usable {
@@ -150,24 +150,16 @@ fn number(octet: u8) -> u16
     octet as u16
 }
 
-// The lowest usable message of the number at a distance from the base.
-fn lowest_usable(h: Head, flags: &[u8], distance: u16) -> Lowest
-    requires { ⌜ Sized h ⌝ }
-    requires { ⌜ Flags h (now flags) ⌝ }
-    requires { ⌜ distance < keptAhead ⌝ }
-    ensures { λ r. ⌜ LowestFound h distance r ⌝ }
+// The lowest usable message of a number that has m messages over n each.
+fn lowest_usable(flags: &[u8], sizes: &[u16], at: u16, slot: usize, n: usize, m: u16) -> Lowest
+    requires { ⌜ Seeable (now flags) (now sizes) slot n m ⌝ }
+    ensures { λ r. ⌜ LowestSeen (now (flags .entry)) (now (sizes .entry)) at slot n m r ⌝ }
 {
-    let base = h.base;
-    let at = std::num::wrapping_add_u16(base, distance);
-    let slot = wide16(at % 32);
-    let heard = h.heard[slot];
-    let n = wide(heard.n);
-    let m = number(heard.m);
     let mut i: u16 = 0;
     while i < m {
         let index = wide16(i);
         let place = slot * Parity::MESSAGES + index;
-        let size = h.sizes[place];
+        let size = sizes[place];
         let first = std::num::wrapping_add_u16(at, i);
         let unknown = missing(size, flags, first, n, m);
         if unknown == 1 {
@@ -188,9 +180,16 @@ fn first_usable(h: Head) -> Usable
     ensures { λ r. ⌜ UsableFound h r ⌝ }
 {
     let flags = unknown_slots(h);
+    let sizes = h.sizes;
+    let base = h.base;
     let mut distance: u16 = 0;
     while distance < 32 {
-        let found = lowest_usable(h, &flags, distance);
+        let at = std::num::wrapping_add_u16(base, distance);
+        let slot = wide16(at % 32);
+        let heard = h.heard[slot];
+        let n = wide(heard.n);
+        let m = number(heard.m);
+        let found = lowest_usable(&flags, &sizes, at, slot, n, m);
         if let Lowest::Message { index, slot } = found {
             return Usable::Message {
                 distance,

@@ -1,122 +1,91 @@
 use native.Mathlib.Omega.{arith}
-use borrow.Author.Needs.{needs}
-use Rattle.mending.proofs.Search.{NoneBelow, below-start, below-turn, lowest-hit, lowest-none, flags-small}
 use Prim.Native.Nat.{_-_}
+use borrow.Author.Needs.{needs}
+use Rattle.mending.proofs.Search.{SeenBelow, seen-start, seen-turn, seen-hit, seen-none}
 use Rattle.mending.proofs.lowest_usable.Statement.{statement}
 use Rattle.mending.proofs.lowest_usable.Tie as tie
 use Rattle.mending.proofs.lowest_usable.Reads as reads
 use Rattle.mending.proofs.lowest_usable.Lts as lts
 use Rattle.mending.proofs.find_back.Reads as find-back-reads
 use Rattle.mending.proofs.missing.Reads as missing-reads
-use Rattle.mending.proofs.number.Reads as number-reads
-use Rattle.mending.proofs.wide.Reads as wide-reads
 use Rattle.mending.proofs.wide16.Reads as wide16-reads
 use Rattle.std.proofs.num.wrapping_add_u16.Reads as wrapping-add-u16-reads
 
 abbrev Inv-loop : tie.InvT-loop
-Inv-loop flags distance h base at slot n m i₀ i = NoneBelow h distance i
+Inv-loop flags sizes at slot n m i₀ i = SeenBelow flags sizes at slot n m i
 
 abbrev μ-loop : tie.MeasureT-loop
-μ-loop flags distance h base at slot n m i₀ i = m - i
+μ-loop flags sizes at slot n m i₀ i = m - i
 
--- src/lib.rt:159:9
-wrapping-add-u16-requires : tie.Need-wrapping-add-u16-requires Inv-loop μ-loop
-wrapping-add-u16-requires c κs = search needs
+-- src/lib.rt:159:5
+loop-holds : tie.Need-loop-holds Inv-loop μ-loop
+loop-holds c = seen-start
 
--- src/lib.rt:160:9
+-- src/lib.rt:160:13
 wide16-requires : tie.Need-wide16-requires Inv-loop μ-loop
 wide16-requires c κs = search needs
 
--- src/lib.rt:161:17
-mul-heard : tie.Need-mul-heard Inv-loop μ-loop
-mul-heard c = search needs
-
--- src/lib.rt:161:17
-element-copy-out-heard : tie.Need-element-copy-out-heard Inv-loop μ-loop
-element-copy-out-heard c = search needs
-
--- src/lib.rt:162:9
-wide-requires : tie.Need-wide-requires Inv-loop μ-loop
-wide-requires c κs = search needs
-
--- src/lib.rt:163:9
-number-requires : tie.Need-number-requires Inv-loop μ-loop
-number-requires c κs = search needs
-
--- src/lib.rt:165:5
-loop-holds : tie.Need-loop-holds Inv-loop μ-loop
-loop-holds c = search below-start
-
--- src/lib.rt:166:13
-wide16-requires-2 : tie.Need-wide16-requires-2 Inv-loop μ-loop
-wide16-requires-2 c κs = search needs
-
--- src/lib.rt:167:21
+-- src/lib.rt:161:21
 mul-place : tie.Need-mul-place Inv-loop μ-loop
 mul-place c = search needs
 
--- src/lib.rt:167:21
+-- src/lib.rt:161:21
 add-place : tie.Need-add-place Inv-loop μ-loop
 add-place c = search needs
 
--- src/lib.rt:168:20
+-- src/lib.rt:162:20
 mul-size : tie.Need-mul-size Inv-loop μ-loop
 mul-size c = search needs
 
--- src/lib.rt:168:20
-element-copy-out-size : tie.Need-element-copy-out-size Inv-loop μ-loop
-element-copy-out-size c =
-    let scan = c .before .before .before in
-    let start = scan .before .before .before .before .before .before in
-    omega (arith, start .pre .0 .messages (scan .before .before .before .wide16 .result) (omega arith))
+-- src/lib.rt:162:20
+shared-slice-read-size : tie.Need-shared-slice-read-size Inv-loop μ-loop
+shared-slice-read-size c = search needs
 
--- src/lib.rt:169:13
-wrapping-add-u16-requires-2 : tie.Need-wrapping-add-u16-requires-2 Inv-loop μ-loop
-wrapping-add-u16-requires-2 c κs = search needs
+-- src/lib.rt:163:13
+wrapping-add-u16-requires : tie.Need-wrapping-add-u16-requires Inv-loop μ-loop
+wrapping-add-u16-requires c κs = search needs
 
--- src/lib.rt:170:13
+-- src/lib.rt:164:13
 missing-requires : tie.Need-missing-requires Inv-loop μ-loop
 missing-requires c κs =
-    let start = c .before .before .before .before .before .before .before .before .before .before .before in
-    (start .pre .1 .0 .long, (flags-small (start .pre .1 .0), omega arith))
+    let asked = c .before .before .before .before .before .before .before .pre in
+    (asked .flags-long, (asked .flags-small, omega (arith, asked .covered)))
 
--- src/lib.rt:172:17
+-- src/lib.rt:166:17
 find-back-requires : tie.Need-find-back-requires Inv-loop μ-loop
 find-back-requires c κs = search needs
 
--- src/lib.rt:173:13
+-- src/lib.rt:167:13
 returns : tie.Need-returns Inv-loop μ-loop
-returns c = search lowest-hit
+returns c =
+    let count = c .before .before in
+    let sum = count .before in
+    let step = sum .before .before in
+    let turn = step .before in
+    let loop = turn .before in
+    seen-hit (loop .loop .inv) (turn .loop-test .taken) (step .wide16 .ensures) (sum .wrapping-add-u16 .ensures) (count .missing .ensures) (c .before .if1 .taken) (c .find-back .ensures)
 
--- src/lib.rt:178:9
+-- src/lib.rt:172:9
 add-i : tie.Need-add-i Inv-loop μ-loop
 add-i c = search needs
 
--- src/lib.rt:165:5
+-- src/lib.rt:159:5
 loop-less : tie.Need-loop-less Inv-loop μ-loop
 loop-less c = search needs
 
--- src/lib.rt:165:5
+-- src/lib.rt:159:5
 loop-again : tie.Need-loop-again Inv-loop μ-loop
 loop-again c =
-    let sum = c .before .before in
-    let turn = sum .before .before .before in
-    let scan = turn .before .before in
-    let place = scan .before .before .before in
-    let start = place .before .before .before in
-    below-turn (turn .before .loop .inv) (turn .loop-test .taken) (start .pre .1 .0) (start .pre .1 .1)
-    (place .before .wrapping-add-u16 .ensures)
-    (place .wide16 .ensures)
-    (scan .before .wide .ensures .same)
-    (scan .number .ensures)
-    (sum .before .before .wide162 .ensures)
-    (sum .wrapping-add-u162 .ensures)
-    (c .before .missing .ensures)
-    (c .if1 .left)
+    let count = c .before in
+    let sum = count .before in
+    let step = sum .before .before in
+    let turn = step .before in
+    let loop = turn .before in
+    seen-turn (loop .loop .inv) (turn .loop-test .taken) (step .wide16 .ensures) (sum .wrapping-add-u16 .ensures) (count .missing .ensures) (c .if1 .left)
 
--- src/lib.rt:152:1
+-- src/lib.rt:154:1
 returns-2 : tie.Need-returns-2 Inv-loop μ-loop
-returns-2 c = search lowest-none
+returns-2 c = seen-none (c .before .loop .inv) (c .loop-test .left)
 
 pub lowest-usable-spec : {M : Type 1} → statement M
 lowest-usable-spec =
@@ -124,19 +93,13 @@ lowest-usable-spec =
     (tie.spec
     Inv-loop
     μ-loop
-    wrapping-add-u16-requires
-    wide16-requires
-    mul-heard
-    element-copy-out-heard
-    wide-requires
-    number-requires
     loop-holds
-    wide16-requires-2
+    wide16-requires
     mul-place
     add-place
     mul-size
-    element-copy-out-size
-    wrapping-add-u16-requires-2
+    shared-slice-read-size
+    wrapping-add-u16-requires
     missing-requires
     find-back-requires
     returns
