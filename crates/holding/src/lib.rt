@@ -24,7 +24,7 @@ fn wide(n: u16) -> usize
 }
 
 // The octets of a part of the datagram s, laid at the front of a slot: hands back how many.
-fn put_part(g: &mut [u8], slot: usize, s: &[u8], item: Part) -> u16
+pub fn put_part(g: &mut [u8], slot: usize, s: &[u8], item: Part) -> u16
     requires { ⌜ HasSlot slot (now g) ⌝ }
     requires { ⌜ PartInside messageLeast messageLimit (now s) item ⌝ }
     ensures { λ r. ⌜ PartPut slot (now (s .entry)) item (now (g .entry)) (now (g .exit)) r ⌝ }

@@ -7,7 +7,7 @@ use lib.ListN.{length, getD, take, drop, set, length-take, length-drop, drop-of-
 use lib.Seq.{drop-cons, getD-take, length-take-le}
 use native.Mathlib.Numerals.{add-one}
 use native.Mathlib.Omega.{arith}
-use Rattle.datagrams.specs.Sizes.{packetLeast, packetLimit, sparesLimit}
+use Rattle.datagrams.specs.Sizes.{packetLeast, packetLimit, messageLeast, messageLimit, sparesLimit}
 use Rattle.datagrams.specs.Claims.{PartInside}
 use Rattle.datagrams.specs.Promise.{nowhere}
 use Rattle.datagrams.specs.Read.{octetsOf}
@@ -25,6 +25,7 @@ use Rattle.heads.proofs.Placed.{placed-within, placed-cells}
 use Rattle.heads.proofs.Seen.{unknown-at, unknown-state}
 use Rattle.mending.specs.Promise.{SameBeside}
 use Rattle.mending.proofs.Beside.{same-beside, beside-twice}
+use Rattle.holding.specs.Steps.{PartPut}
 use Rattle.receiving.specs.Keep.{CellsNow, Keeps, KeepsSpares}
 
 slot-is : (base number slot p : ℕ) → slot ≡ number % slotsKept → number ≡ numberAt base p → slot ≡ slotAt base p
@@ -75,6 +76,10 @@ module _ {state : State} {number slot : ℕ} {b : List ℕ} {h : Head} {o : List
       }
 
 pub ruleset keepings = (keeps-unknown, keeps-known)
+
+-- a part that is a packet, as laying it asks for one
+pub packet-part : {s : List ℕ} {p : Part} → PartInside packetLeast packetLimit s p → PartInside messageLeast messageLimit s p
+packet-part inside = record { low = omega arith; high = inside .high; inside = inside .inside }
 
 -- ---- the loop over the spares: what is left to keep, kept in what is there now, gives the whole
 pub record SparesNow (s : List ℕ) (items : List Part) (count : ℕ) (h : Head) (start g : List ℕ) (p : ℕ) (next : Head) (o : List ℕ) (at j : ℕ)
@@ -136,15 +141,16 @@ part-cut s a n =
 pub cut-long : (s : List ℕ) (a n : ℕ) → a + n ≤ length s → length (take ((a + n) - a) (drop a s)) ≡ n
 cut-long s a n inside = ap (λ (l : List ℕ). length l) (part-cut s a n) ∙ length-take-le n (drop a s) (simp length-drop (omega arith))
 
+-- a part has as many octets as it says
+octets-long : (s : List ℕ) (p : Part) → p .start + p .size ≤ length s → length (octetsOf s p) ≡ p .size
+octets-long s p inside = length-take-le (p .size) (drop (p .start) s) (simp length-drop (omega arith))
+
 module _ {s : List ℕ} {number : ℕ} {items : List Part} {count : ℕ} {h : Head} {start : List ℕ} {next : Head} {o : List ℕ} {at j : ℕ}
     (l : Sparing s number items count h start next o at j) (more : j < count) (fits : count ≤ length items) where
-  pub sparing-turn : {before : ℕ} {part : Part} {r : Head} {after : List ℕ} → before < 65536 → (before + 1) % 65536 ≡ at
-      → part ≡ getD items j nowhere
-      → Keeps Spare before (take ((part .start + part .size) - part .start) (drop (part .start) s)) next o r after
-      → length after ≡ length o → Sparing s number items count h start r after before (j + 1)
-  sparing-turn {before} {part} {r} {after} small e-before e-part keeps same =
-      let k : Keeps Spare before (octetsOf s (getD items j nowhere)) next o r after =
-      rw (part-cut s (part .start) (part .size), e-part) at keeps in
+  sparing-turn : {before : ℕ} {r : Head} {after : List ℕ} → before < 65536 → (before + 1) % 65536 ≡ at
+      → Keeps Spare before (octetsOf s (getD items j nowhere)) next o r after → length after ≡ length o
+      → Sparing s number items count h start r after before (j + 1)
+  sparing-turn {before} {r} {after} small e-before k same =
       record {
         few = omega arith;
         long = same ∙ l .long;
@@ -166,6 +172,23 @@ module _ {s : List ℕ} {number : ℕ} {items : List Part} {count : ℕ} {h : He
                   ∙ n .left;
             };
       }
+
+  module _ {before slot : ℕ} {was : Bool} (small : before < 65536) (e-before : (before + 1) % 65536 ≡ at)
+      (e-slot : slot ≡ before % slotsKept) (e-was : was ≡ isUnknown (stateOf ((keptIn next slot) .state))) where
+    -- a spare whose number is known
+    pub sparing-known : was ≡ false → Sparing s number items count h start next o before (j + 1)
+    sparing-known no-was = sparing-turn small e-before (keeps-known e-slot e-was no-was) refl
+
+    -- a spare that is kept
+    pub sparing-kept : {size : ℕ} {after : List ℕ} → PartInside packetLeast packetLimit s (getD items j nowhere) → was ≡ true
+        → PartPut slot s (getD items j nowhere) o after size → length after ≡ length o
+        → Sparing s number items count h start (placed next slot (record { state = Spare; size = size })) after before (j + 1)
+    sparing-kept inside yes-was put same =
+        let long = octets-long s (getD items j nowhere) (inside .inside) in
+        sparing-turn small e-before
+        (keeps-unknown e-slot refl (omega (arith, inside .low)) (omega (arith, inside .high)) e-was yes-was (put .size ∙ sym long)
+        (put .octets) refl)
+        same
 
 pub sparing-done : {s : List ℕ} {number : ℕ} {items : List Part} {count : ℕ} {h : Head} {start : List ℕ} {next : Head} {o : List ℕ} {at j : ℕ}
     → Sparing s number items count h start next o at j → count ≤ j → KeepsSpares s number items count h start next o

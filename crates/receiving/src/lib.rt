@@ -81,14 +81,20 @@ fn keep_spares(
     let mut at = number;
     let mut j = 0;
     while j < count {
+        let part = items[j];
+        j += 1;
         let before = std::num::wrapping_sub_u16(at, 1);
         at = before;
-        let part = items[j];
-        let start = part.start;
-        let end = start + part.size;
-        let kept = keep(next, o, before, State::Spare, &s[start..end]);
-        next = kept;
-        j += 1;
+        let slot = slot_of(before);
+        let kept = next.kept[slot];
+        let was = kept.state;
+        if heads::is_unknown(was) {
+            let size = holding::put_part(o, slot, s, part);
+            next.kept[slot] = Kept {
+                state: State::Spare,
+                size,
+            };
+        }
     }
     next
 }

@@ -1,17 +1,14 @@
-use mathlib.Core.Path.{_≡_, refl}
-use Prim.Native.Nat.{_<_}
+use Prim.Native.Nat.{_-_, _<_}
 use native.Mathlib.Omega.{arith}
-use lib.ListN.{length, getD}
-use denote.Ref.{now}
-use Rattle.datagrams.specs.Promise.{nowhere}
 use borrow.Author.Needs.{needs}
-use Rattle.receiving.proofs.Keeping.{Sparing, sparing-start, sparing-turn, sparing-done, cut-long}
-use Prim.Native.Nat.{_-_}
+use Rattle.receiving.proofs.Keeping.{Sparing, sparing-start, sparing-known, sparing-kept, sparing-done, packet-part}
 use Rattle.receiving.proofs.keep_spares.Statement.{statement}
 use Rattle.receiving.proofs.keep_spares.Tie as tie
 use Rattle.receiving.proofs.keep_spares.Reads as reads
 use Rattle.receiving.proofs.keep_spares.Lts as lts
-use Rattle.receiving.proofs.keep.Reads as keep-reads
+use Rattle.heads.proofs.is_unknown.Reads as is-unknown-reads
+use Rattle.holding.proofs.put_part.Reads as put-part-reads
+use Rattle.receiving.proofs.slot_of.Reads as slot-of-reads
 use Rattle.std.proofs.num.wrapping_sub_u16.Reads as wrapping-sub-u16-reads
 
 abbrev Inv-loop : tie.InvT-loop
@@ -20,76 +17,96 @@ Inv-loop o₀ s number count items next₀ at₀ j₀ o next at j = Sparing s nu
 abbrev μ-loop : tie.MeasureT-loop
 μ-loop o₀ s number count items next₀ at₀ j₀ o next at j = count - j
 
--- src/lib.rt:64:5
+-- src/lib.rt:83:5
 loop-holds : tie.Need-loop-holds Inv-loop μ-loop
 loop-holds c = search sparing-start
 
--- src/lib.rt:65:13
-wrapping-sub-u16-requires : tie.Need-wrapping-sub-u16-requires Inv-loop μ-loop
-wrapping-sub-u16-requires c κs = search needs
-
--- src/lib.rt:67:20
+-- src/lib.rt:84:20
 mul-part : tie.Need-mul-part Inv-loop μ-loop
 mul-part c = search needs
 
--- src/lib.rt:67:20
+-- src/lib.rt:84:20
 array-copy-out-part : tie.Need-array-copy-out-part Inv-loop μ-loop
 array-copy-out-part c = search needs
 
--- src/lib.rt:69:19
-add-end : tie.Need-add-end Inv-loop μ-loop
-add-end c =
-    let turn = c .before .before .before in
-    let start = turn .before .before .before .before in
-    omega (arith, start .pre .1 .1 .1 (turn .before .loop .j) (turn .loop-test .taken) .inside)
-
--- src/lib.rt:70:56
-sub-keep : tie.Need-sub-keep Inv-loop μ-loop
-sub-keep c = search needs
-
--- src/lib.rt:70:56
-part-keep-start : tie.Need-part-keep-start Inv-loop μ-loop
-part-keep-start c = search needs
-
--- src/lib.rt:70:56
-part-keep-end : tie.Need-part-keep-end Inv-loop μ-loop
-part-keep-end c =
-    let turn = c .before .before .before .before in
-    let start = turn .before .before .before .before in
-    omega (arith, start .pre .1 .1 .1 (turn .before .loop .j) (turn .loop-test .taken) .inside)
-
--- src/lib.rt:70:13
-keep-requires : tie.Need-keep-requires Inv-loop μ-loop
-keep-requires c κs =
-    let turn = c .before .before .before .before .before in
-    let start = turn .before .before .before .before in
-    let inside = start .pre .1 .1 .1 (turn .before .loop .j) (turn .loop-test .taken) in
-    let long = cut-long (now (start .args .s)) (getD (start .args .t5) (turn .before .loop .j) nowhere .start) (getD (start .args .t5) (turn .before .loop .j) nowhere .size) (inside .inside) in
-    (turn .before .loop .inv .long, (omega (arith, long, inside .low), (omega (arith, long, inside .high), refl)))
-
--- src/lib.rt:72:9
+-- src/lib.rt:85:9
 add-j : tie.Need-add-j Inv-loop μ-loop
 add-j c = search needs
 
--- src/lib.rt:64:5
+-- src/lib.rt:86:13
+wrapping-sub-u16-requires : tie.Need-wrapping-sub-u16-requires Inv-loop μ-loop
+wrapping-sub-u16-requires c κs = search needs
+
+-- src/lib.rt:88:13
+slot-of-requires : tie.Need-slot-of-requires Inv-loop μ-loop
+slot-of-requires c κs = search needs
+
+-- src/lib.rt:89:20
+mul-kept : tie.Need-mul-kept Inv-loop μ-loop
+mul-kept c = search needs
+
+-- src/lib.rt:89:20
+element-copy-out-kept : tie.Need-element-copy-out-kept Inv-loop μ-loop
+element-copy-out-kept c = search needs
+
+-- src/lib.rt:91:12
+is-unknown-requires : tie.Need-is-unknown-requires Inv-loop μ-loop
+is-unknown-requires c κs = search needs
+
+-- src/lib.rt:92:17
+put-part-requires : tie.Need-put-part-requires Inv-loop μ-loop
+put-part-requires c κs =
+    let place = c .before .before .before .before in
+    let turn = place .before .before .before in
+    let start = turn .before .before .before .before in
+    let part = start .pre .1 .1 .1 (turn .before .loop .j) (turn .loop-test .taken) in
+    (omega (arith, turn .before .loop .inv .long, place .slot-of .ensures), packet-part part)
+
+-- src/lib.rt:93:13
+mul-t30 : tie.Need-mul-t30 Inv-loop μ-loop
+mul-t30 c = search needs
+
+-- src/lib.rt:93:13
+element-set-from-next : tie.Need-element-set-from-next Inv-loop μ-loop
+element-set-from-next c = search needs
+
+-- src/lib.rt:83:5
 loop-less : tie.Need-loop-less Inv-loop μ-loop
 loop-less c = search needs
 
--- src/lib.rt:64:5
+-- src/lib.rt:83:5
 loop-again : tie.Need-loop-again Inv-loop μ-loop
 loop-again c =
-    let keep = c .before .before in
-    let part = keep .before .before .before .before in
-    let turn = part .before .before in
+    let put = c .before .before in
+    let check = c .before .before .before .before .before in
+    let place = check .before .before in
+    let sub = place .before in
+    let turn = sub .before .before in
     let start = turn .before .before .before .before in
-    let small : part .before .wrapping-sub-u16 .result < 65536 = omega arith in
-    sparing-turn (turn .before .loop .inv) (turn .loop-test .taken) (start .pre .1 .1 .0) small (part .before .wrapping-sub-u16 .ensures) refl (keep .keep .ensures) (search needs)
+    let small : sub .wrapping-sub-u16 .result < 65536 = omega arith in
+    sparing-kept (turn .before .loop .inv) (turn .loop-test .taken) (start .pre .1 .1 .0) small (sub .wrapping-sub-u16 .ensures) (place .slot-of .ensures) (check .is-unknown .ensures)
+    (start .pre .1 .1 .1 (turn .before .loop .j) (turn .loop-test .taken)) (put .before .before .if1 .taken) (put .put-part .ensures) (search needs)
 
--- src/lib.rt:48:1
+-- src/lib.rt:83:5
+loop-less-2 : tie.Need-loop-less-2 Inv-loop μ-loop
+loop-less-2 c = search needs
+
+-- src/lib.rt:83:5
+loop-again-2 : tie.Need-loop-again-2 Inv-loop μ-loop
+loop-again-2 c =
+    let check = c .before in
+    let place = check .before .before in
+    let sub = place .before in
+    let turn = sub .before .before in
+    let start = turn .before .before .before .before in
+    let small : sub .wrapping-sub-u16 .result < 65536 = omega arith in
+    sparing-known (turn .before .loop .inv) (turn .loop-test .taken) (start .pre .1 .1 .0) small (sub .wrapping-sub-u16 .ensures) (place .slot-of .ensures) (check .is-unknown .ensures) (c .if1 .left)
+
+-- src/lib.rt:66:1
 same-length : tie.Need-same-length Inv-loop μ-loop
 same-length c = search needs
 
--- src/lib.rt:48:1
+-- src/lib.rt:66:1
 returns : tie.Need-returns Inv-loop μ-loop
 returns c = search sparing-done
 
@@ -100,16 +117,20 @@ keep-spares-spec =
     Inv-loop
     μ-loop
     loop-holds
-    wrapping-sub-u16-requires
     mul-part
     array-copy-out-part
-    add-end
-    sub-keep
-    part-keep-start
-    part-keep-end
-    keep-requires
     add-j
+    wrapping-sub-u16-requires
+    slot-of-requires
+    mul-kept
+    element-copy-out-kept
+    is-unknown-requires
+    put-part-requires
+    mul-t30
+    element-set-from-next
     loop-less
     loop-again
+    loop-less-2
+    loop-again-2
     same-length
     returns)
