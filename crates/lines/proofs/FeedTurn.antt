@@ -10,7 +10,6 @@ use lib.Dec.{eqb}
 use native.Mathlib.Numerals.{add-one}
 use native.Mathlib.Omega.{arith}
 use borrow.Author.Tests.{eq-eqb, ne-eqb}
-use Rattle.datagrams.specs.Sizes.{datagramLimit}
 use Rattle.views.specs.View.{View}
 use Rattle.heads.specs.Head.{viewIn}
 use Rattle.heads.specs.Within.{Within}
@@ -51,7 +50,7 @@ does-going l view {out} {at} {h} {end} {o} {g} {new} line d =
 length-begun : (line : List ℕ) (begun : ℕ) → begun ≤ keptLimit → length (take begun line) ≤ keptLimit
 length-begun line begun short = omega (arith, length-take begun line)
 
-module _ {h : Head} {o g w line : List ℕ} {begun : ℕ} {s out : List ℕ} {at : ℕ} (able : Feedable stepLimit h o g w line begun out at)
+module _ {h : Head} {o g line : List ℕ} {begun : ℕ} {s out : List ℕ} {at : ℕ} (able : Feedable stepLimit h o g line begun out at)
     (some : 1 ≤ length s) where
   -- no line feed: the line has gone on
   pub takes-part : {stop kept : ℕ} {new : List ℕ} → Found s stop → length s ≤ stop → LineKept line begun s new kept
@@ -117,9 +116,9 @@ kept-before view k = ap (λ (l : List ℕ). step l view) (k .line)
 pub begun-length : (line : List ℕ) (begun : ℕ) → keptLimit ≡ length line → begun ≤ keptLimit → length (take begun line) ≡ begun
 begun-length line begun size short = length-take-le begun line (omega arith)
 
-module _ {h : Head} {o g w line : List ℕ} {begun : ℕ} {out : List ℕ} {at : ℕ} (able : Feedable stepLimit h o g w line begun out at)
+module _ {h : Head} {o g line : List ℕ} {begun : ℕ} {out : List ℕ} {at : ℕ} (able : Feedable stepLimit h o g line begun out at)
   where
-    pub ends-between : begun ≡ 0 → Ends (goingIn h o g line begun out at) out h o g line out at
+    pub ends-between : begun ≡ 0 → Ends (goingIn h o g line begun out at) out h o g out at
     unfolding atEnd
     ends-between none =
         record {
@@ -128,30 +127,32 @@ module _ {h : Head} {o g w line : List ℕ} {begun : ℕ} {out : List ℕ} {at :
               (ap (λ (n : ℕ). goingIn h o g line n out at) (sym none));
           within = able .able .within;
           fits = omega (arith, able .able .room);
+          rest = refl;
+          long = refl;
         }
 
     pub ends-line : {k : Head} {end : ℕ} {newO newG new : List ℕ} → (begun ≡ 0 → ⊥)
         → Does (step (take begun line) (viewIn h o g)) out at k end newO newG new
-        → Ends (goingIn h o g line begun out at) out k newO newG line new end
+        → Ends (goingIn h o g line begun out at) out k newO newG new end
     unfolding atEnd
     ends-line some d =
         record {
           state =
               rw (ne-eqb (length (take begun line)) 0 (λ e. some (sym (begun-length line begun (able .line) (able .short)) ∙ e)))
-              (does-going _ _ line d);
+              (does-going _ _ [] d);
           within = d .within;
           fits = omega (arith, d .lent .after, d .lent .fits);
+          rest = appends-rest (d .lent);
+          long = appends-long (d .lent);
         }
 
 -- ---- one line after the other
 -- some of the block is taken in
-pub record Fed (before : Going) (s old w₀ l₀ : List ℕ) (h : Head) (o g w l : List ℕ) (kept taken : ℕ) (out : List ℕ) (end : ℕ) : Type 0 where
+pub record Fed (before : Going) (s old l₀ : List ℕ) (h : Head) (o g l : List ℕ) (kept taken : ℕ) (out : List ℕ) (end : ℕ) : Type 0 where
   pub takes : Takes before s old h o g l kept taken out end
   pub line : keptLimit ≡ length l
-  pub work : datagramLimit ≤ length w
   pub long : length out ≡ length old
   pub line-long : length l ≡ length l₀
-  pub work-long : length w ≡ length w₀
 
 -- what is left of the block
 left-of : (s : List ℕ) (taken : ℕ) → take (length s - taken) (drop taken s) ≡ drop taken s
@@ -165,8 +166,8 @@ pub left-inside : {before : Going} (s : List ℕ) {out : List ℕ} {at : ℕ} {h
     → taken + took ≤ length s
 left-inside s taken left t = omega (arith, t .takes .inside, ap length (left-of s taken), length-drop taken s)
 
-pub fed-start : {h : Head} {o g w l : List ℕ} {begun : ℕ} {out : List ℕ} {at : ℕ} (s : List ℕ) → Feedable 0 h o g w l begun out at
-    → Fed (goingIn h o g l begun out at) s out w l h o g w l begun 0 out at
+pub fed-start : {h : Head} {o g l : List ℕ} {begun : ℕ} {out : List ℕ} {at : ℕ} (s : List ℕ) → Feedable 0 h o g l begun out at
+    → Fed (goingIn h o g l begun out at) s out l h o g l begun 0 out at
 unfolding fed
 fed-start s able =
     record {
@@ -180,29 +181,27 @@ fed-start s able =
             rest = refl;
           };
       line = able .line;
-      work = able .able .work;
       long = refl;
       line-long = refl;
-      work-long = refl;
     }
 
-module _ {before : Going} {s old w₀ l₀ : List ℕ} {h : Head} {o g w l : List ℕ} {kept taken : ℕ} {out : List ℕ} {end : ℕ}
-    (f : Fed before s old w₀ l₀ h o g w l kept taken out end) where
+module _ {before : Going} {s old l₀ : List ℕ} {h : Head} {o g l : List ℕ} {kept taken : ℕ} {out : List ℕ} {end : ℕ}
+    (f : Fed before s old l₀ h o g l kept taken out end) where
   -- before a turn
-  pub fed-ready : stepLimit ≤ length out - end → Feedable stepLimit h o g w l kept out end
+  pub fed-ready : stepLimit ≤ length out - end → Feedable stepLimit h o g l kept out end
   fed-ready room =
       record {
-        able = record { within = f .takes .within; work = f .work; room = omega (arith, f .takes .fits, f .long) };
+        able = record { within = f .takes .within; room = omega (arith, f .takes .fits, f .long) };
         line = f .line;
         short = f .takes .short;
       }
 
   -- a turn
-  pub fed-turn : {k : Head} {newO newG newW newL : List ℕ} {more took : ℕ} {new : List ℕ} {later : ℕ} → taken < length s
+  pub fed-turn : {k : Head} {newO newG newL : List ℕ} {more took : ℕ} {new : List ℕ} {later : ℕ} → taken < length s
       → TakesLine (goingIn h o g l kept out end) (take (length s - taken) (drop taken s)) out end k newO newG newL more took new later
-      → length newW ≡ length w → length newL ≡ length l → length new ≡ length out
-      → Fed before s old w₀ l₀ k newO newG newW newL more (taken + took) new later
-  fed-turn {k} {newO} {newG} {newW} {newL} {more} {took} {new} {later} left t sameW sameL sameO =
+      → length newL ≡ length l → length new ≡ length out
+      → Fed before s old l₀ k newO newG newL more (taken + took) new later
+  fed-turn {k} {newO} {newG} {newL} {more} {took} {new} {later} left t sameL sameO =
       let tail : drop later out ≡ drop later old =
       let place : end + (later - end) ≡ later = omega (arith, t .later) in
       ap (λ (n : ℕ). drop n out) (sym place)
@@ -226,10 +225,8 @@ module _ {before : Going} {s old w₀ l₀ : List ℕ} {h : Head} {o g w l : Lis
               rest = t .takes .rest ∙ tail;
             };
         line = f .line ∙ sym sameL;
-        work = omega (arith, f .work);
         long = sameO ∙ f .long;
         line-long = sameL ∙ f .line-long;
-        work-long = sameW ∙ f .work-long;
       }
 
   pub fed-full : length out - end < stepLimit → Feeds before s old h o g l kept taken out end

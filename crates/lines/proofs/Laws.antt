@@ -37,16 +37,15 @@ module _ {m : Made} {old : List ℕ} {at : ℕ} {h k : Head} {end last : ℕ} {o
   does-one-view = a .state ∙ sym (b .state)
 
 -- ---- a block after the other
-pub feeds-on : {h : Head} {o g w l : List ℕ} {begun : ℕ} {s out : List ℕ} {k : Head} {newO newG newW newL : List ℕ} {kept taken : ℕ}
-    {new : List ℕ} {end : ℕ} → Feedable stepLimit h o g w l begun out 0
+pub feeds-on : {h : Head} {o g l : List ℕ} {begun : ℕ} {s out : List ℕ} {k : Head} {newO newG newL : List ℕ} {kept taken : ℕ}
+    {new : List ℕ} {end : ℕ} → Feedable stepLimit h o g l begun out 0
     → Feeds (goingIn h o g l begun out 0) s out k newO newG newL kept taken new end
-    → length newW ≡ length w → length newL ≡ length l → length new ≡ length out → Feedable stepLimit k newO newG newW newL kept new 0
-feeds-on able f sameW sameL sameO =
+    → length newL ≡ length l → length new ≡ length out → Feedable stepLimit k newO newG newL kept new 0
+feeds-on able f sameL sameO =
     record {
       able =
           record {
             within = f .takes .within;
-            work = omega (arith, able .able .work);
             room = omega (arith, able .able .room);
           };
       line = able .line ∙ sym sameL;
@@ -61,11 +60,11 @@ nothing s out new end taken view none inside e is =
     sym (length-take-le end new inside)
     ∙ ap length (e ∙ ap (λ (k : ℕ). (fed (take k s) view) .text) is ∙ none)
 
-pub feeds-some : {h : Head} {o g w l : List ℕ} {begun : ℕ} {s out : List ℕ} {k : Head} {newO newG newL : List ℕ} {kept taken : ℕ}
-    {new : List ℕ} {end : ℕ} → Feedable stepLimit h o g w l begun out 0
+pub feeds-some : {h : Head} {o g l : List ℕ} {begun : ℕ} {s out : List ℕ} {k : Head} {newO newG newL : List ℕ} {kept taken : ℕ}
+    {new : List ℕ} {end : ℕ} → Feedable stepLimit h o g l begun out 0
     → Feeds (goingIn h o g l begun out 0) s out k newO newG newL kept taken new end
     → length new ≡ length out → 1 ≤ length s → 0 < taken
-feeds-some {h} {o} {g} {w} {l} {begun} {s} {out} {k} {newO} {newG} {newL} {kept} {taken} {new} {end} able f sameO some =
+feeds-some {h} {o} {g} {l} {begun} {s} {out} {k} {newO} {newG} {newL} {kept} {taken} {new} {end} able f sameO some =
     ⊎-elim (λ more. more) (λ none. absurd (stuck (omega arith))) (below-or-not 0 taken)
   where
     stuck : taken ≡ 0 → ⊥

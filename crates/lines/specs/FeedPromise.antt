@@ -2,7 +2,7 @@
 use Prim.Native.Nat.{ℕ, _+_, _≤_, _<_}
 use mathlib.Core.Path.{_≡_}
 use mathlib.Core.Bool.{Bool, not}
-use mathlib.Core.List.{List, _++_}
+use mathlib.Core.List.{List, [], _++_}
 use lib.ListN.{length, getD, take, drop}
 use lib.Dec.{eqb}
 use mathlib.Core.Logic.{_⊎_}
@@ -32,9 +32,9 @@ pub record LineKept (old : List ℕ) (begun : ℕ) (more new : List ℕ) (r : �
   pub short : r ≤ keptLimit
   pub long : length new ≡ length old
 
--- what is asked for: the session's ranges, room for a line's octets and for so many characters, and the line that has begun
-pub record Feedable (most : ℕ) (h : Head) (o g w l : List ℕ) (begun : ℕ) (out : List ℕ) (at : ℕ) : Type 0 where
-  pub able : Able most h o g w out at
+-- what is asked for: the session's ranges, room for so many characters, and the line that has begun
+pub record Feedable (most : ℕ) (h : Head) (o g l : List ℕ) (begun : ℕ) (out : List ℕ) (at : ℕ) : Type 0 where
+  pub able : Able most h o g out at
   pub line : keptLimit ≡ length l
   pub short : begun ≤ keptLimit
 
@@ -60,7 +60,9 @@ pub record Feeds (before : Going) (s out : List ℕ) (h : Head) (o g l : List �
   pub stops : (taken ≡ length s) ⊎ (length out < end + stepLimit)
 
 -- what the end of the input owes
-pub record Ends (before : Going) (out : List ℕ) (h : Head) (o g l new : List ℕ) (end : ℕ) : Type 0 where
-  pub state : goingIn h o g l 0 new end ≡ atEnd before
+pub record Ends (before : Going) (out : List ℕ) (h : Head) (o g new : List ℕ) (end : ℕ) : Type 0 where
+  pub state : goingIn h o g [] 0 new end ≡ atEnd before
   pub within : Within h o g
   pub fits : end ≤ length out
+  pub rest : drop end new ≡ drop end out
+  pub long : length new ≡ length out
