@@ -8,6 +8,7 @@ pub mod Offering
 pub mod StepLaws
 pub mod Feeding
 pub mod FeedSteps
+pub mod FeedTaken
 pub mod FeedTurn
 pub mod Laws
 pub mod Claims

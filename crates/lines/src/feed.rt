@@ -10,9 +10,9 @@ ghost use mathlib.Core.List.{_++_};
 ghost use Prim.Native.Nat.{_+_, _≤_, min};
 ghost use lib.ListN.{length, take};
 ghost use Rattle.octets.specs.Place.{allBelow};
-ghost use Rattle.lines.specs.Feed.{keptLimit, goingIn};
+ghost use Rattle.lines.specs.Feed.{goingIn};
 ghost use Rattle.lines.specs.Promise.{stepLimit};
-ghost use Rattle.lines.specs.FeedPromise.{plainAt, Found, Begun, LineKept, Feedable, TakesLine, Feeds, Ends};
+ghost use Rattle.lines.specs.FeedPromise.{plainAt, Found, Begun, LineIn, LineKept, Feedable, TakesLine, Feeds, Ends};
 
 // The program part way: the head, how much of the line that has begun is kept, how many characters of the block were taken in,
 // and the place after what was written.
@@ -78,8 +78,7 @@ fn least(a: usize, b: usize) -> usize
 
 // Characters put after the line that has begun: of one that is too long no more is kept than shows it.
 fn keep_line(line: &mut [u8], begun: usize, more: &[u8]) -> usize
-    requires { ⌜ keptLimit ≡ length (now line) ⌝ }
-    requires { ⌜ begun ≤ keptLimit ⌝ }
+    requires { ⌜ LineIn (now line) begun ⌝ }
     ensures { λ r. ⌜ LineKept (now (line .entry)) begun (now (more .entry)) (now (line .exit)) r ⌝ }
 {
     let room = Line::KEPT - begun;
@@ -90,6 +89,18 @@ fn keep_line(line: &mut [u8], begun: usize, more: &[u8]) -> usize
         j += 1;
     }
     begun + count
+}
+
+// The lent line with no line begun: zeros.
+fn clear_line(line: &mut [u8], begun: usize)
+    requires { ⌜ LineIn (now line) begun ⌝ }
+    ensures { λ _. ⌜ LineIn (now (line .exit)) 0 ⌝ }
+{
+    let mut left = begun;
+    while left > 0 {
+        left -= 1;
+        line[left] = 0;
+    }
 }
 
 // The next line of s, or what there is of it. The line that has begun is kept in the front of line.
@@ -131,6 +142,7 @@ fn take_line(
     }
     let kept = keep_line(line, begun, &s[..stop]);
     let made = step(h, o, g, &line[..kept], out, at);
+    clear_line(line, kept);
     let head = made.head;
     let end = made.end;
     Fed {

@@ -15,7 +15,7 @@ returns c = ends-between (c .before .before .before .pre) (c .if1 .taken)
 slice-aggregate-step : tie.Need-slice-aggregate-step
 slice-aggregate-step c =
     let start = c .before .before .before .before .before .before in
-    sym (begun-length _ _ (start .pre .line) (start .pre .short))
+    sym (begun-length (start .pre .line))
 
 -- src/feed.rt:202:5
 step-requires : tie.Need-step-requires

@@ -77,8 +77,7 @@ loop-again c =
     let made = c .before .before .before .before .before .before in
     let room = made .before .before .before .before .before .before in
     let loop = room .before .before in
-    fed-turn (loop .loop .inv) (room .before .loop-test .taken) (made .take-line .ensures) (made .take-line .kept .1 .1 .1 .0)
-    (made .take-line .kept .1 .1 .1 .1 .1 .1 .0)
+    fed-turn (loop .loop .inv) (room .before .loop-test .taken) (room .if1 .left) (made .take-line .ensures)
 
 -- src/feed.rt:145:1
 same-length-3 : tie.Need-same-length-3 Inv-loop μ-loop
