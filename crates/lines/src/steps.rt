@@ -114,8 +114,8 @@ fn give_up_line(
     let answer = done.answer;
     match answer {
         Lost::Number(number) => {
-            let end = put_result(Line::LOST, number, &[], out, at);
-            Stepped { head, end }
+            let after = put_result(Line::LOST, number, &[], out, at);
+            Stepped { head, end: after }
         }
         Lost::Refused(why) => {
             let end = put_refusal(why, out, at);
