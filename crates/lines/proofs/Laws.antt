@@ -1,5 +1,5 @@
--- Laws for the program above: after a block it can go on, and a block with room for a step is taken in at least in part. And
--- two outcomes that a promise allows are one. Assumes nothing.
+-- Laws for the program above: after a block it can go on, and a block with room for a step is taken in at least in part.
+-- Assumes nothing.
 use Prim.Native.Nat.{ℕ, _+_, _-_, _≤_, _<_}
 use mathlib.Core.Path.{_≡_, refl, sym, ap, _∙_}
 use mathlib.Core.List.{List, [], _∷_, _++_}
@@ -7,36 +7,12 @@ use mathlib.Core.Logic.{⊎-elim}
 use lib.ListN.{length, getD, take, drop, replicate, length-replicate, getD-replicate, List·getD-eq-default}
 use native.Mathlib.Omega.{arith}
 use Rattle.octets.proofs.Cases.{below-or-not}
-use Rattle.heads.specs.Head.{viewIn}
 use Rattle.heads.specs.declared.Head.{Head}
-use Rattle.lines.specs.Lines.{Made}
 use Rattle.lines.specs.Feed.{keptLimit, goingIn}
-use Rattle.lines.specs.Promise.{Appends, Does, stepLimit}
+use Rattle.lines.specs.Promise.{stepLimit}
 use Rattle.lines.specs.FeedPromise.{lineEnd, takenOf, LineIn, Feedable, Feeds}
 use Rattle.lines.proofs.FeedTaken.{taken-line, lineEnd-some}
 
--- ---- one outcome
-module _ {text old : List ℕ} {at : ℕ} {new other : List ℕ} {end last : ℕ} (a : Appends text old at new end) (b : Appends text old at other last)
-  where
-    pub appends-one-end : end ≡ last
-    appends-one-end = a .after ∙ sym (b .after)
-
-    pub appends-one-buffer : new ≡ other
-    appends-one-buffer = a .lent ∙ sym (b .lent)
-
--- of a part of a step: the buffer, the place after it, and the session as document 01 sees it
-module _ {m : Made} {old : List ℕ} {at : ℕ} {h k : Head} {end last : ℕ} {o g new p q other : List ℕ} (a : Does m old at h end o g new)
-    (b : Does m old at k last p q other) where
-  pub does-one-end : end ≡ last
-  does-one-end = appends-one-end (a .lent) (b .lent)
-
-  pub does-one-buffer : new ≡ other
-  does-one-buffer = appends-one-buffer (a .lent) (b .lent)
-
-  pub does-one-view : viewIn h o g ≡ viewIn k p q
-  does-one-view = a .state ∙ sym (b .state)
-
--- ---- a block after the other
 -- the lent line at the start
 pub line-fresh : (n : ℕ) → keptLimit ≡ n → LineIn (replicate n 0) 0
 line-fresh n size =

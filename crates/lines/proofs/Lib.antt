@@ -11,4 +11,7 @@ pub mod FeedSteps
 pub mod FeedTaken
 pub mod FeedTurn
 pub mod Laws
+pub mod ReleaseAll
+pub mod HexBack
+pub mod OneOutcome
 pub mod Claims
