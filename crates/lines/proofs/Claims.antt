@@ -12,8 +12,22 @@ use Rattle.views.specs.Offer.{keep, keepSpares, accept, offered, offer}
 use Rattle.views.specs.Release.{next, giveUp}
 use Rattle.lines.specs.Hex.{digitOf, digitFor, allDigits, octetsIn, lineOctets, hexOf}
 use Rattle.lines.specs.Lines.{resultLine, refusalLine, releasesF, lineOffered, offerLine, answerLine, step, linesFrom, steps, program}
-use Rattle.lines.specs.Claims.{WholeCase}
+use Rattle.lines.specs.Claims.{Claims, WholeCase}
+use Rattle.lines.proofs.Feeding.{program-fed, fed-append}
+use Rattle.lines.proofs.HexBack.{written-reads}
+use Rattle.lines.proofs.ReleaseAll.{releases-all}
+use Rattle.lines.proofs.OneOutcome.{one-outcome}
 
 pub whole-case : WholeCase
 unfolding program steps linesFrom step answerLine offerLine lineOffered releasesF resultLine refusalLine lineOctets octetsIn allDigits digitOf hexOf digitFor next giveUp offer offered accept keep keepSpares freshView goneOn messagesOf messagesFrom heldMessages membersOf repair repairF firstUsable usable passing mended fill readDatagram wholeOf numberOf extraAt parityAt sparesAt endOf itemsAt itemAt sizedAt octetAt allowed carriedBy lengthAt tab allBelow exclusiveOr xorAt
 whole-case = refl
+
+pub claims : Claims
+claims =
+    record {
+      wholeCase = whole-case;
+      releasesAll = releases-all;
+      writtenReads = written-reads;
+      cutAnyhow = record { whole = program-fed; cut = fed-append };
+      oneOutcome = one-outcome;
+    }

@@ -8,6 +8,10 @@ pub mod Offering
 pub mod StepLaws
 pub mod Feeding
 pub mod FeedSteps
+pub mod FeedTaken
 pub mod FeedTurn
 pub mod Laws
+pub mod ReleaseAll
+pub mod HexBack
+pub mod OneOutcome
 pub mod Claims

@@ -16,7 +16,7 @@ use Rattle.heads.specs.Head.{viewIn}
 use Rattle.heads.specs.Within.{Within}
 use Rattle.heads.specs.declared.Head.{Head}
 use Rattle.lines.specs.Lines.{Made, _then_, released, onward, releasesF, releases}
-use Rattle.lines.specs.Promise.{Appends, Does, Ready, Releases, goesOn, resultLimit, releasesLimit}
+use Rattle.lines.specs.Promise.{Appends, Does, Able, Releases, goesOn, resultLimit, releasesLimit}
 use Rattle.lines.proofs.Appending.{appends-none, appends-then, appends-long}
 
 -- ---- the definition, as the loop goes
@@ -37,33 +37,31 @@ one-of (suc left) view some =
 
 -- ---- the loop
 -- so many releases are left
-pub record Left (start : View) (old : List ℕ) (at : ℕ) (h : Head) (o g p out : List ℕ) (end left : ℕ) : Type 0 where
+pub record Left (start : View) (old : List ℕ) (at : ℕ) (h : Head) (o g out : List ℕ) (end left : ℕ) : Type 0 where
   pub text : List ℕ
   pub laid : Appends text old at out end
   pub whole : releases start ≡ ((record { text = text; after = viewIn h o g }) then releasesF left)
   pub within : Within h o g
-  pub packet : length p ≡ packetLimit
   pub room : end + left * resultLimit ≤ length old
   pub long : length out ≡ length old
 
-pub left-start : {h : Head} {o g p out : List ℕ} {at : ℕ} → Ready releasesLimit h o g p out at → Left (viewIn h o g) out at h o g p out at 32
-left-start ready =
+pub left-start : {h : Head} {o g out : List ℕ} {at : ℕ} → Able releasesLimit h o g out at → Left (viewIn h o g) out at h o g out at 32
+left-start able =
     record {
       text = [];
-      laid = appends-none (omega (arith, ready .room));
+      laid = appends-none (omega (arith, able .room));
       whole = refl;
-      within = ready .within;
-      packet = ready .packet;
-      room = ready .room;
+      within = able .within;
+      room = able .room;
       long = refl;
     }
 
 -- before a turn
-pub left-ready : {start : View} {old : List ℕ} {at : ℕ} {h : Head} {o g p out : List ℕ} {end left : ℕ} → Left start old at h o g p out end left
-    → 0 < left → Ready resultLimit h o g p out end
-left-ready l some = record { within = l .within; packet = l .packet; room = omega (arith, l .room, l .long) }
+pub left-ready : {start : View} {old : List ℕ} {at : ℕ} {h : Head} {o g out : List ℕ} {end left : ℕ} → Left start old at h o g out end left
+    → 0 < left → Able resultLimit h o g out end
+left-ready l some = record { within = l .within; room = omega (arith, l .room, l .long) }
 
-module _ {start : View} {old : List ℕ} {at : ℕ} {h : Head} {o g p out : List ℕ} {end left : ℕ} (l : Left start old at h o g p out end left)
+module _ {start : View} {old : List ℕ} {at : ℕ} {h : Head} {o g out : List ℕ} {end left : ℕ} (l : Left start old at h o g out end left)
   where
     -- nothing is left
     pub left-done : left ≤ 0 → Does (releases start) old at h end o g out
@@ -81,8 +79,8 @@ module _ {start : View} {old : List ℕ} {at : ℕ} {h : Head} {o g p out : List
     module _ (some : 0 < left) {k : Head} {later : ℕ} {more : Bool} {newO newG new : List ℕ}
         (r : Releases (viewIn h o g) out end k later more newO newG new) where
       -- something was released
-      pub left-turn : {q : List ℕ} → length q ≡ packetLimit → more ≡ true → Left start old at k newO newG q new later (left - 1)
-      left-turn size goes =
+      pub left-turn : more ≡ true → Left start old at k newO newG new later (left - 1)
+      left-turn goes =
           let v = viewIn h o g in
           let a = released (next packetLimit v) v in
           let b = releasesF (left - 1) (a .after) in
@@ -97,7 +95,6 @@ module _ {start : View} {old : List ℕ} {at : ℕ} {h : Head} {o g p out : List
                 ∙ ap (λ (t : List ℕ). record { text = t; after = b .after }) (sym (append-assoc (l .text) (a .text) (b .text)))
                 ∙ ap (λ (w : View). (record { text = l .text ++ a .text; after = w }) then releasesF (left - 1)) (sym (r .does .state));
             within = r .does .within;
-            packet = size;
             room = omega (arith, l .room, r .few);
             long = appends-long (r .does .lent) ∙ l .long;
           }

@@ -5,13 +5,12 @@ use mathlib.Core.List.{List, [], _∷_, _++_}
 use lib.ListN.{length}
 use native.Mathlib.Omega.{arith}
 use Rattle.lengths.specs.Answers.{Answer, done, refused}
-use Rattle.datagrams.specs.Sizes.{packetLimit}
 use Rattle.views.specs.View.{View}
 use Rattle.views.specs.Release.{Loss, giveUp}
 use Rattle.heads.specs.Head.{viewIn}
 use Rattle.heads.specs.declared.Head.{Head}
 use Rattle.lines.specs.Lines.{giveUpMade, offerMade, lineOffered, offerLine, answerLine, releases, step}
-use Rattle.lines.specs.Promise.{Appends, Does, Ready, Able, resultLimit, releasesLimit, stepLimit}
+use Rattle.lines.specs.Promise.{Appends, Does, Able, resultLimit, releasesLimit, stepLimit}
 use Rattle.lines.proofs.Appending.{appends-long}
 use Rattle.lines.proofs.ResultSteps.{length-result, length-refusal}
 use Rattle.lines.proofs.Stepping.{does-then}
@@ -52,11 +51,10 @@ answer-short (c ∷ line) view = offer-short (lineOffered (c ∷ line) view) vie
 -- ---- then releases
 module _ (line : List ℕ) (view : View) {old : List ℕ} {at : ℕ} {h : Head} {end : ℕ} {o g new : List ℕ}
     (a : Does (answerLine line view) old at h end o g new) where
-  pub step-ready : {p : List ℕ} → at + stepLimit ≤ length old → length p ≡ packetLimit → Ready releasesLimit h o g p new end
-  step-ready room size =
+  pub step-ready : at + stepLimit ≤ length old → Able releasesLimit h o g new end
+  step-ready room =
       record {
         within = a .within;
-        packet = size;
         room = omega (arith, a .lent .after, appends-long (a .lent), answer-short line view);
       }
 

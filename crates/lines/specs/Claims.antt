@@ -1,7 +1,26 @@
 -- The claims of this crate: statements alone. Definitions only.
+use Prim.Native.Nat.{ℕ, _≤_}
 use mathlib.Core.Path.{_≡_}
 use mathlib.Core.List.{List, [], _∷_, _++_}
-use Rattle.lines.specs.Lines.{program, lineOf, lineFeed}
+use mathlib.Core.Logic.{_⊎_}
+use lib.ListN.{length}
+use Rattle.lengths.specs.Refusals.{baseUnknown, allPassed}
+use Rattle.lengths.specs.Answers.{Answer, done, refuse}
+use Rattle.lengths.specs.Promise.{Puts}
+use Rattle.lengths.specs.Claims.{Octets}
+use Rattle.lengths.specs.declared.Written.{Written}
+use Rattle.datagrams.specs.Sizes.{packetLimit, datagramLimit}
+use Rattle.views.specs.Release.{next}
+use Rattle.heads.specs.Head.{viewIn}
+use Rattle.heads.specs.Within.{Within}
+use Rattle.heads.specs.declared.Head.{Head}
+use Rattle.lines.specs.Hex.{lineOctets, hexOf}
+use Rattle.lines.specs.Lines.{Made, program, releases, lineOf, lineFeed}
+use Rattle.lines.specs.Feed.{Going, atStart, fed, atEnd}
+use Rattle.lines.specs.Promise.{Does}
+use Rattle.lines.specs.FeedPromise.{Feeds, Ends}
+use Rattle.lines.specs.declared.steps.Stepped.{Stepped}
+use Rattle.lines.specs.declared.feed.Fed.{Fed}
 
 -- document 01's whole case
 abbrev pub WholeCase : Type 0
@@ -17,3 +36,44 @@ WholeCase =
     ++ lineOf (0x00 ∷ 0x00 ∷ 0x02 ∷ 0x00 ∷ [])
     ++ lineOf (0x03 ∷ 0x00 ∷ 0x03 ∷ [])
     ++ lineOf (0xFF ∷ 0x09 ∷ [])
+
+-- "releases all it can": what is left after the releases is refused with 10 or 16, so that their count cuts nothing off
+abbrev pub ReleasesAll : Type 0
+ReleasesAll = (h : Head) (o g : List ℕ) → Within h o g
+    → (next packetLimit ((releases (viewIn h o g)) .after) ≡ refuse baseUnknown)
+    ⊎ (next packetLimit ((releases (viewIn h o g)) .after) ≡ refuse allPassed)
+
+-- a line that was written reads back to the same octets
+abbrev pub WrittenReads : Type 0
+WrittenReads = (octets : List ℕ) → Octets octets → length octets ≤ datagramLimit → lineOctets (hexOf octets) ≡ done octets
+
+-- the input taken in character by character writes what the program writes, however it is cut into blocks
+pub record CutAnyhow : Type 0 where
+  pub whole : (input : List ℕ) → program input ≡ (atEnd (fed input atStart)) .text
+  pub cut : (a b : List ℕ) (now : Going) → fed (a ++ b) now ≡ fed b (fed a now)
+
+-- the same answer, the same stores and the same lent buffer
+pub record Same {A : Type 0} (r q : A) (o p g k new other : List ℕ) : Type 0 where
+  pub answer : r ≡ q
+  pub octets : o ≡ p
+  pub messages : g ≡ k
+  pub lent : new ≡ other
+
+-- two outcomes that a promise allows are equal
+pub record OneOutcome : Type 0 where
+  pub hexToOctets : (line : List ℕ) {old new other : List ℕ} {r q : Written} → Puts (lineOctets line) old new r → Puts (lineOctets line) old other q
+      → (r ≡ q) × (new ≡ other)
+  pub step : {m : Made} {old : List ℕ} {at : ℕ} {r q : Stepped} {o p g k new other : List ℕ} → Does m old at (r .head) (r .end) o g new
+      → Does m old at (q .head) (q .end) p k other → Same r q o p g k new other
+  pub takeBlock : {before : Going} {s out : List ℕ} {r q : Fed} {o p g k l m new other : List ℕ}
+      → Feeds before s out (r .head) o g l (r .begun) (r .taken) new (r .end)
+      → Feeds before s out (q .head) p k m (q .begun) (q .taken) other (q .end) → (Same r q o p g k new other) × (l ≡ m)
+  pub finish : {before : Going} {out : List ℕ} {r q : Stepped} {o p g k new other : List ℕ}
+      → Ends before out (r .head) o g new (r .end) → Ends before out (q .head) p k other (q .end) → Same r q o p g k new other
+
+pub record Claims : Type 0 where
+  pub wholeCase : WholeCase
+  pub releasesAll : ReleasesAll
+  pub writtenReads : WrittenReads
+  pub cutAnyhow : CutAnyhow
+  pub oneOutcome : OneOutcome

@@ -1,15 +1,14 @@
 -- What the calls owe that take in the program's input block by block. Definitions only.
-use Prim.Native.Nat.{ℕ, _+_, _≤_, _<_}
+use Prim.Native.Nat.{ℕ, suc, _+_, _≤_, _<_}
 use mathlib.Core.Path.{_≡_}
-use mathlib.Core.Bool.{Bool, not}
-use mathlib.Core.List.{List, _++_}
+use mathlib.Core.Bool.{Bool, true, not, cond, _&&_}
+use mathlib.Core.List.{List, [], _∷_, _++_}
 use lib.ListN.{length, getD, take, drop}
-use lib.Dec.{eqb}
-use mathlib.Core.Logic.{_⊎_}
+use lib.Dec.{eqb, ltb}
 use Rattle.heads.specs.Within.{Within}
 use Rattle.heads.specs.declared.Head.{Head}
 use Rattle.lines.specs.Lines.{lineFeed}
-use Rattle.lines.specs.Feed.{keptLimit, Going, fed, atEnd, goingIn}
+use Rattle.lines.specs.Feed.{keptLimit, Going, takenIn, fed, atEnd, goingIn}
 use Rattle.lines.specs.Promise.{Able, stepLimit}
 
 -- the character at distance j from a place is no line feed
@@ -26,41 +25,61 @@ pub record Found (s : List ℕ) (at : ℕ) : Type 0 where
   pub begun : Begun s at
   pub feed : at < length s → getD s at 0 ≡ lineFeed
 
+-- the place after the first line feed, or the end
+unfoldable pub lineEnd : List ℕ → ℕ
+lineEnd [] = 0
+lineEnd (c ∷ s) = cond (eqb c lineFeed) 1 (suc (lineEnd s))
+
+-- how many characters of a block are taken in, with a lent buffer for so many: where the block starts, and each line in it,
+-- there must be room for all that a line can write
+unfoldable pub takenOf : ℕ → Bool → List ℕ → Going → ℕ
+takenOf room starts [] now = 0
+takenOf room starts (c ∷ s) now =
+    cond (starts && ltb room (length (now .text) + stepLimit)) 0 (suc (takenOf room (eqb c lineFeed) s (takenIn c now)))
+
+-- the lent line: the line that has begun, and zeros after it
+pub record LineIn (l : List ℕ) (begun : ℕ) : Type 0 where
+  pub size : keptLimit ≡ length l
+  pub short : begun ≤ keptLimit
+  pub zeros : (k : ℕ) → begun ≤ k → getD l k 0 ≡ 0
+
 -- the line that has begun, with more characters after it
 pub record LineKept (old : List ℕ) (begun : ℕ) (more new : List ℕ) (r : ℕ) : Type 0 where
   pub line : take r new ≡ take keptLimit (take begun old ++ more)
-  pub short : r ≤ keptLimit
-  pub long : length new ≡ length old
+  pub holds : LineIn new r
 
--- what is asked for: the session's ranges, room for a line's octets and for so many characters, and the line that has begun
-pub record Feedable (most : ℕ) (h : Head) (o g w l : List ℕ) (begun : ℕ) (out : List ℕ) (at : ℕ) : Type 0 where
-  pub able : Able most h o g w out at
-  pub line : keptLimit ≡ length l
-  pub short : begun ≤ keptLimit
+-- what is asked for: the session's ranges, room for so many characters, and the line that has begun
+pub record Feedable (most : ℕ) (h : Head) (o g l : List ℕ) (begun : ℕ) (out : List ℕ) (at : ℕ) : Type 0 where
+  pub able : Able most h o g out at
+  pub line : LineIn l begun
 
 -- what is owed of the first `taken` characters of s, with the program part way as before: the program part way after them,
 -- within its ranges; what stands in the lent buffer from its end on stays
 pub record Takes (before : Going) (s out : List ℕ) (h : Head) (o g l : List ℕ) (begun taken : ℕ) (new : List ℕ) (end : ℕ) : Type 0 where
   pub state : goingIn h o g l begun new end ≡ fed (take taken s) before
   pub within : Within h o g
-  pub short : begun ≤ keptLimit
+  pub line : LineIn l begun
   pub inside : taken ≤ length s
   pub fits : end ≤ length out
   pub rest : drop end new ≡ drop end out
+  pub long : length new ≡ length out
 
 -- one line, or what there is of it
 pub record TakesLine (before : Going) (s out : List ℕ) (at : ℕ) (h : Head) (o g l : List ℕ) (begun taken : ℕ) (new : List ℕ) (end : ℕ) : Type 0 where
   pub takes : Takes before s out h o g l begun taken new end
+  pub all : taken ≡ lineEnd s
   pub some : 0 < taken
   pub later : at ≤ end
 
 -- a block: all of it, or as much as the lent buffer is sure to have room for
 pub record Feeds (before : Going) (s out : List ℕ) (h : Head) (o g l : List ℕ) (begun taken : ℕ) (new : List ℕ) (end : ℕ) : Type 0 where
   pub takes : Takes before s out h o g l begun taken new end
-  pub stops : (taken ≡ length s) ⊎ (length out < end + stepLimit)
+  pub all : taken ≡ takenOf (length out) true s before
 
 -- what the end of the input owes
-pub record Ends (before : Going) (out : List ℕ) (h : Head) (o g l new : List ℕ) (end : ℕ) : Type 0 where
-  pub state : goingIn h o g l 0 new end ≡ atEnd before
+pub record Ends (before : Going) (out : List ℕ) (h : Head) (o g new : List ℕ) (end : ℕ) : Type 0 where
+  pub state : goingIn h o g [] 0 new end ≡ atEnd before
   pub within : Within h o g
   pub fits : end ≤ length out
+  pub rest : drop end new ≡ drop end out
+  pub long : length new ≡ length out

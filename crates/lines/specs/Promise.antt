@@ -5,7 +5,7 @@ use mathlib.Core.Bool.{Bool, true, false}
 use mathlib.Core.List.{List, _++_}
 use lib.ListN.{length, take, drop}
 use Rattle.lengths.specs.Answers.{Answer, done, refused}
-use Rattle.datagrams.specs.Sizes.{packetLimit, datagramLimit}
+use Rattle.datagrams.specs.Sizes.{packetLimit}
 use Rattle.repair.specs.Cells.{keptAhead}
 use Rattle.views.specs.View.{View}
 use Rattle.views.specs.Release.{Release, next}
@@ -30,16 +30,9 @@ pub record Appends (text old : List ℕ) (at : ℕ) (new : List ℕ) (end : ℕ)
   pub after : end ≡ at + length text
   pub fits : at + length text ≤ length old
 
--- what a part of a step asks for: the session's ranges, room for a packet, and room for so many characters
-pub record Ready (most : ℕ) (h : Head) (o g p out : List ℕ) (at : ℕ) : Type 0 where
+-- what a part of a step asks for: the session's ranges, and room for so many characters
+pub record Able (most : ℕ) (h : Head) (o g out : List ℕ) (at : ℕ) : Type 0 where
   pub within : Within h o g
-  pub packet : length p ≡ packetLimit
-  pub room : at + most ≤ length out
-
--- the same where a line is read: room for its octets
-pub record Able (most : ℕ) (h : Head) (o g w out : List ℕ) (at : ℕ) : Type 0 where
-  pub within : Within h o g
-  pub work : datagramLimit ≤ length w
   pub room : at + most ≤ length out
 
 -- what a part of a step owes, of which m is the meaning: the text that it lays into the lent buffer, and the session after,

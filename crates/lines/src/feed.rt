@@ -10,9 +10,9 @@ ghost use mathlib.Core.List.{_++_};
 ghost use Prim.Native.Nat.{_+_, _≤_, min};
 ghost use lib.ListN.{length, take};
 ghost use Rattle.octets.specs.Place.{allBelow};
-ghost use Rattle.lines.specs.Feed.{keptLimit, goingIn};
+ghost use Rattle.lines.specs.Feed.{goingIn};
 ghost use Rattle.lines.specs.Promise.{stepLimit};
-ghost use Rattle.lines.specs.FeedPromise.{plainAt, Found, Begun, LineKept, Feedable, TakesLine, Feeds, Ends};
+ghost use Rattle.lines.specs.FeedPromise.{plainAt, Found, Begun, LineIn, LineKept, Feedable, TakesLine, Feeds, Ends};
 
 // The program part way: the head, how much of the line that has begun is kept, how many characters of the block were taken in,
 // and the place after what was written.
@@ -78,8 +78,7 @@ fn least(a: usize, b: usize) -> usize
 
 // Characters put after the line that has begun: of one that is too long no more is kept than shows it.
 fn keep_line(line: &mut [u8], begun: usize, more: &[u8]) -> usize
-    requires { ⌜ keptLimit ≡ length (now line) ⌝ }
-    requires { ⌜ begun ≤ keptLimit ⌝ }
+    requires { ⌜ LineIn (now line) begun ⌝ }
     ensures { λ r. ⌜ LineKept (now (line .entry)) begun (now (more .entry)) (now (line .exit)) r ⌝ }
 {
     let room = Line::KEPT - begun;
@@ -92,19 +91,30 @@ fn keep_line(line: &mut [u8], begun: usize, more: &[u8]) -> usize
     begun + count
 }
 
+// The lent line with no line begun: zeros.
+fn clear_line(line: &mut [u8], begun: usize)
+    requires { ⌜ LineIn (now line) begun ⌝ }
+    ensures { λ _. ⌜ LineIn (now (line .exit)) 0 ⌝ }
+{
+    let mut left = begun;
+    while left > 0 {
+        left -= 1;
+        line[left] = 0;
+    }
+}
+
 // The next line of s, or what there is of it. The line that has begun is kept in the front of line.
 fn take_line(
     h: Head,
     o: &mut [u8; Session::PACKET_OCTETS],
     g: &mut [u8; Session::MESSAGE_OCTETS],
-    work: &mut [u8],
     line: &mut [u8],
     begun: usize,
     s: &[u8],
     out: &mut [u8],
     at: usize,
 ) -> Fed
-    requires { ⌜ Feedable stepLimit h (now o) (now g) (now work) (now line) begun (now out) at ⌝ }
+    requires { ⌜ Feedable stepLimit h (now o) (now g) (now line) begun (now out) at ⌝ }
     requires { ⌜ 1 ≤ length (now s) ⌝ }
     ensures { λ r. ⌜ TakesLine (goingIn h (now (o .entry)) (now (g .entry)) (now (line .entry)) begun (now (out .entry)) at) (now (s .entry)) (now (out .entry)) at (r .head) (now (o .exit)) (now (g .exit)) (now (line .exit)) (r .begun) (r .taken) (now (out .exit)) (r .end) ⌝ }
 {
@@ -120,7 +130,7 @@ fn take_line(
     }
     let taken = stop + 1;
     if begun == 0 {
-        let made = step(h, o, g, work, &s[..stop], out, at);
+        let made = step(h, o, g, &s[..stop], out, at);
         let head = made.head;
         let end = made.end;
         return Fed {
@@ -131,7 +141,8 @@ fn take_line(
         };
     }
     let kept = keep_line(line, begun, &s[..stop]);
-    let made = step(h, o, g, work, &line[..kept], out, at);
+    let made = step(h, o, g, &line[..kept], out, at);
+    clear_line(line, kept);
     let head = made.head;
     let end = made.end;
     Fed {
@@ -147,14 +158,13 @@ pub fn take_block(
     h: Head,
     o: &mut [u8; Session::PACKET_OCTETS],
     g: &mut [u8; Session::MESSAGE_OCTETS],
-    work: &mut [u8],
     line: &mut [u8],
     begun: usize,
     block: &[u8],
     out: &mut [u8],
     at: usize,
 ) -> Fed
-    requires { ⌜ Feedable 0 h (now o) (now g) (now work) (now line) begun (now out) at ⌝ }
+    requires { ⌜ Feedable 0 h (now o) (now g) (now line) begun (now out) at ⌝ }
     ensures { λ r. ⌜ Feeds (goingIn h (now (o .entry)) (now (g .entry)) (now (line .entry)) begun (now (out .entry)) at) (now (block .entry)) (now (out .entry)) (r .head) (now (o .exit)) (now (g .exit)) (now (line .exit)) (r .begun) (r .taken) (now (out .exit)) (r .end) ⌝ }
 {
     let mut head = h;
@@ -170,7 +180,7 @@ pub fn take_block(
                 end,
             };
         }
-        let part = take_line(head, o, g, work, line, kept, &block[taken..], out, end);
+        let part = take_line(head, o, g, line, kept, &block[taken..], out, end);
         let next = part.head;
         head = next;
         kept = part.begun;
@@ -190,17 +200,16 @@ pub fn finish(
     h: Head,
     o: &mut [u8; Session::PACKET_OCTETS],
     g: &mut [u8; Session::MESSAGE_OCTETS],
-    work: &mut [u8],
-    line: &mut [u8],
+    line: &[u8],
     begun: usize,
     out: &mut [u8],
     at: usize,
 ) -> Stepped
-    requires { ⌜ Feedable stepLimit h (now o) (now g) (now work) (now line) begun (now out) at ⌝ }
-    ensures { λ r. ⌜ Ends (goingIn h (now (o .entry)) (now (g .entry)) (now (line .entry)) begun (now (out .entry)) at) (now (out .entry)) (r .head) (now (o .exit)) (now (g .exit)) (now (line .exit)) (now (out .exit)) (r .end) ⌝ }
+    requires { ⌜ Feedable stepLimit h (now o) (now g) (now line) begun (now out) at ⌝ }
+    ensures { λ r. ⌜ Ends (goingIn h (now (o .entry)) (now (g .entry)) (now (line .entry)) begun (now (out .entry)) at) (now (out .entry)) (r .head) (now (o .exit)) (now (g .exit)) (now (out .exit)) (r .end) ⌝ }
 {
     if begun == 0 {
         return Stepped { head: h, end: at };
     }
-    step(h, o, g, work, &line[..begun], out, at)
+    step(h, o, g, &line[..begun], out, at)
 }

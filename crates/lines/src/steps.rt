@@ -5,6 +5,7 @@ use crate::hex::hex_to_octets;
 use crate::results::kind_octet;
 use crate::results::put_refusal;
 use crate::results::put_result;
+use datagrams::Datagram;
 use datagrams::Packet;
 use heads::Head;
 use heads::Session;
@@ -21,7 +22,7 @@ ghost use Rattle.views.specs.Release.{giveUp};
 ghost use Rattle.heads.specs.Head.{viewIn};
 ghost use Rattle.heads.specs.Within.{Within};
 ghost use Rattle.lines.specs.Lines.{giveUpMade, offerMade, offerLine, answerLine, releases as allReleases, step as wholeStep};
-ghost use Rattle.lines.specs.Promise.{Does, Ready, Able, Releases, resultLimit, releasesLimit, stepLimit};
+ghost use Rattle.lines.specs.Promise.{Does, Able, Releases, resultLimit, releasesLimit, stepLimit};
 
 // The session's head after a part of a step, and the place after what it wrote.
 pub struct Stepped {
@@ -36,19 +37,19 @@ struct Turn {
     more: bool,
 }
 
-// One release: the packet at the base, by way of the lent packet.
+// One release: the packet at the base.
 fn release(
     h: Head,
     o: &mut [u8; Session::PACKET_OCTETS],
     g: &mut [u8; Session::MESSAGE_OCTETS],
-    packet: &mut [u8],
     out: &mut [u8],
     at: usize,
 ) -> Turn
-    requires { ⌜ Ready resultLimit h (now o) (now g) (now packet) (now out) at ⌝ }
+    requires { ⌜ Able resultLimit h (now o) (now g) (now out) at ⌝ }
     ensures { λ r. ⌜ Releases (viewIn h (now (o .entry)) (now (g .entry))) (now (out .entry)) at (r .head) (r .end) (r .more) (now (o .exit)) (now (g .exit)) (now (out .exit)) ⌝ }
 {
-    let done = releasing::next_core(h, o, g, packet);
+    let mut packet = [0u8; Packet::LIMIT];
+    let done = releasing::next_core(h, o, g, &mut packet);
     let head = done.head;
     let answer = done.answer;
     match answer {
@@ -74,18 +75,17 @@ fn releases(
     h: Head,
     o: &mut [u8; Session::PACKET_OCTETS],
     g: &mut [u8; Session::MESSAGE_OCTETS],
-    packet: &mut [u8],
     out: &mut [u8],
     at: usize,
 ) -> Stepped
-    requires { ⌜ Ready releasesLimit h (now o) (now g) (now packet) (now out) at ⌝ }
+    requires { ⌜ Able releasesLimit h (now o) (now g) (now out) at ⌝ }
     ensures { λ r. ⌜ Does (allReleases (viewIn h (now (o .entry)) (now (g .entry)))) (now (out .entry)) at (r .head) (r .end) (now (o .exit)) (now (g .exit)) (now (out .exit)) ⌝ }
 {
     let mut head = h;
     let mut end = at;
     let mut left = Session::HEARD;
     while left > 0 {
-        let turn = release(head, o, g, packet, out, end);
+        let turn = release(head, o, g, out, end);
         let next = turn.head;
         head = next;
         end = turn.end;
@@ -114,8 +114,8 @@ fn give_up_line(
     let answer = done.answer;
     match answer {
         Lost::Number(number) => {
-            let end = put_result(Line::LOST, number, &[], out, at);
-            Stepped { head, end }
+            let after = put_result(Line::LOST, number, &[], out, at);
+            Stepped { head, end: after }
         }
         Lost::Refused(why) => {
             let end = put_refusal(why, out, at);
@@ -149,20 +149,20 @@ fn offer_octets(
     }
 }
 
-// "one datagram a line": its octets, by way of the lent work.
+// "one datagram a line": its octets are offered.
 fn offer_line(
     h: Head,
     o: &mut [u8; Session::PACKET_OCTETS],
     g: &mut [u8; Session::MESSAGE_OCTETS],
-    work: &mut [u8],
     line: &[u8],
     out: &mut [u8],
     at: usize,
 ) -> Stepped
-    requires { ⌜ Able resultLimit h (now o) (now g) (now work) (now out) at ⌝ }
+    requires { ⌜ Able resultLimit h (now o) (now g) (now out) at ⌝ }
     ensures { λ r. ⌜ Does (offerLine (now (line .entry)) (viewIn h (now (o .entry)) (now (g .entry)))) (now (out .entry)) at (r .head) (r .end) (now (o .exit)) (now (g .exit)) (now (out .exit)) ⌝ }
 {
-    let read = hex_to_octets(line, work);
+    let mut work = [0u8; Datagram::LIMIT];
+    let read = hex_to_octets(line, &mut work);
     match read {
         Written::Octets(size) => offer_octets(h, o, g, &work[..size], out, at),
         Written::Refused(why) => {
@@ -177,18 +177,17 @@ fn answer_line(
     h: Head,
     o: &mut [u8; Session::PACKET_OCTETS],
     g: &mut [u8; Session::MESSAGE_OCTETS],
-    work: &mut [u8],
     line: &[u8],
     out: &mut [u8],
     at: usize,
 ) -> Stepped
-    requires { ⌜ Able resultLimit h (now o) (now g) (now work) (now out) at ⌝ }
+    requires { ⌜ Able resultLimit h (now o) (now g) (now out) at ⌝ }
     ensures { λ r. ⌜ Does (answerLine (now (line .entry)) (viewIn h (now (o .entry)) (now (g .entry)))) (now (out .entry)) at (r .head) (r .end) (now (o .exit)) (now (g .exit)) (now (out .exit)) ⌝ }
 {
     if line.len() == 0 {
         return give_up_line(h, o, g, out, at);
     }
-    offer_line(h, o, g, work, line, out, at)
+    offer_line(h, o, g, line, out, at)
 }
 
 // One line: its answer, then releases.
@@ -196,16 +195,15 @@ pub fn step(
     h: Head,
     o: &mut [u8; Session::PACKET_OCTETS],
     g: &mut [u8; Session::MESSAGE_OCTETS],
-    work: &mut [u8],
     line: &[u8],
     out: &mut [u8],
     at: usize,
 ) -> Stepped
-    requires { ⌜ Able stepLimit h (now o) (now g) (now work) (now out) at ⌝ }
+    requires { ⌜ Able stepLimit h (now o) (now g) (now out) at ⌝ }
     ensures { λ r. ⌜ Does (wholeStep (now (line .entry)) (viewIn h (now (o .entry)) (now (g .entry)))) (now (out .entry)) at (r .head) (r .end) (now (o .exit)) (now (g .exit)) (now (out .exit)) ⌝ }
 {
-    let first = answer_line(h, o, g, work, line, out, at);
+    let first = answer_line(h, o, g, line, out, at);
     let head = first.head;
     let end = first.end;
-    releases(head, o, g, &mut work[..Packet::LIMIT], out, end)
+    releases(head, o, g, out, end)
 }

@@ -7,53 +7,30 @@ use Rattle.lines.proofs.feed.finish.Reads as reads
 use Rattle.lines.proofs.feed.finish.Lts as lts
 use Rattle.lines.proofs.steps.step.Reads as step-reads
 
--- src/feed.rt:203:9
+-- src/feed.rt:200:9
 returns : tie.Need-returns
-returns c =
-    ends-between (c .before .before .before .before .pre) (c .if1 .taken)
+returns c = ends-between (c .before .before .before .pre) (c .if1 .taken)
 
--- src/feed.rt:205:25
-slice-reshare-prefix-step : tie.Need-slice-reshare-prefix-step
-slice-reshare-prefix-step c = search needs
-
--- src/feed.rt:205:25
+-- src/feed.rt:202:19
 slice-aggregate-step : tie.Need-slice-aggregate-step
 slice-aggregate-step c =
-    let start = c .before .before .before .before .before .before .before .before in
-    sym (begun-length _ _ (start .pre .line) (start .pre .short))
+    let start = c .before .before .before .before .before .before in
+    sym (begun-length (start .pre .line))
 
--- src/feed.rt:205:5
+-- src/feed.rt:202:5
 step-requires : tie.Need-step-requires
 step-requires c κs = search needs
 
--- src/feed.rt:189:1
+-- src/feed.rt:187:1
 same-length : tie.Need-same-length
 same-length c = search needs
 
--- src/feed.rt:189:1
-same-length-2 : tie.Need-same-length-2
-same-length-2 c = search needs
-
--- src/feed.rt:189:1
-same-length-3 : tie.Need-same-length-3
-same-length-3 c = search needs
-
--- src/feed.rt:189:1
+-- src/feed.rt:187:1
 returns-2 : tie.Need-returns-2
 returns-2 c =
-    let made = c .before .before .before .before in
-    let some = made .before .before .before .before .before .before in
-    ends-line (some .before .before .before .before .pre) (some .if1 .left) (made .step .ensures)
+    let made = c .before .before in
+    let some = made .before .before .before .before .before in
+    ends-line (some .before .before .before .pre) (some .if1 .left) (made .step .ensures)
 
 pub finish-spec : {M : Type 1} → statement M
-finish-spec =
-    tie.close
-    (tie.spec
-    returns
-    slice-reshare-prefix-step
-    slice-aggregate-step
-    step-requires
-    same-length
-    same-length-2
-    same-length-3
-    returns-2)
+finish-spec = tie.close (tie.spec returns slice-aggregate-step step-requires same-length returns-2)

@@ -11,98 +11,85 @@ use Rattle.lines.proofs.feed.take_block.Lts as lts
 use Rattle.lines.proofs.feed.take_line.Reads as take-line-reads
 
 abbrev Inv-loop : tie.InvT-loop
-Inv-loop o₀ g₀ work₀ line₀ begun block out₀ at head₀ kept₀ taken₀ end₀ o g work line out head kept taken end =
-    Fed (goingIn head₀ o₀ g₀ line₀ begun out₀ at) block out₀ work₀ line₀ head o g work line kept taken out end
+Inv-loop o₀ g₀ line₀ begun block out₀ at head₀ kept₀ taken₀ end₀ o g line out head kept taken end =
+    Fed (goingIn head₀ o₀ g₀ line₀ begun out₀ at) block out₀ line₀ head o g line kept taken out end
 
 abbrev μ-loop : tie.MeasureT-loop
-μ-loop o₀ g₀ work₀ line₀ begun block out₀ at head₀ kept₀ taken₀ end₀ o g work line out head kept taken end =
-    length block - taken
+μ-loop o₀ g₀ line₀ begun block out₀ at head₀ kept₀ taken₀ end₀ o g line out head kept taken end = length block - taken
 
--- src/feed.rt:164:5
+-- src/feed.rt:162:5
 loop-holds : tie.Need-loop-holds Inv-loop μ-loop
-loop-holds c =
-    fed-start _ (c .before .before .before .before .pre)
+loop-holds c = fed-start _ (c .before .before .before .pre)
 
--- src/feed.rt:165:12
+-- src/feed.rt:163:12
 sub-if1 : tie.Need-sub-if1 Inv-loop μ-loop
 sub-if1 c = search needs
 
--- src/feed.rt:166:13
+-- src/feed.rt:164:13
 same-length : tie.Need-same-length Inv-loop μ-loop
 same-length c = search needs
 
--- src/feed.rt:166:13
+-- src/feed.rt:164:13
 same-length-2 : tie.Need-same-length-2 Inv-loop μ-loop
 same-length-2 c = search needs
 
--- src/feed.rt:166:13
-same-length-3 : tie.Need-same-length-3 Inv-loop μ-loop
-same-length-3 c = search needs
-
--- src/feed.rt:166:13
+-- src/feed.rt:164:13
 returns : tie.Need-returns Inv-loop μ-loop
-returns c =
-    fed-full (c .before .before .loop .inv) (c .if1 .taken)
+returns c = fed-full (c .before .before .loop .inv) (c .if1 .taken)
 
--- src/feed.rt:173:60
+-- src/feed.rt:171:54
 sub-take-line : tie.Need-sub-take-line Inv-loop μ-loop
 sub-take-line c = search needs
 
--- src/feed.rt:173:60
+-- src/feed.rt:171:54
 part-take-line-start : tie.Need-part-take-line-start Inv-loop μ-loop
 part-take-line-start c = search needs
 
--- src/feed.rt:173:60
+-- src/feed.rt:171:54
 part-take-line-end : tie.Need-part-take-line-end Inv-loop μ-loop
 part-take-line-end c = search needs
 
--- src/feed.rt:173:13
+-- src/feed.rt:171:13
 take-line-requires : tie.Need-take-line-requires Inv-loop μ-loop
 take-line-requires c κs =
-    let room = c .before .before .before .before .before .before in
-    let start = room .before .before .before .before .before .before .before in
+    let room = c .before .before .before .before .before in
+    let start = room .before .before .before .before .before .before in
     (fed-ready (room .before .before .loop .inv) (room .if1 .left), left-some (start .args .block .now) _ (room .before .loop-test .taken))
 
--- src/feed.rt:177:9
+-- src/feed.rt:175:9
 add-taken : tie.Need-add-taken Inv-loop μ-loop
 add-taken c =
-    let made = c .before .before .before .before .before .before .before .before in
-    let room = made .before .before .before .before .before .before .before in
-    let start = room .before .before .before .before .before .before .before in
-    record { fits = omega (arith, start .good .1 .1 .1 .1 .1 .1 .0, left-inside (start .args .block .now) _ (room .before .loop-test .taken) (made .take-line .ensures)) }
+    let made = c .before .before .before .before .before .before in
+    let room = made .before .before .before .before .before .before in
+    let start = room .before .before .before .before .before .before in
+    record { fits = omega (arith, start .good .1 .1 .1 .1 .1 .0, left-inside (start .args .block .now) _ (room .before .loop-test .taken) (made .take-line .ensures)) }
 
--- src/feed.rt:164:5
+-- src/feed.rt:162:5
 loop-less : tie.Need-loop-less Inv-loop μ-loop
 loop-less c =
-    let made = c .before .before .before .before .before .before .before .before in
-    let room = made .before .before .before .before .before .before .before in
+    let made = c .before .before .before .before .before .before in
+    let room = made .before .before .before .before .before .before in
     omega (arith, made .take-line .ensures .some, room .before .loop-test .taken)
 
--- src/feed.rt:164:5
+-- src/feed.rt:162:5
 loop-again : tie.Need-loop-again Inv-loop μ-loop
 loop-again c =
-    let made = c .before .before .before .before .before .before .before .before in
-    let room = made .before .before .before .before .before .before .before in
+    let made = c .before .before .before .before .before .before in
+    let room = made .before .before .before .before .before .before in
     let loop = room .before .before in
-    fed-turn (loop .loop .inv) (room .before .loop-test .taken) (made .take-line .ensures) (made .take-line .kept .1 .1 .1 .0)
-    (made .take-line .kept .1 .1 .1 .1 .0) (made .take-line .kept .1 .1 .1 .1 .1 .1 .1 .0)
+    fed-turn (loop .loop .inv) (room .before .loop-test .taken) (room .if1 .left) (made .take-line .ensures)
 
--- src/feed.rt:146:1
+-- src/feed.rt:145:1
+same-length-3 : tie.Need-same-length-3 Inv-loop μ-loop
+same-length-3 c = search needs
+
+-- src/feed.rt:145:1
 same-length-4 : tie.Need-same-length-4 Inv-loop μ-loop
 same-length-4 c = search needs
 
--- src/feed.rt:146:1
-same-length-5 : tie.Need-same-length-5 Inv-loop μ-loop
-same-length-5 c = search needs
-
--- src/feed.rt:146:1
-same-length-6 : tie.Need-same-length-6 Inv-loop μ-loop
-same-length-6 c = search needs
-
--- src/feed.rt:146:1
+-- src/feed.rt:145:1
 returns-2 : tie.Need-returns-2 Inv-loop μ-loop
-returns-2 c =
-    fed-whole (c .before .loop .inv) (c .loop-test .left)
+returns-2 c = fed-whole (c .before .loop .inv) (c .loop-test .left)
 
 pub take-block-spec : {M : Type 1} → statement M
 take-block-spec =
@@ -114,7 +101,6 @@ take-block-spec =
     sub-if1
     same-length
     same-length-2
-    same-length-3
     returns
     sub-take-line
     part-take-line-start
@@ -123,7 +109,6 @@ take-block-spec =
     add-taken
     loop-less
     loop-again
+    same-length-3
     same-length-4
-    same-length-5
-    same-length-6
     returns-2)

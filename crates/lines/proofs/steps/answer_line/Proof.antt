@@ -30,14 +30,10 @@ same-length-2 : tie.Need-same-length-2
 same-length-2 c = search needs
 
 -- src/steps.rt:176:1
-same-length-3 : tie.Need-same-length-3
-same-length-3 c = search needs
-
--- src/steps.rt:176:1
 returns-2 : tie.Need-returns-2
 returns-2 c =
-    let offer = c .before .before .before .before in
-    answers-line _ _ (offer .before .before .before .before .before .if1 .left) (offer .offer-line .ensures)
+    let offer = c .before .before in
+    answers-line _ _ (offer .before .before .before .before .if1 .left) (offer .offer-line .ensures)
 
 pub answer-line-spec : {M : Type 1} → statement M
 answer-line-spec =
@@ -48,5 +44,4 @@ answer-line-spec =
     returns
     offer-line-requires
     same-length-2
-    same-length-3
     returns-2)

@@ -1,3 +1,4 @@
+use native.Mathlib.Omega.{arith}
 use Rattle.lines.proofs.Offering.{line-inside, line-length, line-offered, line-refused}
 use borrow.Author.Needs.{needs}
 use Rattle.lines.proofs.steps.offer_line.Statement.{statement}
@@ -8,6 +9,10 @@ use Rattle.lines.proofs.hex.hex_to_octets.Reads as hex-to-octets-reads
 use Rattle.lines.proofs.results.put_refusal.Reads as put-refusal-reads
 use Rattle.lines.proofs.steps.offer_octets.Reads as offer-octets-reads
 
+-- src/steps.rt:165:36
+slice-aggregate-hex-to-octets : tie.Need-slice-aggregate-hex-to-octets
+slice-aggregate-hex-to-octets c = search needs
+
 -- src/steps.rt:165:9
 hex-to-octets-requires : tie.Need-hex-to-octets-requires
 hex-to-octets-requires c κs = search needs
@@ -17,18 +22,16 @@ enum-known-read : tie.Need-enum-known-read
 enum-known-read c = search needs
 
 -- src/steps.rt:167:56
-slice-reshare-prefix-offer-octets : tie.Need-slice-reshare-prefix-offer-octets
-slice-reshare-prefix-offer-octets c =
+array-share-prefix-work : tie.Need-array-share-prefix-work
+array-share-prefix-work c =
     let told = c .before .before .before in
-    let hex = told .before .before .before .before in
-    line-inside _ (hex .before .before .before .before .before .pre .work) (hex .hex-to-octets .ensures) (told .read .given .1)
+    line-inside _ (omega arith) (told .before .before .before .hex-to-octets .ensures) (told .read .given .1)
 
 -- src/steps.rt:167:56
 slice-aggregate-offer-octets : tie.Need-slice-aggregate-offer-octets
 slice-aggregate-offer-octets c =
     let told = c .before .before .before .before in
-    let hex = told .before .before .before .before in
-    line-length _ (hex .before .before .before .before .before .pre .work) (hex .hex-to-octets .ensures) (told .read .given .1)
+    line-length _ (omega arith) (told .before .before .before .hex-to-octets .ensures) (told .read .given .1)
 
 -- src/steps.rt:167:34
 offer-octets-requires : tie.Need-offer-octets-requires
@@ -47,49 +50,38 @@ same-length : tie.Need-same-length
 same-length c = search needs
 
 -- src/steps.rt:153:1
-same-length-2 : tie.Need-same-length-2
-same-length-2 c = search needs
-
--- src/steps.rt:153:1
 returns : tie.Need-returns
 returns c =
     let offer = c .before .before in
     let told = offer .before .before .before .before .before .before in
-    let hex = told .before .before .before .before in
-    line-offered _ (hex .before .before .before .before .before .pre .work) (hex .hex-to-octets .ensures) _ (told .read .given .1)
-    (offer .offer-octets .ensures)
+    line-offered _ (omega arith) (told .before .before .before .hex-to-octets .ensures) _ (told .read .given .1) (offer .offer-octets .ensures)
 
 -- src/steps.rt:153:1
-same-length-3 : tie.Need-same-length-3
-same-length-3 c = search needs
-
--- src/steps.rt:153:1
-same-length-4 : tie.Need-same-length-4
-same-length-4 c = search needs
+same-length-2 : tie.Need-same-length-2
+same-length-2 c = search needs
 
 -- src/steps.rt:153:1
 returns-2 : tie.Need-returns-2
 returns-2 c =
     let put = c .before .before in
     let told = put .before .before .before in
-    let hex = told .before .before .before .before in
-    let start = hex .before .before .before .before .before in
-    line-refused _ (start .pre .work) (hex .hex-to-octets .ensures) (told .read2 .given .1) (start .pre .within) (put .put-refusal .ensures)
+    let hex = told .before .before .before in
+    let start = hex .before .before .before .before in
+    line-refused _ (omega arith) (hex .hex-to-octets .ensures) (told .read2 .given .1) (start .pre .within) (put .put-refusal .ensures)
 
 pub offer-line-spec : {M : Type 1} → statement M
 offer-line-spec =
     tie.close
     (tie.spec
+    slice-aggregate-hex-to-octets
     hex-to-octets-requires
     enum-known-read
-    slice-reshare-prefix-offer-octets
+    array-share-prefix-work
     slice-aggregate-offer-octets
     offer-octets-requires
     enum-known-read-2
     put-refusal-requires
     same-length
-    same-length-2
     returns
-    same-length-3
-    same-length-4
+    same-length-2
     returns-2)

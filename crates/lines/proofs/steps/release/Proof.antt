@@ -1,5 +1,6 @@
-use Rattle.lines.proofs.Stepping.{packet-inside, packet-length, packet-room, released-one, released-none}
+use mathlib.Core.Path.{refl}
 use native.Mathlib.Omega.{arith}
+use Rattle.lines.proofs.Stepping.{packet-inside, packet-length, packet-room, released-one, released-none}
 use borrow.Author.Needs.{needs}
 use Rattle.lines.proofs.steps.release.Statement.{statement}
 use Rattle.lines.proofs.steps.release.Tie as tie
@@ -9,86 +10,78 @@ use Rattle.lines.proofs.results.kind_octet.Reads as kind-octet-reads
 use Rattle.lines.proofs.results.put_result.Reads as put-result-reads
 use Rattle.releasing.proofs.next_core.Reads as next-core-reads
 
--- src/steps.rt:48:9
+-- src/steps.rt:52:46
+slice-aggregate-next-core : tie.Need-slice-aggregate-next-core
+slice-aggregate-next-core c = search needs
+
+-- src/steps.rt:52:9
 next-core-requires : tie.Need-next-core-requires
 next-core-requires c κs = search needs
 
--- src/steps.rt:52:33
+-- src/steps.rt:56:33
 enum-told : tie.Need-enum-told
 enum-told c = search needs
 
--- src/steps.rt:57:28
+-- src/steps.rt:61:28
 enum-known-answer : tie.Need-enum-known-answer
 enum-known-answer c = search needs
 
--- src/steps.rt:58:17
+-- src/steps.rt:62:17
 kind-octet-requires : tie.Need-kind-octet-requires
 kind-octet-requires c κs = search needs
 
--- src/steps.rt:59:49
-slice-reshare-prefix-put-result : tie.Need-slice-reshare-prefix-put-result
-slice-reshare-prefix-put-result c =
+-- src/steps.rt:63:49
+array-share-prefix-packet : tie.Need-array-share-prefix-packet
+array-share-prefix-packet c =
     let told = c .before .before in
-    let next = told .before .before .before .before .before in
-    packet-inside (next .next-core .ensures) (next .before .before .before .before .before .before .pre .packet) (told .answer .given .1)
+    packet-inside (told .before .before .before .before .next-core .ensures) refl (told .answer .given .1)
 
--- src/steps.rt:59:49
+-- src/steps.rt:63:49
 slice-aggregate-put-result : tie.Need-slice-aggregate-put-result
 slice-aggregate-put-result c =
     let told = c .before .before .before in
-    let next = told .before .before .before .before .before in
-    packet-length (next .next-core .ensures) (next .before .before .before .before .before .before .pre .packet) (told .answer .given .1)
+    packet-length (told .before .before .before .before .next-core .ensures) refl (told .answer .given .1)
 
--- src/steps.rt:59:17
+-- src/steps.rt:63:17
 put-result-requires : tie.Need-put-result-requires
 put-result-requires c κs =
     let told = c .before .before .before .before in
-    let next = told .before .before .before .before .before in
-    let start = next .before .before .before .before .before .before in
-    packet-room (next .next-core .ensures) (start .pre .packet) (start .args .at) (start .args .out .now) (told .answer .given .1) (start .pre .room)
+    let next = told .before .before .before .before in
+    let start = next .before .before .before .before .before in
+    packet-room (next .next-core .ensures) refl (start .args .at) (start .args .out .now) (told .answer .given .1) (start .pre .room)
 
--- src/steps.rt:35:1
+-- src/steps.rt:41:1
+returns : tie.Need-returns
+returns c =
+    let next = c .before .before .before .before in
+    let start = next .before .before .before .before .before in
+    released-none (next .next-core .ensures) refl (c .enum-told .given .1) (omega (arith, start .pre .room))
+
+-- src/steps.rt:41:1
 same-length : tie.Need-same-length
 same-length c = search needs
 
--- src/steps.rt:35:1
-returns : tie.Need-returns
-returns c =
-    let next = c .before .before .before .before .before in
-    let start = next .before .before .before .before .before .before in
-    released-none (next .next-core .ensures) (start .pre .packet) (c .enum-told .given .1) (omega (arith, start .pre .room))
-
--- src/steps.rt:35:1
-same-length-2 : tie.Need-same-length-2
-same-length-2 c = search needs
-
--- src/steps.rt:35:1
-same-length-3 : tie.Need-same-length-3
-same-length-3 c = search needs
-
--- src/steps.rt:35:1
+-- src/steps.rt:41:1
 returns-2 : tie.Need-returns-2
 returns-2 c =
     let put = c .before .before in
     let octet = put .before .before .before in
     let told = octet .before .before in
-    let next = told .before .before .before .before .before in
-    let start = next .before .before .before .before .before .before in
-    released-one (next .next-core .ensures) (start .pre .packet) (told .answer .given .1) (octet .kind-octet .ensures) (put .put-result .ensures)
+    let next = told .before .before .before .before in
+    released-one (next .next-core .ensures) refl (told .answer .given .1) (octet .kind-octet .ensures) (put .put-result .ensures)
 
 pub release-spec : {M : Type 1} → statement M
 release-spec =
     tie.close
     (tie.spec
+    slice-aggregate-next-core
     next-core-requires
     enum-told
     enum-known-answer
     kind-octet-requires
-    slice-reshare-prefix-put-result
+    array-share-prefix-packet
     slice-aggregate-put-result
     put-result-requires
-    same-length
     returns
-    same-length-2
-    same-length-3
+    same-length
     returns-2)

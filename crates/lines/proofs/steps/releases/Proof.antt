@@ -1,8 +1,7 @@
 use borrow.Author.Needs.{needs}
-use Rattle.lines.proofs.ReleaseLoop.{Left, left-start, left-ready, left-done, left-turn, left-stop}
-use mathlib.Core.Path.{_∙_, sym}
 use borrow.Author.Tests.{not-true, not-false}
 use Rattle.heads.specs.Head.{viewIn}
+use Rattle.lines.proofs.ReleaseLoop.{Left, left-start, left-ready, left-done, left-turn, left-stop}
 use Rattle.lines.proofs.steps.releases.Statement.{statement}
 use Rattle.lines.proofs.steps.releases.Tie as tie
 use Rattle.lines.proofs.steps.releases.Reads as reads
@@ -10,63 +9,54 @@ use Rattle.lines.proofs.steps.releases.Lts as lts
 use Rattle.lines.proofs.steps.release.Reads as release-reads
 
 abbrev Inv-loop : tie.InvT-loop
-Inv-loop o₀ g₀ packet₀ out₀ at head₀ end₀ left₀ o g packet out head end left = Left (viewIn head₀ o₀ g₀) out₀ at head o g packet out end left
+Inv-loop o₀ g₀ out₀ at head₀ end₀ left₀ o g out head end left = Left (viewIn head₀ o₀ g₀) out₀ at head o g out end left
 
 abbrev μ-loop : tie.MeasureT-loop
-μ-loop o₀ g₀ packet₀ out₀ at head₀ end₀ left₀ o g packet out head end left = left
+μ-loop o₀ g₀ out₀ at head₀ end₀ left₀ o g out head end left = left
 
--- src/steps.rt:86:5
+-- src/steps.rt:87:5
 loop-holds : tie.Need-loop-holds Inv-loop μ-loop
-loop-holds c = left-start (c .before .before .pre)
+loop-holds c = left-start (c .before .pre)
 
--- src/steps.rt:87:13
+-- src/steps.rt:88:13
 release-requires : tie.Need-release-requires Inv-loop μ-loop
 release-requires c κs =
-    let test = c .before .before .before .before in
+    let test = c .before .before .before in
     left-ready (test .before .loop .inv) (test .loop-test .taken)
 
--- src/steps.rt:92:13
+-- src/steps.rt:93:13
 same-length : tie.Need-same-length Inv-loop μ-loop
 same-length c = search needs
 
--- src/steps.rt:92:13
-same-length-2 : tie.Need-same-length-2 Inv-loop μ-loop
-same-length-2 c = search needs
-
--- src/steps.rt:92:13
+-- src/steps.rt:93:13
 returns : tie.Need-returns Inv-loop μ-loop
 returns c =
-    let made = c .before .before .before .before .before .before .before in
-    let test = made .before .before .before .before .before in
+    let made = c .before .before .before .before .before in
+    let test = made .before .before .before .before in
     left-stop (test .before .loop .inv) (test .loop-test .taken) (made .release .ensures) (not-true _ (c .if1 .taken))
 
--- src/steps.rt:94:9
+-- src/steps.rt:95:9
 sub-left : tie.Need-sub-left Inv-loop μ-loop
 sub-left c = search needs
 
--- src/steps.rt:86:5
+-- src/steps.rt:87:5
 loop-less : tie.Need-loop-less Inv-loop μ-loop
 loop-less c = search needs
 
--- src/steps.rt:86:5
+-- src/steps.rt:87:5
 loop-again : tie.Need-loop-again Inv-loop μ-loop
 loop-again c =
-    let made = c .before .before .before .before .before .before .before in
-    let test = made .before .before .before .before .before in
-    left-turn (test .before .loop .inv) (test .loop-test .taken) (made .release .ensures) (made .release .kept .1 .1 .1 .0 ∙ test .before .loop .inv .packet) (not-false _ (c .if1 .left))
+    let made = c .before .before .before .before .before in
+    let test = made .before .before .before .before in
+    left-turn (test .before .loop .inv) (test .loop-test .taken) (made .release .ensures) (not-false _ (c .if1 .left))
 
--- src/steps.rt:70:1
-same-length-3 : tie.Need-same-length-3 Inv-loop μ-loop
-same-length-3 c = search needs
+-- src/steps.rt:74:1
+same-length-2 : tie.Need-same-length-2 Inv-loop μ-loop
+same-length-2 c = search needs
 
--- src/steps.rt:70:1
-same-length-4 : tie.Need-same-length-4 Inv-loop μ-loop
-same-length-4 c = search needs
-
--- src/steps.rt:70:1
+-- src/steps.rt:74:1
 returns-2 : tie.Need-returns-2 Inv-loop μ-loop
-returns-2 c =
-    left-done (c .before .loop .inv) (c .loop-test .left)
+returns-2 c = left-done (c .before .loop .inv) (c .loop-test .left)
 
 pub releases-spec : {M : Type 1} → statement M
 releases-spec =
@@ -77,11 +67,9 @@ releases-spec =
     loop-holds
     release-requires
     same-length
-    same-length-2
     returns
     sub-left
     loop-less
     loop-again
-    same-length-3
-    same-length-4
+    same-length-2
     returns-2)

@@ -1,0 +1,159 @@
+-- The releases after a line stop at 10 or 16: a packet has room, and after as many releases as there are numbers from the base
+-- on, the base is a number that came into view unknown. Assumes nothing.
+use Prim.Native.Nat.{ℕ, zero, suc, _+_, _-_, _*_, _≤_, _<_}
+use mathlib.Core.Path.{_≡_, refl, sym, ap, _∙_}
+use mathlib.Core.Bool.{Bool, true, false, cond}
+use mathlib.Core.List.{List, [], _∷_, _++_}
+use mathlib.Core.Logic.{_⊎_, inl, inr, ⊎-elim}
+use lib.ListN.{length, getD, drop, length-append, length-take, length-drop, List·getD-append, List·getD-eq-default}
+use lib.Seq.{getD-drop, getD-at}
+use lib.Dec.{leb, ltb}
+use native.Mathlib.Omega.{arith}
+use borrow.Author.Tests.{le-ltb}
+use Rattle.octets.proofs.Cases.{below-or-not}
+use Rattle.lengths.specs.Refusals.{baseUnknown, allPassed, noRoom, refusal}
+use Rattle.lengths.specs.Answers.{Answer, done, refused, refuse}
+use Rattle.lengths.specs.declared.Refusal.{Refusal}
+use Rattle.datagrams.specs.Sizes.{packetLimit}
+use Rattle.repair.specs.Cells.{Cell, cellAt, unknownAt, unknownCell, blankCell, isUnknown, keptBefore, keptAhead, keptNumbers}
+use Rattle.stores.specs.Store.{part}
+use Rattle.views.specs.View.{View, Counts, sum, sessionLimit, goneOn}
+use Rattle.views.specs.Release as release
+use Rattle.views.specs.Release.{Release, next, atBase}
+use Rattle.heads.specs.Head.{viewIn, cellsOf, cellIn, slotAt, keptIn}
+use Rattle.heads.specs.Within.{Within}
+use Rattle.heads.specs.declared.Head.{Head}
+use Rattle.heads.proofs.Parts.{kept-right, size-right}
+use Rattle.heads.proofs.Seen.{length-cells, cell-at}
+use Rattle.lines.specs.Lines.{Made, onward, releasesF, releases}
+use Rattle.lines.specs.Claims.{ReleasesAll}
+
+-- ---- next, with room for any packet
+abbrev Stops : View → Type 0
+Stops view = (next packetLimit view ≡ refuse baseUnknown) ⊎ (next packetLimit view ≡ refuse allPassed)
+
+data Next (view : View) : Type 0 where
+  goes : (r : Release) (counts : Counts) → next packetLimit view ≡ done r → r .after ≡ goneOn counts view → Next view
+  unknown : next packetLimit view ≡ refuse baseUnknown → Next view
+  passed : next packetLimit view ≡ refuse allPassed → Next view
+
+-- the three tests of next
+data Tested (x y : Refusal) (a : Release) (r : Answer Release) : Type 0 where
+  first : r ≡ refused x → Tested x y a r
+  second : r ≡ refused y → Tested x y a r
+  neither : r ≡ done a → Tested x y a r
+
+tested : (b₁ b₂ b₃ : Bool) (x y z : Refusal) (a : Release) → b₃ ≡ false
+    → Tested x y a (cond b₁ (refused x) (cond b₂ (refused y) (cond b₃ (refused z) (done a))))
+tested true b₂ b₃ x y z a e = first refl
+tested false true b₃ x y z a e = second refl
+tested false false b₃ x y z a e = neither (ap (λ (b : Bool). cond b (refused z) (done a)) e)
+
+next-is : (view : View) → length ((atBase view) .octets) ≤ packetLimit → Next view
+unfolding next
+next-is view fits = from (tested (leb sessionLimit (sum (view .counts))) (unknownAt (view .cells) keptBefore) _ (refusal allPassed) (refusal baseUnknown)
+    (refusal noRoom) handed (le-ltb packetLimit (length ((atBase view) .octets)) fits))
+  where
+    counts : Counts
+    counts = release.released ((atBase view) .state) (view .counts)
+
+    handed : Release
+    handed =
+        record {
+          kind = (atBase view) .state;
+          number = view .base;
+          octets = (atBase view) .octets;
+          after = goneOn counts view;
+        }
+
+    from : Tested (refusal allPassed) (refusal baseUnknown) handed (next packetLimit view) → Next view
+    from (first e) = passed e
+    from (second e) = unknown e
+    from (neither e) = goes handed counts e refl
+
+-- ---- the numbers ahead
+-- every packet fits, and from so many numbers after the base on all are unknown
+record Ahead (left : ℕ) (cells : List Cell) : Type 0 where
+  long : length cells ≡ keptNumbers
+  fits : (p : ℕ) → p < keptNumbers → length ((cellAt cells p) .octets) ≤ packetLimit
+  unknown : (p : ℕ) → keptBefore + left ≤ p → p < keptNumbers → unknownAt cells p ≡ true
+
+-- the base goes on
+ahead-cells : (cells : List Cell) (p : ℕ) → length cells ≡ keptNumbers → p < keptNumbers
+    → ((cellAt (drop 1 cells ++ (unknownCell ∷ [])) p ≡ cellAt cells (p + 1)) × (p + 1 < keptNumbers))
+    ⊎ (cellAt (drop 1 cells ++ (unknownCell ∷ [])) p ≡ unknownCell)
+ahead-cells cells p long inside =
+    let left : length (drop 1 cells) ≡ 63 = omega (arith, length-drop 1 cells) in
+    let one : 1 + p ≡ p + 1 = omega arith in
+    ⊎-elim
+    (λ below.
+    inl (
+      List·getD-append (drop 1 cells) (unknownCell ∷ []) blankCell p (omega arith)
+          ∙ getD-drop 1 cells p blankCell
+          ∙ ap (λ (k : ℕ). cellAt cells k) one,
+      omega arith,
+    ))
+    (λ past. inr (getD-at (drop 1 cells) unknownCell [] blankCell p (omega arith)))
+    (below-or-not p 63)
+
+ahead-on : (left : ℕ) (cells : List Cell) → Ahead (suc left) cells → Ahead left (drop 1 cells ++ (unknownCell ∷ []))
+ahead-on left cells a =
+    record {
+      long = length-append (drop 1 cells) (unknownCell ∷ []) ∙ omega (arith, length-drop 1 cells, a .long);
+      fits = λ p inside.
+          ⊎-elim (λ e. rw (e .0) (a .fits (p + 1) (e .1))) (λ e. rw e (omega arith)) (ahead-cells cells p (a .long) inside);
+      unknown = λ p past inside.
+          ⊎-elim (λ e. rw (e .0) (a .unknown (p + 1) (omega arith) (e .1))) (λ e. rw e refl) (ahead-cells cells p (a .long) inside);
+    }
+
+-- an unknown base
+unknown-tested : (b u : Bool) (x y : Refusal) (rest : Answer Release) → u ≡ true
+    → (cond b (refused x) (cond u (refused y) rest) ≡ refused y) ⊎ (cond b (refused x) (cond u (refused y) rest) ≡ refused x)
+unknown-tested true u x y rest e = inr refl
+unknown-tested false u x y rest e = inl (ap (λ (v : Bool). cond v (refused y) rest) e)
+
+unknown-stops : (view : View) → unknownAt (view .cells) keptBefore ≡ true → Stops view
+unfolding next
+unknown-stops view e = unknown-tested (leb sessionLimit (sum (view .counts))) _ (refusal allPassed) (refusal baseUnknown) _ e
+
+-- ---- all releases
+cells-on : (counts : Counts) (view : View) → (goneOn counts view) .cells ≡ drop 1 (view .cells) ++ (unknownCell ∷ [])
+unfolding goneOn
+cells-on counts view = refl
+
+stays : (left : ℕ) (view : View) {x : Refusal} → next packetLimit view ≡ refused x
+    → (onward (next packetLimit view) (releasesF left) view) .after ≡ view
+stays left view e = ap (λ (r : Answer Release). (onward r (releasesF left) view) .after) e
+
+turn : (left : ℕ) (view : View) → Ahead (suc left) (view .cells)
+    → ((v : View) → Ahead left (v .cells) → Stops ((releasesF left v) .after)) → Next view
+    → Stops ((onward (next packetLimit view) (releasesF left) view) .after)
+turn left view a more (goes r counts e on) =
+    let after : (onward (next packetLimit view) (releasesF left) view) .after ≡ (releasesF left (goneOn counts view)) .after =
+    ap (λ (x : Answer Release). (onward x (releasesF left) view) .after) e ∙ ap (λ (v : View). (releasesF left v) .after) on in
+    rw after (more (goneOn counts view) (rw (cells-on counts view) (ahead-on left (view .cells) a)))
+turn left view a more (unknown e) = rw (stays left view e) (inl e)
+turn left view a more (passed e) = rw (stays left view e) (inr e)
+
+releases-stop : (left : ℕ) (view : View) → Ahead left (view .cells) → Stops ((releasesF left view) .after)
+unfolding releasesF
+releases-stop zero view a = unknown-stops view (a .unknown keptBefore (omega arith) (omega arith))
+releases-stop (suc left) view a =
+    turn left view a (λ v ahead. releases-stop left v ahead) (next-is view (a .fits keptBefore (omega arith)))
+
+-- a session within its ranges
+cell-fits : {h : Head} {o g : List ℕ} → Within h o g → (p : ℕ) → p < keptNumbers → length ((cellAt (cellsOf h o) p) .octets) ≤ packetLimit
+unfolding cellIn part
+cell-fits {h} {o} w p inside =
+    rw (cell-at h o p inside)
+    (omega (
+      arith,
+      length-take ((keptIn h (slotAt (h .base) p)) .size) (drop (slotAt (h .base) p * packetLimit) o),
+      size-right (kept-right h o p (w .kept .each p inside)),
+    ))
+
+pub releases-all : ReleasesAll
+unfolding viewIn
+releases-all h o g w =
+    releases-stop keptAhead (viewIn h o g)
+    (record { long = length-cells h o; fits = cell-fits w; unknown = λ p past inside. absurd (omega arith) })

@@ -1,0 +1,55 @@
+use borrow.Author.Needs.{needs}
+use Rattle.lines.specs.FeedPromise.{LineIn}
+use Rattle.lines.proofs.FeedSteps.{clear-turn, clear-done}
+use Rattle.lines.proofs.feed.clear_line.Statement.{statement}
+use Rattle.lines.proofs.feed.clear_line.Tie as tie
+use Rattle.lines.proofs.feed.clear_line.Reads as reads
+use Rattle.lines.proofs.feed.clear_line.Lts as lts
+
+abbrev Inv-loop : tie.InvT-loop
+Inv-loop line₀ begun left₀ line left = LineIn line left
+
+abbrev μ-loop : tie.MeasureT-loop
+μ-loop line₀ begun left₀ line left = left
+
+-- src/feed.rt:100:5
+loop-holds : tie.Need-loop-holds Inv-loop μ-loop
+loop-holds c = search needs
+
+-- src/feed.rt:101:9
+sub-left : tie.Need-sub-left Inv-loop μ-loop
+sub-left c = search needs
+
+-- src/feed.rt:102:9
+slice-write-line : tie.Need-slice-write-line Inv-loop μ-loop
+slice-write-line c = search needs
+
+-- src/feed.rt:100:5
+loop-less : tie.Need-loop-less Inv-loop μ-loop
+loop-less c = search needs
+
+-- src/feed.rt:100:5
+loop-again : tie.Need-loop-again Inv-loop μ-loop
+loop-again c = search clear-turn
+
+-- src/feed.rt:95:1
+same-length : tie.Need-same-length Inv-loop μ-loop
+same-length c = search needs
+
+-- src/feed.rt:95:1
+returns : tie.Need-returns Inv-loop μ-loop
+returns c = search clear-done
+
+pub clear-line-spec : {M : Type 1} → statement M
+clear-line-spec =
+    tie.close
+    (tie.spec
+    Inv-loop
+    μ-loop
+    loop-holds
+    sub-left
+    slice-write-line
+    loop-less
+    loop-again
+    same-length
+    returns)
