@@ -1,6 +1,5 @@
 // Document 01, 'The program': lines of hexadecimal from standard input, one datagram a line; its results to standard output.
 // It reads and writes in large blocks. What a block comes to is proved in the crate `lines`: here is only read, take in, write.
-use datagrams::Datagram;
 use heads::Head;
 use heads::Session;
 use libc::STDIN_FILENO;
@@ -22,21 +21,20 @@ fn pass(
     h: Head,
     o: &mut [u8; Session::PACKET_OCTETS],
     g: &mut [u8; Session::MESSAGE_OCTETS],
-    work: &mut [u8],
     line: &mut [u8],
     begun: usize,
     block: &[u8],
     out: &mut [u8],
 ) -> Passed
-    requires { ⌜ Feedable stepLimit h (now o) (now g) (now work) (now line) begun (now out) 0 ⌝ }
-    ensures { λ r. ⌜ Feedable stepLimit (r .head) (now (o .exit)) (now (g .exit)) (now (work .exit)) (now (line .exit)) (r .begun) (now (out .exit)) 0 ⌝ }
+    requires { ⌜ Feedable stepLimit h (now o) (now g) (now line) begun (now out) 0 ⌝ }
+    ensures { λ r. ⌜ Feedable stepLimit (r .head) (now (o .exit)) (now (g .exit)) (now (line .exit)) (r .begun) (now (out .exit)) 0 ⌝ }
 {
     let mut head = h;
     let mut kept = begun;
     let mut from = 0;
     let mut written = true;
     while from < block.len() {
-        let part = lines::take_block(head, o, g, work, line, kept, &block[from..], out, 0);
+        let part = lines::take_block(head, o, g, line, kept, &block[from..], out, 0);
         let next = part.head;
         head = next;
         kept = part.begun;
@@ -56,7 +54,6 @@ fn pass(
 fn serve(h: Head, o: &mut [u8; Session::PACKET_OCTETS], g: &mut [u8; Session::MESSAGE_OCTETS])
     requires { ⌜ Within h (now o) (now g) ⌝ }
 {
-    let mut work = [0u8; Datagram::LIMIT];
     let mut line = [0u8; Line::KEPT];
     let mut block = io::large_buffer();
     let mut out = io::large_buffer();
@@ -70,16 +67,7 @@ fn serve(h: Head, o: &mut [u8; Session::PACKET_OCTETS], g: &mut [u8; Session::ME
             turns = 0;
         } else {
             let n = io::count(got, &block);
-            let passed = pass(
-                head,
-                o,
-                g,
-                &mut work,
-                &mut line,
-                begun,
-                &block[..n],
-                &mut out,
-            );
+            let passed = pass(head, o, g, &mut line, begun, &block[..n], &mut out);
             let next = passed.head;
             head = next;
             begun = passed.begun;
@@ -88,7 +76,7 @@ fn serve(h: Head, o: &mut [u8; Session::PACKET_OCTETS], g: &mut [u8; Session::ME
             }
         }
     }
-    let last = lines::finish(head, o, g, &mut work, &mut line, begun, &mut out, 0);
+    let last = lines::finish(head, o, g, &line, begun, &mut out, 0);
     let end = last.end;
     io::write_all(STDOUT_FILENO, &out[..end]);
 }

@@ -1,7 +1,7 @@
-use mathlib.Core.Path.{sym}
-use lib.Seq.{length-take-le}
 use Prim.Native.Nat.{_-_}
+use mathlib.Core.Path.{sym}
 use lib.ListN.{length}
+use lib.Seq.{length-take-le}
 use native.Mathlib.Omega.{arith}
 use borrow.Author.Needs.{needs}
 use Rattle.receive.proofs.Serving.{Serving, serving-start, part-ready, part-some, part-inside, part-fits, part-done}
@@ -13,80 +13,78 @@ use Rattle.io.proofs.write_all.Reads as write-all-reads
 use Rattle.lines.proofs.take_block.Reads as take-block-reads
 
 abbrev Inv-loop : tie.InvT-loop
-Inv-loop o₀ g₀ work₀ line₀ begun block out₀ head₀ kept₀ from₀ written₀ o g work line out head kept from written =
-    Serving work₀ line₀ out₀ head o g work line kept out
+Inv-loop o₀ g₀ line₀ begun block out₀ head₀ kept₀ from₀ written₀ o g line out head kept from written =
+    Serving line₀ out₀ head o g line kept out
 
 abbrev μ-loop : tie.MeasureT-loop
-μ-loop o₀ g₀ work₀ line₀ begun block out₀ head₀ kept₀ from₀ written₀ o g work line out head kept from written =
+μ-loop o₀ g₀ line₀ begun block out₀ head₀ kept₀ from₀ written₀ o g line out head kept from written =
     length block - from
 
--- src/main.rt:37:5
+-- src/main.rt:36:5
 loop-holds : tie.Need-loop-holds Inv-loop μ-loop
-loop-holds c = serving-start (c .before .before .before .before .pre)
+loop-holds c = serving-start (c .before .before .before .pre)
 
--- src/main.rt:38:68
+-- src/main.rt:37:62
 sub-take-block : tie.Need-sub-take-block Inv-loop μ-loop
 sub-take-block c = search needs
 
--- src/main.rt:38:68
+-- src/main.rt:37:62
 part-take-block-start : tie.Need-part-take-block-start Inv-loop μ-loop
 part-take-block-start c = search needs
 
--- src/main.rt:38:68
+-- src/main.rt:37:62
 part-take-block-end : tie.Need-part-take-block-end Inv-loop μ-loop
 part-take-block-end c = search needs
 
--- src/main.rt:38:13
+-- src/main.rt:37:13
 take-block-requires : tie.Need-take-block-requires Inv-loop μ-loop
 take-block-requires c κs =
-    let loop = c .before .before .before .before .before .before .before in
+    let loop = c .before .before .before .before .before .before in
     part-ready (loop .loop .inv)
 
--- src/main.rt:42:9
+-- src/main.rt:41:9
 add-from : tie.Need-add-from Inv-loop μ-loop
 add-from c =
-    let made = c .before .before .before .before .before .before .before .before in
-    let inside = made .before .before .before .before .before .before .before in
+    let made = c .before .before .before .before .before .before in
+    let inside = made .before .before .before .before .before .before in
     let loop = inside .before in
-    let start = loop .before .before .before .before .before in
-    let last = part-inside (loop .loop .inv) (start .args .block .now) (inside .loop-test .taken) (made .take-block .ensures) (made .take-block .kept .1 .1 .1 .1 .1 .1 .1 .0) in
-    record { fits = omega (arith, start .good .1 .1 .1 .1 .1 .1 .0) }
+    let start = loop .before .before .before .before in
+    record { fits = omega (arith, start .good .1 .1 .1 .1 .1 .0, part-inside (loop .loop .inv) (start .args .block .now) (inside .loop-test .taken) (made .take-block .ensures)) }
 
--- src/main.rt:44:58
+-- src/main.rt:43:58
 slice-reshare-prefix-write-all : tie.Need-slice-reshare-prefix-write-all Inv-loop μ-loop
 slice-reshare-prefix-write-all c = search needs
 
--- src/main.rt:44:58
+-- src/main.rt:43:58
 slice-aggregate-write-all : tie.Need-slice-aggregate-write-all Inv-loop μ-loop
 slice-aggregate-write-all c =
-    let made = c .before .before .before .before .before .before .before .before .before in
-    let inside = made .before .before .before .before .before .before .before in
+    let made = c .before .before .before .before .before .before .before in
+    let inside = made .before .before .before .before .before .before in
     let loop = inside .before in
-    let start = loop .before .before .before .before .before in
-    sym (length-take-le _ _ (part-fits (loop .loop .inv) (start .args .block .now) (inside .loop-test .taken) (made .take-block .ensures) (made .take-block .kept .1 .1 .1 .1 .1 .1 .1 .0)))
+    let start = loop .before .before .before .before in
+    sym (length-take-le _ _ (part-fits (loop .loop .inv) (start .args .block .now) (inside .loop-test .taken) (made .take-block .ensures)))
 
--- src/main.rt:44:29
+-- src/main.rt:43:29
 write-all-requires : tie.Need-write-all-requires Inv-loop μ-loop
 write-all-requires c κs = search needs
 
--- src/main.rt:37:5
+-- src/main.rt:36:5
 loop-less : tie.Need-loop-less Inv-loop μ-loop
 loop-less c =
-    let made = c .before .before .before .before .before .before .before .before .before .before in
-    let inside = made .before .before .before .before .before .before .before in
+    let made = c .before .before .before .before .before .before .before .before in
+    let inside = made .before .before .before .before .before .before in
     let loop = inside .before in
-    let start = loop .before .before .before .before .before in
-    let some = part-some (loop .loop .inv) (start .args .block .now) (inside .loop-test .taken) (made .take-block .ensures) (made .take-block .kept .1 .1 .1 .1 .1 .1 .1 .0) in
-    omega (arith, inside .loop-test .taken)
+    let start = loop .before .before .before .before in
+    omega (arith, inside .loop-test .taken, part-some (loop .loop .inv) (start .args .block .now) (inside .loop-test .taken) (made .take-block .ensures))
 
--- src/main.rt:37:5
+-- src/main.rt:36:5
 loop-again : tie.Need-loop-again Inv-loop μ-loop
 loop-again c =
-    let made = c .before .before .before .before .before .before .before .before .before .before in
-    let inside = made .before .before .before .before .before .before .before in
+    let made = c .before .before .before .before .before .before .before .before in
+    let inside = made .before .before .before .before .before .before in
     let loop = inside .before in
-    let start = loop .before .before .before .before .before in
-    part-done (loop .loop .inv) (start .args .block .now) (inside .loop-test .taken) (made .take-block .ensures) (made .take-block .kept .1 .1 .1 .1 .1 .1 .1 .0) _ (made .take-block .kept .1 .1 .1 .0) (made .take-block .kept .1 .1 .1 .1 .0)
+    let start = loop .before .before .before .before in
+    part-done (loop .loop .inv) (start .args .block .now) (inside .loop-test .taken) (made .take-block .ensures) (made .take-block .kept .1 .1 .1 .0)
 
 -- src/main.rt:20:1
 same-length : tie.Need-same-length Inv-loop μ-loop
@@ -95,10 +93,6 @@ same-length c = search needs
 -- src/main.rt:20:1
 same-length-2 : tie.Need-same-length-2 Inv-loop μ-loop
 same-length-2 c = search needs
-
--- src/main.rt:20:1
-same-length-3 : tie.Need-same-length-3 Inv-loop μ-loop
-same-length-3 c = search needs
 
 -- src/main.rt:20:1
 returns : tie.Need-returns Inv-loop μ-loop
@@ -123,5 +117,4 @@ pass-spec =
     loop-again
     same-length
     same-length-2
-    same-length-3
     returns)

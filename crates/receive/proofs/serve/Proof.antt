@@ -1,8 +1,8 @@
-use native.Mathlib.Omega.{arith}
+use mathlib.Core.Path.{sym}
 use lib.Seq.{length-take-le}
-use mathlib.Core.Path.{refl, sym}
+use native.Mathlib.Omega.{arith}
 use borrow.Author.Needs.{needs}
-use Rattle.receive.proofs.Serving.{Turning, turning-start, turning-read, turning-passed}
+use Rattle.receive.proofs.Serving.{Turning, turning-start, line-start}
 use Rattle.receive.proofs.serve.Statement.{statement}
 use Rattle.receive.proofs.serve.Tie as tie
 use Rattle.receive.proofs.serve.Reads as reads
@@ -15,123 +15,113 @@ use Rattle.lines.proofs.finish.Reads as finish-reads
 use Rattle.receive.proofs.pass.Reads as pass-reads
 
 abbrev Inv-loop : tie.InvT-loop
-Inv-loop o₀ g₀ work₀ line₀ block₀ out₀ head₀ begun₀ turns₀ o g work line block out head begun turns =
-    Turning head o g work line block begun out
+Inv-loop o₀ g₀ line₀ block₀ out₀ head₀ begun₀ turns₀ o g line block out head begun turns = Turning head o g line block begun out
 
 abbrev μ-loop : tie.MeasureT-loop
-μ-loop o₀ g₀ work₀ line₀ block₀ out₀ head₀ begun₀ turns₀ o g work line block out head begun turns =
-    turns
+μ-loop o₀ g₀ line₀ block₀ out₀ head₀ begun₀ turns₀ o g line block out head begun turns = turns
 
--- src/main.rt:61:21
+-- src/main.rt:58:21
 large-buffer-requires : tie.Need-large-buffer-requires Inv-loop μ-loop
 large-buffer-requires c κs = search needs
 
--- src/main.rt:62:19
+-- src/main.rt:59:19
 large-buffer-requires-2 : tie.Need-large-buffer-requires-2 Inv-loop μ-loop
 large-buffer-requires-2 c κs = search needs
 
--- src/main.rt:66:5
+-- src/main.rt:63:5
 loop-holds : tie.Need-loop-holds Inv-loop μ-loop
-loop-holds c = turning-start (c .before .before .pre) refl refl (c .before .large-buffer .ensures) (c .large-buffer2 .ensures)
+loop-holds c = turning-start (c .before .before .pre) line-start (c .before .large-buffer .ensures) (c .large-buffer2 .ensures)
 
--- src/main.rt:67:9
+-- src/main.rt:64:9
 sub-turns : tie.Need-sub-turns Inv-loop μ-loop
 sub-turns c = search needs
 
--- src/main.rt:68:44
+-- src/main.rt:65:44
 slice-aggregate-read : tie.Need-slice-aggregate-read Inv-loop μ-loop
 slice-aggregate-read c = search needs
 
--- src/main.rt:68:13
+-- src/main.rt:65:13
 read-requires : tie.Need-read-requires Inv-loop μ-loop
 read-requires c κs = search needs
 
--- src/main.rt:66:5
+-- src/main.rt:63:5
 loop-less : tie.Need-loop-less Inv-loop μ-loop
 loop-less c = search needs
 
--- src/main.rt:66:5
+-- src/main.rt:63:5
 loop-again : tie.Need-loop-again Inv-loop μ-loop
 loop-again c = search needs
 
--- src/main.rt:72:36
+-- src/main.rt:69:36
 slice-aggregate-count : tie.Need-slice-aggregate-count Inv-loop μ-loop
 slice-aggregate-count c = search needs
 
--- src/main.rt:72:17
+-- src/main.rt:69:17
 count-requires : tie.Need-count-requires Inv-loop μ-loop
 count-requires c κs = search needs
 
--- src/main.rt:73:43
+-- src/main.rt:74:17
 slice-aggregate-pass : tie.Need-slice-aggregate-pass Inv-loop μ-loop
 slice-aggregate-pass c = search needs
 
--- src/main.rt:73:54
-slice-aggregate-pass-2 : tie.Need-slice-aggregate-pass-2 Inv-loop μ-loop
-slice-aggregate-pass-2 c = search needs
-
--- src/main.rt:73:72
+-- src/main.rt:76:17
 array-share-prefix-block : tie.Need-array-share-prefix-block Inv-loop μ-loop
 array-share-prefix-block c = search needs
 
--- src/main.rt:73:72
+-- src/main.rt:76:17
+slice-aggregate-pass-2 : tie.Need-slice-aggregate-pass-2 Inv-loop μ-loop
+slice-aggregate-pass-2 c = search needs
+
+-- src/main.rt:77:17
 slice-aggregate-pass-3 : tie.Need-slice-aggregate-pass-3 Inv-loop μ-loop
 slice-aggregate-pass-3 c = search needs
 
--- src/main.rt:73:85
-slice-aggregate-pass-4 : tie.Need-slice-aggregate-pass-4 Inv-loop μ-loop
-slice-aggregate-pass-4 c = search needs
-
--- src/main.rt:73:17
+-- src/main.rt:70:17
 pass-requires : tie.Need-pass-requires Inv-loop μ-loop
 pass-requires c κs = search needs
 
--- src/main.rt:78:17
+-- src/main.rt:83:17
 returns : tie.Need-returns Inv-loop μ-loop
 returns c = search needs
 
--- src/main.rt:66:5
+-- src/main.rt:63:5
 loop-less-2 : tie.Need-loop-less-2 Inv-loop μ-loop
 loop-less-2 c =
-    let passed = c .before .before .before .before .before .before in
-    let inside = passed .before .before .before .before .before .before .before .before .before .before .before .before .before in
+    let passed = c .before .before .before .before .before in
+    let inside = passed .before .before .before .before .before .before .before .before .before .before .before .before in
     omega (arith, inside .loop-test .taken)
 
--- src/main.rt:66:5
+-- src/main.rt:63:5
 loop-again-2 : tie.Need-loop-again-2 Inv-loop μ-loop
 loop-again-2 c = search needs
 
--- src/main.rt:82:42
+-- src/main.rt:87:42
 slice-aggregate-finish : tie.Need-slice-aggregate-finish Inv-loop μ-loop
 slice-aggregate-finish c = search needs
 
--- src/main.rt:82:53
+-- src/main.rt:87:56
 slice-aggregate-finish-2 : tie.Need-slice-aggregate-finish-2 Inv-loop μ-loop
 slice-aggregate-finish-2 c = search needs
 
--- src/main.rt:82:71
-slice-aggregate-finish-3 : tie.Need-slice-aggregate-finish-3 Inv-loop μ-loop
-slice-aggregate-finish-3 c = search needs
-
--- src/main.rt:82:9
+-- src/main.rt:87:9
 finish-requires : tie.Need-finish-requires Inv-loop μ-loop
 finish-requires c κs = search needs
 
--- src/main.rt:84:34
+-- src/main.rt:89:34
 array-share-prefix-out : tie.Need-array-share-prefix-out Inv-loop μ-loop
 array-share-prefix-out c = search needs
 
--- src/main.rt:84:34
+-- src/main.rt:89:34
 slice-aggregate-write-all : tie.Need-slice-aggregate-write-all Inv-loop μ-loop
 slice-aggregate-write-all c =
-    let last = c .before .before .before .before in
-    sym (length-take-le _ _ (omega (arith, last .finish .ensures .fits, last .finish .kept .1 .1 .1 .1 .1 .1 .0)))
+    let last = c .before .before in
+    sym (length-take-le _ _ (omega (arith, last .finish .ensures .fits, last .finish .ensures .long)))
 
--- src/main.rt:84:5
+-- src/main.rt:89:5
 write-all-requires : tie.Need-write-all-requires Inv-loop μ-loop
 write-all-requires c κs = search needs
 
--- src/main.rt:56:1
+-- src/main.rt:54:1
 returns-2 : tie.Need-returns-2 Inv-loop μ-loop
 returns-2 c = search needs
 
@@ -152,17 +142,15 @@ serve-spec =
     slice-aggregate-count
     count-requires
     slice-aggregate-pass
-    slice-aggregate-pass-2
     array-share-prefix-block
+    slice-aggregate-pass-2
     slice-aggregate-pass-3
-    slice-aggregate-pass-4
     pass-requires
     returns
     loop-less-2
     loop-again-2
     slice-aggregate-finish
     slice-aggregate-finish-2
-    slice-aggregate-finish-3
     finish-requires
     array-share-prefix-out
     slice-aggregate-write-all
