@@ -1,58 +1,53 @@
 -- Hexadecimal digits, as the code tells them. Assumes nothing.
-use Prim.Native.Nat.{ℕ, suc, _+_, _-_, _*_, _/_, _%_, _≤_, _<_}
-use mathlib.Core.Path.{_≡_, refl, sym, ap, ap₂, _∙_}
-use mathlib.Core.Bool.{Bool, true, false, _&&_, cond}
-use mathlib.Core.Logic.{⊎-elim}
-use lib.Dec.{leb, ltb}
+use Prim.Native.Nat.{ℕ, _+_, _-_, _*_, _/_, _%_, _≤_, _<_}
+use mathlib.Core.Path.{_≡_, refl, sym, ap₂, _∙_}
+use mathlib.Core.Bool.{Bool, true, false, not, _||_, cond}
+use lib.Bits.{bitOr}
+use lib.Dec.{ltb, eqb}
 use native.Mathlib.Omega.{arith}
-use borrow.Author.Tests.{le-leb, lt-leb, lt-ltb, le-ltb}
-use Rattle.octets.proofs.Cases.{below-or-not}
-use Rattle.datagrams.specs.Write.{within}
+use borrow.Author.Tests.{lt-ltb, le-ltb, eqb-true}
+use Rattle.octets.specs.Place.{allBelow}
+use Rattle.octets.proofs.Place.{allBelow-at}
 use Rattle.lines.specs.Hex.{digitOf, digitFor, noDigit}
 
--- ---- read
--- a character whose distance from the first digit of a range wraps to too much is not in that range
-outside : (c r first many : ℕ) → 1 ≤ many → (r + first) % 256 ≡ c → r < 256 → many ≤ r → within first (first + many - 1) c ≡ false
-outside c r first many some wraps small far = ⊎-elim low high (below-or-not c first) where
-  low : c < first → within first (first + many - 1) c ≡ false
-  low below = rw (lt-leb first c below)
+-- ---- read: what is so of each of 256 octets is computed
+agree : Bool → Bool → Bool
+agree true b = b
+agree false b = not b
 
-  high : first ≤ c → within first (first + many - 1) c ≡ false
-  high above = rw (le-leb first c above, lt-leb c (first + many - 1) (omega arith))
+agree-same : (a b : Bool) → agree a b ≡ true → a ≡ b
+agree-same true true e = refl
+agree-same true false e = sym e
+agree-same false true e = e
+agree-same false false e = refl
 
-pub digit-decimal : {c r : ℕ} → (r + 48) % 256 ≡ c → r < 10 → r ≡ digitOf c
-unfolding digitOf
-digit-decimal {c} {r} wraps small = rw (le-leb 48 c (omega arith), le-leb c 57 (omega arith)) (omega arith)
+abbrev tested : ℕ → Bool
+tested c = ltb ((c + 208) % 256) 10 || ltb ((bitOr c 32 + 159) % 256) 6
 
-pub digit-upper : {c r : ℕ} → (r + 65) % 256 ≡ c → r < 6 → r + 10 ≡ digitOf c
-unfolding digitOf
-digit-upper {c} {r} wraps small =
-    rw (
-      le-leb 48 c (omega arith),
-      lt-leb c 57 (omega arith),
-      le-leb 65 c (omega arith),
-      le-leb c 70 (omega arith),
-    )
-    (omega arith)
+all-tested : allBelow 256 (λ c. agree (tested c) (ltb (digitOf c) noDigit)) ≡ true
+unfolding allBelow digitOf agree
+all-tested = refl
 
-pub digit-lower : {c r : ℕ} → (r + 97) % 256 ≡ c → r < 6 → r + 10 ≡ digitOf c
-unfolding digitOf
-digit-lower {c} {r} wraps small =
-    rw (
-      le-leb 48 c (omega arith),
-      lt-leb c 57 (omega arith),
-      le-leb 65 c (omega arith),
-      lt-leb c 70 (omega arith),
-      le-leb 97 c (omega arith),
-      le-leb c 102 (omega arith),
-    )
-    (omega arith)
+-- the test of a character
+pub digit-told : {c d l : ℕ} → c < 256 → (d + 48) % 256 ≡ c → d < 256 → (l + 97) % 256 ≡ bitOr c 32 → l < 256
+    → (ltb d 10 || ltb l 6) ≡ ltb (digitOf c) noDigit
+digit-told {c} {d} {l} octet wd sd wl sl =
+    let d-is : d ≡ (c + 208) % 256 = omega arith in
+    let l-is : l ≡ (bitOr c 32 + 159) % 256 = omega arith in
+    ap₂ (λ (x y : ℕ). ltb x 10 || ltb y 6) d-is l-is
+    ∙ agree-same (tested c) (ltb (digitOf c) noDigit) (allBelow-at 256 (λ c. agree (tested c) (ltb (digitOf c) noDigit)) all-tested c octet)
 
-pub digit-none : {c d u l : ℕ} → (d + 48) % 256 ≡ c → d < 256 → 10 ≤ d → (u + 65) % 256 ≡ c → u < 256 → 6 ≤ u
-    → (l + 97) % 256 ≡ c → l < 256 → 6 ≤ l → 16 ≡ digitOf c
-unfolding digitOf
-digit-none {c} {d} {u} {l} wd sd fd wu su fu wl sl fl =
-    rw (outside c d 48 10 (omega arith) wd sd fd, outside c u 65 6 (omega arith) wu su fu, outside c l 97 6 (omega arith) wl sl fl)
+abbrev halves : ℕ → Bool
+halves c = cond (ltb (digitOf c) noDigit) (eqb (c % 16 + 9 * (c / 64)) (digitOf c)) true
+
+all-halves : allBelow 256 halves ≡ true
+unfolding allBelow digitOf
+all-halves = refl
+
+-- the value of a digit
+pub digit-value : {c : ℕ} → c < 256 → digitOf c < noDigit → c % 16 + 9 * (c / 64) ≡ digitOf c
+digit-value {c} octet small =
+    eqb-true (c % 16 + 9 * (c / 64)) (digitOf c) (rw (lt-ltb (digitOf c) noDigit small) at (allBelow-at 256 halves all-halves c octet))
 
 -- ---- written
 pub digitFor-low : {n : ℕ} → n < 10 → 48 + n ≡ digitFor n
@@ -62,6 +57,3 @@ digitFor-low {n} low = rw (lt-ltb n 10 low)
 pub digitFor-high : {n : ℕ} → 10 ≤ n → 65 + (n - 10) ≡ digitFor n
 unfolding digitFor
 digitFor-high {n} high = rw (le-ltb n 10 high)
-
--- the laws of `digit`'s answers
-pub ruleset digits = (digit-decimal, digit-upper, digit-lower, digit-none)

@@ -34,10 +34,10 @@ pub told-start : (line : List ℕ) → Told line true 0
 unfolding allBelow
 told-start line = record { so = refl; few = omega arith }
 
-pub told-turn : {line : List ℕ} {all : Bool} {i d : ℕ} → Told line all i → i < length line → d ≡ digitOf (getD line i 0)
-    → Told line (all && ltb d 16) (i + 1)
-told-turn {line} {all} {i} {d} t more e =
-    record { so = ap₂ (λ (b : Bool) (k : ℕ). b && ltb k 16) (t .so) e ∙ sym (allBelow-more i (digitAt line)); few = omega arith }
+pub told-turn : {line : List ℕ} {all so : Bool} {i : ℕ} → Told line all i → i < length line → so ≡ ltb (digitOf (getD line i 0)) noDigit
+    → Told line (all && so) (i + 1)
+told-turn {line} {all} {so} {i} t more e =
+    record { so = ap₂ (λ (a b : Bool). a && b) (t .so) e ∙ sym (allBelow-more i (digitAt line)); few = omega arith }
 
 pub told-done : {line : List ℕ} {all : Bool} {i : ℕ} → Told line all i → length line ≤ i → all ≡ allDigits line
 unfolding allDigits

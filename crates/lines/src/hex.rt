@@ -9,26 +9,25 @@ ghost use Prim.Native.Nat.{_+_, _*_, _/_, _%_, _≤_, _<_};
 ghost use lib.ListN.{length, drop};
 ghost use mathlib.Core.List.{_++_};
 ghost use Rattle.lengths.specs.Promise.{Puts};
-ghost use Rattle.lines.specs.Hex.{digitOf, digitFor, allDigits, octetsIn, lineOctets, hexOf};
+ghost use lib.Dec.{ltb};
+ghost use Rattle.lines.specs.Hex.{noDigit, digitOf, digitFor, allDigits, octetsIn, lineOctets, hexOf};
 ghost use Rattle.lines.specs.Promise.{Appends};
 
-// The value of a digit, or 16 for a character that is none.
-fn digit(c: u8) -> u8
-    ensures { λ r. ⌜ r ≡ digitOf c ⌝ }
+// Whether a character is a digit. A letter's two cases differ in one bit.
+fn is_digit(c: u8) -> bool
+    ensures { λ r. ⌜ r ≡ ltb (digitOf c) noDigit ⌝ }
 {
     let decimal = std::num::wrapping_sub_u8(c, b'0');
-    if decimal < 10 {
-        return decimal;
-    }
-    let upper = std::num::wrapping_sub_u8(c, b'A');
-    if upper < 6 {
-        return upper + 10;
-    }
-    let lower = std::num::wrapping_sub_u8(c, b'a');
-    if lower < 6 {
-        return lower + 10;
-    }
-    16
+    let letter = std::num::wrapping_sub_u8(c | 32, b'a');
+    (decimal < 10) | (letter < 6)
+}
+
+// The value of a digit: its low half, and 9 more for a letter.
+fn value(c: u8) -> u8
+    requires { ⌜ digitOf c < noDigit ⌝ }
+    ensures { λ r. ⌜ r ≡ digitOf c ⌝ }
+{
+    c % 16 + 9 * (c / 64)
 }
 
 // A digit below 16, in upper case.
@@ -49,7 +48,7 @@ fn all_digits(line: &[u8]) -> bool
     let mut all = true;
     let mut i = 0;
     while i < line.len() {
-        all = all & (digit(line[i]) < 16);
+        all = all & is_digit(line[i]);
         i += 1;
     }
     all
@@ -65,8 +64,8 @@ fn pair_up(line: &[u8], out: &mut [u8])
     let mut i = 0;
     while i < n {
         let at = 2 * i;
-        let high = digit(line[at]);
-        let low = digit(line[at + 1]);
+        let high = value(line[at]);
+        let low = value(line[at + 1]);
         out[i] = (high % 16) * 16 + (low % 16);
         i += 1;
     }

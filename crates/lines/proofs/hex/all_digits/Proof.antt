@@ -1,12 +1,12 @@
-use borrow.Author.Needs.{needs}
 use Prim.Native.Nat.{_-_}
 use lib.ListN.{length}
+use borrow.Author.Needs.{needs}
 use Rattle.lines.proofs.HexSteps.{Told, told-start, told-turn, told-done}
 use Rattle.lines.proofs.hex.all_digits.Statement.{statement}
 use Rattle.lines.proofs.hex.all_digits.Tie as tie
 use Rattle.lines.proofs.hex.all_digits.Reads as reads
 use Rattle.lines.proofs.hex.all_digits.Lts as lts
-use Rattle.lines.proofs.hex.digit.Reads as digit-reads
+use Rattle.lines.proofs.hex.is_digit.Reads as is-digit-reads
 
 abbrev Inv-loop : tie.InvT-loop
 Inv-loop line all₀ i₀ all i = Told line all i
@@ -14,31 +14,31 @@ Inv-loop line all₀ i₀ all i = Told line all i
 abbrev μ-loop : tie.MeasureT-loop
 μ-loop line all₀ i₀ all i = length line - i
 
--- src/hex.rt:51:5
+-- src/hex.rt:50:5
 loop-holds : tie.Need-loop-holds Inv-loop μ-loop
 loop-holds c = search told-start
 
--- src/hex.rt:52:28
-shared-slice-read-digit : tie.Need-shared-slice-read-digit Inv-loop μ-loop
-shared-slice-read-digit c = search needs
+-- src/hex.rt:51:30
+shared-slice-read-is-digit : tie.Need-shared-slice-read-is-digit Inv-loop μ-loop
+shared-slice-read-is-digit c = search needs
 
--- src/hex.rt:52:22
-digit-requires : tie.Need-digit-requires Inv-loop μ-loop
-digit-requires c κs = search needs
+-- src/hex.rt:51:21
+is-digit-requires : tie.Need-is-digit-requires Inv-loop μ-loop
+is-digit-requires c κs = search needs
 
--- src/hex.rt:53:9
+-- src/hex.rt:52:9
 add-i : tie.Need-add-i Inv-loop μ-loop
 add-i c = search needs
 
--- src/hex.rt:51:5
+-- src/hex.rt:50:5
 loop-less : tie.Need-loop-less Inv-loop μ-loop
 loop-less c = search needs
 
--- src/hex.rt:51:5
+-- src/hex.rt:50:5
 loop-again : tie.Need-loop-again Inv-loop μ-loop
 loop-again c = search (told-turn, needs)
 
--- src/hex.rt:46:1
+-- src/hex.rt:45:1
 returns : tie.Need-returns Inv-loop μ-loop
 returns c = search told-done
 
@@ -49,8 +49,8 @@ all-digits-spec =
     Inv-loop
     μ-loop
     loop-holds
-    shared-slice-read-digit
-    digit-requires
+    shared-slice-read-is-digit
+    is-digit-requires
     add-i
     loop-less
     loop-again

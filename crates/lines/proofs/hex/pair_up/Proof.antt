@@ -1,11 +1,11 @@
-use borrow.Author.Needs.{needs}
 use Prim.Native.Nat.{_-_}
-use Rattle.lines.proofs.HexSteps.{Paired, paired-start, paired-turn, paired-done}
+use borrow.Author.Needs.{needs}
+use Rattle.lines.proofs.HexSteps.{Paired, paired-start, paired-turn, paired-done, digit-small}
 use Rattle.lines.proofs.hex.pair_up.Statement.{statement}
 use Rattle.lines.proofs.hex.pair_up.Tie as tie
 use Rattle.lines.proofs.hex.pair_up.Reads as reads
 use Rattle.lines.proofs.hex.pair_up.Lts as lts
-use Rattle.lines.proofs.hex.digit.Reads as digit-reads
+use Rattle.lines.proofs.hex.value.Reads as value-reads
 
 abbrev Inv-loop : tie.InvT-loop
 Inv-loop line out₀ n i₀ out i = Paired line out₀ out i
@@ -13,63 +13,63 @@ Inv-loop line out₀ n i₀ out i = Paired line out₀ out i
 abbrev μ-loop : tie.MeasureT-loop
 μ-loop line out₀ n i₀ out i = n - i
 
--- src/hex.rt:66:5
+-- src/hex.rt:65:5
 loop-holds : tie.Need-loop-holds Inv-loop μ-loop
 loop-holds c = search paired-start
 
--- src/hex.rt:67:18
+-- src/hex.rt:66:18
 mul-at : tie.Need-mul-at Inv-loop μ-loop
 mul-at c = search needs
 
--- src/hex.rt:68:26
-shared-slice-read-digit : tie.Need-shared-slice-read-digit Inv-loop μ-loop
-shared-slice-read-digit c = search needs
+-- src/hex.rt:67:26
+shared-slice-read-value : tie.Need-shared-slice-read-value Inv-loop μ-loop
+shared-slice-read-value c = search needs
+
+-- src/hex.rt:67:13
+value-requires : tie.Need-value-requires Inv-loop μ-loop
+value-requires c κs = search (digit-small, needs)
+
+-- src/hex.rt:68:30
+add-value : tie.Need-add-value Inv-loop μ-loop
+add-value c = search needs
+
+-- src/hex.rt:68:25
+shared-slice-read-value-2 : tie.Need-shared-slice-read-value-2 Inv-loop μ-loop
+shared-slice-read-value-2 c = search needs
 
 -- src/hex.rt:68:13
-digit-requires : tie.Need-digit-requires Inv-loop μ-loop
-digit-requires c κs = search needs
+value-requires-2 : tie.Need-value-requires-2 Inv-loop μ-loop
+value-requires-2 c κs = search (digit-small, needs)
 
--- src/hex.rt:69:30
-add-digit : tie.Need-add-digit Inv-loop μ-loop
-add-digit c = search needs
-
--- src/hex.rt:69:25
-shared-slice-read-digit-2 : tie.Need-shared-slice-read-digit-2 Inv-loop μ-loop
-shared-slice-read-digit-2 c = search needs
-
--- src/hex.rt:69:13
-digit-requires-2 : tie.Need-digit-requires-2 Inv-loop μ-loop
-digit-requires-2 c κs = search needs
-
--- src/hex.rt:70:18
+-- src/hex.rt:69:18
 mul-out : tie.Need-mul-out Inv-loop μ-loop
 mul-out c = search needs
 
--- src/hex.rt:70:18
+-- src/hex.rt:69:18
 add-out : tie.Need-add-out Inv-loop μ-loop
 add-out c = search needs
 
--- src/hex.rt:70:9
+-- src/hex.rt:69:9
 slice-write-out : tie.Need-slice-write-out Inv-loop μ-loop
 slice-write-out c = search needs
 
--- src/hex.rt:71:9
+-- src/hex.rt:70:9
 add-i : tie.Need-add-i Inv-loop μ-loop
 add-i c = search needs
 
--- src/hex.rt:66:5
+-- src/hex.rt:65:5
 loop-less : tie.Need-loop-less Inv-loop μ-loop
 loop-less c = search needs
 
--- src/hex.rt:66:5
+-- src/hex.rt:65:5
 loop-again : tie.Need-loop-again Inv-loop μ-loop
 loop-again c = search (paired-turn, needs)
 
--- src/hex.rt:59:1
+-- src/hex.rt:58:1
 same-length : tie.Need-same-length Inv-loop μ-loop
 same-length c = search needs
 
--- src/hex.rt:59:1
+-- src/hex.rt:58:1
 returns : tie.Need-returns Inv-loop μ-loop
 returns c = search paired-done
 
@@ -81,11 +81,11 @@ pair-up-spec =
     μ-loop
     loop-holds
     mul-at
-    shared-slice-read-digit
-    digit-requires
-    add-digit
-    shared-slice-read-digit-2
-    digit-requires-2
+    shared-slice-read-value
+    value-requires
+    add-value
+    shared-slice-read-value-2
+    value-requires-2
     mul-out
     add-out
     slice-write-out
