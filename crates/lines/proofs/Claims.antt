@@ -1,5 +1,5 @@
 -- The claims of this crate, each proved by a law. Assumes nothing.
-use mathlib.Core.Path.{_≡_, refl}
+use mathlib.Core.Path.{refl}
 use Rattle.octets.specs.Place.{tab, allBelow}
 use Rattle.octets.specs.ExclusiveOr.{xorAt, exclusiveOr}
 use Rattle.lengths.specs.Length.{lengthAt}
@@ -16,6 +16,7 @@ use Rattle.lines.specs.Claims.{Claims, WholeCase}
 use Rattle.lines.proofs.Feeding.{program-fed, fed-append}
 use Rattle.lines.proofs.HexBack.{written-reads}
 use Rattle.lines.proofs.ReleaseAll.{releases-all}
+use Rattle.lines.proofs.InTurn.{in-turn}
 use Rattle.lines.proofs.OneOutcome.{one-outcome}
 
 pub whole-case : WholeCase
@@ -29,5 +30,6 @@ claims =
       releasesAll = releases-all;
       writtenReads = written-reads;
       cutAnyhow = record { whole = program-fed; cut = fed-append };
+      inTurn = in-turn;
       oneOutcome = one-outcome;
     }

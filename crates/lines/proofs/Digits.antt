@@ -1,14 +1,13 @@
 -- Hexadecimal digits, as the code tells them. Assumes nothing.
-use Prim.Native.Nat.{ℕ, suc, _+_, _-_, _*_, _/_, _%_, _≤_, _<_}
-use mathlib.Core.Path.{_≡_, refl, sym, ap, ap₂, _∙_}
-use mathlib.Core.Bool.{Bool, true, false, _&&_, cond}
+use Prim.Native.Nat.{ℕ, _+_, _-_, _%_, _≤_, _<_}
+use mathlib.Core.Path.{_≡_}
+use mathlib.Core.Bool.{false}
 use mathlib.Core.Logic.{⊎-elim}
-use lib.Dec.{leb, ltb}
 use native.Mathlib.Omega.{arith}
 use borrow.Author.Tests.{le-leb, lt-leb, lt-ltb, le-ltb}
 use Rattle.octets.proofs.Cases.{below-or-not}
 use Rattle.datagrams.specs.Write.{within}
-use Rattle.lines.specs.Hex.{digitOf, digitFor, noDigit}
+use Rattle.lines.specs.Hex.{digitOf, digitFor}
 
 -- ---- read
 -- a character whose distance from the first digit of a range wraps to too much is not in that range

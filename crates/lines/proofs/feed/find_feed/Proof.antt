@@ -1,7 +1,7 @@
 use borrow.Author.Needs.{needs}
 use Prim.Native.Nat.{_-_}
 use lib.ListN.{length}
-use borrow.Author.Tests.{not-true, not-false}
+use borrow.Author.Tests.{not-false}
 use Rattle.lines.specs.FeedPromise.{Begun}
 use Rattle.lines.proofs.FeedSteps.{begun-start, begun-far}
 use Rattle.lines.proofs.feed.find_feed.Statement.{statement}

@@ -1,5 +1,4 @@
 use mathlib.Core.Path.{sym}
-use native.Mathlib.Omega.{arith}
 use lib.Seq.{length-take-le}
 use Rattle.lines.proofs.FeedTurn.{takes-part, takes-line, at-once, none-begun, kept-before, begun-length}
 use borrow.Author.Needs.{needs}
