@@ -4,7 +4,7 @@ use mathlib.Core.Path.{_≡_}
 use mathlib.Core.List.{List, [], _∷_, _++_}
 use mathlib.Core.Logic.{_⊎_}
 use lib.ListN.{length, take}
-use Rattle.lengths.specs.Refusals.{baseUnknown, allPassed}
+use Rattle.lengths.specs.Refusals.{wrongSettings, baseUnknown, allPassed}
 use Rattle.lengths.specs.Answers.{done, refuse}
 use Rattle.lengths.specs.Promise.{Puts}
 use Rattle.lengths.specs.Claims.{Octets}
@@ -17,27 +17,26 @@ use Rattle.heads.specs.Promise.{Fresh}
 use Rattle.heads.specs.declared.Head.{Head}
 use Rattle.heads.specs.declared.Session.{Session}
 use Rattle.lines.specs.Hex.{lineOctets, hexOf}
-use Rattle.lines.specs.Lines.{Made, program, releases, lineOf, lineFeed}
+use Rattle.lines.specs.Lines.{Made, program, releases}
 use Rattle.lines.specs.Feed.{Going, atStart, fed, atEnd, goingIn, PartWay}
 use Rattle.lines.specs.Promise.{Does}
 use Rattle.lines.specs.FeedPromise.{Feeds, Ends}
+use Rattle.lines.specs.Text.{characters}
 use Rattle.lines.specs.declared.steps.Stepped.{Stepped}
 use Rattle.lines.specs.declared.feed.Fed.{Fed}
 
 -- document 01's whole case
 abbrev pub WholeCase : Type 0
 WholeCase =
-    program
-    (lineOf (0x00 ∷ 0x00 ∷ 0x01 ∷ 0x06 ∷ 0x00 ∷ 0x00 ∷ [])
-    ++ lineOf (0x00 ∷ 0x02 ∷ 0x01 ∷ 0x00 ∷ 0x00 ∷ 0x01 ∷ 0x06 ∷ 0xC0 ∷ 0x01 ∷ 0x80 ∷ 0x00 ∷ 0x00 ∷ 0x55 ∷ [])
-    ++ (lineFeed ∷ [])
-    ++ lineOf (0x00 ∷ 0x02 ∷ 0x01 ∷ 0x00 ∷ 0x00 ∷ 0x01 ∷ 0x06 ∷ 0xC0 ∷ 0x01 ∷ 0x80 ∷ 0x00 ∷ 0x00 ∷ 0x55 ∷ []))
-    ≡
-    lineOf (0x00 ∷ 0x00 ∷ 0x00 ∷ 0x06 ∷ [])
-    ++ lineOf (0x01 ∷ 0x00 ∷ 0x01 ∷ 0xC0 ∷ 0x01 ∷ 0x80 ∷ 0x00 ∷ 0x00 ∷ 0x55 ∷ [])
-    ++ lineOf (0x00 ∷ 0x00 ∷ 0x02 ∷ 0x00 ∷ [])
-    ++ lineOf (0x03 ∷ 0x00 ∷ 0x03 ∷ [])
-    ++ lineOf (0xFF ∷ 0x09 ∷ [])
+    program (characters "000001060000\n00020100000106C00180000055\n\n00020100000106C00180000055\n")
+    ≡ characters "00000006\n010001C00180000055\n00000200\n030003\nFF09\n"
+
+-- "Both cases are read", "a line not of paired hexadecimal digits"
+pub record Cases : Type 0 where
+  pub upper : lineOctets (characters "0123456789ABCDEF") ≡ done (0x01 ∷ 0x23 ∷ 0x45 ∷ 0x67 ∷ 0x89 ∷ 0xAB ∷ 0xCD ∷ 0xEF ∷ [])
+  pub lower : lineOctets (characters "abcdef") ≡ done (0xAB ∷ 0xCD ∷ 0xEF ∷ [])
+  pub return : lineOctets (characters "00\r") ≡ refuse wrongSettings
+  pub blanks : lineOctets (characters "0 06") ≡ refuse wrongSettings
 
 -- "releases all it can": what is left after the releases is refused with 10 or 16, so that their count cuts nothing off
 abbrev pub ReleasesAll : Type 0
@@ -85,6 +84,7 @@ pub record OneOutcome : Type 0 where
 
 pub record Claims : Type 0 where
   pub wholeCase : WholeCase
+  pub cases : Cases
   pub releasesAll : ReleasesAll
   pub writtenReads : WrittenReads
   pub cutAnyhow : CutAnyhow
