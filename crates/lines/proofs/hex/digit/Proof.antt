@@ -1,3 +1,4 @@
+-- `lines::digit` meets its contract: the distance from each range's first digit wraps to too much outside it. Assumes nothing.
 use Rattle.lines.proofs.Digits.{digits}
 use borrow.Author.Needs.{needs}
 use Rattle.lines.proofs.hex.digit.Statement.{statement}
@@ -6,39 +7,30 @@ use Rattle.lines.proofs.hex.digit.Reads as reads
 use Rattle.lines.proofs.hex.digit.Lts as lts
 use Rattle.std.proofs.num.wrapping_sub_u8.Reads as wrapping-sub-u8-reads
 
--- src/hex.rt:19:9
 wrapping-sub-u8-requires : tie.Need-wrapping-sub-u8-requires
 wrapping-sub-u8-requires c κs = search needs
 
--- src/hex.rt:21:9
 returns : tie.Need-returns
 returns c = search digits
 
--- src/hex.rt:23:9
 wrapping-sub-u8-requires-2 : tie.Need-wrapping-sub-u8-requires-2
 wrapping-sub-u8-requires-2 c κs = search needs
 
--- src/hex.rt:25:16
 add-result : tie.Need-add-result
 add-result c = search needs
 
--- src/hex.rt:25:9
 returns-2 : tie.Need-returns-2
 returns-2 c = search digits
 
--- src/hex.rt:27:9
 wrapping-sub-u8-requires-3 : tie.Need-wrapping-sub-u8-requires-3
 wrapping-sub-u8-requires-3 c κs = search needs
 
--- src/hex.rt:29:16
 add-result-2 : tie.Need-add-result-2
 add-result-2 c = search needs
 
--- src/hex.rt:29:9
 returns-3 : tie.Need-returns-3
 returns-3 c = search digits
 
--- src/hex.rt:16:1
 returns-4 : tie.Need-returns-4
 returns-4 c = search (digits, needs)
 
