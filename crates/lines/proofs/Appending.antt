@@ -1,11 +1,10 @@
 -- Text laid into a buffer from a place on, one character or one text after the other. Assumes nothing.
 use Prim.Native.Nat.{ℕ, suc, _+_, _≤_, _<_}
-use mathlib.Core.Path.{_≡_, refl, sym, ap, ap₂, _∙_}
+use mathlib.Core.Path.{_≡_, sym, ap, ap₂, _∙_}
 use mathlib.Core.List.{List, [], _∷_, _++_, append-assoc, append-nil}
-use lib.ListN.{length, take, drop, set, getD, length-append, length-set, take-append-drop, length-drop}
+use lib.ListN.{length, take, drop, set, getD, length-append, take-append-drop, length-drop}
 use lib.Seq.{set-at, append-snoc, drop-cons, length-take-le, take-at, drop-at, drop-drop}
-use native.Mathlib.Nat.{add-zero, add-assoc}
-use native.Mathlib.Numerals.{add-one}
+use native.Mathlib.Nat.{add-zero}
 use native.Mathlib.Omega.{arith}
 use Rattle.lines.specs.Promise.{Appends}
 

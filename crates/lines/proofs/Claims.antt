@@ -1,5 +1,5 @@
 -- The claims of this crate, each proved by a law. Assumes nothing.
-use mathlib.Core.Path.{_≡_, refl}
+use mathlib.Core.Path.{refl}
 use Rattle.octets.specs.Place.{tab, allBelow}
 use Rattle.octets.specs.ExclusiveOr.{xorAt, exclusiveOr}
 use Rattle.lengths.specs.Length.{lengthAt}
@@ -12,22 +12,30 @@ use Rattle.views.specs.Offer.{keep, keepSpares, accept, offered, offer}
 use Rattle.views.specs.Release.{next, giveUp}
 use Rattle.lines.specs.Hex.{digitOf, digitFor, allDigits, octetsIn, lineOctets, hexOf}
 use Rattle.lines.specs.Lines.{resultLine, refusalLine, releasesF, lineOffered, offerLine, answerLine, step, linesFrom, steps, program}
-use Rattle.lines.specs.Claims.{Claims, WholeCase}
+use Rattle.lines.specs.Text.{characters}
+use Rattle.lines.specs.Claims.{Claims, WholeCase, Cases}
 use Rattle.lines.proofs.Feeding.{program-fed, fed-append}
 use Rattle.lines.proofs.HexBack.{written-reads}
 use Rattle.lines.proofs.ReleaseAll.{releases-all}
+use Rattle.lines.proofs.InTurn.{in-turn}
 use Rattle.lines.proofs.OneOutcome.{one-outcome}
 
 pub whole-case : WholeCase
-unfolding program steps linesFrom step answerLine offerLine lineOffered releasesF resultLine refusalLine lineOctets octetsIn allDigits digitOf hexOf digitFor next giveUp offer offered accept keep keepSpares freshView goneOn messagesOf messagesFrom heldMessages membersOf repair repairF firstUsable usable passing mended fill readDatagram wholeOf numberOf extraAt parityAt sparesAt endOf itemsAt itemAt sizedAt octetAt allowed carriedBy lengthAt tab allBelow exclusiveOr xorAt
+unfolding characters program steps linesFrom step answerLine offerLine lineOffered releasesF resultLine refusalLine lineOctets octetsIn allDigits digitOf hexOf digitFor next giveUp offer offered accept keep keepSpares freshView goneOn messagesOf messagesFrom heldMessages membersOf repair repairF firstUsable usable passing mended fill readDatagram wholeOf numberOf extraAt parityAt sparesAt endOf itemsAt itemAt sizedAt octetAt allowed carriedBy lengthAt tab allBelow exclusiveOr xorAt
 whole-case = refl
+
+pub cases : Cases
+unfolding characters lineOctets octetsIn allDigits digitOf tab allBelow
+cases = record { upper = refl; lower = refl; return = refl; blanks = refl }
 
 pub claims : Claims
 claims =
     record {
       wholeCase = whole-case;
+      cases = cases;
       releasesAll = releases-all;
       writtenReads = written-reads;
       cutAnyhow = record { whole = program-fed; cut = fed-append };
+      inTurn = in-turn;
       oneOutcome = one-outcome;
     }

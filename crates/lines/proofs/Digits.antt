@@ -16,6 +16,7 @@ agree true b = b
 agree false b = not b
 
 agree-same : (a b : Bool) → agree a b ≡ true → a ≡ b
+unfolding agree
 agree-same true true e = refl
 agree-same true false e = sym e
 agree-same false true e = e

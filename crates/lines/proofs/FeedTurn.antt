@@ -1,21 +1,19 @@
 -- A line taken in from the input, on plain values; and one line after the other. Assumes nothing.
-use Prim.Native.Nat.{ℕ, zero, suc, _+_, _-_, _*_, _≤_, _<_}
+use Prim.Native.Nat.{ℕ, _+_, _-_, _≤_, _<_}
 use mathlib.Core.Path.{_≡_, refl, sym, ap, ap₂, _∙_}
 use mathlib.Core.List.{List, [], _∷_, _++_}
-use mathlib.Core.Bool.{Bool, true, false, cond}
+use mathlib.Core.Bool.{true}
 use lib.ListN.{length, getD, take, drop, length-take, length-drop, drop-of-length-le}
 use lib.Seq.{take-suc, take-add, take-all, take-length, length-take-le, getD-take, drop-drop}
-use lib.Dec.{eqb}
 use native.Mathlib.Numerals.{add-one}
 use native.Mathlib.Omega.{arith}
 use borrow.Author.Tests.{eq-eqb, ne-eqb}
 use Rattle.views.specs.View.{View}
 use Rattle.heads.specs.Head.{viewIn}
-use Rattle.heads.specs.Within.{Within}
 use Rattle.heads.specs.declared.Head.{Head}
-use Rattle.lines.specs.Lines.{Made, lineFeed, step}
+use Rattle.lines.specs.Lines.{step}
 use Rattle.lines.specs.Feed.{Going, keptLimit, lineDone, fed, atEnd, goingIn}
-use Rattle.lines.specs.Promise.{Appends, Does, Able, stepLimit}
+use Rattle.lines.specs.Promise.{Does, stepLimit}
 use Rattle.lines.specs.FeedPromise.{Begun, Found, LineIn, LineKept, lineEnd, takenOf, Feedable, Takes, TakesLine, Feeds, Ends}
 use Rattle.lines.proofs.Appending.{appends-front, appends-rest, appends-long}
 use Rattle.lines.proofs.Feeding.{NoFeed, fed-append, fed-plain, takenIn-feed, keeps-all, step-kept}

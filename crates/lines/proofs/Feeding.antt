@@ -1,20 +1,19 @@
 -- The program's input taken in character by character writes what the program writes, however it is cut. Assumes nothing.
-use Prim.Native.Nat.{ℕ, zero, suc, _+_, _-_, _*_, _≤_, _<_}
-use mathlib.Core.Path.{_≡_, refl, sym, ap, ap₂, _∙_}
-use mathlib.Core.Bool.{Bool, true, false, cond}
+use Prim.Native.Nat.{ℕ, zero, suc, _+_, _≤_, _<_}
+use mathlib.Core.Path.{_≡_, refl, sym, ap, _∙_}
+use mathlib.Core.Bool.{Bool, cond}
 use mathlib.Core.List.{List, [], _∷_, _++_, append-assoc, append-nil}
 use mathlib.Core.Logic.{⊎-elim}
-use lib.ListN.{length, take, drop, getD, length-append, length-take}
-use lib.Seq.{take-all, take-append-le, length-take-le}
-use lib.Dec.{leb, ltb, eqb}
+use lib.ListN.{length, take, getD, length-append, length-take}
+use lib.Seq.{take-all, length-take-le}
 use native.Mathlib.Omega.{arith}
-use borrow.Author.Tests.{le-leb, lt-leb, lt-ltb, eq-eqb, ne-eqb}
+use borrow.Author.Tests.{lt-ltb, eq-eqb, ne-eqb}
 use Rattle.octets.proofs.Cases.{below-or-not, same-or-not}
-use Rattle.lengths.specs.Answers.{Answer, done, refuse}
+use Rattle.lengths.specs.Answers.{refuse}
 use Rattle.lengths.specs.Refusals.{tooLong}
-use Rattle.views.specs.View.{View, freshView}
+use Rattle.views.specs.View.{View}
 use Rattle.lines.specs.Hex.{lineLimit, lineOctets}
-use Rattle.lines.specs.Lines.{Made, _then_, lineFeed, lineOffered, offerLine, answerLine, step, lastLine, linesFrom, steps, program}
+use Rattle.lines.specs.Lines.{Made, lineFeed, lineOffered, offerLine, answerLine, step, lastLine, linesFrom, steps, program}
 use Rattle.lines.specs.Feed.{Going, atStart, keptLimit, lineDone, longer, takenIn, fed, atEnd}
 
 -- ---- taken in block after block

@@ -1,23 +1,23 @@
 -- The loops over digits on plain values, and one law for each answer of `hex_to_octets`. Assumes nothing.
-use Prim.Native.Nat.{ℕ, suc, _+_, _-_, _*_, _/_, _%_, _≤_, _<_}
+use Prim.Native.Nat.{ℕ, suc, _+_, _*_, _/_, _%_, _≤_, _<_}
 use mathlib.Core.Path.{_≡_, refl, sym, ap, ap₂, _∙_}
-use mathlib.Core.Bool.{Bool, true, false, _&&_, cond}
+use mathlib.Core.Bool.{Bool, true, false, _&&_}
 use mathlib.Core.List.{List, [], _∷_, _++_, append-assoc}
-use lib.ListN.{length, getD, set, take, drop, length-set, drop-of-length-le}
+use lib.ListN.{length, getD, set, take, drop, length-set}
 use lib.Seq.{set-at, append-snoc, drop-cons, take-suc, length-take-le, take-length}
-use lib.Dec.{leb, ltb, eqb}
+use lib.Dec.{ltb}
 use native.Mathlib.Nat.{mod-eq-of-lt}
 use native.Mathlib.Numerals.{add-one}
 use native.Mathlib.Omega.{arith}
 use borrow.Author.Tests.{lt-ltb, le-ltb, le-leb, lt-leb, eq-eqb, ne-eqb, ltb-true}
-use Rattle.octets.specs.Place.{allBelow, tab}
+use Rattle.octets.specs.Place.{allBelow}
 use Rattle.octets.proofs.Place.{allBelow-more, allBelow-at, length-tab, tab-at}
 use Rattle.lengths.specs.Refusals.{tooLong, wrongSettings, noRoom}
-use Rattle.lengths.specs.Answers.{Answer, done, refused, fitted, sizeOf, over, writtenOutcome}
+use Rattle.lengths.specs.Answers.{over}
 use Rattle.lengths.specs.Promise.{Puts, RefusalMade}
 use Rattle.lengths.specs.declared.Refusal.{Refusal}
 use Rattle.lengths.specs.declared.Written.the-variants as written
-use Rattle.lines.specs.Hex.{digitOf, digitFor, noDigit, allDigits, octetAt, octetsIn, lineOctets, hexOf, lineLimit}
+use Rattle.lines.specs.Hex.{digitOf, digitFor, noDigit, allDigits, octetAt, octetsIn, lineOctets, hexOf}
 use Rattle.lines.specs.Promise.{Appends}
 use Rattle.lines.proofs.Appending.{appends-none, appends-one, appends-long}
 

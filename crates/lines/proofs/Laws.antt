@@ -1,16 +1,16 @@
 -- Laws for the program above: after a block it can go on, and a block with room for a step is taken in at least in part.
 -- Assumes nothing.
-use Prim.Native.Nat.{ℕ, _+_, _-_, _≤_, _<_}
-use mathlib.Core.Path.{_≡_, refl, sym, ap, _∙_}
-use mathlib.Core.List.{List, [], _∷_, _++_}
+use Prim.Native.Nat.{ℕ, _≤_, _<_}
+use mathlib.Core.Path.{_≡_, refl, sym, _∙_}
+use mathlib.Core.List.{List}
 use mathlib.Core.Logic.{⊎-elim}
-use lib.ListN.{length, getD, take, drop, replicate, length-replicate, getD-replicate, List·getD-eq-default}
+use lib.ListN.{length, replicate, length-replicate, getD-replicate, List·getD-eq-default}
 use native.Mathlib.Omega.{arith}
 use Rattle.octets.proofs.Cases.{below-or-not}
 use Rattle.heads.specs.declared.Head.{Head}
 use Rattle.lines.specs.Feed.{keptLimit, goingIn}
 use Rattle.lines.specs.Promise.{stepLimit}
-use Rattle.lines.specs.FeedPromise.{lineEnd, takenOf, LineIn, Feedable, Feeds}
+use Rattle.lines.specs.FeedPromise.{LineIn, Feedable, Feeds}
 use Rattle.lines.proofs.FeedTaken.{taken-line, lineEnd-some}
 
 -- the lent line at the start
@@ -25,6 +25,13 @@ line-fresh n size =
           (below-or-not k n);
     }
 
+-- with room for a step a block may be taken in
+pub feedable-block : {h : Head} {o g l : List ℕ} {begun : ℕ} {out : List ℕ} {at : ℕ} → Feedable stepLimit h o g l begun out at
+    → Feedable 0 h o g l begun out at
+feedable-block able =
+    record { able = record { within = able .able .within; room = omega (arith, able .able .room) }; line = able .line }
+
+-- after a block another may be taken in, once what was written is handed on
 pub feeds-on : {h : Head} {o g l : List ℕ} {begun : ℕ} {s out : List ℕ} {k : Head} {newO newG newL : List ℕ} {kept taken : ℕ}
     {new : List ℕ} {end : ℕ} → Feedable stepLimit h o g l begun out 0
     → Feeds (goingIn h o g l begun out 0) s out k newO newG newL kept taken new end → Feedable stepLimit k newO newG newL kept new 0

@@ -13,5 +13,6 @@ pub mod FeedTurn
 pub mod Laws
 pub mod ReleaseAll
 pub mod HexBack
+pub mod InTurn
 pub mod OneOutcome
 pub mod Claims

@@ -1,15 +1,14 @@
 -- A line that is offered, on plain values: its octets, the offer's answer, and the line for a refusal. Assumes nothing.
-use Prim.Native.Nat.{ℕ, suc, _+_, _-_, _*_, _/_, _%_, _≤_, _<_}
+use Prim.Native.Nat.{ℕ, _+_, _%_, _≤_}
 use mathlib.Core.Path.{_≡_, refl, sym, ap, ap₂, _∙_}
 use mathlib.Core.Bool.{Bool, true, false, cond}
-use mathlib.Core.List.{List, [], _∷_, _++_}
+use mathlib.Core.List.{List, [], _++_}
 use lib.ListN.{length, take, drop, length-append}
 use lib.Seq.{take-append-seam, length-take-le}
-use lib.Dec.{leb, ltb, eqb}
+use lib.Dec.{ltb, eqb}
 use native.Mathlib.Omega.{arith}
 use borrow.Author.Tests.{ltb-false, le-leb}
-use Rattle.lengths.specs.Refusals.{tooLong, wrongSettings}
-use Rattle.lengths.specs.Answers.{Answer, done, refused, refuse, _>>=_, fitted, sizeOf, over, writtenOutcome}
+use Rattle.lengths.specs.Answers.{Answer, done, refused, fitted, sizeOf, over, writtenOutcome}
 use Rattle.lengths.specs.Promise.{Puts}
 use Rattle.lengths.specs.declared.Refusal.{Refusal}
 use Rattle.lengths.specs.declared.Written.{Written}
@@ -21,12 +20,11 @@ use Rattle.heads.specs.Head.{viewIn}
 use Rattle.heads.specs.Within.{Within}
 use Rattle.heads.specs.declared.Head.{Head}
 use Rattle.receiving.specs.Promise.{OfferMade, offeredOutcome, acceptedOf, afterOffer}
-use Rattle.receiving.specs.declared.Offered.{Offered}
 use Rattle.receiving.specs.declared.Offered.the-variants as offered
 use Rattle.receiving.specs.declared.OfferDone.{OfferDone}
 use Rattle.lines.specs.Hex.{lineLimit, allDigits, octetsIn, lineOctets}
-use Rattle.lines.specs.Lines.{Made, refusalLine, offerMade, lineOffered, offerLine}
-use Rattle.lines.specs.Promise.{Appends, Does, resultLimit}
+use Rattle.lines.specs.Lines.{refusalLine, offerMade, lineOffered, offerLine}
+use Rattle.lines.specs.Promise.{Appends, Does}
 use Rattle.lines.proofs.Appending.{appends-none}
 use Rattle.lines.proofs.HexSteps.{length-octetsIn}
 

@@ -1,23 +1,22 @@
 -- Two outcomes that a promise allows are one: the buffer is told by what is written and what stays, the lent line by the line
 -- that has begun, and within the ranges a session by its view. Assumes nothing.
-use Prim.Native.Nat.{ℕ, _+_, _-_, _≤_, _<_}
-use mathlib.Core.Path.{_≡_, refl, sym, ap, ap₂, _∙_}
-use mathlib.Core.List.{List, [], _∷_, _++_}
+use Prim.Native.Nat.{ℕ, _+_, _≤_, _<_}
+use mathlib.Core.Path.{_≡_, sym, ap, ap₂, _∙_}
+use mathlib.Core.List.{List, [], _++_}
 use mathlib.Core.Logic.{⊎-elim}
 use lib.ListN.{length, getD, take, drop, take-append-drop}
 use lib.Seq.{ext-getD, getD-take, length-take-le}
 use native.Mathlib.Omega.{arith}
 use Rattle.octets.proofs.Cases.{below-or-not}
 use Rattle.lengths.proofs.Claims as lengths
-use Rattle.views.specs.View.{View}
 use Rattle.heads.specs.Head.{viewIn}
 use Rattle.heads.specs.Within.{Within}
 use Rattle.heads.specs.declared.Head.{Head}
 use Rattle.heads.proofs.Injective.{head-same, octets-same, messages-same}
 use Rattle.lines.specs.Lines.{Made}
-use Rattle.lines.specs.Feed.{Going, fed, atEnd, goingIn}
-use Rattle.lines.specs.Promise.{Appends, Does}
-use Rattle.lines.specs.FeedPromise.{LineIn, Takes, Feeds, Ends}
+use Rattle.lines.specs.Feed.{Going, fed, goingIn}
+use Rattle.lines.specs.Promise.{Does}
+use Rattle.lines.specs.FeedPromise.{LineIn, Feeds, Ends}
 use Rattle.lines.specs.Claims.{Same, OneOutcome}
 use Rattle.lines.specs.declared.steps.Stepped.{Stepped}
 use Rattle.lines.specs.declared.feed.Fed.{Fed}

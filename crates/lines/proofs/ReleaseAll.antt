@@ -1,13 +1,13 @@
 -- The releases after a line stop at 10 or 16: a packet has room, and after as many releases as there are numbers from the base
 -- on, the base is a number that came into view unknown. Assumes nothing.
-use Prim.Native.Nat.{ℕ, zero, suc, _+_, _-_, _*_, _≤_, _<_}
-use mathlib.Core.Path.{_≡_, refl, sym, ap, _∙_}
+use Prim.Native.Nat.{ℕ, zero, suc, _+_, _*_, _≤_, _<_}
+use mathlib.Core.Path.{_≡_, refl, ap, _∙_}
 use mathlib.Core.Bool.{Bool, true, false, cond}
 use mathlib.Core.List.{List, [], _∷_, _++_}
 use mathlib.Core.Logic.{_⊎_, inl, inr, ⊎-elim}
-use lib.ListN.{length, getD, drop, length-append, length-take, length-drop, List·getD-append, List·getD-eq-default}
+use lib.ListN.{length, drop, length-append, length-take, length-drop, List·getD-append}
 use lib.Seq.{getD-drop, getD-at}
-use lib.Dec.{leb, ltb}
+use lib.Dec.{leb}
 use native.Mathlib.Omega.{arith}
 use borrow.Author.Tests.{le-ltb}
 use Rattle.octets.proofs.Cases.{below-or-not}
@@ -15,7 +15,7 @@ use Rattle.lengths.specs.Refusals.{baseUnknown, allPassed, noRoom, refusal}
 use Rattle.lengths.specs.Answers.{Answer, done, refused, refuse}
 use Rattle.lengths.specs.declared.Refusal.{Refusal}
 use Rattle.datagrams.specs.Sizes.{packetLimit}
-use Rattle.repair.specs.Cells.{Cell, cellAt, unknownAt, unknownCell, blankCell, isUnknown, keptBefore, keptAhead, keptNumbers}
+use Rattle.repair.specs.Cells.{Cell, cellAt, unknownAt, unknownCell, blankCell, keptBefore, keptAhead, keptNumbers}
 use Rattle.stores.specs.Store.{part}
 use Rattle.views.specs.View.{View, Counts, sum, sessionLimit, goneOn}
 use Rattle.views.specs.Release as release
@@ -25,7 +25,7 @@ use Rattle.heads.specs.Within.{Within}
 use Rattle.heads.specs.declared.Head.{Head}
 use Rattle.heads.proofs.Parts.{kept-right, size-right}
 use Rattle.heads.proofs.Seen.{length-cells, cell-at}
-use Rattle.lines.specs.Lines.{Made, onward, releasesF, releases}
+use Rattle.lines.specs.Lines.{onward, releasesF, releases}
 use Rattle.lines.specs.Claims.{ReleasesAll}
 
 -- ---- next, with room for any packet

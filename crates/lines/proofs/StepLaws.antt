@@ -1,7 +1,7 @@
 -- One line: its answer, then all releases. Assumes nothing.
-use Prim.Native.Nat.{ℕ, suc, _+_, _*_, _≤_, _<_}
-use mathlib.Core.Path.{_≡_, refl, sym, ap, _∙_}
-use mathlib.Core.List.{List, [], _∷_, _++_}
+use Prim.Native.Nat.{ℕ, _+_, _≤_}
+use mathlib.Core.Path.{_≡_, refl}
+use mathlib.Core.List.{List, [], _∷_}
 use lib.ListN.{length}
 use native.Mathlib.Omega.{arith}
 use Rattle.lengths.specs.Answers.{Answer, done, refused}
@@ -10,7 +10,7 @@ use Rattle.views.specs.Release.{Loss, giveUp}
 use Rattle.heads.specs.Head.{viewIn}
 use Rattle.heads.specs.declared.Head.{Head}
 use Rattle.lines.specs.Lines.{giveUpMade, offerMade, lineOffered, offerLine, answerLine, releases, step}
-use Rattle.lines.specs.Promise.{Appends, Does, Able, resultLimit, releasesLimit, stepLimit}
+use Rattle.lines.specs.Promise.{Does, Able, resultLimit, releasesLimit, stepLimit}
 use Rattle.lines.proofs.Appending.{appends-long}
 use Rattle.lines.proofs.ResultSteps.{length-result, length-refusal}
 use Rattle.lines.proofs.Stepping.{does-then}

@@ -1,8 +1,8 @@
 -- The parts of a step on plain values: a give-up, a release, and one part after the other. Assumes nothing.
-use Prim.Native.Nat.{ℕ, suc, _+_, _-_, _*_, _≤_, _<_}
+use Prim.Native.Nat.{ℕ, _+_, _*_, _≤_}
 use mathlib.Core.Path.{_≡_, refl, sym, ap, ap₂, _∙_}
 use mathlib.Core.Bool.{Bool, true, false, cond}
-use mathlib.Core.List.{List, [], _∷_, _++_}
+use mathlib.Core.List.{List, []}
 use lib.ListN.{length, take, drop, length-append}
 use lib.Seq.{take-append-seam, length-take-le}
 use lib.Dec.{leb, ltb}
@@ -16,14 +16,11 @@ use Rattle.repair.specs.Cells.{unknownAt, keptBefore}
 use Rattle.views.specs.View.{View, sum, sessionLimit}
 use Rattle.views.specs.Release.{Release, Loss, next, giveUp, atBase}
 use Rattle.heads.specs.Head.{viewIn, stateOf}
-use Rattle.heads.specs.Within.{Within}
 use Rattle.heads.specs.declared.Head.{Head}
 use Rattle.heads.specs.declared.State.{State}
 use Rattle.releasing.specs.Outcome.{Handed, releasedOutcome, lostOutcome, handedOf, octetsOf, afterNext, numberOf, afterGiveUp}
 use Rattle.releasing.specs.Promise.{NextMade, GiveUpMade}
-use Rattle.releasing.specs.declared.Released.{Released}
 use Rattle.releasing.specs.declared.Released.the-variants as released
-use Rattle.releasing.specs.declared.Lost.{Lost}
 use Rattle.releasing.specs.declared.Lost.the-variants as lost
 use Rattle.releasing.specs.declared.NextDone.{NextDone}
 use Rattle.releasing.specs.declared.GivenUp.{GivenUp}

@@ -3,9 +3,9 @@ use Prim.Native.Nat.{ℕ, _≤_}
 use mathlib.Core.Path.{_≡_}
 use mathlib.Core.List.{List, [], _∷_, _++_}
 use mathlib.Core.Logic.{_⊎_}
-use lib.ListN.{length}
-use Rattle.lengths.specs.Refusals.{baseUnknown, allPassed}
-use Rattle.lengths.specs.Answers.{Answer, done, refuse}
+use lib.ListN.{length, take}
+use Rattle.lengths.specs.Refusals.{wrongSettings, baseUnknown, allPassed}
+use Rattle.lengths.specs.Answers.{done, refuse}
 use Rattle.lengths.specs.Promise.{Puts}
 use Rattle.lengths.specs.Claims.{Octets}
 use Rattle.lengths.specs.declared.Written.{Written}
@@ -13,29 +13,30 @@ use Rattle.datagrams.specs.Sizes.{packetLimit, datagramLimit}
 use Rattle.views.specs.Release.{next}
 use Rattle.heads.specs.Head.{viewIn}
 use Rattle.heads.specs.Within.{Within}
+use Rattle.heads.specs.Promise.{Fresh}
 use Rattle.heads.specs.declared.Head.{Head}
+use Rattle.heads.specs.declared.Session.{Session}
 use Rattle.lines.specs.Hex.{lineOctets, hexOf}
-use Rattle.lines.specs.Lines.{Made, program, releases, lineOf, lineFeed}
-use Rattle.lines.specs.Feed.{Going, atStart, fed, atEnd}
+use Rattle.lines.specs.Lines.{Made, program, releases}
+use Rattle.lines.specs.Feed.{Going, atStart, fed, atEnd, goingIn, PartWay}
 use Rattle.lines.specs.Promise.{Does}
 use Rattle.lines.specs.FeedPromise.{Feeds, Ends}
+use Rattle.lines.specs.Text.{characters}
 use Rattle.lines.specs.declared.steps.Stepped.{Stepped}
 use Rattle.lines.specs.declared.feed.Fed.{Fed}
 
 -- document 01's whole case
 abbrev pub WholeCase : Type 0
 WholeCase =
-    program
-    (lineOf (0x00 ∷ 0x00 ∷ 0x01 ∷ 0x06 ∷ 0x00 ∷ 0x00 ∷ [])
-    ++ lineOf (0x00 ∷ 0x02 ∷ 0x01 ∷ 0x00 ∷ 0x00 ∷ 0x01 ∷ 0x06 ∷ 0xC0 ∷ 0x01 ∷ 0x80 ∷ 0x00 ∷ 0x00 ∷ 0x55 ∷ [])
-    ++ (lineFeed ∷ [])
-    ++ lineOf (0x00 ∷ 0x02 ∷ 0x01 ∷ 0x00 ∷ 0x00 ∷ 0x01 ∷ 0x06 ∷ 0xC0 ∷ 0x01 ∷ 0x80 ∷ 0x00 ∷ 0x00 ∷ 0x55 ∷ []))
-    ≡
-    lineOf (0x00 ∷ 0x00 ∷ 0x00 ∷ 0x06 ∷ [])
-    ++ lineOf (0x01 ∷ 0x00 ∷ 0x01 ∷ 0xC0 ∷ 0x01 ∷ 0x80 ∷ 0x00 ∷ 0x00 ∷ 0x55 ∷ [])
-    ++ lineOf (0x00 ∷ 0x00 ∷ 0x02 ∷ 0x00 ∷ [])
-    ++ lineOf (0x03 ∷ 0x00 ∷ 0x03 ∷ [])
-    ++ lineOf (0xFF ∷ 0x09 ∷ [])
+    program (characters "000001060000\n00020100000106C00180000055\n\n00020100000106C00180000055\n")
+    ≡ characters "00000006\n010001C00180000055\n00000200\n030003\nFF09\n"
+
+-- "Both cases are read", "a line not of paired hexadecimal digits"
+pub record Cases : Type 0 where
+  pub upper : lineOctets (characters "0123456789ABCDEF") ≡ done (0x01 ∷ 0x23 ∷ 0x45 ∷ 0x67 ∷ 0x89 ∷ 0xAB ∷ 0xCD ∷ 0xEF ∷ [])
+  pub lower : lineOctets (characters "abcdef") ≡ done (0xAB ∷ 0xCD ∷ 0xEF ∷ [])
+  pub return : lineOctets (characters "00\r") ≡ refuse wrongSettings
+  pub blanks : lineOctets (characters "0 06") ≡ refuse wrongSettings
 
 -- "releases all it can": what is left after the releases is refused with 10 or 16, so that their count cuts nothing off
 abbrev pub ReleasesAll : Type 0
@@ -47,10 +48,20 @@ ReleasesAll = (h : Head) (o g : List ℕ) → Within h o g
 abbrev pub WrittenReads : Type 0
 WrittenReads = (octets : List ℕ) → Octets octets → length octets ≤ datagramLimit → lineOctets (hexOf octets) ≡ done octets
 
--- the input taken in character by character writes what the program writes, however it is cut into blocks
+-- the input taken in character by character writes what the program writes, however it is cut
 pub record CutAnyhow : Type 0 where
   pub whole : (input : List ℕ) → program input ≡ (atEnd (fed input atStart)) .text
   pub cut : (a b : List ℕ) (now : Going) → fed (a ++ b) now ≡ fed b (fed a now)
+
+-- the calls in turn: whatever blocks are taken in, what they and the end of the input leave in the lent buffer, one after the
+-- other, is what the program writes of all that was taken in
+pub record InTurn : Type 0 where
+  pub start : {r : Session} (line : List ℕ) → Fresh r → PartWay [] [] (r .head) (r .octets) (r .messages) line 0
+  pub block : {input text : List ℕ} {h : Head} {o g l : List ℕ} {begun : ℕ} {s out : List ℕ} {k : Head} {p q m : List ℕ} {kept taken : ℕ}
+      {new : List ℕ} {end : ℕ} → PartWay input text h o g l begun → Feeds (goingIn h o g l begun out 0) s out k p q m kept taken new end
+      → PartWay (input ++ take taken s) (text ++ take end new) k p q m kept
+  pub finish : {input text : List ℕ} {h : Head} {o g l : List ℕ} {begun : ℕ} {out : List ℕ} {k : Head} {p q new : List ℕ} {end : ℕ}
+      → PartWay input text h o g l begun → Ends (goingIn h o g l begun out 0) out k p q new end → program input ≡ text ++ take end new
 
 -- the same answer, the same stores and the same lent buffer
 pub record Same {A : Type 0} (r q : A) (o p g k new other : List ℕ) : Type 0 where
@@ -73,7 +84,9 @@ pub record OneOutcome : Type 0 where
 
 pub record Claims : Type 0 where
   pub wholeCase : WholeCase
+  pub cases : Cases
   pub releasesAll : ReleasesAll
   pub writtenReads : WrittenReads
   pub cutAnyhow : CutAnyhow
+  pub inTurn : InTurn
   pub oneOutcome : OneOutcome

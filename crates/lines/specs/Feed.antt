@@ -1,6 +1,7 @@
 -- The program part way through its input: document 01, 'The program', taken in character by character, so that it does not
 -- matter how the input is cut into blocks. Definitions only.
 use Prim.Native.Nat.{ℕ, _+_}
+use mathlib.Core.Path.{_≡_}
 use mathlib.Core.Bool.{cond}
 use mathlib.Core.List.{List, [], _∷_, _++_}
 use lib.ListN.{length, take}
@@ -51,3 +52,8 @@ atEnd now = cond (eqb (length (now .begun)) 0) now (lineDone now)
 -- the program part way as the code holds it: the text is the front of out, the line that has begun the front of line
 abbrev pub goingIn : Head → List ℕ → List ℕ → List ℕ → ℕ → List ℕ → ℕ → Going
 goingIn h o g line begun out end = record { text = take end out; view = viewIn h o g; begun = take begun line }
+
+-- between two blocks: some input is taken in and some text written, with the session and the line that has begun as the code
+-- holds them
+pub record PartWay (input text : List ℕ) (h : Head) (o g line : List ℕ) (begun : ℕ) : Type 0 where
+  pub state : fed input atStart ≡ record { text = text; view = viewIn h o g; begun = take begun line }

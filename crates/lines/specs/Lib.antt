@@ -3,4 +3,5 @@ pub mod Lines
 pub mod Feed
 pub mod Promise
 pub mod FeedPromise
+pub mod Text
 pub mod Claims

@@ -12,6 +12,7 @@ pub use steps::Stepped;
 pub use steps::step;
 ghost use mathlib.Core.Path.{_≡_};
 ghost use Rattle.lines.specs.Hex.{lineLimit};
+ghost use Rattle.lines.specs.Feed.{keptLimit};
 ghost use Rattle.lines.specs.Promise.{stepLimit};
 use datagrams::Datagram;
 use datagrams::Packet;
@@ -43,6 +44,12 @@ impl Line {
         ensures { λ r. ⌜ r ≡ lineLimit ⌝ }
     {
         Line::LIMIT
+    }
+
+    pub fn kept_limit() -> usize
+        ensures { λ r. ⌜ r ≡ keptLimit ⌝ }
+    {
+        Line::KEPT
     }
 
     pub fn step_limit() -> usize

@@ -6,11 +6,11 @@ use crate::hex::put_octets;
 use heads::State;
 use lengths::Refusal;
 ghost use mathlib.Core.Path.{_≡_};
-ghost use mathlib.Core.List.{List, [], _∷_, _++_};
-ghost use Prim.Native.Nat.{_+_, _*_, _/_, _%_, _≤_, _<_};
+ghost use mathlib.Core.List.{[], _∷_};
+ghost use Prim.Native.Nat.{_+_, _*_, _/_, _%_, _≤_};
 ghost use lib.ListN.{length};
 ghost use Rattle.heads.specs.Head.{stateOf};
-ghost use Rattle.lines.specs.Lines.{kindOf, lineOf, resultLine, refusalLine};
+ghost use Rattle.lines.specs.Lines.{kindOf, resultLine, refusalLine};
 ghost use Rattle.lines.specs.Promise.{Appends};
 
 // The kind of a released number; an unknown or blank one is never released.

@@ -1,3 +1,4 @@
+-- `lines::clear_line` meets its contract: the line that has begun is a character shorter each turn. Assumes nothing.
 use borrow.Author.Needs.{needs}
 use Rattle.lines.specs.FeedPromise.{LineIn}
 use Rattle.lines.proofs.FeedSteps.{clear-turn, clear-done}
@@ -12,31 +13,24 @@ Inv-loop line₀ begun left₀ line left = LineIn line left
 abbrev μ-loop : tie.MeasureT-loop
 μ-loop line₀ begun left₀ line left = left
 
--- src/feed.rt:100:5
 loop-holds : tie.Need-loop-holds Inv-loop μ-loop
 loop-holds c = search needs
 
--- src/feed.rt:101:9
 sub-left : tie.Need-sub-left Inv-loop μ-loop
 sub-left c = search needs
 
--- src/feed.rt:102:9
 slice-write-line : tie.Need-slice-write-line Inv-loop μ-loop
 slice-write-line c = search needs
 
--- src/feed.rt:100:5
 loop-less : tie.Need-loop-less Inv-loop μ-loop
 loop-less c = search needs
 
--- src/feed.rt:100:5
 loop-again : tie.Need-loop-again Inv-loop μ-loop
 loop-again c = search clear-turn
 
--- src/feed.rt:95:1
 same-length : tie.Need-same-length Inv-loop μ-loop
 same-length c = search needs
 
--- src/feed.rt:95:1
 returns : tie.Need-returns Inv-loop μ-loop
 returns c = search clear-done
 

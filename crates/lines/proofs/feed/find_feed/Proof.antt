@@ -1,7 +1,8 @@
+-- `lines::find_feed` meets its contract: no line feed stands before the place, which goes on by many each turn. Assumes nothing.
 use borrow.Author.Needs.{needs}
 use Prim.Native.Nat.{_-_}
 use lib.ListN.{length}
-use borrow.Author.Tests.{not-true, not-false}
+use borrow.Author.Tests.{not-false}
 use Rattle.lines.specs.FeedPromise.{Begun}
 use Rattle.lines.proofs.FeedSteps.{begun-start, begun-far}
 use Rattle.lines.proofs.feed.find_feed.Statement.{statement}
@@ -17,43 +18,33 @@ Inv-loop s at₀ at = Begun s at
 abbrev μ-loop : tie.MeasureT-loop
 μ-loop s at₀ at = length s - at
 
--- src/feed.rt:56:5
 loop-holds : tie.Need-loop-holds Inv-loop μ-loop
 loop-holds c = search begun-start
 
--- src/feed.rt:56:25
 sub-loop : tie.Need-sub-loop Inv-loop μ-loop
 sub-loop c = search needs
 
--- src/feed.rt:57:13
 is-plain-requires : tie.Need-is-plain-requires Inv-loop μ-loop
 is-plain-requires c κs = search needs
 
--- src/feed.rt:58:13
 find-from-requires : tie.Need-find-from-requires Inv-loop μ-loop
 find-from-requires c κs = search needs
 
--- src/feed.rt:58:13
 returns : tie.Need-returns Inv-loop μ-loop
 returns c = search needs
 
--- src/feed.rt:60:9
 add-at : tie.Need-add-at Inv-loop μ-loop
 add-at c = search needs
 
--- src/feed.rt:56:5
 loop-less : tie.Need-loop-less Inv-loop μ-loop
 loop-less c = search needs
 
--- src/feed.rt:56:5
 loop-again : tie.Need-loop-again Inv-loop μ-loop
 loop-again c = search (begun-far, not-false)
 
--- src/feed.rt:62:5
 find-from-requires-2 : tie.Need-find-from-requires-2 Inv-loop μ-loop
 find-from-requires-2 c κs = search needs
 
--- src/feed.rt:52:1
 returns-2 : tie.Need-returns-2 Inv-loop μ-loop
 returns-2 c = search needs
 

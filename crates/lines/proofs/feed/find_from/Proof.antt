@@ -1,3 +1,4 @@
+-- `lines::find_from` meets its contract: no line feed stands before the place, which goes on each turn. Assumes nothing.
 use borrow.Author.Needs.{needs}
 use Prim.Native.Nat.{_-_}
 use lib.ListN.{length}
@@ -14,31 +15,24 @@ Inv-loop s from at₀ at = Begun s at
 abbrev μ-loop : tie.MeasureT-loop
 μ-loop s from at₀ at = length s - at
 
--- src/feed.rt:42:5
 loop-holds : tie.Need-loop-holds Inv-loop μ-loop
 loop-holds c = search needs
 
--- src/feed.rt:43:12
 shared-slice-read-if1 : tie.Need-shared-slice-read-if1 Inv-loop μ-loop
 shared-slice-read-if1 c = search needs
 
--- src/feed.rt:44:13
 returns : tie.Need-returns Inv-loop μ-loop
 returns c = search found-feed
 
--- src/feed.rt:46:9
 add-at : tie.Need-add-at Inv-loop μ-loop
 add-at c = search needs
 
--- src/feed.rt:42:5
 loop-less : tie.Need-loop-less Inv-loop μ-loop
 loop-less c = search needs
 
--- src/feed.rt:42:5
 loop-again : tie.Need-loop-again Inv-loop μ-loop
 loop-again c = search (begun-turn, needs)
 
--- src/feed.rt:37:1
 returns-2 : tie.Need-returns-2 Inv-loop μ-loop
 returns-2 c = search found-end
 

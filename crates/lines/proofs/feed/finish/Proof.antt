@@ -1,3 +1,4 @@
+-- `lines::finish` meets its contract: no line has begun, or the last one is done. Assumes nothing.
 use mathlib.Core.Path.{sym}
 use Rattle.lines.proofs.FeedTurn.{begun-length, ends-between, ends-line}
 use borrow.Author.Needs.{needs}
@@ -7,25 +8,20 @@ use Rattle.lines.proofs.feed.finish.Reads as reads
 use Rattle.lines.proofs.feed.finish.Lts as lts
 use Rattle.lines.proofs.steps.step.Reads as step-reads
 
--- src/feed.rt:200:9
 returns : tie.Need-returns
 returns c = ends-between (c .before .before .before .pre) (c .if1 .taken)
 
--- src/feed.rt:202:19
 slice-aggregate-step : tie.Need-slice-aggregate-step
 slice-aggregate-step c =
     let start = c .before .before .before .before .before .before in
     sym (begun-length (start .pre .line))
 
--- src/feed.rt:202:5
 step-requires : tie.Need-step-requires
 step-requires c κs = search needs
 
--- src/feed.rt:187:1
 same-length : tie.Need-same-length
 same-length c = search needs
 
--- src/feed.rt:187:1
 returns-2 : tie.Need-returns-2
 returns-2 c =
     let made = c .before .before in

@@ -1,3 +1,4 @@
+-- `lines::is_plain` meets its contract: the characters so far are told, one more each turn. Assumes nothing.
 use borrow.Author.Needs.{needs}
 use Prim.Native.Nat.{_-_}
 use Rattle.lines.proofs.FeedSteps.{Plain, plain-start, plain-turn, plain-done}
@@ -12,31 +13,24 @@ Inv-loop s at plain₀ j₀ plain j = Plain s at plain j
 abbrev μ-loop : tie.MeasureT-loop
 μ-loop s at plain₀ j₀ plain j = 64 - j
 
--- src/feed.rt:29:5
 loop-holds : tie.Need-loop-holds Inv-loop μ-loop
 loop-holds c = search plain-start
 
--- src/feed.rt:30:28
 add-plain : tie.Need-add-plain Inv-loop μ-loop
 add-plain c = search needs
 
--- src/feed.rt:30:26
 shared-slice-read-plain : tie.Need-shared-slice-read-plain Inv-loop μ-loop
 shared-slice-read-plain c = search needs
 
--- src/feed.rt:31:9
 add-j : tie.Need-add-j Inv-loop μ-loop
 add-j c = search needs
 
--- src/feed.rt:29:5
 loop-less : tie.Need-loop-less Inv-loop μ-loop
 loop-less c = search needs
 
--- src/feed.rt:29:5
 loop-again : tie.Need-loop-again Inv-loop μ-loop
 loop-again c = search (plain-turn, needs)
 
--- src/feed.rt:23:1
 returns : tie.Need-returns Inv-loop μ-loop
 returns c = search plain-done
 

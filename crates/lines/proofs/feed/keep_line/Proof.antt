@@ -1,3 +1,4 @@
+-- `lines::keep_line` meets its contract: the characters so far are laid, one more each turn. Assumes nothing.
 use borrow.Author.Needs.{needs}
 use Prim.Native.Nat.{_-_}
 use Rattle.lines.proofs.FeedSteps.{Keeping, keeping-start, keeping-turn, keeping-done}
@@ -13,51 +14,39 @@ Inv-loop line₀ begun more room count j₀ line j = Keeping line₀ more begun 
 abbrev μ-loop : tie.MeasureT-loop
 μ-loop line₀ begun more room count j₀ line j = count - j
 
--- src/feed.rt:81:16
 sub-room : tie.Need-sub-room Inv-loop μ-loop
 sub-room c = search needs
 
--- src/feed.rt:82:9
 least-requires : tie.Need-least-requires Inv-loop μ-loop
 least-requires c κs = search needs
 
--- src/feed.rt:84:5
 loop-holds : tie.Need-loop-holds Inv-loop μ-loop
 loop-holds c = search keeping-start
 
--- src/feed.rt:85:27
 shared-slice-read-line : tie.Need-shared-slice-read-line Inv-loop μ-loop
 shared-slice-read-line c = search needs
 
--- src/feed.rt:85:14
 add-line : tie.Need-add-line Inv-loop μ-loop
 add-line c = search needs
 
--- src/feed.rt:85:9
 slice-write-line : tie.Need-slice-write-line Inv-loop μ-loop
 slice-write-line c = search needs
 
--- src/feed.rt:86:9
 add-j : tie.Need-add-j Inv-loop μ-loop
 add-j c = search needs
 
--- src/feed.rt:84:5
 loop-less : tie.Need-loop-less Inv-loop μ-loop
 loop-less c = search needs
 
--- src/feed.rt:84:5
 loop-again : tie.Need-loop-again Inv-loop μ-loop
 loop-again c = search (keeping-turn, needs)
 
--- src/feed.rt:88:5
 add-result : tie.Need-add-result Inv-loop μ-loop
 add-result c = search needs
 
--- src/feed.rt:76:1
 same-length : tie.Need-same-length Inv-loop μ-loop
 same-length c = search needs
 
--- src/feed.rt:76:1
 returns : tie.Need-returns Inv-loop μ-loop
 returns c = search (keeping-done, needs)
 

@@ -1,3 +1,4 @@
+-- `lines::take_block` meets its contract: what is taken in so far and what is left come to the whole, line after line. Assumes nothing.
 use borrow.Author.Needs.{needs}
 use Prim.Native.Nat.{_-_}
 use lib.ListN.{length}
@@ -17,46 +18,36 @@ Inv-loop o₀ g₀ line₀ begun block out₀ at head₀ kept₀ taken₀ end₀
 abbrev μ-loop : tie.MeasureT-loop
 μ-loop o₀ g₀ line₀ begun block out₀ at head₀ kept₀ taken₀ end₀ o g line out head kept taken end = length block - taken
 
--- src/feed.rt:162:5
 loop-holds : tie.Need-loop-holds Inv-loop μ-loop
 loop-holds c = fed-start _ (c .before .before .before .pre)
 
--- src/feed.rt:163:12
 sub-if1 : tie.Need-sub-if1 Inv-loop μ-loop
 sub-if1 c = search needs
 
--- src/feed.rt:164:13
 same-length : tie.Need-same-length Inv-loop μ-loop
 same-length c = search needs
 
--- src/feed.rt:164:13
 same-length-2 : tie.Need-same-length-2 Inv-loop μ-loop
 same-length-2 c = search needs
 
--- src/feed.rt:164:13
 returns : tie.Need-returns Inv-loop μ-loop
 returns c = fed-full (c .before .before .loop .inv) (c .if1 .taken)
 
--- src/feed.rt:171:54
 sub-take-line : tie.Need-sub-take-line Inv-loop μ-loop
 sub-take-line c = search needs
 
--- src/feed.rt:171:54
 part-take-line-start : tie.Need-part-take-line-start Inv-loop μ-loop
 part-take-line-start c = search needs
 
--- src/feed.rt:171:54
 part-take-line-end : tie.Need-part-take-line-end Inv-loop μ-loop
 part-take-line-end c = search needs
 
--- src/feed.rt:171:13
 take-line-requires : tie.Need-take-line-requires Inv-loop μ-loop
 take-line-requires c κs =
     let room = c .before .before .before .before .before in
     let start = room .before .before .before .before .before .before in
     (fed-ready (room .before .before .loop .inv) (room .if1 .left), left-some (start .args .block .now) _ (room .before .loop-test .taken))
 
--- src/feed.rt:175:9
 add-taken : tie.Need-add-taken Inv-loop μ-loop
 add-taken c =
     let made = c .before .before .before .before .before .before in
@@ -64,14 +55,12 @@ add-taken c =
     let start = room .before .before .before .before .before .before in
     record { fits = omega (arith, start .good .1 .1 .1 .1 .1 .0, left-inside (start .args .block .now) _ (room .before .loop-test .taken) (made .take-line .ensures)) }
 
--- src/feed.rt:162:5
 loop-less : tie.Need-loop-less Inv-loop μ-loop
 loop-less c =
     let made = c .before .before .before .before .before .before in
     let room = made .before .before .before .before .before .before in
     omega (arith, made .take-line .ensures .some, room .before .loop-test .taken)
 
--- src/feed.rt:162:5
 loop-again : tie.Need-loop-again Inv-loop μ-loop
 loop-again c =
     let made = c .before .before .before .before .before .before in
@@ -79,15 +68,12 @@ loop-again c =
     let loop = room .before .before in
     fed-turn (loop .loop .inv) (room .before .loop-test .taken) (room .if1 .left) (made .take-line .ensures)
 
--- src/feed.rt:145:1
 same-length-3 : tie.Need-same-length-3 Inv-loop μ-loop
 same-length-3 c = search needs
 
--- src/feed.rt:145:1
 same-length-4 : tie.Need-same-length-4 Inv-loop μ-loop
 same-length-4 c = search needs
 
--- src/feed.rt:145:1
 returns-2 : tie.Need-returns-2 Inv-loop μ-loop
 returns-2 c = fed-whole (c .before .loop .inv) (c .loop-test .left)
 

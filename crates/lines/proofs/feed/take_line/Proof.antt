@@ -1,5 +1,5 @@
+-- `lines::take_line` meets its contract: the line goes on, is whole in this block, or began before it. Assumes nothing.
 use mathlib.Core.Path.{sym}
-use native.Mathlib.Omega.{arith}
 use lib.Seq.{length-take-le}
 use Rattle.lines.proofs.FeedTurn.{takes-part, takes-line, at-once, none-begun, kept-before, begun-length}
 use borrow.Author.Needs.{needs}
@@ -12,19 +12,15 @@ use Rattle.lines.proofs.feed.find_feed.Reads as find-feed-reads
 use Rattle.lines.proofs.feed.keep_line.Reads as keep-line-reads
 use Rattle.lines.proofs.steps.step.Reads as step-reads
 
--- src/feed.rt:121:9
 find-feed-requires : tie.Need-find-feed-requires
 find-feed-requires c κs = search needs
 
--- src/feed.rt:123:13
 keep-line-requires : tie.Need-keep-line-requires
 keep-line-requires c κs = search needs
 
--- src/feed.rt:124:9
 same-length : tie.Need-same-length
 same-length c = search needs
 
--- src/feed.rt:124:9
 returns : tie.Need-returns
 returns c =
     let keep = c .before .before in
@@ -33,26 +29,21 @@ returns c =
     let start = find .before .before .before .before in
     takes-part (start .pre .0) (start .pre .1) (find .find-feed .ensures) (past .if1 .taken) (keep .keep-line .ensures)
 
--- src/feed.rt:131:17
 add-taken : tie.Need-add-taken
 add-taken c = search needs
 
--- src/feed.rt:133:34
 slice-aggregate-step : tie.Need-slice-aggregate-step
 slice-aggregate-step c =
     let find = c .before .before .before .before .before in
     let start = find .before .before .before .before in
     sym (length-take-le (find .find-feed .result) (start .args .s .now) (find .find-feed .ensures .begun .inside))
 
--- src/feed.rt:133:13
 step-requires : tie.Need-step-requires
 step-requires c κs = search needs
 
--- src/feed.rt:136:9
 same-length-2 : tie.Need-same-length-2
 same-length-2 c = search needs
 
--- src/feed.rt:136:9
 returns-2 : tie.Need-returns-2
 returns-2 c =
     let made = c .before .before .before in
@@ -63,44 +54,35 @@ returns-2 c =
     (at-once _ (start .args .s .now) (find .find-feed .result) _ (none .if2 .taken)) (made .step .ensures)
     (none-begun (none .if2 .taken) (start .pre .0 .line))
 
--- src/feed.rt:143:39
 slice-aggregate-keep-line : tie.Need-slice-aggregate-keep-line
 slice-aggregate-keep-line c =
     let find = c .before .before .before .before in
     let start = find .before .before .before .before in
     sym (length-take-le (find .find-feed .result) (start .args .s .now) (find .find-feed .ensures .begun .inside))
 
--- src/feed.rt:143:9
 keep-line-requires-2 : tie.Need-keep-line-requires-2
 keep-line-requires-2 c κs = search needs
 
--- src/feed.rt:144:30
 slice-reshare-prefix-step : tie.Need-slice-reshare-prefix-step
 slice-reshare-prefix-step c = search needs
 
--- src/feed.rt:144:30
 slice-aggregate-step-2 : tie.Need-slice-aggregate-step-2
 slice-aggregate-step-2 c =
     let keep = c .before .before .before .before .before in
     sym (begun-length (keep .keep-line2 .ensures .holds))
 
--- src/feed.rt:144:9
 step-requires-2 : tie.Need-step-requires-2
 step-requires-2 c κs = search needs
 
--- src/feed.rt:145:5
 clear-line-requires : tie.Need-clear-line-requires
 clear-line-requires c κs = search needs
 
--- src/feed.rt:107:1
 same-length-3 : tie.Need-same-length-3
 same-length-3 c = search needs
 
--- src/feed.rt:107:1
 same-length-4 : tie.Need-same-length-4
 same-length-4 c = search needs
 
--- src/feed.rt:107:1
 returns-3 : tie.Need-returns-3
 returns-3 c =
     let clear = c .before .before .before in

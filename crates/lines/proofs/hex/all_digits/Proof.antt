@@ -1,3 +1,4 @@
+-- `lines::all_digits` meets its contract: the characters so far are told, one more each turn. Assumes nothing.
 use Prim.Native.Nat.{_-_}
 use lib.ListN.{length}
 use borrow.Author.Needs.{needs}
@@ -14,31 +15,24 @@ Inv-loop line all₀ i₀ all i = Told line all i
 abbrev μ-loop : tie.MeasureT-loop
 μ-loop line all₀ i₀ all i = length line - i
 
--- src/hex.rt:50:5
 loop-holds : tie.Need-loop-holds Inv-loop μ-loop
 loop-holds c = search told-start
 
--- src/hex.rt:51:30
 shared-slice-read-is-digit : tie.Need-shared-slice-read-is-digit Inv-loop μ-loop
 shared-slice-read-is-digit c = search needs
 
--- src/hex.rt:51:21
 is-digit-requires : tie.Need-is-digit-requires Inv-loop μ-loop
 is-digit-requires c κs = search needs
 
--- src/hex.rt:52:9
 add-i : tie.Need-add-i Inv-loop μ-loop
 add-i c = search needs
 
--- src/hex.rt:50:5
 loop-less : tie.Need-loop-less Inv-loop μ-loop
 loop-less c = search needs
 
--- src/hex.rt:50:5
 loop-again : tie.Need-loop-again Inv-loop μ-loop
 loop-again c = search (told-turn, needs)
 
--- src/hex.rt:45:1
 returns : tie.Need-returns Inv-loop μ-loop
 returns c = search told-done
 

@@ -1,3 +1,4 @@
+-- `lines::hex_to_octets` meets its contract: one law for each answer, at the tests that led to it. Assumes nothing.
 use Rattle.lines.proofs.HexSteps.{linings, digits-told}
 use borrow.Author.Tests.{not-true, not-false}
 use borrow.Author.Needs.{needs}
@@ -9,53 +10,41 @@ use Rattle.lengths.proofs.Refusal.new.Reads as new-reads
 use Rattle.lines.proofs.hex.all_digits.Reads as all-digits-reads
 use Rattle.lines.proofs.hex.pair_up.Reads as pair-up-reads
 
--- src/hex.rt:81:33
 new-requires : tie.Need-new-requires
 new-requires c κs = search needs
 
--- src/hex.rt:81:9
 returns : tie.Need-returns
 returns c = search linings
 
--- src/hex.rt:85:33
 new-requires-2 : tie.Need-new-requires-2
 new-requires-2 c κs = search needs
 
--- src/hex.rt:85:9
 returns-2 : tie.Need-returns-2
 returns-2 c = search linings
 
--- src/hex.rt:87:9
 all-digits-requires : tie.Need-all-digits-requires
 all-digits-requires c κs = search needs
 
--- src/hex.rt:88:33
 new-requires-3 : tie.Need-new-requires-3
 new-requires-3 c κs = search needs
 
--- src/hex.rt:88:9
 returns-3 : tie.Need-returns-3
 returns-3 c = search (linings, not-true)
 
--- src/hex.rt:92:33
 new-requires-4 : tie.Need-new-requires-4
 new-requires-4 c κs = search needs
 
--- src/hex.rt:92:9
 returns-4 : tie.Need-returns-4
 returns-4 c = search (linings, not-false)
 
--- src/hex.rt:94:5
 pair-up-requires : tie.Need-pair-up-requires
 pair-up-requires c κs =
     let told = c .before .before in
     (digits-told _ (told .before .all-digits .ensures) (not-false _ (told .if3 .left)), search needs)
 
--- src/hex.rt:76:1
 same-length : tie.Need-same-length
 same-length c = search needs
 
--- src/hex.rt:76:1
 returns-5 : tie.Need-returns-5
 returns-5 c = search (linings, not-false)
 

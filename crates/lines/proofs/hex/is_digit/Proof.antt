@@ -1,3 +1,4 @@
+-- `is_digit` meets its contract: the test of a character, computed for each octet. Assumes nothing.
 use Rattle.lines.proofs.Digits.{digit-told}
 use borrow.Author.Needs.{needs}
 use Rattle.lines.proofs.hex.is_digit.Statement.{statement}
@@ -6,15 +7,12 @@ use Rattle.lines.proofs.hex.is_digit.Reads as reads
 use Rattle.lines.proofs.hex.is_digit.Lts as lts
 use Rattle.std.proofs.num.wrapping_sub_u8.Reads as wrapping-sub-u8-reads
 
--- src/hex.rt:20:9
 wrapping-sub-u8-requires : tie.Need-wrapping-sub-u8-requires
 wrapping-sub-u8-requires c κs = search needs
 
--- src/hex.rt:21:9
 wrapping-sub-u8-requires-2 : tie.Need-wrapping-sub-u8-requires-2
 wrapping-sub-u8-requires-2 c κs = search needs
 
--- src/hex.rt:17:1
 returns : tie.Need-returns
 returns c = search (digit-told, needs)
 

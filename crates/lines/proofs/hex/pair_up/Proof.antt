@@ -1,4 +1,6 @@
-use Prim.Native.Nat.{_-_}
+-- `lines::pair_up` meets its contract: the octets so far stand at the front, one more each turn. Assumes nothing.
+use Prim.Native.Nat.{_+_, _-_, _*_}
+use native.Mathlib.Omega.{arith}
 use borrow.Author.Needs.{needs}
 use Rattle.lines.proofs.HexSteps.{Paired, paired-start, paired-turn, paired-done, digit-small}
 use Rattle.lines.proofs.hex.pair_up.Statement.{statement}
@@ -13,63 +15,54 @@ Inv-loop line out₀ n i₀ out i = Paired line out₀ out i
 abbrev μ-loop : tie.MeasureT-loop
 μ-loop line out₀ n i₀ out i = n - i
 
--- src/hex.rt:65:5
 loop-holds : tie.Need-loop-holds Inv-loop μ-loop
 loop-holds c = search paired-start
 
--- src/hex.rt:66:18
 mul-at : tie.Need-mul-at Inv-loop μ-loop
 mul-at c = search needs
 
--- src/hex.rt:67:26
 shared-slice-read-value : tie.Need-shared-slice-read-value Inv-loop μ-loop
 shared-slice-read-value c = search needs
 
--- src/hex.rt:67:13
 value-requires : tie.Need-value-requires Inv-loop μ-loop
-value-requires c κs = search (digit-small, needs)
+value-requires c κs =
+    let turn = c .before in
+    let start = turn .before .before .before .before in
+    digit-small (start .args .line .now) (2 * turn .before .loop .i) (start .pre .0) (omega (arith, turn .loop-test .taken))
 
--- src/hex.rt:68:30
 add-value : tie.Need-add-value Inv-loop μ-loop
 add-value c = search needs
 
--- src/hex.rt:68:25
 shared-slice-read-value-2 : tie.Need-shared-slice-read-value-2 Inv-loop μ-loop
 shared-slice-read-value-2 c = search needs
 
--- src/hex.rt:68:13
 value-requires-2 : tie.Need-value-requires-2 Inv-loop μ-loop
-value-requires-2 c κs = search (digit-small, needs)
+value-requires-2 c κs =
+    let turn = c .before .before .before in
+    let start = turn .before .before .before .before in
+    digit-small (start .args .line .now) (2 * turn .before .loop .i + 1) (start .pre .0) (omega (arith, turn .loop-test .taken))
 
--- src/hex.rt:69:18
 mul-out : tie.Need-mul-out Inv-loop μ-loop
 mul-out c = search needs
 
--- src/hex.rt:69:18
 add-out : tie.Need-add-out Inv-loop μ-loop
 add-out c = search needs
 
--- src/hex.rt:69:9
 slice-write-out : tie.Need-slice-write-out Inv-loop μ-loop
 slice-write-out c = search needs
 
--- src/hex.rt:70:9
 add-i : tie.Need-add-i Inv-loop μ-loop
 add-i c = search needs
 
--- src/hex.rt:65:5
 loop-less : tie.Need-loop-less Inv-loop μ-loop
 loop-less c = search needs
 
--- src/hex.rt:65:5
 loop-again : tie.Need-loop-again Inv-loop μ-loop
 loop-again c = search (paired-turn, needs)
 
--- src/hex.rt:58:1
 same-length : tie.Need-same-length Inv-loop μ-loop
 same-length c = search needs
 
--- src/hex.rt:58:1
 returns : tie.Need-returns Inv-loop μ-loop
 returns c = search paired-done
 

@@ -1,3 +1,4 @@
+-- `lines::put_octets` meets its contract: the octets so far are written, two digits more each turn. Assumes nothing.
 use borrow.Author.Needs.{needs}
 use Prim.Native.Nat.{_-_}
 use lib.ListN.{length}
@@ -16,67 +17,51 @@ Inv-loop octets out₀ at i₀ out i = Hexed octets out₀ at out i
 abbrev μ-loop : tie.MeasureT-loop
 μ-loop octets out₀ at i₀ out i = length octets - i
 
--- src/hex.rt:104:5
 loop-holds : tie.Need-loop-holds Inv-loop μ-loop
 loop-holds c = search hexed-start
 
--- src/hex.rt:105:21
 shared-slice-read-octet : tie.Need-shared-slice-read-octet Inv-loop μ-loop
 shared-slice-read-octet c = search needs
 
--- src/hex.rt:106:26
 mul-place : tie.Need-mul-place Inv-loop μ-loop
 mul-place c = search needs
 
--- src/hex.rt:106:21
 add-place : tie.Need-add-place Inv-loop μ-loop
 add-place c = search needs
 
--- src/hex.rt:107:22
 digit-for-requires : tie.Need-digit-for-requires Inv-loop μ-loop
 digit-for-requires c κs = omega (arith, c .shared-slice-known2 .given (c .before .before .loop .i))
 
--- src/hex.rt:107:9
 slice-write-out : tie.Need-slice-write-out Inv-loop μ-loop
 slice-write-out c = search needs
 
--- src/hex.rt:108:26
 digit-for-requires-2 : tie.Need-digit-for-requires-2 Inv-loop μ-loop
 digit-for-requires-2 c κs = search needs
 
--- src/hex.rt:108:13
 add-out : tie.Need-add-out Inv-loop μ-loop
 add-out c = search needs
 
--- src/hex.rt:108:9
 slice-write-out-2 : tie.Need-slice-write-out-2 Inv-loop μ-loop
 slice-write-out-2 c = simp length-set (omega arith)
 
--- src/hex.rt:109:9
 add-i : tie.Need-add-i Inv-loop μ-loop
 add-i c = search needs
 
--- src/hex.rt:104:5
 loop-less : tie.Need-loop-less Inv-loop μ-loop
 loop-less c = search needs
 
--- src/hex.rt:104:5
 loop-again : tie.Need-loop-again Inv-loop μ-loop
 loop-again c = search (hexed-turn, needs)
 
--- src/hex.rt:111:10
 mul-result : tie.Need-mul-result Inv-loop μ-loop
 mul-result c = search needs
 
--- src/hex.rt:111:5
 add-result : tie.Need-add-result Inv-loop μ-loop
 add-result c = search needs
 
--- src/hex.rt:99:1
 same-length : tie.Need-same-length Inv-loop μ-loop
 same-length c = search needs
 
--- src/hex.rt:99:1
 returns : tie.Need-returns Inv-loop μ-loop
 returns c = search hexed-done
 

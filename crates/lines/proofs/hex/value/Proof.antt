@@ -1,3 +1,4 @@
+-- `value` meets its contract: the value of a digit, computed for each octet. Assumes nothing.
 use Rattle.lines.proofs.Digits.{digit-value}
 use borrow.Author.Needs.{needs}
 use Rattle.lines.proofs.hex.value.Statement.{statement}
@@ -5,15 +6,12 @@ use Rattle.lines.proofs.hex.value.Tie as tie
 use Rattle.lines.proofs.hex.value.Reads as reads
 use Rattle.lines.proofs.hex.value.Lts as lts
 
--- src/hex.rt:30:14
 mul-result : tie.Need-mul-result
 mul-result c = search needs
 
--- src/hex.rt:30:5
 add-result : tie.Need-add-result
 add-result c = search needs
 
--- src/hex.rt:26:1
 returns : tie.Need-returns
 returns c = search (digit-value, needs)
 

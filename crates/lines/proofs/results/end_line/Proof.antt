@@ -1,3 +1,4 @@
+-- `lines::end_line` meets its contract: one character laid. Assumes nothing.
 use Rattle.lines.proofs.ResultSteps.{appends-single}
 use borrow.Author.Needs.{needs}
 use Rattle.lines.proofs.results.end_line.Statement.{statement}
@@ -5,19 +6,15 @@ use Rattle.lines.proofs.results.end_line.Tie as tie
 use Rattle.lines.proofs.results.end_line.Reads as reads
 use Rattle.lines.proofs.results.end_line.Lts as lts
 
--- src/results.rt:34:5
 slice-write-out : tie.Need-slice-write-out
 slice-write-out c = search needs
 
--- src/results.rt:35:5
 add-result : tie.Need-add-result
 add-result c = search needs
 
--- src/results.rt:30:1
 same-length : tie.Need-same-length
 same-length c = search needs
 
--- src/results.rt:30:1
 returns : tie.Need-returns
 returns c = search (appends-single, needs)
 

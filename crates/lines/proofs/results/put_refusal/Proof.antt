@@ -1,3 +1,4 @@
+-- `lines::put_refusal` meets its contract: two parts laid one after the other. Assumes nothing.
 use Rattle.lines.proofs.ResultSteps.{room-left, refusal-put}
 use native.Mathlib.Omega.{arith}
 use borrow.Author.Needs.{needs}
@@ -8,23 +9,18 @@ use Rattle.lines.proofs.results.put_refusal.Lts as lts
 use Rattle.lines.proofs.hex.put_octets.Reads as put-octets-reads
 use Rattle.lines.proofs.results.end_line.Reads as end-line-reads
 
--- src/results.rt:56:26
 slice-aggregate-put-octets : tie.Need-slice-aggregate-put-octets
 slice-aggregate-put-octets c = search needs
 
--- src/results.rt:56:9
 put-octets-requires : tie.Need-put-octets-requires
 put-octets-requires c κs = search needs
 
--- src/results.rt:57:5
 end-line-requires : tie.Need-end-line-requires
 end-line-requires c κs = room-left _ 1 (c .before .before .before .put-octets .ensures) (omega arith)
 
--- src/results.rt:50:1
 same-length : tie.Need-same-length
 same-length c = search needs
 
--- src/results.rt:50:1
 returns : tie.Need-returns
 returns c =
     let feed = c .before .before in

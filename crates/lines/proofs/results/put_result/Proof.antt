@@ -1,3 +1,4 @@
+-- `lines::put_result` meets its contract: three parts laid one after the other. Assumes nothing.
 use Rattle.lines.proofs.ResultSteps.{room-left, room-left-two, result-put}
 use native.Mathlib.Omega.{arith}
 use borrow.Author.Needs.{needs}
@@ -8,37 +9,29 @@ use Rattle.lines.proofs.results.put_result.Lts as lts
 use Rattle.lines.proofs.hex.put_octets.Reads as put-octets-reads
 use Rattle.lines.proofs.results.end_line.Reads as end-line-reads
 
--- src/results.rt:42:16
 cast-high : tie.Need-cast-high
 cast-high c = search needs
 
--- src/results.rt:43:15
 cast-low : tie.Need-cast-low
 cast-low c = search needs
 
--- src/results.rt:45:29
 slice-aggregate-put-octets : tie.Need-slice-aggregate-put-octets
 slice-aggregate-put-octets c = search needs
 
--- src/results.rt:45:9
 put-octets-requires : tie.Need-put-octets-requires
 put-octets-requires c κs = search needs
 
--- src/results.rt:46:9
 put-octets-requires-2 : tie.Need-put-octets-requires-2
 put-octets-requires-2 c κs = room-left _ _ (c .before .before .before .put-octets .ensures) (omega arith)
 
--- src/results.rt:47:5
 end-line-requires : tie.Need-end-line-requires
 end-line-requires c κs =
     let two = c .before .before .before in
     room-left-two _ _ 1 (two .before .before .before .before .put-octets .ensures) (two .put-octets2 .ensures) (omega arith)
 
--- src/results.rt:38:1
 same-length : tie.Need-same-length
 same-length c = search needs
 
--- src/results.rt:38:1
 returns : tie.Need-returns
 returns c =
     let feed = c .before .before in

@@ -1,3 +1,4 @@
+-- `lines::answer_line` meets its contract: an empty line, and any other. Assumes nothing.
 use Rattle.lines.proofs.StepLaws.{answers-empty, answers-line}
 use borrow.Author.Needs.{needs}
 use Rattle.lines.proofs.steps.answer_line.Statement.{statement}
@@ -7,29 +8,23 @@ use Rattle.lines.proofs.steps.answer_line.Lts as lts
 use Rattle.lines.proofs.steps.give_up_line.Reads as give-up-line-reads
 use Rattle.lines.proofs.steps.offer_line.Reads as offer-line-reads
 
--- src/steps.rt:189:9
 give-up-line-requires : tie.Need-give-up-line-requires
 give-up-line-requires c κs = search needs
 
--- src/steps.rt:189:9
 same-length : tie.Need-same-length
 same-length c = search needs
 
--- src/steps.rt:189:9
 returns : tie.Need-returns
 returns c =
     let gave = c .before .before in
     answers-empty _ _ (gave .before .before .before .before .if1 .taken) (gave .give-up-line .ensures)
 
--- src/steps.rt:191:5
 offer-line-requires : tie.Need-offer-line-requires
 offer-line-requires c κs = search needs
 
--- src/steps.rt:176:1
 same-length-2 : tie.Need-same-length-2
 same-length-2 c = search needs
 
--- src/steps.rt:176:1
 returns-2 : tie.Need-returns-2
 returns-2 c =
     let offer = c .before .before in

@@ -1,3 +1,4 @@
+-- `lines::give_up_line` meets its contract: one law for each answer of give up. Assumes nothing.
 use Rattle.lines.proofs.Stepping.{gave-up, gave-up-refused}
 use borrow.Author.Needs.{needs}
 use Rattle.lines.proofs.steps.give_up_line.Statement.{statement}
@@ -8,45 +9,35 @@ use Rattle.lines.proofs.results.put_refusal.Reads as put-refusal-reads
 use Rattle.lines.proofs.results.put_result.Reads as put-result-reads
 use Rattle.releasing.proofs.give_up_core.Reads as give-up-core-reads
 
--- src/steps.rt:111:9
 give-up-core-requires : tie.Need-give-up-core-requires
 give-up-core-requires c κs = search needs
 
--- src/steps.rt:115:22
 enum-known-answer : tie.Need-enum-known-answer
 enum-known-answer c = search needs
 
--- src/steps.rt:116:54
 slice-aggregate-put-result : tie.Need-slice-aggregate-put-result
 slice-aggregate-put-result c = search needs
 
--- src/steps.rt:116:17
 put-result-requires : tie.Need-put-result-requires
 put-result-requires c κs = search needs
 
--- src/steps.rt:119:23
 enum-known-answer-2 : tie.Need-enum-known-answer-2
 enum-known-answer-2 c = search needs
 
--- src/steps.rt:120:17
 put-refusal-requires : tie.Need-put-refusal-requires
 put-refusal-requires c κs = search needs
 
--- src/steps.rt:100:1
 same-length : tie.Need-same-length
 same-length c = search needs
 
--- src/steps.rt:100:1
 returns : tie.Need-returns
 returns c =
     let told = c .before .before .before .before .before in
     gave-up (told .before .before .before .before .give-up-core .ensures) (told .before .answer .given .1) (c .before .before .put-result .ensures)
 
--- src/steps.rt:100:1
 same-length-2 : tie.Need-same-length-2
 same-length-2 c = search needs
 
--- src/steps.rt:100:1
 returns-2 : tie.Need-returns-2
 returns-2 c =
     let told = c .before .before .before .before in

@@ -1,3 +1,4 @@
+-- `lines::offer_line` meets its contract: the line's octets are offered, or its refusal is written. Assumes nothing.
 use native.Mathlib.Omega.{arith}
 use Rattle.lines.proofs.Offering.{line-inside, line-length, line-offered, line-refused}
 use borrow.Author.Needs.{needs}
@@ -9,58 +10,46 @@ use Rattle.lines.proofs.hex.hex_to_octets.Reads as hex-to-octets-reads
 use Rattle.lines.proofs.results.put_refusal.Reads as put-refusal-reads
 use Rattle.lines.proofs.steps.offer_octets.Reads as offer-octets-reads
 
--- src/steps.rt:165:36
 slice-aggregate-hex-to-octets : tie.Need-slice-aggregate-hex-to-octets
 slice-aggregate-hex-to-octets c = search needs
 
--- src/steps.rt:165:9
 hex-to-octets-requires : tie.Need-hex-to-octets-requires
 hex-to-octets-requires c κs = search needs
 
--- src/steps.rt:167:25
 enum-known-read : tie.Need-enum-known-read
 enum-known-read c = search needs
 
--- src/steps.rt:167:56
 array-share-prefix-work : tie.Need-array-share-prefix-work
 array-share-prefix-work c =
     let told = c .before .before .before in
     line-inside _ (omega arith) (told .before .before .before .hex-to-octets .ensures) (told .read .given .1)
 
--- src/steps.rt:167:56
 slice-aggregate-offer-octets : tie.Need-slice-aggregate-offer-octets
 slice-aggregate-offer-octets c =
     let told = c .before .before .before .before in
     line-length _ (omega arith) (told .before .before .before .hex-to-octets .ensures) (told .read .given .1)
 
--- src/steps.rt:167:34
 offer-octets-requires : tie.Need-offer-octets-requires
 offer-octets-requires c κs = search needs
 
--- src/steps.rt:168:26
 enum-known-read-2 : tie.Need-enum-known-read-2
 enum-known-read-2 c = search needs
 
--- src/steps.rt:169:17
 put-refusal-requires : tie.Need-put-refusal-requires
 put-refusal-requires c κs = search needs
 
--- src/steps.rt:153:1
 same-length : tie.Need-same-length
 same-length c = search needs
 
--- src/steps.rt:153:1
 returns : tie.Need-returns
 returns c =
     let offer = c .before .before in
     let told = offer .before .before .before .before .before .before in
     line-offered _ (omega arith) (told .before .before .before .hex-to-octets .ensures) _ (told .read .given .1) (offer .offer-octets .ensures)
 
--- src/steps.rt:153:1
 same-length-2 : tie.Need-same-length-2
 same-length-2 c = search needs
 
--- src/steps.rt:153:1
 returns-2 : tie.Need-returns-2
 returns-2 c =
     let put = c .before .before in

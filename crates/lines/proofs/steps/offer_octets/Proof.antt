@@ -1,3 +1,4 @@
+-- `lines::offer_octets` meets its contract: one law for each answer of offer. Assumes nothing.
 use native.Mathlib.Omega.{arith}
 use Rattle.lines.proofs.Offering.{offer-taken, offer-not-taken}
 use borrow.Author.Needs.{needs}
@@ -8,32 +9,25 @@ use Rattle.lines.proofs.steps.offer_octets.Lts as lts
 use Rattle.lines.proofs.results.put_refusal.Reads as put-refusal-reads
 use Rattle.receiving.proofs.offer_core.Reads as offer-core-reads
 
--- src/steps.rt:140:9
 offer-core-requires : tie.Need-offer-core-requires
 offer-core-requires c κs = search needs
 
--- src/steps.rt:144:30
 enum-told : tie.Need-enum-told
 enum-told c = search needs
 
--- src/steps.rt:145:26
 enum-known-answer : tie.Need-enum-known-answer
 enum-known-answer c = search needs
 
--- src/steps.rt:146:17
 put-refusal-requires : tie.Need-put-refusal-requires
 put-refusal-requires c κs = search needs
 
--- src/steps.rt:128:1
 returns : tie.Need-returns
 returns c =
     offer-taken (c .before .before .before .offer-core .ensures) (c .enum-told .given .1) (omega arith)
 
--- src/steps.rt:128:1
 same-length : tie.Need-same-length
 same-length c = search needs
 
--- src/steps.rt:128:1
 returns-2 : tie.Need-returns-2
 returns-2 c =
     let put = c .before .before in

@@ -1,3 +1,4 @@
+-- `lines::release` meets its contract: one law for each answer of next. Assumes nothing.
 use mathlib.Core.Path.{refl}
 use native.Mathlib.Omega.{arith}
 use Rattle.lines.proofs.Stepping.{packet-inside, packet-length, packet-room, released-one, released-none}
@@ -10,39 +11,31 @@ use Rattle.lines.proofs.results.kind_octet.Reads as kind-octet-reads
 use Rattle.lines.proofs.results.put_result.Reads as put-result-reads
 use Rattle.releasing.proofs.next_core.Reads as next-core-reads
 
--- src/steps.rt:52:46
 slice-aggregate-next-core : tie.Need-slice-aggregate-next-core
 slice-aggregate-next-core c = search needs
 
--- src/steps.rt:52:9
 next-core-requires : tie.Need-next-core-requires
 next-core-requires c κs = search needs
 
--- src/steps.rt:56:33
 enum-told : tie.Need-enum-told
 enum-told c = search needs
 
--- src/steps.rt:61:28
 enum-known-answer : tie.Need-enum-known-answer
 enum-known-answer c = search needs
 
--- src/steps.rt:62:17
 kind-octet-requires : tie.Need-kind-octet-requires
 kind-octet-requires c κs = search needs
 
--- src/steps.rt:63:49
 array-share-prefix-packet : tie.Need-array-share-prefix-packet
 array-share-prefix-packet c =
     let told = c .before .before in
     packet-inside (told .before .before .before .before .next-core .ensures) refl (told .answer .given .1)
 
--- src/steps.rt:63:49
 slice-aggregate-put-result : tie.Need-slice-aggregate-put-result
 slice-aggregate-put-result c =
     let told = c .before .before .before in
     packet-length (told .before .before .before .before .next-core .ensures) refl (told .answer .given .1)
 
--- src/steps.rt:63:17
 put-result-requires : tie.Need-put-result-requires
 put-result-requires c κs =
     let told = c .before .before .before .before in
@@ -50,18 +43,15 @@ put-result-requires c κs =
     let start = next .before .before .before .before .before in
     packet-room (next .next-core .ensures) refl (start .args .at) (start .args .out .now) (told .answer .given .1) (start .pre .room)
 
--- src/steps.rt:41:1
 returns : tie.Need-returns
 returns c =
     let next = c .before .before .before .before in
     let start = next .before .before .before .before .before in
     released-none (next .next-core .ensures) refl (c .enum-told .given .1) (omega (arith, start .pre .room))
 
--- src/steps.rt:41:1
 same-length : tie.Need-same-length
 same-length c = search needs
 
--- src/steps.rt:41:1
 returns-2 : tie.Need-returns-2
 returns-2 c =
     let put = c .before .before in

@@ -1,3 +1,4 @@
+-- `lines::releases` meets its contract: what was written so far, then as many releases as are left, are all releases. Assumes nothing.
 use borrow.Author.Needs.{needs}
 use borrow.Author.Tests.{not-true, not-false}
 use Rattle.heads.specs.Head.{viewIn}
@@ -14,47 +15,38 @@ Inv-loop o₀ g₀ out₀ at head₀ end₀ left₀ o g out head end left = Left
 abbrev μ-loop : tie.MeasureT-loop
 μ-loop o₀ g₀ out₀ at head₀ end₀ left₀ o g out head end left = left
 
--- src/steps.rt:87:5
 loop-holds : tie.Need-loop-holds Inv-loop μ-loop
 loop-holds c = left-start (c .before .pre)
 
--- src/steps.rt:88:13
 release-requires : tie.Need-release-requires Inv-loop μ-loop
 release-requires c κs =
     let test = c .before .before .before in
     left-ready (test .before .loop .inv) (test .loop-test .taken)
 
--- src/steps.rt:93:13
 same-length : tie.Need-same-length Inv-loop μ-loop
 same-length c = search needs
 
--- src/steps.rt:93:13
 returns : tie.Need-returns Inv-loop μ-loop
 returns c =
     let made = c .before .before .before .before .before in
     let test = made .before .before .before .before in
     left-stop (test .before .loop .inv) (test .loop-test .taken) (made .release .ensures) (not-true _ (c .if1 .taken))
 
--- src/steps.rt:95:9
 sub-left : tie.Need-sub-left Inv-loop μ-loop
 sub-left c = search needs
 
--- src/steps.rt:87:5
 loop-less : tie.Need-loop-less Inv-loop μ-loop
 loop-less c = search needs
 
--- src/steps.rt:87:5
 loop-again : tie.Need-loop-again Inv-loop μ-loop
 loop-again c =
     let made = c .before .before .before .before .before in
     let test = made .before .before .before .before in
     left-turn (test .before .loop .inv) (test .loop-test .taken) (made .release .ensures) (not-false _ (c .if1 .left))
 
--- src/steps.rt:74:1
 same-length-2 : tie.Need-same-length-2 Inv-loop μ-loop
 same-length-2 c = search needs
 
--- src/steps.rt:74:1
 returns-2 : tie.Need-returns-2 Inv-loop μ-loop
 returns-2 c = left-done (c .before .loop .inv) (c .loop-test .left)
 

@@ -1,3 +1,4 @@
+-- `lines::step` meets its contract: the line's answer, then the releases. Assumes nothing.
 use Rattle.lines.proofs.StepLaws.{step-ready, step-made}
 use borrow.Author.Needs.{needs}
 use Rattle.lines.proofs.steps.step.Statement.{statement}
@@ -7,21 +8,17 @@ use Rattle.lines.proofs.steps.step.Lts as lts
 use Rattle.lines.proofs.steps.answer_line.Reads as answer-line-reads
 use Rattle.lines.proofs.steps.releases.Reads as releases-reads
 
--- src/steps.rt:205:9
 answer-line-requires : tie.Need-answer-line-requires
 answer-line-requires c κs = search needs
 
--- src/steps.rt:208:5
 releases-requires : tie.Need-releases-requires
 releases-requires c κs =
     let answer = c .before .before .before .before .before .before in
     step-ready _ _ (answer .answer-line .ensures) (answer .before .before .before .before .before .before .pre .room)
 
--- src/steps.rt:194:1
 same-length : tie.Need-same-length
 same-length c = search needs
 
--- src/steps.rt:194:1
 returns : tie.Need-returns
 returns c =
     let release = c .before .before in

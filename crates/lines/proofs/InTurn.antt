@@ -1,0 +1,79 @@
+-- Block after block, each with the lent buffer from its start, then the end of the input: all that is written is what the
+-- program writes. Assumes nothing.
+use Prim.Native.Nat.{ℕ}
+use mathlib.Core.Path.{_≡_, refl, sym, ap, _∙_}
+use mathlib.Core.Bool.{Bool, true, false, cond}
+use mathlib.Core.List.{List, [], _∷_, _++_, append-assoc, append-nil}
+use lib.ListN.{length, take}
+use lib.Dec.{eqb}
+use Rattle.views.specs.View.{View}
+use Rattle.heads.specs.Head.{viewIn}
+use Rattle.heads.specs.Promise.{Fresh}
+use Rattle.heads.specs.declared.Head.{Head}
+use Rattle.heads.specs.declared.Session.{Session}
+use Rattle.lines.specs.Lines.{lineFeed, step, program}
+use Rattle.lines.specs.Feed.{Going, atStart, lineDone, longer, takenIn, fed, atEnd, goingIn, PartWay}
+use Rattle.lines.specs.FeedPromise.{Feeds, Ends}
+use Rattle.lines.specs.Claims.{InTurn}
+use Rattle.lines.proofs.Feeding.{fed-append, program-fed}
+
+-- ---- some text written before
+abbrev after : List ℕ → Going → Going
+after text now = record { text = text ++ now .text; view = now .view; begun = now .begun }
+
+cond-after : (b : Bool) (text : List ℕ) (x y : Going) {u v : Going} → u ≡ after text x → v ≡ after text y → cond b u v ≡ after text (cond b x y)
+cond-after true text x y first second = first
+cond-after false text x y first second = second
+
+done-after : (text : List ℕ) (now : Going) → lineDone (after text now) ≡ after text (lineDone now)
+unfolding lineDone
+done-after text now =
+    let made = step (now .begun) (now .view) in
+    ap (λ (t : List ℕ). record { text = t; view = made .after; begun = [] }) (append-assoc text (now .text) (made .text))
+
+fed-after : (s text : List ℕ) (now : Going) → fed s (after text now) ≡ after text (fed s now)
+unfolding fed takenIn
+fed-after [] text now = refl
+fed-after (c ∷ s) text now =
+    ap (fed s)
+    (cond-after (eqb c lineFeed) text (lineDone now) (record { text = now .text; view = now .view; begun = longer c (now .begun) })
+    (done-after text now) refl)
+    ∙ fed-after s text (takenIn c now)
+
+end-after : (text : List ℕ) (now : Going) → atEnd (after text now) ≡ after text (atEnd now)
+unfolding atEnd
+end-after text now = cond-after (eqb (length (now .begun)) 0) text now (lineDone now) refl (done-after text now)
+
+-- ---- the calls
+-- with the lent buffer from its start
+from-start : {input text : List ℕ} {h : Head} {o g l : List ℕ} {begun : ℕ} (out : List ℕ) → PartWay input text h o g l begun
+    → fed input atStart ≡ after text (goingIn h o g l begun out 0)
+from-start {input} {text} {h} {o} {g} {l} {begun} out p =
+    p .state ∙ ap (λ (t : List ℕ). record { text = t; view = viewIn h o g; begun = take begun l }) (sym (append-nil text))
+
+start : {r : Session} (line : List ℕ) → Fresh r → PartWay [] [] (r .head) (r .octets) (r .messages) line 0
+unfolding fed
+start line f = record { state = ap (λ (v : View). record { text = []; view = v; begun = [] }) (sym (f .view)) }
+
+block : {input text : List ℕ} {h : Head} {o g l : List ℕ} {begun : ℕ} {s out : List ℕ} {k : Head} {p q m : List ℕ} {kept taken : ℕ}
+    {new : List ℕ} {end : ℕ} → PartWay input text h o g l begun → Feeds (goingIn h o g l begun out 0) s out k p q m kept taken new end
+    → PartWay (input ++ take taken s) (text ++ take end new) k p q m kept
+block {input} {text} {h} {o} {g} {l} {begun} {s} {out} {k} {p} {q} {m} {kept} {taken} way f =
+    record {
+      state =
+          fed-append input (take taken s) atStart
+          ∙ ap (fed (take taken s)) (from-start out way)
+          ∙ fed-after (take taken s) text (goingIn h o g l begun out 0)
+          ∙ ap (after text) (sym (f .takes .state));
+    }
+
+finish : {input text : List ℕ} {h : Head} {o g l : List ℕ} {begun : ℕ} {out : List ℕ} {k : Head} {p q new : List ℕ} {end : ℕ}
+    → PartWay input text h o g l begun → Ends (goingIn h o g l begun out 0) out k p q new end → program input ≡ text ++ take end new
+finish {input} {text} {h} {o} {g} {l} {begun} {out} way f =
+    program-fed input
+    ∙ ap (λ (now : Going). (atEnd now) .text) (from-start out way)
+    ∙ ap (λ (now : Going). now .text) (end-after text (goingIn h o g l begun out 0))
+    ∙ ap (λ (now : Going). text ++ now .text) (sym (f .state))
+
+pub in-turn : InTurn
+in-turn = record { start = start; block = block; finish = finish }
