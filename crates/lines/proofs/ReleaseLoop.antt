@@ -1,20 +1,24 @@
 -- The loop that releases all it can: what was written so far, then as many releases as are left, are all releases.
 -- Assumes nothing.
-use Prim.Native.Nat.{ℕ, zero, suc, _+_, _-_, _*_, _≤_, _<_}
+use Prim.Native.Nat.{ℕ, zero, suc, _+_, _-_, _*_, _%_, _≤_, _<_}
 use mathlib.Core.Path.{_≡_, refl, sym, ap, _∙_}
-use mathlib.Core.Bool.{Bool, true, false, false≢true}
+use mathlib.Core.Bool.{Bool, true, false, false≢true, cond}
 use mathlib.Core.List.{List, [], _++_, append-assoc, append-nil}
 use lib.ListN.{length}
+use lib.Dec.{leb}
 use native.Mathlib.Nat.{not-suc-le-zero}
 use native.Mathlib.Omega.{arith}
 use Rattle.lengths.specs.Answers.{Answer, done, refused}
+use Rattle.lengths.specs.declared.Refusal.{Refusal}
 use Rattle.datagrams.specs.Sizes.{packetLimit}
-use Rattle.views.specs.View.{View}
+use Rattle.repair.specs.Cells.{isUnknown, unknownAt, keptBefore}
+use Rattle.views.specs.View.{View, sum, sessionLimit}
 use Rattle.views.specs.Release.{Release, next}
-use Rattle.heads.specs.Head.{viewIn}
+use Rattle.heads.specs.Head.{viewIn, slotAt, slotsKept, keptIn, stateOf}
 use Rattle.heads.specs.Within.{Within}
 use Rattle.heads.specs.declared.Head.{Head}
-use Rattle.lines.specs.Lines.{Made, _then_, released, onward, releasesF, releases}
+use Rattle.heads.proofs.Seen.{unknown-at}
+use Rattle.lines.specs.Lines.{Made, silent, _then_, released, onward, releasesF, releases}
 use Rattle.lines.specs.Promise.{Appends, Does, Able, Releases, goesOn, resultLimit, releasesLimit}
 use Rattle.lines.proofs.Appending.{appends-none, appends-then, appends-long}
 
@@ -33,6 +37,19 @@ one-of zero view some = absurd (not-suc-le-zero some)
 one-of (suc left) view some =
     let e : suc left - 1 ≡ left = omega arith in
     ap (λ (k : ℕ). onward (next packetLimit view) (releasesF k) view) (sym e)
+
+-- an unknown base is not released
+refused-both : (b : Bool) (x y : Refusal) → goesOn (cond b (refused x) (refused y)) ≡ false
+refused-both true x y = refl
+refused-both false x y = refl
+
+unknown-stops : (view : View) → unknownAt (view .cells) keptBefore ≡ true → goesOn (next packetLimit view) ≡ false
+unfolding next
+unknown-stops view unknown = rw unknown (refused-both (leb sessionLimit (sum (view .counts))) _ _)
+
+stops-silent : (x : Answer Release) (view : View) → goesOn x ≡ false → released x view ≡ silent view
+stops-silent (done r) view e = absurd (false≢true (sym e))
+stops-silent (refused x) view e = refl
 
 -- ---- the loop
 -- so many releases are left
@@ -74,6 +91,23 @@ module _ {start : View} {old : List ℕ} {at : ℕ} {h : Head} {o g out : List �
           state = rw all refl;
           within = l .within;
         }
+
+    -- the base is unknown: all was released
+    pub left-unknown : 0 < left → {slot : ℕ} {was : Bool} → slot ≡ h .base % slotsKept
+        → was ≡ isUnknown (stateOf ((keptIn h slot) .state)) → was ≡ true → Does (releases start) old at h end o g out
+    unfolding viewIn
+    left-unknown some {slot} {was} e-slot e-was is =
+        let v = viewIn h o g in
+        let place : slot ≡ slotAt (h .base) keptBefore = omega arith in
+        let at-base : isUnknown (stateOf ((keptIn h (slotAt (h .base) keptBefore)) .state)) ≡ true = rw place at (sym e-was ∙ is) in
+        let stops = unknown-stops v (unknown-at h o keptBefore (omega arith) ∙ at-base) in
+        let step : releasesF left v ≡ silent v =
+        one-of left v some
+        ∙ onward-stops (next packetLimit v) (releasesF (left - 1)) v (sym stops)
+        ∙ stops-silent (next packetLimit v) v stops in
+        let all : releases start ≡ record { text = l .text ++ []; after = v } =
+        l .whole ∙ ap (λ (m : Made). record { text = l .text ++ m .text; after = m .after }) step in
+        record { lent = rw (all, append-nil (l .text)) (l .laid); state = rw all refl; within = l .within }
 
     module _ (some : 0 < left) {k : Head} {later : ℕ} {more : Bool} {newO newG new : List ℕ}
         (r : Releases (viewIn h o g) out end k later more newO newG new) where

@@ -68,7 +68,8 @@ fn release(
     }
 }
 
-// "releases all it can": after as many releases as there are numbers from the base on, the base is unknown.
+// "releases all it can": after as many releases as there are numbers from the base on, the base is unknown. An unknown base
+// is seen before the head goes into a call.
 fn releases(
     h: Head,
     o: &mut [u8; Session::PACKET_OCTETS],
@@ -83,6 +84,12 @@ fn releases(
     let mut end = at;
     let mut left = Session::HEARD;
     while left > 0 {
+        let slot = receiving::slot_of(head.base);
+        let kept = head.kept[slot];
+        let state = kept.state;
+        if heads::is_unknown(state) {
+            return Stepped { head, end };
+        }
         let turn = release(head, o, g, out, end);
         let next = turn.head;
         head = next;

@@ -37,7 +37,7 @@ pub struct OfferDone {
 }
 
 // The slot of a number.
-fn slot_of(number: u16) -> usize
+pub fn slot_of(number: u16) -> usize
     ensures { λ r. ⌜ r ≡ number % slotsKept ⌝ }
 {
     (number % 64) as usize
