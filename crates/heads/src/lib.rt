@@ -5,8 +5,11 @@ mod laid;
 
 use datagrams::Packet;
 use datagrams::Parity;
+pub use laid::heard_slot;
 pub use laid::is_unknown;
+pub use laid::kept_slot;
 pub use laid::place;
+pub use laid::total;
 ghost use mathlib.Core.Path.{_≡_};
 ghost use Rattle.views.specs.View.{sessionLimit};
 ghost use Rattle.heads.specs.Head.{slotsKept, slotsHeard, packetOctets, messageOctets};

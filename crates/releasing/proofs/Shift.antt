@@ -1,32 +1,15 @@
--- The view after the base went on by one is the view before, one place further: of lists given by place, of slots, and of
--- which numbers before the base are blank. Assumes nothing.
-use Prim.Native.Nat.{ℕ, zero, suc, _+_, _-_, _≤_, _<_}
-use mathlib.Core.Path.{_≡_, refl, ap, ap₂, _∙_}
-use mathlib.Core.List.{List, [], _∷_, _++_}
+-- The view after the base went on by one is the view before, one place further: of slots, and of which numbers before the
+-- base are blank. Assumes nothing.
+use Prim.Native.Nat.{ℕ, suc, _+_, _-_, _≤_, _<_}
+use mathlib.Core.Path.{_≡_}
 use mathlib.Core.Logic.{⊎-elim}
-use lib.ListN.{drop}
 use native.Mathlib.Omega.{arith}
 use borrow.Author.Tests.{lt-ltb, le-ltb}
-use Rattle.octets.specs.Place.{tab}
-use Rattle.octets.proofs.Place.{tab-ext}
 use Rattle.octets.proofs.Cases.{below-or-not}
 use Rattle.repair.specs.Cells.{keptBefore}
 use Rattle.views.specs.View.{following, numbers}
 use Rattle.heads.specs.Head.{slotAt, heardSlotAt}
 use Rattle.heads.specs.Ranges.{blankAt}
-
--- ---- lists given by place
-tab-last : {A : Type 0} (n : ℕ) (f : ℕ → A) → tab (suc n) f ≡ tab n f ++ (f n ∷ [])
-unfolding tab
-tab-last zero f = refl
-tab-last (suc n) f = ap (λ (t : List _). f zero ∷ t) (tab-last n (λ k. f (suc k)))
-
--- one place further: all but the first, and a last one
-pub tab-shift : {A : Type 0} (n : ℕ) (f g : ℕ → A) (last : A) → ((k : ℕ) → k < n → f k ≡ g (suc k)) → f n ≡ last
-    → tab (suc n) f ≡ drop 1 (tab (suc n) g) ++ (last ∷ [])
-unfolding tab
-tab-shift n f g last same end =
-    tab-last n f ∙ ap₂ (λ (l : List _) (a : _). l ++ (a ∷ [])) (tab-ext n f (λ k. g (suc k)) same) end
 
 -- ---- slots: 64 and 32 divide 65,536
 pub slot-after : (b p : ℕ) → b < numbers → slotAt (following b) p ≡ slotAt b (suc p)

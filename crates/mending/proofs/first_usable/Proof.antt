@@ -15,46 +15,36 @@ Inv-loop h flags distance₀ distance = Searched h distance
 abbrev μ-loop : tie.MeasureT-loop
 μ-loop h flags distance₀ distance = keptAhead - distance
 
--- src/lib.rt:188:17
 unknown-slots-requires : tie.Need-unknown-slots-requires Inv-loop μ-loop
 unknown-slots-requires c κs = search needs
 
--- src/lib.rt:190:5
 loop-holds : tie.Need-loop-holds Inv-loop μ-loop
 loop-holds c = search searched-start
 
--- src/lib.rt:191:38
 slice-aggregate-lowest-usable : tie.Need-slice-aggregate-lowest-usable Inv-loop μ-loop
 slice-aggregate-lowest-usable c = search needs
 
--- src/lib.rt:191:13
 lowest-usable-requires : tie.Need-lowest-usable-requires Inv-loop μ-loop
 lowest-usable-requires c κs = search needs
 
--- src/lib.rt:192:34
 enum-known-found : tie.Need-enum-known-found Inv-loop μ-loop
 enum-known-found c = search needs
 
--- src/lib.rt:193:13
 returns : tie.Need-returns Inv-loop μ-loop
 returns c = search searched-hit
 
 enum-told : tie.Need-enum-told Inv-loop μ-loop
 enum-told c = search needs
 
--- src/lib.rt:199:9
 add-distance : tie.Need-add-distance Inv-loop μ-loop
 add-distance c = search needs
 
--- src/lib.rt:190:5
 loop-less : tie.Need-loop-less Inv-loop μ-loop
 loop-less c = search needs
 
--- src/lib.rt:190:5
 loop-again : tie.Need-loop-again Inv-loop μ-loop
 loop-again c = search searched-turn
 
--- src/lib.rt:184:1
 returns-2 : tie.Need-returns-2 Inv-loop μ-loop
 returns-2 c = search searched-done
 

@@ -10,7 +10,7 @@ use Rattle.mending.proofs.find_back.Reads as find-back-reads
 use Rattle.mending.proofs.missing.Reads as missing-reads
 use Rattle.mending.proofs.number.Reads as number-reads
 use Rattle.mending.proofs.wide.Reads as wide-reads
-use Rattle.mending.proofs.wide16.Reads as wide16-reads
+use Rattle.heads.proofs.heard_slot.Reads as heard-slot-reads
 use Rattle.std.proofs.num.wrapping_add_u16.Reads as wrapping-add-u16-reads
 
 abbrev Inv-loop : tie.InvT-loop
@@ -19,84 +19,65 @@ Inv-loop flags distance h base at slot n m i₀ i = NoneBelow h distance i
 abbrev μ-loop : tie.MeasureT-loop
 μ-loop flags distance h base at slot n m i₀ i = m - i
 
--- src/lib.rt:159:9
 wrapping-add-u16-requires : tie.Need-wrapping-add-u16-requires Inv-loop μ-loop
 wrapping-add-u16-requires c κs = search needs
 
--- src/lib.rt:160:9
-wide16-requires : tie.Need-wide16-requires Inv-loop μ-loop
-wide16-requires c κs = search needs
+heard-slot-requires : tie.Need-heard-slot-requires Inv-loop μ-loop
+heard-slot-requires c κs = search needs
 
--- src/lib.rt:161:17
 mul-heard : tie.Need-mul-heard Inv-loop μ-loop
 mul-heard c = search needs
 
--- src/lib.rt:161:17
 element-copy-out-heard : tie.Need-element-copy-out-heard Inv-loop μ-loop
 element-copy-out-heard c = search needs
 
--- src/lib.rt:162:9
 wide-requires : tie.Need-wide-requires Inv-loop μ-loop
 wide-requires c κs = search needs
 
--- src/lib.rt:163:9
 number-requires : tie.Need-number-requires Inv-loop μ-loop
 number-requires c κs = search needs
 
--- src/lib.rt:165:5
 loop-holds : tie.Need-loop-holds Inv-loop μ-loop
 loop-holds c = search below-start
 
--- src/lib.rt:166:13
-wide16-requires-2 : tie.Need-wide16-requires-2 Inv-loop μ-loop
-wide16-requires-2 c κs = search needs
+wide-requires-2 : tie.Need-wide-requires-2 Inv-loop μ-loop
+wide-requires-2 c κs = search needs
 
--- src/lib.rt:167:21
 mul-place : tie.Need-mul-place Inv-loop μ-loop
 mul-place c = search needs
 
--- src/lib.rt:167:21
 add-place : tie.Need-add-place Inv-loop μ-loop
 add-place c = search needs
 
--- src/lib.rt:168:20
 mul-size : tie.Need-mul-size Inv-loop μ-loop
 mul-size c = search needs
 
--- src/lib.rt:168:20
 element-copy-out-size : tie.Need-element-copy-out-size Inv-loop μ-loop
 element-copy-out-size c =
     let scan = c .before .before .before in
     let start = scan .before .before .before .before .before .before in
-    omega (arith, start .pre .0 .messages (scan .before .before .before .wide16 .result) (omega arith))
+    omega (arith, start .pre .0 .messages (scan .before .before .before .heard-slot .result) (omega arith))
 
--- src/lib.rt:169:13
 wrapping-add-u16-requires-2 : tie.Need-wrapping-add-u16-requires-2 Inv-loop μ-loop
 wrapping-add-u16-requires-2 c κs = search needs
 
--- src/lib.rt:170:13
 missing-requires : tie.Need-missing-requires Inv-loop μ-loop
 missing-requires c κs =
     let start = c .before .before .before .before .before .before .before .before .before .before .before in
     (start .pre .1 .0 .long, (flags-small (start .pre .1 .0), omega arith))
 
--- src/lib.rt:172:17
 find-back-requires : tie.Need-find-back-requires Inv-loop μ-loop
 find-back-requires c κs = search needs
 
--- src/lib.rt:173:13
 returns : tie.Need-returns Inv-loop μ-loop
 returns c = search lowest-hit
 
--- src/lib.rt:178:9
 add-i : tie.Need-add-i Inv-loop μ-loop
 add-i c = search needs
 
--- src/lib.rt:165:5
 loop-less : tie.Need-loop-less Inv-loop μ-loop
 loop-less c = search needs
 
--- src/lib.rt:165:5
 loop-again : tie.Need-loop-again Inv-loop μ-loop
 loop-again c =
     let sum = c .before .before in
@@ -106,15 +87,14 @@ loop-again c =
     let start = place .before .before .before in
     below-turn (turn .before .loop .inv) (turn .loop-test .taken) (start .pre .1 .0) (start .pre .1 .1)
     (place .before .wrapping-add-u16 .ensures)
-    (place .wide16 .ensures)
+    (place .heard-slot .ensures)
     (scan .before .wide .ensures .same)
     (scan .number .ensures)
-    (sum .before .before .wide162 .ensures)
+    (sum .before .before .wide2 .ensures)
     (sum .wrapping-add-u162 .ensures)
     (c .before .missing .ensures)
     (c .if1 .left)
 
--- src/lib.rt:152:1
 returns-2 : tie.Need-returns-2 Inv-loop μ-loop
 returns-2 c = search lowest-none
 
@@ -125,13 +105,13 @@ lowest-usable-spec =
     Inv-loop
     μ-loop
     wrapping-add-u16-requires
-    wide16-requires
+    heard-slot-requires
     mul-heard
     element-copy-out-heard
     wide-requires
     number-requires
     loop-holds
-    wide16-requires-2
+    wide-requires-2
     mul-place
     add-place
     mul-size

@@ -20,45 +20,36 @@ Inv-loop o₀ s number count items next₀ at₀ j₀ o next at j = Sparing s nu
 abbrev μ-loop : tie.MeasureT-loop
 μ-loop o₀ s number count items next₀ at₀ j₀ o next at j = count - j
 
--- src/lib.rt:64:5
 loop-holds : tie.Need-loop-holds Inv-loop μ-loop
 loop-holds c = search sparing-start
 
--- src/lib.rt:65:13
 wrapping-sub-u16-requires : tie.Need-wrapping-sub-u16-requires Inv-loop μ-loop
 wrapping-sub-u16-requires c κs = search needs
 
--- src/lib.rt:67:20
 mul-part : tie.Need-mul-part Inv-loop μ-loop
 mul-part c = search needs
 
--- src/lib.rt:67:20
 array-copy-out-part : tie.Need-array-copy-out-part Inv-loop μ-loop
 array-copy-out-part c = search needs
 
--- src/lib.rt:69:19
 add-end : tie.Need-add-end Inv-loop μ-loop
 add-end c =
     let turn = c .before .before .before in
     let start = turn .before .before .before .before in
     omega (arith, start .pre .1 .1 .1 (turn .before .loop .j) (turn .loop-test .taken) .inside)
 
--- src/lib.rt:70:56
 sub-keep : tie.Need-sub-keep Inv-loop μ-loop
 sub-keep c = search needs
 
--- src/lib.rt:70:56
 part-keep-start : tie.Need-part-keep-start Inv-loop μ-loop
 part-keep-start c = search needs
 
--- src/lib.rt:70:56
 part-keep-end : tie.Need-part-keep-end Inv-loop μ-loop
 part-keep-end c =
     let turn = c .before .before .before .before in
     let start = turn .before .before .before .before in
     omega (arith, start .pre .1 .1 .1 (turn .before .loop .j) (turn .loop-test .taken) .inside)
 
--- src/lib.rt:70:13
 keep-requires : tie.Need-keep-requires Inv-loop μ-loop
 keep-requires c κs =
     let turn = c .before .before .before .before .before in
@@ -67,15 +58,12 @@ keep-requires c κs =
     let long = cut-long (now (start .args .s)) (getD (start .args .t5) (turn .before .loop .j) nowhere .start) (getD (start .args .t5) (turn .before .loop .j) nowhere .size) (inside .inside) in
     (turn .before .loop .inv .long, (omega (arith, long, inside .low), (omega (arith, long, inside .high), refl)))
 
--- src/lib.rt:72:9
 add-j : tie.Need-add-j Inv-loop μ-loop
 add-j c = search needs
 
--- src/lib.rt:64:5
 loop-less : tie.Need-loop-less Inv-loop μ-loop
 loop-less c = search needs
 
--- src/lib.rt:64:5
 loop-again : tie.Need-loop-again Inv-loop μ-loop
 loop-again c =
     let keep = c .before .before in
@@ -85,11 +73,9 @@ loop-again c =
     let small : part .before .wrapping-sub-u16 .result < 65536 = omega arith in
     sparing-turn (turn .before .loop .inv) (turn .loop-test .taken) (start .pre .1 .1 .0) small (part .before .wrapping-sub-u16 .ensures) refl (keep .keep .ensures) (search needs)
 
--- src/lib.rt:48:1
 same-length : tie.Need-same-length Inv-loop μ-loop
 same-length c = search needs
 
--- src/lib.rt:48:1
 returns : tie.Need-returns Inv-loop μ-loop
 returns c = search sparing-done
 
