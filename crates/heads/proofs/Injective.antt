@@ -21,7 +21,7 @@ use Rattle.stores.proofs.Laws.{length-part, part-octet}
 use Rattle.views.specs.View as views
 use Rattle.views.specs.View.{View}
 use Rattle.heads.specs.Head.{slotsKept, slotsHeard, slotsMessages, packetOctets, messageOctets, slotAt, heardSlotAt, messageSlot}
-use Rattle.heads.specs.Head.{stateOf, countsOf, keptIn, heardIn, sizeIn, cellIn, heldIn, cellsOf, heldOf, viewIn}
+use Rattle.heads.specs.Head.{stateOf, countsOf, keptIn, heardIn, sizeIn, cellIn, heldIn, cellsOf, heldOf, viewIn, viewOf}
 use Rattle.heads.specs.Ranges.{messageInRange}
 use Rattle.heads.specs.Within.{Within}
 use Rattle.heads.specs.declared.State.{State}
@@ -30,6 +30,7 @@ use Rattle.heads.specs.declared.Kept.{Kept}
 use Rattle.heads.specs.declared.Heard.{Heard}
 use Rattle.heads.specs.declared.Counts.{Counts}
 use Rattle.heads.specs.declared.Head.{Head}
+use Rattle.heads.specs.declared.Session.{Session}
 use Rattle.heads.proofs.Parts.{kept-within, size-right, heard-within, message-size, message-none, message-zeros}
 use Rattle.heads.proofs.Seen.{cell-at, held-at, octet-at}
 use Rattle.heads.proofs.Slots.{slot-small, message-small, has-packet-slot, has-message-slot, slot-of, heard-slot-of}
@@ -237,3 +238,11 @@ module _ {h k : Head} {o q g e : List ℕ} (w : Within h o g) (v : Within k q e)
 
   pub head-same : h ≡ k
   head-same = head-of-fields h k base-same head-counts-same kept-same heard-same sizes-same
+
+-- two sessions within their ranges in which document 01 sees the same are the same
+pub session-same : {s t : Session} → Within (s .head) (s .octets) (s .messages) → Within (t .head) (t .octets) (t .messages)
+    → viewOf s ≡ viewOf t → s ≡ t
+session-same {s} {t} w v same =
+    ap (λ (x : Head). record { head = x; octets = s .octets; messages = s .messages }) (head-same w v same)
+    ∙ ap (λ (x : List ℕ). record { head = t .head; octets = x; messages = s .messages }) (octets-same w v same)
+    ∙ ap (λ (x : List ℕ). record { head = t .head; octets = t .octets; messages = x }) (messages-same w v same)

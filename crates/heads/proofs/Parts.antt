@@ -1,13 +1,14 @@
 -- The ranges taken apart, number by number, and put together again. Assumes nothing.
-use Prim.Native.Nat.{ℕ, _+_, _*_, _≤_, _<_}
+use Prim.Native.Nat.{ℕ, suc, _+_, _-_, _*_, _≤_, _<_}
 use mathlib.Core.Path.{_≡_, refl}
 use mathlib.Core.Bool.{Bool, true, false, not, cond, _&&_}
 use mathlib.Core.List.{List}
+use mathlib.Core.Logic.{⊎-elim}
 use lib.Dec.{leb, ltb, eqb}
 use native.Mathlib.Nat.{mul-le-mul, le-trans}
 use native.Mathlib.Omega.{arith}
-use borrow.Author.Tests.{le-ltb, leb-true, eqb-true}
-use Rattle.octets.proofs.Cases.{and-left, and-right, and-both}
+use borrow.Author.Tests.{lt-ltb, le-ltb, leb-true, eqb-true}
+use Rattle.octets.proofs.Cases.{below-or-not, and-left, and-right, and-both}
 use Rattle.octets.proofs.Place.{allBelow-at, allBelow-of}
 use Rattle.octets.specs.Place.{allBelow}
 use Rattle.datagrams.specs.Sizes.{packetLeast, packetLimit, messageLimit, coveredLimit, messagesLimit, reachLimit}
@@ -65,6 +66,28 @@ size-range Blank size blank e = omega (arith, eqb-true size 0 (and-left (eqb siz
 
 pub size-right : {h : Head} {o : List ℕ} {p : ℕ} → KeptRight h o p → (keptIn h (slotAt (h .base) p)) .size ≤ packetLimit
 size-right r = size-range _ _ _ (r .state)
+
+-- the base goes on by one: place p of the view is place p + 1 of the one before, and the sum is one more
+pub blank-further : (total p : ℕ) → blankAt (total + 1) p ≡ blankAt total (suc p)
+blank-further total p = ⊎-elim low high (below-or-not (suc p) keptBefore) where
+  low : suc p < keptBefore → blankAt (total + 1) p ≡ blankAt total (suc p)
+  low below =
+      ⊎-elim
+      (λ (blank : total < keptBefore - suc p).
+      rw (lt-ltb p keptBefore (omega arith), lt-ltb (suc p) keptBefore below, lt-ltb total (keptBefore - suc p) blank)
+      (lt-ltb (total + 1) (keptBefore - p) (omega arith)))
+      (λ (not : keptBefore - suc p ≤ total).
+      rw (lt-ltb p keptBefore (omega arith), lt-ltb (suc p) keptBefore below, le-ltb total (keptBefore - suc p) not)
+      (le-ltb (total + 1) (keptBefore - p) (omega arith)))
+      (below-or-not total (keptBefore - suc p))
+
+  high : keptBefore ≤ suc p → blankAt (total + 1) p ≡ blankAt total (suc p)
+  high past =
+      ⊎-elim
+      (λ (base : p < keptBefore).
+      rw (lt-ltb p keptBefore base, le-ltb (suc p) keptBefore past) (le-ltb (total + 1) (keptBefore - p) (omega arith)))
+      (λ ahead. rw (le-ltb p keptBefore ahead, le-ltb (suc p) keptBefore past))
+      (below-or-not p keptBefore)
 
 -- an unknown number has length 0 and is not blank
 pub unknown-range : (size : ℕ) (blank : Bool) → stateInRange Unknown size blank ≡ true → (size ≡ 0) × (not blank ≡ true)

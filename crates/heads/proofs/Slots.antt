@@ -1,6 +1,6 @@
 -- Laws of slots: places that are apart have slots that are apart, every slot is there, and is the slot of a place. Assumes
 -- nothing.
-use Prim.Native.Nat.{ℕ, _+_, _-_, _*_, _%_, _≤_, _<_}
+use Prim.Native.Nat.{ℕ, suc, _+_, _-_, _*_, _%_, _≤_, _<_}
 use mathlib.Core.Path.{_≡_}
 use mathlib.Core.List.{List}
 use mathlib.Core.Logic.{⊎-elim}
@@ -10,6 +10,7 @@ use Rattle.octets.proofs.Cases.{below-or-not}
 use Rattle.datagrams.specs.Sizes.{packetLimit, messagesLimit}
 use Rattle.repair.specs.Cells.{keptAhead, keptNumbers}
 use Rattle.stores.specs.Store.{HasSlot}
+use Rattle.views.specs.View.{numbers, following}
 use Rattle.heads.specs.Head.{slotAt, heardSlotAt, messageSlot, Apart, slotsKept, slotsHeard, slotsMessages, packetOctets, messageOctets}
 
 pub slot-small : (base p : ℕ) → slotAt base p < slotsKept
@@ -56,3 +57,16 @@ pub heard-slot-of : (base j : ℕ) → j < slotsHeard → (d : ℕ) × (d < kept
 heard-slot-of base j small =
     ⊎-elim (λ before. (j + 32 - base % 32, omega arith, omega arith)) (λ past. (j - base % 32, omega arith, omega arith))
     (below-or-not j (base % 32))
+
+-- the base goes on by one: 64 and 32 divide 65,536, so the view goes on by one place
+pub slot-after : (b p : ℕ) → b < numbers → slotAt (following b) p ≡ slotAt b (suc p)
+slot-after b p small = omega arith
+
+pub slot-comes : (b : ℕ) → b < numbers → slotAt (following b) 63 ≡ slotAt b 0
+slot-comes b small = omega arith
+
+pub heard-after : (b d : ℕ) → b < numbers → heardSlotAt (following b) d ≡ heardSlotAt b (suc d)
+heard-after b d small = omega arith
+
+pub heard-leaves : (b : ℕ) → b < numbers → heardSlotAt (following b) 31 ≡ heardSlotAt b 0
+heard-leaves b small = omega arith

@@ -66,6 +66,8 @@ impl Session {
     pub const BEFORE: usize = 32;
 
     pub const HEARD: usize = 32;
+    // The same, as a distance from the base: what is nearer may be accepted.
+    pub const AHEAD: u16 = Session::HEARD as u16;
 
     pub const KEPT: usize = Session::BEFORE + Session::HEARD;
 

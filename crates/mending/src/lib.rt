@@ -183,7 +183,7 @@ fn first_usable(h: Head) -> Usable
 {
     let flags = unknown_slots(h);
     let mut distance: u16 = 0;
-    while distance < 32 {
+    while distance < Session::AHEAD {
         let found = lowest_usable(h, &flags, distance);
         if let Lowest::Message { index, slot } = found {
             return Usable::Message {

@@ -178,7 +178,7 @@ fn offer_read(
 {
     let base = h.base;
     let distance = std::num::wrapping_sub_u16(number, base);
-    if 32 <= distance {
+    if Session::AHEAD <= distance {
         if distance < 32768 {
             return refused(h, Refusal::new(Refusal::TOO_FAR));
         }

@@ -1,5 +1,4 @@
 pub mod Freeing
-pub mod Shift
 pub mod Advanced
 pub mod Moving
 pub mod Base

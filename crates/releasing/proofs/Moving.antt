@@ -24,12 +24,11 @@ use Rattle.heads.specs.Ranges.{sumInRange, stateInRange, keptInRange, isKnown, 
 use Rattle.heads.specs.Within.{Within, KeptWithin, HeardWithin}
 use Rattle.heads.specs.declared.Counts.{Counts}
 use Rattle.heads.specs.declared.Head.{Head}
-use Rattle.heads.proofs.Parts.{kept-within, size-right, heard-within, heard-sizes, message-size, message-none, message-zeros}
+use Rattle.heads.proofs.Parts.{blank-further, kept-within, size-right, heard-within, heard-sizes, message-size, message-none, message-zeros}
 use Rattle.heads.proofs.FreshSession.{unknownKept, nothingHeard}
-use Rattle.heads.proofs.Slots.{slot-small, heard-small, message-small, slot-apart, heard-apart, message-apart, has-packet-slot, has-message-slot}
+use Rattle.heads.proofs.Slots.{slot-after, slot-comes, heard-after, heard-leaves, slot-small, heard-small, message-small, slot-apart, heard-apart, message-apart, has-packet-slot, has-message-slot}
 use Rattle.releasing.specs.Steps.{Freed}
 use Rattle.releasing.specs.Promise.{OneMore, BaseMoved}
-use Rattle.releasing.proofs.Shift.{slot-after, slot-comes, heard-after, heard-leaves, blank-after}
 use Rattle.releasing.proofs.Advanced.{freedSizes, advanced, seen, sizes-freed, sizes-other}
 
 -- ---- slot by slot
@@ -153,7 +152,7 @@ module _ {h : Head} {o g newO newG : List ℕ} (counts : Counts) (w : Within h o
           slot-after (h .base) p (w .base),
           kept-other here far,
           one .more,
-          blank-after (sum (countsOf (h .counts))) p,
+          blank-further (sum (countsOf (h .counts))) p,
           cleared,
           zerosPast-other o (slotAt (h .base) 0) (zeros packetLimit) comes-there zeros-fit here ((keptIn h here) .size) far,
         )

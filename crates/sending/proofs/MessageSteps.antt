@@ -7,9 +7,9 @@ use lib.ListN.{length, getD, take, replicate, length-replicate}
 use lib.Bits.{bitXor}
 use native.Mathlib.Omega.{arith}
 use Rattle.octets.specs.Place.{tab}
-use Rattle.octets.specs.ExclusiveOr.{xorAt, exclusiveOr, longest}
-use Rattle.octets.proofs.Place.{tab-ext, tab-same}
-use Rattle.octets.proofs.ExclusiveOr.{exclusiveOr-more, length-exclusiveOr}
+use Rattle.octets.specs.ExclusiveOr.{exclusiveOr, longest}
+use Rattle.octets.proofs.Place.{tab-ext}
+use Rattle.octets.proofs.ExclusiveOr.{longest-more, exclusiveOr-none, exclusiveOr-more}
 use Rattle.datagrams.specs.Sizes.{packetLimit}
 use Rattle.stores.specs.Store.{added, HasSlot}
 use Rattle.repair.specs.Members.{membersOf}
@@ -20,11 +20,6 @@ use Rattle.sending.specs.Held.{Sizes, Stored}
 use Rattle.sending.specs.Items.{Reach, membersIn, MessageSize, MessageSum}
 use Rattle.sending.proofs.History.{length-packet, packet-octet}
 use Rattle.sending.proofs.Walk.{Standing, standing-start, standing-turn, standing-slot, place-inside, members-more}
-
-longest-more : (ls : List (List ℕ)) (l : List ℕ) → longest (ls ++ (l ∷ [])) ≡ max (longest ls) (length l)
-unfolding longest
-longest-more [] l = omega arith
-longest-more (first ∷ ls) l = let rest = longest-more ls l in omega arith
 
 -- ---- message_size
 pub record Sizing (number : ℕ) (sizes : List ℕ) (n m i at size t : ℕ) : Type 0 where
@@ -73,10 +68,6 @@ pub record Summing (number : ℕ) (o : List ℕ) (n m i at : ℕ) (sum : List �
   pub bound : t ≤ n
   pub long : length sum ≡ packetLimit
   pub so : (sizes : List ℕ) → Stored sizes o → sum ≡ exclusiveOr packetLimit (membersIn number sizes o t m i)
-
-exclusiveOr-none : (n : ℕ) → replicate n 0 ≡ exclusiveOr n []
-unfolding exclusiveOr xorAt
-exclusiveOr-none n = sym (tab-same n 0)
 
 pub summing-start : (number : ℕ) (o : List ℕ) (n m i at : ℕ) → at ≡ (number + i) % numbers
     → Summing number o n m i at (replicate packetLimit 0) 0
