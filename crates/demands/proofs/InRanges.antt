@@ -8,7 +8,6 @@ use mathlib.Core.List.{List, [], _∷_, _++_, map}
 use lib.ListN.{length, getD, set, replicate, length-set, length-map, length-replicate, getD-replicate, List·getD-append}
 use lib.Seq.{getD-set-same, getD-set-other, getD-append-add}
 use lib.Dec.{leb, ltb, eqb}
-use native.Mathlib.Nat.{le-trans, mul-le-mul-left, mul-le-mul-right}
 use native.Mathlib.Omega.{arith}
 use borrow.Author.Tests.{eqb-true, le-ltb}
 use Rattle.octets.proofs.Cases.{true-or-false, same-or-not, below-or-not, and-left, and-right}
@@ -36,6 +35,7 @@ use Rattle.views.specs.Offer as offers
 use Rattle.views.specs.Offer.{keep, keepExtra, heldOf, accept, acceptedAt, offered, lateFrom}
 use Rattle.views.specs.Release as releases
 use Rattle.views.specs.Release.{Release, Loss, booked}
+use Rattle.heads.proofs.Parts.{reach-range}
 use Rattle.demands.specs.Ranges.{ViewInRanges}
 use Rattle.demands.proofs.Growing.{Fills, asReceived, asSpare, asRepaired, Grown, grown-twice, grown-keep, grown-extra, grown-repair}
 use Rattle.demands.proofs.Shifted.{length-cells-on, length-held-on, cell-on, cell-last, held-on, held-last}
@@ -160,17 +160,13 @@ module _ (d : ℕ) (datagram : Carried) (view : View) (r : ViewInRanges view) (l
         messages = λ e small. held-all e small .messages;
       }
 
--- a reach within the sizes does not go further back than the view
-pub small-reach : (n m : ℕ) → n ≤ coveredLimit → m ≤ messagesLimit → n * m ≤ keptBefore
-small-reach n m few less = le-trans (mul-le-mul-right m few) (mul-le-mul-left coveredLimit less)
-
 -- no message that is held has a member twice
 pub distinct-held : (view : View) → ViewInRanges view → DistinctMembers (heldMessages (view .held))
 distinct-held view r =
     held-distinct (view .held)
     (λ d inside.
     let small : d < keptAhead = rw (r .heard) at inside in
-    small-reach ((heldAt (view .held) d) .n) (length ((heldAt (view .held) d) .messages)) (r .covered d small) (r .messages d small))
+    reach-range (r .covered d small) (r .messages d small))
 
 -- ---- a number leaves
 pub on-in-ranges : (counts : Counts) (view : View) → ViewInRanges view → sum counts ≡ sum (view .counts) + 1

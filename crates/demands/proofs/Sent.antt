@@ -31,30 +31,31 @@ use Rattle.repair.specs.Held.{Held, messageAt}
 use Rattle.repair.specs.Honest.{messageOver, HonestHeld}
 use Rattle.views.specs.View.{View, numbers}
 use Rattle.views.specs.Offer.{heldOf}
+use Rattle.heads.proofs.Parts.{reach-range}
 use Rattle.sending.specs.Sending.{historyKept}
 use Rattle.sending.specs.Carries.{settingsInside, sparesFrom, messagesFrom, extraFrom}
 use Rattle.sending.specs.Send.{packetInside}
 use Rattle.sending.specs.Honest.{packetAt, carriedAt, HonestAt, HonestSender}
 use Rattle.sending.specs.declared.Settings.{Settings}
 use Rattle.sending.specs.declared.Settings.the-variants as settings
-use Rattle.sending.proofs.HonestLaws.{extra-same}
+use Rattle.sending.proofs.HonestLaws.{before-length, extra-same}
 use Rattle.demands.specs.Feeding.{datagramAt}
 use Rattle.demands.specs.Demand2.{sparesIn}
-use Rattle.demands.proofs.InRanges.{small-reach}
 
 -- ---- the row by places
-before-long : length (replicate {A = List ℕ} historyKept []) ≡ historyKept
-before-long = length-replicate {A = List ℕ} historyKept []
+-- a row begins as many places before number 0 as the view has before the base: "the last 32 packets", "the 32 before the base"
+history-before : historyKept ≡ keptBefore
+history-before = refl
 
 pub packetAt-before : (row : List (List ℕ)) (p : ℕ) → p < historyKept → packetAt row p ≡ []
 unfolding packetAt
 packetAt-before row p low =
-    List·getD-append (replicate historyKept []) row [] p (rw before-long low) ∙ getD-replicate {A = List ℕ} historyKept p [] [] low
+    List·getD-append (replicate historyKept []) row [] p (rw before-length low) ∙ getD-replicate {A = List ℕ} historyKept p [] [] low
 
 pub packetAt-sent : (row : List (List ℕ)) (S : ℕ) → packetAt row (historyKept + S) ≡ getD row S []
 unfolding packetAt
 packetAt-sent row S =
-    ap (λ (n : ℕ). getD (replicate historyKept [] ++ row) (n + S) []) (sym before-long)
+    ap (λ (n : ℕ). getD (replicate historyKept [] ++ row) (n + S) []) (sym before-length)
     ∙ getD-append-add (replicate historyKept []) row S []
 
 -- ---- what a datagram carries
@@ -191,7 +192,7 @@ in-view {row} B d {c} f =
           ap (λ (x : Carried). x .extra) (f .is)
           ∙ extra-same (packetAt row) (historyKept + (B + d)) (λ p. packetAt row (B + p)) (keptBefore + d) (omega arith) (omega arith)
           (λ k some far.
-          let place : (historyKept + (B + d)) - k ≡ B + ((keptBefore + d) - k) = omega arith in
+          let place : (historyKept + (B + d)) - k ≡ B + ((keptBefore + d) - k) = omega (arith, history-before) in
           ap (packetAt row) place)
           (f .settings)
           (B + d)
@@ -199,7 +200,7 @@ in-view {row} B d {c} f =
       packet =
           ap (λ (x : Carried). x .packet) (f .is)
           ∙ sym (packetAt-sent row (B + d))
-          ∙ ap (packetAt row) (let place : historyKept + (B + d) ≡ B + (keptBefore + d) = omega arith in place);
+          ∙ ap (packetAt row) (let place : historyKept + (B + d) ≡ B + (keptBefore + d) = omega (arith, history-before) in place);
     }
 
 -- ---- what is held of it is honest
@@ -213,7 +214,7 @@ honest-from (settings.Parity n m) before sent S inside far =
     let less = within-true 1 messagesLimit m (and-right (within 1 coveredLimit n) (within 1 messagesLimit m) inside) in
     let long = length-tab m (λ i. messageOver (map sent (membersOf S n m i))) in
     record {
-      reach = rw long (let reach = small-reach n m (few .1) (less .1) in omega arith);
+      reach = rw long (let reach = reach-range (few .1) (less .1) in omega arith);
       sums = λ i low.
           rw long (tab-at m (λ i. messageOver (map sent (membersOf S n m i))) i [] (rw long at low));
     }

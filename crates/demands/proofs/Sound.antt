@@ -32,6 +32,7 @@ use Rattle.repair.proofs.Honest.{repair-right}
 use Rattle.repair.proofs.Zeros.{up-to-zeros-same}
 use Rattle.views.specs.View.{View, Counts, sum, freshView, goneOn}
 use Rattle.views.specs.Offer.{keep, keepSpares, keepExtra, heldOf, accept}
+use Rattle.heads.proofs.Parts.{reach-range}
 use Rattle.sending.specs.Carries.{sparesFrom, extraFrom}
 use Rattle.sending.specs.Honest.{packetAt, HonestSender}
 use Rattle.sending.specs.declared.Settings.{Settings}
@@ -42,7 +43,7 @@ use Rattle.demands.specs.Feeding.{placeOf, sentAt}
 use Rattle.demands.proofs.Growing.{Fills, asReceived, asSpare, known-grown, grown-repair, keep-known, keep-unknown}
 use Rattle.demands.proofs.Shifted.{cell-on, cell-last, held-on, held-last, unknown-on}
 use Rattle.demands.proofs.InRanges.{fresh-before, fresh-ahead, fresh-held, fresh-in-ranges, HeldInside, read-held, filled, grown-filled}
-use Rattle.demands.proofs.InRanges.{grown-accept, held-accepted, held-beside, accept-in-ranges, distinct-held, small-reach, on-in-ranges}
+use Rattle.demands.proofs.InRanges.{grown-accept, held-accepted, held-beside, accept-in-ranges, distinct-held, on-in-ranges}
 use Rattle.demands.proofs.Knowing.{brought}
 use Rattle.demands.proofs.Sent.{packetAt-before, Follows, follows-few, InView, in-view, honest-held}
 
@@ -365,7 +366,7 @@ module _ {row datagrams : List (List ℕ)} {view : View} (s : Sound row datagram
     reach-of =
         let few : n-of ≤ coveredLimit = subst (λ (x : Held). x .n ≤ coveredLimit) is (s .ranges .covered (suc j) inside) in
         let less : m-of ≤ messagesLimit = subst (λ (x : Held). length (x .messages) ≤ messagesLimit) is (s .ranges .messages (suc j) inside) in
-        let reach = small-reach n-of m-of few less in
+        let reach = reach-range few less in
         omega arith
 
     old-among : Among (messageAt (suc (keptBefore + j)) h i) (heldMessages (view .held))

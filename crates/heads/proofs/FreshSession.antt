@@ -2,7 +2,7 @@
 -- Assumes nothing.
 use Prim.Native.Nat.{ℕ, zero, suc, _+_, _-_, _*_, _≤_, _<_}
 use mathlib.Core.Path.{_≡_, refl, sym, ap, _∙_}
-use mathlib.Core.Bool.{Bool, true, false, cond, _||_}
+use mathlib.Core.Bool.{true, false, cond}
 use mathlib.Core.List.{List, [], _∷_, _++_}
 use mathlib.Core.Logic.{⊎-elim}
 use lib.ListN.{length, getD, set, drop, replicate, length-replicate, replicate-append-replicate, getD-replicate, List·getD-append, List·getD-eq-default}
@@ -15,10 +15,11 @@ use borrow.Author.Tests.{lt-ltb, le-ltb, le-leb}
 use Rattle.octets.specs.Place.{tab}
 use Rattle.octets.proofs.Place.{tab-ext, allBelow-of}
 use Rattle.octets.proofs.Cases.{below-or-not, and-both}
-use Rattle.datagrams.specs.Sizes.{packetLimit, messageLimit}
+use Rattle.datagrams.specs.Sizes.{messageLimit}
 use Rattle.repair.specs.Cells.{blankCell, unknownCell, keptBefore, keptAhead, keptNumbers}
 use Rattle.repair.specs.Held.{nothingHeld}
-use Rattle.stores.specs.Store.{part, zerosPast}
+use Rattle.stores.specs.Store.{part}
+use Rattle.stores.proofs.Laws.{zerosPast-zeros}
 use Rattle.views.specs.View.{freshView}
 use Rattle.heads.specs.Head.{slotsKept, slotAt, heardSlotAt, messageSlot, stateOf, keptIn, heardIn, sizeIn, cellIn, heldIn, cellsOf, heldOf, viewIn}
 use Rattle.heads.specs.Ranges.{sumInRange, stateInRange, keptInRange, markInRange, messageInRange, heardInRange, inRanges}
@@ -66,7 +67,7 @@ starting-turn {kept} {i} s more =
       few = omega arith;
     }
 
-pub drop-replicate : {A : Type 0} (n k : ℕ) (a : A) → drop n (replicate (n + k) a) ≡ replicate k a
+drop-replicate : {A : Type 0} (n k : ℕ) (a : A) → drop n (replicate (n + k) a) ≡ replicate k a
 drop-replicate n k a = rw (← replicate-append-replicate n k a) (drop-at (replicate n a) (replicate k a) n (length-replicate n a))
 
 pub starting-done : {kept : List Kept} {i : ℕ} → Starting kept i → keptAhead ≤ i → kept ≡ freshKept
@@ -114,16 +115,6 @@ blank-slot i low =
     (sym (length-replicate keptAhead unknownKept))
     ∙ getD-append-add (replicate keptAhead unknownKept) (replicate keptBefore blankKept) i unknownKept
     ∙ getD-replicate keptBefore i blankKept unknownKept low
-
--- zeros alone are zeros past any length
-zeros-past : (o : List ℕ) (i n : ℕ) → ((k : ℕ) → getD o k 0 ≡ 0) → zerosPast o i n ≡ true
-unfolding zerosPast
-zeros-past o i n all =
-    allBelow-of packetLimit _ (λ j small. rw (all (i * packetLimit + j)) (or-true (ltb j n)))
-  where
-    or-true : (b : Bool) → (b || true) ≡ true
-    or-true true = refl
-    or-true false = refl
 
 module _ {h : Head} {o g : List ℕ} (f : FreshParts h o g) where
   kept-before : (p : ℕ) → p < keptBefore → keptIn h (slotAt (h .base) p) ≡ blankKept
@@ -180,12 +171,12 @@ module _ {h : Head} {o g : List ℕ} (f : FreshParts h o g) where
       (λ low.
       record {
         state = rw (kept-before p low, f .counts, lt-ltb p keptBefore low) (lt-ltb 0 (keptBefore - p) (omega arith));
-        zeros = zeros-past o (slotAt (h .base) p) _ (f .octets);
+        zeros = zerosPast-zeros o (slotAt (h .base) p) _ (f .octets);
       })
       (λ past.
       record {
         state = rw (kept-after p past small, le-ltb p keptBefore past);
-        zeros = zeros-past o (slotAt (h .base) p) _ (f .octets);
+        zeros = zerosPast-zeros o (slotAt (h .base) p) _ (f .octets);
       })
       (below-or-not p keptBefore)
 
@@ -193,7 +184,7 @@ module _ {h : Head} {o g : List ℕ} (f : FreshParts h o g) where
   unfolding messageInRange
   message-fresh slot m i =
       and-both (le-leb (sizeIn h (messageSlot slot i)) (cond (ltb i m) messageLimit 0) (omega (arith, f .sizes (messageSlot slot i))))
-      (zeros-past g (messageSlot slot i) _ (f .messages))
+      (zerosPast-zeros g (messageSlot slot i) _ (f .messages))
 
   heard-fresh : (d : ℕ) → HeardRight h g d
   unfolding markInRange

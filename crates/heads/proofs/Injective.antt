@@ -1,29 +1,27 @@
 -- Within the ranges document 01's view of a session loses nothing: two heads with their stores that have the same view are
 -- the same, octet by octet. A slot is the slot of some place; the length of what stands there gives its size, and past it
 -- there are zeros. Assumes nothing.
-use Prim.Native.Nat.{ℕ, _+_, _-_, _*_, _/_, _%_, _≤_, _<_}
+use Prim.Native.Nat.{ℕ, _+_, _*_, _/_, _%_, _≤_, _<_}
 use mathlib.Core.Path.{_≡_, refl, sym, ap, ap₂, _∙_}
-use mathlib.Core.Bool.{Bool, true, false, cond, _||_}
+use mathlib.Core.Bool.{true, false}
 use mathlib.Core.List.{List, []}
 use mathlib.Core.Logic.{⊎-elim}
 use lib.ListN.{length, getD, take, drop, List·getD-eq-default}
 use lib.Seq.{ext-getD}
-use lib.Dec.{leb, ltb, eqb}
 use native.Mathlib.Omega.{arith}
-use borrow.Author.Tests.{le-ltb, leb-true, eqb-true}
 use Rattle.octets.specs.Place.{tab}
-use Rattle.octets.proofs.Place.{tab-at, length-tab, allBelow-at}
-use Rattle.octets.proofs.Cases.{below-or-not, and-left, and-right}
-use Rattle.datagrams.specs.Sizes.{packetLimit, messageLimit, messagesLimit}
+use Rattle.octets.proofs.Place.{tab-at, length-tab}
+use Rattle.octets.proofs.Cases.{below-or-not}
+use Rattle.datagrams.specs.Sizes.{packetLimit, messagesLimit}
 use Rattle.repair.specs.Cells as cells
 use Rattle.repair.specs.Cells.{Cell, cellAt, keptAhead, keptNumbers}
 use Rattle.repair.specs.Held.{Held, nothingHeld}
-use Rattle.stores.specs.Store.{part, zerosPast, HasSlot}
-use Rattle.stores.proofs.Laws.{length-part, part-at}
+use Rattle.stores.specs.Store.{part, HasSlot}
+use Rattle.stores.proofs.Laws.{length-part, part-octet}
 use Rattle.views.specs.View as views
 use Rattle.views.specs.View.{View}
 use Rattle.heads.specs.Head.{slotsKept, slotsHeard, slotsMessages, packetOctets, messageOctets, slotAt, heardSlotAt, messageSlot}
-use Rattle.heads.specs.Head.{stateOf, countsOf, keptIn, heardIn, sizeIn, cellIn, heldIn, cellsOf, heldOf, viewIn}
+use Rattle.heads.specs.Head.{stateOf, countsOf, keptIn, heardIn, sizeIn, cellIn, heldIn, cellsOf, heldOf, viewIn, viewOf}
 use Rattle.heads.specs.Ranges.{messageInRange}
 use Rattle.heads.specs.Within.{Within}
 use Rattle.heads.specs.declared.State.{State}
@@ -32,23 +30,10 @@ use Rattle.heads.specs.declared.Kept.{Kept}
 use Rattle.heads.specs.declared.Heard.{Heard}
 use Rattle.heads.specs.declared.Counts.{Counts}
 use Rattle.heads.specs.declared.Head.{Head}
-use Rattle.heads.proofs.Parts.{kept-right, size-right, heard-right}
+use Rattle.heads.specs.declared.Session.{Session}
+use Rattle.heads.proofs.Parts.{kept-within, size-right, heard-within, message-size, message-none, message-zeros}
 use Rattle.heads.proofs.Seen.{cell-at, held-at, octet-at}
-use Rattle.heads.proofs.Slots.{slot-small, message-small, has-packet-slot, has-message-slot}
-
--- ---- every slot is the slot of a place
-pub slot-of : (base i : ℕ) → i < slotsKept → (p : ℕ) × (p < keptNumbers) × (slotAt base p ≡ i)
-slot-of base i small =
-    ⊎-elim (λ far. (i + 96 - base % 64, omega arith, omega arith))
-    (λ near.
-    ⊎-elim (λ before. (i + 32 - base % 64, omega arith, omega arith)) (λ past. (i - 32 - base % 64, omega arith, omega arith))
-    (below-or-not i (base % 64 + 32)))
-    (below-or-not (i + 32) (base % 64))
-
-pub heard-slot-of : (base j : ℕ) → j < slotsHeard → (d : ℕ) × (d < keptAhead) × (heardSlotAt base d ≡ j)
-heard-slot-of base j small =
-    ⊎-elim (λ before. (j + 32 - base % 32, omega arith, omega arith)) (λ past. (j - base % 32, omega arith, omega arith))
-    (below-or-not j (base % 32))
+use Rattle.heads.proofs.Slots.{slot-small, message-small, has-packet-slot, has-message-slot, slot-of, heard-slot-of}
 
 -- ---- a state from document 01's word for it
 abbrev state-named : cells.State → State
@@ -65,35 +50,8 @@ named-state Spare = refl
 named-state Repaired = refl
 named-state Blank = refl
 
-state-same : (s t : State) → stateOf s ≡ stateOf t → s ≡ t
+pub state-same : (s t : State) → stateOf s ≡ stateOf t → s ≡ t
 state-same s t e = sym (named-state s) ∙ ap state-named e ∙ named-state t
-
--- ---- an octet of a slot from its part: past the part's length both are zero
-slot-octet : (o : List ℕ) (slot n j : ℕ) → HasSlot slot o → n ≤ packetLimit → zerosPast o slot n ≡ true → j < packetLimit
-    → getD (part o slot n) j 0 ≡ getD o (slot * packetLimit + j) 0
-unfolding zerosPast
-slot-octet o slot n j has fits zeros small =
-    ⊎-elim (λ low. part-at o slot n j low)
-    (λ past.
-    List·getD-eq-default (part o slot n) 0 (rw (length-part o slot n has fits) past)
-    ∙ sym
-    (eqb-true (getD o (slot * packetLimit + j) 0) 0
-    (rw (le-ltb j n past) at
-    (allBelow-at packetLimit (λ k. ltb k n || eqb (getD o (slot * packetLimit + k) 0) 0) zeros j small))))
-    (below-or-not j n)
-
--- a message place: its size fits, and there is none past m
-pub record MessageRight (h : Head) (g : List ℕ) (slot m i : ℕ) : Type 0 where
-  pub size : sizeIn h (messageSlot slot i) ≤ cond (ltb i m) messageLimit 0
-  pub zeros : zerosPast g (messageSlot slot i) (sizeIn h (messageSlot slot i)) ≡ true
-
-message-right : (h : Head) (g : List ℕ) (slot m i : ℕ) → messageInRange h g slot m i ≡ true → MessageRight h g slot m i
-unfolding messageInRange
-message-right h g slot m i e =
-    record {
-      size = leb-true (sizeIn h (messageSlot slot i)) (cond (ltb i m) messageLimit 0) (and-left _ _ e);
-      zeros = and-right (leb (sizeIn h (messageSlot slot i)) (cond (ltb i m) messageLimit 0)) _ e;
-    }
 
 -- ---- one session: what stands in a slot, read off the view
 module _ {h : Head} {o g : List ℕ} (w : Within h o g) where
@@ -104,27 +62,20 @@ module _ {h : Head} {o g : List ℕ} (w : Within h o g) where
     at t =
         rw (← t .2)
         (length-part o (slotAt (h .base) (t .0)) _ (has-packet-slot o _ (w .kept .octets) (slot-small (h .base) (t .0)))
-        (size-right (kept-right h o (t .0) (w .kept .each (t .0) (t .1)))))
+        (size-right (kept-within w (t .0) (t .1))))
 
   kept-octet : (i j : ℕ) → i < slotsKept → j < packetLimit → getD ((cellIn h o i) .octets) j 0 ≡ getD o (i * packetLimit + j) 0
   kept-octet i j small low = at (slot-of (h .base) i small) where
     at : (p : ℕ) × (p < keptNumbers) × (slotAt (h .base) p ≡ i) → getD ((cellIn h o i) .octets) j 0 ≡ getD o (i * packetLimit + j) 0
     at t = rw (← t .2) (octet-at w (t .0) (t .1) j low)
 
-  message-right-at : (s i : ℕ) → s < slotsHeard → i < messagesLimit → MessageRight h g s ((heardIn h s) .m) i
-  message-right-at s i small low = at (heard-slot-of (h .base) s small) where
-    at : (d : ℕ) × (d < keptAhead) × (heardSlotAt (h .base) d ≡ s) → MessageRight h g s ((heardIn h s) .m) i
-    at t =
-        rw (← t .2)
-        (message-right h g _ _ i (heard-right h g (t .0) (w .heard .each (t .0) (t .1)) .message i low))
+  message-within : (s i : ℕ) → s < slotsHeard → i < messagesLimit → messageInRange h g s ((heardIn h s) .m) i ≡ true
+  message-within s i small low = at (heard-slot-of (h .base) s small) where
+    at : (d : ℕ) × (d < keptAhead) × (heardSlotAt (h .base) d ≡ s) → messageInRange h g s ((heardIn h s) .m) i ≡ true
+    at t = rw (← t .2) (heard-within w (t .0) (t .1) .message i low)
 
-  most : (b : Bool) → cond b messageLimit 0 ≤ packetLimit
-  most true = omega arith
-  most false = omega arith
-
-  message-size : (s i : ℕ) → s < slotsHeard → i < messagesLimit → sizeIn h (messageSlot s i) ≤ packetLimit
-  message-size s i small low =
-      omega (arith, (message-right-at s i small low) .size, most (ltb i ((heardIn h s) .m)))
+  message-fits : (s i : ℕ) → s < slotsHeard → i < messagesLimit → sizeIn h (messageSlot s i) ≤ packetLimit
+  message-fits s i small low = message-size h g s _ i (message-within s i small low)
 
   message-has : (s i : ℕ) → s < slotsHeard → i < messagesLimit → HasSlot (messageSlot s i) g
   message-has s i small low = has-message-slot g (messageSlot s i) (w .heard .octets) (message-small s i small low)
@@ -136,8 +87,7 @@ module _ {h : Head} {o g : List ℕ} (w : Within h o g) where
   message-part s i small low =
       ⊎-elim (λ inside. tab-at ((heardIn h s) .m) _ i [] inside)
       (λ past.
-      let none : sizeIn h (messageSlot s i) ≤ 0 = rw (le-ltb i ((heardIn h s) .m) past) at (message-right-at s i small low .size) in
-      let empty : sizeIn h (messageSlot s i) ≡ 0 = omega arith in
+      let empty = message-none h g s _ i (message-within s i small low) past in
       List·getD-eq-default (tab ((heardIn h s) .m) _) [] (rw (length-tab ((heardIn h s) .m) _) past)
       ∙ ap (λ (n : ℕ). take n (drop (messageSlot s i * packetLimit) g)) (sym empty))
       (below-or-not i ((heardIn h s) .m))
@@ -146,14 +96,14 @@ module _ {h : Head} {o g : List ℕ} (w : Within h o g) where
       → length (getD ((heldIn h g s) .messages) i []) ≡ sizeIn h (messageSlot s i)
   message-length s i small low =
       ap length (message-part s i small low)
-      ∙ length-part g (messageSlot s i) _ (message-has s i small low) (message-size s i small low)
+      ∙ length-part g (messageSlot s i) _ (message-has s i small low) (message-fits s i small low)
 
   message-octet : (s i j : ℕ) → s < slotsHeard → i < messagesLimit → j < packetLimit
       → getD (getD ((heldIn h g s) .messages) i []) j 0 ≡ getD g (messageSlot s i * packetLimit + j) 0
   message-octet s i j small low few =
       ap (λ (l : List ℕ). getD l j 0) (message-part s i small low)
-      ∙ slot-octet g (messageSlot s i) _ j (message-has s i small low) (message-size s i small low)
-      (message-right-at s i small low .zeros) few
+      ∙ part-octet g (messageSlot s i) _ j (message-has s i small low) (message-fits s i small low)
+      (message-zeros h g s _ i (message-within s i small low)) few
 
 -- ---- a slot from what the view shows of it
 heard-in-same : (h k : Head) (g e : List ℕ) (s : ℕ) → heldIn h g s ≡ heldIn k e s → heardIn h s ≡ heardIn k s
@@ -288,3 +238,11 @@ module _ {h k : Head} {o q g e : List ℕ} (w : Within h o g) (v : Within k q e)
 
   pub head-same : h ≡ k
   head-same = head-of-fields h k base-same head-counts-same kept-same heard-same sizes-same
+
+-- two sessions within their ranges in which document 01 sees the same are the same
+pub session-same : {s t : Session} → Within (s .head) (s .octets) (s .messages) → Within (t .head) (t .octets) (t .messages)
+    → viewOf s ≡ viewOf t → s ≡ t
+session-same {s} {t} w v same =
+    ap (λ (x : Head). record { head = x; octets = s .octets; messages = s .messages }) (head-same w v same)
+    ∙ ap (λ (x : List ℕ). record { head = t .head; octets = x; messages = s .messages }) (octets-same w v same)
+    ∙ ap (λ (x : List ℕ). record { head = t .head; octets = t .octets; messages = x }) (messages-same w v same)

@@ -9,8 +9,8 @@ use lib.ListN.{length, getD, set, length-set}
 use lib.Seq.{getD-set-same, getD-set-other}
 use lib.Dec.{leb, eqb}
 use native.Mathlib.Omega.{arith}
-use borrow.Author.Tests.{le-leb, eqb-true}
-use Rattle.octets.proofs.Cases.{same-or-not, and-left, and-right, and-both}
+use borrow.Author.Tests.{le-leb}
+use Rattle.octets.proofs.Cases.{same-or-not, and-right, and-both}
 use Rattle.octets.proofs.Place.{tab-set, tab-ext}
 use Rattle.octets.specs.Place.{tab, allBelow}
 use Rattle.datagrams.specs.Sizes.{packetLeast, packetLimit, messagesLimit}
@@ -26,14 +26,10 @@ use Rattle.heads.specs.declared.State.{State}
 use Rattle.heads.specs.declared.State.the-variants.{Unknown, Received, Spare, Repaired, Blank}
 use Rattle.heads.specs.declared.Kept.{Kept}
 use Rattle.heads.specs.declared.Head.{Head}
-use Rattle.heads.proofs.Parts.{markTest, KeptRight, kept-right, right-kept, size-right, HeardRight, heard-right, right-heard}
+use Rattle.heads.proofs.Parts.{markTest, KeptRight, kept-within, right-kept, size-right, unknown-range, HeardRight, heard-within, right-heard}
 use Rattle.heads.proofs.Slots.{slot-small, slot-apart, has-packet-slot}
 
 -- ---- the tests of one number
-pub unknown-range : (size : ℕ) (blank : Bool) → stateInRange Unknown size blank ≡ true → (size ≡ 0) × (not blank ≡ true)
-unfolding stateInRange
-unknown-range size blank e = (eqb-true size 0 (and-left (eqb size 0) (not blank) e), and-right (eqb size 0) (not blank) e)
-
 pub fill-range : (st : State) (size : ℕ) (blank : Bool) → isFill st ≡ true → packetLeast ≤ size → size ≤ packetLimit
     → not blank ≡ true → stateInRange st size blank ≡ true
 unfolding stateInRange
@@ -84,7 +80,7 @@ module _ {h : Head} {o g : List ℕ} (w : Within h o g) (p : ℕ) (inside : p < 
   kept-same q small other = getD-set-other (h .kept) slot (slotAt (h .base) q) k _ (apart q small other)
 
   right : KeptRight h o p
-  right = kept-right h o p (w .kept .each p inside)
+  right = kept-within w p inside
 
   -- what the ranges say of the unknown number: no octets, and not blank
   was : ((keptIn h slot) .size ≡ 0) × (not (blankAt (sum (countsOf (h .counts))) p) ≡ true)
@@ -105,7 +101,7 @@ module _ {h : Head} {o g : List ℕ} (w : Within h o g) (p : ℕ) (inside : p < 
 
   each-other : (q : ℕ) → q < keptNumbers → (q ≡ p → ⊥) → KeptRight (placed h slot k) (pasted o slot b) q
   each-other q small other =
-      let r = kept-right h o q (w .kept .each q small) in
+      let r = kept-within w q small in
       record {
         state = rw (kept-same q small other) (r .state);
         zeros =
@@ -122,7 +118,7 @@ module _ {h : Head} {o g : List ℕ} (w : Within h o g) (p : ℕ) (inside : p < 
 
   mark-each : (d : ℕ) → d < keptAhead → markTest (placed h slot k) d ≡ true
   mark-each d small =
-      let r = heard-right h g d (w .heard .each d small) in
+      let r = heard-within w d small in
       ⊎-elim
       (λ same.
       let known = ap (λ (q : ℕ). isKnown ((keptIn (placed h slot k) (slotAt (h .base) q)) .state)) same ∙ known-here in
@@ -137,7 +133,7 @@ module _ {h : Head} {o g : List ℕ} (w : Within h o g) (p : ℕ) (inside : p < 
   heard-each : (d : ℕ) → d < keptAhead → HeardRight (placed h slot k) g d
   unfolding messageInRange
   heard-each d small =
-      record { mark = mark-each d small; message = (heard-right h g d (w .heard .each d small)) .message }
+      record { mark = mark-each d small; message = (heard-within w d small) .message }
 
   -- the ranges stay
   pub placed-within : Within (placed h (slotAt (h .base) p) (record { state = st; size = length b })) (pasted o (slotAt (h .base) p) b) g
@@ -177,7 +173,7 @@ module _ {h : Head} {o g : List ℕ} (w : Within h o g) (p : ℕ) (inside : p < 
       (kept-same q small other)
       ∙ ap (λ (l : List ℕ). record { state = stateOf ((keptIn h (slotAt (h .base) q)) .state); octets = l })
       (part-pasted-other o slot b has most (slotAt (h .base) q) _ (has-packet-slot o _ (w .kept .octets) (slot-small (h .base) q))
-      (size-right (kept-right h o q (w .kept .each q small))) (apart q small other))
+      (size-right (kept-within w q small)) (apart q small other))
 
   -- in the view the cell at p is set
   pub placed-cells : cellsOf (placed h (slotAt (h .base) p) (record { state = st; size = length b })) (pasted o (slotAt (h .base) p) b)

@@ -1,27 +1,21 @@
 -- What the view shows at a place is what stands in the slot of that place. Assumes nothing.
-use Prim.Native.Nat.{ℕ, _+_, _*_, _≤_, _<_}
+use Prim.Native.Nat.{ℕ, _+_, _*_, _<_}
 use mathlib.Core.Path.{_≡_, refl, sym, ap, _∙_}
-use mathlib.Core.Bool.{Bool, true, false, _||_, false≢true}
+use mathlib.Core.Bool.{true, false≢true}
 use mathlib.Core.List.{List, []}
-use mathlib.Core.Logic.{⊎-elim}
-use lib.ListN.{length, getD, take, drop, List·getD-eq-default}
-use lib.Dec.{ltb, eqb}
-use native.Mathlib.Omega.{arith}
-use borrow.Author.Tests.{le-ltb, eqb-true}
-use Rattle.octets.proofs.Cases.{below-or-not, and-left}
-use Rattle.octets.proofs.Place.{tab-at, length-tab, allBelow-at}
+use lib.ListN.{length, getD, take, drop}
+use Rattle.octets.proofs.Place.{tab-at, length-tab}
 use Rattle.datagrams.specs.Sizes.{packetLimit}
 use Rattle.repair.specs.Cells.{Cell, cellAt, unknownAt, isUnknown, keptAhead, keptNumbers}
 use Rattle.repair.specs.Held.{Held, nothingHeld}
-use Rattle.stores.specs.Store.{zerosPast, part, HasSlot}
-use Rattle.stores.proofs.Laws.{length-part, part-at}
+use Rattle.stores.specs.Store.{part}
+use Rattle.stores.proofs.Laws.{part-octet}
 use Rattle.heads.specs.Head.{slotAt, heardSlotAt, stateOf, keptIn, cellIn, heldIn, cellsOf, heldOf}
 use Rattle.heads.specs.Within.{Within}
-use Rattle.heads.specs.Ranges.{stateInRange}
 use Rattle.heads.specs.declared.State.{State}
 use Rattle.heads.specs.declared.State.the-variants.{Unknown, Received, Spare, Repaired, Blank}
 use Rattle.heads.specs.declared.Head.{Head}
-use Rattle.heads.proofs.Parts.{KeptRight, kept-right, size-right}
+use Rattle.heads.proofs.Parts.{kept-within, size-right, unknown-range}
 use Rattle.heads.proofs.Slots.{slot-small, has-packet-slot}
 
 pub length-cells : (h : Head) (o : List ℕ) → length (cellsOf h o) ≡ keptNumbers
@@ -45,28 +39,15 @@ pub unknown-at : (h : Head) (o : List ℕ) (p : ℕ) → p < keptNumbers
 unfolding cellIn
 unknown-at h o p below = ap (λ (c : Cell). isUnknown (c .state)) (cell-at h o p below)
 
--- octets past a length are zero
-past-zero : (o : List ℕ) (slot n j : ℕ) → zerosPast o slot n ≡ true → n ≤ j → j < packetLimit → getD o (slot * packetLimit + j) 0 ≡ 0
-unfolding zerosPast
-past-zero o slot n j zeros past small =
-    eqb-true (getD o (slot * packetLimit + j) 0) 0
-    (rw (le-ltb j n past) at
-    (allBelow-at packetLimit (λ k. ltb k n || eqb (getD o (slot * packetLimit + k) 0) 0) zeros j small))
-
 -- an octet of the cell is the octet of the slot, past the length too
 pub octet-at : {h : Head} {o g : List ℕ} → Within h o g → (p : ℕ) → p < keptNumbers → (j : ℕ) → j < packetLimit
     → getD ((cellIn h o (slotAt (h .base) p)) .octets) j 0 ≡ getD o (slotAt (h .base) p * packetLimit + j) 0
 unfolding cellIn
 octet-at {h} {o} {g} w p below j small =
     let slot = slotAt (h .base) p in
-    let size = (keptIn h slot) .size in
-    let right = kept-right h o p (w .kept .each p below) in
-    let long = length-part o slot size (has-packet-slot o slot (w .kept .octets) (slot-small (h .base) p)) (size-right right) in
-    ⊎-elim (λ low. part-at o slot size j low)
-    (λ past.
-    List·getD-eq-default (part o slot size) 0 (rw long past)
-    ∙ sym (past-zero o slot size j (right .zeros) past small))
-    (below-or-not j size)
+    let right = kept-within w p below in
+    part-octet o slot ((keptIn h slot) .size) j (has-packet-slot o slot (w .kept .octets) (slot-small (h .base) p)) (size-right right)
+    (right .zeros) small
 
 -- ---- an unknown number has no octets
 pub unknown-state : (st : State) → isUnknown (stateOf st) ≡ true → st ≡ Unknown
@@ -80,14 +61,9 @@ pub state-unknown : (h : Head) (o : List ℕ) (p : ℕ) → p < keptNumbers → 
     → (keptIn h (slotAt (h .base) p)) .state ≡ Unknown
 state-unknown h o p below e = unknown-state _ (sym (unknown-at h o p below) ∙ e)
 
-unknown-size : (size : ℕ) (blank : Bool) → stateInRange Unknown size blank ≡ true → size ≡ 0
-unfolding stateInRange
-unknown-size size blank e = eqb-true size 0 (and-left (eqb size 0) _ e)
-
 pub unknown-empty : {h : Head} {o g : List ℕ} → Within h o g → (p : ℕ) → p < keptNumbers → unknownAt (cellsOf h o) p ≡ true
     → (cellAt (cellsOf h o) p) .octets ≡ []
 unfolding cellIn part
 unknown-empty {h} {o} {g} w p below e =
-    let right = kept-right h o p (w .kept .each p below) in
-    let none = unknown-size _ _ (rw (state-unknown h o p below e) at (right .state)) in
+    let none = unknown-range _ _ (rw (state-unknown h o p below e) at (kept-within w p below .state)) .0 in
     ap (λ (c : Cell). c .octets) (cell-at h o p below) ∙ ap (λ (n : ℕ). take n (drop (slotAt (h .base) p * packetLimit) o)) none

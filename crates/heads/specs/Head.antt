@@ -1,6 +1,7 @@
 -- From the held session to the one that document 01 sees: which slot a number has, and what stands there. One abstraction,
 -- `viewOf`, serves every promise. Definitions only.
-use Prim.Native.Nat.{ℕ, _+_, _-_, _*_, _%_}
+use Prim.Native.Nat.{ℕ, _+_, _-_, _*_, _%_, _<_}
+use mathlib.Core.Path.{_≡_}
 use mathlib.Core.Bool.{Bool, false}
 use mathlib.Core.List.{List}
 use lib.ListN.{getD, set}
@@ -51,6 +52,10 @@ heardSlotAt base d = (base + d) % slotsHeard
 -- the slot of message i of the number whose slot is j
 abbrev pub messageSlot : ℕ → ℕ → ℕ
 messageSlot j i = j * messagesLimit + i
+
+-- slot k is none of the first m message slots of slot j
+abbrev pub Apart : ℕ → ℕ → ℕ → Type 0
+Apart j m k = (i : ℕ) → i < m → k ≡ messageSlot j i → ⊥
 
 -- each state, in document 01's word
 abbrev pub stateOf : State → cells.State

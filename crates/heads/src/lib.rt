@@ -5,8 +5,11 @@ mod laid;
 
 use datagrams::Packet;
 use datagrams::Parity;
+pub use laid::heard_slot;
 pub use laid::is_unknown;
+pub use laid::kept_slot;
 pub use laid::place;
+pub use laid::total;
 ghost use mathlib.Core.Path.{_≡_};
 ghost use Rattle.views.specs.View.{sessionLimit};
 ghost use Rattle.heads.specs.Head.{slotsKept, slotsHeard, packetOctets, messageOctets};
@@ -63,6 +66,8 @@ impl Session {
     pub const BEFORE: usize = 32;
 
     pub const HEARD: usize = 32;
+    // The same, as a distance from the base: what is nearer may be accepted.
+    pub const AHEAD: u16 = Session::HEARD as u16;
 
     pub const KEPT: usize = Session::BEFORE + Session::HEARD;
 

@@ -1,18 +1,17 @@
 -- The number that was marked and whose messages were laid: slot by slot, every other number's mark and messages are as they
 -- were; then place by place, one place of what is held is set, and the ranges are kept. Assumes nothing.
-use Prim.Native.Nat.{ℕ, zero, suc, _+_, _-_, _*_, _%_, _≤_, _<_}
-use mathlib.Core.Path.{_≡_, refl, sym, ap, ap₂, subst, _∙_}
-use mathlib.Core.Bool.{Bool, true, false, cond, _&&_}
-use mathlib.Core.List.{List, [], _∷_, map}
-use mathlib.Core.Logic.{_⊎_, inl, inr, ⊎-elim}
-use lib.ListN.{length, getD, set, take, length-set}
+use Prim.Native.Nat.{ℕ, _+_, _%_, _≤_, _<_}
+use mathlib.Core.Path.{_≡_, sym, ap, subst, _∙_}
+use mathlib.Core.Bool.{Bool, true, false}
+use mathlib.Core.List.{List}
+use mathlib.Core.Logic.{⊎-elim}
+use lib.ListN.{length, getD, set, length-set}
 use lib.Seq.{getD-set-same, getD-set-other}
-use lib.Dec.{leb, ltb, eqb}
-use native.Mathlib.Nat.{not-suc-le-zero, le-of-suc-le-suc}
+use lib.Dec.{eqb}
 use native.Mathlib.Omega.{arith}
-use borrow.Author.Tests.{le-leb, lt-ltb, le-ltb, eq-eqb, ne-eqb, leb-true, eqb-true}
+use borrow.Author.Tests.{le-leb, lt-ltb, le-ltb, eq-eqb, ne-eqb, eqb-true}
 use Rattle.octets.specs.Place.{tab}
-use Rattle.octets.proofs.Place.{tab-ext, tab-set}
+use Rattle.octets.proofs.Place.{tab-ext, tab-set, tab-take}
 use Rattle.octets.proofs.Cases.{same-or-not, below-or-not, and-left, and-right, and-both}
 use Rattle.datagrams.specs.Sizes.{packetLimit, messageLimit, coveredLimit, messagesLimit}
 use Rattle.datagrams.specs.Read.{octetsOf}
@@ -22,14 +21,14 @@ use Rattle.repair.specs.Cells.{keptBefore, keptAhead}
 use Rattle.repair.specs.Held.{Held}
 use Rattle.stores.specs.Store.{HasSlot, part, zerosPast}
 use Rattle.views.specs.View.{numbers}
-use Rattle.heads.specs.Head.{slotAt, heardSlotAt, messageSlot, slotsHeard, slotsMessages, messageOctets, keptIn, heardIn, sizeIn, heldIn, heldOf}
+use Rattle.heads.specs.Head.{slotAt, heardSlotAt, messageSlot, Apart, slotsHeard, slotsMessages, messageOctets, keptIn, heardIn, sizeIn, heldIn, heldOf}
 use Rattle.heads.specs.Ranges.{sumInRange, keptInRange, isKnown, markInRange, messageInRange}
 use Rattle.heads.specs.Within.{Within, KeptWithin, HeardWithin}
 use Rattle.heads.specs.declared.Heard.{Heard}
 use Rattle.heads.specs.declared.Head.{Head}
 use Rattle.heads.proofs.Slots.{heard-small, message-small, heard-apart, message-apart, has-message-slot}
-use Rattle.heads.proofs.Parts.{markTest, HeardRight, heard-right, right-heard, mark-range, message-size, message-zeros}
-use Rattle.holding.specs.Steps.{itemAt, Fit, Apart, resized, SizesLaid, OctetsLaid, Laid}
+use Rattle.heads.proofs.Parts.{HeardRight, heard-within, right-heard, heard-sizes, message-size, message-none, message-zeros}
+use Rattle.holding.specs.Steps.{itemAt, Fit, resized, SizesLaid, OctetsLaid, Laid}
 use Rattle.holding.specs.Promise.{InSizes, Settings, Carries, Unmarked, heldOfParts, NumberHeld}
 
 -- ---- the settings
@@ -58,23 +57,6 @@ mark-none : (accepted known : Bool) (n m : ℕ) → accepted ≡ false → markI
 unfolding markInRange
 mark-none accepted known n m not e =
     eqb-true m 0 (and-left (eqb m 0) _ (rw not at e))
-
--- a message place past m has length 0
-message-none : (h : Head) (g : List ℕ) (j m i : ℕ) → messageInRange h g j m i ≡ true → m ≤ i → sizeIn h (messageSlot j i) ≡ 0
-unfolding messageInRange
-message-none h g j m i e past =
-    let most = leb-true (sizeIn h (messageSlot j i)) (cond (ltb i m) messageLimit 0)
-    (and-left (leb (sizeIn h (messageSlot j i)) (cond (ltb i m) messageLimit 0)) _ e) in
-    let none = rw (le-ltb i m past) at most in
-    omega arith
-
--- ---- items by place
-items-tab : {A B : Type 0} (f : A → B) (items : List A) (none : A) (count : ℕ) → count ≤ length items
-    → tab count (λ i. f (getD items i none)) ≡ map f (take count items)
-unfolding tab
-items-tab f items none zero fits = refl
-items-tab f [] none (suc count) fits = absurd (not-suc-le-zero fits)
-items-tab f (x ∷ items) none (suc count) fits = ap (λ (l : List _). f x ∷ l) (items-tab f items none count (le-of-suc-le-suc fits))
 
 -- ---- the head after: the number at distance d is marked
 abbrev mark : ℕ → ℕ → Heard
@@ -114,7 +96,7 @@ module _ {h : Head} {o g s : List ℕ} {d n : ℕ} {items : List Part} {count : 
 
   -- the number had no messages: its message slots hold zeros alone
   right : HeardRight h g d
-  right = heard-right h g d (u .within .heard .each d (c .near))
+  right = heard-within (u .within) d (c .near)
 
   none-held : (heardIn h (heardSlotAt (h .base) d)) .m ≡ 0
   none-held = mark-none _ _ _ _ (u .unmarked) (right .mark)
@@ -180,7 +162,7 @@ module _ {h : Head} {o g s : List ℕ} {d n : ℕ} {items : List Part} {count : 
       let j = heardSlotAt (h .base) e in
       let known = isKnown ((keptIn h (slotAt (h .base) (keptBefore + e))) .state) in
       let same = heard-other (heardSlotAt (h .base) e) (far e small other) in
-      let was = heard-right h g e (u .within .heard .each e small) in
+      let was = heard-within (u .within) e small in
       record {
         mark = ap (λ (x : Heard). markInRange (x .accepted) known (x .n) (x .m)) same ∙ was .mark;
         message = λ i low.
@@ -230,15 +212,15 @@ module _ {h : Head} {o g s : List ℕ} {d n : ℕ} {items : List Part} {count : 
       (λ i below.
       ap (λ (size : ℕ). part after (messageSlot (heardSlotAt (h .base) d) i) size) (size-here i below)
       ∙ laid .here i below)
-      ∙ items-tab (octetsOf s) items nowhere count (c .there))
+      ∙ tab-take (octetsOf s) items nowhere count (c .there))
 
   held-other : (e : ℕ) → e < keptAhead → (e ≡ d → ⊥)
       → heldIn (marked h (heardSlotAt (h .base) d) n count sizes) after (heardSlotAt (h .base) e) ≡ heldIn h g (heardSlotAt (h .base) e)
   unfolding heldIn
   held-other e small other =
       let j = heardSlotAt (h .base) e in
-      let was = heard-right h g e (u .within .heard .each e small) in
-      let short = mark-range _ _ _ _ (was .mark) .1 in
+      let was = heard-within (u .within) e small in
+      let short = heard-sizes was .1 in
       ap
       (λ (x : Heard).
       record {

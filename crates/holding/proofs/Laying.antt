@@ -15,10 +15,10 @@ use Rattle.datagrams.specs.Claims.{PartInside}
 use Rattle.datagrams.specs.declared.reader.Part.{Part}
 use Rattle.stores.specs.Store.{HasSlot, part, zerosPast, pasted}
 use Rattle.stores.proofs.Laws.{length-pasted, part-pasted, part-pasted-other, zerosPast-pasted, zerosPast-other}
-use Rattle.heads.specs.Head.{messageSlot, slotsHeard, messageOctets}
+use Rattle.heads.specs.Head.{messageSlot, Apart, slotsHeard, messageOctets}
 use Rattle.heads.specs.declared.Head.{Head}
-use Rattle.heads.proofs.Slots.{message-small, has-message-slot}
-use Rattle.holding.specs.Steps.{itemAt, PartPut, Fit, Apart, resized, SizesLaid, OctetsLaid, Laid}
+use Rattle.heads.proofs.Slots.{message-small, has-message-slot, apart-before, apart-here}
+use Rattle.holding.specs.Steps.{itemAt, PartPut, Fit, resized, SizesLaid, OctetsLaid, Laid}
 
 -- ---- a part of the datagram has as many octets as it says
 pub length-octets : {least most : ℕ} {s : List ℕ} {p : Part} → PartInside least most s p → length (octetsOf s p) ≡ p .size
@@ -31,13 +31,6 @@ pub part-put : {slot : ℕ} {s : List ℕ} {p : Part} {old new : List ℕ}
 part-put {slot} {s} {p} {old} {new} e =
     let all : p .start + p .size - p .start ≡ p .size = omega arith in
     record { size = refl; octets = rw all at e }
-
--- ---- a slot apart from the first i + 1 is apart from the first i, and is not slot i
-apart-before : (j i k : ℕ) → Apart j (i + 1) k → Apart j i k
-apart-before j i k apart e below = apart e (omega arith)
-
-apart-here : (j i k : ℕ) → Apart j (i + 1) k → k ≡ messageSlot j i → ⊥
-apart-here j i k apart = apart i (omega arith)
 
 -- slot i is apart from those before it
 apart-next : (j i : ℕ) → Apart j i (messageSlot j i)

@@ -11,7 +11,7 @@ use Rattle.datagrams.specs.Promise.{nowhere}
 use Rattle.datagrams.specs.Claims.{PartInside}
 use Rattle.datagrams.specs.declared.reader.Part.{Part}
 use Rattle.stores.specs.Store.{HasSlot, part, zerosPast, pasted}
-use Rattle.heads.specs.Head.{messageSlot}
+use Rattle.heads.specs.Head.{messageSlot, Apart}
 use Rattle.heads.specs.declared.Head.{Head}
 
 -- what put_part owes: the octets of the part at the front of the slot, and how many they are
@@ -27,10 +27,6 @@ itemAt items i = getD items i nowhere
 pub record Fit (s : List ℕ) (items : List Part) (count : ℕ) : Type 0 where
   pub few : count ≤ messagesLimit
   pub each : (i : ℕ) → i < count → PartInside messageLeast messageLimit s (itemAt items i)
-
--- slot k is none of the first m message slots of slot j
-abbrev pub Apart : ℕ → ℕ → ℕ → Type 0
-Apart j m k = (i : ℕ) → i < m → k ≡ messageSlot j i → ⊥
 
 -- the head with other message sizes
 abbrev pub resized : Head → List ℕ → Head

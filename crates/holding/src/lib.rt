@@ -16,13 +16,6 @@ ghost use Rattle.heads.specs.Head.{slotsHeard, messageOctets};
 ghost use Rattle.holding.specs.Steps.{PartPut, Fit, Laid};
 ghost use Rattle.holding.specs.Promise.{Carries, NumberHeld};
 
-// A number of sixteen bits as a size.
-fn wide(n: u16) -> usize
-    ensures { λ r. ⌜ r ≡ n ⌝ }
-{
-    n as usize
-}
-
 // The octets of a part of the datagram s, laid at the front of a slot: hands back how many.
 pub fn put_part(g: &mut [u8], slot: usize, s: &[u8], item: Part) -> u16
     requires { ⌜ HasSlot slot (now g) ⌝ }
@@ -81,7 +74,7 @@ pub fn hold(
 {
     let base = h.base;
     let number = std::num::wrapping_add_u16(base, distance);
-    let slot = wide(number % 32);
+    let slot = heads::heard_slot(number);
     let m = count as u8;
     let mut marked = h;
     marked.heard[slot] = Heard {

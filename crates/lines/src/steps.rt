@@ -84,7 +84,7 @@ fn releases(
     let mut end = at;
     let mut left = Session::HEARD;
     while left > 0 {
-        let slot = receiving::slot_of(head.base);
+        let slot = heads::kept_slot(head.base);
         let kept = head.kept[slot];
         let state = kept.state;
         if heads::is_unknown(state) {

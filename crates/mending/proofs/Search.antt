@@ -8,7 +8,6 @@ use mathlib.Core.Logic.{⊎-elim}
 use mathlib.Core.Option.{Option, none, some}
 use lib.ListN.{length, getD, List·getD-eq-default}
 use lib.Dec.{leb, eqb}
-use native.Mathlib.Nat.{mul-le-mul, le-trans}
 use native.Mathlib.Omega.{arith}
 use borrow.Author.Tests.{le-leb, lt-leb, eq-eqb, ne-eqb}
 use Rattle.octets.specs.Place.{tab}
@@ -26,8 +25,8 @@ use Rattle.heads.specs.Head.{numberAt, slotAt, heardSlotAt, messageSlot, slotsK
 use Rattle.heads.specs.Within.{Within}
 use Rattle.heads.specs.declared.Head.{Head}
 use Rattle.heads.specs.declared.Heard.{Heard}
-use Rattle.heads.proofs.Parts.{HeardRight, heard-right, mark-range, message-size, distance-of}
-use Rattle.heads.proofs.Slots.{heard-small, message-small, has-message-slot}
+use Rattle.heads.proofs.Parts.{heard-within, heard-sizes, reach-range, message-size}
+use Rattle.heads.proofs.Slots.{heard-small, message-small, has-message-slot, heard-slot-of}
 use Rattle.mending.specs.Back.{flag, Flags, countBack, findBack}
 use Rattle.mending.specs.Promise.{Sized, heardAt, messageIn, missingOf, Points, LowestFound, Sees, LowestSeen, UsableFound}
 use Rattle.mending.specs.declared.Lowest.{Lowest}
@@ -39,7 +38,7 @@ use Rattle.mending.proofs.Members.{membersBack, unseen, counted, found-
 -- ---- within the ranges n and m of every number are within the sizes
 sized-at : {h : Head} {o g : List ℕ} → Within h o g → (d : ℕ) → d < keptAhead
     → ((heardAt h d) .n ≤ coveredLimit) × ((heardAt h d) .m ≤ messagesLimit)
-sized-at {h} {o} {g} w d near = mark-range _ _ _ _ ((heard-right h g d (w .heard .each d near)) .mark)
+sized-at {h} {o} {g} w d near = heard-sizes (heard-within w d near)
 
 pub sized-within : {h : Head} {o g : List ℕ} → Within h o g → Sized h
 sized-within {h} {o} {g} w =
@@ -47,11 +46,11 @@ sized-within {h} {o} {g} w =
       sizes = w .heard .sizes;
       covered =
           λ j small.
-          let d = distance-of (h .base) j (w .base) small in
+          let d = heard-slot-of (h .base) j small in
           rw (d .2) at (sized-at w (d .0) (d .1) .0);
       messages =
           λ j small.
-          let d = distance-of (h .base) j (w .base) small in
+          let d = heard-slot-of (h .base) j small in
           rw (d .2) at (sized-at w (d .0) (d .1) .1);
     }
 
@@ -60,13 +59,13 @@ pub reach-within : {h : Head} {o g : List ℕ} → Within h o g → (d : ℕ) �
     → ((heardAt h d) .n * (heardAt h d) .m ≤ keptBefore) × ((heardAt h d) .m ≤ messagesLimit)
 reach-within w d near =
     let sizes = sized-at w d near in
-    (mul-le-mul (sizes .0) (sizes .1), sizes .1)
+    (reach-range (sizes .0) (sizes .1), sizes .1)
 
 pub size-within : {h : Head} {o g : List ℕ} → Within h o g → (d : ℕ) → d < keptAhead → (i : ℕ) → i < (heardAt h d) .m
     → sizeIn h (messageSlot (heardSlotAt (h .base) d) i) ≤ packetLimit
 size-within {h} {o} {g} w d near i low =
     let few : i < messagesLimit = omega (arith, sized-at w d near .1) in
-    message-size h g _ _ i ((heard-right h g d (w .heard .each d near)) .message i few)
+    message-size h g _ _ i (heard-within w d near .message i few)
 
 -- ---- a message as the code sees it
 module _ {h : Head} {o g : List ℕ} (w : Within h o g) (d : ℕ) (near : d < keptAhead) (i : ℕ) (low : i < (heardAt h d) .m) where
@@ -80,7 +79,7 @@ module _ {h : Head} {o g : List ℕ} (w : Within h o g) (d : ℕ) (near : d < ke
   sizes = sized-at w d near
 
   reach : (heardAt h d) .n * (heardAt h d) .m ≤ keptBefore
-  reach = mul-le-mul (sizes .0) (sizes .1)
+  reach = reach-range (sizes .0) (sizes .1)
 
   pub octets-long : length ((messageIn h g d i) .octets) ≡ sizeIn h (messageSlot (heardSlotAt (h .base) d) i)
   unfolding messageIn
@@ -88,7 +87,7 @@ module _ {h : Head} {o g : List ℕ} (w : Within h o g) (d : ℕ) (near : d < ke
       let few : i < messagesLimit = omega (arith, sizes .1) in
       length-part g (messageSlot (heardSlotAt (h .base) d) i) _
       (has-message-slot g _ (w .heard .octets) (message-small _ i (heard-small (h .base) d) few))
-      (message-size h g _ _ i ((heard-right h g d (w .heard .each d near)) .message i few))
+      (message-size h g _ _ i (heard-within w d near .message i few))
 
   -- the count of the code is document 01's test
   module _ {flags : List ℕ} (f : Flags h flags) where

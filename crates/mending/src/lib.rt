@@ -40,17 +40,11 @@ enum Lowest {
     Nothing,
 }
 
-// An octet as a size, and a size or a small number of 16 bits as one.
+// An octet as a size.
 fn wide(octet: u8) -> usize
     ensures { λ r. ⌜ Octet octet r ⌝ }
 {
     octet as usize
-}
-
-fn wide16(n: u16) -> usize
-    ensures { λ r. ⌜ r ≡ n ⌝ }
-{
-    n as usize
 }
 
 // One for an unknown number, zero for any other.
@@ -102,7 +96,7 @@ fn count_back(flags: &[u8], x: u16, n: usize, m: u16) -> usize
     while t < n {
         let member = back(at, m);
         at = member;
-        let slot = wide16(member % 64);
+        let slot = heads::kept_slot(member);
         let one = wide(flags[slot]);
         count = count + one;
         t += 1;
@@ -120,7 +114,7 @@ fn find_back(flags: &[u8], x: u16, n: usize, m: u16) -> usize
     while t < n {
         let member = back(at, m);
         at = member;
-        let slot = wide16(member % 64);
+        let slot = heads::kept_slot(member);
         let one = wide(flags[slot]);
         if one == 1 {
             return slot;
@@ -157,7 +151,7 @@ fn lowest_usable(flags: &[u8], sizes: &[u16], at: u16, slot: usize, n: usize, m:
 {
     let mut i: u16 = 0;
     while i < m {
-        let index = wide16(i);
+        let index = stores::wide(i);
         let place = slot * Parity::MESSAGES + index;
         let size = sizes[place];
         let first = std::num::wrapping_add_u16(at, i);
@@ -183,9 +177,9 @@ fn first_usable(h: Head) -> Usable
     let sizes = h.sizes;
     let base = h.base;
     let mut distance: u16 = 0;
-    while distance < 32 {
+    while distance < Session::AHEAD {
         let at = std::num::wrapping_add_u16(base, distance);
-        let slot = wide16(at % 32);
+        let slot = heads::heard_slot(at);
         let heard = h.heard[slot];
         let n = wide(heard.n);
         let m = number(heard.m);
@@ -213,7 +207,7 @@ fn add_members(o: &[u8], x: u16, n: usize, m: u16, sum: &mut [u8])
     while t < n {
         let member = back(at, m);
         at = member;
-        let slot = wide16(member % 64);
+        let slot = heads::kept_slot(member);
         stores::add(o, slot, sum);
         t += 1;
     }
@@ -229,12 +223,12 @@ fn mended(h: Head, o: &[u8], g: &[u8], distance: u16, index: usize) -> [u8; Pack
 {
     let base = h.base;
     let at = std::num::wrapping_add_u16(base, distance);
-    let slot = wide16(at % 32);
+    let slot = heads::heard_slot(at);
     let heard = h.heard[slot];
     let n = wide(heard.n);
     let m = number(heard.m);
     let place = slot * Parity::MESSAGES + index;
-    let size = wide16(h.sizes[place]);
+    let size = stores::wide(h.sizes[place]);
     let mut sum = [0u8; Packet::LIMIT];
     stores::copy_out(g, place, size, &mut sum);
     let first = std::num::wrapping_add_u16(at, index as u16);
@@ -249,7 +243,7 @@ fn size_of(h: Head, distance: u16, index: usize) -> u16
 {
     let base = h.base;
     let at = std::num::wrapping_add_u16(base, distance);
-    let slot = wide16(at % 32);
+    let slot = heads::heard_slot(at);
     let place = slot * Parity::MESSAGES + index;
     h.sizes[place]
 }
@@ -264,7 +258,7 @@ fn fill(h: Head, o: &mut [u8], g: &[u8], distance: u16, index: usize, slot: usiz
 {
     let sum = mended(h, &o[..], g, distance, index);
     let size = size_of(h, distance, index);
-    let end = wide16(size);
+    let end = stores::wide(size);
     stores::put(o, slot, &sum[..end]);
     heads::place(
         h,

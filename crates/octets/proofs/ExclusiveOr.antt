@@ -1,12 +1,12 @@
 -- Laws of the exclusive or: of two numbers, of several lists at a place, and of several lists over a length. Order and
 -- grouping don't matter, and what is added twice is gone. Assumes nothing.
-use Prim.Native.Nat.{ℕ, zero, suc, _+_, _*_, _/_, _%_, _≤_, _<_}
+use Prim.Native.Nat.{ℕ, zero, suc, _+_, _*_, _/_, _%_, _≤_, _<_, max}
 use mathlib.Core.Path.{_≡_, refl, sym, ap, ap₂, _∙_}
 use mathlib.Core.Logic.{⊎-elim}
 use mathlib.Core.List.{List, [], _∷_, _++_, map, List·Memᴰ as Among}
 use mathlib.Core.List.{List·Permᴰ, List·Permᴰ·nil, List·Permᴰ·cons, List·Permᴰ·swap, List·Permᴰ·trans}
 use mathlib.Core.List.{List·Memᴰ·not-nil, List·Memᴰ·cases-cons, List·Memᴰ·head as here, List·Memᴰ·tail as further}
-use lib.ListN.{length, getD, List·getD-eq-default}
+use lib.ListN.{length, getD, replicate, List·getD-eq-default}
 use lib.Bits.{bitXor, differ, xor-step, xor-shr, xor-mod, xor-comm, xor-self, xor-zero-r, xor-lt}
 use lib.Arith.{bin-ind}
 use native.Mathlib.Nat.{mod-lt}
@@ -14,7 +14,7 @@ use native.Mathlib.Omega.{arith}
 use Rattle.octets.specs.Place.{tab}
 use Rattle.octets.specs.ExclusiveOr.{xorAt, exclusiveOr, longest}
 use Rattle.octets.proofs.Cases.{below-or-not}
-use Rattle.octets.proofs.Place.{length-tab, tab-at, tab-ext, tab-getD}
+use Rattle.octets.proofs.Place.{length-tab, tab-at, tab-ext, tab-getD, tab-same}
 
 -- ---- of two numbers
 -- of two digits and a third, however they are grouped
@@ -118,6 +118,12 @@ longest-least n (l ∷ ls) each =
       longest-least n ls (λ other m. each other (further m)),
     )
 
+-- one list more, as a loop goes
+pub longest-more : (ls : List (List ℕ)) (l : List ℕ) → longest (ls ++ (l ∷ [])) ≡ max (longest ls) (length l)
+unfolding longest
+longest-more [] l = omega arith
+longest-more (first ∷ ls) l = let rest = longest-more ls l in omega arith
+
 -- past the longest there are zeros
 pub xorAt-past : (ls : List (List ℕ)) (k : ℕ) → longest ls ≤ k → xorAt ls k ≡ 0
 unfolding xorAt longest
@@ -151,6 +157,11 @@ exclusiveOr-octet n ls k small =
     ⊎-elim (λ inside. rw (exclusiveOr-at n ls k inside) (xorAt-octet ls k small))
     (λ past. rw (exclusiveOr-past n ls k past) (omega arith))
     (below-or-not k n)
+
+-- of no list
+pub exclusiveOr-none : (n : ℕ) → replicate n 0 ≡ exclusiveOr n []
+unfolding exclusiveOr xorAt
+exclusiveOr-none n = sym (tab-same n 0)
 
 -- one list more, added to what has been summed so far, as a loop goes
 pub exclusiveOr-more : (n : ℕ) (ls : List (List ℕ)) (l : List ℕ)

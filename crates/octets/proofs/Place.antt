@@ -3,9 +3,9 @@ use Prim.Native.Nat.{ℕ, zero, suc, _+_, _≤_, _<_, zero-le, suc-le-suc}
 use mathlib.Core.Path.{_≡_, refl, sym, ap, ap₂, _∙_}
 use mathlib.Core.Logic.{⊎-elim}
 use mathlib.Core.Bool.{Bool, true, false, _&&_}
-use mathlib.Core.List.{List, [], _∷_, _++_, List·Memᴰ as Among, List·Memᴰ·head as here, List·Memᴰ·tail as further}
+use mathlib.Core.List.{List, [], _∷_, _++_, map, List·Memᴰ as Among, List·Memᴰ·head as here, List·Memᴰ·tail as further}
 use mathlib.Core.List.{List·Memᴰ·not-nil, List·Memᴰ·cases-cons}
-use lib.ListN.{length, getD, set, length-set}
+use lib.ListN.{length, getD, set, take, drop, replicate, length-set}
 use lib.Seq.{ext-getD, getD-set-same, getD-set-other}
 use native.Mathlib.Nat.{not-suc-le-zero, le-of-suc-le-suc}
 use native.Mathlib.Numerals.{add-one}
@@ -111,3 +111,33 @@ pub tab-snoc : {A : Type 0} (n : ℕ) (f : ℕ → A) → tab (suc n) f ≡ tab 
 unfolding tab
 tab-snoc zero f = refl
 tab-snoc (suc n) f = ap (λ (t : List _). f zero ∷ t) (tab-snoc n (λ k. f (suc k)))
+
+-- the same, as a loop's turn has it
+pub tab-more : {A : Type 0} (n : ℕ) (f : ℕ → A) → tab (n + 1) f ≡ tab n f ++ (f n ∷ [])
+tab-more n f = rw add-one (tab-snoc n f)
+
+-- one place further: all but the first, and a last one
+pub tab-shift : {A : Type 0} (n : ℕ) (f g : ℕ → A) (last : A) → ((k : ℕ) → k < n → f k ≡ g (suc k)) → f n ≡ last
+    → tab (suc n) f ≡ drop 1 (tab (suc n) g) ++ (last ∷ [])
+unfolding tab
+tab-shift n f g last same end =
+    tab-snoc n f ∙ ap₂ (λ (l : List _) (a : _). l ++ (a ∷ [])) (tab-ext n f (λ k. g (suc k)) same) end
+
+-- ---- a tab and other lists
+-- the same at each place
+pub tab-same : {A : Type 0} (n : ℕ) (a : A) → tab n (λ k. a) ≡ replicate n a
+unfolding tab
+tab-same zero a = refl
+tab-same (suc n) a = ap (λ (l : List _). a ∷ l) (tab-same n a)
+
+pub map-tab : {A B : Type 0} (f : A → B) (n : ℕ) (g : ℕ → A) → map f (tab n g) ≡ tab n (λ k. f (g k))
+unfolding tab
+map-tab f zero g = refl
+map-tab f (suc n) g = ap (λ (l : List _). f (g zero) ∷ l) (map-tab f n (λ k. g (suc k)))
+
+-- the first n of a list, by place
+pub tab-take : {A B : Type 0} (f : A → B) (l : List A) (d : A) (n : ℕ) → n ≤ length l → tab n (λ k. f (getD l k d)) ≡ map f (take n l)
+unfolding tab
+tab-take f l d zero fits = refl
+tab-take f [] d (suc n) fits = absurd (not-suc-le-zero fits)
+tab-take f (x ∷ l) d (suc n) fits = ap (λ (t : List _). f x ∷ t) (tab-take f l d n (le-of-suc-le-suc fits))

@@ -12,6 +12,7 @@ use borrow.Author.Tests.{leb-true, leb-false}
 use Rattle.lengths.specs.Answers.{done, LengthAnswer}
 use Rattle.lengths.specs.Length.{lengthAt, ofTwo}
 use Rattle.lengths.proofs.Laws.{Form, one, two, form, lengthAt-one, lengthAt-two}
+use Rattle.datagrams.proofs.WriteLaws.{both}
 use Rattle.packets.specs.Packet.{Place, First, every}
 use Rattle.packets.specs.Read.{PacketAnswer, firstAt, Count, countAt, headerAt, sizeAt, FieldAnswer, fieldAt, FieldsAnswer, fieldsAt, readPacket}
 use Rattle.packets.specs.Claims.{PartsWithin, ZerosFollow, ZerosAlike}
@@ -19,7 +20,6 @@ use Rattle.packets.specs.declared.types.Ending.{Ending}
 use Rattle.packets.specs.declared.types.Ending.the-variants.{Repaired}
 use Rattle.packets.proofs.ReadLaws.{stepped, first-form, first-of, count-form, count-of, header-form, header-of, size-form, size-of, FieldForm, bare, full, field-form, bare-of, full-of, PacketForm, packet-form, packet-of}
 use Rattle.packets.proofs.ReadPacket.{count-within, fields-inside, FieldsInside}
-use Rattle.packets.proofs.WriteLaws.{both-first, both-second}
 use Rattle.packets.proofs.WrittenReads.{zeros-all}
 
 module _ (s more : List ℕ) where
@@ -122,7 +122,7 @@ zeros-more : (s : List ℕ) (n : ℕ) → every (λ x. eqb x 0) s ≡ true → e
 unfolding every
 zeros-more [] n all = zeros-all n
 zeros-more (x ∷ s) n all =
-    rw (both-first (eqb x 0) (every (λ y. eqb y 0) s) all) (zeros-more s n (both-second (eqb x 0) (every (λ y. eqb y 0) s) all))
+    rw (both (eqb x 0) (every (λ y. eqb y 0) s) all .0) (zeros-more s n (both (eqb x 0) (every (λ y. eqb y 0) s) all .1))
 
 pub zeros-follow : ZerosFollow
 zeros-follow s p n reads room =

@@ -2,13 +2,14 @@
 -- to be written. Assumes nothing.
 use Prim.Native.Nat.{ℕ, _+_, _-_, _≤_, _<_}
 use mathlib.Core.Path.{_≡_, refl, sym, ap, ap₂, _∙_}
-use mathlib.Core.Bool.{Bool, true, false, not, _&&_}
+use mathlib.Core.Bool.{Bool, true, false, not, cond, _&&_}
 use mathlib.Core.List.{List}
 use lib.ListN.{length, getD, drop, drop-of-length-le}
 use lib.Dec.{leb, ltb, eqb}
 use native.Mathlib.Omega.{arith}
 use borrow.Author.Tests.{lt-ltb, le-ltb, eq-eqb, ne-eqb, not-true, not-false}
 use Rattle.lengths.specs.Refusals.{outsideSizes, wrongSettings, notAssigned, wrongData}
+use Rattle.lengths.specs.Answers.{done, refuse}
 use Rattle.lengths.specs.Promise.{RefusalMade}
 use Rattle.lengths.specs.declared.Refusal.{Refusal}
 use Rattle.lengths.specs.declared.Written.the-variants as written
@@ -139,6 +140,25 @@ size-is : (k : Kind) (v : ℕ) (ts ns d : List ℕ) (each : Bool) (size : ℕ) �
 size-is k v ts ns d each size few isEach so isSize =
     packet-length k v ts ns d few (sym isEach ∙ not-false each so) ∙ sym isSize
 
+-- where all tests before that of the sizes are passed
+passed : (k : Kind) (v : ℕ) (ts ns d : List ℕ) {each known right fits : Bool} {size : ℕ} → length ts ≤ fieldsLimit → each ≡ oneEach ts ns d
+    → not each ≡ false → known ≡ allAssigned k v ts → not known ≡ false → right ≡ allRight k ts ns → not right ≡ false
+    → size ≡ packetSize ns → fits ≡ inSizes ns size
+    → packetToWrite k v ts ns d ≡ cond (not fits) (refuse outsideSizes) (done (packetOctets k v ts ns d))
+unfolding packetToWrite
+passed k v ts ns d {each} {known} {right} {fits} {size} few isEach so isKnown soKnown isRight soRight isSize isFits =
+    rw (
+      le-ltb fieldsLimit (length ts) few,
+      ← isEach,
+      so,
+      ← isKnown,
+      soKnown,
+      ← isRight,
+      soRight,
+      size-is k v ts ns d each size few isEach so isSize,
+      ← isFits,
+    )
+
 module _ {k : Kind} {v : ℕ} {ts ns d : List ℕ} where
   pub measured-many : {x : Refusal} → fieldsLimit < length ts → RefusalMade outsideSizes x → Measured k v ts ns d (written.Refused x)
   unfolding packetToWrite
@@ -166,40 +186,14 @@ module _ {k : Kind} {v : ℕ} {ts ns d : List ℕ} where
 
         module _ {size : ℕ} {fits : Bool} (soRight : not right ≡ false) (isSize : size ≡ packetSize ns) (isFits : fits ≡ inSizes ns size) where
           pub measured-sizes : {x : Refusal} → not fits ≡ true → RefusalMade outsideSizes x → Measured k v ts ns d (written.Refused x)
-          unfolding packetToWrite
-          measured-sizes not-so made =
-              record {
-                answer =
-                    rw (
-                      le-ltb fieldsLimit (length ts) few,
-                      ← isEach,
-                      so,
-                      ← isKnown,
-                      soKnown,
-                      ← isRight,
-                      soRight,
-                      size-is k v ts ns d each size few isEach so isSize,
-                      ← isFits,
-                      not-so,
-                      made .answer,
-                    );
-              }
+          measured-sizes not-so made = record { answer = rw (passed k v ts ns d few isEach so isKnown soKnown isRight soRight isSize isFits, not-so, made .answer) }
 
           pub measured-size : not fits ≡ false → Measured k v ts ns d (written.Octets size)
-          unfolding packetToWrite
           measured-size soFits =
               record {
                 answer =
                     rw (
-                      le-ltb fieldsLimit (length ts) few,
-                      ← isEach,
-                      so,
-                      ← isKnown,
-                      soKnown,
-                      ← isRight,
-                      soRight,
-                      size-is k v ts ns d each size few isEach so isSize,
-                      ← isFits,
+                      passed k v ts ns d few isEach so isKnown soKnown isRight soRight isSize isFits,
                       soFits,
                       size-is k v ts ns d each size few isEach so isSize,
                     );

@@ -11,12 +11,12 @@ use native.Mathlib.Omega.{arith}
 use borrow.Rule.Slice.PartMut.{putMid}
 use borrow.Author.Tests.{leb-true}
 use Rattle.datagrams.specs.Sizes.{packetLimit}
+use Rattle.datagrams.proofs.WriteLaws.{both}
 use Rattle.packets.specs.Packet.{typesLimit, every}
 use Rattle.packets.specs.Write.{fieldOctets, fieldsOctets, sum}
 use Rattle.packets.specs.Items.{Laid, FieldFits, FieldLaid, FieldsFit, Wide}
 use Rattle.packets.proofs.ReadItems.{rest, rest-is}
 use Rattle.packets.proofs.Every.{drop-next, total-next}
-use Rattle.packets.proofs.WriteLaws.{both-first, both-second}
 use Rattle.packets.proofs.Putting.{put-rest}
 
 -- octets in the place of those from `at` on
@@ -48,8 +48,8 @@ laid-more at f r old inside =
 every-at : (test : ℕ → Bool) (s : List ℕ) (i : ℕ) → every test s ≡ true → i < length s → test (getD s i 0) ≡ true
 unfolding every
 every-at test [] i all h = absurd (omega arith)
-every-at test (x ∷ s) zero all h = both-first (test x) (every test s) all
-every-at test (x ∷ s) (suc i) all h = every-at test s i (both-second (test x) (every test s) all) (omega arith)
+every-at test (x ∷ s) zero all h = both (test x) (every test s) all .0
+every-at test (x ∷ s) (suc i) all h = every-at test s i (both (test x) (every test s) all .1) (omega arith)
 
 fields-next : (ts ns d : List ℕ) (i : ℕ) → i < length ts → length ts ≡ length ns
     → fieldsOctets (drop i ts) (drop i ns) d

@@ -14,6 +14,7 @@ use Rattle.lengths.specs.Claims.{Octets}
 use Rattle.lengths.specs.Length.{lengthOctets}
 use Rattle.lengths.proofs.Laws.{read-writes, sizes-read}
 use Rattle.datagrams.specs.Sizes.{packetLimit}
+use Rattle.datagrams.proofs.WriteLaws.{both}
 use Rattle.packets.specs.Packet.{Place, First, Header, fieldsLimit, typesLimit, rightFields, rightData, every, isSet, firstOf, headerOf, firstOctet, headerBits, dataOf, allData}
 use Rattle.packets.specs.Read.{Count, countAt, headerAt, sizeAt, FieldAnswer, fieldAt, FieldsAnswer, fieldsAt}
 use Rattle.packets.specs.Write.{withData, fieldOctets, fieldsOctets, packetOctets, sum, total, rightTypes, packetToWrite}
@@ -23,7 +24,7 @@ use Rattle.packets.specs.declared.types.Ending.the-variants.{Whole}
 use Rattle.packets.specs.declared.types.Field.{Field}
 use Rattle.packets.proofs.Every.{drop-next}
 use Rattle.packets.proofs.ReadLaws.{stepped, FirstForm, first-form, count-form, header-form, size-form, FieldForm, bare, full, field-form, packet-form}
-use Rattle.packets.proofs.WriteLaws.{both-first, both-second, field-bare, field-full, write-of}
+use Rattle.packets.proofs.WriteLaws.{field-bare, field-full, write-of}
 use Rattle.packets.proofs.ReadPacket.{fields-inside}
 
 -- ---- a test computed over all numbers below a bound
@@ -34,12 +35,12 @@ below test (suc n) = test n && below test n
 below-at : (test : ℕ → Bool) (n k : ℕ) → below test n ≡ true → k < n → test k ≡ true
 unfolding below
 below-at test zero k all h = absurd (omega arith)
-below-at test (suc n) k all h = by (ltb k n) refl (below-at test n k (both-second (test n) (below test n) all)) where
+below-at test (suc n) k all h = by (ltb k n) refl (below-at test n k (both (test n) (below test n) all .1)) where
   by : (b : Bool) → ltb k n ≡ b → (k < n → test k ≡ true) → test k ≡ true
   by true e before = before (ltb-true k n e)
   by false e before =
       let same : n ≡ k = omega (arith, ltb-false k n e) in
-      ap test (sym same) ∙ both-first (test n) (below test n) all
+      ap test (sym same) ∙ both (test n) (below test n) all .0
 
 -- a first octet without extension and spare bit is what its bits make it
 first-whole : ℕ → Bool

@@ -15,6 +15,7 @@ use Rattle.lengths.proofs.Laws.{lengthOctets-one}
 use Rattle.lengths.specs.Answers.{done}
 use Rattle.lengths.specs.declared.Written.the-variants as written
 use Rattle.datagrams.specs.Sizes.{packetLimit}
+use Rattle.datagrams.proofs.WriteLaws.{both}
 use Rattle.packets.specs.Packet.{fieldsLimit, typesLimit, assigned, rightFields, every, headerBits, firstOctet}
 use Rattle.packets.specs.Write.{withData, fieldOctets, fieldsOctets, packetOctets, sum, total, oneEach, allAssigned, rightTypes, allRight, inSizes, packetToWrite}
 use Rattle.packets.specs.Items.{fieldSize, packetSize, countedOctets}
@@ -22,24 +23,15 @@ use Rattle.packets.specs.declared.types.Kind.{Kind}
 use Rattle.packets.specs.declared.types.Kind.the-variants.{Indicator, Data}
 use Rattle.packets.proofs.ReadLaws.{past}
 
--- ---- both of two tests
-pub both-first : (a b : Bool) → (a && b) ≡ true → a ≡ true
-both-first true b e = refl
-both-first false b e = e
-
-pub both-second : (a b : Bool) → (a && b) ≡ true → b ≡ true
-both-second true b e = e
-both-second false b e = let z : true ≡ false = sym e in cc
-
 -- ---- one length for each type, and all of them the data's
 module _ (ts ns d : List ℕ) where
   pub each-sum : oneEach ts ns d ≡ true → sum ns ≡ length d
   unfolding oneEach
-  each-sum is = eqb-true _ _ (both-second (eqb (length ts) (length ns)) _ is)
+  each-sum is = eqb-true _ _ (both (eqb (length ts) (length ns)) _ is .1)
 
   pub each-length : oneEach ts ns d ≡ true → length ts ≡ length ns
   unfolding oneEach
-  each-length is = eqb-true _ _ (both-first _ (eqb (sum ns) (length d)) is)
+  each-length is = eqb-true _ _ (both _ (eqb (sum ns) (length d)) is .0)
 
 -- ---- the size
 pub field-length : (k : ℕ) (d : List ℕ) → length (fieldOctets k d) ≡ fieldSize (length d)
@@ -126,12 +118,12 @@ write-form k v ts ns d w e =
       few = ltb-false _ _ (few .0);
       same = each-length ts ns d one;
       all = each-sum ts ns d one;
-      known = ltb-true v (assigned k) (both-first _ (every (λ t. leb t typesLimit) ts) assignedAll);
-      types = both-second (ltb v (assigned k)) _ assignedAll;
-      fields = both-first _ (rightTypes ts ns) rightAll;
-      right = both-second (rightFields k (ltb 0 (length ts))) _ rightAll;
-      short = both-first _ (leb (length packet) packetLimit) sizesAll;
-      size = rw is (leb-true (length packet) packetLimit (both-second (every (λ n. leb n packetLimit) ns) _ sizesAll));
+      known = ltb-true v (assigned k) (both _ (every (λ t. leb t typesLimit) ts) assignedAll .0);
+      types = both (ltb v (assigned k)) _ assignedAll .1;
+      fields = both _ (rightTypes ts ns) rightAll .0;
+      right = both (rightFields k (ltb 0 (length ts))) _ rightAll .1;
+      short = both _ (leb (length packet) packetLimit) sizesAll .0;
+      size = rw is (leb-true (length packet) packetLimit (both (every (λ n. leb n packetLimit) ns) _ sizesAll .1));
       is = is;
     }
 

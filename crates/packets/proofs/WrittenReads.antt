@@ -12,6 +12,7 @@ use Rattle.lengths.specs.Answers.{done}
 use Rattle.lengths.specs.Length.{lengthAt, lengthOctets}
 use Rattle.lengths.proofs.Laws.{written-reads}
 use Rattle.datagrams.specs.Sizes.{packetLimit}
+use Rattle.datagrams.proofs.WriteLaws.{both}
 use Rattle.packets.specs.Packet.{Place, First, Header, typesLimit, assigned, rightFields, rightData, every, isSet, kindOf, firstOctet, dataOf, allData}
 use Rattle.packets.specs.Read.{firstAt, countAt, sizeAt, FieldAnswer, fieldAt, fieldsAt, mayFollow}
 use Rattle.packets.specs.Write.{withData, fieldOctets, fieldsOctets, sum, total, rightTypes}
@@ -22,7 +23,7 @@ use Rattle.packets.specs.declared.types.Ending.{Ending}
 use Rattle.packets.specs.declared.types.Ending.the-variants.{Whole, Repaired}
 use Rattle.packets.specs.declared.types.Field.{Field}
 use Rattle.packets.proofs.ReadLaws.{first-of, count-of, header-of, size-of, bare-of, full-of, packet-of}
-use Rattle.packets.proofs.WriteLaws.{both-first, both-second, field-bare, field-full, WriteForm, write-form, assigned-few, packet-bare, packet-full}
+use Rattle.packets.proofs.WriteLaws.{field-bare, field-full, WriteForm, write-form, assigned-few, packet-bare, packet-full}
 
 -- ---- the first octet: its bits come back
 record Bits (o : ℕ) (k : Kind) (v : ℕ) (p : Bool) : Type 0 where
@@ -194,20 +195,20 @@ fields-back (t ∷ ts) (n ∷ ns) d s pre more at is place same all known short 
     let f = fieldOctets t (take n d) in
     let r = fieldsOctets ts ns (drop n d) in
     let whole = is ∙ ap (λ (l : List ℕ). pre ++ l) (append-assoc f r more) in
-    let few : n ≤ packetLimit = leb-true n packetLimit (both-first (leb n packetLimit) (every (λ k. leb k packetLimit) ns) short) in
+    let few : n ≤ packetLimit = leb-true n packetLimit (both (leb n packetLimit) (every (λ k. leb k packetLimit) ns) short .0) in
     let one =
     field-back t (take n d) s pre (r ++ more) at whole place
-    (leb-true t typesLimit (both-first (leb t typesLimit) (every (λ k. leb k typesLimit) ts) known))
+    (leb-true t typesLimit (both (leb t typesLimit) (every (λ k. leb k typesLimit) ts) known .0))
     (omega arith)
-    (ap (λ (k : ℕ). rightData t (withData k)) part ∙ both-first (rightData t (withData n)) (rightTypes ts ns) right) in
+    (ap (λ (k : ℕ). rightData t (withData k)) part ∙ both (rightData t (withData n)) (rightTypes ts ns) right .0) in
     let rest =
     fields-back ts ns (drop n d) s (pre ++ f) more (one .field .next) (whole ∙ sym (append-assoc pre f (r ++ more)))
     (omega (arith, one .next, length-append pre f))
     (omega arith)
     (omega (arith, length-drop n d))
-    (both-second (leb t typesLimit) (every (λ k. leb k typesLimit) ts) known)
-    (both-second (leb n packetLimit) (every (λ k. leb k packetLimit) ns) short)
-    (both-second (rightData t (withData n)) (rightTypes ts ns) right) in
+    (both (leb t typesLimit) (every (λ k. leb k typesLimit) ts) known .1)
+    (both (leb n packetLimit) (every (λ k. leb k packetLimit) ns) short .1)
+    (both (rightData t (withData n)) (rightTypes ts ns) right .1) in
     fields-join t n ts ns d s at part one rest
 
 -- ---- the packet, with what may follow it

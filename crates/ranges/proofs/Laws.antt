@@ -1,7 +1,7 @@
 -- The ranges as one test and as a record, each from the other: a call decides the test, and what it calls asks for the
--- record. Assumes nothing.
+-- record. So a fresh session is one session. Assumes nothing.
 use Prim.Native.Nat.{ℕ, _%_, _<_}
-use mathlib.Core.Path.{_≡_, sym, ap, _∙_}
+use mathlib.Core.Path.{_≡_, sym, _∙_}
 use mathlib.Core.Bool.{true, _&&_}
 use mathlib.Core.List.{List}
 use lib.Dec.{leb, eqb}
@@ -12,13 +12,13 @@ use Rattle.octets.proofs.Place.{allBelow-at, allBelow-of}
 use Rattle.octets.proofs.Cases.{and-left, and-right, and-both}
 use Rattle.repair.specs.Cells.{keptAhead, keptNumbers}
 use Rattle.views.specs.View.{sum, numbers, sessionLimit}
-use Rattle.heads.specs.Head.{countsOf, viewOf}
-use Rattle.heads.specs.Ranges.{sumInRange, keptInRange, heardInRange, inRanges, sessionInRanges}
+use Rattle.heads.specs.Head.{countsOf}
+use Rattle.heads.specs.Ranges.{sumInRange, keptInRange, heardInRange, inRanges}
 use Rattle.heads.specs.Promise.{Sized, Fresh}
 use Rattle.heads.specs.Within.{Within}
 use Rattle.heads.specs.declared.Head.{Head}
 use Rattle.heads.specs.declared.Session.{Session}
-use Rattle.heads.proofs.Injective.{head-same, octets-same, messages-same}
+use Rattle.heads.proofs.Injective.{session-same}
 
 -- a base that equals a sum modulo 65,536 is a number
 base-small : (h : Head) → sumInRange h ≡ true → h .base < numbers
@@ -63,20 +63,8 @@ inRanges-of {h} {o} {g} w =
     and-both (and-both (w .total) (allBelow-of keptNumbers (keptInRange h o) (w .kept .each)))
     (allBelow-of keptAhead (heardInRange h g) (w .heard .each))
 
--- ---- one session for one view
-abbrev SizedSession : Session → Type 0
-SizedSession s = Sized (s .head) (s .octets) (s .messages)
-
--- two sessions within their ranges in which document 01 sees the same are the same
-pub session-same : (s t : Session) → sessionInRanges s ≡ true → SizedSession s → sessionInRanges t ≡ true → SizedSession t
-    → viewOf s ≡ viewOf t → s ≡ t
-session-same s t in-s sized-s in-t sized-t same =
-    let w = within-of (s .head) (s .octets) (s .messages) in-s sized-s in
-    let v = within-of (t .head) (t .octets) (t .messages) in-t sized-t in
-    ap (λ (x : Head). record { head = x; octets = s .octets; messages = s .messages }) (head-same w v same)
-    ∙ ap (λ (x : List ℕ). record { head = t .head; octets = x; messages = s .messages }) (octets-same w v same)
-    ∙ ap (λ (x : List ℕ). record { head = t .head; octets = t .octets; messages = x }) (messages-same w v same)
-
 -- a fresh session is one session
 pub fresh-same : (r q : Session) → Fresh r → Fresh q → r ≡ q
-fresh-same r q f e = session-same r q (f .ranges) (f .sized) (e .ranges) (e .sized) (f .view ∙ sym (e .view))
+fresh-same r q f e =
+    session-same (within-of (r .head) (r .octets) (r .messages) (f .ranges) (f .sized))
+    (within-of (q .head) (q .octets) (q .messages) (e .ranges) (e .sized)) (f .view ∙ sym (e .view))

@@ -2,26 +2,22 @@
 use Prim.Native.Nat.{ℕ, _+_, _-_, _%_, _≤_, _<_}
 use mathlib.Core.Path.{_≡_, refl, sym, ap, ap₂, _∙_}
 use mathlib.Core.Bool.{Bool, true, false, cond, _&&_}
-use mathlib.Core.List.{List, _++_}
-use lib.ListN.{getD, set, drop, replicate, length-replicate, replicate-append-replicate}
-use lib.Seq.{drop-at}
+use mathlib.Core.List.{List}
+use lib.ListN.{getD}
 use lib.Dec.{leb, ltb, eqb}
 use native.Mathlib.Omega.{arith}
-use borrow.Author.Fill.{fill-none, fill-more}
 use borrow.Author.Tests.{lt-ltb, le-ltb, le-leb, lt-leb, ne-eqb}
 use Rattle.octets.specs.Place.{allBelow}
 use Rattle.octets.proofs.Place.{allBelow-more}
 use Rattle.datagrams.specs.Sizes.{packetLimit, coveredLimit, messageLimit, messagesLimit}
 use Rattle.repair.specs.Cells.{keptBefore, keptAhead, keptNumbers}
-use Rattle.stores.specs.Store.{zeros, zerosPast, mask}
-use Rattle.stores.proofs.Laws.{length-zeros}
+use Rattle.stores.specs.Store.{zerosPast}
 use Rattle.views.specs.View.{sum, numbers, sessionLimit}
 use Rattle.heads.specs.Head.{countsOf, slotAt, heardSlotAt, messageSlot, keptIn, heardIn}
 use Rattle.heads.specs.Ranges.{blankAt, stateInRange, keptInRange, isKnown, markInRange, messageInRange, heardInRange, sumInRange, inRanges}
 use Rattle.heads.specs.declared.State.{State}
 use Rattle.heads.specs.declared.Head.{Head}
 use Rattle.heads.proofs.Parts.{size-range}
-use Rattle.heads.proofs.FreshSession.{drop-replicate}
 use Rattle.ranges.specs.Pieces.{messageFits}
 
 -- ---- a loop over places: ok says whether the test passed at each place below p
@@ -126,30 +122,6 @@ module _ (h : Head) (g : List ℕ) {ok marked held known : Bool} {d : ℕ} where
       → Checked keptAhead (heardInRange h g) (ok && (marked && held)) (d + 1)
   unfolding heardInRange messageInRange messageFits
   heard-turn c more known-is marked-is held-is = checked-turn c more (rw (← known-is, ← marked-is) (ap (λ (b : Bool). marked && b) held-is))
-
--- ---- the mask: octets that let all pass are laid over zeros, j of them
-pub record Filled (table : List ℕ) (j : ℕ) : Type 0 where
-  pub so : table ≡ replicate j 255 ++ drop j (zeros (packetLimit + packetLimit))
-  pub few : j ≤ packetLimit
-
-pub filled-start : Filled (replicate (packetLimit + packetLimit) 0) 0
-unfolding zeros
-filled-start = record { so = fill-none (replicate (packetLimit + packetLimit) 0) 255; few = omega arith }
-
-pub filled-turn : {table : List ℕ} {j : ℕ} → Filled table j → j < packetLimit → Filled (set table j 255) (j + 1)
-filled-turn {table} {j} f more =
-    record {
-      so = rw (f .so) (fill-more j 255 (zeros (packetLimit + packetLimit)) (rw (length-zeros (packetLimit + packetLimit)) (omega arith)));
-      few = omega arith;
-    }
-
-pub filled-done : {table : List ℕ} {j : ℕ} → Filled table j → packetLimit ≤ j → table ≡ mask
-unfolding mask zeros
-filled-done {table} {j} f done =
-    let all : j ≡ packetLimit = omega (arith, f .few) in
-    f .so
-    ∙ ap (λ (k : ℕ). replicate k 255 ++ drop k (zeros (packetLimit + packetLimit))) all
-    ∙ ap (λ (t : List ℕ). replicate packetLimit 255 ++ t) (drop-replicate packetLimit packetLimit 0)
 
 -- ---- the whole paragraph
 pub whole-right : (h : Head) (o g : List ℕ) {whole : ℕ} {summed kept heard : Bool} → whole ≡ sum (countsOf (h .counts))

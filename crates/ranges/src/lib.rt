@@ -3,7 +3,6 @@
 use datagrams::Message;
 use datagrams::Packet;
 use datagrams::Parity;
-use heads::Counts;
 use heads::Head;
 use heads::Heard;
 use heads::Kept;
@@ -25,24 +24,6 @@ ghost use Rattle.ranges.specs.Pieces.{messageFits};
 
 // Numbers are counted modulo this.
 const NUMBERS: u64 = 65536;
-
-// A length as a size.
-fn wide(x: u16) -> usize
-    ensures { λ r. ⌜ r ≡ x ⌝ }
-{
-    x as usize
-}
-
-// The sum of the counts: four numbers of 32 bits never pass 64 bits.
-fn total(c: Counts) -> u64
-    ensures { λ r. ⌜ r ≡ sum (countsOf c) ⌝ }
-{
-    let received = c.received as u64;
-    let spare = c.spare as u64;
-    let repaired = c.repaired as u64;
-    let lost = c.lost as u64;
-    received + spare + repaired + lost
-}
 
 // "Base equals the sum of counts modulo 65,536, sum at most 1,000,000."
 fn sum_right(base: u16, whole: u64) -> bool
@@ -180,7 +161,7 @@ fn messages_right(sizes: &[u16], m: usize, g: &[u8], slot: usize, table: &[u8]) 
     let mut i = 0;
     while i < Parity::MESSAGES {
         let place = at + i;
-        let size = wide(sizes[place]);
+        let size = stores::wide(sizes[place]);
         let limit = most(i, m);
         let right = message_right(size, limit, g, place, table);
         ok = ok & right;
@@ -211,27 +192,14 @@ fn all_heard_right(h: Head, g: &[u8], table: &[u8]) -> bool
     ok
 }
 
-// What lets every octet pass, then what lets zero alone pass.
-fn passing() -> [u8; Packet::LIMIT + Packet::LIMIT]
-    ensures { λ r. ⌜ r ≡ mask ⌝ }
-{
-    let mut table = [0; Packet::LIMIT + Packet::LIMIT];
-    let mut j = 0;
-    while j < Packet::LIMIT {
-        table[j] = 255;
-        j += 1;
-    }
-    table
-}
-
 // Document 01, 'Ranges of a session': the whole paragraph.
 pub fn in_ranges(h: Head, o: &[u8], g: &[u8]) -> bool
     requires { ⌜ length (now o) ≡ packetOctets ⌝ }
     requires { ⌜ length (now g) ≡ messageOctets ⌝ }
     ensures { λ r. ⌜ r ≡ inRanges h (now (o .entry)) (now (g .entry)) ⌝ }
 {
-    let whole = total(h.counts);
-    let table = passing();
+    let whole = heads::total(h.counts);
+    let table = stores::passing();
     let summed = sum_right(h.base, whole);
     let kept = all_kept_right(h, whole, o, &table);
     let heard = all_heard_right(h, g, &table);

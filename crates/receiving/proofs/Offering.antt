@@ -25,7 +25,7 @@ use Rattle.repair.specs.Cells.{keptBefore, keptAhead}
 use Rattle.repair.specs.Held.{Held, nothingHeld}
 use Rattle.views.specs.View.{View, distance, numbers}
 use Rattle.views.specs.Offer as offers
-use Rattle.heads.specs.Head.{numberAt, heardSlotAt, heardIn, heldIn, heldOf, viewIn}
+use Rattle.heads.specs.Head.{numberAt, slotsHeard, heardSlotAt, heardIn, heldIn, heldOf, viewIn}
 use Rattle.heads.specs.Within.{Within}
 use Rattle.heads.specs.declared.Head.{Head}
 use Rattle.heads.proofs.Seen.{held-at}
@@ -127,11 +127,11 @@ pub passed-never : {read : Reading} {number : ℕ} {packet : Part} {k : Kind} {c
     → read ≡ reading.Datagram number packet k count → PassedOn read why
 passed-never e = record { whole = λ x is. let z : _≡_ {A = ℕ} 0 1 = cc in absurd (omega arith) }
 
-pub mark-read : (h : Head) (d : ℕ) {at : ℕ} → at ≡ (h .base + d) % numbers
-    → (heardIn h (at % 32)) .accepted ≡ (heardIn h (heardSlotAt (h .base) d)) .accepted
-mark-read h d {at} e =
-    let slot : at % 32 ≡ heardSlotAt (h .base) d = omega arith in
-    ap (λ (j : ℕ). (heardIn h j) .accepted) slot
+pub mark-read : (h : Head) (d : ℕ) {at slot : ℕ} → at ≡ (h .base + d) % numbers → slot ≡ at % slotsHeard
+    → (heardIn h slot) .accepted ≡ (heardIn h (heardSlotAt (h .base) d)) .accepted
+mark-read h d {at} {slot} e-at e-slot =
+    let same : slot ≡ heardSlotAt (h .base) d = omega arith in
+    ap (λ (j : ℕ). (heardIn h j) .accepted) same
 
 -- ---- the whole offer
 module _ {h : Head} {o g s : List ℕ} {read : DatagramRead} (w : Within h o g) (reads : DatagramReads s read) where

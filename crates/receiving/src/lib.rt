@@ -11,12 +11,12 @@ use heads::State;
 use lengths::Refusal;
 ghost use mathlib.Core.Path.{_≡_};
 ghost use mathlib.Core.Bool.{true};
-ghost use Prim.Native.Nat.{ℕ, _≤_, _<_, _%_};
+ghost use Prim.Native.Nat.{ℕ, _≤_, _<_};
 ghost use lib.ListN.{length, getD};
 ghost use Rattle.datagrams.specs.Sizes.{packetLeast, packetLimit, sparesLimit};
 ghost use Rattle.datagrams.specs.Claims.{Inside, PartInside};
 ghost use Rattle.datagrams.specs.Promise.{nowhere};
-ghost use Rattle.heads.specs.Head.{packetOctets, slotsKept};
+ghost use Rattle.heads.specs.Head.{packetOctets};
 ghost use Rattle.heads.specs.Ranges.{isFill};
 ghost use Rattle.views.specs.Offer.{offer, offered};
 ghost use Rattle.heads.specs.Head.{viewIn, heardSlotAt, heardIn};
@@ -36,13 +36,6 @@ pub struct OfferDone {
     pub answer: Offered,
 }
 
-// The slot of a number.
-pub fn slot_of(number: u16) -> usize
-    ensures { λ r. ⌜ r ≡ number % slotsKept ⌝ }
-{
-    (number % 64) as usize
-}
-
 // A packet kept at its number, if that is still unknown.
 fn keep(h: Head, o: &mut [u8], number: u16, state: State, src: &[u8]) -> Head
     requires { ⌜ length (now o) ≡ packetOctets ⌝ }
@@ -51,7 +44,7 @@ fn keep(h: Head, o: &mut [u8], number: u16, state: State, src: &[u8]) -> Head
     requires { ⌜ isFill state ≡ true ⌝ }
     ensures { λ r. ⌜ Keeps state number (now (src .entry)) h (now (o .entry)) r (now (o .exit)) ⌝ }
 {
-    let slot = slot_of(number);
+    let slot = heads::kept_slot(number);
     let kept = h.kept[slot];
     let was = kept.state;
     if heads::is_unknown(was) {
@@ -85,7 +78,7 @@ fn keep_spares(
         j += 1;
         let before = std::num::wrapping_sub_u16(at, 1);
         at = before;
-        let slot = slot_of(before);
+        let slot = heads::kept_slot(before);
         let kept = next.kept[slot];
         let was = kept.state;
         if heads::is_unknown(was) {
@@ -157,7 +150,7 @@ fn accepted_at(h: Head, distance: u16) -> bool
 {
     let base = h.base;
     let at = std::num::wrapping_add_u16(base, distance);
-    let slot = (at % 32) as usize;
+    let slot = heads::heard_slot(at);
     let heard = h.heard[slot];
     heard.accepted
 }
@@ -191,7 +184,7 @@ fn offer_read(
 {
     let base = h.base;
     let distance = std::num::wrapping_sub_u16(number, base);
-    if 32 <= distance {
+    if Session::AHEAD <= distance {
         if distance < 32768 {
             return refused(h, Refusal::new(Refusal::TOO_FAR));
         }

@@ -1,7 +1,6 @@
 -- The head after the base went on by one, and which message sizes it holds. Assumes nothing.
 use Prim.Native.Nat.{ℕ, zero, suc, _+_, _*_, _<_}
 use mathlib.Core.Path.{_≡_, refl, _∙_}
-use mathlib.Core.Bool.{false}
 use mathlib.Core.List.{List, [], _∷_}
 use mathlib.Core.Logic.{⊎-elim}
 use lib.ListN.{getD, set}
@@ -14,19 +13,11 @@ use Rattle.repair.specs.Held.{Held}
 use Rattle.views.specs.View as views
 use Rattle.views.specs.View.{View, following}
 use Rattle.heads.specs.Head.{slotAt, heardSlotAt, messageSlot}
-use Rattle.heads.specs.declared.State.the-variants.{Unknown}
-use Rattle.heads.specs.declared.Kept.{Kept}
-use Rattle.heads.specs.declared.Heard.{Heard}
 use Rattle.heads.specs.declared.Counts.{Counts}
 use Rattle.heads.specs.declared.Head.{Head}
+use Rattle.heads.proofs.FreshSession.{unknownKept, nothingHeard}
 
 -- ---- the head after: the number that comes into view is unknown, the one that leaves has no mark and no messages
-abbrev pub noPacket : Kept
-noPacket = record { state = Unknown; size = 0 }
-
-abbrev pub nothing : Heard
-nothing = record { accepted = false; n = 0; m = 0 }
-
 abbrev pub freedSizes : List ℕ → ℕ → List ℕ
 freedSizes sizes at = set (set (set (set sizes at 0) (at + 1) 0) (at + 2) 0) (at + 3) 0
 
@@ -35,8 +26,8 @@ advanced h counts =
     record {
       base = following (h .base);
       counts = counts;
-      kept = set (h .kept) (slotAt (h .base) 0) noPacket;
-      heard = set (h .heard) (heardSlotAt (h .base) 0) nothing;
+      kept = set (h .kept) (slotAt (h .base) 0) unknownKept;
+      heard = set (h .heard) (heardSlotAt (h .base) 0) nothingHeard;
       sizes = freedSizes (h .sizes) (heardSlotAt (h .base) 0 * messagesLimit);
     }
 

@@ -25,8 +25,8 @@ use Rattle.heads.specs.declared.State.the-variants.{Unknown, Received, Spare, R
 use Rattle.heads.specs.declared.Counts.{Counts}
 use Rattle.heads.specs.declared.Head.{Head}
 use Rattle.heads.proofs.Slots.{has-packet-slot}
-use Rattle.releasing.specs.Steps.{Wide, Passed}
-use Rattle.releasing.proofs.Reading.{kept-state, kept-size}
+use Rattle.heads.proofs.Parts.{kept-within, size-right}
+use Rattle.releasing.specs.Steps.{Passed}
 
 -- ---- counts
 -- a number at the base that is known is received, spare or repaired: one count is one more
@@ -44,35 +44,35 @@ pub goes-on : {c : Counts} {p : Bool} → Passed c p → p ≡ false → sum (co
 goes-on {c} limit more = leb-false sessionLimit (sum (countsOf c)) (sym (limit .test) ∙ more)
 
 -- ---- the number at the base
-module _ {h : Head} {o g : List ℕ} (w : Within h o g) {b : ℕ} (wide : Wide (h .base) b) where
-  base-slot : slotAt (h .base) keptBefore ≡ b % slotsKept
-  base-slot = omega (arith, wide .same)
+module _ {h : Head} {o g : List ℕ} (w : Within h o g) {slot : ℕ} (at-base : slot ≡ h .base % slotsKept) where
+  base-slot : slotAt (h .base) keptBefore ≡ slot
+  base-slot = omega arith
 
-  pub base-there : HasSlot (b % slotsKept) o
-  base-there = has-packet-slot o (b % slotsKept) (w .kept .octets) (omega arith)
+  pub base-there : HasSlot slot o
+  base-there = has-packet-slot o slot (w .kept .octets) (omega arith)
 
-  pub base-cell : cellAt (cellsOf h o) keptBefore ≡ cellIn h o (b % slotsKept)
+  pub base-cell : cellAt (cellsOf h o) keptBefore ≡ cellIn h o slot
   unfolding cellsOf
   base-cell =
       tab-at keptNumbers (λ p. cellIn h o (slotAt (h .base) p)) keptBefore blankCell (omega arith)
       ∙ ap (λ (i : ℕ). cellIn h o i) base-slot
 
-  pub base-state : stateInRange ((keptIn h (b % slotsKept)) .state) ((keptIn h (b % slotsKept)) .size) false ≡ true
-  base-state = rw base-slot at (kept-state w keptBefore (omega arith))
+  pub base-state : stateInRange ((keptIn h slot) .state) ((keptIn h slot) .size) false ≡ true
+  base-state = rw base-slot at (kept-within w keptBefore (omega arith) .state)
 
-  pub base-size : (keptIn h (b % slotsKept)) .size ≤ packetLimit
-  base-size = rw base-slot at (kept-size w keptBefore (omega arith))
+  pub base-size : (keptIn h slot) .size ≤ packetLimit
+  base-size = rw base-slot at (size-right (kept-within w keptBefore (omega arith)))
 
-  pub base-unknown : unknownAt (cellsOf h o) keptBefore ≡ isUnknown (stateOf ((keptIn h (b % slotsKept)) .state))
+  pub base-unknown : unknownAt (cellsOf h o) keptBefore ≡ isUnknown (stateOf ((keptIn h slot) .state))
   unfolding cellIn
   base-unknown = ap (λ (c : Cell). isUnknown (c .state)) base-cell
 
-  pub base-octets : length ((cellAt (cellsOf h o) keptBefore) .octets) ≡ (keptIn h (b % slotsKept)) .size
+  pub base-octets : length ((cellAt (cellsOf h o) keptBefore) .octets) ≡ (keptIn h slot) .size
   unfolding cellIn
   base-octets =
       ap (λ (c : Cell). length (c .octets)) base-cell
-      ∙ length-part o (b % slotsKept) ((keptIn h (b % slotsKept)) .size) base-there base-size
+      ∙ length-part o slot ((keptIn h slot) .size) base-there base-size
 
 -- what is handed out there is no longer than a packet
-pub size-fits : {h : Head} {o g : List ℕ} {b s : ℕ} → Within h o g → Wide (h .base) b → Wide ((keptIn h (b % slotsKept)) .size) s → s ≤ packetLimit
-size-fits w wide size = rw (size .same) (base-size w wide)
+pub size-fits : {h : Head} {o g : List ℕ} {slot s : ℕ} → Within h o g → slot ≡ h .base % slotsKept → s ≡ (keptIn h slot) .size → s ≤ packetLimit
+size-fits w at-base size = rw (size) (base-size w at-base)

@@ -9,10 +9,10 @@ use native.Mathlib.Omega.{arith}
 use Rattle.octets.proofs.Cases.{same-or-not}
 use Rattle.datagrams.specs.Sizes.{packetLimit, messagesLimit}
 use Rattle.stores.specs.Store.{HasSlot, pasted, zeros}
-use Rattle.stores.proofs.Laws.{length-zeros, length-cleared, part-pasted-other, zerosPast-other, zerosPast-cleared}
+use Rattle.stores.proofs.Laws.{zeros-fit, length-cleared, part-pasted-other, zerosPast-other, zerosPast-cleared}
 use Rattle.heads.specs.Head.{messageSlot, slotsHeard, messageOctets}
-use Rattle.heads.proofs.Slots.{message-small, has-message-slot}
-use Rattle.releasing.specs.Steps.{Apart, Freed}
+use Rattle.heads.proofs.Slots.{message-small, has-message-slot, apart-before, apart-here}
+use Rattle.releasing.specs.Steps.{Freed}
 
 pub freed-none : (j : ℕ) (g : List ℕ) → Freed j 0 g g
 freed-none j g =
@@ -29,31 +29,23 @@ module _ {j i m : ℕ} {old g : List ℕ} (f : Freed j i old g) (small : j < slo
   pub slot-there : HasSlot (messageSlot j i) g
   slot-there = has-message-slot g (messageSlot j i) (f .long ∙ octets) (message-small j i small (omega arith))
 
-  -- a slot apart from the first i + 1 is apart from the first i, and is not slot i
-  apart-before : (k : ℕ) → Apart j (i + 1) k → Apart j i k
-  apart-before k apart e below = apart e (omega arith)
-
-  apart-here : (k : ℕ) → Apart j (i + 1) k → k ≡ messageSlot j i → ⊥
-  apart-here k apart = apart i (omega arith)
-
   pub freed-more : Freed j (i + 1) old (pasted g (messageSlot j i) (zeros packetLimit))
   freed-more =
       let has = slot-there in
-      let room : length (zeros packetLimit) ≤ packetLimit = omega (arith, length-zeros packetLimit) in
       record {
         long = length-cleared g (messageSlot j i) has ∙ f .long;
         cleared = λ e n below.
             ⊎-elim (λ (here : e ≡ i). rw here (zerosPast-cleared g (messageSlot j i) has n))
             (λ other.
-            zerosPast-other g (messageSlot j i) (zeros packetLimit) has room (messageSlot j e) n (λ same. other (omega arith))
+            zerosPast-other g (messageSlot j i) (zeros packetLimit) has zeros-fit (messageSlot j e) n (λ same. other (omega arith))
             ∙ f .cleared e n (omega arith))
             (same-or-not e i);
         parts = λ k n there low apart.
-            part-pasted-other g (messageSlot j i) (zeros packetLimit) has room k n (omega (arith, f .long)) low (apart-here k apart)
-            ∙ f .parts k n there low (apart-before k apart);
+            part-pasted-other g (messageSlot j i) (zeros packetLimit) has zeros-fit k n (omega (arith, f .long)) low (apart-here j i k apart)
+            ∙ f .parts k n there low (apart-before j i k apart);
         zeros = λ k n apart.
-            zerosPast-other g (messageSlot j i) (zeros packetLimit) has room k n (apart-here k apart)
-            ∙ f .zeros k n (apart-before k apart);
+            zerosPast-other g (messageSlot j i) (zeros packetLimit) has zeros-fit k n (apart-here j i k apart)
+            ∙ f .zeros k n (apart-before j i k apart);
       }
 
 -- ---- the loop: i of m messages are cleared

@@ -16,7 +16,7 @@ use Rattle.heads.specs.Head.{slotsKept, keptIn, viewIn, countsOf, stateOf}
 use Rattle.heads.specs.Within.{Within}
 use Rattle.heads.specs.declared.Counts.{Counts}
 use Rattle.heads.specs.declared.Head.{Head}
-use Rattle.releasing.specs.Steps.{Wide, Passed, giveUpRefused}
+use Rattle.releasing.specs.Steps.{Passed, giveUpRefused}
 use Rattle.releasing.specs.Promise.{OneMore, BaseMoved, GiveUpMade}
 use Rattle.releasing.specs.declared.GivenUp.{GivenUp}
 use Rattle.releasing.specs.declared.Lost.the-variants as lost
@@ -28,18 +28,18 @@ module _ {h : Head} {o g : List ℕ} (w : Within h o g) {p : Bool} (limit : Pass
   unfolding giveUp viewIn
   giveUp-passed passed = rw (sym (limit .test) ∙ passed)
 
-  module _ (more : p ≡ false) {b : ℕ} (wide : Wide (h .base) b) where
-    giveUp-known : isUnknown (stateOf ((keptIn h (b % slotsKept)) .state)) ≡ false → giveUp (viewIn h o g) ≡ refuse baseKnown
+  module _ (more : p ≡ false) {slot : ℕ} (at-base : slot ≡ h .base % slotsKept) where
+    giveUp-known : isUnknown (stateOf ((keptIn h slot) .state)) ≡ false → giveUp (viewIn h o g) ≡ refuse baseKnown
     unfolding giveUp viewIn
     giveUp-known known =
-        rw (sym (limit .test) ∙ more, base-unknown w wide, known)
+        rw (sym (limit .test) ∙ more, base-unknown w at-base, known)
 
-    giveUp-done : isUnknown (stateOf ((keptIn h (b % slotsKept)) .state)) ≡ true
+    giveUp-done : isUnknown (stateOf ((keptIn h slot) .state)) ≡ true
         → giveUp (viewIn h o g)
         ≡ done (record { number = h .base; after = goneOn (release.booked (countsOf (h .counts))) (viewIn h o g) })
     unfolding giveUp viewIn
     giveUp-done unknown =
-        rw (sym (limit .test) ∙ more, base-unknown w wide, unknown)
+        rw (sym (limit .test) ∙ more, base-unknown w at-base, unknown)
 
 -- ---- give up: each answer
 -- a refusal: the very session
@@ -58,16 +58,16 @@ module _ {h : Head} {o g : List ℕ} {p : Bool} (w : Within h o g) (limit : Pass
   pub give-up-16 : {r : GivenUp} → p ≡ true → r ≡ giveUpRefused h allPassed → GiveUpMade h o g r o g
   give-up-16 passed made = refused-give-up allPassed w (giveUp-passed w limit passed) made
 
-  module _ {b : ℕ} {u : Bool} (more : p ≡ false) (wide : Wide (h .base) b)
-      (test : u ≡ isUnknown (stateOf ((keptIn h (b % slotsKept)) .state))) where
+  module _ {slot : ℕ} {u : Bool} (more : p ≡ false) (at-base : slot ≡ h .base % slotsKept)
+      (test : u ≡ isUnknown (stateOf ((keptIn h slot) .state))) where
     pub give-up-11 : {r : GivenUp} → u ≡ false → r ≡ giveUpRefused h baseKnown → GiveUpMade h o g r o g
-    give-up-11 known made = refused-give-up baseKnown w (giveUp-known w limit more wide (sym test ∙ known)) made
+    give-up-11 known made = refused-give-up baseKnown w (giveUp-known w limit more at-base (sym test ∙ known)) made
 
     pub give-up-lost : {counts : Counts} {after : Head} {newO newG : List ℕ} → u ≡ true
         → countsOf counts ≡ release.booked (countsOf (h .counts)) → BaseMoved counts h o g after newO newG
         → GiveUpMade h o g (record { head = after; answer = lost.Number (h .base) }) newO newG
     give-up-lost unknown e moved =
-        let whole = giveUp-done w limit more wide (sym test ∙ unknown) in
+        let whole = giveUp-done w limit more at-base (sym test ∙ unknown) in
         record {
           answer = rw whole;
           state = rw whole (moved .state ∙ rw e);

@@ -1,14 +1,12 @@
 -- Laws for the layers above: an answer's case is told by document 01's number and values, so two outcomes that a promise
 -- allows have one answer, one buffer and one view. Assumes nothing.
 use Prim.Native.Nat.{ℕ}
-use mathlib.Core.Path.{_≡_, refl, sym, ap, _∙_}
+use mathlib.Core.Path.{_≡_, sym, ap, _∙_}
 use mathlib.Core.List.{List}
 use native.Mathlib.Omega.{arith}
-use Rattle.repair.specs.Cells as cells
 use Rattle.heads.specs.Head.{stateOf, viewIn}
-use Rattle.heads.specs.declared.State.{State}
-use Rattle.heads.specs.declared.State.the-variants.{Unknown, Received, Spare, Repaired, Blank}
 use Rattle.heads.specs.declared.Head.{Head}
+use Rattle.heads.proofs.Injective.{state-same}
 use Rattle.releasing.specs.Outcome.{Handed, releasedOutcome, lostOutcome}
 use Rattle.releasing.specs.Promise.{NextMade, GiveUpMade}
 use Rattle.releasing.specs.declared.Released.{Released}
@@ -18,29 +16,10 @@ use Rattle.releasing.specs.declared.Lost.the-variants as lost
 use Rattle.releasing.specs.declared.NextDone.{NextDone}
 use Rattle.releasing.specs.declared.GivenUp.{GivenUp}
 
--- a state is told by its word
-wordBack : cells.State → State
-wordBack cells.unknown = Unknown
-wordBack cells.received = Received
-wordBack cells.spare = Spare
-wordBack cells.repaired = Repaired
-wordBack cells.blank = Blank
-
-back-word : (s : State) → wordBack (stateOf s) ≡ s
-unfolding wordBack
-back-word Unknown = refl
-back-word Received = refl
-back-word Spare = refl
-back-word Repaired = refl
-back-word Blank = refl
-
-pub state-told : (s q : State) → stateOf s ≡ stateOf q → s ≡ q
-state-told s q e = sym (back-word s) ∙ ap wordBack e ∙ back-word q
-
 pub released-told : (r q : Released) → releasedOutcome r ≡ releasedOutcome q → r ≡ q
 released-told (released.Packet k n s) (released.Packet l m t) e =
     let same : _≡_ {A = Handed} (record { kind = stateOf k; number = n; size = s }) (record { kind = stateOf l; number = m; size = t }) = cc in
-    let kind = state-told k l (ap (λ (a : Handed). a .kind) same) in
+    let kind = state-same k l (ap (λ (a : Handed). a .kind) same) in
     let number = ap (λ (a : Handed). a .number) same in
     let size = ap (λ (a : Handed). a .size) same in
     rw (kind, number, size)

@@ -1,6 +1,4 @@
 pub mod Freeing
-pub mod Reading
-pub mod Shift
 pub mod Advanced
 pub mod Moving
 pub mod Base

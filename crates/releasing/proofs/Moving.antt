@@ -1,5 +1,5 @@
 -- The base goes on by one: slot by slot, all but two slots of kept numbers and marks are as they were; then place by place,
--- the view is the one before, one place further, and its ranges are kept. Assumes nothing.
+-- the view is the one before, one place further, and its ranges are kept. Assumes nothingHeard.
 use Prim.Native.Nat.{ℕ, suc, _+_, _*_, _%_, _≤_, _<_}
 use mathlib.Core.Path.{_≡_, sym, ap, ap₂, _∙_}
 use mathlib.Core.Bool.{Bool, true, cond, _&&_}
@@ -11,33 +11,30 @@ use lib.Dec.{leb, ltb, eqb}
 use native.Mathlib.Omega.{arith}
 use borrow.Author.Tests.{le-leb, eq-eqb, eqb-true}
 use Rattle.octets.specs.Place.{tab}
-use Rattle.octets.proofs.Place.{tab-ext, allBelow-ext, allBelow-of}
+use Rattle.octets.proofs.Place.{tab-ext, tab-shift, allBelow-ext, allBelow-of}
 use Rattle.octets.proofs.Cases.{same-or-not, below-or-not, and-left, and-both}
 use Rattle.datagrams.specs.Sizes.{packetLimit, messageLimit, messagesLimit}
 use Rattle.repair.specs.Cells.{unknownCell, keptBefore, keptAhead, keptNumbers}
 use Rattle.repair.specs.Held.{nothingHeld}
 use Rattle.stores.specs.Store.{HasSlot, part, zerosPast, pasted, zeros}
-use Rattle.stores.proofs.Laws.{length-zeros, length-cleared, part-pasted-other, zerosPast-other, zerosPast-cleared}
+use Rattle.stores.proofs.Laws.{zeros-fit, length-cleared, part-pasted-other, zerosPast-other, zerosPast-cleared}
 use Rattle.views.specs.View.{following, numbers, sum, sessionLimit, goneOn}
-use Rattle.heads.specs.Head.{slotAt, heardSlotAt, messageSlot, slotsKept, slotsHeard, keptIn, heardIn, sizeIn, cellIn, heldIn, cellsOf, heldOf, viewIn, countsOf}
+use Rattle.heads.specs.Head.{slotAt, heardSlotAt, messageSlot, Apart, slotsKept, slotsHeard, keptIn, heardIn, sizeIn, cellIn, heldIn, cellsOf, heldOf, viewIn, countsOf}
 use Rattle.heads.specs.Ranges.{sumInRange, stateInRange, keptInRange, isKnown, markInRange, messageInRange, heardInRange}
 use Rattle.heads.specs.Within.{Within, KeptWithin, HeardWithin}
 use Rattle.heads.specs.declared.Counts.{Counts}
 use Rattle.heads.specs.declared.Head.{Head}
-use Rattle.heads.proofs.Slots.{slot-small, heard-small, message-small, slot-apart, heard-apart, message-apart, has-packet-slot, has-message-slot}
-use Rattle.releasing.specs.Steps.{Apart, Freed, Wide}
+use Rattle.heads.proofs.Parts.{blank-further, kept-within, size-right, heard-within, heard-sizes, message-size, message-none, message-zeros}
+use Rattle.heads.proofs.FreshSession.{unknownKept, nothingHeard}
+use Rattle.heads.proofs.Slots.{slot-after, slot-comes, heard-after, heard-leaves, slot-small, heard-small, message-small, slot-apart, heard-apart, message-apart, has-packet-slot, has-message-slot}
+use Rattle.releasing.specs.Steps.{Freed}
 use Rattle.releasing.specs.Promise.{OneMore, BaseMoved}
-use Rattle.releasing.proofs.Reading.{kept-size, heard-few, heard-message, message-size, message-none, message-zeros}
-use Rattle.releasing.proofs.Shift.{tab-shift, slot-after, slot-comes, heard-after, heard-leaves, blank-after}
-use Rattle.releasing.proofs.Advanced.{noPacket, nothing, freedSizes, advanced, seen, sizes-freed, sizes-other}
+use Rattle.releasing.proofs.Advanced.{freedSizes, advanced, seen, sizes-freed, sizes-other}
 
 -- ---- slot by slot
 module _ {h : Head} {o g newO newG : List ℕ} (counts : Counts) (w : Within h o g)
     (cleared : newO ≡ pasted o (slotAt (h .base) 0) (zeros packetLimit))
     (freed : Freed (heardSlotAt (h .base) 0) ((heardIn h (heardSlotAt (h .base) 0)) .m) g newG) where
-  room : length (zeros packetLimit) ≤ packetLimit
-  room = omega (arith, length-zeros packetLimit)
-
   there : (i : ℕ) → i < slotsKept → HasSlot i o
   there i small = has-packet-slot o i (w .kept .octets) small
 
@@ -46,17 +43,17 @@ module _ {h : Head} {o g newO newG : List ℕ} (counts : Counts) (w : Within h o
 
   -- kept numbers
   kept-other : (i : ℕ) → (i ≡ slotAt (h .base) 0 → ⊥) → keptIn (advanced h counts) i ≡ keptIn h i
-  kept-other i other = getD-set-other (h .kept) (slotAt (h .base) 0) i noPacket noPacket other
+  kept-other i other = getD-set-other (h .kept) (slotAt (h .base) 0) i unknownKept unknownKept other
 
-  kept-comes : keptIn (advanced h counts) (slotAt (h .base) 0) ≡ noPacket
+  kept-comes : keptIn (advanced h counts) (slotAt (h .base) 0) ≡ unknownKept
   kept-comes =
-      getD-set-same (h .kept) (slotAt (h .base) 0) noPacket noPacket (rw (w .kept .slots) (slot-small (h .base) 0))
+      getD-set-same (h .kept) (slotAt (h .base) 0) unknownKept unknownKept (rw (w .kept .slots) (slot-small (h .base) 0))
 
   cell-other : (i : ℕ) → i < slotsKept → (i ≡ slotAt (h .base) 0 → ⊥) → (keptIn h i) .size ≤ packetLimit
       → cellIn (advanced h counts) newO i ≡ cellIn h o i
   unfolding cellIn
   cell-other i small other fits =
-      rw (kept-other i other, cleared, part-pasted-other o (slotAt (h .base) 0) (zeros packetLimit) comes-there room i ((keptIn h i) .size) (there i small) fits other)
+      rw (kept-other i other, cleared, part-pasted-other o (slotAt (h .base) 0) (zeros packetLimit) comes-there zeros-fit i ((keptIn h i) .size) (there i small) fits other)
 
   cell-comes : cellIn (advanced h counts) newO (slotAt (h .base) 0) ≡ unknownCell
   unfolding cellIn part
@@ -64,15 +61,15 @@ module _ {h : Head} {o g newO newG : List ℕ} (counts : Counts) (w : Within h o
 
   -- marks and messages
   heard-other : (j : ℕ) → (j ≡ heardSlotAt (h .base) 0 → ⊥) → heardIn (advanced h counts) j ≡ heardIn h j
-  heard-other j other = getD-set-other (h .heard) (heardSlotAt (h .base) 0) j nothing nothing other
+  heard-other j other = getD-set-other (h .heard) (heardSlotAt (h .base) 0) j nothingHeard nothingHeard other
 
-  heard-gone : heardIn (advanced h counts) (heardSlotAt (h .base) 0) ≡ nothing
+  heard-gone : heardIn (advanced h counts) (heardSlotAt (h .base) 0) ≡ nothingHeard
   heard-gone =
-      getD-set-same (h .heard) (heardSlotAt (h .base) 0) nothing nothing (rw (w .heard .slots) (heard-small (h .base) 0))
+      getD-set-same (h .heard) (heardSlotAt (h .base) 0) nothingHeard nothingHeard (rw (w .heard .slots) (heard-small (h .base) 0))
 
   -- a message of another slot is none of those that were cleared
   few : (heardIn h (heardSlotAt (h .base) 0)) .m ≤ messagesLimit
-  few = heard-few w 0 (omega arith)
+  few = heard-sizes (heard-within w 0 (omega arith)) .1
 
   apart : (j i : ℕ) → i < messagesLimit → (j ≡ heardSlotAt (h .base) 0 → ⊥)
       → Apart (heardSlotAt (h .base) 0) ((heardIn h (heardSlotAt (h .base) 0)) .m) (messageSlot j i)
@@ -115,7 +112,7 @@ module _ {h : Head} {o g newO newG : List ℕ} (counts : Counts) (w : Within h o
       (λ p low.
       let inside : suc p < keptNumbers = omega arith in
       ap (λ (i : ℕ). cellIn (advanced h counts) newO i) (slot-after (h .base) p (w .base))
-      ∙ cell-other (slotAt (h .base) (suc p)) (slot-small (h .base) (suc p)) (slot-stays p inside) (kept-size w (suc p) inside))
+      ∙ cell-other (slotAt (h .base) (suc p)) (slot-small (h .base) (suc p)) (slot-stays p inside) (size-right (kept-within w (suc p) inside)))
       (ap (λ (i : ℕ). cellIn (advanced h counts) newO i) (slot-comes (h .base) (w .base)) ∙ cell-comes)
 
   held-after : heldOf (advanced h counts) newG ≡ drop 1 (heldOf h g) ++ (nothingHeld ∷ [])
@@ -125,10 +122,10 @@ module _ {h : Head} {o g newO newG : List ℕ} (counts : Counts) (w : Within h o
       (λ d low.
       let inside : suc d < keptAhead = omega arith in
       ap (λ (j : ℕ). heldIn (advanced h counts) newG j) (heard-after (h .base) d (w .base))
-      ∙ held-other (heardSlotAt (h .base) (suc d)) (heard-small (h .base) (suc d)) (heard-stays d inside) (heard-few w (suc d) inside)
+      ∙ held-other (heardSlotAt (h .base) (suc d)) (heard-small (h .base) (suc d)) (heard-stays d inside) (heard-sizes (heard-within w (suc d) inside) .1)
       (λ i below.
       message-size h g (heardSlotAt (h .base) (suc d)) ((heardIn h (heardSlotAt (h .base) (suc d))) .m) i
-      (heard-message w (suc d) inside i below)))
+      (heard-within w (suc d) inside .message i below)))
       (ap (λ (j : ℕ). heldIn (advanced h counts) newG j) (heard-leaves (h .base) (w .base)) ∙ held-gone)
 
   view-after : viewIn (advanced h counts) newO newG ≡ goneOn (countsOf counts) (viewIn h o g)
@@ -155,9 +152,9 @@ module _ {h : Head} {o g newO newG : List ℕ} (counts : Counts) (w : Within h o
           slot-after (h .base) p (w .base),
           kept-other here far,
           one .more,
-          blank-after (sum (countsOf (h .counts))) p,
+          blank-further (sum (countsOf (h .counts))) p,
           cleared,
-          zerosPast-other o (slotAt (h .base) 0) (zeros packetLimit) comes-there room here ((keptIn h here) .size) far,
+          zerosPast-other o (slotAt (h .base) 0) (zeros packetLimit) comes-there zeros-fit here ((keptIn h here) .size) far,
         )
 
     kept-range-comes : keptInRange (advanced h counts) newO 63 ≡ true
@@ -200,7 +197,7 @@ module _ {h : Head} {o g newO newG : List ℕ} (counts : Counts) (w : Within h o
     gone-zeros i below =
         let j = heardSlotAt (h .base) 0 in
         let m = (heardIn h j) .m in
-        let fact = heard-message w 0 (omega arith) i below in
+        let fact = heard-within w 0 (omega arith) .message i below in
         ⊎-elim (λ low. freed .cleared i 0 low)
         (λ past.
         freed .zeros (messageSlot j i) 0 (λ e small same. omega (arith, message-apart j i j e below (omega (arith, few)) same .1))
@@ -220,10 +217,10 @@ module _ {h : Head} {o g newO newG : List ℕ} (counts : Counts) (w : Within h o
         rw (heard-leaves (h .base) (w .base), heard-gone)
         (allBelow-of messagesLimit (messageInRange (advanced h counts) newG (heardSlotAt (h .base) 0) 0) message-range-gone)
 
-    kept-within : KeptWithin (advanced h counts) newO
-    kept-within =
+    kept-after : KeptWithin (advanced h counts) newO
+    kept-after =
         record {
-          slots = length-set (h .kept) (slotAt (h .base) 0) noPacket ∙ w .kept .slots;
+          slots = length-set (h .kept) (slotAt (h .base) 0) unknownKept ∙ w .kept .slots;
           octets = ap length cleared ∙ length-cleared o (slotAt (h .base) 0) comes-there ∙ w .kept .octets;
           each = λ p below.
               ⊎-elim (λ (last : p ≡ 63). rw last kept-range-comes)
@@ -233,10 +230,10 @@ module _ {h : Head} {o g newO newG : List ℕ} (counts : Counts) (w : Within h o
               (same-or-not p 63);
         }
 
-    heard-within : HeardWithin (advanced h counts) newG
-    heard-within =
+    messages-after : HeardWithin (advanced h counts) newG
+    messages-after =
         record {
-          slots = length-set (h .heard) (heardSlotAt (h .base) 0) nothing ∙ w .heard .slots;
+          slots = length-set (h .heard) (heardSlotAt (h .base) 0) nothingHeard ∙ w .heard .slots;
           sizes = simp length-set (w .heard .sizes);
           octets = freed .long ∙ w .heard .octets;
           each = λ d below.
@@ -251,28 +248,28 @@ module _ {h : Head} {o g newO newG : List ℕ} (counts : Counts) (w : Within h o
     moved =
         record {
           state = view-after;
-          within = record { base = omega arith; total = total-after; kept = kept-within; heard = heard-within };
+          within = record { base = omega arith; total = total-after; kept = kept-after; heard = messages-after };
         }
 
 -- ---- in the words of the code
 -- the messages of the number that leaves are few enough
-pub few-leave : {h : Head} {o g : List ℕ} {b : ℕ} → Within h o g → Wide (h .base) b → (heardIn h (b % slotsHeard)) .m ≤ messagesLimit
-few-leave {h} {o} {g} {b} w wide =
-    let e : b % slotsHeard ≡ heardSlotAt (h .base) 0 = omega (arith, wide .same) in
-    rw e (heard-few w 0 (omega arith))
+pub few-leave : {h : Head} {o g : List ℕ} {leaves : ℕ} → Within h o g → leaves ≡ h .base % slotsHeard → (heardIn h leaves) .m ≤ messagesLimit
+few-leave {h} {o} {g} {leaves} w at-base =
+    let e : leaves ≡ heardSlotAt (h .base) 0 = omega arith in
+    rw e (heard-sizes (heard-within w 0 (omega arith)) .1)
 
-pub base-moved : {h : Head} {counts : Counts} {o g newO newG : List ℕ} {b after : ℕ} → Within h o g → OneMore (h .counts) counts → Wide (h .base) b
-    → after ≡ following (h .base) → newO ≡ pasted o ((b + keptBefore) % slotsKept) (zeros packetLimit)
-    → Freed (b % slotsHeard) ((heardIn h (b % slotsHeard)) .m) g newG
+pub base-moved : {h : Head} {counts : Counts} {o g newO newG : List ℕ} {b leaves after : ℕ} → Within h o g → OneMore (h .counts) counts
+    → b ≡ h .base → leaves ≡ h .base % slotsHeard → after ≡ following (h .base) → newO ≡ pasted o ((b + keptBefore) % slotsKept) (zeros packetLimit)
+    → Freed leaves ((heardIn h leaves) .m) g newG
     → BaseMoved counts h o g
     (record {
       base = after;
       counts = counts;
-      kept = set (h .kept) ((b + keptBefore) % slotsKept) noPacket;
-      heard = set (h .heard) (b % slotsHeard) nothing;
-      sizes = freedSizes (h .sizes) (b % slotsHeard * messagesLimit);
+      kept = set (h .kept) ((b + keptBefore) % slotsKept) unknownKept;
+      heard = set (h .heard) leaves nothingHeard;
+      sizes = freedSizes (h .sizes) (leaves * messagesLimit);
     }) newO newG
-base-moved {h} {counts} {o} {g} {newO} {newG} {b} {after} w one wide next cleared freed =
-    let comes : (b + keptBefore) % slotsKept ≡ slotAt (h .base) 0 = omega (arith, wide .same) in
-    let leaves : b % slotsHeard ≡ heardSlotAt (h .base) 0 = omega (arith, wide .same) in
-    rw (next, comes, leaves) (moved counts w (rw comes at cleared) (rw leaves at freed) one)
+base-moved {h} {counts} {o} {g} {newO} {newG} {b} {leaves} {after} w one wide at-base next cleared freed =
+    let comes : (b + keptBefore) % slotsKept ≡ slotAt (h .base) 0 = omega (arith, wide) in
+    let gone : leaves ≡ heardSlotAt (h .base) 0 = omega arith in
+    rw (next, comes, gone) (moved counts w (rw comes at cleared) (rw gone at freed) one)

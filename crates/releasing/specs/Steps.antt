@@ -9,7 +9,7 @@ use Rattle.lengths.specs.Refusals.{refusal}
 use Rattle.datagrams.specs.Sizes.{packetLimit}
 use Rattle.stores.specs.Store.{HasSlot, part, zerosPast}
 use Rattle.views.specs.View.{sum, sessionLimit}
-use Rattle.heads.specs.Head.{countsOf, messageSlot}
+use Rattle.heads.specs.Head.{countsOf, messageSlot, Apart}
 use Rattle.heads.specs.declared.Counts.{Counts}
 use Rattle.heads.specs.declared.Head.{Head}
 use Rattle.releasing.specs.declared.NextDone.{NextDone}
@@ -24,18 +24,9 @@ nextRefused h number = record { head = h; answer = released.Refused (refusal num
 abbrev pub giveUpRefused : Head → ℕ → GivenUp
 giveUpRefused h number = record { head = h; answer = lost.Refused (refusal number) }
 
--- a number of sixteen bits as a size
-pub record Wide (n r : ℕ) : Type 0 where
-  pub same : r ≡ n
-  pub small : r < 65536
-
 -- whether 1,000,000 numbers have passed
 pub record Passed (c : Counts) (p : Bool) : Type 0 where
   pub test : p ≡ leb sessionLimit (sum (countsOf c))
-
--- slot k is none of the first m message slots of slot j
-abbrev pub Apart : ℕ → ℕ → ℕ → Type 0
-Apart j m k = (i : ℕ) → i < m → k ≡ messageSlot j i → ⊥
 
 -- the first m messages of slot j are cleared, and every other is as it was
 pub record Freed (j m : ℕ) (old new : List ℕ) : Type 0 where

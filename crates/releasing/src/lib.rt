@@ -9,17 +9,19 @@ use heads::Heard;
 use heads::Kept;
 use heads::Session;
 use heads::State;
+use heads::is_unknown;
+use heads::total;
 use lengths::Refusal;
 ghost use mathlib.Core.Path.{_≡_};
 ghost use Prim.Native.Nat.{_≤_, _<_};
 ghost use lib.ListN.{length};
 ghost use Rattle.datagrams.specs.Sizes.{messagesLimit};
-ghost use Rattle.repair.specs.Cells.{received, spare, repaired, isUnknown};
+ghost use Rattle.repair.specs.Cells.{received, spare, repaired};
 ghost use Rattle.views.specs.View.{following, sum, sessionLimit};
 ghost use Rattle.views.specs.Release.{released, booked};
 ghost use Rattle.heads.specs.Head.{countsOf, stateOf, slotsHeard, messageOctets};
 ghost use Rattle.heads.specs.Within.{Within};
-ghost use Rattle.releasing.specs.Steps.{Wide, Passed, Freed, nextRefused, giveUpRefused};
+ghost use Rattle.releasing.specs.Steps.{Passed, Freed, nextRefused, giveUpRefused};
 ghost use Rattle.releasing.specs.Promise.{OneMore, BaseMoved, NextMade, GiveUpMade};
 
 // What next answers: the kind, the number and the size of the packet that it handed out, or why it is refused.
@@ -48,39 +50,11 @@ pub struct GivenUp {
     pub answer: Lost,
 }
 
-// A number of sixteen bits as a size.
-fn wide(n: u16) -> usize
-    ensures { λ r. ⌜ Wide n r ⌝ }
-{
-    n as usize
-}
-
 // The number after n: "All arithmetic on numbers is modulo 65,536".
 fn number_after(n: u16) -> u16
     ensures { λ r. ⌜ r ≡ following n ⌝ }
 {
     std::num::wrapping_add_u16(n, 1)
-}
-
-// The moves so far.
-fn total(c: Counts) -> u64
-    ensures { λ r. ⌜ r ≡ sum (countsOf c) ⌝ }
-{
-    let known = c.received as u64 + c.spare as u64;
-    let settled = known + c.repaired as u64;
-    settled + c.lost as u64
-}
-
-fn is_unknown(state: State) -> bool
-    ensures { λ r. ⌜ r ≡ isUnknown (stateOf state) ⌝ }
-{
-    match state {
-        State::Unknown => true,
-        State::Received => false,
-        State::Spare => false,
-        State::Repaired => false,
-        State::Blank => false,
-    }
 }
 
 // Whether 1,000,000 numbers have passed.
@@ -168,9 +142,9 @@ pub fn go_on(
     requires { ⌜ OneMore (h .counts) counts ⌝ }
     ensures { λ r. ⌜ BaseMoved counts h (now (o .entry)) (now (g .entry)) r (now (o .exit)) (now (g .exit)) ⌝ }
 {
-    let base = wide(h.base);
+    let base = stores::wide(h.base);
     let comes = (base + Session::BEFORE) % Session::KEPT;
-    let leaves = base % Session::HEARD;
+    let leaves = heads::heard_slot(h.base);
     let heard = h.heard[leaves];
     let m = heard.m as usize;
     stores::clear(o, comes);
@@ -231,13 +205,13 @@ pub fn next_core(
         return next_refused(h, Refusal::ALL_PASSED);
     }
     let number = h.base;
-    let slot = wide(number) % Session::KEPT;
+    let slot = heads::kept_slot(number);
     let kept = h.kept[slot];
     let kind = kept.state;
     if is_unknown(kind) {
         return next_refused(h, Refusal::BASE_UNKNOWN);
     }
-    let size = wide(kept.size);
+    let size = stores::wide(kept.size);
     if out.len() < size {
         return next_refused(h, Refusal::NO_ROOM);
     }
@@ -264,7 +238,7 @@ pub fn give_up_core(
         return give_up_refused(h, Refusal::ALL_PASSED);
     }
     let number = h.base;
-    let slot = wide(number) % Session::KEPT;
+    let slot = heads::kept_slot(number);
     let kept = h.kept[slot];
     let state = kept.state;
     if is_unknown(state) {

@@ -10,7 +10,7 @@ use lib.Seq.{getD-at}
 use native.Mathlib.Nat.{not-suc-le-zero}
 use native.Mathlib.Omega.{arith}
 use Rattle.octets.specs.Place.{tab}
-use Rattle.octets.proofs.Place.{tab-at, tab-ext}
+use Rattle.octets.proofs.Place.{tab-at, tab-ext, tab-shift, tab-same}
 use Rattle.octets.proofs.Cases.{below-or-not}
 use Rattle.datagrams.specs.Carried.{Extra, Carried}
 use Rattle.datagrams.specs.Write.{datagramOctets}
@@ -26,7 +26,6 @@ use Rattle.sending.specs.Run.{Run, fresh, sent, refused}
 use Rattle.sending.specs.declared.Sender.{Sender}
 use Rattle.sending.specs.declared.Sent.{Sent}
 use Rattle.sending.specs.declared.Settings.{Settings}
-use Rattle.sending.proofs.Tabs.{tab-more, tab-same}
 use Rattle.sending.proofs.HonestLaws.{extra-same, packetAt-none, packetAt-old, packetAt-new, row-old, row-new, carriedAt-old}
 use Rattle.sending.proofs.Accepted.{Accepted}
 use Rattle.sending.proofs.Outcome.{sent-says, refused-says}
@@ -47,15 +46,12 @@ module _ (row : List (List ℕ)) (x : List ℕ) where
 
   history-after : drop 1 (tab historyKept (λ p. packetAt row (length row + p))) ++ (x ∷ [])
       ≡ tab historyKept (λ p. packetAt (row ++ (x ∷ [])) (length row + 1 + p))
-  unfolding tab
   history-after =
       sym
-      (tab-more 31 (λ p. packetAt (row ++ (x ∷ [])) (length row + 1 + p))
-      ∙ ap₂ (λ (l : List (List ℕ)) (y : List ℕ). l ++ (y ∷ []))
-      (tab-ext 31 (λ p. packetAt (row ++ (x ∷ [])) (length row + 1 + p)) (λ p. packetAt row (length row + suc p))
+      (tab-shift 31 (λ p. packetAt (row ++ (x ∷ [])) (length row + 1 + p)) (λ p. packetAt row (length row + p)) x
       (λ p low.
       let same : length row + 1 + p ≡ length row + suc p = omega arith in
-      ap (packetAt (row ++ (x ∷ []))) same ∙ packetAt-old row x (length row + suc p) (omega arith)))
+      ap (packetAt (row ++ (x ∷ []))) same ∙ packetAt-old row x (length row + suc p) (omega arith))
       (let last : length row + 1 + 31 ≡ historyKept + length row = omega arith in
       ap (packetAt (row ++ (x ∷ []))) last ∙ packetAt-new row x))
 

@@ -3,18 +3,15 @@
 use Prim.Native.Nat.{ℕ, zero, suc, _+_, _-_, _*_, _%_, _≤_, _<_}
 use mathlib.Core.Path.{_≡_, refl, sym, ap, _∙_}
 use mathlib.Core.Logic.{⊎-elim}
-use mathlib.Core.Bool.{true, _||_}
 use mathlib.Core.List.{List, [], _∷_, _++_, map}
 use lib.ListN.{length, getD, List·getD-eq-default}
-use lib.Dec.{ltb, eqb}
 use native.Mathlib.Omega.{arith}
-use borrow.Author.Tests.{le-ltb, eqb-true}
 use Rattle.octets.specs.Place.{tab}
-use Rattle.octets.proofs.Place.{length-tab, tab-at, tab-ext, allBelow-at}
+use Rattle.octets.proofs.Place.{length-tab, tab-at, tab-ext}
 use Rattle.octets.proofs.Cases.{below-or-not}
 use Rattle.datagrams.specs.Sizes.{packetLimit}
-use Rattle.stores.specs.Store.{part, zerosPast}
-use Rattle.stores.proofs.Laws.{length-part, part-at}
+use Rattle.stores.specs.Store.{part}
+use Rattle.stores.proofs.Laws.{length-part, part-octet}
 use Rattle.views.specs.View.{numbers}
 use Rattle.sending.specs.Sending.{historyKept}
 use Rattle.sending.specs.Send.{packetOf}
@@ -45,15 +42,8 @@ module _ {sizes o : List ℕ} (stored : Stored sizes o) (i : ℕ) (small : i < h
 
   -- past its length a slot has zeros, as a packet is read past its end
   pub packet-octet : (k : ℕ) → k < packetLimit → getD (packetIn sizes o i) k 0 ≡ getD o (i * packetLimit + k) 0
-  unfolding zerosPast
   packet-octet k low =
-      ⊎-elim (λ inside. part-at o i (sizeIn sizes i) k inside)
-      (λ past.
-      List·getD-eq-default (packetIn sizes o i) 0 {n = k} (rw length-packet past)
-      ∙ sym (eqb-true (getD o (i * packetLimit + k) 0) 0
-      (rw (le-ltb k (sizeIn sizes i) past) at
-      (allBelow-at packetLimit (λ j. ltb j (sizeIn sizes i) || eqb (getD o (i * packetLimit + j) 0) 0) (stored .clean i small) k low))))
-      (below-or-not k (sizeIn sizes i))
+      part-octet o i (sizeIn sizes i) k (has-slot o i (stored .octets) small) (stored .lengths .small i small) (stored .clean i small) low
 
 -- no packet is over the limit; outside the history there is none
 pub packet-short : {sizes o : List ℕ} → Stored sizes o → (sent p : ℕ) → length (packetOf (historyIn sent sizes o) p) ≤ packetLimit

@@ -6,11 +6,11 @@ use mathlib.Core.Bool.{true}
 use mathlib.Core.List.{List, [], _∷_, _++_, map, append-assoc}
 use lib.ListN.{length, getD, replicate, length-replicate, length-append, List·getD-append}
 use lib.Seq.{getD-append-add, getD-append-seam}
-use native.Mathlib.Nat.{mul-le-mul, mul-le-mul-right, suc-mul}
+use native.Mathlib.Nat.{mul-le-mul-right, suc-mul}
 use native.Mathlib.Omega.{arith}
 use borrow.Author.Tests.{leb-true}
 use Rattle.octets.specs.Place.{tab}
-use Rattle.octets.proofs.Place.{tab-ext}
+use Rattle.octets.proofs.Place.{tab-ext, map-tab}
 use Rattle.datagrams.specs.Sizes.{sparesLimit, coveredLimit, messagesLimit}
 use Rattle.datagrams.specs.Carried.{Extra, spares, parity, Carried}
 use Rattle.datagrams.specs.Write.{within}
@@ -22,10 +22,10 @@ use Rattle.sending.specs.Carries.{settingsInside, sparesFrom, messagesFr
 use Rattle.sending.specs.Honest.{packetAt, carriedAt}
 use Rattle.sending.specs.declared.Settings.{Settings}
 use Rattle.sending.specs.declared.Settings.the-variants as settings
-use Rattle.sending.proofs.Tabs.{map-tab}
+use Rattle.sending.proofs.Slots.{covered-kept}
 
 -- ---- only the places in reach matter
--- two rows that agree up to 32 places back from A and from B
+-- two rows that agree up to historyKept places back from A and from B
 abbrev pub Alike : (ℕ → List ℕ) → ℕ → (ℕ → List ℕ) → ℕ → Type 0
 Alike rowA A rowB B = (d : ℕ) → 1 ≤ d → d ≤ historyKept → rowA (A - d) ≡ rowB (B - d)
 
@@ -39,7 +39,7 @@ module _ (rowA : ℕ → List ℕ) (A : ℕ) (rowB : ℕ → List ℕ) (B : ℕ)
   member-same : (n m i t : ℕ) → n ≤ coveredLimit → m ≤ messagesLimit → i < m → t < n
       → rowA ((A + i) - suc t * m) ≡ rowB ((B + i) - suc t * m)
   member-same n m i t few small one below =
-      let whole = mul-le-mul few small in
+      let whole = covered-kept few small in
       let so-far = mul-le-mul-right m below in
       let next = suc-mul t m in
       let left : (A + i) - suc t * m ≡ A - (suc t * m - i) = omega arith in
@@ -69,12 +69,12 @@ module _ (rowA : ℕ → List ℕ) (A : ℕ) (rowB : ℕ → List ℕ) (B : ℕ)
       ap (parity n) (messages-same n m (within-true 1 coveredLimit n (t .0) .1) (within-true 1 messagesLimit m (t .1) .1))
 
 -- ---- the row by places
-before-length : length (replicate {A = List ℕ} historyKept []) ≡ historyKept
+pub before-length : length (replicate {A = List ℕ} historyKept []) ≡ historyKept
 before-length = length-replicate {A = List ℕ} historyKept []
 
 pub packetAt-none : (p : ℕ) → packetAt [] p ≡ []
 unfolding packetAt
-packetAt-none p = none 32 p
+packetAt-none p = none historyKept p
   where
     none : (n q : ℕ) → getD (replicate {A = List ℕ} n [] ++ []) q [] ≡ []
     none zero zero = refl

@@ -11,11 +11,11 @@ use native.Mathlib.Numerals.{add-one}
 use native.Mathlib.Omega.{arith}
 use borrow.Author.Tests.{le-leb, le-ltb}
 use Rattle.octets.specs.Place.{tab, allBelow}
-use Rattle.octets.proofs.Place.{tab-ext, allBelow-at, allBelow-of}
+use Rattle.octets.proofs.Place.{tab-ext, allBelow-at, allBelow-of, tab-shift}
 use Rattle.octets.proofs.Cases.{same-or-not, and-left, and-right, and-both}
 use Rattle.datagrams.specs.Sizes.{packetLeast, packetLimit}
 use Rattle.stores.specs.Store.{part, pasted, zeros, zerosPast, HasSlot}
-use Rattle.stores.proofs.Laws.{length-zeros, length-pasted, length-cleared, part-pasted, part-pasted-other, zerosPast-pasted, zerosPast-other, zerosPast-cleared}
+use Rattle.stores.proofs.Laws.{zeros-fit, length-pasted, length-cleared, part-pasted, part-pasted-other, zerosPast-pasted, zerosPast-other, zerosPast-cleared}
 use Rattle.views.specs.View.{numbers, sessionLimit}
 use Rattle.sending.specs.Sending.{historyKept}
 use Rattle.sending.specs.Send.{packetInside}
@@ -25,7 +25,6 @@ use Rattle.sending.specs.Held.{Arrays, Within, Stored, sizesKept, octets
 use Rattle.sending.proofs.Slots.{slot-small, slot-apart, slot-number, placeOf, place-slot, place-small, has-slot}
 use Rattle.sending.proofs.RangeSteps.{size-limit}
 use Rattle.sending.proofs.NextSteps.{packet-fits}
-use Rattle.sending.proofs.Tabs.{tab-more}
 
 -- ---- the ranges, place by place and slot by slot
 module _ {sent : ℕ} {sizes o : List ℕ} (within : Within sent sizes o) where
@@ -95,9 +94,6 @@ octetsOn sent packet o = octetsKept (sent % numbers) packet o
 abbrev cleared : ℕ → List ℕ → List ℕ
 cleared sent o = pasted o (slot sent) (zeros packetLimit)
 
-zeros-fit : length (zeros packetLimit) ≤ packetLimit
-zeros-fit = omega (arith, length-zeros packetLimit)
-
 module _ {sent : ℕ} {sizes o : List ℕ} (within : Within sent sizes o) (packet : List ℕ) (inside : packetInside packet ≡ true) where
   has : HasSlot (slot sent) o
   has = has-slot o (slot sent) (within .arrays .octets) (slot-low sent)
@@ -151,11 +147,9 @@ module _ {sent : ℕ} {sizes o : List ℕ} (within : Within sent sizes o) (packe
 
   -- ---- the history has gone on by one
   pub history-kept : historyIn (sent + 1) (sizesOn sent packet sizes) (octetsOn sent packet o) ≡ drop 1 (historyIn sent sizes o) ++ (packet ∷ [])
-  unfolding historyIn tab
+  unfolding historyIn
   history-kept =
-      tab-more 31 (λ p. packetIn (sizesOn sent packet sizes) (octetsOn sent packet o) (slotAt (sent + 1) p))
-      ∙ ap₂ (λ (l : List (List ℕ)) (x : List ℕ). l ++ (x ∷ []))
-      (tab-ext 31 (λ p. packetIn (sizesOn sent packet sizes) (octetsOn sent packet o) (slotAt (sent + 1) p)) (λ p. packetIn sizes o (slotAt sent (suc p))) packet-other)
+      tab-shift 31 _ (λ p. packetIn sizes o (slotAt sent p)) packet packet-other
       (ap (packetIn (sizesOn sent packet sizes) (octetsOn sent packet o)) (slot-last sent) ∙ packet-new)
 
   -- ---- the ranges stay

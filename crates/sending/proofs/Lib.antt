@@ -1,4 +1,3 @@
-mod Tabs
 mod Slots
 mod RangeSteps
 mod KeepSteps

@@ -7,24 +7,19 @@ use lib.ListN.{length, getD, take, replicate, length-replicate}
 use lib.Bits.{bitXor}
 use native.Mathlib.Omega.{arith}
 use Rattle.octets.specs.Place.{tab}
-use Rattle.octets.specs.ExclusiveOr.{xorAt, exclusiveOr, longest}
+use Rattle.octets.specs.ExclusiveOr.{exclusiveOr, longest}
 use Rattle.octets.proofs.Place.{tab-ext}
-use Rattle.octets.proofs.ExclusiveOr.{exclusiveOr-more, length-exclusiveOr}
+use Rattle.octets.proofs.ExclusiveOr.{longest-more, exclusiveOr-none, exclusiveOr-more}
 use Rattle.datagrams.specs.Sizes.{packetLimit}
 use Rattle.stores.specs.Store.{added, HasSlot}
 use Rattle.repair.specs.Members.{membersOf}
+use Rattle.views.specs.View.{numbers}
 use Rattle.sending.specs.Sending.{historyKept}
 use Rattle.sending.specs.Sender.{slotAt, sizeIn, packetIn, historyOctets}
 use Rattle.sending.specs.Held.{Sizes, Stored}
 use Rattle.sending.specs.Items.{Reach, membersIn, MessageSize, MessageSum}
-use Rattle.sending.proofs.Tabs.{tab-same}
 use Rattle.sending.proofs.History.{length-packet, packet-octet}
 use Rattle.sending.proofs.Walk.{Standing, standing-start, standing-turn, standing-slot, place-inside, members-more}
-
-longest-more : (ls : List (List ℕ)) (l : List ℕ) → longest (ls ++ (l ∷ [])) ≡ max (longest ls) (length l)
-unfolding longest
-longest-more [] l = omega arith
-longest-more (first ∷ ls) l = let rest = longest-more ls l in omega arith
 
 -- ---- message_size
 pub record Sizing (number : ℕ) (sizes : List ℕ) (n m i at size t : ℕ) : Type 0 where
@@ -33,13 +28,13 @@ pub record Sizing (number : ℕ) (sizes : List ℕ) (n m i at size t : ℕ) : Ty
   pub small : size ≤ packetLimit
   pub so : (o : List ℕ) → Stored sizes o → size ≡ longest (membersIn number sizes o t m i)
 
-pub sizing-start : (number : ℕ) (sizes : List ℕ) (n m i at : ℕ) → at ≡ (number + i) % 65536 → Sizing number sizes n m i at 0 0
+pub sizing-start : (number : ℕ) (sizes : List ℕ) (n m i at : ℕ) → at ≡ (number + i) % numbers → Sizing number sizes n m i at 0 0
 unfolding longest membersOf tab
 sizing-start number sizes n m i at e =
     record { standing = standing-start number m i at e; bound = omega arith; small = omega arith; so = λ o stored. refl }
 
 module _ {number : ℕ} {sizes : List ℕ} {n m i at size t : ℕ} (v : Sizing number sizes n m i at size t) where
-  pub sizing-turn : {r slot s g : ℕ} → Sizes sizes → Reach n m i → t < n → (r + m) % 65536 ≡ at → slot ≡ r % 32
+  pub sizing-turn : {r slot s g : ℕ} → Sizes sizes → Reach n m i → t < n → (r + m) % numbers ≡ at → slot ≡ r % historyKept
       → s ≡ sizeIn sizes slot → g ≡ max size s → Sizing number sizes n m i r g (t + 1)
   sizing-turn {r} {slot} {s} {g} lengths reach more back found at-slot most =
       let inside = place-inside reach number t more in
@@ -74,11 +69,7 @@ pub record Summing (number : ℕ) (o : List ℕ) (n m i at : ℕ) (sum : List �
   pub long : length sum ≡ packetLimit
   pub so : (sizes : List ℕ) → Stored sizes o → sum ≡ exclusiveOr packetLimit (membersIn number sizes o t m i)
 
-exclusiveOr-none : (n : ℕ) → replicate n 0 ≡ exclusiveOr n []
-unfolding exclusiveOr xorAt
-exclusiveOr-none n = sym (tab-same n 0)
-
-pub summing-start : (number : ℕ) (o : List ℕ) (n m i at : ℕ) → at ≡ (number + i) % 65536
+pub summing-start : (number : ℕ) (o : List ℕ) (n m i at : ℕ) → at ≡ (number + i) % numbers
     → Summing number o n m i at (replicate packetLimit 0) 0
 unfolding membersOf tab
 summing-start number o n m i at e =
@@ -100,7 +91,7 @@ added-packet {sizes} {o} stored ls i small =
     ∙ sym (exclusiveOr-more packetLimit ls (packetIn sizes o i))
 
 module _ {number : ℕ} {o : List ℕ} {n m i at : ℕ} {sum : List ℕ} {t : ℕ} (v : Summing number o n m i at sum t) where
-  pub summing-turn : {r slot : ℕ} {more-sum : List ℕ} → Reach n m i → t < n → (r + m) % 65536 ≡ at → slot ≡ r % 32
+  pub summing-turn : {r slot : ℕ} {more-sum : List ℕ} → Reach n m i → t < n → (r + m) % numbers ≡ at → slot ≡ r % historyKept
       → more-sum ≡ added sum o slot → length more-sum ≡ packetLimit → Summing number o n m i r more-sum (t + 1)
   summing-turn {r} {slot} {more-sum} reach more back found plus long =
       let inside = place-inside reach number t more in

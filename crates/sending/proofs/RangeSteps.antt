@@ -3,36 +3,34 @@
 use Prim.Native.Nat.{ℕ, _+_, _-_, _%_, _≤_, _<_}
 use mathlib.Core.Path.{_≡_, refl, sym, ap, ap₂, _∙_}
 use mathlib.Core.Bool.{Bool, true, false, not, _&&_}
-use mathlib.Core.List.{List, _++_}
-use lib.ListN.{length, drop, set, replicate, length-replicate, length-set}
+use mathlib.Core.List.{List}
+use mathlib.Core.Logic.{⊎-elim}
 use lib.Dec.{leb, eqb}
 use native.Mathlib.Omega.{arith}
 use borrow.Author.Tests.{lt-ltb, le-ltb, le-leb, lt-leb, eqb-true, leb-true, not-true, not-false}
-use borrow.Author.Fill.{fill-more}
 use Rattle.octets.specs.Place.{allBelow}
 use Rattle.octets.proofs.Place.{allBelow-more}
 use Rattle.octets.proofs.Cases.{and-right, below-or-not}
 use Rattle.datagrams.specs.Sizes.{packetLimit}
-use Rattle.stores.specs.Store.{mask, zeros, zerosPast, HasSlot}
+use Rattle.stores.specs.Store.{zerosPast, HasSlot}
 use Rattle.views.specs.View.{sessionLimit}
 use Rattle.sending.specs.Sending.{historyKept}
 use Rattle.sending.specs.Sender.{slotAt, sizeIn}
 use Rattle.sending.specs.Ranges.{sizeInRange, placeInRange, inRanges}
 use Rattle.sending.specs.Held.{Arrays}
 use Rattle.sending.proofs.Slots.{has-slot, slot-small}
-use mathlib.Core.Logic.{⊎-elim}
 
 -- ---- size_right
 module _ (at size : ℕ) where
-  pub size-before : at < 32 → eqb size 0 ≡ sizeInRange at size
+  pub size-before : at < historyKept → eqb size 0 ≡ sizeInRange at size
   unfolding sizeInRange
   size-before early = rw (lt-ltb at historyKept early)
 
-  pub size-empty : 32 ≤ at → size < 1 → false ≡ sizeInRange at size
+  pub size-empty : historyKept ≤ at → size < 1 → false ≡ sizeInRange at size
   unfolding sizeInRange
   size-empty late none = rw (le-ltb at historyKept late, lt-leb 1 size none)
 
-  pub size-packet : 32 ≤ at → 1 ≤ size → leb size 160 ≡ sizeInRange at size
+  pub size-packet : historyKept ≤ at → 1 ≤ size → leb size packetLimit ≡ sizeInRange at size
   unfolding sizeInRange
   size-packet late some = rw (le-ltb at historyKept late, le-leb 1 size some)
 
@@ -48,18 +46,18 @@ pub ruleset sizings = (size-before, size-empty, size-packet)
 
 -- ---- place_right
 module _ (sent p : ℕ) (sizes o : List ℕ) {size : ℕ} {b : Bool} where
-  pub place-wrong : size ≡ sizeIn sizes ((sent + p) % 32) → b ≡ sizeInRange (sent + p) size → not b ≡ true
+  pub place-wrong : size ≡ sizeIn sizes (slotAt sent p) → b ≡ sizeInRange (sent + p) size → not b ≡ true
       → false ≡ placeInRange sent sizes o p
   unfolding placeInRange
   place-wrong found tested out = rw (sym found, sym tested, not-true b out)
 
-  pub place-rest : {r : Bool} → size ≡ sizeIn sizes ((sent + p) % 32) → b ≡ sizeInRange (sent + p) size → not b ≡ false
-      → r ≡ zerosPast o ((sent + p) % 32) size → r ≡ placeInRange sent sizes o p
+  pub place-rest : {r : Bool} → size ≡ sizeIn sizes (slotAt sent p) → b ≡ sizeInRange (sent + p) size → not b ≡ false
+      → r ≡ zerosPast o (slotAt sent p) size → r ≡ placeInRange sent sizes o p
   unfolding placeInRange
   place-rest found tested in′ last = rw (sym found, sym tested, not-false b in′) last
 
 -- what the zero check asks
-pub slot-there : (sent p : ℕ) (sizes o : List ℕ) → Arrays sizes o → HasSlot ((sent + p) % 32) o
+pub slot-there : (sent p : ℕ) (sizes o : List ℕ) → Arrays sizes o → HasSlot (slotAt sent p) o
 slot-there sent p sizes o arrays = has-slot o (slotAt sent p) (arrays .octets) (slot-small sent p)
 
 pub size-told : (at : ℕ) {size : ℕ} {b : Bool} → b ≡ sizeInRange at size → not b ≡ false → size ≤ packetLimit
@@ -67,41 +65,13 @@ size-told at {size} tested in′ = size-limit at size (sym tested ∙ not-false 
 
 pub ruleset placings = (place-wrong, place-rest)
 
--- ---- passing
-pub record Filled (table : List ℕ) (j : ℕ) : Type 0 where
-  pub made : table ≡ replicate j 255 ++ drop j (replicate (packetLimit + packetLimit) 0)
-  pub few : j ≤ packetLimit
-  pub long : length table ≡ packetLimit + packetLimit
-
-pub filled-start : Filled (replicate (packetLimit + packetLimit) 0) 0
-filled-start = record { made = refl; few = omega arith; long = length-replicate {A = ℕ} (packetLimit + packetLimit) 0 }
-
-pub filled-turn : {table : List ℕ} {j : ℕ} → Filled table j → j < packetLimit → Filled (set table j 255) (j + 1)
-filled-turn {table} {j} v more =
-    record {
-      made =
-          rw (v .made)
-          (fill-more j 255 (replicate (packetLimit + packetLimit) 0)
-          (rw (length-replicate {A = ℕ} (packetLimit + packetLimit) 0) (omega arith)));
-      few = omega arith;
-      long = length-set table j 255 ∙ v .long;
-    }
-
-pub filled-done : {table : List ℕ} {j : ℕ} → Filled table j → packetLimit ≤ j → table ≡ mask
-unfolding mask zeros
-filled-done {table} {j} v end =
-    let all : j ≡ packetLimit = (let few = v .few in omega arith) in
-    v .made ∙ ap (λ (k : ℕ). replicate k 255 ++ drop k (replicate (packetLimit + packetLimit) 0)) all
-
-pub ruleset fillings = (filled-start, filled-turn, filled-done)
-
 -- ---- in_ranges
 pub record Ranging (sent : ℕ) (sizes o : List ℕ) (ok : Bool) (p : ℕ) : Type 0 where
   pub so : ok ≡ allBelow p (placeInRange sent sizes o)
   pub few : p ≤ historyKept
 
 module _ (sent : ℕ) (sizes o : List ℕ) where
-  pub ranges-over : 1000000 < sent → false ≡ inRanges sent sizes o
+  pub ranges-over : sessionLimit < sent → false ≡ inRanges sent sizes o
   unfolding inRanges
   ranges-over over = rw (lt-leb sent sessionLimit over)
 
@@ -109,7 +79,7 @@ module _ (sent : ℕ) (sizes o : List ℕ) where
   unfolding allBelow
   ranging-start = record { so = refl; few = omega arith }
 
-  pub ranging-turn : {ok r : Bool} {p : ℕ} → Ranging sent sizes o ok p → p < 32 → r ≡ placeInRange sent sizes o p
+  pub ranging-turn : {ok r : Bool} {p : ℕ} → Ranging sent sizes o ok p → p < historyKept → r ≡ placeInRange sent sizes o p
       → Ranging sent sizes o (ok && r) (p + 1)
   ranging-turn {ok} {r} {p} v more found =
       record {
@@ -117,7 +87,7 @@ module _ (sent : ℕ) (sizes o : List ℕ) where
         few = omega arith;
       }
 
-  pub ranging-done : {ok : Bool} {p : ℕ} → Ranging sent sizes o ok p → 32 ≤ p → sent ≤ 1000000 → ok ≡ inRanges sent sizes o
+  pub ranging-done : {ok : Bool} {p : ℕ} → Ranging sent sizes o ok p → historyKept ≤ p → sent ≤ sessionLimit → ok ≡ inRanges sent sizes o
   unfolding inRanges
   ranging-done {ok} {p} v end few =
       let all : p ≡ historyKept = (let small = v .few in omega arith) in

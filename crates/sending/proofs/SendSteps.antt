@@ -69,7 +69,7 @@ count-inside (settings.Parity n m) sent inside = inside
 pub packet-none : (packet : List ℕ) → length packet < 1 → false ≡ packetInside packet
 packet-none packet none = rw (lt-leb 1 (length packet) none)
 
-pub packet-some : (packet : List ℕ) → 1 ≤ length packet → leb (length packet) 160 ≡ packetInside packet
+pub packet-some : (packet : List ℕ) → 1 ≤ length packet → leb (length packet) packetLimit ≡ packetInside packet
 packet-some packet some = rw (le-leb 1 (length packet) some)
 
 pub ruleset packets = (packet-none, packet-some)
@@ -84,12 +84,12 @@ carried-same (settings.Parity n m) sent packet sizes o =
     ap (λ (h : List (List ℕ)). carriedFrom (settings.Parity n m) sent packet (packetOf h) historyKept) (history-number sent sizes o)
 
 module _ (s : Settings) (sent : ℕ) (packet sizes o old : List ℕ) where
-  pub held-all : {r : Refusal} → RefusalMade allPassed r → 1000000 ≤ sent
+  pub held-all : {r : Refusal} → RefusalMade allPassed r → sessionLimit ≤ sent
       → Puts (datagramToSend s packet (sendingIn sent sizes o)) old old (written.Refused r)
   unfolding datagramToSend
   held-all made all = let e = le-leb sessionLimit sent all in record { answer = rw (e, made .answer); lent = rw e }
 
-  pub held-settings : {b : Bool} {r : Refusal} → RefusalMade wrongSettings r → sent < 1000000 → b ≡ settingsInside s → not b ≡ true
+  pub held-settings : {b : Bool} {r : Refusal} → RefusalMade wrongSettings r → sent < sessionLimit → b ≡ settingsInside s → not b ≡ true
       → Puts (datagramToSend s packet (sendingIn sent sizes o)) old old (written.Refused r)
   unfolding datagramToSend
   held-settings {b} made free found out =
@@ -97,7 +97,7 @@ module _ (s : Settings) (sent : ℕ) (packet sizes o old : List ℕ) where
       let wrong : settingsInside s ≡ false = sym found ∙ not-true b out in
       record { answer = rw (e, wrong, made .answer); lent = rw (e, wrong) }
 
-  pub held-packet : {b d : Bool} {r : Refusal} → RefusalMade outsideSizes r → sent < 1000000 → b ≡ settingsInside s → not b ≡ false
+  pub held-packet : {b d : Bool} {r : Refusal} → RefusalMade outsideSizes r → sent < sessionLimit → b ≡ settingsInside s → not b ≡ false
       → d ≡ packetInside packet → not d ≡ true → Puts (datagramToSend s packet (sendingIn sent sizes o)) old old (written.Refused r)
   unfolding datagramToSend
   held-packet {b} {d} made free found in′ told out =
@@ -106,7 +106,7 @@ module _ (s : Settings) (sent : ℕ) (packet sizes o old : List ℕ) where
       let wrong : packetInside packet ≡ false = sym told ∙ not-true d out in
       record { answer = rw (e, right, wrong, made .answer); lent = rw (e, right, wrong) }
 
-  pub held-written : {b d : Bool} {number : ℕ} {k : Kind} {count : ℕ} {new : List ℕ} {r : Written} → sent < 1000000 → b ≡ settingsInside s
+  pub held-written : {b d : Bool} {number : ℕ} {k : Kind} {count : ℕ} {new : List ℕ} {r : Written} → sent < sessionLimit → b ≡ settingsInside s
       → not b ≡ false → d ≡ packetInside packet → not d ≡ false → number ≡ sent % numbers → k ≡ kindOf s → count ≡ countOf s sent
       → Puts (done (datagramOctets (carriedIn number sizes o packet k count))) old new r
       → Puts (datagramToSend s packet (sendingIn sent sizes o)) old new r

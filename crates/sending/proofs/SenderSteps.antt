@@ -8,7 +8,7 @@ use lib.Dec.{leb, ltb, eqb}
 use native.Mathlib.Omega.{arith}
 use borrow.Author.Tests.{lt-ltb, leb-true, eq-eqb, not-true, not-false}
 use Rattle.octets.specs.Place.{tab, allBelow}
-use Rattle.octets.proofs.Place.{tab-ext, allBelow-of}
+use Rattle.octets.proofs.Place.{tab-ext, tab-same, allBelow-of}
 use Rattle.octets.proofs.Cases.{and-both}
 use Rattle.lengths.specs.Refusals.{outsideRanges}
 use Rattle.lengths.specs.Answers.{Answer, done, refused, refuse, fitted, sizeOf}
@@ -17,8 +17,8 @@ use Rattle.lengths.specs.declared.Refusal.{Refusal}
 use Rattle.lengths.specs.declared.Written.{Written}
 use Rattle.lengths.specs.declared.Written.the-variants as written
 use Rattle.datagrams.specs.Sizes.{packetLimit}
-use Rattle.stores.specs.Store.{zeros, part, zerosPast}
-use Rattle.stores.proofs.Laws.{length-zeros, zeros-at}
+use Rattle.stores.specs.Store.{zeros, part}
+use Rattle.stores.proofs.Laws.{length-zeros, zeros-at, zerosPast-zeros}
 use Rattle.views.specs.View.{numbers, sessionLimit}
 use Rattle.sending.specs.Sending.{Sending, historyKept, freshSending, sentOn}
 use Rattle.sending.specs.Send.{datagramToSend}
@@ -30,15 +30,10 @@ use Rattle.sending.specs.Promise.{Proper, FreshMade, toSend, SentOn, Sen
 use Rattle.sending.specs.declared.Sender.{Sender}
 use Rattle.sending.specs.declared.Sent.{Sent}
 use Rattle.sending.specs.declared.Settings.{Settings}
-use Rattle.sending.proofs.Tabs.{tab-same}
 use Rattle.sending.proofs.Kept.{sent-limit, arrays-kept, history-kept, ranges-kept}
 use Rattle.sending.proofs.Accepted.{size-done, size-refused, Accepted, accepted}
 
 -- ---- fresh
-or-true : (b : Bool) → (b || true) ≡ true
-or-true true = refl
-or-true false = refl
-
 module _ (sizes o : List ℕ) (arrays : Arrays sizes o) (none : (i : ℕ) → getD sizes i 0 ≡ 0) (clean : (k : ℕ) → getD o k 0 ≡ 0) where
   history-none : historyIn 0 sizes o ≡ replicate historyKept []
   unfolding historyIn part
@@ -47,17 +42,10 @@ module _ (sizes o : List ℕ) (arrays : Arrays sizes o) (none : (i : ℕ) → ge
       (λ p small. ap (λ (n : ℕ). part o (slotAt 0 p) n) (none (slotAt 0 p)))
       ∙ tab-same historyKept []
 
-  zeros-none : (i n : ℕ) → zerosPast o i n ≡ true
-  unfolding zerosPast
-  zeros-none i n =
-      allBelow-of packetLimit (λ j. ltb j n || eqb (getD o (i * packetLimit + j) 0) 0)
-      (λ j small.
-      ap (λ (b : Bool). ltb j n || b) (eq-eqb (getD o (i * packetLimit + j) 0) 0 (clean (i * packetLimit + j))) ∙ or-true (ltb j n))
-
   place-none : (p : ℕ) → p < historyKept → placeInRange 0 sizes o p ≡ true
   unfolding placeInRange sizeInRange
   place-none p small =
-      rw (lt-ltb (0 + p) historyKept (omega arith), none (slotAt 0 p)) (zeros-none (slotAt 0 p) 0)
+      rw (lt-ltb (0 + p) historyKept (omega arith), none (slotAt 0 p)) (zerosPast-zeros o (slotAt 0 p) 0 clean)
 
   ranges-none : inRanges 0 sizes o ≡ true
   unfolding inRanges
@@ -83,7 +71,7 @@ fresh-made =
 pub within-told : (sent : ℕ) (sizes o : List ℕ) {b : Bool} → Arrays sizes o → b ≡ inRanges sent sizes o → not b ≡ false → Within sent sizes o
 within-told sent sizes o {b} arrays found in′ = record { arrays = arrays; ranges = sym found ∙ not-false b in′ }
 
-pub sent-few : (sent : ℕ) (sizes o : List ℕ) → Within sent sizes o → sent ≤ 1000000
+pub sent-few : (sent : ℕ) (sizes o : List ℕ) → Within sent sizes o → sent ≤ sessionLimit
 sent-few sent sizes o within = leb-true sent sessionLimit (sent-limit within)
 
 module _ (s : Sender) (settings : Settings) (packet old : List ℕ) where

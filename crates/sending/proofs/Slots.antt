@@ -1,16 +1,23 @@
--- Laws of slots: places that are apart have slots that are apart, every slot is there, and a number has the slot that the
--- count of packets sent has. Assumes nothing.
+-- Laws of the history's places and slots: it has all that a message covers, places that are apart have slots that are apart,
+-- every slot is there, and a number has the slot that the count of packets sent has. Assumes nothing.
 use Prim.Native.Nat.{ℕ, _+_, _-_, _*_, _/_, _%_, _≤_, _<_}
 use mathlib.Core.Path.{_≡_, sym, ap, _∙_}
 use mathlib.Core.List.{List}
 use lib.ListN.{length}
-use native.Mathlib.Nat.{div-add-mod'}
+use native.Mathlib.Nat.{div-add-mod', mul-le-mul, le-trans}
 use native.Mathlib.Omega.{arith}
-use Rattle.datagrams.specs.Sizes.{packetLimit}
+use Rattle.datagrams.specs.Sizes.{packetLimit, coveredLimit, messagesLimit, reachLimit}
 use Rattle.stores.specs.Store.{HasSlot}
 use Rattle.views.specs.View.{numbers}
 use Rattle.sending.specs.Sending.{historyKept}
 use Rattle.sending.specs.Sender.{slotAt, historyOctets}
+
+-- the history has all that a message may cover: "a reach n·m of at most 32", "the last 32 packets"
+pub reach-kept : reachLimit ≤ historyKept
+reach-kept = omega arith
+
+pub covered-kept : {n m : ℕ} → n ≤ coveredLimit → m ≤ messagesLimit → n * m ≤ historyKept
+covered-kept covered messages = le-trans (mul-le-mul covered messages) reach-kept
 
 pub slot-small : (sent p : ℕ) → slotAt sent p < historyKept
 slot-small sent p = omega arith

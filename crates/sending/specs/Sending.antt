@@ -8,7 +8,8 @@ abbrev pub historyKept : ℕ
 historyKept = 32
 
 -- the session: at place p of the history stands the packet of number sent − historyKept + p, empty for a number before the
--- first. The packet that is sent next stands at place historyKept.
+-- first. So the oldest comes first and the last one sent comes last; the packet that is sent next would come after them all,
+-- and the members of its messages are counted back from there.
 pub record Sending : Type 0 where
   pub sent : ℕ
   pub history : List (List ℕ)

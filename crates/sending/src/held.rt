@@ -11,13 +11,6 @@ ghost use Rattle.sending.specs.Sender.{sizeIn};
 ghost use Rattle.sending.specs.Ranges.{sizeInRange, placeInRange, inRanges};
 ghost use Rattle.sending.specs.Held.{Arrays, Keeps};
 
-// A size as it is kept.
-fn wide(size: u16) -> usize
-    ensures { λ r. ⌜ r ≡ size ⌝ }
-{
-    size as usize
-}
-
 // The slot of a number.
 pub fn slot_of(number: u16) -> usize
     ensures { λ r. ⌜ r ≡ number % historyKept ⌝ }
@@ -30,7 +23,7 @@ pub fn size_in(sizes: &[u16], slot: usize) -> usize
     requires { ⌜ slot < length (now sizes) ⌝ }
     ensures { λ r. ⌜ r ≡ sizeIn (now (sizes .entry)) slot ⌝ }
 {
-    wide(sizes[slot])
+    stores::wide(sizes[slot])
 }
 
 // ---- the ranges
@@ -62,19 +55,6 @@ fn place_right(sent: usize, sizes: &[u16], o: &[u8], p: usize, table: &[u8]) -> 
     stores::zeros_past(o, slot, size, table)
 }
 
-// What lets every octet pass, then what lets zero alone pass.
-fn passing() -> [u8; Packet::LIMIT + Packet::LIMIT]
-    ensures { λ r. ⌜ r ≡ mask ⌝ }
-{
-    let mut table = [0; Packet::LIMIT + Packet::LIMIT];
-    let mut j = 0;
-    while j < Packet::LIMIT {
-        table[j] = 255;
-        j += 1;
-    }
-    table
-}
-
 // The whole sentence.
 pub fn in_ranges(sent: usize, sizes: &[u16], o: &[u8]) -> bool
     requires { ⌜ Arrays (now sizes) (now o) ⌝ }
@@ -83,7 +63,7 @@ pub fn in_ranges(sent: usize, sizes: &[u16], o: &[u8]) -> bool
     if Sender::LIMIT < sent {
         return false;
     }
-    let table = passing();
+    let table = stores::passing();
     let mut ok = true;
     let mut p = 0;
     while p < Sender::HISTORY {

@@ -5,6 +5,7 @@ mod items;
 mod next;
 
 use datagrams::Packet;
+use heads::Session;
 use lengths::Refusal;
 use lengths::Written;
 ghost use mathlib.Core.Path.{_≡_};
@@ -35,8 +36,8 @@ pub struct Sent {
 }
 
 impl Sender {
-    // Document 01, 'Sizes': numbers that may pass in a session.
-    pub const LIMIT: usize = 1000000;
+    // Document 01, 'Sizes': numbers that may pass in a session, the receiving one's limit.
+    pub const LIMIT: usize = Session::LIMIT as usize;
     // The packets that are kept.
     pub const HISTORY: usize = 32;
 

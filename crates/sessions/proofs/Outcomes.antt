@@ -1,40 +1,20 @@
 -- Two outcomes of a call are equal, and a refused call leaves the session: from the promises. Assumes nothing.
 use Prim.Native.Nat.{ℕ}
-use mathlib.Core.Path.{_≡_, refl, sym, ap, ap₂, subst, _∙_}
-use mathlib.Core.Bool.{Bool, true, false, cond}
-use mathlib.Core.List.{List}
-use lib.ListN.{length}
+use mathlib.Core.Path.{_≡_, refl, sym, subst, _∙_}
 use native.Mathlib.Omega.{arith}
 use Rattle.lengths.specs.Answers.{Answer, done, refused}
 use Rattle.lengths.specs.declared.Refusal.{Refusal}
 use Rattle.views.specs.View.{View}
-use Rattle.heads.specs.Promise.{Sized}
-use Rattle.heads.specs.Ranges.{sessionInRanges}
-use Rattle.heads.specs.Within.{Within}
-use Rattle.heads.specs.declared.Head.{Head}
 use Rattle.heads.specs.declared.Session.{Session}
-use Rattle.ranges.proofs.Laws.{session-same, inRanges-of}
+use Rattle.heads.proofs.Injective.{session-same}
 use Rattle.receiving.specs.Promise.{offeredOutcome}
 use Rattle.receiving.specs.declared.Offered.{Offered}
 use Rattle.receiving.specs.declared.Offered.the-variants as offered
 use Rattle.sessions.specs.Receiver.{SeenAs, After}
 
--- the lengths that the ranges carry
-sized-of : {h : Head} {o g : List ℕ} → Within h o g → Sized h o g
-sized-of w =
-    record {
-      kept = w .kept .slots;
-      heard = w .heard .slots;
-      sizes = w .heard .sizes;
-      octets = w .kept .octets;
-      messages = w .heard .octets;
-    }
-
 -- one view, one session
 pub seen-same : {v : View} {r q : Session} → SeenAs v r → SeenAs v q → r ≡ q
-seen-same {v} {r} {q} a b =
-    session-same r q (inRanges-of (a .within)) (sized-of (a .within)) (inRanges-of (b .within)) (sized-of (b .within))
-    (a .view ∙ sym (b .view))
+seen-same a b = session-same (a .within) (b .within) (a .view ∙ sym (b .view))
 
 pub after-same : (a : Answer View) (s : Session) {r q : Session} → After a s r → After a s q → r ≡ q
 after-same (done v) s x y = seen-same x y

@@ -1,35 +1,72 @@
 -- Laws of stores, for the layers that keep one: what stands in a slot after octets were laid there, and that every other
 -- slot is as it was. Assumes nothing.
-use Prim.Native.Nat.{ℕ, zero, suc, _+_, _-_, _*_, _≤_, _<_}
-use mathlib.Core.Path.{_≡_, refl, sym, ap, ap₂, _∙_}
-use mathlib.Core.Bool.{Bool, true, false, _||_}
-use mathlib.Core.List.{List, [], _∷_, _++_}
-use mathlib.Core.Logic.{_⊎_, inl, inr, ⊎-elim}
-use lib.ListN.{length, getD, set, take, drop, length-append, length-take, List·getD-append}
-use lib.Seq.{paste, length-paste, length-paste-head, getD-append-add, getD-take, getD-drop, length-take-le, take-length, ext-getD}
+use Prim.Native.Nat.{ℕ, _+_, _-_, _*_, _≤_, _<_}
+use mathlib.Core.Path.{_≡_, sym, ap, _∙_}
+use mathlib.Core.Bool.{true, _||_}
+use mathlib.Core.List.{List, _++_}
+use mathlib.Core.Logic.{⊎-elim}
+use lib.ListN.{length, getD, take, drop, replicate, length-replicate, getD-replicate, length-drop, List·getD-append, List·getD-eq-default}
+use lib.Seq.{length-paste, length-paste-head, getD-append-add, getD-take, getD-drop, length-take-le, ext-getD}
 use lib.Bits.{bitXor}
-use lib.Dec.{leb, ltb, eqb}
+use lib.Dec.{ltb, eqb}
 use native.Mathlib.Omega.{arith}
-use borrow.Author.Tests.{lt-ltb, le-ltb, eq-eqb}
+use borrow.Author.Tests.{lt-ltb, le-ltb, eqb-true}
 use Rattle.octets.specs.Place.{allBelow}
-use Rattle.octets.proofs.Place.{allBelow-at, allBelow-of, allBelow-ext}
-use Rattle.octets.proofs.Cases.{below-or-not, same-or-not}
+use Rattle.octets.proofs.Place.{length-tab, tab-at, allBelow-at, allBelow-of, allBelow-ext}
+use Rattle.octets.proofs.Cases.{below-or-not, or-true}
 use Rattle.datagrams.specs.Sizes.{packetLimit}
 use Rattle.stores.specs.Store.{pasted, zeros, zerosPast, part, added, HasSlot}
-use Rattle.stores.proofs.Turns as turns
 
+-- ---- zeros
 pub length-zeros : (n : ℕ) → length (zeros n) ≡ n
-length-zeros = turns.length-zeros
+unfolding zeros
+length-zeros n = length-replicate n 0
 
 pub zeros-at : (n k : ℕ) → getD (zeros n) k 0 ≡ 0
-zeros-at = turns.zeros-at
+unfolding zeros
+zeros-at n k =
+    ⊎-elim (λ below. getD-replicate n k 0 0 below)
+    (λ past. List·getD-eq-default (replicate n 0) 0 (rw (length-replicate {A = ℕ} n 0) past))
+    (below-or-not k n)
 
+-- a slot full of zeros fits a slot
+pub zeros-fit : length (zeros packetLimit) ≤ packetLimit
+zeros-fit = omega (arith, length-zeros packetLimit)
+
+-- ---- the part of a slot
 pub length-part : (o : List ℕ) (slot n : ℕ) → HasSlot slot o → n ≤ packetLimit → length (part o slot n) ≡ n
-length-part = turns.length-part
+unfolding part
+length-part o slot n has fits = length-take-le n (drop (slot * packetLimit) o) (simp length-drop (omega arith))
 
 pub part-at : (o : List ℕ) (slot n j : ℕ) → j < n → getD (part o slot n) j 0 ≡ getD o (slot * packetLimit + j) 0
-part-at = turns.part-at
+unfolding part
+part-at o slot n j below = rw (getD-take n (drop (slot * packetLimit) o) j 0 below, getD-drop (slot * packetLimit) o j 0)
 
+-- octets past a length are zero
+pub zerosPast-at : (o : List ℕ) (slot n j : ℕ) → zerosPast o slot n ≡ true → n ≤ j → j < packetLimit → getD o (slot * packetLimit + j) 0 ≡ 0
+unfolding zerosPast
+zerosPast-at o slot n j zeros past small =
+    eqb-true (getD o (slot * packetLimit + j) 0) 0
+    (rw (le-ltb j n past) at
+    (allBelow-at packetLimit (λ k. ltb k n || eqb (getD o (slot * packetLimit + k) 0) 0) zeros j small))
+
+-- an octet of the part is the octet of the slot, past the length too
+pub part-octet : (o : List ℕ) (slot n j : ℕ) → HasSlot slot o → n ≤ packetLimit → zerosPast o slot n ≡ true → j < packetLimit
+    → getD (part o slot n) j 0 ≡ getD o (slot * packetLimit + j) 0
+part-octet o slot n j has fits zeros small =
+    ⊎-elim (λ low. part-at o slot n j low)
+    (λ past.
+    List·getD-eq-default (part o slot n) 0 (rw (length-part o slot n has fits) past)
+    ∙ sym (zerosPast-at o slot n j zeros past small))
+    (below-or-not j n)
+
+-- zeros alone are zeros past any length
+pub zerosPast-zeros : (o : List ℕ) (slot n : ℕ) → ((k : ℕ) → getD o k 0 ≡ 0) → zerosPast o slot n ≡ true
+unfolding zerosPast
+zerosPast-zeros o slot n all =
+    allBelow-of packetLimit _ (λ j small. rw (all (slot * packetLimit + j)) (or-true (ltb j n)))
+
+-- ---- octets laid
 pub length-pasted : (o : List ℕ) (i : ℕ) (b : List ℕ) → HasSlot i o → length b ≤ packetLimit → length (pasted o i b) ≡ length o
 unfolding pasted
 length-pasted o i b has fits = length-paste o (i * packetLimit) b (length b) (omega arith) (omega arith)
@@ -124,7 +161,7 @@ module _ (o : List ℕ) (i : ℕ) (b : List ℕ) (has : HasSlot i o) (fits : len
 -- ---- clearing
 module _ (o : List ℕ) (i : ℕ) (has : HasSlot i o) where
   pub length-cleared : length (pasted o i (zeros packetLimit)) ≡ length o
-  length-cleared = length-pasted o i (zeros packetLimit) has (omega (arith, length-zeros packetLimit))
+  length-cleared = length-pasted o i (zeros packetLimit) has zeros-fit
 
   pub zerosPast-cleared : (n : ℕ) → zerosPast (pasted o i (zeros packetLimit)) i n ≡ true
   unfolding zerosPast
@@ -132,19 +169,17 @@ module _ (o : List ℕ) (i : ℕ) (has : HasSlot i o) where
       allBelow-of packetLimit _
       (λ j small.
       rw (
-        pasted-in o i (zeros packetLimit) has (omega (arith, length-zeros packetLimit)) j (rw (length-zeros packetLimit) small),
+        pasted-in o i (zeros packetLimit) has zeros-fit j (rw (length-zeros packetLimit) small),
         zeros-at packetLimit j,
       )
       (or-true (ltb j n)))
-    where
-      or-true : (b : Bool) → (b || true) ≡ true
-      or-true true = refl
-      or-true false = refl
 
 -- ---- adding a slot
 pub length-added : (sum o : List ℕ) (slot : ℕ) → length (added sum o slot) ≡ packetLimit
-length-added = turns.length-added
+unfolding added
+length-added sum o slot = length-tab packetLimit _
 
 pub added-at : (sum o : List ℕ) (slot j : ℕ) → j < packetLimit
     → getD (added sum o slot) j 0 ≡ bitXor (getD sum j 0) (getD o (slot * packetLimit + j) 0)
-added-at = turns.added-at
+unfolding added
+added-at sum o slot j below = tab-at packetLimit _ j 0 below

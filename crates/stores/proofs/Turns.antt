@@ -1,23 +1,25 @@
 -- What each loop of this crate keeps true, on plain values: where it starts, what a turn does, where it ends.
 -- Assumes nothing.
-use Prim.Native.Nat.{ℕ, zero, suc, _+_, _-_, _*_, _≤_, _<_}
+use Prim.Native.Nat.{ℕ, _+_, _-_, _*_, _≤_, _<_}
 use mathlib.Core.Path.{_≡_, refl, sym, ap, ap₂, _∙_}
-use mathlib.Core.Bool.{Bool, true, false, _&&_, _||_}
-use mathlib.Core.List.{List, [], _∷_, _++_, append-nil}
+use mathlib.Core.Bool.{Bool, true, _&&_, _||_}
+use mathlib.Core.List.{List, _++_, append-nil}
 use mathlib.Core.Logic.{⊎-elim}
-use lib.ListN.{length, getD, set, take, drop, replicate, length-replicate, getD-replicate, length-append, length-set, List·getD-append, length-drop, drop-of-length-le, List·getD-eq-default}
-use lib.Seq.{paste, paste-zero, paste-suc, length-paste, getD-append-add, getD-take, getD-drop, length-take-le, take-length}
+use lib.ListN.{length, getD, set, take, drop, replicate, length-replicate, getD-replicate, length-append, length-set, List·getD-append, drop-of-length-le}
+use lib.Seq.{paste, paste-zero, paste-suc, getD-append-add, getD-drop, length-take-le, take-length}
 use lib.Bits.{bitXor}
 use lib.Dec.{leb, ltb, eqb}
 use native.Mathlib.Nat.{zero-add, add-zero}
 use native.Mathlib.Numerals.{add-one}
 use native.Mathlib.Omega.{arith}
-use borrow.Author.Tests.{lt-ltb, le-ltb, le-leb, lt-leb, eq-eqb, ne-eqb}
+use borrow.Author.Fill.{fill-none, fill-more}
+use borrow.Author.Tests.{lt-ltb, le-ltb, le-leb, lt-leb, ne-eqb}
 use Rattle.octets.specs.Place.{allBelow}
-use Rattle.octets.proofs.Place.{allBelow-more, length-tab, tab-at}
+use Rattle.octets.proofs.Place.{allBelow-more}
 use Rattle.octets.proofs.Cases.{below-or-not, same-or-not}
 use Rattle.datagrams.specs.Sizes.{packetLimit}
 use Rattle.stores.specs.Store.{pasted, zeros, zerosPast, mask, part, added, HasSlot}
+use Rattle.stores.proofs.Laws.{length-zeros, zeros-at, length-part, part-at, length-added, added-at}
 
 -- ---- laying octets b into o from place `at` on: j of them are laid
 pub record Laying (start b : List ℕ) (at : ℕ) (o : List ℕ) (j : ℕ) : Type 0 where
@@ -48,17 +50,6 @@ laying-done slot {start} {b} {o} {j} l done =
     l .laid ∙ ap (λ (n : ℕ). paste start (slot * packetLimit) b n) all
 
 -- laying zeros
-pub length-zeros : (n : ℕ) → length (zeros n) ≡ n
-unfolding zeros
-length-zeros n = length-replicate n 0
-
-pub zeros-at : (n k : ℕ) → getD (zeros n) k 0 ≡ 0
-unfolding zeros
-zeros-at n k =
-    ⊎-elim (λ below. getD-replicate n k 0 0 below)
-    (λ past. List·getD-eq-default (replicate n 0) 0 (rw (length-replicate {A = ℕ} n 0) past))
-    (below-or-not k n)
-
 pub clearing-turn : {start o : List ℕ} {at j : ℕ} → Laying start (zeros packetLimit) at o j → at + packetLimit ≤ length start
     → j < packetLimit → Laying start (zeros packetLimit) at (set o (at + j) 0) (j + 1)
 clearing-turn {start} {o} {at} {j} l fits more =
@@ -84,6 +75,30 @@ checked-start o slot n = record { so = refl; few = omega arith }
 pub checked-done : {o : List ℕ} {slot n : ℕ} {ok : Bool} {j : ℕ} → Checked o slot n ok j → packetLimit ≤ j → ok ≡ zerosPast o slot n
 unfolding zerosPast
 checked-done {o} {slot} {n} {ok} {j} c done = c .so ∙ ap (λ (k : ℕ). allBelow k (right o slot n)) (omega (arith, c .few))
+
+-- the mask is made: octets that let all pass are laid over zeros, j of them
+pub record Filled (table : List ℕ) (j : ℕ) : Type 0 where
+  pub so : table ≡ replicate j 255 ++ drop j (zeros (packetLimit + packetLimit))
+  pub few : j ≤ packetLimit
+
+pub filled-start : Filled (replicate (packetLimit + packetLimit) 0) 0
+unfolding zeros
+filled-start = record { so = fill-none (replicate (packetLimit + packetLimit) 0) 255; few = omega arith }
+
+pub filled-turn : {table : List ℕ} {j : ℕ} → Filled table j → j < packetLimit → Filled (set table j 255) (j + 1)
+filled-turn {table} {j} f more =
+    record {
+      so = rw (f .so) (fill-more j 255 (zeros (packetLimit + packetLimit)) (rw (length-zeros (packetLimit + packetLimit)) (omega arith)));
+      few = omega arith;
+    }
+
+pub filled-done : {table : List ℕ} {j : ℕ} → Filled table j → packetLimit ≤ j → table ≡ mask
+unfolding mask zeros
+filled-done {table} {j} f done =
+    let all : j ≡ packetLimit = omega (arith, f .few) in
+    f .so ∙ ap (λ (k : ℕ). replicate k 255 ++ drop k (zeros (packetLimit + packetLimit))) all
+
+pub ruleset fillings = (filled-start, filled-turn, filled-done)
 
 length-mask : length mask ≡ packetLimit + packetLimit
 unfolding mask
@@ -135,14 +150,6 @@ pub table-inside : {table : List ℕ} (n j : ℕ) → table ≡ mask → n ≤ p
 table-inside n j e fits more = rw (e, length-mask) (omega arith)
 
 -- ---- copying the part of a slot to the front of a buffer: the loop that lays the part's octets from place 0 on
-pub length-part : (o : List ℕ) (slot n : ℕ) → HasSlot slot o → n ≤ packetLimit → length (part o slot n) ≡ n
-unfolding part
-length-part o slot n has fits = length-take-le n (drop (slot * packetLimit) o) (simp length-drop (omega arith))
-
-pub part-at : (o : List ℕ) (slot n j : ℕ) → j < n → getD (part o slot n) j 0 ≡ getD o (slot * packetLimit + j) 0
-unfolding part
-part-at o slot n j below = rw (getD-take n (drop (slot * packetLimit) o) j 0 below, getD-drop (slot * packetLimit) o j 0)
-
 pub copying-turn : (o : List ℕ) (slot n : ℕ) {start out : List ℕ} {j : ℕ} → Laying start (part o slot n) 0 out j → HasSlot slot o → n ≤ packetLimit
     → n ≤ length start → j < n → Laying start (part o slot n) 0 (set out j (getD o (slot * packetLimit + j) 0)) (j + 1)
 copying-turn o slot n {start} {out} {j} l has fits room more =
@@ -169,15 +176,6 @@ not-yet {start} {b} {o} {j} l =
     ∙ getD-append-add (take j b) (drop j start) 0 0
     ∙ getD-drop j start 0 0
     ∙ ap (λ (k : ℕ). getD start k 0) (add-zero j)
-
-pub length-added : (sum o : List ℕ) (slot : ℕ) → length (added sum o slot) ≡ packetLimit
-unfolding added
-length-added sum o slot = length-tab packetLimit _
-
-pub added-at : (sum o : List ℕ) (slot j : ℕ) → j < packetLimit
-    → getD (added sum o slot) j 0 ≡ bitXor (getD sum j 0) (getD o (slot * packetLimit + j) 0)
-unfolding added
-added-at sum o slot j below = tab-at packetLimit _ j 0 below
 
 pub adding-turn : (start o : List ℕ) (slot : ℕ) {sum : List ℕ} {j : ℕ} → Laying start (added start o slot) 0 sum j
     → length start ≡ packetLimit → j < packetLimit

@@ -9,6 +9,13 @@ ghost use mathlib.Core.List.{_++_};
 ghost use Rattle.datagrams.specs.Sizes.{packetLimit};
 ghost use Rattle.stores.specs.Store.{added, pasted, zeros, zerosPast, mask, part, HasSlot};
 
+// A length as it is kept, in sixteen bits, as a size.
+pub fn wide(n: u16) -> usize
+    ensures { λ r. ⌜ r ≡ n ⌝ }
+{
+    n as usize
+}
+
 // The octets src, laid at the front of a slot.
 pub fn put(o: &mut [u8], slot: usize, src: &[u8])
     requires { ⌜ HasSlot slot (now o) ⌝ }
@@ -34,6 +41,19 @@ pub fn clear(o: &mut [u8], slot: usize)
         o[at + j] = 0;
         j += 1;
     }
+}
+
+// The mask: what lets every octet pass, then what lets zero alone pass.
+pub fn passing() -> [u8; Packet::LIMIT + Packet::LIMIT]
+    ensures { λ r. ⌜ r ≡ mask ⌝ }
+{
+    let mut table = [0; Packet::LIMIT + Packet::LIMIT];
+    let mut j = 0;
+    while j < Packet::LIMIT {
+        table[j] = 255;
+        j += 1;
+    }
+    table
 }
 
 // Whether a slot has zeros past its first n octets. The mask lets every octet pass below n and only zero from there on, in a

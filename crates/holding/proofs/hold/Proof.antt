@@ -8,38 +8,30 @@ use Rattle.holding.proofs.hold.Tie as tie
 use Rattle.holding.proofs.hold.Reads as reads
 use Rattle.holding.proofs.hold.Lts as lts
 use Rattle.holding.proofs.lay.Reads as lay-reads
-use Rattle.holding.proofs.wide.Reads as wide-reads
+use Rattle.heads.proofs.heard_slot.Reads as heard-slot-reads
 use Rattle.std.proofs.num.wrapping_add_u16.Reads as wrapping-add-u16-reads
 
--- src/lib.rt:83:9
 wrapping-add-u16-requires : tie.Need-wrapping-add-u16-requires
 wrapping-add-u16-requires c κs = search needs
 
--- src/lib.rt:84:9
-wide-requires : tie.Need-wide-requires
-wide-requires c κs = search needs
+heard-slot-requires : tie.Need-heard-slot-requires
+heard-slot-requires c κs = search needs
 
--- src/lib.rt:85:13
 cast-m : tie.Need-cast-m
 cast-m c = search (count-small, arith)
 
--- src/lib.rt:87:5
-mul-t15 : tie.Need-mul-t15
-mul-t15 c = search needs
+mul-t14 : tie.Need-mul-t14
+mul-t14 c = search needs
 
--- src/lib.rt:87:5
 element-set-from-marked : tie.Need-element-set-from-marked
 element-set-from-marked c = search needs
 
--- src/lib.rt:92:5
 lay-requires : tie.Need-lay-requires
 lay-requires c κs = (search needs, (search needs, search carried-fit))
 
--- src/lib.rt:69:1
 same-length : tie.Need-same-length
 same-length c = search needs
 
--- src/lib.rt:69:1
 returns : tie.Need-returns
 returns c = search number-held
 
@@ -48,9 +40,9 @@ hold-spec =
     tie.close
     (tie.spec
     wrapping-add-u16-requires
-    wide-requires
+    heard-slot-requires
     cast-m
-    mul-t15
+    mul-t14
     element-set-from-marked
     lay-requires
     same-length

@@ -15,55 +15,42 @@ Inv-loop g₀ s j count items at next₀ i₀ g next i = Laying next₀ g₀ s j
 abbrev μ-loop : tie.MeasureT-loop
 μ-loop g₀ s j count items at next₀ i₀ g next i = count - i
 
--- src/lib.rt:54:14
 mul-at : tie.Need-mul-at Inv-loop μ-loop
 mul-at c = search needs
 
--- src/lib.rt:57:5
 loop-holds : tie.Need-loop-holds Inv-loop μ-loop
 loop-holds c = search layings
 
--- src/lib.rt:58:20
 mul-item : tie.Need-mul-item Inv-loop μ-loop
 mul-item c = search needs
 
--- src/lib.rt:58:20
 array-copy-out-item : tie.Need-array-copy-out-item Inv-loop μ-loop
 array-copy-out-item c = search needs
 
--- src/lib.rt:59:21
 add-place : tie.Need-add-place Inv-loop μ-loop
 add-place c = search needs
 
--- src/lib.rt:60:13
 put-part-requires : tie.Need-put-part-requires Inv-loop μ-loop
 put-part-requires c κs = search layings
 
--- src/lib.rt:61:9
 mul-next : tie.Need-mul-next Inv-loop μ-loop
 mul-next c = search needs
 
--- src/lib.rt:61:9
 element-write-next : tie.Need-element-write-next Inv-loop μ-loop
 element-write-next c = search needs
 
--- src/lib.rt:62:9
 add-i : tie.Need-add-i Inv-loop μ-loop
 add-i c = search needs
 
--- src/lib.rt:57:5
 loop-less : tie.Need-loop-less Inv-loop μ-loop
 loop-less c = search needs
 
--- src/lib.rt:57:5
 loop-again : tie.Need-loop-again Inv-loop μ-loop
 loop-again c = search layings
 
--- src/lib.rt:41:1
 same-length : tie.Need-same-length Inv-loop μ-loop
 same-length c = search needs
 
--- src/lib.rt:41:1
 returns : tie.Need-returns Inv-loop μ-loop
 returns c = search layings
 

@@ -7,35 +7,27 @@ use Rattle.holding.proofs.put_part.Reads as reads
 use Rattle.holding.proofs.put_part.Lts as lts
 use Rattle.stores.proofs.put.Reads as put-reads
 
--- src/lib.rt:34:15
 add-end : tie.Need-add-end
 add-end c = search needs
 
--- src/lib.rt:35:26
 sub-put : tie.Need-sub-put
 sub-put c = search needs
 
--- src/lib.rt:35:26
 part-put-start : tie.Need-part-put-start
 part-put-start c = search needs
 
--- src/lib.rt:35:26
 part-put-end : tie.Need-part-put-end
 part-put-end c = search needs
 
--- src/lib.rt:35:5
 put-requires : tie.Need-put-requires
 put-requires c κs = search needs
 
--- src/lib.rt:36:5
 cast-result : tie.Need-cast-result
 cast-result c = search needs
 
--- src/lib.rt:27:1
 same-length : tie.Need-same-length
 same-length c = search needs
 
--- src/lib.rt:27:1
 returns : tie.Need-returns
 returns c = search part-put
 

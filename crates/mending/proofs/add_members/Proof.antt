@@ -6,7 +6,7 @@ use Rattle.mending.proofs.add_members.Tie as tie
 use Rattle.mending.proofs.add_members.Reads as reads
 use Rattle.mending.proofs.add_members.Lts as lts
 use Rattle.mending.proofs.back.Reads as back-reads
-use Rattle.mending.proofs.wide16.Reads as wide16-reads
+use Rattle.heads.proofs.kept_slot.Reads as kept-slot-reads
 use Rattle.stores.proofs.add.Reads as add-reads
 
 abbrev Inv-loop : tie.InvT-loop
@@ -15,39 +15,30 @@ Inv-loop o x n m sum₀ at₀ t₀ sum at t = Summing o x n m sum₀ at sum t
 abbrev μ-loop : tie.MeasureT-loop
 μ-loop o x n m sum₀ at₀ t₀ sum at t = n - t
 
--- src/lib.rt:212:5
 loop-holds : tie.Need-loop-holds Inv-loop μ-loop
 loop-holds c = search summing-start
 
--- src/lib.rt:213:13
 back-requires : tie.Need-back-requires Inv-loop μ-loop
 back-requires c κs = search needs
 
--- src/lib.rt:215:13
-wide16-requires : tie.Need-wide16-requires Inv-loop μ-loop
-wide16-requires c κs = search needs
+kept-slot-requires : tie.Need-kept-slot-requires Inv-loop μ-loop
+kept-slot-requires c κs = search needs
 
--- src/lib.rt:216:9
 add-requires : tie.Need-add-requires Inv-loop μ-loop
 add-requires c κs = search needs
 
--- src/lib.rt:217:9
 add-t : tie.Need-add-t Inv-loop μ-loop
 add-t c = search needs
 
--- src/lib.rt:212:5
 loop-less : tie.Need-loop-less Inv-loop μ-loop
 loop-less c = search needs
 
--- src/lib.rt:212:5
 loop-again : tie.Need-loop-again Inv-loop μ-loop
 loop-again c = search summing-turn
 
--- src/lib.rt:205:1
 same-length : tie.Need-same-length Inv-loop μ-loop
 same-length c = search needs
 
--- src/lib.rt:205:1
 returns : tie.Need-returns Inv-loop μ-loop
 returns c = search summing-done
 
@@ -59,7 +50,7 @@ add-members-spec =
     μ-loop
     loop-holds
     back-requires
-    wide16-requires
+    kept-slot-requires
     add-requires
     add-t
     loop-less

@@ -9,64 +9,55 @@ use Rattle.mending.proofs.fill.Lts as lts
 use Rattle.heads.proofs.place.Reads as place-reads
 use Rattle.mending.proofs.mended.Reads as mended-reads
 use Rattle.mending.proofs.size_of.Reads as size-of-reads
-use Rattle.mending.proofs.wide16.Reads as wide16-reads
+use Rattle.stores.proofs.wide.Reads as wide-reads
 use Rattle.stores.proofs.put.Reads as put-reads
 
--- src/lib.rt:266:15
 mended-requires : tie.Need-mended-requires
 mended-requires c κs = search needs
 
--- src/lib.rt:267:9
 size-of-requires : tie.Need-size-of-requires
 size-of-requires c κs = search needs
 
--- src/lib.rt:268:9
-wide16-requires : tie.Need-wide16-requires
-wide16-requires c κs = search needs
+wide-requires : tie.Need-wide-requires
+wide-requires c κs = search needs
 
--- src/lib.rt:269:26
 array-share-prefix-sum : tie.Need-array-share-prefix-sum
 array-share-prefix-sum c =
     let size = c .before .before in
     let start = size .before .before .before .before .before in
     omega (arith, size-fits (start .pre .0) (start .pre .1 .0) (start .pre .1 .1 .1) (size .size-of .ensures))
 
--- src/lib.rt:269:26
 slice-aggregate-put : tie.Need-slice-aggregate-put
 slice-aggregate-put c =
     let size = c .before .before .before in
     let start = size .before .before .before .before .before in
     let fits = size-fits (start .pre .0) (start .pre .1 .0) (start .pre .1 .1 .1) (size .size-of .ensures) in
-    omega (arith, fits, length-take (c .before .before .wide16 .result) (size .before .mended .result), size .before .mended .ensures .long)
+    omega (arith, fits, length-take (c .before .before .wide .result) (size .before .mended .result), size .before .mended .ensures .long)
 
--- src/lib.rt:269:5
 put-requires : tie.Need-put-requires
 put-requires c κs =
     let size = c .before .before .before in
     let start = size .before .before .before .before .before in
     let fits = size-fits (start .pre .0) (start .pre .1 .0) (start .pre .1 .1 .1) (size .size-of .ensures) in (
       omega (arith, slot-fits (start .pre .0) (start .pre .1 .0) (start .pre .1 .1 .1), start .pre .0 .kept .octets),
-      omega (arith, fits, length-take (c .before .before .wide16 .result) (size .before .mended .result)),
+      omega (arith, fits, length-take (c .before .before .wide .result) (size .before .mended .result)),
     )
 
--- src/lib.rt:270:5
 place-requires : tie.Need-place-requires
 place-requires c κs =
     let start = c .before .before .before .before .before .before .before .before .before .before .before in
     slot-fits (start .pre .0) (start .pre .1 .0) (start .pre .1 .1 .1)
 
--- src/lib.rt:259:1
 same-length : tie.Need-same-length
 same-length c = search needs
 
--- src/lib.rt:259:1
 returns : tie.Need-returns
 returns c =
     let put = c .before .before .before in
     let size = put .before .before .before .before in
     let start = size .before .before .before .before .before in
     filled (start .pre .0) (start .pre .1 .0) (start .pre .1 .1 .1) (size .before .mended .ensures) (size .size-of .ensures)
-    (put .before .before .before .wide16 .ensures)
+    (put .before .before .before .wide .ensures)
     (put .put .ensures)
     (c .place .ensures)
 
@@ -76,7 +67,7 @@ fill-spec =
     (tie.spec
     mended-requires
     size-of-requires
-    wide16-requires
+    wide-requires
     array-share-prefix-sum
     slice-aggregate-put
     put-requires

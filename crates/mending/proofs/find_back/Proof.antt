@@ -7,7 +7,7 @@ use Rattle.mending.proofs.find_back.Reads as reads
 use Rattle.mending.proofs.find_back.Lts as lts
 use Rattle.mending.proofs.back.Reads as back-reads
 use Rattle.mending.proofs.wide.Reads as wide-reads
-use Rattle.mending.proofs.wide16.Reads as wide16-reads
+use Rattle.heads.proofs.kept_slot.Reads as kept-slot-reads
 
 abbrev Inv-loop : tie.InvT-loop
 Inv-loop flags x n m at₀ t₀ at t = Finding flags x n m at t
@@ -15,43 +15,33 @@ Inv-loop flags x n m at₀ t₀ at t = Finding flags x n m at t
 abbrev μ-loop : tie.MeasureT-loop
 μ-loop flags x n m at₀ t₀ at t = n - t
 
--- src/lib.rt:119:5
 loop-holds : tie.Need-loop-holds Inv-loop μ-loop
 loop-holds c = search finding-start
 
--- src/lib.rt:120:13
 back-requires : tie.Need-back-requires Inv-loop μ-loop
 back-requires c κs = search needs
 
--- src/lib.rt:122:13
-wide16-requires : tie.Need-wide16-requires Inv-loop μ-loop
-wide16-requires c κs = search needs
+kept-slot-requires : tie.Need-kept-slot-requires Inv-loop μ-loop
+kept-slot-requires c κs = search needs
 
--- src/lib.rt:123:24
 shared-slice-read-wide : tie.Need-shared-slice-read-wide Inv-loop μ-loop
 shared-slice-read-wide c = search needs
 
--- src/lib.rt:123:13
 wide-requires : tie.Need-wide-requires Inv-loop μ-loop
 wide-requires c κs = search needs
 
--- src/lib.rt:125:13
 returns : tie.Need-returns Inv-loop μ-loop
 returns c = search found
 
--- src/lib.rt:127:9
 add-t : tie.Need-add-t Inv-loop μ-loop
 add-t c = search needs
 
--- src/lib.rt:119:5
 loop-less : tie.Need-loop-less Inv-loop μ-loop
 loop-less c = search needs
 
--- src/lib.rt:119:5
 loop-again : tie.Need-loop-again Inv-loop μ-loop
 loop-again c = search finding-turn
 
--- src/lib.rt:113:1
 returns-2 : tie.Need-returns-2 Inv-loop μ-loop
 returns-2 c = search finding-done
 
@@ -63,7 +53,7 @@ find-back-spec =
     μ-loop
     loop-holds
     back-requires
-    wide16-requires
+    kept-slot-requires
     shared-slice-read-wide
     wide-requires
     returns

@@ -12,7 +12,7 @@ use Rattle.mending.proofs.lowest_usable.Reads as lowest-usable-reads
 use Rattle.mending.proofs.number.Reads as number-reads
 use Rattle.mending.proofs.unknown_slots.Reads as unknown-slots-reads
 use Rattle.mending.proofs.wide.Reads as wide-reads
-use Rattle.mending.proofs.wide16.Reads as wide16-reads
+use Rattle.heads.proofs.heard_slot.Reads as heard-slot-reads
 use Rattle.std.proofs.num.wrapping_add_u16.Reads as wrapping-add-u16-reads
 
 abbrev Inv-loop : tie.InvT-loop
@@ -21,47 +21,36 @@ Inv-loop h flags sizes base distance₀ distance = Searched h distance
 abbrev μ-loop : tie.MeasureT-loop
 μ-loop h flags sizes base distance₀ distance = keptAhead - distance
 
--- src/lib.rt:182:17
 unknown-slots-requires : tie.Need-unknown-slots-requires Inv-loop μ-loop
 unknown-slots-requires c κs = search needs
 
--- src/lib.rt:186:5
 loop-holds : tie.Need-loop-holds Inv-loop μ-loop
 loop-holds c = search searched-start
 
--- src/lib.rt:187:13
 wrapping-add-u16-requires : tie.Need-wrapping-add-u16-requires Inv-loop μ-loop
 wrapping-add-u16-requires c κs = search needs
 
--- src/lib.rt:188:13
-wide16-requires : tie.Need-wide16-requires Inv-loop μ-loop
-wide16-requires c κs = search needs
+heard-slot-requires : tie.Need-heard-slot-requires Inv-loop μ-loop
+heard-slot-requires c κs = search needs
 
--- src/lib.rt:189:21
 mul-heard : tie.Need-mul-heard Inv-loop μ-loop
 mul-heard c = search needs
 
--- src/lib.rt:189:21
 element-copy-out-heard : tie.Need-element-copy-out-heard Inv-loop μ-loop
 element-copy-out-heard c = search needs
 
--- src/lib.rt:190:13
 wide-requires : tie.Need-wide-requires Inv-loop μ-loop
 wide-requires c κs = search needs
 
--- src/lib.rt:191:13
 number-requires : tie.Need-number-requires Inv-loop μ-loop
 number-requires c κs = search needs
 
--- src/lib.rt:192:35
 slice-aggregate-lowest-usable : tie.Need-slice-aggregate-lowest-usable Inv-loop μ-loop
 slice-aggregate-lowest-usable c = search needs
 
--- src/lib.rt:192:43
 slice-aggregate-lowest-usable-2 : tie.Need-slice-aggregate-lowest-usable-2 Inv-loop μ-loop
 slice-aggregate-lowest-usable-2 c = search needs
 
--- src/lib.rt:192:13
 lowest-usable-requires : tie.Need-lowest-usable-requires Inv-loop μ-loop
 lowest-usable-requires c κs =
     let mark = c .before .before .before .before in
@@ -71,16 +60,14 @@ lowest-usable-requires c κs =
       flags-long = start .unknown-slots .ensures .long;
       flags-small = flags-small (start .unknown-slots .ensures);
       sizes-long = start .before .pre .sizes;
-      slot-small = omega (arith, step .wide16 .ensures);
-      covered = omega (arith, start .before .pre .covered (step .wide16 .result) (omega (arith, step .wide16 .ensures)), c .before .before .before .wide .ensures .same);
-      few = omega (arith, start .before .pre .messages (step .wide16 .result) (omega (arith, step .wide16 .ensures)), c .before .before .number .ensures);
+      slot-small = omega (arith, step .heard-slot .ensures);
+      covered = omega (arith, start .before .pre .covered (step .heard-slot .result) (omega (arith, step .heard-slot .ensures)), c .before .before .before .wide .ensures .same);
+      few = omega (arith, start .before .pre .messages (step .heard-slot .result) (omega (arith, step .heard-slot .ensures)), c .before .before .number .ensures);
     }
 
--- src/lib.rt:193:34
 enum-known-found : tie.Need-enum-known-found Inv-loop μ-loop
 enum-known-found c = search needs
 
--- src/lib.rt:194:13
 returns : tie.Need-returns Inv-loop μ-loop
 returns c =
     let low = c .before .before .before in
@@ -90,22 +77,19 @@ returns c =
     let turn = step .before .before in
     let start = turn .before .before .before in
     let sees =
-    sees-at (start .unknown-slots .ensures) (turn .loop-test .taken) (step .before .wrapping-add-u16 .ensures) (step .wide16 .ensures)
+    sees-at (start .unknown-slots .ensures) (turn .loop-test .taken) (step .before .wrapping-add-u16 .ensures) (step .heard-slot .ensures)
     (count .before .wide .ensures .same) (count .number .ensures) in
     searched-hit (turn .before .loop .inv) (turn .loop-test .taken) (low .lowest-usable .ensures .found _ _ sees) (c .before .found .given .1)
 
 enum-told : tie.Need-enum-told Inv-loop μ-loop
 enum-told c = search needs
 
--- src/lib.rt:200:9
 add-distance : tie.Need-add-distance Inv-loop μ-loop
 add-distance c = search needs
 
--- src/lib.rt:186:5
 loop-less : tie.Need-loop-less Inv-loop μ-loop
 loop-less c = search needs
 
--- src/lib.rt:186:5
 loop-again : tie.Need-loop-again Inv-loop μ-loop
 loop-again c =
     let low = c .before .before in
@@ -115,11 +99,10 @@ loop-again c =
     let turn = step .before .before in
     let start = turn .before .before .before in
     let sees =
-    sees-at (start .unknown-slots .ensures) (turn .loop-test .taken) (step .before .wrapping-add-u16 .ensures) (step .wide16 .ensures)
+    sees-at (start .unknown-slots .ensures) (turn .loop-test .taken) (step .before .wrapping-add-u16 .ensures) (step .heard-slot .ensures)
     (count .before .wide .ensures .same) (count .number .ensures) in
     searched-turn (turn .before .loop .inv) (turn .loop-test .taken) (low .lowest-usable .ensures .found _ _ sees) (c .enum-told .given .1)
 
--- src/lib.rt:178:1
 returns-2 : tie.Need-returns-2 Inv-loop μ-loop
 returns-2 c = search searched-done
 
@@ -132,7 +115,7 @@ first-usable-spec =
     unknown-slots-requires
     loop-holds
     wrapping-add-u16-requires
-    wide16-requires
+    heard-slot-requires
     mul-heard
     element-copy-out-heard
     wide-requires

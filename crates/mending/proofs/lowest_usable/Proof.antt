@@ -8,7 +8,7 @@ use Rattle.mending.proofs.lowest_usable.Reads as reads
 use Rattle.mending.proofs.lowest_usable.Lts as lts
 use Rattle.mending.proofs.find_back.Reads as find-back-reads
 use Rattle.mending.proofs.missing.Reads as missing-reads
-use Rattle.mending.proofs.wide16.Reads as wide16-reads
+use Rattle.stores.proofs.wide.Reads as wide-reads
 use Rattle.std.proofs.num.wrapping_add_u16.Reads as wrapping-add-u16-reads
 
 abbrev Inv-loop : tie.InvT-loop
@@ -17,45 +17,35 @@ Inv-loop flags sizes at slot n m i₀ i = SeenBelow flags sizes at slot n m i
 abbrev μ-loop : tie.MeasureT-loop
 μ-loop flags sizes at slot n m i₀ i = m - i
 
--- src/lib.rt:159:5
 loop-holds : tie.Need-loop-holds Inv-loop μ-loop
 loop-holds c = seen-start
 
--- src/lib.rt:160:13
-wide16-requires : tie.Need-wide16-requires Inv-loop μ-loop
-wide16-requires c κs = search needs
+wide-requires : tie.Need-wide-requires Inv-loop μ-loop
+wide-requires c κs = search needs
 
--- src/lib.rt:161:21
 mul-place : tie.Need-mul-place Inv-loop μ-loop
 mul-place c = search needs
 
--- src/lib.rt:161:21
 add-place : tie.Need-add-place Inv-loop μ-loop
 add-place c = search needs
 
--- src/lib.rt:162:20
 mul-size : tie.Need-mul-size Inv-loop μ-loop
 mul-size c = search needs
 
--- src/lib.rt:162:20
 shared-slice-read-size : tie.Need-shared-slice-read-size Inv-loop μ-loop
 shared-slice-read-size c = search needs
 
--- src/lib.rt:163:13
 wrapping-add-u16-requires : tie.Need-wrapping-add-u16-requires Inv-loop μ-loop
 wrapping-add-u16-requires c κs = search needs
 
--- src/lib.rt:164:13
 missing-requires : tie.Need-missing-requires Inv-loop μ-loop
 missing-requires c κs =
     let asked = c .before .before .before .before .before .before .before .pre in
     (asked .flags-long, (asked .flags-small, omega (arith, asked .covered)))
 
--- src/lib.rt:166:17
 find-back-requires : tie.Need-find-back-requires Inv-loop μ-loop
 find-back-requires c κs = search needs
 
--- src/lib.rt:167:13
 returns : tie.Need-returns Inv-loop μ-loop
 returns c =
     let count = c .before .before in
@@ -63,17 +53,14 @@ returns c =
     let step = sum .before .before in
     let turn = step .before in
     let loop = turn .before in
-    seen-hit (loop .loop .inv) (turn .loop-test .taken) (step .wide16 .ensures) (sum .wrapping-add-u16 .ensures) (count .missing .ensures) (c .before .if1 .taken) (c .find-back .ensures)
+    seen-hit (loop .loop .inv) (turn .loop-test .taken) (step .wide .ensures) (sum .wrapping-add-u16 .ensures) (count .missing .ensures) (c .before .if1 .taken) (c .find-back .ensures)
 
--- src/lib.rt:172:9
 add-i : tie.Need-add-i Inv-loop μ-loop
 add-i c = search needs
 
--- src/lib.rt:159:5
 loop-less : tie.Need-loop-less Inv-loop μ-loop
 loop-less c = search needs
 
--- src/lib.rt:159:5
 loop-again : tie.Need-loop-again Inv-loop μ-loop
 loop-again c =
     let count = c .before in
@@ -81,9 +68,8 @@ loop-again c =
     let step = sum .before .before in
     let turn = step .before in
     let loop = turn .before in
-    seen-turn (loop .loop .inv) (turn .loop-test .taken) (step .wide16 .ensures) (sum .wrapping-add-u16 .ensures) (count .missing .ensures) (c .if1 .left)
+    seen-turn (loop .loop .inv) (turn .loop-test .taken) (step .wide .ensures) (sum .wrapping-add-u16 .ensures) (count .missing .ensures) (c .if1 .left)
 
--- src/lib.rt:154:1
 returns-2 : tie.Need-returns-2 Inv-loop μ-loop
 returns-2 c = seen-none (c .before .loop .inv) (c .loop-test .left)
 
@@ -94,7 +80,7 @@ lowest-usable-spec =
     Inv-loop
     μ-loop
     loop-holds
-    wide16-requires
+    wide-requires
     mul-place
     add-place
     mul-size

@@ -13,31 +13,24 @@ Inv-loop o₀ g next₀ left₀ o next left = Mending next₀ o₀ g next o left
 abbrev μ-loop : tie.MeasureT-loop
 μ-loop o₀ g next₀ left₀ o next left = left
 
--- src/lib.rt:287:5
 loop-holds : tie.Need-loop-holds Inv-loop μ-loop
 loop-holds c = search mending-start
 
--- src/lib.rt:288:13
 first-usable-requires : tie.Need-first-usable-requires Inv-loop μ-loop
 first-usable-requires c κs = search sized-now
 
--- src/lib.rt:290:13
 enum-known-found : tie.Need-enum-known-found Inv-loop μ-loop
 enum-known-found c = search needs
 
--- src/lib.rt:295:13
 enum-told : tie.Need-enum-told Inv-loop μ-loop
 enum-told c = search needs
 
--- src/lib.rt:295:13
 same-length : tie.Need-same-length Inv-loop μ-loop
 same-length c = search needs
 
--- src/lib.rt:295:13
 returns : tie.Need-returns Inv-loop μ-loop
 returns c = search mending-stop
 
--- src/lib.rt:297:13
 fill-requires : tie.Need-fill-requires Inv-loop μ-loop
 fill-requires c κs =
     let known = c .before .before in
@@ -47,23 +40,18 @@ fill-requires c κs =
     let e = known .found .given .1 in
     (so .within, (mending-points so f e, (mending-index so f e, mending-usable so f e)))
 
--- src/lib.rt:299:9
 sub-left : tie.Need-sub-left Inv-loop μ-loop
 sub-left c = search needs
 
--- src/lib.rt:287:5
 loop-less : tie.Need-loop-less Inv-loop μ-loop
 loop-less c = search needs
 
--- src/lib.rt:287:5
 loop-again : tie.Need-loop-again Inv-loop μ-loop
 loop-again c = search mending-turn
 
--- src/lib.rt:281:1
 same-length-2 : tie.Need-same-length-2 Inv-loop μ-loop
 same-length-2 c = search needs
 
--- src/lib.rt:281:1
 returns-2 : tie.Need-returns-2 Inv-loop μ-loop
 returns-2 c = search mending-end
 

@@ -6,15 +6,12 @@ use Rattle.mending.proofs.missing.Reads as reads
 use Rattle.mending.proofs.missing.Lts as lts
 use Rattle.mending.proofs.count_back.Reads as count-back-reads
 
--- src/lib.rt:139:9
 returns : tie.Need-returns
 returns c = rw (c .if1 .taken)
 
--- src/lib.rt:141:5
 count-back-requires : tie.Need-count-back-requires
 count-back-requires c κs = search needs
 
--- src/lib.rt:132:1
 returns-2 : tie.Need-returns-2
 returns-2 c = rw (ne-eqb _ 0 (c .before .if1 .left)) (c .count-back .ensures)
 

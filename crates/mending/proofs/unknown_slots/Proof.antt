@@ -14,39 +14,30 @@ Inv-loop h flags₀ i₀ flags i = FlagsTo h flags i
 abbrev μ-loop : tie.MeasureT-loop
 μ-loop h flags₀ i₀ flags i = slotsKept - i
 
--- src/lib.rt:74:5
 loop-holds : tie.Need-loop-holds Inv-loop μ-loop
 loop-holds c = search flags-start
 
--- src/lib.rt:75:20
 mul-kept : tie.Need-mul-kept Inv-loop μ-loop
 mul-kept c = search needs
 
--- src/lib.rt:75:20
 element-copy-out-kept : tie.Need-element-copy-out-kept Inv-loop μ-loop
 element-copy-out-kept c = search needs
 
--- src/lib.rt:77:13
 flag-of-requires : tie.Need-flag-of-requires Inv-loop μ-loop
 flag-of-requires c κs = search needs
 
--- src/lib.rt:78:9
 array-write-flags : tie.Need-array-write-flags Inv-loop μ-loop
 array-write-flags c = search needs
 
--- src/lib.rt:79:9
 add-i : tie.Need-add-i Inv-loop μ-loop
 add-i c = search needs
 
--- src/lib.rt:74:5
 loop-less : tie.Need-loop-less Inv-loop μ-loop
 loop-less c = search needs
 
--- src/lib.rt:74:5
 loop-again : tie.Need-loop-again Inv-loop μ-loop
 loop-again c = search flags-turn
 
--- src/lib.rt:69:1
 returns : tie.Need-returns Inv-loop μ-loop
 returns c = search flags-done
 

@@ -12,23 +12,18 @@ use Rattle.receiving.proofs.finish.Reads as finish-reads
 use Rattle.receiving.proofs.keep.Reads as keep-reads
 use Rattle.receiving.proofs.keep_spares.Reads as keep-spares-reads
 
--- src/lib.rt:135:15
 add-end : tie.Need-add-end
 add-end c = search needs
 
--- src/lib.rt:136:53
 sub-keep : tie.Need-sub-keep
 sub-keep c = search needs
 
--- src/lib.rt:136:53
 part-keep-start : tie.Need-part-keep-start
 part-keep-start c = search needs
 
--- src/lib.rt:136:53
 part-keep-end : tie.Need-part-keep-end
 part-keep-end c = search needs
 
--- src/lib.rt:136:9
 keep-requires : tie.Need-keep-requires
 keep-requires c κs =
     let start = c .before .before .before .before .before .before in
@@ -36,11 +31,9 @@ keep-requires c κs =
     let long = cut-long (now (start .args .s)) (start .args .packet .start) (start .args .packet .size) (newest .inside) in
     (start .pre .0 .kept .octets, (omega (arith, long, newest .low), (omega (arith, long, newest .high), refl)))
 
--- src/lib.rt:139:45
 enum-told : tie.Need-enum-told
 enum-told c = search needs
 
--- src/lib.rt:139:17
 keep-spares-requires : tie.Need-keep-spares-requires
 keep-spares-requires c κs =
     let is = c .before .enum-told .given .1 in
@@ -49,7 +42,6 @@ keep-spares-requires c κs =
     let may = start .pre .1 in
     (first-long (start .pre .0) may (keep .keep .ensures), (spares-few may, (may .there, spares-fit may is)))
 
--- src/lib.rt:140:13
 finish-requires : tie.Need-finish-requires
 finish-requires c κs =
     let spares = c .before .before .before .before in
@@ -60,15 +52,12 @@ finish-requires c κs =
       spares-carry may,
     )
 
--- src/lib.rt:142:22
 enum-known-kind : tie.Need-enum-known-kind
 enum-known-kind c = search needs
 
--- src/lib.rt:143:27
 cast-covered : tie.Need-cast-covered
 cast-covered c = search needs
 
--- src/lib.rt:144:13
 finish-requires-2 : tie.Need-finish-requires-2
 finish-requires-2 c κs =
     let kind = c .before .before .before in
@@ -77,15 +66,12 @@ finish-requires-2 c κs =
     let may = start .pre .1 in
     (unmarked-parity (start .pre .0) may (keep .keep .ensures), parity-carry may (kind .kind .given .1))
 
--- src/lib.rt:118:1
 same-length : tie.Need-same-length
 same-length c = search needs
 
--- src/lib.rt:118:1
 same-length-2 : tie.Need-same-length-2
 same-length-2 c = search needs
 
--- src/lib.rt:118:1
 returns : tie.Need-returns
 returns c =
     let finish = c .before .before .before .before in
@@ -97,15 +83,12 @@ returns c =
     (spares .before .before .enum-told .given .1)
     (finish .finish .ensures)
 
--- src/lib.rt:118:1
 same-length-3 : tie.Need-same-length-3
 same-length-3 c = search needs
 
--- src/lib.rt:118:1
 same-length-4 : tie.Need-same-length-4
 same-length-4 c = search needs
 
--- src/lib.rt:118:1
 returns-2 : tie.Need-returns-2
 returns-2 c =
     let finish = c .before .before .before .before in

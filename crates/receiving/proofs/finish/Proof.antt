@@ -7,23 +7,18 @@ use Rattle.receiving.proofs.finish.Lts as lts
 use Rattle.holding.proofs.hold.Reads as hold-reads
 use Rattle.mending.proofs.mend.Reads as mend-reads
 
--- src/lib.rt:112:9
 hold-requires : tie.Need-hold-requires
 hold-requires c κs = search needs
 
--- src/lib.rt:113:5
 mend-requires : tie.Need-mend-requires
 mend-requires c κs = search finish-within
 
--- src/lib.rt:98:1
 same-length : tie.Need-same-length
 same-length c = search needs
 
--- src/lib.rt:98:1
 same-length-2 : tie.Need-same-length-2
 same-length-2 c = search needs
 
--- src/lib.rt:98:1
 returns : tie.Need-returns
 returns c = search finished
 

@@ -8,7 +8,7 @@ use Rattle.receiving.proofs.keep_spares.Reads as reads
 use Rattle.receiving.proofs.keep_spares.Lts as lts
 use Rattle.heads.proofs.is_unknown.Reads as is-unknown-reads
 use Rattle.holding.proofs.put_part.Reads as put-part-reads
-use Rattle.receiving.proofs.slot_of.Reads as slot-of-reads
+use Rattle.heads.proofs.kept_slot.Reads as kept-slot-reads
 use Rattle.std.proofs.num.wrapping_sub_u16.Reads as wrapping-sub-u16-reads
 
 abbrev Inv-loop : tie.InvT-loop
@@ -17,64 +17,50 @@ Inv-loop o₀ s number count items next₀ at₀ j₀ o next at j = Sparing s nu
 abbrev μ-loop : tie.MeasureT-loop
 μ-loop o₀ s number count items next₀ at₀ j₀ o next at j = count - j
 
--- src/lib.rt:83:5
 loop-holds : tie.Need-loop-holds Inv-loop μ-loop
 loop-holds c = search sparing-start
 
--- src/lib.rt:84:20
 mul-part : tie.Need-mul-part Inv-loop μ-loop
 mul-part c = search needs
 
--- src/lib.rt:84:20
 array-copy-out-part : tie.Need-array-copy-out-part Inv-loop μ-loop
 array-copy-out-part c = search needs
 
--- src/lib.rt:85:9
 add-j : tie.Need-add-j Inv-loop μ-loop
 add-j c = search needs
 
--- src/lib.rt:86:13
 wrapping-sub-u16-requires : tie.Need-wrapping-sub-u16-requires Inv-loop μ-loop
 wrapping-sub-u16-requires c κs = search needs
 
--- src/lib.rt:88:13
-slot-of-requires : tie.Need-slot-of-requires Inv-loop μ-loop
-slot-of-requires c κs = search needs
+kept-slot-requires : tie.Need-kept-slot-requires Inv-loop μ-loop
+kept-slot-requires c κs = search needs
 
--- src/lib.rt:89:20
 mul-kept : tie.Need-mul-kept Inv-loop μ-loop
 mul-kept c = search needs
 
--- src/lib.rt:89:20
 element-copy-out-kept : tie.Need-element-copy-out-kept Inv-loop μ-loop
 element-copy-out-kept c = search needs
 
--- src/lib.rt:91:12
 is-unknown-requires : tie.Need-is-unknown-requires Inv-loop μ-loop
 is-unknown-requires c κs = search needs
 
--- src/lib.rt:92:17
 put-part-requires : tie.Need-put-part-requires Inv-loop μ-loop
 put-part-requires c κs =
     let place = c .before .before .before .before in
     let turn = place .before .before .before in
     let start = turn .before .before .before .before in
     let part = start .pre .1 .1 .1 (turn .before .loop .j) (turn .loop-test .taken) in
-    (omega (arith, turn .before .loop .inv .long, place .slot-of .ensures), packet-part part)
+    (omega (arith, turn .before .loop .inv .long, place .kept-slot .ensures), packet-part part)
 
--- src/lib.rt:93:13
 mul-t30 : tie.Need-mul-t30 Inv-loop μ-loop
 mul-t30 c = search needs
 
--- src/lib.rt:93:13
 element-set-from-next : tie.Need-element-set-from-next Inv-loop μ-loop
 element-set-from-next c = search needs
 
--- src/lib.rt:83:5
 loop-less : tie.Need-loop-less Inv-loop μ-loop
 loop-less c = search needs
 
--- src/lib.rt:83:5
 loop-again : tie.Need-loop-again Inv-loop μ-loop
 loop-again c =
     let put = c .before .before in
@@ -84,14 +70,12 @@ loop-again c =
     let turn = sub .before .before in
     let start = turn .before .before .before .before in
     let small : sub .wrapping-sub-u16 .result < 65536 = omega arith in
-    sparing-kept (turn .before .loop .inv) (turn .loop-test .taken) (start .pre .1 .1 .0) small (sub .wrapping-sub-u16 .ensures) (place .slot-of .ensures) (check .is-unknown .ensures)
+    sparing-kept (turn .before .loop .inv) (turn .loop-test .taken) (start .pre .1 .1 .0) small (sub .wrapping-sub-u16 .ensures) (place .kept-slot .ensures) (check .is-unknown .ensures)
     (start .pre .1 .1 .1 (turn .before .loop .j) (turn .loop-test .taken)) (put .before .before .if1 .taken) (put .put-part .ensures) (search needs)
 
--- src/lib.rt:83:5
 loop-less-2 : tie.Need-loop-less-2 Inv-loop μ-loop
 loop-less-2 c = search needs
 
--- src/lib.rt:83:5
 loop-again-2 : tie.Need-loop-again-2 Inv-loop μ-loop
 loop-again-2 c =
     let check = c .before in
@@ -100,13 +84,11 @@ loop-again-2 c =
     let turn = sub .before .before in
     let start = turn .before .before .before .before in
     let small : sub .wrapping-sub-u16 .result < 65536 = omega arith in
-    sparing-known (turn .before .loop .inv) (turn .loop-test .taken) (start .pre .1 .1 .0) small (sub .wrapping-sub-u16 .ensures) (place .slot-of .ensures) (check .is-unknown .ensures) (c .if1 .left)
+    sparing-known (turn .before .loop .inv) (turn .loop-test .taken) (start .pre .1 .1 .0) small (sub .wrapping-sub-u16 .ensures) (place .kept-slot .ensures) (check .is-unknown .ensures) (c .if1 .left)
 
--- src/lib.rt:66:1
 same-length : tie.Need-same-length Inv-loop μ-loop
 same-length c = search needs
 
--- src/lib.rt:66:1
 returns : tie.Need-returns Inv-loop μ-loop
 returns c = search sparing-done
 
@@ -121,7 +103,7 @@ keep-spares-spec =
     array-copy-out-part
     add-j
     wrapping-sub-u16-requires
-    slot-of-requires
+    kept-slot-requires
     mul-kept
     element-copy-out-kept
     is-unknown-requires

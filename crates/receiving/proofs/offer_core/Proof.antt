@@ -9,27 +9,21 @@ use Rattle.receiving.proofs.offer_read.Reads as offer-read-reads
 use Rattle.receiving.proofs.refusal_of.Reads as refusal-of-reads
 use Rattle.receiving.proofs.refused.Reads as refused-reads
 
--- src/lib.rt:229:9
 read-requires : tie.Need-read-requires
 read-requires c κs = search needs
 
--- src/lib.rt:233:9
 enum-known-reading : tie.Need-enum-known-reading
 enum-known-reading c = search needs
 
--- src/lib.rt:239:27
 enum-told : tie.Need-enum-told
 enum-told c = search needs
 
--- src/lib.rt:239:27
 refusal-of-requires : tie.Need-refusal-of-requires
 refusal-of-requires c κs = search needs
 
--- src/lib.rt:239:9
 refused-requires : tie.Need-refused-requires
 refused-requires c κs = search needs
 
--- src/lib.rt:239:9
 returns : tie.Need-returns
 returns c =
     let passed = c .before in
@@ -38,7 +32,6 @@ returns c =
     let start = read .before .before in
     offer-refused (start .pre) (read .read .ensures) _ (told .enum-told .given .1) (passed .refusal-of .ensures) (c .refused .ensures)
 
--- src/lib.rt:241:5
 offer-read-requires : tie.Need-offer-read-requires
 offer-read-requires c κs =
     let known = c .before .before .before in
@@ -52,7 +45,6 @@ offer-read-requires c κs =
       ),
     )
 
--- src/lib.rt:220:1
 returns-2 : tie.Need-returns-2
 returns-2 c =
     let known = c .before .before .before .before in

@@ -15,19 +15,15 @@ use Rattle.receiving.proofs.accepted_at.Reads as accepted-at-reads
 use Rattle.receiving.proofs.refused.Reads as refused-reads
 use Rattle.std.proofs.num.wrapping_sub_u16.Reads as wrapping-sub-u16-reads
 
--- src/lib.rt:187:9
 wrapping-sub-u16-requires : tie.Need-wrapping-sub-u16-requires
 wrapping-sub-u16-requires c κs = search needs
 
--- src/lib.rt:190:31
 new-requires : tie.Need-new-requires
 new-requires c κs = search needs
 
--- src/lib.rt:190:13
 refused-requires : tie.Need-refused-requires
 refused-requires c κs = search needs
 
--- src/lib.rt:190:13
 returns : tie.Need-returns
 returns c =
     let new = c .before in
@@ -39,15 +35,12 @@ returns c =
     (carried-number (now (a .s)) (a .number) (a .packet) (a .kind) (a .count) (a .items))
     (start .fits .number .fits) (omega arith) (d .wrapping-sub-u16 .ensures) (new .new .ensures) (far .if1 .taken) (new .before .if2 .taken) (c .refused .ensures)
 
--- src/lib.rt:192:27
 new-requires-2 : tie.Need-new-requires-2
 new-requires-2 c κs = search needs
 
--- src/lib.rt:192:9
 refused-requires-2 : tie.Need-refused-requires-2
 refused-requires-2 c κs = search needs
 
--- src/lib.rt:192:9
 returns-2 : tie.Need-returns-2
 returns-2 c =
     let new = c .before in
@@ -60,19 +53,15 @@ returns-2 c =
     (carried-number (now (a .s)) (a .number) (a .packet) (a .kind) (a .count) (a .items))
     (start .fits .number .fits) small (d .wrapping-sub-u16 .ensures) (new .new2 .ensures) (far .if1 .taken) (new .before .if2 .left) (c .refused2 .ensures)
 
--- src/lib.rt:194:8
 accepted-at-requires : tie.Need-accepted-at-requires
 accepted-at-requires c κs = search needs
 
--- src/lib.rt:195:27
 new-requires-3 : tie.Need-new-requires-3
 new-requires-3 c κs = search needs
 
--- src/lib.rt:195:9
 refused-requires-3 : tie.Need-refused-requires-3
 refused-requires-3 c κs = search needs
 
--- src/lib.rt:195:9
 returns-3 : tie.Need-returns-3
 returns-3 c =
     let new = c .before in
@@ -85,7 +74,6 @@ returns-3 c =
     (carried-number (now (a .s)) (a .number) (a .packet) (a .kind) (a .count) (a .items))
     (start .fits .number .fits) small (d .wrapping-sub-u16 .ensures) (at .accepted-at .ensures) (at .before .if1 .left) (new .new3 .ensures) (new .before .if3 .taken) (c .refused3 .ensures)
 
--- src/lib.rt:197:9
 accept-requires : tie.Need-accept-requires
 accept-requires c κs =
     let new = c .before .before in
@@ -97,15 +85,12 @@ accept-requires c κs =
           (new .if3 .left) (start .pre .1 .0) (start .pre .1 .1),
     )
 
--- src/lib.rt:170:1
 same-length : tie.Need-same-length
 same-length c = search needs
 
--- src/lib.rt:170:1
 same-length-2 : tie.Need-same-length-2
 same-length-2 c = search needs
 
--- src/lib.rt:170:1
 returns-4 : tie.Need-returns-4
 returns-4 c =
     let accept = c .before .before .before .before in

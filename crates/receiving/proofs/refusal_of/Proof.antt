@@ -6,23 +6,18 @@ use Rattle.receiving.proofs.refusal_of.Reads as reads
 use Rattle.receiving.proofs.refusal_of.Lts as lts
 use Rattle.lengths.proofs.Refusal.new.Reads as new-reads
 
--- src/lib.rt:214:14
 enum-told : tie.Need-enum-told
 enum-told c = search needs
 
--- src/lib.rt:214:14
 new-requires : tie.Need-new-requires
 new-requires c κs = search needs
 
--- src/lib.rt:215:26
 enum-known-reading : tie.Need-enum-known-reading
 enum-known-reading c = search needs
 
--- src/lib.rt:205:1
 returns : tie.Need-returns
 returns c = search passed-never
 
--- src/lib.rt:205:1
 returns-2 : tie.Need-returns-2
 returns-2 c = search passed-on
 

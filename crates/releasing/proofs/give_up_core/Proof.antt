@@ -15,8 +15,8 @@ returns : tie.Need-returns
 returns c =
     give-up-16 (c .before .before .before .before .pre) (c .before .before .all-passed .ensures) (c .before .if1 .taken) (c .give-up-refused .ensures)
 
-wide-requires : tie.Need-wide-requires
-wide-requires c κs = search needs
+kept-slot-requires : tie.Need-kept-slot-requires
+kept-slot-requires c κs = search needs
 
 mul-kept : tie.Need-mul-kept
 mul-kept c = search needs
@@ -29,8 +29,8 @@ is-unknown-requires c κs = search needs
 
 one-lost-requires : tie.Need-one-lost-requires
 one-lost-requires c κs =
-    let wide = c .before .before .before in
-    goes-on (wide .before .before .all-passed .ensures) (wide .before .if1 .left)
+    let at = c .before .before .before in
+    goes-on (at .before .before .all-passed .ensures) (at .before .if1 .left)
 
 go-on-requires : tie.Need-go-on-requires
 go-on-requires c κs =
@@ -40,9 +40,9 @@ go-on-requires c κs =
 returns-2 : tie.Need-returns-2
 returns-2 c =
     let test = c .before .before .before .before .before in
-    let wide = test .before .before in
-    let limit = wide .before .before in
-    give-up-lost (limit .before .before .pre) (limit .all-passed .ensures) (wide .before .if1 .left) (wide .wide .ensures)
+    let at = test .before .before in
+    let limit = at .before .before in
+    give-up-lost (limit .before .before .pre) (limit .all-passed .ensures) (at .before .if1 .left) (at .kept-slot .ensures)
     (test .is-unknown .ensures) (c .before .before .before .before .if2 .taken) (c .before .before .before .one-lost .ensures) (c .go-on .ensures)
 
 give-up-refused-requires-2 : tie.Need-give-up-refused-requires-2
@@ -51,9 +51,9 @@ give-up-refused-requires-2 c κs = search needs
 returns-3 : tie.Need-returns-3
 returns-3 c =
     let test = c .before .before in
-    let wide = test .before .before in
-    let limit = wide .before .before in
-    give-up-11 (limit .before .before .pre) (limit .all-passed .ensures) (wide .before .if1 .left) (wide .wide .ensures)
+    let at = test .before .before in
+    let limit = at .before .before in
+    give-up-11 (limit .before .before .pre) (limit .all-passed .ensures) (at .before .if1 .left) (at .kept-slot .ensures)
     (test .is-unknown .ensures) (c .before .if2 .left) (c .give-up-refused2 .ensures)
 
 pub give-up-core-spec : {M : Type 1} → statement M
@@ -63,7 +63,7 @@ give-up-core-spec =
     all-passed-requires
     give-up-refused-requires
     returns
-    wide-requires
+    kept-slot-requires
     mul-kept
     element-copy-out-kept
     is-unknown-requires

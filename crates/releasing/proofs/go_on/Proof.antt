@@ -11,6 +11,9 @@ wide-requires c κs = search needs
 add-comes : tie.Need-add-comes
 add-comes c = search needs
 
+heard-slot-requires : tie.Need-heard-slot-requires
+heard-slot-requires c κs = search needs
+
 mul-heard : tie.Need-mul-heard
 mul-heard c = search needs
 
@@ -86,6 +89,7 @@ go-on-spec =
     (tie.spec
     wide-requires
     add-comes
+    heard-slot-requires
     mul-heard
     element-copy-out-heard
     cast-m

@@ -15,8 +15,8 @@ returns : tie.Need-returns
 returns c =
     next-16 (c .before .before .before .before .before .pre) (c .before .before .all-passed .ensures) (c .before .if1 .taken) (c .next-refused .ensures)
 
-wide-requires : tie.Need-wide-requires
-wide-requires c κs = search needs
+kept-slot-requires : tie.Need-kept-slot-requires
+kept-slot-requires c κs = search needs
 
 mul-kept : tie.Need-mul-kept
 mul-kept c = search needs
@@ -33,13 +33,13 @@ next-refused-requires-2 c κs = search needs
 returns-2 : tie.Need-returns-2
 returns-2 c =
     let test = c .before .before in
-    let wide = test .before .before in
-    let limit = wide .before .before in
-    next-10 (limit .before .before .before .pre) (limit .all-passed .ensures) (wide .before .if1 .left) (wide .wide .ensures)
+    let at = test .before .before in
+    let limit = at .before .before in
+    next-10 (limit .before .before .before .pre) (limit .all-passed .ensures) (at .before .if1 .left) (at .kept-slot .ensures)
     (test .is-unknown .ensures) (c .before .if2 .taken) (c .next-refused2 .ensures)
 
-wide-requires-2 : tie.Need-wide-requires-2
-wide-requires-2 c κs = search needs
+wide-requires : tie.Need-wide-requires
+wide-requires c κs = search needs
 
 next-refused-requires-3 : tie.Need-next-refused-requires-3
 next-refused-requires-3 c κs = search needs
@@ -48,36 +48,36 @@ returns-3 : tie.Need-returns-3
 returns-3 c =
     let size = c .before .before in
     let test = size .before .before in
-    let wide = test .before .before in
-    let limit = wide .before .before in
-    next-13 (limit .before .before .before .pre) (limit .all-passed .ensures) (wide .before .if1 .left) (wide .wide .ensures)
-    (test .is-unknown .ensures) (size .before .if2 .left) (size .wide2 .ensures) (c .before .if3 .taken) (c .next-refused3 .ensures)
+    let at = test .before .before in
+    let limit = at .before .before in
+    next-13 (limit .before .before .before .pre) (limit .all-passed .ensures) (at .before .if1 .left) (at .kept-slot .ensures)
+    (test .is-unknown .ensures) (size .before .if2 .left) (size .wide .ensures) (c .before .if3 .taken) (c .next-refused3 .ensures)
 
 copy-out-requires : tie.Need-copy-out-requires
 copy-out-requires c κs =
     let room = c .before .before .before in
     let size = room .before in
-    let wide = size .before .before .before .before in
-    let start = wide .before .before .before .before .before in (
-      base-there (start .pre) (wide .wide .ensures),
-      (size-fits (start .pre) (wide .wide .ensures) (size .wide2 .ensures), room .if3 .left),
+    let at = size .before .before .before .before in
+    let start = at .before .before .before .before .before in (
+      base-there (start .pre) (at .kept-slot .ensures),
+      (size-fits (start .pre) (at .kept-slot .ensures) (size .wide .ensures), room .if3 .left),
     )
 
 counted-requires : tie.Need-counted-requires
 counted-requires c κs =
-    let wide = c .before .before .before .before .before .before .before .before .before .before .before in
-    goes-on (wide .before .before .all-passed .ensures) (wide .before .if1 .left)
+    let at = c .before .before .before .before .before .before .before .before .before .before .before in
+    goes-on (at .before .before .all-passed .ensures) (at .before .if1 .left)
 
 go-on-requires : tie.Need-go-on-requires
 go-on-requires c κs =
     let counted = c .before .before in
     let size = counted .before .before .before .before .before .before .before .before in
     let test = size .before .before in
-    let wide = test .before .before in
-    let limit = wide .before .before in
+    let at = test .before .before in
+    let limit = at .before .before in
     let start = limit .before .before .before in (
       start .pre,
-      one-released (start .pre) (limit .all-passed .ensures) (wide .before .if1 .left) (wide .wide .ensures) (test .is-unknown .ensures)
+      one-released (start .pre) (limit .all-passed .ensures) (at .before .if1 .left) (at .kept-slot .ensures) (test .is-unknown .ensures)
           (size .before .if2 .left) (counted .counted .ensures),
     )
 
@@ -91,10 +91,10 @@ returns-4 c =
     let room = copied .before .before .before .before in
     let size = room .before in
     let test = size .before .before in
-    let wide = test .before .before in
-    let limit = wide .before .before in
-    next-released (limit .before .before .before .pre) (limit .all-passed .ensures) (wide .before .if1 .left) (wide .wide .ensures)
-    (test .is-unknown .ensures) (size .before .if2 .left) (size .wide2 .ensures) (room .if3 .left) (copied .copy-out .ensures)
+    let at = test .before .before in
+    let limit = at .before .before in
+    next-released (limit .before .before .before .pre) (limit .all-passed .ensures) (at .before .if1 .left) (at .kept-slot .ensures)
+    (test .is-unknown .ensures) (size .before .if2 .left) (size .wide .ensures) (room .if3 .left) (copied .copy-out .ensures)
     (counted .counted .ensures) (c .go-on .ensures)
 
 pub next-core-spec : {M : Type 1} → statement M
@@ -104,13 +104,13 @@ next-core-spec =
     all-passed-requires
     next-refused-requires
     returns
-    wide-requires
+    kept-slot-requires
     mul-kept
     element-copy-out-kept
     is-unknown-requires
     next-refused-requires-2
     returns-2
-    wide-requires-2
+    wide-requires
     next-refused-requires-3
     returns-3
     copy-out-requires

@@ -15,47 +15,36 @@ Inv-loop o slot sum₀ at j₀ sum j = Laying sum₀ (added sum₀ o slot) 0 sum
 abbrev μ-loop : tie.MeasureT-loop
 μ-loop o slot sum₀ at j₀ sum j = packetLimit - j
 
--- src/lib.rt:79:14
 mul-at : tie.Need-mul-at Inv-loop μ-loop
 mul-at c = search needs
 
--- src/lib.rt:81:5
 loop-holds : tie.Need-loop-holds Inv-loop μ-loop
 loop-holds c = search laying-start
 
--- src/lib.rt:82:18
 slice-read-sum : tie.Need-slice-read-sum Inv-loop μ-loop
 slice-read-sum c = search needs
 
--- src/lib.rt:82:29
 add-sum : tie.Need-add-sum Inv-loop μ-loop
 add-sum c = search needs
 
--- src/lib.rt:82:27
 shared-slice-read-sum : tie.Need-shared-slice-read-sum Inv-loop μ-loop
 shared-slice-read-sum c = search needs
 
--- src/lib.rt:82:9
 slice-write-sum : tie.Need-slice-write-sum Inv-loop μ-loop
 slice-write-sum c = search needs
 
--- src/lib.rt:83:9
 add-j : tie.Need-add-j Inv-loop μ-loop
 add-j c = search needs
 
--- src/lib.rt:81:5
 loop-less : tie.Need-loop-less Inv-loop μ-loop
 loop-less c = search needs
 
--- src/lib.rt:81:5
 loop-again : tie.Need-loop-again Inv-loop μ-loop
 loop-again c = search adding-turn
 
--- src/lib.rt:74:1
 same-length : tie.Need-same-length Inv-loop μ-loop
 same-length c = search needs
 
--- src/lib.rt:74:1
 returns : tie.Need-returns Inv-loop μ-loop
 returns c = search adding-done
 

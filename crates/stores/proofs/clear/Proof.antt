@@ -16,39 +16,30 @@ Inv-loop o₀ slot at j₀ o j = Laying o₀ (zeros packetLimit) at o j
 abbrev μ-loop : tie.MeasureT-loop
 μ-loop o₀ slot at j₀ o j = packetLimit - j
 
--- src/lib.rt:32:14
 mul-at : tie.Need-mul-at Inv-loop μ-loop
 mul-at c = search needs
 
--- src/lib.rt:34:5
 loop-holds : tie.Need-loop-holds Inv-loop μ-loop
 loop-holds c = search laying-start
 
--- src/lib.rt:35:11
 add-o : tie.Need-add-o Inv-loop μ-loop
 add-o c = search needs
 
--- src/lib.rt:35:9
 slice-write-o : tie.Need-slice-write-o Inv-loop μ-loop
 slice-write-o c = search needs
 
--- src/lib.rt:36:9
 add-j : tie.Need-add-j Inv-loop μ-loop
 add-j c = search needs
 
--- src/lib.rt:34:5
 loop-less : tie.Need-loop-less Inv-loop μ-loop
 loop-less c = search needs
 
--- src/lib.rt:34:5
 loop-again : tie.Need-loop-again Inv-loop μ-loop
 loop-again c = search (clearing-turn, arith)
 
--- src/lib.rt:28:1
 same-length : tie.Need-same-length Inv-loop μ-loop
 same-length c = search needs
 
--- src/lib.rt:28:1
 returns : tie.Need-returns Inv-loop μ-loop
 returns c = search clearing-done
 

@@ -16,43 +16,33 @@ Inv-loop o₀ slot src at j₀ o j = Laying o₀ src at o j
 abbrev μ-loop : tie.MeasureT-loop
 μ-loop o₀ slot src at j₀ o j = length src - j
 
--- src/lib.rt:19:14
 mul-at : tie.Need-mul-at Inv-loop μ-loop
 mul-at c = search needs
 
--- src/lib.rt:21:5
 loop-holds : tie.Need-loop-holds Inv-loop μ-loop
 loop-holds c = search laying-start
 
--- src/lib.rt:22:21
 shared-slice-read-o : tie.Need-shared-slice-read-o Inv-loop μ-loop
 shared-slice-read-o c = search needs
 
--- src/lib.rt:22:11
 add-o : tie.Need-add-o Inv-loop μ-loop
 add-o c = search needs
 
--- src/lib.rt:22:9
 slice-write-o : tie.Need-slice-write-o Inv-loop μ-loop
 slice-write-o c = search needs
 
--- src/lib.rt:23:9
 add-j : tie.Need-add-j Inv-loop μ-loop
 add-j c = search needs
 
--- src/lib.rt:21:5
 loop-less : tie.Need-loop-less Inv-loop μ-loop
 loop-less c = search needs
 
--- src/lib.rt:21:5
 loop-again : tie.Need-loop-again Inv-loop μ-loop
 loop-again c = search (putting-turn, arith)
 
--- src/lib.rt:14:1
 same-length : tie.Need-same-length Inv-loop μ-loop
 same-length c = search needs
 
--- src/lib.rt:14:1
 returns : tie.Need-returns Inv-loop μ-loop
 returns c = search laying-done
 

@@ -16,43 +16,33 @@ Inv-loop o slot n table at from ok₀ j₀ ok j = Checked o slot n ok j
 abbrev μ-loop : tie.MeasureT-loop
 μ-loop o slot n table at from ok₀ j₀ ok j = packetLimit - j
 
--- src/lib.rt:48:14
 mul-at : tie.Need-mul-at Inv-loop μ-loop
 mul-at c = search needs
 
--- src/lib.rt:49:16
 sub-from : tie.Need-sub-from Inv-loop μ-loop
 sub-from c = search needs
 
--- src/lib.rt:52:5
 loop-holds : tie.Need-loop-holds Inv-loop μ-loop
 loop-holds c = search checked-start
 
--- src/lib.rt:53:22
 add-ok : tie.Need-add-ok Inv-loop μ-loop
 add-ok c = search needs
 
--- src/lib.rt:53:20
 shared-slice-read-ok : tie.Need-shared-slice-read-ok Inv-loop μ-loop
 shared-slice-read-ok c = search needs
 
--- src/lib.rt:53:39
 add-ok-2 : tie.Need-add-ok-2 Inv-loop μ-loop
 add-ok-2 c = search needs
 
--- src/lib.rt:53:33
 shared-slice-read-ok-2 : tie.Need-shared-slice-read-ok-2 Inv-loop μ-loop
 shared-slice-read-ok-2 c = search table-inside
 
--- src/lib.rt:54:9
 add-j : tie.Need-add-j Inv-loop μ-loop
 add-j c = search needs
 
--- src/lib.rt:52:5
 loop-less : tie.Need-loop-less Inv-loop μ-loop
 loop-less c = search needs
 
--- src/lib.rt:52:5
 loop-again : tie.Need-loop-again Inv-loop μ-loop
 loop-again c =
     let turn = c .before .before in
@@ -60,7 +50,6 @@ loop-again c =
     checked-turn (turn .before .loop .inv) (turn .loop-test .taken) (start .pre .1 .0) (start .pre .1 .1)
     (c .before .shared-slice-known .given (start .args .slot * packetLimit + turn .before .loop .j) .fits)
 
--- src/lib.rt:42:1
 returns : tie.Need-returns Inv-loop μ-loop
 returns c = search checked-done
 

@@ -9,7 +9,7 @@ use Rattle.lines.proofs.steps.releases.Reads as reads
 use Rattle.lines.proofs.steps.releases.Lts as lts
 use Rattle.heads.proofs.is_unknown.Reads as is-unknown-reads
 use Rattle.lines.proofs.steps.release.Reads as release-reads
-use Rattle.receiving.proofs.slot_of.Reads as slot-of-reads
+use Rattle.heads.proofs.kept_slot.Reads as kept-slot-reads
 
 abbrev Inv-loop : tie.InvT-loop
 Inv-loop o₀ g₀ out₀ at head₀ end₀ left₀ o g out head end left = Left (viewIn head₀ o₀ g₀) out₀ at head o g out end left
@@ -20,8 +20,8 @@ abbrev μ-loop : tie.MeasureT-loop
 loop-holds : tie.Need-loop-holds Inv-loop μ-loop
 loop-holds c = left-start (c .before .pre)
 
-slot-of-requires : tie.Need-slot-of-requires Inv-loop μ-loop
-slot-of-requires c κs = search needs
+kept-slot-requires : tie.Need-kept-slot-requires Inv-loop μ-loop
+kept-slot-requires c κs = search needs
 
 mul-kept : tie.Need-mul-kept Inv-loop μ-loop
 mul-kept c = search needs
@@ -39,7 +39,7 @@ returns : tie.Need-returns Inv-loop μ-loop
 returns c =
     let told = c .before in
     let turn = told .before .before .before in
-    left-unknown (turn .before .loop .inv) (turn .loop-test .taken) (told .before .before .slot-of .ensures) (told .is-unknown .ensures) (c .if1 .taken)
+    left-unknown (turn .before .loop .inv) (turn .loop-test .taken) (told .before .before .kept-slot .ensures) (told .is-unknown .ensures) (c .if1 .taken)
 
 release-requires : tie.Need-release-requires Inv-loop μ-loop
 release-requires c κs =
@@ -80,7 +80,7 @@ releases-spec =
     Inv-loop
     μ-loop
     loop-holds
-    slot-of-requires
+    kept-slot-requires
     mul-kept
     element-copy-out-kept
     is-unknown-requires

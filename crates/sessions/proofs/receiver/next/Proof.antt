@@ -8,37 +8,29 @@ use Rattle.lengths.proofs.Refusal.new.Reads as new-reads
 use Rattle.ranges.proofs.in_ranges.Reads as in-ranges-reads
 use Rattle.releasing.proofs.next_core.Reads as next-core-reads
 
--- src/receiver.rt:27:32
 slice-aggregate-in-ranges : tie.Need-slice-aggregate-in-ranges
 slice-aggregate-in-ranges c = search needs
 
--- src/receiver.rt:27:41
 slice-aggregate-in-ranges-2 : tie.Need-slice-aggregate-in-ranges-2
 slice-aggregate-in-ranges-2 c = search needs
 
--- src/receiver.rt:27:8
 in-ranges-requires : tie.Need-in-ranges-requires
 in-ranges-requires c κs = search needs
 
--- src/receiver.rt:28:13
 next-core-requires : tie.Need-next-core-requires
 next-core-requires c κs =
     within-session (c .before .before .before .before .in-ranges .ensures) (c .before .before .before .if1 .taken)
     (record { kept = search mapped-long; heard = search mapped-long; sizes = search needs; octets = search needs; messages = search needs })
 
--- src/receiver.rt:36:9
 same-length : tie.Need-same-length
 same-length c = search needs
 
--- src/receiver.rt:36:9
 returns : tie.Need-returns
 returns c = search calls
 
--- src/receiver.rt:38:9
 new-requires : tie.Need-new-requires
 new-requires c κs = search needs
 
--- src/receiver.rt:21:1
 returns-2 : tie.Need-returns-2
 returns-2 c = search calls
 

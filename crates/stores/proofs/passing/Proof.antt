@@ -1,10 +1,11 @@
--- `held::passing` meets its contract. Assumes nothing.
+-- `stores::passing` meets its contract. The loop's invariant: the first j octets let all pass, and zeros follow. The measure is
+-- the octets left to lay. Assumes nothing.
 use Prim.Native.Nat.{_-_}
 use borrow.Author.Needs.{needs}
 use Rattle.datagrams.specs.Sizes.{packetLimit}
-use Rattle.sending.proofs.RangeSteps.{Filled, fillings}
-use Rattle.sending.proofs.held.passing.Statement.{statement}
-use Rattle.sending.proofs.held.passing.Tie as tie
+use Rattle.stores.proofs.Turns.{Filled, fillings}
+use Rattle.stores.proofs.passing.Statement.{statement}
+use Rattle.stores.proofs.passing.Tie as tie
 
 abbrev Inv-loop : tie.InvT-loop
 Inv-loop table₀ j₀ table j = Filled table j
