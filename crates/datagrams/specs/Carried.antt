@@ -1,5 +1,5 @@
 -- Document 01, 'The datagram': what a datagram carries. "Number: two octets, high first. Then the newest packet: length,
--- octets. Then one octet, 00 for spares or 80 for parity." Definitions only.
+-- octets. Then one octet, 00 for spares or 80 for parity ..". Definitions only.
 use Prim.Native.Nat.{ℕ}
 use mathlib.Core.List.{List}
 

@@ -1,5 +1,5 @@
 -- Document 01, 'The datagram', as it is read: "Number: two octets, high first. Then the newest packet: length, octets. Then
--- one octet, 00 for spares or 80 for parity; its low seven bits are zero. Spares: a count, then each with its length.
+-- one octet, 00 for spares or 80 for parity; its low seven bits are zero. Spares: a count, then each with its length ..
 -- Parity: octet 01, octet n, count m, then m messages, each with its length. Nothing follows." And of the order: "At a
 -- length: 3 or 1 in its form, then 4, then 1 for missing octets", "Datagram reader: 2, then reading order". Definitions only.
 use Prim.Native.Nat.{ℕ, zero, suc, _+_, _-_, _*_, _%_}

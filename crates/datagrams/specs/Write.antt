@@ -1,6 +1,6 @@
 -- Document 01, 'The datagram', as octets, and what the datagram writer writes: "Number: two octets, high first. Then the
 -- newest packet: length, octets. Then one octet, 00 for spares or 80 for parity; its low seven bits are zero. Spares: a
--- count, then each with its length. Parity: octet 01, octet n, count m, then m messages, each with its length. Nothing
+-- count, then each with its length .. Parity: octet 01, octet n, count m, then m messages, each with its length. Nothing
 -- follows." And of the order of refusals: "Datagram writer (number, packet, spares or n and messages): n or a count outside
 -- the sizes 4, then 15, 4, 13." The 13 is that of every call that writes to a lent buffer. Definitions only.
 use Prim.Native.Nat.{ℕ, _+_, _/_, _%_}

@@ -16,23 +16,23 @@ use Rattle.octets.proofs.Place.{allBelow-more, allBelow-at}
 use Rattle.octets.proofs.Cases.{below-or-not, same-or-not}
 use Rattle.lines.specs.Lines.{lineFeed}
 use Rattle.lines.specs.Feed.{keptLimit}
-use Rattle.lines.specs.FeedPromise.{plainAt, Begun, Found, lineEnd, LineIn, LineKept}
+use Rattle.lines.specs.FeedPromise.{lookedAt, plainAt, Begun, Found, lineEnd, LineIn, LineKept}
 
 -- ---- the next characters
 pub record Plain (s : List ℕ) (at : ℕ) (plain : Bool) (j : ℕ) : Type 0 where
   pub so : plain ≡ allBelow j (plainAt s at)
-  pub few : j ≤ 64
+  pub few : j ≤ lookedAt
 
 pub plain-start : (s : List ℕ) (at : ℕ) → Plain s at true 0
 unfolding allBelow
 plain-start s at = record { so = refl; few = omega arith }
 
-pub plain-turn : {s : List ℕ} {at : ℕ} {plain : Bool} {j : ℕ} → Plain s at plain j → j < 64
+pub plain-turn : {s : List ℕ} {at : ℕ} {plain : Bool} {j : ℕ} → Plain s at plain j → j < lookedAt
     → Plain s at (plain && not (eqb (getD s (at + j) 0) 10)) (j + 1)
 plain-turn {s} {at} {plain} {j} p more =
     record { so = ap (λ (b : Bool). b && plainAt s at j) (p .so) ∙ sym (allBelow-more j (plainAt s at)); few = omega arith }
 
-pub plain-done : {s : List ℕ} {at : ℕ} {plain : Bool} {j : ℕ} → Plain s at plain j → 64 ≤ j → plain ≡ allBelow 64 (plainAt s at)
+pub plain-done : {s : List ℕ} {at : ℕ} {plain : Bool} {j : ℕ} → Plain s at plain j → lookedAt ≤ j → plain ≡ allBelow lookedAt (plainAt s at)
 plain-done {s} {at} {plain} {j} p end = p .so ∙ ap (λ (k : ℕ). allBelow k (plainAt s at)) (omega (arith, p .few))
 
 -- ---- the search
@@ -43,15 +43,15 @@ pub begun-turn : {s : List ℕ} {at : ℕ} → Begun s at → at < length s → 
 begun-turn {s} {at} b more other =
     record { plain = below-more (λ (k : ℕ). getD s k 0 ≡ lineFeed → ⊥) at (b .plain) other; inside = omega arith }
 
-far : (s : List ℕ) (at : ℕ) → allBelow 64 (plainAt s at) ≡ true → (k : ℕ) → k < at + 64 → at ≤ k → getD s k 0 ≡ lineFeed → ⊥
+far : (s : List ℕ) (at : ℕ) → allBelow lookedAt (plainAt s at) ≡ true → (k : ℕ) → k < at + lookedAt → at ≤ k → getD s k 0 ≡ lineFeed → ⊥
 far s at all k below past =
-    let near : k - at < 64 = omega arith in
+    let near : k - at < lookedAt = omega arith in
     let place : at + (k - at) ≡ k = omega arith in
-    let clear : eqb (getD s (at + (k - at)) 0) lineFeed ≡ false = not-true _ (allBelow-at 64 (plainAt s at) all (k - at) near) in
+    let clear : eqb (getD s (at + (k - at)) 0) lineFeed ≡ false = not-true _ (allBelow-at lookedAt (plainAt s at) all (k - at) near) in
     rw place at (eqb-false (getD s (at + (k - at)) 0) lineFeed clear)
 
-pub begun-far : {s : List ℕ} {at : ℕ} {plain : Bool} → Begun s at → 64 ≤ length s - at → plain ≡ allBelow 64 (plainAt s at)
-    → plain ≡ true → Begun s (at + 64)
+pub begun-far : {s : List ℕ} {at : ℕ} {plain : Bool} → Begun s at → lookedAt ≤ length s - at → plain ≡ allBelow lookedAt (plainAt s at)
+    → plain ≡ true → Begun s (at + lookedAt)
 begun-far {s} {at} {plain} b room told yet =
     record {
       plain =

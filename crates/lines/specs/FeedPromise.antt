@@ -11,6 +11,10 @@ use Rattle.lines.specs.Lines.{lineFeed}
 use Rattle.lines.specs.Feed.{keptLimit, Going, takenIn, fed, atEnd, goingIn}
 use Rattle.lines.specs.Promise.{Able, stepLimit}
 
+-- so many characters are looked at together in the search for a line feed
+abbrev pub lookedAt : ℕ
+lookedAt = 32
+
 -- the character at distance j from a place is no line feed
 abbrev pub plainAt : List ℕ → ℕ → ℕ → Bool
 plainAt s at j = not (eqb (getD s (at + j) 0) lineFeed)

@@ -1,4 +1,4 @@
--- Document 01, 'The program': "Reads lines of hexadecimal, one datagram a line. .. Both cases are read; upper case is
+-- Document 01, 'The program': "Reads lines of hexadecimal, one datagram a line .. Both cases are read; upper case is
 -- written". And of refusals: 2, "line over 3,000 characters (before 15)"; 15, "a line not of paired hexadecimal digits". A
 -- line's characters are octets. Definitions only.
 use Prim.Native.Nat.{ℕ, _+_, _-_, _*_, _/_, _%_}

@@ -11,7 +11,7 @@ ghost use lib.ListN.{length};
 ghost use Rattle.octets.specs.Place.{allBelow};
 ghost use Rattle.lines.specs.Feed.{goingIn};
 ghost use Rattle.lines.specs.Promise.{stepLimit};
-ghost use Rattle.lines.specs.FeedPromise.{plainAt, Found, Begun, LineIn, LineKept, Feedable, TakesLine, Feeds, Ends};
+ghost use Rattle.lines.specs.FeedPromise.{lookedAt, plainAt, Found, Begun, LineIn, LineKept, Feedable, TakesLine, Feeds, Ends};
 
 // The program part way: the head, how much of the line that has begun is kept, how many characters of the block were taken in,
 // and the place after what was written.
@@ -24,8 +24,8 @@ pub struct Fed {
 
 // Whether the next characters are no line feeds: so many at a time that the compiler takes them together.
 fn is_plain(s: &[u8], at: usize) -> bool
-    requires { ⌜ at + 64 ≤ length (now s) ⌝ }
-    ensures { λ r. ⌜ r ≡ allBelow 64 (plainAt (now (s .entry)) at) ⌝ }
+    requires { ⌜ at + lookedAt ≤ length (now s) ⌝ }
+    ensures { λ r. ⌜ r ≡ allBelow lookedAt (plainAt (now (s .entry)) at) ⌝ }
 {
     let mut plain = true;
     let mut j = 0;

@@ -28,7 +28,7 @@ impl Line {
     // Of a line that is too long no more is kept than shows it.
     pub const KEPT: usize = Line::LIMIT + 1;
     // So many characters are looked at together in the search for a line feed.
-    pub const NEAR: usize = 64;
+    pub const NEAR: usize = 32;
     // The most characters of a result line, of all releases after a line, and of all that a line can write.
     pub const RESULT: usize = 7 + 2 * Packet::LIMIT;
 

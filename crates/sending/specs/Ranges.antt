@@ -1,4 +1,4 @@
--- Document 01, 'The sending session's ranges': "numbers sent at most 1,000,000; history lengths 1 to 160, or 0 exactly for
+-- Document 01, 'The sending session': "The sending session's ranges: numbers sent at most 1,000,000; history lengths 1 to 160, or 0 exactly for
 -- numbers before the first; octets past a length zero." Definitions only.
 use Prim.Native.Nat.{ℕ, _+_}
 use mathlib.Core.Bool.{Bool, cond, _&&_}

@@ -7,67 +7,51 @@ use Rattle.lengths.proofs.read.Lts as lts
 use Rattle.lengths.proofs.Refusal.new.Reads as new-reads
 use Rattle.lengths.proofs.wide.Reads as wide-reads
 
--- src/lib.rt:62:32
 new-requires : tie.Need-new-requires
 new-requires c κs = search needs
 
--- src/lib.rt:62:9
 returns : tie.Need-returns
 returns c = search readings
 
--- src/lib.rt:64:22
 shared-slice-read-wide : tie.Need-shared-slice-read-wide
 shared-slice-read-wide c = search needs
 
--- src/lib.rt:64:9
 wide-requires : tie.Need-wide-requires
 wide-requires c κs = search needs
 
--- src/lib.rt:66:9
 returns-2 : tie.Need-returns-2
 returns-2 c = search readings
 
--- src/lib.rt:69:32
 new-requires-2 : tie.Need-new-requires-2
 new-requires-2 c κs = search needs
 
--- src/lib.rt:69:9
 returns-3 : tie.Need-returns-3
 returns-3 c = search readings
 
--- src/lib.rt:72:32
 new-requires-3 : tie.Need-new-requires-3
 new-requires-3 c κs = search needs
 
--- src/lib.rt:72:9
 returns-4 : tie.Need-returns-4
 returns-4 c = search readings
 
--- src/lib.rt:74:23
 shared-slice-read-wide-2 : tie.Need-shared-slice-read-wide-2
 shared-slice-read-wide-2 c = search needs
 
--- src/lib.rt:74:9
 wide-requires-2 : tie.Need-wide-requires-2
 wide-requires-2 c κs = search needs
 
--- src/lib.rt:75:16
 mul-high : tie.Need-mul-high
 mul-high c = search needs
 
--- src/lib.rt:76:17
 add-value : tie.Need-add-value
 add-value c = search needs
 
--- src/lib.rt:78:32
 new-requires-4 : tie.Need-new-requires-4
 new-requires-4 c κs = search needs
 
--- src/lib.rt:78:9
 returns-5 : tie.Need-returns-5
 returns-5 c = search readings
 
--- src/lib.rt:58:1
 returns-6 : tie.Need-returns-6
 returns-6 c = search readings
 

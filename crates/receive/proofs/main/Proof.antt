@@ -1,3 +1,4 @@
+-- `receive::main` is safe and ends: a fresh session is within its ranges. Assumes nothing.
 use Rattle.ranges.proofs.Laws.{within-of}
 use borrow.Author.Needs.{needs}
 use Rattle.receive.proofs.main.Statement.{statement}
@@ -7,17 +8,14 @@ use Rattle.receive.proofs.main.Lts as lts
 use Rattle.heads.proofs.Session.fresh.Reads as fresh-reads
 use Rattle.receive.proofs.serve.Reads as serve-reads
 
--- src/main.rt:88:9
 fresh-requires : tie.Need-fresh-requires
 fresh-requires c κs = search needs
 
--- src/main.rt:92:5
 serve-requires : tie.Need-serve-requires
 serve-requires c κs =
     let fresh = c .before .before .before .before .before .fresh .ensures in
     within-of _ _ _ (fresh .ranges) (fresh .sized)
 
--- src/main.rt:87:1
 returns : tie.Need-returns
 returns c = search needs
 

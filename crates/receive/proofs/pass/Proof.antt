@@ -1,3 +1,5 @@
+-- `receive::pass` meets its contract: between two parts of a block the program is within its ranges, and each part takes some of it.
+-- Assumes nothing.
 use Prim.Native.Nat.{_-_}
 use mathlib.Core.Path.{sym}
 use lib.ListN.{length}
@@ -20,29 +22,23 @@ abbrev μ-loop : tie.MeasureT-loop
 μ-loop o₀ g₀ line₀ begun block out₀ head₀ kept₀ from₀ written₀ o g line out head kept from written =
     length block - from
 
--- src/main.rt:36:5
 loop-holds : tie.Need-loop-holds Inv-loop μ-loop
 loop-holds c = serving-start (c .before .before .before .pre)
 
--- src/main.rt:37:62
 sub-take-block : tie.Need-sub-take-block Inv-loop μ-loop
 sub-take-block c = search needs
 
--- src/main.rt:37:62
 part-take-block-start : tie.Need-part-take-block-start Inv-loop μ-loop
 part-take-block-start c = search needs
 
--- src/main.rt:37:62
 part-take-block-end : tie.Need-part-take-block-end Inv-loop μ-loop
 part-take-block-end c = search needs
 
--- src/main.rt:37:13
 take-block-requires : tie.Need-take-block-requires Inv-loop μ-loop
 take-block-requires c κs =
     let loop = c .before .before .before .before .before .before in
     part-ready (loop .loop .inv)
 
--- src/main.rt:41:9
 add-from : tie.Need-add-from Inv-loop μ-loop
 add-from c =
     let made = c .before .before .before .before .before .before in
@@ -51,11 +47,9 @@ add-from c =
     let start = loop .before .before .before .before in
     record { fits = omega (arith, start .good .1 .1 .1 .1 .1 .0, part-inside (loop .loop .inv) (start .args .block .now) (inside .loop-test .taken) (made .take-block .ensures)) }
 
--- src/main.rt:43:58
 slice-reshare-prefix-write-all : tie.Need-slice-reshare-prefix-write-all Inv-loop μ-loop
 slice-reshare-prefix-write-all c = search needs
 
--- src/main.rt:43:58
 slice-aggregate-write-all : tie.Need-slice-aggregate-write-all Inv-loop μ-loop
 slice-aggregate-write-all c =
     let made = c .before .before .before .before .before .before .before in
@@ -64,11 +58,9 @@ slice-aggregate-write-all c =
     let start = loop .before .before .before .before in
     sym (length-take-le _ _ (part-fits (loop .loop .inv) (start .args .block .now) (inside .loop-test .taken) (made .take-block .ensures)))
 
--- src/main.rt:43:29
 write-all-requires : tie.Need-write-all-requires Inv-loop μ-loop
 write-all-requires c κs = search needs
 
--- src/main.rt:36:5
 loop-less : tie.Need-loop-less Inv-loop μ-loop
 loop-less c =
     let made = c .before .before .before .before .before .before .before .before in
@@ -77,7 +69,6 @@ loop-less c =
     let start = loop .before .before .before .before in
     omega (arith, inside .loop-test .taken, part-some (loop .loop .inv) (start .args .block .now) (inside .loop-test .taken) (made .take-block .ensures))
 
--- src/main.rt:36:5
 loop-again : tie.Need-loop-again Inv-loop μ-loop
 loop-again c =
     let made = c .before .before .before .before .before .before .before .before in
@@ -86,15 +77,12 @@ loop-again c =
     let start = loop .before .before .before .before in
     part-done (loop .loop .inv) (start .args .block .now) (inside .loop-test .taken) (made .take-block .ensures) (made .take-block .kept .1 .1 .1 .0)
 
--- src/main.rt:20:1
 same-length : tie.Need-same-length Inv-loop μ-loop
 same-length c = search needs
 
--- src/main.rt:20:1
 same-length-2 : tie.Need-same-length-2 Inv-loop μ-loop
 same-length-2 c = search needs
 
--- src/main.rt:20:1
 returns : tie.Need-returns Inv-loop μ-loop
 returns c = c .before .loop .inv .feedable
 

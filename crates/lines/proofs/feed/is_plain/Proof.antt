@@ -1,6 +1,7 @@
 -- `lines::is_plain` meets its contract: the characters so far are told, one more each turn. Assumes nothing.
 use borrow.Author.Needs.{needs}
 use Prim.Native.Nat.{_-_}
+use Rattle.lines.specs.FeedPromise.{lookedAt}
 use Rattle.lines.proofs.FeedSteps.{Plain, plain-start, plain-turn, plain-done}
 use Rattle.lines.proofs.feed.is_plain.Statement.{statement}
 use Rattle.lines.proofs.feed.is_plain.Tie as tie
@@ -11,7 +12,7 @@ abbrev Inv-loop : tie.InvT-loop
 Inv-loop s at plain₀ j₀ plain j = Plain s at plain j
 
 abbrev μ-loop : tie.MeasureT-loop
-μ-loop s at plain₀ j₀ plain j = 64 - j
+μ-loop s at plain₀ j₀ plain j = lookedAt - j
 
 loop-holds : tie.Need-loop-holds Inv-loop μ-loop
 loop-holds c = search plain-start
