@@ -12,6 +12,7 @@ pub use put::length_size;
 pub use put::put_head;
 pub use put::put_item;
 pub use put::put_kind;
+pub use put::put_octets;
 pub use put::put_parity;
 pub use put::put_spares;
 pub use reader::DatagramRead;

@@ -199,7 +199,7 @@ fn least(kind: Kind) -> usize
     ensures { λ r. ⌜ r ≡ leastOf kind ⌝ }
 {
     match kind {
-        Kind::Spares => 1,
+        Kind::Spares => Packet::LEAST,
         Kind::Parity(_) => 0,
     }
 }
@@ -280,7 +280,7 @@ pub fn read(s: &[u8]) -> DatagramRead
         return refused(Refusal::new(Refusal::ENDS_EARLY));
     }
     let number = number_of(s[0], s[1]);
-    match item_at(s, 2, 1, Packet::LIMIT) {
+    match item_at(s, 2, Packet::LEAST, Packet::LIMIT) {
         Item::Refused(why) => refused(why),
         Item::Found(packet) => {
             let at = packet.start + packet.size;

@@ -1,13 +1,21 @@
 // Document 01, 'Sizes': each limit belongs to the kind that it limits, and is written once, here. The functions tie the
 // constants to the definitions of specs/.
 ghost use mathlib.Core.Path.{_≡_};
-ghost use Rattle.datagrams.specs.Sizes.{packetLimit, messageLimit, datagramLimit, sparesLimit, coveredLimit, messagesLimit, reachLimit};
+ghost use Rattle.datagrams.specs.Sizes.{packetLeast, packetLimit, messageLimit, datagramLimit, sparesLimit, coveredLimit, messagesLimit, reachLimit};
 
 // A fax packet.
 pub struct Packet {}
 
 impl Packet {
+    pub const LEAST: usize = 1;
+
     pub const LIMIT: usize = 160;
+
+    pub fn least() -> usize
+        ensures { λ r. ⌜ r ≡ packetLeast ⌝ }
+    {
+        Packet::LEAST
+    }
 
     pub fn limit() -> usize
         ensures { λ r. ⌜ r ≡ packetLimit ⌝ }

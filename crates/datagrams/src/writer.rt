@@ -57,7 +57,7 @@ fn item_inside(kind: Kind, n: usize) -> bool
     ensures { λ r. ⌜ r ≡ itemInside kind n ⌝ }
 {
     match kind {
-        Kind::Spares => within(1, Packet::LIMIT, n),
+        Kind::Spares => within(Packet::LEAST, Packet::LIMIT, n),
         Kind::Parity(_) => within(0, Message::LIMIT, n),
     }
 }
@@ -80,7 +80,7 @@ fn items_inside(kind: Kind, lengths: &[u16]) -> bool
 fn lengths_inside(packet: &[u8], kind: Kind, lengths: &[u16]) -> bool
     ensures { λ r. ⌜ r ≡ lengthsInside (now (packet .entry)) kind (now (lengths .entry)) ⌝ }
 {
-    if !within(1, Packet::LIMIT, packet.len()) {
+    if !within(Packet::LEAST, Packet::LIMIT, packet.len()) {
         return false;
     }
     items_inside(kind, lengths)

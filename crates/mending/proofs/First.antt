@@ -1,14 +1,12 @@
 -- The loop over the numbers from the base on: what is left to search holds the whole answer. Assumes nothing.
-use Prim.Native.Nat.{ℕ, zero, suc, _+_, _≤_, _<_}
-use mathlib.Core.Path.{_≡_, refl, sym, ap, _∙_}
-use mathlib.Core.List.{List, [], _++_}
-use mathlib.Core.Option.{Option, none, some}
-use lib.ListN.{length}
+use Prim.Native.Nat.{ℕ, suc, _+_, _≤_, _<_}
+use mathlib.Core.Path.{_≡_, sym, ap, _∙_}
+use mathlib.Core.List.{List, _++_}
 use native.Mathlib.Numerals.{add-one}
 use native.Mathlib.Omega.{arith}
-use Rattle.repair.specs.Cells.{Cell, keptBefore, keptAhead}
+use Rattle.repair.specs.Cells.{keptBefore, keptAhead}
 use Rattle.repair.specs.Repair.{Message, firstUsable}
-use Rattle.repair.specs.Held.{Held, messagesOf, heldAt, heldMessages}
+use Rattle.repair.specs.Held.{Held, messagesOf, heldMessages}
 use Rattle.repair.proofs.Search.{firstUsable-front, firstUsable-rest}
 use Rattle.repair.proofs.Turns.{heldFrom, heldFrom-start, heldFrom-turn, heldFrom-end}
 use Rattle.heads.specs.Head.{heardSlotAt, heldIn, cellsOf, heldOf}
@@ -18,7 +16,6 @@ use Rattle.heads.proofs.Seen.{length-held, held-at}
 use Rattle.mending.specs.Promise.{messageIn, LowestFound, UsableFound}
 use Rattle.mending.specs.declared.Lowest.{Lowest}
 use Rattle.mending.specs.declared.Lowest.the-variants as lowest
-use Rattle.mending.specs.declared.Usable.{Usable}
 use Rattle.mending.specs.declared.Usable.the-variants as usables
 
 pub record Searched (h : Head) (d : ℕ) : Type 0 where

@@ -3,37 +3,34 @@
 use Prim.Native.Nat.{ℕ, zero, suc, _+_, _-_, _*_, _%_, _≤_, _<_}
 use mathlib.Core.Path.{_≡_, refl, sym, ap, ap₂, _∙_}
 use mathlib.Core.Bool.{Bool, true, false, cond, _&&_}
-use mathlib.Core.List.{List, [], _∷_}
+use mathlib.Core.List.{List, []}
 use mathlib.Core.Logic.{⊎-elim}
-use mathlib.Core.Option.{Option, none, some}
+use mathlib.Core.Option.{none, some}
 use lib.ListN.{length, getD, List·getD-eq-default}
 use lib.Dec.{leb, eqb}
 use native.Mathlib.Omega.{arith}
-use borrow.Author.Tests.{le-leb, lt-leb, eq-eqb, ne-eqb}
+use borrow.Author.Tests.{le-leb, eq-eqb, ne-eqb}
 use Rattle.octets.specs.Place.{tab}
 use Rattle.octets.proofs.Place.{length-tab, tab-at, tab-ext}
 use Rattle.octets.proofs.Cases.{same-or-not, below-or-not}
 use Rattle.datagrams.specs.Sizes.{packetLimit, coveredLimit, messagesLimit}
-use Rattle.repair.specs.Cells.{Cell, isUnknown, keptBefore, keptAhead, keptNumbers}
-use Rattle.repair.specs.Members.{membersOf, memberAt}
-use Rattle.repair.specs.Repair.{Message, passing, unknownMembers, usable, firstUsable}
-use Rattle.repair.specs.Held.{Held, messagesOf, messageAt, heldMessages}
+use Rattle.repair.specs.Cells.{Cell, isUnknown, keptBefore, keptAhead}
+use Rattle.repair.specs.Members.{membersOf}
+use Rattle.repair.specs.Repair.{Message, unknownMembers, usable, firstUsable}
+use Rattle.repair.specs.Held.{messagesOf, messageAt}
 use Rattle.stores.specs.Store.{part}
 use Rattle.stores.proofs.Laws.{length-part}
 use Rattle.views.specs.View.{numbers}
-use Rattle.heads.specs.Head.{numberAt, slotAt, heardSlotAt, messageSlot, slotsKept, slotsHeard, stateOf, keptIn, slotsMessages, heardIn, sizeIn, heldIn, cellsOf, heldOf}
+use Rattle.heads.specs.Head.{numberAt, slotAt, heardSlotAt, messageSlot, slotsKept, slotsHeard, stateOf, keptIn, heardIn, sizeIn, heldIn, cellsOf}
 use Rattle.heads.specs.Within.{Within}
 use Rattle.heads.specs.declared.Head.{Head}
-use Rattle.heads.specs.declared.Heard.{Heard}
 use Rattle.heads.proofs.Parts.{heard-within, heard-sizes, reach-range, message-size}
 use Rattle.heads.proofs.Slots.{heard-small, message-small, has-message-slot, heard-slot-of}
 use Rattle.mending.specs.Back.{flag, Flags, countBack, findBack}
-use Rattle.mending.specs.Promise.{Sized, heardAt, messageIn, missingOf, Points, LowestFound, Sees, LowestSeen, UsableFound}
-use Rattle.mending.specs.declared.Lowest.{Lowest}
+use Rattle.mending.specs.Promise.{Sized, heardAt, messageIn, missingOf, LowestFound, Sees, LowestSeen}
 use Rattle.mending.specs.declared.Lowest.the-variants as lowest
-use Rattle.mending.specs.declared.Usable.{Usable}
 use Rattle.mending.specs.declared.Usable.the-variants as usables
-use Rattle.mending.proofs.Members.{membersBack, unseen, counted, found-slot}
+use Rattle.mending.proofs.Members.{counted, found-slot}
 
 -- ---- within the ranges n and m of every number are within the sizes
 sized-at : {h : Head} {o g : List ℕ} → Within h o g → (d : ℕ) → d < keptAhead

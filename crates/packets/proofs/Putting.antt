@@ -3,51 +3,16 @@
 use Prim.Native.Nat.{ℕ, suc, _+_, _-_, _*_, _/_, _%_, _≤_, _<_}
 use mathlib.Core.Path.{_≡_, refl, sym, ap, _∙_, subst}
 use mathlib.Core.List.{List, [], _∷_, _++_, append-nil}
-use lib.ListN.{length, getD, set, take, drop, length-drop, length-set, drop-of-length-le}
-use lib.Seq.{set-at, append-snoc, drop-cons, take-suc, length-take-le, take-length, drop-drop}
+use lib.ListN.{length, set, take, drop, length-drop, drop-of-length-le}
+use lib.Seq.{drop-drop}
 use native.Mathlib.Nat.{mod-eq-of-lt}
-use native.Mathlib.Numerals.{add-one}
 use native.Mathlib.Omega.{arith}
 use borrow.Rule.Slice.PartMut.{putMid}
 use borrow.Author.Tests.{lt-ltb, le-ltb}
-use Rattle.packets.specs.Items.{Laid, FullFits, FieldFits, FieldLaid}
+use Rattle.datagrams.specs.Put.{Put}
+use Rattle.packets.specs.Items.{FullFits, FieldFits, FieldLaid}
 use Rattle.packets.proofs.ReadItems.{rest, rest-is}
 use Rattle.packets.proofs.WriteLaws.{field-length, field-bare, field-full}
-
--- ---- octets
-pub record Copying (src old out : List ℕ) (i : ℕ) : Type 0 where
-  pub inside : i ≤ length src
-  pub long : length out ≡ length old
-  pub here : out ≡ take i src ++ drop i old
-
-pub copy-start : (src old : List ℕ) → Copying src old old 0
-copy-start src old = record { inside = omega arith; long = refl; here = refl }
-
-copy-next : (src old : List ℕ) (i : ℕ) → i < length src → i < length old
-    → set (take i src ++ drop i old) i (getD src i 0) ≡ take (i + 1) src ++ drop (i + 1) old
-copy-next src old i more room =
-    ap (λ (l : List ℕ). set (take i src ++ l) i (getD src i 0)) (drop-cons old i 0 room)
-    ∙ set-at (take i src) (getD old i 0) (drop (suc i) old) (getD src i 0) i (length-take-le i src (omega arith))
-    ∙ sym (append-snoc (take i src) (getD src i 0) (drop (suc i) old))
-    ∙ ap (λ (l : List ℕ). l ++ drop (suc i) old) (sym (take-suc src i 0 more))
-    ∙ ap (λ (n : ℕ). take n src ++ drop n old) (sym (add-one i))
-
-module _ {src old out : List ℕ} {i : ℕ} where
-  pub copy-turn : Copying src old out i → length src ≤ length old → i < length src → Copying src old (set out i (getD src i 0)) (i + 1)
-  copy-turn g room more =
-      record {
-        inside = omega arith;
-        long = length-set out i (getD src i 0) ∙ g .long;
-        here = ap (λ (l : List ℕ). set l i (getD src i 0)) (g .here) ∙ copy-next src old i more (omega arith);
-      }
-
-  pub copy-done : Copying src old out i → length src ≤ i → Laid src old out
-  copy-done g all =
-      let e : i ≡ length src = omega (arith, g .inside) in
-      record { lent = g .here ∙ ap (λ (n : ℕ). take n src ++ drop n old) e ∙ ap (λ (l : List ℕ). l ++ drop (length src) old) (take-length src) }
-
--- the laws of the loop that puts octets
-pub ruleset copies = (copy-start, copy-turn, copy-done)
 
 -- ---- one field
 pub one-set : (old : List ℕ) (a : ℕ) → 1 ≤ length old → set old 0 a ≡ a ∷ drop 1 old
@@ -74,13 +39,13 @@ bare-laid {k} {old} room =
       lent = one-set old (k * 16) room ∙ ap (λ (l : List ℕ). l ++ drop (length l) old) (sym (field-bare k));
     }
 
-pub full-laid : {k : ℕ} {d old : List ℕ} {part : List ℕ} → FullFits k d old
-    → Laid d (rest 3 (set (set (set old 0 ((8 + k) * 16)) 1 ((length d - 1) / 256 % 256)) 2 ((length d - 1) % 256))) part
+pub full-laid : {k : ℕ} {d old : List ℕ} {part : List ℕ} {n : ℕ} → FullFits k d old
+    → Put d (rest 3 (set (set (set old 0 ((8 + k) * 16)) 1 ((length d - 1) / 256 % 256)) 2 ((length d - 1) % 256))) part n
     → FieldLaid k d old
     (putMid 3 (length (set (set (set old 0 ((8 + k) * 16)) 1 ((length d - 1) / 256 % 256)) 2 ((length d - 1) % 256)) - 3)
     (set (set (set old 0 ((8 + k) * 16)) 1 ((length d - 1) / 256 % 256)) 2 ((length d - 1) % 256)) part)
     (3 + length d)
-full-laid {k} {d} {old} {part} fits laid =
+full-laid {k} {d} {old} {part} {n} fits laid =
     let w = set (set (set old 0 ((8 + k) * 16)) 1 ((length d - 1) / 256 % 256)) 2 ((length d - 1) % 256) in
     let three = three-set old ((8 + k) * 16) ((length d - 1) / 256 % 256) ((length d - 1) % 256) (omega (arith, fits .room)) in
     let low : (length d - 1) / 256 % 256 ≡ (length d - 1) / 256 = mod-eq-of-lt (omega (arith, fits .short)) in

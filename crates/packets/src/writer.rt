@@ -190,18 +190,6 @@ fn measure(kind: Kind, value: u8, types: &[u8], lengths: &[u16], data: &[u8]) ->
     Written::Octets(size)
 }
 
-// The octets of src, at the front of out.
-fn put_octets(src: &[u8], out: &mut [u8])
-    requires { ⌜ length (now src) ≤ length (now out) ⌝ }
-    ensures { λ _. ⌜ Laid (now (src .entry)) (now (out .entry)) (now (out .exit)) ⌝ }
-{
-    let mut i: usize = 0;
-    while i < src.len() {
-        out[i] = src[i];
-        i += 1;
-    }
-}
-
 // A field without data at the front of out, and how many octets it took.
 fn put_bare(kind: u8, out: &mut [u8]) -> usize
     requires { ⌜ (kind ≤ typesLimit) × (1 ≤ length (now out)) ⌝ }
@@ -223,7 +211,7 @@ fn put_full(kind: u8, data: &[u8], out: &mut [u8]) -> usize
     out[0] = bits * 16;
     out[1] = (high % 256) as u8;
     out[2] = (less % 256) as u8;
-    put_octets(data, &mut out[3..]);
+    datagrams::put_octets(data, &mut out[3..]);
     3 + size
 }
 

@@ -53,9 +53,9 @@ fn state_right(k: Kept, blank: bool) -> bool
     let size = k.size as usize;
     match state {
         State::Unknown => (size == 0) & !blank,
-        State::Received => ((1 <= size) & (size <= Packet::LIMIT)) & !blank,
-        State::Spare => ((1 <= size) & (size <= Packet::LIMIT)) & !blank,
-        State::Repaired => ((1 <= size) & (size <= Packet::LIMIT)) & !blank,
+        State::Received => ((Packet::LEAST <= size) & (size <= Packet::LIMIT)) & !blank,
+        State::Spare => ((Packet::LEAST <= size) & (size <= Packet::LIMIT)) & !blank,
+        State::Repaired => ((Packet::LEAST <= size) & (size <= Packet::LIMIT)) & !blank,
         State::Blank => (size == 0) & blank,
     }
 }

@@ -1,32 +1,32 @@
 -- A packet kept, and spares kept one after the other, on plain values. Assumes nothing.
-use Prim.Native.Nat.{ℕ, zero, suc, _+_, _-_, _*_, _%_, _≤_, _<_}
+use Prim.Native.Nat.{ℕ, _+_, _-_, _%_, _≤_, _<_}
 use mathlib.Core.Path.{_≡_, refl, sym, ap, ap₂, _∙_}
-use mathlib.Core.Bool.{Bool, true, false, cond}
+use mathlib.Core.Bool.{Bool, true, false}
 use mathlib.Core.List.{List, [], _∷_, map}
-use lib.ListN.{length, getD, take, drop, set, length-take, length-drop, drop-of-length-le}
+use lib.ListN.{length, getD, take, drop, length-take, length-drop, drop-of-length-le}
 use lib.Seq.{drop-cons, getD-take, length-take-le}
 use native.Mathlib.Numerals.{add-one}
 use native.Mathlib.Omega.{arith}
-use Rattle.datagrams.specs.Sizes.{packetLeast, packetLimit, messageLeast, messageLimit, sparesLimit}
+use Rattle.datagrams.specs.Sizes.{packetLeast, packetLimit, messageLeast, messageLimit}
 use Rattle.datagrams.specs.Claims.{PartInside}
 use Rattle.datagrams.specs.Promise.{nowhere}
 use Rattle.datagrams.specs.Read.{octetsOf}
 use Rattle.datagrams.specs.declared.reader.Part.{Part}
-use Rattle.repair.specs.Cells.{Cell, spare, isUnknown, unknownAt, keptNumbers}
-use Rattle.stores.specs.Store.{pasted, HasSlot}
+use Rattle.repair.specs.Cells.{Cell, spare, isUnknown, keptNumbers}
+use Rattle.stores.specs.Store.{pasted}
 use Rattle.views.specs.Offer as offers
 use Rattle.heads.specs.Head.{numberAt, slotAt, slotsKept, packetOctets, stateOf, keptIn, cellsOf, placed}
 use Rattle.heads.specs.Ranges.{isFill}
 use Rattle.heads.specs.Within.{Within}
 use Rattle.heads.specs.declared.State.{State}
-use Rattle.heads.specs.declared.State.the-variants.{Unknown, Spare}
+use Rattle.heads.specs.declared.State.the-variants.{Spare}
 use Rattle.heads.specs.declared.Head.{Head}
 use Rattle.heads.proofs.Placed.{placed-within, placed-cells}
 use Rattle.heads.proofs.Seen.{unknown-at, unknown-state}
 use Rattle.mending.specs.Promise.{SameBeside}
 use Rattle.mending.proofs.Beside.{same-beside, beside-twice}
 use Rattle.holding.specs.Steps.{PartPut}
-use Rattle.receiving.specs.Keep.{CellsNow, Keeps, KeepsSpares}
+use Rattle.receiving.specs.Keep.{Keeps, KeepsSpares}
 
 slot-is : (base number slot p : ℕ) → slot ≡ number % slotsKept → number ≡ numberAt base p → slot ≡ slotAt base p
 slot-is base number slot p e-slot e = omega arith

@@ -35,7 +35,7 @@ fn size_right(at: usize, size: usize) -> bool
     if at < Sender::HISTORY {
         return size == 0;
     }
-    if size < 1 {
+    if size < Packet::LEAST {
         return false;
     }
     size <= Packet::LIMIT

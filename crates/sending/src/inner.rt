@@ -67,7 +67,7 @@ fn number_of(sent: usize) -> u16
 fn packet_inside(packet: &[u8]) -> bool
     ensures { λ r. ⌜ r ≡ packetInside (now (packet .entry)) ⌝ }
 {
-    if packet.len() < 1 {
+    if packet.len() < Packet::LEAST {
         return false;
     }
     packet.len() <= Packet::LIMIT
