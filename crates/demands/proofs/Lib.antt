@@ -12,7 +12,9 @@ pub mod Tables
 pub mod Demand1
 pub mod Sent
 pub mod Sound
+pub mod FedViews
 pub mod Fed
+pub mod Lists
 pub mod Demand3
 pub mod Example
 pub mod Claims
