@@ -1,24 +1,22 @@
 -- Demand 1, call by call: each definition is read row by row against its table. Assumes nothing.
 use Prim.Native.Nat.{ℕ, _+_, _-_, _*_, _≤_, _<_}
-use mathlib.Core.Path.{_≡_, refl, sym, ap, subst, _∙_}
+use mathlib.Core.Path.{_≡_, refl, sym, ap, _∙_}
 use mathlib.Core.Logic.{_↔_, _⊎_, ⊎-elim}
 use mathlib.Core.Bool.{Bool, true, false, not, cond, _&&_}
-use mathlib.Core.List.{List, [], _∷_, _++_, map}
-use mathlib.Core.Option.{Option, none, some}
+use mathlib.Core.List.{List, [], _∷_, map}
+use mathlib.Core.Option.{none, some}
 use lib.ListN.{length, getD}
 use lib.Dec.{leb, ltb, eqb}
 use native.Mathlib.Omega.{arith}
 use borrow.Author.Tests.{lt-ltb, le-ltb, le-leb, lt-leb, ltb-true, ltb-false}
-use Rattle.octets.proofs.Cases.{below-or-not, true-or-false}
-use Rattle.lengths.specs.Refusals.{endsEarly, tooLong, badForm, outsideSizes, repeated, tooFar, late, baseUnknown, baseKnown, notAssigned, noRoom}
+use Rattle.octets.proofs.Cases.{below-or-not}
+use Rattle.lengths.specs.Refusals.{endsEarly, badForm, outsideSizes, repeated, tooFar, late, baseUnknown, baseKnown, notAssigned, noRoom}
 use Rattle.lengths.specs.Refusals.{wrongData, wrongSettings, allPassed, outsideRanges}
-use Rattle.lengths.specs.Answers.{Answer, done, refused, refuse, fitted, sizeOf, writtenOutcome, lengthOutcome}
+use Rattle.lengths.specs.Answers.{Answer, done, refused, refuse, fitted, writtenOutcome}
 use Rattle.lengths.specs.Answers as answers
 use Rattle.lengths.specs.Length.{lengthAt, lengthOctets, lengthLimit, ofTwo, lengthToWrite}
-use Rattle.lengths.specs.Promise.{LengthRead, Puts}
+use Rattle.lengths.specs.Promise.{Puts}
 use Rattle.lengths.specs.Claims.{Octets}
-use Rattle.lengths.specs.declared.Refusal.{Refusal}
-use Rattle.lengths.specs.declared.Length.{Length}
 use Rattle.lengths.specs.declared.Written.{Written}
 use Rattle.datagrams.specs.Carried.{Carried}
 use Rattle.datagrams.specs.Read.{DatagramParts, octetsOf, readDatagram, carriedBy}
@@ -29,7 +27,7 @@ use Rattle.datagrams.proofs.Claims as datagrams
 use Rattle.datagrams.proofs.AnswerLaws.{cond-done, cond-met, done-same}
 use Rattle.datagrams.proofs.ReadLaws.{read-done}
 use Rattle.packets.specs.Packet.{fieldsLimit, allData}
-use Rattle.packets.specs.Read.{readPacket, PacketAnswer}
+use Rattle.packets.specs.Read.{readPacket}
 use Rattle.packets.specs.Write.{packetOctets, oneEach, allAssigned, allRight, inSizes, packetToWrite}
 use Rattle.packets.specs.declared.types.Kind as packets
 use Rattle.packets.specs.declared.types.Ending.the-variants.{Whole}
@@ -46,21 +44,20 @@ use Rattle.heads.specs.declared.Session.{Session}
 use Rattle.releasing.specs.Outcome.{handedOf, numberOf}
 use Rattle.releasing.specs.Outcome as outcome
 use Rattle.receiving.specs.Promise.{acceptedOf}
-use Rattle.sessions.specs.Receiver.{After, offerOf, OfferOwes, nextOf, viewAfterNext, NextOwes, giveUpOf, viewAfterLoss, GiveUpOwes}
+use Rattle.sessions.specs.Receiver.{After, offerOf, nextOf, viewAfterNext, giveUpOf, viewAfterLoss}
 use Rattle.sending.specs.Carries.{settingsInside}
 use Rattle.sending.specs.Sending.{Sending}
 use Rattle.sending.specs.Send.{packetInside, carriedNext, datagramToSend}
 use Rattle.sending.specs.Sender.{sendingOf}
 use Rattle.sending.specs.Ranges.{senderInRanges}
-use Rattle.sending.specs.Promise.{toSend, StateAfter, Sends}
+use Rattle.sending.specs.Promise.{toSend, StateAfter}
 use Rattle.sending.specs.declared.Sender.{Sender}
-use Rattle.sending.specs.declared.Sent.{Sent}
 use Rattle.sending.specs.declared.Settings.{Settings}
 use Rattle.demands.specs.Refusals.{when, first, refusalIn, over, lengthRows, lengthWriterRows, datagramWriterRows, packetWriterRows}
 use Rattle.demands.specs.Refusals.{distanceTo, offerRows, nextRows, giveUpRows, sendRows}
 use Rattle.demands.specs.Demand1 as demand
 use Rattle.demands.specs.Demand1.{IsDatagram, IsPacket, Readers, Writers, Receiving, Demand1}
-use Rattle.demands.proofs.Tables.{row, row-met, row-step, no-row, row-fitted, puts-refusal, size-refusal, refused-some, done-none}
+use Rattle.demands.proofs.Tables.{row, row-met, row-step, no-row, row-fitted, puts-refusal, size-refusal, done-none}
 
 -- ---- lengths
 -- the five tests of the definition, and the four rows of the table

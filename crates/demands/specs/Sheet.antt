@@ -1,7 +1,7 @@
 -- Document 01, 'Sheets to check by': the twelve ★ cases, as a single table of the definitions. Definitions only.
 use mathlib.Core.Path.{_≡_}
 use mathlib.Core.Bool.{true}
-use mathlib.Core.List.{List, [], _∷_, map}
+use mathlib.Core.List.{[], _∷_, map}
 use lib.ListN.{getD}
 use Rattle.lengths.specs.Refusals.{badForm, spareBit, notAssigned, wrongData}
 use Rattle.lengths.specs.Answers.{done, refuse}
