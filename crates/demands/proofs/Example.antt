@@ -20,7 +20,6 @@ use Rattle.repair.specs.Members.{membersOf}
 use Rattle.repair.specs.Repair.{passing, usable, firstUsable, mended, fill, repairF, repair}
 use Rattle.repair.specs.Held.{heldAt, messagesOf, messagesFrom, heldMessages}
 use Rattle.repair.specs.Reached.{Unknown}
-use Rattle.repair.specs.Claims.{packet0, packet1, message2}
 use Rattle.views.specs.View.{View, freshView}
 use Rattle.views.specs.Offer as offers
 use Rattle.views.specs.Offer.{keep, keepSpares, accept, offered}
@@ -35,8 +34,9 @@ use Rattle.sending.specs.Carries as carries
 use Rattle.sending.specs.Honest.{packetAt, HonestAt, HonestSender}
 use Rattle.sending.specs.declared.Settings.the-variants as settings
 use Rattle.demands.specs.History.{after}
+use Rattle.demands.specs.Sheet.{packet0, packet1, message2}
 use Rattle.demands.specs.Feeding.{Near, datagramAt, Offers, fresh, none, accepted, repeated}
-use Rattle.demands.specs.Example.{exampleRow, datagram1, datagram2, exampleDatagrams, Calls, Met, Example}
+use Rattle.demands.specs.Example.{exampleRow, datagram1, datagram2, exampleDatagrams, HandedBack, Met, Example}
 use Rattle.demands.proofs.Calling.{fresh-seen, offer-is, offered-seen}
 
 -- ---- the sender
@@ -157,7 +157,7 @@ offers-of : (S : ℕ) {view : View} {s : Session} {r : AfterOffer} → S < 3 →
     → OfferOwes s (datagramAt exampleDatagrams S) r → Offers exampleRow exampleDatagrams S s r
 offers-of S low seen near owes = record { sent = low; near = subst (Near S) (sym (seen .view)) near; call = owes }
 
-met : (s : Session) (alone one two three : AfterOffer) → Calls s alone one two three → Met s (alone .session) (three .session)
+met : (s : Session) (alone one two three : AfterOffer) → HandedBack s alone one two three → Met s (alone .session) (three .session)
 met s alone one two three c =
     let seen = fresh-seen s (c .start) in
     let alone-is = reads-2 freshView ∙ fresh-takes-2 in

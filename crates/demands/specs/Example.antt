@@ -7,13 +7,13 @@ use mathlib.Core.List.{List, [], _∷_, List·Memᴰ as Among}
 use Rattle.repair.specs.Cells.{repaired, cellAt, keptBefore}
 use Rattle.repair.specs.Held.{heldAt}
 use Rattle.repair.specs.Reached.{Unknown}
-use Rattle.repair.specs.Claims.{packet0, packet1, message2}
 use Rattle.heads.specs.Head.{viewOf}
 use Rattle.heads.specs.Promise.{Fresh}
 use Rattle.heads.specs.declared.Session.{Session}
 use Rattle.sessions.specs.Receiver.{OfferOwes}
 use Rattle.sessions.specs.declared.receiver.AfterOffer.{AfterOffer}
 use Rattle.sending.specs.Honest.{HonestSender}
+use Rattle.demands.specs.Sheet.{packet0, packet1, message2}
 use Rattle.demands.specs.Feeding.{Fed, Takes}
 
 abbrev pub exampleRow : List (List ℕ)
@@ -33,7 +33,7 @@ exampleDatagrams = datagram0 ∷ datagram1 ∷ datagram2 ∷ []
 
 -- what the calls hand back to one who offers a fresh session s datagram 2 alone, and to one who offers it datagrams 1, 2 and 1.
 -- There are such: each call ends, and meets its promise
-pub record Calls (s : Session) (alone : AfterOffer) (one two three : AfterOffer) : Type 0 where
+pub record HandedBack (s : Session) (alone : AfterOffer) (one two three : AfterOffer) : Type 0 where
   pub start : Fresh s
   pub only2 : OfferOwes s datagram2 alone
   pub first1 : OfferOwes s datagram1 one
@@ -55,4 +55,4 @@ pub record Met (s one two : Session) : Type 0 where
 pub record Example : Type 0 where
   pub honest : HonestSender exampleRow exampleDatagrams
   pub all : (S : ℕ) → Among S (2 ∷ []) → Among S (1 ∷ 2 ∷ 1 ∷ [])
-  pub met : (s : Session) (alone one two three : AfterOffer) → Calls s alone one two three → Met s (alone .session) (three .session)
+  pub met : (s : Session) (alone one two three : AfterOffer) → HandedBack s alone one two three → Met s (alone .session) (three .session)
