@@ -5,7 +5,7 @@ use mathlib.Core.Logic.{_↔_, _⊎_, ⊎-elim}
 use mathlib.Core.Bool.{Bool, true, false, not, cond, _&&_}
 use mathlib.Core.List.{List, [], _∷_, map}
 use mathlib.Core.Option.{none, some}
-use lib.ListN.{length, getD}
+use lib.ListN.{length, getD, replicate, length-append, length-replicate}
 use lib.Dec.{leb, ltb, eqb}
 use native.Mathlib.Omega.{arith}
 use borrow.Author.Tests.{lt-ltb, le-ltb, le-leb, lt-leb, ltb-true, ltb-false}
@@ -30,7 +30,8 @@ use Rattle.packets.specs.Packet.{fieldsLimit, allData}
 use Rattle.packets.specs.Read.{readPacket}
 use Rattle.packets.specs.Write.{packetOctets, oneEach, allAssigned, allRight, inSizes, packetToWrite}
 use Rattle.packets.specs.declared.types.Kind as packets
-use Rattle.packets.specs.declared.types.Ending.the-variants.{Whole}
+use Rattle.packets.specs.declared.types.Ending.the-variants.{Whole, Repaired}
+use Rattle.packets.proofs.ReadLaws.{packet-form}
 use Rattle.packets.proofs.Claims as packet-claims
 use Rattle.repair.specs.Cells.{unknownAt, keptBefore, keptAhead}
 use Rattle.views.specs.View.{View, sum, distance, sessionLimit}
@@ -56,7 +57,8 @@ use Rattle.sending.specs.declared.Settings.{Settings}
 use Rattle.demands.specs.Refusals.{when, first, refusalIn, over, lengthRows, lengthWriterRows, datagramWriterRows, packetWriterRows}
 use Rattle.demands.specs.Refusals.{distanceTo, offerRows, nextRows, giveUpRows, sendRows}
 use Rattle.demands.specs.Demand1 as demand
-use Rattle.demands.specs.Demand1.{IsDatagram, IsPacket, Readers, Writers, Receiving, Demand1}
+use Rattle.demands.specs.Demand1.{IsDatagram, IsPacket, IsRepaired, Readers, Writers, Receiving, Demand1}
+use Rattle.demands.proofs.Front.{repaired-front}
 use Rattle.demands.proofs.Tables.{row, row-met, row-step, no-row, row-fitted, puts-refusal, size-refusal, done-none}
 
 -- ---- lengths
@@ -119,6 +121,28 @@ is-packet s octets = (
       (packet-claims.claims .writtenReads (is .kind) (is .value) (is .types) (is .lengths) (is .octets) s (is .written) .reads),
 )
 
+is-repaired : (s : List ℕ) → Octets s → (refusalIn (readPacket Repaired s) ≡ none) ↔ IsRepaired s
+is-repaired s octets = (
+  λ e.
+      let p = done-none (readPacket Repaired s) e in
+      let f = repaired-front s (p .0) (p .1) in
+      record {
+        packet = f .front;
+        zeros = f .zeros;
+        is = f .is;
+        fits = packet-form Repaired s (p .0) (p .1) .fits;
+        written = is-packet (f .front) (f .octets octets) .0 (ap refusalIn (f .reads));
+      },
+  λ is.
+      let w = is .written in
+      let long : length s ≡ length (is .packet) + is .zeros
+      = ap length (is .is) ∙ length-append (is .packet) (replicate (is .zeros) 0) ∙ ap (λ (n : ℕ). length (is .packet) + n) (length-replicate {A = ℕ} (is .zeros) 0) in
+      let reads =
+      packet-claims.claims .repairedReads (w .kind) (w .value) (w .types) (w .lengths) (w .octets) (is .packet) (is .zeros) (w .written)
+      (omega (arith, is .fits)) .reads in
+      ap (λ (l : List ℕ). refusalIn (readPacket Repaired l)) (is .is) ∙ ap refusalIn reads,
+)
+
 readers : Readers
 readers =
     record {
@@ -127,6 +151,7 @@ readers =
       packet = λ p. ap refusalIn (p .answer);
       isDatagram = is-datagram;
       isPacket = is-packet;
+      isRepaired = is-repaired;
     }
 
 -- ---- writers

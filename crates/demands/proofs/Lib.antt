@@ -9,6 +9,7 @@ pub mod Calling
 pub mod Demand2
 pub mod Sheet
 pub mod Tables
+pub mod Front
 pub mod Demand1
 pub mod Sent
 pub mod Sound
