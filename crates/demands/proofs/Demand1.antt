@@ -136,7 +136,8 @@ is-repaired s octets = (
   λ is.
       let w = is .written in
       let long : length s ≡ length (is .packet) + is .zeros
-      = ap length (is .is) ∙ length-append (is .packet) (replicate (is .zeros) 0) ∙ ap (λ (n : ℕ). length (is .packet) + n) (length-replicate {A = ℕ} (is .zeros) 0) in
+      = ap length (is .is) ∙ length-append (is .packet) (replicate (is .zeros) 0)
+      ∙ ap (λ (n : ℕ). length (is .packet) + n) (length-replicate {A = ℕ} (is .zeros) 0) in
       let reads =
       packet-claims.claims .repairedReads (w .kind) (w .value) (w .types) (w .lengths) (w .octets) (is .packet) (is .zeros) (w .written)
       (omega (arith, is .fits)) .reads in

@@ -13,7 +13,7 @@ use Rattle.views.specs.Offer as offers
 use Rattle.heads.specs.Head.{viewOf}
 use Rattle.heads.specs.declared.Session.{Session}
 use Rattle.receiving.specs.Promise.{offeredOutcome, acceptedOf, afterOffer}
-use Rattle.sessions.specs.Receiver.{SeenAs}
+use Rattle.sessions.specs.Receiver.{SeenAs, OfferOwes}
 use Rattle.sessions.specs.declared.receiver.AfterOffer.{AfterOffer}
 use Rattle.sending.specs.Honest.{HonestSender}
 use Rattle.demands.specs.History.{after, offer}
@@ -46,6 +46,9 @@ record SeenTaken (row datagrams : List (List ℕ)) (places : List ℕ) (view : V
   takes : TakesViews row datagrams places view last
 
 module _ {row datagrams : List (List ℕ)} where
+  call-of : {S : ℕ} {s : Session} {r : AfterOffer} → Offers row datagrams S s r → OfferOwes s (datagramAt datagrams S) r
+  call-of {s = s} {r = r} o = subst (λ (octets : List ℕ). OfferOwes s octets r) (o .one) (o .call)
+
   -- a session that the sender feeds
   fed-seen : {s : Session} → Fed row datagrams s → SeenFed row datagrams s
   fed-seen (fresh {s} f) = record { view = freshView; seen = fresh-seen s f; fed = views.fresh }
@@ -53,7 +56,7 @@ module _ {row datagrams : List (List ℕ)} where
       let b = fed-seen f in
       record {
         view = after (offer (datagramAt datagrams S)) (b .view);
-        seen = offered-seen (b .seen) (o .call);
+        seen = offered-seen (b .seen) (call-of o);
         fed = arrives (b .fed) S (o .sent) (subst (Near S) (b .seen .view) (o .near));
       }
   fed-seen (asked {old = old} f owes) =
@@ -71,10 +74,10 @@ module _ {row datagrams : List (List ℕ)} where
     -- the view that the offer came to
     came-to : (a : Answer View) → offers.offer (datagramAt datagrams S) view ≡ a → SeenAs (afterOffer a view) (r .session)
     unfolding after
-    came-to a is = subst (λ (x : Answer View). SeenAs (afterOffer x view) (r .session)) is (offered-seen seen (o .call))
+    came-to a is = subst (λ (x : Answer View). SeenAs (afterOffer x view) (r .session)) is (offered-seen seen (call-of o))
 
     answer-is : acceptedOf (offers.offer (datagramAt datagrams S) view) ≡ offeredOutcome (r .answer)
-    answer-is = sym (o .call .answer ∙ ap acceptedOf (offer-is seen (datagramAt datagrams S)))
+    answer-is = sym (call-of o .answer ∙ ap acceptedOf (offer-is seen (datagramAt datagrams S)))
 
   takes-seen : {places : List ℕ} {view : View} {s t : Session} → SeenAs view s → Takes row datagrams places s t
       → SeenTaken row datagrams places view t

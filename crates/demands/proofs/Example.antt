@@ -155,7 +155,14 @@ module _ {view : View} {s : Session} (seen : SeenAs view s) {octets : List ℕ} 
 -- it is an offer of the sender's
 offers-of : (S : ℕ) {view : View} {s : Session} {r : AfterOffer} → S < 3 → SeenAs view s → Near S view
     → OfferOwes s (datagramAt exampleDatagrams S) r → Offers exampleRow exampleDatagrams S s r
-offers-of S low seen near owes = record { sent = low; near = subst (Near S) (sym (seen .view)) near; call = owes }
+offers-of S low seen near owes =
+    record {
+      sent = low;
+      near = subst (Near S) (sym (seen .view)) near;
+      octets = datagramAt exampleDatagrams S;
+      one = refl;
+      call = owes;
+    }
 
 met : (s : Session) (alone one two three : AfterOffer) → HandedBack s alone one two three → Met s (alone .session) (three .session)
 met s alone one two three c =

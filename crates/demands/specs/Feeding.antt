@@ -45,7 +45,10 @@ module _ (row datagrams : List (List ℕ)) where
   pub record Offers (S : ℕ) (s : Session) (r : AfterOffer) : Type 0 where
     pub sent : S < length row
     pub near : Near S (viewOf s)
-    pub call : OfferOwes s (datagramAt datagrams S) r
+    pub octets : List ℕ
+    -- "datagrams, one for each place"
+    pub one : octets ≡ datagramAt datagrams S
+    pub call : OfferOwes s octets r
 
   -- the sessions that this sender alone feeds, from a fresh one on: offers of its datagrams in any order and as often as may
   -- be, accepted or refused, and releases and give-ups among them
