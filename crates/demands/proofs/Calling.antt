@@ -1,12 +1,12 @@
 -- The public calls follow the history: a session within its ranges that is seen as a view answers, and hands back, what the
 -- definitions make of that view. Assumes nothing.
-use Prim.Native.Nat.{ℕ, zero, suc, _+_, _%_, _≤_, _<_}
+use Prim.Native.Nat.{ℕ, _+_, _%_, _≤_, _<_}
 use mathlib.Core.Path.{_≡_, refl, sym, ap, ap₂, subst, _∙_}
-use mathlib.Core.Bool.{Bool, true, false, cond, _&&_, false≢true}
-use mathlib.Core.List.{List, [], _∷_, _++_}
-use lib.ListN.{length, take, drop}
+use mathlib.Core.Bool.{Bool, true, false, cond, false≢true}
+use mathlib.Core.List.{List, _++_}
+use lib.ListN.{length, drop}
 use lib.Seq.{take-append-seam}
-use lib.Dec.{leb, ltb, eqb}
+use lib.Dec.{leb, eqb}
 use native.Mathlib.Omega.{arith}
 use borrow.Author.Tests.{eqb-true, le-ltb}
 use Rattle.octets.proofs.Cases.{and-left, and-right}
@@ -16,13 +16,13 @@ use Rattle.lengths.specs.Answers.{Answer, done, refused, refuse, over}
 use Rattle.datagrams.specs.Sizes.{coveredLimit, messagesLimit}
 use Rattle.repair.specs.Cells as cells
 use Rattle.repair.specs.Cells.{Cell, cellAt, keptBefore, keptAhead, keptNumbers}
-use Rattle.repair.specs.Held.{Held, heldAt}
+use Rattle.repair.specs.Held.{heldAt}
 use Rattle.views.specs.View.{View, sum, numbers, sessionLimit, freshView}
 use Rattle.views.specs.Offer as offers
 use Rattle.views.specs.Release as releases
 use Rattle.views.specs.Release.{Release, Loss}
-use Rattle.heads.specs.Head.{slotAt, heardSlotAt, stateOf, countsOf, keptIn, heardIn, cellIn, heldIn, cellsOf, heldOf, viewIn, viewOf}
-use Rattle.heads.specs.Ranges.{blankAt, sumInRange, stateInRange, sessionInRanges}
+use Rattle.heads.specs.Head.{heardSlotAt, stateOf, countsOf, heardIn, cellIn, heldIn, cellsOf, heldOf, viewIn, viewOf}
+use Rattle.heads.specs.Ranges.{sumInRange, stateInRange, sessionInRanges}
 use Rattle.heads.specs.Promise.{Sized, Fresh}
 use Rattle.heads.specs.Within.{Within}
 use Rattle.heads.specs.declared.State.{State}
@@ -42,7 +42,7 @@ use Rattle.sessions.specs.Receiver.{SeenAs, After, inRangesThen, offerOf, Offer
 use Rattle.sessions.specs.declared.receiver.AfterOffer.{AfterOffer}
 use Rattle.sessions.specs.declared.receiver.AfterNext.{AfterNext}
 use Rattle.sessions.specs.declared.receiver.AfterGiveUp.{AfterGiveUp}
-use Rattle.demands.specs.History.{Move, offer, next, giveUp, Left, released, lost, after, leaving, releasedBy, lostBy, run, history}
+use Rattle.demands.specs.History.{Move, offer, next, giveUp, Left, after, leaving, releasedBy, lostBy, run, history}
 use Rattle.demands.specs.Ranges.{ViewInRanges}
 use Rattle.demands.specs.Calls.{handedOut, givenUp, Called, none, offered, asked, gaveUp}
 use Rattle.demands.specs.Demand2.{CallsFollow}

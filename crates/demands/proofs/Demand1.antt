@@ -1,24 +1,22 @@
 -- Demand 1, call by call: each definition is read row by row against its table. Assumes nothing.
 use Prim.Native.Nat.{ℕ, _+_, _-_, _*_, _≤_, _<_}
-use mathlib.Core.Path.{_≡_, refl, sym, ap, subst, _∙_}
+use mathlib.Core.Path.{_≡_, refl, sym, ap, _∙_}
 use mathlib.Core.Logic.{_↔_, _⊎_, ⊎-elim}
 use mathlib.Core.Bool.{Bool, true, false, not, cond, _&&_}
-use mathlib.Core.List.{List, [], _∷_, _++_, map}
-use mathlib.Core.Option.{Option, none, some}
-use lib.ListN.{length, getD}
+use mathlib.Core.List.{List, [], _∷_, map}
+use mathlib.Core.Option.{none, some}
+use lib.ListN.{length, getD, replicate, length-append, length-replicate}
 use lib.Dec.{leb, ltb, eqb}
 use native.Mathlib.Omega.{arith}
 use borrow.Author.Tests.{lt-ltb, le-ltb, le-leb, lt-leb, ltb-true, ltb-false}
-use Rattle.octets.proofs.Cases.{below-or-not, true-or-false}
-use Rattle.lengths.specs.Refusals.{endsEarly, tooLong, badForm, outsideSizes, repeated, tooFar, late, baseUnknown, baseKnown, notAssigned, noRoom}
+use Rattle.octets.proofs.Cases.{below-or-not}
+use Rattle.lengths.specs.Refusals.{endsEarly, badForm, outsideSizes, repeated, tooFar, late, baseUnknown, baseKnown, notAssigned, noRoom}
 use Rattle.lengths.specs.Refusals.{wrongData, wrongSettings, allPassed, outsideRanges}
-use Rattle.lengths.specs.Answers.{Answer, done, refused, refuse, fitted, sizeOf, writtenOutcome, lengthOutcome}
+use Rattle.lengths.specs.Answers.{Answer, done, refused, refuse, fitted, writtenOutcome}
 use Rattle.lengths.specs.Answers as answers
 use Rattle.lengths.specs.Length.{lengthAt, lengthOctets, lengthLimit, ofTwo, lengthToWrite}
-use Rattle.lengths.specs.Promise.{LengthRead, Puts}
+use Rattle.lengths.specs.Promise.{Puts}
 use Rattle.lengths.specs.Claims.{Octets}
-use Rattle.lengths.specs.declared.Refusal.{Refusal}
-use Rattle.lengths.specs.declared.Length.{Length}
 use Rattle.lengths.specs.declared.Written.{Written}
 use Rattle.datagrams.specs.Carried.{Carried}
 use Rattle.datagrams.specs.Read.{DatagramParts, octetsOf, readDatagram, carriedBy}
@@ -29,10 +27,11 @@ use Rattle.datagrams.proofs.Claims as datagrams
 use Rattle.datagrams.proofs.AnswerLaws.{cond-done, cond-met, done-same}
 use Rattle.datagrams.proofs.ReadLaws.{read-done}
 use Rattle.packets.specs.Packet.{fieldsLimit, allData}
-use Rattle.packets.specs.Read.{readPacket, PacketAnswer}
+use Rattle.packets.specs.Read.{readPacket}
 use Rattle.packets.specs.Write.{packetOctets, oneEach, allAssigned, allRight, inSizes, packetToWrite}
 use Rattle.packets.specs.declared.types.Kind as packets
-use Rattle.packets.specs.declared.types.Ending.the-variants.{Whole}
+use Rattle.packets.specs.declared.types.Ending.the-variants.{Whole, Repaired}
+use Rattle.packets.proofs.ReadLaws.{packet-form}
 use Rattle.packets.proofs.Claims as packet-claims
 use Rattle.repair.specs.Cells.{unknownAt, keptBefore, keptAhead}
 use Rattle.views.specs.View.{View, sum, distance, sessionLimit}
@@ -46,21 +45,21 @@ use Rattle.heads.specs.declared.Session.{Session}
 use Rattle.releasing.specs.Outcome.{handedOf, numberOf}
 use Rattle.releasing.specs.Outcome as outcome
 use Rattle.receiving.specs.Promise.{acceptedOf}
-use Rattle.sessions.specs.Receiver.{After, offerOf, OfferOwes, nextOf, viewAfterNext, NextOwes, giveUpOf, viewAfterLoss, GiveUpOwes}
+use Rattle.sessions.specs.Receiver.{After, offerOf, nextOf, viewAfterNext, giveUpOf, viewAfterLoss}
 use Rattle.sending.specs.Carries.{settingsInside}
 use Rattle.sending.specs.Sending.{Sending}
 use Rattle.sending.specs.Send.{packetInside, carriedNext, datagramToSend}
 use Rattle.sending.specs.Sender.{sendingOf}
 use Rattle.sending.specs.Ranges.{senderInRanges}
-use Rattle.sending.specs.Promise.{toSend, StateAfter, Sends}
+use Rattle.sending.specs.Promise.{toSend, StateAfter}
 use Rattle.sending.specs.declared.Sender.{Sender}
-use Rattle.sending.specs.declared.Sent.{Sent}
 use Rattle.sending.specs.declared.Settings.{Settings}
 use Rattle.demands.specs.Refusals.{when, first, refusalIn, over, lengthRows, lengthWriterRows, datagramWriterRows, packetWriterRows}
 use Rattle.demands.specs.Refusals.{distanceTo, offerRows, nextRows, giveUpRows, sendRows}
 use Rattle.demands.specs.Demand1 as demand
-use Rattle.demands.specs.Demand1.{IsDatagram, IsPacket, Readers, Writers, Receiving, Demand1}
-use Rattle.demands.proofs.Tables.{row, row-met, row-step, no-row, row-fitted, puts-refusal, size-refusal, refused-some, done-none}
+use Rattle.demands.specs.Demand1.{IsDatagram, IsPacket, IsRepaired, Readers, Writers, Receiving, Demand1}
+use Rattle.demands.proofs.Front.{repaired-front}
+use Rattle.demands.proofs.Tables.{row, row-met, row-step, no-row, row-fitted, puts-refusal, size-refusal, done-none}
 
 -- ---- lengths
 -- the five tests of the definition, and the four rows of the table
@@ -122,6 +121,29 @@ is-packet s octets = (
       (packet-claims.claims .writtenReads (is .kind) (is .value) (is .types) (is .lengths) (is .octets) s (is .written) .reads),
 )
 
+is-repaired : (s : List ℕ) → Octets s → (refusalIn (readPacket Repaired s) ≡ none) ↔ IsRepaired s
+is-repaired s octets = (
+  λ e.
+      let p = done-none (readPacket Repaired s) e in
+      let f = repaired-front s (p .0) (p .1) in
+      record {
+        packet = f .front;
+        zeros = f .zeros;
+        is = f .is;
+        fits = packet-form Repaired s (p .0) (p .1) .fits;
+        written = is-packet (f .front) (f .octets octets) .0 (ap refusalIn (f .reads));
+      },
+  λ is.
+      let w = is .written in
+      let long : length s ≡ length (is .packet) + is .zeros
+      = ap length (is .is) ∙ length-append (is .packet) (replicate (is .zeros) 0)
+      ∙ ap (λ (n : ℕ). length (is .packet) + n) (length-replicate {A = ℕ} (is .zeros) 0) in
+      let reads =
+      packet-claims.claims .repairedReads (w .kind) (w .value) (w .types) (w .lengths) (w .octets) (is .packet) (is .zeros) (w .written)
+      (omega (arith, is .fits)) .reads in
+      ap (λ (l : List ℕ). refusalIn (readPacket Repaired l)) (is .is) ∙ ap refusalIn reads,
+)
+
 readers : Readers
 readers =
     record {
@@ -130,6 +152,7 @@ readers =
       packet = λ p. ap refusalIn (p .answer);
       isDatagram = is-datagram;
       isPacket = is-packet;
+      isRepaired = is-repaired;
     }
 
 -- ---- writers

@@ -1,6 +1,6 @@
 -- The example, computed. Assumes nothing.
 use Prim.Native.Nat.{ℕ, zero, suc, _<_}
-use mathlib.Core.Path.{_≡_, refl, _∙_}
+use mathlib.Core.Path.{_≡_, refl, sym, ap, subst, _∙_}
 use mathlib.Core.Logic.{⊎-elim}
 use mathlib.Core.Bool.{true}
 use mathlib.Core.List.{List, [], _∷_, List·Memᴰ as Among, List·Memᴰ·head as here, List·Memᴰ·tail as further, List·Memᴰ·not-nil, List·Memᴰ·cases-cons}
@@ -9,7 +9,8 @@ use native.Mathlib.Omega.{arith}
 use Rattle.octets.specs.Place.{tab}
 use Rattle.octets.specs.ExclusiveOr.{xorAt, exclusiveOr, longest}
 use Rattle.lengths.specs.Refusals as refusals
-use Rattle.lengths.specs.Answers.{done, refuse}
+use Rattle.lengths.specs.Answers.{Answer, done, refused, refuse}
+use Rattle.lengths.specs.declared.Refusal.{Refusal}
 use Rattle.lengths.specs.Length.{lengthAt, lengthOctets}
 use Rattle.datagrams.specs.Carried.{spares, parity, Carried}
 use Rattle.datagrams.specs.Read.{allowed, octetAt, sizedAt, itemAt, itemsAt, endOf, sparesAt, parityAt, extraAt, numberOf, wholeOf, readDatagram, carriedBy}
@@ -19,16 +20,24 @@ use Rattle.repair.specs.Members.{membersOf}
 use Rattle.repair.specs.Repair.{passing, usable, firstUsable, mended, fill, repairF, repair}
 use Rattle.repair.specs.Held.{heldAt, messagesOf, messagesFrom, heldMessages}
 use Rattle.repair.specs.Reached.{Unknown}
-use Rattle.repair.specs.Claims.{packet0, packet1, message2}
 use Rattle.views.specs.View.{View, freshView}
 use Rattle.views.specs.Offer as offers
 use Rattle.views.specs.Offer.{keep, keepSpares, accept, offered}
+use Rattle.heads.specs.declared.Session.{Session}
+use Rattle.receiving.specs.Promise.{offeredOutcome, acceptedOf, afterOffer}
+use Rattle.receiving.specs.declared.Offered as receiving
+use Rattle.receiving.specs.declared.Offered.the-variants as answer
+use Rattle.sessions.specs.Receiver.{SeenAs, OfferOwes}
+use Rattle.sessions.specs.declared.receiver.AfterOffer.{AfterOffer}
 use Rattle.sending.specs.Send.{packetInside}
 use Rattle.sending.specs.Carries as carries
 use Rattle.sending.specs.Honest.{packetAt, HonestAt, HonestSender}
 use Rattle.sending.specs.declared.Settings.the-variants as settings
-use Rattle.demands.specs.Feeding.{placeOf, Near, Fed, fresh, Takes, none, accepted, repeated}
-use Rattle.demands.specs.Example.{exampleRow, datagram0, datagram1, datagram2, exampleDatagrams, Example}
+use Rattle.demands.specs.History.{after}
+use Rattle.demands.specs.Sheet.{packet0, packet1, message2}
+use Rattle.demands.specs.Feeding.{Near, datagramAt, Offers, fresh, none, accepted, repeated}
+use Rattle.demands.specs.Example.{exampleRow, datagram1, datagram2, exampleDatagrams, HandedBack, Met, Example}
+use Rattle.demands.proofs.Calling.{fresh-seen, offer-is, offered-seen}
 
 -- ---- the sender
 sized : (S : ℕ) → S < length exampleRow → packetInside (getD exampleRow S []) ≡ true
@@ -102,15 +111,6 @@ again-1 : offered carried1 with12 ≡ refuse refusals.repeated
 unfolding offered accept freshView
 again-1 = refl
 
-first : Takes exampleRow exampleDatagrams (2 ∷ []) freshView only2
-first = accepted {S = 2} (omega arith) (near-fresh 2 (omega arith)) (reads-2 freshView ∙ fresh-takes-2) none
-
-second : Takes exampleRow exampleDatagrams (1 ∷ 2 ∷ 1 ∷ []) freshView with12
-second =
-    accepted {S = 1} (omega arith) (near-fresh 1 (omega arith)) (reads-1 freshView ∙ fresh-takes-1)
-    (accepted {S = 2} (omega arith) (near-1 2 (omega arith)) (reads-2 with1 ∙ with1-takes-2)
-    (repeated {S = 1} (omega arith) (near-12 1 (omega arith)) (reads-1 with12 ∙ again-1) none))
-
 all : (S : ℕ) → Among S (2 ∷ []) → Among S (1 ∷ 2 ∷ 1 ∷ [])
 all S among = ⊎-elim (λ same. further (here same)) (λ later. absurd (List·Memᴰ·not-nil later)) (List·Memᴰ·cases-cons among)
 
@@ -128,17 +128,64 @@ held : heldAt (with12 .held) 2 ≡ record { accepted = true; n = 2; messages = m
 unfolding freshView accept
 held = refl
 
-pub example : Example
-example =
+-- ---- the calls
+answer-accepted : (x : receiving.Offered) → offeredOutcome x ≡ done tt → x ≡ answer.Accepted
+answer-accepted answer.Accepted e = refl
+answer-accepted (answer.Refused why) e = let z : _≡_ {A = ℕ} 0 1 = cc in absurd (omega arith)
+
+answer-refused : (x : receiving.Offered) (why : Refusal) → offeredOutcome x ≡ refused why → x ≡ answer.Refused why
+answer-refused answer.Accepted why e = let z : _≡_ {A = ℕ} 0 1 = cc in absurd (omega arith)
+answer-refused (answer.Refused x) why e = cc
+
+-- an offer to a session that is seen as this view
+module _ {view : View} {s : Session} (seen : SeenAs view s) {octets : List ℕ} {r : AfterOffer} (owes : OfferOwes s octets r) where
+  outcome-is : offeredOutcome (r .answer) ≡ acceptedOf (offers.offer octets view)
+  outcome-is = owes .answer ∙ ap acceptedOf (offer-is seen octets)
+
+  call-accepted : {mid : View} → offers.offer octets view ≡ done mid → r .answer ≡ answer.Accepted
+  call-accepted is = answer-accepted (r .answer) (outcome-is ∙ ap acceptedOf is)
+
+  call-refused : {why : Refusal} → offers.offer octets view ≡ refused why → r .answer ≡ answer.Refused why
+  call-refused is = answer-refused (r .answer) _ (outcome-is ∙ ap acceptedOf is)
+
+  then-seen : (a : Answer View) → offers.offer octets view ≡ a → SeenAs (afterOffer a view) (r .session)
+  unfolding after
+  then-seen a is = subst (λ (x : Answer View). SeenAs (afterOffer x view) (r .session)) is (offered-seen seen owes)
+
+-- it is an offer of the sender's
+offers-of : (S : ℕ) {view : View} {s : Session} {r : AfterOffer} → S < 3 → SeenAs view s → Near S view
+    → OfferOwes s (datagramAt exampleDatagrams S) r → Offers exampleRow exampleDatagrams S s r
+offers-of S low seen near owes =
     record {
-      honest = honest;
-      fed = fresh;
-      one = only2;
-      two = with12;
-      first = first;
-      second = second;
-      all = all;
-      missing = missing;
-      back = back;
-      held = held;
+      sent = low;
+      near = subst (Near S) (sym (seen .view)) near;
+      octets = datagramAt exampleDatagrams S;
+      one = refl;
+      call = owes;
     }
+
+met : (s : Session) (alone one two three : AfterOffer) → HandedBack s alone one two three → Met s (alone .session) (three .session)
+met s alone one two three c =
+    let seen = fresh-seen s (c .start) in
+    let alone-is = reads-2 freshView ∙ fresh-takes-2 in
+    let one-is = reads-1 freshView ∙ fresh-takes-1 in
+    let two-is = reads-2 with1 ∙ with1-takes-2 in
+    let three-is = reads-1 with12 ∙ again-1 in
+    let seen-alone = then-seen seen (c .only2) (done only2) alone-is in
+    let seen-one = then-seen seen (c .first1) (done with1) one-is in
+    let seen-two = then-seen seen-one (c .then2) (done with12) two-is in
+    let seen-three = then-seen seen-two (c .again1) (refuse refusals.repeated) three-is in
+    record {
+      fed = fresh (c .start);
+      first = accepted (offers-of 2 (omega arith) seen (near-fresh 2 (omega arith)) (c .only2)) (call-accepted seen (c .only2) alone-is) none;
+      second =
+          accepted (offers-of 1 (omega arith) seen (near-fresh 1 (omega arith)) (c .first1)) (call-accepted seen (c .first1) one-is)
+          (accepted (offers-of 2 (omega arith) seen-one (near-1 2 (omega arith)) (c .then2)) (call-accepted seen-one (c .then2) two-is)
+          (repeated (offers-of 1 (omega arith) seen-two (near-12 1 (omega arith)) (c .again1)) (call-refused seen-two (c .again1) three-is) none));
+      missing = rw (seen-alone .view) missing;
+      back = rw (seen-three .view) back;
+      held = rw (seen-three .view) held;
+    }
+
+pub example : Example
+example = record { honest = honest; all = all; met = met }

@@ -1,9 +1,9 @@
--- Sessions that an honest sender alone feeds: every offer of its datagrams is refused, or accepted at its own place; so all of
+-- Views of sessions that an honest sender alone feeds: every offer of its datagrams is refused, or accepted at its own place; so all of
 -- them are sound. Assumes nothing.
-use Prim.Native.Nat.{ℕ, zero, suc, _+_, _-_, _%_, _≤_, _<_}
+use Prim.Native.Nat.{ℕ, _+_, _-_, _%_, _≤_, _<_}
 use mathlib.Core.Path.{_≡_, refl, sym, ap, ap₂, subst, _∙_}
 use mathlib.Core.Bool.{Bool, true, false, cond}
-use mathlib.Core.List.{List, []}
+use mathlib.Core.List.{List}
 use lib.ListN.{length}
 use lib.Dec.{ltb}
 use native.Mathlib.Omega.{arith}
@@ -11,23 +11,24 @@ use borrow.Author.Tests.{ltb-true}
 use Rattle.lengths.specs.Refusals as refusals
 use Rattle.lengths.specs.Answers.{Answer, done, refused, refuse}
 use Rattle.datagrams.specs.Carried.{Carried}
-use Rattle.datagrams.specs.Read.{DatagramParts, readDatagram, carriedBy}
+use Rattle.datagrams.specs.Read.{carriedBy}
 use Rattle.datagrams.proofs.AnswerLaws.{done-same}
-use Rattle.repair.specs.Cells.{keptBefore, keptAhead}
+use Rattle.repair.specs.Cells.{keptAhead}
 use Rattle.repair.specs.Held.{heldAt}
-use Rattle.views.specs.View.{View, sum, numbers, distance}
+use Rattle.views.specs.View.{View, numbers, distance}
 use Rattle.views.specs.Offer as offers
 use Rattle.views.specs.Offer.{accept, acceptedAt, offered, lateFrom}
 use Rattle.views.specs.Release as releases
 use Rattle.views.specs.Release.{Release, Loss}
 use Rattle.releasing.specs.Outcome.{afterNext, afterGiveUp}
 use Rattle.receiving.specs.Promise.{afterOffer}
-use Rattle.sending.specs.Honest.{carriedAt, HonestSender}
+use Rattle.sending.specs.Honest.{HonestSender}
 use Rattle.demands.specs.History as moves
 use Rattle.demands.specs.History.{after, offer}
 use Rattle.demands.specs.Ranges.{ViewInRanges}
-use Rattle.demands.specs.Feeding.{placeOf, Near, datagramAt, Fed, fresh, arrives, asks, givesUp}
-use Rattle.demands.proofs.Steps.{OfferDone, offer-done, next-done, give-up-done, base-fills, released-sum}
+use Rattle.demands.specs.Feeding.{placeOf, Near, datagramAt}
+use Rattle.demands.proofs.FedViews.{FedView, fresh, arrives, asks, givesUp}
+use Rattle.demands.proofs.Steps.{offer-done, next-done, give-up-done, base-fills, released-sum}
 use Rattle.demands.proofs.Sent.{Follows, follows-of}
 use Rattle.demands.proofs.Sound.{Sound, fresh-sound, accept-sound, on-sound}
 
@@ -162,7 +163,7 @@ module _ {row datagrams : List (List ℕ)} (honest : HonestSender row datagrams)
         subst (Sound row datagrams) (sym (o .after)) (on-sound s _ (omega arith))
     pick (refused why) e = s
 
-pub fed-sound : {row datagrams : List (List ℕ)} → HonestSender row datagrams → {view : View} → Fed row datagrams view
+pub fed-sound : {row datagrams : List (List ℕ)} → HonestSender row datagrams → {view : View} → FedView row datagrams view
     → Sound row datagrams view
 fed-sound {row} {datagrams} honest fresh = fresh-sound row datagrams
 fed-sound honest (arrives f S low near) = arrives-sound honest (fed-sound honest f) S low near

@@ -1,16 +1,16 @@
 -- What an accepted datagram does to the numbers in view: each is as it was, or it was unknown and is filled, as received, spare
 -- or repaired. Assumes nothing.
-use Prim.Native.Nat.{ℕ, zero, suc, _+_, _-_, _≤_, _<_}
+use Prim.Native.Nat.{ℕ, zero, suc, _-_, _≤_, _<_}
 use mathlib.Core.Path.{_≡_, refl, sym, ap, subst, _∙_}
 use mathlib.Core.Logic.{_⊎_, inl, inr, ⊎-elim}
-use mathlib.Core.Bool.{Bool, true, false, cond, false≢true}
+use mathlib.Core.Bool.{false}
 use mathlib.Core.List.{List, [], _∷_}
 use lib.ListN.{length, set, length-set}
 use lib.Seq.{getD-set-same, getD-set-other}
 use native.Mathlib.Omega.{arith}
 use Rattle.octets.proofs.Cases.{true-or-false, same-or-not}
 use Rattle.datagrams.specs.Carried.{Extra, spares, parity}
-use Rattle.repair.specs.Cells.{State, unknown, received, spare, repaired, blank, Cell, cellAt, unknownAt, isUnknown}
+use Rattle.repair.specs.Cells.{State, received, spare, repaired, Cell, cellAt, unknownAt, isUnknown}
 use Rattle.repair.specs.Repair.{Message, repair}
 use Rattle.repair.specs.Reached.{Known, Unknown}
 use Rattle.repair.proofs.Fill.{unknown-inside, known-not-unknown, same-unknown}

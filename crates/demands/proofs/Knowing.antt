@@ -1,19 +1,19 @@
 -- The known numbers, from the start on and call by call. Assumes nothing.
-use Prim.Native.Nat.{ℕ, zero, suc, _+_, _-_, _≤_, _<_}
+use Prim.Native.Nat.{ℕ, suc, _+_, _-_, _<_}
 use mathlib.Core.Path.{_≡_, refl, sym, ap, subst, _∙_}
 use mathlib.Core.Logic.{_↔_, _⊎_, inl, inr, ⊎-elim}
-use mathlib.Core.Bool.{true, false, true≢false}
-use mathlib.Core.List.{List, []}
+use mathlib.Core.Bool.{true≢false}
+use mathlib.Core.List.{List}
 use lib.ListN.{length, set}
 use native.Mathlib.Omega.{arith}
 use Rattle.octets.proofs.Cases.{below-or-not}
 use Rattle.lengths.specs.Answers.{done}
 use Rattle.datagrams.specs.Carried.{Extra, spares, parity, Carried}
 use Rattle.datagrams.specs.Read.{carriedBy}
-use Rattle.repair.specs.Cells.{Cell, received, cellAt, isUnknown, keptBefore, keptAhead, keptNumbers}
+use Rattle.repair.specs.Cells.{Cell, received, isUnknown, keptBefore, keptAhead, keptNumbers}
 use Rattle.repair.specs.Held.{heldMessages}
 use Rattle.repair.specs.Repair.{repair}
-use Rattle.repair.specs.Reached.{Known, Unknown, Reached, DistinctMembers}
+use Rattle.repair.specs.Reached.{Known, Reached, DistinctMembers}
 use Rattle.repair.proofs.Least.{known-reached, reached-known}
 use Rattle.views.specs.View.{View, Counts, distance, freshView, goneOn}
 use Rattle.views.specs.Offer as offers
@@ -23,7 +23,7 @@ use Rattle.demands.specs.Demand2.{sparesIn, Brings, packet, copy, kept, 
 use Rattle.demands.proofs.Growing.{asReceived, grown-keep, grown-extra, known-grown, known-kept, kept-known, known-spares, spares-known}
 use Rattle.demands.proofs.Shifted.{cell-last, unknown-on}
 use Rattle.demands.proofs.InRanges.{fresh-before, fresh-ahead, filled, read-held, accept-in-ranges, distinct-held}
-use Rattle.demands.proofs.Steps.{OfferDone, offer-done}
+use Rattle.demands.proofs.Steps.{offer-done}
 
 -- ---- with its packet and spares: what was known, and what the datagram brings
 module _ (datagram : Carried) (d : ℕ) (view : View) (long : length (view .cells) ≡ keptNumbers) (low : d < keptAhead) where

@@ -9,10 +9,13 @@ pub mod Calling
 pub mod Demand2
 pub mod Sheet
 pub mod Tables
+pub mod Front
 pub mod Demand1
 pub mod Sent
 pub mod Sound
+pub mod FedViews
 pub mod Fed
+pub mod Lists
 pub mod Demand3
 pub mod Example
 pub mod Claims

@@ -1,6 +1,6 @@
 -- Two outcomes of a public call are one: each crate's claim, and of the calls that only tell, from their equations. Assumes
 -- nothing.
-use mathlib.Core.Path.{_≡_, sym, _∙_}
+use mathlib.Core.Path.{sym, _∙_}
 use Rattle.lengths.proofs.Claims as lengths
 use Rattle.datagrams.proofs.Claims as datagrams
 use Rattle.packets.proofs.Claims as packets

@@ -1,41 +1,38 @@
 -- What an honest sender's datagrams carry, by place: each reads back, and what it carries is told by the packets of its reach.
 -- Assumes nothing.
-use Prim.Native.Nat.{ℕ, zero, suc, _+_, _-_, _*_, _%_, _≤_, _<_, min}
+use Prim.Native.Nat.{ℕ, zero, suc, _+_, _-_, _%_, _≤_, _<_, min}
 use mathlib.Core.Path.{_≡_, refl, sym, ap, subst, _∙_}
 use mathlib.Core.Logic.{⊎-elim}
-use mathlib.Core.Bool.{true, false}
-use mathlib.Core.List.{List, [], _∷_, _++_, map, List·Memᴰ as Among}
-use lib.ListN.{length, getD, replicate, length-replicate, getD-replicate, List·getD-append, List·getD-eq-default}
+use mathlib.Core.Bool.{true}
+use mathlib.Core.List.{List, [], _∷_, _++_, map}
+use lib.ListN.{length, getD, replicate, getD-replicate, List·getD-append, List·getD-eq-default}
 use lib.Seq.{getD-append-add}
 use native.Mathlib.Omega.{arith}
 use borrow.Author.Tests.{leb-true, le-leb}
 use Rattle.octets.specs.Place.{tab}
 use Rattle.octets.specs.ExclusiveOr.{longest}
-use Rattle.octets.proofs.Place.{length-tab, tab-at, among-tab}
+use Rattle.octets.proofs.Place.{length-tab, tab-at}
 use Rattle.octets.proofs.Cases.{below-or-not, and-left, and-right, and-both}
-use Rattle.octets.proofs.ExclusiveOr.{length-exclusiveOr, longest-least}
-use Rattle.lengths.specs.Answers.{done}
+use Rattle.octets.proofs.ExclusiveOr.{length-exclusiveOr}
 use Rattle.datagrams.specs.Sizes.{packetLeast, packetLimit, messageLimit, sparesLimit, coveredLimit, messagesLimit}
-use Rattle.datagrams.specs.Carried.{Extra, spares, parity, Carried}
-use Rattle.datagrams.specs.Read.{DatagramParts, carriedBy}
-use Rattle.datagrams.specs.Write.{within, countInside, itemInside, itemsInside, extraOf, datagramOctets}
+use Rattle.datagrams.specs.Carried.{Carried}
+use Rattle.datagrams.specs.Read.{carriedBy}
+use Rattle.datagrams.specs.Write.{within, itemInside, itemsInside, datagramOctets}
 use Rattle.datagrams.specs.Claims.{ReadsAs}
 use Rattle.datagrams.specs.declared.kind.Kind.{Kind}
 use Rattle.datagrams.specs.declared.kind.Kind.the-variants as kind
 use Rattle.datagrams.proofs.AnswerLaws.{done-same, true-within}
 use Rattle.datagrams.proofs.WriteLaws.{within-true}
 use Rattle.datagrams.proofs.ReadBack.{Fit, datagram-back}
-use Rattle.repair.specs.Cells.{keptBefore, keptAhead}
+use Rattle.repair.specs.Cells.{keptBefore}
 use Rattle.repair.specs.Members.{membersOf}
-use Rattle.repair.specs.Held.{Held, messageAt}
 use Rattle.repair.specs.Honest.{messageOver, HonestHeld}
-use Rattle.views.specs.View.{View, numbers}
+use Rattle.views.specs.View.{numbers}
 use Rattle.views.specs.Offer.{heldOf}
 use Rattle.heads.proofs.Parts.{reach-range}
 use Rattle.sending.specs.Sending.{historyKept}
 use Rattle.sending.specs.Carries.{settingsInside, sparesFrom, messagesFrom, extraFrom}
-use Rattle.sending.specs.Send.{packetInside}
-use Rattle.sending.specs.Honest.{packetAt, carriedAt, HonestAt, HonestSender}
+use Rattle.sending.specs.Honest.{packetAt, carriedAt, HonestSender}
 use Rattle.sending.specs.declared.Settings.{Settings}
 use Rattle.sending.specs.declared.Settings.the-variants as settings
 use Rattle.sending.proofs.HonestLaws.{before-length, extra-same}

@@ -1,27 +1,30 @@
--- The twelve ★ cases: each is a row of a layer's sheet. Assumes nothing.
+-- The twelve ★ cases, computed. Assumes nothing.
 use mathlib.Core.Path.{refl}
-use Rattle.lengths.specs.Length.{lengthAt}
-use Rattle.lengths.proofs.Claims as lengths
+use Rattle.octets.specs.Place.{tab}
+use Rattle.octets.specs.ExclusiveOr.{xorAt, exclusiveOr, longest}
+use Rattle.lengths.specs.Length.{lengthAt, lengthOctets}
 use Rattle.packets.specs.Packet.{every}
 use Rattle.packets.specs.Read.{readPacket, firstAt, countAt, fieldsAt, fieldAt, headerAt, sizeAt, afterHeader, endAt}
-use Rattle.packets.proofs.Claims as packets
-use Rattle.repair.proofs.Claims as repair
+use Rattle.repair.specs.Members.{membersOf}
+use Rattle.repair.specs.Repair.{passing, usable, firstUsable, mended, fill, repairF, repair}
+use Rattle.repair.specs.Held.{messagesOf}
 use Rattle.demands.specs.Sheet.{TwelveCases}
 
 pub twelve-cases : TwelveCases
-unfolding readPacket firstAt countAt fieldsAt fieldAt headerAt sizeAt afterHeader endAt every lengthAt
+unfolding readPacket firstAt countAt fieldsAt fieldAt headerAt sizeAt afterHeader endAt every lengthAt lengthOctets
+    tab xorAt exclusiveOr longest membersOf passing usable firstUsable mended fill repairF repair messagesOf
 twelve-cases =
     record {
-      case-1 = packets.sheet .indicator-3;
-      case-2 = packets.sheet .spare-bit;
-      case-3 = packets.sheet .extension;
-      case-4 = packets.sheet .data-9;
-      case-5 = packets.sheet .indicator-with-data;
-      case-6 = packets.sheet .two-fields;
-      case-7 = lengths.sheet .length-127;
-      case-8 = lengths.sheet .length-128;
-      case-9 = lengths.sheet .two-for-127;
-      case-10 = repair.sheet .message-of-two;
-      case-11 = (repair.sheet .losing-0, refl);
-      case-12 = repair.sheet .members-of-4;
+      case-1 = refl;
+      case-2 = refl;
+      case-3 = refl;
+      case-4 = refl;
+      case-5 = refl;
+      case-6 = refl;
+      case-7 = refl;
+      case-8 = refl;
+      case-9 = refl;
+      case-10 = refl;
+      case-11 = (refl, refl);
+      case-12 = (refl, refl);
     }

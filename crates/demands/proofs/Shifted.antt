@@ -1,14 +1,14 @@
 -- The view once the base went on by one: what stood one place further, and at the end a number that is unknown and holds
 -- nothing. Assumes nothing.
-use Prim.Native.Nat.{ℕ, zero, suc, _+_, _-_, _≤_, _<_}
-use mathlib.Core.Path.{_≡_, refl, sym, ap, _∙_}
+use Prim.Native.Nat.{ℕ, suc, _+_, _-_, _≤_, _<_}
+use mathlib.Core.Path.{_≡_, ap}
 use mathlib.Core.List.{List, [], _∷_, _++_}
 use lib.ListN.{length, getD, drop, length-append, length-drop, List·getD-append}
 use lib.Seq.{getD-at}
 use native.Mathlib.Nat.{not-suc-le-zero}
 use native.Mathlib.Omega.{arith}
-use Rattle.repair.specs.Cells.{Cell, unknownCell, cellAt, unknownAt, isUnknown, keptAhead, keptNumbers}
-use Rattle.repair.specs.Held.{Held, nothingHeld, heldAt}
+use Rattle.repair.specs.Cells.{Cell, unknownCell, cellAt, unknownAt, isUnknown}
+use Rattle.repair.specs.Held.{nothingHeld, heldAt}
 use Rattle.views.specs.View.{View, Counts, goneOn}
 
 -- ---- a list one place further

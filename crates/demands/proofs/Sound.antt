@@ -1,46 +1,42 @@
 -- What holds of every session that an honest sender alone feeds: known numbers are the sender's, each held datagram is the
 -- sender's for its place, what it brought is known, and no held message adds a number. Assumes nothing.
-use Prim.Native.Nat.{ℕ, zero, suc, _+_, _-_, _*_, _%_, _≤_, _<_}
+use Prim.Native.Nat.{ℕ, zero, suc, _+_, _-_, _*_, _≤_, _<_}
 use mathlib.Core.Path.{_≡_, refl, sym, ap, subst, _∙_}
 use mathlib.Core.Logic.{_⊎_, inl, inr, ⊎-elim}
-use mathlib.Core.Bool.{Bool, true, false, true≢false, false≢true}
-use mathlib.Core.List.{List, [], _∷_, List·Memᴰ as Among}
-use mathlib.Core.Option.{none}
-use lib.ListN.{length, getD, set, length-set}
+use mathlib.Core.Bool.{true, false, true≢false, false≢true}
+use mathlib.Core.List.{List, [], List·Memᴰ as Among}
+use lib.ListN.{length, set, length-set}
 use lib.Seq.{getD-set-same, getD-set-other}
 use native.Mathlib.Nat.{suc-mul}
 use native.Mathlib.Omega.{arith}
 use Rattle.octets.specs.Place.{tab}
-use Rattle.octets.proofs.Place.{tab-among, among-tab}
+use Rattle.octets.proofs.Place.{tab-among}
 use Rattle.octets.proofs.Cases.{true-or-false, same-or-not, below-or-not}
 use Rattle.datagrams.specs.Sizes.{sparesLimit, coveredLimit, messagesLimit}
 use Rattle.datagrams.specs.Carried.{Extra, spares, parity, Carried}
-use Rattle.datagrams.specs.Read.{carriedBy}
-use Rattle.repair.specs.Cells.{State, received, spare, Cell, unknownCell, cellAt, unknownAt, isUnknown, keptBefore, keptAhead, keptNumbers}
+use Rattle.repair.specs.Cells.{State, received, spare, Cell, cellAt, unknownAt, isUnknown, keptBefore, keptAhead, keptNumbers}
 use Rattle.repair.specs.Members.{memberAt, membersOf}
-use Rattle.repair.specs.Repair.{Message, firstUsable, repair}
+use Rattle.repair.specs.Repair.{Message}
 use Rattle.repair.specs.Held.{Held, nothingHeld, heldAt, messageAt, messagesOf, heldMessages}
-use Rattle.repair.specs.Reached.{Known, Unknown, Closed}
+use Rattle.repair.specs.Reached.{Known, Closed}
 use Rattle.repair.specs.Honest.{UpToZeros, TrueCells, HonestHeld}
-use Rattle.repair.proofs.Fill.{unknown-inside, known-not-unknown, same-unknown, usable-says}
-use Rattle.repair.proofs.Search.{found-usable}
-use Rattle.repair.proofs.Grows.{found-or-none}
+use Rattle.repair.proofs.Fill.{unknown-inside, same-unknown}
 use Rattle.repair.proofs.Least.{known-closed}
 use Rattle.repair.proofs.Members.{member-says, member-in-reach}
-use Rattle.repair.proofs.Held.{HeldAt, held-at, messagesOf-among, held-honest}
+use Rattle.repair.proofs.Held.{held-at, messagesOf-among, held-honest}
 use Rattle.repair.proofs.Honest.{repair-right}
 use Rattle.repair.proofs.Zeros.{up-to-zeros-same}
 use Rattle.views.specs.View.{View, Counts, sum, freshView, goneOn}
 use Rattle.views.specs.Offer.{keep, keepSpares, keepExtra, heldOf, accept}
 use Rattle.heads.proofs.Parts.{reach-range}
 use Rattle.sending.specs.Carries.{sparesFrom, extraFrom}
-use Rattle.sending.specs.Honest.{packetAt, HonestSender}
+use Rattle.sending.specs.Honest.{packetAt}
 use Rattle.sending.specs.declared.Settings.{Settings}
 use Rattle.sending.specs.declared.Settings.the-variants as settings
 use Rattle.demands.specs.Ranges.{ViewInRanges}
 use Rattle.demands.specs.Demand2.{sparesIn, Brings, packet, copy}
 use Rattle.demands.specs.Feeding.{placeOf, sentAt}
-use Rattle.demands.proofs.Growing.{Fills, asReceived, asSpare, known-grown, grown-repair, keep-known, keep-unknown}
+use Rattle.demands.proofs.Growing.{known-grown, grown-repair, keep-known, keep-unknown}
 use Rattle.demands.proofs.Shifted.{cell-on, cell-last, held-on, held-last, unknown-on}
 use Rattle.demands.proofs.InRanges.{fresh-before, fresh-ahead, fresh-held, fresh-in-ranges, HeldInside, read-held, filled, grown-filled}
 use Rattle.demands.proofs.InRanges.{grown-accept, held-accepted, held-beside, accept-in-ranges, distinct-held, on-in-ranges}

@@ -1,22 +1,21 @@
 -- One call, taken apart: what an offer, next and give up come to where they are not refused, and so what one call does to the
 -- session: nothing leaves, or the number at the base. Assumes nothing.
-use Prim.Native.Nat.{ℕ, zero, suc, _+_, _-_, _%_, _≤_, _<_}
+use Prim.Native.Nat.{ℕ, _+_, _-_, _<_}
 use mathlib.Core.Path.{_≡_, refl, sym, ap, subst, _∙_}
 use mathlib.Core.Bool.{Bool, true, false, cond, _||_, true≢false}
 use mathlib.Core.List.{List, [], _∷_}
 use lib.ListN.{length}
 use lib.Dec.{leb, ltb}
 use native.Mathlib.Omega.{arith}
-use borrow.Author.Tests.{ltb-true, ltb-false, leb-false}
+use borrow.Author.Tests.{ltb-true, leb-false}
 use Rattle.lengths.specs.Refusals.{allPassed, baseUnknown, baseKnown, noRoom, repeated, tooFar, late}
 use Rattle.lengths.specs.Answers.{Answer, done, refused, refuse}
-use Rattle.lengths.specs.declared.Refusal.{Refusal}
 use Rattle.datagrams.specs.Carried.{Carried}
 use Rattle.datagrams.specs.Read.{DatagramParts, readDatagram, carriedBy}
 use Rattle.datagrams.proofs.AnswerLaws.{not-done, bind-done, cond-done, cond-met, done-same}
 use Rattle.repair.specs.Cells.{State, unknown, received, spare, repaired, blank, unknownAt, isUnknown, keptBefore, keptAhead}
 use Rattle.repair.specs.Reached.{Known, Unknown}
-use Rattle.views.specs.View.{View, Counts, sum, numbers, following, distance, sessionLimit, goneOn}
+use Rattle.views.specs.View.{View, Counts, sum, following, distance, sessionLimit, goneOn}
 use Rattle.views.specs.Offer as offers
 use Rattle.views.specs.Offer.{accept, acceptedAt, offered, lateFrom}
 use Rattle.views.specs.Release as releases

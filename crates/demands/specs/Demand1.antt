@@ -1,20 +1,23 @@
 -- Demand 1: "Any octets may come from the network, and any saved session from a caller. Every public call ends, and refuses what
 -- document 01 says, with the number it says, and then only. A refused call leaves the session and each lent buffer as they
--- were." That a call ends is part of the proof of its contract, which asks nothing of its caller. Of each call: `exactly`, its
--- refusal is the first row of its table (Refusals) that is given, and it is not refused where none is; `unchanged`, what a
--- refusal leaves. The readers' refusals are those of their definitions, met in reading order; what they do not refuse is told
--- apart from that order. Statements alone. Definitions only.
-use Prim.Native.Nat.{ℕ}
+-- were." That a call ends is part of the proof of its contract, which asks nothing of its caller. The field of a call's name says
+-- that its refusal is the first row of its table (Refusals) that is given, and that it is not refused where none is; the field
+-- `unchanged` beside it (`offerUnchanged`, `nextUnchanged`, ..) says what a refusal leaves. Readers change nothing. The refusals
+-- of the datagram and the packet reader are those of their definitions, met in reading order; what they do not refuse is told
+-- apart from that order (`isDatagram`, `isPacket`, `isRepaired`). Statements alone. Definitions only.
+use Prim.Native.Nat.{ℕ, _≤_}
 use mathlib.Core.Path.{_≡_}
 use mathlib.Core.Logic.{_↔_}
-use mathlib.Core.List.{List}
+use mathlib.Core.List.{List, _++_}
 use mathlib.Core.Option.{none, some}
+use lib.ListN.{length, replicate}
 use Rattle.lengths.specs.Answers.{Answer, done, lengthOutcome, writtenOutcome}
 use Rattle.lengths.specs.Length.{lengthToWrite}
 use Rattle.lengths.specs.Promise.{LengthRead, Puts}
 use Rattle.lengths.specs.Claims.{Octets}
 use Rattle.lengths.specs.declared.Length.{Length}
 use Rattle.lengths.specs.declared.Written.{Written}
+use Rattle.datagrams.specs.Sizes.{packetLimit}
 use Rattle.datagrams.specs.Read.{readDatagram}
 use Rattle.datagrams.specs.Write.{datagramToWrite}
 use Rattle.datagrams.specs.Promise.{DatagramReads, readOutcome}
@@ -25,7 +28,7 @@ use Rattle.packets.specs.Write.{packetToWrite}
 use Rattle.packets.specs.Promise.{PacketTold, packetOutcome}
 use Rattle.packets.specs.declared.types.Kind as packets
 use Rattle.packets.specs.declared.types.Ending.{Ending}
-use Rattle.packets.specs.declared.types.Ending.the-variants.{Whole}
+use Rattle.packets.specs.declared.types.Ending.the-variants.{Whole, Repaired}
 use Rattle.packets.specs.declared.types.PacketRead.{PacketRead}
 use Rattle.releasing.specs.Outcome.{releasedOutcome, lostOutcome}
 use Rattle.receiving.specs.Promise.{offeredOutcome}
@@ -59,14 +62,23 @@ pub record IsPacket (s : List ℕ) : Type 0 where
   pub octets : List ℕ
   pub written : packetToWrite kind value types lengths octets ≡ done s
 
+-- or the packet writer, and zeros only after it, within the packet limit
+pub record IsRepaired (s : List ℕ) : Type 0 where
+  pub packet : List ℕ
+  pub zeros : ℕ
+  pub is : s ≡ packet ++ replicate zeros 0
+  pub fits : length s ≤ packetLimit
+  pub written : IsPacket packet
+
 pub record Readers : Type 0 where
   pub length : {s : List ℕ} {r : Length} → LengthRead s r → refusalIn (lengthOutcome r) ≡ first (lengthRows s)
   pub datagram : {s : List ℕ} {r : DatagramRead} → DatagramReads s r → refusalIn (readOutcome r) ≡ refusalIn (readDatagram s)
   pub packet : {ending : Ending} {s : List ℕ} {r : PacketRead} → PacketTold ending s r
       → refusalIn (packetOutcome r) ≡ refusalIn (readPacket ending s)
-  -- a datagram reads exactly if it is one, and so does a packet as received
+  -- a datagram reads exactly if it is one, and so does a packet as received; one as repaired "may go on with zeros only"
   pub isDatagram : (s : List ℕ) → Octets s → (refusalIn (readDatagram s) ≡ none) ↔ IsDatagram s
   pub isPacket : (s : List ℕ) → Octets s → (refusalIn (readPacket Whole s) ≡ none) ↔ IsPacket s
+  pub isRepaired : (s : List ℕ) → Octets s → (refusalIn (readPacket Repaired s) ≡ none) ↔ IsRepaired s
 
 -- ---- writers
 pub record Writers : Type 0 where

@@ -1,15 +1,18 @@
--- Demand 2: "What you write reads back to the same fields, and what you read as received writes back to the same octets. In a
--- session fresh at its start, the known numbers are exactly those reached from arrived, spare and parity octets by 01's repair
--- rule. Numbers leave in order, each place once, released or lost, and the counts match the history. One saved within its
--- ranges goes on from what it holds, each call as 01 says." Statements alone. Definitions only.
-use Prim.Native.Nat.{ℕ, suc, _+_, _-_, _%_, _≤_, _<_}
+-- Demand 2: "Reading and writing follow T.38 (06/98) Annex A in the aligned packed encoding, as document 01 writes it out. What
+-- you write reads back to the same fields, and what you read as received writes back to the same octets. In a session fresh at
+-- its start, the known numbers are exactly those reached from arrived, spare and parity octets by 01's repair rule. Numbers leave
+-- in order, each place once, released or lost, and the counts match the history. One saved within its ranges goes on from what
+-- it holds, each call as 01 says." The first sentence is what the readers and writers promise (LengthRead, DatagramReads,
+-- PacketTold, Puts): their answers are those of the definitions that write document 01 out, `lengthAt`, `readDatagram` and
+-- `readPacket`, `lengthToWrite`, `datagramToWrite` and `packetToWrite`. Statements alone. Definitions only.
+use Prim.Native.Nat.{ℕ, suc, _+_, _-_, _%_, _<_}
 use mathlib.Core.Path.{_≡_}
 use mathlib.Core.Logic.{_↔_, _⊎_}
 use mathlib.Core.Bool.{true, _||_}
-use mathlib.Core.List.{List, [], map, List·Memᴰ as Among}
+use mathlib.Core.List.{List, map, List·Memᴰ as Among}
 use lib.ListN.{length, set}
 use Rattle.octets.specs.Place.{tab}
-use Rattle.lengths.specs.Answers.{Answer, done}
+use Rattle.lengths.specs.Answers.{done}
 use Rattle.lengths.specs.Claims as lengths
 use Rattle.datagrams.specs.Carried.{Carried, Extra, spares, parity}
 use Rattle.datagrams.specs.Read.{DatagramParts, readDatagram, carriedBy}

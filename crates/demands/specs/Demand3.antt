@@ -2,23 +2,27 @@
 -- from the base, and no release or give-up meanwhile. From one state, of two lists of accepted or repeated datagrams, let the
 -- second hold all of the first, in any order. Then every number known after the first is known after the second, both equal to
 -- the sender's packet up to zeros at the end. And one accepted datagram, still held, with m parity messages brings back any m or
--- fewer numbers in a row within its reach, if the rest of its reach is known." Statements alone. Definitions only.
+-- fewer numbers in a row within its reach, if the rest of its reach is known." Said of sessions and the public calls; what a
+-- session knows and holds is what document 01 sees in it. Statements alone. Definitions only.
 use Prim.Native.Nat.{ℕ, _+_, _≤_, _<_}
 use mathlib.Core.Path.{_≡_}
 use mathlib.Core.Logic.{_⊎_}
 use mathlib.Core.Bool.{true}
-use mathlib.Core.List.{List, [], _∷_, List·Memᴰ as Among}
+use mathlib.Core.List.{List, List·Memᴰ as Among}
 use lib.ListN.{length}
 use Rattle.repair.specs.Members.{InReach}
-use Rattle.repair.specs.Cells.{Cell, repaired, cellAt, keptBefore, keptAhead, keptNumbers}
+use Rattle.repair.specs.Cells.{keptBefore, keptAhead, keptNumbers}
 use Rattle.repair.specs.Held.{heldAt}
 use Rattle.repair.specs.Reached.{Known}
 use Rattle.repair.specs.Honest.{TrueCells}
-use Rattle.views.specs.View.{View, freshView}
+use Rattle.views.specs.View.{View}
+use Rattle.heads.specs.Head.{viewOf}
+use Rattle.heads.specs.declared.Session.{Session}
 use Rattle.sending.specs.Honest.{HonestSender}
 use Rattle.demands.specs.Feeding.{sentAt, Fed, Takes}
 
 -- ---- two lists from one state
+-- what is known after the one and after the other
 pub record TwoLists (row : List (List ℕ)) (one two : View) : Type 0 where
   -- every number known after the first is known after the second
   pub known : (p : ℕ) → p < keptNumbers → Known (one .cells) p → Known (two .cells) p
@@ -29,42 +33,35 @@ pub record TwoLists (row : List (List ℕ)) (one two : View) : Type 0 where
   pub sameBase : one .base ≡ two .base
   pub sameCounts : one .counts ≡ two .counts
 
-abbrev pub NoLessKnown : Type 0
-NoLessKnown = (row datagrams : List (List ℕ)) → HonestSender row datagrams
-    → (view : View) → Fed row datagrams view
-    → (first second : List ℕ) (one two : View) → Takes row datagrams first view one → Takes row datagrams second view two
-    → ((S : ℕ) → Among S first → Among S second)
-    → TwoLists row one two
-
--- ---- in every session that the sender alone feeds, what is known is the sender's
-abbrev pub KnownRight : Type 0
-KnownRight = (row datagrams : List (List ℕ)) → HonestSender row datagrams → (view : View) → Fed row datagrams view
-    → TrueCells (sentAt row view) (view .cells)
-
 -- ---- a burst
--- of the reach of the datagram held at distance d, all is known but for k numbers in a row, those from place a on
+-- the place p is in the reach of the datagram held at distance d
+abbrev pub InReachOf : View → ℕ → ℕ → Type 0
+InReachOf view d p = InReach (keptBefore + d) ((heldAt (view .held) d) .n) (length ((heldAt (view .held) d) .messages)) p
+
+-- of that reach all is known but for k numbers in a row, those from place a on
 abbrev pub RestKnown : View → ℕ → ℕ → ℕ → Type 0
-RestKnown view d a k = (p : ℕ)
-    → InReach (keptBefore + d) ((heldAt (view .held) d) .n) (length ((heldAt (view .held) d) .messages)) p
-    → ((p < a) ⊎ (a + k ≤ p))
-    → Known (view .cells) p
+RestKnown view d a k = (p : ℕ) → InReachOf view d p → ((p < a) ⊎ (a + k ≤ p)) → Known (view .cells) p
 
--- then all is known: whatever the order in which the datagram and the rest of its reach came, and with releases among them
-abbrev pub BurstBack : Type 0
-BurstBack = (row datagrams : List (List ℕ)) → HonestSender row datagrams → (view : View) → Fed row datagrams view
-    → (d : ℕ) → d < keptAhead → (heldAt (view .held) d) .accepted ≡ true
+-- if they are m or fewer, then all is known: whatever the order in which the datagram and the rest of its reach came, and with
+-- releases among them
+abbrev pub BurstBack : View → Type 0
+BurstBack view = (d : ℕ) → d < keptAhead → (heldAt (view .held) d) .accepted ≡ true
     → (a k : ℕ) → k ≤ length ((heldAt (view .held) d) .messages) → RestKnown view d a k
-    → (p : ℕ) → InReach (keptBefore + d) ((heldAt (view .held) d) .n) (length ((heldAt (view .held) d) .messages)) p
-    → Known (view .cells) p
+    → (p : ℕ) → InReachOf view d p → Known (view .cells) p
 
--- a session after a list of accepted or repeated datagrams is again one that the sender alone feeds
-abbrev pub TakesFed : Type 0
-TakesFed = (row datagrams : List (List ℕ)) (places : List ℕ) (view last : View) → Fed row datagrams view
-    → Takes row datagrams places view last
-    → Fed row datagrams last
-
+-- ---- of an honest sender
 pub record Demand3 : Type 0 where
-  pub noLessKnown : NoLessKnown
-  pub knownRight : KnownRight
-  pub burstBack : BurstBack
-  pub takesFed : TakesFed
+  pub noLessKnown : (row datagrams : List (List ℕ)) → HonestSender row datagrams
+      → (s : Session) → Fed row datagrams s
+      → (first second : List ℕ) (one two : Session) → Takes row datagrams first s one → Takes row datagrams second s two
+      → ((S : ℕ) → Among S first → Among S second)
+      → TwoLists row (viewOf one) (viewOf two)
+  -- in every session that the sender alone feeds, what is known is the sender's
+  pub knownRight : (row datagrams : List (List ℕ)) → HonestSender row datagrams → (s : Session) → Fed row datagrams s
+      → TrueCells (sentAt row (viewOf s)) ((viewOf s) .cells)
+  pub burstBack : (row datagrams : List (List ℕ)) → HonestSender row datagrams → (s : Session) → Fed row datagrams s
+      → BurstBack (viewOf s)
+  -- a session after a list of accepted or repeated datagrams is again one that the sender alone feeds
+  pub takesFed : (row datagrams : List (List ℕ)) (places : List ℕ) (s t : Session) → Fed row datagrams s
+      → Takes row datagrams places s t
+      → Fed row datagrams t

@@ -7,9 +7,13 @@ use mathlib.Core.List.{List, [], _∷_, List·Memᴰ as Among}
 use Rattle.repair.specs.Cells.{repaired, cellAt, keptBefore}
 use Rattle.repair.specs.Held.{heldAt}
 use Rattle.repair.specs.Reached.{Unknown}
-use Rattle.repair.specs.Claims.{packet0, packet1, message2}
-use Rattle.views.specs.View.{View, freshView}
+use Rattle.heads.specs.Head.{viewOf}
+use Rattle.heads.specs.Promise.{Fresh}
+use Rattle.heads.specs.declared.Session.{Session}
+use Rattle.sessions.specs.Receiver.{OfferOwes}
+use Rattle.sessions.specs.declared.receiver.AfterOffer.{AfterOffer}
 use Rattle.sending.specs.Honest.{HonestSender}
+use Rattle.demands.specs.Sheet.{packet0, packet1, message2}
 use Rattle.demands.specs.Feeding.{Fed, Takes}
 
 abbrev pub exampleRow : List (List ℕ)
@@ -27,17 +31,28 @@ datagram2 = 0x00 ∷ 0x02 ∷ 0x01 ∷ 0x06 ∷ 0x80 ∷ 0x01 ∷ 0x02 ∷ 0x01 
 abbrev pub exampleDatagrams : List (List ℕ)
 exampleDatagrams = datagram0 ∷ datagram1 ∷ datagram2 ∷ []
 
+-- what the calls hand back to one who offers a fresh session s datagram 2 alone, and to one who offers it datagrams 1, 2 and 1.
+-- There are such: each call ends, and meets its promise
+pub record HandedBack (s : Session) (alone : AfterOffer) (one two three : AfterOffer) : Type 0 where
+  pub start : Fresh s
+  pub only2 : OfferOwes s datagram2 alone
+  pub first1 : OfferOwes s datagram1 one
+  pub then2 : OfferOwes (one .session) datagram2 two
+  pub again1 : OfferOwes (two .session) datagram1 three
+
+-- demand 3's hypotheses, and what the two lists come to
+pub record Met (s one two : Session) : Type 0 where
+  pub fed : Fed exampleRow exampleDatagrams s
+  -- the first list is datagram 2 alone; the second holds it too, and datagram 1 twice
+  pub first : Takes exampleRow exampleDatagrams (2 ∷ []) s one
+  pub second : Takes exampleRow exampleDatagrams (1 ∷ 2 ∷ 1 ∷ []) s two
+  -- after the first list packet 0 is not known: two numbers of the reach are missing, and m is 1
+  pub missing : Unknown ((viewOf one) .cells) keptBefore
+  -- after the second it is back, with five zeros at its end, and datagram 2 is still held
+  pub back : cellAt ((viewOf two) .cells) keptBefore ≡ record { state = repaired; octets = 0x06 ∷ 0 ∷ 0 ∷ 0 ∷ 0 ∷ 0 ∷ [] }
+  pub held : heldAt ((viewOf two) .held) 2 ≡ record { accepted = true; n = 2; messages = message2 ∷ [] }
+
 pub record Example : Type 0 where
   pub honest : HonestSender exampleRow exampleDatagrams
-  pub fed : Fed exampleRow exampleDatagrams freshView
-  -- the first list is datagram 2 alone; the second holds it too, and datagram 1 twice
-  pub one : View
-  pub two : View
-  pub first : Takes exampleRow exampleDatagrams (2 ∷ []) freshView one
-  pub second : Takes exampleRow exampleDatagrams (1 ∷ 2 ∷ 1 ∷ []) freshView two
   pub all : (S : ℕ) → Among S (2 ∷ []) → Among S (1 ∷ 2 ∷ 1 ∷ [])
-  -- after the first list packet 0 is not known: two numbers of the reach are missing, and m is 1
-  pub missing : Unknown (one .cells) keptBefore
-  -- after the second it is back, with five zeros at its end, and datagram 2 is still held
-  pub back : cellAt (two .cells) keptBefore ≡ record { state = repaired; octets = 0x06 ∷ 0 ∷ 0 ∷ 0 ∷ 0 ∷ 0 ∷ [] }
-  pub held : heldAt (two .held) 2 ≡ record { accepted = true; n = 2; messages = message2 ∷ [] }
+  pub met : (s : Session) (alone one two three : AfterOffer) → HandedBack s alone one two three → Met s (alone .session) (three .session)

@@ -1,4 +1,5 @@
--- A session that an honest sender alone feeds: which datagrams arrive is said by their places in the sender's row, from 0, and
+-- A session that an honest sender alone feeds, by the public calls: each call is on the session that the one before handed back,
+-- with any answer that its promise allows. Which datagrams are offered is said by their places in the sender's row, from 0, and
 -- not by their numbers, which repeat. "Take an honest sender, a session fresh at its start and fed only by it, nothing ever
 -- offered over 32,000 places from the base". Definitions only.
 use Prim.Native.Nat.{ℕ, _+_, _≤_, _<_}
@@ -6,11 +7,17 @@ use mathlib.Core.Path.{_≡_}
 use mathlib.Core.List.{List, [], _∷_}
 use lib.ListN.{length, getD}
 use Rattle.lengths.specs.Refusals as refusals
-use Rattle.lengths.specs.Answers.{done, refuse}
-use Rattle.views.specs.View.{View, sum, freshView}
-use Rattle.views.specs.Offer as offers
-use Rattle.sending.specs.Honest.{packetAt}
-use Rattle.demands.specs.History.{after, offer, next, giveUp}
+use Rattle.lengths.specs.Refusals.{refusal}
+use Rattle.views.specs.View.{View, sum}
+use Rattle.heads.specs.Head.{viewOf}
+use Rattle.heads.specs.Promise.{Fresh}
+use Rattle.heads.specs.declared.Session.{Session}
+use Rattle.receiving.specs.declared.Offered.the-variants as answer
+use Rattle.sessions.specs.Receiver.{OfferOwes, NextOwes, GiveUpOwes}
+use Rattle.sessions.specs.declared.receiver.AfterOffer.{AfterOffer}
+use Rattle.sessions.specs.declared.receiver.AfterNext.{AfterNext}
+use Rattle.sessions.specs.declared.receiver.AfterGiveUp.{AfterGiveUp}
+use Rattle.sending.specs.Honest as sending
 
 -- "32,000 places from the base"
 abbrev pub nearLimit : ℕ
@@ -27,27 +34,35 @@ pub record Near (S : ℕ) (view : View) : Type 0 where
 
 -- the sender's packet for each place of the view; empty before the first
 abbrev pub sentAt : List (List ℕ) → View → ℕ → List ℕ
-sentAt row view p = packetAt row (placeOf view + p)
+sentAt row view p = sending.packetAt row (placeOf view + p)
 
 -- the datagram of place S
 abbrev pub datagramAt : List (List ℕ) → ℕ → List ℕ
 datagramAt datagrams S = getD datagrams S []
 
 module _ (row datagrams : List (List ℕ)) where
+  -- the sender's datagram of place S is offered to the session s, and the call hands back r
+  pub record Offers (S : ℕ) (s : Session) (r : AfterOffer) : Type 0 where
+    pub sent : S < length row
+    pub near : Near S (viewOf s)
+    pub octets : List ℕ
+    -- "datagrams, one for each place"
+    pub one : octets ≡ datagramAt datagrams S
+    pub call : OfferOwes s octets r
+
   -- the sessions that this sender alone feeds, from a fresh one on: offers of its datagrams in any order and as often as may
   -- be, accepted or refused, and releases and give-ups among them
-  pub data Fed : View → Type 0 where
-    fresh : Fed freshView
-    arrives : {view : View} → Fed view → (S : ℕ) → S < length row → Near S view → Fed (after (offer (datagramAt datagrams S)) view)
-    asks : {view : View} → Fed view → (room : ℕ) → Fed (after (next room) view)
-    givesUp : {view : View} → Fed view → Fed (after giveUp view)
+  pub data Fed : Session → Type 0 where
+    fresh : {s : Session} → Fresh s → Fed s
+    offered : {s : Session} {S : ℕ} {r : AfterOffer} → Fed s → Offers S s r → Fed (r .session)
+    asked : {s : Session} {old new : List ℕ} {r : AfterNext} → Fed s → NextOwes s old new r → Fed (r .session)
+    gaveUp : {s : Session} {r : AfterGiveUp} → Fed s → GiveUpOwes s r → Fed (r .session)
 
   -- a list of "accepted or repeated datagrams", with "no release or give-up meanwhile": from one session to another
-  pub data Takes : List ℕ → View → View → Type 0 where
-    none : {view : View} → Takes [] view view
-    accepted : {S : ℕ} {places : List ℕ} {view mid last : View} → S < length row → Near S view
-        → offers.offer (datagramAt datagrams S) view ≡ done mid
-        → Takes places mid last → Takes (S ∷ places) view last
-    repeated : {S : ℕ} {places : List ℕ} {view last : View} → S < length row → Near S view
-        → offers.offer (datagramAt datagrams S) view ≡ refuse refusals.repeated
-        → Takes places view last → Takes (S ∷ places) view last
+  pub data Takes : List ℕ → Session → Session → Type 0 where
+    none : {s : Session} → Takes [] s s
+    accepted : {S : ℕ} {places : List ℕ} {s t : Session} {r : AfterOffer} → Offers S s r → r .answer ≡ answer.Accepted
+        → Takes places (r .session) t → Takes (S ∷ places) s t
+    repeated : {S : ℕ} {places : List ℕ} {s t : Session} {r : AfterOffer} → Offers S s r
+        → r .answer ≡ answer.Refused (refusal refusals.repeated)
+        → Takes places (r .session) t → Takes (S ∷ places) s t

@@ -14,7 +14,7 @@ pub record ViewInRanges (view : View) : Type 0 where
   pub heard : length (view .held) ≡ keptAhead
   -- "Base equals the sum of counts modulo 65,536"
   pub base : view .base ≡ sum (view .counts) % numbers
-  -- "The number j before the base is blank exactly if j exceeds the sum; no other is blank."
+  -- "The number j before the base is blank ..; no other is blank": none from the base on is
   pub noBlank : (p : ℕ) → keptBefore ≤ p → p < keptNumbers → (cellAt (view .cells) p) .state ≡ blank → ⊥
   -- "n, m .. are within the sizes"
   pub covered : (d : ℕ) → d < keptAhead → (heldAt (view .held) d) .n ≤ coveredLimit

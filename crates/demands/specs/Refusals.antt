@@ -7,7 +7,7 @@ use mathlib.Core.List.{List, [], _∷_}
 use mathlib.Core.Option.{Option, none, some}
 use lib.ListN.{length, getD}
 use lib.Dec.{leb, ltb, eqb}
-use Rattle.lengths.specs.Refusals.{endsEarly, tooLong, badForm, outsideSizes, repeated, tooFar, late, baseUnknown, baseKnown, notAssigned, noRoom}
+use Rattle.lengths.specs.Refusals.{endsEarly, badForm, outsideSizes, repeated, tooFar, late, baseUnknown, baseKnown, notAssigned, noRoom}
 use Rattle.lengths.specs.Refusals.{wrongData, wrongSettings, allPassed, outsideRanges}
 use Rattle.lengths.specs.Answers.{Answer, done, refused}
 use Rattle.lengths.specs.Length.{lengthLimit, lengthOctets, ofTwo}
@@ -18,7 +18,7 @@ use Rattle.packets.specs.Packet.{fieldsLimit}
 use Rattle.packets.specs.Write.{packetOctets, oneEach, allAssigned, allRight, inSizes}
 use Rattle.packets.specs.declared.types.Kind as packets
 use Rattle.repair.specs.Cells.{unknownAt, keptBefore, keptAhead}
-use Rattle.views.specs.View.{View, sum, distance, sessionLimit}
+use Rattle.views.specs.View.{sum, distance, sessionLimit}
 use Rattle.views.specs.Offer.{lateFrom, acceptedAt}
 use Rattle.views.specs.Release.{atBase}
 use Rattle.heads.specs.Head.{viewOf}

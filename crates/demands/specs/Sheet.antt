@@ -1,4 +1,5 @@
 -- Document 01, 'Sheets to check by': the twelve ★ cases, as a single table of the definitions. Definitions only.
+use Prim.Native.Nat.{ℕ}
 use mathlib.Core.Path.{_≡_}
 use mathlib.Core.Bool.{true}
 use mathlib.Core.List.{List, [], _∷_, map}
@@ -10,11 +11,24 @@ use Rattle.packets.specs.Read.{readPacket}
 use Rattle.packets.specs.declared.types.Kind.the-variants.{Indicator, Data}
 use Rattle.packets.specs.declared.types.Ending.the-variants.{Whole, Repaired}
 use Rattle.repair.specs.Members.{membersOf}
-use Rattle.repair.specs.Cells.{repaired, unknownCell}
+use Rattle.repair.specs.Cells.{Cell, received, repaired, unknownCell}
 use Rattle.repair.specs.Repair.{repair}
 use Rattle.repair.specs.Held.{messagesOf}
 use Rattle.repair.specs.Honest.{messageOver}
-use Rattle.repair.specs.Claims.{packet0, packet1, message2, received1}
+
+-- "Packets 0 `06` and 1 `C0 01 80 00 00 55`"
+abbrev pub packet0 : List ℕ
+packet0 = 0x06 ∷ []
+
+abbrev pub packet1 : List ℕ
+packet1 = 0xC0 ∷ 0x01 ∷ 0x80 ∷ 0x00 ∷ 0x00 ∷ 0x55 ∷ []
+
+-- "message `C6 01 80 00 00 55`"
+abbrev pub message2 : List ℕ
+message2 = 0xC6 ∷ 0x01 ∷ 0x80 ∷ 0x00 ∷ 0x00 ∷ 0x55 ∷ []
+
+abbrev pub received1 : Cell
+received1 = record { state = received; octets = packet1 }
 
 pub record TwelveCases : Type 0 where
   -- ★ `06` is indicator 3

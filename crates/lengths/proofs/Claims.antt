@@ -1,12 +1,10 @@
 -- The claims of this crate, each proved by a law. Two outcomes are equal because an answer's case is its number and values,
 -- and no two cases have the same. Assumes nothing.
-use mathlib.Core.Path.{_≡_, refl, sym, ap, ap₂, _∙_}
-use mathlib.Core.List.{List}
+use mathlib.Core.Path.{_≡_, sym, ap, ap₂, _∙_}
 use Prim.Native.Nat.{ℕ}
 use native.Mathlib.Omega.{arith}
-use Rattle.lengths.specs.Answers.{lengthOutcome, writtenOutcome, Answer, done, refused, LengthAnswer}
-use Rattle.lengths.specs.Length.{lengthAt, lengthOctets}
-use Rattle.lengths.specs.Claims.{Claims, OneOutcome, Sheet}
+use Rattle.lengths.specs.Answers.{lengthOutcome, writtenOutcome, LengthAnswer}
+use Rattle.lengths.specs.Claims.{Claims, OneOutcome}
 use Rattle.lengths.specs.declared.Length.{Length}
 use Rattle.lengths.specs.declared.Length.the-variants as read
 use Rattle.lengths.specs.declared.Written.{Written}
@@ -35,9 +33,5 @@ one-outcome =
       written = λ {w} {old} {new} {other} {r} {q} p t. (written-told r q (p .answer ∙ sym (t .answer)), p .lent ∙ sym (t .lent));
     }
 
-pub sheet : Sheet
-unfolding lengthAt lengthOctets
-sheet = record { length-127 = refl; length-128 = refl; two-for-127 = refl }
-
 pub claims : Claims
-claims = record { writtenReads = written-reads; readWrites = read-writes; oneOutcome = one-outcome; sheet = sheet }
+claims = record { writtenReads = written-reads; readWrites = read-writes; oneOutcome = one-outcome }

@@ -1,10 +1,9 @@
 -- The claims of this crate: statements alone. Definitions only.
 use Prim.Native.Nat.{ℕ, _≤_, _<_}
 use mathlib.Core.Path.{_≡_}
-use mathlib.Core.List.{List, [], _∷_, _++_}
+use mathlib.Core.List.{List, _++_}
 use lib.ListN.{length, getD, take}
-use Rattle.lengths.specs.Refusals.{badForm}
-use Rattle.lengths.specs.Answers.{Answer, done, refuse, LengthAnswer}
+use Rattle.lengths.specs.Answers.{Answer, done, LengthAnswer}
 use Rattle.lengths.specs.Length.{lengthAt, lengthOctets, lengthLimit}
 use Rattle.lengths.specs.Promise.{LengthRead, Puts}
 use Rattle.lengths.specs.declared.Length.{Length}
@@ -29,14 +28,7 @@ pub record OneOutcome : Type 0 where
   pub written : {w : Answer (List ℕ)} {old new other : List ℕ} {r q : Written}
       → Puts w old new r → Puts w old other q → (r ≡ q) × (new ≡ other)
 
--- document 01's sheet, the rows of this layer: ★ length 127 is `7F`, ★ 128 is `80 80`, ★ `80 7F` is 3
-pub record Sheet : Type 0 where
-  pub length-127 : lengthOctets 127 ≡ 0x7F ∷ []
-  pub length-128 : lengthOctets 128 ≡ 0x80 ∷ 0x80 ∷ []
-  pub two-for-127 : lengthAt (0x80 ∷ 0x7F ∷ []) ≡ refuse badForm
-
 pub record Claims : Type 0 where
   pub writtenReads : WrittenReads
   pub readWrites : ReadWrites
   pub oneOutcome : OneOutcome
-  pub sheet : Sheet

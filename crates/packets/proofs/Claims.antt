@@ -5,7 +5,7 @@ use Rattle.lengths.specs.Length.{lengthAt}
 use Rattle.lengths.proofs.Claims as lengths
 use Rattle.packets.specs.Packet.{every}
 use Rattle.packets.specs.Read.{readPacket, firstAt, countAt, fieldsAt, fieldAt, headerAt, sizeAt, afterHeader, endAt}
-use Rattle.packets.specs.Claims.{Claims, OneOutcome, Sheet}
+use Rattle.packets.specs.Claims.{Claims, OneOutcome, Cases}
 use Rattle.packets.proofs.WrittenReads.{packet-written-reads, packet-repaired-reads}
 use Rattle.packets.proofs.ReadWrites.{packet-read-writes}
 use Rattle.packets.proofs.Follow.{parts-within, zeros-follow, zeros-alike}
@@ -14,18 +14,9 @@ pub one-outcome : OneOutcome
 one-outcome =
     record { read = λ p t. p .whole ∙ sym (t .whole); written = λ p t. lengths.one-outcome .written p t }
 
-pub sheet : Sheet
+pub cases : Cases
 unfolding readPacket firstAt countAt fieldsAt fieldAt headerAt sizeAt afterHeader endAt every lengthAt
-sheet =
-    record {
-      indicator-3 = refl;
-      spare-bit = refl;
-      extension = refl;
-      data-9 = refl;
-      indicator-with-data = refl;
-      two-fields = refl;
-      true-zero = refl;
-    }
+cases = record { true-zero = refl }
 
 pub claims : Claims
 claims =
@@ -37,5 +28,5 @@ claims =
       zerosFollow = zeros-follow;
       zerosAlike = zeros-alike;
       oneOutcome = one-outcome;
-      sheet = sheet;
+      cases = cases;
     }

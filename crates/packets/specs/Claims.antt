@@ -3,8 +3,7 @@ use Prim.Native.Nat.{ℕ, _+_, _≤_}
 use mathlib.Core.Path.{_≡_}
 use mathlib.Core.List.{List, [], _∷_, _++_, map}
 use lib.ListN.{length, getD, replicate}
-use Rattle.lengths.specs.Refusals.{spareBit, notAssigned, wrongData}
-use Rattle.lengths.specs.Answers.{Answer, done, refuse}
+use Rattle.lengths.specs.Answers.{Answer, done}
 use Rattle.lengths.specs.Promise.{Puts}
 use Rattle.lengths.specs.Claims.{Octets}
 use Rattle.lengths.specs.declared.Written.{Written}
@@ -14,7 +13,7 @@ use Rattle.packets.specs.Read.{readPacket, PacketAnswer}
 use Rattle.packets.specs.Write.{packetToWrite}
 use Rattle.packets.specs.Promise.{PacketTold}
 use Rattle.packets.specs.declared.types.Kind.{Kind}
-use Rattle.packets.specs.declared.types.Kind.the-variants.{Indicator, Data}
+use Rattle.packets.specs.declared.types.Kind.the-variants.{Data}
 use Rattle.packets.specs.declared.types.Ending.{Ending}
 use Rattle.packets.specs.declared.types.Ending.the-variants.{Whole, Repaired}
 use Rattle.packets.specs.declared.types.PacketRead.{PacketRead}
@@ -77,26 +76,9 @@ pub record OneOutcome : Type 0 where
   pub written : {w : Answer (List ℕ)} {old new other : List ℕ} {r q : Written}
       → Puts w old new r → Puts w old other q → (r ≡ q) × (new ≡ other)
 
--- document 01's sheet, the rows of this layer
-pub record Sheet : Type 0 where
-  -- ★ `06` is indicator 3
-  pub indicator-3 : readPacket Whole (0x06 ∷ []) ≡ done (record { kind = Indicator; value = 3; fields = [] })
-  -- ★ `01` is refusal 5
-  pub spare-bit : readPacket Whole (0x01 ∷ []) ≡ refuse spareBit
-  -- ★ `20 00` is 12
-  pub extension : readPacket Whole (0x20 ∷ 0x00 ∷ []) ≡ refuse notAssigned
-  -- ★ `D2` (data 9) is 12
-  pub data-9 : readPacket Whole (0xD2 ∷ []) ≡ refuse notAssigned
-  -- ★ `80` is 14
-  pub indicator-with-data : readPacket Whole (0x80 ∷ []) ≡ refuse wrongData
-  -- ★ `C0 02 80 00 02 FF 13 80 40`: V.21, data FF 13 80, then type 4
-  pub two-fields : readPacket Whole (0xC0 ∷ 0x02 ∷ 0x80 ∷ 0x00 ∷ 0x02 ∷ 0xFF ∷ 0x13 ∷ 0x80 ∷ 0x40 ∷ [])
-      ≡ done (record {
-        kind = Data;
-        value = 0;
-        fields = record { kind = 0; start = 5; size = 3 } ∷ record { kind = 4; start = 0; size = 0 } ∷ [];
-      })
-  -- a true last octet may be zero: `C0 01 80 00 01 55 00`, repaired, has data 55 00, whatever zeros follow
+-- "Mistakes that look right: trimming zeros off a repaired packet, when a true last octet may be zero"
+pub record Cases : Type 0 where
+  -- `C0 01 80 00 01 55 00`, repaired, has data 55 00, whatever zeros follow
   pub true-zero : readPacket Repaired (0xC0 ∷ 0x01 ∷ 0x80 ∷ 0x00 ∷ 0x01 ∷ 0x55 ∷ 0x00 ∷ [])
       ≡ done (record { kind = Data; value = 0; fields = record { kind = 0; start = 5; size = 2 } ∷ [] })
 
@@ -108,4 +90,4 @@ pub record Claims : Type 0 where
   pub zerosFollow : ZerosFollow
   pub zerosAlike : ZerosAlike
   pub oneOutcome : OneOutcome
-  pub sheet : Sheet
+  pub cases : Cases

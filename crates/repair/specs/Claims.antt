@@ -2,16 +2,15 @@
 use Prim.Native.Nat.{ℕ, _+_, _-_, _*_, _%_, _≤_, _<_}
 use mathlib.Core.Path.{_≡_}
 use mathlib.Core.Logic.{_↔_}
-use mathlib.Core.Bool.{true}
-use mathlib.Core.List.{List, [], _∷_, map, List·Memᴰ as Among}
+use mathlib.Core.List.{List, List·Memᴰ as Among}
 use mathlib.Core.Option.{none}
-use lib.ListN.{length, getD}
+use lib.ListN.{length}
 use Rattle.repair.specs.Members.{membersOf, InReach}
-use Rattle.repair.specs.Cells.{Cell, received, repaired, unknownCell, cellAt, keptBefore}
+use Rattle.repair.specs.Cells.{Cell, cellAt, keptBefore}
 use Rattle.repair.specs.Repair.{Message, firstUsable, repair}
 use Rattle.repair.specs.Held.{Held, heldAt, messagesOf, heldMessages}
 use Rattle.repair.specs.Reached.{Known, Unknown, Closed, Reached, Distinct, DistinctMembers}
-use Rattle.repair.specs.Honest.{messageOver, HonestMessages, HonestHeld, TrueCells}
+use Rattle.repair.specs.Honest.{HonestMessages, HonestHeld, TrueCells}
 
 -- ---- members
 -- "Message i .. covers S+i−m, S+i−2m, up to n members; S itself is in none", where the reach n·m does not go below zero: no
@@ -101,30 +100,6 @@ BurstRepaired = (row : ℕ → List ℕ) (cells : List Cell) (held : List Held) 
     → (p : ℕ) → InReach (keptBefore + d) ((heldAt held d) .n) (length ((heldAt held d) .messages)) p
     → Known (repair cells (heldMessages held)) p
 
--- ---- document 01's sheet, the rows of this layer
--- "Packets 0 `06` and 1 `C0 01 80 00 00 55`"
-abbrev pub packet0 : List ℕ
-packet0 = 0x06 ∷ []
-
-abbrev pub packet1 : List ℕ
-packet1 = 0xC0 ∷ 0x01 ∷ 0x80 ∷ 0x00 ∷ 0x00 ∷ 0x55 ∷ []
-
--- "message `C6 01 80 00 00 55`"
-abbrev pub message2 : List ℕ
-message2 = 0xC6 ∷ 0x01 ∷ 0x80 ∷ 0x00 ∷ 0x00 ∷ 0x55 ∷ []
-
-abbrev pub received1 : Cell
-received1 = record { state = received; octets = packet1 }
-
-pub record Sheet : Type 0 where
-  -- ★ "Packets 0 `06` and 1 `C0 01 80 00 00 55`, n=2, m=1, datagram 2: message `C6 01 80 00 00 55`."
-  pub message-of-two : messageOver (map (λ p. getD (packet0 ∷ packet1 ∷ []) p []) (membersOf 2 2 1 0)) ≡ message2
-  -- ★ "Losing 0 there gives `06` and five zeros"
-  pub losing-0 : repair (unknownCell ∷ received1 ∷ []) (messagesOf 2 (record { accepted = true; n = 2; messages = message2 ∷ [] }))
-      ≡ record { state = repaired; octets = 0x06 ∷ 0 ∷ 0 ∷ 0 ∷ 0 ∷ 0 ∷ [] } ∷ received1 ∷ []
-  -- ★ "n=2, m=2, datagram 4: members 2, 0 and 3, 1."
-  pub members-of-4 : (membersOf 4 2 2 0 ≡ 2 ∷ 0 ∷ []) × (membersOf 4 2 2 1 ≡ 3 ∷ 1 ∷ [])
-
 pub record Claims : Type 1 where
   pub membersExact : MembersExact
   pub heldDistinct : HeldDistinct
@@ -138,4 +113,3 @@ pub record Claims : Type 1 where
   pub staysTrue : StaysTrue
   pub burstMended : BurstMended
   pub burstRepaired : BurstRepaired
-  pub sheet : Sheet

@@ -2,9 +2,8 @@
 -- values, and within the ranges a session is what document 01 sees of it. Assumes nothing.
 use Prim.Native.Nat.{ℕ}
 use mathlib.Core.Path.{_≡_, refl, sym, ap, ap₂, _∙_}
-use mathlib.Core.Bool.{Bool}
 use mathlib.Core.List.{List}
-use Rattle.lengths.specs.Answers.{Answer, done, refused, writtenOutcome, fitted}
+use Rattle.lengths.specs.Answers.{Answer, done, refused, fitted}
 use Rattle.lengths.specs.declared.Written.{Written}
 use Rattle.lengths.proofs.Claims.{written-told}
 use Rattle.octets.specs.Place.{tab}
@@ -60,7 +59,7 @@ chains =
 
 pub cases : Cases
 unfolding datagramToSend freshSending sentOn sparesFrom messagesFrom membersOf tab xorAt exclusiveOr longest lengthOctets numberOctets itemOctets itemsOctets countedOctets datagramOctets
-cases = record { first-parity = refl; message-of-two = refl; number-0-again = refl; first-spares = refl }
+cases = record { first-parity = refl; number-0-again = refl; first-spares = refl }
 
 pub claims : Claims
 claims = record { writtenRight = written-right; chains = chains; oneOutcome = one-outcome; cases = cases }

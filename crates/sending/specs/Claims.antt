@@ -9,7 +9,7 @@ use Rattle.lengths.specs.declared.Written.the-variants as written
 use Rattle.datagrams.specs.Write.{datagramToWrite}
 use Rattle.datagrams.specs.Claims.{ReadsAs}
 use Rattle.views.specs.View.{numbers}
-use Rattle.sending.specs.Sending.{historyKept, freshSending, sentOn}
+use Rattle.sending.specs.Sending.{historyKept, freshSending}
 use Rattle.sending.specs.Send.{carriedNext, datagramToSend}
 use Rattle.sending.specs.Sender.{sendingOf}
 use Rattle.sending.specs.Held.{Arrays}
@@ -62,10 +62,6 @@ pub record Cases : Type 0 where
   -- a first send with n 8, m 4: messages over nothing but numbers before the first have length 0
   pub first-parity : datagramToSend (settings.Parity 8 4) (0x06 ∷ []) freshSending
       ≡ done (0x00 ∷ 0x00 ∷ 0x01 ∷ 0x06 ∷ 0x80 ∷ 0x01 ∷ 0x08 ∷ 0x04 ∷ 0x00 ∷ 0x00 ∷ 0x00 ∷ 0x00 ∷ [])
-  -- ★ "Packets 0 `06` and 1 `C0 01 80 00 00 55`, n=2, m=1, datagram 2: message `C6 01 80 00 00 55`"
-  pub message-of-two : datagramToSend (settings.Parity 2 1) (0x06 ∷ [])
-      (sentOn (0xC0 ∷ 0x01 ∷ 0x80 ∷ 0x00 ∷ 0x00 ∷ 0x55 ∷ []) (sentOn (0x06 ∷ []) freshSending))
-      ≡ done (0x00 ∷ 0x02 ∷ 0x01 ∷ 0x06 ∷ 0x80 ∷ 0x01 ∷ 0x02 ∷ 0x01 ∷ 0x06 ∷ 0xC6 ∷ 0x01 ∷ 0x80 ∷ 0x00 ∷ 0x00 ∷ 0x55 ∷ [])
   -- after 65,536 packets the number is 0 again, and what was sent before it still counts
   pub number-0-again : datagramToSend (settings.Spares 2) (0x06 ∷ []) (record { sent = 65536; history = replicate historyKept (0x02 ∷ []) })
       ≡ done (0x00 ∷ 0x00 ∷ 0x01 ∷ 0x06 ∷ 0x00 ∷ 0x02 ∷ 0x01 ∷ 0x02 ∷ 0x01 ∷ 0x02 ∷ [])

@@ -1,0 +1,29 @@
+-- A session that an honest sender alone feeds, as document 01 sees it: demand 3 is proved of these views. Definitions only.
+use Prim.Native.Nat.{ℕ, _<_}
+use mathlib.Core.Path.{_≡_}
+use mathlib.Core.List.{List, [], _∷_}
+use lib.ListN.{length}
+use Rattle.lengths.specs.Refusals as refusals
+use Rattle.lengths.specs.Answers.{done, refuse}
+use Rattle.views.specs.View.{View, freshView}
+use Rattle.views.specs.Offer as offers
+use Rattle.demands.specs.History.{after, offer, next, giveUp}
+use Rattle.demands.specs.Feeding.{Near, datagramAt}
+
+module _ (row datagrams : List (List ℕ)) where
+  pub data FedView : View → Type 0 where
+    fresh : FedView freshView
+    arrives : {view : View} → FedView view → (S : ℕ) → S < length row → Near S view
+        → FedView (after (offer (datagramAt datagrams S)) view)
+    asks : {view : View} → FedView view → (room : ℕ) → FedView (after (next room) view)
+    givesUp : {view : View} → FedView view → FedView (after giveUp view)
+
+  -- a list of accepted or repeated datagrams
+  pub data TakesViews : List ℕ → View → View → Type 0 where
+    none : {view : View} → TakesViews [] view view
+    accepted : {S : ℕ} {places : List ℕ} {view mid last : View} → S < length row → Near S view
+        → offers.offer (datagramAt datagrams S) view ≡ done mid
+        → TakesViews places mid last → TakesViews (S ∷ places) view last
+    repeated : {S : ℕ} {places : List ℕ} {view last : View} → S < length row → Near S view
+        → offers.offer (datagramAt datagrams S) view ≡ refuse refusals.repeated
+        → TakesViews places view last → TakesViews (S ∷ places) view last
