@@ -8,7 +8,8 @@ import sys
 
 from generate import make_script
 from making.lines import across_the_wrap, at_the_limit, program_lines
-from running import (around, call_of_answer, described, difference, expected_answers, expected_results, line_at, run, text_of)
+from running import (around, call_of_answer, described, difference, expected_answers, expected_results, left_out, line_at, run,
+                     text_of)
 
 HERE = pathlib.Path(__file__).resolve().parent
 CASES = HERE / 'cases'
@@ -91,6 +92,8 @@ def compare_all(arguments, out):
             return passed, False
         passed += 1
         print('ok', name, file=out, flush=True)
+    for line in left_out(arguments):
+        print(line, file=out)
     print('%d passed, 0 failed' % passed, file=out)
     return passed, True
 
