@@ -2,13 +2,16 @@
 """Compares programs under test with the independent program, over stored cases and over scripts made from seeds."""
 
 import argparse
+import concurrent.futures
+import os
 import pathlib
 import shlex
 import sys
 
 from generate import make_script
 from making.lines import across_the_wrap, at_the_limit, program_lines
-from running import (around, call_of_answer, described, difference, expected_answers, expected_results, line_at, run, text_of)
+from running import (around, call_of_answer, described, difference, expected_answers, expected_results, left_out, line_at, run,
+                     text_of)
 
 HERE = pathlib.Path(__file__).resolve().parent
 CASES = HERE / 'cases'
@@ -78,19 +81,23 @@ def made_lines(seed):
 
 
 def compare_all(arguments, out):
-    """Does each comparison that has a command; how many passed, and whether all did."""
+    """Does each comparison that has a command, as many at a time as there are processors; how many passed, and whether all did."""
     passed = 0
-    for name, command, compare, make in comparisons(arguments):
-        if command is None:
-            continue
-        try:
-            compare(name, command, *make())
-        except Failed as failed:
-            print(failed, file=out)
-            print('%d passed, 1 failed' % passed, file=out)
-            return passed, False
-        passed += 1
-        print('ok', name, file=out, flush=True)
+    with concurrent.futures.ThreadPoolExecutor(os.cpu_count()) as pool:
+        begun = [(name, pool.submit(lambda n=name, c=command, f=compare, m=make: f(n, c, *m())))
+                 for name, command, compare, make in comparisons(arguments) if command is not None]
+        for name, comparison in begun:
+            try:
+                comparison.result()
+            except Failed as failed:
+                pool.shutdown(cancel_futures=True)
+                print(failed, file=out)
+                print('%d passed, 1 failed' % passed, file=out)
+                return passed, False
+            passed += 1
+            print('ok', name, file=out, flush=True)
+    for line in left_out(arguments):
+        print(line, file=out)
     print('%d passed, 0 failed' % passed, file=out)
     return passed, True
 

@@ -1,5 +1,5 @@
 #!/usr/bin/env python3
-"""Checks that the made scripts tell the independent program from wrong ones: each wrong program is one edit of the rules."""
+"""Checks that the made scripts tell the independent program from wrong ones: each wrong program is one edit of its text."""
 
 import pathlib
 import shlex
@@ -7,7 +7,7 @@ import shutil
 import sys
 import tempfile
 
-from compare import CALL_SEEDS, Failed, compare_calls, made_calls
+from compare import CALL_SEEDS, PROGRAM_SEEDS, Failed, compare_calls, compare_program, made_calls, made_lines, stored
 
 HERE = pathlib.Path(__file__).resolve().parent
 MUTANTS = (
@@ -84,6 +84,20 @@ MUTANTS = (
      '        number, place = self.base, self.place(self.base)\n'
      '        refuse_if(place.state == UNKNOWN, BASE_UNKNOWN)\n'
      '        refuse_if(self.total() == NUMBERS_LIMIT, LIMIT)\n'),
+    ('13 before 10', 'receiving',
+     '        refuse_if(place.state == UNKNOWN, BASE_UNKNOWN)\n',
+     '        refuse_if(room == 0, NO_ROOM)\n        refuse_if(place.state == UNKNOWN, BASE_UNKNOWN)\n'),
+    ('11 before 16', 'receiving',
+     '        refuse_if(self.total() == NUMBERS_LIMIT, LIMIT)\n'
+     '        number = self.base\n'
+     '        refuse_if(self.place(number).state != UNKNOWN, BASE_KNOWN)\n',
+     '        number = self.base\n'
+     '        refuse_if(self.place(number).state != UNKNOWN, BASE_KNOWN)\n'
+     '        refuse_if(self.total() == NUMBERS_LIMIT, LIMIT)\n'),
+    ('a known base is given up', 'receiving', '        refuse_if(self.place(number).state != UNKNOWN, BASE_KNOWN)\n', ''),
+    ('a packet without room leaves', 'receiving',
+     '        refuse_if(place.length > room, NO_ROOM)\n        self.advance(place.state)\n',
+     '        self.advance(place.state)\n        refuse_if(place.length > room, NO_ROOM)\n'),
     ('one number more', 'receiving', 'NUMBERS_LIMIT = 1000000', 'NUMBERS_LIMIT = 1000001'),
     ('offer stops at the limit', 'receiving',
      '        datagram = read_datagram(octets)\n',
@@ -132,41 +146,85 @@ MUTANTS = (
      '        octets = must_fit(written_datagram(datagram), room)\n'),
     ('32 spares back lost', 'sending', 'HISTORY = 32', 'HISTORY = 16'),
 )
+PROGRAM_MUTANTS = (
+    ('lower case written', 'program', 'octets.hex().upper().encode()', 'octets.hex().encode()'),
+    ('an empty line ignored', 'program', "return [bytes([LOST_LINE]) + self.session.give_up().to_bytes(2, 'big')]", 'return []'),
+    ('a give-up without its line', 'program',
+     "return [bytes([LOST_LINE]) + self.session.give_up().to_bytes(2, 'big')]",
+     'return [self.session.give_up()][1:]'),
+    ('a give-up with its line alone', 'program',
+     'encode() for octets in lines + self.released()]',
+     'encode() for octets in (lines + self.released() if line else lines)]'),
+    ('releasing stops after one', 'program',
+     "number.to_bytes(2, 'big') + octets)\n",
+     "number.to_bytes(2, 'big') + octets)\n            return lines\n"),
+    ('the end of releasing is a line', 'program',
+     '                return lines\n',
+     '                return lines + [bytes([0xFF, refusal.number])]\n'),
+    ('a refusal without its line', 'program', 'lines = [bytes([0xFF, refusal.number])]', 'lines = []'),
+    ('kinds by their states', 'program', 'bytes([state - RECEIVED])', 'bytes([state])'),
+    ('15 before 2', 'program',
+     '        refuse_if(len(line) > LINE_LIMIT, OVERLONG)\n'
+     '        try:\n'
+     '            octets = binascii.unhexlify(line)\n'
+     '        except binascii.Error:\n'
+     '            raise Refusal(SETTINGS)\n',
+     '        try:\n'
+     '            octets = binascii.unhexlify(line)\n'
+     '        except binascii.Error:\n'
+     '            raise Refusal(SETTINGS)\n'
+     '        refuse_if(len(line) > LINE_LIMIT, OVERLONG)\n'),
+    ('line of 3,001', 'program', 'LINE_LIMIT = 3000', 'LINE_LIMIT = 3001'),
+    ('line of 2,999', 'program', 'LINE_LIMIT = 3000', 'LINE_LIMIT = 2999'),
+    ('spaces around a line dropped', 'program', 'binascii.unhexlify(line)', 'binascii.unhexlify(line.strip())'),
+    ('a carriage return ends a line too', 'independent',
+     "line[:-1] if line.endswith(b'\\n') else line",
+     "line.rstrip(b'\\n').rstrip(b'\\r')"),
+    ('a last line without line feed dropped', 'independent',
+     "        yield line[:-1] if line.endswith(b'\\n') else line\n",
+     "        if line.endswith(b'\\n'):\n            yield line[:-1]\n"),
+    ('an empty last part is a line', 'independent',
+     "    for line in stream:\n        yield line[:-1] if line.endswith(b'\\n') else line\n",
+     "    yield from stream.read().split(b'\\n')\n"),
+)
 
 
 def make_mutant(directory, module, old, new):
     """A copy of the independent program with one edit."""
     shutil.copy(HERE / 'independent.py', directory)
     shutil.copytree(HERE / 'rules', directory / 'rules', ignore=shutil.ignore_patterns('__pycache__'))
-    path = directory / 'rules' / (module + '.py')
+    path = directory / ('' if module == 'independent' else 'rules') / (module + '.py')
     text = path.read_text()
     if text.count(old) != 1:
         sys.exit('%s: the text to edit occurs %d times: %r' % (module, text.count(old), old))
     path.write_text(text.replace(old, new))
 
 
-def found_by(directory, scripts):
-    """The first script that tells the mutant apart, from 1, or 0."""
-    command = '%s %s 2> %s' % tuple(shlex.quote(str(part)) for part in (sys.executable, directory / 'independent.py', directory / 'errors'))
-    for number, (script, answers) in enumerate(scripts, 1):
+def found_by(directory, argument, compare, inputs):
+    """The name of the first input that tells the mutant apart, or None."""
+    program, errors = (shlex.quote(str(directory / name)) for name in ('independent.py', 'errors'))
+    command = '%s %s %s 2> %s' % (shlex.quote(sys.executable), program, argument, errors)
+    for name, given, expected in inputs:
         try:
-            compare_calls('mutant', command, script, answers)
+            compare('mutant', command, given, expected)
         except Failed:
-            return number
-    return 0
+            return name
+    return None
 
 
 def main():
-    """Prints for each wrong program which script found it; status 1 if one was not found."""
-    scripts = [made_calls(str(seed)) for seed in range(CALL_SEEDS)]
+    """Prints for each wrong program which input found it; status 1 if one was not found."""
+    scripts = [('script %d' % seed, *made_calls(str(seed))) for seed in range(CALL_SEEDS)]
+    lines = [('lines %d' % seed, *made_lines(str(seed))) for seed in range(PROGRAM_SEEDS)] + list(stored('.lines', '.results'))
     missed = 0
-    for name, module, old, new in MUTANTS:
-        with tempfile.TemporaryDirectory() as directory:
-            make_mutant(pathlib.Path(directory), module, old, new)
-            number = found_by(pathlib.Path(directory), scripts)
-        missed += number == 0
-        print('found by script %d: %s' % (number, name) if number else 'NOT FOUND: %s' % name, flush=True)
-    print('%d found, %d not found' % (len(MUTANTS) - missed, missed))
+    for mutants, argument, compare, inputs in ((MUTANTS, '', compare_calls, scripts), (PROGRAM_MUTANTS, 'program', compare_program, lines)):
+        for name, module, old, new in mutants:
+            with tempfile.TemporaryDirectory() as directory:
+                make_mutant(pathlib.Path(directory), module, old, new)
+                found = found_by(pathlib.Path(directory), argument, compare, inputs)
+            missed += found is None
+            print('found by %s: %s' % (found, name) if found else 'NOT FOUND: %s' % name, flush=True)
+    print('%d found, %d not found' % (len(MUTANTS) + len(PROGRAM_MUTANTS) - missed, missed))
     sys.exit(missed > 0)
 
 

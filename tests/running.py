@@ -74,3 +74,9 @@ def call_of_answer(script, at):
     """Which line of a script, from 0, has the answer of this number: empty lines have none."""
     calls = [number for number, line in enumerate(lines_of(script)) if line]
     return calls[at] if at < len(calls) else len(lines_of(script))
+
+
+def left_out(arguments):
+    """What is not compared because its command was not given, a line for each."""
+    return ['not compared: %s, since --%s was not given' % (what, option)
+            for what, option in (('the calls program', 'calls'), ('the program', 'program')) if not getattr(arguments, option)]

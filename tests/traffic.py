@@ -12,7 +12,7 @@ from rules.arguments import shown, sized
 from rules.datagrams import PARITY, SPARES, read_datagram
 from rules.packets import read_packet
 from rules.receiving import AFTER, UNKNOWN
-from running import lines_of, run, text_of
+from running import left_out, lines_of, run, text_of
 
 CORPUS = pathlib.Path(__file__).resolve().parent / 'corpus'
 CALLS = ('tt_v17_ecm_v0.a2b', 'tt_v17_ecm_v0.b2a', 'tt_v29_ecm_v0.a2b', 'gt_v17_nonecm_v0.a2b')
@@ -230,6 +230,8 @@ def main():
             sys.exit(1)
         passed += 1
         print('ok %s%s' % (name, '; ' + remark if remark else ''), flush=True)
+    for line in left_out(arguments):
+        print(line)
     print('%d passed, 0 failed' % passed)
 
 
