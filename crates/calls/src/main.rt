@@ -1,4 +1,4 @@
-// The calls program: every public call of the library on one line of hexadecimal, one answer a line, so that any other
+// The calls program: every call of document 01 on one line of hexadecimal, one answer a line, so that any other
 // program can be compared with it call by call. It holds one receiving and one sending session, both fresh at the start.
 mod arguments;
 mod buffers;

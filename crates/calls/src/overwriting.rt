@@ -47,7 +47,7 @@ fn from_base(base: u16, number: u16) -> bool {
     std::num::wrapping_sub_u16(number, base) < 32
 }
 
-// Whether the field's place is there: document CALLS, 17.
+// Whether the field's place is there: tests/README.md, 17.
 fn place_there(base: u16, field: u8, number: u16, message: usize, octet: usize) -> bool {
     if field < 5 {
         return true;

@@ -15,6 +15,7 @@ use Rattle.lines.specs.Lines.{lineFeed, step, program}
 use Rattle.lines.specs.Feed.{Going, atStart, lineDone, longer, takenIn, fed, atEnd, goingIn, PartWay}
 use Rattle.lines.specs.FeedPromise.{Feeds, Ends}
 use Rattle.lines.specs.Claims.{InTurn}
+use Rattle.lines.proofs.Laws.{feeds-some}
 use Rattle.lines.proofs.Feeding.{fed-append, program-fed}
 
 -- ---- some text written before
@@ -76,4 +77,4 @@ finish {input} {text} {h} {o} {g} {l} {begun} {out} way f =
     ∙ ap (λ (now : Going). text ++ now .text) (sym (f .state))
 
 pub in-turn : InTurn
-in-turn = record { start = start; block = block; finish = finish }
+in-turn = record { start = start; block = block; goesOn = feeds-some; finish = finish }

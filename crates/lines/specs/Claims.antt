@@ -1,5 +1,5 @@
 -- The claims of this crate: statements alone. Definitions only.
-use Prim.Native.Nat.{ℕ, _≤_}
+use Prim.Native.Nat.{ℕ, _≤_, _<_}
 use mathlib.Core.Path.{_≡_}
 use mathlib.Core.List.{List, [], _∷_, _++_}
 use mathlib.Core.Logic.{_⊎_}
@@ -19,8 +19,8 @@ use Rattle.heads.specs.declared.Session.{Session}
 use Rattle.lines.specs.Hex.{lineOctets, hexOf}
 use Rattle.lines.specs.Lines.{Made, program, releases}
 use Rattle.lines.specs.Feed.{Going, atStart, fed, atEnd, goingIn, PartWay}
-use Rattle.lines.specs.Promise.{Does}
-use Rattle.lines.specs.FeedPromise.{Feeds, Ends}
+use Rattle.lines.specs.Promise.{Does, stepLimit}
+use Rattle.lines.specs.FeedPromise.{Feedable, Feeds, Ends}
 use Rattle.lines.specs.Text.{characters}
 use Rattle.lines.specs.declared.steps.Stepped.{Stepped}
 use Rattle.lines.specs.declared.feed.Fed.{Fed}
@@ -60,6 +60,10 @@ pub record InTurn : Type 0 where
   pub block : {input text : List ℕ} {h : Head} {o g l : List ℕ} {begun : ℕ} {s out : List ℕ} {k : Head} {p q m : List ℕ} {kept taken : ℕ}
       {new : List ℕ} {end : ℕ} → PartWay input text h o g l begun → Feeds (goingIn h o g l begun out 0) s out k p q m kept taken new end
       → PartWay (input ++ take taken s) (text ++ take end new) k p q m kept
+  -- with room for a line, some of a block that is not empty is taken in
+  pub goesOn : {h : Head} {o g l : List ℕ} {begun : ℕ} {s out : List ℕ} {k : Head} {p q m : List ℕ} {kept taken : ℕ} {new : List ℕ} {end : ℕ}
+      → Feedable stepLimit h o g l begun out 0 → Feeds (goingIn h o g l begun out 0) s out k p q m kept taken new end → 1 ≤ length s
+      → 0 < taken
   pub finish : {input text : List ℕ} {h : Head} {o g l : List ℕ} {begun : ℕ} {out : List ℕ} {k : Head} {p q new : List ℕ} {end : ℕ}
       → PartWay input text h o g l begun → Ends (goingIn h o g l begun out 0) out k p q new end → program input ≡ text ++ take end new
 

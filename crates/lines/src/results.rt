@@ -10,7 +10,7 @@ ghost use mathlib.Core.List.{[], _∷_};
 ghost use Prim.Native.Nat.{_+_, _*_, _/_, _%_, _≤_};
 ghost use lib.ListN.{length};
 ghost use Rattle.heads.specs.Head.{stateOf};
-ghost use Rattle.lines.specs.Lines.{kindOf, resultLine, refusalLine};
+ghost use Rattle.lines.specs.Lines.{lineFeed, kindOf, resultLine, refusalLine};
 ghost use Rattle.lines.specs.Promise.{Appends};
 
 // The kind of a released number; an unknown or blank one is never released.
@@ -29,7 +29,7 @@ pub fn kind_octet(kind: State) -> u8
 // A line feed at a place.
 fn end_line(out: &mut [u8], at: usize) -> usize
     requires { ⌜ at + 1 ≤ length (now out) ⌝ }
-    ensures { λ r. ⌜ Appends (10 ∷ []) (now (out .entry)) at (now (out .exit)) r ⌝ }
+    ensures { λ r. ⌜ Appends (lineFeed ∷ []) (now (out .entry)) at (now (out .exit)) r ⌝ }
 {
     out[at] = Line::FEED;
     at + 1

@@ -1,5 +1,5 @@
-// One line of the program: its answer, then all releases. The head goes by value, the stores and buffers are lent: nothing is
-// checked or copied for each line. These functions require the session's ranges and keep them.
+// One line of the program: its answer, then all releases. The head goes by value, the stores and buffers are lent: no range is
+// checked and no store copied for each line. These functions require the session's ranges and keep them.
 use crate::Line;
 use crate::hex::hex_to_octets;
 use crate::results::kind_octet;

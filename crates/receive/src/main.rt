@@ -8,6 +8,7 @@ use lines::Line;
 ghost use Rattle.heads.specs.Within.{Within};
 ghost use Rattle.lines.specs.Promise.{stepLimit};
 ghost use Rattle.lines.specs.FeedPromise.{Feedable};
+ghost use Rattle.receive.specs.Promise.{Passes};
 
 // The session after a block, how much of a line has begun, and whether all was written.
 struct Passed {
@@ -16,7 +17,7 @@ struct Passed {
     written: bool,
 }
 
-// A block of the input is taken in, and what it comes to is written.
+// A block of the input is taken in, and what it comes to is written, part by part up to the first that fails.
 fn pass(
     h: Head,
     o: &mut [u8; Session::PACKET_OCTETS],
@@ -27,12 +28,11 @@ fn pass(
     out: &mut [u8],
 ) -> Passed
     requires { ⌜ Feedable stepLimit h (now o) (now g) (now line) begun (now out) 0 ⌝ }
-    ensures { λ r. ⌜ Feedable stepLimit (r .head) (now (o .exit)) (now (g .exit)) (now (line .exit)) (r .begun) (now (out .exit)) 0 ⌝ }
+    ensures { λ r. ⌜ Passes h (now (o .entry)) (now (g .entry)) (now (line .entry)) begun (now (block .entry)) (r .head) (now (o .exit)) (now (g .exit)) (now (line .exit)) (r .begun) (now (out .exit)) (r .written) ⌝ }
 {
     let mut head = h;
     let mut kept = begun;
     let mut from = 0;
-    let mut written = true;
     while from < block.len() {
         let part = lines::take_block(head, o, g, line, kept, &block[from..], out, 0);
         let next = part.head;
@@ -40,12 +40,18 @@ fn pass(
         kept = part.begun;
         from += part.taken;
         let end = part.end;
-        written = written & io::write_all(STDOUT_FILENO, &out[..end]);
+        if !io::write_all(STDOUT_FILENO, &out[..end]) {
+            return Passed {
+                head,
+                begun: kept,
+                written: false,
+            };
+        }
     }
     Passed {
         head,
         begun: kept,
-        written,
+        written: true,
     }
 }
 

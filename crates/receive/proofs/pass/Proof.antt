@@ -1,12 +1,13 @@
--- `receive::pass` meets its contract: between two parts of a block the program is within its ranges, and each part takes some of it.
--- Assumes nothing.
+-- `receive::pass` meets its contract: between two parts of the block the program may go on and the front of it is taken in; each part
+-- takes some of it. Assumes nothing.
 use Prim.Native.Nat.{_-_}
 use mathlib.Core.Path.{sym}
 use lib.ListN.{length}
 use lib.Seq.{length-take-le}
 use native.Mathlib.Omega.{arith}
 use borrow.Author.Needs.{needs}
-use Rattle.receive.proofs.Serving.{Serving, serving-start, part-ready, part-some, part-inside, part-fits, part-done}
+use Rattle.lines.proofs.Laws.{feedable-block}
+use Rattle.receive.proofs.Serving.{Serving, serving-start, served, part-some, part-inside, part-fits, part-lost, part-done}
 use Rattle.receive.proofs.pass.Statement.{statement}
 use Rattle.receive.proofs.pass.Tie as tie
 use Rattle.receive.proofs.pass.Reads as reads
@@ -15,15 +16,14 @@ use Rattle.io.proofs.write_all.Reads as write-all-reads
 use Rattle.lines.proofs.take_block.Reads as take-block-reads
 
 abbrev Inv-loop : tie.InvT-loop
-Inv-loop o₀ g₀ line₀ begun block out₀ head₀ kept₀ from₀ written₀ o g line out head kept from written =
-    Serving line₀ out₀ head o g line kept out
+Inv-loop o₀ g₀ line₀ begun block out₀ head₀ kept₀ from₀ o g line out head kept from =
+    Serving head₀ o₀ g₀ line₀ begun out₀ block head o g line kept out from
 
 abbrev μ-loop : tie.MeasureT-loop
-μ-loop o₀ g₀ line₀ begun block out₀ head₀ kept₀ from₀ written₀ o g line out head kept from written =
-    length block - from
+μ-loop o₀ g₀ line₀ begun block out₀ head₀ kept₀ from₀ o g line out head kept from = length block - from
 
 loop-holds : tie.Need-loop-holds Inv-loop μ-loop
-loop-holds c = serving-start (c .before .before .before .pre)
+loop-holds c = serving-start _ (c .before .before .before .pre)
 
 sub-take-block : tie.Need-sub-take-block Inv-loop μ-loop
 sub-take-block c = search needs
@@ -37,7 +37,7 @@ part-take-block-end c = search needs
 take-block-requires : tie.Need-take-block-requires Inv-loop μ-loop
 take-block-requires c κs =
     let loop = c .before .before .before .before .before .before in
-    part-ready (loop .loop .inv)
+    feedable-block (loop .loop .inv .feedable)
 
 add-from : tie.Need-add-from Inv-loop μ-loop
 add-from c =
@@ -45,7 +45,7 @@ add-from c =
     let inside = made .before .before .before .before .before .before in
     let loop = inside .before in
     let start = loop .before .before .before .before in
-    record { fits = omega (arith, start .good .1 .1 .1 .1 .1 .0, part-inside (loop .loop .inv) (start .args .block .now) (inside .loop-test .taken) (made .take-block .ensures)) }
+    record { fits = omega (arith, start .good .1 .1 .1 .1 .1 .0, part-inside (start .args .block .now) (loop .loop .inv) (inside .loop-test .taken) (made .take-block .ensures)) }
 
 slice-reshare-prefix-write-all : tie.Need-slice-reshare-prefix-write-all Inv-loop μ-loop
 slice-reshare-prefix-write-all c = search needs
@@ -56,26 +56,10 @@ slice-aggregate-write-all c =
     let inside = made .before .before .before .before .before .before in
     let loop = inside .before in
     let start = loop .before .before .before .before in
-    sym (length-take-le _ _ (part-fits (loop .loop .inv) (start .args .block .now) (inside .loop-test .taken) (made .take-block .ensures)))
+    sym (length-take-le _ _ (part-fits (start .args .block .now) (loop .loop .inv) (inside .loop-test .taken) (made .take-block .ensures)))
 
 write-all-requires : tie.Need-write-all-requires Inv-loop μ-loop
 write-all-requires c κs = search needs
-
-loop-less : tie.Need-loop-less Inv-loop μ-loop
-loop-less c =
-    let made = c .before .before .before .before .before .before .before .before in
-    let inside = made .before .before .before .before .before .before in
-    let loop = inside .before in
-    let start = loop .before .before .before .before in
-    omega (arith, inside .loop-test .taken, part-some (loop .loop .inv) (start .args .block .now) (inside .loop-test .taken) (made .take-block .ensures))
-
-loop-again : tie.Need-loop-again Inv-loop μ-loop
-loop-again c =
-    let made = c .before .before .before .before .before .before .before .before in
-    let inside = made .before .before .before .before .before .before in
-    let loop = inside .before in
-    let start = loop .before .before .before .before in
-    part-done (loop .loop .inv) (start .args .block .now) (inside .loop-test .taken) (made .take-block .ensures) (made .take-block .kept .1 .1 .1 .0)
 
 same-length : tie.Need-same-length Inv-loop μ-loop
 same-length c = search needs
@@ -84,7 +68,37 @@ same-length-2 : tie.Need-same-length-2 Inv-loop μ-loop
 same-length-2 c = search needs
 
 returns : tie.Need-returns Inv-loop μ-loop
-returns c = c .before .loop .inv .feedable
+returns c =
+    let made = c .before .before .before .before .before .before .before .before .before in
+    let inside = made .before .before .before .before .before .before in
+    let loop = inside .before in
+    let start = loop .before .before .before .before in
+    part-lost (start .args .block .now) (loop .loop .inv) (inside .loop-test .taken) (made .take-block .ensures)
+
+loop-less : tie.Need-loop-less Inv-loop μ-loop
+loop-less c =
+    let made = c .before .before .before .before .before .before .before .before .before in
+    let inside = made .before .before .before .before .before .before in
+    let loop = inside .before in
+    let start = loop .before .before .before .before in
+    omega (arith, inside .loop-test .taken, part-some (start .args .block .now) (loop .loop .inv) (inside .loop-test .taken) (made .take-block .ensures))
+
+loop-again : tie.Need-loop-again Inv-loop μ-loop
+loop-again c =
+    let made = c .before .before .before .before .before .before .before .before .before in
+    let inside = made .before .before .before .before .before .before in
+    let loop = inside .before in
+    let start = loop .before .before .before .before in
+    part-done (start .args .block .now) (loop .loop .inv) (inside .loop-test .taken) (made .take-block .ensures) (made .take-block .kept .1 .1 .1 .0)
+
+same-length-3 : tie.Need-same-length-3 Inv-loop μ-loop
+same-length-3 c = search needs
+
+same-length-4 : tie.Need-same-length-4 Inv-loop μ-loop
+same-length-4 c = search needs
+
+returns-2 : tie.Need-returns-2 Inv-loop μ-loop
+returns-2 c = served _ (c .before .loop .inv) (c .loop-test .left)
 
 pub pass-spec : {M : Type 1} → statement M
 pass-spec =
@@ -101,8 +115,11 @@ pass-spec =
     slice-reshare-prefix-write-all
     slice-aggregate-write-all
     write-all-requires
-    loop-less
-    loop-again
     same-length
     same-length-2
-    returns)
+    returns
+    loop-less
+    loop-again
+    same-length-3
+    same-length-4
+    returns-2)

@@ -1,9 +1,10 @@
 -- `receive::serve` is safe and ends: between two blocks the program is within its ranges; the turns left are the measure. Assumes nothing.
-use mathlib.Core.Path.{sym}
+use mathlib.Core.Path.{refl, sym}
 use lib.Seq.{length-take-le}
 use native.Mathlib.Omega.{arith}
 use borrow.Author.Needs.{needs}
-use Rattle.receive.proofs.Serving.{Turning, turning-start, line-start}
+use Rattle.lines.proofs.Laws.{line-fresh}
+use Rattle.receive.proofs.Serving.{Turning, turning-start}
 use Rattle.receive.proofs.serve.Statement.{statement}
 use Rattle.receive.proofs.serve.Tie as tie
 use Rattle.receive.proofs.serve.Reads as reads
@@ -28,7 +29,7 @@ large-buffer-requires-2 : tie.Need-large-buffer-requires-2 Inv-loop μ-loop
 large-buffer-requires-2 c κs = search needs
 
 loop-holds : tie.Need-loop-holds Inv-loop μ-loop
-loop-holds c = turning-start (c .before .before .pre) line-start (c .before .large-buffer .ensures) (c .large-buffer2 .ensures)
+loop-holds c = turning-start (c .before .before .pre) (line-fresh 3001 refl) (c .before .large-buffer .ensures) (c .large-buffer2 .ensures)
 
 sub-turns : tie.Need-sub-turns Inv-loop μ-loop
 sub-turns c = search needs
