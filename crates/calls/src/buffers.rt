@@ -124,7 +124,7 @@ fn packet_of(
     out: &mut [u8],
 ) -> usize {
     if kind == 0 {
-        let answer = packets::write(
+        let answer = packet_writer::write(
             packets::Kind::Indicator,
             value,
             types,
@@ -137,7 +137,7 @@ fn packet_of(
     if kind != 1 {
         return no_call(out);
     }
-    let answer = packets::write(packets::Kind::Data, value, types, lengths, data, buffer);
+    let answer = packet_writer::write(packets::Kind::Data, value, types, lengths, data, buffer);
     written(out, answer, buffer)
 }
 

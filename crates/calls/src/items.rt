@@ -131,7 +131,7 @@ fn kind_octet(kind: packets::Kind) -> u8 {
 
 fn packet_read(s: &[u8], ending: Ending, out: &mut [u8]) -> usize {
     let packet = rest(s, 2);
-    let found = packets::read(packet, ending);
+    let found = packet_reader::read(packet, ending);
     let fields = found.fields;
     let reading = found.reading;
     match reading {

@@ -1,14 +1,9 @@
-mod Tests
-mod Every
+pub mod Tests
+pub mod Every
+pub mod Rest
 pub mod ReadLaws
-mod ReadItems
-mod FieldsTurn
-mod ReadPacket
+pub mod ReadEnds
 pub mod WriteLaws
-mod Measure
-mod Putting
-mod PutFields
-mod WritePacket
 mod WrittenReads
 mod ReadWrites
 mod Follow

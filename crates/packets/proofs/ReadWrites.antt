@@ -25,7 +25,7 @@ use Rattle.packets.specs.declared.types.Field.{Field}
 use Rattle.packets.proofs.Every.{drop-next}
 use Rattle.packets.proofs.ReadLaws.{stepped, FirstForm, first-form, count-form, header-form, size-form, FieldForm, bare, full, field-form, packet-form}
 use Rattle.packets.proofs.WriteLaws.{field-bare, field-full, write-of}
-use Rattle.packets.proofs.ReadPacket.{fields-inside}
+use Rattle.packets.proofs.ReadEnds.{fields-inside}
 
 -- ---- a test computed over all numbers below a bound
 below : (ℕ → Bool) → ℕ → Bool
