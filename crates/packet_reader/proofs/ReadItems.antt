@@ -93,7 +93,6 @@ pub ruleset firsts = (first-empty, first-extended, first-value, first-spare, fir
 -- ---- the count of fields
 -- what `&s[n..]` lends
 
-
 -- a length that reads, from the answer and its case
 length-is : {s : List ℕ} {r : Length} {n k : ℕ} → LengthRead s r → r ≡ length.Value n k → lengthAt s ≡ done (record { value = n; size = k })
 length-is read is = sym (read .answer) ∙ ap lengthOutcome is

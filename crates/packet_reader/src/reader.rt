@@ -1,14 +1,14 @@
 // Document 01, 'The packet', read in reading order: the first octet, the count of fields, each field, the end. Each item has
 // a function of its own, which answers with the item or with the refusal that is the whole packet's.
 
+use datagrams::Packet;
+use lengths::Length;
+use lengths::Refusal;
 use packets::Ending;
 use packets::Field;
 use packets::Kind;
 use packets::PacketRead;
 use packets::Reading;
-use datagrams::Packet;
-use lengths::Length;
-use lengths::Refusal;
 ghost use mathlib.Core.Path.{_≡_};
 ghost use Prim.Native.Nat.{_≤_};
 ghost use mathlib.Core.List.{[]};

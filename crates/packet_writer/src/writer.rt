@@ -1,11 +1,11 @@
 // Document 01, 'The packet', written. Everything is decided first, over the whole packet and in the order of the refusals, so
 // that a refusal has written nothing; then each item is put at the front of the part of the buffer that is still free.
 
-use packets::Field;
-use packets::Kind;
 use datagrams::Packet;
 use lengths::Refusal;
 use lengths::Written;
+use packets::Field;
+use packets::Kind;
 ghost use mathlib.Core.Path.{_≡_};
 ghost use Prim.Native.Nat.{_≤_, _<_};
 ghost use mathlib.Core.List.{[]};

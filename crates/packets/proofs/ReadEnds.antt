@@ -82,4 +82,3 @@ count-within s true c some e =
 count-within s false c some e =
     let is : c ≡ record { value = 0; next = 1 } = cc in
     omega (arith, ap (λ (x : Count). x .next) is)
-
