@@ -1,3 +1,4 @@
 mod Steps
+pub mod Tables
 pub mod Laws
 pub mod Claims

@@ -1,5 +1,6 @@
 pub mod Refusals
 pub mod Answers
+pub mod Tables
 pub mod Length
 pub mod Promise
 pub mod Claims
