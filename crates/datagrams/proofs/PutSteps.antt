@@ -10,6 +10,7 @@ use native.Mathlib.Omega.{arith}
 use borrow.Author.Tests.{le-ltb, le-leb, ltb-true}
 use borrow.Rule.Slice.PartMut.{midOf, putMid}
 use Rattle.lengths.specs.Answers.{done, refused, fitted, sizeOf}
+use Rattle.lengths.specs.Tables.{unless}
 use Rattle.lengths.specs.Length.{lengthOctets, lengthToWrite, lengthLimit}
 use Rattle.lengths.specs.Promise.{Puts}
 use Rattle.lengths.specs.declared.Refusal.{Refusal}
@@ -48,7 +49,7 @@ module _ {octets old : List ℕ} where
 -- ---- put_length
 length-fitted : (n : ℕ) (old : List ℕ) → n ≤ lengthLimit → length (lengthOctets n) ≤ length old
     → fitted (lengthToWrite n) old ≡ done (lengthOctets n)
-unfolding lengthToWrite
+unfolding lengthToWrite unless
 length-fitted n old fits room = rw (le-ltb lengthLimit n fits, le-leb (length (lengthOctets n)) (length old) room)
 
 module _ (n : ℕ) {old new : List ℕ} (fits : n ≤ lengthLimit) (room : length (lengthOctets n) ≤ length old) where

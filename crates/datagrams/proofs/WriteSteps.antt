@@ -10,6 +10,7 @@ use borrow.Author.Tests.{not-true, not-false, eqb-true}
 use borrow.Rule.Slice.PartMut.{midOf, putMid}
 use Rattle.lengths.specs.Refusals.{outsideSizes, wrongSettings, noRoom}
 use Rattle.lengths.specs.Answers.{done}
+use Rattle.lengths.specs.Tables.{unless}
 use Rattle.lengths.specs.Length.{lengthLimit}
 use Rattle.lengths.specs.Promise.{Puts, RefusalMade}
 use Rattle.lengths.specs.declared.Refusal.{Refusal}
@@ -67,7 +68,7 @@ module _ (number : ℕ) (packet : List ℕ) (k : Kind) (lengths run : List ℕ) 
   -- ---- write
   pub write-uncounted : {old : List ℕ} {b : Bool} {r : Refusal} → RefusalMade outsideSizes r → b ≡ countInside k (length lengths)
       → not b ≡ true → Puts (datagramToWrite number packet k lengths run) old old (written.Refused r)
-  unfolding datagramToWrite
+  unfolding datagramToWrite unless
   write-uncounted made found out =
       let count : countInside k (length lengths) ≡ false = sym found ∙ not-true _ out in
       record { answer = rw (count, made .answer); lent = rw count }
@@ -75,7 +76,7 @@ module _ (number : ℕ) (packet : List ℕ) (k : Kind) (lengths run : List ℕ) 
   pub write-unsummed : {old : List ℕ} {b d : Bool} {r : Refusal} → RefusalMade wrongSettings r → b ≡ countInside k (length lengths)
       → not b ≡ false → d ≡ eqb (sumOf lengths) (length run) → not d ≡ true
       → Puts (datagramToWrite number packet k lengths run) old old (written.Refused r)
-  unfolding datagramToWrite
+  unfolding datagramToWrite unless
   write-unsummed made found in′ told out =
       let count : countInside k (length lengths) ≡ true = sym found ∙ not-false _ in′ in
       let sum : eqb (sumOf lengths) (length run) ≡ false = sym told ∙ not-true _ out in
@@ -84,7 +85,7 @@ module _ (number : ℕ) (packet : List ℕ) (k : Kind) (lengths run : List ℕ) 
   pub write-unsized : {old : List ℕ} {b d f : Bool} {r : Refusal} → RefusalMade outsideSizes r → b ≡ countInside k (length lengths)
       → not b ≡ false → d ≡ eqb (sumOf lengths) (length run) → not d ≡ false → f ≡ lengthsInside packet k lengths → not f ≡ true
       → Puts (datagramToWrite number packet k lengths run) old old (written.Refused r)
-  unfolding datagramToWrite
+  unfolding datagramToWrite unless
   write-unsized made found in′ told in″ sized out =
       let count : countInside k (length lengths) ≡ true = sym found ∙ not-false _ in′ in
       let sum : eqb (sumOf lengths) (length run) ≡ true = sym told ∙ not-false _ in″ in
