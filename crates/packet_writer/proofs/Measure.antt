@@ -3,13 +3,13 @@
 use Prim.Native.Nat.{ℕ, _+_, _-_, _≤_, _<_}
 use mathlib.Core.Path.{_≡_, refl, sym, ap, ap₂, _∙_}
 use mathlib.Core.Bool.{Bool, true, false, not, cond, _&&_}
-use mathlib.Core.List.{List}
+use mathlib.Core.List.{List, [], _∷_}
 use lib.ListN.{length, getD, drop, drop-of-length-le}
 use lib.Dec.{leb, ltb, eqb}
 use native.Mathlib.Omega.{arith}
 use borrow.Author.Tests.{lt-ltb, le-ltb, eq-eqb, ne-eqb, not-true, not-false}
 use Rattle.lengths.specs.Refusals.{outsideSizes, wrongSettings, notAssigned, wrongData}
-use Rattle.lengths.specs.Answers.{done, refuse}
+use Rattle.lengths.specs.Tables.{when, unless}
 use Rattle.lengths.specs.Promise.{RefusalMade}
 use Rattle.lengths.specs.declared.Refusal.{Refusal}
 use Rattle.lengths.specs.declared.Written.the-variants as written
@@ -144,8 +144,8 @@ size-is k v ts ns d each size few isEach so isSize =
 passed : (k : Kind) (v : ℕ) (ts ns d : List ℕ) {each known right fits : Bool} {size : ℕ} → length ts ≤ fieldsLimit → each ≡ oneEach ts ns d
     → not each ≡ false → known ≡ allAssigned k v ts → not known ≡ false → right ≡ allRight k ts ns → not right ≡ false
     → size ≡ packetSize ns → fits ≡ inSizes ns size
-    → packetToWrite k v ts ns d ≡ cond (not fits) (refuse outsideSizes) (done (packetOctets k v ts ns d))
-unfolding packetToWrite
+    → packetToWrite k v ts ns d ≡ unless (when (not fits) outsideSizes ∷ []) (packetOctets k v ts ns d)
+unfolding packetToWrite unless
 passed k v ts ns d {each} {known} {right} {fits} {size} few isEach so isKnown soKnown isRight soRight isSize isFits =
     rw (
       le-ltb fieldsLimit (length ts) few,
@@ -161,23 +161,23 @@ passed k v ts ns d {each} {known} {right} {fits} {size} few isEach so isKnown so
 
 module _ {k : Kind} {v : ℕ} {ts ns d : List ℕ} where
   pub measured-many : {x : Refusal} → fieldsLimit < length ts → RefusalMade outsideSizes x → Measured k v ts ns d (written.Refused x)
-  unfolding packetToWrite
+  unfolding packetToWrite unless
   measured-many many made = record { answer = rw (lt-ltb fieldsLimit (length ts) many, made .answer) }
 
   module _ {each : Bool} (few : length ts ≤ fieldsLimit) (isEach : each ≡ oneEach ts ns d) where
     pub measured-each : {x : Refusal} → not each ≡ true → RefusalMade wrongSettings x → Measured k v ts ns d (written.Refused x)
-    unfolding packetToWrite
+    unfolding packetToWrite unless
     measured-each not-so made = record { answer = rw (le-ltb fieldsLimit (length ts) few, ← isEach, not-so, made .answer) }
 
     module _ {known : Bool} (so : not each ≡ false) (isKnown : known ≡ allAssigned k v ts) where
       pub measured-known : {x : Refusal} → not known ≡ true → RefusalMade notAssigned x → Measured k v ts ns d (written.Refused x)
-      unfolding packetToWrite
+      unfolding packetToWrite unless
       measured-known not-so made =
           record { answer = rw (le-ltb fieldsLimit (length ts) few, ← isEach, so, ← isKnown, not-so, made .answer) }
 
       module _ {right : Bool} (soKnown : not known ≡ false) (isRight : right ≡ allRight k ts ns) where
         pub measured-right : {x : Refusal} → not right ≡ true → RefusalMade wrongData x → Measured k v ts ns d (written.Refused x)
-        unfolding packetToWrite
+        unfolding packetToWrite unless
         measured-right not-so made =
             record {
               answer =
@@ -186,9 +186,11 @@ module _ {k : Kind} {v : ℕ} {ts ns d : List ℕ} where
 
         module _ {size : ℕ} {fits : Bool} (soRight : not right ≡ false) (isSize : size ≡ packetSize ns) (isFits : fits ≡ inSizes ns size) where
           pub measured-sizes : {x : Refusal} → not fits ≡ true → RefusalMade outsideSizes x → Measured k v ts ns d (written.Refused x)
+          unfolding unless
           measured-sizes not-so made = record { answer = rw (passed k v ts ns d few isEach so isKnown soKnown isRight soRight isSize isFits, not-so, made .answer) }
 
           pub measured-size : not fits ≡ false → Measured k v ts ns d (written.Octets size)
+          unfolding unless
           measured-size soFits =
               record {
                 answer =

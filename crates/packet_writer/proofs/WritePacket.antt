@@ -12,6 +12,7 @@ use borrow.Rule.Slice.PartMut.{putMid}
 use borrow.Author.Tests.{le-ltb, le-leb, lt-leb, not-true, not-false}
 use Rattle.lengths.specs.Refusals.{noRoom}
 use Rattle.lengths.specs.Answers.{Answer, done, refused, writtenOutcome, sizeOf}
+use Rattle.lengths.specs.Tables.{unless}
 use Rattle.lengths.specs.Length.{lengthOctets, lengthToWrite, lengthLimit}
 use Rattle.lengths.specs.Promise.{RefusalMade, Puts}
 use Rattle.lengths.specs.declared.Refusal.{Refusal}
@@ -48,7 +49,7 @@ puts-all w old mid r room puts =
 module _ {ts ns d old mid : List ℕ} {r : Written} where
   count-puts : CountedFit ts ns d old → Puts (lengthToWrite (length ts)) old mid r
       → (writtenOutcome r ≡ done (length (lengthOctets (length ts)))) × (mid ≡ lengthOctets (length ts) ++ drop (length (lengthOctets (length ts))) old)
-  unfolding lengthToWrite
+  unfolding lengthToWrite unless
   count-puts fits puts =
       let small : ltb lengthLimit (length ts) ≡ false = le-ltb lengthLimit (length ts) (omega (arith, fits .few)) in
       puts-all (lengthOctets (length ts)) old mid r
