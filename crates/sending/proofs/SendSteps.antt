@@ -9,6 +9,7 @@ use native.Mathlib.Omega.{arith}
 use borrow.Author.Tests.{le-leb, lt-leb, leb-true, leb-false, not-true, not-false}
 use Rattle.lengths.specs.Refusals.{outsideSizes, wrongSettings, allPassed}
 use Rattle.lengths.specs.Answers.{Answer, done, refused, refuse, writtenOutcome, fitted, sizeOf, over}
+use Rattle.lengths.specs.Tables.{unless}
 use Rattle.lengths.specs.Promise.{Puts, RefusalMade}
 use Rattle.lengths.specs.declared.Refusal.{Refusal}
 use Rattle.lengths.specs.declared.Written.{Written}
@@ -86,12 +87,12 @@ carried-same (settings.Parity n m) sent packet sizes o =
 module _ (s : Settings) (sent : ℕ) (packet sizes o old : List ℕ) where
   pub held-all : {r : Refusal} → RefusalMade allPassed r → sessionLimit ≤ sent
       → Puts (datagramToSend s packet (sendingIn sent sizes o)) old old (written.Refused r)
-  unfolding datagramToSend
+  unfolding datagramToSend unless
   held-all made all = let e = le-leb sessionLimit sent all in record { answer = rw (e, made .answer); lent = rw e }
 
   pub held-settings : {b : Bool} {r : Refusal} → RefusalMade wrongSettings r → sent < sessionLimit → b ≡ settingsInside s → not b ≡ true
       → Puts (datagramToSend s packet (sendingIn sent sizes o)) old old (written.Refused r)
-  unfolding datagramToSend
+  unfolding datagramToSend unless
   held-settings {b} made free found out =
       let e = lt-leb sessionLimit sent free in
       let wrong : settingsInside s ≡ false = sym found ∙ not-true b out in
@@ -99,7 +100,7 @@ module _ (s : Settings) (sent : ℕ) (packet sizes o old : List ℕ) where
 
   pub held-packet : {b d : Bool} {r : Refusal} → RefusalMade outsideSizes r → sent < sessionLimit → b ≡ settingsInside s → not b ≡ false
       → d ≡ packetInside packet → not d ≡ true → Puts (datagramToSend s packet (sendingIn sent sizes o)) old old (written.Refused r)
-  unfolding datagramToSend
+  unfolding datagramToSend unless
   held-packet {b} {d} made free found in′ told out =
       let e = lt-leb sessionLimit sent free in
       let right : settingsInside s ≡ true = sym found ∙ not-false b in′ in
@@ -110,7 +111,7 @@ module _ (s : Settings) (sent : ℕ) (packet sizes o old : List ℕ) where
       → not b ≡ false → d ≡ packetInside packet → not d ≡ false → number ≡ sent % numbers → k ≡ kindOf s → count ≡ countOf s sent
       → Puts (done (datagramOctets (carriedIn number sizes o packet k count))) old new r
       → Puts (datagramToSend s packet (sendingIn sent sizes o)) old new r
-  unfolding datagramToSend
+  unfolding datagramToSend unless
   held-written {b} {d} free found in′ told in″ number-is kind-is count-is p =
       let e = lt-leb sessionLimit sent free in
       let right : settingsInside s ≡ true = sym found ∙ not-false b in′ in

@@ -12,6 +12,7 @@ use Rattle.octets.proofs.Place.{tab-ext, tab-same, allBelow-of}
 use Rattle.octets.proofs.Cases.{and-both}
 use Rattle.lengths.specs.Refusals.{outsideRanges}
 use Rattle.lengths.specs.Answers.{Answer, done, refused, refuse, fitted, sizeOf}
+use Rattle.lengths.specs.Tables.{unless}
 use Rattle.lengths.specs.Promise.{RefusalMade}
 use Rattle.lengths.specs.declared.Refusal.{Refusal}
 use Rattle.lengths.specs.declared.Written.{Written}
@@ -77,13 +78,13 @@ sent-few sent sizes o within = leb-true sent sessionLimit (sent-limit within)
 module _ (s : Sender) (settings : Settings) (packet old : List ℕ) where
   pub sends-outside : {b : Bool} {why : Refusal} {r : Sent} → RefusalMade outsideRanges why → b ≡ inRanges (s .sent) (s .sizes) (s .octets)
       → not b ≡ true → Unchanged s why r → Sends s settings packet old old r
-  unfolding toSend
+  unfolding toSend unless
   sends-outside {b} made found out same =
       let e : senderInRanges s ≡ false = sym found ∙ not-true b out in
       rw (same .whole) (record { answer = rw (e, made .answer); lent = rw e; state = rw e refl })
 
   inside : Within (s .sent) (s .sizes) (s .octets) → toSend s settings packet ≡ datagramToSend settings packet (sendingOf s)
-  unfolding toSend
+  unfolding toSend datagramToSend unless
   inside within = rw (within .ranges)
 
   module _ {sizes o new : List ℕ} {answer : Written} (within : Within (s .sent) (s .sizes) (s .octets))
