@@ -14,6 +14,7 @@ use Rattle.octets.specs.Place.{allBelow}
 use Rattle.octets.proofs.Place.{allBelow-more, allBelow-at, length-tab, tab-at}
 use Rattle.lengths.specs.Refusals.{tooLong, wrongSettings, noRoom}
 use Rattle.lengths.specs.Answers.{over}
+use Rattle.lengths.specs.Tables.{unless}
 use Rattle.lengths.specs.Promise.{Puts, RefusalMade}
 use Rattle.lengths.specs.declared.Refusal.{Refusal}
 use Rattle.lengths.specs.declared.Written.the-variants as written
@@ -101,13 +102,13 @@ paired-done {line} {old} {new} {i} p whole =
 -- ---- the answers of hex_to_octets
 module _ (line : List ℕ) {old : List ℕ} where
   pub octets-long : {r : Refusal} → RefusalMade tooLong r → 3000 < length line → Puts (lineOctets line) old old (written.Refused r)
-  unfolding lineOctets
+  unfolding lineOctets unless
   octets-long made long =
       record { answer = rw (made .answer, lt-ltb 3000 (length line) long); lent = rw (lt-ltb 3000 (length line) long) }
 
   pub octets-odd : {r : Refusal} → RefusalMade wrongSettings r → length line ≤ 3000 → (length line % 2 ≡ 0 → ⊥)
       → Puts (lineOctets line) old old (written.Refused r)
-  unfolding lineOctets
+  unfolding lineOctets unless
   octets-odd made short odd =
       record {
         answer = rw (made .answer, le-ltb 3000 (length line) short, ne-eqb (length line % 2) 0 odd);
@@ -116,7 +117,7 @@ module _ (line : List ℕ) {old : List ℕ} where
 
   pub octets-undigit : {r : Refusal} {all : Bool} → RefusalMade wrongSettings r → length line ≤ 3000 → length line % 2 ≡ 0
       → all ≡ allDigits line → all ≡ false → Puts (lineOctets line) old old (written.Refused r)
-  unfolding lineOctets
+  unfolding lineOctets unless
   octets-undigit made short even told not =
       let none : allDigits line ≡ false = sym told ∙ not in
       record {
@@ -126,7 +127,7 @@ module _ (line : List ℕ) {old : List ℕ} where
 
   pub octets-full : {r : Refusal} {all : Bool} → RefusalMade noRoom r → length line ≤ 3000 → length line % 2 ≡ 0
       → all ≡ allDigits line → all ≡ true → length old < length line / 2 → Puts (lineOctets line) old old (written.Refused r)
-  unfolding lineOctets
+  unfolding lineOctets unless
   octets-full made short even told passed full =
       let every : allDigits line ≡ true = sym told ∙ passed in
       let long = length-octetsIn line in
@@ -153,7 +154,7 @@ module _ (line : List ℕ) {old : List ℕ} where
   pub octets-read : {all : Bool} {new : List ℕ} → length line ≤ 3000 → length line % 2 ≡ 0
       → all ≡ allDigits line → all ≡ true → length line / 2 ≤ length old → new ≡ octetsIn line ++ drop (length line / 2) old
       → Puts (lineOctets line) old new (written.Octets (length line / 2))
-  unfolding lineOctets
+  unfolding lineOctets unless
   octets-read short even told passed room read =
       let every : allDigits line ≡ true = sym told ∙ passed in
       let long = length-octetsIn line in

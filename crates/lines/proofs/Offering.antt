@@ -1,13 +1,16 @@
 -- A line that is offered, on plain values: its octets, the offer's answer, and the line for a refusal. Assumes nothing.
 use Prim.Native.Nat.{ℕ, _+_, _%_, _≤_}
 use mathlib.Core.Path.{_≡_, refl, sym, ap, ap₂, _∙_}
-use mathlib.Core.Bool.{Bool, true, false, cond}
-use mathlib.Core.List.{List, [], _++_}
+use mathlib.Core.Bool.{not}
+use mathlib.Core.List.{List, [], _∷_, _++_}
 use lib.ListN.{length, take, drop, length-append}
 use lib.Seq.{take-append-seam, length-take-le}
-use lib.Dec.{ltb, eqb}
+use lib.Dec.{ltb}
 use native.Mathlib.Omega.{arith}
 use borrow.Author.Tests.{ltb-false, le-leb}
+use Rattle.lengths.specs.Refusals.{tooLong, wrongSettings}
+use Rattle.lengths.specs.Tables.{when}
+use Rattle.lengths.proofs.Tables.{unless-past, unless-done}
 use Rattle.lengths.specs.Answers.{Answer, done, refused, fitted, sizeOf, over, writtenOutcome}
 use Rattle.lengths.specs.Promise.{Puts}
 use Rattle.lengths.specs.declared.Refusal.{Refusal}
@@ -22,7 +25,7 @@ use Rattle.heads.specs.declared.Head.{Head}
 use Rattle.receiving.specs.Promise.{OfferMade, offeredOutcome, acceptedOf, afterOffer}
 use Rattle.receiving.specs.declared.Offered.the-variants as offered
 use Rattle.receiving.specs.declared.OfferDone.{OfferDone}
-use Rattle.lines.specs.Hex.{lineLimit, allDigits, octetsIn, lineOctets}
+use Rattle.lines.specs.Hex.{lineLimit, paired, lineRows, octetsIn, lineOctets}
 use Rattle.lines.specs.Lines.{refusalLine, offerMade, lineOffered, offerLine}
 use Rattle.lines.specs.Promise.{Appends, Does}
 use Rattle.lines.proofs.Appending.{appends-none}
@@ -62,19 +65,13 @@ module _ {x : Answer View} {h : Head} {o g : List ℕ} {r : OfferDone} {newO new
       }
 
 -- ---- a line's octets
-shape : (b₁ b₂ b₃ : Bool) (x y z : Refusal) (l octets : List ℕ)
-    → cond b₁ (refused x) (cond b₂ (cond b₃ (done l) (refused y)) (refused z)) ≡ done octets → (b₁ ≡ false) × (l ≡ octets)
-shape true b₂ b₃ x y z l octets e = let n : _≡_ {A = ℕ} 0 1 = cc in absurd (omega arith)
-shape false false b₃ x y z l octets e = let n : _≡_ {A = ℕ} 0 1 = cc in absurd (omega arith)
-shape false true false x y z l octets e = let n : _≡_ {A = ℕ} 0 1 = cc in absurd (omega arith)
-shape false true true x y z l octets e = (refl, cc)
-
 -- a line's octets are no more than a datagram may have
 pub line-fits : (line octets : List ℕ) → lineOctets line ≡ done octets → length octets ≤ datagramLimit
 unfolding lineOctets
 line-fits line octets e =
-    let p = shape (ltb lineLimit (length line)) (eqb (length line % 2) 0) (allDigits line) _ _ _ (octetsIn line) octets e in
-    omega (arith, ltb-false lineLimit (length line) (p .0), ap length (p .1), length-octetsIn line)
+    let short = unless-past (ltb lineLimit (length line)) tooLong (when (not (paired line)) wrongSettings ∷ []) (octetsIn line) octets e in
+    let same : octets ≡ octetsIn line = unless-done (lineRows line) (octetsIn line) octets e in
+    omega (arith, ltb-false lineLimit (length line) (short .0), ap length same, length-octetsIn line)
 
 -- what hex_to_octets says of a line's octets, with room for a datagram
 read-octets : (x : Answer (List ℕ)) (size : ℕ) (old new : List ℕ) → ((l : List ℕ) → x ≡ done l → length l ≤ length old)
