@@ -8,7 +8,6 @@ pub mod Knowing
 pub mod Calling
 pub mod Demand2
 pub mod Sheet
-pub mod Tables
 pub mod Front
 pub mod Demand1
 pub mod Sent

@@ -12,7 +12,7 @@ use Rattle.lengths.specs.Answers.{Answer, done, refused, refuse, _>>=_, 
 use Rattle.lengths.specs.Promise.{Puts}
 use Rattle.lengths.specs.declared.Refusal.{Refusal}
 use Rattle.lengths.specs.declared.Written.{Written}
-use Rattle.lengths.specs.Tables.{when, first, unless, refusalIn, isLonger}
+use Rattle.lengths.specs.Tables.{when, first, unless, refusalIn, roomRow}
 
 -- a test that refuses, and one that must be met
 pub row : {A : Type 0} (b : Bool) (n : ℕ) (m : Answer A) (rows : List (Option ℕ)) → refusalIn m ≡ first rows
@@ -81,17 +81,17 @@ last-row true octets = refl
 last-row false octets = refl
 
 row-fitted : (w : Answer (List ℕ)) (octets old : List ℕ) (rows : List (Option ℕ)) → ((x : List ℕ) → w ≡ done x → x ≡ octets)
-    → refusalIn w ≡ first rows → refusalIn (fitted w old) ≡ first (rows ++ (when (isLonger octets old) noRoom ∷ []))
+    → refusalIn w ≡ first rows → refusalIn (fitted w old) ≡ first (rows ++ roomRow octets old)
 row-fitted (done x) octets old rows same e =
     let is : x ≡ octets = same x refl in
     ap (λ (o : List ℕ). refusalIn (fitted (done o) old)) is
     ∙ last-row (leb (length octets) (length old)) octets
-    ∙ sym (first-none rows (when (isLonger octets old) noRoom ∷ []) e)
-row-fitted (refused why) octets old rows same e = first-some rows (when (isLonger octets old) noRoom ∷ []) (why .number) e
+    ∙ sym (first-none rows (roomRow octets old) e)
+row-fitted (refused why) octets old rows same e = first-some rows (roomRow octets old) (why .number) e
 
 -- so of a writer by its table
 pub fitted-first : (rows : List (Option ℕ)) (octets old : List ℕ)
-    → refusalIn (fitted (unless rows octets) old) ≡ first (rows ++ (when (isLonger octets old) noRoom ∷ []))
+    → refusalIn (fitted (unless rows octets) old) ≡ first (rows ++ roomRow octets old)
 fitted-first rows octets old = row-fitted (unless rows octets) octets old rows (unless-done rows octets) (unless-first rows octets)
 
 -- the number that a writer answers with

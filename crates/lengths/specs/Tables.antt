@@ -6,6 +6,7 @@ use mathlib.Core.List.{List, [], _∷_}
 use mathlib.Core.Option.{Option, none, some}
 use lib.ListN.{length}
 use lib.Dec.{leb}
+use Rattle.lengths.specs.Refusals.{noRoom}
 use Rattle.lengths.specs.Answers.{Answer, done, refused, refuse}
 
 -- a row: given with this number where the condition is met
@@ -30,6 +31,6 @@ abbrev pub refusalIn : {A : Type 0} → Answer A → Option ℕ
 refusalIn (done a) = none
 refusalIn (refused why) = some (why .number)
 
--- 13: "the result is longer than the lent buffer"
-abbrev pub isLonger : List ℕ → List ℕ → Bool
-isLonger octets lent = not (leb (length octets) (length lent))
+-- 13, "the result is longer than the lent buffer": the last row of every call that writes these octets to the front of a lent one
+abbrev pub roomRow : List ℕ → List ℕ → List (Option ℕ)
+roomRow octets lent = when (not (leb (length octets) (length lent))) noRoom ∷ []
