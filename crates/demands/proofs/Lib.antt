@@ -6,6 +6,11 @@ pub mod Steps
 pub mod Leaving
 pub mod Knowing
 pub mod Calling
+pub mod Places
+pub mod Reaching
+pub mod Arriving
+pub mod KnownReached
+pub mod Never17
 pub mod Demand2
 pub mod Sheet
 pub mod Tables
