@@ -1,6 +1,6 @@
 -- The public calls follow the history: a session within its ranges that is seen as a view answers, and hands back, what the
 -- definitions make of that view. Assumes nothing.
-use Prim.Native.Nat.{ℕ, _+_, _%_, _≤_, _<_}
+use Prim.Native.Nat.{ℕ, _%_, _≤_, _<_}
 use mathlib.Core.Path.{_≡_, refl, sym, ap, subst, _∙_}
 use mathlib.Core.Bool.{Bool, true, false, cond, false≢true}
 use mathlib.Core.List.{List}
@@ -44,7 +44,7 @@ use Rattle.sessions.specs.declared.receiver.AfterNext.{AfterNext}
 use Rattle.sessions.specs.declared.receiver.AfterGiveUp.{AfterGiveUp}
 use Rattle.demands.specs.History as moves
 use Rattle.demands.specs.History.{after}
-use Rattle.demands.specs.Ranges.{ViewInRanges}
+use Rattle.demands.proofs.Ranges.{ViewInRanges}
 use Rattle.demands.specs.Calls.{Call, offer, next, giveUp, Calls, Called, atStart, offered, asked, gaveUp, handedOut, givenUp, leftIn}
 use Rattle.demands.specs.GoesOn.{moveOf, Says, GoesOn, from, by}
 use Rattle.demands.specs.Demand2.{Saved}

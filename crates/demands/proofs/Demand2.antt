@@ -1,5 +1,4 @@
 -- Demand 2, proved part by part. Assumes nothing.
-use mathlib.Core.Path.{subst}
 use Rattle.lengths.proofs.Claims as lengths
 use Rattle.datagrams.proofs.Claims as datagrams
 use Rattle.packets.proofs.Claims as packets

@@ -1,7 +1,7 @@
 -- Numbers leave in order, and the counts are the history's: call by call. What left by the calls so far takes the session from
 -- one base and counts to others (Went), and one number more takes it one further. Assumes nothing.
-use Prim.Native.Nat.{ℕ, suc, _+_, _%_, _<_}
-use mathlib.Core.Path.{_≡_, refl, sym, ap, ap₂, subst, _∙_}
+use Prim.Native.Nat.{ℕ, _+_, _%_, _<_}
+use mathlib.Core.Path.{_≡_, refl, sym, ap, ap₂, _∙_}
 use mathlib.Core.Logic.{⊎-elim}
 use mathlib.Core.Bool.{Bool, false≢true}
 use mathlib.Core.List.{List, [], _∷_, _++_, map, append-nil, map-append}
@@ -13,8 +13,8 @@ use Rattle.octets.proofs.Place.{tab-ext, tab-more}
 use Rattle.views.specs.View.{View, Counts, sum, numbers, following, freshView}
 use Rattle.repair.specs.Cells.{unknown, received, spare, repaired, blank}
 use Rattle.demands.specs.History.{Left, released, lost, isReceived, isSpare, isRepaired, isLost, numberOf, after, many, countsOf}
-use Rattle.demands.specs.Ranges.{ViewInRanges}
-use Rattle.demands.specs.Calls.{Call, Calls, leftIn, leftBy}
+use Rattle.demands.proofs.Ranges.{ViewInRanges}
+use Rattle.demands.specs.Calls.{Calls, leftIn, leftBy}
 use Rattle.demands.specs.GoesOn.{moveOf, GoesOn, from, by}
 use Rattle.demands.specs.Demand2.{OneKind, grown, FreshLeaves, SavedLeaves}
 use Rattle.demands.proofs.InRanges.{fresh-in-ranges}

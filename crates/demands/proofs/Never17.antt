@@ -14,7 +14,7 @@ use Rattle.lengths.specs.Refusals.{noRoom, allPassed, outsideRanges}
 use Rattle.lengths.specs.Answers.{Answer, done, refused, refuse, _>>=_, LengthAnswer}
 use Rattle.lengths.specs.Length.{ofTwo, lengthAt}
 use Rattle.lengths.specs.declared.Refusal.{Refusal}
-use Rattle.datagrams.specs.Read.{DatagramParts, ExtraHead, allowed, octetAt, sizedAt, itemAt, itemsAt, sparesAt, parityAt, extraAt, wholeOf, readDatagram}
+use Rattle.datagrams.specs.Read.{ExtraHead, allowed, octetAt, sizedAt, itemAt, itemsAt, sparesAt, parityAt, extraAt, wholeOf, readDatagram}
 use Rattle.datagrams.specs.Sizes.{datagramLimit}
 use Rattle.datagrams.specs.Write.{within}
 use Rattle.datagrams.specs.Read.{carriedBy, after, endOf, leastOf, mostOf}
@@ -27,11 +27,9 @@ use Rattle.views.specs.Offer as offers
 use Rattle.views.specs.Offer.{acceptedAt, lateFrom}
 use Rattle.views.specs.Release as releases
 use Rattle.views.specs.Release.{Release, Loss, atBase}
-use Rattle.heads.specs.Head.{viewOf}
 use Rattle.heads.specs.declared.Session.{Session}
 use Rattle.releasing.specs.Outcome.{handedOf, numberOf}
 use Rattle.receiving.specs.Promise.{acceptedOf}
-use Rattle.sessions.specs.Receiver.{SeenAs}
 use Rattle.demands.specs.Refusals.{refusalIn}
 use Rattle.demands.specs.Calls.{Call, offer, next, giveUp, Calls, _then_, Called, refusalOf}
 use Rattle.demands.specs.GoesOn.{Says, GoesOn, by}

@@ -11,15 +11,15 @@ use native.Mathlib.Omega.{arith}
 use Rattle.octets.proofs.Cases.{below-or-not}
 use Rattle.datagrams.specs.Carried.{Carried}
 use Rattle.repair.specs.Cells.{keptBefore, keptAhead, keptNumbers}
-use Rattle.repair.specs.Held.{Held, nothingHeld, heldAt}
+use Rattle.repair.specs.Held.{Held, heldAt}
 use Rattle.repair.specs.Repair.{Message}
 use Rattle.repair.specs.Reached.{Known}
 use Rattle.views.specs.View.{View, Counts, sum, freshView, goneOn}
 use Rattle.views.specs.Offer.{heldOf}
 use Rattle.demands.specs.History.{Left}
-use Rattle.demands.specs.Ranges.{ViewInRanges}
+use Rattle.demands.proofs.Ranges.{ViewInRanges}
 use Rattle.demands.specs.Calls.{Call, Calls, start, _then_, acceptedIn, leftIn, leftBy}
-use Rattle.demands.specs.ReachedBy.{gone, sparesIn, Accepts, Arrived, now, before, HeldBy, ReachedBy, beforeFirst, packet, spare, repaired, earlier}
+use Rattle.demands.specs.ReachedBy.{gone, spareAt, sparesIn, Accepts, Arrived, now, before, HeldBy, ReachedBy, beforeFirst, packet, spare, repaired, earlier}
 use Rattle.demands.proofs.Shifted.{held-on, held-last}
 use Rattle.demands.proofs.InRanges.{fresh-in-ranges, fresh-held, on-in-ranges}
 use Rattle.demands.proofs.Steps.{gone-counts}
@@ -29,7 +29,7 @@ use Rattle.demands.proofs.Knowing.{fresh-known, left-known}
 -- what holds of all that was reached, of what the call brings, and of what a message then held mends, holds of all
 module _ (K : ℕ → Type 0) (calls : Calls) (call : Call) (old : (P : ℕ) → ReachedBy calls P → K P)
     (first : (S : ℕ) (c : Carried) → Accepts calls call S c → K S)
-    (copies : (S : ℕ) (c : Carried) → Accepts calls call S c → (j : ℕ) → 1 ≤ j → j ≤ sparesIn (c .extra) → K (S - j))
+    (copies : (S : ℕ) (c : Carried) → Accepts calls call S c → (j : ℕ) → 1 ≤ j → j ≤ sparesIn (c .extra) → K (spareAt S j))
     (mends : (S : ℕ) (c : Carried) → Accepts calls call S c → (message : Message) → HeldBy (calls then call) message
     → 1 ≤ length (message .octets) → (P : ℕ) → Among P (message .members)
     → ((q : ℕ) → Among q (message .members) → (q ≡ P → ⊥) → K q)
@@ -38,7 +38,7 @@ module _ (K : ℕ → Type 0) (calls : Calls) (call : Call) (old : (P : ℕ) →
   by-packet (now a) = first _ _ a
   by-packet (before a) = old _ (packet a)
 
-  by-spare : {S : ℕ} {c : Carried} → Arrived (calls then call) S c → (j : ℕ) → 1 ≤ j → j ≤ sparesIn (c .extra) → K (S - j)
+  by-spare : {S : ℕ} {c : Carried} → Arrived (calls then call) S c → (j : ℕ) → 1 ≤ j → j ≤ sparesIn (c .extra) → K (spareAt S j)
   by-spare (now a) j low high = copies _ _ a j low high
   by-spare (before a) j low high = old _ (spare a j low high)
 

@@ -33,7 +33,7 @@ use Rattle.sending.specs.Carries.{sparesFrom, extraFrom}
 use Rattle.sending.specs.Honest.{packetAt}
 use Rattle.sending.specs.declared.Settings.{Settings}
 use Rattle.sending.specs.declared.Settings.the-variants as settings
-use Rattle.demands.specs.Ranges.{ViewInRanges}
+use Rattle.demands.proofs.Ranges.{ViewInRanges}
 use Rattle.demands.specs.ReachedBy.{sparesIn}
 use Rattle.demands.specs.Feeding.{placeOf, sentAt}
 use Rattle.demands.proofs.Growing.{known-grown, grown-repair, keep-known, keep-unknown}

@@ -1,5 +1,4 @@
 pub mod History
-pub mod Ranges
 pub mod Calls
 pub mod GoesOn
 pub mod ReachedBy

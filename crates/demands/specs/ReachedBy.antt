@@ -29,6 +29,10 @@ baseBy calls = keptBefore + gone calls
 abbrev pub numberAt : ℕ → ℕ
 numberAt S = (S - keptBefore) % numbers
 
+-- "the j-th spare of datagram S is packet S−j"
+abbrev pub spareAt : ℕ → ℕ → ℕ
+spareAt S j = S - j
+
 -- how many spares a datagram carries
 abbrev pub sparesIn : Extra → ℕ
 sparesIn (spares copies) = length copies
@@ -67,10 +71,10 @@ pub data ReachedBy : Calls → ℕ → Type 0 where
   beforeFirst : {calls : Calls} {p : ℕ} → p < keptBefore → ReachedBy calls p
   -- the packet of a datagram that arrived
   packet : {calls : Calls} {S : ℕ} {datagram : Carried} → Arrived calls S datagram → ReachedBy calls S
-  -- "the j-th spare of datagram S is packet S−j"
+  -- each of its spares, the first of which is j = 1
   spare : {calls : Calls} {S : ℕ} {datagram : Carried} → Arrived calls S datagram
       → (j : ℕ) → 1 ≤ j → j ≤ sparesIn (datagram .extra)
-      → ReachedBy calls (S - j)
+      → ReachedBy calls (spareAt S j)
   -- "Then repair": once an offer is accepted, the one missing member of a message held then, of length 1 or more
   repaired : {calls : Calls} {call : Call} {S p : ℕ} {datagram : Carried} → Accepts calls call S datagram
       → (message : Message) → HeldBy (calls then call) message → 1 ≤ length (message .octets) → Among p (message .members)
