@@ -18,9 +18,9 @@ use Rattle.repair.specs.Held.{Held, heldAt}
 use Rattle.views.specs.View.{View, numbers, distance}
 use Rattle.views.specs.Offer.{heldOf, accept}
 use Rattle.demands.specs.History.{Left}
-use Rattle.demands.proofs.Ranges.{ViewInRanges}
 use Rattle.demands.specs.Calls.{Call, Calls, _then_, acceptedIn, leftIn, leftBy}
 use Rattle.demands.specs.ReachedBy.{gone, numberAt, sparesIn, Accepts, Arrived, now, before}
+use Rattle.demands.proofs.Ranges.{ViewInRanges}
 use Rattle.demands.proofs.InRanges.{read-held, accept-in-ranges, held-accepted, held-beside}
 use Rattle.demands.proofs.Steps.{OfferDone}
 use Rattle.demands.proofs.Places.{number-there, place-there, few-spares, marked-true, number-of}
@@ -122,7 +122,10 @@ module _ {calls : Calls} {g : ℕ} {view last : View} (k : Knows calls g view) {
         held-beside d c view e
             (λ same.
             true≢false
-            (sym (marked-true (x .extra)) ∙ ap (λ (h : Held). h .accepted) (sym (was .1)) ∙ ap (λ (n : ℕ). (heldAt (view .held) n) .accepted) same ∙ o .unmarked))
+            (sym (marked-true (x .extra))
+            ∙ ap (λ (h : Held). h .accepted) (sym (was .1))
+            ∙ ap (λ (n : ℕ). (heldAt (view .held) n) .accepted) same
+            ∙ o .unmarked))
             ∙ was .1,
       )
 

@@ -44,10 +44,11 @@ use Rattle.sessions.specs.declared.receiver.AfterNext.{AfterNext}
 use Rattle.sessions.specs.declared.receiver.AfterGiveUp.{AfterGiveUp}
 use Rattle.demands.specs.History as moves
 use Rattle.demands.specs.History.{after}
-use Rattle.demands.proofs.Ranges.{ViewInRanges}
-use Rattle.demands.specs.Calls.{Call, offer, next, giveUp, Calls, Called, atStart, offered, asked, gaveUp, handedOut, givenUp, leftIn}
+use Rattle.demands.specs.Calls.{Call, offer, next, giveUp, Calls, handedOut, givenUp, leftIn}
+use Rattle.demands.specs.Calls.{Called, atStart, offered, asked, gaveUp}
 use Rattle.demands.specs.GoesOn.{moveOf, Says, GoesOn, from, by}
 use Rattle.demands.specs.Demand2.{Saved}
+use Rattle.demands.proofs.Ranges.{ViewInRanges}
 use Rattle.demands.proofs.Steps.{leaving, releasedBy, lostBy}
 
 -- ---- a session within its ranges
@@ -205,13 +206,25 @@ pub called-went : {s t : Session} {calls : Calls} {view : View} → SeenAs view 
 called-went {view = view} seen atStart = record { held = view; seen = seen; on = from }
 called-went seen (offered {octets = octets} rest owes) =
     let w = called-went seen rest in
-    record { held = after (moves.offer octets) (w .held); seen = offered-seen (w .seen) owes; on = by (w .on) (offered-says (w .seen) owes) }
+    record {
+      held = after (moves.offer octets) (w .held);
+      seen = offered-seen (w .seen) owes;
+      on = by (w .on) (offered-says (w .seen) owes);
+    }
 called-went seen (asked {old = old} rest owes) =
     let w = called-went seen rest in
-    record { held = after (moves.next (length old)) (w .held); seen = asked-seen (w .seen) owes; on = by (w .on) (asked-says (w .seen) owes) }
+    record {
+      held = after (moves.next (length old)) (w .held);
+      seen = asked-seen (w .seen) owes;
+      on = by (w .on) (asked-says (w .seen) owes);
+    }
 called-went seen (gaveUp rest owes) =
     let w = called-went seen rest in
-    record { held = after moves.giveUp (w .held); seen = gave-up-seen (w .seen) owes; on = by (w .on) (gave-up-says (w .seen) owes) }
+    record {
+      held = after moves.giveUp (w .held);
+      seen = gave-up-seen (w .seen) owes;
+      on = by (w .on) (gave-up-says (w .seen) owes);
+    }
 
 -- so the last session holds what document 01 says
 pub called-on : {s t : Session} {calls : Calls} {view : View} → SeenAs view s → Called s calls t → GoesOn view calls (viewOf t)

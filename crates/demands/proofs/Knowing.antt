@@ -15,8 +15,8 @@ use Rattle.repair.specs.Reached.{Known, Reached, DistinctMembers}
 use Rattle.repair.proofs.Least.{known-reached, reached-known}
 use Rattle.views.specs.View.{View, Counts, freshView, goneOn}
 use Rattle.views.specs.Offer.{keep, keepExtra, accept}
-use Rattle.demands.proofs.Ranges.{ViewInRanges}
 use Rattle.demands.specs.ReachedBy.{sparesIn}
+use Rattle.demands.proofs.Ranges.{ViewInRanges}
 use Rattle.demands.proofs.Growing.{asReceived, grown-keep, grown-extra, known-grown, known-kept, kept-known, known-spares, spares-known}
 use Rattle.demands.proofs.Shifted.{cell-last, unknown-on}
 use Rattle.demands.proofs.InRanges.{fresh-before, fresh-ahead, filled}

@@ -24,10 +24,10 @@ use Rattle.receiving.specs.Promise.{offeredOutcome, acceptedOf, afterOffer}
 use Rattle.receiving.specs.declared.Offered.{Offered}
 use Rattle.receiving.specs.declared.Offered.the-variants as outcome
 use Rattle.demands.specs.History.{Left, released, lost, after}
-use Rattle.demands.proofs.Ranges.{ViewInRanges}
 use Rattle.demands.specs.Calls.{Call, offer, next, giveUp, Calls, _then_, acceptedIn, leftIn}
 use Rattle.demands.specs.GoesOn.{moveOf, Says, GoesOn, from, by}
 use Rattle.demands.specs.ReachedBy.{gone, ReachedBy}
+use Rattle.demands.proofs.Ranges.{ViewInRanges}
 use Rattle.demands.proofs.Steps.{OfferDone, offer-done, next-done, give-up-done, base-fills, released-sum}
 use Rattle.demands.proofs.Reaching.{Knows, knows-start, knows-stays, knows-left}
 use Rattle.demands.proofs.Arriving.{took-of}
@@ -56,7 +56,8 @@ did view (next old new r) ranges says = pick (releases.next (length old) view) r
   pick (done a) e (answer.Packet kind number size) s =
       let o = next-done (length old) view a e in
       subst (Did view (next old new (answer.Packet kind number size))) (sym (o .after))
-      (leaves (released (stateOf kind) number (take size new)) _ refl refl (released-sum (base-fills view ranges (o .known)) (view .counts)))
+      (leaves (released (stateOf kind) number (take size new)) _ refl refl
+      (released-sum (base-fills view ranges (o .known)) (view .counts)))
   pick (done a) e (answer.Refused why) s = let z : _≡_ {A = ℕ} 0 1 = cc in absurd (omega arith)
   pick (refused x) e (answer.Packet kind number size) s = let z : _≡_ {A = ℕ} 0 1 = cc in absurd (omega arith)
   pick (refused x) e (answer.Refused why) s = nothing refl refl
@@ -77,7 +78,8 @@ knows (by {calls = calls} {call = call} {held = held} on says) = step (knows on)
   step t = pick (did held call (t .1 .ranges) says) where
     pick : {last : View} → Did held call last → (g : ℕ) × Knows (calls then call) g last
     pick (nothing stays none-taken) = (t .0, knows-stays (t .1) call none-taken stays)
-    pick (took octets stays taken o) = (t .0, subst (Knows (calls then call) (t .0)) (o .is) (knows-mid (took-of (t .1) o call taken stays)))
+    pick (took octets stays taken o) =
+        (t .0, subst (Knows (calls then call) (t .0)) (o .is) (knows-mid (took-of (t .1) o call taken stays)))
     pick (leaves x counts left none-taken more) = (suc (t .0), knows-left (t .1) call none-taken counts more x left)
 
 pub known-reached-by : {calls : Calls} {held : View} → GoesOn freshView calls held → (p : ℕ) → p < keptNumbers

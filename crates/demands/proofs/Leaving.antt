@@ -13,10 +13,10 @@ use Rattle.octets.proofs.Place.{tab-ext, tab-more}
 use Rattle.views.specs.View.{View, Counts, sum, numbers, following, freshView}
 use Rattle.repair.specs.Cells.{unknown, received, spare, repaired, blank}
 use Rattle.demands.specs.History.{Left, released, lost, isReceived, isSpare, isRepaired, isLost, numberOf, after, many, countsOf}
-use Rattle.demands.proofs.Ranges.{ViewInRanges}
 use Rattle.demands.specs.Calls.{Calls, leftIn, leftBy}
 use Rattle.demands.specs.GoesOn.{moveOf, GoesOn, from, by}
 use Rattle.demands.specs.Demand2.{OneKind, grown, FreshLeaves, SavedLeaves}
+use Rattle.demands.proofs.Ranges.{ViewInRanges}
 use Rattle.demands.proofs.InRanges.{fresh-in-ranges}
 use Rattle.demands.proofs.Steps.{Step, stays, leaves, leaving, step, after-in-ranges, counts-path}
 use Rattle.demands.proofs.Calling.{left-is}
@@ -109,7 +109,8 @@ went {view = view} r (by {calls = calls} {call = call} {held = held} on says) =
   where
     pick : Step held (after (moveOf call) held) (leaving (moveOf call) held)
         → Went (view .base) (view .counts) (leftBy calls) (held .base) (held .counts)
-        → Went (view .base) (view .counts) (leftBy calls ++ leftIn call) ((after (moveOf call) held) .base) ((after (moveOf call) held) .counts)
+        → Went (view .base) (view .counts) (leftBy calls ++ leftIn call) ((after (moveOf call) held) .base)
+        ((after (moveOf call) held) .counts)
     pick (stays counts base left) w = rw (left-is held call says, left, append-nil (leftBy calls)) (went-to base counts w)
     pick (leaves x left at one counts base) w = rw (left-is held call says, left) (went-to base counts (went-more w x at one))
 
@@ -124,7 +125,7 @@ unfolding freshView
 fresh-leaves {calls = calls} on =
     let w = went fresh-in-ranges on in
     record {
-      inOrder = w .inOrder ∙ tab-ext (length (leftBy calls)) _ (λ j. j % numbers) (λ j low. omega arith);
+      inOrder = w .inOrder ∙ tab-ext (length (leftBy calls)) _ _ (λ j low. omega arith);
       kinds = w .kinds;
       counts = w .counted ∙ counts-path (omega arith) (omega arith) (omega arith) (omega arith);
       advance = let total = w .advance in omega arith;

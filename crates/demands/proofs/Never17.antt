@@ -9,8 +9,8 @@ use lib.ListN.{length, getD, drop}
 use lib.Dec.{leb, ltb, eqb}
 use native.Mathlib.Omega.{arith}
 use borrow.Author.Tests.{ltb-true}
-use Rattle.lengths.specs.Refusals.{endsEarly, tooLong, badForm, outsideSizes, spareBit, leftOver, repeated, tooFar, late, baseUnknown, baseKnown}
-use Rattle.lengths.specs.Refusals.{noRoom, allPassed, outsideRanges}
+use Rattle.lengths.specs.Refusals.{endsEarly, tooLong, badForm, outsideSizes, spareBit, leftOver}
+use Rattle.lengths.specs.Refusals.{repeated, tooFar, late, baseUnknown, baseKnown, noRoom, allPassed, outsideRanges}
 use Rattle.lengths.specs.Answers.{Answer, done, refused, refuse, _>>=_, LengthAnswer}
 use Rattle.lengths.specs.Length.{ofTwo, lengthAt}
 use Rattle.lengths.specs.declared.Refusal.{Refusal}
@@ -62,7 +62,9 @@ unfolding lengthAt
 lower-length s =
     lower-cond (ltb (length s) 1) (low endsEarly refl)
     (lower-cond (ltb (getD s 0 0) 0x80) (value _)
-    (lower-cond (leb 0xC0 (getD s 0 0)) (low badForm refl) (lower-cond (ltb (length s) 2) (low endsEarly refl) (lower-cond (ltb (ofTwo (getD s 0 0) (getD s 1 0)) 0x80) (low badForm refl) (value _)))))
+    (lower-cond (leb 0xC0 (getD s 0 0)) (low badForm refl)
+    (lower-cond (ltb (length s) 2) (low endsEarly refl)
+    (lower-cond (ltb (ofTwo (getD s 0 0) (getD s 1 0)) 0x80) (low badForm refl) (value _)))))
 
 lower-allowed : (least most : ℕ) (l : LengthAnswer) → Lower (allowed least most l)
 unfolding allowed
@@ -78,7 +80,9 @@ lower-sized least most s at = lower-bind (lower-length (drop at s)) (lower-allow
 
 lower-item : (least most : ℕ) (s : List ℕ) (at : ℕ) → Lower (itemAt least most s at)
 unfolding itemAt
-lower-item least most s at = lower-bind (lower-sized least most s at) (λ l. lower-cond (ltb (length s - (at + l .size)) (l .value)) (low endsEarly refl) (value _))
+lower-item least most s at =
+    lower-bind (lower-sized least most s at)
+    (λ l. lower-cond (ltb (length s - (at + l .size)) (l .value)) (low endsEarly refl) (value _))
 
 lower-items : (least most : ℕ) (s : List ℕ) (at left : ℕ) → Lower (itemsAt least most s at left)
 unfolding itemsAt
@@ -93,13 +97,16 @@ lower-spares s at = lower-bind (lower-sized _ _ s at) (λ k. value _)
 lower-parity : (s : List ℕ) (at : ℕ) → Lower (parityAt s at)
 unfolding parityAt
 lower-parity s at =
-    lower-bind (lower-octet _ _ s at) (λ one. lower-bind (lower-octet _ _ s (at + 1)) (λ n. lower-bind (lower-sized _ _ s (at + 2)) (λ m. value _)))
+    lower-bind (lower-octet _ _ s at)
+    (λ one. lower-bind (lower-octet _ _ s (at + 1)) (λ n. lower-bind (lower-sized _ _ s (at + 2)) (λ m. value _)))
 
 lower-extra : (s : List ℕ) (at : ℕ) → Lower (extraAt s at)
 unfolding extraAt
 lower-extra s at =
     lower-cond (leb (length s) at) (low endsEarly refl)
-    (lower-cond (eqb (getD s at 0 % 0x80) 0) (lower-cond (ltb (getD s at 0) 0x80) (lower-spares s (at + 1)) (lower-parity s (at + 1))) (low spareBit refl))
+    (lower-cond (eqb (getD s at 0 % 0x80) 0)
+    (lower-cond (ltb (getD s at 0) 0x80) (lower-spares s (at + 1)) (lower-parity s (at + 1)))
+    (low spareBit refl))
 
 lower-number : (s : List ℕ) → Lower (reading.numberOf s)
 unfolding reading.numberOf
@@ -123,7 +130,9 @@ lower-read s =
 lower-offered : (datagram : Carried) (view : View) → Lower (offers.offered datagram view)
 unfolding offers.offered
 lower-offered datagram view =
-    lower-cond (ltb (distance (view .base) (datagram .number)) keptAhead) (lower-cond (acceptedAt view (distance (view .base) (datagram .number))) (low repeated refl) (value _)) (lower-cond (ltb (distance (view .base) (datagram .number)) lateFrom) (low tooFar refl) (low late refl))
+    lower-cond (ltb (distance (view .base) (datagram .number)) keptAhead)
+    (lower-cond (acceptedAt view (distance (view .base) (datagram .number))) (low repeated refl) (value _))
+    (lower-cond (ltb (distance (view .base) (datagram .number)) lateFrom) (low tooFar refl) (low late refl))
 
 lower-offer : (octets : List ℕ) (view : View) → Lower (offers.offer octets view)
 unfolding offers.offer
@@ -132,11 +141,15 @@ lower-offer octets view = lower-bind (lower-read octets) (λ parts. lower-offere
 lower-next : (room : ℕ) (view : View) → Lower (releases.next room view)
 unfolding releases.next
 lower-next room view =
-    lower-cond (leb sessionLimit (sum (view .counts))) (low allPassed refl) (lower-cond (unknownAt (view .cells) keptBefore) (low baseUnknown refl) (lower-cond (ltb room (length ((atBase view) .octets))) (low noRoom refl) (value _)))
+    lower-cond (leb sessionLimit (sum (view .counts))) (low allPassed refl)
+    (lower-cond (unknownAt (view .cells) keptBefore) (low baseUnknown refl)
+    (lower-cond (ltb room (length ((atBase view) .octets))) (low noRoom refl) (value _)))
 
 lower-give-up : (view : View) → Lower (releases.giveUp view)
 unfolding releases.giveUp
-lower-give-up view = lower-cond (leb sessionLimit (sum (view .counts))) (low allPassed refl) (lower-cond (unknownAt (view .cells) keptBefore) (value _) (low baseKnown refl))
+lower-give-up view =
+    lower-cond (leb sessionLimit (sum (view .counts))) (low allPassed refl)
+    (lower-cond (unknownAt (view .cells) keptBefore) (value _) (low baseKnown refl))
 
 -- the same of what they answer
 lower-accepted : {a : Answer View} → Lower a → Lower (acceptedOf a)

@@ -17,9 +17,10 @@ use Rattle.repair.specs.Reached.{Known}
 use Rattle.views.specs.View.{View, Counts, sum, freshView, goneOn}
 use Rattle.views.specs.Offer.{heldOf}
 use Rattle.demands.specs.History.{Left}
-use Rattle.demands.proofs.Ranges.{ViewInRanges}
 use Rattle.demands.specs.Calls.{Call, Calls, start, _then_, acceptedIn, leftIn, leftBy}
-use Rattle.demands.specs.ReachedBy.{gone, spareAt, sparesIn, Accepts, Arrived, now, before, HeldBy, ReachedBy, beforeFirst, packet, spare, repaired, earlier}
+use Rattle.demands.specs.ReachedBy.{gone, spareAt, HasSpare, Accepts, Arrived, now, before, HeldBy}
+use Rattle.demands.specs.ReachedBy.{ReachedBy, beforeFirst, packet, spare, repaired, earlier}
+use Rattle.demands.proofs.Ranges.{ViewInRanges}
 use Rattle.demands.proofs.Shifted.{held-on, held-last}
 use Rattle.demands.proofs.InRanges.{fresh-in-ranges, fresh-held, on-in-ranges}
 use Rattle.demands.proofs.Steps.{gone-counts}
@@ -29,7 +30,7 @@ use Rattle.demands.proofs.Knowing.{fresh-known, left-known}
 -- what holds of all that was reached, of what the call brings, and of what a message then held mends, holds of all
 module _ (K : ℕ → Type 0) (calls : Calls) (call : Call) (old : (P : ℕ) → ReachedBy calls P → K P)
     (first : (S : ℕ) (c : Carried) → Accepts calls call S c → K S)
-    (copies : (S : ℕ) (c : Carried) → Accepts calls call S c → (j : ℕ) → 1 ≤ j → j ≤ sparesIn (c .extra) → K (spareAt S j))
+    (copies : (S : ℕ) (c : Carried) → Accepts calls call S c → (j : ℕ) → HasSpare c j → K (spareAt S j))
     (mends : (S : ℕ) (c : Carried) → Accepts calls call S c → (message : Message) → HeldBy (calls then call) message
     → 1 ≤ length (message .octets) → (P : ℕ) → Among P (message .members)
     → ((q : ℕ) → Among q (message .members) → (q ≡ P → ⊥) → K q)
@@ -38,14 +39,14 @@ module _ (K : ℕ → Type 0) (calls : Calls) (call : Call) (old : (P : ℕ) →
   by-packet (now a) = first _ _ a
   by-packet (before a) = old _ (packet a)
 
-  by-spare : {S : ℕ} {c : Carried} → Arrived (calls then call) S c → (j : ℕ) → 1 ≤ j → j ≤ sparesIn (c .extra) → K (spareAt S j)
-  by-spare (now a) j low high = copies _ _ a j low high
-  by-spare (before a) j low high = old _ (spare a j low high)
+  by-spare : {S : ℕ} {c : Carried} → Arrived (calls then call) S c → (j : ℕ) → HasSpare c j → K (spareAt S j)
+  by-spare (now a) j has = copies _ _ a j has
+  by-spare (before a) j has = old _ (spare a j has)
 
   pub reached-then : {P : ℕ} → ReachedBy (calls then call) P → K P
   reached-then (beforeFirst low) = old _ (beforeFirst low)
   reached-then (packet a) = by-packet a
-  reached-then (spare a j low high) = by-spare a j low high
+  reached-then (spare a j has) = by-spare a j has
   reached-then (repaired a message held long at others) =
       mends _ _ a message held long _ at (λ q member other. reached-then (others q member other))
   reached-then (earlier r) = old _ r
@@ -68,7 +69,8 @@ pub record Knows (calls : Calls) (g : ℕ) (view : View) : Type 0 where
   pub reached : (p : ℕ) → p < keptNumbers → Known (view .cells) p → ReachedBy calls (g + p)
   pub seen : (P : ℕ) → ReachedBy calls P → Seen view g P
   -- each message that is held is one of a datagram that arrived
-  pub marked : (d : ℕ) → d < keptAhead → (i : ℕ) → i < length ((heldAt (view .held) d) .messages) → Brought calls g d (heldAt (view .held) d)
+  pub marked : (d : ℕ) → d < keptAhead → (i : ℕ) → i < length ((heldAt (view .held) d) .messages)
+      → Brought calls g d (heldAt (view .held) d)
   -- what arrived and has not left is held
   pub holds : (S : ℕ) (c : Carried) → Arrived calls S c → (d : ℕ) → S ≡ g + (keptBefore + d)
       → (d < keptAhead) × (heldAt (view .held) d ≡ heldOf (c .extra))
@@ -80,7 +82,7 @@ none-arrived a = elim a [ ]
 start-seen : {P : ℕ} → ReachedBy start P → P < keptBefore
 start-seen (beforeFirst low) = low
 start-seen (packet a) = absurd (none-arrived a)
-start-seen (spare a j low high) = absurd (none-arrived a)
+start-seen (spare a j has) = absurd (none-arrived a)
 
 pub knows-start : Knows start 0 freshView
 unfolding freshView leftBy
@@ -110,7 +112,7 @@ module _ {calls : Calls} {g : ℕ} {view : View} (k : Knows calls g view) (call 
   -- nothing is reached that was not
   was-reached : {P : ℕ} → ReachedBy (calls then call) P → ReachedBy calls P
   was-reached =
-      reached-then (ReachedBy calls) calls call (λ P r. r) (λ S c a. absurd (no-accepts a)) (λ S c a j low high. absurd (no-accepts a))
+      reached-then (ReachedBy calls) calls call (λ P r. r) (λ S c a. absurd (no-accepts a)) (λ S c a j has. absurd (no-accepts a))
       (λ S c a message held long P at others. absurd (no-accepts a))
 
   -- it was refused

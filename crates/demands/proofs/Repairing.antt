@@ -22,7 +22,7 @@ use Rattle.views.specs.View.{View, sum}
 use Rattle.views.specs.Offer.{heldOf, accept}
 use Rattle.heads.proofs.Parts.{reach-range}
 use Rattle.demands.specs.Calls.{Call, Calls, _then_}
-use Rattle.demands.specs.ReachedBy.{spareAt, sparesIn, Accepts, now, before, HeldBy, ReachedBy, packet, spare, repaired, earlier}
+use Rattle.demands.specs.ReachedBy.{spareAt, sparesIn, HasSpare, Accepts, now, HeldBy, ReachedBy, packet, spare, repaired, earlier}
 use Rattle.demands.proofs.Growing.{known-grown}
 use Rattle.demands.proofs.InRanges.{filled, grown-accept, distinct-held}
 use Rattle.demands.proofs.Steps.{accept-counts}
@@ -49,7 +49,7 @@ module _ {calls : Calls} {call : Call} {g d : ℕ} {c : Carried} {view : View} (
   brings-reached p (copy j less) =
       let few = t .few in
       let place : spareAt (g + (keptBefore + d)) (suc j) ≡ g + (keptBefore + d - suc j) = omega arith in
-      subst (ReachedBy (calls then call)) place (spare (now (t .here)) (suc j) (omega arith) less)
+      subst (ReachedBy (calls then call)) place (spare (now (t .here)) (suc j) (omega arith, less))
 
   -- the messages of the view are those of the calls
   module _ (e i : ℕ) (h : Held) (low : e < keptAhead) (is : heldAt (mid .held) e ≡ h) (few : i < length (h .messages)) where
@@ -130,7 +130,8 @@ module _ {calls : Calls} {call : Call} {g d : ℕ} {c : Carried} {view : View} (
   mid-reached p small k-now =
       reached-within (λ q. q < keptNumbers → ReachedBy (calls then call) (g + q)) (filled d c view) (heldMessages (mid .held))
       (λ q k-then less.
-      ⊎-elim (λ was. earlier (t .so-far .reached q less was)) (brings-reached q) (brought c d view (t .so-far .ranges .kept) (t .near) q .0 k-then))
+      ⊎-elim (λ was. earlier (t .so-far .reached q less was)) (brings-reached q)
+      (brought c d view (t .so-far .ranges .kept) (t .near) q .0 k-then))
       (λ message q among long at others less.
       let place = held-at keptBefore (mid .held) message among in
       let same = place .same in
@@ -154,12 +155,12 @@ module _ {calls : Calls} {call : Call} {g d : ℕ} {c : Carried} {view : View} (
         λ p same. let place : keptBefore + d ≡ p = omega arith in subst (Known (mid .cells)) place (brings-known (keptBefore + d) own),
       )
 
-  spare-seen : (S : ℕ) (x : Carried) → Accepts calls call S x → (j : ℕ) → 1 ≤ j → j ≤ sparesIn (x .extra) → Seen mid g (spareAt S j)
-  spare-seen S x a zero least few = absurd (omega arith)
-  spare-seen S x a (suc j) least few =
+  spare-seen : (S : ℕ) (x : Carried) → Accepts calls call S x → (j : ℕ) → HasSpare x j → Seen mid g (spareAt S j)
+  spare-seen S x a zero has = absurd (let least = has .0 in omega arith)
+  spare-seen S x a (suc j) has =
       let at = t .one a .0 in
       let low = t .near in
-      let less : suc j ≤ sparesIn (c .extra) = subst (λ (y : Carried). suc j ≤ sparesIn (y .extra)) (t .one a .1) few in (
+      let less : suc j ≤ sparesIn (c .extra) = subst (λ (y : Carried). suc j ≤ sparesIn (y .extra)) (t .one a .1) (has .1) in (
         omega arith,
         λ p same.
             let place : keptBefore + d - suc j ≡ p = omega arith in

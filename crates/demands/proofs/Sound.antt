@@ -33,9 +33,9 @@ use Rattle.sending.specs.Carries.{sparesFrom, extraFrom}
 use Rattle.sending.specs.Honest.{packetAt}
 use Rattle.sending.specs.declared.Settings.{Settings}
 use Rattle.sending.specs.declared.Settings.the-variants as settings
-use Rattle.demands.proofs.Ranges.{ViewInRanges}
 use Rattle.demands.specs.ReachedBy.{sparesIn}
 use Rattle.demands.specs.Feeding.{placeOf, sentAt}
+use Rattle.demands.proofs.Ranges.{ViewInRanges}
 use Rattle.demands.proofs.Growing.{known-grown, grown-repair, keep-known, keep-unknown}
 use Rattle.demands.proofs.Shifted.{cell-on, cell-last, held-on, held-last, unknown-on}
 use Rattle.demands.proofs.InRanges.{fresh-before, fresh-ahead, fresh-held, fresh-in-ranges, HeldInside, read-held, filled, grown-filled}

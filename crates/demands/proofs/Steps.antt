@@ -23,8 +23,8 @@ use Rattle.views.specs.Release.{Release, Loss, booked, atBase}
 use Rattle.releasing.specs.Outcome.{afterNext, afterGiveUp}
 use Rattle.receiving.specs.Promise.{afterOffer}
 use Rattle.demands.specs.History.{Move, offer, next, giveUp, Left, released, lost, numberOf, after, many, countsOf}
-use Rattle.demands.proofs.Ranges.{ViewInRanges}
 use Rattle.demands.specs.Demand2.{OneKind, grown}
+use Rattle.demands.proofs.Ranges.{ViewInRanges}
 use Rattle.demands.proofs.Growing.{Fills, asReceived, asSpare, asRepaired}
 use Rattle.demands.proofs.InRanges.{read-held, accept-in-ranges, on-in-ranges}
 

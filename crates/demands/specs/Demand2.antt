@@ -39,7 +39,7 @@ pub record RoundTrips : Type 0 where
   pub packetRead : packets.ReadWrites
 
 -- ---- where a chain of calls begins
--- a session saved within its ranges: any value of the struct's type that `in_ranges` would pass
+-- a session saved within its ranges; that its arrays have their lengths is so of every value of the struct's type
 pub record Saved (s : Session) : Type 0 where
   pub sized : Sized (s .head) (s .octets) (s .messages)
   pub inRanges : sessionInRanges s ≡ true
@@ -90,7 +90,7 @@ pub record Demand2 : Type 0 where
   -- "What you write reads back to the same fields, and what you read as received writes back to the same octets."
   pub roundTrips : RoundTrips
   -- "In a session fresh at its start, the known numbers are exactly those reached from arrived, spare and parity octets by 01's
-  -- repair rule." Place p of the numbers in view is the place `gone calls + p` of the session
+  -- repair rule." What stands at place p in view is the session's place `gone calls + p`
   pub knownNumbers : {s t : Session} {calls : Calls} → Fresh s → Called s calls t → (p : ℕ) → p < keptNumbers
       → Known ((viewOf t) .cells) p ↔ ReachedBy calls (gone calls + p)
   -- "Numbers leave in order, each place once, released or lost, and the counts match the history."
@@ -99,7 +99,7 @@ pub record Demand2 : Type 0 where
       → SavedLeaves (viewOf s) (leftBy calls) (viewOf t)
   -- "One saved within its ranges goes on from what it holds, each call as 01 says."
   pub goesOn : {s t : Session} {calls : Calls} → Saved s → Called s calls t → GoesOn (viewOf s) calls (viewOf t)
-  -- "17 | session outside its ranges": no session that the library handed out is refused with it, nor the first one
+  -- "17 | session outside its ranges": no session that the library handed out is ever refused with it, nor is the first
   pub never17 : {s t : Session} {calls : Calls} {call : Call} → Begins s → Called s (calls then call) t
       → refusalOf call ≡ some outsideRanges
       → ⊥

@@ -38,7 +38,12 @@ abbrev pub sparesIn : Extra → ℕ
 sparesIn (spares copies) = length copies
 sparesIn (parity n messages) = 0
 
--- the call that comes after these is an offer that was accepted, of this datagram, at place S: "d up to 31 may be accepted"
+-- it carries a j-th spare, j from 1 on
+abbrev pub HasSpare : Carried → ℕ → Type 0
+HasSpare datagram j = (1 ≤ j) × (j ≤ sparesIn (datagram .extra))
+
+-- the call that comes after these is an offer of this datagram, and was accepted; S is the place of its number, the one within
+-- keptAhead from the base that has it: "d up to 31 may be accepted"
 pub record Accepts (calls : Calls) (call : Call) (S : ℕ) (datagram : Carried) : Type 0 where
   pub octets : List ℕ
   pub accepted : acceptedIn call ≡ some octets
@@ -47,15 +52,15 @@ pub record Accepts (calls : Calls) (call : Call) (S : ℕ) (datagram : Carried) 
   pub near : S < baseBy calls + keptAhead
   pub number : datagram .number % numbers ≡ numberAt S
 
--- one of these calls is such an offer
+-- one of these calls is such an offer: the datagram arrived at place S
 pub data Arrived : Calls → ℕ → Carried → Type 0 where
   now : {calls : Calls} {call : Call} {S : ℕ} {datagram : Carried} → Accepts calls call S datagram
       → Arrived (calls then call) S datagram
   before : {calls : Calls} {call : Call} {S : ℕ} {datagram : Carried} → Arrived calls S datagram
       → Arrived (calls then call) S datagram
 
--- a message held after these calls: message i of a datagram that arrived at place S and has not left. "The number that leaves
--- drops its accepted mark and messages"
+-- a message held after these calls: message i of a datagram that arrived at place S, where S has not left. "The number that
+-- leaves drops its accepted mark and messages"
 pub record HeldBy (calls : Calls) (message : Message) : Type 0 where
   pub S : ℕ
   pub datagram : Carried
@@ -71,11 +76,11 @@ pub data ReachedBy : Calls → ℕ → Type 0 where
   beforeFirst : {calls : Calls} {p : ℕ} → p < keptBefore → ReachedBy calls p
   -- the packet of a datagram that arrived
   packet : {calls : Calls} {S : ℕ} {datagram : Carried} → Arrived calls S datagram → ReachedBy calls S
-  -- each of its spares, the first of which is j = 1
-  spare : {calls : Calls} {S : ℕ} {datagram : Carried} → Arrived calls S datagram
-      → (j : ℕ) → 1 ≤ j → j ≤ sparesIn (datagram .extra)
+  -- each of its spares
+  spare : {calls : Calls} {S : ℕ} {datagram : Carried} → Arrived calls S datagram → (j : ℕ) → HasSpare datagram j
       → ReachedBy calls (spareAt S j)
-  -- "Then repair": once an offer is accepted, the one missing member of a message held then, of length 1 or more
+  -- "Then repair": the call is an accepted offer, and the place is the one missing member of a message of length 1 or more
+  -- that is held with it; all other members are reached by then
   repaired : {calls : Calls} {call : Call} {S p : ℕ} {datagram : Carried} → Accepts calls call S datagram
       → (message : Message) → HeldBy (calls then call) message → 1 ≤ length (message .octets) → Among p (message .members)
       → ((q : ℕ) → Among q (message .members) → (q ≡ p → ⊥) → ReachedBy (calls then call) q)
