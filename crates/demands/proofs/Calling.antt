@@ -1,9 +1,9 @@
 -- The public calls follow the history: a session within its ranges that is seen as a view answers, and hands back, what the
 -- definitions make of that view. Assumes nothing.
-use Prim.Native.Nat.{ℕ, _+_, _%_, _≤_, _<_}
-use mathlib.Core.Path.{_≡_, refl, sym, ap, ap₂, subst, _∙_}
+use Prim.Native.Nat.{ℕ, _%_, _≤_, _<_}
+use mathlib.Core.Path.{_≡_, refl, sym, ap, subst, _∙_}
 use mathlib.Core.Bool.{Bool, true, false, cond, false≢true}
-use mathlib.Core.List.{List, _++_}
+use mathlib.Core.List.{List}
 use lib.ListN.{length, drop}
 use lib.Seq.{take-append-seam}
 use lib.Dec.{leb, eqb}
@@ -23,7 +23,7 @@ use Rattle.views.specs.Release as releases
 use Rattle.views.specs.Release.{Release, Loss}
 use Rattle.heads.specs.Head.{heardSlotAt, stateOf, countsOf, heardIn, cellIn, heldIn, cellsOf, heldOf, viewIn, viewOf}
 use Rattle.heads.specs.Ranges.{sumInRange, stateInRange, sessionInRanges}
-use Rattle.heads.specs.Promise.{Sized, Fresh}
+use Rattle.heads.specs.Promise.{Fresh}
 use Rattle.heads.specs.Within.{Within}
 use Rattle.heads.specs.declared.State.{State}
 use Rattle.heads.specs.declared.State.the-variants.{Unknown, Received, Spare, Repaired, Blank}
@@ -37,22 +37,26 @@ use Rattle.releasing.specs.declared.Released.{Released}
 use Rattle.releasing.specs.declared.Released.the-variants as answer
 use Rattle.releasing.specs.declared.Lost.{Lost}
 use Rattle.releasing.specs.declared.Lost.the-variants as loss
-use Rattle.receiving.specs.Promise.{afterOffer}
+use Rattle.receiving.specs.Promise.{acceptedOf, afterOffer}
 use Rattle.sessions.specs.Receiver.{SeenAs, After, inRangesThen, offerOf, OfferOwes, nextOf, viewAfterNext, NextOwes, giveUpOf, viewAfterLoss, GiveUpOwes}
 use Rattle.sessions.specs.declared.receiver.AfterOffer.{AfterOffer}
 use Rattle.sessions.specs.declared.receiver.AfterNext.{AfterNext}
 use Rattle.sessions.specs.declared.receiver.AfterGiveUp.{AfterGiveUp}
-use Rattle.demands.specs.History.{Move, offer, next, giveUp, Left, after, leaving, releasedBy, lostBy, run, history}
-use Rattle.demands.specs.Ranges.{ViewInRanges}
-use Rattle.demands.specs.Calls.{handedOut, givenUp, Called, none, offered, asked, gaveUp}
-use Rattle.demands.specs.Demand2.{CallsFollow}
+use Rattle.demands.specs.History as moves
+use Rattle.demands.specs.History.{after}
+use Rattle.demands.specs.Calls.{Call, offer, next, giveUp, Calls, handedOut, givenUp, leftIn}
+use Rattle.demands.specs.Calls.{Called, atStart, offered, asked, gaveUp}
+use Rattle.demands.specs.GoesOn.{moveOf, Says, GoesOn, from, by}
+use Rattle.demands.specs.Demand2.{Saved}
+use Rattle.demands.proofs.Ranges.{ViewInRanges}
+use Rattle.demands.proofs.Steps.{leaving, releasedBy, lostBy}
 
 -- ---- a session within its ranges
 pub fresh-seen : (s : Session) → Fresh s → SeenAs freshView s
 fresh-seen s f = record { within = within-of (s .head) (s .octets) (s .messages) (f .ranges) (f .sized); view = f .view }
 
-saved-seen : (s : Session) → Sized (s .head) (s .octets) (s .messages) → sessionInRanges s ≡ true → SeenAs (viewOf s) s
-saved-seen s sized e = record { within = within-of (s .head) (s .octets) (s .messages) e sized; view = refl }
+pub saved-seen : (s : Session) → Saved s → SeenAs (viewOf s) s
+saved-seen s saved = record { within = within-of (s .head) (s .octets) (s .messages) (saved .inRanges) (saved .sized); view = refl }
 
 pub seen-in-ranges : (view : View) (s : Session) → SeenAs view s → sessionInRanges s ≡ true
 seen-in-ranges view s seen = inRanges-of (seen .within)
@@ -133,19 +137,19 @@ module _ {view : View} {s : Session} (seen : SeenAs view s) where
   after-give-up (done v) t state = state
   after-give-up (refused why) t state = subst (SeenAs view) (sym state) seen
 
-  pub offered-seen : {octets : List ℕ} {r : AfterOffer} → OfferOwes s octets r → SeenAs (after (offer octets) view) (r .session)
+  pub offered-seen : {octets : List ℕ} {r : AfterOffer} → OfferOwes s octets r → SeenAs (after (moves.offer octets) view) (r .session)
   unfolding after
   offered-seen {octets} {r} owes =
       after-offer (offers.offer octets view) (r .session)
       (subst (λ (a : Answer View). After a s (r .session)) (offer-is octets) (owes .state))
 
-  pub asked-seen : {old new : List ℕ} {r : AfterNext} → NextOwes s old new r → SeenAs (after (next (length old)) view) (r .session)
+  pub asked-seen : {old new : List ℕ} {r : AfterNext} → NextOwes s old new r → SeenAs (after (moves.next (length old)) view) (r .session)
   unfolding after
   asked-seen {old} {new} {r} owes =
       after-next (releases.next (length old) view) (r .session)
       (subst (λ (a : Answer Release). After (viewAfterNext a) s (r .session)) (next-is (length old)) (owes .state))
 
-  pub gave-up-seen : {r : AfterGiveUp} → GiveUpOwes s r → SeenAs (after giveUp view) (r .session)
+  pub gave-up-seen : {r : AfterGiveUp} → GiveUpOwes s r → SeenAs (after moves.giveUp view) (r .session)
   unfolding after
   gave-up-seen {r} owes =
       after-give-up (releases.giveUp view) (r .session)
@@ -171,44 +175,59 @@ given-up (done a) (loss.Refused why) e = let z : _≡_ {A = ℕ} 0 1 = cc in abs
 given-up (refused x) (loss.Number number) e = let z : _≡_ {A = ℕ} 0 1 = cc in absurd (omega arith)
 given-up (refused x) (loss.Refused why) e = refl
 
-module _ {view : View} {s : Session} (seen : SeenAs view s) where
-  asked-left : {old new : List ℕ} {r : AfterNext} → NextOwes s old new r → handedOut (r .answer) new ≡ leaving (next (length old)) view
-  unfolding leaving
-  asked-left {old} {new} {r} owes =
-      ap (handedOut (r .answer)) (owes .lent)
-      ∙ handed-out (nextOf (length old) s) (r .answer) old (owes .answer)
-      ∙ ap releasedBy (next-is seen (length old))
-
-  gave-up-left : {r : AfterGiveUp} → GiveUpOwes s r → givenUp (r .answer) ≡ leaving giveUp view
-  unfolding leaving
-  gave-up-left {r} owes = given-up (giveUpOf s) (r .answer) (owes .answer) ∙ ap lostBy (give-up-is seen)
+-- what left is what document 01 makes leave
+pub left-is : (view : View) (call : Call) → Says view call → leftIn call ≡ leaving (moveOf call) view
+unfolding leaving
+left-is view (offer octets r) says = refl
+left-is view (next old new r) says = ap (handedOut r) (says .1) ∙ handed-out (releases.next (length old) view) r old (says .0)
+left-is view (giveUp r) says = given-up (releases.giveUp view) r says
 
 -- ---- chains
-pub called-seen : {s t : Session} {moves : List Move} {left : List Left} (view : View) → SeenAs view s → Called s moves left t
-    → SeenAs (run moves view) t
-unfolding run
-called-seen view seen none = seen
-called-seen view seen (offered owes rest) = called-seen _ (offered-seen seen owes) rest
-called-seen view seen (asked owes rest) = called-seen _ (asked-seen seen owes) rest
-called-seen view seen (gaveUp owes rest) = called-seen _ (gave-up-seen seen owes) rest
+module _ {view : View} {s : Session} (seen : SeenAs view s) where
+  offered-says : {octets : List ℕ} {r : AfterOffer} → OfferOwes s octets r → Says view (offer octets (r .answer))
+  offered-says {octets} owes = owes .answer ∙ ap acceptedOf (offer-is seen octets)
 
-pub called-left : {s t : Session} {moves : List Move} {left : List Left} (view : View) → SeenAs view s → Called s moves left t
-    → left ≡ history moves view
-unfolding history leaving
-called-left view seen none = refl
-called-left view seen (offered owes rest) = called-left _ (offered-seen seen owes) rest
-called-left view seen (asked owes rest) =
-    ap₂ (λ (a b : List Left). a ++ b) (asked-left seen owes) (called-left _ (asked-seen seen owes) rest)
-called-left view seen (gaveUp owes rest) =
-    ap₂ (λ (a b : List Left). a ++ b) (gave-up-left seen owes) (called-left _ (gave-up-seen seen owes) rest)
+  asked-says : {old new : List ℕ} {r : AfterNext} → NextOwes s old new r → Says view (next old new (r .answer))
+  asked-says {old} owes = (
+    owes .answer ∙ ap handedOf (next-is seen (length old)),
+    owes .lent ∙ ap (λ (a : Answer Release). over (octetsOf a) old) (next-is seen (length old)),
+  )
 
-pub calls-follow : CallsFollow
-calls-follow =
+  gave-up-says : {r : AfterGiveUp} → GiveUpOwes s r → Says view (giveUp (r .answer))
+  gave-up-says owes = owes .answer ∙ ap numberOf (give-up-is seen)
+
+-- a chain of calls goes on from what the first session holds
+pub record Went (view : View) (calls : Calls) (t : Session) : Type 0 where
+  pub held : View
+  pub seen : SeenAs held t
+  pub on : GoesOn view calls held
+
+pub called-went : {s t : Session} {calls : Calls} {view : View} → SeenAs view s → Called s calls t → Went view calls t
+called-went {view = view} seen atStart = record { held = view; seen = seen; on = from }
+called-went seen (offered {octets = octets} rest owes) =
+    let w = called-went seen rest in
     record {
-      fresh = fresh-seen;
-      saved = saved-seen;
-      inRanges = seen-ranges;
-      seen = called-seen;
-      handed = called-left;
-      never17 = seen-in-ranges;
+      held = after (moves.offer octets) (w .held);
+      seen = offered-seen (w .seen) owes;
+      on = by (w .on) (offered-says (w .seen) owes);
     }
+called-went seen (asked {old = old} rest owes) =
+    let w = called-went seen rest in
+    record {
+      held = after (moves.next (length old)) (w .held);
+      seen = asked-seen (w .seen) owes;
+      on = by (w .on) (asked-says (w .seen) owes);
+    }
+called-went seen (gaveUp rest owes) =
+    let w = called-went seen rest in
+    record {
+      held = after moves.giveUp (w .held);
+      seen = gave-up-seen (w .seen) owes;
+      on = by (w .on) (gave-up-says (w .seen) owes);
+    }
+
+-- so the last session holds what document 01 says
+pub called-on : {s t : Session} {calls : Calls} {view : View} → SeenAs view s → Called s calls t → GoesOn view calls (viewOf t)
+called-on {calls = calls} {view = view} seen called =
+    let w = called-went seen called in
+    subst (GoesOn view calls) (sym (w .seen .view)) (w .on)

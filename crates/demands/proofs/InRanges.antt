@@ -25,7 +25,7 @@ use Rattle.repair.proofs.Held.{held-distinct}
 use Rattle.views.specs.View.{View, Counts, sum, numbers, following, freshView, goneOn}
 use Rattle.views.specs.Offer.{keep, keepExtra, heldOf, accept}
 use Rattle.heads.proofs.Parts.{reach-range}
-use Rattle.demands.specs.Ranges.{ViewInRanges}
+use Rattle.demands.proofs.Ranges.{ViewInRanges}
 use Rattle.demands.proofs.Growing.{Fills, asReceived, asSpare, asRepaired, Grown, grown-twice, grown-keep, grown-extra, grown-repair}
 use Rattle.demands.proofs.Shifted.{length-cells-on, length-held-on, cell-on, cell-last, held-on, held-last}
 

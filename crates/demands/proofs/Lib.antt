@@ -1,4 +1,5 @@
 pub mod OneOutcome
+pub mod Ranges
 pub mod Growing
 pub mod Shifted
 pub mod InRanges
@@ -6,6 +7,12 @@ pub mod Steps
 pub mod Leaving
 pub mod Knowing
 pub mod Calling
+pub mod Places
+pub mod Reaching
+pub mod Arriving
+pub mod Repairing
+pub mod KnownReached
+pub mod Never17
 pub mod Demand2
 pub mod Sheet
 pub mod Front

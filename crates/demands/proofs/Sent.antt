@@ -37,7 +37,7 @@ use Rattle.sending.specs.declared.Settings.{Settings}
 use Rattle.sending.specs.declared.Settings.the-variants as settings
 use Rattle.sending.proofs.HonestLaws.{before-length, extra-same}
 use Rattle.demands.specs.Feeding.{datagramAt}
-use Rattle.demands.specs.Demand2.{sparesIn}
+use Rattle.demands.specs.ReachedBy.{sparesIn}
 
 -- ---- the row by places
 -- a row begins as many places before number 0 as the view has before the base: "the last 32 packets", "the 32 before the base"
