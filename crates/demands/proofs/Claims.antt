@@ -1,4 +1,6 @@
 -- The demands, each proved in its file. Assumes nothing.
+use Rattle.sending.proofs.Claims as sending
+use Rattle.lines.proofs.Claims as lines
 use Rattle.demands.specs.Claims.{Claims}
 use Rattle.demands.proofs.Demand1.{demand-1}
 use Rattle.demands.proofs.Demand2.{demand-2}
@@ -13,7 +15,9 @@ claims =
       demand1 = demand-1;
       demand2 = demand-2;
       demand3 = demand-3;
+      sendsHonest = sending.claims .chains;
       example = example.example;
       oneOutcome = one-outcome;
       twelveCases = twelve-cases;
+      program = lines.claims;
     }

@@ -6,6 +6,7 @@ pub mod Steps
 pub mod Leaving
 pub mod Knowing
 pub mod Calling
+pub mod RoundTrips
 pub mod Demand2
 pub mod Sheet
 pub mod Tables

@@ -13,11 +13,8 @@ use mathlib.Core.List.{List, map, List·Memᴰ as Among}
 use lib.ListN.{length, set}
 use Rattle.octets.specs.Place.{tab}
 use Rattle.lengths.specs.Answers.{done}
-use Rattle.lengths.specs.Claims as lengths
 use Rattle.datagrams.specs.Carried.{Carried, Extra, spares, parity}
 use Rattle.datagrams.specs.Read.{DatagramParts, readDatagram, carriedBy}
-use Rattle.datagrams.specs.Claims as datagrams
-use Rattle.packets.specs.Claims as packets
 use Rattle.repair.specs.Cells.{Cell, received, keptBefore, keptAhead, keptNumbers}
 use Rattle.repair.specs.Held.{heldMessages}
 use Rattle.repair.specs.Reached.{Known, Reached}
@@ -32,15 +29,7 @@ use Rattle.sessions.specs.Receiver.{SeenAs}
 use Rattle.demands.specs.History.{Move, Left, numberOf, run, history, isReceived, isSpare, isRepaired, isLost, countsOf}
 use Rattle.demands.specs.Ranges.{ViewInRanges}
 use Rattle.demands.specs.Calls.{Called}
-
--- ---- "What you write reads back to the same fields, and what you read as received writes back to the same octets."
-pub record RoundTrips : Type 0 where
-  pub lengthWritten : lengths.WrittenReads
-  pub lengthRead : lengths.ReadWrites
-  pub datagramWritten : datagrams.WrittenReads
-  pub datagramRead : datagrams.ReadWrites
-  pub packetWritten : packets.WrittenReads
-  pub packetRead : packets.ReadWrites
+use Rattle.demands.specs.RoundTrips.{RoundTrips}
 
 -- ---- "Numbers leave in order, each place once, released or lost, and the counts match the history."
 

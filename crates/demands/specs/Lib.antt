@@ -1,6 +1,7 @@
 pub mod History
 pub mod Ranges
 pub mod Calls
+pub mod RoundTrips
 pub mod Demand2
 pub mod OneOutcome
 pub mod Refusals
