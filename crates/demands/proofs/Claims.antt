@@ -6,6 +6,7 @@ use Rattle.demands.proofs.Demand1.{demand-1}
 use Rattle.demands.proofs.Demand2.{demand-2}
 use Rattle.demands.proofs.Demand3.{demand-3}
 use Rattle.demands.proofs.Example as example
+use Rattle.demands.proofs.Burst as burst
 use Rattle.demands.proofs.OneOutcome.{one-outcome}
 use Rattle.demands.proofs.Sheet.{twelve-cases}
 
@@ -17,6 +18,7 @@ claims =
       demand3 = demand-3;
       sendsHonest = sending.claims .chains;
       example = example.example;
+      burst = burst.burst;
       oneOutcome = one-outcome;
       twelveCases = twelve-cases;
       program = lines.claims;

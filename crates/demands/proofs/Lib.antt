@@ -18,5 +18,7 @@ pub mod FedViews
 pub mod Fed
 pub mod Lists
 pub mod Demand3
+pub mod OfferedTo
 pub mod Example
+pub mod Burst
 pub mod Claims

@@ -115,7 +115,8 @@ length-trips =
           let is : lengthAt s ≡ done a = sym (read .answer) ∙ ap lengthOutcome e in
           let low = value-read s a octets is in
           let inside = sizes-read s a is .inside in
-          puts-back puts (length-small value low ∙ ap done (lengths.claims .readWrites s a octets is)) (sym (length-take-le n s inside)) room;
+          let written = length-small value low ∙ ap done (lengths.claims .readWrites s a octets is) in
+          puts-back puts written (sym (length-take-le n s inside)) room;
     }
 
 -- ---- datagrams
@@ -190,7 +191,8 @@ packet-trips =
       readsRepaired =
           λ kind value types lengths octets {old} {new} {w} {n} puts e zeros room {r} told.
           let t = puts-octets puts e in
-          packet-told (packetProofs.claims .repairedReads kind value types lengths octets (take n new) zeros (t .0) (omega (arith, t .1))) told;
+          let reads = packetProofs.claims .repairedReads kind value types lengths octets (take n new) zeros (t .0) (omega (arith, t .1)) in
+          packet-told reads told;
       writesBack =
           λ {s} {r} {kind} {value} {count} octets told e {old} {new} {w} puts room.
           let p : PacketAnswer = record { kind = kind; value = value; fields = take count (r .fields) } in
@@ -203,7 +205,9 @@ packet-trips =
 send-trips : SendTrips
 send-trips =
     record {
-      spares = λ {s} k {packet} {old} {new} {t} {n} arrays sends e {r} told. same-told kind.Spares (sending.claims .writtenRight .reads arrays sends e) told;
+      spares =
+          λ {s} k {packet} {old} {new} {t} {n} arrays sends e {r} told.
+          same-told kind.Spares (sending.claims .writtenRight .reads arrays sends e) told;
       messages =
           λ {s} covered count {packet} {old} {new} {t} {n} arrays sends e {r} told.
           same-told (kind.Parity covered) (sending.claims .writtenRight .reads arrays sends e) told;

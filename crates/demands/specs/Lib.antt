@@ -10,4 +10,5 @@ pub mod Sheet
 pub mod Feeding
 pub mod Demand3
 pub mod Example
+pub mod Burst
 pub mod Claims

@@ -85,13 +85,23 @@ pub record DatagramTrips : Type 0 where
       → length s ≤ length old → WrittenBack (length s) s old new w
 
 -- ---- packets
+-- the fields of a reading as the writer takes them: their types, their lengths, and all their data
+abbrev pub typesOf : ℕ → PacketRead → List ℕ
+typesOf count r = map (λ (f : Field). f .kind) (take count (r .fields))
+
+abbrev pub sizesOf : ℕ → PacketRead → List ℕ
+sizesOf count r = map (λ (f : Field). f .size) (take count (r .fields))
+
+abbrev pub dataRead : List ℕ → ℕ → PacketRead → List ℕ
+dataRead s count r = allData s (take count (r .fields))
+
 -- the read of some octets answered with this kind and value, and fields of these types and lengths and, one after the other, this
 -- data; the places past their count are empty
 pub record PacketSame (s : List ℕ) (kind : packets.Kind) (value : ℕ) (types lengths octets : List ℕ) (r : PacketRead) : Type 0 where
   pub answer : r .reading ≡ packetReading.Packet kind value (length types)
-  pub typesSame : map (λ (f : Field). f .kind) (take (length types) (r .fields)) ≡ types
-  pub lengthsSame : map (λ (f : Field). f .size) (take (length types) (r .fields)) ≡ lengths
-  pub octetsSame : allData s (take (length types) (r .fields)) ≡ octets
+  pub typesSame : typesOf (length types) r ≡ types
+  pub lengthsSame : sizesOf (length types) r ≡ lengths
+  pub octetsSame : dataRead s (length types) r ≡ octets
   pub unused : drop (length types) (r .fields) ≡ replicate (fieldsLimit - length types) noField
 
 pub record PacketTrips : Type 0 where
@@ -105,8 +115,7 @@ pub record PacketTrips : Type 0 where
       → PacketSame (take n new ++ replicate zeros 0) kind value types lengths octets r
   pub writesBack : {s : List ℕ} {r : PacketRead} {kind : packets.Kind} {value count : ℕ} → Octets s → PacketTold Whole s r
       → r .reading ≡ packetReading.Packet kind value count → {old new : List ℕ} {w : Written}
-      → Puts (packetToWrite kind value (map (λ (f : Field). f .kind) (take count (r .fields))) (map (λ (f : Field). f .size) (take count (r .fields)))
-      (allData s (take count (r .fields)))) old new w
+      → Puts (packetToWrite kind value (typesOf count r) (sizesOf count r) (dataRead s count r)) old new w
       → length s ≤ length old → WrittenBack (length s) s old new w
 
 -- ---- the sending session
