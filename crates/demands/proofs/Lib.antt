@@ -1,3 +1,5 @@
+pub mod OneTold
+pub mod OneInside
 pub mod OneOutcome
 pub mod Growing
 pub mod Shifted

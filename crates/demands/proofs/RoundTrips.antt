@@ -1,34 +1,31 @@
 -- The round trips over the promises: what a writer left at the front of the lent buffer is what its definition gives, what a
 -- reader answered is what its definition reads, and each layer's two definitions agree. Assumes nothing.
-use Prim.Native.Nat.{ℕ, _+_, _-_, _≤_}
-use mathlib.Core.Path.{_≡_, refl, sym, ap, subst, _∙_}
-use mathlib.Core.Bool.{Bool, true, false, cond}
-use mathlib.Core.List.{List, [], _++_, map}
+use Prim.Native.Nat.{ℕ, _-_, _≤_}
+use mathlib.Core.Path.{_≡_, refl, sym, ap, _∙_}
+use mathlib.Core.List.{List, _++_, map}
 use lib.ListN.{length, take, drop, replicate, length-map}
 use lib.Seq.{take-append-seam, drop-append-seam, take-at, length-take-le}
 use lib.Dec.{leb, ltb}
 use native.Mathlib.Omega.{arith}
 use borrow.Author.Tests.{le-leb, le-ltb, ltb-false}
 use Rattle.lengths.specs.Refusals.{noRoom, outsideSizes}
-use Rattle.lengths.specs.Answers.{Answer, done, refused, refuse, LengthAnswer, lengthOutcome, writtenOutcome, fitted, sizeOf, over}
+use Rattle.lengths.specs.Answers.{Answer, done, refused, LengthAnswer, lengthOutcome, writtenOutcome, fitted, sizeOf}
 use Rattle.lengths.specs.Length.{lengthAt, lengthOctets, lengthLimit, lengthToWrite}
-use Rattle.lengths.specs.Promise.{LengthRead, Puts}
+use Rattle.lengths.specs.Promise.{Puts}
 use Rattle.lengths.specs.Claims.{Octets}
-use Rattle.lengths.specs.declared.Length.{Length}
 use Rattle.lengths.specs.declared.Length.the-variants as length
 use Rattle.lengths.specs.declared.Written.{Written}
 use Rattle.lengths.specs.declared.Written.the-variants as written
 use Rattle.lengths.proofs.Claims as lengths
 use Rattle.lengths.proofs.Laws.{value-read, sizes-read}
-use Rattle.datagrams.specs.Sizes.{packetLimit, sparesLimit}
-use Rattle.datagrams.specs.Carried.{Extra, spares, parity, Carried}
+use Rattle.datagrams.specs.Sizes.{sparesLimit}
+use Rattle.datagrams.specs.Carried.{spares, Carried}
 use Rattle.datagrams.specs.Read.{DatagramParts, octetsOf, readDatagram, carriedBy}
-use Rattle.datagrams.specs.Write.{extraOf, cut, datagramToWrite}
+use Rattle.datagrams.specs.Write.{extraOf}
 use Rattle.datagrams.specs.Promise.{DatagramReads, datagramRead, readingOutcome, places, nowhere}
 use Rattle.datagrams.specs.Claims as datagramClaims
 use Rattle.datagrams.specs.declared.kind.Kind.{Kind}
 use Rattle.datagrams.specs.declared.kind.Kind.the-variants as kind
-use Rattle.datagrams.specs.declared.reader.Part.{Part}
 use Rattle.datagrams.specs.declared.reader.DatagramRead.{DatagramRead}
 use Rattle.datagrams.specs.declared.reader.Reading.{Reading}
 use Rattle.datagrams.specs.declared.reader.Reading.the-variants as reading
@@ -36,7 +33,6 @@ use Rattle.datagrams.proofs.AnswerLaws.{cond-done, cond-met, done-same}
 use Rattle.datagrams.proofs.Claims as datagrams
 use Rattle.packets.specs.Packet.{allData, fieldsLimit, noField}
 use Rattle.packets.specs.Read.{PacketAnswer, readPacket}
-use Rattle.packets.specs.Write.{packetToWrite}
 use Rattle.packets.specs.Promise as packetPromise
 use Rattle.packets.specs.Promise.{PacketTold, packetRead, padded}
 use Rattle.packets.specs.Claims as packetClaims
@@ -49,7 +45,7 @@ use Rattle.packets.specs.declared.types.Reading as packetReadings
 use Rattle.packets.proofs.Claims as packetProofs
 use Rattle.sending.proofs.Accepted.{size-done}
 use Rattle.sending.proofs.Claims as sending
-use Rattle.demands.specs.RoundTrips.{WrittenBack, LengthTrips, DatagramSame, lengthsRead, runRead, DatagramTrips, PacketSame, PacketTrips, SendTrips, RoundTrips}
+use Rattle.demands.specs.RoundTrips.{WrittenBack, LengthTrips, DatagramSame, DatagramTrips, PacketSame, PacketTrips, SendTrips, RoundTrips}
 
 -- ---- what a write says
 -- what fitted was to be written

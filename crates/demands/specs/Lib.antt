@@ -3,6 +3,8 @@ pub mod Ranges
 pub mod Calls
 pub mod RoundTrips
 pub mod Demand2
+pub mod OneTold
+pub mod OneInside
 pub mod OneOutcome
 pub mod Refusals
 pub mod Demand1

@@ -26,7 +26,6 @@ use Rattle.packets.specs.Write.{packetToWrite}
 use Rattle.packets.specs.Promise.{PacketTold}
 use Rattle.packets.specs.declared.types.Kind as packets
 use Rattle.packets.specs.declared.types.Field.{Field}
-use Rattle.packets.specs.declared.types.Ending.{Ending}
 use Rattle.packets.specs.declared.types.Ending.the-variants.{Whole, Repaired}
 use Rattle.packets.specs.declared.types.PacketRead.{PacketRead}
 use Rattle.packets.specs.declared.types.Reading.the-variants as packetReading
@@ -39,7 +38,6 @@ use Rattle.sending.specs.Held.{Arrays}
 use Rattle.sending.specs.Promise.{Sends}
 use Rattle.sending.specs.declared.Sender.{Sender}
 use Rattle.sending.specs.declared.Sent.{Sent}
-use Rattle.sending.specs.declared.Settings.{Settings}
 use Rattle.sending.specs.declared.Settings.the-variants as settings
 
 -- ---- written back
