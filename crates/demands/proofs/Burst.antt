@@ -1,7 +1,7 @@
 -- The worked burst, computed. Assumes nothing.
-use Prim.Native.Nat.{ℕ, zero, suc, _+_, _<_}
+use Prim.Native.Nat.{ℕ, zero, suc, _+_, _≤_, _<_}
 use mathlib.Core.Path.{_≡_, refl, subst}
-use mathlib.Core.Logic.{⊎-elim}
+use mathlib.Core.Logic.{_⊎_, ⊎-elim}
 use mathlib.Core.Bool.{true}
 use mathlib.Core.List.{[], _∷_}
 use lib.ListN.{length, getD}
@@ -108,32 +108,52 @@ near-4 S low = record { ahead = omega arith; behind = omega arith }
 record Cells : Type 0 where
   missing1 : Unknown (with03 .cells) (keptBefore + 1)
   missing2 : Unknown (with03 .cells) (keptBefore + 2)
-  known0 : Known (with034 .cells) keptBefore
-  known3 : Known (with034 .cells) (keptBefore + 3)
+  known0 : Known (with03 .cells) keptBefore
+  known3 : Known (with03 .cells) (keptBefore + 3)
+  still0 : Known (with034 .cells) keptBefore
+  still3 : Known (with034 .cells) (keptBefore + 3)
   back1 : cellAt (with034 .cells) (keptBefore + 1) ≡ record { state = repaired; octets = packet1 }
   back2 : cellAt (with034 .cells) (keptBefore + 2) ≡ record { state = repaired; octets = packet2 }
 
 cells : Cells
 unfolding freshView accept keep keepSpares tab xorAt exclusiveOr membersOf passing usable firstUsable mended fill repairF repair messagesOf
     messagesFrom heldMessages
-cells = record { missing1 = refl; missing2 = refl; known0 = refl; known3 = refl; back1 = refl; back2 = refl }
+cells =
+    record {
+      missing1 = refl;
+      missing2 = refl;
+      known0 = refl;
+      known3 = refl;
+      still0 = refl;
+      still3 = refl;
+      back1 = refl;
+      back2 = refl;
+    }
 
 held : heldAt (with034 .held) 4 ≡ record { accepted = true; n = 2; messages = burstMessages }
 unfolding freshView accept
 held = refl
 
 -- of the reach, the places 32 to 35, the first and the last are known
-rest : RestKnown with034 4 (keptBefore + 1) 2
-rest p reach other =
-    let in-reach = subst (λ (x : Held). InReach (keptBefore + 4) (x .n) (length (x .messages)) p) held reach in
+ends-known : (view : View) (p : ℕ) → Known (view .cells) keptBefore → Known (view .cells) (keptBefore + 3)
+    → InReach (keptBefore + 4) 2 2 p → ((p < keptBefore + 1) ⊎ (keptBefore + 3 ≤ p)) → Known (view .cells) p
+ends-known view p first last reach other =
     ⊎-elim
     (λ low.
-    let is : p ≡ keptBefore = omega (arith, low, in-reach .above) in
-    rw is (cells .known0))
+    let is : p ≡ keptBefore = omega (arith, low, reach .above) in
+    rw is first)
     (λ high.
-    let is : p ≡ keptBefore + 3 = omega (arith, high, in-reach .before) in
-    rw is (cells .known3))
+    let is : p ≡ keptBefore + 3 = omega (arith, high, reach .before) in
+    rw is last)
     other
+
+others : (p : ℕ) → InReach (keptBefore + 4) 2 2 p → ((p < keptBefore + 1) ⊎ (keptBefore + 3 ≤ p)) → Known (with03 .cells) p
+others p reach other = ends-known with03 p (cells .known0) (cells .known3) reach other
+
+rest : RestKnown with034 4 (keptBefore + 1) 2
+rest p reach other =
+    ends-known with034 p (cells .still0) (cells .still3)
+    (subst (λ (x : Held). InReach (keptBefore + 4) (x .n) (length (x .messages)) p) held reach) other
 
 met : (s : Session) (zero three four : AfterOffer) → BurstOffered s zero three four → BurstMet (three .session) (four .session)
 met s first three four c =
@@ -148,6 +168,7 @@ met s first three four c =
       fed = feeding.offered (feeding.offered (feeding.offered (feeding.fresh (c .start)) one) two) last;
       missing1 = rw (seen-3 .view) (cells .missing1);
       missing2 = rw (seen-3 .view) (cells .missing2);
+      others = rw (seen-3 .view) others;
       held = rw (seen-4 .view) held;
       rest = rw (seen-4 .view) rest;
       back1 = rw (seen-4 .view) (cells .back1);

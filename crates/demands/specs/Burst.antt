@@ -1,13 +1,15 @@
 -- Demand 3's burst, worked: "one accepted datagram, still held, with m parity messages brings back any m or fewer numbers in a row
 -- within its reach, if the rest of its reach is known". Five packets; datagrams 0 to 3 go without spares, datagram 4 with n=2,
 -- m=2: its messages cover 2, 0 and 3, 1. Datagrams 1 and 2 never arrive. Definitions only.
-use Prim.Native.Nat.{ℕ, _+_}
+use Prim.Native.Nat.{ℕ, _+_, _≤_, _<_}
 use mathlib.Core.Path.{_≡_}
+use mathlib.Core.Logic.{_⊎_}
 use mathlib.Core.Bool.{true}
 use mathlib.Core.List.{List, [], _∷_}
 use Rattle.repair.specs.Cells.{repaired, cellAt, keptBefore}
 use Rattle.repair.specs.Held.{heldAt}
-use Rattle.repair.specs.Reached.{Unknown}
+use Rattle.repair.specs.Members.{InReach}
+use Rattle.repair.specs.Reached.{Known, Unknown}
 use Rattle.heads.specs.Head.{viewOf}
 use Rattle.heads.specs.Promise.{Fresh}
 use Rattle.heads.specs.declared.Session.{Session}
@@ -47,10 +49,11 @@ pub record BurstOffered (s : Session) (zero three four : AfterOffer) : Type 0 wh
 -- the session before datagram 4, and after it
 pub record BurstMet (before after : Session) : Type 0 where
   pub fed : Fed burstRow burstDatagrams after
-  -- two numbers in a row are missing
+  -- two numbers in a row are missing, and of the reach of datagram 4 they alone
   pub missing1 : Unknown ((viewOf before) .cells) (keptBefore + 1)
   pub missing2 : Unknown ((viewOf before) .cells) (keptBefore + 2)
-  -- datagram 4 is held, with two messages, and the rest of its reach is known
+  pub others : (p : ℕ) → InReach (keptBefore + 4) 2 2 p → ((p < keptBefore + 1) ⊎ (keptBefore + 3 ≤ p)) → Known ((viewOf before) .cells) p
+  -- datagram 4 is held, with two messages: what demand 3 asks for is met
   pub held : heldAt ((viewOf after) .held) 4 ≡ record { accepted = true; n = 2; messages = burstMessages }
   pub rest : RestKnown (viewOf after) 4 (keptBefore + 1) 2
   -- both numbers are back

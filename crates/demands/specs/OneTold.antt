@@ -40,7 +40,7 @@ pub record ToldByLengths : Type 0 where
   pub lengthLimit : One (λ (r : ℕ). r ≡ lengths.lengthLimit)
 
 -- `datagrams`: `least` and `limit` of `Packet`, `limit` of `Message`, `Datagram` and `Spares`, the three limits of `Parity`; then
--- `count_inside`, `kind_size`, `length_size`
+-- `count_inside`, `kind_size`, `length_size` and `wide`
 pub record ToldByDatagrams : Type 0 where
   pub packetLeast : One (λ (r : ℕ). r ≡ sizes.packetLeast)
   pub packetLimit : One (λ (r : ℕ). r ≡ sizes.packetLimit)
@@ -53,6 +53,7 @@ pub record ToldByDatagrams : Type 0 where
   pub countInside : (kind : Kind) (count : ℕ) → One (λ (r : Bool). r ≡ write.countInside kind count)
   pub kindSize : (kind : Kind) (count : ℕ) → One (λ (r : ℕ). r ≡ length (kindHead kind count))
   pub lengthSize : (n : ℕ) → One (LengthSize n)
+  pub wide : (n : ℕ) → One (λ (r : ℕ). r ≡ n)
 
 -- `packets`: `limit` and `types_limit` of `Field`, `assigned`, `right_fields`, `right_data`
 pub record ToldByPackets : Type 0 where
