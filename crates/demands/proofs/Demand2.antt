@@ -1,23 +1,10 @@
 -- Demand 2, proved part by part. Assumes nothing.
-use Rattle.lengths.proofs.Claims as lengths
-use Rattle.datagrams.proofs.Claims as datagrams
-use Rattle.packets.proofs.Claims as packets
-use Rattle.demands.specs.Demand2.{RoundTrips, Demand2}
+use Rattle.demands.specs.Demand2.{Demand2}
 use Rattle.demands.proofs.Calling.{fresh-seen, saved-seen, seen-ranges, called-on}
 use Rattle.demands.proofs.Leaving.{saved-leaves, fresh-leaves}
 use Rattle.demands.proofs.KnownReached.{known-reached-by}
 use Rattle.demands.proofs.Never17.{never-17}
-
-round-trips : RoundTrips
-round-trips =
-    record {
-      lengthWritten = lengths.claims .writtenReads;
-      lengthRead = lengths.claims .readWrites;
-      datagramWritten = datagrams.claims .writtenReads;
-      datagramRead = datagrams.claims .readWrites;
-      packetWritten = packets.claims .writtenReads;
-      packetRead = packets.claims .readWrites;
-    }
+use Rattle.demands.proofs.RoundTrips.{round-trips}
 
 pub demand-2 : Demand2
 demand-2 =

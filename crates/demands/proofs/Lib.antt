@@ -1,3 +1,5 @@
+pub mod OneTold
+pub mod OneInside
 pub mod OneOutcome
 pub mod Ranges
 pub mod Growing
@@ -13,6 +15,7 @@ pub mod Arriving
 pub mod Repairing
 pub mod KnownReached
 pub mod Never17
+pub mod RoundTrips
 pub mod Demand2
 pub mod Sheet
 pub mod Front
@@ -23,5 +26,7 @@ pub mod FedViews
 pub mod Fed
 pub mod Lists
 pub mod Demand3
+pub mod OfferedTo
 pub mod Example
+pub mod Burst
 pub mod Claims

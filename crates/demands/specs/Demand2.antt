@@ -14,9 +14,6 @@ use mathlib.Core.Option.{some}
 use lib.ListN.{length}
 use Rattle.octets.specs.Place.{tab}
 use Rattle.lengths.specs.Refusals.{outsideRanges}
-use Rattle.lengths.specs.Claims as lengths
-use Rattle.datagrams.specs.Claims as datagrams
-use Rattle.packets.specs.Claims as packets
 use Rattle.repair.specs.Cells.{keptNumbers}
 use Rattle.repair.specs.Reached.{Known}
 use Rattle.views.specs.View.{View, Counts, sum, numbers}
@@ -28,15 +25,7 @@ use Rattle.demands.specs.History.{Left, numberOf, isReceived, isSpare, i
 use Rattle.demands.specs.Calls.{Call, Calls, _then_, Called, refusalOf, leftBy}
 use Rattle.demands.specs.GoesOn.{GoesOn}
 use Rattle.demands.specs.ReachedBy.{gone, ReachedBy}
-
--- ---- "What you write reads back to the same fields, and what you read as received writes back to the same octets."
-pub record RoundTrips : Type 0 where
-  pub lengthWritten : lengths.WrittenReads
-  pub lengthRead : lengths.ReadWrites
-  pub datagramWritten : datagrams.WrittenReads
-  pub datagramRead : datagrams.ReadWrites
-  pub packetWritten : packets.WrittenReads
-  pub packetRead : packets.ReadWrites
+use Rattle.demands.specs.RoundTrips.{RoundTrips}
 
 -- ---- where a chain of calls begins
 -- a session saved within its ranges; that its arrays have their lengths is so of every value of the struct's type

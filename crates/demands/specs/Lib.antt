@@ -2,7 +2,10 @@ pub mod History
 pub mod Calls
 pub mod GoesOn
 pub mod ReachedBy
+pub mod RoundTrips
 pub mod Demand2
+pub mod OneTold
+pub mod OneInside
 pub mod OneOutcome
 pub mod Refusals
 pub mod Demand1
@@ -10,4 +13,5 @@ pub mod Sheet
 pub mod Feeding
 pub mod Demand3
 pub mod Example
+pub mod Burst
 pub mod Claims

@@ -43,6 +43,11 @@ pub record Unmarked (h : Head) (o g : List ℕ) (d : ℕ) : Type 0 where
   pub known : isKnown ((keptIn h (slotAt (h .base) (keptBefore + d))) .state) ≡ true
   pub unmarked : (heardIn h (heardSlotAt (h .base) d)) .accepted ≡ false
 
+-- the same of a session whose packets hold does not see
+pub record Holdable (h : Head) (g : List ℕ) (d : ℕ) : Type 0 where
+  pub octets : List ℕ
+  pub free : Unmarked h octets g d
+
 -- what is held of the accepted datagram
 abbrev pub heldOfParts : List ℕ → ℕ → List Part → ℕ → Held
 heldOfParts s n items count = record { accepted = true; n = n; messages = map (octetsOf s) (take count items) }

@@ -1,6 +1,7 @@
 // What the receiving session keeps of an accepted datagram: document 01, 'The receiving session', "For each number from the
 // base on it keeps whether that datagram was accepted and its parity messages." The call serves callers inside this
-// repository: it requires that what the datagram carries is within the sizes.
+// repository: it requires that what the datagram carries is within the sizes, and the session within its ranges, with the
+// number known and its datagram not accepted before.
 use datagrams::Parity;
 use datagrams::Part;
 use datagrams::Spares;
@@ -14,7 +15,7 @@ ghost use Rattle.datagrams.specs.Claims.{PartInside};
 ghost use Rattle.stores.specs.Store.{HasSlot};
 ghost use Rattle.heads.specs.Head.{slotsHeard, messageOctets};
 ghost use Rattle.holding.specs.Steps.{PartPut, Fit, Laid};
-ghost use Rattle.holding.specs.Promise.{Carries, NumberHeld};
+ghost use Rattle.holding.specs.Promise.{Carries, Holdable, NumberHeld};
 
 // The octets of a part of the datagram s, laid at the front of a slot: hands back how many.
 pub fn put_part(g: &mut [u8], slot: usize, s: &[u8], item: Part) -> u16
@@ -70,6 +71,7 @@ pub fn hold(
 ) -> Head
     requires { ⌜ length (now g) ≡ messageOctets ⌝ }
     requires { ⌜ Carries (now s) distance n items count ⌝ }
+    requires { ⌜ Holdable h (now g) distance ⌝ }
     ensures { λ r. ⌜ NumberHeld h (now (g .entry)) (now (s .entry)) distance n items count r (now (g .exit)) ⌝ }
 {
     let base = h.base;

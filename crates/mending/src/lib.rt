@@ -25,7 +25,7 @@ ghost use Rattle.mending.specs.Back.{flag, Flags, countBack, findBack, S
 ghost use Rattle.mending.specs.Promise.{Sized, Seeable, LowestSeen, UsableFound, MendedOctets, Points, Filled, Mended, missingOf, messageIn, heardAt};
 
 // A message that mends: the distance of its number from the base, its index, and the slot of its one unknown member.
-pub enum Usable {
+enum Usable {
     Message {
         distance: u16,
         index: usize,

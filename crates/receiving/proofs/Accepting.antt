@@ -22,9 +22,8 @@ use Rattle.datagrams.specs.declared.kind.Kind.the-variants as kind
 use Rattle.repair.specs.Cells.{State, received, spare, Cell, isUnknown, unknownAt, keptBefore, keptAhead, keptNumbers}
 use Rattle.repair.specs.Held.{Held, heldMessages}
 use Rattle.repair.specs.Repair.{repair}
-use Rattle.views.specs.View.{View, Counts}
 use Rattle.views.specs.Offer as offers
-use Rattle.heads.specs.Head.{numberAt, slotAt, heardSlotAt, packetOctets, stateOf, countsOf, keptIn, heardIn, cellIn, cellsOf, heldOf, viewIn}
+use Rattle.heads.specs.Head.{numberAt, slotAt, heardSlotAt, packetOctets, stateOf, countsOf, keptIn, heardIn, cellsOf, heldOf, viewIn}
 use Rattle.heads.specs.Ranges.{isKnown}
 use Rattle.heads.specs.Within.{Within}
 use Rattle.heads.specs.declared.State as states
@@ -32,11 +31,12 @@ use Rattle.heads.specs.declared.State.the-variants.{Unknown, Received, Spare, R
 use Rattle.heads.specs.declared.Head.{Head}
 use Rattle.heads.specs.declared.Heard.{Heard}
 use Rattle.heads.proofs.Seen.{length-cells, unknown-at}
-use Rattle.holding.specs.Promise.{Unmarked, Carries, NumberHeld, heldOfParts}
+use Rattle.holding.specs.Promise.{Unmarked, Holdable, Carries, NumberHeld, heldOfParts}
 use Rattle.mending.specs.Promise.{SameBeside, Mended}
 use Rattle.mending.proofs.Beside.{held-beside, beside-twice}
 use Rattle.receiving.specs.Keep.{CellsNow, Keeps, KeepsSpares}
 use Rattle.receiving.specs.Promise.{MayBeAccepted, carriedOf, Finished, Accepted}
+use Rattle.receiving.proofs.Laws.{cells-kept, view-of-fields}
 use Rattle.receiving.proofs.Keeping.{part-cut}
 
 -- ---- what is kept is known, and what is known stays so
@@ -73,10 +73,9 @@ known-state Spare e = refl
 known-state Repaired e = refl
 known-state Blank e = refl
 
--- cells go by the base and the kept numbers alone
-cells-kept : (h r : Head) (o : List ℕ) → r .base ≡ h .base → r .kept ≡ h .kept → cellsOf r o ≡ cellsOf h o
-unfolding cellsOf cellIn
-cells-kept h r o base kept = rw (base, kept)
+-- hold does not see the packets
+pub holdable : {h : Head} {o g : List ℕ} {d : ℕ} → Unmarked h o g d → Holdable h g d
+holdable {h} {o} {g} {d} free = record { octets = o; free = free }
 
 -- ---- held, then mended
 pub finished : {h : Head} {o g s : List ℕ} {d n m : ℕ} {items : List Part} {third r : Head} {g₁ o₃ : List ℕ} → Unmarked h o g d
@@ -96,12 +95,6 @@ finished {h} {o} {g} {s} {d} {n} {m} {items} {third} {r} {g₁} {o₃} un held m
 pub finish-within : {h : Head} {o g s : List ℕ} {d n m : ℕ} {items : List Part} {third : Head} {g₁ : List ℕ} → Unmarked h o g d
     → NumberHeld h g s d n items m third g₁ → Within third o g₁
 finish-within {o = o} un held = held .within o un
-
--- views with equal fields are equal
-view-of-fields : (a b : View) → a .base ≡ b .base → a .counts ≡ b .counts → a .cells ≡ b .cells → a .held ≡ b .held → a ≡ b
-view-of-fields a b base counts cells held =
-    ap₂ (λ (x : ℕ) (y : Counts). record { base = x; counts = y; cells = a .cells; held = a .held }) base counts
-    ∙ ap₂ (λ (x : List Cell) (y : List Held). record { base = b .base; counts = b .counts; cells = x; held = y }) cells held
 
 -- ---- from the first packet on
 module _ {h : Head} {o g s : List ℕ} {number d : ℕ} {packet : Part} {k : Kind} {count : ℕ} {items : List Part} (w : Within h o g)

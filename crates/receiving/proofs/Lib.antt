@@ -1,3 +1,4 @@
+pub mod Laws
 mod Keeping
 mod Accepting
 mod Offering

@@ -132,7 +132,7 @@ fn free_messages(g: &mut [u8], j: usize, m: usize)
 
 // "the base goes on by one": "The number that leaves drops its accepted mark and messages; the one that comes into view is
 // unknown." The number that comes into view has the slot of the oldest before the base, which leaves the view.
-pub fn go_on(
+fn go_on(
     h: Head,
     o: &mut [u8; Session::PACKET_OCTETS],
     g: &mut [u8; Session::MESSAGE_OCTETS],

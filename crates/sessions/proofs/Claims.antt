@@ -26,12 +26,13 @@ use Rattle.heads.specs.declared.Session.{Session}
 use Rattle.ranges.proofs.Laws.{inRanges-of, fresh-same}
 use Rattle.releasing.specs.Outcome.{octetsOf}
 use Rattle.releasing.proofs.Laws.{released-told, lost-told}
+use Rattle.receiving.proofs.Laws.{offered-told}
 use Rattle.sessions.specs.Receiver.{SeenAs, After, OfferOwes, offerOf, NextOwes, nextOf, viewAfterNext, GiveUpOwes, giveUpOf, viewAfterLoss}
 use Rattle.sessions.specs.Claims.{RefusedStays, OneOutcome, AcceptedOffer, Claims}
 use Rattle.sessions.specs.declared.receiver.AfterOffer.{AfterOffer}
 use Rattle.sessions.specs.declared.receiver.AfterNext.{AfterNext}
 use Rattle.sessions.specs.declared.receiver.AfterGiveUp.{AfterGiveUp}
-use Rattle.sessions.proofs.Outcomes.{after-same, after-refused, offered-told}
+use Rattle.sessions.proofs.Outcomes.{after-same, after-refused}
 
 refused-stays : RefusedStays
 refused-stays =

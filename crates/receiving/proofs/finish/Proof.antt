@@ -1,4 +1,4 @@
-use Rattle.receiving.proofs.Accepting.{finished, finish-within}
+use Rattle.receiving.proofs.Accepting.{holdable, finished, finish-within}
 use borrow.Author.Needs.{needs}
 use Rattle.receiving.proofs.finish.Statement.{statement}
 use Rattle.receiving.proofs.finish.Tie as tie
@@ -8,7 +8,7 @@ use Rattle.holding.proofs.hold.Reads as hold-reads
 use Rattle.mending.proofs.mend.Reads as mend-reads
 
 hold-requires : tie.Need-hold-requires
-hold-requires c κs = search needs
+hold-requires c κs = (search needs, (search needs, search holdable))
 
 mend-requires : tie.Need-mend-requires
 mend-requires c κs = search finish-within
