@@ -4,6 +4,8 @@ pub mod Calls
 pub mod Demand2
 pub mod OneOutcome
 pub mod Refusals
+pub mod PacketItems
+pub mod PacketRefusals
 pub mod Demand1
 pub mod Sheet
 pub mod Feeding
