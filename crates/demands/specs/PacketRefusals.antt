@@ -9,7 +9,6 @@ use mathlib.Core.List.{List, [], _∷_, _++_}
 use mathlib.Core.Option.{none, some}
 use lib.ListN.{length}
 use lib.Dec.{leb}
-use Rattle.lengths.specs.Refusals.{endsEarly, badForm, outsideSizes, spareBit, notAssigned, wrongData}
 use Rattle.lengths.specs.Refusals as number
 use Rattle.datagrams.specs.Sizes.{packetLimit}
 use Rattle.packets.specs.Packet.{fieldsLimit, assigned, kindOf}
