@@ -58,6 +58,7 @@ use Rattle.demands.specs.Refusals.{lengthRows, distanceTo, offerRows, ne
 use Rattle.demands.specs.Demand1 as demand
 use Rattle.demands.specs.Demand1.{IsDatagram, IsPacket, IsRepaired, Readers, Writers, Receiving, Demand1}
 use Rattle.demands.proofs.Front.{repaired-front}
+use Rattle.demands.proofs.PacketRefusals.{packet-refusals}
 
 -- ---- lengths
 -- the five tests of the definition, and the four rows of the table
@@ -151,6 +152,7 @@ readers =
       isDatagram = is-datagram;
       isPacket = is-packet;
       isRepaired = is-repaired;
+      packetRefusals = packet-refusals;
     }
 
 -- ---- writers: each follows from its table

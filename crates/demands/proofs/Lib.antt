@@ -19,6 +19,16 @@ pub mod RoundTrips
 pub mod Demand2
 pub mod Sheet
 pub mod Front
+pub mod PacketRows
+pub mod PacketTables
+pub mod PacketWalk
+pub mod PacketDue
+pub mod PacketStops
+pub mod PacketFronts
+pub mod PacketEarly
+pub mod PacketPlain
+pub mod PacketExact
+pub mod PacketRefusals
 pub mod Demand1
 pub mod Sent
 pub mod Sound

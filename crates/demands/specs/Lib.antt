@@ -8,6 +8,8 @@ pub mod OneTold
 pub mod OneInside
 pub mod OneOutcome
 pub mod Refusals
+pub mod PacketItems
+pub mod PacketRefusals
 pub mod Demand1
 pub mod Sheet
 pub mod Feeding
