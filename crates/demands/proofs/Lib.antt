@@ -9,6 +9,12 @@ pub mod Calling
 pub mod Demand2
 pub mod Sheet
 pub mod Tables
+pub mod DatagramForms
+pub mod DatagramWalk
+pub mod DatagramSteps
+pub mod DatagramFronts
+pub mod DatagramNumbers
+pub mod DatagramRefusals
 pub mod Front
 pub mod Demand1
 pub mod Sent
