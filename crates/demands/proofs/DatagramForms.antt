@@ -1,6 +1,6 @@
 -- Each form of an item of a datagram: octets either are it as it must be, or are wrong with one number, and never both. A function
 -- tells which, in the words of the datagram reader; what is right and each row of what is wrong agrees with it. Assumes nothing.
-use Prim.Native.Nat.{ℕ, _-_, _+_, _/_, _%_, _≤_, _<_}
+use Prim.Native.Nat.{ℕ, _+_, _/_, _%_, _≤_, _<_}
 use mathlib.Core.Path.{_≡_, refl, sym, ap, _∙_}
 use mathlib.Core.Logic.{_⊎_, inl, inr, ⊎-elim}
 use mathlib.Core.Bool.{cond}
@@ -11,15 +11,17 @@ use lib.Dec.{ltb, eqb}
 use native.Mathlib.Omega.{arith}
 use borrow.Author.Tests.{lt-ltb, le-ltb, le-leb, lt-leb, ne-eqb}
 use Rattle.octets.proofs.Cases.{below-or-not, same-or-not}
-use Rattle.lengths.specs.Refusals.{endsEarly, badForm, outsideSizes, spareBit, leftOver}
+use Rattle.lengths.specs.Refusals.{endsEarly, outsideSizes, spareBit, leftOver}
 use Rattle.lengths.specs.Answers.{Answer, done, refuse, _>>=_, LengthAnswer}
 use Rattle.lengths.specs.Length.{lengthAt, lengthOctets, lengthLimit, ofTwo}
 use Rattle.lengths.specs.Claims.{Octets}
 use Rattle.lengths.proofs.Laws.{lengthOctets-one, lengthOctets-two, written-reads}
 use Rattle.datagrams.specs.Read.{allowed}
 use Rattle.datagrams.proofs.ReadLaws.{allowed-sizes}
-use Rattle.demands.specs.DatagramRefusals.{Form, many, sized, plain, flag, nothing, Right, rightOctets, rightSize, rightOctet, rightSpares, rightParity}
-use Rattle.demands.specs.DatagramRefusals.{Wrong, fewOctets, noSize, cutSize, noOctet, noFlag, highSize, longSize, otherSize, otherOctet, lowBits, moreOctets}
+use Rattle.demands.specs.DatagramItems.{Form, many, sized, plain, flag, nothing, Right, rightOctets, rightSize, rightOctet}
+use Rattle.demands.specs.DatagramItems.{rightSpares, rightParity}
+use Rattle.demands.specs.DatagramRefusals.{Wrong, fewOctets, noSize, cutSize, noOctet, noFlag, highSize, longSize, otherSize}
+use Rattle.demands.specs.DatagramRefusals.{otherOctet, lowBits, moreOctets}
 
 -- ---- as the reader tells
 abbrev pub found : ℕ → ℕ → Answer LengthAnswer
@@ -56,7 +58,8 @@ mostIn (plain least most) = 0
 mostIn flag = 0
 mostIn nothing = 0
 
-pub right-at : {f : Form} {x : List ℕ} {v : ℕ} → mostIn f ≤ lengthLimit → Right f x v → (t : List ℕ) → formAt f (x ++ t) ≡ found v (length x)
+pub right-at : {f : Form} {x : List ℕ} {v : ℕ} → mostIn f ≤ lengthLimit → Right f x v → (t : List ℕ)
+    → formAt f (x ++ t) ≡ found v (length x)
 unfolding formAt
 right-at fits (rightOctets {n} {x} is) t =
     rw (le-ltb (length (x ++ t)) n (omega (arith, length-append x t))) (ap (found 0) (sym is))
@@ -67,52 +70,72 @@ right-at fits rightSpares t = refl
 right-at fits rightParity t = refl
 
 -- ---- what is wrong, row by row
-module _ (least most : ℕ) where
-  cut-size : (first : ℕ) → 0x80 ≤ first → first < 0xC0 → formAt (sized least most) (first ∷ []) ≡ refuse endsEarly
-  unfolding formAt lengthAt
-  cut-size first low high = rw (le-ltb first 0x80 low, lt-leb 0xC0 first high)
+abbrev Told : {f : Form} {rest : List ℕ} {n : ℕ} → Wrong f rest n → Type 0
+Told {f} {rest} {n} w = formAt f rest ≡ refuse n
 
-  high-size : (first : ℕ) (rest : List ℕ) → 0xC0 ≤ first → formAt (sized least most) (first ∷ rest) ≡ refuse badForm
+module _ (least most : ℕ) where
+  no-size : Told (noSize {least = least} {most = most})
   unfolding formAt lengthAt
-  high-size first rest high =
+  no-size = refl
+
+  cut-size : {first : ℕ} (low : 0x80 ≤ first) (high : first < 0xC0) → Told (cutSize {least = least} {most = most} low high)
+  unfolding formAt lengthAt
+  cut-size {first} low high = rw (le-ltb first 0x80 low, lt-leb 0xC0 first high)
+
+  high-size : {first : ℕ} (rest : List ℕ) (high : 0xC0 ≤ first) → Told (highSize {least = least} {most = most} {rest = rest} high)
+  unfolding formAt lengthAt
+  high-size {first} rest high =
       rw (le-ltb (length (first ∷ rest)) 1 (omega arith), le-ltb first 0x80 (omega arith), le-leb 0xC0 first high)
 
-  long-size : (first second : ℕ) (rest : List ℕ) → 0x80 ≤ first → first < 0xC0 → ofTwo first second < 0x80
-      → formAt (sized least most) (first ∷ second ∷ rest) ≡ refuse badForm
+  long-size : {second : ℕ} (rest : List ℕ) (small : second < 0x80) → Told (longSize {least = least} {most = most} {rest = rest} small)
   unfolding formAt lengthAt
-  long-size first second rest low high small =
+  long-size {second} rest small =
       rw (
-        le-ltb (length (first ∷ second ∷ rest)) 1 (omega arith),
-        le-ltb first 0x80 low,
-        lt-leb 0xC0 first high,
-        le-ltb (length (first ∷ second ∷ rest)) 2 (omega arith),
-        lt-ltb (ofTwo first second) 0x80 small,
+        le-ltb (length (0x80 ∷ second ∷ rest)) 1 (omega arith),
+        le-ltb (length (0x80 ∷ second ∷ rest)) 2 (omega arith),
+        lt-ltb (ofTwo 0x80 second) 0x80 (omega arith),
       )
 
-  other-size : (value : ℕ) (rest : List ℕ) → (value < least) ⊎ (most < value) → value ≤ lengthLimit
-      → formAt (sized least most) (lengthOctets value ++ rest) ≡ refuse outsideSizes
+  other-size : {value : ℕ} (rest : List ℕ) (out : (value < least) ⊎ (most < value)) (fits : value ≤ lengthLimit)
+      → Told (otherSize rest out fits)
   unfolding formAt
-  other-size value rest out fits = rw (written-reads value rest fits) (allowed-outside least most value (length (lengthOctets value)) out)
+  other-size {value} rest out fits =
+      rw (written-reads value rest fits) (allowed-outside least most value (length (lengthOctets value)) out)
 
-low-bits : (first : ℕ) (rest : List ℕ) → 0 < first % 0x80 → formAt flag (first ∷ rest) ≡ refuse spareBit
+  no-octet : Told (noOctet {least = least} {most = most})
+  unfolding formAt
+  no-octet = refl
+
+  other-octet : {value : ℕ} (rest : List ℕ) (out : (value < least) ⊎ (most < value)) → Told (otherOctet {rest = rest} out)
+  unfolding formAt
+  other-octet {value} rest out = allowed-outside least most value 1 out
+
+few-octets : {n : ℕ} (rest : List ℕ) (few : length rest < n) → Told (fewOctets {rest = rest} few)
+unfolding formAt
+few-octets {n} rest few = rw (lt-ltb (length rest) n few)
+
+no-flag : Told noFlag
+unfolding formAt
+no-flag = refl
+
+low-bits : (first : ℕ) (rest : List ℕ) (set : 0 < first % 0x80) → Told (lowBits {rest = rest} set)
 unfolding formAt
 low-bits first rest set = rw (ne-eqb (first % 0x80) 0 (λ e. omega arith))
 
-more-octets : (first : ℕ) (rest : List ℕ) → formAt nothing (first ∷ rest) ≡ refuse leftOver
+more-octets : (first : ℕ) (rest : List ℕ) → Told (moreOctets {first = first} {rest = rest})
 unfolding formAt
 more-octets first rest = rw (lt-ltb 0 (length (first ∷ rest)) (omega arith))
 
 pub wrong-at : {f : Form} {rest : List ℕ} {n : ℕ} → Wrong f rest n → formAt f rest ≡ refuse n
-unfolding formAt lengthAt
-wrong-at (fewOctets {n} {rest} few) = rw (lt-ltb (length rest) n few)
-wrong-at noSize = refl
-wrong-at (cutSize {least} {most} {first} low high) = cut-size least most first low high
-wrong-at noOctet = refl
-wrong-at noFlag = refl
-wrong-at (highSize {least} {most} {first} {rest} high) = high-size least most first rest high
-wrong-at (longSize {least} {most} {second} {rest} small) = long-size least most 0x80 second rest (omega arith) (omega arith) (omega arith)
-wrong-at (otherSize {least} {most} {value} rest out fits) = other-size least most value rest out fits
-wrong-at (otherOctet {least} {most} {value} {rest} out) = allowed-outside least most value 1 out
+wrong-at (fewOctets {rest = rest} few) = few-octets rest few
+wrong-at (noSize {least} {most}) = no-size least most
+wrong-at (cutSize {least} {most} low high) = cut-size least most low high
+wrong-at (noOctet {least} {most}) = no-octet least most
+wrong-at noFlag = no-flag
+wrong-at (highSize {least} {most} {rest = rest} high) = high-size least most rest high
+wrong-at (longSize {least} {most} {rest = rest} small) = long-size least most rest small
+wrong-at (otherSize {least} {most} rest out fits) = other-size least most rest out fits
+wrong-at (otherOctet {least} {most} {rest = rest} out) = other-octet least most rest out
 wrong-at (lowBits {first} {rest} set) = low-bits first rest set
 wrong-at (moreOctets {first} {rest}) = more-octets first rest
 
@@ -157,25 +180,29 @@ sized-stands least most n rest t is fits =
     (allowed-stands (sized least most) (lengthOctets n ++ t) (lengthOctets n) t least most n (length (lengthOctets n)) refl refl
     (λ low high. rightSize low high) (λ out. otherSize t out fits))
 
-size-one : (least most first : ℕ) (rest : List ℕ) → first < 0x80 → Stands (sized least most) (first ∷ rest) (formAt (sized least most) (first ∷ rest))
+size-one : (least most first : ℕ) (rest : List ℕ) → first < 0x80
+    → Stands (sized least most) (first ∷ rest) (formAt (sized least most) (first ∷ rest))
 size-one least most first rest small =
     sized-stands least most first (first ∷ rest) rest (ap (λ (l : List ℕ). l ++ rest) (sym (lengthOctets-one first small))) (omega arith)
 
-size-high : (least most first : ℕ) (rest : List ℕ) → 0xC0 ≤ first → Stands (sized least most) (first ∷ rest) (formAt (sized least most) (first ∷ rest))
-size-high least most first rest high = rw (high-size least most first rest high) (wrong (highSize high))
+size-high : (least most first : ℕ) (rest : List ℕ) → 0xC0 ≤ first
+    → Stands (sized least most) (first ∷ rest) (formAt (sized least most) (first ∷ rest))
+size-high least most first rest high = rw (high-size least most rest high) (wrong (highSize high))
 
 size-two : (least most first second : ℕ) (rest : List ℕ) → second < 256 → 0x80 ≤ first → first < 0xC0
     → Stands (sized least most) (first ∷ second ∷ rest) (formAt (sized least most) (first ∷ second ∷ rest))
 size-two least most first second rest octet low high =
-    ⊎-elim (λ small. rw (long-size least most first second rest low high small) (short small))
+    ⊎-elim short
     (λ large.
     sized-stands least most (ofTwo first second) (first ∷ second ∷ rest) rest
     (ap (λ (l : List ℕ). l ++ rest) (sym (both large))) (omega arith))
     (below-or-not (ofTwo first second) 0x80) where
-      short : ofTwo first second < 0x80 → Stands (sized least most) (first ∷ second ∷ rest) (refuse badForm)
-      short small =
+      short : ofTwo first second < 0x80
+          → Stands (sized least most) (first ∷ second ∷ rest) (formAt (sized least most) (first ∷ second ∷ rest))
+      short less =
           let is : first ≡ 0x80 = omega arith in
-          rw is (wrong (longSize {second = second} (omega arith)))
+          let small : second < 0x80 = omega arith in
+          rw (is, long-size least most rest small) (wrong (longSize small))
 
       both : 0x80 ≤ ofTwo first second → lengthOctets (ofTwo first second) ≡ first ∷ second ∷ []
       both large =
@@ -189,7 +216,7 @@ size-stands least most [] octets = wrong noSize
 size-stands least most (first ∷ []) octets =
     ⊎-elim (λ small. size-one least most first [] small)
     (λ low.
-    ⊎-elim (λ high. rw (cut-size least most first low high) (wrong (cutSize low high))) (λ high. size-high least most first [] high)
+    ⊎-elim (λ high. rw (cut-size least most low high) (wrong (cutSize low high))) (λ high. size-high least most first [] high)
     (below-or-not first 0xC0))
     (below-or-not first 0x80)
 size-stands least most (first ∷ second ∷ rest) octets =
@@ -204,7 +231,7 @@ unfolding formAt
 flag-stands [] octets = wrong noFlag
 flag-stands (first ∷ rest) octets =
     ⊎-elim (λ clear. ⊎-elim (zero clear) (eighty clear) (below-or-not first 0x80))
-    (λ set. rw (low-bits first rest (omega arith)) (wrong (lowBits {first = first} (omega arith))))
+    (λ set. let bits : 0 < first % 0x80 = omega arith in rw (low-bits first rest bits) (wrong (lowBits {first = first} bits)))
     (same-or-not (first % 0x80) 0) where
       zero : first % 0x80 ≡ 0 → first < 0x80 → Stands flag (first ∷ rest) (flagOf first)
       zero clear low =

@@ -1,6 +1,6 @@
 -- Datagrams and their fronts: whatever is due can still come, and a datagram is never over its limit. Each item has a shortest
 -- way to be right, with all that it brings; and a most that it takes, with all that it brings. Assumes nothing.
-use Prim.Native.Nat.{ℕ, zero, suc, _+_, _-_, _*_, _≤_}
+use Prim.Native.Nat.{ℕ, zero, suc, _+_, _*_, _≤_}
 use mathlib.Core.Path.{_≡_, refl, ap, subst}
 use mathlib.Core.List.{List, [], _∷_, _++_, append-assoc, append-nil}
 use lib.ListN.{length, replicate, length-append, length-replicate}
@@ -8,9 +8,10 @@ use native.Mathlib.Omega.{arith}
 use Rattle.lengths.specs.Length.{lengthOctets}
 use Rattle.lengths.proofs.Laws.{size-written}
 use Rattle.datagrams.specs.Sizes.{packetLimit, datagramLimit, sparesLimit, messagesLimit}
-use Rattle.demands.specs.DatagramRefusals.{Item, number, packet, kind, spares, octet01, octetN, countM, message, inside}
-use Rattle.demands.specs.DatagramRefusals.{many, sized, plain, flag, formOf, brings, Due, begins, passes, Whole, CutSize}
-use Rattle.demands.specs.DatagramRefusals.{Right, rightOctets, rightSize, rightOctet, rightSpares, rightParity}
+use Rattle.demands.specs.DatagramItems.{Item, number, packet, kind, spares, octet01, octetN, countM, message, inside, many}
+use Rattle.demands.specs.DatagramItems.{sized, plain, flag, formOf, brings, Right, rightOctets, rightSize, rightOctet}
+use Rattle.demands.specs.DatagramItems.{rightSpares, rightParity, Due, begins, passes, WholeDatagram}
+use Rattle.demands.specs.DatagramRefusals.{CutOver}
 
 -- ---- whatever is due can still come
 pub record Comes (before : List ℕ) (later : List Item) : Type 0 where
@@ -139,12 +140,13 @@ size-takes countM least most is = omega arith
 size-takes message least most is = omega arith
 size-takes (inside n) least most is = let z : _≡_ {A = ℕ} 0 1 = cc in absurd (omega arith)
 
-pub cut-short : {s : List ℕ} → CutSize s → length s ≤ datagramLimit
+pub cut-short : {s : List ℕ} → CutOver s → length s ≤ datagramLimit
 unfolding allMost
-cut-short cut =
-    omega
-    (arith, due-short (cut .due), size-takes (cut .item) (cut .least) (cut .most) (cut .form), ap length (cut .is), length-append (cut .before) (cut .first ∷ []))
+cut-short {s} cut =
+    let some : 1 ≤ mostOctets (cut .item) = size-takes (cut .item) (cut .least) (cut .most) (cut .form) in
+    let long : length s ≡ length (cut .before ++ (cut .first ∷ [])) = ap length (cut .is) in
+    omega (arith, due-short (cut .due), length-append (cut .before) (cut .first ∷ []))
 
-pub whole-short : {s : List ℕ} → Whole s → length s ≤ datagramLimit
+pub whole-short : {s : List ℕ} → WholeDatagram s → length s ≤ datagramLimit
 unfolding allMost
 whole-short due = omega (arith, due-short due)

@@ -1,7 +1,7 @@
 -- What the datagram reader refuses, and with which number: the reader walks over the items, the walk ends at the first that is
 -- wrong, and it has one outcome. A wrong item stays wrong with the same number whatever follows it, except for 1, where octets are
 -- missing and can still come. Assumes nothing.
-use Prim.Native.Nat.{ℕ, _+_, _-_, _≤_, _<_}
+use Prim.Native.Nat.{ℕ, _≤_, _<_}
 use mathlib.Core.Path.{_≡_, refl, sym, ap, subst, _∙_}
 use mathlib.Core.Logic.{_⊎_, inl, inr, ⊎-elim}
 use mathlib.Core.List.{List, [], _∷_, _++_, append-nil}
@@ -12,19 +12,21 @@ use borrow.Author.Tests.{lt-ltb}
 use Rattle.octets.proofs.Cases.{below-or-not, same-or-not}
 use Rattle.lengths.specs.Refusals.{endsEarly, tooLong, leftOver}
 use Rattle.lengths.specs.Claims.{Octets}
-use Rattle.datagrams.specs.Sizes.{datagramLimit}
+use Rattle.datagrams.specs.Sizes.{packetLeast, packetLimit, datagramLimit}
 use Rattle.datagrams.specs.Read.{readDatagram}
 use Rattle.datagrams.specs.Promise.{DatagramReads, readOutcome}
 use Rattle.datagrams.specs.declared.reader.DatagramRead.{DatagramRead}
 use Rattle.demands.specs.Refusals.{refusalIn}
-use Rattle.demands.specs.DatagramRefusals.{begins, Whole, FirstWrong, Front, CutSize, Refused, DatagramRefusals}
+use Rattle.demands.specs.DatagramItems.{packet, kind, formOf, brings, rightOctets, begins, passes, WholeDatagram}
+use Rattle.demands.specs.DatagramRefusals.{FirstWrong, Followed, Front, CutOver, RefusalOf, DatagramRefusals}
 use Rattle.demands.proofs.DatagramWalk.{Walk, ends, stops, one-walk, start, walk-from, walk-ends, Ended}
 use Rattle.demands.proofs.DatagramSteps.{read-walk}
 use Rattle.demands.proofs.DatagramFronts.{cut-short, whole-short}
-use Rattle.demands.proofs.DatagramNumbers.{never-over, ends-early, mended, cut-wrong, followed-wrong, wrong-followed, wrong-longer}
+use Rattle.demands.proofs.DatagramNumbers.{never-over, ends-early, completed}
+use Rattle.demands.proofs.DatagramNumbers.{cut-wrong, followed-wrong, wrong-followed, wrong-longer}
 
 -- ---- a datagram is not wrong
-whole-walks : {s : List ℕ} → Whole s → Walk start s none
+whole-walks : {s : List ℕ} → WholeDatagram s → Walk start s none
 whole-walks {s} whole = subst (λ (l : List ℕ). Walk start l none) (append-nil s) (walk-from whole ends)
 
 wrong-walks : {s : List ℕ} {n : ℕ} → FirstWrong s n → Walk start s (some n)
@@ -36,7 +38,7 @@ not-none p q = let z : _≡_ {A = ℕ} 0 1 = cc in omega arith
 some-same : {n k : ℕ} {o : Option ℕ} → o ≡ some n → o ≡ some k → n ≡ k
 some-same p q = cc
 
-whole-right : {s : List ℕ} {n : ℕ} → Whole s → FirstWrong s n → ⊥
+whole-right : {s : List ℕ} {n : ℕ} → WholeDatagram s → FirstWrong s n → ⊥
 whole-right whole w = not-none refl (one-walk (whole-walks whole) (wrong-walks w))
 
 -- ---- the reader
@@ -52,32 +54,33 @@ module _ (s : List ℕ) (octets : Octets s) where
   within-limit : {o : Option ℕ} → answer ≡ o → (o ≡ some tooLong → ⊥) → length s ≤ datagramLimit
   within-limit e other = ⊎-elim (λ long. absurd (other (sym e ∙ is-over long))) (λ short. short) (below-or-not datagramLimit (length s))
 
-  is-whole : Whole s → answer ≡ none
+  is-whole : WholeDatagram s → answer ≡ none
   is-whole whole = one-walk (read-walk s octets (whole-short whole)) (whole-walks whole)
 
   is-wrong : {n : ℕ} → length s ≤ datagramLimit → FirstWrong s n → answer ≡ some n
   is-wrong short w = one-walk (read-walk s octets short) (wrong-walks w)
 
-  whole-is : answer ≡ none → Whole s
+  whole-is : answer ≡ none → WholeDatagram s
   whole-is e = subst (Ended s) e (walk-ends begins (read-walk s octets (within-limit e (λ q. not-none refl q))))
 
   wrong-is : (n : ℕ) → length s ≤ datagramLimit → answer ≡ some n → FirstWrong s n
   wrong-is n short e = subst (Ended s) e (walk-ends begins (read-walk s octets short))
 
   over-is : answer ≡ some tooLong → datagramLimit < length s
-  over-is e = ⊎-elim (λ long. long) (λ short. absurd (never-over (wrong-is tooLong short e .wrong) refl)) (below-or-not datagramLimit (length s))
+  over-is e =
+      ⊎-elim (λ long. long) (λ short. absurd (never-over (wrong-is tooLong short e .wrong) refl)) (below-or-not datagramLimit (length s))
 
   -- 1
-  front-is : (more : List ℕ) → answer ≡ some endsEarly → Whole (s ++ more) → Front s
-  front-is [] e whole = absurd (not-none (is-whole (subst Whole (append-nil s) whole)) e)
+  front-is : (more : List ℕ) → answer ≡ some endsEarly → WholeDatagram (s ++ more) → Front s
+  front-is [] e whole = absurd (not-none (is-whole (subst WholeDatagram (append-nil s) whole)) e)
   front-is (first ∷ rest) e whole = record { first = first; rest = rest; whole = whole }
 
-  cut-is : answer ≡ some endsEarly → Front s ⊎ CutSize s
+  cut-is : answer ≡ some endsEarly → Front s ⊎ CutOver s
   cut-is e =
       let w = wrong-is endsEarly (within-limit e (λ q. omega (arith, some-same {o = some endsEarly} refl q))) e in
-      ⊎-elim (λ m. inl (front-is (m .more) e (subst (λ (l : List ℕ). Whole (l ++ m .more)) (sym (w .is)) (m .whole))))
-      (λ c. inr (subst CutSize (sym (w .is)) c))
-      (mended (w .before) (w .rest) (w .items) (w .due) (ends-early (w .wrong) refl))
+      ⊎-elim (λ m. inl (front-is (m .more) e (subst (λ (l : List ℕ). WholeDatagram (l ++ m .more)) (sym (w .is)) (m .whole))))
+      (λ c. inr (subst CutOver (sym (w .is)) c))
+      (completed (w .before) (w .rest) (w .items) (w .due) (ends-early (w .wrong) refl))
 
   is-front : Front s → answer ≡ some endsEarly
   is-front f = pick answer refl where
@@ -86,13 +89,15 @@ module _ (s : List ℕ) (octets : Octets s) where
 
     pick : (o : Option ℕ) → answer ≡ o → answer ≡ some endsEarly
     pick none e =
-        absurd (whole-right (f .whole) (followed-wrong (record { datagram = s; first = f .first; rest = f .rest; is = refl; whole = whole-is e })))
+        let followed : Followed (s ++ (f .first ∷ f .rest)) =
+        record { datagram = s; first = f .first; rest = f .rest; is = refl; whole = whole-is e } in
+        absurd (whole-right (f .whole) (followed-wrong followed))
     pick (some n) e =
         ⊎-elim (λ is. e ∙ ap (λ (k : ℕ). some k) is)
         (λ other. absurd (whole-right (f .whole) (wrong-longer s (f .first ∷ f .rest) n (wrong-is n short e) other)))
         (same-or-not n endsEarly)
 
-  pub told : Refused s answer
+  pub told : RefusalOf s answer
   told =
       record {
         over = (over-is, is-over);
@@ -108,8 +113,8 @@ octets-front s more octets i =
     (below-or-not i (length s))
 
 -- ---- the call
-reads-told : {s : List ℕ} {r : DatagramRead} → Octets s → DatagramReads s r → Refused s (refusalIn (readOutcome r))
-reads-told {s} octets p = subst (Refused s) (sym (ap refusalIn (p .answer))) (told s octets)
+reads-told : {s : List ℕ} {r : DatagramRead} → Octets s → DatagramReads s r → RefusalOf s (refusalIn (readOutcome r))
+reads-told {s} octets p = subst (RefusalOf s) (sym (ap refusalIn (p .answer))) (told s octets)
 
 module _ (s more : List ℕ) {r : DatagramRead} {n : ℕ} (octets : Octets (s ++ more)) (p : DatagramReads s r)
     (e : refusalIn (readOutcome r) ≡ some n) (other : n ≡ endsEarly → ⊥) where
@@ -126,13 +131,31 @@ module _ (s more : List ℕ) {r : DatagramRead} {n : ℕ} (octets : Octets (s ++
       let whole = reads-told octets long .whole .0 reads in
       whole-right whole (longer (whole-short whole))
 
+bf-is-beyond : CutOver (0x00 ∷ 0x00 ∷ 0xBF ∷ [])
+unfolding formOf brings
+bf-is-beyond =
+    record {
+      before = 0x00 ∷ 0x00 ∷ [];
+      first = 0xBF;
+      item = packet;
+      later = kind ∷ [];
+      least = packetLeast;
+      most = packetLimit;
+      is = refl;
+      due = passes begins (rightOctets refl);
+      form = refl;
+      ofTwoOctets = (omega arith, omega arith);
+      over = λ second large. omega arith;
+    }
+
 pub datagram-refusals : DatagramRefusals
 datagram-refusals =
     record {
-      refused = reads-told;
+      refusal = reads-told;
       front = λ s more first octets q reads p.
           reads-told (octets-front s (first ∷ more) octets) p .cut .1
           (inl (record { first = first; rest = more; whole = reads-told octets q .whole .0 reads }));
       stays = λ s more octets p e other short q. stays s more octets p e other short q;
       never = λ s more octets p e other q reads. never s more octets p e other q reads;
+      beyond = bf-is-beyond;
     }

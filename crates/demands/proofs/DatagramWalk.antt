@@ -1,7 +1,7 @@
 -- The datagram reader goes from item to item: of any octets it tells what the walk over the items due tells. Each of its pieces
 -- is such a step, and what is left of the octets from its place on is what the next item meets. The walk has one outcome, and so
 -- the octets before an item say what the reader makes of any that follow. Assumes nothing.
-use Prim.Native.Nat.{ℕ, _+_, _-_, _≤_}
+use Prim.Native.Nat.{ℕ, _≤_}
 use mathlib.Core.Path.{_≡_, refl, sym, ap, subst, _∙_}
 use mathlib.Core.List.{List, [], _∷_, _++_, append-assoc, append-nil}
 use mathlib.Core.Option.{Option, none, some}
@@ -13,9 +13,9 @@ use Rattle.lengths.specs.Answers.{Answer, refuse, LengthAnswer}
 use Rattle.lengths.specs.Length.{lengthLimit}
 use Rattle.lengths.specs.declared.Refusal.{Refusal}
 use Rattle.datagrams.proofs.AnswerLaws.{done-same}
-use Rattle.demands.specs.DatagramRefusals.{Item, number, packet, kind, spares, octet01, octetN, countM, message, inside}
-use Rattle.demands.specs.DatagramRefusals.{nothing, formOf, formDue, brings}
-use Rattle.demands.specs.DatagramRefusals.{Right, Wrong, Due, begins, passes, Whole, FirstWrong}
+use Rattle.demands.specs.DatagramItems.{Item, number, packet, kind, spares, octet01, octetN, countM, message, inside, nothing}
+use Rattle.demands.specs.DatagramItems.{formOf, formDue, brings, Right, Due, begins, passes, WholeDatagram}
+use Rattle.demands.specs.DatagramRefusals.{Wrong, FirstWrong}
 use Rattle.demands.proofs.DatagramForms.{formAt, found, mostIn, right-at, wrong-at}
 
 -- ---- the walk
@@ -63,7 +63,8 @@ nothing-there = refl
 
 same-rest : (x y t u rest : List ℕ) → rest ≡ x ++ t → rest ≡ y ++ u → length x ≡ length y → t ≡ u
 same-rest x y t u rest p q e =
-    sym (drop-append-seam x t) ∙ ap (drop (length x)) (sym p) ∙ ap (λ (n : ℕ). drop n rest) e ∙ ap (drop (length y)) q ∙ drop-append-seam y u
+    sym (drop-append-seam x t) ∙ ap (drop (length x)) (sym p) ∙ ap (λ (n : ℕ). drop n rest) e
+    ∙ ap (drop (length y)) q ∙ drop-append-seam y u
 
 pub one-walk : {items : List Item} {rest : List ℕ} {r q : Option ℕ} → Walk items rest r → Walk items rest q → r ≡ q
 unfolding formDue
@@ -93,7 +94,7 @@ walk-from {rest = rest} {r} (passes {before} {x} due right) walk =
 
 -- what a walk comes to
 abbrev pub Ended : List ℕ → Option ℕ → Type 0
-Ended s none = Whole s
+Ended s none = WholeDatagram s
 Ended s (some n) = FirstWrong s n
 
 pub walk-ends : {before : List ℕ} {items : List Item} {rest : List ℕ} {r : Option ℕ} → Due before items → Walk items rest r

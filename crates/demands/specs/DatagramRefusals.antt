@@ -1,93 +1,24 @@
--- Document 01, 'The datagram' and 'Refusals by number': what the datagram reader refuses, and with which number, told by the
--- items of a datagram and not by a reading of it. A datagram is a row of items, some of which say which items come next. Up to the
--- first item that is wrong all is right, and what is wrong with that item is the number. Definitions only.
+-- Document 01, 'Refusals by number', of the datagram reader: what it refuses, and with which number, said without a reading
+-- of the octets. They are right up to the first item that is wrong, and what is wrong with that item is the number. A datagram
+-- of these items is what the datagram writer writes (Demand1, `isDatagram`). Statements alone. Definitions only.
 use Prim.Native.Nat.{ℕ, _%_, _≤_, _<_}
 use mathlib.Core.Path.{_≡_}
 use mathlib.Core.Logic.{_↔_, _⊎_}
-use mathlib.Core.Bool.{cond}
 use mathlib.Core.List.{List, [], _∷_, _++_}
 use mathlib.Core.Option.{Option, none, some}
-use lib.ListN.{length, replicate}
-use lib.Dec.{eqb}
+use lib.ListN.{length}
 use Rattle.lengths.specs.Refusals.{endsEarly, tooLong, badForm, outsideSizes, spareBit, leftOver}
-use Rattle.lengths.specs.Length.{lengthOctets, lengthLimit}
+use Rattle.lengths.specs.Length.{lengthOctets, lengthLimit, ofTwo}
 use Rattle.lengths.specs.Claims.{Octets}
-use Rattle.datagrams.specs.Sizes.{packetLeast, packetLimit, messageLeast, messageLimit, datagramLimit, sparesLimit, coveredLimit, messagesLimit}
+use Rattle.datagrams.specs.Sizes.{datagramLimit}
 use Rattle.datagrams.specs.Promise.{DatagramReads, readOutcome}
 use Rattle.datagrams.specs.declared.reader.DatagramRead.{DatagramRead}
 use Rattle.demands.specs.Refusals.{refusalIn}
+use Rattle.demands.specs.DatagramItems.{Item, Form, many, sized, plain, flag, nothing, formOf, formDue, Due, WholeDatagram}
 
--- ---- the items of a datagram
-pub data Item : Type 0 where
-  -- "Number: two octets, high first"
-  number : Item
-  -- the length of a packet, the newest or a spare
-  packet : Item
-  -- "one octet, 00 for spares or 80 for parity"
-  kind : Item
-  -- "Spares: a count"
-  spares : Item
-  -- "Parity: octet 01, octet n, count m"
-  octet01 : Item
-  octetN : Item
-  countM : Item
-  -- the length of a message
-  message : Item
-  -- so many octets of a packet, spare or message
-  inside : ℕ → Item
+-- ---- the first item that is wrong
 
--- what stands for an item
-pub data Form : Type 0 where
-  -- so many octets, whatever they are
-  many : ℕ → Form
-  -- a length or count, from least to most
-  sized : (least most : ℕ) → Form
-  -- one plain octet, from least to most
-  plain : (least most : ℕ) → Form
-  -- one octet, 00 or 80
-  flag : Form
-  -- "Nothing follows"
-  nothing : Form
-
-unfoldable pub formOf : Item → Form
-formOf number = many 2
-formOf packet = sized packetLeast packetLimit
-formOf kind = flag
-formOf spares = sized 0 sparesLimit
-formOf octet01 = plain 0x01 0x01
-formOf octetN = plain 1 coveredLimit
-formOf countM = sized 1 messagesLimit
-formOf message = sized messageLeast messageLimit
-formOf (inside n) = many n
-
--- what must come where these items are still due
-unfoldable pub formDue : List Item → Form
-formDue [] = nothing
-formDue (item ∷ later) = formOf item
-
--- the items that an item of this value brings: a length its octets, a count its packets or messages, the kind what it is made of
-unfoldable pub brings : Item → ℕ → List Item
-brings number value = []
-brings packet value = inside value ∷ []
-brings kind value = cond (eqb value 0x00) (spares ∷ []) (octet01 ∷ octetN ∷ countM ∷ [])
-brings spares value = replicate value packet
-brings octet01 value = []
-brings octetN value = []
-brings countM value = replicate value message
-brings message value = inside value ∷ []
-brings (inside n) value = []
-
--- ---- right and wrong
-
--- an item as it must be: its form, its octets and its value
-pub data Right : Form → List ℕ → ℕ → Type 0 where
-  rightOctets : {n : ℕ} {x : List ℕ} → length x ≡ n → Right (many n) x 0
-  rightSize : {least most value : ℕ} → least ≤ value → value ≤ most → Right (sized least most) (lengthOctets value) value
-  rightOctet : {least most value : ℕ} → least ≤ value → value ≤ most → Right (plain least most) (value ∷ []) value
-  rightSpares : Right flag (0x00 ∷ []) 0x00
-  rightParity : Right flag (0x80 ∷ []) 0x80
-
--- what is wrong where an item of this form must come, by the octets that stand there, and its number
+-- an item of this form is due, these octets come, and this is the number for it
 pub data Wrong : Form → List ℕ → ℕ → Type 0 where
   -- 1: "input ends inside an item or before one that must come; empty input"
   fewOctets : {n : ℕ} {rest : List ℕ} → length rest < n → Wrong (many n) rest endsEarly
@@ -103,24 +34,12 @@ pub data Wrong : Form → List ℕ → ℕ → Type 0 where
       → Wrong (sized least most) (lengthOctets value ++ rest) outsideSizes
   otherOctet : {least most value : ℕ} {rest : List ℕ} → (value < least) ⊎ (most < value)
       → Wrong (plain least most) (value ∷ rest) outsideSizes
-  -- 5: "a spare bit is set"; of the kind "its low seven bits are zero"
+  -- 5: "a spare bit is set"; of the octet 00 or 80, "its low seven bits are zero"
   lowBits : {first : ℕ} {rest : List ℕ} → 0 < first % 0x80 → Wrong flag (first ∷ rest) spareBit
   -- 6: "octets left over"
   moreOctets : {first : ℕ} {rest : List ℕ} → Wrong nothing (first ∷ rest) leftOver
 
--- ---- datagrams and their fronts
-
--- after these octets, right items all, these items are still due
-pub data Due : List ℕ → List Item → Type 0 where
-  begins : Due [] (number ∷ packet ∷ kind ∷ [])
-  passes : {before x : List ℕ} {item : Item} {later : List Item} {value : ℕ} → Due before (item ∷ later)
-      → Right (formOf item) x value → Due (before ++ x) (brings item value ++ later)
-
--- a datagram: right items all, and none is still due
-abbrev pub Whole : List ℕ → Type 0
-Whole s = Due s []
-
--- right items up to the first that is wrong, and this is its number
+-- right items, then one that is wrong with this number
 pub record FirstWrong (s : List ℕ) (n : ℕ) : Type 0 where
   pub before : List ℕ
   pub rest : List ℕ
@@ -129,22 +48,24 @@ pub record FirstWrong (s : List ℕ) (n : ℕ) : Type 0 where
   pub due : Due before items
   pub wrong : Wrong (formDue items) rest n
 
+-- ---- datagrams with octets too many or too few
+
 -- a datagram, and octets after it
 pub record Followed (s : List ℕ) : Type 0 where
   pub datagram : List ℕ
   pub first : ℕ
   pub rest : List ℕ
   pub is : s ≡ datagram ++ (first ∷ rest)
-  pub whole : Whole datagram
+  pub whole : WholeDatagram datagram
 
--- a datagram that is cut: there are octets more that would make it whole
+-- the front of a datagram: octets more would make it whole
 pub record Front (s : List ℕ) : Type 0 where
   pub first : ℕ
   pub rest : List ℕ
-  pub whole : Whole (s ++ (first ∷ rest))
+  pub whole : WholeDatagram (s ++ (first ∷ rest))
 
--- right items, then the first octet alone of a length or count of two
-pub record CutSize (s : List ℕ) : Type 0 where
+-- right items, then the first octet alone of a length or count of two, which no second octet would bring within its sizes
+pub record CutOver (s : List ℕ) : Type 0 where
   pub before : List ℕ
   pub first : ℕ
   pub item : Item
@@ -154,32 +75,38 @@ pub record CutSize (s : List ℕ) : Type 0 where
   pub is : s ≡ before ++ (first ∷ [])
   pub due : Due before (item ∷ later)
   pub form : formOf item ≡ sized least most
-  pub low : 0x80 ≤ first
-  pub high : first < 0xC0
+  pub ofTwoOctets : (0x80 ≤ first) × (first < 0xC0)
+  pub over : (second : ℕ) → 0x80 ≤ ofTwo first second → most < ofTwo first second
 
--- ---- what the datagram reader answers
+-- ---- the datagram reader
 
--- the number of its refusal of these octets, or none
-pub record Refused (s : List ℕ) (answer : Option ℕ) : Type 0 where
+-- its refusal of these octets
+pub record RefusalOf (s : List ℕ) (answer : Option ℕ) : Type 0 where
   -- 2 exactly if they are more than 1,500
   pub over : (answer ≡ some tooLong) ↔ (datagramLimit < length s)
-  -- none exactly if they are a datagram
-  pub whole : (answer ≡ none) ↔ Whole s
-  -- 1, 3, 4, 5 and 6 exactly if that is the number of the first item that is wrong
+  -- not refused exactly if they are a datagram
+  pub whole : (answer ≡ none) ↔ WholeDatagram s
+  -- 1, 3, 4, 5 and 6 exactly if that is the number for the first item that is wrong
   pub firstWrong : (n : ℕ) → length s ≤ datagramLimit → (answer ≡ some n) ↔ FirstWrong s n
-  -- 6 exactly if a datagram stands at the front, and octets after it
+  -- 6 exactly if they are a datagram and octets after it
   pub followed : length s ≤ datagramLimit → (answer ≡ some leftOver) ↔ Followed s
-  -- 1 exactly if they are a datagram that is cut, or are cut inside a length or count of two octets, which the second may not save
-  pub cut : (answer ≡ some endsEarly) ↔ (Front s ⊎ CutSize s)
+  -- 1 exactly if they are the front of a datagram, or end inside a length or count that no second octet would bring within its
+  -- sizes
+  pub cut : (answer ≡ some endsEarly) ↔ (Front s ⊎ CutOver s)
 
 pub record DatagramRefusals : Type 0 where
-  pub refused : {s : List ℕ} {r : DatagramRead} → Octets s → DatagramReads s r → Refused s (refusalIn (readOutcome r))
-  -- whatever reads, each front of it is refused with 1
-  pub front : (s more : List ℕ) (first : ℕ) {r q : DatagramRead} → Octets (s ++ (first ∷ more)) → DatagramReads (s ++ (first ∷ more)) q
-      → refusalIn (readOutcome q) ≡ none → DatagramReads s r → refusalIn (readOutcome r) ≡ some endsEarly
-  -- only 1 may be mended by octets still to come: what is refused with another number is so too with any octets after it, ..
-  pub stays : (s more : List ℕ) {r q : DatagramRead} {n : ℕ} → Octets (s ++ more) → DatagramReads s r → refusalIn (readOutcome r) ≡ some n
-      → (n ≡ endsEarly → ⊥) → length (s ++ more) ≤ datagramLimit → DatagramReads (s ++ more) q → refusalIn (readOutcome q) ≡ some n
-  -- .. and with none does it read
-  pub never : (s more : List ℕ) {r q : DatagramRead} {n : ℕ} → Octets (s ++ more) → DatagramReads s r → refusalIn (readOutcome r) ≡ some n
-      → (n ≡ endsEarly → ⊥) → DatagramReads (s ++ more) q → refusalIn (readOutcome q) ≡ none → ⊥
+  pub refusal : {s : List ℕ} {r : DatagramRead} → Octets s → DatagramReads s r → RefusalOf s (refusalIn (readOutcome r))
+  -- where octets are read, every front of them is refused with 1
+  pub front : (s more : List ℕ) (first : ℕ) {r q : DatagramRead} → Octets (s ++ (first ∷ more))
+      → DatagramReads (s ++ (first ∷ more)) q → refusalIn (readOutcome q) ≡ none
+      → DatagramReads s r → refusalIn (readOutcome r) ≡ some endsEarly
+  -- octets more may help against 1 only: octets refused with another number are refused with any octets after them, ..
+  pub never : (s more : List ℕ) {r q : DatagramRead} {n : ℕ} → Octets (s ++ more)
+      → DatagramReads s r → refusalIn (readOutcome r) ≡ some n → (n ≡ endsEarly → ⊥)
+      → DatagramReads (s ++ more) q → refusalIn (readOutcome q) ≡ none → ⊥
+  -- .. and with the same number, if they are still within the limit
+  pub stays : (s more : List ℕ) {r q : DatagramRead} {n : ℕ} → Octets (s ++ more)
+      → DatagramReads s r → refusalIn (readOutcome r) ≡ some n → (n ≡ endsEarly → ⊥) → length (s ++ more) ≤ datagramLimit
+      → DatagramReads (s ++ more) q → refusalIn (readOutcome q) ≡ some n
+  -- 1 without a datagram to come: the length of the newest packet begins with BF
+  pub beyond : CutOver (0x00 ∷ 0x00 ∷ 0xBF ∷ [])

@@ -4,6 +4,7 @@ pub mod Calls
 pub mod Demand2
 pub mod OneOutcome
 pub mod Refusals
+pub mod DatagramItems
 pub mod DatagramRefusals
 pub mod Demand1
 pub mod Sheet
