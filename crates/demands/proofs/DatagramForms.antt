@@ -189,13 +189,20 @@ size-high : (least most first : ℕ) (rest : List ℕ) → 0xC0 ≤ first
     → Stands (sized least most) (first ∷ rest) (formAt (sized least most) (first ∷ rest))
 size-high least most first rest high = rw (high-size least most rest high) (wrong (highSize high))
 
+pub two-octets : (first second : ℕ) → second < 256 → 0x80 ≤ first → first < 0xC0 → 0x80 ≤ ofTwo first second
+    → lengthOctets (ofTwo first second) ≡ first ∷ second ∷ []
+two-octets first second octet low high large =
+    let upper : ofTwo first second / 256 + 0x80 ≡ first = omega arith in
+    let lower : ofTwo first second % 256 ≡ second = omega arith in
+    lengthOctets-two (ofTwo first second) large ∙ rw (upper, lower)
+
 size-two : (least most first second : ℕ) (rest : List ℕ) → second < 256 → 0x80 ≤ first → first < 0xC0
     → Stands (sized least most) (first ∷ second ∷ rest) (formAt (sized least most) (first ∷ second ∷ rest))
 size-two least most first second rest octet low high =
     ⊎-elim short
     (λ large.
     sized-stands least most (ofTwo first second) (first ∷ second ∷ rest) rest
-    (ap (λ (l : List ℕ). l ++ rest) (sym (both large))) (omega arith))
+    (ap (λ (l : List ℕ). l ++ rest) (sym (two-octets first second octet low high large))) (omega arith))
     (below-or-not (ofTwo first second) 0x80) where
       short : ofTwo first second < 0x80
           → Stands (sized least most) (first ∷ second ∷ rest) (formAt (sized least most) (first ∷ second ∷ rest))
@@ -203,12 +210,6 @@ size-two least most first second rest octet low high =
           let is : first ≡ 0x80 = omega arith in
           let small : second < 0x80 = omega arith in
           rw (is, long-size least most rest small) (wrong (longSize small))
-
-      both : 0x80 ≤ ofTwo first second → lengthOctets (ofTwo first second) ≡ first ∷ second ∷ []
-      both large =
-          let upper : ofTwo first second / 256 + 0x80 ≡ first = omega arith in
-          let lower : ofTwo first second % 256 ≡ second = omega arith in
-          lengthOctets-two (ofTwo first second) large ∙ rw (upper, lower)
 
 pub size-stands : (least most : ℕ) (rest : List ℕ) → Octets rest → Stands (sized least most) rest (formAt (sized least most) rest)
 unfolding formAt lengthAt

@@ -1,62 +1,84 @@
 -- Datagrams and their fronts: whatever is due can still come, and a datagram is never over its limit. Each item has a shortest
 -- way to be right, with all that it brings; and a most that it takes, with all that it brings. Assumes nothing.
-use Prim.Native.Nat.{ℕ, zero, suc, _+_, _*_, _≤_}
+use Prim.Native.Nat.{ℕ, zero, suc, _+_, _*_, _≤_, _<_}
 use mathlib.Core.Path.{_≡_, refl, ap, subst}
 use mathlib.Core.List.{List, [], _∷_, _++_, append-assoc, append-nil}
 use lib.ListN.{length, replicate, length-append, length-replicate}
 use native.Mathlib.Omega.{arith}
 use Rattle.lengths.specs.Length.{lengthOctets}
-use Rattle.lengths.proofs.Laws.{size-written}
+use Rattle.lengths.specs.Claims.{Octets}
+use Rattle.lengths.proofs.Laws.{size-written, octets-cons, octets-none, octets-written}
 use Rattle.datagrams.specs.Sizes.{packetLimit, datagramLimit, sparesLimit, messagesLimit}
 use Rattle.demands.specs.DatagramItems.{Item, number, packet, kind, spares, octet01, octetN, countM, message, inside, many}
 use Rattle.demands.specs.DatagramItems.{sized, plain, flag, formOf, brings, Right, rightOctets, rightSize, rightOctet}
 use Rattle.demands.specs.DatagramItems.{rightSpares, rightParity, Due, begins, passes, WholeDatagram}
 use Rattle.demands.specs.DatagramRefusals.{CutOver}
 
+-- ---- octets
+pub octets-join : (a b : List ℕ) → Octets a → Octets b → Octets (a ++ b)
+octets-join [] b p q = q
+octets-join (x ∷ a) b p q = octets-cons x (a ++ b) (p 0) (octets-join a b (λ i. p (suc i)) q)
+
+pub octets-zero : (n : ℕ) → Octets (replicate n 0)
+octets-zero zero = octets-none
+octets-zero (suc n) = octets-cons 0 (replicate n 0) (omega arith) (octets-zero n)
+
+pub octet-alone : (x : ℕ) → x < 256 → Octets (x ∷ [])
+octet-alone x small = octets-cons x [] small octets-none
+
 -- ---- whatever is due can still come
 pub record Comes (before : List ℕ) (later : List Item) : Type 0 where
   pub more : List ℕ
+  pub octets : Octets more
   pub due : Due (before ++ more) later
 
-comes-after : (before x : List ℕ) (later : List Item) → Comes (before ++ x) later → Comes before later
-comes-after before x later c =
-    record { more = x ++ c .more; due = subst (λ (l : List ℕ). Due l later) (append-assoc before x (c .more)) (c .due) }
+pub comes-after : (before x : List ℕ) (later : List Item) → Octets x → Comes (before ++ x) later → Comes before later
+comes-after before x later octets c =
+    record {
+      more = x ++ c .more;
+      octets = octets-join x (c .more) octets (c .octets);
+      due = subst (λ (l : List ℕ). Due l later) (append-assoc before x (c .more)) (c .due);
+    }
 
-now : {before : List ℕ} {later : List Item} (x : List ℕ) → Due (before ++ x) later → Comes before later
-now x due = record { more = x; due = due }
+now : {before : List ℕ} {later : List Item} (x : List ℕ) → Octets x → Due (before ++ x) later → Comes before later
+now x octets due = record { more = x; octets = octets; due = due }
 
 -- octets of a packet, spare or message
 octets-come : (before : List ℕ) (later : List Item) (n : ℕ) → Due before (inside n ∷ later) → Comes before later
 unfolding formOf brings
-octets-come before later n due = now (replicate n 0) (passes due (rightOctets (length-replicate n 0)))
+octets-come before later n due = now (replicate n 0) (octets-zero n) (passes due (rightOctets (length-replicate n 0)))
 
 item-comes : (item : Item) (before : List ℕ) (later : List Item) → Due before (item ∷ later) → Comes before later
 unfolding formOf brings
-item-comes number before later due = now (0 ∷ 0 ∷ []) (passes due (rightOctets refl))
+item-comes number before later due = now (0 ∷ 0 ∷ []) (octets-zero 2) (passes due (rightOctets refl))
 item-comes packet before later due =
-    comes-after before (lengthOctets 1) later
+    comes-after before (lengthOctets 1) later (octets-written 1 (omega arith))
     (octets-come (before ++ lengthOctets 1) later 1 (passes due (rightSize {value = 1} (omega arith) (omega arith))))
 item-comes kind before later due =
-    comes-after before (0x00 ∷ []) later
-    (now (lengthOctets 0) (passes (passes due rightSpares) (rightSize {value = 0} (omega arith) (omega arith))))
-item-comes spares before later due = now (lengthOctets 0) (passes due (rightSize {value = 0} (omega arith) (omega arith)))
-item-comes octet01 before later due = now (1 ∷ []) (passes due (rightOctet {value = 1} (omega arith) (omega arith)))
-item-comes octetN before later due = now (1 ∷ []) (passes due (rightOctet {value = 1} (omega arith) (omega arith)))
+    comes-after before (0x00 ∷ []) later (octets-zero 1)
+    (now (lengthOctets 0) (octets-written 0 (omega arith))
+    (passes (passes due rightSpares) (rightSize {value = 0} (omega arith) (omega arith))))
+item-comes spares before later due =
+    now (lengthOctets 0) (octets-written 0 (omega arith)) (passes due (rightSize {value = 0} (omega arith) (omega arith)))
+item-comes octet01 before later due =
+    now (1 ∷ []) (octet-alone 1 (omega arith)) (passes due (rightOctet {value = 1} (omega arith) (omega arith)))
+item-comes octetN before later due =
+    now (1 ∷ []) (octet-alone 1 (omega arith)) (passes due (rightOctet {value = 1} (omega arith) (omega arith)))
 item-comes countM before later due =
-    comes-after before (lengthOctets 1) later
-    (comes-after (before ++ lengthOctets 1) (lengthOctets 0) later
+    comes-after before (lengthOctets 1) later (octets-written 1 (omega arith))
+    (comes-after (before ++ lengthOctets 1) (lengthOctets 0) later (octets-written 0 (omega arith))
     (octets-come (before ++ lengthOctets 1 ++ lengthOctets 0) later 0
     (passes (passes due (rightSize {value = 1} (omega arith) (omega arith))) (rightSize {value = 0} (omega arith) (omega arith)))))
 item-comes message before later due =
-    comes-after before (lengthOctets 0) later
+    comes-after before (lengthOctets 0) later (octets-written 0 (omega arith))
     (octets-come (before ++ lengthOctets 0) later 0 (passes due (rightSize {value = 0} (omega arith) (omega arith))))
 item-comes (inside n) before later due = octets-come before later n due
 
 pub all-come : (items : List Item) (before : List ℕ) → Due before items → Comes before []
-all-come [] before due = now [] (rw (append-nil before) due)
+all-come [] before due = now [] octets-none (rw (append-nil before) due)
 all-come (item ∷ later) before due =
     let first = item-comes item before later due in
-    comes-after before (first .more) [] (all-come later (before ++ first .more) (first .due))
+    comes-after before (first .more) [] (first .octets) (all-come later (before ++ first .more) (first .due))
 
 -- ---- a datagram is never over its limit
 

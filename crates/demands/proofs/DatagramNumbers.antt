@@ -1,21 +1,17 @@
--- What the number of a wrong item says: 6 that nothing was due, 1 that octets are missing, which can still come unless a length is
--- cut. With any other number it stays wrong whatever follows. Assumes nothing.
-use Prim.Native.Nat.{ℕ, _-_, _≤_, _<_}
+-- What the number of a wrong item says: 6 that nothing was due, 1 that octets are missing; and with any number but 1 it stays wrong
+-- with the same number whatever follows. Each is read off the rows of `Wrong`. Assumes nothing.
+use Prim.Native.Nat.{ℕ, _≤_, _<_}
 use mathlib.Core.Path.{_≡_, refl, sym, ap, subst, _∙_}
-use mathlib.Core.Logic.{_⊎_, inl, inr, ⊎-elim}
-use mathlib.Core.List.{List, [], _∷_, _++_, append-assoc, append-nil}
-use lib.ListN.{length, replicate, length-append, length-replicate}
+use mathlib.Core.List.{List, [], _∷_, _++_, append-assoc}
+use lib.ListN.{length}
 use native.Mathlib.Omega.{arith}
 use Rattle.lengths.specs.Refusals.{endsEarly, tooLong, outsideSizes, leftOver}
-use Rattle.lengths.specs.Length.{lengthOctets, ofTwo}
-use Rattle.datagrams.specs.Sizes.{packetLimit}
-use Rattle.octets.proofs.Cases.{below-or-not}
+use Rattle.lengths.specs.Length.{lengthOctets}
 use Rattle.demands.specs.DatagramItems.{Item, number, packet, kind, spares, octet01, octetN, countM, message, inside, Form}
 use Rattle.demands.specs.DatagramItems.{many, sized, nothing, formOf, formDue}
-use Rattle.demands.specs.DatagramItems.{Right, rightOctets, rightSize, Due, passes, WholeDatagram}
+use Rattle.demands.specs.DatagramItems.{Due}
 use Rattle.demands.specs.DatagramRefusals.{Wrong, fewOctets, noSize, cutSize, noOctet, noFlag, highSize, longSize, otherSize}
-use Rattle.demands.specs.DatagramRefusals.{otherOctet, lowBits, moreOctets, FirstWrong, Followed, CutOver}
-use Rattle.demands.proofs.DatagramFronts.{all-come}
+use Rattle.demands.specs.DatagramRefusals.{otherOctet, lowBits, moreOctets, FirstWrong, Followed}
 
 -- ---- what the number says of the item
 pub never-over : {f : Form} {rest : List ℕ} {n : ℕ} → Wrong f rest n → n ≡ tooLong → ⊥
@@ -98,112 +94,7 @@ unfolding formDue
 none-due [] is = refl
 none-due (item ∷ later) is = absurd (some-item item is)
 
--- ---- fronts
--- octets more that make a datagram
-pub record Completed (s : List ℕ) : Type 0 where
-  pub more : List ℕ
-  pub whole : WholeDatagram (s ++ more)
-
--- an item that octets more make right
-complete-right : (before rest missing : List ℕ) (item : Item) (later : List Item) (v : ℕ) → Due before (item ∷ later)
-    → Right (formOf item) (rest ++ missing) v → Completed (before ++ rest)
-complete-right before rest missing item later v due right =
-    let come = all-come _ (before ++ (rest ++ missing)) (passes due right) in
-    record {
-      more = missing ++ come .more;
-      whole =
-          subst WholeDatagram
-          (ap (λ (l : List ℕ). l ++ come .more) (sym (append-assoc before rest missing))
-          ∙ append-assoc (before ++ rest) missing (come .more))
-          (come .due);
-    }
-
-complete-few : (before rest : List ℕ) (item : Item) (later : List Item) (n : ℕ) → Due before (item ∷ later) → formOf item ≡ many n
-    → length rest < n → Completed (before ++ rest)
-complete-few before rest item later n due is less =
-    let missing : List ℕ = replicate (n - length rest) 0 in
-    let long : length (rest ++ missing) ≡ n = omega (arith, length-append rest missing, length-replicate {A = ℕ} (n - length rest) 0) in
-    complete-right before rest missing item later 0 due (rw is (rightOctets long))
-
--- a length or count is at most that of a packet, and may be small
-sized-same : {a b c d : ℕ} → sized a b ≡ sized c d → (a ≡ c) × (b ≡ d)
-sized-same e = (cc, cc)
-
-sizes-of : {a b least most : ℕ} → sized a b ≡ sized least most → a ≤ 1 → b ≤ packetLimit → (least ≤ 1) × (most ≤ packetLimit)
-sizes-of e low high = rw (← sized-same e .0, ← sized-same e .1) (low, high)
-
-item-sizes : (item : Item) (least most : ℕ) → formOf item ≡ sized least most → (least ≤ 1) × (most ≤ packetLimit)
-unfolding formOf
-item-sizes number least most is = let z : _≡_ {A = ℕ} 0 1 = cc in absurd (omega arith)
-item-sizes packet least most is = sizes-of is (omega arith) (omega arith)
-item-sizes kind least most is = let z : _≡_ {A = ℕ} 0 1 = cc in absurd (omega arith)
-item-sizes spares least most is = sizes-of is (omega arith) (omega arith)
-item-sizes octet01 least most is = let z : _≡_ {A = ℕ} 0 1 = cc in absurd (omega arith)
-item-sizes octetN least most is = let z : _≡_ {A = ℕ} 0 1 = cc in absurd (omega arith)
-item-sizes countM least most is = sizes-of is (omega arith) (omega arith)
-item-sizes message least most is = sizes-of is (omega arith) (omega arith)
-item-sizes (inside n) least most is = let z : _≡_ {A = ℕ} 0 1 = cc in absurd (omega arith)
-
--- after 80 a second octet of 80 makes 128; if that is over its most, or the first octet is another, no second octet helps
-module _ (before : List ℕ) (item : Item) (later : List Item) (least most first : ℕ) (due : Due before (item ∷ later))
-    (is : formOf item ≡ sized least most) (low : 0x80 ≤ first) (high : first < 0xC0) where
-  beyond : ((second : ℕ) → 0x80 ≤ ofTwo first second → most < ofTwo first second) → CutOver (before ++ (first ∷ []))
-  beyond over =
-      record {
-        before = before;
-        first = first;
-        item = item;
-        later = later;
-        least = least;
-        most = most;
-        is = refl;
-        due = due;
-        form = is;
-        ofTwoOctets = (low, high);
-        over = over;
-      }
-
-  eighty-twice : first < 0x81 → 0x80 ≤ most → Right (formOf item) (first ∷ 0x80 ∷ []) 0x80
-  unfolding lengthOctets
-  eighty-twice one large =
-      let eighty : first ≡ 0x80 = omega arith in
-      let small : least ≤ 0x80 = omega (arith, item-sizes item least most is .0) in
-      rw (is, eighty) (rightSize small large)
-
-  complete-size : Completed (before ++ (first ∷ [])) ⊎ CutOver (before ++ (first ∷ []))
-  complete-size =
-      ⊎-elim (λ small. inr (beyond (λ second large. omega arith)))
-      (λ large.
-      ⊎-elim (λ one. inl (complete-right before (first ∷ []) (0x80 ∷ []) item later 0x80 due (eighty-twice one large)))
-      (λ more. inr (beyond (λ second long. omega (arith, item-sizes item least most is .1))))
-      (below-or-not first 0x81))
-      (below-or-not most 0x80)
-
-pub completed : (before rest : List ℕ) (items : List Item) → Due before items → Early (formDue items) rest
-    → Completed (before ++ rest) ⊎ CutOver (before ++ rest)
-unfolding formDue
-completed before rest [] due (few is less) = let z : _≡_ {A = ℕ} 0 1 = cc in absurd (omega arith)
-completed before rest [] due (bare is item) = absurd (item refl)
-completed before rest [] due (cut is left low high) = let z : _≡_ {A = ℕ} 0 1 = cc in absurd (omega arith)
-completed before rest (item ∷ later) due (few {n} is less) = inl (complete-few before rest item later n due is less)
-completed before rest (item ∷ later) due (bare is some-due) =
-    let come = all-come (item ∷ later) before due in
-    inl (rw (is, append-nil before) (record { more = come .more; whole = come .due }))
-completed before rest (item ∷ later) due (cut {least} {most} {first} is left low high) =
-    rw left (complete-size before item later least most first due is low high)
-
-pub cut-wrong : {s : List ℕ} → CutOver s → FirstWrong s endsEarly
-unfolding formDue
-cut-wrong c =
-    record {
-      before = c .before;
-      rest = c .first ∷ [];
-      items = c .item ∷ c .later;
-      is = c .is;
-      due = c .due;
-      wrong = subst (λ (f : Form). Wrong f (c .first ∷ []) endsEarly) (sym (c .form)) (cutSize (c .ofTwoOctets .0) (c .ofTwoOctets .1));
-    }
-
+-- ---- the first wrong item of some octets
 pub followed-wrong : {s : List ℕ} → Followed s → FirstWrong s leftOver
 unfolding formDue
 followed-wrong f =

@@ -1,12 +1,13 @@
 -- What the datagram reader refuses, and with which number: the reader walks over the items, the walk ends at the first that is
 -- wrong, and it has one outcome. A wrong item stays wrong with the same number whatever follows it, except for 1, where octets are
 -- missing and can still come. Assumes nothing.
-use Prim.Native.Nat.{ℕ, _≤_, _<_}
+use Prim.Native.Nat.{ℕ, _+_, _≤_, _<_}
 use mathlib.Core.Path.{_≡_, refl, sym, ap, subst, _∙_}
 use mathlib.Core.Logic.{_⊎_, inl, inr, ⊎-elim}
 use mathlib.Core.List.{List, [], _∷_, _++_, append-nil}
 use mathlib.Core.Option.{Option, none, some}
 use lib.ListN.{length, length-append, List·getD-append, List·getD-eq-default}
+use lib.Seq.{getD-append-add}
 use native.Mathlib.Omega.{arith}
 use borrow.Author.Tests.{lt-ltb}
 use Rattle.octets.proofs.Cases.{below-or-not, same-or-not}
@@ -22,8 +23,8 @@ use Rattle.demands.specs.DatagramRefusals.{FirstWrong, Followed, Front, 
 use Rattle.demands.proofs.DatagramWalk.{Walk, ends, stops, one-walk, start, walk-from, walk-ends, Ended}
 use Rattle.demands.proofs.DatagramSteps.{read-walk}
 use Rattle.demands.proofs.DatagramFronts.{cut-short, whole-short}
-use Rattle.demands.proofs.DatagramNumbers.{never-over, ends-early, completed}
-use Rattle.demands.proofs.DatagramNumbers.{cut-wrong, followed-wrong, wrong-followed, wrong-longer}
+use Rattle.demands.proofs.DatagramNumbers.{never-over, ends-early, followed-wrong, wrong-followed, wrong-longer}
+use Rattle.demands.proofs.DatagramCut.{completed, cut-wrong, front-wrong}
 
 -- ---- a datagram is not wrong
 whole-walks : {s : List ℕ} → WholeDatagram s → Walk start s none
@@ -71,14 +72,14 @@ module _ (s : List ℕ) (octets : Octets s) where
       ⊎-elim (λ long. long) (λ short. absurd (never-over (wrong-is tooLong short e .wrong) refl)) (below-or-not datagramLimit (length s))
 
   -- 1
-  front-is : (more : List ℕ) → answer ≡ some endsEarly → WholeDatagram (s ++ more) → Front s
-  front-is [] e whole = absurd (not-none (is-whole (subst WholeDatagram (append-nil s) whole)) e)
-  front-is (first ∷ rest) e whole = record { first = first; rest = rest; whole = whole }
+  front-is : (more : List ℕ) → answer ≡ some endsEarly → Octets more → WholeDatagram (s ++ more) → Front s
+  front-is [] e octets-more whole = absurd (not-none (is-whole (subst WholeDatagram (append-nil s) whole)) e)
+  front-is (first ∷ rest) e octets-more whole = record { first = first; rest = rest; octets = octets-more; whole = whole }
 
   cut-is : answer ≡ some endsEarly → Front s ⊎ CutOver s
   cut-is e =
       let w = wrong-is endsEarly (within-limit e (λ q. omega (arith, some-same {o = some endsEarly} refl q))) e in
-      ⊎-elim (λ m. inl (front-is (m .more) e (subst (λ (l : List ℕ). WholeDatagram (l ++ m .more)) (sym (w .is)) (m .whole))))
+      ⊎-elim (λ m. inl (front-is (m .more) e (m .octets) (subst (λ (l : List ℕ). WholeDatagram (l ++ m .more)) (sym (w .is)) (m .due))))
       (λ c. inr (subst CutOver (sym (w .is)) c))
       (completed (w .before) (w .rest) (w .items) (w .due) (ends-early (w .wrong) refl))
 
@@ -112,6 +113,9 @@ octets-front s more octets i =
     ⊎-elim (λ low. rw (List·getD-append s more 0 i low) at (octets i)) (λ past. rw (List·getD-eq-default s 0 {n = i} past) (omega arith))
     (below-or-not i (length s))
 
+octets-rest : (s more : List ℕ) → Octets (s ++ more) → Octets more
+octets-rest s more octets i = rw (getD-append-add s more i 0) at (octets (length s + i))
+
 -- ---- the call
 reads-told : {s : List ℕ} {r : DatagramRead} → Octets s → DatagramReads s r → RefusalOf s (refusalIn (readOutcome r))
 reads-told {s} octets p = subst (RefusalOf s) (sym (ap refusalIn (p .answer))) (told s octets)
@@ -131,9 +135,9 @@ module _ (s more : List ℕ) {r : DatagramRead} {n : ℕ} (octets : Octets (s ++
       let whole = reads-told octets long .whole .0 reads in
       whole-right whole (longer (whole-short whole))
 
-bf-is-beyond : CutOver (0x00 ∷ 0x00 ∷ 0xBF ∷ [])
+cut-bf : CutOver (0x00 ∷ 0x00 ∷ 0xBF ∷ [])
 unfolding formOf brings
-bf-is-beyond =
+cut-bf =
     record {
       before = 0x00 ∷ 0x00 ∷ [];
       first = 0xBF;
@@ -154,8 +158,14 @@ datagram-refusals =
       refusal = reads-told;
       front = λ s more first octets q reads p.
           reads-told (octets-front s (first ∷ more) octets) p .cut .1
-          (inl (record { first = first; rest = more; whole = reads-told octets q .whole .0 reads }));
+          (inl (record {
+            first = first;
+            rest = more;
+            octets = octets-rest s (first ∷ more) octets;
+            whole = reads-told octets q .whole .0 reads;
+          }));
       stays = λ s more octets p e other short q. stays s more octets p e other short q;
       never = λ s more octets p e other q reads. never s more octets p e other q reads;
-      beyond = bf-is-beyond;
+      notBoth = λ f c. whole-right (f .whole) (front-wrong f c .1);
+      cutBF = cut-bf;
     }

@@ -14,6 +14,7 @@ pub mod DatagramWalk
 pub mod DatagramSteps
 pub mod DatagramFronts
 pub mod DatagramNumbers
+pub mod DatagramCut
 pub mod DatagramRefusals
 pub mod Front
 pub mod Demand1

@@ -62,6 +62,7 @@ pub record Followed (s : List ℕ) : Type 0 where
 pub record Front (s : List ℕ) : Type 0 where
   pub first : ℕ
   pub rest : List ℕ
+  pub octets : Octets (first ∷ rest)
   pub whole : WholeDatagram (s ++ (first ∷ rest))
 
 -- right items, then the first octet alone of a length or count of two, which no second octet would bring within its sizes
@@ -108,5 +109,6 @@ pub record DatagramRefusals : Type 0 where
   pub stays : (s more : List ℕ) {r q : DatagramRead} {n : ℕ} → Octets (s ++ more)
       → DatagramReads s r → refusalIn (readOutcome r) ≡ some n → (n ≡ endsEarly → ⊥) → length (s ++ more) ≤ datagramLimit
       → DatagramReads (s ++ more) q → refusalIn (readOutcome q) ≡ some n
-  -- 1 without a datagram to come: the length of the newest packet begins with BF
-  pub beyond : CutOver (0x00 ∷ 0x00 ∷ 0xBF ∷ [])
+  -- the front of a datagram never ends inside such a length or count; but some octets do, as the length BF .. of a newest packet
+  pub notBoth : {s : List ℕ} → Front s → CutOver s → ⊥
+  pub cutBF : CutOver (0x00 ∷ 0x00 ∷ 0xBF ∷ [])
