@@ -59,6 +59,7 @@ use Rattle.demands.specs.Refusals.{distanceTo, offerRows, nextRows, give
 use Rattle.demands.specs.Demand1 as demand
 use Rattle.demands.specs.Demand1.{IsDatagram, IsPacket, IsRepaired, Readers, Writers, Receiving, Demand1}
 use Rattle.demands.proofs.Front.{repaired-front}
+use Rattle.demands.proofs.DatagramRefusals.{datagram-refusals}
 use Rattle.demands.proofs.Tables.{row, row-met, row-step, no-row, row-fitted, puts-refusal, size-refusal, done-none}
 
 -- ---- lengths
@@ -153,6 +154,7 @@ readers =
       isDatagram = is-datagram;
       isPacket = is-packet;
       isRepaired = is-repaired;
+      datagramRefusals = datagram-refusals;
     }
 
 -- ---- writers

@@ -43,6 +43,7 @@ use Rattle.sending.specs.declared.Sent.{Sent}
 use Rattle.sending.specs.declared.Settings.{Settings}
 use Rattle.demands.specs.Refusals.{first, refusalIn, lengthRows, lengthWriterRows, datagramWriterRows, packetWriterRows}
 use Rattle.demands.specs.Refusals.{offerRows, nextRows, giveUpRows, sendRows}
+use Rattle.demands.specs.DatagramRefusals.{DatagramRefusals}
 
 -- ---- readers
 -- some octets are what the datagram writer writes of some fields; or the packet writer
@@ -79,6 +80,7 @@ pub record Readers : Type 0 where
   pub isDatagram : (s : List ℕ) → Octets s → (refusalIn (readDatagram s) ≡ none) ↔ IsDatagram s
   pub isPacket : (s : List ℕ) → Octets s → (refusalIn (readPacket Whole s) ≡ none) ↔ IsPacket s
   pub isRepaired : (s : List ℕ) → Octets s → (refusalIn (readPacket Repaired s) ≡ none) ↔ IsRepaired s
+  pub datagramRefusals : DatagramRefusals
 
 -- ---- writers
 pub record Writers : Type 0 where
