@@ -59,6 +59,7 @@ use Rattle.demands.specs.Demand1 as demand
 use Rattle.demands.specs.Demand1.{IsDatagram, IsPacket, IsRepaired, Readers, Writers, Receiving, Demand1}
 use Rattle.demands.proofs.Front.{repaired-front}
 use Rattle.demands.proofs.PacketRefusals.{packet-refusals}
+use Rattle.demands.proofs.DatagramRefusals.{datagram-refusals}
 
 -- ---- lengths
 -- the five tests of the definition, and the four rows of the table
@@ -153,6 +154,7 @@ readers =
       isPacket = is-packet;
       isRepaired = is-repaired;
       packetRefusals = packet-refusals;
+      datagramRefusals = datagram-refusals;
     }
 
 -- ---- writers: each follows from its table

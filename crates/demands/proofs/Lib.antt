@@ -18,6 +18,13 @@ pub mod Never17
 pub mod RoundTrips
 pub mod Demand2
 pub mod Sheet
+pub mod DatagramForms
+pub mod DatagramWalk
+pub mod DatagramSteps
+pub mod DatagramFronts
+pub mod DatagramNumbers
+pub mod DatagramCut
+pub mod DatagramRefusals
 pub mod Front
 pub mod PacketRows
 pub mod PacketTables

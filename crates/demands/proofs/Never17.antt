@@ -30,7 +30,7 @@ use Rattle.views.specs.Release.{Release, Loss, atBase}
 use Rattle.heads.specs.declared.Session.{Session}
 use Rattle.releasing.specs.Outcome.{handedOf, numberOf}
 use Rattle.receiving.specs.Promise.{acceptedOf}
-use Rattle.demands.specs.Refusals.{refusalIn}
+use Rattle.lengths.specs.Tables.{refusalIn}
 use Rattle.demands.specs.Calls.{Call, offer, next, giveUp, Calls, _then_, Called, refusalOf}
 use Rattle.demands.specs.GoesOn.{Says, GoesOn, by}
 use Rattle.demands.specs.Demand2.{Begins, fresh, saved}

@@ -16,7 +16,8 @@ use Rattle.lengths.specs.Length.{ofTwo}
 use Rattle.datagrams.specs.Sizes.{packetLimit}
 use Rattle.packets.specs.Packet.{fieldsLimit, assigned, rightFields, isSet, firstOf}
 use Rattle.packets.specs.declared.types.Ending.{Ending}
-use Rattle.demands.specs.Refusals.{first, lengthRows}
+use Rattle.lengths.specs.Tables.{first}
+use Rattle.demands.specs.Refusals.{lengthRows}
 use Rattle.demands.specs.PacketItems.{Item, firstOctet, countOfFields, header, dataLength, fieldData, end, fields}
 use Rattle.demands.specs.PacketItems.{dataFits, presentIn, RightFirst, RightHeader, rows}
 use Rattle.demands.specs.PacketItems.{Right, alone, withFields, counted, bare, full, sized, carried}

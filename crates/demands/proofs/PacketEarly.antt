@@ -11,7 +11,8 @@ use native.Mathlib.Omega.{arith}
 use borrow.Author.Tests.{le-leb, lt-leb}
 use Rattle.lengths.specs.Refusals.{endsEarly}
 use Rattle.packets.specs.declared.types.Ending.{Ending}
-use Rattle.demands.specs.Refusals.{first, lengthRows}
+use Rattle.lengths.specs.Tables.{first}
+use Rattle.demands.specs.Refusals.{lengthRows}
 use Rattle.demands.specs.PacketItems.{Item, firstOctet, countOfFields, header, dataLength, fieldData, end, fields}
 use Rattle.demands.specs.PacketItems.{rows, RightFirst, RightHeader, Packet}
 use Rattle.demands.specs.PacketItems.{Right, alone, counted, bare, sized, carried, Due, goesOn}

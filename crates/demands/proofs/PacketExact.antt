@@ -16,7 +16,8 @@ use Rattle.packets.specs.Packet.{fieldsLimit, assigned, rightFields, kindOf}
 use Rattle.packets.specs.declared.types.Kind.{Kind}
 use Rattle.packets.specs.declared.types.Kind.the-variants.{Indicator, Data}
 use Rattle.packets.specs.declared.types.Ending.{Ending}
-use Rattle.demands.specs.Refusals.{when, first, lengthRows}
+use Rattle.lengths.specs.Tables.{when, first}
+use Rattle.demands.specs.Refusals.{lengthRows}
 use Rattle.demands.specs.PacketItems.{Item, firstOctet, countOfFields, header, dataLength, fieldData, end, begins}
 use Rattle.demands.specs.PacketItems.{hasFields, extension, valueIn, dataFits, rows}
 use Rattle.demands.specs.PacketRefusals.{DueIn, FirstWrong, OutsideSizes, noFields, manyFields, longData}

@@ -18,7 +18,8 @@ use Rattle.packets.specs.Packet.{every}
 use Rattle.packets.specs.Read.{allZero}
 use Rattle.packets.specs.declared.types.Ending.{Ending}
 use Rattle.packets.specs.declared.types.Ending.the-variants.{Whole, Repaired}
-use Rattle.demands.specs.Refusals.{when, first, lengthRows}
+use Rattle.lengths.specs.Tables.{when, first}
+use Rattle.demands.specs.Refusals.{lengthRows}
 use Rattle.demands.specs.PacketItems.{Item, firstOctet, countOfFields, header, dataLength, fieldData, end, leftAfter, rows}
 use Rattle.demands.specs.PacketItems.{Right, alone, withFields, counted, bare, full, sized, carried, Due, begins, goesOn}
 use Rattle.demands.specs.PacketRefusals.{FirstWrong}

@@ -12,7 +12,8 @@ use borrow.Author.Tests.{le-ltb, ltb-false}
 use Rattle.lengths.specs.Refusals.{endsEarly, badForm, spareBit, notAssigned, wrongData}
 use Rattle.packets.specs.Packet.{fieldsLimit, assigned, rightFields, isSet, firstOf}
 use Rattle.packets.specs.declared.types.Ending.{Ending}
-use Rattle.demands.specs.Refusals.{when, first, lengthRows}
+use Rattle.lengths.specs.Tables.{when, first}
+use Rattle.demands.specs.Refusals.{lengthRows}
 use Rattle.demands.specs.PacketItems.{Item, firstOctet, countOfFields, header, dataLength, fieldData, end, fields}
 use Rattle.demands.specs.PacketItems.{octetOf, rows, RightFirst}
 use Rattle.demands.specs.PacketItems.{alone, withFields, counted, bare, full, sized, carried, Due, begins, goesOn}

@@ -18,7 +18,7 @@ use Rattle.packets.specs.Promise.{PacketTold, packetOutcome}
 use Rattle.packets.specs.declared.types.Ending.{Ending}
 use Rattle.packets.specs.declared.types.Ending.the-variants.{Whole, Repaired}
 use Rattle.packets.specs.declared.types.PacketRead.{PacketRead}
-use Rattle.demands.specs.Refusals.{first, refusalIn}
+use Rattle.lengths.specs.Tables.{first, refusalIn}
 use Rattle.demands.specs.PacketItems.{Item, firstOctet, end, leftAfter, rows, Packet}
 use Rattle.demands.specs.PacketRefusals.{DueIn, FirstWrong, PacketThen, EndsEarly, NotAssigned, BadForm}
 use Rattle.demands.specs.PacketRefusals.{OutsideSizes, SpareBit, WrongData, PacketRefusals}

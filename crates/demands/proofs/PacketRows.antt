@@ -14,7 +14,8 @@ use Rattle.lengths.specs.Length.{ofTwo}
 use Rattle.datagrams.specs.Sizes.{packetLimit}
 use Rattle.packets.specs.Packet.{fieldsLimit, assigned, rightFields, isSet, firstOf}
 use Rattle.packets.specs.declared.types.Ending.{Ending}
-use Rattle.demands.specs.Refusals.{when, first, lengthRows}
+use Rattle.lengths.specs.Tables.{when, first}
+use Rattle.demands.specs.Refusals.{lengthRows}
 use Rattle.demands.specs.PacketItems.{Item, firstOctet, countOfFields, header, dataLength, fieldData, end}
 use Rattle.demands.specs.PacketItems.{dataFits, octetOf, sizeOf, leftAfter, rows}
 

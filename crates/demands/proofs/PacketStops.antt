@@ -8,7 +8,7 @@ use mathlib.Core.Option.{Option, none, some}
 use native.Mathlib.Omega.{arith}
 use Rattle.packets.specs.Packet.{fieldsLimit}
 use Rattle.packets.specs.declared.types.Ending.{Ending}
-use Rattle.demands.specs.Refusals.{first}
+use Rattle.lengths.specs.Tables.{first}
 use Rattle.demands.specs.PacketItems.{Item, firstOctet, countOfFields, header, dataLength, fieldData, end, fields, rows}
 use Rattle.demands.specs.PacketItems.{Right, alone, withFields, counted, bare, full, sized, carried, Due, begins, goesOn}
 use Rattle.demands.specs.PacketRefusals.{DueIn, FirstWrong, PacketThen}

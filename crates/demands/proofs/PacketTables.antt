@@ -17,7 +17,8 @@ use Rattle.packets.specs.Packet.{Place, every, fieldsLimit, assigned, isSet, ri
 use Rattle.packets.specs.Read.{firstAt, Count, countIn, HeaderAnswer, headerAt, sizeAt, allZero, mayFollow, endAt}
 use Rattle.packets.specs.declared.types.Ending.{Ending}
 use Rattle.packets.specs.declared.types.Ending.the-variants.{Whole, Repaired}
-use Rattle.demands.specs.Refusals.{when, first, lengthRows}
+use Rattle.lengths.specs.Tables.{when, first}
+use Rattle.demands.specs.Refusals.{lengthRows}
 use Rattle.demands.specs.PacketItems.{firstOctet, countOfFields, header, dataLength, fieldData, end}
 use Rattle.demands.specs.PacketItems.{lets, may, dataRule, dataFits, sizeOf, leftAfter, rows}
 

@@ -16,7 +16,7 @@ use Rattle.packets.specs.Packet.{Place, firstOf, headerOf}
 use Rattle.packets.specs.Read.{firstAt, countIn, countAt, HeaderAnswer, headerAt, sizeAt, FieldAnswer, afterHeader, fieldAt}
 use Rattle.packets.specs.Read.{FieldsAnswer, fieldsAt, endAt, readPacket}
 use Rattle.packets.specs.declared.types.Ending.{Ending}
-use Rattle.demands.specs.Refusals.{first, refusalIn}
+use Rattle.lengths.specs.Tables.{first, refusalIn}
 use Rattle.demands.specs.PacketItems.{Item, firstOctet, countOfFields, header, dataLength, fieldData, end, fields}
 use Rattle.demands.specs.PacketItems.{presentIn, sizeOf, rows}
 use Rattle.demands.specs.PacketItems.{Right, alone, withFields, counted, bare, full, sized, carried}

@@ -20,7 +20,7 @@ use Rattle.sessions.specs.declared.receiver.AfterOffer.{AfterOffer}
 use Rattle.sessions.specs.declared.receiver.AfterNext.{AfterNext}
 use Rattle.sessions.specs.declared.receiver.AfterGiveUp.{AfterGiveUp}
 use Rattle.demands.specs.History.{Left, released, lost}
-use Rattle.demands.specs.Refusals.{refusalIn}
+use Rattle.lengths.specs.Tables.{refusalIn}
 
 -- a call and its answer, as the caller has them
 pub data Call : Type 0 where

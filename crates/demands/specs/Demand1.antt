@@ -46,9 +46,8 @@ use Rattle.sending.specs.declared.Sent.{Sent}
 use Rattle.sending.specs.declared.Settings.{Settings}
 use Rattle.lines.specs.Hex.{octetsIn, lineRows, lineOctets}
 use Rattle.demands.specs.Refusals.{lengthRows, offerRows, nextRows, giveUpRows}
-use Rattle.demands.specs.Refusals.{first, refusalIn, lengthRows, lengthWriterRows, datagramWriterRows, packetWriterRows}
-use Rattle.demands.specs.Refusals.{offerRows, nextRows, giveUpRows, sendRows}
 use Rattle.demands.specs.PacketRefusals.{PacketRefusals}
+use Rattle.demands.specs.DatagramRefusals.{DatagramRefusals}
 
 -- ---- readers
 -- some octets are what the datagram writer writes of some fields; or the packet writer
@@ -86,6 +85,7 @@ pub record Readers : Type 0 where
   pub isPacket : (s : List ℕ) → Octets s → (refusalIn (readPacket Whole s) ≡ none) ↔ IsPacket s
   pub isRepaired : (s : List ℕ) → Octets s → (refusalIn (readPacket Repaired s) ≡ none) ↔ IsRepaired s
   pub packetRefusals : PacketRefusals
+  pub datagramRefusals : DatagramRefusals
 
 -- ---- writers
 pub record Writers : Type 0 where

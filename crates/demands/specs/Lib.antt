@@ -10,6 +10,8 @@ pub mod OneOutcome
 pub mod Refusals
 pub mod PacketItems
 pub mod PacketRefusals
+pub mod DatagramItems
+pub mod DatagramRefusals
 pub mod Demand1
 pub mod Sheet
 pub mod Feeding

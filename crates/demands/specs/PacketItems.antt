@@ -15,7 +15,8 @@ use Rattle.packets.specs.Packet.{fieldsLimit, assigned, rightFields, isSet, kin
 use Rattle.packets.specs.Read.{allZero}
 use Rattle.packets.specs.declared.types.Ending.{Ending}
 use Rattle.packets.specs.declared.types.Ending.the-variants.{Whole, Repaired}
-use Rattle.demands.specs.Refusals.{when, lengthRows}
+use Rattle.lengths.specs.Tables.{when}
+use Rattle.demands.specs.Refusals.{lengthRows}
 
 -- ---- what a packet is made of
 -- the items of a packet. The items of a field also say how many fields come after it, and its data first how many octets it has

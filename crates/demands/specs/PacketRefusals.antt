@@ -18,7 +18,8 @@ use Rattle.packets.specs.declared.types.Kind.the-variants.{Indicator}
 use Rattle.packets.specs.declared.types.Ending.{Ending}
 use Rattle.packets.specs.declared.types.Ending.the-variants.{Whole, Repaired}
 use Rattle.packets.specs.declared.types.PacketRead.{PacketRead}
-use Rattle.demands.specs.Refusals.{first, refusalIn, lengthRows}
+use Rattle.lengths.specs.Tables.{first, refusalIn}
+use Rattle.demands.specs.Refusals.{lengthRows}
 use Rattle.demands.specs.PacketItems.{Item, countOfFields, header, dataLength, end, Due, Packet, rows}
 use Rattle.demands.specs.PacketItems.{octetOf, hasFields, extension, valueIn, RightFirst, dataFits}
 
