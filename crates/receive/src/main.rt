@@ -5,19 +5,42 @@ use heads::Session;
 use libc::STDIN_FILENO;
 use libc::STDOUT_FILENO;
 use lines::Line;
+ghost use Prim.Native.Nat.{_≤_};
+ghost use mathlib.Core.Path.{_≡_};
+ghost use lib.ListN.{length};
+ghost use Rattle.views.specs.View.{freshView};
+ghost use Rattle.heads.specs.Head.{viewIn};
 ghost use Rattle.heads.specs.Within.{Within};
 ghost use Rattle.lines.specs.Promise.{stepLimit};
 ghost use Rattle.lines.specs.FeedPromise.{Feedable};
-ghost use Rattle.receive.specs.Promise.{Passes};
+ghost use Rattle.receive.specs.Promise.{Passes, Serves};
 
-// The session after a block, how much of a line has begun, and whether all was written.
-struct Passed {
-    head: Head,
-    begun: usize,
+// How many octets of the buffer's front were handed to `write`, and whether it took them all.
+struct Handed {
+    octets: usize,
     written: bool,
 }
 
-// A block of the input is taken in, and what it comes to is written, part by part up to the first that fails.
+// The one place that writes. The contract of `write` says nothing of what is written: that it is this front is seen here.
+fn hand_over(out: &[u8], end: usize) -> Handed
+    requires { ⌜ end ≤ length (now out) ⌝ }
+    ensures { λ r. ⌜ r .octets ≡ end ⌝ }
+{
+    let front = &out[..end];
+    let octets = front.len();
+    let written = io::write_all(STDOUT_FILENO, front);
+    Handed { octets, written }
+}
+
+// The session after a block, how much of a line has begun, how many octets were handed over so far, and whether all was written.
+struct Passed {
+    head: Head,
+    begun: usize,
+    handed: usize,
+    written: bool,
+}
+
+// A block of the input is taken in, and what it comes to is handed over, part by part up to the first that fails.
 fn pass(
     h: Head,
     o: &mut [u8; Session::PACKET_OCTETS],
@@ -26,13 +49,15 @@ fn pass(
     begun: usize,
     block: &[u8],
     out: &mut [u8],
+    handed: usize,
 ) -> Passed
     requires { ⌜ Feedable stepLimit h (now o) (now g) (now line) begun (now out) 0 ⌝ }
-    ensures { λ r. ⌜ Passes h (now (o .entry)) (now (g .entry)) (now (line .entry)) begun (now (block .entry)) (r .head) (now (o .exit)) (now (g .exit)) (now (line .exit)) (r .begun) (now (out .exit)) (r .written) ⌝ }
+    ensures { λ r. ⌜ Passes h (now (o .entry)) (now (g .entry)) (now (line .entry)) begun (now (block .entry)) handed (r .head) (now (o .exit)) (now (g .exit)) (now (line .exit)) (r .begun) (now (out .exit)) (r .handed) (r .written) ⌝ }
 {
     let mut head = h;
     let mut kept = begun;
     let mut from = 0;
+    let mut sum = handed;
     while from < block.len() {
         let part = lines::take_block(head, o, g, line, kept, &block[from..], out, 0);
         let next = part.head;
@@ -40,10 +65,13 @@ fn pass(
         kept = part.begun;
         from += part.taken;
         let end = part.end;
-        if !io::write_all(STDOUT_FILENO, &out[..end]) {
+        let gone = hand_over(out, end);
+        sum = std::num::wrapping_add_usize(sum, gone.octets);
+        if !gone.written {
             return Passed {
                 head,
                 begun: kept,
+                handed: sum,
                 written: false,
             };
         }
@@ -51,20 +79,37 @@ fn pass(
     Passed {
         head,
         begun: kept,
+        handed: sum,
         written: true,
     }
 }
 
+// The session at the end, how many octets were read and how many handed over, and whether the end was reached with all written.
+struct Served {
+    head: Head,
+    taken: usize,
+    handed: usize,
+    whole: bool,
+}
+
 // Block after block, then the end of the input. A proved loop has to end, and nothing says that the input does: so it counts
 // its turns down, from a number that no run uses up.
-fn serve(h: Head, o: &mut [u8; Session::PACKET_OCTETS], g: &mut [u8; Session::MESSAGE_OCTETS])
+fn serve(
+    h: Head,
+    o: &mut [u8; Session::PACKET_OCTETS],
+    g: &mut [u8; Session::MESSAGE_OCTETS],
+) -> Served
     requires { ⌜ Within h (now o) (now g) ⌝ }
+    requires { ⌜ viewIn h (now o) (now g) ≡ freshView ⌝ }
+    ensures { λ r. ⌜ Serves (r .head) (now (o .exit)) (now (g .exit)) (r .taken) (r .handed) (r .whole) ⌝ }
 {
     let mut line = [0u8; Line::KEPT];
     let mut block = io::large_buffer();
     let mut out = io::large_buffer();
     let mut head = h;
     let mut begun = 0;
+    let mut taken = 0;
+    let mut handed = 0;
     let mut turns = u64::MAX;
     while turns > 0 {
         turns -= 1;
@@ -73,18 +118,33 @@ fn serve(h: Head, o: &mut [u8; Session::PACKET_OCTETS], g: &mut [u8; Session::ME
             turns = 0;
         } else {
             let n = io::count(got, &block);
-            let passed = pass(head, o, g, &mut line, begun, &block[..n], &mut out);
+            let passed = pass(head, o, g, &mut line, begun, &block[..n], &mut out, handed);
             let next = passed.head;
             head = next;
             begun = passed.begun;
+            handed = passed.handed;
+            taken = std::num::wrapping_add_usize(taken, n);
             if !passed.written {
-                return;
+                return Served {
+                    head,
+                    taken,
+                    handed,
+                    whole: false,
+                };
             }
         }
     }
     let last = lines::finish(head, o, g, &line, begun, &mut out, 0);
+    let next = last.head;
     let end = last.end;
-    io::write_all(STDOUT_FILENO, &out[..end]);
+    let gone = hand_over(&out, end);
+    handed = std::num::wrapping_add_usize(handed, gone.octets);
+    Served {
+        head: next,
+        taken,
+        handed,
+        whole: gone.written,
+    }
 }
 
 fn main() {

@@ -1,26 +1,27 @@
--- `receive::serve` is safe and ends: between two blocks the program is within its ranges; the turns left are the measure. Assumes nothing.
-use mathlib.Core.Path.{refl, sym}
-use lib.Seq.{length-take-le}
+-- `receive::serve` meets its contract: between two blocks the program is within its ranges, all that was read is taken in and its text
+-- handed over; the end of the input comes last; the turns left are the measure. Assumes nothing.
+use mathlib.Core.Path.{refl}
 use native.Mathlib.Omega.{arith}
 use borrow.Author.Needs.{needs}
 use Rattle.lines.proofs.Laws.{line-fresh}
-use Rattle.receive.proofs.Serving.{Turning, turning-start}
+use Rattle.receive.proofs.Turning.{Turning, turning-start, written-all, turning-on, complete, serves, serves-not}
 use Rattle.receive.proofs.serve.Statement.{statement}
 use Rattle.receive.proofs.serve.Tie as tie
 use Rattle.receive.proofs.serve.Reads as reads
 use Rattle.receive.proofs.serve.Lts as lts
 use Rattle.io.proofs.count.Reads as count-reads
 use Rattle.io.proofs.large_buffer.Reads as large-buffer-reads
-use Rattle.io.proofs.write_all.Reads as write-all-reads
 use Rattle.libc.proofs.read.Reads as read-reads
 use Rattle.lines.proofs.finish.Reads as finish-reads
+use Rattle.receive.proofs.hand_over.Reads as hand-over-reads
 use Rattle.receive.proofs.pass.Reads as pass-reads
+use Rattle.std.proofs.num.wrapping_add_usize.Reads as wrapping-add-usize-reads
 
 abbrev Inv-loop : tie.InvT-loop
-Inv-loop o₀ g₀ line₀ block₀ out₀ head₀ begun₀ turns₀ o g line block out head begun turns = Turning head o g line block begun out
+Inv-loop o₀ g₀ line₀ block₀ out₀ head₀ begun₀ taken₀ handed₀ turns₀ o g line block out head begun taken handed turns = Turning head o g line block begun out taken handed
 
 abbrev μ-loop : tie.MeasureT-loop
-μ-loop o₀ g₀ line₀ block₀ out₀ head₀ begun₀ turns₀ o g line block out head begun turns = turns
+μ-loop o₀ g₀ line₀ block₀ out₀ head₀ begun₀ taken₀ handed₀ turns₀ o g line block out head begun taken handed turns = turns
 
 large-buffer-requires : tie.Need-large-buffer-requires Inv-loop μ-loop
 large-buffer-requires c κs = search needs
@@ -29,7 +30,9 @@ large-buffer-requires-2 : tie.Need-large-buffer-requires-2 Inv-loop μ-loop
 large-buffer-requires-2 c κs = search needs
 
 loop-holds : tie.Need-loop-holds Inv-loop μ-loop
-loop-holds c = turning-start (c .before .before .pre) (line-fresh 3001 refl) (c .before .large-buffer .ensures) (c .large-buffer2 .ensures)
+loop-holds c =
+    let start = c .before .before in
+    turning-start (start .pre .0) (start .pre .1) (line-fresh 3001 refl) (c .before .large-buffer .ensures) (c .large-buffer2 .ensures)
 
 sub-turns : tie.Need-sub-turns Inv-loop μ-loop
 sub-turns c = search needs
@@ -67,17 +70,25 @@ slice-aggregate-pass-3 c = search needs
 pass-requires : tie.Need-pass-requires Inv-loop μ-loop
 pass-requires c κs = search needs
 
+wrapping-add-usize-requires : tie.Need-wrapping-add-usize-requires Inv-loop μ-loop
+wrapping-add-usize-requires c κs = search needs
+
 returns : tie.Need-returns Inv-loop μ-loop
-returns c = search needs
+returns c = serves-not
 
 loop-less-2 : tie.Need-loop-less-2 Inv-loop μ-loop
 loop-less-2 c =
-    let passed = c .before .before .before .before .before in
+    let passed = c .before .before .before .before .before .before in
     let inside = passed .before .before .before .before .before .before .before .before .before .before .before .before in
     omega (arith, inside .loop-test .taken)
 
 loop-again-2 : tie.Need-loop-again-2 Inv-loop μ-loop
-loop-again-2 c = search needs
+loop-again-2 c =
+    let passed = c .before .before .before .before .before .before in
+    let told = passed .before .before .before .before .before .before in
+    let inside = told .before .before .before .before .before .before in
+    turning-on (inside .before .loop .inv) _ (told .count .ensures .0 .0) (passed .pass .ensures) (written-all _ (c .if2 .left))
+    (c .before .before .wrapping-add-usize .ensures) (search needs) (search needs)
 
 slice-aggregate-finish : tie.Need-slice-aggregate-finish Inv-loop μ-loop
 slice-aggregate-finish c = search needs
@@ -88,19 +99,22 @@ slice-aggregate-finish-2 c = search needs
 finish-requires : tie.Need-finish-requires Inv-loop μ-loop
 finish-requires c κs = search needs
 
-array-share-prefix-out : tie.Need-array-share-prefix-out Inv-loop μ-loop
-array-share-prefix-out c = search needs
+slice-aggregate-hand-over : tie.Need-slice-aggregate-hand-over Inv-loop μ-loop
+slice-aggregate-hand-over c = search needs
 
-slice-aggregate-write-all : tie.Need-slice-aggregate-write-all Inv-loop μ-loop
-slice-aggregate-write-all c =
-    let last = c .before .before in
-    sym (length-take-le _ _ (omega (arith, last .finish .ensures .fits, last .finish .ensures .long)))
+hand-over-requires : tie.Need-hand-over-requires Inv-loop μ-loop
+hand-over-requires c κs =
+    let last = c .before .before .before .finish .ensures in
+    omega (arith, last .fits, last .long)
 
-write-all-requires : tie.Need-write-all-requires Inv-loop μ-loop
-write-all-requires c κs = search needs
+wrapping-add-usize-requires-2 : tie.Need-wrapping-add-usize-requires-2 Inv-loop μ-loop
+wrapping-add-usize-requires-2 c κs = search needs
 
 returns-2 : tie.Need-returns-2 Inv-loop μ-loop
-returns-2 c = search needs
+returns-2 c =
+    let last = c .before .before .before .before .before in
+    let loop = last .before .before .before .before .before .before in
+    serves _ (complete (loop .loop .inv .so-far) (last .finish .ensures) (c .before .hand-over .ensures) (c .wrapping-add-usize2 .ensures))
 
 pub serve-spec : {M : Type 1} → statement M
 serve-spec =
@@ -123,13 +137,14 @@ serve-spec =
     slice-aggregate-pass-2
     slice-aggregate-pass-3
     pass-requires
+    wrapping-add-usize-requires
     returns
     loop-less-2
     loop-again-2
     slice-aggregate-finish
     slice-aggregate-finish-2
     finish-requires
-    array-share-prefix-out
-    slice-aggregate-write-all
-    write-all-requires
+    slice-aggregate-hand-over
+    hand-over-requires
+    wrapping-add-usize-requires-2
     returns-2)
