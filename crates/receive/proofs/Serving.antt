@@ -16,12 +16,16 @@ use Rattle.lines.proofs.Laws.{feeds-on, feeds-some}
 use Rattle.lines.proofs.InTurn.{in-turn}
 use Rattle.receive.specs.Promise.{counted, Onward, Passes}
 
+-- so many more are counted
+pub more-counted : (sum : ℕ) {m n new : ℕ} → m ≡ n → new ≡ (sum + m) % 2 ^ 64 → new ≡ (sum + n) % 2 ^ 64
+more-counted sum same on = on ∙ ap (λ (x : ℕ). (sum + x) % 2 ^ 64) same
+
 -- more octets are counted
-pub counted-on : (a b : List ℕ) {sum octets new : ℕ} → sum ≡ counted a → octets ≡ length b → new ≡ (sum + octets) % 2 ^ 64 → new ≡ counted (a ++ b)
-counted-on a b {sum} {octets} before more on =
+pub counted-on : (a b : List ℕ) {sum n new : ℕ} → sum ≡ counted a → n ≡ length b → new ≡ (sum + n) % 2 ^ 64 → new ≡ counted (a ++ b)
+counted-on a b {sum} {n} before same on =
     on
-    ∙ ap (λ (x : ℕ). (x + octets) % 2 ^ 64) before
-    ∙ ap (λ (x : ℕ). (counted a + x) % 2 ^ 64) more
+    ∙ ap (λ (x : ℕ). (x + n) % 2 ^ 64) before
+    ∙ ap (λ (x : ℕ). (counted a + x) % 2 ^ 64) same
     ∙ mod-add-mod (length a) (2 ^ 64) (length b)
     ∙ ap (λ (x : ℕ). x % 2 ^ 64) (sym (length-append a b))
 
@@ -81,9 +85,9 @@ module _ {h₀ : Head} {o₀ g₀ l₀ : List ℕ} {begun₀ : ℕ} {out₀ : Li
     part-fits = omega (arith, t .takes .fits, t .takes .long)
 
     -- and handed over
-    pub part-done : {octets after : ℕ} → length newL ≡ length l → octets ≡ end → after ≡ (sum + octets) % 2 ^ 64
+    pub part-done : {after : ℕ} → length newL ≡ length l → after ≡ (sum + end) % 2 ^ 64
         → Serving h₀ o₀ g₀ l₀ begun₀ out₀ s handed k newO newG newL kept new (from + taken) after
-    part-done same gone on =
+    part-done same on =
         record {
           feedable = feeds-on (v .feedable) t;
           line-long = same ∙ v .line-long;
@@ -101,7 +105,7 @@ module _ {h₀ : Head} {o₀ g₀ l₀ : List ℕ} {begun₀ : ℕ} {out₀ : Li
                 more = before .more ++ take end new;
                 way = rw (front, joined) at (in-turn .block (before .way) t);
                 count =
-                    counted-on (text ++ before .more) (take end new) (before .count) (gone ∙ sym (length-take-le end new part-fits)) on
+                    counted-on (text ++ before .more) (take end new) (before .count) (sym (length-take-le end new part-fits)) on
                     ∙ ap counted joined;
               };
         }

@@ -3,7 +3,7 @@
 use Prim.Native.Nat.{ℕ, _+_, _≤_, _%_, _^_}
 use mathlib.Core.Path.{_≡_, refl, sym, ap, _∙_}
 use mathlib.Core.Bool.{Bool, true, false, false≢true, not, cond}
-use mathlib.Core.List.{List, [], _++_}
+use mathlib.Core.List.{List, [], _++_, append-nil}
 use lib.ListN.{length, take}
 use lib.Seq.{length-take-le}
 use lib.Dec.{eqb}
@@ -53,6 +53,25 @@ turning-start within fresh line read room =
       };
     }
 
+-- after a read that gave nothing
+pub turning-none : {h : Head} {o g l block : List ℕ} {begun : ℕ} {out : List ℕ} {taken handed : ℕ} → Turning h o g l block begun out taken handed
+    → {new : List ℕ} {n after : ℕ} → n ≡ 0 → after ≡ (taken + n) % 2 ^ 64 → length new ≡ length block
+    → Turning h o g l new begun out after handed
+turning-none t none on same =
+    let far = t .so-far in
+    record {
+      feedable = t .feedable;
+      block-long = t .block-long ∙ sym same;
+      out-long = t .out-long;
+      so-far = record {
+        input = far .input;
+        text = far .text;
+        way = far .way;
+        read = counted-on (far .input) [] (far .read) none on ∙ ap counted (append-nil (far .input));
+        wrote = far .wrote;
+      };
+    }
+
 -- the test for a write that failed
 pub written-all : (written : Bool) → not written ≡ false → written ≡ true
 written-all true e = refl
@@ -94,14 +113,14 @@ view-at-end s t v begun =
 
 -- the last line is done and handed over
 pub complete : {h : Head} {o g l : List ℕ} {begun : ℕ} {out : List ℕ} {taken handed : ℕ} → SoFar h o g l begun taken handed
-    → {k : Head} {p q new : List ℕ} {end octets after : ℕ} → Ends (goingIn h o g l begun out 0) out k p q new end → octets ≡ end
-    → after ≡ (handed + octets) % 2 ^ 64 → Complete k p q taken after
-complete {h} {o} {g} {l} {begun} {out} far {new = new} {end} e gone on =
+    → {k : Head} {p q new : List ℕ} {end after : ℕ} → Ends (goingIn h o g l begun out 0) out k p q new end
+    → after ≡ (handed + end) % 2 ^ 64 → Complete k p q taken after
+complete {h} {o} {g} {l} {begun} {out} far {new = new} {end} e on =
     record {
       input = far .input;
       read = far .read;
       wrote =
-          counted-on (far .text) (take end new) (far .wrote) (gone ∙ sym (length-take-le end new (omega (arith, e .fits, e .long)))) on
+          counted-on (far .text) (take end new) (far .wrote) (sym (length-take-le end new (omega (arith, e .fits, e .long)))) on
           ∙ ap counted (sym (in-turn .finish (far .way) e));
       session =
           ap (λ (now : Going). now .view) (e .state)

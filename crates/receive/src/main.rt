@@ -5,7 +5,7 @@ use heads::Session;
 use libc::STDIN_FILENO;
 use libc::STDOUT_FILENO;
 use lines::Line;
-ghost use Prim.Native.Nat.{_≤_};
+ghost use Prim.Native.Nat.{_+_, _%_, _^_, _≤_};
 ghost use mathlib.Core.Path.{_≡_};
 ghost use lib.ListN.{length};
 ghost use Rattle.views.specs.View.{freshView};
@@ -15,28 +15,33 @@ ghost use Rattle.lines.specs.Promise.{stepLimit};
 ghost use Rattle.lines.specs.FeedPromise.{Feedable};
 ghost use Rattle.receive.specs.Promise.{Passes, Serves};
 
-// How many octets of the buffer's front were handed to `write`, and whether it took them all.
-struct Handed {
-    octets: usize,
-    written: bool,
+// The one place that reads: some octets are put at the front of the block and counted; how many, none at the end of the input.
+fn read_on(block: &mut [u8], taken: &mut usize) -> usize
+    ensures { λ r. ⌜ r ≤ length (now (block .exit)) ⌝ }
+    ensures { λ r. ⌜ now (taken .exit) ≡ (now (taken .entry) + r) % 2 ^ 64 ⌝ }
+{
+    let got = libc::read(STDIN_FILENO, block);
+    let n = io::count(got, block);
+    let before = *taken;
+    *taken = std::num::wrapping_add_usize(before, n);
+    n
 }
 
-// The one place that writes. The contract of `write` says nothing of what is written: that it is this front is seen here.
-fn hand_over(out: &[u8], end: usize) -> Handed
+// The one place that writes: the front of the buffer goes to `write`, and its octets are counted; whether it took them all.
+fn hand_over(out: &[u8], end: usize, handed: &mut usize) -> bool
     requires { ⌜ end ≤ length (now out) ⌝ }
-    ensures { λ r. ⌜ r .octets ≡ end ⌝ }
+    ensures { λ r. ⌜ now (handed .exit) ≡ (now (handed .entry) + end) % 2 ^ 64 ⌝ }
 {
     let front = &out[..end];
-    let octets = front.len();
-    let written = io::write_all(STDOUT_FILENO, front);
-    Handed { octets, written }
+    let before = *handed;
+    *handed = std::num::wrapping_add_usize(before, front.len());
+    io::write_all(STDOUT_FILENO, front)
 }
 
-// The session after a block, how much of a line has begun, how many octets were handed over so far, and whether all was written.
+// The session after a block, how much of a line has begun, and whether all was written.
 struct Passed {
     head: Head,
     begun: usize,
-    handed: usize,
     written: bool,
 }
 
@@ -49,15 +54,14 @@ fn pass(
     begun: usize,
     block: &[u8],
     out: &mut [u8],
-    handed: usize,
+    handed: &mut usize,
 ) -> Passed
     requires { ⌜ Feedable stepLimit h (now o) (now g) (now line) begun (now out) 0 ⌝ }
-    ensures { λ r. ⌜ Passes h (now (o .entry)) (now (g .entry)) (now (line .entry)) begun (now (block .entry)) handed (r .head) (now (o .exit)) (now (g .exit)) (now (line .exit)) (r .begun) (now (out .exit)) (r .handed) (r .written) ⌝ }
+    ensures { λ r. ⌜ Passes h (now (o .entry)) (now (g .entry)) (now (line .entry)) begun (now (block .entry)) (now (handed .entry)) (r .head) (now (o .exit)) (now (g .exit)) (now (line .exit)) (r .begun) (now (out .exit)) (now (handed .exit)) (r .written) ⌝ }
 {
     let mut head = h;
     let mut kept = begun;
     let mut from = 0;
-    let mut sum = handed;
     while from < block.len() {
         let part = lines::take_block(head, o, g, line, kept, &block[from..], out, 0);
         let next = part.head;
@@ -65,13 +69,10 @@ fn pass(
         kept = part.begun;
         from += part.taken;
         let end = part.end;
-        let gone = hand_over(out, end);
-        sum = std::num::wrapping_add_usize(sum, gone.octets);
-        if !gone.written {
+        if !hand_over(out, end, handed) {
             return Passed {
                 head,
                 begun: kept,
-                handed: sum,
                 written: false,
             };
         }
@@ -79,7 +80,6 @@ fn pass(
     Passed {
         head,
         begun: kept,
-        handed: sum,
         written: true,
     }
 }
@@ -113,17 +113,23 @@ fn serve(
     let mut turns = u64::MAX;
     while turns > 0 {
         turns -= 1;
-        let got = libc::read(STDIN_FILENO, &mut block);
-        if got <= 0 {
+        let n = read_on(&mut block, &mut taken);
+        if n == 0 {
             turns = 0;
         } else {
-            let n = io::count(got, &block);
-            let passed = pass(head, o, g, &mut line, begun, &block[..n], &mut out, handed);
+            let passed = pass(
+                head,
+                o,
+                g,
+                &mut line,
+                begun,
+                &block[..n],
+                &mut out,
+                &mut handed,
+            );
             let next = passed.head;
             head = next;
             begun = passed.begun;
-            handed = passed.handed;
-            taken = std::num::wrapping_add_usize(taken, n);
             if !passed.written {
                 return Served {
                     head,
@@ -137,13 +143,12 @@ fn serve(
     let last = lines::finish(head, o, g, &line, begun, &mut out, 0);
     let next = last.head;
     let end = last.end;
-    let gone = hand_over(&out, end);
-    handed = std::num::wrapping_add_usize(handed, gone.octets);
+    let whole = hand_over(&out, end, &mut handed);
     Served {
         head: next,
         taken,
         handed,
-        whole: gone.written,
+        whole,
     }
 }
 

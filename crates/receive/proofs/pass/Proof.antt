@@ -13,14 +13,13 @@ use Rattle.receive.proofs.pass.Reads as reads
 use Rattle.receive.proofs.pass.Lts as lts
 use Rattle.lines.proofs.take_block.Reads as take-block-reads
 use Rattle.receive.proofs.hand_over.Reads as hand-over-reads
-use Rattle.std.proofs.num.wrapping_add_usize.Reads as wrapping-add-usize-reads
 
 abbrev Inv-loop : tie.InvT-loop
-Inv-loop o₀ g₀ line₀ begun block out₀ handed head₀ kept₀ from₀ sum₀ o g line out head kept from sum =
-    Serving head₀ o₀ g₀ line₀ begun out₀ block handed head o g line kept out from sum
+Inv-loop o₀ g₀ line₀ begun block out₀ handed₀ head₀ kept₀ from₀ o g line out handed head kept from =
+    Serving head₀ o₀ g₀ line₀ begun out₀ block handed₀ head o g line kept out from handed
 
 abbrev μ-loop : tie.MeasureT-loop
-μ-loop o₀ g₀ line₀ begun block out₀ handed head₀ kept₀ from₀ sum₀ o g line out head kept from sum = length block - from
+μ-loop o₀ g₀ line₀ begun block out₀ handed₀ head₀ kept₀ from₀ o g line out handed head kept from = length block - from
 
 loop-holds : tie.Need-loop-holds Inv-loop μ-loop
 loop-holds c = serving-start _ _ (c .before .before .before .pre)
@@ -49,41 +48,37 @@ add-from c =
 
 hand-over-requires : tie.Need-hand-over-requires Inv-loop μ-loop
 hand-over-requires c κs =
-    let made = c .before .before .before .before .before .before .before in
+    let made = c .before .before .before .before .before .before .before .before in
     let inside = made .before .before .before .before .before .before in
     let loop = inside .before in
     let start = loop .before .before .before .before in
     part-fits (start .args .block .now) (loop .loop .inv) (inside .loop-test .taken) (made .take-block .ensures)
 
-wrapping-add-usize-requires : tie.Need-wrapping-add-usize-requires Inv-loop μ-loop
-wrapping-add-usize-requires c κs = search needs
-
 same-length : tie.Need-same-length Inv-loop μ-loop
 same-length c =
-    let made = c .before .before .before .before .before .before .before .before .before .before .before in
+    let made = c .before .before .before .before .before .before .before .before .before .before in
     let loop = made .before .before .before .before .before .before .before in
     made .take-block .kept .1 .1 .1 .0 ∙ loop .loop .inv .line-long
 
 same-length-2 : tie.Need-same-length-2 Inv-loop μ-loop
 same-length-2 c =
-    let made = c .before .before .before .before .before .before .before .before .before .before .before in
+    let made = c .before .before .before .before .before .before .before .before .before .before in
     let loop = made .before .before .before .before .before .before .before in
     made .take-block .ensures .takes .long ∙ loop .loop .inv .out-long
 
 returns : tie.Need-returns Inv-loop μ-loop
 returns c =
-    let gone = c .before .before .before in
-    let made = gone .before .before .before .before .before .before .before .before in
+    let made = c .before .before .before .before .before .before .before .before .before .before in
     let inside = made .before .before .before .before .before .before in
     let loop = inside .before in
     let start = loop .before .before .before .before in
     stopped (start .args .block .now)
     (part-done (start .args .block .now) (loop .loop .inv) (inside .loop-test .taken) (made .take-block .ensures)
-    (made .take-block .kept .1 .1 .1 .0) (gone .hand-over .ensures) (c .before .before .wrapping-add-usize .ensures))
+    (made .take-block .kept .1 .1 .1 .0) (c .before .hand-over .ensures))
 
 loop-less : tie.Need-loop-less Inv-loop μ-loop
 loop-less c =
-    let made = c .before .before .before .before .before .before .before .before .before .before .before in
+    let made = c .before .before .before .before .before .before .before .before .before .before in
     let inside = made .before .before .before .before .before .before in
     let loop = inside .before in
     let start = loop .before .before .before .before in
@@ -91,13 +86,12 @@ loop-less c =
 
 loop-again : tie.Need-loop-again Inv-loop μ-loop
 loop-again c =
-    let gone = c .before .before .before in
-    let made = gone .before .before .before .before .before .before .before .before in
+    let made = c .before .before .before .before .before .before .before .before .before .before in
     let inside = made .before .before .before .before .before .before in
     let loop = inside .before in
     let start = loop .before .before .before .before in
     part-done (start .args .block .now) (loop .loop .inv) (inside .loop-test .taken) (made .take-block .ensures)
-    (made .take-block .kept .1 .1 .1 .0) (gone .hand-over .ensures) (c .before .before .wrapping-add-usize .ensures)
+    (made .take-block .kept .1 .1 .1 .0) (c .before .hand-over .ensures)
 
 same-length-3 : tie.Need-same-length-3 Inv-loop μ-loop
 same-length-3 c = search needs
@@ -121,7 +115,6 @@ pass-spec =
     take-block-requires
     add-from
     hand-over-requires
-    wrapping-add-usize-requires
     same-length
     same-length-2
     returns
