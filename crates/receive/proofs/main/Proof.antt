@@ -14,7 +14,7 @@ fresh-requires c κs = search needs
 serve-requires : tie.Need-serve-requires
 serve-requires c κs =
     let fresh = c .before .before .before .before .before .fresh .ensures in
-    within-of _ _ _ (fresh .ranges) (fresh .sized)
+    (within-of _ _ _ (fresh .ranges) (fresh .sized), fresh .view)
 
 returns : tie.Need-returns
 returns c = search needs
