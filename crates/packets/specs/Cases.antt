@@ -41,7 +41,7 @@ pub record WriteCases : Type 0 where
   -- "over 16 fields 4, then 15, 12, 14, 4": it is the types that are counted
   pub types-17 : packetToWrite Data 0 (replicate 17 1) (replicate 17 0) [] ≡ refuse outsideSizes
   pub lengths-17 : packetToWrite Data 0 (replicate 16 1) (replicate 17 0) [] ≡ refuse wrongSettings
-  pub types-first : packetToWrite Data 0 (replicate 17 1) [] [] ≡ refuse outsideSizes
+  pub types-first : packetToWrite Data 0 (replicate 18 1) [] [] ≡ refuse outsideSizes
   pub settings-before-12 : packetToWrite Data 9 (0 ∷ []) [] [] ≡ refuse wrongSettings
   pub value-before-14 : packetToWrite Data 9 (0 ∷ []) (0 ∷ []) [] ≡ refuse notAssigned
   pub data-before-4 : packetToWrite Data 0 (1 ∷ []) (161 ∷ []) (replicate 161 0) ≡ refuse wrongData
