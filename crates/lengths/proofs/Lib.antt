@@ -1,3 +1,4 @@
 mod Steps
 pub mod Laws
+pub mod Cases
 pub mod Claims

@@ -2,4 +2,5 @@ pub mod Refusals
 pub mod Answers
 pub mod Length
 pub mod Promise
+pub mod Cases
 pub mod Claims
