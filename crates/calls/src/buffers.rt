@@ -62,7 +62,7 @@ fn datagram_of(
     out: &mut [u8],
 ) -> usize {
     if kind == 128 {
-        let answer = datagrams::write(
+        let answer = datagram_writer::write(
             number,
             packet,
             Kind::Parity(n as usize),
@@ -78,7 +78,7 @@ fn datagram_of(
     if n != 0 {
         return no_call(out);
     }
-    let answer = datagrams::write(number, packet, Kind::Spares, lengths, data, buffer);
+    let answer = datagram_writer::write(number, packet, Kind::Spares, lengths, data, buffer);
     written(out, answer, buffer)
 }
 

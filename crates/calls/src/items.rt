@@ -69,7 +69,7 @@ fn put_kind(out: &mut [u8], at: usize, kind: Kind) -> usize {
 // 03: a datagram.
 pub fn read_datagram(s: &[u8], out: &mut [u8]) -> usize {
     let datagram = rest(s, 1);
-    let found = datagrams::read(datagram);
+    let found = datagram_reader::read(datagram);
     let items = found.items;
     let reading = found.reading;
     match reading {

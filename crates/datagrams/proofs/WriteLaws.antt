@@ -18,7 +18,7 @@ use Rattle.datagrams.specs.Put.{kindHead, itemsSize, datagramSize, nFits
 use Rattle.datagrams.specs.declared.kind.Kind.{Kind}
 use Rattle.datagrams.specs.declared.kind.Kind.the-variants as kind
 use Rattle.datagrams.proofs.PutLaws.{number-length, item-length}
-use Rattle.datagrams.proofs.SizeSteps.{items-bound, kind-bound}
+use Rattle.datagrams.proofs.SizeLaws.{items-bound, kind-bound}
 
 -- ---- the octets, part by part
 pub cut-length : (lengths run : List ℕ) → length (cut lengths run) ≡ length lengths

@@ -15,7 +15,7 @@ use Rattle.lengths.specs.Answers.{done}
 use Rattle.lengths.specs.Claims.{Octets}
 use Rattle.lines.specs.Hex.{lineLimit, noDigit, digitOf, digitFor, allDigits, octetAt, octetsIn, lineOctets, hexOf}
 use Rattle.lines.specs.Claims.{WrittenReads}
-use Rattle.lines.proofs.HexSteps.{length-hexOf}
+use Rattle.lines.proofs.HexLaws.{length-hexOf}
 
 -- ---- digits
 -- computed for each of the sixteen

@@ -4,7 +4,8 @@ use Prim.Native.Nat.{ℕ, _≤_, _<_}
 use mathlib.Core.Path.{_≡_, refl, sym, _∙_}
 use mathlib.Core.List.{List}
 use mathlib.Core.Logic.{⊎-elim}
-use lib.ListN.{length, replicate, length-replicate, getD-replicate, List·getD-eq-default}
+use lib.ListN.{length, take, replicate, length-replicate, getD-replicate, List·getD-eq-default}
+use lib.Seq.{length-take-le}
 use native.Mathlib.Omega.{arith}
 use Rattle.octets.proofs.Cases.{below-or-not}
 use Rattle.heads.specs.declared.Head.{Head}
@@ -24,6 +25,10 @@ line-fresh n size =
           (λ out. List·getD-eq-default (replicate n 0) 0 (omega (arith, length-replicate {A = ℕ} n 0)))
           (below-or-not k n);
     }
+
+-- the line that has begun
+pub begun-length : {line : List ℕ} {begun : ℕ} → LineIn line begun → length (take begun line) ≡ begun
+begun-length {line} {begun} held = length-take-le begun line (omega (arith, held .size, held .short))
 
 -- with room for a step a block may be taken in
 pub feedable-block : {h : Head} {o g l : List ℕ} {begun : ℕ} {out : List ℕ} {at : ℕ} → Feedable stepLimit h o g l begun out at

@@ -1,15 +1,7 @@
 pub mod Appending
-pub mod Digits
-pub mod HexSteps
-pub mod ResultSteps
-pub mod Stepping
-pub mod ReleaseLoop
-pub mod Offering
-pub mod StepLaws
+pub mod HexLaws
 pub mod Feeding
-pub mod FeedSteps
 pub mod FeedTaken
-pub mod FeedTurn
 pub mod Laws
 pub mod ReleaseAll
 pub mod HexBack

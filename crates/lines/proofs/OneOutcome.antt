@@ -20,7 +20,7 @@ use Rattle.lines.specs.FeedPromise.{LineIn, Feeds, Ends}
 use Rattle.lines.specs.Claims.{Same, OneOutcome}
 use Rattle.lines.specs.declared.steps.Stepped.{Stepped}
 use Rattle.lines.specs.declared.feed.Fed.{Fed}
-use Rattle.lines.proofs.FeedTurn.{begun-length}
+use Rattle.lines.proofs.Laws.{begun-length}
 
 -- ---- a session, by its view
 module _ {r q : Stepped} {o p g k : List ℕ} (w : Within (r .head) o g) (v : Within (q .head) p k)

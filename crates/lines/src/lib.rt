@@ -1,15 +1,9 @@
 // Document 01, 'The program'.
 mod feed;
-mod hex;
-mod results;
 mod steps;
 
 pub use feed::Fed;
-pub use feed::finish;
-pub use feed::take_block;
-pub use hex::hex_to_octets;
 pub use steps::Stepped;
-pub use steps::step;
 ghost use mathlib.Core.Path.{_≡_};
 ghost use Rattle.lines.specs.Hex.{lineLimit};
 ghost use Rattle.lines.specs.Feed.{keptLimit};

@@ -211,7 +211,7 @@ fn put_full(kind: u8, data: &[u8], out: &mut [u8]) -> usize
     out[0] = bits * 16;
     out[1] = (high % 256) as u8;
     out[2] = (less % 256) as u8;
-    datagrams::put_octets(data, &mut out[3..]);
+    datagram_items::put_octets(data, &mut out[3..]);
     3 + size
 }
 

@@ -34,7 +34,7 @@ fn pass(
     let mut kept = begun;
     let mut from = 0;
     while from < block.len() {
-        let part = lines::take_block(head, o, g, line, kept, &block[from..], out, 0);
+        let part = line_blocks::take_block(head, o, g, line, kept, &block[from..], out, 0);
         let next = part.head;
         head = next;
         kept = part.begun;
@@ -82,7 +82,7 @@ fn serve(h: Head, o: &mut [u8; Session::PACKET_OCTETS], g: &mut [u8; Session::ME
             }
         }
     }
-    let last = lines::finish(head, o, g, &line, begun, &mut out, 0);
+    let last = line_blocks::finish(head, o, g, &line, begun, &mut out, 0);
     let end = last.end;
     io::write_all(STDOUT_FILENO, &out[..end]);
 }

@@ -225,7 +225,7 @@ pub fn offer_core(
     requires { ⌜ Within h (now o) (now g) ⌝ }
     ensures { λ r. ⌜ OfferMade (offer (now (s .entry)) (viewIn h (now (o .entry)) (now (g .entry)))) h (now (o .entry)) (now (g .entry)) r (now (o .exit)) (now (g .exit)) ⌝ }
 {
-    let read = datagrams::read(s);
+    let read = datagram_reader::read(s);
     let reading = read.reading;
     let items = read.items;
     let Reading::Datagram {

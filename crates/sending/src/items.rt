@@ -71,7 +71,7 @@ fn put_message(
 {
     let size = message_size(number, sizes, n, m, i);
     let sum = message_sum(number, o, n, m, i);
-    datagrams::put_item(&sum[..size], out)
+    datagram_items::put_item(&sum[..size], out)
 }
 
 // ---- spares: the newest first
@@ -100,7 +100,7 @@ fn put_spare(number: u16, sizes: &[u16], o: &[u8], j: usize, out: &mut [u8]) -> 
     let size = spare_size(number, sizes, j);
     let from = slot * Packet::LIMIT;
     let to = from + size;
-    datagrams::put_item(&o[from..to], out)
+    datagram_items::put_item(&o[from..to], out)
 }
 
 // ---- both
@@ -142,7 +142,7 @@ pub fn items_size(number: u16, sizes: &[u16], kind: Kind, count: usize) -> usize
     let mut j = 0;
     while j < count {
         let one = one_size(number, sizes, kind, count, j);
-        size += datagrams::item_size(one);
+        size += datagram_items::item_size(one);
         j += 1;
     }
     size

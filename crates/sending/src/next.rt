@@ -16,8 +16,8 @@ fn next_size(number: u16, sizes: &[u16], packet: &[u8], kind: Kind, count: usize
     requires { ⌜ NextSizes (now sizes) (now packet) kind count ⌝ }
     ensures { λ r. ⌜ NextSize number (now (sizes .entry)) (now (packet .entry)) kind count r ⌝ }
 {
-    let newest = datagrams::item_size(packet.len());
-    let before = datagrams::kind_size(kind, count);
+    let newest = datagram_items::item_size(packet.len());
+    let before = datagram_items::kind_size(kind, count);
     let items = items_size(number, sizes, kind, count);
     let head = 2 + newest;
     let front = head + before;
@@ -37,8 +37,8 @@ fn put_next(
     requires { ⌜ NextRoom number (now sizes) (now o) (now packet) kind count (now out) ⌝ }
     ensures { λ r. ⌜ Put (datagramOctets (carriedIn number (now (sizes .entry)) (now (o .entry)) (now (packet .entry)) kind count)) (now (out .entry)) (now (out .exit)) r ⌝ }
 {
-    let head = datagrams::put_head(number, packet, out);
-    let before = datagrams::put_kind(kind, count, &mut out[head..]);
+    let head = datagram_items::put_head(number, packet, out);
+    let before = datagram_items::put_kind(kind, count, &mut out[head..]);
     let at = head + before;
     let items = put_items(number, sizes, o, kind, count, &mut out[at..]);
     at + items

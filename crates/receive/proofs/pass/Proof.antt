@@ -13,7 +13,7 @@ use Rattle.receive.proofs.pass.Tie as tie
 use Rattle.receive.proofs.pass.Reads as reads
 use Rattle.receive.proofs.pass.Lts as lts
 use Rattle.io.proofs.write_all.Reads as write-all-reads
-use Rattle.lines.proofs.take_block.Reads as take-block-reads
+use Rattle.line_blocks.proofs.take_block.Reads as take-block-reads
 
 abbrev Inv-loop : tie.InvT-loop
 Inv-loop o₀ g₀ line₀ begun block out₀ head₀ kept₀ from₀ o g line out head kept from =

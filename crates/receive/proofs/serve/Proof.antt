@@ -13,7 +13,7 @@ use Rattle.io.proofs.count.Reads as count-reads
 use Rattle.io.proofs.large_buffer.Reads as large-buffer-reads
 use Rattle.io.proofs.write_all.Reads as write-all-reads
 use Rattle.libc.proofs.read.Reads as read-reads
-use Rattle.lines.proofs.finish.Reads as finish-reads
+use Rattle.line_blocks.proofs.finish.Reads as finish-reads
 use Rattle.receive.proofs.pass.Reads as pass-reads
 
 abbrev Inv-loop : tie.InvT-loop

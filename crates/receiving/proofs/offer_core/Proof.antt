@@ -4,7 +4,7 @@ use Rattle.receiving.proofs.offer_core.Statement.{statement}
 use Rattle.receiving.proofs.offer_core.Tie as tie
 use Rattle.receiving.proofs.offer_core.Reads as reads
 use Rattle.receiving.proofs.offer_core.Lts as lts
-use Rattle.datagrams.proofs.read.Reads as read-reads
+use Rattle.datagram_reader.proofs.read.Reads as read-reads
 use Rattle.receiving.proofs.offer_read.Reads as offer-read-reads
 use Rattle.receiving.proofs.refusal_of.Reads as refusal-of-reads
 use Rattle.receiving.proofs.refused.Reads as refused-reads

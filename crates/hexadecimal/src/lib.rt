@@ -1,0 +1,5 @@
+// Lines of hexadecimal, read and written: document 01, 'The program', as `lines` defines them.
+mod hex;
+
+pub use hex::hex_to_octets;
+pub use hex::put_octets;
