@@ -1,8 +1,10 @@
 -- The cases of 'The datagram', each computed. Assumes nothing.
 use mathlib.Core.Path.{refl}
 use Rattle.lengths.specs.Length.{lengthAt, lengthOctets}
-use Rattle.datagrams.specs.Read.{allowed, octetAt, sizedAt, itemAt, itemsAt, endOf, sparesAt, parityAt, extraAt, numberOf, wholeOf, readDatagram}
-use Rattle.datagrams.specs.Write.{numberOctets, itemOctets, itemsOctets, countedOctets, datagramOctets, cut, sumOf, itemsInside, datagramToWrite}
+use Rattle.datagrams.specs.Read.{allowed, octetAt, sizedAt, itemAt, itemsAt, endOf, sparesAt, parityAt, extraAt}
+use Rattle.datagrams.specs.Read.{numberOf, wholeOf, readDatagram}
+use Rattle.datagrams.specs.Write.{numberOctets, itemOctets, itemsOctets, countedOctets, datagramOctets, cut}
+use Rattle.datagrams.specs.Write.{sumOf, itemsInside, datagramToWrite}
 use Rattle.datagrams.specs.Cases.{ReadCases, WriteCases}
 
 pub read-cases : ReadCases

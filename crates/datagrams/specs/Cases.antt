@@ -17,7 +17,8 @@ reads s = readDatagram (0x01 ∷ 0x00 ∷ 0x01 ∷ 0x06 ∷ s)
 pub record ReadCases : Type 0 where
   pub octets-1501 : readDatagram (replicate 1501 0) ≡ refuse tooLong
   -- "Number: two octets, high first"; the newest packet is at place 3
-  pub number-256 : reads (0x00 ∷ 0x00 ∷ []) ≡ done (record { number = 256; packet = record { start = 3; size = 1 }; kind = kind.Spares; items = [] })
+  pub number-256 : reads (0x00 ∷ 0x00 ∷ [])
+      ≡ done (record { number = 256; packet = record { start = 3; size = 1 }; kind = kind.Spares; items = [] })
   -- "At a length: 3 or 1 in its form, then 4, then 1 for missing octets"
   pub packet-161 : readDatagram (0x00 ∷ 0x00 ∷ 0x80 ∷ 0xA1 ∷ []) ≡ refuse outsideSizes
   pub packet-0 : readDatagram (0x00 ∷ 0x00 ∷ 0x00 ∷ []) ≡ refuse outsideSizes
@@ -36,7 +37,12 @@ pub record ReadCases : Type 0 where
   pub m-5 : reads (0x80 ∷ 0x01 ∷ 0x02 ∷ 0x05 ∷ []) ≡ refuse outsideSizes
   -- a message may be empty
   pub message-0 : reads (0x80 ∷ 0x01 ∷ 0x02 ∷ 0x01 ∷ 0x00 ∷ [])
-      ≡ done (record { number = 256; packet = record { start = 3; size = 1 }; kind = kind.Parity 2; items = record { start = 9; size = 0 } ∷ [] })
+      ≡ done (record {
+        number = 256;
+        packet = record { start = 3; size = 1 };
+        kind = kind.Parity 2;
+        items = record { start = 9; size = 0 } ∷ [];
+      })
 
 pub record WriteCases : Type 0 where
   -- "n or a count outside the sizes 4, then 15, 4"

@@ -3,7 +3,8 @@ use mathlib.Core.Path.{refl}
 use Rattle.lengths.specs.Length.{lengthAt, lengthOctets}
 use Rattle.packets.specs.Packet.{every, firstOctet, headerBits}
 use Rattle.packets.specs.Read.{readPacket, firstAt, countAt, fieldsAt, fieldAt, headerAt, sizeAt, afterHeader, endAt}
-use Rattle.packets.specs.Write.{fieldOctets, fieldsOctets, packetOctets, total, oneEach, allAssigned, rightTypes, allRight, inSizes, packetToWrite}
+use Rattle.packets.specs.Write.{fieldOctets, fieldsOctets, packetOctets, total, oneEach, allAssigned, rightTypes, allRight}
+use Rattle.packets.specs.Write.{inSizes, packetToWrite}
 use Rattle.packets.specs.Cases.{ReadCases, WriteCases}
 
 pub read-cases : ReadCases
@@ -28,7 +29,8 @@ read-cases =
     }
 
 pub write-cases : WriteCases
-unfolding packetToWrite packetOctets fieldsOctets fieldOctets total oneEach allAssigned rightTypes allRight inSizes every lengthOctets firstOctet headerBits
+unfolding packetToWrite packetOctets fieldsOctets fieldOctets total oneEach allAssigned rightTypes allRight inSizes every
+    lengthOctets firstOctet headerBits
 write-cases =
     record {
       types-17 = refl;

@@ -26,9 +26,11 @@ pub record Cases : Type 0 where
   pub short-message : repair (unknownCell ∷ came (0xAA ∷ 0xBB ∷ []) ∷ []) (messagesFrom 2 (over 2 ((0x01 ∷ []) ∷ []) ∷ []))
       ≡ filled (0xAB ∷ []) ∷ came (0xAA ∷ 0xBB ∷ []) ∷ []
   -- a message of length 0 repairs nothing
-  pub empty-message : repair (unknownCell ∷ came (0xAA ∷ []) ∷ []) (messagesFrom 2 (over 2 ([] ∷ []) ∷ [])) ≡ unknownCell ∷ came (0xAA ∷ []) ∷ []
+  pub empty-message : repair (unknownCell ∷ came (0xAA ∷ []) ∷ []) (messagesFrom 2 (over 2 ([] ∷ []) ∷ []))
+      ≡ unknownCell ∷ came (0xAA ∷ []) ∷ []
   -- one with two unknown members repairs neither
-  pub two-missing : repair (unknownCell ∷ unknownCell ∷ []) (messagesFrom 2 (over 2 ((0x01 ∷ []) ∷ []) ∷ [])) ≡ unknownCell ∷ unknownCell ∷ []
+  pub two-missing : repair (unknownCell ∷ unknownCell ∷ []) (messagesFrom 2 (over 2 ((0x01 ∷ []) ∷ []) ∷ []))
+      ≡ unknownCell ∷ unknownCell ∷ []
   -- "of the accepted numbers, counted from the base on, take the first": number 2, whose message is `AA`, and not number 3
   pub first-number : repair (unknownCell ∷ came (0x01 ∷ []) ∷ came (0x01 ∷ []) ∷ [])
       (messagesFrom 2 (over 2 ((0xAA ∷ []) ∷ []) ∷ over 3 ((0xBB ∷ []) ∷ []) ∷ []))

@@ -16,4 +16,5 @@ pub mod Outcome
 pub mod Chain
 pub mod Faithful
 pub mod Back
+pub mod Cases
 pub mod Claims

@@ -10,4 +10,5 @@ pub mod Promise
 pub mod Inner
 pub mod Honest
 pub mod Run
+pub mod Cases
 pub mod Claims

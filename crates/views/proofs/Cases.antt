@@ -13,8 +13,8 @@ use Rattle.views.specs.Release.{next, giveUp}
 use Rattle.views.specs.Cases.{OfferCases, ReleaseCases}
 
 pub offer-cases : OfferCases
-unfolding offer offered accept keep keepSpares freshView repair repairF firstUsable usable passing mended fill messagesOf messagesFrom heldMessages
-    membersOf tab xorAt exclusiveOr readDatagram numberOf itemAt sizedAt allowed lengthAt
+unfolding offer offered accept keep keepSpares freshView repair repairF firstUsable usable passing mended fill
+    messagesOf messagesFrom heldMessages membersOf tab xorAt exclusiveOr readDatagram numberOf itemAt sizedAt allowed lengthAt
 offer-cases =
     record {
       spare-kept = refl;
