@@ -6,4 +6,5 @@ pub mod AnswerLaws
 pub mod ReadLaws
 pub mod ReadBack
 pub mod WriteBack
+pub mod Cases
 pub mod Claims

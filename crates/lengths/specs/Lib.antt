@@ -3,4 +3,5 @@ pub mod Answers
 pub mod Tables
 pub mod Length
 pub mod Promise
+pub mod Cases
 pub mod Claims

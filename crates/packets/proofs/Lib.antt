@@ -1,3 +1,4 @@
+pub mod Cases
 pub mod Tests
 pub mod Every
 pub mod Rest

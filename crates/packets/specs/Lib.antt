@@ -3,4 +3,5 @@ pub mod Read
 pub mod Write
 pub mod Promise
 pub mod Items
+pub mod Cases
 pub mod Claims

@@ -9,4 +9,5 @@ pub mod Outcome
 pub mod Chain
 pub mod Faithful
 pub mod Back
+pub mod Cases
 pub mod Claims

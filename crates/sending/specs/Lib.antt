@@ -9,4 +9,5 @@ pub mod Next
 pub mod Promise
 pub mod Honest
 pub mod Run
+pub mod Cases
 pub mod Claims

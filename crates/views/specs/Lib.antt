@@ -1,3 +1,4 @@
 pub mod View
 pub mod Offer
 pub mod Release
+pub mod Cases

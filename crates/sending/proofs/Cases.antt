@@ -1,0 +1,17 @@
+-- Which refusal a send comes to, computed. Assumes nothing.
+use mathlib.Core.Path.{refl}
+use Rattle.sending.specs.Sending.{freshSending}
+use Rattle.sending.specs.Send.{datagramToSend}
+use Rattle.sending.specs.Cases.{RefusalCases}
+
+pub refusal-cases : RefusalCases
+unfolding datagramToSend freshSending
+refusal-cases =
+    record {
+      passed-first = refl;
+      settings-then-size = refl;
+      n-0 = refl;
+      m-0 = refl;
+      packet-0 = refl;
+      packet-161 = refl;
+    }
