@@ -1,3 +1,4 @@
 pub mod View
+pub mod Ranges
 pub mod Offer
 pub mod Release
