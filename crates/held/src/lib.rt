@@ -1,6 +1,7 @@
 // The receiving session as it is held, and lent to the calls inside the session: base and counts by value, a table of numbers,
 // and two stores of octets, one slot for each kept packet and one for each held message. A number's slot is the number modulo the
 // count of slots, so that nothing moves when the base goes on.
+mod fresh;
 mod table;
 
 use datagrams::Packet;

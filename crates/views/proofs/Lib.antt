@@ -1,2 +1,5 @@
 pub mod Cases
 pub mod GoesOn
+pub mod Sizes
+pub mod Filled
+pub mod Ranges
