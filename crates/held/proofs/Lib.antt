@@ -2,3 +2,4 @@ pub mod Slots
 pub mod Places
 pub mod Seen
 pub mod Placed
+pub mod Heard
