@@ -6,3 +6,5 @@ pub mod Ranges
 pub mod FreshSession
 pub mod Messages
 pub mod Injective
+pub mod Marked
+pub mod Heard

@@ -3,3 +3,4 @@ pub mod GoesOn
 pub mod Sizes
 pub mod Filled
 pub mod Ranges
+pub mod Holding
