@@ -1,10 +1,11 @@
 // What a block of the program's input answers.
-use heads::Head;
+use held::Counts;
 
-// The program part way: the head, how much of the line that has begun is kept, how many characters of the block were taken in,
-// and the place after what was written.
+// The program part way: base and counts of the session, how much of the line that has begun is kept, how many characters of the
+// block were taken in, and the place after what was written.
 pub struct Fed {
-    pub head: Head,
+    pub base: u16,
+    pub counts: Counts,
     pub begun: usize,
     pub taken: usize,
     pub end: usize,

@@ -10,7 +10,7 @@ ghost use Rattle.lines.specs.Feed.{keptLimit};
 ghost use Rattle.lines.specs.Promise.{stepLimit};
 use datagrams::Datagram;
 use datagrams::Packet;
-use heads::Session;
+use held::Session;
 
 // A line of the program's input.
 pub struct Line {}

@@ -1,8 +1,9 @@
 // What a part of a step of the program answers.
-use heads::Head;
+use held::Counts;
 
-// The session's head after a part of a step, and the place after what it wrote.
+// Base and counts of the session after a part of a step, and the place after what it wrote.
 pub struct Stepped {
-    pub head: Head,
+    pub base: u16,
+    pub counts: Counts,
     pub end: usize,
 }
