@@ -1,5 +1,6 @@
 -- The cases of 'The datagram', each computed. Assumes nothing.
 use mathlib.Core.Path.{refl}
+use Rattle.lengths.specs.Tables.{unless}
 use Rattle.lengths.specs.Length.{lengthAt, lengthOctets}
 use Rattle.datagrams.specs.Read.{allowed, octetAt, sizedAt, itemAt, itemsAt, endOf, sparesAt, parityAt, extraAt}
 use Rattle.datagrams.specs.Read.{numberOf, wholeOf, readDatagram}
@@ -29,7 +30,7 @@ read-cases =
     }
 
 pub write-cases : WriteCases
-unfolding datagramToWrite datagramOctets numberOctets itemOctets itemsOctets countedOctets cut sumOf itemsInside lengthOctets
+unfolding datagramToWrite datagramOctets numberOctets itemOctets itemsOctets countedOctets cut sumOf itemsInside lengthOctets unless
 write-cases =
     record {
       spares-9 = refl;

@@ -9,7 +9,6 @@ use lib.Dec.{leb, eqb}
 use lib.Seq.{length-take-le}
 use native.Mathlib.Omega.{arith}
 use borrow.Author.Tests.{leb-true, eqb-true, eq-eqb, lt-ltb, not-false}
-use Rattle.lengths.specs.Refusals.{outsideSizes, wrongSettings}
 use Rattle.lengths.specs.Answers.{done}
 use Rattle.lengths.specs.Tables.{unless}
 use Rattle.lengths.proofs.Tables.{unless-past, unless-done}
@@ -149,9 +148,9 @@ pub written-allowed : (number : ℕ) (packet : List ℕ) (k : Kind) (lengths run
     → Allowed packet k lengths run × (octets ≡ datagramOctets (carriedOf number packet k lengths run))
 unfolding datagramToWrite
 written-allowed number packet k lengths run octets e =
-    let counted = unless-past (not (countInside k (length lengths))) outsideSizes _ _ octets e in
-    let summed = unless-past (not (eqb (sumOf lengths) (length run))) wrongSettings _ _ octets (counted .1) in
-    let sized = unless-past (not (lengthsInside packet k lengths)) outsideSizes _ _ octets (summed .1) in
+    let counted = unless-past (not (countInside k (length lengths))) _ _ _ octets e in
+    let summed = unless-past (not (eqb (sumOf lengths) (length run))) _ _ _ octets (counted .1) in
+    let sized = unless-past (not (lengthsInside packet k lengths)) _ _ _ octets (summed .1) in
     let inside = both (within packetLeast packetLimit (length packet)) (itemsInside k lengths) (not-false _ (sized .0)) in
     let sum = eqb-true (sumOf lengths) (length run) (not-false _ (summed .0)) in (
       record { counted = not-false _ (counted .0); summed = sum; newest = inside .0; items = inside .1 },

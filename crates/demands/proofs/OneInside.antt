@@ -33,7 +33,7 @@ use Rattle.views.specs.View.{View, numbers}
 use Rattle.sending.specs.Sender.{historyOctets}
 use Rattle.sending.specs.Held.{Sizes, Stored}
 use Rattle.sending.specs.Items.{ItemsSize}
-use Rattle.sending.specs.Inner.{HistoryAfter, SendsHeld}
+use Rattle.datagram_sender.specs.Inner.{HistoryAfter, SendsHeld}
 use Rattle.sending.specs.declared.Settings.{Settings}
 use Rattle.lines.specs.Promise.{Appends}
 use Rattle.demands.specs.OneTold.{OneLent}

@@ -8,6 +8,7 @@ use lib.Seq.{take-append-seam, drop-append-seam, take-at, length-take-le}
 use lib.Dec.{leb, ltb}
 use native.Mathlib.Omega.{arith}
 use borrow.Author.Tests.{le-leb, le-ltb, ltb-false}
+use Rattle.lengths.specs.Tables.{unless}
 use Rattle.lengths.specs.Refusals.{noRoom, outsideSizes}
 use Rattle.lengths.specs.Answers.{Answer, done, refused, LengthAnswer, lengthOutcome, writtenOutcome, fitted, sizeOf}
 use Rattle.lengths.specs.Length.{lengthAt, lengthOctets, lengthLimit, lengthToWrite}
@@ -85,13 +86,13 @@ puts-back {w} {s} {old} {new} {r} {n} puts is long room =
 
 -- ---- lengths
 length-done : (n : ℕ) (s : List ℕ) → lengthToWrite n ≡ done s → (n ≤ lengthLimit) × (s ≡ lengthOctets n)
-unfolding lengthToWrite
+unfolding lengthToWrite unless
 length-done n s e =
     let t = cond-done (ltb lengthLimit n) outsideSizes (done (lengthOctets n)) s e in
     (ltb-false lengthLimit n (t .0), sym (done-same (t .1)))
 
 length-small : (n : ℕ) → n ≤ lengthLimit → lengthToWrite n ≡ done (lengthOctets n)
-unfolding lengthToWrite
+unfolding lengthToWrite unless
 length-small n small = rw (le-ltb lengthLimit n small)
 
 length-trips : LengthTrips

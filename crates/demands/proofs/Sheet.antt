@@ -1,5 +1,6 @@
 -- The twelve ★ cases, computed. Assumes nothing.
 use mathlib.Core.Path.{refl}
+use Rattle.lengths.specs.Tables.{unless}
 use Rattle.octets.specs.Place.{tab}
 use Rattle.octets.specs.ExclusiveOr.{xorAt, exclusiveOr, longest}
 use Rattle.lengths.specs.Length.{lengthAt, lengthOctets, lengthToWrite}
@@ -25,7 +26,7 @@ unfolding readPacket firstAt countAt fieldsAt fieldAt headerAt sizeAt afterHeade
 losing-0 = record { with1 = _; after = _; first = refl; second = refl; cell = refl; reads = refl }
 
 pub twelve-cases : TwelveCases
-unfolding readPacket firstAt countAt fieldsAt fieldAt headerAt sizeAt afterHeader endAt every lengthAt lengthToWrite lengthOctets
+unfolding readPacket firstAt countAt fieldsAt fieldAt headerAt sizeAt afterHeader endAt every lengthAt lengthToWrite lengthOctets unless
     tab xorAt exclusiveOr longest membersOf freshSending sentOn carries.sparesFrom carries.messagesFrom datagramToSend
     numberOctets itemOctets itemsOctets countedOctets datagramOctets
 twelve-cases =

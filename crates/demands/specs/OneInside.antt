@@ -36,7 +36,7 @@ use Rattle.sending.specs.Ranges as sending
 use Rattle.sending.specs.Held.{Sizes, Keeps}
 use Rattle.sending.specs.Items.{itemsIn, ItemsSize}
 use Rattle.sending.specs.Next.{carriedIn}
-use Rattle.sending.specs.Inner.{SendsHeld}
+use Rattle.datagram_sender.specs.Inner.{SendsHeld}
 use Rattle.sending.specs.declared.Settings.{Settings}
 use Rattle.lines.specs.Hex.{hexOf}
 use Rattle.lines.specs.Lines.{resultLine, refusalLine}

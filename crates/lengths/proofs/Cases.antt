@@ -1,10 +1,11 @@
 -- The cases of a length, each computed. Assumes nothing.
 use mathlib.Core.Path.{refl}
+use Rattle.lengths.specs.Tables.{unless}
 use Rattle.lengths.specs.Length.{lengthAt, lengthOctets, lengthToWrite}
 use Rattle.lengths.specs.Cases.{Cases}
 
 pub cases : Cases
-unfolding lengthAt lengthOctets lengthToWrite
+unfolding lengthAt lengthOctets lengthToWrite unless
 cases =
     record {
       last-c0 = refl;

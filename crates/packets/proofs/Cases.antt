@@ -1,5 +1,6 @@
 -- The cases of 'The packet', each computed. Assumes nothing.
 use mathlib.Core.Path.{refl}
+use Rattle.lengths.specs.Tables.{unless}
 use Rattle.lengths.specs.Length.{lengthAt, lengthOctets}
 use Rattle.packets.specs.Packet.{every, firstOctet, headerBits}
 use Rattle.packets.specs.Read.{readPacket, firstAt, countAt, fieldsAt, fieldAt, headerAt, sizeAt, afterHeader, endAt}
@@ -29,7 +30,7 @@ read-cases =
     }
 
 pub write-cases : WriteCases
-unfolding packetToWrite packetOctets fieldsOctets fieldOctets total oneEach allAssigned rightTypes allRight inSizes every
+unfolding packetToWrite packetOctets fieldsOctets fieldOctets total oneEach allAssigned rightTypes allRight inSizes every unless
     lengthOctets firstOctet headerBits
 write-cases =
     record {

@@ -1,11 +1,12 @@
 -- Which refusal a send comes to, computed. Assumes nothing.
 use mathlib.Core.Path.{refl}
+use Rattle.lengths.specs.Tables.{unless}
 use Rattle.sending.specs.Sending.{freshSending}
 use Rattle.sending.specs.Send.{datagramToSend}
 use Rattle.sending.specs.Cases.{RefusalCases}
 
 pub refusal-cases : RefusalCases
-unfolding datagramToSend freshSending
+unfolding datagramToSend freshSending unless
 refusal-cases =
     record {
       passed-first = refl;
