@@ -7,7 +7,7 @@ use Prim.Native.Nat.{ℕ, zero, suc, _/_, _%_}
 use mathlib.Core.Bool.{cond}
 use mathlib.Core.List.{List, [], _∷_, _++_}
 use lib.Dec.{eqb}
-use Rattle.lengths.specs.Answers.{Answer, done, refused}
+use Rattle.lengths.specs.Answers.{Answer, done, refused, _>>=_}
 use Rattle.lengths.specs.declared.Refusal.{Refusal}
 use Rattle.datagrams.specs.Sizes.{packetLimit}
 use Rattle.repair.specs.Cells.{State, unknown, received, spare, repaired, blank, keptAhead}
