@@ -19,12 +19,11 @@ use Rattle.lengths.specs.declared.Written.the-variants as written
 use Rattle.datagrams.specs.Sizes.{datagramLimit}
 use Rattle.views.specs.View.{View}
 use Rattle.views.specs.Offer.{offer}
-use Rattle.heads.specs.Head.{viewIn}
-use Rattle.heads.specs.Within.{Within}
-use Rattle.heads.specs.declared.Head.{Head}
-use Rattle.receiving.specs.Promise.{OfferMade, offeredOutcome, acceptedOf, afterOffer}
-use Rattle.receiving.specs.declared.Offered.the-variants as offered
-use Rattle.receiving.specs.declared.OfferDone.{OfferDone}
+use Rattle.held.specs.Table.{Lent, viewIn}
+use Rattle.held.specs.Laid.{InRanges}
+use Rattle.offering.specs.Promise.{Offers, offeredOutcome, acceptedOf, afterOffer}
+use Rattle.offering.specs.declared.Offered.{Offered}
+use Rattle.offering.specs.declared.Offered.the-variants as offered
 use Rattle.lines.specs.Hex.{lineLimit, paired, lineRows, octetsIn, lineOctets}
 use Rattle.lines.specs.Lines.{refusalLine, offerMade, lineOffered, offerLine}
 use Rattle.lines.specs.Promise.{Appends, Does}
@@ -45,22 +44,24 @@ after-offer : (x : Answer View) (view : View) → afterOffer x view ≡ (offerMa
 after-offer (done after) view = refl
 after-offer (refused r) view = refl
 
-module _ {x : Answer View} {h : Head} {o g : List ℕ} {r : OfferDone} {newO newG : List ℕ} (made : OfferMade x h o g r newO newG) where
-  pub offer-taken : {old : List ℕ} {at : ℕ} → r .answer ≡ offered.Accepted → at ≤ length old
-      → Does (offerMade x (viewIn h o g)) old at (r .head) at newO newG old
+module _ {octets : List ℕ} {before session : Lent} {answer : Offered} (made : Offers octets before session answer) where
+  pub offer-taken : {old : List ℕ} {at : ℕ} → answer ≡ offered.Accepted → at ≤ length old
+      → Does (offerMade (offer octets (viewIn before)) (viewIn before)) old at session at old
   offer-taken is inside =
+      let x = offer octets (viewIn before) in
       record {
-        lent = rw (offer-silent x (viewIn h o g) (sym (ap offeredOutcome is) ∙ made .answer)) (appends-none inside);
-        state = made .state ∙ after-offer x (viewIn h o g);
+        lent = rw (offer-silent x (viewIn before) (sym (ap offeredOutcome is) ∙ made .told)) (appends-none inside);
+        state = made .state ∙ after-offer x (viewIn before);
         within = made .within;
       }
 
-  pub offer-not-taken : {why : Refusal} {old : List ℕ} {at : ℕ} {new : List ℕ} {end : ℕ} → r .answer ≡ offered.Refused why
-      → Appends (refusalLine why) old at new end → Does (offerMade x (viewIn h o g)) old at (r .head) end newO newG new
+  pub offer-not-taken : {why : Refusal} {old : List ℕ} {at : ℕ} {new : List ℕ} {end : ℕ} → answer ≡ offered.Refused why
+      → Appends (refusalLine why) old at new end → Does (offerMade (offer octets (viewIn before)) (viewIn before)) old at session end new
   offer-not-taken is a =
+      let x = offer octets (viewIn before) in
       record {
-        lent = offer-refused x (viewIn h o g) (sym (ap offeredOutcome is) ∙ made .answer) a;
-        state = made .state ∙ after-offer x (viewIn h o g);
+        lent = offer-refused x (viewIn before) (sym (ap offeredOutcome is) ∙ made .told) a;
+        state = made .state ∙ after-offer x (viewIn before);
         within = made .within;
       }
 
@@ -108,13 +109,13 @@ module _ (line : List ℕ) {old new : List ℕ} (work : datagramLimit ≤ length
     pub line-length : {size : ℕ} → r ≡ written.Octets size → size ≡ length (take size new)
     line-length {size} is = sym (length-take-le size new (line-inside is))
 
-    pub line-offered : (view : View) {size : ℕ} {out : List ℕ} {at : ℕ} {h : Head} {end : ℕ} {o g after : List ℕ} → r ≡ written.Octets size
-        → Does (offerMade (offer (take size new) view) view) out at h end o g after → Does (offerLine line view) out at h end o g after
+    pub line-offered : (view : View) {size : ℕ} {out : List ℕ} {at : ℕ} {session : Lent} {end : ℕ} {after : List ℕ} → r ≡ written.Octets size
+        → Does (offerMade (offer (take size new) view) view) out at session end after → Does (offerLine line view) out at session end after
     unfolding offerLine lineOffered
     line-offered view is d = rw ((octets is) .0) d
 
-    pub line-refused : {why : Refusal} {out : List ℕ} {at : ℕ} {h : Head} {end : ℕ} {o g after : List ℕ} → r ≡ written.Refused why
-        → Within h o g → Appends (refusalLine why) out at after end → Does (offerLine line (viewIn h o g)) out at h end o g after
+    pub line-refused : {why : Refusal} {out : List ℕ} {at : ℕ} {session : Lent} {end : ℕ} {after : List ℕ} → r ≡ written.Refused why
+        → InRanges session → Appends (refusalLine why) out at after end → Does (offerLine line (viewIn session)) out at session end after
     unfolding offerLine lineOffered
     line-refused {why} is w a =
         rw (read-refused (lineOctets line) why old (fits line old work) (sym (ap writtenOutcome is) ∙ p .answer))

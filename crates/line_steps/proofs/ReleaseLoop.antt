@@ -2,22 +2,23 @@
 -- Assumes nothing.
 use Prim.Native.Nat.{ℕ, zero, suc, _+_, _-_, _*_, _%_, _≤_, _<_}
 use mathlib.Core.Path.{_≡_, refl, sym, ap, _∙_}
-use mathlib.Core.Bool.{Bool, true, false, false≢true, cond}
+use mathlib.Core.Bool.{Bool, true, false, false≢true, not, cond}
 use mathlib.Core.List.{List, [], _++_, append-assoc, append-nil}
 use lib.ListN.{length}
 use lib.Dec.{leb}
 use native.Mathlib.Nat.{not-suc-le-zero}
 use native.Mathlib.Omega.{arith}
+use borrow.Author.Tests.{not-true, not-false}
 use Rattle.lengths.specs.Answers.{Answer, done, refused}
 use Rattle.lengths.specs.declared.Refusal.{Refusal}
 use Rattle.datagrams.specs.Sizes.{packetLimit}
-use Rattle.repair.specs.Cells.{isUnknown, unknownAt, keptBefore}
+use Rattle.repair.specs.Cells.{isUnknown, unknownAt, keptBefore, keptAhead}
 use Rattle.views.specs.View.{View, sum, sessionLimit}
 use Rattle.views.specs.Release.{Release, next}
-use Rattle.heads.specs.Head.{viewIn, slotAt, slotsKept, keptIn, stateOf}
-use Rattle.heads.specs.Within.{Within}
-use Rattle.heads.specs.declared.Head.{Head}
-use Rattle.heads.proofs.Seen.{unknown-at}
+use Rattle.held.specs.Slots.{slotAt, slotsKept}
+use Rattle.held.specs.Table.{Lent, viewIn, stateIn, stateNumbered}
+use Rattle.held.specs.Laid.{InRanges}
+use Rattle.held.proofs.Seen.{unknown-at}
 use Rattle.lines.specs.Lines.{Made, silent, _then_, released, onward, releasesF, releases}
 use Rattle.lines.specs.Promise.{Appends, Does, Able, Releases, goesOn, resultLimit, releasesLimit}
 use Rattle.lines.proofs.Appending.{appends-none, appends-then, appends-long}
@@ -53,15 +54,15 @@ stops-silent (refused x) view e = refl
 
 -- ---- the loop
 -- so many releases are left
-pub record Left (start : View) (old : List ℕ) (at : ℕ) (h : Head) (o g out : List ℕ) (end left : ℕ) : Type 0 where
+pub record Left (start : View) (old : List ℕ) (at : ℕ) (session : Lent) (out : List ℕ) (end left : ℕ) : Type 0 where
   pub text : List ℕ
   pub laid : Appends text old at out end
-  pub whole : releases start ≡ ((record { text = text; after = viewIn h o g }) then releasesF left)
-  pub within : Within h o g
+  pub whole : releases start ≡ ((record { text = text; after = viewIn session }) then releasesF left)
+  pub within : InRanges session
   pub room : end + left * resultLimit ≤ length old
   pub long : length out ≡ length old
 
-pub left-start : {h : Head} {o g out : List ℕ} {at : ℕ} → Able releasesLimit h o g out at → Left (viewIn h o g) out at h o g out at 32
+pub left-start : {session : Lent} {out : List ℕ} {at : ℕ} → Able releasesLimit session out at → Left (viewIn session) out at session out at keptAhead
 left-start able =
     record {
       text = [];
@@ -73,19 +74,19 @@ left-start able =
     }
 
 -- before a turn
-pub left-ready : {start : View} {old : List ℕ} {at : ℕ} {h : Head} {o g out : List ℕ} {end left : ℕ} → Left start old at h o g out end left
-    → 0 < left → Able resultLimit h o g out end
+pub left-ready : {start : View} {old : List ℕ} {at : ℕ} {session : Lent} {out : List ℕ} {end left : ℕ} → Left start old at session out end left
+    → 0 < left → Able resultLimit session out end
 left-ready l some = record { within = l .within; room = omega (arith, l .room, l .long) }
 
-module _ {start : View} {old : List ℕ} {at : ℕ} {h : Head} {o g out : List ℕ} {end left : ℕ} (l : Left start old at h o g out end left)
+module _ {start : View} {old : List ℕ} {at : ℕ} {session : Lent} {out : List ℕ} {end left : ℕ} (l : Left start old at session out end left)
   where
     -- nothing is left
-    pub left-done : left ≤ 0 → Does (releases start) old at h end o g out
+    pub left-done : left ≤ 0 → Does (releases start) old at session end out
     unfolding releasesF
     left-done none =
         let e : left ≡ 0 = omega arith in
-        let all : releases start ≡ record { text = l .text ++ []; after = viewIn h o g } =
-        l .whole ∙ ap (λ (k : ℕ). (record { text = l .text; after = viewIn h o g }) then releasesF k) e in
+        let all : releases start ≡ record { text = l .text ++ []; after = viewIn session } =
+        l .whole ∙ ap (λ (k : ℕ). (record { text = l .text; after = viewIn session }) then releasesF k) e in
         record {
           lent = rw (all, append-nil (l .text)) (l .laid);
           state = rw all refl;
@@ -93,14 +94,16 @@ module _ {start : View} {old : List ℕ} {at : ℕ} {h : Head} {o g out : List �
         }
 
     -- the base is unknown: all was released
-    pub left-unknown : 0 < left → {slot : ℕ} {was : Bool} → slot ≡ h .base % slotsKept
-        → was ≡ isUnknown (stateOf ((keptIn h slot) .state)) → was ≡ true → Does (releases start) old at h end o g out
+    pub left-unknown : 0 < left → {slot : ℕ} {was : Bool} → slot ≡ session .base % slotsKept
+        → was ≡ not (isUnknown (stateNumbered (stateIn (session .table) slot))) → not was ≡ true → Does (releases start) old at session end out
     unfolding viewIn
     left-unknown some {slot} {was} e-slot e-was is =
-        let v = viewIn h o g in
-        let place : slot ≡ slotAt (h .base) keptBefore = omega arith in
-        let at-base : isUnknown (stateOf ((keptIn h (slotAt (h .base) keptBefore)) .state)) ≡ true = rw place at (sym e-was ∙ is) in
-        let stops = unknown-stops v (unknown-at h o keptBefore (omega arith) ∙ at-base) in
+        let v = viewIn session in
+        let place : slot ≡ slotAt (session .base) keptBefore = omega arith in
+        let known : not (isUnknown (stateNumbered (stateIn (session .table) slot))) ≡ false = sym e-was ∙ not-true was is in
+        let at-base : isUnknown (stateNumbered (stateIn (session .table) (slotAt (session .base) keptBefore))) ≡ true =
+        rw place at (not-false _ known) in
+        let stops = unknown-stops v (unknown-at (session .base) (session .table) (session .octets) keptBefore (omega arith) ∙ at-base) in
         let step : releasesF left v ≡ silent v =
         one-of left v some
         ∙ onward-stops (next packetLimit v) (releasesF (left - 1)) v (sym stops)
@@ -109,12 +112,12 @@ module _ {start : View} {old : List ℕ} {at : ℕ} {h : Head} {o g out : List �
         l .whole ∙ ap (λ (m : Made). record { text = l .text ++ m .text; after = m .after }) step in
         record { lent = rw (all, append-nil (l .text)) (l .laid); state = rw all refl; within = l .within }
 
-    module _ (some : 0 < left) {k : Head} {later : ℕ} {more : Bool} {newO newG new : List ℕ}
-        (r : Releases (viewIn h o g) out end k later more newO newG new) where
+    module _ (some : 0 < left) {after : Lent} {later : ℕ} {more : Bool} {new : List ℕ}
+        (r : Releases (viewIn session) out end after later more new) where
       -- something was released
-      pub left-turn : more ≡ true → Left start old at k newO newG new later (left - 1)
+      pub left-turn : more ≡ true → Left start old at after new later (left - 1)
       left-turn goes =
-          let v = viewIn h o g in
+          let v = viewIn session in
           let a = released (next packetLimit v) v in
           let b = releasesF (left - 1) (a .after) in
           let step : releasesF left v ≡ (a then releasesF (left - 1)) =
@@ -133,9 +136,9 @@ module _ {start : View} {old : List ℕ} {at : ℕ} {h : Head} {o g out : List �
           }
 
       -- nothing was released: all was
-      pub left-stop : more ≡ false → Does (releases start) old at k later newO newG new
+      pub left-stop : more ≡ false → Does (releases start) old at after later new
       left-stop stops =
-          let v = viewIn h o g in
+          let v = viewIn session in
           let a = released (next packetLimit v) v in
           let step : releasesF left v ≡ a =
           one-of left v some ∙ onward-stops (next packetLimit v) (releasesF (left - 1)) v (sym stops ∙ r .goes) in

@@ -7,8 +7,7 @@ use native.Mathlib.Omega.{arith}
 use Rattle.lengths.specs.Answers.{Answer, done, refused}
 use Rattle.views.specs.View.{View}
 use Rattle.views.specs.Release.{Loss, giveUp}
-use Rattle.heads.specs.Head.{viewIn}
-use Rattle.heads.specs.declared.Head.{Head}
+use Rattle.held.specs.Table.{Lent, viewIn}
 use Rattle.lines.specs.Lines.{giveUpMade, offerMade, lineOffered, offerLine, answerLine, releases, step}
 use Rattle.lines.specs.Promise.{Does, Able, resultLimit, releasesLimit, stepLimit}
 use Rattle.lines.proofs.Appending.{appends-long}
@@ -26,12 +25,12 @@ unfolding answerLine
 answerLine-some [] view some = absurd (some refl)
 answerLine-some (c ∷ line) view some = refl
 
-module _ (line : List ℕ) (view : View) {old : List ℕ} {at : ℕ} {h : Head} {end : ℕ} {o g new : List ℕ} where
-  pub answers-empty : length line ≡ 0 → Does (giveUpMade (giveUp view) view) old at h end o g new
-      → Does (answerLine line view) old at h end o g new
+module _ (line : List ℕ) (view : View) {old : List ℕ} {at : ℕ} {session : Lent} {end : ℕ} {new : List ℕ} where
+  pub answers-empty : length line ≡ 0 → Does (giveUpMade (giveUp view) view) old at session end new
+      → Does (answerLine line view) old at session end new
   answers-empty none d = rw (answerLine-none line view none) d
 
-  pub answers-line : (length line ≡ 0 → ⊥) → Does (offerLine line view) old at h end o g new → Does (answerLine line view) old at h end o g new
+  pub answers-line : (length line ≡ 0 → ⊥) → Does (offerLine line view) old at session end new → Does (answerLine line view) old at session end new
   answers-line some d = rw (answerLine-some line view some) d
 
 -- ---- its length
@@ -49,16 +48,16 @@ answer-short [] view = given-short (giveUp view) view
 answer-short (c ∷ line) view = offer-short (lineOffered (c ∷ line) view) view
 
 -- ---- then releases
-module _ (line : List ℕ) (view : View) {old : List ℕ} {at : ℕ} {h : Head} {end : ℕ} {o g new : List ℕ}
-    (a : Does (answerLine line view) old at h end o g new) where
-  pub step-ready : at + stepLimit ≤ length old → Able releasesLimit h o g new end
+module _ (line : List ℕ) (view : View) {old : List ℕ} {at : ℕ} {session : Lent} {end : ℕ} {new : List ℕ}
+    (a : Does (answerLine line view) old at session end new) where
+  pub step-ready : at + stepLimit ≤ length old → Able releasesLimit session new end
   step-ready room =
       record {
         within = a .within;
         room = omega (arith, a .lent .after, appends-long (a .lent), answer-short line view);
       }
 
-  pub step-made : {k : Head} {later : ℕ} {newO newG newer : List ℕ} → Does (releases (viewIn h o g)) new end k later newO newG newer
-      → Does (step line view) old at k later newO newG newer
+  pub step-made : {after : Lent} {later : ℕ} {newer : List ℕ} → Does (releases (viewIn session)) new end after later newer
+      → Does (step line view) old at after later newer
   unfolding step
   step-made b = does-then a releases b

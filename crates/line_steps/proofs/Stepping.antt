@@ -15,15 +15,14 @@ use Rattle.repair.specs.Cells as cells
 use Rattle.repair.specs.Cells.{unknownAt, keptBefore}
 use Rattle.views.specs.View.{View, sum, sessionLimit}
 use Rattle.views.specs.Release.{Release, Loss, next, giveUp, atBase}
-use Rattle.heads.specs.Head.{viewIn, stateOf}
-use Rattle.heads.specs.declared.Head.{Head}
-use Rattle.heads.specs.declared.State.{State}
-use Rattle.releasing.specs.Outcome.{Handed, releasedOutcome, lostOutcome, handedOf, octetsOf, afterNext, numberOf, afterGiveUp}
-use Rattle.releasing.specs.Promise.{NextMade, GiveUpMade}
-use Rattle.releasing.specs.declared.Released.the-variants as released
-use Rattle.releasing.specs.declared.Lost.the-variants as lost
-use Rattle.releasing.specs.declared.NextDone.{NextDone}
-use Rattle.releasing.specs.declared.GivenUp.{GivenUp}
+use Rattle.held.specs.Table.{Lent, viewIn, stateOf}
+use Rattle.held.specs.declared.State.{State}
+use Rattle.leaving.specs.Outcome.{Handed, releasedOutcome, lostOutcome, handedOf, octetsOf, afterNext, numberOf, afterGiveUp}
+use Rattle.leaving.specs.Promise as leaving
+use Rattle.leaving.specs.declared.Released.{Released}
+use Rattle.leaving.specs.declared.Released.the-variants as released
+use Rattle.leaving.specs.declared.Lost.{Lost}
+use Rattle.leaving.specs.declared.Lost.the-variants as lost
 use Rattle.lines.specs.Lines as lines
 use Rattle.lines.specs.Lines.{Made, kindOf, resultLine, refusalLine, giveUpMade, _then_}
 use Rattle.lines.specs.Promise.{Appends, Does, Releases, goesOn, resultLimit}
@@ -31,10 +30,10 @@ use Rattle.lines.proofs.Appending.{appends-none, appends-then}
 use Rattle.line_steps.proofs.ResultSteps.{length-result}
 
 -- ---- one part after the other
-module _ {first : Made} {old : List ℕ} {at : ℕ} {h : Head} {end : ℕ} {o g mid : List ℕ} (a : Does first old at h end o g mid) where
-  pub does-then : (second : View → Made) {k : Head} {later : ℕ} {newO newG new : List ℕ}
-      → Does (second (viewIn h o g)) mid end k later newO newG new → Does (first then second) old at k later newO newG new
-  does-then second {k} {later} {newO} {newG} {new} b =
+module _ {first : Made} {old : List ℕ} {at : ℕ} {session : Lent} {end : ℕ} {mid : List ℕ} (a : Does first old at session end mid) where
+  pub does-then : (second : View → Made) {after : Lent} {later : ℕ} {new : List ℕ}
+      → Does (second (viewIn session)) mid end after later new → Does (first then second) old at after later new
+  does-then second b =
       let e = ap second (a .state) in
       record {
         lent = appends-then (a .lent) (rw e at (b .lent));
@@ -57,24 +56,24 @@ after-given-up : (x : Answer Loss) (view : View) → afterGiveUp x view ≡ (giv
 after-given-up (done l) view = refl
 after-given-up (refused r) view = refl
 
-module _ {h : Head} {o g : List ℕ} {r : GivenUp} {newO newG : List ℕ} (made : GiveUpMade h o g r newO newG) where
-  pub gave-up : {number : ℕ} {old : List ℕ} {at : ℕ} {new : List ℕ} {end : ℕ} → r .answer ≡ lost.Number number
+module _ {before session : Lent} {answer : Lost} (made : leaving.GivesUp before session answer) where
+  pub gave-up : {number : ℕ} {old : List ℕ} {at : ℕ} {new : List ℕ} {end : ℕ} → answer ≡ lost.Number number
       → Appends (resultLine 3 number []) old at new end
-      → Does (giveUpMade (giveUp (viewIn h o g)) (viewIn h o g)) old at (r .head) end newO newG new
+      → Does (giveUpMade (giveUp (viewIn before)) (viewIn before)) old at session end new
   gave-up is a =
       record {
-        lent = number-lost (giveUp (viewIn h o g)) (viewIn h o g) (sym (ap lostOutcome is) ∙ made .answer) a;
-        state = made .state ∙ after-given-up (giveUp (viewIn h o g)) (viewIn h o g);
+        lent = number-lost (giveUp (viewIn before)) (viewIn before) (sym (ap lostOutcome is) ∙ made .told) a;
+        state = made .state ∙ after-given-up (giveUp (viewIn before)) (viewIn before);
         within = made .within;
       }
 
-  pub gave-up-refused : {why : Refusal} {old : List ℕ} {at : ℕ} {new : List ℕ} {end : ℕ} → r .answer ≡ lost.Refused why
+  pub gave-up-refused : {why : Refusal} {old : List ℕ} {at : ℕ} {new : List ℕ} {end : ℕ} → answer ≡ lost.Refused why
       → Appends (refusalLine why) old at new end
-      → Does (giveUpMade (giveUp (viewIn h o g)) (viewIn h o g)) old at (r .head) end newO newG new
+      → Does (giveUpMade (giveUp (viewIn before)) (viewIn before)) old at session end new
   gave-up-refused is a =
       record {
-        lent = number-refused (giveUp (viewIn h o g)) (viewIn h o g) (sym (ap lostOutcome is) ∙ made .answer) a;
-        state = made .state ∙ after-given-up (giveUp (viewIn h o g)) (viewIn h o g);
+        lent = number-refused (giveUp (viewIn before)) (viewIn before) (sym (ap lostOutcome is) ∙ made .told) a;
+        state = made .state ∙ after-given-up (giveUp (viewIn before)) (viewIn before);
         within = made .within;
       }
 
@@ -131,33 +130,33 @@ after-next : (x : Answer Release) (view : View) → afterNext x view ≡ (lines.
 after-next (done r) view = refl
 after-next (refused x) view = refl
 
-module _ {h : Head} {o g old : List ℕ} {r : NextDone} {newO newG new : List ℕ} (made : NextMade h o g old r newO newG new)
+module _ {before session : Lent} {old new : List ℕ} {answer : Released} (made : leaving.Releases before session old new answer)
     (room : length old ≡ packetLimit) where
-  out : {kind : State} {number size : ℕ} → r .answer ≡ released.Packet kind number size
-      → HandedOut (next packetLimit (viewIn h o g)) (viewIn h o g) (stateOf kind) number size new
+  out : {kind : State} {number size : ℕ} → answer ≡ released.Packet kind number size
+      → HandedOut (next packetLimit (viewIn before)) (viewIn before) (stateOf kind) number size new
   out {kind} {number} {size} is =
-      handed (next packetLimit (viewIn h o g)) (viewIn h o g) (stateOf kind) number size old new
-      (λ a e. next-fits packetLimit (viewIn h o g) a e)
-      (sym (ap releasedOutcome is) ∙ rw room at (made .answer)) (rw room at (made .lent))
+      handed (next packetLimit (viewIn before)) (viewIn before) (stateOf kind) number size old new
+      (λ a e. next-fits packetLimit (viewIn before) a e)
+      (sym (ap releasedOutcome is) ∙ rw room at (made .told)) (rw room at (made .written))
 
-  after : viewIn (r .head) newO newG ≡ (lines.released (next packetLimit (viewIn h o g)) (viewIn h o g)) .after
-  after = rw room at (made .state) ∙ after-next (next packetLimit (viewIn h o g)) (viewIn h o g)
+  after : viewIn session ≡ (lines.released (next packetLimit (viewIn before)) (viewIn before)) .after
+  after = rw room at (made .state) ∙ after-next (next packetLimit (viewIn before)) (viewIn before)
 
   -- its octets stand at the front of the lent packet
-  pub packet-inside : {kind : State} {number size : ℕ} → r .answer ≡ released.Packet kind number size → size ≤ length new
+  pub packet-inside : {kind : State} {number size : ℕ} → answer ≡ released.Packet kind number size → size ≤ length new
   packet-inside is = (out is) .fits
 
-  pub packet-length : {kind : State} {number size : ℕ} → r .answer ≡ released.Packet kind number size → size ≡ length (take size new)
+  pub packet-length : {kind : State} {number size : ℕ} → answer ≡ released.Packet kind number size → size ≡ length (take size new)
   packet-length {kind} {number} {size} is = sym (length-take-le size new ((out is) .fits))
 
-  pub packet-room : {kind : State} {number size : ℕ} (at : ℕ) (buffer : List ℕ) → r .answer ≡ released.Packet kind number size
+  pub packet-room : {kind : State} {number size : ℕ} (at : ℕ) (buffer : List ℕ) → answer ≡ released.Packet kind number size
       → at + resultLimit ≤ length buffer → at + (7 + 2 * length (take size new)) ≤ length buffer
   packet-room {kind} {number} {size} at buffer is most = omega (arith, (out is) .short, packet-length is)
 
   pub released-one : {kind : State} {number size octet : ℕ} {buffer : List ℕ} {at : ℕ} {after : List ℕ} {end : ℕ}
-      → r .answer ≡ released.Packet kind number size → octet ≡ kindOf (stateOf kind)
+      → answer ≡ released.Packet kind number size → octet ≡ kindOf (stateOf kind)
       → Appends (resultLine octet number (take size new)) buffer at after end
-      → Releases (viewIn h o g) buffer at (r .head) end true newO newG after
+      → Releases (viewIn before) buffer at session end true after
   released-one {kind} {number} {size} {octet} is k a =
       let handed = out is in
       record {
@@ -171,10 +170,10 @@ module _ {h : Head} {o g old : List ℕ} {r : NextDone} {newO newG new : List �
         few = omega (arith, a .after, length-result octet number (take size new), handed .short, packet-length is);
       }
 
-  pub released-none : {why : Refusal} {buffer : List ℕ} {at : ℕ} → r .answer ≡ released.Refused why → at ≤ length buffer
-      → Releases (viewIn h o g) buffer at (r .head) at false newO newG buffer
+  pub released-none : {why : Refusal} {buffer : List ℕ} {at : ℕ} → answer ≡ released.Refused why → at ≤ length buffer
+      → Releases (viewIn before) buffer at session at false buffer
   released-none {why} is inside =
-      let none = none-left (next packetLimit (viewIn h o g)) (viewIn h o g) why (sym (ap releasedOutcome is) ∙ rw room at (made .answer)) in
+      let none = none-left (next packetLimit (viewIn before)) (viewIn before) why (sym (ap releasedOutcome is) ∙ rw room at (made .told)) in
       record {
         does =
             record {

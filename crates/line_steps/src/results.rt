@@ -1,7 +1,7 @@
 // Result lines: "kind (00 received, 01 spare, 02 repaired, 03 lost), number, octets; a refusal is FF and its number as two
 // hexadecimal digits", "each line ended by a line feed". Each is laid into out from place at on; the answer is the place after
 // it.
-use heads::State;
+use held::State;
 use hexadecimal::put_octets;
 use lengths::Refusal;
 use lines::Line;
@@ -9,7 +9,7 @@ ghost use mathlib.Core.Path.{_≡_};
 ghost use mathlib.Core.List.{[], _∷_};
 ghost use Prim.Native.Nat.{_+_, _*_, _/_, _%_, _≤_};
 ghost use lib.ListN.{length};
-ghost use Rattle.heads.specs.Head.{stateOf};
+ghost use Rattle.held.specs.Table.{stateOf};
 ghost use Rattle.lines.specs.Lines.{lineFeed, kindOf, resultLine, refusalLine};
 ghost use Rattle.lines.specs.Promise.{Appends};
 
