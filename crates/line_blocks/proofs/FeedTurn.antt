@@ -9,8 +9,7 @@ use native.Mathlib.Numerals.{add-one}
 use native.Mathlib.Omega.{arith}
 use borrow.Author.Tests.{eq-eqb, ne-eqb}
 use Rattle.views.specs.View.{View}
-use Rattle.heads.specs.Head.{viewIn}
-use Rattle.heads.specs.declared.Head.{Head}
+use Rattle.held.specs.Table.{Lent, viewIn}
 use Rattle.lines.specs.Lines.{step}
 use Rattle.lines.specs.Feed.{Going, keptLimit, lineDone, fed, atEnd, goingIn}
 use Rattle.lines.specs.Promise.{Does, stepLimit}
@@ -40,9 +39,9 @@ fed-line s at now f inside short =
     ∙ takenIn-feed (getD s at 0) _ feed
 
 -- what a step owes, as the program part way
-does-going : (l : List ℕ) (view : View) {out : List ℕ} {at : ℕ} {h : Head} {end : ℕ} {o g new : List ℕ} (line : List ℕ)
-    → Does (step l view) out at h end o g new
-    → goingIn h o g line 0 new end ≡ lineDone (record { text = take at out; view = view; begun = l })
+does-going : (l : List ℕ) (view : View) {out : List ℕ} {at : ℕ} {session : Lent} {end : ℕ} {new : List ℕ} (line : List ℕ)
+    → Does (step l view) out at session end new
+    → goingIn session line 0 new end ≡ lineDone (record { text = take at out; view = view; begun = l })
 unfolding lineDone
 does-going l view {out} {at} {h} {end} {o} {g} {new} line d =
     ap₂ (λ (t : List ℕ) (v : View). record { text = t; view = v; begun = [] }) (appends-front (d .lent)) (d .state)
@@ -50,11 +49,11 @@ does-going l view {out} {at} {h} {end} {o} {g} {new} line d =
 length-begun : (line : List ℕ) (begun : ℕ) → begun ≤ keptLimit → length (take begun line) ≤ keptLimit
 length-begun line begun short = omega (arith, length-take begun line)
 
-module _ {h : Head} {o g line : List ℕ} {begun : ℕ} {s out : List ℕ} {at : ℕ} (able : Feedable stepLimit h o g line begun out at)
+module _ {session : Lent} {line : List ℕ} {begun : ℕ} {s out : List ℕ} {at : ℕ} (able : Feedable stepLimit session line begun out at)
     (some : 1 ≤ length s) where
   -- no line feed: the line has gone on
   pub takes-part : {stop kept : ℕ} {new : List ℕ} → Found s stop → length s ≤ stop → LineKept line begun s new kept
-      → TakesLine (goingIn h o g line begun out at) s out at h o g new kept stop out at
+      → TakesLine (goingIn session line begun out at) s out at session new kept stop out at
   takes-part {stop} {kept} {new} f past k =
       let all : stop ≡ length s = omega (arith, f .begun .inside) in
       let whole : take stop s ≡ s = ap (λ (n : ℕ). take n s) all ∙ take-length s in
@@ -62,10 +61,10 @@ module _ {h : Head} {o g line : List ℕ} {begun : ℕ} {s out : List ℕ} {at :
         takes =
             record {
               state =
-                  ap (λ (l : List ℕ). record { text = take at out; view = viewIn h o g; begun = l }) (k .line)
+                  ap (λ (l : List ℕ). record { text = take at out; view = viewIn session; begun = l }) (k .line)
                   ∙ sym
-                  (ap (λ (l : List ℕ). fed l (goingIn h o g line begun out at)) whole
-                  ∙ fed-plain s (goingIn h o g line begun out at)
+                  (ap (λ (l : List ℕ). fed l (goingIn session line begun out at)) whole
+                  ∙ fed-plain s (goingIn session line begun out at)
                   (rw whole at (plain-part s stop (f .begun)))
                   (length-begun line begun (able .line .short)));
               within = able .able .within;
@@ -81,18 +80,18 @@ module _ {h : Head} {o g line : List ℕ} {begun : ℕ} {s out : List ℕ} {at :
       }
 
   -- a line feed: the line is done
-  pub takes-line : {stop : ℕ} (l : List ℕ) {k : Head} {end : ℕ} {newO newG new : List ℕ} (newLine : List ℕ) → Found s stop → stop < length s
-      → step l (viewIn h o g) ≡ step (take keptLimit (take begun line ++ take stop s)) (viewIn h o g)
-      → Does (step l (viewIn h o g)) out at k end newO newG new → LineIn newLine 0
-      → TakesLine (goingIn h o g line begun out at) s out at k newO newG newLine 0 (stop + 1) new end
+  pub takes-line : {stop : ℕ} (l : List ℕ) {after : Lent} {end : ℕ} {new : List ℕ} (newLine : List ℕ) → Found s stop → stop < length s
+      → step l (viewIn session) ≡ step (take keptLimit (take begun line ++ take stop s)) (viewIn session)
+      → Does (step l (viewIn session)) out at after end new → LineIn newLine 0
+      → TakesLine (goingIn session line begun out at) s out at after newLine 0 (stop + 1) new end
   unfolding lineDone
-  takes-line {stop} l {k} {end} {newO} {newG} {new} newLine f inside same d none =
+  takes-line {stop} l {after} {end} {new} newLine f inside same d none =
       record {
         takes =
             record {
               state =
                   does-going _ _ newLine (rw same at d)
-                  ∙ sym (fed-line s stop (goingIn h o g line begun out at) f inside (length-begun line begun (able .line .short)));
+                  ∙ sym (fed-line s stop (goingIn session line begun out at) f inside (length-begun line begun (able .line .short)));
               within = d .within;
               line = none;
               inside = omega arith;
@@ -120,24 +119,24 @@ pub kept-before : {line more new : List ℕ} {begun kept : ℕ} (view : View) �
 kept-before view k = ap (λ (l : List ℕ). step l view) (k .line)
 
 -- ---- the end of the input
-module _ {h : Head} {o g line : List ℕ} {begun : ℕ} {out : List ℕ} {at : ℕ} (able : Feedable stepLimit h o g line begun out at)
+module _ {session : Lent} {line : List ℕ} {begun : ℕ} {out : List ℕ} {at : ℕ} (able : Feedable stepLimit session line begun out at)
   where
-    pub ends-between : begun ≡ 0 → Ends (goingIn h o g line begun out at) out h o g out at
+    pub ends-between : begun ≡ 0 → Ends (goingIn session line begun out at) out session out at
     unfolding atEnd
     ends-between none =
         record {
           state =
               rw (eq-eqb (length (take begun line)) 0 (begun-length (able .line) ∙ none))
-              (ap (λ (n : ℕ). goingIn h o g line n out at) (sym none));
+              (ap (λ (n : ℕ). goingIn session line n out at) (sym none));
           within = able .able .within;
           fits = omega (arith, able .able .room);
           rest = refl;
           long = refl;
         }
 
-    pub ends-line : {k : Head} {end : ℕ} {newO newG new : List ℕ} → (begun ≡ 0 → ⊥)
-        → Does (step (take begun line) (viewIn h o g)) out at k end newO newG new
-        → Ends (goingIn h o g line begun out at) out k newO newG new end
+    pub ends-line : {after : Lent} {end : ℕ} {new : List ℕ} → (begun ≡ 0 → ⊥)
+        → Does (step (take begun line) (viewIn session)) out at after end new
+        → Ends (goingIn session line begun out at) out after new end
     unfolding atEnd
     ends-line some d =
         record {
@@ -152,9 +151,9 @@ module _ {h : Head} {o g line : List ℕ} {begun : ℕ} {out : List ℕ} {at : �
 
 -- ---- one line after the other
 -- some of the block is taken in
-pub record Fed (before : Going) (s old l₀ : List ℕ) (h : Head) (o g l : List ℕ) (kept taken : ℕ) (out : List ℕ) (end : ℕ) : Type 0 where
-  pub takes : Takes before s old h o g l kept taken out end
-  pub goes : takenOf (length old) true s before ≡ taken + takenOf (length old) true (drop taken s) (goingIn h o g l kept out end)
+pub record Fed (before : Going) (s old l₀ : List ℕ) (session : Lent) (l : List ℕ) (kept taken : ℕ) (out : List ℕ) (end : ℕ) : Type 0 where
+  pub takes : Takes before s old session l kept taken out end
+  pub goes : takenOf (length old) true s before ≡ taken + takenOf (length old) true (drop taken s) (goingIn session l kept out end)
   pub line-long : length l ≡ length l₀
 
 -- what is left of the block
@@ -164,13 +163,13 @@ left-of s taken = take-all (length s - taken) (drop taken s) (omega (arith, leng
 pub left-some : (s : List ℕ) (taken : ℕ) → taken < length s → 1 ≤ length (take (length s - taken) (drop taken s))
 left-some s taken left = rw (left-of s taken) (omega (arith, length-drop taken s))
 
-pub left-inside : {before : Going} (s : List ℕ) {out : List ℕ} {at : ℕ} {h : Head} {o g l : List ℕ} {begun took : ℕ} {new : List ℕ} {end : ℕ}
-    (taken : ℕ) → taken < length s → TakesLine before (take (length s - taken) (drop taken s)) out at h o g l begun took new end
+pub left-inside : {before : Going} (s : List ℕ) {out : List ℕ} {at : ℕ} {session : Lent} {l : List ℕ} {begun took : ℕ} {new : List ℕ} {end : ℕ}
+    (taken : ℕ) → taken < length s → TakesLine before (take (length s - taken) (drop taken s)) out at session l begun took new end
     → taken + took ≤ length s
 left-inside s taken left t = omega (arith, t .takes .inside, ap length (left-of s taken), length-drop taken s)
 
-pub fed-start : {h : Head} {o g l : List ℕ} {begun : ℕ} {out : List ℕ} {at : ℕ} (s : List ℕ) → Feedable 0 h o g l begun out at
-    → Fed (goingIn h o g l begun out at) s out l h o g l begun 0 out at
+pub fed-start : {session : Lent} {l : List ℕ} {begun : ℕ} {out : List ℕ} {at : ℕ} (s : List ℕ) → Feedable 0 session l begun out at
+    → Fed (goingIn session l begun out at) s out l session l begun 0 out at
 unfolding fed
 fed-start s able =
     record {
@@ -188,14 +187,14 @@ fed-start s able =
       line-long = refl;
     }
 
-module _ {before : Going} {s old l₀ : List ℕ} {h : Head} {o g l : List ℕ} {kept taken : ℕ} {out : List ℕ} {end : ℕ}
-    (f : Fed before s old l₀ h o g l kept taken out end) where
+module _ {before : Going} {s old l₀ : List ℕ} {session : Lent} {l : List ℕ} {kept taken : ℕ} {out : List ℕ} {end : ℕ}
+    (f : Fed before s old l₀ session l kept taken out end) where
   -- what is written so far
   written : length (take end out) ≡ end
   written = length-take-le end out (omega (arith, f .takes .fits, f .takes .long))
 
   -- before a turn
-  pub fed-ready : stepLimit ≤ length out - end → Feedable stepLimit h o g l kept out end
+  pub fed-ready : stepLimit ≤ length out - end → Feedable stepLimit session l kept out end
   fed-ready room =
       record {
         able = record { within = f .takes .within; room = omega (arith, f .takes .fits, f .takes .long) };
@@ -203,12 +202,12 @@ module _ {before : Going} {s old l₀ : List ℕ} {h : Head} {o g l : List ℕ} 
       }
 
   -- a turn
-  pub fed-turn : {k : Head} {newO newG newL : List ℕ} {more took : ℕ} {new : List ℕ} {later : ℕ} → taken < length s
+  pub fed-turn : {after : Lent} {newL : List ℕ} {more took : ℕ} {new : List ℕ} {later : ℕ} → taken < length s
       → stepLimit ≤ length out - end
-      → TakesLine (goingIn h o g l kept out end) (take (length s - taken) (drop taken s)) out end k newO newG newL more took new later
-      → Fed before s old l₀ k newO newG newL more (taken + took) new later
-  fed-turn {k} {newO} {newG} {newL} {more} {took} {new} {later} left room t =
-      let now = goingIn h o g l kept out end in
+      → TakesLine (goingIn session l kept out end) (take (length s - taken) (drop taken s)) out end after newL more took new later
+      → Fed before s old l₀ after newL more (taken + took) new later
+  fed-turn {after} {newL} {more} {took} {new} {later} left room t =
+      let now = goingIn session l kept out end in
       let tail : drop later out ≡ drop later old =
       let place : end + (later - end) ≡ later = omega (arith, t .later) in
       ap (λ (n : ℕ). drop n out) (sym place)
@@ -216,7 +215,7 @@ module _ {before : Going} {s old l₀ : List ℕ} {h : Head} {o g l : List ℕ} 
       ∙ ap (λ (x : List ℕ). drop (later - end) x) (f .takes .rest)
       ∙ drop-drop (later - end) end old
       ∙ ap (λ (n : ℕ). drop n old) place in
-      let state : goingIn k newO newG newL more new later ≡ fed (take took (drop taken s)) now =
+      let state : goingIn after newL more new later ≡ fed (take took (drop taken s)) now =
       t .takes .state ∙ ap (λ (x : List ℕ). fed (take took x) now) (left-of s taken) in
       let whole : took ≡ lineEnd (drop taken s) = t .all ∙ ap lineEnd (left-of s taken) in
       record {
@@ -237,13 +236,13 @@ module _ {before : Going} {s old l₀ : List ℕ} {h : Head} {o g l : List ℕ} 
         goes =
             let one = taken-line (length old) (drop taken s) now (omega (arith, written, f .takes .long)) whole in
             let on : takenOf (length old) true (drop took (drop taken s)) (fed (take took (drop taken s)) now)
-            ≡ takenOf (length old) true (drop (taken + took) s) (goingIn k newO newG newL more new later) =
+            ≡ takenOf (length old) true (drop (taken + took) s) (goingIn after newL more new later) =
             ap₂ (λ (x : List ℕ) (n : Going). takenOf (length old) true x n) (drop-drop took taken s) (sym state) in
             omega (arith, f .goes, one, on);
         line-long = sym (t .takes .line .size) ∙ f .takes .line .size ∙ f .line-long;
       }
 
-  pub fed-full : length out - end < stepLimit → Feeds before s old h o g l kept taken out end
+  pub fed-full : length out - end < stepLimit → Feeds before s old session l kept taken out end
   fed-full full =
       record {
         takes = f .takes;
@@ -251,11 +250,11 @@ module _ {before : Going} {s old l₀ : List ℕ} {h : Head} {o g l : List ℕ} 
             omega (
               arith,
               f .goes,
-              taken-full (length old) (drop taken s) (goingIn h o g l kept out end) (omega (arith, written, f .takes .fits, f .takes .long)),
+              taken-full (length old) (drop taken s) (goingIn session l kept out end) (omega (arith, written, f .takes .fits, f .takes .long)),
             );
       }
 
-  pub fed-whole : length s ≤ taken → Feeds before s old h o g l kept taken out end
+  pub fed-whole : length s ≤ taken → Feeds before s old session l kept taken out end
   unfolding takenOf
   fed-whole all =
       record {
@@ -264,6 +263,6 @@ module _ {before : Going} {s old l₀ : List ℕ} {h : Head} {o g l : List ℕ} 
             omega (
               arith,
               f .goes,
-              ap (λ (x : List ℕ). takenOf (length old) true x (goingIn h o g l kept out end)) (drop-of-length-le s all),
+              ap (λ (x : List ℕ). takenOf (length old) true x (goingIn session l kept out end)) (drop-of-length-le s all),
             );
       }

@@ -1,7 +1,7 @@
 // The program's input, block by block: whole lines are answered as they come, and what is left of the last one is kept for
 // the next block. It does not matter how the input is cut.
-use heads::Head;
-use heads::Session;
+use held::Counts;
+use held::Session;
 use line_steps::step;
 use lines::Fed;
 use lines::Line;
@@ -10,6 +10,7 @@ ghost use mathlib.Core.Path.{_≡_};
 ghost use Prim.Native.Nat.{_+_, _≤_, min};
 ghost use lib.ListN.{length};
 ghost use Rattle.octets.specs.Place.{allBelow};
+ghost use Rattle.held.specs.Table.{lent};
 ghost use Rattle.lines.specs.Feed.{goingIn};
 ghost use Rattle.lines.specs.Promise.{stepLimit};
 ghost use Rattle.lines.specs.FeedPromise.{lookedAt, plainAt, Found, Begun, LineIn, LineKept, Feedable, TakesLine, Feeds, Ends};
@@ -96,7 +97,9 @@ fn clear_line(line: &mut [u8], begun: usize)
 
 // The next line of s, or what there is of it. The line that has begun is kept in the front of line.
 fn take_line(
-    h: Head,
+    base: u16,
+    counts: Counts,
+    t: &mut [u16; Session::PLACES],
     o: &mut [u8; Session::PACKET_OCTETS],
     g: &mut [u8; Session::MESSAGE_OCTETS],
     line: &mut [u8],
@@ -105,15 +108,16 @@ fn take_line(
     out: &mut [u8],
     at: usize,
 ) -> Fed
-    requires { ⌜ Feedable stepLimit h (now o) (now g) (now line) begun (now out) at ⌝ }
+    requires { ⌜ Feedable stepLimit (lent base counts (now t) (now o) (now g)) (now line) begun (now out) at ⌝ }
     requires { ⌜ 1 ≤ length (now s) ⌝ }
-    ensures { λ r. ⌜ TakesLine (goingIn h (now (o .entry)) (now (g .entry)) (now (line .entry)) begun (now (out .entry)) at) (now (s .entry)) (now (out .entry)) at (r .head) (now (o .exit)) (now (g .exit)) (now (line .exit)) (r .begun) (r .taken) (now (out .exit)) (r .end) ⌝ }
+    ensures { λ r. ⌜ TakesLine (goingIn (lent base counts (now (t .entry)) (now (o .entry)) (now (g .entry))) (now (line .entry)) begun (now (out .entry)) at) (now (s .entry)) (now (out .entry)) at (lent (r .base) (r .counts) (now (t .exit)) (now (o .exit)) (now (g .exit))) (now (line .exit)) (r .begun) (r .taken) (now (out .exit)) (r .end) ⌝ }
 {
     let stop = find_feed(s);
     if s.len() <= stop {
         let kept = keep_line(line, begun, s);
         return Fed {
-            head: h,
+            base,
+            counts,
             begun: kept,
             taken: stop,
             end: at,
@@ -121,23 +125,27 @@ fn take_line(
     }
     let taken = stop + 1;
     if begun == 0 {
-        let made = step(h, o, g, &s[..stop], out, at);
-        let head = made.head;
+        let made = step(base, counts, t, o, g, &s[..stop], out, at);
+        let after = made.base;
+        let moves = made.counts;
         let end = made.end;
         return Fed {
-            head,
+            base: after,
+            counts: moves,
             begun: 0,
             taken,
             end,
         };
     }
     let kept = keep_line(line, begun, &s[..stop]);
-    let made = step(h, o, g, &line[..kept], out, at);
+    let made = step(base, counts, t, o, g, &line[..kept], out, at);
     clear_line(line, kept);
-    let head = made.head;
+    let after = made.base;
+    let moves = made.counts;
     let end = made.end;
     Fed {
-        head,
+        base: after,
+        counts: moves,
         begun: 0,
         taken,
         end,
@@ -146,7 +154,9 @@ fn take_line(
 
 // A block of the input: its lines one after the other, as long as out is sure to have room for the next.
 pub fn take_block(
-    h: Head,
+    base: u16,
+    counts: Counts,
+    t: &mut [u16; Session::PLACES],
     o: &mut [u8; Session::PACKET_OCTETS],
     g: &mut [u8; Session::MESSAGE_OCTETS],
     line: &mut [u8],
@@ -155,31 +165,35 @@ pub fn take_block(
     out: &mut [u8],
     at: usize,
 ) -> Fed
-    requires { ⌜ Feedable 0 h (now o) (now g) (now line) begun (now out) at ⌝ }
-    ensures { λ r. ⌜ Feeds (goingIn h (now (o .entry)) (now (g .entry)) (now (line .entry)) begun (now (out .entry)) at) (now (block .entry)) (now (out .entry)) (r .head) (now (o .exit)) (now (g .exit)) (now (line .exit)) (r .begun) (r .taken) (now (out .exit)) (r .end) ⌝ }
+    requires { ⌜ Feedable 0 (lent base counts (now t) (now o) (now g)) (now line) begun (now out) at ⌝ }
+    ensures { λ r. ⌜ Feeds (goingIn (lent base counts (now (t .entry)) (now (o .entry)) (now (g .entry))) (now (line .entry)) begun (now (out .entry)) at) (now (block .entry)) (now (out .entry)) (lent (r .base) (r .counts) (now (t .exit)) (now (o .exit)) (now (g .exit))) (now (line .exit)) (r .begun) (r .taken) (now (out .exit)) (r .end) ⌝ }
 {
-    let mut head = h;
+    let mut after = base;
+    let mut moves = counts;
     let mut kept = begun;
     let mut taken = 0;
     let mut end = at;
     while taken < block.len() {
         if out.len() - end < Line::STEP {
             return Fed {
-                head,
+                base: after,
+                counts: moves,
                 begun: kept,
                 taken,
                 end,
             };
         }
-        let part = take_line(head, o, g, line, kept, &block[taken..], out, end);
-        let next = part.head;
-        head = next;
+        let part = take_line(after, moves, t, o, g, line, kept, &block[taken..], out, end);
+        after = part.base;
+        let moved = part.counts;
+        moves = moved;
         kept = part.begun;
         taken += part.taken;
         end = part.end;
     }
     Fed {
-        head,
+        base: after,
+        counts: moves,
         begun: kept,
         taken,
         end,
@@ -188,7 +202,9 @@ pub fn take_block(
 
 // The end of the input: "A last line without a line feed counts unless it is empty".
 pub fn finish(
-    h: Head,
+    base: u16,
+    counts: Counts,
+    t: &mut [u16; Session::PLACES],
     o: &mut [u8; Session::PACKET_OCTETS],
     g: &mut [u8; Session::MESSAGE_OCTETS],
     line: &[u8],
@@ -196,11 +212,15 @@ pub fn finish(
     out: &mut [u8],
     at: usize,
 ) -> Stepped
-    requires { ⌜ Feedable stepLimit h (now o) (now g) (now line) begun (now out) at ⌝ }
-    ensures { λ r. ⌜ Ends (goingIn h (now (o .entry)) (now (g .entry)) (now (line .entry)) begun (now (out .entry)) at) (now (out .entry)) (r .head) (now (o .exit)) (now (g .exit)) (now (out .exit)) (r .end) ⌝ }
+    requires { ⌜ Feedable stepLimit (lent base counts (now t) (now o) (now g)) (now line) begun (now out) at ⌝ }
+    ensures { λ r. ⌜ Ends (goingIn (lent base counts (now (t .entry)) (now (o .entry)) (now (g .entry))) (now (line .entry)) begun (now (out .entry)) at) (now (out .entry)) (lent (r .base) (r .counts) (now (t .exit)) (now (o .exit)) (now (g .exit))) (now (out .exit)) (r .end) ⌝ }
 {
     if begun == 0 {
-        return Stepped { head: h, end: at };
+        return Stepped {
+            base,
+            counts,
+            end: at,
+        };
     }
-    step(h, o, g, &line[..begun], out, at)
+    step(base, counts, t, o, g, &line[..begun], out, at)
 }
