@@ -1,2 +1,5 @@
 pub mod Slots
 pub mod Places
+pub mod Seen
+pub mod Placed
+pub mod Heard

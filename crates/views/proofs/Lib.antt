@@ -1,1 +1,4 @@
 pub mod GoesOn
+pub mod Sizes
+pub mod Filled
+pub mod Holding

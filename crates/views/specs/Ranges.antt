@@ -5,7 +5,7 @@
 -- said of how a session is held. Definitions only.
 use Prim.Native.Nat.{ℕ, _+_, _-_, _%_, _<_}
 use mathlib.Core.Path.{_≡_}
-use mathlib.Core.Bool.{Bool, true, not, cond, _&&_}
+use mathlib.Core.Bool.{Bool, true, false, not, cond, _&&_}
 use mathlib.Core.List.{List, []}
 use lib.ListN.{length, getD}
 use lib.Dec.{leb, ltb, eqb}
@@ -31,6 +31,14 @@ sizeRight received size mustBeBlank = (leb packetLeast size && leb size packetLi
 sizeRight spare size mustBeBlank = (leb packetLeast size && leb size packetLimit) && not mustBeBlank
 sizeRight repaired size mustBeBlank = (leb packetLeast size && leb size packetLimit) && not mustBeBlank
 sizeRight blank size mustBeBlank = eqb size 0 && mustBeBlank
+
+-- the states of a number that has a packet
+abbrev pub isFill : State → Bool
+isFill unknown = false
+isFill received = true
+isFill spare = true
+isFill repaired = true
+isFill blank = false
 
 abbrev pub cellRight : Cell → Bool → Bool
 cellRight c mustBeBlank = sizeRight (c .state) (length (c .octets)) mustBeBlank
