@@ -1,0 +1,7 @@
+pub mod Beside
+mod Turns
+mod Members
+mod Search
+mod First
+mod Sums
+mod Fills
