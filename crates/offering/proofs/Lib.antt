@@ -1,0 +1,3 @@
+mod Known
+mod Accepting
+mod Offering
