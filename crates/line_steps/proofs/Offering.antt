@@ -21,7 +21,8 @@ use Rattle.views.specs.View.{View}
 use Rattle.views.specs.Offer.{offer}
 use Rattle.held.specs.Table.{Lent, viewIn}
 use Rattle.held.specs.Laid.{InRanges}
-use Rattle.offering.specs.Promise.{Offers, offeredOutcome, acceptedOf, afterOffer}
+use Rattle.offering.specs.Outcome.{offeredOutcome, acceptedOf, afterOffer}
+use Rattle.offering.specs.Promise.{Offers}
 use Rattle.offering.specs.declared.Offered.{Offered}
 use Rattle.offering.specs.declared.Offered.the-variants as offered
 use Rattle.lines.specs.Hex.{lineLimit, paired, lineRows, octetsIn, lineOctets}

@@ -101,8 +101,9 @@ module _ {start : View} {old : List ℕ} {at : ℕ} {session : Lent} {out : List
         let v = viewIn session in
         let place : slot ≡ slotAt (session .base) keptBefore = omega arith in
         let known : not (isUnknown (stateNumbered (stateIn (session .table) slot))) ≡ false = sym e-was ∙ not-true was is in
-        let at-base : isUnknown (stateNumbered (stateIn (session .table) (slotAt (session .base) keptBefore))) ≡ true =
-        rw place at (not-false _ known) in
+        let unknown : isUnknown (stateNumbered (stateIn (session .table) slot)) ≡ true =
+        not-false (isUnknown (stateNumbered (stateIn (session .table) slot))) known in
+        let at-base : isUnknown (stateNumbered (stateIn (session .table) (slotAt (session .base) keptBefore))) ≡ true = rw place at unknown in
         let stops = unknown-stops v (unknown-at (session .base) (session .table) (session .octets) keptBefore (omega arith) ∙ at-base) in
         let step : releasesF left v ≡ silent v =
         one-of left v some

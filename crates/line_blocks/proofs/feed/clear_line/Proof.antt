@@ -4,8 +4,6 @@ use Rattle.lines.specs.FeedPromise.{LineIn}
 use Rattle.line_blocks.proofs.FeedSteps.{clear-turn, clear-done}
 use Rattle.line_blocks.proofs.feed.clear_line.Statement.{statement}
 use Rattle.line_blocks.proofs.feed.clear_line.Tie as tie
-use Rattle.line_blocks.proofs.feed.clear_line.Reads as reads
-use Rattle.line_blocks.proofs.feed.clear_line.Lts as lts
 
 abbrev Inv-loop : tie.InvT-loop
 Inv-loop line₀ begun left₀ line left = LineIn line left

@@ -7,10 +7,6 @@ use Rattle.lines.specs.FeedPromise.{Begun}
 use Rattle.line_blocks.proofs.FeedSteps.{begun-start, begun-far}
 use Rattle.line_blocks.proofs.feed.find_feed.Statement.{statement}
 use Rattle.line_blocks.proofs.feed.find_feed.Tie as tie
-use Rattle.line_blocks.proofs.feed.find_feed.Reads as reads
-use Rattle.line_blocks.proofs.feed.find_feed.Lts as lts
-use Rattle.line_blocks.proofs.feed.find_from.Reads as find-from-reads
-use Rattle.line_blocks.proofs.feed.is_plain.Reads as is-plain-reads
 
 abbrev Inv-loop : tie.InvT-loop
 Inv-loop s at₀ at = Begun s at

@@ -6,8 +6,6 @@ use Rattle.lines.specs.FeedPromise.{Begun}
 use Rattle.line_blocks.proofs.FeedSteps.{begun-turn, found-feed, found-end}
 use Rattle.line_blocks.proofs.feed.find_from.Statement.{statement}
 use Rattle.line_blocks.proofs.feed.find_from.Tie as tie
-use Rattle.line_blocks.proofs.feed.find_from.Reads as reads
-use Rattle.line_blocks.proofs.feed.find_from.Lts as lts
 
 abbrev Inv-loop : tie.InvT-loop
 Inv-loop s from at₀ at = Begun s at

@@ -5,9 +5,6 @@ use Rattle.line_blocks.proofs.FeedTurn.{ends-between, ends-line}
 use borrow.Author.Needs.{needs}
 use Rattle.line_blocks.proofs.feed.finish.Statement.{statement}
 use Rattle.line_blocks.proofs.feed.finish.Tie as tie
-use Rattle.line_blocks.proofs.feed.finish.Reads as reads
-use Rattle.line_blocks.proofs.feed.finish.Lts as lts
-use Rattle.line_steps.proofs.step.Reads as step-reads
 
 returns : tie.Need-returns
 returns c = ends-between (c .before .before .before .pre) (c .if1 .taken)

@@ -5,8 +5,6 @@ use Rattle.lines.specs.FeedPromise.{lookedAt}
 use Rattle.line_blocks.proofs.FeedSteps.{Plain, plain-start, plain-turn, plain-done}
 use Rattle.line_blocks.proofs.feed.is_plain.Statement.{statement}
 use Rattle.line_blocks.proofs.feed.is_plain.Tie as tie
-use Rattle.line_blocks.proofs.feed.is_plain.Reads as reads
-use Rattle.line_blocks.proofs.feed.is_plain.Lts as lts
 
 abbrev Inv-loop : tie.InvT-loop
 Inv-loop s at plain₀ j₀ plain j = Plain s at plain j

@@ -4,9 +4,6 @@ use Prim.Native.Nat.{_-_}
 use Rattle.line_blocks.proofs.FeedSteps.{Keeping, keeping-start, keeping-turn, keeping-done}
 use Rattle.line_blocks.proofs.feed.keep_line.Statement.{statement}
 use Rattle.line_blocks.proofs.feed.keep_line.Tie as tie
-use Rattle.line_blocks.proofs.feed.keep_line.Reads as reads
-use Rattle.line_blocks.proofs.feed.keep_line.Lts as lts
-use Rattle.line_blocks.proofs.feed.least.Reads as least-reads
 
 abbrev Inv-loop : tie.InvT-loop
 Inv-loop line₀ begun more room count j₀ line j = Keeping line₀ more begun count line j

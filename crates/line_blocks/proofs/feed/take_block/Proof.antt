@@ -8,9 +8,6 @@ use Rattle.lines.specs.Feed.{goingIn}
 use Rattle.line_blocks.proofs.FeedTurn.{Fed, left-some, left-inside, fed-start, fed-ready, fed-turn, fed-full, fed-whole}
 use Rattle.line_blocks.proofs.feed.take_block.Statement.{statement}
 use Rattle.line_blocks.proofs.feed.take_block.Tie as tie
-use Rattle.line_blocks.proofs.feed.take_block.Reads as reads
-use Rattle.line_blocks.proofs.feed.take_block.Lts as lts
-use Rattle.line_blocks.proofs.feed.take_line.Reads as take-line-reads
 
 abbrev Inv-loop : tie.InvT-loop
 Inv-loop o₀ g₀ line₀ begun block out₀ at head₀ kept₀ taken₀ end₀ o g line out head kept taken end =

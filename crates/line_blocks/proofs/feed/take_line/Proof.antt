@@ -6,12 +6,6 @@ use Rattle.line_blocks.proofs.FeedTurn.{takes-part, takes-line, at-once
 use borrow.Author.Needs.{needs}
 use Rattle.line_blocks.proofs.feed.take_line.Statement.{statement}
 use Rattle.line_blocks.proofs.feed.take_line.Tie as tie
-use Rattle.line_blocks.proofs.feed.take_line.Reads as reads
-use Rattle.line_blocks.proofs.feed.take_line.Lts as lts
-use Rattle.line_blocks.proofs.feed.clear_line.Reads as clear-line-reads
-use Rattle.line_blocks.proofs.feed.find_feed.Reads as find-feed-reads
-use Rattle.line_blocks.proofs.feed.keep_line.Reads as keep-line-reads
-use Rattle.line_steps.proofs.step.Reads as step-reads
 
 find-feed-requires : tie.Need-find-feed-requires
 find-feed-requires c κs = search needs

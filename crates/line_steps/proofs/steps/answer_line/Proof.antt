@@ -3,10 +3,6 @@ use Rattle.line_steps.proofs.StepLaws.{answers-empty, answers-line}
 use borrow.Author.Needs.{needs}
 use Rattle.line_steps.proofs.steps.answer_line.Statement.{statement}
 use Rattle.line_steps.proofs.steps.answer_line.Tie as tie
-use Rattle.line_steps.proofs.steps.answer_line.Reads as reads
-use Rattle.line_steps.proofs.steps.answer_line.Lts as lts
-use Rattle.line_steps.proofs.steps.give_up_line.Reads as give-up-line-reads
-use Rattle.line_steps.proofs.steps.offer_line.Reads as offer-line-reads
 
 give-up-line-requires : tie.Need-give-up-line-requires
 give-up-line-requires c κs = search needs

@@ -3,11 +3,6 @@ use Rattle.line_steps.proofs.Stepping.{gave-up, gave-up-refused}
 use borrow.Author.Needs.{needs}
 use Rattle.line_steps.proofs.steps.give_up_line.Statement.{statement}
 use Rattle.line_steps.proofs.steps.give_up_line.Tie as tie
-use Rattle.line_steps.proofs.steps.give_up_line.Reads as reads
-use Rattle.line_steps.proofs.steps.give_up_line.Lts as lts
-use Rattle.line_steps.proofs.results.put_refusal.Reads as put-refusal-reads
-use Rattle.line_steps.proofs.results.put_result.Reads as put-result-reads
-use Rattle.releasing.proofs.give_up_core.Reads as give-up-core-reads
 
 give-up-core-requires : tie.Need-give-up-core-requires
 give-up-core-requires c κs = search needs

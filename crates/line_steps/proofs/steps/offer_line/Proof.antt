@@ -4,11 +4,6 @@ use Rattle.line_steps.proofs.Offering.{line-inside, line-length, line-o
 use borrow.Author.Needs.{needs}
 use Rattle.line_steps.proofs.steps.offer_line.Statement.{statement}
 use Rattle.line_steps.proofs.steps.offer_line.Tie as tie
-use Rattle.line_steps.proofs.steps.offer_line.Reads as reads
-use Rattle.line_steps.proofs.steps.offer_line.Lts as lts
-use Rattle.hexadecimal.proofs.hex_to_octets.Reads as hex-to-octets-reads
-use Rattle.line_steps.proofs.results.put_refusal.Reads as put-refusal-reads
-use Rattle.line_steps.proofs.steps.offer_octets.Reads as offer-octets-reads
 
 slice-aggregate-hex-to-octets : tie.Need-slice-aggregate-hex-to-octets
 slice-aggregate-hex-to-octets c = search needs

@@ -4,10 +4,6 @@ use Rattle.line_steps.proofs.Offering.{offer-taken, offer-not-taken}
 use borrow.Author.Needs.{needs}
 use Rattle.line_steps.proofs.steps.offer_octets.Statement.{statement}
 use Rattle.line_steps.proofs.steps.offer_octets.Tie as tie
-use Rattle.line_steps.proofs.steps.offer_octets.Reads as reads
-use Rattle.line_steps.proofs.steps.offer_octets.Lts as lts
-use Rattle.line_steps.proofs.results.put_refusal.Reads as put-refusal-reads
-use Rattle.receiving.proofs.offer_core.Reads as offer-core-reads
 
 offer-core-requires : tie.Need-offer-core-requires
 offer-core-requires c κs = search needs

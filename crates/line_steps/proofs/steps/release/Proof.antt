@@ -5,11 +5,6 @@ use Rattle.line_steps.proofs.Stepping.{packet-inside, packet-length, pa
 use borrow.Author.Needs.{needs}
 use Rattle.line_steps.proofs.steps.release.Statement.{statement}
 use Rattle.line_steps.proofs.steps.release.Tie as tie
-use Rattle.line_steps.proofs.steps.release.Reads as reads
-use Rattle.line_steps.proofs.steps.release.Lts as lts
-use Rattle.line_steps.proofs.results.kind_octet.Reads as kind-octet-reads
-use Rattle.line_steps.proofs.results.put_result.Reads as put-result-reads
-use Rattle.releasing.proofs.next_core.Reads as next-core-reads
 
 slice-aggregate-next-core : tie.Need-slice-aggregate-next-core
 slice-aggregate-next-core c = search needs

@@ -1,21 +1,17 @@
 -- `line_steps::releases` meets its contract: what was written so far, then as many releases as are left, are all releases. Assumes nothing.
 use borrow.Author.Needs.{needs}
 use borrow.Author.Tests.{not-true, not-false}
-use Rattle.heads.specs.Head.{viewIn}
+use Rattle.held.specs.Table.{lent, viewIn}
 use Rattle.line_steps.proofs.ReleaseLoop.{Left, left-start, left-ready, left-done, left-unknown, left-turn, left-stop}
 use Rattle.line_steps.proofs.steps.releases.Statement.{statement}
 use Rattle.line_steps.proofs.steps.releases.Tie as tie
-use Rattle.line_steps.proofs.steps.releases.Reads as reads
-use Rattle.line_steps.proofs.steps.releases.Lts as lts
-use Rattle.heads.proofs.is_unknown.Reads as is-unknown-reads
-use Rattle.line_steps.proofs.steps.release.Reads as release-reads
-use Rattle.heads.proofs.kept_slot.Reads as kept-slot-reads
 
 abbrev Inv-loop : tie.InvT-loop
-Inv-loop o₀ g₀ out₀ at head₀ end₀ left₀ o g out head end left = Left (viewIn head₀ o₀ g₀) out₀ at head o g out end left
+Inv-loop t₀ o₀ g₀ out₀ at now₀ moves₀ end₀ left₀ t o g out now moves end left =
+    Left (viewIn (lent now₀ moves₀ t₀ o₀ g₀)) out₀ at (lent now moves t o g) out end left
 
 abbrev μ-loop : tie.MeasureT-loop
-μ-loop o₀ g₀ out₀ at head₀ end₀ left₀ o g out head end left = left
+μ-loop t₀ o₀ g₀ out₀ at now₀ moves₀ end₀ left₀ t o g out now moves end left = left
 
 loop-holds : tie.Need-loop-holds Inv-loop μ-loop
 loop-holds c = left-start (c .before .pre)

@@ -3,10 +3,6 @@ use Rattle.line_steps.proofs.StepLaws.{step-ready, step-made}
 use borrow.Author.Needs.{needs}
 use Rattle.line_steps.proofs.steps.step.Statement.{statement}
 use Rattle.line_steps.proofs.steps.step.Tie as tie
-use Rattle.line_steps.proofs.steps.step.Reads as reads
-use Rattle.line_steps.proofs.steps.step.Lts as lts
-use Rattle.line_steps.proofs.steps.answer_line.Reads as answer-line-reads
-use Rattle.line_steps.proofs.steps.releases.Reads as releases-reads
 
 answer-line-requires : tie.Need-answer-line-requires
 answer-line-requires c κs = search needs
