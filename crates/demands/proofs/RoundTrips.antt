@@ -2,16 +2,17 @@
 -- reader answered is what its definition reads, and each layer's two definitions agree. Assumes nothing.
 use Prim.Native.Nat.{ℕ, _-_, _≤_}
 use mathlib.Core.Path.{_≡_, refl, sym, ap, _∙_}
-use mathlib.Core.List.{List, _++_, map}
+use mathlib.Core.List.{List, [], _++_, map}
 use lib.ListN.{length, take, drop, replicate, length-map}
 use lib.Seq.{take-append-seam, drop-append-seam, take-at, length-take-le}
 use lib.Dec.{leb, ltb}
 use native.Mathlib.Omega.{arith}
 use borrow.Author.Tests.{le-leb, le-ltb, ltb-false}
 use Rattle.lengths.specs.Tables.{unless}
+use Rattle.lengths.proofs.Tables.{unless-past, unless-done}
 use Rattle.lengths.specs.Refusals.{noRoom, outsideSizes}
 use Rattle.lengths.specs.Answers.{Answer, done, refused, LengthAnswer, lengthOutcome, writtenOutcome, fitted, sizeOf}
-use Rattle.lengths.specs.Length.{lengthAt, lengthOctets, lengthLimit, lengthToWrite}
+use Rattle.lengths.specs.Length.{lengthAt, lengthOctets, lengthLimit, lengthWriterRows, lengthToWrite}
 use Rattle.lengths.specs.Promise.{Puts}
 use Rattle.lengths.specs.Claims.{Octets}
 use Rattle.lengths.specs.declared.Length.the-variants as length
@@ -30,7 +31,7 @@ use Rattle.datagrams.specs.declared.kind.Kind.the-variants as kind
 use Rattle.datagrams.specs.declared.reader.DatagramRead.{DatagramRead}
 use Rattle.datagrams.specs.declared.reader.Reading.{Reading}
 use Rattle.datagrams.specs.declared.reader.Reading.the-variants as reading
-use Rattle.datagrams.proofs.AnswerLaws.{cond-done, cond-met, done-same}
+use Rattle.datagrams.proofs.AnswerLaws.{cond-met}
 use Rattle.datagrams.proofs.Claims as datagrams
 use Rattle.packets.specs.Packet.{allData, fieldsLimit, noField}
 use Rattle.packets.specs.Read.{PacketAnswer, readPacket}
@@ -86,10 +87,10 @@ puts-back {w} {s} {old} {new} {r} {n} puts is long room =
 
 -- ---- lengths
 length-done : (n : ℕ) (s : List ℕ) → lengthToWrite n ≡ done s → (n ≤ lengthLimit) × (s ≡ lengthOctets n)
-unfolding lengthToWrite unless
+unfolding lengthToWrite
 length-done n s e =
-    let t = cond-done (ltb lengthLimit n) outsideSizes (done (lengthOctets n)) s e in
-    (ltb-false lengthLimit n (t .0), sym (done-same (t .1)))
+    let t = unless-past (ltb lengthLimit n) outsideSizes [] (lengthOctets n) s e in
+    (ltb-false lengthLimit n (t .0), unless-done (lengthWriterRows n) (lengthOctets n) s e)
 
 length-small : (n : ℕ) → n ≤ lengthLimit → lengthToWrite n ≡ done (lengthOctets n)
 unfolding lengthToWrite unless

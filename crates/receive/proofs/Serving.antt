@@ -39,7 +39,8 @@ pub record Serving (h₀ : Head) (o₀ g₀ l₀ : List ℕ) (begun₀ : ℕ) (o
   pub way : (input text : List ℕ) → PartWay input text h₀ o₀ g₀ l₀ begun₀ → handed ≡ counted text
       → Onward (input ++ take from s) text h o g l begun sum
 
-pub serving-start : {h : Head} {o g l : List ℕ} {begun : ℕ} {out : List ℕ} (s : List ℕ) (handed : ℕ) → Feedable stepLimit h o g l begun out 0
+pub serving-start : {h : Head} {o g l : List ℕ} {begun : ℕ} {out : List ℕ} (s : List ℕ) (handed : ℕ)
+    → Feedable stepLimit h o g l begun out 0
     → Serving h o g l begun out s handed h o g l begun out 0 handed
 serving-start {h} {o} {g} {l} {begun} s handed f =
     record {

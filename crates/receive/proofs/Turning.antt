@@ -54,7 +54,8 @@ turning-start within fresh line read room =
     }
 
 -- after a read that gave nothing
-pub turning-none : {h : Head} {o g l block : List ℕ} {begun : ℕ} {out : List ℕ} {taken handed : ℕ} → Turning h o g l block begun out taken handed
+pub turning-none : {h : Head} {o g l block : List ℕ} {begun : ℕ} {out : List ℕ} {taken handed : ℕ}
+    → Turning h o g l block begun out taken handed
     → {new : List ℕ} {n after : ℕ} → n ≡ 0 → after ≡ (taken + n) % 2 ^ 64 → length new ≡ length block
     → Turning h o g l new begun out after handed
 turning-none t none on same =
@@ -78,7 +79,8 @@ written-all true e = refl
 written-all false e = sym e
 
 -- after a block of which all was written
-pub turning-on : {h : Head} {o g l block : List ℕ} {begun : ℕ} {out : List ℕ} {taken handed : ℕ} → Turning h o g l block begun out taken handed
+pub turning-on : {h : Head} {o g l block : List ℕ} {begun : ℕ} {out : List ℕ} {taken handed : ℕ}
+    → Turning h o g l block begun out taken handed
     → {new : List ℕ} (n : ℕ) {k : Head} {p q m : List ℕ} {kept : ℕ} {room : List ℕ} {sum after : ℕ} {written : Bool} → n ≤ length new
     → Passes h o g l begun (take n new) handed k p q m kept room sum written → written ≡ true → after ≡ (taken + n) % 2 ^ 64
     → length new ≡ length block → length room ≡ length out → Turning k p q m new kept room after sum

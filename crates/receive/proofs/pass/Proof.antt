@@ -44,7 +44,8 @@ add-from c =
     let inside = made .before .before .before .before .before .before in
     let loop = inside .before in
     let start = loop .before .before .before .before in
-    record { fits = omega (arith, start .good .1 .1 .1 .1 .1 .0, part-inside (start .args .block .now) (loop .loop .inv) (inside .loop-test .taken) (made .take-block .ensures)) }
+    let within = part-inside (start .args .block .now) (loop .loop .inv) (inside .loop-test .taken) (made .take-block .ensures) in
+    record { fits = omega (arith, start .good .1 .1 .1 .1 .1 .0, within) }
 
 hand-over-requires : tie.Need-hand-over-requires Inv-loop μ-loop
 hand-over-requires c κs =
@@ -82,7 +83,8 @@ loop-less c =
     let inside = made .before .before .before .before .before .before in
     let loop = inside .before in
     let start = loop .before .before .before .before in
-    omega (arith, inside .loop-test .taken, part-some (start .args .block .now) (loop .loop .inv) (inside .loop-test .taken) (made .take-block .ensures))
+    let some = part-some (start .args .block .now) (loop .loop .inv) (inside .loop-test .taken) (made .take-block .ensures) in
+    omega (arith, inside .loop-test .taken, some)
 
 loop-again : tie.Need-loop-again Inv-loop μ-loop
 loop-again c =

@@ -78,7 +78,8 @@ loop-again-2 : tie.Need-loop-again-2 Inv-loop μ-loop
 loop-again-2 c =
     let passed = c .before .before .before .before .before in
     let told = passed .before .before .before .before .before .before .before .before .before in
-    turning-on (told .before .before .before .before .loop .inv) _ (told .read-on .ensures .0) (passed .pass .ensures) (written-all _ (c .if2 .left))
+    let loop = told .before .before .before .before in
+    turning-on (loop .loop .inv) _ (told .read-on .ensures .0) (passed .pass .ensures) (written-all _ (c .if2 .left))
     (told .read-on .ensures .1) (search needs) (search needs)
 
 slice-aggregate-finish : tie.Need-slice-aggregate-finish Inv-loop μ-loop
@@ -101,7 +102,8 @@ hand-over-requires c κs =
 returns-2 : tie.Need-returns-2 Inv-loop μ-loop
 returns-2 c =
     let last = c .before .before .before .before .before in
-    serves _ (complete (last .before .before .before .before .before .before .loop .inv .so-far) (last .finish .ensures) (c .hand-over .ensures))
+    let loop = last .before .before .before .before .before .before in
+    serves _ (complete (loop .loop .inv .so-far) (last .finish .ensures) (c .hand-over .ensures))
 
 pub serve-spec : {M : Type 1} → statement M
 serve-spec =
