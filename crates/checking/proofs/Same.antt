@@ -1,6 +1,6 @@
 -- The tests that the code makes, number by number, pass together exactly if what is lent is within its ranges. Over a layout that is
 -- right a cell of the view has as many octets as its slot's size says, so a test of the slot is the view's test. Assumes nothing.
-use Prim.Native.Nat.{ℕ, _+_, _%_, _≤_, _<_}
+use Prim.Native.Nat.{ℕ, _+_, _%_, _<_}
 use mathlib.Core.Path.{_≡_, refl, sym, ap, ap₂, _∙_}
 use mathlib.Core.Bool.{Bool, true, not, _&&_}
 use mathlib.Core.List.{List, []}
@@ -11,7 +11,7 @@ use borrow.Author.Tests.{le-leb, leb-true}
 use Rattle.octets.specs.Place.{tab, allBelow}
 use Rattle.octets.proofs.Cases.{and-left, and-right, and-both}
 use Rattle.octets.proofs.Place.{allBelow-at, allBelow-of, length-tab}
-use Rattle.datagrams.specs.Sizes.{packetLimit, messageLimit, messagesLimit}
+use Rattle.datagrams.specs.Sizes.{messageLimit, messagesLimit}
 use Rattle.repair.specs.Cells.{Cell, cellAt, isUnknown, keptBefore, keptAhead, keptNumbers}
 use Rattle.repair.specs.Held.{Held, heldAt}
 use Rattle.stores.specs.Store.{zerosPast}
@@ -19,8 +19,8 @@ use Rattle.views.specs.View.{sum, numbers, sessionLimit}
 use Rattle.views.specs.Ranges.{sumRight, blankAt, sizeRight, cellRight, markRight, heldRight, knownAt, Sound}
 use Rattle.views.proofs.Ranges.{base-small, size-fits}
 use Rattle.views.proofs.Sizes.{mark-sizes}
-use Rattle.held.specs.Slots.{slotsKept, slotsHeard, slotAt, heardSlotAt, messageSlot, packetOctets, messageOctets}
-use Rattle.held.specs.Table.{Lent, lent, countsOf, places, lastState, stateIn, sizeIn, markIn, nIn, mIn, messageSizeIn, stateNumbered, cellIn, messageIn, heldIn, cellsOf, heldOf, viewIn}
+use Rattle.held.specs.Slots.{slotsKept, slotsHeard, slotAt, heardSlotAt, packetOctets, messageOctets}
+use Rattle.held.specs.Table.{Lent, lent, countsOf, places, lastState, stateIn, sizeIn, markIn, nIn, mIn, stateNumbered, cellIn, messageIn, heldIn, cellsOf, heldOf, viewIn}
 use Rattle.held.specs.Laid.{messageLaid, lentInRanges, Laid, InRanges}
 use Rattle.held.specs.declared.Counts.{Counts}
 use Rattle.held.proofs.Slots.{slot-small, heard-small, slot-of, heard-slot-of}

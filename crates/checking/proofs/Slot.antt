@@ -1,14 +1,14 @@
 -- One law for each answer about a slot, on plain values. Assumes nothing.
 use Prim.Native.Nat.{ℕ, _≤_, _<_}
 use mathlib.Core.Path.{_≡_, refl, sym, ap, _∙_}
-use mathlib.Core.Bool.{Bool, true, false, not, cond, _&&_, false≢true}
+use mathlib.Core.Bool.{Bool, true, false, not, cond, _&&_}
 use mathlib.Core.List.{List}
 use mathlib.Core.Logic.{⊎-elim}
 use lib.Dec.{leb, ltb, eqb}
 use native.Mathlib.Omega.{arith}
-use borrow.Author.Tests.{lt-ltb, le-ltb, le-leb, lt-leb, ne-eqb, eqb-true, eq-eqb, leb-true}
+use borrow.Author.Tests.{lt-ltb, le-ltb, le-leb, lt-leb, ne-eqb, eqb-true, eq-eqb}
 use Rattle.octets.specs.Place.{allBelow}
-use Rattle.octets.proofs.Cases.{same-or-not, and-left, and-right}
+use Rattle.octets.proofs.Cases.{same-or-not, and-right}
 use Rattle.octets.proofs.Place.{allBelow-at, allBelow-of, allBelow-ext}
 use Rattle.datagrams.specs.Sizes.{packetLeast, packetLimit, coveredLimit, messageLimit, messagesLimit}
 use Rattle.stores.specs.Store.{zerosPast}
