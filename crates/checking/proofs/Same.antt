@@ -166,7 +166,8 @@ module _ (l : Lent) (long : length (l .table) ≡ places) (octets : length (l .o
         message = λ j i low below. message-zeros t g j (mIn t j) i (heard-in j low .1 .message i below);
       }
 
-  held-there : (d : ℕ) → d < keptAhead → heldRight (heldAt (heldOf (l .base) (l .table) (l .messages)) d) (knownAt (viewIn l) (keptBefore + d)) ≡ true
+  held-there : (d : ℕ) → d < keptAhead
+      → heldRight (heldAt (heldOf (l .base) (l .table) (l .messages)) d) (knownAt (viewIn l) (keptBefore + d)) ≡ true
   held-there d below =
       let j = heardSlotAt (l .base) d in
       ap₂ (λ (h : Held) (b : Bool). heldRight h b) (held-at (l .base) (l .table) (l .messages) d below) (known-told l d below)

@@ -149,7 +149,8 @@ module _ (t g : List ℕ) (j : ℕ) (known : Bool) {mark n m : ℕ} {test : Bool
   unfolding heardRight
   heard-some passed right-is = rw (← m-is, ← n-is, ← mark-is, ← so, passed) right-is
 
-  pub heard-none : {right : Bool} → test ≡ true → m ≡ 0 → right ≡ allBelow messagesLimit (messageLaid t g j 0) → right ≡ heardRight t g j known
+  pub heard-none : {right : Bool} → test ≡ true → m ≡ 0 → right ≡ allBelow messagesLimit (messageLaid t g j 0)
+      → right ≡ heardRight t g j known
   heard-none passed none right-is =
       heard-some passed (right-is ∙ ap (λ (k : ℕ). allBelow messagesLimit (messageLaid t g j k)) (sym none))
 
