@@ -14,18 +14,17 @@ use borrow.Author.Tests.{lt-ltb, le-ltb}
 use Rattle.octets.specs.Place.{tab, allBelow}
 use Rattle.octets.proofs.Place.{tab-ext}
 use Rattle.octets.proofs.Cases.{below-or-not, and-both}
-use Rattle.datagrams.specs.Sizes.{messagesLimit}
 use Rattle.repair.specs.Cells as cells
 use Rattle.repair.specs.Cells.{blankCell, unknownCell, keptBefore, keptAhead, keptNumbers}
 use Rattle.repair.specs.Held.{nothingHeld}
-use Rattle.stores.specs.Store.{part, zerosPast}
+use Rattle.stores.specs.Store.{part}
 use Rattle.stores.proofs.Laws.{zerosPast-zeros}
 use Rattle.views.specs.View.{freshView}
 use Rattle.views.specs.Ranges.{sumRight, sizeRight, markRight, heldRight, cellsRight, allHeldRight, inRanges}
-use Rattle.held.specs.Slots.{slotsKept, slotsHeard, slotAt, heardSlotAt, messageSlot, packetOctets, messageOctets}
-use Rattle.held.specs.Table.{Lent, lentBy, places, lastState, markPlace, nPlace, mPlace, messagePlace, stateIn, sizeIn, markIn, nIn, mIn, messageSizeIn, stateNumbered, cellIn, messageIn, heldIn, cellsOf, heldOf, viewIn}
-use Rattle.held.specs.Laid.{laid, lentInRanges, Laid}
-use Rattle.held.specs.Promise.{Sized, freshTable, Fresh}
+use Rattle.held.specs.Slots.{slotsKept, slotAt, heardSlotAt, messageSlot, packetOctets, messageOctets}
+use Rattle.held.specs.Table.{Lent, lentBy, places, lastState, markPlace, nPlace, mPlace, messagePlace, stateIn, sizeIn, nIn, mIn, stateNumbered, cellIn, messageIn, heldIn, cellsOf, heldOf, viewIn}
+use Rattle.held.specs.Laid.{lentInRanges, Laid}
+use Rattle.held.specs.Promise.{freshTable, Fresh}
 use Rattle.held.specs.declared.Counts.{Counts}
 use Rattle.held.specs.declared.Session.{Session}
 use Rattle.held.proofs.Ranges.{laid-true}

@@ -2,8 +2,7 @@
 -- octet by octet. A slot is the slot of some place; the length of what stands there gives its size, and past it there are zeros.
 -- Assumes nothing.
 use Prim.Native.Nat.{ℕ, _+_, _-_, _*_, _/_, _%_, _≤_, _<_}
-use mathlib.Core.Path.{_≡_, refl, sym, ap, ap₂, _∙_}
-use mathlib.Core.Bool.{Bool, true}
+use mathlib.Core.Path.{_≡_, sym, ap, ap₂, _∙_}
 use mathlib.Core.List.{List, []}
 use mathlib.Core.Logic.{⊎-elim}
 use lib.ListN.{length, getD}
@@ -20,7 +19,7 @@ use Rattle.repair.specs.Held.{Held, heldAt}
 use Rattle.views.specs.View as views
 use Rattle.views.specs.View.{View}
 use Rattle.held.specs.Slots.{slotsKept, slotsHeard, slotsMessages, packetOctets, messageOctets, slotAt, heardSlotAt, messageSlot}
-use Rattle.held.specs.Table.{Lent, lentBy, countsOf, places, lastState, statePlace, sizePlace, markPlace, nPlace, mPlace, messagePlace, stateIn, sizeIn, markIn, nIn, mIn, messageSizeIn, stateNumbered, cellIn, heldIn, cellsOf, heldOf, viewIn, viewOf}
+use Rattle.held.specs.Table.{Lent, lentBy, countsOf, places, lastState, sizePlace, markPlace, nPlace, mPlace, messagePlace, stateIn, sizeIn, markIn, nIn, mIn, messageSizeIn, stateNumbered, cellIn, heldIn, cellsOf, heldOf, viewIn, viewOf}
 use Rattle.held.specs.Laid.{InRanges}
 use Rattle.held.specs.Promise.{Fresh}
 use Rattle.held.specs.declared.Counts.{Counts}

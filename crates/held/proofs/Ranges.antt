@@ -1,7 +1,7 @@
 -- The ranges of what is lent as one test and as a record, each from the other: refusal 17's check decides the test, and the calls
 -- inside the session ask for the record. The layout goes slot by slot, and the view's part is the law of views. Assumes nothing.
 use Prim.Native.Nat.{ℕ, _≤_, _<_}
-use mathlib.Core.Path.{_≡_, refl}
+use mathlib.Core.Path.{_≡_}
 use mathlib.Core.Bool.{Bool, true, false, cond, _&&_}
 use mathlib.Core.List.{List}
 use mathlib.Core.Logic.{⊎-elim}
@@ -15,7 +15,7 @@ use Rattle.octets.proofs.Place.{allBelow-at, allBelow-of}
 use Rattle.datagrams.specs.Sizes.{packetLimit, messageLimit, messagesLimit}
 use Rattle.repair.specs.Cells.{keptAhead, keptNumbers}
 use Rattle.stores.specs.Store.{zerosPast}
-use Rattle.views.specs.Ranges.{inRanges, Sound}
+use Rattle.views.specs.Ranges.{inRanges}
 use Rattle.views.proofs.Ranges.{sound-of, inRanges-of}
 use Rattle.held.specs.Slots.{slotsKept, slotsHeard, messageSlot, packetOctets, messageOctets}
 use Rattle.held.specs.Table.{Lent, lentBy, viewIn, places, lastState, stateIn, sizeIn, markIn, mIn, messageSizeIn}
