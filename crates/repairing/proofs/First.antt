@@ -21,7 +21,7 @@ use Rattle.repairing.specs.Promise.{mAt, messageHeld, LowestFound, Lowes
 use Rattle.repairing.specs.declared.Lowest.{Lowest}
 use Rattle.repairing.specs.declared.Lowest.the-variants as lowest
 use Rattle.repairing.specs.declared.Usable.the-variants as usables
-use Rattle.repairing.proofs.Search.{lowest-empty}
+use Rattle.repairing.proofs.Below.{lowest-empty}
 use Rattle.repairing.proofs.Totals.{sum-more, some-left, none-left}
 
 pub record Searched (base : ℕ) (t : List ℕ) (d : ℕ) : Type 0 where

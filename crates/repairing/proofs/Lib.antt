@@ -2,6 +2,7 @@ pub mod Beside
 mod Turns
 mod Members
 mod Search
+mod Below
 mod Totals
 mod First
 mod Sums

@@ -4,14 +4,13 @@ use Prim.Native.Nat.{ℕ, zero, suc, _+_, _-_, _*_, _%_, _≤_, _<_}
 use mathlib.Core.Path.{_≡_, refl, sym, ap, ap₂, _∙_}
 use mathlib.Core.List.{List}
 use mathlib.Core.Logic.{⊎-elim}
-use native.Mathlib.Nat.{zero-add, add-assoc, add-comm}
+use native.Mathlib.Nat.{add-assoc, add-comm}
 use native.Mathlib.Numerals.{add-one}
 use native.Mathlib.Omega.{arith}
 use Rattle.octets.proofs.Cases.{same-or-not}
 use Rattle.datagrams.specs.Sizes.{messagesLimit}
 use Rattle.repair.specs.Cells.{keptAhead}
-use Rattle.views.specs.View.{numbers}
-use Rattle.held.specs.Slots.{heardSlotAt, slotsHeard}
+use Rattle.held.specs.Slots.{slotsHeard}
 use Rattle.held.specs.Table.{mIn}
 use Rattle.repairing.specs.Back.{sumTo, Count, countAll}
 use Rattle.repairing.specs.Promise.{Searchable, mAt}

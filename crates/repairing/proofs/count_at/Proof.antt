@@ -1,5 +1,5 @@
 -- `repairing::count_at` meets its contract. Assumes nothing.
-use Rattle.repairing.proofs.Search.{small-count}
+use Rattle.repairing.proofs.Below.{small-count}
 use Rattle.repairing.proofs.Totals.{count-read}
 use borrow.Author.Needs.{needs}
 use Rattle.repairing.proofs.count_at.Statement.{statement}
