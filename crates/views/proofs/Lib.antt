@@ -1,2 +1,3 @@
 pub mod Sizes
 pub mod Filled
+pub mod GoesOn
