@@ -1,3 +1,4 @@
 pub mod Sizes
 pub mod Filled
 pub mod Holding
+pub mod GoesOn
