@@ -13,7 +13,7 @@ use Rattle.datagrams.specs.Sizes.{packetLeast, packetLimit}
 use Rattle.datagrams.specs.Claims.{PartInside}
 use Rattle.datagrams.specs.Read.{octetsOf}
 use Rattle.datagrams.specs.declared.reader.Part.{Part}
-use Rattle.repair.specs.Cells.{blank, isUnknown, unknownAt}
+use Rattle.repair.specs.Cells.{received, spare, blank, isUnknown, unknownAt}
 use Rattle.views.specs.Ranges.{isFill}
 use Rattle.views.specs.Offer as offers
 use Rattle.held.specs.Slots.{numberAt, slotAt, slotsKept}
@@ -35,6 +35,15 @@ not-back false e no-c = sym no-c ∙ e
 not-true : (b : Bool) {c : Bool} → c ≡ not b → c ≡ true → b ≡ false
 not-true true e yes-c = sym (sym e ∙ yes-c)
 not-true false e yes-c = refl
+
+-- ---- the numbers that stand for states, as the code writes them
+pub received-number : stateNumbered 1 ≡ received
+unfolding stateNumbered
+received-number = refl
+
+pub spare-number : stateNumbered 2 ≡ spare
+unfolding stateNumbered
+spare-number = refl
 
 -- a number that stands for a packet's state is one of those listed
 past-listed : (n : ℕ) → lastState < n → stateNumbered n ≡ blank
@@ -60,6 +69,7 @@ fills (suc (suc zero)) low high = refl
 fills (suc (suc (suc zero))) low high = refl
 fills (suc (suc (suc (suc n)))) low high = absurd (omega arith)
 
+-- ---- in the words of the code
 module _ {state number slot : ℕ} {t o : List ℕ} {was : Bool} (e-slot : slot ≡ number % slotsKept)
     (e-was : was ≡ not (isUnknown (stateNumbered (stateIn t slot)))) where
   -- an unknown number takes the octets

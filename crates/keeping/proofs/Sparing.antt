@@ -15,16 +15,12 @@ use Rattle.repair.specs.Cells.{Cell, spare, keptNumbers}
 use Rattle.views.specs.View.{numbers}
 use Rattle.views.specs.Offer as offers
 use Rattle.held.specs.Slots.{numberAt, packetOctets}
-use Rattle.held.specs.Table.{lent, places, stateNumbered, cellsOf, heldOf}
+use Rattle.held.specs.Table.{lent, places, cellsOf, heldOf}
 use Rattle.held.specs.Laid.{InRanges}
 use Rattle.held.specs.declared.Counts.{Counts}
 use Rattle.keeping.specs.Steps.{itemAt}
 use Rattle.keeping.specs.Promise.{Keeps, CarriesSpares, KeepsSpares}
-
--- the number that stands for a spare
-spare-number : stateNumbered 2 ≡ spare
-unfolding stateNumbered
-spare-number = refl
+use Rattle.keeping.proofs.Keeping.{spare-number}
 
 -- ---- one spare more to keep
 keepSpares-cons : (p : ℕ) (x : List ℕ) (xs : List (List ℕ)) (cells : List Cell)
