@@ -92,7 +92,8 @@ module _ {base : ℕ} {c : Counts} {t o g s : List ℕ} {number d : ℕ} {packet
   in-view : keptBefore + d < keptNumbers
   in-view = omega (arith, may .near)
 
-  packet-now : CellsNow (lent base c t o g) (lent base c t₁ o₁ g) (offers.keep received (keptBefore + d) (octetsOf s packet) (cellsOf base t o))
+  packet-now : CellsNow (lent base c t o g) (lent base c t₁ o₁ g)
+      (offers.keep received (keptBefore + d) (octetsOf s packet) (cellsOf base t o))
   packet-now = rw is-received at (k₁ .kept base c g (keptBefore + d) w in-view (may .place))
 
   pub within-first : InRanges (lent base c t₁ o₁ g)
@@ -119,7 +120,8 @@ module _ {base : ℕ} {c : Counts} {t o g s : List ℕ} {number d : ℕ} {packet
           within = spares-now .within;
           known =
               ap (λ (x : List Cell). unknownAt x (keptBefore + d)) (spares-now .cells)
-              ∙ spares-stay (keptBefore + d) (map (octetsOf s) (take (sparesOf k count) items)) (cellsOf base t₁ o₁) (keptBefore + d) known-first;
+              ∙ spares-stay (keptBefore + d) (map (octetsOf s) (take (sparesOf k count) items)) (cellsOf base t₁ o₁) (keptBefore + d)
+              known-first;
           unmarked = ap (λ (x : List Held). (heldAt x d) .accepted) held-second ∙ may .unmarked;
         }
 
@@ -140,7 +142,8 @@ module _ {base : ℕ} {c : Counts} {t o g s : List ℕ} {number d : ℕ} {packet
         cells-third =
             held-now .cells ∙ spares-now .cells
             ∙ ap (offers.keepSpares (keptBefore + d) (map (octetsOf s) (take (sparesOf k count) items))) (packet-now .cells)
-            ∙ kept-extra s number packet k count items (keptBefore + d) (offers.keep received (keptBefore + d) (octetsOf s packet) (cellsOf base t o))
+            ∙ kept-extra s number packet k count items (keptBefore + d)
+            (offers.keep received (keptBefore + d) (octetsOf s packet) (cellsOf base t o))
 
         held-third : heldOf base t₃ g₁ ≡ set (heldOf base t g) d (offers.heldOf ((carriedOf s number packet k count items) .extra))
         held-third =
@@ -153,6 +156,7 @@ module _ {base : ℕ} {c : Counts} {t o g s : List ℕ} {number d : ℕ} {packet
             record {
               state =
                   k₄ .state
-                  ∙ ap₂ (λ (x : List Cell) (y : List Held). record { base = base; counts = countsOf c; cells = repair x (heldMessages y); held = y }) cells-third held-third;
+                  ∙ ap₂ (λ (x : List Cell) (y : List Held).
+                  record { base = base; counts = countsOf c; cells = repair x (heldMessages y); held = y }) cells-third held-third;
               within = k₄ .within;
             }

@@ -16,7 +16,8 @@ offered-told offered.Accepted (offered.Refused x) e = let z : _≡_ {A = ℕ} 0 
 offered-told (offered.Refused x) offered.Accepted e = let z : _≡_ {A = ℕ} 0 1 = cc in absurd (omega arith)
 offered-told (offered.Refused x) (offered.Refused y) e = cc
 
-module _ {octets : List ℕ} {before after other : Lent} {r q : Offered} (a : Offers octets before after r) (b : Offers octets before other q) where
+module _ {octets : List ℕ} {before after other : Lent} {r q : Offered} (a : Offers octets before after r)
+    (b : Offers octets before other q) where
   pub offer-answer : r ≡ q
   offer-answer = offered-told r q (a .told ∙ sym (b .told))
 
