@@ -2,59 +2,30 @@
 -- octets. In the view what is held at one distance is set, the cells stay, and all stays within the ranges. The number had no
 -- messages before, so that its message slots hold zeros alone; every other slot is left alone. Assumes nothing.
 use Prim.Native.Nat.{ℕ, _+_, _≤_, _<_}
-use mathlib.Core.Path.{_≡_, refl, sym, ap, ap₂, _∙_}
+use mathlib.Core.Path.{_≡_, sym, ap, ap₂, _∙_}
 use mathlib.Core.Bool.{Bool, true, false, not}
 use mathlib.Core.List.{List, []}
 use mathlib.Core.Logic.{⊎-elim}
-use lib.ListN.{length, getD, set, length-set}
-use lib.Seq.{getD-set-same, getD-set-other}
+use lib.ListN.{length, getD, set}
 use native.Mathlib.Omega.{arith}
 use Rattle.octets.proofs.Cases.{same-or-not, below-or-not}
 use Rattle.octets.proofs.Place.{tab-set, tab-ext, tab-at, length-tab}
 use Rattle.octets.specs.Place.{tab}
 use Rattle.datagrams.specs.Sizes.{packetLimit, messageLimit, messagesLimit}
-use Rattle.repair.specs.Cells.{Cell, unknownAt, keptBefore, keptAhead, keptNumbers}
+use Rattle.repair.specs.Cells.{Cell, keptBefore, keptAhead, keptNumbers}
 use Rattle.repair.specs.Held.{Held, heldAt}
 use Rattle.repair.specs.Reached.{Known}
-use Rattle.stores.specs.Store.{part, zerosPast, HasSlot}
-use Rattle.views.specs.View.{View}
-use Rattle.views.specs.Ranges.{markRight, heldRight, knownAt, Sound}
+use Rattle.stores.specs.Store.{part, zerosPast}
+use Rattle.views.specs.Ranges.{markRight, heldRight, knownAt}
 use Rattle.views.proofs.Sizes.{mark-sizes}
 use Rattle.views.proofs.Holding.{heldThere, held-none, accepted-right, held-sound}
 use Rattle.held.specs.Slots.{slotAt, heardSlotAt, messageSlot, Apart, slotsKept, slotsHeard}
-use Rattle.held.specs.Table.{Lent, lent, countsOf, places, statePlace, sizePlace, markPlace, nPlace, mPlace, messagePlace, stateIn, sizeIn, markIn, nIn, mIn, messageSizeIn, stateNumbered, cellIn, messageIn, heldIn, cellsOf, heldOf, viewIn, heardSet}
+use Rattle.held.specs.Table.{Lent, lent, countsOf, statePlace, sizePlace, markPlace, nPlace, mPlace, messagePlace, markIn, nIn, mIn, messageSizeIn, stateNumbered, cellIn, messageIn, heldIn, cellsOf, heldOf, viewIn, heardSet}
 use Rattle.held.specs.Laid.{Laid, InRanges}
 use Rattle.held.specs.Heard.{NoSize, SizesLaid, OctetsLaid}
+use Rattle.held.proofs.Marked.{long-heard, mark-set, n-set, m-set, heard-elsewhere}
 use Rattle.held.proofs.Seen.{held-at, held-right}
 use Rattle.held.proofs.Slots.{slot-small, heard-small, message-small, heard-apart, message-apart, has-message-slot}
-
--- ---- what stands in the table once a number is marked
-pub long-heard : (t : List ℕ) (j mark n m : ℕ) → length t ≡ places → length (heardSet t j mark n m) ≡ places
-long-heard t j mark n m long = simp length-set long
-
-module _ (t : List ℕ) (j mark n m : ℕ) (small : j < slotsHeard) (long : length t ≡ places) where
-  mark-set : markIn (heardSet t j mark n m) j ≡ mark
-  mark-set =
-      getD-set-other (set (set t (markPlace j) mark) (nPlace j) n) (mPlace j) (markPlace j) m 0 (λ e. omega arith)
-      ∙ getD-set-other (set t (markPlace j) mark) (nPlace j) (markPlace j) n 0 (λ e. omega arith)
-      ∙ getD-set-same t (markPlace j) mark 0 (omega arith)
-
-  n-set : nIn (heardSet t j mark n m) j ≡ n
-  n-set =
-      getD-set-other (set (set t (markPlace j) mark) (nPlace j) n) (mPlace j) (nPlace j) m 0 (λ e. omega arith)
-      ∙ getD-set-same (set t (markPlace j) mark) (nPlace j) n 0 (omega (arith, length-set t (markPlace j) mark))
-
-  m-set : mIn (heardSet t j mark n m) j ≡ m
-  m-set =
-      getD-set-same (set (set t (markPlace j) mark) (nPlace j) n) (mPlace j) m 0
-      (omega (arith, length-set t (markPlace j) mark, length-set (set t (markPlace j) mark) (nPlace j) n))
-
-pub heard-elsewhere : (t : List ℕ) (j mark n m k : ℕ) → (k ≡ markPlace j → ⊥) → (k ≡ nPlace j → ⊥) → (k ≡ mPlace j → ⊥)
-    → getD (heardSet t j mark n m) k 0 ≡ getD t k 0
-heard-elsewhere t j mark n m k no-mark no-n no-m =
-    getD-set-other (set (set t (markPlace j) mark) (nPlace j) n) (mPlace j) k m 0 no-m
-    ∙ getD-set-other (set t (markPlace j) mark) (nPlace j) k n 0 no-n
-    ∙ getD-set-other t (markPlace j) k mark 0 no-mark
 
 module _ {t o g : List ℕ} (laid : Laid t o g) {j m : ℕ} (n : ℕ) {messages : ℕ → List ℕ} (small : j < slotsHeard)
     (few : m ≤ messagesLimit) {newT newG : List ℕ} (sizes : SizesLaid j m messages (heardSet t j 1 n m) newT) (octets : OctetsLaid j m messages g newG) where

@@ -1,11 +1,11 @@
 -- The number that was marked and whose messages were laid, in the words of the code: what the laws of the table say of it is what
 -- hold owes. Assumes nothing.
 use Prim.Native.Nat.{ℕ, _+_, _%_, _≤_, _<_}
-use mathlib.Core.Path.{_≡_, refl, sym, ap, _∙_}
+use mathlib.Core.Path.{_≡_, ap, _∙_}
 use mathlib.Core.Bool.{true}
-use mathlib.Core.List.{List, map}
+use mathlib.Core.List.{List}
 use mathlib.Core.Logic.{⊎-elim}
-use lib.ListN.{length, set, take}
+use lib.ListN.{length, set}
 use native.Mathlib.Omega.{arith}
 use borrow.Author.Tests.{le-leb, eq-eqb, ne-eqb}
 use Rattle.octets.proofs.Cases.{and-both}
@@ -14,15 +14,14 @@ use Rattle.datagrams.specs.Sizes.{messageLimit, coveredLimit, messagesLimit}
 use Rattle.datagrams.specs.Read.{octetsOf}
 use Rattle.datagrams.specs.Promise.{nowhere}
 use Rattle.datagrams.specs.declared.reader.Part.{Part}
-use Rattle.repair.specs.Held.{Held}
 use Rattle.views.specs.View.{numbers}
 use Rattle.views.specs.Ranges.{markRight}
 use Rattle.held.specs.Slots.{heardSlotAt, slotsHeard, messageOctets}
-use Rattle.held.specs.Table.{lent, places, heldOf, heardSet}
+use Rattle.held.specs.Table.{places, heldOf, heardSet}
 use Rattle.held.proofs.Slots.{heard-small}
-use Rattle.held.proofs.Heard.{long-heard, heard-cells, heard-held, heard-ranges}
+use Rattle.held.proofs.Heard.{heard-cells, heard-held, heard-ranges}
 use Rattle.keeping.specs.Steps.{itemOctets, Fit, ItemsLaid}
-use Rattle.keeping.specs.Promise.{InSizes, Settings, Carries, Unmarked, MayHold, HeldNow, Holds}
+use Rattle.keeping.specs.Promise.{Settings, Carries, MayHold, Holds}
 use Rattle.keeping.proofs.Laying.{length-octets}
 
 -- ---- the settings
@@ -46,9 +45,6 @@ module _ {s : List ℕ} {d n : ℕ} {items : List Part} {count : ℕ} (c : Carri
   pub covered-small : n < 65536
   covered-small = omega (arith, settings-few (c .settings) .0)
 
-  pub count-small : count < 65536
-  count-small = omega (arith, settings-few (c .settings) .1)
-
 -- ---- the lengths
 module _ {base : ℕ} {t g : List ℕ} {d : ℕ} (may : MayHold base t g d) where
   pub may-long : length t ≡ places
@@ -56,9 +52,6 @@ module _ {base : ℕ} {t g : List ℕ} {d : ℕ} (may : MayHold base t g d) wher
 
   pub may-octets : length g ≡ messageOctets
   may-octets = may .unmarked .within .laid .messages
-
-  pub marked-long : (slot n m : ℕ) {new : List ℕ} → new ≡ heardSet t slot 1 n m → length new ≡ places
-  marked-long slot n m {new} e = rw e (long-heard t slot 1 n m may-long)
 
 -- ---- what hold owes
 pub number-held : {base d : ℕ} {s : List ℕ} {n : ℕ} {items : List Part} {count number slot : ℕ} {t g marked newT newG : List ℕ}

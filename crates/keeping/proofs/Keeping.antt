@@ -1,6 +1,6 @@
 -- A packet kept at its number. An unknown number takes it, which is the packet placed in that number's slot; a known one stays as
 -- it is, and so do table and store. Assumes nothing.
-use Prim.Native.Nat.{ℕ, _+_, _%_, _≤_, _<_}
+use Prim.Native.Nat.{ℕ, zero, suc, _%_, _≤_, _<_}
 use mathlib.Core.Path.{_≡_, refl, sym, ap, _∙_}
 use mathlib.Core.Bool.{Bool, true, false, not, false≢true}
 use mathlib.Core.List.{List}
@@ -9,15 +9,15 @@ use lib.ListN.{length}
 use native.Mathlib.Omega.{arith}
 use borrow.Author.Tests.{ne-eqb}
 use Rattle.octets.proofs.Cases.{below-or-not}
-use Rattle.datagrams.specs.Sizes.{packetLeast, packetLimit, messageLeast, messageLimit}
+use Rattle.datagrams.specs.Sizes.{packetLeast, packetLimit}
 use Rattle.datagrams.specs.Claims.{PartInside}
 use Rattle.datagrams.specs.Read.{octetsOf}
 use Rattle.datagrams.specs.declared.reader.Part.{Part}
-use Rattle.repair.specs.Cells.{blank, isUnknown, unknownAt, keptNumbers}
+use Rattle.repair.specs.Cells.{received, spare, blank, isUnknown, unknownAt}
 use Rattle.views.specs.Ranges.{isFill}
 use Rattle.views.specs.Offer as offers
 use Rattle.held.specs.Slots.{numberAt, slotAt, slotsKept}
-use Rattle.held.specs.Table.{lent, lastState, stateIn, stateNumbered, cellsOf, keptSet}
+use Rattle.held.specs.Table.{lastState, stateIn, stateNumbered, cellsOf, keptSet}
 use Rattle.held.proofs.Slots.{slot-small}
 use Rattle.held.proofs.Seen.{unknown-at}
 use Rattle.held.proofs.Placed.{placed-cells, placed-held, placed-ranges}
@@ -36,6 +36,15 @@ not-true : (b : Bool) {c : Bool} → c ≡ not b → c ≡ true → b ≡ false
 not-true true e yes-c = sym (sym e ∙ yes-c)
 not-true false e yes-c = refl
 
+-- ---- the numbers that stand for states, as the code writes them
+pub received-number : stateNumbered 1 ≡ received
+unfolding stateNumbered
+received-number = refl
+
+pub spare-number : stateNumbered 2 ≡ spare
+unfolding stateNumbered
+spare-number = refl
+
 -- a number that stands for a packet's state is one of those listed
 past-listed : (n : ℕ) → lastState < n → stateNumbered n ≡ blank
 unfolding stateNumbered
@@ -51,10 +60,16 @@ pub fill-listed : (n : ℕ) → isFill (stateNumbered n) ≡ true → n ≤ last
 fill-listed n fills =
     ⊎-elim (λ past. absurd (false≢true (sym (ap isFill (past-listed n past)) ∙ fills))) (λ low. low) (below-or-not lastState n)
 
--- a part that is a packet, as laying it asks for one
-pub packet-part : {s : List ℕ} {p : Part} → PartInside packetLeast packetLimit s p → PartInside messageLeast messageLimit s p
-packet-part inside = record { low = omega arith; high = inside .high; inside = inside .inside }
+-- the numbers from 1 to 3 stand for the states of a packet
+pub fills : (n : ℕ) → 0 < n → n < lastState → isFill (stateNumbered n) ≡ true
+unfolding stateNumbered
+fills zero low high = absurd (omega arith)
+fills (suc zero) low high = refl
+fills (suc (suc zero)) low high = refl
+fills (suc (suc (suc zero))) low high = refl
+fills (suc (suc (suc (suc n)))) low high = absurd (omega arith)
 
+-- ---- in the words of the code
 module _ {state number slot : ℕ} {t o : List ℕ} {was : Bool} (e-slot : slot ≡ number % slotsKept)
     (e-was : was ≡ not (isUnknown (stateNumbered (stateIn t slot)))) where
   -- an unknown number takes the octets

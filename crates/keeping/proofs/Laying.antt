@@ -1,16 +1,16 @@
 -- A part of a datagram laid in a slot, and what the loop that lays messages keeps true: after i turns the first i messages are laid
 -- and every other slot is as it was. Assumes nothing.
-use Prim.Native.Nat.{ℕ, _+_, _-_, _*_, _≤_, _<_}
-use mathlib.Core.Path.{_≡_, refl, sym, ap, _∙_}
+use Prim.Native.Nat.{ℕ, _+_, _-_, _≤_, _<_}
+use mathlib.Core.Path.{_≡_, refl, sym, _∙_}
 use mathlib.Core.Bool.{true}
 use mathlib.Core.List.{List}
 use mathlib.Core.Logic.{⊎-elim}
-use lib.ListN.{length, getD, set, take, drop, length-set, length-drop}
+use lib.ListN.{length, set, take, drop, length-set, length-drop}
 use lib.Seq.{getD-set-same, getD-set-other, length-take-le}
 use native.Mathlib.Nat.{not-suc-le-zero}
 use native.Mathlib.Omega.{arith}
 use Rattle.octets.proofs.Cases.{same-or-not}
-use Rattle.datagrams.specs.Sizes.{packetLimit, messageLeast, messageLimit, messagesLimit}
+use Rattle.datagrams.specs.Sizes.{packetLimit, messageLeast, messageLimit}
 use Rattle.datagrams.specs.Read.{octetsOf}
 use Rattle.datagrams.specs.Claims.{PartInside}
 use Rattle.datagrams.specs.declared.reader.Part.{Part}
@@ -18,7 +18,7 @@ use Rattle.stores.specs.Store.{HasSlot, part, zerosPast, pasted}
 use Rattle.stores.proofs.Laws.{length-pasted, part-pasted, part-pasted-other, zerosPast-pasted, zerosPast-other}
 use Rattle.held.specs.Slots.{messageSlot, Apart, slotsHeard, slotsMessages, messageOctets}
 use Rattle.held.specs.Table.{places, messagePlace}
-use Rattle.held.specs.Heard.{NoSize, SizesLaid, OctetsLaid}
+use Rattle.held.specs.Heard.{SizesLaid, OctetsLaid}
 use Rattle.held.proofs.Slots.{message-small, has-message-slot, apart-before, apart-here}
 use Rattle.keeping.specs.Steps.{itemAt, itemOctets, PartPut, Fit, ItemsLaid}
 

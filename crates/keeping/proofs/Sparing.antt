@@ -1,7 +1,6 @@
 -- Spares kept one after the other: at each turn what is left to keep, kept in what is there now, gives the whole. Assumes nothing.
 use Prim.Native.Nat.{ℕ, _+_, _-_, _%_, _≤_, _<_}
 use mathlib.Core.Path.{_≡_, refl, sym, ap, ap₂, _∙_}
-use mathlib.Core.Bool.{true}
 use mathlib.Core.List.{List, [], _∷_, map}
 use lib.ListN.{length, getD, take, drop, length-take, drop-of-length-le}
 use lib.Seq.{drop-cons, getD-take, length-take-le}
@@ -13,24 +12,15 @@ use Rattle.datagrams.specs.Promise.{nowhere}
 use Rattle.datagrams.specs.Read.{octetsOf}
 use Rattle.datagrams.specs.declared.reader.Part.{Part}
 use Rattle.repair.specs.Cells.{Cell, spare, keptNumbers}
-use Rattle.views.specs.Ranges.{isFill}
 use Rattle.views.specs.View.{numbers}
 use Rattle.views.specs.Offer as offers
 use Rattle.held.specs.Slots.{numberAt, packetOctets}
-use Rattle.held.specs.Table.{lent, places, stateNumbered, cellsOf, heldOf}
+use Rattle.held.specs.Table.{lent, places, cellsOf, heldOf}
 use Rattle.held.specs.Laid.{InRanges}
 use Rattle.held.specs.declared.Counts.{Counts}
 use Rattle.keeping.specs.Steps.{itemAt}
 use Rattle.keeping.specs.Promise.{Keeps, CarriesSpares, KeepsSpares}
-
--- the number that stands for a spare
-spare-number : stateNumbered 2 ≡ spare
-unfolding stateNumbered
-spare-number = refl
-
-pub spare-fills : isFill (stateNumbered 2) ≡ true
-unfolding stateNumbered
-spare-fills = refl
+use Rattle.keeping.proofs.Keeping.{spare-number}
 
 -- ---- one spare more to keep
 keepSpares-cons : (p : ℕ) (x : List ℕ) (xs : List (List ℕ)) (cells : List Cell)

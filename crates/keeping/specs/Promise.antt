@@ -1,7 +1,7 @@
 -- What is kept of an accepted datagram: document 01, 'The receiving session', "its packet, then its spares in order, fill only
 -- numbers still unknown, those before the base too", and "For each number from the base on it keeps whether that datagram was
--- accepted and its parity messages." A record for what each call requires, and one for what it owes. A call owes it with all else
--- that may be lent, though it does not see it. Definitions only.
+-- accepted and its parity messages." A record for what each call requires, and one for what it owes. What a call does not see may be
+-- anything with which the session is within its ranges. Definitions only.
 use Prim.Native.Nat.{ℕ, _+_, _≤_, _<_}
 use mathlib.Core.Path.{_≡_}
 use mathlib.Core.Bool.{true, false}

@@ -2,15 +2,9 @@
 -- nothing.
 use borrow.Author.Needs.{needs}
 use native.Mathlib.Omega.{arith}
-use Rattle.keeping.proofs.Holding.{carried-fit, covered-small, count-small, may-long, may-octets, marked-long, number-held}
+use Rattle.keeping.proofs.Holding.{carried-fit, covered-small, may-long, may-octets, number-held}
 use Rattle.keeping.proofs.hold.Statement.{statement}
 use Rattle.keeping.proofs.hold.Tie as tie
-use Rattle.keeping.proofs.hold.Reads as reads
-use Rattle.keeping.proofs.hold.Lts as lts
-use Rattle.held.proofs.heard_slot.Reads as heard-slot-reads
-use Rattle.held.proofs.set_heard.Reads as set-heard-reads
-use Rattle.keeping.proofs.lay.Reads as lay-reads
-use Rattle.std.proofs.num.wrapping_add_u16.Reads as wrapping-add-u16-reads
 
 wrapping-add-u16-requires : tie.Need-wrapping-add-u16-requires
 wrapping-add-u16-requires c κs = search needs

@@ -3,12 +3,6 @@ use borrow.Author.Needs.{needs}
 use Rattle.keeping.proofs.Keeping.{keepings}
 use Rattle.keeping.proofs.keep.Statement.{statement}
 use Rattle.keeping.proofs.keep.Tie as tie
-use Rattle.keeping.proofs.keep.Reads as reads
-use Rattle.keeping.proofs.keep.Lts as lts
-use Rattle.held.proofs.is_known.Reads as is-known-reads
-use Rattle.held.proofs.kept_slot.Reads as kept-slot-reads
-use Rattle.held.proofs.set_kept.Reads as set-kept-reads
-use Rattle.keeping.proofs.put_part.Reads as put-part-reads
 
 kept-slot-requires : tie.Need-kept-slot-requires
 kept-slot-requires c κs = search needs

@@ -2,13 +2,10 @@
 -- nothing.
 use Prim.Native.Nat.{_-_}
 use borrow.Author.Needs.{needs}
-use Rattle.keeping.proofs.Sparing.{Sparing, spare-fills, sparing-start, sparing-long, sparing-octets, sparing-part, sparing-turn, sparing-done}
+use Rattle.keeping.proofs.Keeping.{fills}
+use Rattle.keeping.proofs.Sparing.{Sparing, sparing-start, sparing-long, sparing-octets, sparing-part, sparing-turn, sparing-done}
 use Rattle.keeping.proofs.keep_spares.Statement.{statement}
 use Rattle.keeping.proofs.keep_spares.Tie as tie
-use Rattle.keeping.proofs.keep_spares.Reads as reads
-use Rattle.keeping.proofs.keep_spares.Lts as lts
-use Rattle.keeping.proofs.keep.Reads as keep-reads
-use Rattle.std.proofs.num.wrapping_sub_u16.Reads as wrapping-sub-u16-reads
 
 abbrev Inv-loop : tie.InvT-loop
 Inv-loop t₀ o₀ number s count items at₀ j₀ t o at j = Sparing number s items count t₀ o₀ t o at j
@@ -29,7 +26,7 @@ wrapping-sub-u16-requires : tie.Need-wrapping-sub-u16-requires Inv-loop μ-loop
 wrapping-sub-u16-requires c κs = search needs
 
 keep-requires : tie.Need-keep-requires Inv-loop μ-loop
-keep-requires c κs = (search sparing-long, (search sparing-octets, (spare-fills, search sparing-part)))
+keep-requires c κs = (search sparing-long, (search sparing-octets, (fills _ (search needs) (search needs), search sparing-part)))
 
 add-j : tie.Need-add-j Inv-loop μ-loop
 add-j c = search needs

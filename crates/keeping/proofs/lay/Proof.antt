@@ -5,10 +5,6 @@ use borrow.Author.Needs.{needs}
 use Rattle.keeping.proofs.Laying.{Laying, layings}
 use Rattle.keeping.proofs.lay.Statement.{statement}
 use Rattle.keeping.proofs.lay.Tie as tie
-use Rattle.keeping.proofs.lay.Reads as reads
-use Rattle.keeping.proofs.lay.Lts as lts
-use Rattle.held.proofs.set_message_size.Reads as set-message-size-reads
-use Rattle.keeping.proofs.put_part.Reads as put-part-reads
 
 abbrev Inv-loop : tie.InvT-loop
 Inv-loop t₀ g₀ s j count items at i₀ t g i = Laying s j items count t₀ g₀ t g i

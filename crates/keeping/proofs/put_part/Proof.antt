@@ -3,9 +3,6 @@ use borrow.Author.Needs.{needs}
 use Rattle.keeping.proofs.Laying.{part-put}
 use Rattle.keeping.proofs.put_part.Statement.{statement}
 use Rattle.keeping.proofs.put_part.Tie as tie
-use Rattle.keeping.proofs.put_part.Reads as reads
-use Rattle.keeping.proofs.put_part.Lts as lts
-use Rattle.stores.proofs.put.Reads as put-reads
 
 add-end : tie.Need-add-end
 add-end c = search needs
