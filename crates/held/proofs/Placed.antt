@@ -2,7 +2,7 @@
 -- is set, what is held stays, and all stays within the ranges. A place of the view other than that one has another slot, and the
 -- writes leave that slot alone. Assumes nothing.
 use Prim.Native.Nat.{ℕ, _+_, _≤_, _<_}
-use mathlib.Core.Path.{_≡_, refl, sym, ap, ap₂, _∙_}
+use mathlib.Core.Path.{_≡_, sym, ap, ap₂, _∙_}
 use mathlib.Core.Bool.{true}
 use mathlib.Core.List.{List}
 use mathlib.Core.Logic.{⊎-elim}
@@ -12,17 +12,16 @@ use native.Mathlib.Omega.{arith}
 use Rattle.octets.proofs.Cases.{same-or-not}
 use Rattle.octets.proofs.Place.{tab-set, tab-ext}
 use Rattle.octets.specs.Place.{tab}
-use Rattle.datagrams.specs.Sizes.{packetLeast, packetLimit, messagesLimit}
+use Rattle.datagrams.specs.Sizes.{packetLeast, packetLimit}
 use Rattle.repair.specs.Cells.{Cell, unknownAt, keptAhead, keptNumbers}
 use Rattle.repair.specs.Held.{Held}
 use Rattle.repair.proofs.Fill.{unknown-inside}
 use Rattle.stores.specs.Store.{part, pasted, zerosPast, HasSlot}
 use Rattle.stores.proofs.Laws.{length-pasted, part-pasted, part-pasted-other, zerosPast-pasted, zerosPast-other}
-use Rattle.views.specs.View.{View}
-use Rattle.views.specs.Ranges.{isFill, Sound}
+use Rattle.views.specs.Ranges.{isFill}
 use Rattle.views.proofs.Filled.{filledAt, filled-sound}
-use Rattle.held.specs.Slots.{slotAt, heardSlotAt, messageSlot, slotsKept, slotsHeard}
-use Rattle.held.specs.Table.{Lent, lent, countsOf, places, lastState, statePlace, sizePlace, markPlace, nPlace, mPlace, messagePlace, stateIn, sizeIn, markIn, nIn, mIn, messageSizeIn, stateNumbered, cellIn, messageIn, heldIn, cellsOf, heldOf, viewIn, keptSet}
+use Rattle.held.specs.Slots.{slotAt, heardSlotAt, messageSlot, slotsKept}
+use Rattle.held.specs.Table.{Lent, lent, countsOf, places, lastState, statePlace, sizePlace, markPlace, nPlace, mPlace, messagePlace, stateIn, sizeIn, mIn, stateNumbered, cellIn, messageIn, heldIn, cellsOf, heldOf, viewIn, keptSet}
 use Rattle.held.specs.Laid.{Laid, InRanges}
 use Rattle.held.proofs.Places.{long-kept, kept-elsewhere}
 use Rattle.held.proofs.Seen.{length-cells, size-none}

@@ -1,13 +1,12 @@
 -- What the view shows at a place is what stands in the slot of that place; and what the ranges of the view say of that slot.
 -- Assumes nothing.
 use Prim.Native.Nat.{ℕ, _+_, _*_, _≤_, _<_}
-use mathlib.Core.Path.{_≡_, refl, sym, ap, _∙_}
-use mathlib.Core.Bool.{true, not}
+use mathlib.Core.Path.{_≡_, sym, ap, _∙_}
+use mathlib.Core.Bool.{true}
 use mathlib.Core.List.{List, []}
 use lib.ListN.{length, getD, take, drop}
-use native.Mathlib.Omega.{arith}
 use Rattle.octets.proofs.Place.{tab-at, length-tab}
-use Rattle.datagrams.specs.Sizes.{packetLimit, coveredLimit, messagesLimit}
+use Rattle.datagrams.specs.Sizes.{packetLimit, coveredLimit}
 use Rattle.repair.specs.Cells.{Cell, cellAt, unknownAt, isUnknown, keptBefore, keptAhead, keptNumbers}
 use Rattle.repair.specs.Held.{Held, heldAt}
 use Rattle.stores.specs.Store.{part}
@@ -18,7 +17,7 @@ use Rattle.views.proofs.Sizes.{unknown-size, held-sizes}
 use Rattle.held.specs.Slots.{slotAt, heardSlotAt, slotsKept, slotsHeard}
 use Rattle.held.specs.Table.{Lent, countsOf, stateIn, sizeIn, nIn, stateNumbered, cellIn, heldIn, cellsOf, heldOf, viewIn}
 use Rattle.held.specs.Laid.{Laid, InRanges}
-use Rattle.held.proofs.Slots.{slot-small, heard-small, heard-slot-of, has-packet-slot}
+use Rattle.held.proofs.Slots.{slot-small, heard-slot-of, has-packet-slot}
 
 pub length-cells : (base : ℕ) (t o : List ℕ) → length (cellsOf base t o) ≡ keptNumbers
 unfolding cellsOf

@@ -1,11 +1,11 @@
 -- One message used, and all that can be used: on plain values. The loop's invariant: what is left of the steps, done to what is
 -- there now, gives the whole. Assumes nothing.
-use Prim.Native.Nat.{ℕ, zero, suc, _+_, _-_, _*_, _%_, _≤_, _<_}
+use Prim.Native.Nat.{ℕ, suc, _-_, _≤_, _<_}
 use mathlib.Core.Path.{_≡_, refl, sym, ap, ap₂, subst, _∙_}
 use mathlib.Core.Bool.{true}
 use mathlib.Core.List.{List}
-use mathlib.Core.Option.{none, some}
-use lib.ListN.{length, getD, take}
+use mathlib.Core.Option.{some}
+use lib.ListN.{length, take}
 use native.Mathlib.Omega.{arith}
 use Rattle.datagrams.specs.Sizes.{packetLeast, packetLimit, messagesLimit}
 use Rattle.repair.specs.Cells.{Cell, keptNumbers}
@@ -22,7 +22,7 @@ use Rattle.held.specs.declared.Counts.{Counts}
 use Rattle.held.proofs.Placed.{beyond, placed-cells, placed-ranges}
 use Rattle.held.proofs.Seen.{length-cells}
 use Rattle.held.proofs.Slots.{slot-small}
-use Rattle.repairing.specs.Promise.{Searchable, sizeAt, messageHeld, Points, UsableFound, UsableAnswer, UsablePoints, MendedOctets, SameBeside, Fills, repairedView, Mends}
+use Rattle.repairing.specs.Promise.{Searchable, sizeAt, messageHeld, Points, UsableFound, UsableAnswer, UsablePoints, MendedOctets, SameBeside, Fills, Mends}
 use Rattle.repairing.specs.declared.Usable.{Usable}
 use Rattle.repairing.specs.declared.Usable.the-variants as usables
 use Rattle.repairing.proofs.Beside.{same-beside, beside-twice, held-beside}

@@ -2,6 +2,8 @@ pub mod Beside
 mod Turns
 mod Members
 mod Search
+mod Below
+mod Totals
 mod First
 mod Sums
 mod Fills

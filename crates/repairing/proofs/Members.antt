@@ -1,6 +1,6 @@
 -- The numbers that go back by m are the members of a message: what is counted, found and summed over their slots is what
 -- document 01 says of the members' places in the view. Assumes nothing.
-use Prim.Native.Nat.{ℕ, zero, suc, _+_, _-_, _*_, _%_, _≤_, _<_}
+use Prim.Native.Nat.{ℕ, zero, suc, _+_, _-_, _*_, _≤_, _<_}
 use mathlib.Core.Path.{_≡_, refl, sym, ap, ap₂, _∙_}
 use mathlib.Core.Bool.{Bool, true, false, not, cond}
 use mathlib.Core.List.{List, [], _∷_, map}
@@ -14,7 +14,7 @@ use Rattle.octets.specs.ExclusiveOr.{xorAt}
 use Rattle.octets.proofs.Place.{tab-ext}
 use Rattle.octets.proofs.ExclusiveOr.{xorAt-cons}
 use Rattle.datagrams.specs.Sizes.{packetLimit}
-use Rattle.repair.specs.Cells.{Cell, cellAt, unknownAt, keptBefore, keptNumbers}
+use Rattle.repair.specs.Cells.{Cell, cellAt, unknownAt, keptNumbers}
 use Rattle.repair.specs.Repair.{passing}
 use Rattle.repair.proofs.Passing.{passing-yes, passing-no}
 use Rattle.views.specs.View.{distance, numbers}

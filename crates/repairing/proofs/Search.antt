@@ -1,15 +1,15 @@
--- The search for a usable message, on plain values: what the tests of the code say of a message of document 01, and what the loop
--- over a number's messages keeps true: none of the messages so far is usable. Assumes nothing.
-use Prim.Native.Nat.{ℕ, zero, suc, _+_, _-_, _*_, _%_, _≤_, _<_}
-use mathlib.Core.Path.{_≡_, refl, sym, ap, ap₂, _∙_}
-use mathlib.Core.Bool.{Bool, true, false, cond, _&&_}
+-- The search for a usable message, on plain values: what the tests of the code say of a message of document 01, and the first usable
+-- one of a number's messages. Assumes nothing.
+use Prim.Native.Nat.{ℕ, zero, suc, _+_, _*_, _≤_, _<_}
+use mathlib.Core.Path.{_≡_, refl, ap, ap₂, _∙_}
+use mathlib.Core.Bool.{true, false, cond, _&&_}
 use mathlib.Core.List.{List, []}
 use mathlib.Core.Logic.{⊎-elim}
 use mathlib.Core.Option.{none, some}
 use lib.ListN.{length, getD}
 use lib.Dec.{leb, eqb}
 use native.Mathlib.Omega.{arith}
-use borrow.Author.Tests.{le-leb, eq-eqb, ne-eqb}
+use borrow.Author.Tests.{le-leb, ne-eqb}
 use Rattle.octets.specs.Place.{tab}
 use Rattle.octets.proofs.Place.{length-tab, tab-at, tab-ext}
 use Rattle.octets.proofs.Cases.{same-or-not}
@@ -19,15 +19,14 @@ use Rattle.repair.specs.Members.{membersOf}
 use Rattle.repair.specs.Repair.{Message, unknownMembers, usable, firstUsable}
 use Rattle.repair.specs.Held.{messagesOf, messageAt}
 use Rattle.stores.proofs.Laws.{length-part}
-use Rattle.views.specs.View.{numbers}
 use Rattle.views.proofs.Sizes.{reach-kept}
 use Rattle.held.specs.Slots.{numberAt, slotAt, heardSlotAt, messageSlot, slotsHeard, slotsMessages, messageOctets}
-use Rattle.held.specs.Table.{Lent, nIn, mIn, messageSizeIn, messageIn, heldIn, cellsOf}
+use Rattle.held.specs.Table.{Lent, messageIn, heldIn, cellsOf}
 use Rattle.held.specs.Laid.{InRanges}
 use Rattle.held.proofs.Seen.{n-small}
 use Rattle.held.proofs.Slots.{heard-small, message-small, has-message-slot}
 use Rattle.repairing.specs.Back.{countBack, findBack}
-use Rattle.repairing.specs.Promise.{Searchable, nAt, mAt, sizeAt, messageHeld, missingOf, LowestFound, Seeable, LowestSeen}
+use Rattle.repairing.specs.Promise.{Searchable, nAt, mAt, sizeAt, messageHeld, missingOf, Seeable}
 use Rattle.repairing.specs.declared.Lowest.the-variants as lowest
 use Rattle.repairing.proofs.Members.{counted, found-slot}
 
@@ -79,10 +78,10 @@ counted-one long count e =
     (same-or-not long 0)
 
 -- ---- a message as the code sees it: how many members are unknown, and none where it has no octets
-abbrev counts : ℕ → List ℕ → ℕ → ℕ → ℕ
+abbrev pub counts : ℕ → List ℕ → ℕ → ℕ → ℕ
 counts base t d i = countBack t (numberAt base (keptBefore + d + i)) (nAt base t d) (mAt base t d)
 
-abbrev missingAt : ℕ → List ℕ → ℕ → ℕ → ℕ
+abbrev pub missingAt : ℕ → List ℕ → ℕ → ℕ → ℕ
 missingAt base t d i = missingOf (sizeAt base t d i) t (numberAt base (keptBefore + d + i)) (nAt base t d) (mAt base t d)
 
 module _ {t : List ℕ} (s : Searchable t) (base d : ℕ) (near : d < keptAhead) (i : ℕ) (low : i < mAt base t d) where
@@ -94,14 +93,14 @@ module _ {t : List ℕ} (s : Searchable t) (base d : ℕ) (near : d < keptAhead)
       (omega (arith, m-near s base d))
 
   -- and so is its test
-  usable-is : (o g : List ℕ) → length g ≡ messageOctets → usable (cellsOf base t o) (messageHeld base t g d i)
+  pub usable-is : (o g : List ℕ) → length g ≡ messageOctets → usable (cellsOf base t o) (messageHeld base t g d i)
       ≡ eqb (missingAt base t d i) 1
   unfolding usable
   usable-is o g long =
       rw (octets-long s base d g long i low, ← unknown-count o g) (both-tests (sizeAt base t d i) (counts base t d i))
 
   -- the slot that the code finds is that of the first unknown member
-  target-is : (o g : List ℕ) → missingAt base t d i ≡ 1
+  pub target-is : (o g : List ℕ) → missingAt base t d i ≡ 1
       → findBack t (numberAt base (keptBefore + d + i)) (nAt base t d) (mAt base t d)
       ≡ slotAt base (getD (unknownMembers (cellsOf base t o) (messageHeld base t g d i)) 0 0)
   unfolding messageHeld membersOf
@@ -123,7 +122,7 @@ messages-long : (base : ℕ) (t g : List ℕ) (d : ℕ) → length ((heldIn t g 
 unfolding heldIn
 messages-long base t g d = length-tab (mAt base t d) (messageIn t g (heardSlotAt base d))
 
-messages-are : (base : ℕ) (t g : List ℕ) (d : ℕ)
+pub messages-are : (base : ℕ) (t g : List ℕ) (d : ℕ)
     → messagesOf (keptBefore + d) (heldIn t g (heardSlotAt base d)) ≡ tab (mAt base t d) (messageHeld base t g d)
 unfolding messagesOf
 messages-are base t g d =
@@ -131,130 +130,16 @@ messages-are base t g d =
     ∙ tab-ext (mAt base t d) _ _ (message-is base t g d)
 
 -- ---- the first of a list given by place
-first-none : (cells : List Cell) (n : ℕ) (f : ℕ → Message) → ((k : ℕ) → k < n → usable cells (f k) ≡ false)
+pub first-none : (cells : List Cell) (n : ℕ) (f : ℕ → Message) → ((k : ℕ) → k < n → usable cells (f k) ≡ false)
     → firstUsable cells (tab n f) ≡ none
 unfolding tab firstUsable
 first-none cells zero f each = refl
 first-none cells (suc n) f each = rw (each 0 (omega arith)) (first-none cells n (λ k. f (suc k)) (λ k low. each (suc k) (omega arith)))
 
-first-some : (cells : List Cell) (n : ℕ) (f : ℕ → Message) (i : ℕ) → i < n → ((k : ℕ) → k < i → usable cells (f k) ≡ false)
+pub first-some : (cells : List Cell) (n : ℕ) (f : ℕ → Message) (i : ℕ) → i < n → ((k : ℕ) → k < i → usable cells (f k) ≡ false)
     → usable cells (f i) ≡ true → firstUsable cells (tab n f) ≡ some (f i)
 unfolding tab firstUsable
 first-some cells zero f i low each hit = absurd (omega arith)
 first-some cells (suc n) f zero low each hit = rw hit
 first-some cells (suc n) f (suc i) low each hit =
     rw (each 0 (omega arith)) (first-some cells n (λ k. f (suc k)) i (omega arith) (λ k below. each (suc k) (omega arith)) hit)
-
--- ---- the loop over a number's messages: none below i is usable
-pub record NoneBelow (t : List ℕ) (at i : ℕ) : Type 0 where
-  pub none : (base d : ℕ) → d < keptAhead → at ≡ (base + d) % numbers → (k : ℕ) → k < i → (o g : List ℕ) → length g ≡ messageOctets
-      → usable (cellsOf base t o) (messageHeld base t g d k) ≡ false
-
-pub below-start : (t : List ℕ) (at : ℕ) → NoneBelow t at 0
-below-start t at = record { none = λ base d near e k low. absurd (omega arith) }
-
--- one turn, from a base and a distance at which the number is seen
-module _ {t : List ℕ} {at slot n m i index place size first unknown : ℕ} (s : Seeable t at slot n m) (more : i < m)
-    (e-index : index ≡ i) (e-place : place ≡ slot * messagesLimit + index) (e-size : size ≡ messageSizeIn t place)
-    (e-first : first ≡ (at + i) % numbers) (e-unknown : unknown ≡ missingOf size t first n m)
-    (base d : ℕ) (e-at : at ≡ (base + d) % numbers) where
-  slot-is : slot ≡ heardSlotAt base d
-  slot-is = s .place ∙ omega arith
-
-  n-is : n ≡ nAt base t d
-  n-is = s .covered ∙ ap (λ (j : ℕ). nIn t j) slot-is
-
-  m-is : m ≡ mAt base t d
-  m-is = s .count ∙ ap (λ (j : ℕ). mIn t j) slot-is
-
-  first-is : first ≡ numberAt base (keptBefore + d + i)
-  first-is = omega arith
-
-  size-is : size ≡ sizeAt base t d i
-  size-is = e-size ∙ ap (messageSizeIn t) (e-place ∙ ap₂ (λ (j k : ℕ). j * messagesLimit + k) slot-is e-index)
-
-  low : i < mAt base t d
-  low = rw m-is at more
-
-  unknown-is : unknown ≡ missingAt base t d i
-  unknown-is = e-unknown ∙ rw (size-is, first-is, n-is, m-is)
-
-module _ {t : List ℕ} {at slot n m i index place size first unknown : ℕ} (s : Seeable t at slot n m) (b : NoneBelow t at i) (more : i < m)
-    (e-index : index ≡ i) (e-place : place ≡ slot * messagesLimit + index) (e-size : size ≡ messageSizeIn t place)
-    (e-first : first ≡ (at + i) % numbers) (e-unknown : unknown ≡ missingOf size t first n m) where
-  pub below-turn : (unknown ≡ 1 → ⊥) → NoneBelow t at (i + 1)
-  below-turn miss =
-      record {
-        none =
-            λ base d near e k small o g long.
-            ⊎-elim
-            (λ same.
-            rw same
-            (usable-is (s .table) base d near i (low s more e-index e-place e-size e-first e-unknown base d e) o g long
-            ∙ ne-eqb _ 1 (λ one. miss (unknown-is s more e-index e-place e-size e-first e-unknown base d e ∙ one))))
-            (λ other. b .none base d near e k (omega arith) o g long)
-            (same-or-not k i);
-      }
-
-  pub lowest-hit : {target : ℕ} → unknown ≡ 1 → target ≡ findBack t first n m → LowestSeen t at (lowest.Message index target)
-  lowest-hit {target} hit e-target = record { found = at-base } where
-    at-base : (base d : ℕ) → d < keptAhead → at ≡ (base + d) % numbers → LowestFound base t d (lowest.Message index target)
-    at-base base d near e =
-        let here = low s more e-index e-place e-size e-first e-unknown base d e in
-        let count = unknown-is s more e-index e-place e-size e-first e-unknown base d e in
-        record {
-          answer =
-              λ o g long.
-              rw (messages-are base t g d, e-index)
-              (first-some (cellsOf base t o) (mAt base t d) (messageHeld base t g d) i here
-              (λ k small. b .none base d near e k small o g long)
-              (usable-is (s .table) base d near i here o g long ∙ eq-eqb _ 1 (sym count ∙ hit)));
-          points =
-              record {
-                near = near;
-                low = rw e-index here;
-                target =
-                    λ o g.
-                    rw e-index
-                    (e-target
-                    ∙ rw (
-                      first-is s more e-index e-place e-size e-first e-unknown base d e,
-                      n-is s more e-index e-place e-size e-first e-unknown base d e,
-                      m-is s more e-index e-place e-size e-first e-unknown base d e,
-                    )
-                    (target-is (s .table) base d near i here o g (sym count ∙ hit)));
-              };
-        }
-
--- no message of the number is usable
-none-seen : {t : List ℕ} {at slot m i : ℕ} → NoneBelow t at i → m ≤ i → slot ≡ at % slotsHeard → m ≡ mIn t slot
-    → LowestSeen t at lowest.Nothing
-none-seen {t} {at} {slot} {m} {i} b all e-slot e-m = record { found = at-base } where
-  at-base : (base d : ℕ) → d < keptAhead → at ≡ (base + d) % numbers → LowestFound base t d lowest.Nothing
-  at-base base d near e =
-      let slot-is : slot ≡ heardSlotAt base d = e-slot ∙ omega arith in
-      let m-is : m ≡ mAt base t d = e-m ∙ ap (λ (j : ℕ). mIn t j) slot-is in
-      record {
-        answer =
-            λ o g long.
-            rw (messages-are base t g d)
-            (first-none (cellsOf base t o) (mAt base t d) (messageHeld base t g d)
-            (λ k small. b .none base d near e k (omega (arith, m-is)) o g long));
-        points = tt;
-      }
-
-pub lowest-none : {t : List ℕ} {at slot n m i : ℕ} → Seeable t at slot n m → NoneBelow t at i → m ≤ i → LowestSeen t at lowest.Nothing
-lowest-none s b all = none-seen b all (s .place) (s .count)
-
--- what is read of a number in the search
-pub seeable : {t : List ℕ} {at slot count n m : ℕ} → Searchable t → slot ≡ at % slotsHeard → count ≡ mIn t slot → n ≡ nIn t slot → m ≡ count
-    → Seeable t at slot n m
-seeable s e-slot e-count e-n e-m = record { table = s; place = e-slot; covered = e-n; count = e-m ∙ e-count }
-
-pub small-count : {t : List ℕ} {slot count : ℕ} → Searchable t → slot < slotsHeard → count ≡ mIn t slot → count ≤ packetLimit
-small-count {t} {slot} s small e = omega (arith, e, s .few slot small)
-
--- a number without messages
-pub lowest-empty : {t : List ℕ} {at slot count : ℕ} → slot ≡ at % slotsHeard → count ≡ mIn t slot → count ≡ 0
-    → LowestSeen t at lowest.Nothing
-lowest-empty {t} {at} {slot} {count} e-slot e-m empty = none-seen (below-start t at) (omega arith) e-slot e-m

@@ -1,8 +1,8 @@
 -- The sum of a message and its members, on plain values: what the loop over the members keeps true, and that the front of the
 -- sum is what document 01 fills with. Assumes nothing.
-use Prim.Native.Nat.{ℕ, zero, suc, _+_, _-_, _*_, _%_, _≤_, _<_}
-use mathlib.Core.Path.{_≡_, refl, sym, ap, ap₂, _∙_}
-use mathlib.Core.List.{List, [], _∷_, _++_, map}
+use Prim.Native.Nat.{ℕ, suc, _+_, _-_, _*_, _%_, _≤_, _<_}
+use mathlib.Core.Path.{_≡_, sym, ap, ap₂, _∙_}
+use mathlib.Core.List.{List, _++_}
 use lib.ListN.{length, getD, take, drop, List·getD-append}
 use lib.Seq.{length-take-le, getD-take, ext-getD}
 use lib.Bits.{bitXor, xor-zero-r}
@@ -20,7 +20,7 @@ use Rattle.held.specs.Slots.{numberAt, heardSlotAt, messageSlot, slotsHeard}
 use Rattle.held.specs.Table.{Lent, nIn, mIn, messageSizeIn, messageIn, cellsOf}
 use Rattle.held.specs.Laid.{InRanges}
 use Rattle.repairing.specs.Back.{slotOf, xorBack, Summed}
-use Rattle.repairing.specs.Promise.{Searchable, nAt, mAt, sizeAt, messageHeld, MendedOctets}
+use Rattle.repairing.specs.Promise.{nAt, mAt, sizeAt, messageHeld, MendedOctets}
 use Rattle.repairing.proofs.Members.{summed}
 use Rattle.repairing.proofs.Search.{searchable, m-near, reach-near, size-near, octets-long}
 

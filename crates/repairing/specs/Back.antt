@@ -7,11 +7,11 @@ use mathlib.Core.List.{List}
 use lib.ListN.{length, getD}
 use lib.Bits.{bitXor}
 use lib.Dec.{eqb}
-use Rattle.datagrams.specs.Sizes.{packetLimit}
+use Rattle.datagrams.specs.Sizes.{packetLimit, messagesLimit}
 use Rattle.repair.specs.Cells.{isUnknown}
 use Rattle.views.specs.View.{distance}
-use Rattle.held.specs.Slots.{slotsKept}
-use Rattle.held.specs.Table.{stateIn, stateNumbered}
+use Rattle.held.specs.Slots.{slotsKept, slotsHeard}
+use Rattle.held.specs.Table.{stateIn, mIn, stateNumbered}
 
 -- one for an unknown number in a slot, zero for any other
 abbrev pub unknownOne : List ℕ → ℕ → ℕ
@@ -46,3 +46,17 @@ xorBack o x (suc n) m j =
 pub record Summed (o : List ℕ) (x n m : ℕ) (before after : List ℕ) : Type 0 where
   pub long : length after ≡ packetLimit
   pub each : (j : ℕ) → j < packetLimit → getD after j 0 ≡ bitXor (getD before j 0) (xorBack o x n m j)
+
+-- the sum of f 0, f 1, .. of n numbers
+unfoldable pub sumTo : ℕ → (ℕ → ℕ) → ℕ
+sumTo zero f = 0
+sumTo (suc n) f = sumTo n f + f n
+
+-- how many messages are held of all numbers
+abbrev pub countAll : List ℕ → ℕ
+countAll t = sumTo slotsHeard (mIn t)
+
+-- how many of one number
+pub record Count (t : List ℕ) (slot r : ℕ) : Type 0 where
+  pub same : r ≡ mIn t slot
+  pub small : r ≤ messagesLimit

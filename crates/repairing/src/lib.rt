@@ -5,18 +5,17 @@ use datagrams::Parity;
 use held::Counts;
 use held::Session;
 ghost use mathlib.Core.Path.{_≡_};
-ghost use mathlib.Core.List.{List};
 ghost use mathlib.Core.Bool.{true};
-ghost use Prim.Native.Nat.{ℕ, _≤_, _<_};
+ghost use Prim.Native.Nat.{_≤_, _<_};
 ghost use lib.ListN.{length};
 ghost use Rattle.datagrams.specs.Sizes.{packetLimit, coveredLimit, messagesLimit};
 ghost use Rattle.views.specs.View.{distance};
 ghost use Rattle.repair.specs.Cells.{keptAhead};
 ghost use Rattle.repair.specs.Repair.{usable};
-ghost use Rattle.held.specs.Slots.{slotsKept, packetOctets};
+ghost use Rattle.held.specs.Slots.{slotsKept, slotsHeard, packetOctets};
 ghost use Rattle.held.specs.Table.{lent, places, cellsOf};
 ghost use Rattle.held.specs.Laid.{InRanges};
-ghost use Rattle.repairing.specs.Back.{One, countBack, findBack, Summed};
+ghost use Rattle.repairing.specs.Back.{One, countBack, findBack, Summed, Count, countAll};
 ghost use Rattle.repairing.specs.Promise.{Searchable, Seeable, LowestSeen, UsableFound, MendedOctets, Points, Fills, Mends, missingOf, messageHeld, mAt, sizeAt};
 
 // A message that mends: the distance of its number from the base, its index, and the slot of its one unknown member.
@@ -154,13 +153,39 @@ fn lowest_usable(t: &[u16], at: u16) -> Lowest
     lowest_among(t, at, slot, n, m)
 }
 
-// The first usable message, of the numbers counted from the base on.
+// How many messages are held of a number, and of all numbers.
+fn count_at(t: &[u16], slot: usize) -> u16
+    requires { ⌜ Searchable (now t) ⌝ }
+    requires { ⌜ slot < slotsHeard ⌝ }
+    ensures { λ r. ⌜ Count (now (t .entry)) slot r ⌝ }
+{
+    let m = held::m_at(t, slot);
+    narrow(m)
+}
+
+fn count_all(t: &[u16]) -> u16
+    requires { ⌜ Searchable (now t) ⌝ }
+    ensures { λ r. ⌜ r ≡ countAll (now (t .entry)) ⌝ }
+{
+    let mut total: u16 = 0;
+    let mut j = 0;
+    while j < Session::HEARD {
+        let m = count_at(t, j);
+        total = total + m;
+        j += 1;
+    }
+    total
+}
+
+// The first usable message, of the numbers counted from the base on, until all messages are seen.
 fn first_usable(base: u16, t: &[u16]) -> Usable
     requires { ⌜ Searchable (now t) ⌝ }
     ensures { λ r. ⌜ UsableFound base (now (t .entry)) r ⌝ }
 {
+    let total = count_all(t);
+    let mut seen: u16 = 0;
     let mut distance: u16 = 0;
-    while distance < Session::AHEAD {
+    while seen < total {
         let at = std::num::wrapping_add_u16(base, distance);
         let found = lowest_usable(t, at);
         if let Lowest::Message { index, slot } = found {
@@ -170,6 +195,9 @@ fn first_usable(base: u16, t: &[u16]) -> Usable
                 slot,
             };
         }
+        let place = held::heard_slot(at);
+        let m = count_at(t, place);
+        seen = seen + m;
         distance += 1;
     }
     Usable::Nothing

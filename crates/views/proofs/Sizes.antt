@@ -3,14 +3,13 @@
 use Prim.Native.Nat.{ℕ, _*_, _≤_}
 use mathlib.Core.Path.{_≡_, refl}
 use mathlib.Core.Bool.{Bool, true, false, not, cond, _&&_, false≢true}
-use mathlib.Core.List.{List}
 use lib.ListN.{length}
 use lib.Dec.{leb, eqb}
 use native.Mathlib.Nat.{mul-le-mul, le-trans}
 use native.Mathlib.Omega.{arith}
 use borrow.Author.Tests.{leb-true, eqb-true}
 use Rattle.octets.proofs.Cases.{and-left, and-right}
-use Rattle.datagrams.specs.Sizes.{packetLeast, packetLimit, coveredLimit, messagesLimit, reachLimit}
+use Rattle.datagrams.specs.Sizes.{coveredLimit, messagesLimit, reachLimit}
 use Rattle.repair.specs.Cells.{State, unknown, received, spare, repaired, blank, isUnknown, keptBefore}
 use Rattle.repair.specs.Held.{Held}
 use Rattle.views.specs.Ranges.{sizeRight, markRight, heldRight}

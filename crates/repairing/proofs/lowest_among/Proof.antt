@@ -1,7 +1,8 @@
 -- `repairing::lowest_among` meets its contract: none of the messages so far is usable. Assumes nothing.
 use Prim.Native.Nat.{_-_}
 use mathlib.Core.Path.{refl}
-use Rattle.repairing.proofs.Search.{NoneBelow, small-n, there, below-start, below-turn, lowest-hit, lowest-none}
+use Rattle.repairing.proofs.Search.{small-n, there}
+use Rattle.repairing.proofs.Below.{NoneBelow, below-start, below-turn, lowest-hit, lowest-none}
 use borrow.Author.Needs.{needs}
 use Rattle.repairing.proofs.lowest_among.Statement.{statement}
 use Rattle.repairing.proofs.lowest_among.Tie as tie

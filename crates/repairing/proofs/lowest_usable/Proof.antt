@@ -1,6 +1,6 @@
 -- `repairing::lowest_usable` meets its contract. Assumes nothing.
 use native.Mathlib.Omega.{arith}
-use Rattle.repairing.proofs.Search.{small-count, seeable, lowest-empty}
+use Rattle.repairing.proofs.Below.{small-count, seeable, lowest-empty}
 use borrow.Author.Needs.{needs}
 use Rattle.repairing.proofs.lowest_usable.Statement.{statement}
 use Rattle.repairing.proofs.lowest_usable.Tie as tie

@@ -3,7 +3,8 @@ use native.Mathlib.Omega.{arith}
 use mathlib.Core.Path.{refl}
 use Rattle.datagrams.specs.Sizes.{packetLimit}
 use Rattle.stores.specs.Store.{zeros}
-use Rattle.repairing.proofs.Search.{searchable, small-count}
+use Rattle.repairing.proofs.Search.{searchable}
+use Rattle.repairing.proofs.Below.{small-count}
 use Rattle.repairing.proofs.Sums.{size-small, mended-front}
 use borrow.Author.Needs.{needs}
 use Rattle.repairing.proofs.mended.Statement.{statement}
