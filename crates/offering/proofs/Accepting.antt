@@ -2,14 +2,14 @@
 -- Each step leaves the rest of the view as it was, so that the view after is put together from what each says of its own part.
 -- Assumes nothing.
 use Prim.Native.Nat.{ℕ, _+_, _≤_, _<_}
-use mathlib.Core.Path.{_≡_, refl, sym, ap, ap₂, _∙_}
-use mathlib.Core.Bool.{true, false}
+use mathlib.Core.Path.{_≡_, refl, ap, ap₂, _∙_}
+use mathlib.Core.Bool.{true}
 use mathlib.Core.List.{List, map}
 use mathlib.Core.Logic.{inl, inr}
 use lib.ListN.{length, set, take}
 use native.Mathlib.Omega.{arith}
-use Rattle.datagrams.specs.Sizes.{sparesLimit, coveredLimit, messagesLimit}
-use Rattle.datagrams.specs.Write.{within, countInside}
+use Rattle.datagrams.specs.Sizes.{coveredLimit, messagesLimit}
+use Rattle.datagrams.specs.Write.{within}
 use Rattle.datagrams.specs.Read.{octetsOf, carriedBy}
 use Rattle.datagrams.specs.Claims.{Inside}
 use Rattle.datagrams.specs.declared.reader.Part.{Part}
@@ -20,10 +20,9 @@ use Rattle.repair.specs.Cells.{received, Cell, unknownAt, keptBefore, keptAhead
 use Rattle.repair.specs.Held.{Held, heldAt, heldMessages}
 use Rattle.repair.specs.Reached.{Known}
 use Rattle.repair.specs.Repair.{repair}
-use Rattle.views.specs.View.{View}
 use Rattle.views.specs.Ranges.{isFill}
 use Rattle.views.specs.Offer as offers
-use Rattle.held.specs.Table.{lent, countsOf, stateNumbered, cellsOf, heldOf, viewIn}
+use Rattle.held.specs.Table.{Lent, lent, countsOf, stateNumbered, cellsOf, heldOf, viewIn}
 use Rattle.held.specs.Laid.{InRanges}
 use Rattle.held.specs.declared.Counts.{Counts}
 use Rattle.held.proofs.Seen.{length-cells}
@@ -42,19 +41,23 @@ pub received-fills : isFill (stateNumbered 1) ≡ true
 received-fills = rw is-received
 
 -- the spares: with parity there are none
-pub carries-spares : {s : List ℕ} {packet : Part} (k : Kind) {count : ℕ} {items : List Part} → Inside s packet k count items
+spares-carried : {s : List ℕ} {packet : Part} (k : Kind) {count : ℕ} {items : List Part} → Inside s packet k count items
     → count ≤ length items → CarriesSpares s items (sparesOf k count)
-carries-spares kind.Spares {count} inside there =
+spares-carried kind.Spares {count} inside there =
     record { few = count-few kind.Spares count (inside .counted); there = there; each = inside .each }
-carries-spares (kind.Parity n) inside there =
+spares-carried (kind.Parity n) inside there =
     record { few = omega arith; there = omega arith; each = λ i low. absurd (omega arith) }
 
+pub carries-spares : {l : Lent} {s : List ℕ} {number d : ℕ} {packet : Part} {k : Kind} {count : ℕ} {items : List Part}
+    → MayBeAccepted l s number d packet k count items → {spares : ℕ} → spares ≡ sparesOf k count → CarriesSpares s items spares
+carries-spares {k = k} may e = rw e (spares-carried k (may .inside) (may .there))
+
 -- the messages: with spares there are none
-pub carries : {s : List ℕ} {d : ℕ} {packet : Part} (k : Kind) {count : ℕ} {items : List Part} → d < keptAhead → Inside s packet k count items
-    → count ≤ length items → Carries s d (coveredOf k) items (messagesOf k count)
-carries kind.Spares near inside there =
+messages-carried : {s : List ℕ} {d : ℕ} {packet : Part} (k : Kind) {count : ℕ} {items : List Part} → d < keptAhead
+    → Inside s packet k count items → count ≤ length items → Carries s d (coveredOf k) items (messagesOf k count)
+messages-carried kind.Spares near inside there =
     record { near = near; settings = inl (refl, refl); there = omega arith; each = λ i low. absurd (omega arith) }
-carries (kind.Parity n) {count} near inside there =
+messages-carried (kind.Parity n) {count} near inside there =
     let covered = within-true 1 coveredLimit n (both (within 1 coveredLimit n) _ (inside .counted) .0) in
     let few = within-true 1 messagesLimit count (both (within 1 coveredLimit n) _ (inside .counted) .1) in
     record {
@@ -63,6 +66,10 @@ carries (kind.Parity n) {count} near inside there =
       there = there;
       each = inside .each;
     }
+
+pub carries : {l : Lent} {s : List ℕ} {number d : ℕ} {packet : Part} {k : Kind} {count : ℕ} {items : List Part}
+    → MayBeAccepted l s number d packet k count items → {n m : ℕ} → n ≡ coveredOf k → m ≡ messagesOf k count → Carries s d n items m
+carries {k = k} may e-n e-m = rw (e-n, e-m) (messages-carried k (may .near) (may .inside) (may .there))
 
 -- ---- what is kept and held of both kinds, as document 01 has it
 kept-extra : (s : List ℕ) (number : ℕ) (packet : Part) (k : Kind) (count : ℕ) (items : List Part) (p : ℕ) (cells : List Cell)
@@ -85,7 +92,8 @@ module _ {base : ℕ} {c : Counts} {t o g s : List ℕ} {number d : ℕ} {packet
   in-view : keptBefore + d < keptNumbers
   in-view = omega (arith, may .near)
 
-  packet-now : CellsNow (lent base c t o g) (lent base c t₁ o₁ g) (offers.keep received (keptBefore + d) (octetsOf s packet) (cellsOf base t o))
+  packet-now : CellsNow (lent base c t o g) (lent base c t₁ o₁ g)
+      (offers.keep received (keptBefore + d) (octetsOf s packet) (cellsOf base t o))
   packet-now = rw is-received at (k₁ .kept base c g (keptBefore + d) w in-view (may .place))
 
   pub within-first : InRanges (lent base c t₁ o₁ g)
@@ -100,7 +108,7 @@ module _ {base : ℕ} {c : Counts} {t o g s : List ℕ} {number d : ℕ} {packet
     spares-now : CellsNow (lent base c t₁ o₁ g) (lent base c t₂ o₂ g)
         (offers.keepSpares (keptBefore + d) (map (octetsOf s) (take (sparesOf k count) items)) (cellsOf base t₁ o₁))
     spares-now =
-        let few = carries-spares k (may .inside) (may .there) .few in
+        let few = spares-carried k (may .inside) (may .there) .few in
         (rw e-spares at k₂) .kept base c g (keptBefore + d) within-first in-view (omega arith) (may .place)
 
     held-second : heldOf base t₂ g ≡ heldOf base t g
@@ -112,7 +120,8 @@ module _ {base : ℕ} {c : Counts} {t o g s : List ℕ} {number d : ℕ} {packet
           within = spares-now .within;
           known =
               ap (λ (x : List Cell). unknownAt x (keptBefore + d)) (spares-now .cells)
-              ∙ spares-stay (keptBefore + d) (map (octetsOf s) (take (sparesOf k count) items)) (cellsOf base t₁ o₁) (keptBefore + d) known-first;
+              ∙ spares-stay (keptBefore + d) (map (octetsOf s) (take (sparesOf k count) items)) (cellsOf base t₁ o₁) (keptBefore + d)
+              known-first;
           unmarked = ap (λ (x : List Held). (heldAt x d) .accepted) held-second ∙ may .unmarked;
         }
 
@@ -133,7 +142,8 @@ module _ {base : ℕ} {c : Counts} {t o g s : List ℕ} {number d : ℕ} {packet
         cells-third =
             held-now .cells ∙ spares-now .cells
             ∙ ap (offers.keepSpares (keptBefore + d) (map (octetsOf s) (take (sparesOf k count) items))) (packet-now .cells)
-            ∙ kept-extra s number packet k count items (keptBefore + d) (offers.keep received (keptBefore + d) (octetsOf s packet) (cellsOf base t o))
+            ∙ kept-extra s number packet k count items (keptBefore + d)
+            (offers.keep received (keptBefore + d) (octetsOf s packet) (cellsOf base t o))
 
         held-third : heldOf base t₃ g₁ ≡ set (heldOf base t g) d (offers.heldOf ((carriedOf s number packet k count items) .extra))
         held-third =
@@ -146,6 +156,7 @@ module _ {base : ℕ} {c : Counts} {t o g s : List ℕ} {number d : ℕ} {packet
             record {
               state =
                   k₄ .state
-                  ∙ ap₂ (λ (x : List Cell) (y : List Held). record { base = base; counts = countsOf c; cells = repair x (heldMessages y); held = y }) cells-third held-third;
+                  ∙ ap₂ (λ (x : List Cell) (y : List Held).
+                  record { base = base; counts = countsOf c; cells = repair x (heldMessages y); held = y }) cells-third held-third;
               within = k₄ .within;
             }

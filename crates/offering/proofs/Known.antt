@@ -18,18 +18,22 @@ pub keep-here : (state : State) (p : ℕ) (b : List ℕ) (cells : List Cell) →
     → Known (keep state p b cells) p
 unfolding keep
 keep-here state p b cells known inside =
-    ⊎-elim (λ t. rw t (set-here cells p (record { state = state; octets = b }) inside known)) (λ f. rw f f) (true-or-false (unknownAt cells p))
+    ⊎-elim (λ t. rw t (set-here cells p (record { state = state; octets = b }) inside known)) (λ f. rw f f)
+    (true-or-false (unknownAt cells p))
 
 set-stays : (cells : List Cell) (q : ℕ) (c : Cell) (p : ℕ) → isUnknown (c .state) ≡ false → Unknown cells q → Known cells p
     → Known (set cells q c) p
 set-stays cells q c p known un e =
-    ap (λ (x : Cell). isUnknown (x .state)) (getD-set-other cells q p c _ (λ same. true≢false (sym un ∙ ap (unknownAt cells) (sym same) ∙ e))) ∙ e
+    ap (λ (x : Cell). isUnknown (x .state))
+    (getD-set-other cells q p c _ (λ same. true≢false (sym un ∙ ap (unknownAt cells) (sym same) ∙ e)))
+    ∙ e
 
 keep-stays : (state : State) (q : ℕ) (b : List ℕ) (cells : List Cell) (p : ℕ) → isUnknown state ≡ false → Known cells p
     → Known (keep state q b cells) p
 unfolding keep
 keep-stays state q b cells p known e =
-    ⊎-elim (λ t. rw t (set-stays cells q (record { state = state; octets = b }) p known t e)) (λ f. rw f e) (true-or-false (unknownAt cells q))
+    ⊎-elim (λ t. rw t (set-stays cells q (record { state = state; octets = b }) p known t e)) (λ f. rw f e)
+    (true-or-false (unknownAt cells q))
 
 pub spares-stay : (q : ℕ) (copies : List (List ℕ)) (cells : List Cell) (p : ℕ) → Known cells p → Known (keepSpares q copies cells) p
 unfolding keepSpares

@@ -9,22 +9,22 @@ use lib.Dec.{eqb}
 use native.Mathlib.Omega.{arith}
 use borrow.Author.Tests.{lt-ltb, le-ltb}
 use Rattle.lengths.specs.Refusals.{repeated, tooFar, late}
-use Rattle.lengths.specs.Answers.{Answer, done, refused, refuse, _>>=_}
+use Rattle.lengths.specs.Answers.{done, refused, refuse}
 use Rattle.lengths.specs.declared.Refusal.{Refusal}
 use Rattle.datagrams.specs.Carried.{Carried}
 use Rattle.datagrams.specs.Claims.{Inside}
 use Rattle.datagrams.specs.Promise.{DatagramReads}
-use Rattle.datagrams.specs.Read.{readDatagram, carriedBy}
+use Rattle.datagrams.specs.Read.{carriedBy}
 use Rattle.datagrams.proofs.ReadLaws.{refused-read, accepted-read, accepted-count, accepted-inside}
 use Rattle.datagrams.specs.declared.reader.Part.{Part}
 use Rattle.datagrams.specs.declared.reader.Reading.the-variants as reading
 use Rattle.datagrams.specs.declared.reader.DatagramRead.{DatagramRead}
 use Rattle.datagrams.specs.declared.kind.Kind.{Kind}
-use Rattle.repair.specs.Cells.{keptBefore, keptAhead}
+use Rattle.repair.specs.Cells.{keptAhead}
 use Rattle.repair.specs.Held.{Held, heldAt}
-use Rattle.views.specs.View.{View, distance, numbers}
+use Rattle.views.specs.View.{distance, numbers}
 use Rattle.views.specs.Offer as offers
-use Rattle.held.specs.Slots.{numberAt, slotsHeard, heardSlotAt}
+use Rattle.held.specs.Slots.{slotsHeard, heardSlotAt}
 use Rattle.held.specs.Table.{Lent, lent, markIn, heldIn, heldOf, viewIn}
 use Rattle.held.specs.Laid.{InRanges}
 use Rattle.held.specs.declared.Counts.{Counts}

@@ -20,7 +20,7 @@ keep-spares-requires c κs =
     let start = keep .before .before .before .before in
     let may = start .pre .1 in
     let laid = within-first (start .pre .0) may (keep .keep .ensures) .laid in
-    (laid .long, (laid .octets, rw (spares .spares-of .ensures) (carries-spares (start .args .kind) (may .inside) (may .there))))
+    (laid .long, (laid .octets, carries-spares may (spares .spares-of .ensures)))
 
 covered-of-requires : tie.Need-covered-of-requires
 covered-of-requires c κs = search needs
@@ -38,7 +38,7 @@ hold-requires c κs =
     let start = keep .before .before .before .before in
     let may = start .pre .1 in (
       may-hold (start .pre .0) may (keep .keep .ensures) (spares .spares-of .ensures) (kept .keep-spares .ensures),
-      rw (n .covered-of .ensures, m .messages-of .ensures) (carries (start .args .kind) (may .near) (may .inside) (may .there)),
+      carries may (n .covered-of .ensures) (m .messages-of .ensures),
     )
 
 mend-requires : tie.Need-mend-requires

@@ -72,7 +72,8 @@ accept-requires c κs =
       start .pre .0,
       may-accept (start .pre .0) (now (a .s)) (a .packet) (a .kind) (a .count) (a .items)
           (start .fits .number .fits) near (d .wrapping-sub-u16 .ensures)
-          (slot .before .if1 .left) (slot .heard-slot .ensures) (at .accepted-at .ensures) (new .if3 .left) (start .pre .1 .0) (start .pre .1 .1),
+          (slot .before .if1 .left) (slot .heard-slot .ensures) (at .accepted-at .ensures) (new .if3 .left)
+          (start .pre .1 .0) (start .pre .1 .1),
     )
 
 returns-4 : tie.Need-returns-4
