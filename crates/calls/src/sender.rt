@@ -38,7 +38,7 @@ fn send_with(
     buffer: &mut [u8],
     out: &mut [u8],
 ) -> AfterCall {
-    let after = sending::send(sender, packet, settings, buffer);
+    let after = datagram_sender::send(sender, packet, settings, buffer);
     let held = after.sender;
     let answer = after.answer;
     let size = written(out, answer, buffer);
@@ -101,7 +101,7 @@ fn many_sent(times: u32) -> Sender {
 fn one_sent(sender: Sender) -> Sender {
     let packet = [6u8];
     let mut buffer = [FILLING; 16];
-    let after = sending::send(sender, &packet, Settings::Spares(0), &mut buffer);
+    let after = datagram_sender::send(sender, &packet, Settings::Spares(0), &mut buffer);
     let held = after.sender;
     held
 }

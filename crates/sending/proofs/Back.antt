@@ -38,9 +38,7 @@ use Rattle.sending.proofs.Slots.{slot-small}
 use Rattle.sending.proofs.History.{history-at, length-packet}
 use Rattle.sending.proofs.Kept.{place-size, stored-of}
 use Rattle.sending.proofs.Accepted.{Accepted}
-use Rattle.sending.proofs.SendSteps.{count-inside}
-use Rattle.sending.proofs.ItemSteps.{item-spare, item-message, members-short}
-use Rattle.sending.proofs.ItemsSteps.{items-count}
+use Rattle.sending.proofs.ItemLaws.{count-inside, item-spare, item-message, members-short, items-count}
 use Rattle.sending.proofs.Outcome.{sent-says}
 
 -- each length inside, all inside

@@ -7,7 +7,6 @@ pub mod Held
 pub mod Items
 pub mod Next
 pub mod Promise
-pub mod Inner
 pub mod Honest
 pub mod Run
 pub mod Cases
