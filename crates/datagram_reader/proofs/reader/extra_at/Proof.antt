@@ -1,4 +1,4 @@
--- `datagrams::reader::extra_at` meets its contract: the choice octet's tests, then spares or parity, give each answer. Assumes nothing.
+-- `datagram_reader::extra_at` meets its contract: the choice octet's tests, then spares or parity, give each answer. Assumes nothing.
 use borrow.Author.Needs.{needs}
 use Rattle.datagram_reader.proofs.ReadSteps.{choices}
 use Rattle.datagram_reader.proofs.reader.extra_at.Statement.{statement}

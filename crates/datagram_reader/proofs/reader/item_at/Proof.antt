@@ -1,4 +1,4 @@
--- `datagrams::reader::item_at` meets its contract: its length's answer, then the octets that are left, give each answer. Assumes nothing.
+-- `datagram_reader::item_at` meets its contract: its length's answer, then the octets that are left, give each answer. Assumes nothing.
 use Rattle.datagram_reader.proofs.ReadSteps.{sized-ends}
 use native.Mathlib.Omega.{arith}
 use borrow.Author.Needs.{needs}

@@ -1,4 +1,4 @@
--- `datagrams::reader::octet_at` meets its contract: the tests give each answer. Assumes nothing.
+-- `datagram_reader::octet_at` meets its contract: the tests give each answer. Assumes nothing.
 use borrow.Author.Needs.{needs}
 use Rattle.datagram_reader.proofs.ReadSteps.{octets}
 use Rattle.datagram_reader.proofs.reader.octet_at.Statement.{statement}

@@ -1,4 +1,5 @@
--- `datagrams::reader::parity_at` meets its contract: octet 01, octet n and the count in turn give each answer; an octet that reads lies within the octets. Assumes nothing.
+-- `datagram_reader::parity_at` meets its contract: octet 01, octet n and the count in turn give each answer; an octet that reads
+-- lies within the octets. Assumes nothing.
 use Rattle.datagram_reader.proofs.ReadSteps.{sized-ends, octet-ends}
 use native.Mathlib.Omega.{arith}
 use borrow.Author.Needs.{needs}

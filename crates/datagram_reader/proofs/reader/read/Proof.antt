@@ -1,4 +1,4 @@
--- `datagrams::reader::read` meets its contract: each test or piece in reading order gives its answer. Assumes nothing.
+-- `datagram_reader::read` meets its contract: each test or piece in reading order gives its answer. Assumes nothing.
 use native.Mathlib.Omega.{arith}
 use Rattle.datagram_reader.proofs.ReadSteps.{item-ends}
 use Rattle.datagram_reader.proofs.ReadWhole.{readings, extra-asked}

@@ -1,4 +1,4 @@
--- `datagrams::reader::refusal_of` meets its contract: a refused length's refusal comes back whole. Assumes nothing.
+-- `datagram_reader::refusal_of` meets its contract: a refused length's refusal comes back whole. Assumes nothing.
 use borrow.Author.Needs.{needs}
 use Rattle.datagram_reader.proofs.ReadSteps.{passings}
 use Rattle.datagram_reader.proofs.reader.refusal_of.Statement.{statement}

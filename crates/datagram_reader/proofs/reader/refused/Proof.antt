@@ -1,4 +1,4 @@
--- `datagrams::reader::refused` meets its contract: every place is unused. Assumes nothing.
+-- `datagram_reader::refused` meets its contract: every place is unused. Assumes nothing.
 use Rattle.datagram_reader.proofs.ReadWhole.{refuses}
 use Rattle.datagram_reader.proofs.reader.refused.Statement.{statement}
 use Rattle.datagram_reader.proofs.reader.refused.Tie as tie

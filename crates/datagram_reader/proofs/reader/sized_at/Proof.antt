@@ -1,4 +1,4 @@
--- `datagrams::reader::sized_at` meets its contract: the length reader's answer, then the tests, give each answer. Assumes nothing.
+-- `datagram_reader::sized_at` meets its contract: the length reader's answer, then the tests, give each answer. Assumes nothing.
 use borrow.Author.Needs.{needs}
 use Rattle.datagram_reader.proofs.ReadSteps.{counts}
 use Rattle.datagram_reader.proofs.reader.sized_at.Statement.{statement}

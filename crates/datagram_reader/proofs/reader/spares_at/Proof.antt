@@ -1,4 +1,4 @@
--- `datagrams::reader::spares_at` meets its contract: the count's answer gives each answer. Assumes nothing.
+-- `datagram_reader::spares_at` meets its contract: the count's answer gives each answer. Assumes nothing.
 use Rattle.datagram_reader.proofs.ReadSteps.{sized-ends}
 use native.Mathlib.Omega.{arith}
 use borrow.Author.Needs.{needs}

@@ -1,4 +1,5 @@
--- `datagrams::reader::whole_of` meets its contract: the loop's invariant: what is left to read, put behind what was read, is the whole. The measure is how many are left. Assumes nothing.
+-- `datagram_reader::whole_of` meets its contract: the loop's invariant: what is left to read, put behind what was read, is the
+-- whole. The measure is how many are left. Assumes nothing.
 use Prim.Native.Nat.{_-_}
 use native.Mathlib.Omega.{arith}
 use borrow.Author.Needs.{needs}

@@ -1,4 +1,4 @@
--- `lines::all_digits` meets its contract: the characters so far are told, one more each turn. Assumes nothing.
+-- `hexadecimal::all_digits` meets its contract: the characters so far are told, one more each turn. Assumes nothing.
 use Prim.Native.Nat.{_-_}
 use lib.ListN.{length}
 use borrow.Author.Needs.{needs}

@@ -1,4 +1,4 @@
--- `lines::digit_for` meets its contract: the two ranges of digits. Assumes nothing.
+-- `hexadecimal::digit_for` meets its contract: the two ranges of digits. Assumes nothing.
 use Rattle.hexadecimal.proofs.Digits.{digitFor-low, digitFor-high}
 use borrow.Author.Needs.{needs}
 use Rattle.hexadecimal.proofs.hex.digit_for.Statement.{statement}

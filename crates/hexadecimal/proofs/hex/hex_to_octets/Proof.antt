@@ -1,4 +1,4 @@
--- `lines::hex_to_octets` meets its contract: one law for each answer, at the tests that led to it. Assumes nothing.
+-- `hexadecimal::hex_to_octets` meets its contract: one law for each answer, at the tests that led to it. Assumes nothing.
 use Rattle.hexadecimal.proofs.HexSteps.{linings, digits-told}
 use borrow.Author.Tests.{not-true, not-false}
 use borrow.Author.Needs.{needs}

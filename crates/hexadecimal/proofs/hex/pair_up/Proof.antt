@@ -1,4 +1,4 @@
--- `lines::pair_up` meets its contract: the octets so far stand at the front, one more each turn. Assumes nothing.
+-- `hexadecimal::pair_up` meets its contract: the octets so far stand at the front, one more each turn. Assumes nothing.
 use Prim.Native.Nat.{_+_, _-_, _*_}
 use native.Mathlib.Omega.{arith}
 use borrow.Author.Needs.{needs}

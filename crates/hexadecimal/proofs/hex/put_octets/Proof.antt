@@ -1,4 +1,4 @@
--- `lines::put_octets` meets its contract: the octets so far are written, two digits more each turn. Assumes nothing.
+-- `hexadecimal::put_octets` meets its contract: the octets so far are written, two digits more each turn. Assumes nothing.
 use borrow.Author.Needs.{needs}
 use Prim.Native.Nat.{_-_}
 use lib.ListN.{length}

@@ -1,4 +1,4 @@
--- `lines::clear_line` meets its contract: the line that has begun is a character shorter each turn. Assumes nothing.
+-- `line_blocks::clear_line` meets its contract: the line that has begun is a character shorter each turn. Assumes nothing.
 use borrow.Author.Needs.{needs}
 use Rattle.lines.specs.FeedPromise.{LineIn}
 use Rattle.line_blocks.proofs.FeedSteps.{clear-turn, clear-done}

@@ -1,4 +1,4 @@
--- `lines::find_feed` meets its contract: no line feed stands before the place, which goes on by many each turn. Assumes nothing.
+-- `line_blocks::find_feed` meets its contract: no line feed stands before the place, which goes on by many each turn. Assumes nothing.
 use borrow.Author.Needs.{needs}
 use Prim.Native.Nat.{_-_}
 use lib.ListN.{length}

@@ -1,4 +1,4 @@
--- `lines::find_from` meets its contract: no line feed stands before the place, which goes on each turn. Assumes nothing.
+-- `line_blocks::find_from` meets its contract: no line feed stands before the place, which goes on each turn. Assumes nothing.
 use borrow.Author.Needs.{needs}
 use Prim.Native.Nat.{_-_}
 use lib.ListN.{length}

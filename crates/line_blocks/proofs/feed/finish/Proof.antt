@@ -1,4 +1,4 @@
--- `lines::finish` meets its contract: no line has begun, or the last one is done. Assumes nothing.
+-- `line_blocks::finish` meets its contract: no line has begun, or the last one is done. Assumes nothing.
 use mathlib.Core.Path.{sym}
 use Rattle.lines.proofs.Laws.{begun-length}
 use Rattle.line_blocks.proofs.FeedTurn.{ends-between, ends-line}

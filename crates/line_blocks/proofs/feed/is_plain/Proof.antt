@@ -1,4 +1,4 @@
--- `lines::is_plain` meets its contract: the characters so far are told, one more each turn. Assumes nothing.
+-- `line_blocks::is_plain` meets its contract: the characters so far are told, one more each turn. Assumes nothing.
 use borrow.Author.Needs.{needs}
 use Prim.Native.Nat.{_-_}
 use Rattle.lines.specs.FeedPromise.{lookedAt}

@@ -1,4 +1,4 @@
--- `lines::keep_line` meets its contract: the characters so far are laid, one more each turn. Assumes nothing.
+-- `line_blocks::keep_line` meets its contract: the characters so far are laid, one more each turn. Assumes nothing.
 use borrow.Author.Needs.{needs}
 use Prim.Native.Nat.{_-_}
 use Rattle.line_blocks.proofs.FeedSteps.{Keeping, keeping-start, keeping-turn, keeping-done}

@@ -1,4 +1,5 @@
--- `lines::take_block` meets its contract: what is taken in so far and what is left come to the whole, line after line. Assumes nothing.
+-- `line_blocks::take_block` meets its contract: what is taken in so far and what is left come to the whole, line after line.
+-- Assumes nothing.
 use borrow.Author.Needs.{needs}
 use Prim.Native.Nat.{_-_}
 use lib.ListN.{length}

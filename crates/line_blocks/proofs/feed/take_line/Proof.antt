@@ -1,4 +1,4 @@
--- `lines::take_line` meets its contract: the line goes on, is whole in this block, or began before it. Assumes nothing.
+-- `line_blocks::take_line` meets its contract: the line goes on, is whole in this block, or began before it. Assumes nothing.
 use mathlib.Core.Path.{sym}
 use lib.Seq.{length-take-le}
 use Rattle.lines.proofs.Laws.{begun-length}

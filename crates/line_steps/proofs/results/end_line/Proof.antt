@@ -1,4 +1,4 @@
--- `lines::end_line` meets its contract: one character laid. Assumes nothing.
+-- `line_steps::end_line` meets its contract: one character laid. Assumes nothing.
 use Rattle.line_steps.proofs.ResultSteps.{appends-single}
 use borrow.Author.Needs.{needs}
 use Rattle.line_steps.proofs.results.end_line.Statement.{statement}

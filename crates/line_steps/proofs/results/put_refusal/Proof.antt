@@ -1,4 +1,4 @@
--- `lines::put_refusal` meets its contract: two parts laid one after the other. Assumes nothing.
+-- `line_steps::put_refusal` meets its contract: two parts laid one after the other. Assumes nothing.
 use Rattle.line_steps.proofs.ResultSteps.{room-left, refusal-put}
 use native.Mathlib.Omega.{arith}
 use borrow.Author.Needs.{needs}

@@ -1,4 +1,4 @@
--- `lines::put_result` meets its contract: three parts laid one after the other. Assumes nothing.
+-- `line_steps::put_result` meets its contract: three parts laid one after the other. Assumes nothing.
 use Rattle.line_steps.proofs.ResultSteps.{room-left, room-left-two, result-put}
 use native.Mathlib.Omega.{arith}
 use borrow.Author.Needs.{needs}

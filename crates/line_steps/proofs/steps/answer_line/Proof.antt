@@ -1,4 +1,4 @@
--- `lines::answer_line` meets its contract: an empty line, and any other. Assumes nothing.
+-- `line_steps::answer_line` meets its contract: an empty line, and any other. Assumes nothing.
 use Rattle.line_steps.proofs.StepLaws.{answers-empty, answers-line}
 use borrow.Author.Needs.{needs}
 use Rattle.line_steps.proofs.steps.answer_line.Statement.{statement}

@@ -1,4 +1,4 @@
--- `lines::give_up_line` meets its contract: one law for each answer of give up. Assumes nothing.
+-- `line_steps::give_up_line` meets its contract: one law for each answer of give up. Assumes nothing.
 use Rattle.line_steps.proofs.Stepping.{gave-up, gave-up-refused}
 use borrow.Author.Needs.{needs}
 use Rattle.line_steps.proofs.steps.give_up_line.Statement.{statement}

@@ -1,4 +1,4 @@
--- `lines::offer_line` meets its contract: the line's octets are offered, or its refusal is written. Assumes nothing.
+-- `line_steps::offer_line` meets its contract: the line's octets are offered, or its refusal is written. Assumes nothing.
 use native.Mathlib.Omega.{arith}
 use Rattle.line_steps.proofs.Offering.{line-inside, line-length, line-offered, line-refused}
 use borrow.Author.Needs.{needs}

@@ -1,4 +1,4 @@
--- `lines::offer_octets` meets its contract: one law for each answer of offer. Assumes nothing.
+-- `line_steps::offer_octets` meets its contract: one law for each answer of offer. Assumes nothing.
 use native.Mathlib.Omega.{arith}
 use Rattle.line_steps.proofs.Offering.{offer-taken, offer-not-taken}
 use borrow.Author.Needs.{needs}

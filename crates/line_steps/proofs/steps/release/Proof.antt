@@ -1,4 +1,4 @@
--- `lines::release` meets its contract: one law for each answer of next. Assumes nothing.
+-- `line_steps::release` meets its contract: one law for each answer of next. Assumes nothing.
 use mathlib.Core.Path.{refl}
 use native.Mathlib.Omega.{arith}
 use Rattle.line_steps.proofs.Stepping.{packet-inside, packet-length, packet-room, released-one, released-none}

@@ -1,4 +1,4 @@
--- `lines::releases` meets its contract: what was written so far, then as many releases as are left, are all releases. Assumes nothing.
+-- `line_steps::releases` meets its contract: what was written so far, then as many releases as are left, are all releases. Assumes nothing.
 use borrow.Author.Needs.{needs}
 use borrow.Author.Tests.{not-true, not-false}
 use Rattle.heads.specs.Head.{viewIn}

@@ -1,4 +1,4 @@
--- `lines::step` meets its contract: the line's answer, then the releases. Assumes nothing.
+-- `line_steps::step` meets its contract: the line's answer, then the releases. Assumes nothing.
 use Rattle.line_steps.proofs.StepLaws.{step-ready, step-made}
 use borrow.Author.Needs.{needs}
 use Rattle.line_steps.proofs.steps.step.Statement.{statement}
