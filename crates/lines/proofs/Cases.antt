@@ -1,5 +1,6 @@
 -- The cases of 'The program', each computed. Assumes nothing.
 use mathlib.Core.Path.{refl}
+use Rattle.lengths.specs.Tables.{unless}
 use Rattle.octets.specs.Place.{tab, allBelow}
 use Rattle.lengths.specs.Length.{lengthAt}
 use Rattle.datagrams.specs.Read.{allowed, sizedAt, itemAt, itemsAt, endOf, sparesAt, extraAt, numberOf, wholeOf, readDatagram, carriedBy}
@@ -14,7 +15,7 @@ use Rattle.lines.specs.Text.{characters}
 use Rattle.lines.specs.Cases.{ProgramCases}
 
 pub program-cases : ProgramCases
-unfolding characters program steps linesFrom step answerLine offerLine lineOffered releasesF resultLine refusalLine
+unfolding unless characters program steps linesFrom step answerLine offerLine lineOffered releasesF resultLine refusalLine
     lineOctets octetsIn allDigits digitOf hexOf digitFor next giveUp offer offered accept keep keepSpares freshView goneOn
     messagesOf messagesFrom heldMessages repair repairF firstUsable readDatagram wholeOf numberOf extraAt sparesAt endOf
     itemsAt itemAt sizedAt allowed carriedBy lengthAt tab allBelow
