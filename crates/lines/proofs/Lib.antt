@@ -7,4 +7,5 @@ pub mod ReleaseAll
 pub mod HexBack
 pub mod InTurn
 pub mod OneOutcome
+pub mod Cases
 pub mod Claims

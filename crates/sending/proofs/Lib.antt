@@ -9,5 +9,5 @@ pub mod Outcome
 pub mod Chain
 pub mod Faithful
 pub mod Back
-pub mod Cases
+pub mod About
 pub mod Claims

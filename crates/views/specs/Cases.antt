@@ -82,6 +82,14 @@ pub record OfferCases : Type 0 where
   -- a datagram's own message repairs within its offer, whatever came before, and is kept
   pub repaired-then : offered (withMessage 2) (started (unknownCell ∷ member ∷ []) (nothingHeld ∷ marked ∷ []))
       ≡ done (started (mended ∷ member ∷ came ∷ []) (nothingHeld ∷ marked ∷ overTwo ∷ []))
+  -- a number before the base is repaired too, and no count moves
+  pub before-base : offered (withMessage 2) (later 1 1 (member ∷ []) (marked ∷ []))
+      ≡ done (record {
+        base = 1;
+        counts = record { received = 1; spare = 0; repaired = 0; lost = 0 };
+        cells = replicate 31 unknownCell ++ (mended ∷ member ∷ came ∷ replicate 30 unknownCell);
+        held = marked ∷ overTwo ∷ replicate 30 nothingHeld;
+      })
   -- its message is kept while two members are missing
   pub two-missing : offered (withMessage 2) freshView
       ≡ done (started (unknownCell ∷ unknownCell ∷ came ∷ []) (nothingHeld ∷ nothingHeld ∷ overTwo ∷ []))

@@ -1,14 +1,17 @@
--- Which refusal a send comes to, computed. Assumes nothing.
+-- About the refusals of a send: which of them it comes to, computed. Assumes nothing.
 use mathlib.Core.Path.{refl}
 use Rattle.lengths.specs.Tables.{unless}
 use Rattle.sending.specs.Sending.{freshSending}
 use Rattle.sending.specs.Send.{datagramToSend}
+use Rattle.sending.specs.Ranges.{inRanges}
+use Rattle.sending.specs.Promise.{toSend}
 use Rattle.sending.specs.Cases.{RefusalCases}
 
 pub refusal-cases : RefusalCases
-unfolding datagramToSend freshSending unless
+unfolding toSend inRanges datagramToSend freshSending unless
 refusal-cases =
     record {
+      ranges-first = refl;
       passed-first = refl;
       settings-then-size = refl;
       n-0 = refl;
