@@ -43,7 +43,7 @@ does-going : (l : List ℕ) (view : View) {out : List ℕ} {at : ℕ} {session :
     → Does (step l view) out at session end new
     → goingIn session line 0 new end ≡ lineDone (record { text = take at out; view = view; begun = l })
 unfolding lineDone
-does-going l view {out} {at} {h} {end} {o} {g} {new} line d =
+does-going l view {out} {at} {session} {end} {new} line d =
     ap₂ (λ (t : List ℕ) (v : View). record { text = t; view = v; begun = [] }) (appends-front (d .lent)) (d .state)
 
 length-begun : (line : List ℕ) (begun : ℕ) → begun ≤ keptLimit → length (take begun line) ≤ keptLimit

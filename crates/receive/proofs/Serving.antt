@@ -8,7 +8,7 @@ use lib.ListN.{length, take, drop, length-drop, length-append}
 use lib.Seq.{length-take-le, take-add, take-all}
 use native.Mathlib.Nat.{mod-add-mod}
 use native.Mathlib.Omega.{arith}
-use Rattle.heads.specs.declared.Head.{Head}
+use Rattle.held.specs.Table.{Lent}
 use Rattle.lines.specs.Feed.{goingIn, PartWay}
 use Rattle.lines.specs.Promise.{stepLimit}
 use Rattle.lines.specs.FeedPromise.{Feedable, Feeds}
@@ -30,19 +30,19 @@ counted-on a b {sum} {n} before same on =
     ∙ ap (λ (x : ℕ). x % 2 ^ 64) (sym (length-append a b))
 
 -- the program may go on, no lent buffer has changed its length, the front of the block is taken in and its text handed over
-pub record Serving (h₀ : Head) (o₀ g₀ l₀ : List ℕ) (begun₀ : ℕ) (out₀ s : List ℕ) (handed : ℕ) (h : Head) (o g l : List ℕ) (begun : ℕ) (out : List ℕ) (from sum : ℕ)
+pub record Serving (first : Lent) (l₀ : List ℕ) (begun₀ : ℕ) (out₀ s : List ℕ) (handed : ℕ) (session : Lent) (l : List ℕ) (begun : ℕ) (out : List ℕ) (from sum : ℕ)
     : Type 0 where
-  pub feedable : Feedable stepLimit h o g l begun out 0
+  pub feedable : Feedable stepLimit session l begun out 0
   pub line-long : length l ≡ length l₀
   pub out-long : length out ≡ length out₀
   pub inside : from ≤ length s
-  pub way : (input text : List ℕ) → PartWay input text h₀ o₀ g₀ l₀ begun₀ → handed ≡ counted text
-      → Onward (input ++ take from s) text h o g l begun sum
+  pub way : (input text : List ℕ) → PartWay input text first l₀ begun₀ → handed ≡ counted text
+      → Onward (input ++ take from s) text session l begun sum
 
-pub serving-start : {h : Head} {o g l : List ℕ} {begun : ℕ} {out : List ℕ} (s : List ℕ) (handed : ℕ)
-    → Feedable stepLimit h o g l begun out 0
-    → Serving h o g l begun out s handed h o g l begun out 0 handed
-serving-start {h} {o} {g} {l} {begun} s handed f =
+pub serving-start : {session : Lent} {l : List ℕ} {begun : ℕ} {out : List ℕ} (s : List ℕ) (handed : ℕ)
+    → Feedable stepLimit session l begun out 0
+    → Serving session l begun out s handed session l begun out 0 handed
+serving-start {session} {l} {begun} s handed f =
     record {
       feedable = f;
       line-long = refl;
@@ -63,19 +63,19 @@ left-of s from = take-all (length s - from) (drop from s) (omega (arith, length-
 left-long : (s : List ℕ) (from : ℕ) → length (take (length s - from) (drop from s)) ≡ length s - from
 left-long s from = ap length (left-of s from) ∙ length-drop from s
 
-module _ {h₀ : Head} {o₀ g₀ l₀ : List ℕ} {begun₀ : ℕ} {out₀ : List ℕ} (s : List ℕ) {handed : ℕ} {h : Head} {o g l : List ℕ} {begun : ℕ} {out : List ℕ} {from sum : ℕ}
-    (v : Serving h₀ o₀ g₀ l₀ begun₀ out₀ s handed h o g l begun out from sum) where
+module _ {first : Lent} {l₀ : List ℕ} {begun₀ : ℕ} {out₀ : List ℕ} (s : List ℕ) {handed : ℕ} {session : Lent} {l : List ℕ} {begun : ℕ} {out : List ℕ} {from sum : ℕ}
+    (v : Serving first l₀ begun₀ out₀ s handed session l begun out from sum) where
   -- all of it is taken in
-  pub served : length s ≤ from → Passes h₀ o₀ g₀ l₀ begun₀ s handed h o g l begun out sum true
+  pub served : length s ≤ from → Passes first l₀ begun₀ s handed session l begun out sum true
   served all = record { feedable = v .feedable; front = from; way = v .way; whole = λ e. take-all from s all }
 
   -- a write failed
-  pub stopped : Passes h₀ o₀ g₀ l₀ begun₀ s handed h o g l begun out sum false
+  pub stopped : Passes first l₀ begun₀ s handed session l begun out sum false
   stopped = record { feedable = v .feedable; front = from; way = v .way; whole = λ e. absurd (false≢true e) }
 
   -- a part more is taken in
-  module _ (left : from < length s) {k : Head} {newO newG newL : List ℕ} {kept taken : ℕ} {new : List ℕ} {end : ℕ}
-      (t : Feeds (goingIn h o g l begun out 0) (take (length s - from) (drop from s)) out k newO newG newL kept taken new end) where
+  module _ (left : from < length s) {after : Lent} {newL : List ℕ} {kept taken : ℕ} {new : List ℕ} {end : ℕ}
+      (t : Feeds (goingIn session l begun out 0) (take (length s - from) (drop from s)) out after newL kept taken new end) where
     pub part-some : 0 < taken
     part-some = feeds-some (v .feedable) t (omega (arith, left-long s from))
 
@@ -86,8 +86,8 @@ module _ {h₀ : Head} {o₀ g₀ l₀ : List ℕ} {begun₀ : ℕ} {out₀ : Li
     part-fits = omega (arith, t .takes .fits, t .takes .long)
 
     -- and handed over
-    pub part-done : {after : ℕ} → length newL ≡ length l → after ≡ (sum + end) % 2 ^ 64
-        → Serving h₀ o₀ g₀ l₀ begun₀ out₀ s handed k newO newG newL kept new (from + taken) after
+    pub part-done : {total : ℕ} → length newL ≡ length l → total ≡ (sum + end) % 2 ^ 64
+        → Serving first l₀ begun₀ out₀ s handed after newL kept new (from + taken) total
     part-done same on =
         record {
           feedable = feeds-on (v .feedable) t;

@@ -9,9 +9,8 @@ use lib.Seq.{length-take-le}
 use lib.Dec.{eqb}
 use native.Mathlib.Omega.{arith}
 use Rattle.views.specs.View.{View, freshView}
-use Rattle.heads.specs.Head.{viewIn}
-use Rattle.heads.specs.Within.{Within}
-use Rattle.heads.specs.declared.Head.{Head}
+use Rattle.held.specs.Table.{Lent, viewIn}
+use Rattle.held.specs.Laid.{InRanges}
 use Rattle.lines.specs.Lines.{program}
 use Rattle.lines.specs.Feed.{Going, fed, lineDone, atEnd, goingIn, PartWay}
 use Rattle.lines.specs.Promise.{stepLimit}
@@ -21,23 +20,23 @@ use Rattle.receive.specs.Promise.{counted, Passes, Complete, Serves}
 use Rattle.receive.proofs.Serving.{counted-on}
 
 -- all that was read and handed over so far
-pub record SoFar (h : Head) (o g l : List ℕ) (begun taken handed : ℕ) : Type 0 where
+pub record SoFar (session : Lent) (l : List ℕ) (begun taken handed : ℕ) : Type 0 where
   pub input : List ℕ
   pub text : List ℕ
-  pub way : PartWay input text h o g l begun
+  pub way : PartWay input text session l begun
   pub read : taken ≡ counted input
   pub wrote : handed ≡ counted text
 
 -- beside what the calls ask for, the lengths of the buffers
-pub record Turning (h : Head) (o g l block : List ℕ) (begun : ℕ) (out : List ℕ) (taken handed : ℕ) : Type 0 where
-  pub feedable : Feedable stepLimit h o g l begun out 0
+pub record Turning (session : Lent) (l block : List ℕ) (begun : ℕ) (out : List ℕ) (taken handed : ℕ) : Type 0 where
+  pub feedable : Feedable stepLimit session l begun out 0
   pub block-long : 65536 ≡ length block
   pub out-long : 65536 ≡ length out
-  pub so-far : SoFar h o g l begun taken handed
+  pub so-far : SoFar session l begun taken handed
 
 -- before the first block
-pub turning-start : {h : Head} {o g l block out : List ℕ} → Within h o g → viewIn h o g ≡ freshView → LineIn l 0
-    → 65536 ≡ length block → 65536 ≡ length out → Turning h o g l block 0 out 0 0
+pub turning-start : {session : Lent} {l block out : List ℕ} → InRanges session → viewIn session ≡ freshView → LineIn l 0
+    → 65536 ≡ length block → 65536 ≡ length out → Turning session l block 0 out 0 0
 unfolding fed
 turning-start within fresh line read room =
     record {
@@ -54,10 +53,10 @@ turning-start within fresh line read room =
     }
 
 -- after a read that gave nothing
-pub turning-none : {h : Head} {o g l block : List ℕ} {begun : ℕ} {out : List ℕ} {taken handed : ℕ}
-    → Turning h o g l block begun out taken handed
+pub turning-none : {session : Lent} {l block : List ℕ} {begun : ℕ} {out : List ℕ} {taken handed : ℕ}
+    → Turning session l block begun out taken handed
     → {new : List ℕ} {n after : ℕ} → n ≡ 0 → after ≡ (taken + n) % 2 ^ 64 → length new ≡ length block
-    → Turning h o g l new begun out after handed
+    → Turning session l new begun out after handed
 turning-none t none on same =
     let far = t .so-far in
     record {
@@ -79,11 +78,11 @@ written-all true e = refl
 written-all false e = sym e
 
 -- after a block of which all was written
-pub turning-on : {h : Head} {o g l block : List ℕ} {begun : ℕ} {out : List ℕ} {taken handed : ℕ}
-    → Turning h o g l block begun out taken handed
-    → {new : List ℕ} (n : ℕ) {k : Head} {p q m : List ℕ} {kept : ℕ} {room : List ℕ} {sum after : ℕ} {written : Bool} → n ≤ length new
-    → Passes h o g l begun (take n new) handed k p q m kept room sum written → written ≡ true → after ≡ (taken + n) % 2 ^ 64
-    → length new ≡ length block → length room ≡ length out → Turning k p q m new kept room after sum
+pub turning-on : {session : Lent} {l block : List ℕ} {begun : ℕ} {out : List ℕ} {taken handed : ℕ}
+    → Turning session l block begun out taken handed
+    → {new : List ℕ} (n : ℕ) {later : Lent} {m : List ℕ} {kept : ℕ} {room : List ℕ} {sum after : ℕ} {written : Bool} → n ≤ length new
+    → Passes session l begun (take n new) handed later m kept room sum written → written ≡ true → after ≡ (taken + n) % 2 ^ 64
+    → length new ≡ length block → length room ≡ length out → Turning later m new kept room after sum
 turning-on t {new} n long s all on same lent =
     let far = t .so-far in
     let next = s .way (far .input) (far .text) (far .way) (far .wrote) in
@@ -114,25 +113,25 @@ view-at-end s t v begun =
     cond-view (eqb (length begun) 0) (now s) (lineDone (now s)) (now t) (lineDone (now t)) refl refl
 
 -- the last line is done and handed over
-pub complete : {h : Head} {o g l : List ℕ} {begun : ℕ} {out : List ℕ} {taken handed : ℕ} → SoFar h o g l begun taken handed
-    → {k : Head} {p q new : List ℕ} {end after : ℕ} → Ends (goingIn h o g l begun out 0) out k p q new end
-    → after ≡ (handed + end) % 2 ^ 64 → Complete k p q taken after
-complete {h} {o} {g} {l} {begun} {out} far {new = new} {end} e on =
+pub complete : {session : Lent} {l : List ℕ} {begun : ℕ} {out : List ℕ} {taken handed : ℕ} → SoFar session l begun taken handed
+    → {later : Lent} {new : List ℕ} {end after : ℕ} → Ends (goingIn session l begun out 0) out later new end
+    → after ≡ (handed + end) % 2 ^ 64 → Complete later taken after
+complete {session} {l} {begun} {out} far {new = new} {end} e on =
     record {
       input = far .input;
       read = far .read;
       wrote =
           counted-on (far .text) (take end new) (far .wrote) (sym (length-take-le end new (omega (arith, e .fits, e .long)))) on
           ∙ ap counted (sym (in-turn .finish (far .way) e));
-      session =
+      state =
           ap (λ (now : Going). now .view) (e .state)
-          ∙ view-at-end (take 0 out) (far .text) (viewIn h o g) (take begun l)
+          ∙ view-at-end (take 0 out) (far .text) (viewIn session) (take begun l)
           ∙ ap (λ (now : Going). (atEnd now) .view) (sym (far .way .state));
     }
 
-pub serves : {k : Head} {p q : List ℕ} {taken after : ℕ} (whole : Bool) → Complete k p q taken after → Serves k p q taken after whole
+pub serves : {later : Lent} {taken after : ℕ} (whole : Bool) → Complete later taken after → Serves later taken after whole
 serves whole all = record { complete = λ e. all }
 
 -- a write failed
-pub serves-not : {k : Head} {p q : List ℕ} {taken after : ℕ} → Serves k p q taken after false
+pub serves-not : {later : Lent} {taken after : ℕ} → Serves later taken after false
 serves-not = record { complete = λ e. absurd (false≢true e) }

@@ -1,7 +1,7 @@
 // Document 01, 'The program': lines of hexadecimal from standard input, one datagram a line; its results to standard output.
 // It reads and writes in large blocks. What a block comes to is proved in the crate `lines`: here is only read, take in, write.
-use heads::Head;
-use heads::Session;
+use held::Counts;
+use held::Session;
 use libc::STDIN_FILENO;
 use libc::STDOUT_FILENO;
 use lines::Line;
@@ -9,8 +9,8 @@ ghost use Prim.Native.Nat.{_+_, _%_, _^_, _≤_};
 ghost use mathlib.Core.Path.{_≡_};
 ghost use lib.ListN.{length};
 ghost use Rattle.views.specs.View.{freshView};
-ghost use Rattle.heads.specs.Head.{viewIn};
-ghost use Rattle.heads.specs.Within.{Within};
+ghost use Rattle.held.specs.Table.{lent, viewIn};
+ghost use Rattle.held.specs.Laid.{InRanges};
 ghost use Rattle.lines.specs.Promise.{stepLimit};
 ghost use Rattle.lines.specs.FeedPromise.{Feedable};
 ghost use Rattle.receive.specs.Promise.{Passes, Serves};
@@ -40,14 +40,17 @@ fn hand_over(out: &[u8], end: usize, handed: &mut usize) -> bool
 
 // The session after a block, how much of a line has begun, and whether all was written.
 struct Passed {
-    head: Head,
+    base: u16,
+    counts: Counts,
     begun: usize,
     written: bool,
 }
 
 // A block of the input is taken in, and what it comes to is handed over, part by part up to the first that fails.
 fn pass(
-    h: Head,
+    base: u16,
+    counts: Counts,
+    t: &mut [u16; Session::PLACES],
     o: &mut [u8; Session::PACKET_OCTETS],
     g: &mut [u8; Session::MESSAGE_OCTETS],
     line: &mut [u8],
@@ -56,29 +59,44 @@ fn pass(
     out: &mut [u8],
     handed: &mut usize,
 ) -> Passed
-    requires { ⌜ Feedable stepLimit h (now o) (now g) (now line) begun (now out) 0 ⌝ }
-    ensures { λ r. ⌜ Passes h (now (o .entry)) (now (g .entry)) (now (line .entry)) begun (now (block .entry)) (now (handed .entry)) (r .head) (now (o .exit)) (now (g .exit)) (now (line .exit)) (r .begun) (now (out .exit)) (now (handed .exit)) (r .written) ⌝ }
+    requires { ⌜ Feedable stepLimit (lent base counts (now t) (now o) (now g)) (now line) begun (now out) 0 ⌝ }
+    ensures { λ r. ⌜ Passes (lent base counts (now (t .entry)) (now (o .entry)) (now (g .entry))) (now (line .entry)) begun (now (block .entry)) (now (handed .entry)) (lent (r .base) (r .counts) (now (t .exit)) (now (o .exit)) (now (g .exit))) (now (line .exit)) (r .begun) (now (out .exit)) (now (handed .exit)) (r .written) ⌝ }
 {
-    let mut head = h;
+    let mut after = base;
+    let mut moves = counts;
     let mut kept = begun;
     let mut from = 0;
     while from < block.len() {
-        let part = line_blocks::take_block(head, o, g, line, kept, &block[from..], out, 0);
-        let next = part.head;
-        head = next;
+        let part = line_blocks::take_block(
+            after,
+            moves,
+            t,
+            o,
+            g,
+            line,
+            kept,
+            &block[from..],
+            out,
+            0,
+        );
+        after = part.base;
+        let moved = part.counts;
+        moves = moved;
         kept = part.begun;
         from += part.taken;
         let end = part.end;
         if !hand_over(out, end, handed) {
             return Passed {
-                head,
+                base: after,
+                counts: moves,
                 begun: kept,
                 written: false,
             };
         }
     }
     Passed {
-        head,
+        base: after,
+        counts: moves,
         begun: kept,
         written: true,
     }
@@ -86,7 +104,8 @@ fn pass(
 
 // The session at the end, how many octets were read and how many handed over, and whether the end was reached with all written.
 struct Served {
-    head: Head,
+    base: u16,
+    counts: Counts,
     taken: usize,
     handed: usize,
     whole: bool,
@@ -95,18 +114,21 @@ struct Served {
 // Block after block, then the end of the input. A proved loop has to end, and nothing says that the input does: so it counts
 // its turns down, from a number that no run uses up.
 fn serve(
-    h: Head,
+    base: u16,
+    counts: Counts,
+    t: &mut [u16; Session::PLACES],
     o: &mut [u8; Session::PACKET_OCTETS],
     g: &mut [u8; Session::MESSAGE_OCTETS],
 ) -> Served
-    requires { ⌜ Within h (now o) (now g) ⌝ }
-    requires { ⌜ viewIn h (now o) (now g) ≡ freshView ⌝ }
-    ensures { λ r. ⌜ Serves (r .head) (now (o .exit)) (now (g .exit)) (r .taken) (r .handed) (r .whole) ⌝ }
+    requires { ⌜ InRanges (lent base counts (now t) (now o) (now g)) ⌝ }
+    requires { ⌜ viewIn (lent base counts (now t) (now o) (now g)) ≡ freshView ⌝ }
+    ensures { λ r. ⌜ Serves (lent (r .base) (r .counts) (now (t .exit)) (now (o .exit)) (now (g .exit))) (r .taken) (r .handed) (r .whole) ⌝ }
 {
     let mut line = [0u8; Line::KEPT];
     let mut block = io::large_buffer();
     let mut out = io::large_buffer();
-    let mut head = h;
+    let mut after = base;
+    let mut moves = counts;
     let mut begun = 0;
     let mut taken = 0;
     let mut handed = 0;
@@ -118,7 +140,9 @@ fn serve(
             turns = 0;
         } else {
             let passed = pass(
-                head,
+                after,
+                moves,
+                t,
                 o,
                 g,
                 &mut line,
@@ -127,12 +151,14 @@ fn serve(
                 &mut out,
                 &mut handed,
             );
-            let next = passed.head;
-            head = next;
+            after = passed.base;
+            let moved = passed.counts;
+            moves = moved;
             begun = passed.begun;
             if !passed.written {
                 return Served {
-                    head,
+                    base: after,
+                    counts: moves,
                     taken,
                     handed,
                     whole: false,
@@ -140,12 +166,14 @@ fn serve(
             }
         }
     }
-    let last = line_blocks::finish(head, o, g, &line, begun, &mut out, 0);
-    let next = last.head;
+    let last = line_blocks::finish(after, moves, t, o, g, &line, begun, &mut out, 0);
+    let last_base = last.base;
+    let last_counts = last.counts;
     let end = last.end;
     let whole = hand_over(&out, end, &mut handed);
     Served {
-        head: next,
+        base: last_base,
+        counts: last_counts,
         taken,
         handed,
         whole,
@@ -154,8 +182,10 @@ fn serve(
 
 fn main() {
     let session = Session::fresh();
-    let head = session.head;
+    let base = session.base;
+    let counts = session.counts;
+    let mut table = session.table;
     let mut octets = session.octets;
     let mut messages = session.messages;
-    serve(head, &mut octets, &mut messages);
+    serve(base, counts, &mut table, &mut octets, &mut messages);
 }

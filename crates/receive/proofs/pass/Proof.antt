@@ -5,6 +5,7 @@ use mathlib.Core.Path.{_∙_}
 use lib.ListN.{length}
 use native.Mathlib.Omega.{arith}
 use borrow.Author.Needs.{needs}
+use Rattle.held.specs.Table.{lent}
 use Rattle.lines.proofs.Laws.{feedable-block}
 use Rattle.receive.proofs.Serving.{Serving, serving-start, served, stopped, part-some, part-inside, part-fits, part-done}
 use Rattle.receive.proofs.pass.Statement.{statement}
@@ -15,11 +16,12 @@ use Rattle.line_blocks.proofs.take_block.Reads as take-block-reads
 use Rattle.receive.proofs.hand_over.Reads as hand-over-reads
 
 abbrev Inv-loop : tie.InvT-loop
-Inv-loop o₀ g₀ line₀ begun block out₀ handed₀ head₀ kept₀ from₀ o g line out handed head kept from =
-    Serving head₀ o₀ g₀ line₀ begun out₀ block handed₀ head o g line kept out from handed
+Inv-loop base t₀ o₀ g₀ line₀ begun block out₀ handed₀ after₀ moves₀ kept₀ from₀ t o g line out handed after moves kept from =
+    Serving (lent after₀ moves₀ t₀ o₀ g₀) line₀ begun out₀ block handed₀ (lent after moves t o g) line kept out from handed
 
 abbrev μ-loop : tie.MeasureT-loop
-μ-loop o₀ g₀ line₀ begun block out₀ handed₀ head₀ kept₀ from₀ o g line out handed head kept from = length block - from
+μ-loop base t₀ o₀ g₀ line₀ begun block out₀ handed₀ after₀ moves₀ kept₀ from₀ t o g line out handed after moves kept from =
+    length block - from
 
 loop-holds : tie.Need-loop-holds Inv-loop μ-loop
 loop-holds c = serving-start _ _ (c .before .before .before .pre)
@@ -35,22 +37,22 @@ part-take-block-end c = search needs
 
 take-block-requires : tie.Need-take-block-requires Inv-loop μ-loop
 take-block-requires c κs =
-    let loop = c .before .before .before .before .before .before in
+    let loop = c .before .before .before .before .before .before .before in
     feedable-block (loop .loop .inv .feedable)
 
 add-from : tie.Need-add-from Inv-loop μ-loop
 add-from c =
     let made = c .before .before .before .before .before .before in
-    let inside = made .before .before .before .before .before .before in
+    let inside = made .before .before .before .before .before .before .before in
     let loop = inside .before in
     let start = loop .before .before .before .before in
     let within = part-inside (start .args .block .now) (loop .loop .inv) (inside .loop-test .taken) (made .take-block .ensures) in
-    record { fits = omega (arith, start .good .1 .1 .1 .1 .1 .0, within) }
+    record { fits = omega (arith, start .good .1 .1 .1 .1 .1 .1 .1 .0, within) }
 
 hand-over-requires : tie.Need-hand-over-requires Inv-loop μ-loop
 hand-over-requires c κs =
     let made = c .before .before .before .before .before .before .before .before in
-    let inside = made .before .before .before .before .before .before in
+    let inside = made .before .before .before .before .before .before .before in
     let loop = inside .before in
     let start = loop .before .before .before .before in
     part-fits (start .args .block .now) (loop .loop .inv) (inside .loop-test .taken) (made .take-block .ensures)
@@ -58,29 +60,29 @@ hand-over-requires c κs =
 same-length : tie.Need-same-length Inv-loop μ-loop
 same-length c =
     let made = c .before .before .before .before .before .before .before .before .before .before in
-    let loop = made .before .before .before .before .before .before .before in
-    made .take-block .kept .1 .1 .1 .0 ∙ loop .loop .inv .line-long
+    let loop = made .before .before .before .before .before .before .before .before in
+    made .take-block .kept .1 .1 .1 .1 .1 .0 ∙ loop .loop .inv .line-long
 
 same-length-2 : tie.Need-same-length-2 Inv-loop μ-loop
 same-length-2 c =
     let made = c .before .before .before .before .before .before .before .before .before .before in
-    let loop = made .before .before .before .before .before .before .before in
+    let loop = made .before .before .before .before .before .before .before .before in
     made .take-block .ensures .takes .long ∙ loop .loop .inv .out-long
 
 returns : tie.Need-returns Inv-loop μ-loop
 returns c =
     let made = c .before .before .before .before .before .before .before .before .before .before in
-    let inside = made .before .before .before .before .before .before in
+    let inside = made .before .before .before .before .before .before .before in
     let loop = inside .before in
     let start = loop .before .before .before .before in
     stopped (start .args .block .now)
     (part-done (start .args .block .now) (loop .loop .inv) (inside .loop-test .taken) (made .take-block .ensures)
-    (made .take-block .kept .1 .1 .1 .0) (c .before .hand-over .ensures))
+    (made .take-block .kept .1 .1 .1 .1 .1 .0) (c .before .hand-over .ensures))
 
 loop-less : tie.Need-loop-less Inv-loop μ-loop
 loop-less c =
     let made = c .before .before .before .before .before .before .before .before .before .before in
-    let inside = made .before .before .before .before .before .before in
+    let inside = made .before .before .before .before .before .before .before in
     let loop = inside .before in
     let start = loop .before .before .before .before in
     let some = part-some (start .args .block .now) (loop .loop .inv) (inside .loop-test .taken) (made .take-block .ensures) in
@@ -89,11 +91,11 @@ loop-less c =
 loop-again : tie.Need-loop-again Inv-loop μ-loop
 loop-again c =
     let made = c .before .before .before .before .before .before .before .before .before .before in
-    let inside = made .before .before .before .before .before .before in
+    let inside = made .before .before .before .before .before .before .before in
     let loop = inside .before in
     let start = loop .before .before .before .before in
     part-done (start .args .block .now) (loop .loop .inv) (inside .loop-test .taken) (made .take-block .ensures)
-    (made .take-block .kept .1 .1 .1 .0) (c .before .hand-over .ensures)
+    (made .take-block .kept .1 .1 .1 .1 .1 .0) (c .before .hand-over .ensures)
 
 same-length-3 : tie.Need-same-length-3 Inv-loop μ-loop
 same-length-3 c = search needs

@@ -4,6 +4,7 @@ use mathlib.Core.Path.{refl, sym}
 use lib.Seq.{length-take-le}
 use native.Mathlib.Omega.{arith}
 use borrow.Author.Needs.{needs}
+use Rattle.held.specs.Table.{lent}
 use Rattle.lines.proofs.Laws.{line-fresh}
 use Rattle.receive.proofs.Turning.{Turning, turning-start, turning-none, written-all, turning-on, complete, serves, serves-not}
 use Rattle.receive.proofs.serve.Statement.{statement}
@@ -17,11 +18,12 @@ use Rattle.receive.proofs.pass.Reads as pass-reads
 use Rattle.receive.proofs.read_on.Reads as read-on-reads
 
 abbrev Inv-loop : tie.InvT-loop
-Inv-loop o₀ g₀ line₀ block₀ out₀ head₀ begun₀ taken₀ handed₀ turns₀ o g line block out head begun taken handed turns =
-    Turning head o g line block begun out taken handed
+Inv-loop base t₀ o₀ g₀ line₀ block₀ out₀ after₀ moves₀ begun₀ taken₀ handed₀ turns₀ t o g line block out after moves begun taken handed turns =
+    Turning (lent after moves t o g) line block begun out taken handed
 
 abbrev μ-loop : tie.MeasureT-loop
-μ-loop o₀ g₀ line₀ block₀ out₀ head₀ begun₀ taken₀ handed₀ turns₀ o g line block out head begun taken handed turns = turns
+μ-loop base t₀ o₀ g₀ line₀ block₀ out₀ after₀ moves₀ begun₀ taken₀ handed₀ turns₀ t o g line block out after moves begun taken handed turns =
+    turns
 
 large-buffer-requires : tie.Need-large-buffer-requires Inv-loop μ-loop
 large-buffer-requires c κs = search needs
@@ -58,7 +60,7 @@ array-share-prefix-block : tie.Need-array-share-prefix-block Inv-loop μ-loop
 array-share-prefix-block c = search needs
 
 slice-aggregate-pass-2 : tie.Need-slice-aggregate-pass-2 Inv-loop μ-loop
-slice-aggregate-pass-2 c = sym (length-take-le _ _ (c .before .before .before .before .before .before .read-on .ensures .0))
+slice-aggregate-pass-2 c = sym (length-take-le _ _ (c .before .before .before .before .before .before .before .read-on .ensures .0))
 
 slice-aggregate-pass-3 : tie.Need-slice-aggregate-pass-3 Inv-loop μ-loop
 slice-aggregate-pass-3 c = search needs
@@ -72,12 +74,12 @@ returns c = serves-not
 loop-less-2 : tie.Need-loop-less-2 Inv-loop μ-loop
 loop-less-2 c =
     let passed = c .before .before .before .before .before in
-    omega (arith, passed .before .before .before .before .before .before .before .before .before .before .before .before .loop-test .taken)
+    omega (arith, passed .before .before .before .before .before .before .before .before .before .before .before .before .before .loop-test .taken)
 
 loop-again-2 : tie.Need-loop-again-2 Inv-loop μ-loop
 loop-again-2 c =
     let passed = c .before .before .before .before .before in
-    let told = passed .before .before .before .before .before .before .before .before .before in
+    let told = passed .before .before .before .before .before .before .before .before .before .before in
     let loop = told .before .before .before .before in
     turning-on (loop .loop .inv) _ (told .read-on .ensures .0) (passed .pass .ensures) (written-all _ (c .if2 .left))
     (told .read-on .ensures .1) (search needs) (search needs)
@@ -102,7 +104,7 @@ hand-over-requires c κs =
 returns-2 : tie.Need-returns-2 Inv-loop μ-loop
 returns-2 c =
     let last = c .before .before .before .before .before in
-    let loop = last .before .before .before .before .before .before in
+    let loop = last .before .before .before .before .before .before .before in
     serves _ (complete (loop .loop .inv .so-far) (last .finish .ensures) (c .hand-over .ensures))
 
 pub serve-spec : {M : Type 1} → statement M

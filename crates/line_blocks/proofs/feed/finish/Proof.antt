@@ -11,7 +11,7 @@ returns c = ends-between (c .before .before .before .pre) (c .if1 .taken)
 
 slice-aggregate-step : tie.Need-slice-aggregate-step
 slice-aggregate-step c =
-    let start = c .before .before .before .before .before .before in
+    let start = c .before .before .before .before .before .before .before in
     sym (begun-length (start .pre .line))
 
 step-requires : tie.Need-step-requires
@@ -23,7 +23,7 @@ same-length c = search needs
 returns-2 : tie.Need-returns-2
 returns-2 c =
     let made = c .before .before in
-    let some = made .before .before .before .before .before in
+    let some = made .before .before .before .before .before .before in
     ends-line (some .before .before .before .pre) (some .if1 .left) (made .step .ensures)
 
 pub finish-spec : {M : Type 1} → statement M

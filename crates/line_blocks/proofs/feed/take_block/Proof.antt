@@ -4,17 +4,19 @@ use borrow.Author.Needs.{needs}
 use Prim.Native.Nat.{_-_}
 use lib.ListN.{length}
 use native.Mathlib.Omega.{arith}
+use Rattle.held.specs.Table.{lent}
 use Rattle.lines.specs.Feed.{goingIn}
 use Rattle.line_blocks.proofs.FeedTurn.{Fed, left-some, left-inside, fed-start, fed-ready, fed-turn, fed-full, fed-whole}
 use Rattle.line_blocks.proofs.feed.take_block.Statement.{statement}
 use Rattle.line_blocks.proofs.feed.take_block.Tie as tie
 
 abbrev Inv-loop : tie.InvT-loop
-Inv-loop o₀ g₀ line₀ begun block out₀ at head₀ kept₀ taken₀ end₀ o g line out head kept taken end =
-    Fed (goingIn head₀ o₀ g₀ line₀ begun out₀ at) block out₀ line₀ head o g line kept taken out end
+Inv-loop base t₀ o₀ g₀ line₀ begun block out₀ at after₀ moves₀ kept₀ taken₀ end₀ t o g line out after moves kept taken end =
+    Fed (goingIn (lent after₀ moves₀ t₀ o₀ g₀) line₀ begun out₀ at) block out₀ line₀ (lent after moves t o g) line kept taken out end
 
 abbrev μ-loop : tie.MeasureT-loop
-μ-loop o₀ g₀ line₀ begun block out₀ at head₀ kept₀ taken₀ end₀ o g line out head kept taken end = length block - taken
+μ-loop base t₀ o₀ g₀ line₀ begun block out₀ at after₀ moves₀ kept₀ taken₀ end₀ t o g line out after moves kept taken end =
+    length block - taken
 
 loop-holds : tie.Need-loop-holds Inv-loop μ-loop
 loop-holds c = fed-start _ (c .before .before .before .pre)
@@ -42,27 +44,27 @@ part-take-line-end c = search needs
 
 take-line-requires : tie.Need-take-line-requires Inv-loop μ-loop
 take-line-requires c κs =
-    let room = c .before .before .before .before .before in
+    let room = c .before .before .before .before .before .before in
     let start = room .before .before .before .before .before .before in
     (fed-ready (room .before .before .loop .inv) (room .if1 .left), left-some (start .args .block .now) _ (room .before .loop-test .taken))
 
 add-taken : tie.Need-add-taken Inv-loop μ-loop
 add-taken c =
     let made = c .before .before .before .before .before .before in
-    let room = made .before .before .before .before .before .before in
+    let room = made .before .before .before .before .before .before .before in
     let start = room .before .before .before .before .before .before in
-    record { fits = omega (arith, start .good .1 .1 .1 .1 .1 .0, left-inside (start .args .block .now) _ (room .before .loop-test .taken) (made .take-line .ensures)) }
+    record { fits = omega (arith, start .good .1 .1 .1 .1 .1 .1 .1 .0, left-inside (start .args .block .now) _ (room .before .loop-test .taken) (made .take-line .ensures)) }
 
 loop-less : tie.Need-loop-less Inv-loop μ-loop
 loop-less c =
     let made = c .before .before .before .before .before .before in
-    let room = made .before .before .before .before .before .before in
+    let room = made .before .before .before .before .before .before .before in
     omega (arith, made .take-line .ensures .some, room .before .loop-test .taken)
 
 loop-again : tie.Need-loop-again Inv-loop μ-loop
 loop-again c =
     let made = c .before .before .before .before .before .before in
-    let room = made .before .before .before .before .before .before in
+    let room = made .before .before .before .before .before .before .before in
     let loop = room .before .before in
     fed-turn (loop .loop .inv) (room .before .loop-test .taken) (room .if1 .left) (made .take-line .ensures)
 

@@ -29,7 +29,7 @@ add-taken c = search needs
 
 slice-aggregate-step : tie.Need-slice-aggregate-step
 slice-aggregate-step c =
-    let find = c .before .before .before .before .before in
+    let find = c .before .before .before .before .before .before in
     let start = find .before .before .before .before in
     sym (length-take-le (find .find-feed .result) (start .args .s .now) (find .find-feed .ensures .begun .inside))
 
@@ -42,7 +42,7 @@ same-length-2 c = search needs
 returns-2 : tie.Need-returns-2
 returns-2 c =
     let made = c .before .before .before in
-    let none = made .before .before .before .before .before in
+    let none = made .before .before .before .before .before .before in
     let find = none .before .before in
     let start = find .before .before .before .before in
     takes-line (start .pre .0) (start .pre .1) _ _ (find .find-feed .ensures) (none .before .if1 .left)
@@ -63,7 +63,7 @@ slice-reshare-prefix-step c = search needs
 
 slice-aggregate-step-2 : tie.Need-slice-aggregate-step-2
 slice-aggregate-step-2 c =
-    let keep = c .before .before .before .before .before in
+    let keep = c .before .before .before .before .before .before in
     sym (begun-length (keep .keep-line2 .ensures .holds))
 
 step-requires-2 : tie.Need-step-requires-2
@@ -82,7 +82,7 @@ returns-3 : tie.Need-returns-3
 returns-3 c =
     let clear = c .before .before .before in
     let made = clear .before .before .before .before in
-    let keep = made .before .before .before .before .before .before .before in
+    let keep = made .before .before .before .before .before .before .before .before in
     let begun = keep .before .before .before .before in
     let find = begun .before in
     let start = find .before .before .before .before in

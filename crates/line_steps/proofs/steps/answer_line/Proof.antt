@@ -13,7 +13,7 @@ same-length c = search needs
 returns : tie.Need-returns
 returns c =
     let gave = c .before .before in
-    answers-empty _ _ (gave .before .before .before .before .if1 .taken) (gave .give-up-line .ensures)
+    answers-empty _ _ (gave .before .before .before .before .before .if1 .taken) (gave .give-up-line .ensures)
 
 offer-line-requires : tie.Need-offer-line-requires
 offer-line-requires c κs = search needs
@@ -24,7 +24,7 @@ same-length-2 c = search needs
 returns-2 : tie.Need-returns-2
 returns-2 c =
     let offer = c .before .before in
-    answers-line _ _ (offer .before .before .before .before .if1 .left) (offer .offer-line .ensures)
+    answers-line _ _ (offer .before .before .before .before .before .if1 .left) (offer .offer-line .ensures)
 
 pub answer-line-spec : {M : Type 1} → statement M
 answer-line-spec =

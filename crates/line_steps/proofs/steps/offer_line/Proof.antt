@@ -16,12 +16,12 @@ enum-known-read c = search needs
 
 array-share-prefix-work : tie.Need-array-share-prefix-work
 array-share-prefix-work c =
-    let told = c .before .before .before in
+    let told = c .before .before .before .before in
     line-inside _ (omega arith) (told .before .before .before .hex-to-octets .ensures) (told .read .given .1)
 
 slice-aggregate-offer-octets : tie.Need-slice-aggregate-offer-octets
 slice-aggregate-offer-octets c =
-    let told = c .before .before .before .before in
+    let told = c .before .before .before .before .before in
     line-length _ (omega arith) (told .before .before .before .hex-to-octets .ensures) (told .read .given .1)
 
 offer-octets-requires : tie.Need-offer-octets-requires
@@ -39,7 +39,7 @@ same-length c = search needs
 returns : tie.Need-returns
 returns c =
     let offer = c .before .before in
-    let told = offer .before .before .before .before .before .before in
+    let told = offer .before .before .before .before .before .before .before in
     line-offered _ (omega arith) (told .before .before .before .hex-to-octets .ensures) _ (told .read .given .1) (offer .offer-octets .ensures)
 
 same-length-2 : tie.Need-same-length-2

@@ -19,7 +19,7 @@ put-refusal-requires c κs = search needs
 
 returns : tie.Need-returns
 returns c =
-    offer-taken (c .before .before .before .offer-core .ensures) (c .enum-told .given .1) (omega arith)
+    offer-taken (c .before .before .offer-core .ensures) (c .enum-told .given .1) (omega arith)
 
 same-length : tie.Need-same-length
 same-length c = search needs
@@ -28,7 +28,7 @@ returns-2 : tie.Need-returns-2
 returns-2 c =
     let put = c .before .before in
     let told = put .before .before .before in
-    offer-not-taken (told .before .before .before .offer-core .ensures) (told .answer .given .1) (put .put-refusal .ensures)
+    offer-not-taken (told .before .before .offer-core .ensures) (told .answer .given .1) (put .put-refusal .ensures)
 
 pub offer-octets-spec : {M : Type 1} → statement M
 offer-octets-spec =

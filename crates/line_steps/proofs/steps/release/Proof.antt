@@ -35,13 +35,13 @@ put-result-requires : tie.Need-put-result-requires
 put-result-requires c κs =
     let told = c .before .before .before .before in
     let next = told .before .before .before .before in
-    let start = next .before .before .before .before .before in
+    let start = next .before .before .before .before .before .before in
     packet-room (next .next-core .ensures) refl (start .args .at) (start .args .out .now) (told .answer .given .1) (start .pre .room)
 
 returns : tie.Need-returns
 returns c =
     let next = c .before .before .before .before in
-    let start = next .before .before .before .before .before in
+    let start = next .before .before .before .before .before .before in
     released-none (next .next-core .ensures) refl (c .enum-told .given .1) (omega (arith, start .pre .room))
 
 same-length : tie.Need-same-length

@@ -7,11 +7,11 @@ use Rattle.line_steps.proofs.steps.releases.Statement.{statement}
 use Rattle.line_steps.proofs.steps.releases.Tie as tie
 
 abbrev Inv-loop : tie.InvT-loop
-Inv-loop t₀ o₀ g₀ out₀ at now₀ moves₀ end₀ left₀ t o g out now moves end left =
+Inv-loop base t₀ o₀ g₀ out₀ at now₀ moves₀ end₀ left₀ t o g out now moves end left =
     Left (viewIn (lent now₀ moves₀ t₀ o₀ g₀)) out₀ at (lent now moves t o g) out end left
 
 abbrev μ-loop : tie.MeasureT-loop
-μ-loop t₀ o₀ g₀ out₀ at now₀ moves₀ end₀ left₀ t o g out now moves end left = left
+μ-loop base t₀ o₀ g₀ out₀ at now₀ moves₀ end₀ left₀ t o g out now moves end left = left
 
 loop-holds : tie.Need-loop-holds Inv-loop μ-loop
 loop-holds c = left-start (c .before .pre)
@@ -19,14 +19,8 @@ loop-holds c = left-start (c .before .pre)
 kept-slot-requires : tie.Need-kept-slot-requires Inv-loop μ-loop
 kept-slot-requires c κs = search needs
 
-mul-kept : tie.Need-mul-kept Inv-loop μ-loop
-mul-kept c = search needs
-
-element-copy-out-kept : tie.Need-element-copy-out-kept Inv-loop μ-loop
-element-copy-out-kept c = search needs
-
-is-unknown-requires : tie.Need-is-unknown-requires Inv-loop μ-loop
-is-unknown-requires c κs = search needs
+is-known-requires : tie.Need-is-known-requires Inv-loop μ-loop
+is-known-requires c κs = search needs
 
 same-length : tie.Need-same-length Inv-loop μ-loop
 same-length c = search needs
@@ -34,12 +28,13 @@ same-length c = search needs
 returns : tie.Need-returns Inv-loop μ-loop
 returns c =
     let told = c .before in
-    let turn = told .before .before .before in
-    left-unknown (turn .before .loop .inv) (turn .loop-test .taken) (told .before .before .kept-slot .ensures) (told .is-unknown .ensures) (c .if1 .taken)
+    let slot = told .before .before .before in
+    let turn = slot .before in
+    left-unknown (turn .before .loop .inv) (turn .loop-test .taken) (slot .kept-slot .ensures) (told .is-known .ensures) (c .if1 .taken)
 
 release-requires : tie.Need-release-requires Inv-loop μ-loop
 release-requires c κs =
-    let turn = c .before .before .before .before .before .before .before in
+    let turn = c .before .before .before .before .before .before .before .before .before in
     left-ready (turn .before .loop .inv) (turn .loop-test .taken)
 
 same-length-2 : tie.Need-same-length-2 Inv-loop μ-loop
@@ -48,7 +43,7 @@ same-length-2 c = search needs
 returns-2 : tie.Need-returns-2 Inv-loop μ-loop
 returns-2 c =
     let made = c .before .before .before .before .before in
-    let turn = made .before .before .before .before .before .before .before .before in
+    let turn = made .before .before .before .before .before .before .before .before .before .before in
     left-stop (turn .before .loop .inv) (turn .loop-test .taken) (made .release .ensures) (not-true _ (c .if2 .taken))
 
 sub-left : tie.Need-sub-left Inv-loop μ-loop
@@ -60,7 +55,7 @@ loop-less c = search needs
 loop-again : tie.Need-loop-again Inv-loop μ-loop
 loop-again c =
     let made = c .before .before .before .before .before in
-    let turn = made .before .before .before .before .before .before .before .before in
+    let turn = made .before .before .before .before .before .before .before .before .before .before in
     left-turn (turn .before .loop .inv) (turn .loop-test .taken) (made .release .ensures) (not-false _ (c .if2 .left))
 
 same-length-3 : tie.Need-same-length-3 Inv-loop μ-loop
@@ -77,9 +72,7 @@ releases-spec =
     μ-loop
     loop-holds
     kept-slot-requires
-    mul-kept
-    element-copy-out-kept
-    is-unknown-requires
+    is-known-requires
     same-length
     returns
     release-requires

@@ -9,8 +9,8 @@ answer-line-requires c κs = search needs
 
 releases-requires : tie.Need-releases-requires
 releases-requires c κs =
-    let answer = c .before .before .before .before .before .before in
-    step-ready _ _ (answer .answer-line .ensures) (answer .before .before .before .before .before .before .pre .room)
+    let answer = c .before .before .before .before .before .before .before in
+    step-ready _ _ (answer .answer-line .ensures) (answer .before .before .before .before .before .before .before .pre .room)
 
 same-length : tie.Need-same-length
 same-length c = search needs
@@ -18,7 +18,7 @@ same-length c = search needs
 returns : tie.Need-returns
 returns c =
     let release = c .before .before in
-    let answer = release .before .before .before .before .before .before .before in
+    let answer = release .before .before .before .before .before .before .before .before in
     step-made _ _ (answer .answer-line .ensures) (release .releases .ensures)
 
 pub step-spec : {M : Type 1} → statement M
