@@ -12,6 +12,7 @@ pub use table::heard_slot;
 pub use table::is_known;
 pub use table::kept_slot;
 pub use table::m_at;
+pub use table::mark_at;
 pub use table::message_size_at;
 pub use table::n_at;
 pub use table::set_heard;

@@ -65,7 +65,15 @@ pub fn is_known(t: &[u16], slot: usize) -> bool
     t[slot] != Session::UNKNOWN
 }
 
-// Of a number from the base on: whether its datagram was accepted, its n and its m.
+// Of a number from the base on: its mark, whether its datagram was accepted, its n and its m.
+pub fn mark_at(t: &[u16], slot: usize) -> u16
+    requires { ⌜ length (now t) ≡ places ⌝ }
+    requires { ⌜ slot < slotsHeard ⌝ }
+    ensures { λ r. ⌜ r ≡ markIn (now (t .entry)) slot ⌝ }
+{
+    t[Session::MARKS + slot]
+}
+
 pub fn accepted_at(t: &[u16], slot: usize) -> bool
     requires { ⌜ length (now t) ≡ places ⌝ }
     requires { ⌜ slot < slotsHeard ⌝ }
