@@ -11,9 +11,9 @@ use Rattle.repair.specs.Cells.{cellAt, keptAhead}
 use Rattle.repair.specs.Reached.{Known}
 use Rattle.views.specs.View.{View, distance}
 use Rattle.views.specs.Offer as offers
-use Rattle.heads.specs.Ranges.{sessionInRanges}
-use Rattle.heads.specs.Promise.{Fresh}
-use Rattle.heads.specs.declared.Session.{Session}
+use Rattle.held.specs.Laid.{sessionInRanges}
+use Rattle.held.specs.Promise.{Fresh}
+use Rattle.held.specs.declared.Session.{Session}
 use Rattle.sessions.specs.Receiver.{OfferOwes, offerOf, NextOwes, nextOf, GiveUpOwes, giveUpOf}
 use Rattle.sessions.specs.declared.receiver.AfterOffer.{AfterOffer}
 use Rattle.sessions.specs.declared.receiver.AfterNext.{AfterNext}

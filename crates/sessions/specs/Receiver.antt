@@ -13,19 +13,18 @@ use Rattle.views.specs.View.{View}
 use Rattle.views.specs.Offer as offers
 use Rattle.views.specs.Release as release
 use Rattle.views.specs.Release.{Release, Loss}
-use Rattle.heads.specs.Head.{viewOf}
-use Rattle.heads.specs.Ranges.{sessionInRanges}
-use Rattle.heads.specs.Within.{Within}
-use Rattle.heads.specs.declared.Session.{Session}
-use Rattle.releasing.specs.Outcome.{releasedOutcome, lostOutcome, handedOf, octetsOf, numberOf}
-use Rattle.receiving.specs.Promise.{offeredOutcome, acceptedOf}
+use Rattle.held.specs.Table.{lentBy, viewOf}
+use Rattle.held.specs.Laid.{sessionInRanges, InRanges}
+use Rattle.held.specs.declared.Session.{Session}
+use Rattle.leaving.specs.Outcome.{releasedOutcome, lostOutcome, handedOf, octetsOf, numberOf}
+use Rattle.offering.specs.Outcome.{offeredOutcome, acceptedOf}
 use Rattle.sessions.specs.declared.receiver.AfterOffer.{AfterOffer}
 use Rattle.sessions.specs.declared.receiver.AfterNext.{AfterNext}
 use Rattle.sessions.specs.declared.receiver.AfterGiveUp.{AfterGiveUp}
 
 -- a session within its ranges, which document 01 sees as this view
 pub record SeenAs (wanted : View) (s : Session) : Type 0 where
-  pub within : Within (s .head) (s .octets) (s .messages)
+  pub within : InRanges (lentBy s)
   pub view : viewOf s ≡ wanted
 
 -- the session after a call: the view that it came to, within the ranges; after a refusal the very session before
