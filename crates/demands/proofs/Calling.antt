@@ -20,7 +20,7 @@ use Rattle.views.specs.View.{View, sum, numbers, sessionLimit, freshView}
 use Rattle.views.specs.Offer as offers
 use Rattle.views.specs.Release as releases
 use Rattle.views.specs.Release.{Release, Loss}
-use Rattle.views.specs.Ranges.{sumRight, sizeRight, cellRight, heldRight, Sound}
+use Rattle.views.specs.Ranges.{sumRight, sizeRight, Sound}
 use Rattle.views.proofs.Sizes.{held-sizes}
 use Rattle.held.specs.Table.{stateOf, viewOf}
 use Rattle.held.specs.Laid.{sessionInRanges}

@@ -15,7 +15,7 @@ use Rattle.stores.specs.Store.{zeros}
 use Rattle.stores.proofs.Laws.{length-zeros, zeros-at, zerosPast-zeros}
 use Rattle.repair.specs.Cells.{Cell, keptNumbers}
 use Rattle.repair.specs.Held.{Held}
-use Rattle.views.specs.View.{View, numbers}
+use Rattle.views.specs.View.{numbers}
 use Rattle.held.specs.Slots.{numberAt}
 use Rattle.held.specs.Table.{Lent, lent, countsOf, viewIn}
 use Rattle.held.specs.Laid.{InRanges}

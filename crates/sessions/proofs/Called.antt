@@ -2,24 +2,24 @@
 -- within them the core's promise is the call's. Assumes nothing.
 use Prim.Native.Nat.{ℕ}
 use mathlib.Core.Path.{_≡_, refl, sym, ap, subst, _∙_}
-use mathlib.Core.Bool.{Bool, true, false, cond}
+use mathlib.Core.Bool.{Bool, true, false}
 use mathlib.Core.List.{List}
 use lib.ListN.{length}
 use Rattle.lengths.specs.Refusals.{outsideRanges}
-use Rattle.lengths.specs.Answers.{Answer, done, refused, refuse}
+use Rattle.lengths.specs.Answers.{Answer, done, refused}
 use Rattle.lengths.specs.Promise.{RefusalMade}
 use Rattle.lengths.specs.declared.Refusal.{Refusal}
 use Rattle.views.specs.View.{View}
 use Rattle.views.specs.Offer as offers
 use Rattle.views.specs.Release as release
 use Rattle.views.specs.Release.{Release, Loss}
-use Rattle.held.specs.Table.{Lent, lent, lentBy, viewIn, viewOf}
+use Rattle.held.specs.Table.{Lent, lent, lentBy, viewOf}
 use Rattle.held.specs.Laid.{sessionInRanges, InRanges}
 use Rattle.held.specs.Promise.{Sized}
 use Rattle.held.specs.declared.Counts.{Counts}
 use Rattle.held.specs.declared.Session.{Session}
 use Rattle.held.proofs.Ranges.{session-in-ranges}
-use Rattle.leaving.specs.Outcome.{releasedOutcome, lostOutcome, handedOf, octetsOf, numberOf, afterNext, afterGiveUp}
+use Rattle.leaving.specs.Outcome.{afterNext, afterGiveUp}
 use Rattle.leaving.specs.Promise.{Releases, GivesUp}
 use Rattle.leaving.specs.declared.Released.{Released}
 use Rattle.leaving.specs.declared.Released.the-variants as released
@@ -29,7 +29,7 @@ use Rattle.offering.specs.Outcome.{afterOffer}
 use Rattle.offering.specs.Promise.{Offers}
 use Rattle.offering.specs.declared.Offered.{Offered}
 use Rattle.offering.specs.declared.Offered.the-variants as offered
-use Rattle.sessions.specs.Receiver.{SeenAs, After, inRangesThen, offerOf, OfferOwes, nextOf, viewAfterNext, NextOwes, giveUpOf, viewAfterLoss, GiveUpOwes}
+use Rattle.sessions.specs.Receiver.{SeenAs, After, offerOf, OfferOwes, nextOf, viewAfterNext, NextOwes, giveUpOf, viewAfterLoss, GiveUpOwes}
 
 -- the session put together again
 abbrev pub sessionOf : ℕ → Counts → List ℕ → List ℕ → List ℕ → Session

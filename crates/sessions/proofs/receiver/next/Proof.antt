@@ -1,12 +1,8 @@
+-- `receiver::next` meets its contract: outside the ranges 17 and the very session, within them what the core owes. Assumes nothing.
 use Rattle.sessions.proofs.Called.{calls, within-session}
 use borrow.Author.Needs.{needs}
 use Rattle.sessions.proofs.receiver.next.Statement.{statement}
 use Rattle.sessions.proofs.receiver.next.Tie as tie
-use Rattle.sessions.proofs.receiver.next.Reads as reads
-use Rattle.sessions.proofs.receiver.next.Lts as lts
-use Rattle.checking.proofs.in_ranges.Reads as in-ranges-reads
-use Rattle.leaving.proofs.next_core.Reads as next-core-reads
-use Rattle.lengths.proofs.Refusal.new.Reads as new-reads
 
 slice-aggregate-in-ranges : tie.Need-slice-aggregate-in-ranges
 slice-aggregate-in-ranges c = search needs

@@ -1,12 +1,8 @@
+-- `receiver::offer` meets its contract: outside the ranges 17 and the very session, within them what the core owes. Assumes nothing.
 use Rattle.sessions.proofs.Called.{calls, within-session}
 use borrow.Author.Needs.{needs}
 use Rattle.sessions.proofs.receiver.offer.Statement.{statement}
 use Rattle.sessions.proofs.receiver.offer.Tie as tie
-use Rattle.sessions.proofs.receiver.offer.Reads as reads
-use Rattle.sessions.proofs.receiver.offer.Lts as lts
-use Rattle.checking.proofs.in_ranges.Reads as in-ranges-reads
-use Rattle.lengths.proofs.Refusal.new.Reads as new-reads
-use Rattle.offering.proofs.offer_core.Reads as offer-core-reads
 
 slice-aggregate-in-ranges : tie.Need-slice-aggregate-in-ranges
 slice-aggregate-in-ranges c = search needs
