@@ -21,7 +21,7 @@ use Rattle.repair.specs.Reached.{Known, Unknown}
 use Rattle.views.specs.View.{View, freshView}
 use Rattle.views.specs.Offer as offers
 use Rattle.views.specs.Offer.{keep, keepSpares, accept, offered}
-use Rattle.heads.specs.declared.Session.{Session}
+use Rattle.held.specs.declared.Session.{Session}
 use Rattle.sessions.specs.declared.receiver.AfterOffer.{AfterOffer}
 use Rattle.sending.specs.Send.{packetInside}
 use Rattle.sending.specs.Carries as carries

@@ -10,34 +10,29 @@ use lib.Dec.{leb, eqb}
 use native.Mathlib.Omega.{arith}
 use borrow.Author.Tests.{eqb-true, le-ltb}
 use Rattle.octets.proofs.Cases.{and-left, and-right}
-use Rattle.octets.proofs.Place.{length-tab}
 use Rattle.lengths.specs.Refusals.{outsideRanges}
 use Rattle.lengths.specs.Answers.{Answer, done, refused, refuse, over}
 use Rattle.datagrams.specs.Sizes.{coveredLimit, messagesLimit}
 use Rattle.repair.specs.Cells as cells
-use Rattle.repair.specs.Cells.{Cell, cellAt, keptBefore, keptAhead, keptNumbers}
+use Rattle.repair.specs.Cells.{cellAt, keptBefore, keptAhead, keptNumbers}
 use Rattle.repair.specs.Held.{heldAt}
 use Rattle.views.specs.View.{View, sum, numbers, sessionLimit, freshView}
 use Rattle.views.specs.Offer as offers
 use Rattle.views.specs.Release as releases
 use Rattle.views.specs.Release.{Release, Loss}
-use Rattle.heads.specs.Head.{heardSlotAt, stateOf, countsOf, heardIn, cellIn, heldIn, cellsOf, heldOf, viewIn, viewOf}
-use Rattle.heads.specs.Ranges.{sumInRange, stateInRange, sessionInRanges}
-use Rattle.heads.specs.Promise.{Fresh}
-use Rattle.heads.specs.Within.{Within}
-use Rattle.heads.specs.declared.State.{State}
-use Rattle.heads.specs.declared.State.the-variants.{Unknown, Received, Spare, Repaired, Blank}
-use Rattle.heads.specs.declared.Head.{Head}
-use Rattle.heads.specs.declared.Session.{Session}
-use Rattle.heads.proofs.Parts.{kept-right, heard-right, mark-range}
-use Rattle.heads.proofs.Seen.{length-cells, length-held, cell-at, held-at}
-use Rattle.ranges.proofs.Laws.{within-of, inRanges-of}
-use Rattle.releasing.specs.Outcome.{Handed, releasedOutcome, lostOutcome, handedOf, octetsOf, numberOf, afterNext, afterGiveUp}
-use Rattle.releasing.specs.declared.Released.{Released}
-use Rattle.releasing.specs.declared.Released.the-variants as answer
-use Rattle.releasing.specs.declared.Lost.{Lost}
-use Rattle.releasing.specs.declared.Lost.the-variants as loss
-use Rattle.receiving.specs.Promise.{acceptedOf, afterOffer}
+use Rattle.views.specs.Ranges.{sumRight, sizeRight, Sound}
+use Rattle.views.proofs.Sizes.{held-sizes}
+use Rattle.held.specs.Table.{stateOf, viewOf}
+use Rattle.held.specs.Laid.{sessionInRanges}
+use Rattle.held.specs.Promise.{Fresh}
+use Rattle.held.specs.declared.Session.{Session}
+use Rattle.held.proofs.Ranges.{session-in-ranges, in-ranges-true}
+use Rattle.leaving.specs.Outcome.{Handed, releasedOutcome, lostOutcome, handedOf, octetsOf, numberOf, afterNext, afterGiveUp}
+use Rattle.leaving.specs.declared.Released.{Released}
+use Rattle.leaving.specs.declared.Released.the-variants as answer
+use Rattle.leaving.specs.declared.Lost.{Lost}
+use Rattle.leaving.specs.declared.Lost.the-variants as loss
+use Rattle.offering.specs.Outcome.{acceptedOf, afterOffer}
 use Rattle.sessions.specs.Receiver.{SeenAs, After, inRangesThen, offerOf, OfferOwes, nextOf, viewAfterNext, NextOwes, giveUpOf, viewAfterLoss, GiveUpOwes}
 use Rattle.sessions.specs.declared.receiver.AfterOffer.{AfterOffer}
 use Rattle.sessions.specs.declared.receiver.AfterNext.{AfterNext}
@@ -53,50 +48,46 @@ use Rattle.demands.proofs.Steps.{leaving, releasedBy, lostBy}
 
 -- ---- a session within its ranges
 pub fresh-seen : (s : Session) → Fresh s → SeenAs freshView s
-fresh-seen s f = record { within = within-of (s .head) (s .octets) (s .messages) (f .ranges) (f .sized); view = f .view }
+fresh-seen s f = record { within = session-in-ranges s (f .ranges) (f .sized); view = f .view }
 
 pub saved-seen : (s : Session) → Saved s → SeenAs (viewOf s) s
-saved-seen s saved = record { within = within-of (s .head) (s .octets) (s .messages) (saved .inRanges) (saved .sized); view = refl }
+saved-seen s saved = record { within = session-in-ranges s (saved .inRanges) (saved .sized); view = refl }
 
 pub seen-in-ranges : (view : View) (s : Session) → SeenAs view s → sessionInRanges s ≡ true
-seen-in-ranges view s seen = inRanges-of (seen .within)
+seen-in-ranges view s seen = in-ranges-true (seen .within)
 
 -- ---- and its view is within them
 -- no number from the base on is blank
-not-blank : (st : State) (size : ℕ) → stateInRange st size false ≡ true → stateOf st ≡ cells.blank → ⊥
-unfolding stateInRange
-not-blank Unknown size e is = let z : _≡_ {A = ℕ} 0 1 = cc in omega arith
-not-blank Received size e is = let z : _≡_ {A = ℕ} 0 1 = cc in omega arith
-not-blank Spare size e is = let z : _≡_ {A = ℕ} 0 1 = cc in omega arith
-not-blank Repaired size e is = let z : _≡_ {A = ℕ} 0 1 = cc in omega arith
-not-blank Blank size e is = false≢true (and-right (eqb size 0) false e)
+not-blank : (st : cells.State) (size : ℕ) → sizeRight st size false ≡ true → st ≡ cells.blank → ⊥
+unfolding sizeRight
+not-blank cells.unknown size e is = let z : _≡_ {A = ℕ} 0 1 = cc in omega arith
+not-blank cells.received size e is = let z : _≡_ {A = ℕ} 0 1 = cc in omega arith
+not-blank cells.spare size e is = let z : _≡_ {A = ℕ} 0 1 = cc in omega arith
+not-blank cells.repaired size e is = let z : _≡_ {A = ℕ} 0 1 = cc in omega arith
+not-blank cells.blank size e is = false≢true (and-right (eqb size 0) false e)
 
-module _ {h : Head} {o g : List ℕ} (w : Within h o g) where
-  base-is : h .base ≡ sum (countsOf (h .counts)) % numbers
-  unfolding sumInRange
+module _ {view : View} (w : Sound view) where
+  base-is : view .base ≡ sum (view .counts) % numbers
+  unfolding sumRight
   base-is =
-      eqb-true (h .base) (sum (countsOf (h .counts)) % numbers)
-      (and-left (eqb (h .base) (sum (countsOf (h .counts)) % numbers)) (leb (sum (countsOf (h .counts))) sessionLimit) (w .total))
+      eqb-true (view .base) (sum (view .counts) % numbers)
+      (and-left (eqb (view .base) (sum (view .counts) % numbers)) (leb (sum (view .counts)) sessionLimit) (w .total))
 
-  no-blank : (p : ℕ) → keptBefore ≤ p → p < keptNumbers → (cellAt (cellsOf h o) p) .state ≡ cells.blank → ⊥
-  unfolding cellIn
+  no-blank : (p : ℕ) → keptBefore ≤ p → p < keptNumbers → (cellAt (view .cells) p) .state ≡ cells.blank → ⊥
   no-blank p past small e =
-      let right = kept-right h o p (w .kept .each p small) .state in
-      not-blank _ _ (rw (le-ltb p keptBefore past) at right) (sym (ap (λ (c : Cell). c .state) (cell-at h o p small)) ∙ e)
+      not-blank ((cellAt (view .cells) p) .state) (length ((cellAt (view .cells) p) .octets))
+      (rw (le-ltb p keptBefore past) at (w .cell p small))
+      e
 
   settings : (d : ℕ) → d < keptAhead
-      → ((heldAt (heldOf h g) d) .n ≤ coveredLimit) × (length ((heldAt (heldOf h g) d) .messages) ≤ messagesLimit)
-  unfolding heldIn
-  settings d small =
-      let range = mark-range _ _ _ _ (heard-right h g d (w .heard .each d small) .mark) in
-      rw (held-at h g d small) (range .0, rw (length-tab ((heardIn h (heardSlotAt (h .base) d)) .m) _) (range .1))
+      → ((heldAt (view .held) d) .n ≤ coveredLimit) × (length ((heldAt (view .held) d) .messages) ≤ messagesLimit)
+  settings d small = held-sizes (heldAt (view .held) d) _ (w .held d small)
 
-  pub within-view : ViewInRanges (viewIn h o g)
-  unfolding viewIn
-  within-view =
+  pub sound-ranges : ViewInRanges view
+  sound-ranges =
       record {
-        kept = length-cells h o;
-        heard = length-held h g;
+        kept = w .kept;
+        heard = w .ahead;
         base = base-is;
         noBlank = no-blank;
         covered = λ d small. settings d small .0;
@@ -104,7 +95,7 @@ module _ {h : Head} {o g : List ℕ} (w : Within h o g) where
       }
 
 pub seen-ranges : (view : View) (s : Session) → SeenAs view s → ViewInRanges view
-seen-ranges view s seen = subst ViewInRanges (seen .view) (within-view (seen .within))
+seen-ranges view s seen = subst ViewInRanges (seen .view) (sound-ranges (seen .within .sound))
 
 -- ---- what a call comes to
 in-ranges-then : {A : Type 0} (call : View → Answer A) {view : View} {s : Session} → SeenAs view s → inRangesThen call s ≡ call view

@@ -40,12 +40,12 @@ use Rattle.views.specs.Offer as offers
 use Rattle.views.specs.Offer.{lateFrom, acceptedAt, offered, accept}
 use Rattle.views.specs.Release as releases
 use Rattle.views.specs.Release.{Release, Loss, atBase}
-use Rattle.heads.specs.Head.{viewOf}
-use Rattle.heads.specs.Ranges.{sessionInRanges}
-use Rattle.heads.specs.declared.Session.{Session}
-use Rattle.releasing.specs.Outcome.{handedOf, numberOf}
-use Rattle.releasing.specs.Outcome as outcome
-use Rattle.receiving.specs.Promise.{acceptedOf}
+use Rattle.held.specs.Table.{viewOf}
+use Rattle.held.specs.Laid.{sessionInRanges}
+use Rattle.held.specs.declared.Session.{Session}
+use Rattle.leaving.specs.Outcome.{handedOf, numberOf}
+use Rattle.leaving.specs.Outcome as outcome
+use Rattle.offering.specs.Outcome.{acceptedOf}
 use Rattle.sessions.specs.Receiver.{After, offerOf, nextOf, viewAfterNext, giveUpOf, viewAfterLoss}
 use Rattle.sending.specs.Sending.{Sending}
 use Rattle.sending.specs.Send.{carriedNext}

@@ -14,15 +14,15 @@ use Rattle.views.specs.View.{View, Counts, sum, freshView, goneOn}
 use Rattle.views.specs.Offer as offers
 use Rattle.views.specs.Release as releases
 use Rattle.views.specs.Release.{Release, Loss}
-use Rattle.heads.specs.Head.{stateOf}
-use Rattle.releasing.specs.Outcome.{releasedOutcome, lostOutcome, handedOf, numberOf, afterNext, afterGiveUp}
-use Rattle.releasing.specs.declared.Released.{Released}
-use Rattle.releasing.specs.declared.Released.the-variants as answer
-use Rattle.releasing.specs.declared.Lost.{Lost}
-use Rattle.releasing.specs.declared.Lost.the-variants as loss
-use Rattle.receiving.specs.Promise.{offeredOutcome, acceptedOf, afterOffer}
-use Rattle.receiving.specs.declared.Offered.{Offered}
-use Rattle.receiving.specs.declared.Offered.the-variants as outcome
+use Rattle.held.specs.Table.{stateOf}
+use Rattle.leaving.specs.Outcome.{releasedOutcome, lostOutcome, handedOf, numberOf, afterNext, afterGiveUp}
+use Rattle.leaving.specs.declared.Released.{Released}
+use Rattle.leaving.specs.declared.Released.the-variants as answer
+use Rattle.leaving.specs.declared.Lost.{Lost}
+use Rattle.leaving.specs.declared.Lost.the-variants as loss
+use Rattle.offering.specs.Outcome.{offeredOutcome, acceptedOf, afterOffer}
+use Rattle.offering.specs.declared.Offered.{Offered}
+use Rattle.offering.specs.declared.Offered.the-variants as outcome
 use Rattle.demands.specs.History.{Left, released, lost, after}
 use Rattle.demands.specs.Calls.{Call, offer, next, giveUp, Calls, _then_, acceptedIn, leftIn}
 use Rattle.demands.specs.GoesOn.{moveOf, Says, GoesOn, from, by}

@@ -27,9 +27,9 @@ use Rattle.views.specs.Offer as offers
 use Rattle.views.specs.Offer.{acceptedAt, lateFrom}
 use Rattle.views.specs.Release as releases
 use Rattle.views.specs.Release.{Release, Loss, atBase}
-use Rattle.heads.specs.declared.Session.{Session}
-use Rattle.releasing.specs.Outcome.{handedOf, numberOf}
-use Rattle.receiving.specs.Promise.{acceptedOf}
+use Rattle.held.specs.declared.Session.{Session}
+use Rattle.leaving.specs.Outcome.{handedOf, numberOf}
+use Rattle.offering.specs.Outcome.{acceptedOf}
 use Rattle.lengths.specs.Tables.{refusalIn}
 use Rattle.demands.specs.Calls.{Call, offer, next, giveUp, Calls, _then_, Called, refusalOf}
 use Rattle.demands.specs.GoesOn.{Says, GoesOn, by}

@@ -9,21 +9,21 @@ use Rattle.lengths.specs.Answers.{Answer, done, refused}
 use Rattle.lengths.specs.declared.Refusal.{Refusal}
 use Rattle.views.specs.View.{View}
 use Rattle.views.specs.Offer as offers
-use Rattle.heads.specs.declared.Session.{Session}
-use Rattle.receiving.specs.Promise.{offeredOutcome, acceptedOf, afterOffer}
-use Rattle.receiving.specs.declared.Offered as receiving
-use Rattle.receiving.specs.declared.Offered.the-variants as answer
+use Rattle.held.specs.declared.Session.{Session}
+use Rattle.offering.specs.Outcome.{offeredOutcome, acceptedOf, afterOffer}
+use Rattle.offering.specs.declared.Offered as offering
+use Rattle.offering.specs.declared.Offered.the-variants as answer
 use Rattle.sessions.specs.Receiver.{SeenAs, OfferOwes}
 use Rattle.sessions.specs.declared.receiver.AfterOffer.{AfterOffer}
 use Rattle.demands.specs.History.{after}
 use Rattle.demands.specs.Feeding.{Near, datagramAt, Offers}
 use Rattle.demands.proofs.Calling.{offer-is, offered-seen}
 
-answer-accepted : (x : receiving.Offered) → offeredOutcome x ≡ done tt → x ≡ answer.Accepted
+answer-accepted : (x : offering.Offered) → offeredOutcome x ≡ done tt → x ≡ answer.Accepted
 answer-accepted answer.Accepted e = refl
 answer-accepted (answer.Refused why) e = let z : _≡_ {A = ℕ} 0 1 = cc in absurd (omega arith)
 
-answer-refused : (x : receiving.Offered) (why : Refusal) → offeredOutcome x ≡ refused why → x ≡ answer.Refused why
+answer-refused : (x : offering.Offered) (why : Refusal) → offeredOutcome x ≡ refused why → x ≡ answer.Refused why
 answer-refused answer.Accepted why e = let z : _≡_ {A = ℕ} 0 1 = cc in absurd (omega arith)
 answer-refused (answer.Refused x) why e = cc
 

@@ -1,7 +1,7 @@
 -- Two outcomes of a call that serves callers inside this repository are one. Most promises are equations. The receiving session's
--- tell its view and that it is within its ranges, and within them the view tells the head and both stores. Assumes nothing.
-use Prim.Native.Nat.{ℕ, _%_}
-use mathlib.Core.Path.{_≡_, sym, ap, ap₂, subst, _∙_}
+-- tell its view and that it is within its ranges, and within them the view tells all that is lent. Assumes nothing.
+use Prim.Native.Nat.{ℕ, _%_, _≤_, _<_}
+use mathlib.Core.Path.{_≡_, refl, sym, ap, ap₂, subst, _∙_}
 use mathlib.Core.List.{List}
 use Rattle.lengths.specs.Answers.{Answer}
 use Rattle.lengths.specs.Promise.{Puts}
@@ -13,23 +13,22 @@ use Rattle.datagrams.specs.declared.kind.Kind.{Kind}
 use Rattle.datagrams.specs.declared.reader.Part.{Part}
 use Rattle.stores.specs.Store.{zeros}
 use Rattle.stores.proofs.Laws.{length-zeros, zeros-at, zerosPast-zeros}
-use Rattle.heads.specs.Head.{countsOf, viewIn}
-use Rattle.heads.specs.declared.Head.{Head}
-use Rattle.heads.proofs.Injective.{head-same, octets-same, messages-same}
-use Rattle.holding.specs.Promise.{Holdable, NumberHeld}
-use Rattle.mending.specs.Promise.{Mended}
-use Rattle.mending.proofs.Beside.{held-beside}
-use Rattle.releasing.specs.Promise.{NextMade, GiveUpMade}
-use Rattle.releasing.specs.declared.NextDone.{NextDone}
-use Rattle.releasing.specs.declared.GivenUp.{GivenUp}
-use Rattle.releasing.specs.declared.Released.{Released}
-use Rattle.releasing.specs.declared.Lost.{Lost}
-use Rattle.releasing.proofs.Laws.{next-answer, next-buffer, next-view, give-up-answer, give-up-view}
-use Rattle.receiving.specs.Promise.{OfferMade}
-use Rattle.receiving.specs.declared.Offered.{Offered}
-use Rattle.receiving.specs.declared.OfferDone.{OfferDone}
-use Rattle.receiving.proofs.Laws.{offered-told, cells-kept, view-of-fields}
-use Rattle.views.specs.View.{View, numbers}
+use Rattle.repair.specs.Cells.{Cell, keptNumbers}
+use Rattle.repair.specs.Held.{Held}
+use Rattle.views.specs.View.{numbers}
+use Rattle.held.specs.Slots.{numberAt}
+use Rattle.held.specs.Table.{Lent, lent, countsOf, viewIn}
+use Rattle.held.specs.Laid.{InRanges}
+use Rattle.held.specs.declared.Counts.{Counts}
+use Rattle.held.proofs.Injective.{lent-same}
+use Rattle.keeping.specs.Promise.{CellsNow, HeldNow, Keeps, KeepsSpares, MayHold, Holds}
+use Rattle.repairing.specs.Promise.{Mends}
+use Rattle.leaving.specs.Promise.{Releases, GivesUp}
+use Rattle.leaving.specs.declared.Released.{Released}
+use Rattle.leaving.specs.declared.Lost.{Lost}
+use Rattle.offering.specs.Promise.{Offers}
+use Rattle.offering.specs.declared.Offered.{Offered}
+use Rattle.sessions.proofs.Told.{released-told, lost-told, offered-told}
 use Rattle.sending.specs.Sender.{historyOctets}
 use Rattle.sending.specs.Held.{Sizes, Stored}
 use Rattle.sending.specs.Items.{ItemsSize}
@@ -37,7 +36,7 @@ use Rattle.datagram_sender.specs.Inner.{HistoryAfter, SendsHeld}
 use Rattle.sending.specs.declared.Settings.{Settings}
 use Rattle.lines.specs.Promise.{Appends}
 use Rattle.demands.specs.OneTold.{OneLent}
-use Rattle.demands.specs.OneInside.{Alike, InStores, InDatagrams, InReceiving, InSending, InLines, OneInside}
+use Rattle.demands.specs.OneInside.{Alike, InStores, InDatagrams, InHeld, InReceiving, InSending, InLines, OneInside}
 use Rattle.demands.proofs.OneTold.{told-one}
 
 in-stores : InStores
@@ -46,6 +45,7 @@ in-stores =
       put = λ old slot src. told-one;
       clear = λ old slot. told-one;
       zerosPast = λ o slot n. told-one;
+      allZero = λ o slot. told-one;
       copyOut = λ o slot n old. told-one;
       add = λ o slot old. told-one;
     }
@@ -85,77 +85,105 @@ in-lines =
     }
 
 -- ---- the receiving session
--- hold leaves the kept numbers, so with the packets at hand its view is told
-hold-one : (h : Head) (g s : List ℕ) (d n : ℕ) (items : List Part) (count : ℕ) → Holdable h g d
-    → OneLent (λ (after : List ℕ) (r : Head). NumberHeld h g s d n items count r after)
-unfolding viewIn
-hold-one h g s d n items count able after other r q a b =
-    let o = able .octets in
-    let w = a .within o (able .free) in
-    let v = b .within o (able .free) in
-    let same : viewIn r o after ≡ viewIn q o other =
-    view-of-fields (viewIn r o after) (viewIn q o other) (a .base ∙ sym (b .base)) (ap countsOf (a .counts ∙ sym (b .counts)))
-    (cells-kept h r o (a .base) (a .kept) ∙ sym (cells-kept h q o (b .base) (b .kept)))
-    (a .held o (able .free) ∙ sym (b .held o (able .free))) in
-    (head-same w v same, messages-same w v same)
+in-held : InHeld
+in-held =
+    record {
+      stateAt = λ t slot. told-one;
+      sizeAt = λ t slot. told-one;
+      isKnown = λ t slot. told-one;
+      markAt = λ t slot. told-one;
+      acceptedAt = λ t slot. told-one;
+      nAt = λ t slot. told-one;
+      mAt = λ t slot. told-one;
+      messageSizeAt = λ t slot. told-one;
+      setKept = λ t slot state size. told-one;
+      setHeard = λ t slot n m. told-one;
+      setMessageSize = λ t slot size. told-one;
+      dropHeard = λ t slot. told-one;
+    }
 
-mend-one : (h : Head) (o g : List ℕ) → OneLent (λ (after : List ℕ) (r : Head). Mended h o g r after)
+-- what is lent with one base and one counts is told by its cells and what it holds
+parts-same : (l k : Lent) → InRanges l → InRanges k → l .base ≡ k .base → l .counts ≡ k .counts
+    → (viewIn l) .cells ≡ (viewIn k) .cells → (viewIn l) .held ≡ (viewIn k) .held → l ≡ k
 unfolding viewIn
-mend-one h o g after other r q a b =
-    let same : viewIn r after g ≡ viewIn q other g =
-    view-of-fields (viewIn r after g) (viewIn q other g) (a .beside .base ∙ sym (b .beside .base))
-    (ap countsOf (a .beside .counts ∙ sym (b .beside .counts)))
-    (a .cells ∙ sym (b .cells))
-    (held-beside g (a .beside) ∙ sym (held-beside g (b .beside))) in
-    (head-same (a .within) (b .within) same, octets-same (a .within) (b .within) same)
+parts-same l k w v base counts cells held =
+    lent-same w v
+    (ap₂ (λ (x : ℕ) (y : Counts). record { base = x; counts = countsOf y; cells = (viewIn l) .cells; held = (viewIn l) .held }) base counts
+    ∙ ap₂ (λ (x : List Cell) (y : List Held). record { base = k .base; counts = countsOf (k .counts); cells = x; held = y }) cells held)
 
-next-one : {h : Head} {o g old : List ℕ} {r q : NextDone} {newO newG new otherO otherG other : List ℕ}
-    → NextMade h o g old r newO newG new → NextMade h o g old q otherO otherG other → (Alike r q newO otherO newG otherG) × (new ≡ other)
-next-one a b = (
-  record {
-    answer =
-        ap₂ (λ (x : Head) (y : Released). record { head = x; answer = y }) (head-same (a .within) (b .within) (next-view a b))
-        (next-answer a b);
-    octets = octets-same (a .within) (b .within) (next-view a b);
-    messages = messages-same (a .within) (b .within) (next-view a b);
-  },
-  next-buffer a b,
+-- a number kept leaves what is held, and messages held leave the kept numbers
+cells-one : {before after other : Lent} {wanted : List Cell} → after .base ≡ other .base → after .counts ≡ other .counts
+    → CellsNow before after wanted → CellsNow before other wanted → after ≡ other
+unfolding viewIn
+cells-one {after = after} {other} base counts a b =
+    parts-same after other (a .within) (b .within) base counts (a .cells ∙ sym (b .cells)) (a .held ∙ sym (b .held))
+
+held-one : {before after other : Lent} {wanted : List Held} → after .base ≡ other .base → after .counts ≡ other .counts
+    → HeldNow before after wanted → HeldNow before other wanted → after ≡ other
+unfolding viewIn
+held-one {after = after} {other} base counts a b =
+    parts-same after other (a .within) (b .within) base counts (a .cells ∙ sym (b .cells)) (a .held ∙ sym (b .held))
+
+table-octets : {l k : Lent} → l ≡ k → (l .table ≡ k .table) × (l .octets ≡ k .octets)
+table-octets e = (ap (λ (x : Lent). x .table) e, ap (λ (x : Lent). x .octets) e)
+
+table-messages : {l k : Lent} → l ≡ k → (l .table ≡ k .table) × (l .messages ≡ k .messages)
+table-messages e = (ap (λ (x : Lent). x .table) e, ap (λ (x : Lent). x .messages) e)
+
+keep-one : (base : ℕ) (c : Counts) (g : List ℕ) (state number p : ℕ) (b t o : List ℕ) → InRanges (lent base c t o g)
+    → p < keptNumbers → number ≡ numberAt base p
+    → OneLent (λ (newO newT : List ℕ). Keeps state number b t o newT newO)
+keep-one base c g state number p b t o w small at newO otherO newT otherT x y =
+    table-octets (cells-one refl refl (x .kept base c g p w small at) (y .kept base c g p w small at))
+
+spares-one : (base : ℕ) (c : Counts) (g : List ℕ) (number p : ℕ) (s : List ℕ) (items : List Part) (count : ℕ) (t o : List ℕ)
+    → InRanges (lent base c t o g) → p < keptNumbers → count ≤ p → number ≡ numberAt base p
+    → OneLent (λ (newO newT : List ℕ). KeepsSpares number s items count t o newT newO)
+spares-one base c g number p s items count t o w small fits at newO otherO newT otherT x y =
+    table-octets (cells-one refl refl (x .kept base c g p w small fits at) (y .kept base c g p w small fits at))
+
+hold-one : (base d : ℕ) (s : List ℕ) (n : ℕ) (items : List Part) (count : ℕ) (t g : List ℕ) → MayHold base t g d
+    → OneLent (λ (newG newT : List ℕ). Holds base d s n items count t g newT newG)
+hold-one base d s n items count t g may newG otherG newT otherT x y =
+    table-messages
+    (held-one refl refl (x .holds (may .counts) (may .octets) (may .unmarked)) (y .holds (may .counts) (may .octets) (may .unmarked)))
+
+mend-one : (before after other : Lent) → Mends before after → Mends before other → after ≡ other
+mend-one before after other a b = lent-same (a .within) (b .within) (a .state ∙ sym (b .state))
+
+next-one : {before after other : Lent} {old new newer : List ℕ} {r q : Released} → Releases before after old new r
+    → Releases before other old newer q
+    → (r ≡ q) × (after ≡ other) × (new ≡ newer)
+next-one {r = r} {q} a b = (
+  released-told r q (a .told ∙ sym (b .told)),
+  lent-same (a .within) (b .within) (a .state ∙ sym (b .state)),
+  a .written ∙ sym (b .written),
 )
 
-give-up-one : {h : Head} {o g : List ℕ} {r q : GivenUp} {newO newG otherO otherG : List ℕ}
-    → GiveUpMade h o g r newO newG → GiveUpMade h o g q otherO otherG → Alike r q newO otherO newG otherG
-give-up-one a b =
-    record {
-      answer =
-          ap₂ (λ (x : Head) (y : Lost). record { head = x; answer = y }) (head-same (a .within) (b .within) (give-up-view a b))
-          (give-up-answer a b);
-      octets = octets-same (a .within) (b .within) (give-up-view a b);
-      messages = messages-same (a .within) (b .within) (give-up-view a b);
-    }
+give-up-one : {before after other : Lent} {r q : Lost} → GivesUp before after r → GivesUp before other q → (r ≡ q) × (after ≡ other)
+give-up-one {r = r} {q} a b = (
+  lost-told r q (a .told ∙ sym (b .told)),
+  lent-same (a .within) (b .within) (a .state ∙ sym (b .state)),
+)
 
-offer-one : {came : Answer View} {h : Head} {o g : List ℕ} {r q : OfferDone} {newO newG otherO otherG : List ℕ}
-    → OfferMade came h o g r newO newG → OfferMade came h o g q otherO otherG → Alike r q newO otherO newG otherG
-offer-one {r = r} {q = q} a b =
-    let same = a .state ∙ sym (b .state) in
-    record {
-      answer =
-          ap₂ (λ (x : Head) (y : Offered). record { head = x; answer = y }) (head-same (a .within) (b .within) same)
-          (offered-told (r .answer) (q .answer) (a .answer ∙ sym (b .answer)));
-      octets = octets-same (a .within) (b .within) same;
-      messages = messages-same (a .within) (b .within) same;
-    }
+offer-one : {octets : List ℕ} {before after other : Lent} {r q : Offered} → Offers octets before after r → Offers octets before other q
+    → (r ≡ q) × (after ≡ other)
+offer-one {r = r} {q} a b = (
+  offered-told r q (a .told ∙ sym (b .told)),
+  lent-same (a .within) (b .within) (a .state ∙ sym (b .state)),
+)
 
 in-receiving : InReceiving
 in-receiving =
     record {
-      place = λ h slot kept. told-one;
-      inRanges = λ h o g. told-one;
-      putPart = λ slot s item old new other r q a b. (a .size ∙ sym (b .size), a .octets ∙ sym (b .octets));
+      inRanges = λ base counts t o g. told-one;
+      keep = keep-one;
+      keepSpares = spares-one;
       hold = hold-one;
       mend = mend-one;
-      nextCore = next-one;
-      giveUpCore = give-up-one;
-      offerCore = λ octets a b. offer-one a b;
+      nextCore = λ a b. next-one a b;
+      giveUpCore = λ a b. give-up-one a b;
+      offerCore = λ a b. offer-one a b;
     }
 
 -- ---- the sending session
@@ -189,7 +217,7 @@ module _ {sent : ℕ} {settings : Settings} {packet lengths o old : List ℕ} {r
       let puts = puts-one new other r q (a .puts) (b .puts) in
       let after = subst (λ (w : Written). HistoryAfter w (sent % numbers) packet lengths o otherS otherO) (sym (puts .0)) (b .history) in
       let kept = history-one r (sent % numbers) packet lengths o newS newO otherS otherO (a .history) after in
-      (record { answer = puts .0; octets = kept .0; messages = kept .1 }, puts .1)
+      (record { answer = puts .0; lengths = kept .0; octets = kept .1 }, puts .1)
 
 in-sending : InSending
 in-sending =
@@ -208,6 +236,7 @@ one-inside =
     record {
       inStores = in-stores;
       inDatagrams = in-datagrams;
+      inHeld = in-held;
       inReceiving = in-receiving;
       inSending = in-sending;
       inLines = in-lines;

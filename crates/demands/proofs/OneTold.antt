@@ -1,7 +1,7 @@
 -- Two answers of a call that only tells something are one: its promise is an equation with a function of what was given. Assumes
 -- nothing.
 use mathlib.Core.Path.{_≡_, sym, _∙_}
-use Rattle.demands.specs.OneTold.{ToldByLengths, ToldByDatagrams, ToldByPackets, ToldByStores, ToldByHeads, ToldBySending, ToldByLines, OneTold}
+use Rattle.demands.specs.OneTold.{ToldByLengths, ToldByDatagrams, ToldByPackets, ToldByStores, ToldByHeld, ToldBySending, ToldByLines, OneTold}
 
 -- both are what is told
 pub told-one : {A : Type 0} {told : A} (r q : A) → r ≡ told → q ≡ told → r ≡ q
@@ -40,18 +40,18 @@ by-packets =
 by-stores : ToldByStores
 by-stores = record { wide = λ n. told-one; passing = told-one }
 
-by-heads : ToldByHeads
-by-heads =
+by-held : ToldByHeld
+by-held =
     record {
       sessionLimit = told-one;
       kept = told-one;
       heard = told-one;
       packetOctets = told-one;
       messageOctets = told-one;
+      places = told-one;
       keptSlot = λ number. told-one;
       heardSlot = λ number. told-one;
       total = λ c. told-one;
-      isUnknown = λ state. told-one;
     }
 
 by-sending : ToldBySending
@@ -67,7 +67,7 @@ one-told =
       byDatagrams = by-datagrams;
       byPackets = by-packets;
       byStores = by-stores;
-      byHeads = by-heads;
+      byHeld = by-held;
       bySending = by-sending;
       byLines = by-lines;
     }

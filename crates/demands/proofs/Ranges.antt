@@ -1,5 +1,5 @@
 -- Document 01, 'Ranges of a session', said of the view, as far as the proofs of the demands rest on it. The whole paragraph is
--- the session's own (heads, `inRanges`); a session within it has such a view. Definitions only.
+-- `Sound` (views, Ranges); a sound view is such a view. Definitions only.
 use Prim.Native.Nat.{ℕ, _%_, _≤_, _<_}
 use mathlib.Core.Path.{_≡_}
 use lib.ListN.{length}

@@ -20,7 +20,7 @@ use Rattle.repair.proofs.Held.{held-at, messagesOf-among}
 use Rattle.repair.proofs.Least.{reached-within, known-closed}
 use Rattle.views.specs.View.{View, sum}
 use Rattle.views.specs.Offer.{heldOf, accept}
-use Rattle.heads.proofs.Parts.{reach-range}
+use Rattle.views.proofs.Sizes.{reach-kept}
 use Rattle.demands.specs.Calls.{Call, Calls, _then_}
 use Rattle.demands.specs.ReachedBy.{spareAt, sparesIn, HasSpare, Accepts, now, HeldBy, ReachedBy, packet, spare, repaired, earlier}
 use Rattle.demands.proofs.Growing.{known-grown}
@@ -58,7 +58,7 @@ module _ {calls : Calls} {call : Call} {g d : ℕ} {c : Carried} {view : View} (
         let covered : h .n ≤ coveredLimit = subst (λ (x : Held). x .n ≤ coveredLimit) is (t .ranges .covered e low) in
         let less : length (h .messages) ≤ messagesLimit =
         subst (λ (x : Held). length (x .messages) ≤ messagesLimit) is (t .ranges .messages e low) in
-        let within = reach-range covered less in
+        let within = reach-kept covered less in
         omega arith
 
     abbrev Inside : ℕ → Type 0

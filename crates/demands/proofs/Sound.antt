@@ -28,7 +28,7 @@ use Rattle.repair.proofs.Honest.{repair-right}
 use Rattle.repair.proofs.Zeros.{up-to-zeros-same}
 use Rattle.views.specs.View.{View, Counts, sum, freshView, goneOn}
 use Rattle.views.specs.Offer.{keep, keepSpares, keepExtra, heldOf, accept}
-use Rattle.heads.proofs.Parts.{reach-range}
+use Rattle.views.proofs.Sizes.{reach-kept}
 use Rattle.sending.specs.Carries.{sparesFrom, extraFrom}
 use Rattle.sending.specs.Honest.{packetAt}
 use Rattle.sending.specs.declared.Settings.{Settings}
@@ -362,7 +362,7 @@ module _ {row datagrams : List (List ℕ)} {view : View} (s : Sound row datagram
     reach-of =
         let few : n-of ≤ coveredLimit = subst (λ (x : Held). x .n ≤ coveredLimit) is (s .ranges .covered (suc j) inside) in
         let less : m-of ≤ messagesLimit = subst (λ (x : Held). length (x .messages) ≤ messagesLimit) is (s .ranges .messages (suc j) inside) in
-        let reach = reach-range few less in
+        let reach = reach-kept few less in
         omega arith
 
     old-among : Among (messageAt (suc (keptBefore + j)) h i) (heldMessages (view .held))

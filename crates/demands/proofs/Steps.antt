@@ -20,8 +20,8 @@ use Rattle.views.specs.Offer as offers
 use Rattle.views.specs.Offer.{accept, acceptedAt, offered, lateFrom}
 use Rattle.views.specs.Release as releases
 use Rattle.views.specs.Release.{Release, Loss, booked, atBase}
-use Rattle.releasing.specs.Outcome.{afterNext, afterGiveUp}
-use Rattle.receiving.specs.Promise.{afterOffer}
+use Rattle.leaving.specs.Outcome.{afterNext, afterGiveUp}
+use Rattle.offering.specs.Outcome.{afterOffer}
 use Rattle.demands.specs.History.{Move, offer, next, giveUp, Left, released, lost, numberOf, after, many, countsOf}
 use Rattle.demands.specs.Demand2.{OneKind, grown}
 use Rattle.demands.proofs.Ranges.{ViewInRanges}

@@ -5,16 +5,16 @@ use Prim.Native.Nat.{ℕ}
 use mathlib.Core.List.{List, [], _∷_, _++_}
 use mathlib.Core.Option.{Option, none, some}
 use lib.ListN.{take}
-use Rattle.heads.specs.Head.{stateOf}
-use Rattle.heads.specs.declared.Session.{Session}
-use Rattle.releasing.specs.Outcome.{releasedOutcome, lostOutcome}
-use Rattle.releasing.specs.declared.Released.{Released}
-use Rattle.releasing.specs.declared.Released.the-variants as answer
-use Rattle.releasing.specs.declared.Lost.{Lost}
-use Rattle.releasing.specs.declared.Lost.the-variants as loss
-use Rattle.receiving.specs.Promise.{offeredOutcome}
-use Rattle.receiving.specs.declared.Offered.{Offered}
-use Rattle.receiving.specs.declared.Offered.the-variants as outcome
+use Rattle.held.specs.Table.{stateOf}
+use Rattle.held.specs.declared.Session.{Session}
+use Rattle.leaving.specs.Outcome.{releasedOutcome, lostOutcome}
+use Rattle.leaving.specs.declared.Released.{Released}
+use Rattle.leaving.specs.declared.Released.the-variants as answer
+use Rattle.leaving.specs.declared.Lost.{Lost}
+use Rattle.leaving.specs.declared.Lost.the-variants as loss
+use Rattle.offering.specs.Outcome.{offeredOutcome}
+use Rattle.offering.specs.declared.Offered.{Offered}
+use Rattle.offering.specs.declared.Offered.the-variants as outcome
 use Rattle.sessions.specs.Receiver.{OfferOwes, NextOwes, GiveUpOwes}
 use Rattle.sessions.specs.declared.receiver.AfterOffer.{AfterOffer}
 use Rattle.sessions.specs.declared.receiver.AfterNext.{AfterNext}

@@ -31,9 +31,9 @@ use Rattle.packets.specs.declared.types.Kind as packets
 use Rattle.packets.specs.declared.types.Ending.{Ending}
 use Rattle.packets.specs.declared.types.Ending.the-variants.{Whole, Repaired}
 use Rattle.packets.specs.declared.types.PacketRead.{PacketRead}
-use Rattle.releasing.specs.Outcome.{releasedOutcome, lostOutcome}
-use Rattle.receiving.specs.Promise.{offeredOutcome}
-use Rattle.heads.specs.declared.Session.{Session}
+use Rattle.leaving.specs.Outcome.{releasedOutcome, lostOutcome}
+use Rattle.offering.specs.Outcome.{offeredOutcome}
+use Rattle.held.specs.declared.Session.{Session}
 use Rattle.sessions.specs.Receiver.{OfferOwes, NextOwes, GiveUpOwes}
 use Rattle.sessions.specs.declared.receiver.AfterOffer.{AfterOffer}
 use Rattle.sessions.specs.declared.receiver.AfterNext.{AfterNext}

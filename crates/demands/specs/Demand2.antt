@@ -17,10 +17,10 @@ use Rattle.lengths.specs.Refusals.{outsideRanges}
 use Rattle.repair.specs.Cells.{keptNumbers}
 use Rattle.repair.specs.Reached.{Known}
 use Rattle.views.specs.View.{View, Counts, sum, numbers}
-use Rattle.heads.specs.Head.{viewOf}
-use Rattle.heads.specs.Ranges.{sessionInRanges}
-use Rattle.heads.specs.Promise.{Sized, Fresh}
-use Rattle.heads.specs.declared.Session.{Session}
+use Rattle.held.specs.Table.{viewOf}
+use Rattle.held.specs.Laid.{sessionInRanges}
+use Rattle.held.specs.Promise.{Sized, Fresh}
+use Rattle.held.specs.declared.Session.{Session}
 use Rattle.demands.specs.History.{Left, numberOf, isReceived, isSpare, isRepaired, isLost, countsOf}
 use Rattle.demands.specs.Calls.{Call, Calls, _then_, Called, refusalOf, leftBy}
 use Rattle.demands.specs.GoesOn.{GoesOn}
@@ -30,7 +30,7 @@ use Rattle.demands.specs.RoundTrips.{RoundTrips}
 -- ---- where a chain of calls begins
 -- a session saved within its ranges; that its arrays have their lengths is so of every value of the struct's type
 pub record Saved (s : Session) : Type 0 where
-  pub sized : Sized (s .head) (s .octets) (s .messages)
+  pub sized : Sized s
   pub inRanges : sessionInRanges s ≡ true
 
 -- a session fresh at its start, or a saved one

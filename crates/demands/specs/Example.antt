@@ -7,9 +7,9 @@ use mathlib.Core.List.{List, [], _∷_, List·Memᴰ as Among}
 use Rattle.repair.specs.Cells.{repaired, cellAt, keptBefore}
 use Rattle.repair.specs.Held.{heldAt}
 use Rattle.repair.specs.Reached.{Unknown}
-use Rattle.heads.specs.Head.{viewOf}
-use Rattle.heads.specs.Promise.{Fresh}
-use Rattle.heads.specs.declared.Session.{Session}
+use Rattle.held.specs.Table.{viewOf}
+use Rattle.held.specs.Promise.{Fresh}
+use Rattle.held.specs.declared.Session.{Session}
 use Rattle.sessions.specs.Receiver.{OfferOwes}
 use Rattle.sessions.specs.declared.receiver.AfterOffer.{AfterOffer}
 use Rattle.sending.specs.Honest.{HonestSender}

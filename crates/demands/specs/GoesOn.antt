@@ -5,8 +5,8 @@ use Rattle.lengths.specs.Answers.{over}
 use Rattle.views.specs.View.{View}
 use Rattle.views.specs.Offer as offers
 use Rattle.views.specs.Release as releases
-use Rattle.releasing.specs.Outcome.{releasedOutcome, lostOutcome, handedOf, octetsOf, numberOf}
-use Rattle.receiving.specs.Promise.{offeredOutcome, acceptedOf}
+use Rattle.leaving.specs.Outcome.{releasedOutcome, lostOutcome, handedOf, octetsOf, numberOf}
+use Rattle.offering.specs.Outcome.{offeredOutcome, acceptedOf}
 use Rattle.demands.specs.History as moves
 use Rattle.demands.specs.History.{Move, after}
 use Rattle.demands.specs.Calls.{Call, offer, next, giveUp, Calls, start, _then_}

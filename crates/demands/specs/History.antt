@@ -8,8 +8,8 @@ use Rattle.repair.specs.Cells.{State, unknown, received, spare, repaired, blank
 use Rattle.views.specs.View.{View, Counts}
 use Rattle.views.specs.Offer as offers
 use Rattle.views.specs.Release as releases
-use Rattle.releasing.specs.Outcome.{afterNext, afterGiveUp}
-use Rattle.receiving.specs.Promise.{afterOffer}
+use Rattle.leaving.specs.Outcome.{afterNext, afterGiveUp}
+use Rattle.offering.specs.Outcome.{afterOffer}
 
 -- one call
 pub data Move : Type 0 where

@@ -13,12 +13,12 @@ use Rattle.datagrams.specs.Put.{LengthSize, kindHead}
 use Rattle.datagrams.specs.declared.kind.Kind.{Kind}
 use Rattle.packets.specs.Packet as packet
 use Rattle.packets.specs.declared.types.Kind as packets
-use Rattle.repair.specs.Cells as cells
 use Rattle.stores.specs.Store as store
 use Rattle.views.specs.View as views
-use Rattle.heads.specs.Head as head
-use Rattle.heads.specs.declared.Counts.{Counts}
-use Rattle.heads.specs.declared.State.{State}
+use Rattle.held.specs.Slots as slots
+use Rattle.held.specs.Table as table
+use Rattle.held.specs.declared.Counts.{Counts}
+use Rattle.held.specs.declared.State.{State}
 use Rattle.sending.specs.Sending as history
 use Rattle.sending.specs.Sender as sender
 use Rattle.lines.specs.Hex as hex
@@ -68,18 +68,18 @@ pub record ToldByStores : Type 0 where
   pub wide : (n : ℕ) → One (λ (r : ℕ). r ≡ n)
   pub passing : One (λ (r : List ℕ). r ≡ store.mask)
 
--- `heads`: `limit`, `kept`, `heard`, `packet_octets` and `message_octets` of `Session`; then `kept_slot`, `heard_slot`, `total` and
--- `is_unknown`
-pub record ToldByHeads : Type 0 where
+-- `held`: `limit`, `kept`, `heard`, `packet_octets`, `message_octets` and `places` of `Session`; then `kept_slot`, `heard_slot` and
+-- `total`
+pub record ToldByHeld : Type 0 where
   pub sessionLimit : One (λ (r : ℕ). r ≡ views.sessionLimit)
-  pub kept : One (λ (r : ℕ). r ≡ head.slotsKept)
-  pub heard : One (λ (r : ℕ). r ≡ head.slotsHeard)
-  pub packetOctets : One (λ (r : ℕ). r ≡ head.packetOctets)
-  pub messageOctets : One (λ (r : ℕ). r ≡ head.messageOctets)
-  pub keptSlot : (number : ℕ) → One (λ (r : ℕ). r ≡ number % head.slotsKept)
-  pub heardSlot : (number : ℕ) → One (λ (r : ℕ). r ≡ number % head.slotsHeard)
-  pub total : (c : Counts) → One (λ (r : ℕ). r ≡ views.sum (head.countsOf c))
-  pub isUnknown : (state : State) → One (λ (r : Bool). r ≡ cells.isUnknown (head.stateOf state))
+  pub kept : One (λ (r : ℕ). r ≡ slots.slotsKept)
+  pub heard : One (λ (r : ℕ). r ≡ slots.slotsHeard)
+  pub packetOctets : One (λ (r : ℕ). r ≡ slots.packetOctets)
+  pub messageOctets : One (λ (r : ℕ). r ≡ slots.messageOctets)
+  pub places : One (λ (r : ℕ). r ≡ table.places)
+  pub keptSlot : (number : ℕ) → One (λ (r : ℕ). r ≡ number % slots.slotsKept)
+  pub heardSlot : (number : ℕ) → One (λ (r : ℕ). r ≡ number % slots.slotsHeard)
+  pub total : (c : Counts) → One (λ (r : ℕ). r ≡ views.sum (table.countsOf c))
 
 -- `sending`: `limit`, `history` and `history_octets` of `Sender`, and `slot_of`
 pub record ToldBySending : Type 0 where
@@ -88,18 +88,18 @@ pub record ToldBySending : Type 0 where
   pub historyOctets : One (λ (r : ℕ). r ≡ sender.historyOctets)
   pub slotOf : (number : ℕ) → One (λ (r : ℕ). r ≡ number % history.historyKept)
 
--- `lines`: `limit`, `kept_limit` and `step_limit` of `Line`, and `kind_octet`
+-- `lines`: `limit`, `kept_limit` and `step_limit` of `Line`; `line_steps`: `kind_octet`
 pub record ToldByLines : Type 0 where
   pub lineLimit : One (λ (r : ℕ). r ≡ hex.lineLimit)
   pub keptLimit : One (λ (r : ℕ). r ≡ feed.keptLimit)
   pub stepLimit : One (λ (r : ℕ). r ≡ steps.stepLimit)
-  pub kindOctet : (kind : State) → One (λ (r : ℕ). r ≡ lines.kindOf (head.stateOf kind))
+  pub kindOctet : (kind : State) → One (λ (r : ℕ). r ≡ lines.kindOf (table.stateOf kind))
 
 pub record OneTold : Type 0 where
   pub byLengths : ToldByLengths
   pub byDatagrams : ToldByDatagrams
   pub byPackets : ToldByPackets
   pub byStores : ToldByStores
-  pub byHeads : ToldByHeads
+  pub byHeld : ToldByHeld
   pub bySending : ToldBySending
   pub byLines : ToldByLines

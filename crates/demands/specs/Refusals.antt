@@ -17,9 +17,9 @@ use Rattle.repair.specs.Cells.{unknownAt, keptBefore, keptAhead}
 use Rattle.views.specs.View.{sum, distance, sessionLimit}
 use Rattle.views.specs.Offer.{lateFrom, acceptedAt}
 use Rattle.views.specs.Release.{atBase}
-use Rattle.heads.specs.Head.{viewOf}
-use Rattle.heads.specs.Ranges.{sessionInRanges}
-use Rattle.heads.specs.declared.Session.{Session}
+use Rattle.held.specs.Table.{viewOf}
+use Rattle.held.specs.Laid.{sessionInRanges}
+use Rattle.held.specs.declared.Session.{Session}
 
 -- ---- lengths: "At a length: 3 or 1 in its form"
 unfoldable pub lengthRows : List ℕ → List (Option ℕ)

@@ -1,7 +1,7 @@
 // The history as it is held: document 01, 'The sending session', as `sending` defines it.
-mod held;
+mod slots;
 
-pub use held::in_ranges;
-pub use held::keep;
-pub use held::size_in;
-pub use held::slot_of;
+pub use slots::in_ranges;
+pub use slots::keep;
+pub use slots::size_in;
+pub use slots::slot_of;

@@ -1,6 +1,6 @@
 // The sending session, what it is: document 01, 'The sending session'.
 use datagrams::Packet;
-use heads::Session;
+use held::Session;
 use lengths::Written;
 ghost use mathlib.Core.Path.{_≡_};
 ghost use Rattle.views.specs.View.{sessionLimit};

@@ -3,13 +3,13 @@ use mathlib.Core.Path.{_≡_, sym, subst, _∙_}
 use Rattle.lengths.specs.Answers.{Answer, done, refused}
 use Rattle.lengths.specs.declared.Refusal.{Refusal}
 use Rattle.views.specs.View.{View}
-use Rattle.heads.specs.declared.Session.{Session}
-use Rattle.heads.proofs.Injective.{session-same}
+use Rattle.held.specs.declared.Session.{Session}
+use Rattle.held.proofs.Injective.{session-same}
 use Rattle.sessions.specs.Receiver.{SeenAs, After}
 
 -- one view, one session
 pub seen-same : {v : View} {r q : Session} → SeenAs v r → SeenAs v q → r ≡ q
-seen-same a b = session-same (a .within) (b .within) (a .view ∙ sym (b .view))
+seen-same {r = r} {q} a b = session-same r q (a .within) (b .within) (a .view ∙ sym (b .view))
 
 pub after-same : (a : Answer View) (s : Session) {r q : Session} → After a s r → After a s q → r ≡ q
 after-same (done v) s x y = seen-same x y

@@ -1,7 +1,7 @@
--- `held::size_right` meets its contract. Assumes nothing.
+-- `slots::size_right` meets its contract. Assumes nothing.
 use Rattle.history.proofs.RangeSteps.{sizings}
-use Rattle.history.proofs.held.size_right.Statement.{statement}
-use Rattle.history.proofs.held.size_right.Tie as tie
+use Rattle.history.proofs.slots.size_right.Statement.{statement}
+use Rattle.history.proofs.slots.size_right.Tie as tie
 
 returns : tie.Need-returns
 returns c = search sizings

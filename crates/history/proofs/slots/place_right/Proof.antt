@@ -1,8 +1,8 @@
--- `held::place_right` meets its contract. Assumes nothing.
+-- `slots::place_right` meets its contract. Assumes nothing.
 use borrow.Author.Needs.{needs}
 use Rattle.history.proofs.RangeSteps.{placings, slot-there, size-told}
-use Rattle.history.proofs.held.place_right.Statement.{statement}
-use Rattle.history.proofs.held.place_right.Tie as tie
+use Rattle.history.proofs.slots.place_right.Statement.{statement}
+use Rattle.history.proofs.slots.place_right.Tie as tie
 
 add-at : tie.Need-add-at
 add-at c = search needs

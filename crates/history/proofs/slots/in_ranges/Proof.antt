@@ -1,12 +1,12 @@
--- `held::in_ranges` meets its contract. Assumes nothing.
+-- `slots::in_ranges` meets its contract. Assumes nothing.
 use Prim.Native.Nat.{_-_}
 use mathlib.Core.Path.{_≡_}
 use borrow.Author.Needs.{needs}
 use Rattle.stores.specs.Store.{mask}
 use Rattle.sending.specs.Sending.{historyKept}
 use Rattle.history.proofs.RangeSteps.{Ranging, rangings}
-use Rattle.history.proofs.held.in_ranges.Statement.{statement}
-use Rattle.history.proofs.held.in_ranges.Tie as tie
+use Rattle.history.proofs.slots.in_ranges.Statement.{statement}
+use Rattle.history.proofs.slots.in_ranges.Tie as tie
 
 abbrev Inv-loop : tie.InvT-loop
 Inv-loop sent sizes o table ok₀ p₀ ok p = (Ranging sent sizes o ok p) × (table ≡ mask)

@@ -1,8 +1,8 @@
--- `held::keep` meets its contract. Assumes nothing.
+-- `slots::keep` meets its contract. Assumes nothing.
 use borrow.Author.Needs.{needs}
 use Rattle.history.proofs.KeepSteps.{keeping}
-use Rattle.history.proofs.held.keep.Statement.{statement}
-use Rattle.history.proofs.held.keep.Tie as tie
+use Rattle.history.proofs.slots.keep.Statement.{statement}
+use Rattle.history.proofs.slots.keep.Tie as tie
 
 slot-of-requires : tie.Need-slot-of-requires
 slot-of-requires c κs = search needs
