@@ -42,7 +42,7 @@ fn digit_for(n: u8) -> u8
 }
 
 // Whether every character is a digit.
-fn all_digits(line: &[u8]) -> bool
+pub fn all_digits(line: &[u8]) -> bool
     ensures { λ r. ⌜ r ≡ allDigits (now (line .entry)) ⌝ }
 {
     let mut all = true;
@@ -55,7 +55,7 @@ fn all_digits(line: &[u8]) -> bool
 }
 
 // The octets of a line of paired digits, to the front of out.
-fn pair_up(line: &[u8], out: &mut [u8])
+pub fn pair_up(line: &[u8], out: &mut [u8])
     requires { ⌜ allDigits (now line) ≡ true ⌝ }
     requires { ⌜ length (now line) / 2 ≤ length (now out) ⌝ }
     ensures { λ _. ⌜ now (out .exit) ≡ octetsIn (now (line .entry)) ++ drop (length (now (line .entry)) / 2) (now (out .entry)) ⌝ }
