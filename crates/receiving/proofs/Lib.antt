@@ -1,4 +1,0 @@
-pub mod Laws
-mod Keeping
-mod Accepting
-mod Offering
