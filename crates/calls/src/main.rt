@@ -15,12 +15,12 @@ use answers::say_no_call;
 use arguments::number;
 use arguments::octet;
 use arguments::part;
-use sessions::Session;
 use input::BLOCK;
 use input::KEPT;
 use input::octets_of;
 use input::read_line;
 use sending::Sender;
+use sessions::Session;
 
 // Both sessions.
 struct Held {

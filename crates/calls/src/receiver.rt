@@ -14,10 +14,10 @@ use crate::session::overwritten;
 use crate::session::say_counts;
 use crate::session::say_view;
 use crate::session::state_octet;
-use sessions::Session;
-use sessions::Offered;
 use sessions::Lost;
+use sessions::Offered;
 use sessions::Released;
+use sessions::Session;
 
 fn say_offered(answer: Offered) {
     match answer {

@@ -10,7 +10,7 @@ use native.Mathlib.Omega.{arith}
 use borrow.Rule.Slice.PartMut.{midOf, putMid}
 use Rattle.lengths.specs.Length.{lengthLimit}
 use Rattle.datagrams.specs.Write.{itemOctets, itemsOctets, cut, sumOf}
-use Rattle.datagrams.specs.Put.{Put, itemSize, itemsSize}
+use Rattle.datagrams.specs.Inner.Put.{Put, itemSize, itemsSize}
 use Rattle.datagrams.proofs.PutLaws.{item-length, put-none, put-next, put-long, room-left}
 use Rattle.datagrams.proofs.SizeLaws.{sum-next, size-next}
 

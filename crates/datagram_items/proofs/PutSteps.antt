@@ -17,7 +17,7 @@ use Rattle.lengths.specs.declared.Refusal.{Refusal}
 use Rattle.lengths.specs.declared.Written.{Written}
 use Rattle.lengths.specs.declared.Written.the-variants as written
 use Rattle.datagrams.specs.Write.{numberOctets, itemOctets}
-use Rattle.datagrams.specs.Put.{Put, sparesHead, parityHead, kindHead, KindFits}
+use Rattle.datagrams.specs.Inner.Put.{Put, sparesHead, parityHead, kindHead, KindFits}
 use Rattle.datagrams.specs.declared.kind.Kind.{Kind}
 use Rattle.datagrams.specs.declared.kind.Kind.the-variants as kind
 use Rattle.datagrams.proofs.PutLaws.{put-none, put-one, put-next}

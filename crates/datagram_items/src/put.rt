@@ -8,7 +8,7 @@ ghost use mathlib.Core.List.{_++_};
 ghost use lib.ListN.{length};
 ghost use Rattle.lengths.specs.Length.{lengthOctets, lengthLimit};
 ghost use Rattle.datagrams.specs.Write.{numberOctets, itemOctets, itemsOctets, cut, sumOf};
-ghost use Rattle.datagrams.specs.Put.{Put, LengthSize, KindFits, sparesHead, parityHead, kindHead, itemSize, itemsSize};
+ghost use Rattle.datagrams.specs.Inner.Put.{Put, LengthSize, KindFits, sparesHead, parityHead, kindHead, itemSize, itemsSize};
 
 // A length as a size.
 pub fn wide(length: u16) -> usize

@@ -23,8 +23,8 @@ use Rattle.sending.specs.Sending.{historyKept}
 use Rattle.sending.specs.Carries.{settingsInside, carriedFrom}
 use Rattle.sending.specs.Send.{packetOf, packetInside, carriedNext, datagramToSend}
 use Rattle.sending.specs.Sender.{sendingIn}
-use Rattle.sending.specs.Held.{Within, Keeps}
-use Rattle.sending.specs.Next.{kindOf, countOf, carriedIn, NextAsked}
+use Rattle.sending.specs.Inner.Held.{Within, Keeps}
+use Rattle.sending.specs.Inner.Next.{kindOf, countOf, carriedIn, NextAsked}
 use Rattle.datagram_sender.specs.Inner.{SendsHeld}
 use Rattle.sending.specs.declared.Settings.{Settings}
 use Rattle.sending.specs.declared.Settings.the-variants as settings

@@ -16,7 +16,7 @@ use Rattle.sending.specs.Sending.{sentOn}
 use Rattle.sending.specs.Send.{datagramToSend}
 use Rattle.sending.specs.Sender.{sendingOf}
 use Rattle.sending.specs.Ranges.{inRanges, senderInRanges}
-use Rattle.sending.specs.Held.{Arrays, Within, Keeps}
+use Rattle.sending.specs.Inner.Held.{Arrays, Within, Keeps}
 use Rattle.datagram_sender.specs.Inner.{SendsHeld, Unchanged}
 use Rattle.sending.specs.Promise.{toSend, SentOn, Sends}
 use Rattle.sending.specs.declared.Sender.{Sender}

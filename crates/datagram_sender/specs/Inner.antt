@@ -9,7 +9,7 @@ use Rattle.lengths.specs.declared.Written.the-variants as written
 use Rattle.views.specs.View.{numbers}
 use Rattle.sending.specs.Send.{datagramToSend}
 use Rattle.sending.specs.Sender.{sendingIn}
-use Rattle.sending.specs.Held.{Keeps}
+use Rattle.sending.specs.Inner.Held.{Keeps}
 use Rattle.sending.specs.declared.Sender.{Sender}
 use Rattle.sending.specs.declared.Sent.{Sent}
 use Rattle.sending.specs.declared.Settings.{Settings}

@@ -15,8 +15,8 @@ ghost use Rattle.views.specs.View.{numbers};
 ghost use Rattle.sending.specs.Carries.{settingsInside};
 ghost use Rattle.sending.specs.Send.{packetInside, datagramToSend};
 ghost use Rattle.sending.specs.Sender.{sendingIn};
-ghost use Rattle.sending.specs.Held.{Within};
-ghost use Rattle.sending.specs.Next.{kindOf, countOf};
+ghost use Rattle.sending.specs.Inner.Held.{Within};
+ghost use Rattle.sending.specs.Inner.Next.{kindOf, countOf};
 ghost use Rattle.datagram_sender.specs.Inner.{SendsHeld};
 
 // ---- the settings

@@ -6,7 +6,7 @@ use lib.ListN.{length}
 use native.Mathlib.Omega.{arith}
 use Rattle.lengths.proofs.Laws.{size-written}
 use Rattle.datagrams.specs.Write.{sumOf}
-use Rattle.datagrams.specs.Put.{kindHead, itemSize, itemsSize, datagramSize}
+use Rattle.datagrams.specs.Inner.Put.{kindHead, itemSize, itemsSize, datagramSize}
 use Rattle.datagrams.specs.declared.kind.Kind.{Kind}
 use Rattle.datagrams.proofs.PutLaws.{number-length}
 use Rattle.datagrams.proofs.SizeLaws.{items-bound, kind-bound}

@@ -17,7 +17,7 @@ use Rattle.lengths.specs.declared.Refusal.{Refusal}
 use Rattle.lengths.specs.declared.Written.{Written}
 use Rattle.lengths.specs.declared.Written.the-variants as written
 use Rattle.datagrams.specs.Write.{numberOctets, itemOctets, itemsOctets, datagramOctets, datagramToWrite, carriedOf, cut, sumOf, countInside, lengthsInside}
-use Rattle.datagrams.specs.Put.{Put, Bounded, KindFits, kindHead, itemSize, itemsSize, datagramSize}
+use Rattle.datagrams.specs.Inner.Put.{Put, Bounded, KindFits, kindHead, itemSize, itemsSize, datagramSize}
 use Rattle.datagrams.specs.declared.kind.Kind.{Kind}
 use Rattle.datagrams.proofs.PutLaws.{put-next, put-long, put-puts, full-puts, room-left, item-length}
 use Rattle.datagrams.proofs.WriteLaws.{Allowed, allowed-bounded, allowed-written, datagram-form, datagram-length, both}

@@ -22,7 +22,7 @@ ghost use Rattle.lengths.specs.Answers.{done};
 ghost use Rattle.lengths.specs.Length.{lengthLimit};
 ghost use Rattle.lengths.specs.Promise.{Puts};
 ghost use Rattle.datagrams.specs.Write.{datagramOctets, datagramToWrite, carriedOf, sumOf, itemInside, itemsInside, lengthsInside};
-ghost use Rattle.datagrams.specs.Put.{Put, Bounded, datagramSize};
+ghost use Rattle.datagrams.specs.Inner.Put.{Put, Bounded, datagramSize};
 
 // ---- what is refused
 

@@ -8,7 +8,7 @@ use native.Mathlib.Numerals.{add-one}
 use native.Mathlib.Omega.{arith}
 use Rattle.lengths.proofs.Laws.{size-written}
 use Rattle.datagrams.specs.Write.{sumOf}
-use Rattle.datagrams.specs.Put.{kindHead, itemSize, itemsSize}
+use Rattle.datagrams.specs.Inner.Put.{kindHead, itemSize, itemsSize}
 use Rattle.datagrams.specs.declared.kind.Kind.{Kind}
 use Rattle.datagrams.specs.declared.kind.Kind.the-variants as kind
 

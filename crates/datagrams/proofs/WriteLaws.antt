@@ -15,7 +15,7 @@ use Rattle.lengths.proofs.Tables.{unless-past, unless-done}
 use Rattle.lengths.proofs.Laws.{size-written}
 use Rattle.datagrams.specs.Sizes.{packetLeast, packetLimit, messageLeast, messageLimit, sparesLimit, coveredLimit, messagesLimit, datagramLimit}
 use Rattle.datagrams.specs.Write.{numberOctets, itemOctets, itemsOctets, countedOctets, datagramOctets, extraOctets, cut, extraOf, carriedOf, sumOf, within, countInside, itemInside, itemsInside, lengthsInside, datagramToWrite}
-use Rattle.datagrams.specs.Put.{kindHead, itemsSize, datagramSize, nFits, Bounded}
+use Rattle.datagrams.specs.Inner.Put.{kindHead, itemsSize, datagramSize, nFits, Bounded}
 use Rattle.datagrams.specs.declared.kind.Kind.{Kind}
 use Rattle.datagrams.specs.declared.kind.Kind.the-variants as kind
 use Rattle.datagrams.proofs.PutLaws.{number-length, item-length}

@@ -8,7 +8,7 @@ use Rattle.lengths.specs.Promise.{Puts}
 use Rattle.lengths.specs.declared.Written.{Written}
 use Rattle.lengths.specs.declared.Written.the-variants as written
 use Rattle.lengths.proofs.Claims as lengths
-use Rattle.datagrams.specs.Put.{Put}
+use Rattle.datagrams.specs.Inner.Put.{Put}
 use Rattle.datagrams.specs.declared.kind.Kind.{Kind}
 use Rattle.datagrams.specs.declared.reader.Part.{Part}
 use Rattle.stores.specs.Store.{zeros}
@@ -30,8 +30,8 @@ use Rattle.offering.specs.Promise.{Offers}
 use Rattle.offering.specs.declared.Offered.{Offered}
 use Rattle.sessions.proofs.Told.{released-told, lost-told, offered-told}
 use Rattle.sending.specs.Sender.{historyOctets}
-use Rattle.sending.specs.Held.{Sizes, Stored}
-use Rattle.sending.specs.Items.{ItemsSize}
+use Rattle.sending.specs.Inner.Held.{Sizes, Stored}
+use Rattle.sending.specs.Inner.Items.{ItemsSize}
 use Rattle.datagram_sender.specs.Inner.{HistoryAfter, SendsHeld}
 use Rattle.sending.specs.declared.Settings.{Settings}
 use Rattle.lines.specs.Promise.{Appends}

@@ -14,8 +14,8 @@ use Rattle.lengths.specs.declared.Refusal.{Refusal}
 use Rattle.lengths.specs.declared.Written.{Written}
 use Rattle.datagrams.specs.Sizes.{packetLimit}
 use Rattle.datagrams.specs.Write.{numberOctets, itemOctets, itemsOctets, cut, datagramOctets}
-use Rattle.datagrams.specs.Put as sizes
-use Rattle.datagrams.specs.Put.{Put, sparesHead, parityHead, kindHead}
+use Rattle.datagrams.specs.Inner.Put as sizes
+use Rattle.datagrams.specs.Inner.Put.{Put, sparesHead, parityHead, kindHead}
 use Rattle.datagrams.specs.declared.kind.Kind.{Kind}
 use Rattle.datagrams.specs.declared.reader.Part.{Part}
 use Rattle.stores.specs.Store as store
@@ -34,10 +34,10 @@ use Rattle.offering.specs.Promise.{Offers}
 use Rattle.offering.specs.declared.Offered.{Offered}
 use Rattle.sending.specs.Sender as sender
 use Rattle.sending.specs.Ranges as sending
-use Rattle.sending.specs.Held as sent
-use Rattle.sending.specs.Held.{Sizes}
-use Rattle.sending.specs.Items.{itemsIn, ItemsSize}
-use Rattle.sending.specs.Next.{carriedIn}
+use Rattle.sending.specs.Inner.Held as sent
+use Rattle.sending.specs.Inner.Held.{Sizes}
+use Rattle.sending.specs.Inner.Items.{itemsIn, ItemsSize}
+use Rattle.sending.specs.Inner.Next.{carriedIn}
 use Rattle.datagram_sender.specs.Inner.{SendsHeld}
 use Rattle.sending.specs.declared.Settings.{Settings}
 use Rattle.lines.specs.Hex.{hexOf}

@@ -9,7 +9,7 @@ use Rattle.lengths.specs.Length as lengths
 use Rattle.lengths.specs.Promise.{RefusalMade}
 use Rattle.datagrams.specs.Sizes as sizes
 use Rattle.datagrams.specs.Write as write
-use Rattle.datagrams.specs.Put.{LengthSize, kindHead}
+use Rattle.datagrams.specs.Inner.Put.{LengthSize, kindHead}
 use Rattle.datagrams.specs.declared.kind.Kind.{Kind}
 use Rattle.packets.specs.Packet as packet
 use Rattle.packets.specs.declared.types.Kind as packets

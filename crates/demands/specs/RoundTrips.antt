@@ -34,7 +34,7 @@ use Rattle.sending.specs.Sending.{historyKept}
 use Rattle.sending.specs.Carries.{sparesFrom, messagesFrom}
 use Rattle.sending.specs.Send.{packetOf}
 use Rattle.sending.specs.Sender.{sendingOf}
-use Rattle.sending.specs.Held.{Arrays}
+use Rattle.sending.specs.Inner.Held.{Arrays}
 use Rattle.sending.specs.Promise.{Sends}
 use Rattle.sending.specs.declared.Sender.{Sender}
 use Rattle.sending.specs.declared.Sent.{Sent}

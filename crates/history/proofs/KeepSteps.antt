@@ -6,7 +6,7 @@ use lib.ListN.{length, set}
 use Rattle.datagrams.specs.Sizes.{packetLimit}
 use Rattle.stores.specs.Store.{pasted, zeros}
 use Rattle.sending.specs.Sending.{historyKept}
-use Rattle.sending.specs.Held.{Keeps}
+use Rattle.sending.specs.Inner.Held.{Keeps}
 
 pub keeping : (number slot : ℕ) (packet sizes o cleared o′ : List ℕ) → slot ≡ number % historyKept
     → cleared ≡ pasted o slot (zeros packetLimit) → o′ ≡ pasted cleared slot packet

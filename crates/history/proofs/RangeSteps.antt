@@ -15,7 +15,7 @@ use Rattle.views.specs.View.{sessionLimit}
 use Rattle.sending.specs.Sending.{historyKept}
 use Rattle.sending.specs.Sender.{slotAt, sizeIn}
 use Rattle.sending.specs.Ranges.{sizeInRange, placeInRange, inRanges}
-use Rattle.sending.specs.Held.{Arrays}
+use Rattle.sending.specs.Inner.Held.{Arrays}
 use Rattle.sending.proofs.Slots.{has-slot, slot-small}
 use Rattle.sending.proofs.Kept.{size-limit}
 

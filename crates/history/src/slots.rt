@@ -9,7 +9,7 @@ ghost use Rattle.stores.specs.Store.{mask};
 ghost use Rattle.sending.specs.Sending.{historyKept};
 ghost use Rattle.sending.specs.Sender.{sizeIn};
 ghost use Rattle.sending.specs.Ranges.{sizeInRange, placeInRange, inRanges};
-ghost use Rattle.sending.specs.Held.{Arrays, Keeps};
+ghost use Rattle.sending.specs.Inner.Held.{Arrays, Keeps};
 
 // The slot of a number.
 pub fn slot_of(number: u16) -> usize

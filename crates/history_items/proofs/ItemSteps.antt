@@ -12,15 +12,15 @@ use Rattle.octets.proofs.ExclusiveOr.{length-exclusiveOr, exclusiveOr-at}
 use Rattle.lengths.specs.Length.{lengthLimit}
 use Rattle.datagrams.specs.Sizes.{packetLimit, coveredLimit, messagesLimit}
 use Rattle.datagrams.specs.Write.{itemOctets, within, countInside}
-use Rattle.datagrams.specs.Put.{Put, itemSize}
+use Rattle.datagrams.specs.Inner.Put.{Put, itemSize}
 use Rattle.datagrams.specs.declared.kind.Kind.{Kind}
 use Rattle.datagrams.specs.declared.kind.Kind.the-variants as kind
 use Rattle.datagrams.proofs.WriteLaws.{both, within-true, count-few}
 use Rattle.stores.specs.Store.{part}
 use Rattle.sending.specs.Sending.{historyKept}
 use Rattle.sending.specs.Sender.{slotAt, sizeIn}
-use Rattle.sending.specs.Held.{Sizes}
-use Rattle.sending.specs.Items.{Reach, membersIn, messageIn, MessageSize, MessageSum, MessageAsked, spareIn, SpareSize, SpareAsked, itemIn, ItemOf, ItemSize, ItemAsked}
+use Rattle.sending.specs.Inner.Held.{Sizes}
+use Rattle.sending.specs.Inner.Items.{Reach, membersIn, messageIn, MessageSize, MessageSum, MessageAsked, spareIn, SpareSize, SpareAsked, itemIn, ItemOf, ItemSize, ItemAsked}
 use Rattle.sending.proofs.Slots.{slot-small}
 use Rattle.sending.proofs.History.{history-at, length-packet, packet-short}
 use Rattle.sending.proofs.ItemLaws.{members-short, item-spare, item-message}

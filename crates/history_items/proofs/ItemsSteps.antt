@@ -12,13 +12,13 @@ use borrow.Rule.Slice.PartMut.{midOf, putMid}
 use Rattle.lengths.proofs.Laws.{size-written}
 use Rattle.datagrams.specs.Sizes.{packetLimit}
 use Rattle.datagrams.specs.Write.{itemOctets, itemsOctets, countInside}
-use Rattle.datagrams.specs.Put.{Put, itemSize}
+use Rattle.datagrams.specs.Inner.Put.{Put, itemSize}
 use Rattle.datagrams.specs.declared.kind.Kind.{Kind}
 use Rattle.datagrams.specs.declared.kind.Kind.the-variants as kind
 use Rattle.datagrams.proofs.PutLaws.{put-none, put-next, put-long, room-left, item-length}
 use Rattle.datagrams.proofs.WriteLaws.{count-few}
-use Rattle.sending.specs.Held.{Stored}
-use Rattle.sending.specs.Items.{itemsIn, itemIn, ItemOf, ItemSize, ItemAsked, ItemsSize, ItemsAsked}
+use Rattle.sending.specs.Inner.Held.{Stored}
+use Rattle.sending.specs.Inner.Items.{itemsIn, itemIn, ItemOf, ItemSize, ItemAsked, ItemsSize, ItemsAsked}
 use Rattle.sending.proofs.ItemLaws.{items-count}
 
 -- ---- items as octets

@@ -16,8 +16,8 @@ use Rattle.repair.specs.Members.{membersOf}
 use Rattle.views.specs.View.{numbers}
 use Rattle.sending.specs.Sending.{historyKept}
 use Rattle.sending.specs.Sender.{slotAt, sizeIn, packetIn, historyOctets}
-use Rattle.sending.specs.Held.{Sizes, Stored}
-use Rattle.sending.specs.Items.{Reach, membersIn, MessageSize, MessageSum}
+use Rattle.sending.specs.Inner.Held.{Sizes, Stored}
+use Rattle.sending.specs.Inner.Items.{Reach, membersIn, MessageSize, MessageSum}
 use Rattle.sending.proofs.History.{length-packet, packet-octet}
 use Rattle.history_items.proofs.Walk.{Standing, standing-start, standing-turn, standing-slot, place-inside, members-more}
 

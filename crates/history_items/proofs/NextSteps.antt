@@ -13,13 +13,13 @@ use Rattle.lengths.specs.declared.Refusal.{Refusal}
 use Rattle.lengths.specs.declared.Written.the-variants as written
 use Rattle.lengths.proofs.Laws.{size-written}
 use Rattle.datagrams.specs.Write.{numberOctets, itemOctets, itemsOctets, datagramOctets}
-use Rattle.datagrams.specs.Put.{Put, KindFits, kindHead, itemSize}
+use Rattle.datagrams.specs.Inner.Put.{Put, KindFits, kindHead, itemSize}
 use Rattle.datagrams.specs.declared.kind.Kind.{Kind}
 use Rattle.datagrams.specs.declared.kind.Kind.the-variants as kind
 use Rattle.datagrams.proofs.PutLaws.{put-next, put-long, put-puts, full-puts, room-left, number-length, item-length}
 use Rattle.datagrams.proofs.WriteLaws.{extra-form, count-few, n-fits}
-use Rattle.sending.specs.Items.{itemsIn, ItemsSize, ItemsAsked}
-use Rattle.sending.specs.Next.{carriedIn, NextSizes, NextSize, NextAsked, NextRoom}
+use Rattle.sending.specs.Inner.Items.{itemsIn, ItemsSize, ItemsAsked}
+use Rattle.sending.specs.Inner.Next.{carriedIn, NextSizes, NextSize, NextAsked, NextRoom}
 use Rattle.sending.proofs.ItemLaws.{items-count}
 use Rattle.sending.proofs.Kept.{packet-fits}
 

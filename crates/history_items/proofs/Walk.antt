@@ -13,7 +13,7 @@ use Rattle.views.specs.View.{numbers}
 use Rattle.sending.specs.Sending.{historyKept}
 use Rattle.sending.specs.Send.{packetOf}
 use Rattle.sending.specs.Sender.{slotAt, packetIn, historyIn}
-use Rattle.sending.specs.Items.{Reach, membersIn}
+use Rattle.sending.specs.Inner.Items.{Reach, membersIn}
 use Rattle.sending.proofs.Slots.{covered-kept}
 use Rattle.sending.proofs.History.{history-at}
 

@@ -8,12 +8,12 @@ ghost use mathlib.Core.Path.{_≡_};
 ghost use mathlib.Core.Bool.{true};
 ghost use Prim.Native.Nat.{suc, _-_, _<_, max};
 ghost use lib.ListN.{length};
-ghost use Rattle.datagrams.specs.Put.{Put};
+ghost use Rattle.datagrams.specs.Inner.Put.{Put};
 ghost use Rattle.datagrams.specs.Write.{countInside, itemOctets, itemsOctets};
 ghost use Rattle.sending.specs.Sending.{historyKept};
 ghost use Rattle.sending.specs.Sender.{historyOctets, slotAt};
-ghost use Rattle.sending.specs.Held.{Sizes};
-ghost use Rattle.sending.specs.Items.{Reach, messageIn, MessageSize, MessageSum, MessageAsked, spareIn, SpareSize, SpareAsked, itemsIn, itemIn, ItemOf, ItemSize, ItemAsked, ItemsSize, ItemsAsked};
+ghost use Rattle.sending.specs.Inner.Held.{Sizes};
+ghost use Rattle.sending.specs.Inner.Items.{Reach, messageIn, MessageSize, MessageSum, MessageAsked, spareIn, SpareSize, SpareAsked, itemsIn, itemIn, ItemOf, ItemSize, ItemAsked, ItemsSize, ItemsAsked};
 
 fn greater(a: usize, b: usize) -> usize
     ensures { λ r. ⌜ r ≡ max a b ⌝ }

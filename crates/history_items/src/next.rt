@@ -7,9 +7,9 @@ use lengths::Refusal;
 use lengths::Written;
 ghost use Rattle.lengths.specs.Answers.{done};
 ghost use Rattle.lengths.specs.Promise.{Puts};
-ghost use Rattle.datagrams.specs.Put.{Put};
+ghost use Rattle.datagrams.specs.Inner.Put.{Put};
 ghost use Rattle.datagrams.specs.Write.{datagramOctets};
-ghost use Rattle.sending.specs.Next.{carriedIn, NextSizes, NextSize, NextAsked, NextRoom};
+ghost use Rattle.sending.specs.Inner.Next.{carriedIn, NextSizes, NextSize, NextAsked, NextRoom};
 
 // How many octets the datagram takes.
 fn next_size(number: u16, sizes: &[u16], packet: &[u8], kind: Kind, count: usize) -> usize

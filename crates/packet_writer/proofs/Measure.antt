@@ -16,7 +16,7 @@ use Rattle.lengths.specs.declared.Written.the-variants as written
 use Rattle.datagrams.specs.Sizes.{packetLimit}
 use Rattle.packets.specs.Packet.{fieldsLimit, typesLimit, assigned, rightFields, rightData, every}
 use Rattle.packets.specs.Write.{withData, packetOctets, sum, oneEach, allAssigned, rightTypes, allRight, inSizes, packetToWrite}
-use Rattle.packets.specs.Items.{Wide, FieldsSized, packetSize, Measured}
+use Rattle.packets.specs.Inner.Items.{Wide, FieldsSized, packetSize, Measured}
 use Rattle.packets.specs.declared.types.Kind.{Kind}
 use Rattle.packets.proofs.Every.{drop-next}
 use Rattle.packets.proofs.WriteLaws.{each-length, packet-length}

@@ -14,7 +14,7 @@ use Rattle.datagrams.specs.Sizes.{packetLimit}
 use Rattle.datagrams.proofs.WriteLaws.{both}
 use Rattle.packets.specs.Packet.{typesLimit, every}
 use Rattle.packets.specs.Write.{fieldOctets, fieldsOctets, sum}
-use Rattle.packets.specs.Items.{Laid, FieldFits, FieldLaid, FieldsFit, Wide}
+use Rattle.packets.specs.Inner.Items.{Laid, FieldFits, FieldLaid, FieldsFit, Wide}
 use Rattle.packets.proofs.Rest.{rest, rest-is}
 use Rattle.packets.proofs.Every.{drop-next, total-next}
 use Rattle.packet_writer.proofs.Putting.{put-rest}

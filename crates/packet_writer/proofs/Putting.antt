@@ -9,8 +9,8 @@ use native.Mathlib.Nat.{mod-eq-of-lt}
 use native.Mathlib.Omega.{arith}
 use borrow.Rule.Slice.PartMut.{putMid}
 use borrow.Author.Tests.{lt-ltb, le-ltb}
-use Rattle.datagrams.specs.Put.{Put}
-use Rattle.packets.specs.Items.{FullFits, FieldFits, FieldLaid}
+use Rattle.datagrams.specs.Inner.Put.{Put}
+use Rattle.packets.specs.Inner.Items.{FullFits, FieldFits, FieldLaid}
 use Rattle.packets.proofs.Rest.{rest, rest-is}
 use Rattle.packets.proofs.WriteLaws.{field-length, field-bare, field-full}
 

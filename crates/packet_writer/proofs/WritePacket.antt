@@ -20,7 +20,7 @@ use Rattle.lengths.specs.declared.Written.{Written}
 use Rattle.lengths.specs.declared.Written.the-variants as written
 use Rattle.packets.specs.Packet.{firstOctet}
 use Rattle.packets.specs.Write.{fieldsOctets, packetOctets, packetToWrite}
-use Rattle.packets.specs.Items.{Laid, FieldsFit, CountedFit, countedOctets, PacketFits, Measured}
+use Rattle.packets.specs.Inner.Items.{Laid, FieldsFit, CountedFit, countedOctets, PacketFits, Measured}
 use Rattle.packets.specs.declared.types.Kind.{Kind}
 use Rattle.packets.proofs.Rest.{rest, rest-is}
 use Rattle.packets.proofs.WriteLaws.{write-form, assigned-few, packet-bare, packet-full}

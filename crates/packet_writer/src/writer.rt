@@ -14,7 +14,7 @@ ghost use lib.Dec.{leb};
 ghost use Rattle.lengths.specs.Promise.{Puts};
 ghost use Rattle.packets.specs.Packet.{fieldsLimit, typesLimit, every, ofFlag, ofKind, firstOctet};
 ghost use Rattle.packets.specs.Write.{sum, total, oneEach, allAssigned, rightTypes, allRight, inSizes, fieldsOctets, packetOctets, packetToWrite};
-ghost use Rattle.packets.specs.Items.{Wide, Sized, FieldsSized, packetSize, Measured, Laid, FullFits, FieldFits, FieldLaid, FieldsFit, CountedFit, countedOctets, Mark, PacketFits};
+ghost use Rattle.packets.specs.Inner.Items.{Wide, Sized, FieldsSized, packetSize, Measured, Laid, FullFits, FieldFits, FieldLaid, FieldsFit, CountedFit, countedOctets, Mark, PacketFits};
 ghost use Rattle.datagrams.specs.Sizes.{packetLimit};
 
 // A length as a size.

@@ -18,7 +18,7 @@ use Rattle.datagrams.proofs.WriteLaws.{both}
 use Rattle.packets.specs.Packet.{Place, First, Header, fieldsLimit, typesLimit, rightFields, rightData, every, isSet, firstOf, headerOf, firstOctet, headerBits, dataOf, allData}
 use Rattle.packets.specs.Read.{Count, countAt, headerAt, sizeAt, FieldAnswer, fieldAt, FieldsAnswer, fieldsAt}
 use Rattle.packets.specs.Write.{withData, fieldOctets, fieldsOctets, packetOctets, sum, total, rightTypes, packetToWrite}
-use Rattle.packets.specs.Items.{countedOctets}
+use Rattle.packets.specs.Inner.Items.{countedOctets}
 use Rattle.packets.specs.Claims.{ReadWrites}
 use Rattle.packets.specs.declared.types.Ending.the-variants.{Whole}
 use Rattle.packets.specs.declared.types.Field.{Field}

@@ -18,7 +18,7 @@ use Rattle.datagrams.specs.Sizes.{packetLimit}
 use Rattle.datagrams.proofs.WriteLaws.{both}
 use Rattle.packets.specs.Packet.{fieldsLimit, typesLimit, assigned, rightFields, every, headerBits, firstOctet}
 use Rattle.packets.specs.Write.{withData, fieldOctets, fieldsOctets, packetOctets, sum, total, oneEach, allAssigned, rightTypes, allRight, inSizes, packetToWrite}
-use Rattle.packets.specs.Items.{fieldSize, packetSize, countedOctets}
+use Rattle.packets.specs.Inner.Items.{fieldSize, packetSize, countedOctets}
 use Rattle.packets.specs.declared.types.Kind.{Kind}
 use Rattle.packets.specs.declared.types.Kind.the-variants.{Indicator, Data}
 

@@ -26,9 +26,9 @@ use Rattle.sending.specs.Carries.{settingsInside, extraFrom}
 use Rattle.sending.specs.Send.{packetOf, carriedNext}
 use Rattle.sending.specs.Sender.{slotAt, sizeIn, historyIn, sendingIn, sendingOf}
 use Rattle.sending.specs.Ranges.{sizeInRange}
-use Rattle.sending.specs.Held.{Arrays, Within}
-use Rattle.sending.specs.Items.{membersIn, itemsFrom}
-use Rattle.sending.specs.Next.{kindOf, countOf, itemsNext}
+use Rattle.sending.specs.Inner.Held.{Arrays, Within}
+use Rattle.sending.specs.Inner.Items.{membersIn, itemsFrom}
+use Rattle.sending.specs.Inner.Next.{kindOf, countOf, itemsNext}
 use Rattle.sending.specs.Promise.{Sends}
 use Rattle.sending.specs.declared.Sender.{Sender}
 use Rattle.sending.specs.declared.Sent.{Sent}

@@ -12,7 +12,7 @@ use Rattle.stores.proofs.Laws.{length-zeros, zeros-at, zerosPast-zeros}
 use Rattle.sending.specs.Sending.{historyKept, freshSending}
 use Rattle.sending.specs.Sender.{slotAt, packetIn, historyIn, historyOctets}
 use Rattle.sending.specs.Ranges.{sizeInRange, placeInRange, inRanges}
-use Rattle.sending.specs.Held.{Arrays}
+use Rattle.sending.specs.Inner.Held.{Arrays}
 use Rattle.sending.specs.Promise.{FreshMade}
 
 module _ (sizes o : List ℕ) (arrays : Arrays sizes o) (none : (i : ℕ) → getD sizes i 0 ≡ 0) (clean : (k : ℕ) → getD o k 0 ≡ 0) where

@@ -18,9 +18,9 @@ use Rattle.sending.specs.Sending.{historyKept}
 use Rattle.sending.specs.Carries.{settingsInside, sparesFrom, messagesFrom}
 use Rattle.sending.specs.Send.{packetOf}
 use Rattle.sending.specs.Sender.{historyIn}
-use Rattle.sending.specs.Held.{Stored}
-use Rattle.sending.specs.Items.{membersIn, messageIn, spareIn, itemsIn, itemIn}
-use Rattle.sending.specs.Next.{kindOf, countOf}
+use Rattle.sending.specs.Inner.Held.{Stored}
+use Rattle.sending.specs.Inner.Items.{membersIn, messageIn, spareIn, itemsIn, itemIn}
+use Rattle.sending.specs.Inner.Next.{kindOf, countOf}
 use Rattle.sending.specs.declared.Settings.{Settings}
 use Rattle.sending.specs.declared.Settings.the-variants as settings
 use Rattle.sending.proofs.History.{packet-short}

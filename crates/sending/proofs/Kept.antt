@@ -22,7 +22,7 @@ use Rattle.sending.specs.Sending.{historyKept}
 use Rattle.sending.specs.Send.{packetInside}
 use Rattle.sending.specs.Sender.{slotAt, sizeIn, packetIn, historyIn}
 use Rattle.sending.specs.Ranges.{sizeInRange, placeInRange, inRanges}
-use Rattle.sending.specs.Held.{Arrays, Within, Stored, sizesKept, octetsKept, Keeps}
+use Rattle.sending.specs.Inner.Held.{Arrays, Within, Stored, sizesKept, octetsKept, Keeps}
 use Rattle.sending.proofs.Slots.{slot-small, slot-apart, slot-number, placeOf, place-slot, place-small, has-slot}
 
 -- ---- packets inside the sizes

@@ -3,9 +3,7 @@ pub mod Carries
 pub mod Send
 pub mod Sender
 pub mod Ranges
-pub mod Held
-pub mod Items
-pub mod Next
+pub mod Inner
 pub mod Promise
 pub mod Honest
 pub mod Run

@@ -13,7 +13,7 @@ use Rattle.sending.specs.Sending.{freshSending, sentOn}
 use Rattle.sending.specs.Send.{carriedNext, sendRows}
 use Rattle.sending.specs.Sender.{sendingOf}
 use Rattle.sending.specs.Ranges.{senderInRanges}
-use Rattle.sending.specs.Held.{Arrays}
+use Rattle.sending.specs.Inner.Held.{Arrays}
 use Rattle.sending.specs.declared.Sender.{Sender}
 use Rattle.sending.specs.declared.Sent.{Sent}
 use Rattle.sending.specs.declared.Settings.{Settings}

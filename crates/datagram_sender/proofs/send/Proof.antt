@@ -1,7 +1,7 @@
 -- `send` meets its contract. Assumes nothing.
 use native.Mathlib.Omega.{arith}
 use borrow.Author.Needs.{needs}
-use Rattle.sending.specs.Held.{Arrays}
+use Rattle.sending.specs.Inner.Held.{Arrays}
 use Rattle.datagram_sender.proofs.SenderSteps.{within-told, sent-few, sends-outside, sends-kept, sends-refused}
 use Rattle.datagram_sender.proofs.send.Statement.{statement}
 use Rattle.datagram_sender.proofs.send.Tie as tie

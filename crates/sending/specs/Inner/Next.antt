@@ -11,8 +11,8 @@ use Rattle.datagrams.specs.declared.kind.Kind.{Kind}
 use Rattle.datagrams.specs.declared.kind.Kind.the-variants as kind
 use Rattle.sending.specs.Sending.{Sending, historyKept}
 use Rattle.sending.specs.Send.{packetOf, packetInside}
-use Rattle.sending.specs.Held.{Sizes, Stored}
-use Rattle.sending.specs.Items.{itemsFrom, itemsIn}
+use Rattle.sending.specs.Inner.Held.{Sizes, Stored}
+use Rattle.sending.specs.Inner.Items.{itemsFrom, itemsIn}
 use Rattle.sending.specs.declared.Settings.{Settings}
 use Rattle.sending.specs.declared.Settings.the-variants as settings
 

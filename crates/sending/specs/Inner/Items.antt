@@ -8,7 +8,7 @@ use lib.ListN.{length, getD}
 use Rattle.octets.specs.ExclusiveOr.{exclusiveOr, longest}
 use Rattle.datagrams.specs.Sizes.{packetLimit, sparesLimit, coveredLimit, messagesLimit}
 use Rattle.datagrams.specs.Write.{countInside, itemsOctets}
-use Rattle.datagrams.specs.Put.{itemSize}
+use Rattle.datagrams.specs.Inner.Put.{itemSize}
 use Rattle.datagrams.specs.declared.kind.Kind.{Kind}
 use Rattle.datagrams.specs.declared.kind.Kind.the-variants as kind
 use Rattle.repair.specs.Members.{membersOf}
@@ -17,7 +17,7 @@ use Rattle.sending.specs.Sending.{historyKept}
 use Rattle.sending.specs.Carries.{sparesFrom, messagesFrom}
 use Rattle.sending.specs.Send.{packetOf}
 use Rattle.sending.specs.Sender.{slotAt, sizeIn, historyIn}
-use Rattle.sending.specs.Held.{Stored}
+use Rattle.sending.specs.Inner.Held.{Stored}
 
 -- ---- messages
 

@@ -1,0 +1,4 @@
+-- What the functions inside the library owe each other: no part of the meaning.
+pub mod Held
+pub mod Items
+pub mod Next
