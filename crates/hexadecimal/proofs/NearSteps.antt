@@ -1,4 +1,6 @@
--- The loops that make octets of digits, some together, on plain values. Assumes nothing.
+-- The loops that make octets of digits, sixteen together, on plain values. Each of the two inner loops has done its first j octets.
+-- The outer loop has made the first i octets of the line and left the rest of the buffer. The last sixteen may make some octets
+-- again: they are the same octets, so a place before i and a place after are told by the same law. Assumes nothing.
 use Prim.Native.Nat.{ℕ, _+_, _-_, _*_, _/_, _%_, _≤_, _<_}
 use mathlib.Core.Path.{_≡_, refl, sym, ap, ap₂, _∙_}
 use mathlib.Core.Bool.{true}
@@ -94,7 +96,7 @@ putting-done {chunk} {old} {new} {from} {j} p whole =
       after = λ k past. p .after k (omega (arith, past, p .few));
     }
 
--- ---- the whole line: the first i octets are made, and no more than some past them
+-- ---- the whole line: the first i octets are made, and the rest is as it was
 pub record Pairing (line old new : List ℕ) (i : ℕ) : Type 0 where
   pub long : length new ≡ length old
   pub made : (k : ℕ) → k < i → getD new k 0 ≡ octetAt line k
@@ -105,7 +107,7 @@ pub pairing-start : (line old : List ℕ) → Pairing line old old 0
 pairing-start line old =
     record { long = refl; made = λ k below. absurd (omega (arith, below)); rest = λ k _. refl; few = omega arith }
 
--- some are made from place `from` on, before which all are made
+-- sixteen are made from place `from` on, before which all are made
 pub pairing-over : {line old new newer chunk : List ℕ} {i from : ℕ} → Pairing line old new i → from ≤ i → i ≤ from + together
     → from + together ≤ length line / 2 → NearRead line from chunk → NearPut chunk from new newer
     → Pairing line old newer (from + together)

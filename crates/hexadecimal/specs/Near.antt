@@ -1,4 +1,4 @@
--- What the calls owe that make octets of digits, some together. Definitions only.
+-- What the two calls owe that make octets of digits, sixteen together: one reads them, one puts them. Definitions only.
 use Prim.Native.Nat.{ℕ, _+_, _≤_, _<_}
 use mathlib.Core.Path.{_≡_}
 use mathlib.Core.List.{List}
@@ -9,11 +9,11 @@ use Rattle.lines.specs.Hex.{octetAt}
 abbrev pub together : ℕ
 together = 16
 
--- the octets of a line from place `from` on
+-- the chunk holds the octets of a line from octet `from` on
 pub record NearRead (line : List ℕ) (from : ℕ) (chunk : List ℕ) : Type 0 where
   pub read : (k : ℕ) → k < together → getD chunk k 0 ≡ octetAt line (from + k)
 
--- octets put into a list from place `from` on
+-- the octets of the chunk stand from place `from` on, and all else is as it was
 pub record NearPut (chunk : List ℕ) (from : ℕ) (old new : List ℕ) : Type 0 where
   pub long : length new ≡ length old
   pub inside : (k : ℕ) → k < together → getD new (from + k) 0 ≡ getD chunk k 0

@@ -73,7 +73,7 @@ fn near(line: &[u8], from: usize) -> [u8; Line::TOGETHER]
     chunk
 }
 
-// They are put into out, from place `from` on.
+// Puts them into out, from place `from` on.
 fn put_near(chunk: [u8; Line::TOGETHER], out: &mut [u8], from: usize)
     requires { ⌜ from + together ≤ length (now out) ⌝ }
     ensures { λ _. ⌜ NearPut chunk from (now (out .entry)) (now (out .exit)) ⌝ }

@@ -1,4 +1,5 @@
--- `hexadecimal::pair_up` meets its contract: the octets so far stand at the front, some more each turn. Assumes nothing.
+-- `hexadecimal::pair_up` meets its contract: the octets so far stand at the front, sixteen more each turn. Then the last sixteen
+-- are made, some of them perhaps again. Assumes nothing.
 use Prim.Native.Nat.{_-_}
 use native.Mathlib.Omega.{arith}
 use borrow.Author.Needs.{needs}
