@@ -50,7 +50,7 @@ unfolding allDigits
 digit-small line k all below = ltb-true _ 16 (allBelow-at (length line) (digitAt line) all k below)
 
 -- ---- octets of paired digits
-octetsIn-at : (line : List ℕ) (i : ℕ) → i < length line / 2 → getD (octetsIn line) i 0 ≡ octetAt line i
+pub octetsIn-at : (line : List ℕ) (i : ℕ) → i < length line / 2 → getD (octetsIn line) i 0 ≡ octetAt line i
 unfolding octetsIn
 octetsIn-at line i below = tab-at (length line / 2) (octetAt line) i 0 below
 

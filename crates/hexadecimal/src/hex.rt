@@ -12,6 +12,7 @@ ghost use Rattle.lengths.specs.Promise.{Puts};
 ghost use lib.Dec.{ltb};
 ghost use Rattle.lines.specs.Hex.{noDigit, digitOf, digitFor, allDigits, octetsIn, lineOctets, hexOf};
 ghost use Rattle.lines.specs.Promise.{Appends};
+ghost use Rattle.hexadecimal.specs.Near.{together, NearRead, NearPut};
 
 // Whether a character is a digit. A letter's two cases differ in one bit.
 fn is_digit(c: u8) -> bool
@@ -54,8 +55,38 @@ pub fn all_digits(line: &[u8]) -> bool
     all
 }
 
-// The octets of a line of paired digits, to the front of out.
-pub fn pair_up(line: &[u8], out: &mut [u8])
+// Some octets of a line of paired digits, from octet `from` on: so many that the compiler takes them together.
+fn near(line: &[u8], from: usize) -> [u8; Line::TOGETHER]
+    requires { ⌜ allDigits (now line) ≡ true ⌝ }
+    requires { ⌜ from + together ≤ length (now line) / 2 ⌝ }
+    ensures { λ r. ⌜ NearRead (now (line .entry)) from r ⌝ }
+{
+    let mut chunk = [0u8; Line::TOGETHER];
+    let mut j = 0;
+    while j < Line::TOGETHER {
+        let at = 2 * (from + j);
+        let high = value(line[at]);
+        let low = value(line[at + 1]);
+        chunk[j] = (high % 16) * 16 + (low % 16);
+        j += 1;
+    }
+    chunk
+}
+
+// Puts them into out, from place `from` on.
+fn put_near(chunk: [u8; Line::TOGETHER], out: &mut [u8], from: usize)
+    requires { ⌜ from + together ≤ length (now out) ⌝ }
+    ensures { λ _. ⌜ NearPut chunk from (now (out .entry)) (now (out .exit)) ⌝ }
+{
+    let mut j = 0;
+    while j < Line::TOGETHER {
+        out[from + j] = chunk[j];
+        j += 1;
+    }
+}
+
+// The octets of a line of paired digits, to the front of out, one at a time.
+fn pair_few(line: &[u8], out: &mut [u8])
     requires { ⌜ allDigits (now line) ≡ true ⌝ }
     requires { ⌜ length (now line) / 2 ≤ length (now out) ⌝ }
     ensures { λ _. ⌜ now (out .exit) ≡ octetsIn (now (line .entry)) ++ drop (length (now (line .entry)) / 2) (now (out .entry)) ⌝ }
@@ -69,6 +100,28 @@ pub fn pair_up(line: &[u8], out: &mut [u8])
         out[i] = (high % 16) * 16 + (low % 16);
         i += 1;
     }
+}
+
+// The octets of a line of paired digits, to the front of out. The last ones are taken together too, some of them again.
+pub fn pair_up(line: &[u8], out: &mut [u8])
+    requires { ⌜ allDigits (now line) ≡ true ⌝ }
+    requires { ⌜ length (now line) / 2 ≤ length (now out) ⌝ }
+    ensures { λ _. ⌜ now (out .exit) ≡ octetsIn (now (line .entry)) ++ drop (length (now (line .entry)) / 2) (now (out .entry)) ⌝ }
+{
+    let n = line.len() / 2;
+    if n < Line::TOGETHER {
+        pair_few(line, out);
+        return;
+    }
+    let last = n - Line::TOGETHER;
+    let mut i = 0;
+    while i < last {
+        let chunk = near(line, i);
+        put_near(chunk, out, i);
+        i += Line::TOGETHER;
+    }
+    let chunk = near(line, last);
+    put_near(chunk, out, last);
 }
 
 // The octets of a line, to the front of out: 2 for a line that is too long, then 15 for one that is not of paired digits.

@@ -23,6 +23,8 @@ impl Line {
     pub const KEPT: usize = Line::LIMIT + 1;
     // So many characters are looked at together in the search for a line feed.
     pub const NEAR: usize = 32;
+    // So many octets are made of digits together.
+    pub const TOGETHER: usize = 16;
     // The most characters of a result line, of all releases after a line, and of all that a line can write.
     pub const RESULT: usize = 7 + 2 * Packet::LIMIT;
 

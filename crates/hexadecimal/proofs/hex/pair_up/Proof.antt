@@ -1,55 +1,40 @@
--- `hexadecimal::pair_up` meets its contract: the octets so far stand at the front, one more each turn. Assumes nothing.
-use Prim.Native.Nat.{_+_, _-_, _*_}
+-- `hexadecimal::pair_up` meets its contract: the octets so far stand at the front, sixteen more each turn. Then the last sixteen
+-- are made, some of them perhaps again. Assumes nothing.
+use Prim.Native.Nat.{_-_}
 use native.Mathlib.Omega.{arith}
 use borrow.Author.Needs.{needs}
-use Rattle.hexadecimal.proofs.HexSteps.{Paired, paired-start, paired-turn, paired-done, digit-small}
+use Rattle.hexadecimal.proofs.NearSteps.{Pairing, pairings, pairing-turn, pairing-done}
 use Rattle.hexadecimal.proofs.hex.pair_up.Statement.{statement}
 use Rattle.hexadecimal.proofs.hex.pair_up.Tie as tie
 use Rattle.hexadecimal.proofs.hex.pair_up.Reads as reads
 use Rattle.hexadecimal.proofs.hex.pair_up.Lts as lts
-use Rattle.hexadecimal.proofs.hex.value.Reads as value-reads
+use Rattle.hexadecimal.proofs.hex.near.Reads as near-reads
+use Rattle.hexadecimal.proofs.hex.pair_few.Reads as pair-few-reads
+use Rattle.hexadecimal.proofs.hex.put_near.Reads as put-near-reads
 
 abbrev Inv-loop : tie.InvT-loop
-Inv-loop line out₀ n i₀ out i = Paired line out₀ out i
+Inv-loop line out₀ n last i₀ out i = Pairing line out₀ out i
 
 abbrev μ-loop : tie.MeasureT-loop
-μ-loop line out₀ n i₀ out i = n - i
+μ-loop line out₀ n last i₀ out i = n - i
+
+pair-few-requires : tie.Need-pair-few-requires Inv-loop μ-loop
+pair-few-requires c κs = search needs
+
+same-length : tie.Need-same-length Inv-loop μ-loop
+same-length c = search needs
+
+returns : tie.Need-returns Inv-loop μ-loop
+returns c = search needs
 
 loop-holds : tie.Need-loop-holds Inv-loop μ-loop
-loop-holds c = search paired-start
+loop-holds c = search pairings
 
-mul-at : tie.Need-mul-at Inv-loop μ-loop
-mul-at c = search needs
+near-requires : tie.Need-near-requires Inv-loop μ-loop
+near-requires c κs = search needs
 
-shared-slice-read-value : tie.Need-shared-slice-read-value Inv-loop μ-loop
-shared-slice-read-value c = search needs
-
-value-requires : tie.Need-value-requires Inv-loop μ-loop
-value-requires c κs =
-    let turn = c .before in
-    let start = turn .before .before .before .before in
-    digit-small (start .args .line .now) (2 * turn .before .loop .i) (start .pre .0) (omega (arith, turn .loop-test .taken))
-
-add-value : tie.Need-add-value Inv-loop μ-loop
-add-value c = search needs
-
-shared-slice-read-value-2 : tie.Need-shared-slice-read-value-2 Inv-loop μ-loop
-shared-slice-read-value-2 c = search needs
-
-value-requires-2 : tie.Need-value-requires-2 Inv-loop μ-loop
-value-requires-2 c κs =
-    let turn = c .before .before .before in
-    let start = turn .before .before .before .before in
-    digit-small (start .args .line .now) (2 * turn .before .loop .i + 1) (start .pre .0) (omega (arith, turn .loop-test .taken))
-
-mul-out : tie.Need-mul-out Inv-loop μ-loop
-mul-out c = search needs
-
-add-out : tie.Need-add-out Inv-loop μ-loop
-add-out c = search needs
-
-slice-write-out : tie.Need-slice-write-out Inv-loop μ-loop
-slice-write-out c = search needs
+put-near-requires : tie.Need-put-near-requires Inv-loop μ-loop
+put-near-requires c κs = search needs
 
 add-i : tie.Need-add-i Inv-loop μ-loop
 add-i c = search needs
@@ -58,13 +43,30 @@ loop-less : tie.Need-loop-less Inv-loop μ-loop
 loop-less c = search needs
 
 loop-again : tie.Need-loop-again Inv-loop μ-loop
-loop-again c = search (paired-turn, needs)
+loop-again c =
+    let put = c .before .before in
+    let near = put .before .before in
+    let test = near .before in
+    let loop = test .before in
+    pairing-turn (loop .loop .inv) (omega (arith, test .loop-test .taken)) (near .near .ensures) (put .put-near .ensures)
 
-same-length : tie.Need-same-length Inv-loop μ-loop
-same-length c = search needs
+near-requires-2 : tie.Need-near-requires-2 Inv-loop μ-loop
+near-requires-2 c κs = search needs
 
-returns : tie.Need-returns Inv-loop μ-loop
-returns c = search paired-done
+put-near-requires-2 : tie.Need-put-near-requires-2 Inv-loop μ-loop
+put-near-requires-2 c κs = search needs
+
+same-length-2 : tie.Need-same-length-2 Inv-loop μ-loop
+same-length-2 c = search needs
+
+returns-2 : tie.Need-returns-2 Inv-loop μ-loop
+returns-2 c =
+    let put = c .before .before in
+    let near = put .before .before in
+    let test = near .before in
+    let loop = test .before in
+    let start = loop .before .before .before .before in
+    pairing-done (loop .loop .inv) (test .loop-test .left) (omega arith) (start .pre .1) (near .near2 .ensures) (put .put-near2 .ensures)
 
 pub pair-up-spec : {M : Type 1} → statement M
 pair-up-spec =
@@ -72,18 +74,16 @@ pair-up-spec =
     (tie.spec
     Inv-loop
     μ-loop
+    pair-few-requires
+    same-length
+    returns
     loop-holds
-    mul-at
-    shared-slice-read-value
-    value-requires
-    add-value
-    shared-slice-read-value-2
-    value-requires-2
-    mul-out
-    add-out
-    slice-write-out
+    near-requires
+    put-near-requires
     add-i
     loop-less
     loop-again
-    same-length
-    returns)
+    near-requires-2
+    put-near-requires-2
+    same-length-2
+    returns-2)
