@@ -84,8 +84,9 @@ pub record InHeld : Type 0 where
   pub dropHeard : (t : List ℕ) (slot : ℕ) → One (λ (new : List ℕ). new ≡ heardDropped t slot)
 
 -- the receiving session's: `checking::in_ranges`, `keep`, `keep_spares` and `hold` of `keeping`, `repairing::mend`, `next_core` and
--- `give_up_core` of `leaving`, `offering::offer_core`. What is lent after a call is one, its base and counts too. `keep` and
--- `keep_spares` promise what they do with every base, counts and messages with which all is within the ranges: there are some
+-- `give_up_core` of `leaving`, `offering::offer_core`. All that is lent after a call is one, base and counts too. `keep` and
+-- `keep_spares` see neither base nor messages: what they promise holds with any with which all is within the ranges, so it is said
+-- of such
 pub record InReceiving : Type 0 where
   pub inRanges : (base : ℕ) (counts : Counts) (t o g : List ℕ) → One (λ (r : Bool). r ≡ lentInRanges (lent base counts t o g))
   pub keep : (base : ℕ) (c : Counts) (g : List ℕ) (state number p : ℕ) (b t o : List ℕ) → InRanges (lent base c t o g)
