@@ -18,12 +18,11 @@ use Rattle.receive.proofs.pass.Reads as pass-reads
 use Rattle.receive.proofs.read_on.Reads as read-on-reads
 
 abbrev Inv-loop : tie.InvT-loop
-Inv-loop base t₀ o₀ g₀ line₀ block₀ out₀ after₀ moves₀ begun₀ taken₀ handed₀ turns₀ t o g line block out after moves begun taken handed turns =
+Inv-loop _ _ _ _ _ _ _ _ _ _ _ _ _ t o g line block out after moves begun taken handed turns =
     Turning (lent after moves t o g) line block begun out taken handed
 
 abbrev μ-loop : tie.MeasureT-loop
-μ-loop base t₀ o₀ g₀ line₀ block₀ out₀ after₀ moves₀ begun₀ taken₀ handed₀ turns₀ t o g line block out after moves begun taken handed turns =
-    turns
+μ-loop _ _ _ _ _ _ _ _ _ _ _ _ _ _ _ _ _ _ _ _ _ _ _ _ turns = turns
 
 large-buffer-requires : tie.Need-large-buffer-requires Inv-loop μ-loop
 large-buffer-requires c κs = search needs
@@ -74,7 +73,8 @@ returns c = serves-not
 loop-less-2 : tie.Need-loop-less-2 Inv-loop μ-loop
 loop-less-2 c =
     let passed = c .before .before .before .before .before in
-    omega (arith, passed .before .before .before .before .before .before .before .before .before .before .before .before .before .loop-test .taken)
+    let told = passed .before .before .before .before .before .before .before .before .before .before in
+    omega (arith, told .before .before .before .loop-test .taken)
 
 loop-again-2 : tie.Need-loop-again-2 Inv-loop μ-loop
 loop-again-2 c =

@@ -53,7 +53,8 @@ add-taken c =
     let made = c .before .before .before .before .before .before in
     let room = made .before .before .before .before .before .before .before in
     let start = room .before .before .before .before .before .before in
-    record { fits = omega (arith, start .good .1 .1 .1 .1 .1 .1 .1 .0, left-inside (start .args .block .now) _ (room .before .loop-test .taken) (made .take-line .ensures)) }
+    let inside = left-inside (start .args .block .now) _ (room .before .loop-test .taken) (made .take-line .ensures) in
+    record { fits = omega (arith, start .good .1 .1 .1 .1 .1 .1 .1 .0, inside) }
 
 loop-less : tie.Need-loop-less Inv-loop μ-loop
 loop-less c =

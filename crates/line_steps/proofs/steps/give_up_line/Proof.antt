@@ -28,7 +28,8 @@ same-length c = search needs
 returns : tie.Need-returns
 returns c =
     let told = c .before .before .before .before .before in
-    gave-up (told .before .before .before .before .give-up-core .ensures) (told .before .answer .given .1) (c .before .before .put-result .ensures)
+    gave-up (told .before .before .before .before .give-up-core .ensures) (told .before .answer .given .1)
+    (c .before .before .put-result .ensures)
 
 same-length-2 : tie.Need-same-length-2
 same-length-2 c = search needs

@@ -40,7 +40,8 @@ returns : tie.Need-returns
 returns c =
     let offer = c .before .before in
     let told = offer .before .before .before .before .before .before .before in
-    line-offered _ (omega arith) (told .before .before .before .hex-to-octets .ensures) _ (told .read .given .1) (offer .offer-octets .ensures)
+    let hex = told .before .before .before in
+    line-offered _ (omega arith) (hex .hex-to-octets .ensures) _ (told .read .given .1) (offer .offer-octets .ensures)
 
 same-length-2 : tie.Need-same-length-2
 same-length-2 c = search needs
