@@ -33,15 +33,14 @@ n-there t i v slot long small = omega (arith, length-set t i v)
 pub m-there : (t : List ℕ) (i v k w slot : ℕ) → length t ≡ places → slot < slotsHeard → mPlace slot < length (set (set t i v) k w)
 m-there t i v k w slot long small = omega (arith, length-set t i v, length-set (set t i v) k w)
 
-pub sizes-there : (t : List ℕ) (slot : ℕ) → length t ≡ places → slot < slotsHeard
-    → messagePlace (slot * messagesLimit) + 4 ≤ length (set (set (set t (markPlace slot) 0) (nPlace slot) 0) (mPlace slot) 0)
-sizes-there t slot long small =
-    let one = set t (markPlace slot) 0 in
-    let two = set one (nPlace slot) 0 in
-    omega (arith, length-set t (markPlace slot) 0, length-set one (nPlace slot) 0, length-set two (mPlace slot) 0)
+pub sizes-there : (t : List ℕ) (i v k w e u slot : ℕ) → length t ≡ places → slot < slotsHeard
+    → messagePlace (slot * messagesLimit) + 4 ≤ length (set (set (set t i v) k w) e u)
+sizes-there t i v k w e u slot long small =
+    omega (arith, length-set t i v, length-set (set t i v) k w, length-set (set (set t i v) k w) e u)
 
-pub same-places : (t new : List ℕ) (slot : ℕ) → new ≡ heardDropped t slot → length new ≡ length t
-same-places t new slot e = rw e (simp length-set refl)
+pub same-places : (t new : List ℕ) (i v k w e u at : ℕ) → new ≡ sizesFreed (set (set (set t i v) k w) e u) at
+    → length new ≡ length t
+same-places t new i v k w e u at told = rw told (simp length-set refl)
 
 pub one-there : (t : List ℕ) (i v at : ℕ) → at + 4 ≤ length t → at + 1 < length (set t i v)
 one-there t i v at room = omega (arith, length-set t i v)
