@@ -115,6 +115,21 @@ fn answered(held: Held, line: &[u8; KEPT], count: usize, all: &mut [u8]) -> Held
     held
 }
 
+// One line of the input, answered unless it is empty.
+fn turn(held: Held, block: &mut [u8; BLOCK], at: &mut usize, end: &mut usize) -> Held {
+    let mut line = [0u8; KEPT];
+    let mut octets = [0u8; KEPT];
+    let mut all = [FILLING; CAP];
+    let size = read_line(block, at, end, &mut line);
+    if size == 0 {
+        return held;
+    }
+    let count = octets_of(&line, size, &mut octets);
+    let after = answered(held, &octets, count, &mut all);
+    io::write_all(1, b"\n");
+    after
+}
+
 fn main() {
     let receiver = Session::fresh();
     let sender = Sender::fresh();
@@ -126,16 +141,8 @@ fn main() {
     let mut turns = u64::MAX;
     while turns > 0 {
         turns -= 1;
-        let mut line = [0u8; KEPT];
-        let mut octets = [0u8; KEPT];
-        let mut all = [FILLING; CAP];
-        let size = read_line(&mut block, &mut at, &mut end, &mut line);
-        if size > 0 {
-            let count = octets_of(&line, size, &mut octets);
-            let after = answered(held, &octets, count, &mut all);
-            held = after;
-            io::write_all(1, b"\n");
-        }
+        let after = turn(held, &mut block, &mut at, &mut end);
+        held = after;
         if end == 0 {
             return;
         }

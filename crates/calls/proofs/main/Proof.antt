@@ -4,10 +4,10 @@ use Rattle.calls.proofs.main.Statement.{statement}
 use Rattle.calls.proofs.main.Tie as tie
 
 abbrev Inv-loop : tie.InvT-loop
-Inv-loop held₀ block₀ at₀ end₀ turns₀ t14 held block at end turns = Unit {0}
+Inv-loop held₀ block₀ at₀ end₀ turns₀ held block at end turns = Unit {0}
 
 abbrev μ-loop : tie.MeasureT-loop
-μ-loop held₀ block₀ at₀ end₀ turns₀ t14 held block at end turns = turns
+μ-loop held₀ block₀ at₀ end₀ turns₀ held block at end turns = turns
 
 fresh-requires : tie.Need-fresh-requires Inv-loop μ-loop
 fresh-requires c κs = search needs
@@ -21,26 +21,8 @@ loop-holds c = search needs
 sub-turns : tie.Need-sub-turns Inv-loop μ-loop
 sub-turns c = search needs
 
-read-line-requires : tie.Need-read-line-requires Inv-loop μ-loop
-read-line-requires c κs = search needs
-
-slice-aggregate-octets-of : tie.Need-slice-aggregate-octets-of Inv-loop μ-loop
-slice-aggregate-octets-of c = search needs
-
-octets-of-requires : tie.Need-octets-of-requires Inv-loop μ-loop
-octets-of-requires c κs = search needs
-
-slice-aggregate-answered : tie.Need-slice-aggregate-answered Inv-loop μ-loop
-slice-aggregate-answered c = search needs
-
-answered-requires : tie.Need-answered-requires Inv-loop μ-loop
-answered-requires c κs = search needs
-
-slice-aggregate-write-all : tie.Need-slice-aggregate-write-all Inv-loop μ-loop
-slice-aggregate-write-all c = search needs
-
-write-all-requires : tie.Need-write-all-requires Inv-loop μ-loop
-write-all-requires c κs = search needs
+turn-requires : tie.Need-turn-requires Inv-loop μ-loop
+turn-requires c κs = search needs
 
 returns : tie.Need-returns Inv-loop μ-loop
 returns c = search needs
@@ -64,13 +46,7 @@ main-spec =
     fresh-requires-2
     loop-holds
     sub-turns
-    read-line-requires
-    slice-aggregate-octets-of
-    octets-of-requires
-    slice-aggregate-answered
-    answered-requires
-    slice-aggregate-write-all
-    write-all-requires
+    turn-requires
     returns
     loop-less
     loop-again
