@@ -5,9 +5,10 @@ import argparse
 import concurrent.futures
 import os
 import pathlib
-import shlex
 import sys
 
+import running
+from failing import Cases, altered, independent
 from generate import make_script
 from making.lines import across_the_wrap, at_the_limit, program_lines
 from running import (around, call_of_answer, described, difference, expected_answers, expected_results, left_out, line_at, run,
@@ -119,27 +120,29 @@ def check_stored(name, expected, written):
 
 
 def self_test():
-    """An altered, a missing and an added answer, and a bad end, are each reported; unaltered ones pass."""
-    own = shlex.quote(sys.executable) + ' ' + shlex.quote(str(HERE / 'independent.py'))
-    script, answers = made_calls('self-test')
-    given, results = made_lines('self-test')
-    alterations = (('', None), ("| sed '700s/.$/x/'", 'script line'), ("| sed '$d'", 'script line'), ('; echo 00', 'script line'),
-                   ('; exit 3', 'status 3'), ("| sed '$s/^/0/'", 'script line'))
-    passed = 0
-    for compare, command, given_one, expected in ((compare_calls, own, script, answers),
-                                                  (compare_program, own + ' program', given, results)):
-        for alteration, report in alterations:
-            found = ''
-            try:
-                compare('self-test', command + alteration, given_one, expected)
-            except Failed as failed:
-                found = str(failed)
-            wanted = report if compare is compare_calls or report != 'script line' else 'result line'
-            if bool(found) != bool(report) or wanted and wanted not in found:
-                sys.exit('self-test: with %r this was reported: %r' % (alteration, found))
-            passed += 1
-            print('ok self-test', compare.__name__, alteration or 'unaltered')
-    print('%d passed, 0 failed' % passed)
+    """Wrong programs, and what is said of each; the right ones pass."""
+    test = Cases('compare.py')
+    for name, compare, right, made in (('calls', compare_calls, independent(), made_calls),
+                                       ('program', compare_program, independent('program'), made_lines)):
+        given, expected = made('self-test')
+        place = 'differs self-test: script line' if compare is compare_calls else 'differs self-test: result line'
+        test.passes(name, compare, 'self-test', right, given, expected)
+        for wrong, how, words in (
+                ('a character altered', "| sed '700s/.$/x/'", place),
+                ('the last answer left out', "| sed '$d'", place),
+                ('an answer more', '; echo 00', place),
+                ('a character more', "| sed '$s/^/0/'", place),
+                ('no last line feed', '| head -c -1', place),
+                ('status 3', '; exit 3', 'are right, but status 3')):
+            test.fails('%s, %s' % (name, wrong), words, compare, 'self-test', right + how, given, expected)
+        running.PATIENCE, patience = 1, running.PATIENCE
+        test.fails(name + ', no end', 'no end within 1 seconds', compare, 'self-test', 'exec sleep 60', given, expected)
+        running.PATIENCE = patience
+    test.fails('a stored answer altered', 'the independent program differs from stored one: answer 2',
+               check_stored, 'one', b'00\n01\n', b'00\n02\n')
+    test.ends('a wrong program', 1, '1 passed, 1 failed', [sys.executable, __file__, '--calls', altered('calls 03 -1')])
+    test.ends('no command', 2, 'a command is needed', [sys.executable, __file__])
+    test.end()
 
 
 def main():

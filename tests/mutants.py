@@ -1,6 +1,11 @@
 #!/usr/bin/env python3
 """Checks that the made scripts tell the independent program from wrong ones: each wrong program is one edit of its text."""
 
+import argparse
+import concurrent.futures
+import functools
+import itertools
+import os
 import pathlib
 import shlex
 import shutil
@@ -8,6 +13,7 @@ import sys
 import tempfile
 
 from compare import CALL_SEEDS, PROGRAM_SEEDS, Failed, compare_calls, compare_program, made_calls, made_lines, stored
+from failing import Cases
 
 HERE = pathlib.Path(__file__).resolve().parent
 MUTANTS = (
@@ -196,36 +202,88 @@ def make_mutant(directory, module, old, new):
     path = directory / ('' if module == 'independent' else 'rules') / (module + '.py')
     text = path.read_text()
     if text.count(old) != 1:
-        sys.exit('%s: the text to edit occurs %d times: %r' % (module, text.count(old), old))
+        raise Failed('%s: the text to edit occurs %d times: %r' % (module, text.count(old), old))
+    try:
+        compile(text.replace(old, new), str(path), 'exec')
+    except SyntaxError as wrong:
+        raise Failed('%s: with the edit it is no program: %s' % (module, wrong))
     path.write_text(text.replace(old, new))
 
 
-def found_by(directory, argument, compare, inputs):
+@functools.lru_cache(None)
+def input_at(compare, number):
+    """The inputs that mutants are tried with, one after the other: a name, what is given, what is expected; None past the last."""
+    if compare is compare_calls:
+        return ('script %d' % number, *made_calls(str(number))) if number < CALL_SEEDS else None
+    if number < PROGRAM_SEEDS:
+        return ('lines %d' % number, *made_lines(str(number)))
+    return dict(enumerate(stored('.lines', '.results'), PROGRAM_SEEDS)).get(number)
+
+
+def found_by(directory, argument, compare):
     """The name of the first input that tells the mutant apart, or None."""
     program, errors = (shlex.quote(str(directory / name)) for name in ('independent.py', 'errors'))
     command = '%s %s %s 2> %s' % (shlex.quote(sys.executable), program, argument, errors)
-    for name, given, expected in inputs:
+    for number in itertools.count():
+        made = input_at(compare, number)
+        if made is None:
+            return None
+        name, given, expected = made
         try:
             compare('mutant', command, given, expected)
         except Failed:
             return name
-    return None
+
+
+def tried(argument, compare, module, old, new):
+    """One wrong program: what found it, or None."""
+    with tempfile.TemporaryDirectory() as directory:
+        make_mutant(pathlib.Path(directory), module, old, new)
+        return found_by(pathlib.Path(directory), argument, compare)
+
+
+def try_all(mutants, program_mutants):
+    """Tries wrong programs, as many at a time as there are processors; prints which input found each; status 1 if one was not found."""
+    missed = 0
+    with concurrent.futures.ThreadPoolExecutor(os.cpu_count()) as pool:
+        begun = [(name, pool.submit(tried, argument, compare, *edit)) for rows, argument, compare in
+                 ((mutants, '', compare_calls), (program_mutants, 'program', compare_program)) for name, *edit in rows]
+        for name, trying in begun:
+            try:
+                found = trying.result()
+            except Failed as failed:
+                found = None
+                print(failed)
+            missed += found is None
+            print('found by %s: %s' % (found, name) if found else 'NOT FOUND: %s' % name, flush=True)
+    print('%d passed, %d failed' % (len(begun) - missed, missed))
+    if missed:
+        sys.exit(1)
+
+
+def self_test():
+    """An edit that changes no answer is not found, and one of a text that is not there is not tried."""
+    test = Cases('mutants.py')
+    test.passes('a wrong program', try_all, MUTANTS[:1], ())
+    test.fails('an edit of the calls that changes no answer', 'NOT FOUND: same\n1 passed, 1 failed\nSystemExit: 1', try_all,
+               MUTANTS[:1] + (('same', 'lengths', 'first >= 0xC0', 'first > 0xBF'),), ())
+    test.fails('an edit of the program that changes no result', 'NOT FOUND: same\n0 passed, 1 failed\nSystemExit: 1', try_all,
+               (), (('same', 'program', 'LINE_LIMIT = 3000', 'LINE_LIMIT = 2999 + 1'),))
+    test.fails('an edit of a text that is not there', 'lengths: the text to edit occurs 0 times', try_all,
+               (('nowhere', 'lengths', 'no such text', ''),), ())
+    test.fails('an edit that makes it no program', 'lengths: with the edit it is no program', try_all,
+               (('no program', 'lengths', 'first >= 0xC0', 'first >='),), ())
+    test.end()
 
 
 def main():
-    """Prints for each wrong program which input found it; status 1 if one was not found."""
-    scripts = [('script %d' % seed, *made_calls(str(seed))) for seed in range(CALL_SEEDS)]
-    lines = [('lines %d' % seed, *made_lines(str(seed))) for seed in range(PROGRAM_SEEDS)] + list(stored('.lines', '.results'))
-    missed = 0
-    for mutants, argument, compare, inputs in ((MUTANTS, '', compare_calls, scripts), (PROGRAM_MUTANTS, 'program', compare_program, lines)):
-        for name, module, old, new in mutants:
-            with tempfile.TemporaryDirectory() as directory:
-                make_mutant(pathlib.Path(directory), module, old, new)
-                found = found_by(pathlib.Path(directory), argument, compare, inputs)
-            missed += found is None
-            print('found by %s: %s' % (found, name) if found else 'NOT FOUND: %s' % name, flush=True)
-    print('%d found, %d not found' % (len(MUTANTS) + len(PROGRAM_MUTANTS) - missed, missed))
-    sys.exit(missed > 0)
+    """Tries all wrong programs, or the self-test."""
+    parser = argparse.ArgumentParser(description=__doc__)
+    parser.add_argument('--self-test', action='store_true', help='check that an edit that changes nothing is reported')
+    if parser.parse_args().self_test:
+        self_test()
+    else:
+        try_all(MUTANTS, PROGRAM_MUTANTS)
 
 
 if __name__ == '__main__':

@@ -1,18 +1,22 @@
 #!/usr/bin/env python3
-"""Real traffic: fax packets sent, put on a bad line, and released; datagrams and packets read and written back."""
+"""Real traffic: fax packets sent, put on a bad line, and released; datagrams and packets read and written back.
+
+What was sent must come back, and every answer must be the one that the independent program gives."""
 
 import argparse
 import pathlib
 import random
+import re
 import sys
 
+from failing import Cases, altered, independent
 from making.lines import Recording
 from making.script import Script
 from rules.arguments import shown, sized
 from rules.datagrams import PARITY, SPARES, read_datagram
 from rules.packets import read_packet
 from rules.receiving import AFTER, UNKNOWN
-from running import left_out, lines_of, run, text_of
+from running import around, described, difference, left_out, lines_of, run, text_of
 
 CORPUS = pathlib.Path(__file__).resolve().parent / 'corpus'
 CALLS = ('tt_v17_ecm_v0.a2b', 'tt_v17_ecm_v0.b2a', 'tt_v29_ecm_v0.a2b', 'gt_v17_nonecm_v0.a2b')
@@ -37,21 +41,37 @@ def must(condition, text, *values):
         raise Wrong(text % values)
 
 
-def answers_of(command, script):
-    """The answers of the program under test to a script, as octets, one for each line."""
-    written, remark = run(command, text_of(script.lines))
+def written_by(command, lines, expected):
+    """What the program under test writes for these lines: it ends well, with as many lines of hexadecimal as are expected."""
+    written, remark = run(command, text_of(lines))
+    must(not remark, 'it does not end well: %s', remark)
     answers = lines_of(written)
-    must(len(answers) == len(script.lines), '%d answers to %d calls %s', len(answers), len(script.lines), remark)
+    must(len(answers) == len(expected), '%d answers in place of %d', len(answers), len(expected))
+    must(written == text_of(answers), 'the last answer has no line feed')
+    for at, answer in enumerate(answers):
+        must(re.fullmatch(b'([0-9A-Fa-f]{2})+', answer), 'answer %d is not of hexadecimal: %s', at + 1, around(answer, 0))
+    return answers
+
+
+def as_expected(expected, answers):
+    """Every answer is the expected one, to the last character."""
+    ours, theirs = text_of(expected), text_of(answers)
+    at = difference(ours, theirs)
+    if at is not None:
+        raise Wrong('\n'.join(['answer %d is not the expected one' % (at + 1)] + described(ours, theirs, at)))
+
+
+def octets_of(answers):
+    """Answers as octets."""
     return [bytes.fromhex(answer.decode()) for answer in answers]
 
 
 def written_back(script, command, originals):
     """Each original was read by one call and written by the next; what was written is the original."""
-    answers = answers_of(command, script)
-    for at, original in enumerate(originals):
-        read, written = answers[2 * at], answers[2 * at + 1]
-        must(read.hex().upper().encode() == script.answers[2 * at], 'line %d: read as %s', 2 * at + 1, read.hex())
-        must(written == b'\x00' + sized(original), 'line %d: written back as %s', 2 * at + 2, written.hex())
+    answers = written_by(command, script.lines, script.answers)
+    for at, written in enumerate(octets_of(answers[1::2])):
+        must(written == b'\x00' + sized(originals[at]), 'line %d: written back as %s', 2 * at + 2, written.hex())
+    as_expected(script.answers, answers)
 
 
 def datagrams_back(command, name):
@@ -83,8 +103,10 @@ def sent_as_recorded(command, name):
     script = Script(name, UNLIMITED)
     for packet, octets in zip(packets, datagrams):
         script.send(packet, *DATAGRAMS[name], len(octets))
-    for number, (octets, answer) in enumerate(zip(datagrams, answers_of(command, script))):
+    answers = written_by(command, script.lines, script.answers)
+    for number, (octets, answer) in enumerate(zip(datagrams, octets_of(answers))):
         must(answer == b'\x00' + sized(octets), 'datagram %d is sent as %s', number, answer.hex())
+    as_expected(script.answers, answers)
 
 
 def conversation(seed, packets, settings, loss):
@@ -121,15 +143,15 @@ def release(script, patience):
 
 
 def check_conversation(command, script, packets):
-    """What the program under test sent is what was expected; what it released is what was sent, each number once."""
+    """What the program under test released is what was sent, each number once, and the counts are of that; every answer is as expected."""
     counts = [0, 0, 0, 0]
     number = 0
-    for line, ours, theirs in zip(script.lines, script.answers, answers_of(command, script)):
+    answers = written_by(command, script.lines, script.answers)
+    for line, theirs in zip(script.lines, octets_of(answers)):
         call = line[:2]
-        must(call != b'21' or theirs.hex().upper().encode() == ours, 'sent otherwise: %s', theirs.hex())
         if call == b'12' and theirs[0] == 0:
-            kind, size = theirs[1], int.from_bytes(theirs[4:6], 'big')
-            check_released(kind, number, int.from_bytes(theirs[2:4], 'big'), theirs[6:6 + size], packets)
+            kind, at, size = (int.from_bytes(part, 'big') for part in (theirs[1:2], theirs[2:4], theirs[4:6]))
+            check_released(kind, number, at, theirs[6:6 + size], packets)
         elif call == b'13' and theirs[0] == 0:
             kind = LOST
             must(int.from_bytes(theirs[1:3], 'big') == number, 'given up: %s in place of %d', theirs.hex(), number)
@@ -140,11 +162,14 @@ def check_conversation(command, script, packets):
         number += 1
     must(number == len(packets), '%d of %d numbers released', number, len(packets))
     must(theirs == b'\x00' + b''.join(shown(count, 4) for count in counts), 'the counts are %s', theirs.hex())
+    as_expected(script.answers, answers)
     return counts
 
 
 def check_released(kind, number, released_number, octets, packets):
-    """A released packet is the one sent; a repaired one may go on with zeros."""
+    """A released packet has a kind and its number, and is the one sent; a repaired one may go on with zeros."""
+    must(kind < LOST, 'number %d is released with kind %d', number, kind)
+    must(number < len(packets), 'number %d is released, and %d were sent', number, len(packets))
     must(released_number == number, 'released: %d in place of %d', released_number, number)
     sent = packets[number]
     whole = octets.startswith(sent) and not any(octets[len(sent):]) if kind == REPAIRED else octets == sent
@@ -163,16 +188,24 @@ def through_the_program(command, name, loss):
             recording.add(b'')
     while recording.base() < len(packets):
         recording.add(b'')
+    answers = written_by(command, recording.lines, recording.results)
+    counts = check_results(answers, packets)
+    as_expected(recording.results, answers)
+    return counts_text(counts)
+
+
+def check_results(results, packets):
+    """The program's results are the packets that were sent, each number once, or its loss; how many of each kind there are."""
     counts = [0, 0, 0, 0]
-    for number, result in enumerate(lines_of(run(command, text_of(recording.lines))[0])):
-        octets = bytes.fromhex(result.decode())
-        must(octets[0] <= LOST and number < len(packets), 'result %s at number %d', result, number)
-        must(octets[0] != LOST or octets[1:] == shown(number, 2), 'given up: %s in place of %d', result, number)
-        if octets[0] != LOST:
+    for number, octets in enumerate(octets_of(results)):
+        must(octets[0] <= LOST, 'result %s at number %d', octets.hex(), number)
+        if octets[0] == LOST:
+            must(octets[1:] == shown(number, 2), 'given up: %s in place of %d', octets.hex(), number)
+        else:
             check_released(octets[0], number, int.from_bytes(octets[1:3], 'big'), octets[3:], packets)
         counts[octets[0]] += 1
     must(sum(counts) == len(packets), '%d of %d numbers released', sum(counts), len(packets))
-    return counts_text(counts)
+    return counts
 
 
 def checks(arguments):
@@ -212,12 +245,77 @@ def heard(command, name, settings, loss):
     return counts_text(check_conversation(command, script, packets))
 
 
+def self_test():
+    """Wrong programs, and what is said of each."""
+    test, right, program = Cases('traffic.py'), independent(), independent('program')
+    spares, parity = DATAGRAMS
+    call, settings = CALLS[1], (SPARES, 3, 0)
+    packets = corpus(call)
+    for name, check in (('datagrams', lambda c: datagrams_back(c, parity)), ('packets', lambda c: packets_back(c, call)),
+                        ('sending', lambda c: sent_as_recorded(c, spares)), ('conversation', lambda c: heard(c, call, settings, 0.3))):
+        badly_ended(test, name, check, right)
+    badly_ended(test, 'program', lambda c: through_the_program(c, spares, 0.4), program)
+    for name, check, how, words in (
+            ('a datagram read otherwise', lambda c: datagrams_back(c, spares), 'calls 03 -1', 'answer 1 is not the expected one'),
+            ('a datagram written otherwise', lambda c: datagrams_back(c, spares), 'calls 04 -1', 'line 2: written back as '),
+            ('a packet read otherwise', lambda c: packets_back(c, call), 'calls 05 -1', 'answer 1 is not the expected one'),
+            ('a packet written otherwise', lambda c: packets_back(c, call), 'calls 06 -1', 'line 2: written back as '),
+            ('a datagram sent otherwise', lambda c: sent_as_recorded(c, parity), 'calls 21 -1', 'datagram 0 is sent as ')):
+        test.fails(name, words, check, altered(how))
+    for name, how, loss, words in (
+            ('spares as repaired', 'calls spares', 0.3, '  expected 0001'),
+            ('FF07 as 00', 'calls repeated', 0.3, '  expected FF07\n  answered 00'),
+            ('offers', 'calls 11 1', 0.3, '  expected 00\n  answered 01'),
+            ('datagrams', 'calls 21 -1', 0.3, 'is not the expected one'),
+            ('the rest of the lent buffer', 'calls 12 -1', 0.3, 'A5A4'),
+            ('a packet', 'calls 12 12', 0.3, 'number 0 was sent as '),
+            ('a kind', 'calls 12 2', 0.3, 'number 0 is released with kind 17'),
+            ('a number', 'calls 12 7', 0.3, 'released: 1 in place of 0'),
+            ('nothing released', 'calls 12 0', 0.3, 'not released: '),
+            ('a number given up', 'calls 13 5', 0.99, 'given up: '),
+            ('a give-up refused', 'calls 13 0', 0.99, 'not released: '),
+            ('the counts', 'calls 14 9', 0.3, 'the counts are ')):
+        test.fails('conversation, ' + name, words, heard, altered(how), call, settings, loss)
+    script = conversation('short', packets, settings, 0)
+    test.fails('conversation, one never released', '55 of 56 numbers released', check_conversation, right, script, packets + [b'\x06'])
+    test.fails('conversation, one too many', 'number 54 is released, and 54 were sent', check_conversation, right, script, packets[:-1])
+    for name, how, words in (
+            ('spares as repaired', 'program spares', '  expected 01'),
+            ('a kind', 'program 00 0', 'result 10'),
+            ('a number', 'program 00 5', 'released: 0 in place of 1'),
+            ('a packet', 'program 00 6', ' was sent as '),
+            ('a number given up', 'program 03 5', 'given up: ')):
+        test.fails('program, ' + name, words, through_the_program, altered(how), spares, 0.4)
+    test.fails('program, a packet never released', '0 of 1 numbers released', check_results, [], packets[:1])
+    test.fails('program, one too many', 'number 0 is released, and 0 were sent', check_results, [b'00000006'], [])
+    test.ends('a wrong program', 1, '1 passed, 1 failed', [sys.executable, __file__, '--program', altered('program 01 0')])
+    test.ends('no command', 2, 'a command is needed', [sys.executable, __file__])
+    test.end()
+
+
+def badly_ended(test, name, check, right):
+    """The right program passes; one that ends badly, or writes more, less or not quite the same, does not."""
+    test.passes(name, check, right)
+    for wrong, how, words in (
+            ('status 3', '; exit 3', 'it does not end well: status 3'),
+            ('an answer left out', " | sed '$d'", 'answers in place of'),
+            ('an answer more', '; echo 00', 'answers in place of'),
+            ('no last line feed', ' | head -c -1', 'the last answer has no line feed'),
+            ('a character more', " | sed '2s/^/0/'", 'answer 2 is not of hexadecimal'),
+            ('small letters', ' | tr A-F a-f', 'is not the expected one')):
+        test.fails('%s, %s' % (name, wrong), words, check, right + how)
+
+
 def main():
     """Does each check; ends with status 1 at the first that is wrong."""
     parser = argparse.ArgumentParser(description=__doc__)
     parser.add_argument('--calls', help='shell command of the calls program under test')
     parser.add_argument('--program', help='shell command of the program under test')
+    parser.add_argument('--self-test', action='store_true', help='check that wrong programs are reported')
     arguments = parser.parse_args()
+    if arguments.self_test:
+        self_test()
+        return
     if not (arguments.calls or arguments.program):
         parser.error('a command is needed: --calls, --program or both')
     passed = 0

@@ -1,1 +1,1 @@
-mod Giving
+mod Digits

@@ -1,13 +1,16 @@
-// Calls 01, 03 and 05, which read: lengths, datagrams and packets.
-use crate::arguments::octet_at;
-use crate::arguments::rest;
-use crate::shown::DONE;
-use crate::shown::no_call;
-use crate::shown::put;
-use crate::shown::put_one;
-use crate::shown::put_sized;
-use crate::shown::put_two;
-use crate::shown::refused;
+// Lines 01 to 06, which need no session: lengths, datagrams and packets, read and written.
+use crate::answers::say;
+use crate::answers::say_done;
+use crate::answers::say_no_call;
+use crate::answers::say_refused;
+use crate::answers::say_sized;
+use crate::answers::say_written;
+use crate::arguments::first;
+use crate::arguments::number;
+use crate::arguments::numbers;
+use crate::arguments::octet;
+use crate::arguments::part;
+use crate::arguments::sized;
 use datagrams::Kind;
 use datagrams::Part;
 use datagrams::Spares;
@@ -15,145 +18,179 @@ use lengths::Length;
 use packets::Ending;
 use packets::Field;
 
+// The octets that name what a datagram carries beside its packet.
+pub const SPARES: u8 = 0;
+
+pub const PARITY: u8 = 128;
+
 // 01: a length.
-pub fn read_length(s: &[u8], out: &mut [u8]) -> usize {
-    match lengths::read(rest(s, 1)) {
-        Length::Refused(why) => refused(out, why),
+fn read_length(s: &[u8]) {
+    match lengths::read(s) {
+        Length::Refused(why) => say_refused(why),
         Length::Value(value, size) => {
-            let at = put(out, 0, DONE);
-            let next = put_two(out, at, value);
-            put_one(out, next, size)
+            say_done(value, 2);
+            say((size % 256) as u32, 1);
         }
     }
 }
 
-// A part of the datagram, behind its length.
-fn put_item(out: &mut [u8], at: usize, datagram: &[u8], item: Part) -> usize {
-    put_sized(out, at, datagram, item.start, item.size)
+// 02: a length.
+fn write_length(s: &[u8], lent: &mut [u8]) {
+    let mut at = 0;
+    let value = number(s, &mut at, 2) as usize;
+    let answer = lengths::write(value, lent);
+    say_written(answer, 1, lent);
 }
 
-fn item_at(items: [Part; Spares::LIMIT], i: usize) -> Part {
-    if i < Spares::LIMIT {
-        return items[i];
-    }
-    Part { start: 0, size: 0 }
-}
-
-fn put_items(
-    out: &mut [u8],
-    from: usize,
-    datagram: &[u8],
-    items: [Part; Spares::LIMIT],
-    count: usize,
-) -> usize {
-    let mut at = from;
+fn say_items(s: &[u8], items: [Part; Spares::LIMIT], count: usize) {
+    say((count % 256) as u32, 1);
     let mut i = 0;
-    while i < count {
-        at = put_item(out, at, datagram, item_at(items, i));
+    while i < Spares::LIMIT {
+        let item = items[i];
         i += 1;
+        if i <= count {
+            say_sized(s, item.start, item.size);
+        }
     }
-    at
 }
 
-// 00 for spares, 80 and n for parity.
-fn put_kind(out: &mut [u8], at: usize, kind: Kind) -> usize {
+fn say_kind(kind: Kind) {
     match kind {
-        Kind::Spares => put(out, at, 0),
+        Kind::Spares => say(SPARES as u32, 1),
         Kind::Parity(n) => {
-            let next = put(out, at, 128);
-            put_one(out, next, n)
+            say(PARITY as u32, 1);
+            say((n % 256) as u32, 1);
         }
     }
 }
 
 // 03: a datagram.
-pub fn read_datagram(s: &[u8], out: &mut [u8]) -> usize {
-    let datagram = rest(s, 1);
-    let found = datagrams::read(datagram);
+fn read_datagram(s: &[u8]) {
+    let found = datagram_reader::read(s);
     let items = found.items;
     let reading = found.reading;
     match reading {
-        datagrams::Reading::Refused(why) => refused(out, why),
+        datagrams::Reading::Refused(why) => say_refused(why),
         datagrams::Reading::Datagram {
             number,
             packet,
             kind,
             count,
         } => {
-            let at = put(out, 0, DONE);
-            let from = put_two(out, at, number as usize);
-            let behind = put_item(out, from, datagram, packet);
-            let before = put_kind(out, behind, kind);
-            let first = put_one(out, before, count);
-            put_items(out, first, datagram, items, count)
+            say_done(number as usize, 2);
+            say_sized(s, packet.start, packet.size);
+            say_kind(kind);
+            say_items(s, items, count);
         }
     }
 }
 
-fn field_at(fields: [Field; Field::LIMIT], i: usize) -> Field {
-    if i < Field::LIMIT {
-        return fields[i];
+fn kind_of(kind: u8, n: u8) -> Kind {
+    if kind == PARITY {
+        return Kind::Parity(n as usize);
     }
-    Field {
-        kind: 0,
-        start: 0,
-        size: 0,
-    }
+    Kind::Spares
 }
 
-fn put_field(out: &mut [u8], at: usize, packet: &[u8], field: Field) -> usize {
-    let next = put(out, at, field.kind);
-    put_sized(out, next, packet, field.start, field.size)
+// 04: a datagram. With spares, n is 0.
+fn write_datagram(s: &[u8], lent: &mut [u8]) {
+    let mut lengths = [0u16; 256];
+    let mut at = 0;
+    let newest = (number(s, &mut at, 2) % 65536) as u16;
+    let packet = sized(s, &mut at, 2);
+    let kind = octet(s, &mut at);
+    let n = octet(s, &mut at);
+    let count = numbers(s, &mut at, &mut lengths);
+    let data = sized(s, &mut at, 2);
+    let named = (kind == PARITY) | (kind == SPARES) & (n == 0);
+    if named & (at == s.len()) {
+        let listed = first(&lengths, count);
+        let answer = datagram_writer::write(newest, packet, kind_of(kind, n), listed, data, lent);
+        return say_written(answer, 2, lent);
+    }
+    say_no_call()
 }
 
-fn put_fields(
-    out: &mut [u8],
-    from: usize,
-    packet: &[u8],
-    fields: [Field; Field::LIMIT],
-    count: usize,
-) -> usize {
-    let mut at = from;
+fn say_fields(s: &[u8], fields: [Field; Field::LIMIT], count: usize) {
+    say((count % 256) as u32, 1);
     let mut i = 0;
-    while i < count {
-        at = put_field(out, at, packet, field_at(fields, i));
+    while i < Field::LIMIT {
+        let field = fields[i];
         i += 1;
+        if i <= count {
+            say(field.kind as u32, 1);
+            say_sized(s, field.start, field.size);
+        }
     }
-    at
 }
 
-fn kind_octet(kind: packets::Kind) -> u8 {
+fn kind_octet(kind: packets::Kind) -> usize {
     match kind {
         packets::Kind::Indicator => 0,
         packets::Kind::Data => 1,
     }
 }
 
-fn packet_read(s: &[u8], ending: Ending, out: &mut [u8]) -> usize {
-    let packet = rest(s, 2);
-    let found = packets::read(packet, ending);
+fn say_packet(s: &[u8], ending: Ending) {
+    let found = packet_reader::read(s, ending);
     let fields = found.fields;
     let reading = found.reading;
     match reading {
-        packets::Reading::Refused(why) => refused(out, why),
+        packets::Reading::Refused(why) => say_refused(why),
         packets::Reading::Packet { kind, value, count } => {
-            let at = put(out, 0, DONE);
-            let next = put(out, at, kind_octet(kind));
-            let before = put(out, next, value);
-            let first = put_one(out, before, count);
-            put_fields(out, first, packet, fields, count)
+            say_done(kind_octet(kind), 1);
+            say(value as u32, 1);
+            say_fields(s, fields, count);
         }
     }
 }
 
 // 05: a packet, as it was received or repaired.
-pub fn read_packet(s: &[u8], out: &mut [u8]) -> usize {
-    if s.len() < 2 {
-        return no_call(out);
+fn read_packet(s: &[u8]) {
+    let mut at = 0;
+    let ending = octet(s, &mut at);
+    if s.len() < at {
+        return say_no_call();
     }
-    match octet_at(s, 1) {
-        0 => packet_read(s, Ending::Whole, out),
-        1 => packet_read(s, Ending::Repaired, out),
-        _ => no_call(out),
+    let packet = part(s, at, s.len() - at);
+    match ending {
+        0 => say_packet(packet, Ending::Whole),
+        1 => say_packet(packet, Ending::Repaired),
+        _ => say_no_call(),
+    }
+}
+
+fn packet_kind(kind: u8) -> packets::Kind {
+    if kind == 0 {
+        return packets::Kind::Indicator;
+    }
+    packets::Kind::Data
+}
+
+// 06: a packet.
+fn write_packet(s: &[u8], lent: &mut [u8]) {
+    let mut lengths = [0u16; 256];
+    let mut at = 0;
+    let kind = octet(s, &mut at);
+    let value = octet(s, &mut at);
+    let types = sized(s, &mut at, 1);
+    let count = numbers(s, &mut at, &mut lengths);
+    let data = sized(s, &mut at, 2);
+    if (kind < 2) & (at == s.len()) {
+        let listed = first(&lengths, count);
+        let answer = packet_writer::write(packet_kind(kind), value, types, listed, data, lent);
+        return say_written(answer, 2, lent);
+    }
+    say_no_call()
+}
+
+pub fn answer(call: u8, s: &[u8], lent: &mut [u8]) {
+    match call {
+        0x01 => read_length(s),
+        0x02 => write_length(s, lent),
+        0x03 => read_datagram(s),
+        0x04 => write_datagram(s, lent),
+        0x05 => read_packet(s),
+        _ => write_packet(s, lent),
     }
 }

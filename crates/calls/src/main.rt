@@ -1,67 +1,150 @@
 // The calls program: every call of document 01 on one line of hexadecimal, one answer a line, so that any other
 // program can be compared with it call by call. It holds one receiving and one sending session, both fresh at the start.
+mod answers;
 mod arguments;
-mod buffers;
-mod held;
-mod hex;
+mod fields;
 mod input;
 mod items;
-mod marks;
-mod overwriting;
 mod receiver;
 mod sender;
-mod shown;
-mod view;
+mod session;
 
-use heads::Session;
-use held::Held;
-use held::called;
+use answers::CAP;
+use answers::FILLING;
+use answers::say_no_call;
+use arguments::number;
+use arguments::octet;
+use arguments::part;
 use input::BLOCK;
-use input::Input;
-use input::LINE;
+use input::KEPT;
+use input::octets_of;
 use input::read_line;
 use sending::Sender;
+use sessions::Session;
 
-// The octets of a line that is not empty, answered; 'EE' where they are none.
-fn answered(held: Held, line: &[u8; LINE], length: usize) -> Held {
-    let mut octets = [0u8; 8000];
-    let mut out = [0u8; 40000];
-    let size = hex::octets_of(arguments::part(line, 0, length), &mut octets);
-    let taken = arguments::part(&octets, 0, size);
-    let after = called(held, taken, &mut out);
-    hex::write_answer(arguments::part(&out, 0, after.size));
+// Both sessions.
+struct Held {
+    receiver: Session,
+    sender: Sender,
+}
+
+// Of a line: how many octets of arguments it has beside its cap, and how many its cap has, which is its last argument.
+struct Shape(usize, usize);
+
+// As many octets of arguments as the line itself tells.
+const ANY: usize = usize::MAX;
+
+// More than a line has: no call.
+const NONE: usize = KEPT;
+
+fn shape_of(call: u8) -> Shape {
+    match call {
+        0x01 | 0x03 | 0x05 | 0x11 => Shape(ANY, 0),
+        0x02 => Shape(2, 2),
+        0x04 | 0x06 | 0x21 => Shape(ANY, 2),
+        0x10 | 0x13 | 0x14 | 0x15 | 0x20 => Shape(0, 0),
+        0x12 => Shape(0, 2),
+        0x16 | 0x22 => Shape(4, 0),
+        0x17 => Shape(10, 0),
+        0x23 => Shape(9, 0),
+        _ => Shape(NONE, 0),
+    }
+}
+
+// How many octets of arguments a line of so many octets has in front of its cap: NONE, where it is no call.
+fn size_of(call: u8, length: usize) -> usize {
+    let shape = shape_of(call);
+    let fixed = shape.0;
+    let behind = 1 + shape.1 % 8;
+    if length < behind {
+        return NONE;
+    }
+    let size = length - behind;
+    if (fixed == ANY) | (fixed == size) {
+        return size;
+    }
+    NONE
+}
+
+// The cap: what stands behind the call and so many octets of arguments, 0 if nothing does.
+fn cap_of(octets: &[u8], size: usize) -> usize {
+    if octets.len() <= size {
+        return 0;
+    }
+    let mut at = 1 + size;
+    let width = octets.len() - at;
+    number(octets, &mut at, width) as usize
+}
+
+// The call that a line is, by its group, and the sessions after it.
+fn called(held: Held, call: u8, s: &[u8], lent: &mut [u8]) -> Held {
+    let receiver = held.receiver;
+    let sender = held.sender;
+    if call < 0x10 {
+        items::answer(call, s, lent);
+        return held;
+    }
+    if call < 0x20 {
+        let after = receiver::answer(receiver, call, s, lent);
+        return Held {
+            receiver: after,
+            sender,
+        };
+    }
+    let after = sender::answer(sender, call, s, lent);
+    Held {
+        receiver,
+        sender: after,
+    }
+}
+
+// A line of so many octets, answered, with the front of a buffer to lend.
+fn answered(held: Held, line: &[u8; KEPT], count: usize, all: &mut [u8]) -> Held {
+    let octets = part(line, 0, count);
+    let mut at = 0;
+    let call = octet(octets, &mut at);
+    let size = size_of(call, octets.len());
+    let cap = cap_of(octets, size);
+    if size != NONE {
+        if cap <= all.len() {
+            let start = 0;
+            return called(held, call, part(octets, 1, size), &mut all[start..cap]);
+        }
+    }
+    say_no_call();
+    held
+}
+
+// One line of the input, answered unless it is empty.
+fn turn(held: Held, block: &mut [u8; BLOCK], at: &mut usize, end: &mut usize) -> Held {
+    let mut line = [0u8; KEPT];
+    let mut octets = [0u8; KEPT];
+    let mut all = [FILLING; CAP];
+    let size = read_line(block, at, end, &mut line);
+    if size == 0 {
+        return held;
+    }
+    let count = octets_of(&line, size, &mut octets);
+    let after = answered(held, &octets, count, &mut all);
+    io::write_all(1, b"\n");
     after
 }
 
 fn main() {
     let receiver = Session::fresh();
     let sender = Sender::fresh();
-    let mut held = Held {
-        receiver,
-        sender,
-        size: 0,
-    };
+    let mut held = Held { receiver, sender };
     let mut block = [0u8; BLOCK];
-    let mut line = [0u8; LINE];
-    let mut input = Input {
-        at: 0,
-        end: 0,
-        open: true,
-        size: 0,
-    };
+    let mut at = 0;
+    let mut end = 0;
     // Nothing says that the input ends, so the turns are counted down from a number that no run uses up.
     let mut turns = u64::MAX;
     while turns > 0 {
-        let read = read_line(&mut block, input, &mut line);
-        input = read;
-        let size = read.size;
-        if size > 0 {
-            let after = answered(held, &line, size);
-            held = after;
-        }
-        if !read.open {
+        turns -= 1;
+        let after = turn(held, &mut block, &mut at, &mut end);
+        held = after;
+        if end == 0 {
             return;
         }
-        turns -= 1;
     }
 }

@@ -16,7 +16,7 @@ use Rattle.lengths.specs.declared.Refusal.{Refusal}
 use Rattle.lengths.specs.declared.Written.the-variants as written
 use Rattle.lengths.specs.Length.{lengthOctets}
 use Rattle.datagrams.specs.Write.{numberOctets, itemOctets}
-use Rattle.datagrams.specs.Put.{Put, itemSize}
+use Rattle.datagrams.specs.Inner.Put.{Put, itemSize}
 
 -- ---- none, one more, one writer after another
 pub put-none : {old : List ℕ} → Put [] old old 0

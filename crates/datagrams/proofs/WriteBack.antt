@@ -17,7 +17,7 @@ use Rattle.lengths.specs.Claims.{Octets}
 use Rattle.lengths.proofs.Laws.{read-writes}
 use Rattle.datagrams.specs.Sizes.{packetLeast, packetLimit, sparesLimit, coveredLimit, messagesLimit}
 use Rattle.datagrams.specs.Write.{numberOctets, itemOctets, itemsOctets, extraOctets, extraOf, datagramOctets, itemInside, itemsInside, cut, sumOf}
-use Rattle.datagrams.specs.Put.{kindHead}
+use Rattle.datagrams.specs.Inner.Put.{kindHead}
 use Rattle.datagrams.specs.Read.{DatagramParts, ExtraHead, after, octetsOf, octetAt, sizedAt, itemAt, itemsAt, endOf, sparesAt, parityAt, extraAt, leastOf, mostOf}
 use Rattle.datagrams.specs.Claims.{ReadWrites, lengthsOf, runOf}
 use Rattle.datagrams.specs.declared.reader.Part.{Part}

@@ -2,23 +2,24 @@
 -- what is true of whatever is not refused. Assumes nothing.
 use Prim.Native.Nat.{ℕ, suc, _*_, _≤_}
 use mathlib.Core.Path.{_≡_, refl, sym, ap, _∙_}
-use mathlib.Core.Bool.{Bool, true, false, cond, not, _&&_, true≢false}
+use mathlib.Core.Bool.{Bool, true, false, not, _&&_, true≢false}
 use mathlib.Core.List.{List, [], _∷_, _++_, append-assoc}
 use lib.ListN.{length, take, drop, length-append, length-drop}
 use lib.Dec.{leb, eqb}
 use lib.Seq.{length-take-le}
 use native.Mathlib.Omega.{arith}
-use borrow.Author.Tests.{leb-true, eqb-true, eq-eqb, lt-ltb}
-use Rattle.lengths.specs.Refusals.{outsideSizes, wrongSettings}
-use Rattle.lengths.specs.Answers.{done, refuse}
+use borrow.Author.Tests.{leb-true, eqb-true, eq-eqb, lt-ltb, not-false}
+use Rattle.lengths.specs.Answers.{done}
+use Rattle.lengths.specs.Tables.{unless}
+use Rattle.lengths.proofs.Tables.{unless-past, unless-done}
 use Rattle.lengths.proofs.Laws.{size-written}
 use Rattle.datagrams.specs.Sizes.{packetLeast, packetLimit, messageLeast, messageLimit, sparesLimit, coveredLimit, messagesLimit, datagramLimit}
 use Rattle.datagrams.specs.Write.{numberOctets, itemOctets, itemsOctets, countedOctets, datagramOctets, extraOctets, cut, extraOf, carriedOf, sumOf, within, countInside, itemInside, itemsInside, lengthsInside, datagramToWrite}
-use Rattle.datagrams.specs.Put.{kindHead, itemsSize, datagramSize, nFits, Bounded}
+use Rattle.datagrams.specs.Inner.Put.{kindHead, itemsSize, datagramSize, nFits, Bounded}
 use Rattle.datagrams.specs.declared.kind.Kind.{Kind}
 use Rattle.datagrams.specs.declared.kind.Kind.the-variants as kind
 use Rattle.datagrams.proofs.PutLaws.{number-length, item-length}
-use Rattle.datagrams.proofs.SizeSteps.{items-bound, kind-bound}
+use Rattle.datagrams.proofs.SizeLaws.{items-bound, kind-bound}
 
 -- ---- the octets, part by part
 pub cut-length : (lengths run : List ℕ) → length (cut lengths run) ≡ length lengths
@@ -137,17 +138,9 @@ allowed-short number {packet} {k} {lengths} {run} a =
 
 pub allowed-written : (number : ℕ) {packet : List ℕ} {k : Kind} {lengths run : List ℕ} → Allowed packet k lengths run
     → datagramToWrite number packet k lengths run ≡ done (datagramOctets (carriedOf number packet k lengths run))
-unfolding datagramToWrite
+unfolding datagramToWrite unless
 allowed-written number {packet} {k} {lengths} {run} a =
     rw (a .counted, eq-eqb (sumOf lengths) (length run) (a .summed), a .newest, a .items)
-
-not-refused : (b₁ b₂ b₃ : Bool) (octets other : List ℕ)
-    → cond (not b₁) (refuse outsideSizes) (cond (not b₂) (refuse wrongSettings) (cond (not b₃) (refuse outsideSizes) (done other))) ≡ done octets
-    → (b₁ ≡ true) × (b₂ ≡ true) × (b₃ ≡ true) × (octets ≡ other)
-not-refused false b₂ b₃ octets other e = let z : _≡_ {A = ℕ} 0 1 = cc in absurd (omega arith)
-not-refused true false b₃ octets other e = let z : _≡_ {A = ℕ} 0 1 = cc in absurd (omega arith)
-not-refused true true false octets other e = let z : _≡_ {A = ℕ} 0 1 = cc in absurd (omega arith)
-not-refused true true true octets other e = (refl, refl, refl, cc)
 
 -- whatever the writer writes was allowed, and is the datagram's octets
 pub written-allowed : (number : ℕ) (packet : List ℕ) (k : Kind) (lengths run octets : List ℕ)
@@ -155,6 +148,11 @@ pub written-allowed : (number : ℕ) (packet : List ℕ) (k : Kind) (lengths run
     → Allowed packet k lengths run × (octets ≡ datagramOctets (carriedOf number packet k lengths run))
 unfolding datagramToWrite
 written-allowed number packet k lengths run octets e =
-    let t = not-refused (countInside k (length lengths)) (eqb (sumOf lengths) (length run)) (lengthsInside packet k lengths) octets _ e in
-    let s = both (within packetLeast packetLimit (length packet)) (itemsInside k lengths) (t .2) in
-    (record { counted = t .0; summed = eqb-true (sumOf lengths) (length run) (t .1); newest = s .0; items = s .1 }, t .3)
+    let counted = unless-past (not (countInside k (length lengths))) _ _ _ octets e in
+    let summed = unless-past (not (eqb (sumOf lengths) (length run))) _ _ _ octets (counted .1) in
+    let sized = unless-past (not (lengthsInside packet k lengths)) _ _ _ octets (summed .1) in
+    let inside = both (within packetLeast packetLimit (length packet)) (itemsInside k lengths) (not-false _ (sized .0)) in
+    let sum = eqb-true (sumOf lengths) (length run) (not-false _ (summed .0)) in (
+      record { counted = not-false _ (counted .0); summed = sum; newest = inside .0; items = inside .1 },
+      unless-done [] (datagramOctets (carriedOf number packet k lengths run)) octets (sized .1),
+    )

@@ -6,10 +6,12 @@
 use Prim.Native.Nat.{ℕ, _+_, _/_, _%_}
 use mathlib.Core.Bool.{Bool, true, cond, not, _&&_}
 use mathlib.Core.List.{List, [], _∷_, _++_}
+use mathlib.Core.Option.{Option}
 use lib.ListN.{length, take, drop}
 use lib.Dec.{leb, eqb}
 use Rattle.lengths.specs.Refusals.{outsideSizes, wrongSettings}
-use Rattle.lengths.specs.Answers.{Answer, done, refuse}
+use Rattle.lengths.specs.Answers.{Answer}
+use Rattle.lengths.specs.Tables.{when, unless}
 use Rattle.lengths.specs.Length.{lengthOctets}
 use Rattle.datagrams.specs.Sizes.{packetLeast, packetLimit, messageLeast, messageLimit, sparesLimit, coveredLimit, messagesLimit}
 use Rattle.datagrams.specs.Carried.{Extra, spares, parity, Carried}
@@ -87,10 +89,14 @@ itemsInside kind (n ∷ lengths) = itemInside kind n && itemsInside kind lengths
 abbrev pub lengthsInside : List ℕ → Kind → List ℕ → Bool
 lengthsInside packet kind lengths = within packetLeast packetLimit (length packet) && itemsInside kind lengths
 
--- what the datagram writer writes
+-- "n or a count outside the sizes 4, then 15, 4": what the datagram writer refuses, and what it writes where no row is given
+abbrev pub datagramWriterRows : List ℕ → Kind → List ℕ → List ℕ → List (Option ℕ)
+datagramWriterRows packet kind lengths run =
+    when (not (countInside kind (length lengths))) outsideSizes
+    ∷ when (not (eqb (sumOf lengths) (length run))) wrongSettings
+    ∷ when (not (lengthsInside packet kind lengths)) outsideSizes
+    ∷ []
+
 unfoldable pub datagramToWrite : ℕ → List ℕ → Kind → List ℕ → List ℕ → Answer (List ℕ)
 datagramToWrite number packet kind lengths run =
-    cond (not (countInside kind (length lengths))) (refuse outsideSizes)
-    (cond (not (eqb (sumOf lengths) (length run))) (refuse wrongSettings)
-    (cond (not (lengthsInside packet kind lengths)) (refuse outsideSizes)
-    (done (datagramOctets (carriedOf number packet kind lengths run)))))
+    unless (datagramWriterRows packet kind lengths run) (datagramOctets (carriedOf number packet kind lengths run))

@@ -1,98 +1,93 @@
 -- The public calls follow the history: a session within its ranges that is seen as a view answers, and hands back, what the
 -- definitions make of that view. Assumes nothing.
-use Prim.Native.Nat.{ℕ, _+_, _%_, _≤_, _<_}
-use mathlib.Core.Path.{_≡_, refl, sym, ap, ap₂, subst, _∙_}
+use Prim.Native.Nat.{ℕ, _%_, _≤_, _<_}
+use mathlib.Core.Path.{_≡_, refl, sym, ap, subst, _∙_}
 use mathlib.Core.Bool.{Bool, true, false, cond, false≢true}
-use mathlib.Core.List.{List, _++_}
+use mathlib.Core.List.{List}
 use lib.ListN.{length, drop}
 use lib.Seq.{take-append-seam}
 use lib.Dec.{leb, eqb}
 use native.Mathlib.Omega.{arith}
 use borrow.Author.Tests.{eqb-true, le-ltb}
 use Rattle.octets.proofs.Cases.{and-left, and-right}
-use Rattle.octets.proofs.Place.{length-tab}
 use Rattle.lengths.specs.Refusals.{outsideRanges}
 use Rattle.lengths.specs.Answers.{Answer, done, refused, refuse, over}
 use Rattle.datagrams.specs.Sizes.{coveredLimit, messagesLimit}
 use Rattle.repair.specs.Cells as cells
-use Rattle.repair.specs.Cells.{Cell, cellAt, keptBefore, keptAhead, keptNumbers}
+use Rattle.repair.specs.Cells.{cellAt, keptBefore, keptAhead, keptNumbers}
 use Rattle.repair.specs.Held.{heldAt}
 use Rattle.views.specs.View.{View, sum, numbers, sessionLimit, freshView}
 use Rattle.views.specs.Offer as offers
 use Rattle.views.specs.Release as releases
 use Rattle.views.specs.Release.{Release, Loss}
-use Rattle.heads.specs.Head.{heardSlotAt, stateOf, countsOf, heardIn, cellIn, heldIn, cellsOf, heldOf, viewIn, viewOf}
-use Rattle.heads.specs.Ranges.{sumInRange, stateInRange, sessionInRanges}
-use Rattle.heads.specs.Promise.{Sized, Fresh}
-use Rattle.heads.specs.Within.{Within}
-use Rattle.heads.specs.declared.State.{State}
-use Rattle.heads.specs.declared.State.the-variants.{Unknown, Received, Spare, Repaired, Blank}
-use Rattle.heads.specs.declared.Head.{Head}
-use Rattle.heads.specs.declared.Session.{Session}
-use Rattle.heads.proofs.Parts.{kept-right, heard-right, mark-range}
-use Rattle.heads.proofs.Seen.{length-cells, length-held, cell-at, held-at}
-use Rattle.ranges.proofs.Laws.{within-of, inRanges-of}
-use Rattle.releasing.specs.Outcome.{Handed, releasedOutcome, lostOutcome, handedOf, octetsOf, numberOf, afterNext, afterGiveUp}
-use Rattle.releasing.specs.declared.Released.{Released}
-use Rattle.releasing.specs.declared.Released.the-variants as answer
-use Rattle.releasing.specs.declared.Lost.{Lost}
-use Rattle.releasing.specs.declared.Lost.the-variants as loss
-use Rattle.receiving.specs.Promise.{afterOffer}
+use Rattle.views.specs.Ranges.{sumRight, sizeRight, Sound}
+use Rattle.views.proofs.Sizes.{held-sizes}
+use Rattle.held.specs.Table.{stateOf, viewOf}
+use Rattle.held.specs.Laid.{sessionInRanges}
+use Rattle.held.specs.Promise.{Fresh}
+use Rattle.held.specs.declared.Session.{Session}
+use Rattle.held.proofs.Ranges.{session-in-ranges, in-ranges-true}
+use Rattle.leaving.specs.Outcome.{Handed, releasedOutcome, lostOutcome, handedOf, octetsOf, numberOf, afterNext, afterGiveUp}
+use Rattle.leaving.specs.declared.Released.{Released}
+use Rattle.leaving.specs.declared.Released.the-variants as answer
+use Rattle.leaving.specs.declared.Lost.{Lost}
+use Rattle.leaving.specs.declared.Lost.the-variants as loss
+use Rattle.offering.specs.Outcome.{acceptedOf, afterOffer}
 use Rattle.sessions.specs.Receiver.{SeenAs, After, inRangesThen, offerOf, OfferOwes, nextOf, viewAfterNext, NextOwes, giveUpOf, viewAfterLoss, GiveUpOwes}
 use Rattle.sessions.specs.declared.receiver.AfterOffer.{AfterOffer}
 use Rattle.sessions.specs.declared.receiver.AfterNext.{AfterNext}
 use Rattle.sessions.specs.declared.receiver.AfterGiveUp.{AfterGiveUp}
-use Rattle.demands.specs.History.{Move, offer, next, giveUp, Left, after, leaving, releasedBy, lostBy, run, history}
-use Rattle.demands.specs.Ranges.{ViewInRanges}
-use Rattle.demands.specs.Calls.{handedOut, givenUp, Called, none, offered, asked, gaveUp}
-use Rattle.demands.specs.Demand2.{CallsFollow}
+use Rattle.demands.specs.History as moves
+use Rattle.demands.specs.History.{after}
+use Rattle.demands.specs.Calls.{Call, offer, next, giveUp, Calls, handedOut, givenUp, leftIn}
+use Rattle.demands.specs.Calls.{Called, atStart, offered, asked, gaveUp}
+use Rattle.demands.specs.GoesOn.{moveOf, Says, GoesOn, from, by}
+use Rattle.demands.specs.Demand2.{Saved}
+use Rattle.demands.proofs.Ranges.{ViewInRanges}
+use Rattle.demands.proofs.Steps.{leaving, releasedBy, lostBy}
 
 -- ---- a session within its ranges
 pub fresh-seen : (s : Session) → Fresh s → SeenAs freshView s
-fresh-seen s f = record { within = within-of (s .head) (s .octets) (s .messages) (f .ranges) (f .sized); view = f .view }
+fresh-seen s f = record { within = session-in-ranges s (f .ranges) (f .sized); view = f .view }
 
-saved-seen : (s : Session) → Sized (s .head) (s .octets) (s .messages) → sessionInRanges s ≡ true → SeenAs (viewOf s) s
-saved-seen s sized e = record { within = within-of (s .head) (s .octets) (s .messages) e sized; view = refl }
+pub saved-seen : (s : Session) → Saved s → SeenAs (viewOf s) s
+saved-seen s saved = record { within = session-in-ranges s (saved .inRanges) (saved .sized); view = refl }
 
 pub seen-in-ranges : (view : View) (s : Session) → SeenAs view s → sessionInRanges s ≡ true
-seen-in-ranges view s seen = inRanges-of (seen .within)
+seen-in-ranges view s seen = in-ranges-true (seen .within)
 
 -- ---- and its view is within them
 -- no number from the base on is blank
-not-blank : (st : State) (size : ℕ) → stateInRange st size false ≡ true → stateOf st ≡ cells.blank → ⊥
-unfolding stateInRange
-not-blank Unknown size e is = let z : _≡_ {A = ℕ} 0 1 = cc in omega arith
-not-blank Received size e is = let z : _≡_ {A = ℕ} 0 1 = cc in omega arith
-not-blank Spare size e is = let z : _≡_ {A = ℕ} 0 1 = cc in omega arith
-not-blank Repaired size e is = let z : _≡_ {A = ℕ} 0 1 = cc in omega arith
-not-blank Blank size e is = false≢true (and-right (eqb size 0) false e)
+not-blank : (st : cells.State) (size : ℕ) → sizeRight st size false ≡ true → st ≡ cells.blank → ⊥
+unfolding sizeRight
+not-blank cells.unknown size e is = let z : _≡_ {A = ℕ} 0 1 = cc in omega arith
+not-blank cells.received size e is = let z : _≡_ {A = ℕ} 0 1 = cc in omega arith
+not-blank cells.spare size e is = let z : _≡_ {A = ℕ} 0 1 = cc in omega arith
+not-blank cells.repaired size e is = let z : _≡_ {A = ℕ} 0 1 = cc in omega arith
+not-blank cells.blank size e is = false≢true (and-right (eqb size 0) false e)
 
-module _ {h : Head} {o g : List ℕ} (w : Within h o g) where
-  base-is : h .base ≡ sum (countsOf (h .counts)) % numbers
-  unfolding sumInRange
+module _ {view : View} (w : Sound view) where
+  base-is : view .base ≡ sum (view .counts) % numbers
+  unfolding sumRight
   base-is =
-      eqb-true (h .base) (sum (countsOf (h .counts)) % numbers)
-      (and-left (eqb (h .base) (sum (countsOf (h .counts)) % numbers)) (leb (sum (countsOf (h .counts))) sessionLimit) (w .total))
+      eqb-true (view .base) (sum (view .counts) % numbers)
+      (and-left (eqb (view .base) (sum (view .counts) % numbers)) (leb (sum (view .counts)) sessionLimit) (w .total))
 
-  no-blank : (p : ℕ) → keptBefore ≤ p → p < keptNumbers → (cellAt (cellsOf h o) p) .state ≡ cells.blank → ⊥
-  unfolding cellIn
+  no-blank : (p : ℕ) → keptBefore ≤ p → p < keptNumbers → (cellAt (view .cells) p) .state ≡ cells.blank → ⊥
   no-blank p past small e =
-      let right = kept-right h o p (w .kept .each p small) .state in
-      not-blank _ _ (rw (le-ltb p keptBefore past) at right) (sym (ap (λ (c : Cell). c .state) (cell-at h o p small)) ∙ e)
+      not-blank ((cellAt (view .cells) p) .state) (length ((cellAt (view .cells) p) .octets))
+      (rw (le-ltb p keptBefore past) at (w .cell p small))
+      e
 
   settings : (d : ℕ) → d < keptAhead
-      → ((heldAt (heldOf h g) d) .n ≤ coveredLimit) × (length ((heldAt (heldOf h g) d) .messages) ≤ messagesLimit)
-  unfolding heldIn
-  settings d small =
-      let range = mark-range _ _ _ _ (heard-right h g d (w .heard .each d small) .mark) in
-      rw (held-at h g d small) (range .0, rw (length-tab ((heardIn h (heardSlotAt (h .base) d)) .m) _) (range .1))
+      → ((heldAt (view .held) d) .n ≤ coveredLimit) × (length ((heldAt (view .held) d) .messages) ≤ messagesLimit)
+  settings d small = held-sizes (heldAt (view .held) d) _ (w .held d small)
 
-  pub within-view : ViewInRanges (viewIn h o g)
-  unfolding viewIn
-  within-view =
+  pub sound-ranges : ViewInRanges view
+  sound-ranges =
       record {
-        kept = length-cells h o;
-        heard = length-held h g;
+        kept = w .kept;
+        heard = w .ahead;
         base = base-is;
         noBlank = no-blank;
         covered = λ d small. settings d small .0;
@@ -100,7 +95,7 @@ module _ {h : Head} {o g : List ℕ} (w : Within h o g) where
       }
 
 pub seen-ranges : (view : View) (s : Session) → SeenAs view s → ViewInRanges view
-seen-ranges view s seen = subst ViewInRanges (seen .view) (within-view (seen .within))
+seen-ranges view s seen = subst ViewInRanges (seen .view) (sound-ranges (seen .within .sound))
 
 -- ---- what a call comes to
 in-ranges-then : {A : Type 0} (call : View → Answer A) {view : View} {s : Session} → SeenAs view s → inRangesThen call s ≡ call view
@@ -133,19 +128,19 @@ module _ {view : View} {s : Session} (seen : SeenAs view s) where
   after-give-up (done v) t state = state
   after-give-up (refused why) t state = subst (SeenAs view) (sym state) seen
 
-  pub offered-seen : {octets : List ℕ} {r : AfterOffer} → OfferOwes s octets r → SeenAs (after (offer octets) view) (r .session)
+  pub offered-seen : {octets : List ℕ} {r : AfterOffer} → OfferOwes s octets r → SeenAs (after (moves.offer octets) view) (r .session)
   unfolding after
   offered-seen {octets} {r} owes =
       after-offer (offers.offer octets view) (r .session)
       (subst (λ (a : Answer View). After a s (r .session)) (offer-is octets) (owes .state))
 
-  pub asked-seen : {old new : List ℕ} {r : AfterNext} → NextOwes s old new r → SeenAs (after (next (length old)) view) (r .session)
+  pub asked-seen : {old new : List ℕ} {r : AfterNext} → NextOwes s old new r → SeenAs (after (moves.next (length old)) view) (r .session)
   unfolding after
   asked-seen {old} {new} {r} owes =
       after-next (releases.next (length old) view) (r .session)
       (subst (λ (a : Answer Release). After (viewAfterNext a) s (r .session)) (next-is (length old)) (owes .state))
 
-  pub gave-up-seen : {r : AfterGiveUp} → GiveUpOwes s r → SeenAs (after giveUp view) (r .session)
+  pub gave-up-seen : {r : AfterGiveUp} → GiveUpOwes s r → SeenAs (after moves.giveUp view) (r .session)
   unfolding after
   gave-up-seen {r} owes =
       after-give-up (releases.giveUp view) (r .session)
@@ -171,44 +166,59 @@ given-up (done a) (loss.Refused why) e = let z : _≡_ {A = ℕ} 0 1 = cc in abs
 given-up (refused x) (loss.Number number) e = let z : _≡_ {A = ℕ} 0 1 = cc in absurd (omega arith)
 given-up (refused x) (loss.Refused why) e = refl
 
-module _ {view : View} {s : Session} (seen : SeenAs view s) where
-  asked-left : {old new : List ℕ} {r : AfterNext} → NextOwes s old new r → handedOut (r .answer) new ≡ leaving (next (length old)) view
-  unfolding leaving
-  asked-left {old} {new} {r} owes =
-      ap (handedOut (r .answer)) (owes .lent)
-      ∙ handed-out (nextOf (length old) s) (r .answer) old (owes .answer)
-      ∙ ap releasedBy (next-is seen (length old))
-
-  gave-up-left : {r : AfterGiveUp} → GiveUpOwes s r → givenUp (r .answer) ≡ leaving giveUp view
-  unfolding leaving
-  gave-up-left {r} owes = given-up (giveUpOf s) (r .answer) (owes .answer) ∙ ap lostBy (give-up-is seen)
+-- what left is what document 01 makes leave
+pub left-is : (view : View) (call : Call) → Says view call → leftIn call ≡ leaving (moveOf call) view
+unfolding leaving
+left-is view (offer octets r) says = refl
+left-is view (next old new r) says = ap (handedOut r) (says .1) ∙ handed-out (releases.next (length old) view) r old (says .0)
+left-is view (giveUp r) says = given-up (releases.giveUp view) r says
 
 -- ---- chains
-pub called-seen : {s t : Session} {moves : List Move} {left : List Left} (view : View) → SeenAs view s → Called s moves left t
-    → SeenAs (run moves view) t
-unfolding run
-called-seen view seen none = seen
-called-seen view seen (offered owes rest) = called-seen _ (offered-seen seen owes) rest
-called-seen view seen (asked owes rest) = called-seen _ (asked-seen seen owes) rest
-called-seen view seen (gaveUp owes rest) = called-seen _ (gave-up-seen seen owes) rest
+module _ {view : View} {s : Session} (seen : SeenAs view s) where
+  offered-says : {octets : List ℕ} {r : AfterOffer} → OfferOwes s octets r → Says view (offer octets (r .answer))
+  offered-says {octets} owes = owes .answer ∙ ap acceptedOf (offer-is seen octets)
 
-pub called-left : {s t : Session} {moves : List Move} {left : List Left} (view : View) → SeenAs view s → Called s moves left t
-    → left ≡ history moves view
-unfolding history leaving
-called-left view seen none = refl
-called-left view seen (offered owes rest) = called-left _ (offered-seen seen owes) rest
-called-left view seen (asked owes rest) =
-    ap₂ (λ (a b : List Left). a ++ b) (asked-left seen owes) (called-left _ (asked-seen seen owes) rest)
-called-left view seen (gaveUp owes rest) =
-    ap₂ (λ (a b : List Left). a ++ b) (gave-up-left seen owes) (called-left _ (gave-up-seen seen owes) rest)
+  asked-says : {old new : List ℕ} {r : AfterNext} → NextOwes s old new r → Says view (next old new (r .answer))
+  asked-says {old} owes = (
+    owes .answer ∙ ap handedOf (next-is seen (length old)),
+    owes .lent ∙ ap (λ (a : Answer Release). over (octetsOf a) old) (next-is seen (length old)),
+  )
 
-pub calls-follow : CallsFollow
-calls-follow =
+  gave-up-says : {r : AfterGiveUp} → GiveUpOwes s r → Says view (giveUp (r .answer))
+  gave-up-says owes = owes .answer ∙ ap numberOf (give-up-is seen)
+
+-- a chain of calls goes on from what the first session holds
+pub record Went (view : View) (calls : Calls) (t : Session) : Type 0 where
+  pub held : View
+  pub seen : SeenAs held t
+  pub on : GoesOn view calls held
+
+pub called-went : {s t : Session} {calls : Calls} {view : View} → SeenAs view s → Called s calls t → Went view calls t
+called-went {view = view} seen atStart = record { held = view; seen = seen; on = from }
+called-went seen (offered {octets = octets} rest owes) =
+    let w = called-went seen rest in
     record {
-      fresh = fresh-seen;
-      saved = saved-seen;
-      inRanges = seen-ranges;
-      seen = called-seen;
-      handed = called-left;
-      never17 = seen-in-ranges;
+      held = after (moves.offer octets) (w .held);
+      seen = offered-seen (w .seen) owes;
+      on = by (w .on) (offered-says (w .seen) owes);
     }
+called-went seen (asked {old = old} rest owes) =
+    let w = called-went seen rest in
+    record {
+      held = after (moves.next (length old)) (w .held);
+      seen = asked-seen (w .seen) owes;
+      on = by (w .on) (asked-says (w .seen) owes);
+    }
+called-went seen (gaveUp rest owes) =
+    let w = called-went seen rest in
+    record {
+      held = after moves.giveUp (w .held);
+      seen = gave-up-seen (w .seen) owes;
+      on = by (w .on) (gave-up-says (w .seen) owes);
+    }
+
+-- so the last session holds what document 01 says
+pub called-on : {s t : Session} {calls : Calls} {view : View} → SeenAs view s → Called s calls t → GoesOn view calls (viewOf t)
+called-on {calls = calls} {view = view} seen called =
+    let w = called-went seen called in
+    subst (GoesOn view calls) (sym (w .seen .view)) (w .on)

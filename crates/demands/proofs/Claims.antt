@@ -1,9 +1,12 @@
 -- The demands, each proved in its file. Assumes nothing.
+use Rattle.sending.proofs.Claims as sending
+use Rattle.lines.proofs.Claims as lines
 use Rattle.demands.specs.Claims.{Claims}
 use Rattle.demands.proofs.Demand1.{demand-1}
 use Rattle.demands.proofs.Demand2.{demand-2}
 use Rattle.demands.proofs.Demand3.{demand-3}
 use Rattle.demands.proofs.Example as example
+use Rattle.demands.proofs.Burst as burst
 use Rattle.demands.proofs.OneOutcome.{one-outcome}
 use Rattle.demands.proofs.Sheet.{twelve-cases}
 
@@ -13,7 +16,10 @@ claims =
       demand1 = demand-1;
       demand2 = demand-2;
       demand3 = demand-3;
+      sendsHonest = sending.claims .chains;
       example = example.example;
+      burst = burst.burst;
       oneOutcome = one-outcome;
       twelveCases = twelve-cases;
+      program = lines.claims;
     }

@@ -3,32 +3,33 @@ use Prim.Native.Nat.{ℕ, _+_, _-_, _*_, _≤_, _<_}
 use mathlib.Core.Path.{_≡_, refl, sym, ap, _∙_}
 use mathlib.Core.Logic.{_↔_, _⊎_, ⊎-elim}
 use mathlib.Core.Bool.{Bool, true, false, not, cond, _&&_}
-use mathlib.Core.List.{List, [], _∷_, map}
+use mathlib.Core.List.{List, [], _∷_, _++_, map}
 use mathlib.Core.Option.{none, some}
 use lib.ListN.{length, getD, replicate, length-append, length-replicate}
-use lib.Dec.{leb, ltb, eqb}
+use lib.Dec.{leb, ltb}
 use native.Mathlib.Omega.{arith}
 use borrow.Author.Tests.{lt-ltb, le-ltb, le-leb, lt-leb, ltb-true, ltb-false}
 use Rattle.octets.proofs.Cases.{below-or-not}
-use Rattle.lengths.specs.Refusals.{endsEarly, badForm, outsideSizes, repeated, tooFar, late, baseUnknown, baseKnown, notAssigned, noRoom}
-use Rattle.lengths.specs.Refusals.{wrongData, wrongSettings, allPassed, outsideRanges}
+use Rattle.lengths.specs.Refusals.{endsEarly, badForm, repeated, tooFar, late, baseUnknown, baseKnown, noRoom}
+use Rattle.lengths.specs.Refusals.{allPassed, outsideRanges}
 use Rattle.lengths.specs.Answers.{Answer, done, refused, refuse, fitted, writtenOutcome}
 use Rattle.lengths.specs.Answers as answers
-use Rattle.lengths.specs.Length.{lengthAt, lengthOctets, lengthLimit, ofTwo, lengthToWrite}
+use Rattle.lengths.specs.Tables.{when, first, refusalIn, roomRow}
+use Rattle.lengths.specs.Length.{lengthAt, lengthOctets, ofTwo, lengthWriterRows, lengthToWrite}
+use Rattle.lengths.proofs.Tables.{row, row-met, row-step, no-row, fitted-first, puts-refusal, size-refusal, done-none}
 use Rattle.lengths.specs.Promise.{Puts}
 use Rattle.lengths.specs.Claims.{Octets}
 use Rattle.lengths.specs.declared.Written.{Written}
 use Rattle.datagrams.specs.Carried.{Carried}
 use Rattle.datagrams.specs.Read.{DatagramParts, octetsOf, readDatagram, carriedBy}
-use Rattle.datagrams.specs.Write.{sumOf, countInside, lengthsInside, carriedOf, datagramOctets, datagramToWrite}
+use Rattle.datagrams.specs.Write.{carriedOf, datagramOctets, datagramWriterRows, datagramToWrite}
 use Rattle.datagrams.specs.Claims.{lengthsOf, runOf}
 use Rattle.datagrams.specs.declared.kind.Kind.{Kind}
 use Rattle.datagrams.proofs.Claims as datagrams
-use Rattle.datagrams.proofs.AnswerLaws.{cond-done, cond-met, done-same}
 use Rattle.datagrams.proofs.ReadLaws.{read-done}
-use Rattle.packets.specs.Packet.{fieldsLimit, allData}
+use Rattle.packets.specs.Packet.{allData}
 use Rattle.packets.specs.Read.{readPacket}
-use Rattle.packets.specs.Write.{packetOctets, oneEach, allAssigned, allRight, inSizes, packetToWrite}
+use Rattle.packets.specs.Write.{packetOctets, packetWriterRows, packetToWrite}
 use Rattle.packets.specs.declared.types.Kind as packets
 use Rattle.packets.specs.declared.types.Ending.the-variants.{Whole, Repaired}
 use Rattle.packets.proofs.ReadLaws.{packet-form}
@@ -39,27 +40,26 @@ use Rattle.views.specs.Offer as offers
 use Rattle.views.specs.Offer.{lateFrom, acceptedAt, offered, accept}
 use Rattle.views.specs.Release as releases
 use Rattle.views.specs.Release.{Release, Loss, atBase}
-use Rattle.heads.specs.Head.{viewOf}
-use Rattle.heads.specs.Ranges.{sessionInRanges}
-use Rattle.heads.specs.declared.Session.{Session}
-use Rattle.releasing.specs.Outcome.{handedOf, numberOf}
-use Rattle.releasing.specs.Outcome as outcome
-use Rattle.receiving.specs.Promise.{acceptedOf}
+use Rattle.held.specs.Table.{viewOf}
+use Rattle.held.specs.Laid.{sessionInRanges}
+use Rattle.held.specs.declared.Session.{Session}
+use Rattle.leaving.specs.Outcome.{handedOf, numberOf}
+use Rattle.leaving.specs.Outcome as outcome
+use Rattle.offering.specs.Outcome.{acceptedOf}
 use Rattle.sessions.specs.Receiver.{After, offerOf, nextOf, viewAfterNext, giveUpOf, viewAfterLoss}
-use Rattle.sending.specs.Carries.{settingsInside}
 use Rattle.sending.specs.Sending.{Sending}
-use Rattle.sending.specs.Send.{packetInside, carriedNext, datagramToSend}
+use Rattle.sending.specs.Send.{carriedNext}
 use Rattle.sending.specs.Sender.{sendingOf}
-use Rattle.sending.specs.Ranges.{senderInRanges}
-use Rattle.sending.specs.Promise.{toSend, StateAfter}
+use Rattle.sending.specs.Promise.{senderRows, toSend, StateAfter}
 use Rattle.sending.specs.declared.Sender.{Sender}
 use Rattle.sending.specs.declared.Settings.{Settings}
-use Rattle.demands.specs.Refusals.{when, first, refusalIn, over, lengthRows, lengthWriterRows, datagramWriterRows, packetWriterRows}
-use Rattle.demands.specs.Refusals.{distanceTo, offerRows, nextRows, giveUpRows, sendRows}
+use Rattle.lines.specs.Hex.{octetsIn, lineRows, lineOctets}
+use Rattle.demands.specs.Refusals.{lengthRows, distanceTo, offerRows, nextRows, giveUpRows}
 use Rattle.demands.specs.Demand1 as demand
 use Rattle.demands.specs.Demand1.{IsDatagram, IsPacket, IsRepaired, Readers, Writers, Receiving, Demand1}
 use Rattle.demands.proofs.Front.{repaired-front}
-use Rattle.demands.proofs.Tables.{row, row-met, row-step, no-row, row-fitted, puts-refusal, size-refusal, done-none}
+use Rattle.demands.proofs.PacketRefusals.{packet-refusals}
+use Rattle.demands.proofs.DatagramRefusals.{datagram-refusals}
 
 -- ---- lengths
 -- the five tests of the definition, and the four rows of the table
@@ -153,61 +153,32 @@ readers =
       isDatagram = is-datagram;
       isPacket = is-packet;
       isRepaired = is-repaired;
+      packetRefusals = packet-refusals;
+      datagramRefusals = datagram-refusals;
     }
 
--- ---- writers
-length-writer : (n : ℕ) (old : List ℕ) → refusalIn (fitted (lengthToWrite n) old) ≡ first (lengthWriterRows n old)
-unfolding lengthToWrite lengthWriterRows
-length-writer n old =
-    row-fitted (lengthToWrite n) (lengthOctets n) old (when (ltb lengthLimit n) outsideSizes ∷ [])
-    (λ x e. sym (done-same (cond-done (ltb lengthLimit n) outsideSizes (done (lengthOctets n)) x e .1)))
-    (row (ltb lengthLimit n) outsideSizes (done (lengthOctets n)) [] no-row)
+-- ---- writers: each follows from its table
+length-writer : (n : ℕ) (old : List ℕ) → refusalIn (fitted (lengthToWrite n) old) ≡ first (lengthWriterRows n ++ roomRow (lengthOctets n) old)
+unfolding lengthToWrite
+length-writer n old = fitted-first (lengthWriterRows n) (lengthOctets n) old
 
--- the octets of a writer with so many tests
-after-three : (b₁ b₂ b₃ : Bool) (n₁ n₂ n₃ : ℕ) (octets x : List ℕ)
-    → cond b₁ (refuse n₁) (cond b₂ (refuse n₂) (cond b₃ (refuse n₃) (done octets))) ≡ done x
-    → x ≡ octets
-after-three b₁ b₂ b₃ n₁ n₂ n₃ octets x e =
-    let one = cond-done b₁ n₁ _ x e in
-    let two = cond-done b₂ n₂ _ x (one .1) in
-    let three = cond-done b₃ n₃ _ x (two .1) in
-    sym (done-same (three .1))
+datagram-writer : (number : ℕ) (packet : List ℕ) (kind : Kind) (lengths run old : List ℕ)
+    → refusalIn (fitted (datagramToWrite number packet kind lengths run) old)
+    ≡ first (datagramWriterRows packet kind lengths run ++ roomRow (datagramOctets (carriedOf number packet kind lengths run)) old)
+unfolding datagramToWrite
+datagram-writer number packet kind lengths run old =
+    fitted-first (datagramWriterRows packet kind lengths run) (datagramOctets (carriedOf number packet kind lengths run)) old
 
-module _ (number : ℕ) (packet : List ℕ) (kind : Kind) (lengths run old : List ℕ) where
-  datagram-writer : refusalIn (fitted (datagramToWrite number packet kind lengths run) old)
-      ≡ first (datagramWriterRows number packet kind lengths run old)
-  unfolding datagramToWrite datagramWriterRows
-  datagram-writer =
-      row-fitted (datagramToWrite number packet kind lengths run) (datagramOctets (carriedOf number packet kind lengths run)) old _
-      (after-three (not (countInside kind (length lengths))) (not (eqb (sumOf lengths) (length run))) (not (lengthsInside packet kind lengths))
-      outsideSizes wrongSettings outsideSizes (datagramOctets (carriedOf number packet kind lengths run)))
-      (row (not (countInside kind (length lengths))) outsideSizes _ _
-      (row (not (eqb (sumOf lengths) (length run))) wrongSettings _ _
-      (row (not (lengthsInside packet kind lengths)) outsideSizes _ _
-      no-row)))
+packet-writer : (kind : packets.Kind) (value : ℕ) (types lengths octets old : List ℕ)
+    → refusalIn (fitted (packetToWrite kind value types lengths octets) old)
+    ≡ first (packetWriterRows kind value types lengths octets ++ roomRow (packetOctets kind value types lengths octets) old)
+unfolding packetToWrite
+packet-writer kind value types lengths octets old =
+    fitted-first (packetWriterRows kind value types lengths octets) (packetOctets kind value types lengths octets) old
 
-module _ (kind : packets.Kind) (value : ℕ) (types lengths octets old : List ℕ) where
-  abbrev whole : List ℕ
-  whole = packetOctets kind value types lengths octets
-
-  packet-octets : (x : List ℕ) → packetToWrite kind value types lengths octets ≡ done x → x ≡ whole
-  unfolding packetToWrite
-  packet-octets x e =
-      let one = cond-done (ltb fieldsLimit (length types)) outsideSizes _ x e in
-      let two = cond-done (not (oneEach types lengths octets)) wrongSettings _ x (one .1) in
-      after-three (not (allAssigned kind value types)) (not (allRight kind types lengths)) (not (inSizes lengths (length whole))) notAssigned
-      wrongData outsideSizes whole x (two .1)
-
-  packet-writer : refusalIn (fitted (packetToWrite kind value types lengths octets) old)
-      ≡ first (packetWriterRows kind value types lengths octets old)
-  unfolding packetToWrite packetWriterRows
-  packet-writer =
-      row-fitted (packetToWrite kind value types lengths octets) whole old _ packet-octets
-      (row (ltb fieldsLimit (length types)) outsideSizes _ _
-      (row (not (oneEach types lengths octets)) wrongSettings _ _
-      (row (not (allAssigned kind value types)) notAssigned _ _
-      (row (not (allRight kind types lengths)) wrongData _ _
-      (row (not (inSizes lengths (length whole))) outsideSizes _ _ no-row)))))
+line-writer : (line old : List ℕ) → refusalIn (fitted (lineOctets line) old) ≡ first (lineRows line ++ roomRow (octetsIn line) old)
+unfolding lineOctets
+line-writer line old = fitted-first (lineRows line) (octetsIn line) old
 
 -- what a refusal leaves of a lent buffer
 over-refused : (w : Answer (List ℕ)) (old : List ℕ) (n : ℕ) → refusalIn w ≡ some n → answers.over w old ≡ old
@@ -224,6 +195,7 @@ writers =
       length = λ n {old} p. puts-refusal p ∙ length-writer n old;
       datagram = λ number packet kind lengths run {old} p. puts-refusal p ∙ datagram-writer number packet kind lengths run old;
       packet = λ kind value types lengths octets {old} p. puts-refusal p ∙ packet-writer kind value types lengths octets old;
+      line = λ line {old} p. puts-refusal p ∙ line-writer line old;
       unchanged = puts-unchanged;
     }
 
@@ -333,25 +305,12 @@ receiving =
     }
 
 -- ---- send
-module _ (s : Sender) (settings : Settings) (packet old : List ℕ) where
-  abbrev sent-octets : List ℕ
-  sent-octets = datagramOctets (carriedNext settings packet (sendingOf s))
-
-  send-octets : (x : List ℕ) → toSend s settings packet ≡ done x → x ≡ sent-octets
-  unfolding toSend datagramToSend
-  send-octets x e =
-      let inside = cond-met (senderInRanges s) outsideRanges _ x e in
-      after-three (leb sessionLimit (s .sent)) (not (settingsInside settings)) (not (packetInside packet)) allPassed wrongSettings outsideSizes
-      sent-octets x (inside .1)
-
-  send-rows : refusalIn (fitted (toSend s settings packet) old) ≡ first (sendRows s settings packet old)
-  unfolding toSend datagramToSend sendRows
-  send-rows =
-      row-fitted (toSend s settings packet) sent-octets old _ send-octets
-      (row-met (senderInRanges s) outsideRanges (datagramToSend settings packet (sendingOf s)) _
-      (row (leb sessionLimit (s .sent)) allPassed _ _
-      (row (not (settingsInside settings)) wrongSettings _ _
-      (row (not (packetInside packet)) outsideSizes _ _ no-row))))
+send-rows : (s : Sender) (settings : Settings) (packet old : List ℕ)
+    → refusalIn (fitted (toSend s settings packet) old)
+    ≡ first (senderRows s settings packet ++ roomRow (datagramOctets (carriedNext settings packet (sendingOf s))) old)
+unfolding toSend
+send-rows s settings packet old =
+    fitted-first (senderRows s settings packet) (datagramOctets (carriedNext settings packet (sendingOf s))) old
 
 send-refused : (a : Answer (List ℕ)) (s t : Sender) (packet : List ℕ) (n : ℕ) → refusalIn a ≡ some n → StateAfter a s packet t → t ≡ s
 send-refused (done x) s t packet n e state = let z : _≡_ {A = ℕ} 0 1 = cc in absurd (omega arith)

@@ -10,9 +10,9 @@ use Rattle.lengths.specs.Answers.{Answer, done, refused, refuse}
 use Rattle.repair.specs.Honest.{TrueCells}
 use Rattle.views.specs.View.{View, freshView}
 use Rattle.views.specs.Offer as offers
-use Rattle.heads.specs.Head.{viewOf}
-use Rattle.heads.specs.declared.Session.{Session}
-use Rattle.receiving.specs.Promise.{offeredOutcome, acceptedOf, afterOffer}
+use Rattle.held.specs.Table.{viewOf}
+use Rattle.held.specs.declared.Session.{Session}
+use Rattle.offering.specs.Outcome.{offeredOutcome, acceptedOf, afterOffer}
 use Rattle.sessions.specs.Receiver.{SeenAs, OfferOwes}
 use Rattle.sessions.specs.declared.receiver.AfterOffer.{AfterOffer}
 use Rattle.sending.specs.Honest.{HonestSender}

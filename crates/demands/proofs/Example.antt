@@ -1,6 +1,6 @@
 -- The example, computed. Assumes nothing.
 use Prim.Native.Nat.{ℕ, zero, suc, _<_}
-use mathlib.Core.Path.{_≡_, refl, sym, ap, subst, _∙_}
+use mathlib.Core.Path.{_≡_, refl, subst, _∙_}
 use mathlib.Core.Logic.{⊎-elim}
 use mathlib.Core.Bool.{true}
 use mathlib.Core.List.{List, [], _∷_, List·Memᴰ as Among, List·Memᴰ·head as here, List·Memᴰ·tail as further, List·Memᴰ·not-nil, List·Memᴰ·cases-cons}
@@ -9,35 +9,31 @@ use native.Mathlib.Omega.{arith}
 use Rattle.octets.specs.Place.{tab}
 use Rattle.octets.specs.ExclusiveOr.{xorAt, exclusiveOr, longest}
 use Rattle.lengths.specs.Refusals as refusals
-use Rattle.lengths.specs.Answers.{Answer, done, refused, refuse}
-use Rattle.lengths.specs.declared.Refusal.{Refusal}
+use Rattle.lengths.specs.Answers.{done, refuse}
 use Rattle.lengths.specs.Length.{lengthAt, lengthOctets}
 use Rattle.datagrams.specs.Carried.{spares, parity, Carried}
 use Rattle.datagrams.specs.Read.{allowed, octetAt, sizedAt, itemAt, itemsAt, endOf, sparesAt, parityAt, extraAt, numberOf, wholeOf, readDatagram, carriedBy}
 use Rattle.datagrams.specs.Write.{numberOctets, itemOctets, itemsOctets, countedOctets, datagramOctets}
 use Rattle.repair.specs.Cells.{repaired, cellAt, keptBefore}
-use Rattle.repair.specs.Members.{membersOf}
+use Rattle.repair.specs.Members.{membersOf, InReach}
 use Rattle.repair.specs.Repair.{passing, usable, firstUsable, mended, fill, repairF, repair}
-use Rattle.repair.specs.Held.{heldAt, messagesOf, messagesFrom, heldMessages}
-use Rattle.repair.specs.Reached.{Unknown}
+use Rattle.repair.specs.Held.{Held, heldAt, messagesOf, messagesFrom, heldMessages}
+use Rattle.repair.specs.Reached.{Known, Unknown}
 use Rattle.views.specs.View.{View, freshView}
 use Rattle.views.specs.Offer as offers
 use Rattle.views.specs.Offer.{keep, keepSpares, accept, offered}
-use Rattle.heads.specs.declared.Session.{Session}
-use Rattle.receiving.specs.Promise.{offeredOutcome, acceptedOf, afterOffer}
-use Rattle.receiving.specs.declared.Offered as receiving
-use Rattle.receiving.specs.declared.Offered.the-variants as answer
-use Rattle.sessions.specs.Receiver.{SeenAs, OfferOwes}
+use Rattle.held.specs.declared.Session.{Session}
 use Rattle.sessions.specs.declared.receiver.AfterOffer.{AfterOffer}
 use Rattle.sending.specs.Send.{packetInside}
 use Rattle.sending.specs.Carries as carries
 use Rattle.sending.specs.Honest.{packetAt, HonestAt, HonestSender}
 use Rattle.sending.specs.declared.Settings.the-variants as settings
-use Rattle.demands.specs.History.{after}
-use Rattle.demands.specs.Sheet.{packet0, packet1, message2}
-use Rattle.demands.specs.Feeding.{Near, datagramAt, Offers, fresh, none, accepted, repeated}
-use Rattle.demands.specs.Example.{exampleRow, datagram1, datagram2, exampleDatagrams, HandedBack, Met, Example}
-use Rattle.demands.proofs.Calling.{fresh-seen, offer-is, offered-seen}
+use Rattle.demands.specs.Sheet.{packet0, packet1, message2, datagram1, datagram2}
+use Rattle.demands.specs.Feeding.{Near, fresh, none, accepted, repeated}
+use Rattle.demands.specs.Demand3.{RestKnown}
+use Rattle.demands.specs.Example.{exampleRow, exampleDatagrams, HandedBack, Met, Example}
+use Rattle.demands.proofs.Calling.{fresh-seen}
+use Rattle.demands.proofs.OfferedTo.{call-accepted, call-refused, then-seen, offers-of}
 
 -- ---- the sender
 sized : (S : ℕ) → S < length exampleRow → packetInside (getD exampleRow S []) ≡ true
@@ -47,8 +43,8 @@ sized (suc (suc zero)) low = refl
 sized (suc (suc (suc S))) low = absurd (omega arith)
 
 follow : (S : ℕ) → S < length exampleRow → HonestAt exampleRow S (getD exampleDatagrams S [])
-unfolding datagramOctets numberOctets itemOctets itemsOctets countedOctets lengthOctets carries.sparesFrom carries.messagesFrom tab membersOf packetAt
-    xorAt exclusiveOr longest
+unfolding datagramOctets numberOctets itemOctets itemsOctets countedOctets lengthOctets carries.sparesFrom carries.messagesFrom tab
+    membersOf packetAt xorAt exclusiveOr longest
 follow zero low = record { settings = settings.Spares 0; inside = refl; follows = refl }
 follow (suc zero) low = record { settings = settings.Spares 0; inside = refl; follows = refl }
 follow (suc (suc zero)) low = record { settings = settings.Parity 2 1; inside = refl; follows = refl }
@@ -73,11 +69,13 @@ near-fresh S low = record { ahead = omega arith; behind = omega arith }
 
 -- a read datagram, offered
 reads-1 : (view : View) → offers.offer datagram1 view ≡ offered carried1 view
-unfolding offers.offer readDatagram carriedBy numberOf wholeOf extraAt sparesAt parityAt itemsAt itemAt sizedAt octetAt allowed endOf lengthAt
+unfolding offers.offer readDatagram carriedBy numberOf wholeOf extraAt sparesAt parityAt itemsAt itemAt sizedAt octetAt allowed endOf
+    lengthAt
 reads-1 view = refl
 
 reads-2 : (view : View) → offers.offer datagram2 view ≡ offered carried2 view
-unfolding offers.offer readDatagram carriedBy numberOf wholeOf extraAt sparesAt parityAt itemsAt itemAt sizedAt octetAt allowed endOf lengthAt
+unfolding offers.offer readDatagram carriedBy numberOf wholeOf extraAt sparesAt parityAt itemsAt itemAt sizedAt octetAt allowed endOf
+    lengthAt
 reads-2 view = refl
 
 -- ---- the two lists
@@ -115,55 +113,33 @@ all : (S : ℕ) → Among S (2 ∷ []) → Among S (1 ∷ 2 ∷ 1 ∷ [])
 all S among = ⊎-elim (λ same. further (here same)) (λ later. absurd (List·Memᴰ·not-nil later)) (List·Memᴰ·cases-cons among)
 
 missing : Unknown (only2 .cells) keptBefore
-unfolding freshView accept keep keepSpares tab xorAt exclusiveOr membersOf passing usable firstUsable mended fill repairF repair messagesOf messagesFrom
-    heldMessages
+unfolding freshView accept keep keepSpares tab xorAt exclusiveOr membersOf passing usable firstUsable mended fill repairF repair messagesOf
+    messagesFrom heldMessages
 missing = refl
 
 back : cellAt (with12 .cells) keptBefore ≡ record { state = repaired; octets = 0x06 ∷ 0 ∷ 0 ∷ 0 ∷ 0 ∷ 0 ∷ [] }
-unfolding freshView accept keep keepSpares tab xorAt exclusiveOr membersOf passing usable firstUsable mended fill repairF repair messagesOf messagesFrom
-    heldMessages
+unfolding freshView accept keep keepSpares tab xorAt exclusiveOr membersOf passing usable firstUsable mended fill repairF repair messagesOf
+    messagesFrom heldMessages
 back = refl
 
 held : heldAt (with12 .held) 2 ≡ record { accepted = true; n = 2; messages = message2 ∷ [] }
 unfolding freshView accept
 held = refl
 
+-- of the reach of datagram 2, places 32 and 33, the second is known
+known33 : Known (with12 .cells) 33
+unfolding freshView accept keep keepSpares tab xorAt exclusiveOr membersOf passing usable firstUsable mended fill repairF repair messagesOf
+    messagesFrom heldMessages
+known33 = refl
+
+rest : RestKnown with12 2 keptBefore 1
+rest p reach other =
+    let in-reach = subst (λ (x : Held). InReach 34 (x .n) (length (x .messages)) p) held reach in
+    let is : p ≡ 33 =
+    ⊎-elim (λ low. absurd (omega (arith, low, in-reach .above))) (λ high. omega (arith, high, in-reach .before)) other in
+    rw is known33
+
 -- ---- the calls
-answer-accepted : (x : receiving.Offered) → offeredOutcome x ≡ done tt → x ≡ answer.Accepted
-answer-accepted answer.Accepted e = refl
-answer-accepted (answer.Refused why) e = let z : _≡_ {A = ℕ} 0 1 = cc in absurd (omega arith)
-
-answer-refused : (x : receiving.Offered) (why : Refusal) → offeredOutcome x ≡ refused why → x ≡ answer.Refused why
-answer-refused answer.Accepted why e = let z : _≡_ {A = ℕ} 0 1 = cc in absurd (omega arith)
-answer-refused (answer.Refused x) why e = cc
-
--- an offer to a session that is seen as this view
-module _ {view : View} {s : Session} (seen : SeenAs view s) {octets : List ℕ} {r : AfterOffer} (owes : OfferOwes s octets r) where
-  outcome-is : offeredOutcome (r .answer) ≡ acceptedOf (offers.offer octets view)
-  outcome-is = owes .answer ∙ ap acceptedOf (offer-is seen octets)
-
-  call-accepted : {mid : View} → offers.offer octets view ≡ done mid → r .answer ≡ answer.Accepted
-  call-accepted is = answer-accepted (r .answer) (outcome-is ∙ ap acceptedOf is)
-
-  call-refused : {why : Refusal} → offers.offer octets view ≡ refused why → r .answer ≡ answer.Refused why
-  call-refused is = answer-refused (r .answer) _ (outcome-is ∙ ap acceptedOf is)
-
-  then-seen : (a : Answer View) → offers.offer octets view ≡ a → SeenAs (afterOffer a view) (r .session)
-  unfolding after
-  then-seen a is = subst (λ (x : Answer View). SeenAs (afterOffer x view) (r .session)) is (offered-seen seen owes)
-
--- it is an offer of the sender's
-offers-of : (S : ℕ) {view : View} {s : Session} {r : AfterOffer} → S < 3 → SeenAs view s → Near S view
-    → OfferOwes s (datagramAt exampleDatagrams S) r → Offers exampleRow exampleDatagrams S s r
-offers-of S low seen near owes =
-    record {
-      sent = low;
-      near = subst (Near S) (sym (seen .view)) near;
-      octets = datagramAt exampleDatagrams S;
-      one = refl;
-      call = owes;
-    }
-
 met : (s : Session) (alone one two three : AfterOffer) → HandedBack s alone one two three → Met s (alone .session) (three .session)
 met s alone one two three c =
     let seen = fresh-seen s (c .start) in
@@ -175,16 +151,21 @@ met s alone one two three c =
     let seen-one = then-seen seen (c .first1) (done with1) one-is in
     let seen-two = then-seen seen-one (c .then2) (done with12) two-is in
     let seen-three = then-seen seen-two (c .again1) (refuse refusals.repeated) three-is in
+    let only-2 = offers-of exampleRow exampleDatagrams 2 (omega arith) seen (near-fresh 2 (omega arith)) (c .only2) in
+    let first-1 = offers-of exampleRow exampleDatagrams 1 (omega arith) seen (near-fresh 1 (omega arith)) (c .first1) in
+    let then-2 = offers-of exampleRow exampleDatagrams 2 (omega arith) seen-one (near-1 2 (omega arith)) (c .then2) in
+    let again-1 = offers-of exampleRow exampleDatagrams 1 (omega arith) seen-two (near-12 1 (omega arith)) (c .again1) in
     record {
       fed = fresh (c .start);
-      first = accepted (offers-of 2 (omega arith) seen (near-fresh 2 (omega arith)) (c .only2)) (call-accepted seen (c .only2) alone-is) none;
+      first = accepted only-2 (call-accepted seen (c .only2) alone-is) none;
       second =
-          accepted (offers-of 1 (omega arith) seen (near-fresh 1 (omega arith)) (c .first1)) (call-accepted seen (c .first1) one-is)
-          (accepted (offers-of 2 (omega arith) seen-one (near-1 2 (omega arith)) (c .then2)) (call-accepted seen-one (c .then2) two-is)
-          (repeated (offers-of 1 (omega arith) seen-two (near-12 1 (omega arith)) (c .again1)) (call-refused seen-two (c .again1) three-is) none));
+          accepted first-1 (call-accepted seen (c .first1) one-is)
+          (accepted then-2 (call-accepted seen-one (c .then2) two-is)
+          (repeated again-1 (call-refused seen-two (c .again1) three-is) none));
       missing = rw (seen-alone .view) missing;
       back = rw (seen-three .view) back;
       held = rw (seen-three .view) held;
+      rest = rw (seen-three .view) rest;
     }
 
 pub example : Example

@@ -20,13 +20,13 @@ use Rattle.views.specs.Offer as offers
 use Rattle.views.specs.Offer.{accept, acceptedAt, offered, lateFrom}
 use Rattle.views.specs.Release as releases
 use Rattle.views.specs.Release.{Release, Loss}
-use Rattle.releasing.specs.Outcome.{afterNext, afterGiveUp}
-use Rattle.receiving.specs.Promise.{afterOffer}
+use Rattle.leaving.specs.Outcome.{afterNext, afterGiveUp}
+use Rattle.offering.specs.Outcome.{afterOffer}
 use Rattle.sending.specs.Honest.{HonestSender}
 use Rattle.demands.specs.History as moves
 use Rattle.demands.specs.History.{after, offer}
-use Rattle.demands.specs.Ranges.{ViewInRanges}
 use Rattle.demands.specs.Feeding.{placeOf, Near, datagramAt}
+use Rattle.demands.proofs.Ranges.{ViewInRanges}
 use Rattle.demands.proofs.FedViews.{FedView, fresh, arrives, asks, givesUp}
 use Rattle.demands.proofs.Steps.{offer-done, next-done, give-up-done, base-fills, released-sum}
 use Rattle.demands.proofs.Sent.{Follows, follows-of}

@@ -24,8 +24,8 @@ use Rattle.repair.specs.Reached.{DistinctMembers}
 use Rattle.repair.proofs.Held.{held-distinct}
 use Rattle.views.specs.View.{View, Counts, sum, numbers, following, freshView, goneOn}
 use Rattle.views.specs.Offer.{keep, keepExtra, heldOf, accept}
-use Rattle.heads.proofs.Parts.{reach-range}
-use Rattle.demands.specs.Ranges.{ViewInRanges}
+use Rattle.views.proofs.Sizes.{reach-kept}
+use Rattle.demands.proofs.Ranges.{ViewInRanges}
 use Rattle.demands.proofs.Growing.{Fills, asReceived, asSpare, asRepaired, Grown, grown-twice, grown-keep, grown-extra, grown-repair}
 use Rattle.demands.proofs.Shifted.{length-cells-on, length-held-on, cell-on, cell-last, held-on, held-last}
 
@@ -155,7 +155,7 @@ distinct-held view r =
     held-distinct (view .held)
     (λ d inside.
     let small : d < keptAhead = rw (r .heard) at inside in
-    reach-range (r .covered d small) (r .messages d small))
+    reach-kept (r .covered d small) (r .messages d small))
 
 -- ---- a number leaves
 pub on-in-ranges : (counts : Counts) (view : View) → ViewInRanges view → sum counts ≡ sum (view .counts) + 1

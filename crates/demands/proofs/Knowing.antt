@@ -1,31 +1,32 @@
--- The known numbers, from the start on and call by call. Assumes nothing.
+-- The known numbers of a view: at the start, after an accepted datagram, and once a number left. Assumes nothing.
 use Prim.Native.Nat.{ℕ, suc, _+_, _-_, _<_}
 use mathlib.Core.Path.{_≡_, refl, sym, ap, subst, _∙_}
 use mathlib.Core.Logic.{_↔_, _⊎_, inl, inr, ⊎-elim}
 use mathlib.Core.Bool.{true≢false}
 use mathlib.Core.List.{List}
-use lib.ListN.{length, set}
+use lib.ListN.{length}
 use native.Mathlib.Omega.{arith}
 use Rattle.octets.proofs.Cases.{below-or-not}
-use Rattle.lengths.specs.Answers.{done}
 use Rattle.datagrams.specs.Carried.{Extra, spares, parity, Carried}
-use Rattle.datagrams.specs.Read.{carriedBy}
 use Rattle.repair.specs.Cells.{Cell, received, isUnknown, keptBefore, keptAhead, keptNumbers}
 use Rattle.repair.specs.Held.{heldMessages}
 use Rattle.repair.specs.Repair.{repair}
 use Rattle.repair.specs.Reached.{Known, Reached, DistinctMembers}
 use Rattle.repair.proofs.Least.{known-reached, reached-known}
-use Rattle.views.specs.View.{View, Counts, distance, freshView, goneOn}
-use Rattle.views.specs.Offer as offers
-use Rattle.views.specs.Offer.{keep, keepExtra, heldOf, accept}
-use Rattle.demands.specs.Ranges.{ViewInRanges}
-use Rattle.demands.specs.Demand2.{sparesIn, Brings, packet, copy, kept, Accepted, KnownNumbers}
+use Rattle.views.specs.View.{View, Counts, freshView, goneOn}
+use Rattle.views.specs.Offer.{keep, keepExtra, accept}
+use Rattle.demands.specs.ReachedBy.{sparesIn}
+use Rattle.demands.proofs.Ranges.{ViewInRanges}
 use Rattle.demands.proofs.Growing.{asReceived, grown-keep, grown-extra, known-grown, known-kept, kept-known, known-spares, spares-known}
 use Rattle.demands.proofs.Shifted.{cell-last, unknown-on}
-use Rattle.demands.proofs.InRanges.{fresh-before, fresh-ahead, filled, read-held, accept-in-ranges, distinct-held}
-use Rattle.demands.proofs.Steps.{offer-done}
+use Rattle.demands.proofs.InRanges.{fresh-before, fresh-ahead, filled}
 
 -- ---- with its packet and spares: what was known, and what the datagram brings
+-- the place p of the view is that of the datagram at distance d, or of one of its spares
+pub data Brings (datagram : Carried) (d : ℕ) : ℕ → Type 0 where
+  packet : Brings datagram d (keptBefore + d)
+  copy : (j : ℕ) → j < sparesIn (datagram .extra) → Brings datagram d (keptBefore + d - suc j)
+
 module _ (datagram : Carried) (d : ℕ) (view : View) (long : length (view .cells) ≡ keptNumbers) (low : d < keptAhead) where
   abbrev arrived : List Cell
   arrived = keep received (keptBefore + d) (datagram .packet) (view .cells)
@@ -48,7 +49,7 @@ module _ (datagram : Carried) (d : ℕ) (view : View) (long : length (view .cell
   )
   extras (parity n messages) p = (λ k. inl k, ⊎-elim (λ k. k) (λ t. absurd (let none = t .1 in omega arith)))
 
-  pub brought : (p : ℕ) → Known (kept datagram d view) p ↔ (Known (view .cells) p ⊎ Brings datagram d p)
+  pub brought : (p : ℕ) → Known (filled d datagram view) p ↔ (Known (view .cells) p ⊎ Brings datagram d p)
   brought p = (
     λ k.
         ⊎-elim
@@ -62,18 +63,13 @@ module _ (datagram : Carried) (d : ℕ) (view : View) (long : length (view .cell
         (brings p),
   )
     where
-      brings : (q : ℕ) → Brings datagram d q → Known (kept datagram d view) q
+      brings : (q : ℕ) → Brings datagram d q → Known (filled d datagram view) q
       brings q packet =
           extras (datagram .extra) (keptBefore + d) .1
           (inl (known-kept (keptBefore + d) (datagram .packet) (view .cells) (rw long (omega arith)) asReceived))
       brings q (copy j few) = extras (datagram .extra) (keptBefore + d - suc j) .1 (inr (j, few, refl))
 
 -- ---- an accepted offer
-accept-held : (d : ℕ) (datagram : Carried) (view : View)
-    → (accept d datagram view) .held ≡ set (view .held) d (heldOf (datagram .extra))
-unfolding accept
-accept-held d datagram view = refl
-
 pub accept-cells : (d : ℕ) (datagram : Carried) (view : View)
     → (accept d datagram view) .cells ≡ repair (filled d datagram view) (heldMessages ((accept d datagram view) .held))
 unfolding accept
@@ -90,25 +86,8 @@ accept-known d datagram view distinct p = (
       (reached-known (filled d datagram view) (heldMessages ((accept d datagram view) .held)) distinct p t),
 )
 
-pub accepted-offer : (view : View) → ViewInRanges view → (octets : List ℕ) (after : View) → offers.offer octets view ≡ done after
-    → Accepted octets view after
-accepted-offer view r octets after e =
-    let o = offer-done octets view after e in
-    let d = distance (view .base) (o .parts .number) in
-    let datagram = carriedBy octets (o .parts) in
-    let ranges = accept-in-ranges d datagram view r (o .near) (read-held octets (o .parts) (o .read)) in
-    subst (Accepted octets view) (o .is)
-    (record {
-      parts = o .parts;
-      read = o .read;
-      near = o .near;
-      held = accept-held d datagram view;
-      brought = λ p small. brought datagram d view (r .kept) (o .near) p;
-      known = accept-known d datagram view (distinct-held (accept d datagram view) ranges);
-    })
-
 -- ---- from the start
-fresh-known : (p : ℕ) → p < keptNumbers → Known (freshView .cells) p ↔ (p < keptBefore)
+pub fresh-known : (p : ℕ) → p < keptNumbers → Known (freshView .cells) p ↔ (p < keptBefore)
 fresh-known p small = (
   λ k.
       ⊎-elim (λ low. low)
@@ -118,7 +97,7 @@ fresh-known p small = (
 )
 
 -- ---- a number leaves
-left-known : (view : View) → ViewInRanges view → (counts : Counts) (p : ℕ) → p < keptNumbers
+pub left-known : (view : View) → ViewInRanges view → (counts : Counts) (p : ℕ) → p < keptNumbers
     → Known ((goneOn counts view) .cells) p ↔ ((suc p < keptNumbers) × Known (view .cells) (suc p))
 left-known view r counts p small = (
   λ k.
@@ -129,6 +108,3 @@ left-known view r counts p small = (
       (below-or-not (suc p) keptNumbers),
   λ t. unknown-on counts view p (rw (r .kept) (t .0)) ∙ t .1,
 )
-
-pub known-numbers : KnownNumbers
-known-numbers = record { fresh = fresh-known; offered = accepted-offer; left = left-known }

@@ -1,38 +1,43 @@
--- Numbers leave in order, and the counts are the history's: call by call. Assumes nothing.
-use Prim.Native.Nat.{ℕ, suc, _+_, _%_, _<_}
-use mathlib.Core.Path.{_≡_, refl, ap₂, _∙_}
+-- Numbers leave in order, and the counts are the history's: call by call. What left by the calls so far takes the session from
+-- one base and counts to others (Went), and one number more takes it one further. Assumes nothing.
+use Prim.Native.Nat.{ℕ, _+_, _%_, _<_}
+use mathlib.Core.Path.{_≡_, refl, sym, ap, ap₂, _∙_}
 use mathlib.Core.Logic.{⊎-elim}
 use mathlib.Core.Bool.{Bool, false≢true}
-use mathlib.Core.List.{List, [], _∷_, _++_, map, List·Memᴰ as Among, List·Memᴰ·not-nil, List·Memᴰ·cases-cons}
-use lib.ListN.{length}
+use mathlib.Core.List.{List, [], _∷_, _++_, map, append-nil, map-append}
+use mathlib.Core.List.{List·Memᴰ as Among, List·Memᴰ·not-nil, List·Memᴰ·cases-cons, List·Memᴰ·append-cases}
+use lib.ListN.{length, length-append}
 use native.Mathlib.Omega.{arith}
 use Rattle.octets.specs.Place.{tab}
-use Rattle.octets.proofs.Place.{tab-ext}
+use Rattle.octets.proofs.Place.{tab-ext, tab-more}
 use Rattle.views.specs.View.{View, Counts, sum, numbers, following, freshView}
 use Rattle.repair.specs.Cells.{unknown, received, spare, repaired, blank}
-use Rattle.demands.specs.History.{Move, Left, released, lost, isReceived, isSpare, isRepaired, isLost, numberOf, after, leaving, run, history, many, countsOf}
-use Rattle.demands.specs.Ranges.{ViewInRanges}
-use Rattle.demands.specs.Demand2.{grown, Leaves, FreshLeaves}
+use Rattle.demands.specs.History.{Left, released, lost, isReceived, isSpare, isRepaired, isLost, numberOf, after, many, countsOf}
+use Rattle.demands.specs.Calls.{Calls, leftIn, leftBy}
+use Rattle.demands.specs.GoesOn.{moveOf, GoesOn, from, by}
+use Rattle.demands.specs.Demand2.{OneKind, grown, FreshLeaves, SavedLeaves}
+use Rattle.demands.proofs.Ranges.{ViewInRanges}
 use Rattle.demands.proofs.InRanges.{fresh-in-ranges}
-use Rattle.demands.proofs.Steps.{OneKind, Step, stays, leaves, step, after-in-ranges, counts-path}
+use Rattle.demands.proofs.Steps.{Step, stays, leaves, leaving, step, after-in-ranges, counts-path}
+use Rattle.demands.proofs.Calling.{left-is}
 
--- every list of calls keeps the ranges
-pub run-in-ranges : (view : View) → ViewInRanges view → (moves : List Move) → ViewInRanges (run moves view)
-unfolding run
-run-in-ranges view r [] = r
-run-in-ranges view r (move ∷ moves) = run-in-ranges (after move view) (after-in-ranges move view r) moves
+-- the ranges are kept
+pub on-ranges : {view held : View} {calls : Calls} → ViewInRanges view → GoesOn view calls held → ViewInRanges held
+on-ranges r from = r
+on-ranges r (by {call = call} {held = held} on says) = after-in-ranges (moveOf call) held (on-ranges r on)
 
 -- ---- the counts
-many-more : (test : Left → Bool) (x : Left) (rest : List Left) → many test (x ∷ rest) ≡ many test (x ∷ []) + many test rest
+many-append : (test : Left → Bool) (some more : List Left) → many test (some ++ more) ≡ many test some + many test more
 unfolding many
-many-more test x rest = omega arith
+many-append test [] more = omega arith
+many-append test (x ∷ some) more = let rest = many-append test some more in omega arith
 
-grown-more : (c : Counts) (x : Left) (rest : List Left) → grown (grown c (countsOf (x ∷ []))) (countsOf rest) ≡ grown c (countsOf (x ∷ rest))
-grown-more c x rest =
-    counts-path (omega (arith, many-more isReceived x rest))
-    (omega (arith, many-more isSpare x rest))
-    (omega (arith, many-more isRepaired x rest))
-    (omega (arith, many-more isLost x rest))
+grown-append : (c : Counts) (some more : List Left) → grown (grown c (countsOf some)) (countsOf more) ≡ grown c (countsOf (some ++ more))
+grown-append c some more =
+    counts-path (omega (arith, many-append isReceived some more))
+    (omega (arith, many-append isSpare some more))
+    (omega (arith, many-append isRepaired some more))
+    (omega (arith, many-append isLost some more))
 
 grown-none : (c : Counts) → c ≡ grown c (countsOf [])
 unfolding many
@@ -66,60 +71,62 @@ went-none {base} counts small =
       reached = omega arith;
     }
 
-module _ (base : ℕ) (counts : Counts) (x : Left) {rest : List Left} {on : ℕ} {more : Counts} (small : base < numbers) (at : numberOf x ≡ base)
-    (one : OneKind x) (w : Went (following base) (grown counts (countsOf (x ∷ []))) rest on more) where
-  in-order : map numberOf (x ∷ rest) ≡ tab (length (x ∷ rest)) (λ j. (base + j) % numbers)
-  unfolding tab
+module _ {base : ℕ} {counts : Counts} {left : List Left} {on : ℕ} {more : Counts} (w : Went base counts left on more) (x : Left)
+    (at : numberOf x ≡ on) (one : OneKind x) where
+  in-order : map numberOf (left ++ (x ∷ [])) ≡ tab (length (left ++ (x ∷ []))) (λ j. (base + j) % numbers)
   in-order =
-      let first : numberOf x ≡ (base + 0) % numbers = omega arith in
-      ap₂ (λ (n : ℕ) (l : List ℕ). n ∷ l) first
-      (w .inOrder
-      ∙ tab-ext (length rest) (λ j. (following base + j) % numbers) (λ j. (base + suc j) % numbers) (λ j low. omega arith))
+      let last : numberOf x ≡ (base + length left) % numbers = at ∙ w .reached in
+      let long : length left + 1 ≡ length (left ++ (x ∷ [])) = omega (arith, length-append left (x ∷ [])) in
+      map-append numberOf left (x ∷ [])
+      ∙ ap₂ (λ (l : List ℕ) (n : ℕ). l ++ (n ∷ [])) (w .inOrder) last
+      ∙ sym (tab-more (length left) (λ j. (base + j) % numbers))
+      ∙ ap (λ (n : ℕ). tab n (λ j. (base + j) % numbers)) long
 
-  pub went-more : Went base counts (x ∷ rest) on more
+  pub went-more : Went base counts (left ++ (x ∷ [])) (following on) (grown more (countsOf (x ∷ [])))
   went-more =
+      let long = length-append left (x ∷ []) in
       record {
         inOrder = in-order;
-        kinds = λ y among. ⊎-elim (λ same. rw same one) (λ later. w .kinds y later) (List·Memᴰ·cases-cons among);
-        counted = w .counted ∙ grown-more counts x rest;
+        kinds = λ y among.
+            ⊎-elim (w .kinds y)
+            (λ last. ⊎-elim (λ same. rw same one) (λ none. absurd (List·Memᴰ·not-nil none)) (List·Memᴰ·cases-cons last))
+            (List·Memᴰ·append-cases left among);
+        counted = ap (λ (c : Counts). grown c (countsOf (x ∷ []))) (w .counted) ∙ grown-append counts left (x ∷ []);
         advance = let total = w .advance in let single = one-sum x one in omega arith;
         reached = let total = w .reached in omega arith;
       }
 
-went-from : {b base on : ℕ} {c counts more : Counts} {left : List Left} → b ≡ base → c ≡ counts → Went b c left on more
-    → Went base counts left on more
-went-from base counts w = rw (← base, ← counts) w
+went-to : {base on b : ℕ} {counts more c : Counts} {left : List Left} → b ≡ on → c ≡ more → Went base counts left on more
+    → Went base counts left b c
+went-to base counts w = rw (base, counts) w
 
-base-small : (view : View) → ViewInRanges view → view .base < numbers
-base-small view r = let b = r .base in omega arith
-
-pub went : (moves : List Move) (view : View) → ViewInRanges view
-    → Went (view .base) (view .counts) (history moves view) ((run moves view) .base) ((run moves view) .counts)
-unfolding history run
-went [] view r = went-none (view .counts) (base-small view r)
-went (move ∷ moves) view r =
-    by (step move view r) (went moves (after move view) (after-in-ranges move view r))
+pub went : {view held : View} {calls : Calls} → ViewInRanges view → GoesOn view calls held
+    → Went (view .base) (view .counts) (leftBy calls) (held .base) (held .counts)
+unfolding leftBy
+went {view = view} r from = went-none (view .counts) (let b = r .base in omega arith)
+went {view = view} r (by {calls = calls} {call = call} {held = held} on says) =
+    pick (step (moveOf call) held (on-ranges r on)) (went r on)
   where
-    by : Step view (after move view) (leaving move view)
-        → Went ((after move view) .base) ((after move view) .counts) (history moves (after move view)) ((run moves (after move view)) .base)
-        ((run moves (after move view)) .counts)
-        → Went (view .base) (view .counts) (leaving move view ++ history moves (after move view)) ((run moves (after move view)) .base)
-        ((run moves (after move view)) .counts)
-    by (stays counts base left) w = rw left (went-from base counts w)
-    by (leaves x left at one counts base) w =
-        rw left (went-more (view .base) (view .counts) x (base-small view r) at one (went-from base counts w))
+    pick : Step held (after (moveOf call) held) (leaving (moveOf call) held)
+        → Went (view .base) (view .counts) (leftBy calls) (held .base) (held .counts)
+        → Went (view .base) (view .counts) (leftBy calls ++ leftIn call) ((after (moveOf call) held) .base)
+        ((after (moveOf call) held) .counts)
+    pick (stays counts base left) w = rw (left-is held call says, left, append-nil (leftBy calls)) (went-to base counts w)
+    pick (leaves x left at one counts base) w = rw (left-is held call says, left) (went-to base counts (went-more w x at one))
 
-pub all-leaves : (view : View) → ViewInRanges view → (moves : List Move) → Leaves view moves
-all-leaves view r moves =
-    let w = went moves view r in
+-- ---- of a saved session, and of a fresh one
+pub saved-leaves : {view held : View} {calls : Calls} → ViewInRanges view → GoesOn view calls held → SavedLeaves view (leftBy calls) held
+saved-leaves r on =
+    let w = went r on in
     record { inOrder = w .inOrder; kinds = w .kinds; counts = w .counted; advance = w .advance; base = w .reached }
 
-pub fresh-leaves : (moves : List Move) → FreshLeaves moves
+pub fresh-leaves : {held : View} {calls : Calls} → GoesOn freshView calls held → FreshLeaves (leftBy calls) held
 unfolding freshView
-fresh-leaves moves =
-    let w = went moves freshView fresh-in-ranges in
+fresh-leaves {calls = calls} on =
+    let w = went fresh-in-ranges on in
     record {
-      inOrder = w .inOrder ∙ tab-ext (length (history moves freshView)) _ (λ j. j % numbers) (λ j low. omega arith);
+      inOrder = w .inOrder ∙ tab-ext (length (leftBy calls)) _ _ (λ j low. omega arith);
+      kinds = w .kinds;
       counts = w .counted ∙ counts-path (omega arith) (omega arith) (omega arith) (omega arith);
       advance = let total = w .advance in omega arith;
       base = let total = w .reached in omega arith;

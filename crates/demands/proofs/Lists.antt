@@ -28,13 +28,12 @@ use Rattle.views.specs.Offer as offers
 use Rattle.views.specs.Offer.{accept}
 use Rattle.sending.specs.Sending.{historyKept}
 use Rattle.sending.specs.Honest.{packetAt, HonestSender}
-use Rattle.demands.specs.Demand2.{Brings}
 use Rattle.demands.specs.Feeding.{placeOf, sentAt}
 use Rattle.demands.specs.Demand3.{TwoLists, BurstBack}
 use Rattle.demands.proofs.Growing.{known-grown}
 use Rattle.demands.proofs.InRanges.{filled, grown-accept, held-beside}
 use Rattle.demands.proofs.Steps.{accept-base, accept-counts}
-use Rattle.demands.proofs.Knowing.{brought, accept-cells}
+use Rattle.demands.proofs.Knowing.{Brings, brought, accept-cells}
 use Rattle.demands.proofs.Sent.{packetAt-sent, packet-sized, Follows, follows-same}
 use Rattle.demands.proofs.Sound.{Marked, Sound, held-sound, accept-sound, new-mark}
 use Rattle.demands.proofs.FedViews.{FedView, TakesViews, none, accepted, repeated}

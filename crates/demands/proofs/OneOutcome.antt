@@ -1,22 +1,13 @@
--- Two outcomes of a public call are one: each crate's claim, and of the calls that only tell, from their equations. Assumes
--- nothing.
-use mathlib.Core.Path.{sym, _∙_}
+-- Two outcomes of a public call are one: each crate's claim, those that only tell, and those inside. Assumes nothing.
 use Rattle.lengths.proofs.Claims as lengths
 use Rattle.datagrams.proofs.Claims as datagrams
 use Rattle.packets.proofs.Claims as packets
 use Rattle.sessions.proofs.Claims as sessions
 use Rattle.sending.proofs.Claims as sending
-use Rattle.demands.specs.OneOutcome.{OneTold, OneOutcome}
-
-one-told : OneTold
-one-told =
-    record {
-      number = λ a b. a ∙ sym b;
-      flag = λ a b. a ∙ sym b;
-      octets = λ a b. a ∙ sym b;
-      refusal = λ a b. a .answer ∙ sym (b .answer);
-      lengthSize = λ a b. a .answer ∙ sym (b .answer);
-    }
+use Rattle.lines.proofs.Claims as lines
+use Rattle.demands.specs.OneOutcome.{OneOutcome}
+use Rattle.demands.proofs.OneTold.{one-told}
+use Rattle.demands.proofs.OneInside.{one-inside}
 
 pub one-outcome : OneOutcome
 one-outcome =
@@ -26,5 +17,7 @@ one-outcome =
       packets = packets.claims .oneOutcome;
       receiver = sessions.claims .oneOutcome;
       sender = sending.claims .oneOutcome;
+      program = lines.claims .oneOutcome;
       told = one-told;
+      inside = one-inside;
     }

@@ -29,7 +29,7 @@ use Rattle.repair.specs.Members.{membersOf}
 use Rattle.repair.specs.Honest.{messageOver, HonestHeld}
 use Rattle.views.specs.View.{numbers}
 use Rattle.views.specs.Offer.{heldOf}
-use Rattle.heads.proofs.Parts.{reach-range}
+use Rattle.views.proofs.Sizes.{reach-kept}
 use Rattle.sending.specs.Sending.{historyKept}
 use Rattle.sending.specs.Carries.{settingsInside, sparesFrom, messagesFrom, extraFrom}
 use Rattle.sending.specs.Honest.{packetAt, carriedAt, HonestSender}
@@ -37,7 +37,7 @@ use Rattle.sending.specs.declared.Settings.{Settings}
 use Rattle.sending.specs.declared.Settings.the-variants as settings
 use Rattle.sending.proofs.HonestLaws.{before-length, extra-same}
 use Rattle.demands.specs.Feeding.{datagramAt}
-use Rattle.demands.specs.Demand2.{sparesIn}
+use Rattle.demands.specs.ReachedBy.{sparesIn}
 
 -- ---- the row by places
 -- a row begins as many places before number 0 as the view has before the base: "the last 32 packets", "the 32 before the base"
@@ -211,7 +211,7 @@ honest-from (settings.Parity n m) before sent S inside far =
     let less = within-true 1 messagesLimit m (and-right (within 1 coveredLimit n) (within 1 messagesLimit m) inside) in
     let long = length-tab m (λ i. messageOver (map sent (membersOf S n m i))) in
     record {
-      reach = rw long (let reach = reach-range (few .1) (less .1) in omega arith);
+      reach = rw long (let reach = reach-kept (few .1) (less .1) in omega arith);
       sums = λ i low.
           rw long (tab-at m (λ i. messageOver (map sent (membersOf S n m i))) i [] (rw long at low));
     }

@@ -1,18 +1,34 @@
 -- The twelve ★ cases, computed. Assumes nothing.
 use mathlib.Core.Path.{refl}
+use Rattle.lengths.specs.Tables.{unless}
 use Rattle.octets.specs.Place.{tab}
 use Rattle.octets.specs.ExclusiveOr.{xorAt, exclusiveOr, longest}
-use Rattle.lengths.specs.Length.{lengthAt, lengthOctets}
+use Rattle.lengths.specs.Length.{lengthAt, lengthOctets, lengthToWrite}
 use Rattle.packets.specs.Packet.{every}
 use Rattle.packets.specs.Read.{readPacket, firstAt, countAt, fieldsAt, fieldAt, headerAt, sizeAt, afterHeader, endAt}
+use Rattle.datagrams.specs.Read.{allowed, octetAt, sizedAt, itemAt, itemsAt, endOf, sparesAt, parityAt, extraAt, numberOf, wholeOf, readDatagram, carriedBy}
+use Rattle.datagrams.specs.Write.{numberOctets, itemOctets, itemsOctets, countedOctets, datagramOctets}
 use Rattle.repair.specs.Members.{membersOf}
 use Rattle.repair.specs.Repair.{passing, usable, firstUsable, mended, fill, repairF, repair}
-use Rattle.repair.specs.Held.{messagesOf}
-use Rattle.demands.specs.Sheet.{TwelveCases}
+use Rattle.repair.specs.Held.{messagesOf, messagesFrom, heldMessages}
+use Rattle.views.specs.View.{freshView}
+use Rattle.views.specs.Offer.{keep, keepSpares, accept, offered, offer}
+use Rattle.sending.specs.Sending.{freshSending, sentOn}
+use Rattle.sending.specs.Carries as carries
+use Rattle.sending.specs.Send.{datagramToSend}
+use Rattle.demands.specs.Sheet.{Losing0, TwelveCases}
+
+losing-0 : Losing0
+unfolding readPacket firstAt countAt fieldsAt fieldAt headerAt sizeAt afterHeader endAt every lengthAt
+    tab xorAt exclusiveOr longest membersOf passing usable firstUsable mended fill repairF repair messagesOf messagesFrom heldMessages
+    readDatagram carriedBy numberOf wholeOf extraAt sparesAt parityAt itemsAt itemAt sizedAt octetAt allowed endOf
+    freshView keep keepSpares accept offered offer
+losing-0 = record { with1 = _; after = _; first = refl; second = refl; cell = refl; reads = refl }
 
 pub twelve-cases : TwelveCases
-unfolding readPacket firstAt countAt fieldsAt fieldAt headerAt sizeAt afterHeader endAt every lengthAt lengthOctets
-    tab xorAt exclusiveOr longest membersOf passing usable firstUsable mended fill repairF repair messagesOf
+unfolding readPacket firstAt countAt fieldsAt fieldAt headerAt sizeAt afterHeader endAt every lengthAt lengthToWrite lengthOctets unless
+    tab xorAt exclusiveOr longest membersOf freshSending sentOn carries.sparesFrom carries.messagesFrom datagramToSend
+    numberOctets itemOctets itemsOctets countedOctets datagramOctets
 twelve-cases =
     record {
       case-1 = refl;
@@ -20,11 +36,11 @@ twelve-cases =
       case-3 = refl;
       case-4 = refl;
       case-5 = refl;
-      case-6 = refl;
-      case-7 = refl;
-      case-8 = refl;
+      case-6 = (refl, refl);
+      case-7 = (refl, refl);
+      case-8 = (refl, refl);
       case-9 = refl;
       case-10 = refl;
-      case-11 = (refl, refl);
+      case-11 = losing-0;
       case-12 = (refl, refl);
     }

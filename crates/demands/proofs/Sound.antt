@@ -28,19 +28,19 @@ use Rattle.repair.proofs.Honest.{repair-right}
 use Rattle.repair.proofs.Zeros.{up-to-zeros-same}
 use Rattle.views.specs.View.{View, Counts, sum, freshView, goneOn}
 use Rattle.views.specs.Offer.{keep, keepSpares, keepExtra, heldOf, accept}
-use Rattle.heads.proofs.Parts.{reach-range}
+use Rattle.views.proofs.Sizes.{reach-kept}
 use Rattle.sending.specs.Carries.{sparesFrom, extraFrom}
 use Rattle.sending.specs.Honest.{packetAt}
 use Rattle.sending.specs.declared.Settings.{Settings}
 use Rattle.sending.specs.declared.Settings.the-variants as settings
-use Rattle.demands.specs.Ranges.{ViewInRanges}
-use Rattle.demands.specs.Demand2.{sparesIn, Brings, packet, copy}
+use Rattle.demands.specs.ReachedBy.{sparesIn}
 use Rattle.demands.specs.Feeding.{placeOf, sentAt}
+use Rattle.demands.proofs.Ranges.{ViewInRanges}
 use Rattle.demands.proofs.Growing.{known-grown, grown-repair, keep-known, keep-unknown}
 use Rattle.demands.proofs.Shifted.{cell-on, cell-last, held-on, held-last, unknown-on}
 use Rattle.demands.proofs.InRanges.{fresh-before, fresh-ahead, fresh-held, fresh-in-ranges, HeldInside, read-held, filled, grown-filled}
 use Rattle.demands.proofs.InRanges.{grown-accept, held-accepted, held-beside, accept-in-ranges, distinct-held, on-in-ranges}
-use Rattle.demands.proofs.Knowing.{brought}
+use Rattle.demands.proofs.Knowing.{Brings, packet, copy, brought}
 use Rattle.demands.proofs.Sent.{packetAt-before, Follows, follows-few, InView, in-view, honest-held}
 
 -- ---- what is kept is the sender's
@@ -362,7 +362,7 @@ module _ {row datagrams : List (List ℕ)} {view : View} (s : Sound row datagram
     reach-of =
         let few : n-of ≤ coveredLimit = subst (λ (x : Held). x .n ≤ coveredLimit) is (s .ranges .covered (suc j) inside) in
         let less : m-of ≤ messagesLimit = subst (λ (x : Held). length (x .messages) ≤ messagesLimit) is (s .ranges .messages (suc j) inside) in
-        let reach = reach-range few less in
+        let reach = reach-kept few less in
         omega arith
 
     old-among : Among (messageAt (suc (keptBefore + j)) h i) (heldMessages (view .held))

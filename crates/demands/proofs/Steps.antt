@@ -2,7 +2,7 @@
 -- session: nothing leaves, or the number at the base. Assumes nothing.
 use Prim.Native.Nat.{ℕ, _+_, _-_, _<_}
 use mathlib.Core.Path.{_≡_, refl, sym, ap, subst, _∙_}
-use mathlib.Core.Bool.{Bool, true, false, cond, _||_, true≢false}
+use mathlib.Core.Bool.{Bool, true, false, cond, true≢false}
 use mathlib.Core.List.{List, [], _∷_}
 use lib.ListN.{length}
 use lib.Dec.{leb, ltb}
@@ -20,12 +20,11 @@ use Rattle.views.specs.Offer as offers
 use Rattle.views.specs.Offer.{accept, acceptedAt, offered, lateFrom}
 use Rattle.views.specs.Release as releases
 use Rattle.views.specs.Release.{Release, Loss, booked, atBase}
-use Rattle.releasing.specs.Outcome.{afterNext, afterGiveUp}
-use Rattle.receiving.specs.Promise.{afterOffer}
-use Rattle.demands.specs.History.{Move, offer, next, giveUp, Left, released, lost, numberOf, after, leaving, releasedBy, lostBy}
-use Rattle.demands.specs.History.{isReceived, isSpare, isRepaired, isLost, many, countsOf}
-use Rattle.demands.specs.Ranges.{ViewInRanges}
-use Rattle.demands.specs.Demand2.{grown}
+use Rattle.leaving.specs.Outcome.{afterNext, afterGiveUp}
+use Rattle.offering.specs.Outcome.{afterOffer}
+use Rattle.demands.specs.History.{Move, offer, next, giveUp, Left, released, lost, numberOf, after, many, countsOf}
+use Rattle.demands.specs.Demand2.{OneKind, grown}
+use Rattle.demands.proofs.Ranges.{ViewInRanges}
 use Rattle.demands.proofs.Growing.{Fills, asReceived, asSpare, asRepaired}
 use Rattle.demands.proofs.InRanges.{read-held, accept-in-ranges, on-in-ranges}
 
@@ -115,9 +114,19 @@ give-up-done view a e =
     }
 
 -- ---- what a call does
--- released as received, spare or repaired, or lost
-abbrev pub OneKind : Left → Type 0
-OneKind x = (isReceived x || (isSpare x || (isRepaired x || isLost x))) ≡ true
+-- what next and give up make leave: one number, or none
+abbrev pub releasedBy : Answer Release → List Left
+releasedBy (done a) = released (a .kind) (a .number) (a .octets) ∷ []
+releasedBy (refused why) = []
+
+abbrev pub lostBy : Answer Loss → List Left
+lostBy (done a) = lost (a .number) ∷ []
+lostBy (refused why) = []
+
+unfoldable pub leaving : Move → View → List Left
+leaving (offer octets) view = []
+leaving (next room) view = releasedBy (releases.next room view)
+leaving giveUp view = lostBy (releases.giveUp view)
 
 pub data Step (view after : View) (left : List Left) : Type 0 where
   stays : after .counts ≡ view .counts → after .base ≡ view .base → left ≡ [] → Step view after left
@@ -163,7 +172,7 @@ gone-base : (counts : Counts) (view : View) → (goneOn counts view) .base ≡ f
 unfolding goneOn
 gone-base counts view = refl
 
-gone-counts : (counts : Counts) (view : View) → (goneOn counts view) .counts ≡ counts
+pub gone-counts : (counts : Counts) (view : View) → (goneOn counts view) .counts ≡ counts
 unfolding goneOn
 gone-counts counts view = refl
 

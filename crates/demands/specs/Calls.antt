@@ -1,20 +1,66 @@
 -- A chain of public calls of the receiving session: each on the session that the one before handed back, and each with any
--- answer that its promise allows. Definitions only.
+-- answer that its promise allows. What the calls brought and what left by them is told by the calls and their answers alone.
+-- Definitions only.
 use Prim.Native.Nat.{ℕ}
 use mathlib.Core.List.{List, [], _∷_, _++_}
-use lib.ListN.{length, take}
-use Rattle.heads.specs.Head.{stateOf}
-use Rattle.heads.specs.declared.Session.{Session}
-use Rattle.releasing.specs.declared.Released.{Released}
-use Rattle.releasing.specs.declared.Released.the-variants as answer
-use Rattle.releasing.specs.declared.Lost.{Lost}
-use Rattle.releasing.specs.declared.Lost.the-variants as loss
+use mathlib.Core.Option.{Option, none, some}
+use lib.ListN.{take}
+use Rattle.held.specs.Table.{stateOf}
+use Rattle.held.specs.declared.Session.{Session}
+use Rattle.leaving.specs.Outcome.{releasedOutcome, lostOutcome}
+use Rattle.leaving.specs.declared.Released.{Released}
+use Rattle.leaving.specs.declared.Released.the-variants as answer
+use Rattle.leaving.specs.declared.Lost.{Lost}
+use Rattle.leaving.specs.declared.Lost.the-variants as loss
+use Rattle.offering.specs.Outcome.{offeredOutcome}
+use Rattle.offering.specs.declared.Offered.{Offered}
+use Rattle.offering.specs.declared.Offered.the-variants as outcome
 use Rattle.sessions.specs.Receiver.{OfferOwes, NextOwes, GiveUpOwes}
 use Rattle.sessions.specs.declared.receiver.AfterOffer.{AfterOffer}
 use Rattle.sessions.specs.declared.receiver.AfterNext.{AfterNext}
 use Rattle.sessions.specs.declared.receiver.AfterGiveUp.{AfterGiveUp}
-use Rattle.demands.specs.History.{Move, offer, next, giveUp, Left, released, lost}
+use Rattle.demands.specs.History.{Left, released, lost}
+use Rattle.lengths.specs.Tables.{refusalIn}
 
+-- a call and its answer, as the caller has them
+pub data Call : Type 0 where
+  -- these octets were offered
+  offer : List ℕ → Offered → Call
+  -- next, with this lent buffer before the call and after it
+  next : List ℕ → List ℕ → Released → Call
+  giveUp : Lost → Call
+
+-- calls one after the other, the latest last
+infixl 10 _then_
+pub data Calls : Type 0 where
+  start : Calls
+  _then_ : Calls → Call → Calls
+
+-- from session s these calls come to session t
+pub data Called (s : Session) : Calls → Session → Type 0 where
+  atStart : Called s start s
+  offered : {t : Session} {calls : Calls} {octets : List ℕ} {r : AfterOffer} → Called s calls t → OfferOwes t octets r
+      → Called s (calls then offer octets (r .answer)) (r .session)
+  asked : {t : Session} {calls : Calls} {old new : List ℕ} {r : AfterNext} → Called s calls t → NextOwes t old new r
+      → Called s (calls then next old new (r .answer)) (r .session)
+  gaveUp : {t : Session} {calls : Calls} {r : AfterGiveUp} → Called s calls t → GiveUpOwes t r
+      → Called s (calls then giveUp (r .answer)) (r .session)
+
+-- ---- what a call brought
+-- the octets of an offer that was accepted; a refused offer brings nothing
+abbrev pub acceptedIn : Call → Option (List ℕ)
+acceptedIn (offer octets outcome.Accepted) = some octets
+acceptedIn (offer octets (outcome.Refused why)) = none
+acceptedIn (next old new r) = none
+acceptedIn (giveUp r) = none
+
+-- the number of the refusal that it was answered with, or none
+abbrev pub refusalOf : Call → Option ℕ
+refusalOf (offer octets r) = refusalIn (offeredOutcome r)
+refusalOf (next old new r) = refusalIn (releasedOutcome r)
+refusalOf (giveUp r) = refusalIn (lostOutcome r)
+
+-- ---- what left by a call
 -- the number that an answer of next hands out, its octets at the front of the lent buffer; and that of give up
 abbrev pub handedOut : Released → List ℕ → List Left
 handedOut (answer.Packet kind number size) buffer = released (stateOf kind) number (take size buffer) ∷ []
@@ -24,15 +70,12 @@ abbrev pub givenUp : Lost → List Left
 givenUp (loss.Number number) = lost number ∷ []
 givenUp (loss.Refused why) = []
 
--- from session s the calls come to session t, and these numbers left, as the answers say
-pub data Called : Session → List Move → List Left → Session → Type 0 where
-  none : {s : Session} → Called s [] [] s
-  offered : {s t : Session} {moves : List Move} {left : List Left} {octets : List ℕ} {r : AfterOffer}
-      → OfferOwes s octets r → Called (r .session) moves left t
-      → Called s (offer octets ∷ moves) left t
-  asked : {s t : Session} {moves : List Move} {left : List Left} {old new : List ℕ} {r : AfterNext}
-      → NextOwes s old new r → Called (r .session) moves left t
-      → Called s (next (length old) ∷ moves) (handedOut (r .answer) new ++ left) t
-  gaveUp : {s t : Session} {moves : List Move} {left : List Left} {r : AfterGiveUp}
-      → GiveUpOwes s r → Called (r .session) moves left t
-      → Called s (giveUp ∷ moves) (givenUp (r .answer) ++ left) t
+abbrev pub leftIn : Call → List Left
+leftIn (offer octets r) = []
+leftIn (next old new r) = handedOut r new
+leftIn (giveUp r) = givenUp r
+
+-- what left by some calls, in order
+unfoldable pub leftBy : Calls → List Left
+leftBy start = []
+leftBy (calls then call) = leftBy calls ++ leftIn call

@@ -1,8 +1,11 @@
 -- The demands on the whole, each under its name: what the library is proved to do. Definitions only.
+use Rattle.sending.specs.Claims as sending
+use Rattle.lines.specs.Claims as lines
 use Rattle.demands.specs.Demand1.{Demand1}
 use Rattle.demands.specs.Demand2.{Demand2}
 use Rattle.demands.specs.Demand3.{Demand3}
 use Rattle.demands.specs.Example.{Example}
+use Rattle.demands.specs.Burst.{Burst}
 use Rattle.demands.specs.OneOutcome.{OneOutcome}
 use Rattle.demands.specs.Sheet.{TwelveCases}
 
@@ -10,7 +13,12 @@ pub record Claims : Type 0 where
   pub demand1 : Demand1
   pub demand2 : Demand2
   pub demand3 : Demand3
-  -- demand 3's hypotheses can be met
+  -- a chain of sends of the sending session, from a fresh one on, is an honest sender as demand 3 takes it
+  pub sendsHonest : sending.Chains
+  -- demand 3's hypotheses can be met: two lists, and a burst of two numbers
   pub example : Example
+  pub burst : Burst
   pub oneOutcome : OneOutcome
   pub twelveCases : TwelveCases
+  -- the program: document 01's whole case, and what it writes of any input, however it is cut
+  pub program : lines.Claims

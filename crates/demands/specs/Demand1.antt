@@ -1,7 +1,7 @@
 -- Demand 1: "Any octets may come from the network, and any saved session from a caller. Every public call ends, and refuses what
 -- document 01 says, with the number it says, and then only. A refused call leaves the session and each lent buffer as they
 -- were." That a call ends is part of the proof of its contract, which asks nothing of its caller. The field of a call's name says
--- that its refusal is the first row of its table (Refusals) that is given, and that it is not refused where none is; the field
+-- that its refusal is the first row of its table that is given, and that it is not refused where none is; the field
 -- `unchanged` beside it (`offerUnchanged`, `nextUnchanged`, ..) says what a refusal leaves. Readers change nothing. The refusals
 -- of the datagram and the packet reader are those of their definitions, met in reading order; what they do not refuse is told
 -- apart from that order (`isDatagram`, `isPacket`, `isRepaired`). Statements alone. Definitions only.
@@ -12,37 +12,42 @@ use mathlib.Core.List.{List, _++_}
 use mathlib.Core.Option.{none, some}
 use lib.ListN.{length, replicate}
 use Rattle.lengths.specs.Answers.{Answer, done, lengthOutcome, writtenOutcome}
-use Rattle.lengths.specs.Length.{lengthToWrite}
+use Rattle.lengths.specs.Tables.{first, refusalIn, roomRow}
+use Rattle.lengths.specs.Length.{lengthOctets, lengthWriterRows, lengthToWrite}
 use Rattle.lengths.specs.Promise.{LengthRead, Puts}
 use Rattle.lengths.specs.Claims.{Octets}
 use Rattle.lengths.specs.declared.Length.{Length}
 use Rattle.lengths.specs.declared.Written.{Written}
 use Rattle.datagrams.specs.Sizes.{packetLimit}
 use Rattle.datagrams.specs.Read.{readDatagram}
-use Rattle.datagrams.specs.Write.{datagramToWrite}
+use Rattle.datagrams.specs.Write.{carriedOf, datagramOctets, datagramWriterRows, datagramToWrite}
 use Rattle.datagrams.specs.Promise.{DatagramReads, readOutcome}
 use Rattle.datagrams.specs.declared.kind.Kind.{Kind}
 use Rattle.datagrams.specs.declared.reader.DatagramRead.{DatagramRead}
 use Rattle.packets.specs.Read.{readPacket}
-use Rattle.packets.specs.Write.{packetToWrite}
+use Rattle.packets.specs.Write.{packetOctets, packetWriterRows, packetToWrite}
 use Rattle.packets.specs.Promise.{PacketTold, packetOutcome}
 use Rattle.packets.specs.declared.types.Kind as packets
 use Rattle.packets.specs.declared.types.Ending.{Ending}
 use Rattle.packets.specs.declared.types.Ending.the-variants.{Whole, Repaired}
 use Rattle.packets.specs.declared.types.PacketRead.{PacketRead}
-use Rattle.releasing.specs.Outcome.{releasedOutcome, lostOutcome}
-use Rattle.receiving.specs.Promise.{offeredOutcome}
-use Rattle.heads.specs.declared.Session.{Session}
+use Rattle.leaving.specs.Outcome.{releasedOutcome, lostOutcome}
+use Rattle.offering.specs.Outcome.{offeredOutcome}
+use Rattle.held.specs.declared.Session.{Session}
 use Rattle.sessions.specs.Receiver.{OfferOwes, NextOwes, GiveUpOwes}
 use Rattle.sessions.specs.declared.receiver.AfterOffer.{AfterOffer}
 use Rattle.sessions.specs.declared.receiver.AfterNext.{AfterNext}
 use Rattle.sessions.specs.declared.receiver.AfterGiveUp.{AfterGiveUp}
-use Rattle.sending.specs.Promise.{Sends}
+use Rattle.sending.specs.Send.{carriedNext}
+use Rattle.sending.specs.Sender.{sendingOf}
+use Rattle.sending.specs.Promise.{senderRows, Sends}
 use Rattle.sending.specs.declared.Sender.{Sender}
 use Rattle.sending.specs.declared.Sent.{Sent}
 use Rattle.sending.specs.declared.Settings.{Settings}
-use Rattle.demands.specs.Refusals.{first, refusalIn, lengthRows, lengthWriterRows, datagramWriterRows, packetWriterRows}
-use Rattle.demands.specs.Refusals.{offerRows, nextRows, giveUpRows, sendRows}
+use Rattle.lines.specs.Hex.{octetsIn, lineRows, lineOctets}
+use Rattle.demands.specs.Refusals.{lengthRows, offerRows, nextRows, giveUpRows}
+use Rattle.demands.specs.PacketRefusals.{PacketRefusals}
+use Rattle.demands.specs.DatagramRefusals.{DatagramRefusals}
 
 -- ---- readers
 -- some octets are what the datagram writer writes of some fields; or the packet writer
@@ -79,17 +84,24 @@ pub record Readers : Type 0 where
   pub isDatagram : (s : List ℕ) → Octets s → (refusalIn (readDatagram s) ≡ none) ↔ IsDatagram s
   pub isPacket : (s : List ℕ) → Octets s → (refusalIn (readPacket Whole s) ≡ none) ↔ IsPacket s
   pub isRepaired : (s : List ℕ) → Octets s → (refusalIn (readPacket Repaired s) ≡ none) ↔ IsRepaired s
+  pub packetRefusals : PacketRefusals
+  pub datagramRefusals : DatagramRefusals
 
 -- ---- writers
 pub record Writers : Type 0 where
   pub length : (n : ℕ) {old new : List ℕ} {r : Written} → Puts (lengthToWrite n) old new r
-      → refusalIn (writtenOutcome r) ≡ first (lengthWriterRows n old)
+      → refusalIn (writtenOutcome r) ≡ first (lengthWriterRows n ++ roomRow (lengthOctets n) old)
   pub datagram : (number : ℕ) (packet : List ℕ) (kind : Kind) (lengths run : List ℕ) {old new : List ℕ} {r : Written}
       → Puts (datagramToWrite number packet kind lengths run) old new r
-      → refusalIn (writtenOutcome r) ≡ first (datagramWriterRows number packet kind lengths run old)
+      → refusalIn (writtenOutcome r)
+      ≡ first (datagramWriterRows packet kind lengths run ++ roomRow (datagramOctets (carriedOf number packet kind lengths run)) old)
   pub packet : (kind : packets.Kind) (value : ℕ) (types lengths octets : List ℕ) {old new : List ℕ} {r : Written}
       → Puts (packetToWrite kind value types lengths octets) old new r
-      → refusalIn (writtenOutcome r) ≡ first (packetWriterRows kind value types lengths octets old)
+      → refusalIn (writtenOutcome r)
+      ≡ first (packetWriterRows kind value types lengths octets ++ roomRow (packetOctets kind value types lengths octets) old)
+  -- the octets of a line of hexadecimal: "line over 3,000 characters (before 15)", "a line not of paired hexadecimal digits", 13
+  pub line : (line : List ℕ) {old new : List ℕ} {r : Written} → Puts (lineOctets line) old new r
+      → refusalIn (writtenOutcome r) ≡ first (lineRows line ++ roomRow (octetsIn line) old)
   pub unchanged : {w : Answer (List ℕ)} {old new : List ℕ} {r : Written} {n : ℕ} → Puts w old new r
       → refusalIn (writtenOutcome r) ≡ some n → new ≡ old
 
@@ -110,7 +122,8 @@ pub record Receiving : Type 0 where
 -- ---- the sending session
 pub record Sending : Type 0 where
   pub send : {s : Sender} {settings : Settings} {packet old new : List ℕ} {r : Sent} → Sends s settings packet old new r
-      → refusalIn (writtenOutcome (r .answer)) ≡ first (sendRows s settings packet old)
+      → refusalIn (writtenOutcome (r .answer))
+      ≡ first (senderRows s settings packet ++ roomRow (datagramOctets (carriedNext settings packet (sendingOf s))) old)
   pub sendUnchanged : {s : Sender} {settings : Settings} {packet old new : List ℕ} {r : Sent} {n : ℕ} → Sends s settings packet old new r
       → refusalIn (writtenOutcome (r .answer)) ≡ some n → (r .sender ≡ s) × (new ≡ old)
 

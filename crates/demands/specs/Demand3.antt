@@ -16,8 +16,8 @@ use Rattle.repair.specs.Held.{heldAt}
 use Rattle.repair.specs.Reached.{Known}
 use Rattle.repair.specs.Honest.{TrueCells}
 use Rattle.views.specs.View.{View}
-use Rattle.heads.specs.Head.{viewOf}
-use Rattle.heads.specs.declared.Session.{Session}
+use Rattle.held.specs.Table.{viewOf}
+use Rattle.held.specs.declared.Session.{Session}
 use Rattle.sending.specs.Honest.{HonestSender}
 use Rattle.demands.specs.Feeding.{sentAt, Fed, Takes}
 

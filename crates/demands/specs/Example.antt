@@ -7,26 +7,18 @@ use mathlib.Core.List.{List, [], _∷_, List·Memᴰ as Among}
 use Rattle.repair.specs.Cells.{repaired, cellAt, keptBefore}
 use Rattle.repair.specs.Held.{heldAt}
 use Rattle.repair.specs.Reached.{Unknown}
-use Rattle.heads.specs.Head.{viewOf}
-use Rattle.heads.specs.Promise.{Fresh}
-use Rattle.heads.specs.declared.Session.{Session}
+use Rattle.held.specs.Table.{viewOf}
+use Rattle.held.specs.Promise.{Fresh}
+use Rattle.held.specs.declared.Session.{Session}
 use Rattle.sessions.specs.Receiver.{OfferOwes}
 use Rattle.sessions.specs.declared.receiver.AfterOffer.{AfterOffer}
 use Rattle.sending.specs.Honest.{HonestSender}
-use Rattle.demands.specs.Sheet.{packet0, packet1, message2}
+use Rattle.demands.specs.Sheet.{packet0, packet1, message2, datagram0, datagram1, datagram2}
 use Rattle.demands.specs.Feeding.{Fed, Takes}
+use Rattle.demands.specs.Demand3.{RestKnown}
 
 abbrev pub exampleRow : List (List ℕ)
 exampleRow = packet0 ∷ packet1 ∷ packet0 ∷ []
-
-abbrev pub datagram0 : List ℕ
-datagram0 = 0x00 ∷ 0x00 ∷ 0x01 ∷ 0x06 ∷ 0x00 ∷ 0x00 ∷ []
-
-abbrev pub datagram1 : List ℕ
-datagram1 = 0x00 ∷ 0x01 ∷ 0x06 ∷ 0xC0 ∷ 0x01 ∷ 0x80 ∷ 0x00 ∷ 0x00 ∷ 0x55 ∷ 0x00 ∷ 0x00 ∷ []
-
-abbrev pub datagram2 : List ℕ
-datagram2 = 0x00 ∷ 0x02 ∷ 0x01 ∷ 0x06 ∷ 0x80 ∷ 0x01 ∷ 0x02 ∷ 0x01 ∷ 0x06 ∷ 0xC6 ∷ 0x01 ∷ 0x80 ∷ 0x00 ∷ 0x00 ∷ 0x55 ∷ []
 
 abbrev pub exampleDatagrams : List (List ℕ)
 exampleDatagrams = datagram0 ∷ datagram1 ∷ datagram2 ∷ []
@@ -51,6 +43,8 @@ pub record Met (s one two : Session) : Type 0 where
   -- after the second it is back, with five zeros at its end, and datagram 2 is still held
   pub back : cellAt ((viewOf two) .cells) keptBefore ≡ record { state = repaired; octets = 0x06 ∷ 0 ∷ 0 ∷ 0 ∷ 0 ∷ 0 ∷ [] }
   pub held : heldAt ((viewOf two) .held) 2 ≡ record { accepted = true; n = 2; messages = message2 ∷ [] }
+  -- of its reach all is known but for the one number that is brought back, and m is 1
+  pub rest : RestKnown (viewOf two) 2 keptBefore 1
 
 pub record Example : Type 0 where
   pub honest : HonestSender exampleRow exampleDatagrams

@@ -9,10 +9,10 @@ use lib.ListN.{length, getD}
 use Rattle.lengths.specs.Refusals as refusals
 use Rattle.lengths.specs.Refusals.{refusal}
 use Rattle.views.specs.View.{View, sum}
-use Rattle.heads.specs.Head.{viewOf}
-use Rattle.heads.specs.Promise.{Fresh}
-use Rattle.heads.specs.declared.Session.{Session}
-use Rattle.receiving.specs.declared.Offered.the-variants as answer
+use Rattle.held.specs.Table.{viewOf}
+use Rattle.held.specs.Promise.{Fresh}
+use Rattle.held.specs.declared.Session.{Session}
+use Rattle.offering.specs.declared.Offered.the-variants as answer
 use Rattle.sessions.specs.Receiver.{OfferOwes, NextOwes, GiveUpOwes}
 use Rattle.sessions.specs.declared.receiver.AfterOffer.{AfterOffer}
 use Rattle.sessions.specs.declared.receiver.AfterNext.{AfterNext}

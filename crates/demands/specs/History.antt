@@ -1,17 +1,15 @@
--- The history of a receiving session, as document 01 sees it: the calls one after the other, the session after them, and the
--- numbers that left it. "Numbers leave in order, each place once, released or lost, and the counts match the history."
+-- The history of a receiving session, as document 01 sees it: a call, the session after it, the numbers that left, and the
+-- counts of those. "Numbers leave in order, each place once, released or lost, and the counts match the history."
 -- Definitions only.
 use Prim.Native.Nat.{ℕ, _+_}
-use mathlib.Core.List.{List, [], _∷_, _++_}
+use mathlib.Core.List.{List, [], _∷_}
 use mathlib.Core.Bool.{Bool, true, false, cond}
-use Rattle.lengths.specs.Answers.{Answer, done, refused}
 use Rattle.repair.specs.Cells.{State, unknown, received, spare, repaired, blank}
 use Rattle.views.specs.View.{View, Counts}
 use Rattle.views.specs.Offer as offers
 use Rattle.views.specs.Release as releases
-use Rattle.views.specs.Release.{Release, Loss}
-use Rattle.releasing.specs.Outcome.{afterNext, afterGiveUp}
-use Rattle.receiving.specs.Promise.{afterOffer}
+use Rattle.leaving.specs.Outcome.{afterNext, afterGiveUp}
+use Rattle.offering.specs.Outcome.{afterOffer}
 
 -- one call
 pub data Move : Type 0 where
@@ -36,29 +34,6 @@ unfoldable pub after : Move → View → View
 after (offer octets) view = afterOffer (offers.offer octets view) view
 after (next room) view = afterNext (releases.next room view) view
 after giveUp view = afterGiveUp (releases.giveUp view) view
-
--- what next and give up make leave: one number, or none
-abbrev pub releasedBy : Answer Release → List Left
-releasedBy (done a) = released (a .kind) (a .number) (a .octets) ∷ []
-releasedBy (refused why) = []
-
-abbrev pub lostBy : Answer Loss → List Left
-lostBy (done a) = lost (a .number) ∷ []
-lostBy (refused why) = []
-
-unfoldable pub leaving : Move → View → List Left
-leaving (offer octets) view = []
-leaving (next room) view = releasedBy (releases.next room view)
-leaving giveUp view = lostBy (releases.giveUp view)
-
--- the session after some calls, and the numbers that left it, in order
-unfoldable pub run : List Move → View → View
-run [] view = view
-run (move ∷ moves) view = run moves (after move view)
-
-unfoldable pub history : List Move → View → List Left
-history [] view = []
-history (move ∷ moves) view = leaving move view ++ history moves (after move view)
 
 -- ---- "Four counts: received, spare, repaired (each released) and lost. Each equals the number of such moves since the start"
 

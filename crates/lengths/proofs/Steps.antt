@@ -11,6 +11,7 @@ use native.Mathlib.Omega.{arith}
 use borrow.Author.Tests.{lt-ltb, le-ltb, le-leb, lt-leb}
 use Rattle.lengths.specs.Refusals.{refusal, endsEarly, badForm, outsideSizes, noRoom}
 use Rattle.lengths.specs.Answers.{Answer, done, refused, refuse, LengthAnswer, lengthOutcome, writtenOutcome, fitted, sizeOf, over}
+use Rattle.lengths.specs.Tables.{unless}
 use Rattle.lengths.specs.Length.{lengthAt, lengthOctets, lengthToWrite, ofTwo, lengthLimit}
 use Rattle.lengths.specs.Promise.{LengthRead, Octet, Puts, RefusalMade}
 use Rattle.lengths.specs.declared.Refusal.{Refusal}
@@ -95,12 +96,12 @@ two-set (x ∷ l) a b some = ap (λ (t : List ℕ). a ∷ t) (first-set l b (le-
 
 module _ {n : ℕ} {old : List ℕ} where
   pub write-over : {r : Refusal} → RefusalMade outsideSizes r → 16383 < n → Puts (lengthToWrite n) old old (written.Refused r)
-  unfolding lengthToWrite
+  unfolding lengthToWrite unless
   write-over made large = record { answer = rw (made .answer, lt-ltb 16383 n large); lent = rw (lt-ltb 16383 n large) }
 
   pub write-one-full : {r : Refusal} → RefusalMade noRoom r → n ≤ 16383 → n < 128 → length old < 1
       → Puts (lengthToWrite n) old old (written.Refused r)
-  unfolding lengthToWrite lengthOctets
+  unfolding lengthToWrite unless lengthOctets
   write-one-full made fits small full =
       record {
         answer = rw (made .answer, le-ltb 16383 n fits, lt-ltb n 128 small, lt-leb 1 (length old) full);
@@ -109,7 +110,7 @@ module _ {n : ℕ} {old : List ℕ} where
 
   pub write-two-full : {r : Refusal} → RefusalMade noRoom r → n ≤ 16383 → 128 ≤ n → length old < 2
       → Puts (lengthToWrite n) old old (written.Refused r)
-  unfolding lengthToWrite lengthOctets
+  unfolding lengthToWrite unless lengthOctets
   write-two-full made fits large full =
       record {
         answer = rw (made .answer, le-ltb 16383 n fits, le-ltb n 128 large, lt-leb 2 (length old) full);
@@ -117,7 +118,7 @@ module _ {n : ℕ} {old : List ℕ} where
       }
 
   pub write-one : n ≤ 16383 → n < 128 → 1 ≤ length old → Puts (lengthToWrite n) old (set old 0 (n % 256)) (written.Octets 1)
-  unfolding lengthToWrite lengthOctets
+  unfolding lengthToWrite unless lengthOctets
   write-one fits small room =
       record {
         answer = rw (le-ltb 16383 n fits, lt-ltb n 128 small, le-leb 1 (length old) room);
@@ -128,7 +129,7 @@ module _ {n : ℕ} {old : List ℕ} where
 
   pub write-two : n ≤ 16383 → 128 ≤ n → 2 ≤ length old
       → Puts (lengthToWrite n) old (set (set old 0 ((n / 256 + 128) % 256)) 1 (n % 256)) (written.Octets 2)
-  unfolding lengthToWrite lengthOctets
+  unfolding lengthToWrite unless lengthOctets
   write-two fits large room =
       record {
         answer = rw (le-ltb 16383 n fits, le-ltb n 128 large, le-leb 2 (length old) room);

@@ -4,10 +4,12 @@
 use Prim.Native.Nat.{ℕ, _+_, _-_, _*_, _/_, _%_}
 use mathlib.Core.Bool.{cond}
 use mathlib.Core.List.{List, [], _∷_}
+use mathlib.Core.Option.{Option}
 use lib.ListN.{length, getD}
 use lib.Dec.{leb, ltb}
 use Rattle.lengths.specs.Refusals.{endsEarly, badForm, outsideSizes}
 use Rattle.lengths.specs.Answers.{Answer, done, refuse, LengthAnswer}
+use Rattle.lengths.specs.Tables.{when, unless}
 
 -- the largest length that two octets hold
 abbrev pub lengthLimit : ℕ
@@ -34,5 +36,8 @@ unfoldable pub lengthOctets : ℕ → List ℕ
 lengthOctets n = cond (ltb n 0x80) (n ∷ []) ((n / 256 + 0x80) ∷ n % 256 ∷ [])
 
 -- what the length writer writes: a length over 16,383 is outside the sizes
+abbrev pub lengthWriterRows : ℕ → List (Option ℕ)
+lengthWriterRows n = when (ltb lengthLimit n) outsideSizes ∷ []
+
 unfoldable pub lengthToWrite : ℕ → Answer (List ℕ)
-lengthToWrite n = cond (ltb lengthLimit n) (refuse outsideSizes) (done (lengthOctets n))
+lengthToWrite n = unless (lengthWriterRows n) (lengthOctets n)

@@ -10,6 +10,7 @@ use Rattle.repair.specs.Members.{membersOf}
 use Rattle.views.specs.View.{freshView, goneOn}
 use Rattle.views.specs.Offer.{keep, keepSpares, accept, offered, offer}
 use Rattle.views.specs.Release.{next, giveUp}
+use Rattle.lengths.specs.Tables.{unless}
 use Rattle.lines.specs.Hex.{digitOf, digitFor, allDigits, octetsIn, lineOctets, hexOf}
 use Rattle.lines.specs.Lines.{resultLine, refusalLine, releasesF, lineOffered, offerLine, answerLine, step, linesFrom, steps, program}
 use Rattle.lines.specs.Text.{characters}
@@ -21,11 +22,11 @@ use Rattle.lines.proofs.InTurn.{in-turn}
 use Rattle.lines.proofs.OneOutcome.{one-outcome}
 
 pub whole-case : WholeCase
-unfolding characters program steps linesFrom step answerLine offerLine lineOffered releasesF resultLine refusalLine lineOctets octetsIn allDigits digitOf hexOf digitFor next giveUp offer offered accept keep keepSpares freshView goneOn messagesOf messagesFrom heldMessages membersOf repair repairF firstUsable usable passing mended fill readDatagram wholeOf numberOf extraAt parityAt sparesAt endOf itemsAt itemAt sizedAt octetAt allowed carriedBy lengthAt tab allBelow exclusiveOr xorAt
+unfolding characters program steps linesFrom step answerLine offerLine lineOffered releasesF resultLine refusalLine lineOctets unless octetsIn allDigits digitOf hexOf digitFor next giveUp offer offered accept keep keepSpares freshView goneOn messagesOf messagesFrom heldMessages membersOf repair repairF firstUsable usable passing mended fill readDatagram wholeOf numberOf extraAt parityAt sparesAt endOf itemsAt itemAt sizedAt octetAt allowed carriedBy lengthAt tab allBelow exclusiveOr xorAt
 whole-case = refl
 
 pub cases : Cases
-unfolding characters lineOctets octetsIn allDigits digitOf tab allBelow
+unfolding characters lineOctets unless octetsIn allDigits digitOf tab allBelow
 cases = record { upper = refl; lower = refl; return = refl; blanks = refl }
 
 pub claims : Claims

@@ -12,6 +12,7 @@ use Rattle.octets.proofs.Cases.{below-or-not, same-or-not}
 use Rattle.lengths.specs.Answers.{refuse}
 use Rattle.lengths.specs.Refusals.{tooLong}
 use Rattle.views.specs.View.{View}
+use Rattle.lengths.specs.Tables.{unless}
 use Rattle.lines.specs.Hex.{lineLimit, lineOctets}
 use Rattle.lines.specs.Lines.{Made, lineFeed, lineOffered, offerLine, answerLine, step, lastLine, linesFrom, steps, program}
 use Rattle.lines.specs.Feed.{Going, atStart, keptLimit, lineDone, longer, takenIn, fed, atEnd}
@@ -25,7 +26,7 @@ fed-append (c ∷ a) b now = fed-append a b (takenIn c now)
 -- ---- a line that is too long
 -- of a line over the limit, what is kept is over it too, and is answered alike
 lineOctets-long : (line : List ℕ) → lineLimit < length line → lineOctets line ≡ refuse tooLong
-unfolding lineOctets
+unfolding lineOctets unless
 lineOctets-long line long = rw (lt-ltb lineLimit (length line) long)
 
 answerLine-long : (line : List ℕ) (view : View) → lineLimit < length line → answerLine line view ≡ offerLine line view

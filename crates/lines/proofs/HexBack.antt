@@ -13,9 +13,10 @@ use Rattle.octets.proofs.Place.{allBelow-at, allBelow-of, tab-ext, tab-getD}
 use Rattle.octets.proofs.Cases.{same-or-not}
 use Rattle.lengths.specs.Answers.{done}
 use Rattle.lengths.specs.Claims.{Octets}
+use Rattle.lengths.specs.Tables.{unless}
 use Rattle.lines.specs.Hex.{lineLimit, noDigit, digitOf, digitFor, allDigits, octetAt, octetsIn, lineOctets, hexOf}
 use Rattle.lines.specs.Claims.{WrittenReads}
-use Rattle.lines.proofs.HexSteps.{length-hexOf}
+use Rattle.lines.proofs.HexLaws.{length-hexOf}
 
 -- ---- digits
 -- computed for each of the sixteen
@@ -80,7 +81,7 @@ module _ (octets : List ℕ) (small : Octets octets) where
       ∙ tab-getD octets 0
 
 pub written-reads : WrittenReads
-unfolding lineOctets
+unfolding lineOctets unless
 written-reads octets small short =
     rw (
       le-ltb lineLimit (length (hexOf octets)) (omega (arith, length-hexOf octets)),

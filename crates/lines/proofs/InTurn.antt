@@ -7,10 +7,9 @@ use mathlib.Core.List.{List, [], _∷_, _++_, append-assoc, append-nil}
 use lib.ListN.{length, take}
 use lib.Dec.{eqb}
 use Rattle.views.specs.View.{View}
-use Rattle.heads.specs.Head.{viewIn}
-use Rattle.heads.specs.Promise.{Fresh}
-use Rattle.heads.specs.declared.Head.{Head}
-use Rattle.heads.specs.declared.Session.{Session}
+use Rattle.held.specs.Table.{Lent, lentBy, viewIn}
+use Rattle.held.specs.Promise.{Fresh}
+use Rattle.held.specs.declared.Session.{Session}
 use Rattle.lines.specs.Lines.{lineFeed, step, program}
 use Rattle.lines.specs.Feed.{Going, atStart, lineDone, longer, takenIn, fed, atEnd, goingIn, PartWay}
 use Rattle.lines.specs.FeedPromise.{Feeds, Ends}
@@ -47,33 +46,33 @@ end-after text now = cond-after (eqb (length (now .begun)) 0) text now (lineDone
 
 -- ---- the calls
 -- with the lent buffer from its start
-from-start : {input text : List ℕ} {h : Head} {o g l : List ℕ} {begun : ℕ} (out : List ℕ) → PartWay input text h o g l begun
-    → fed input atStart ≡ after text (goingIn h o g l begun out 0)
-from-start {input} {text} {h} {o} {g} {l} {begun} out p =
-    p .state ∙ ap (λ (t : List ℕ). record { text = t; view = viewIn h o g; begun = take begun l }) (sym (append-nil text))
+from-start : {input text : List ℕ} {session : Lent} {l : List ℕ} {begun : ℕ} (out : List ℕ) → PartWay input text session l begun
+    → fed input atStart ≡ after text (goingIn session l begun out 0)
+from-start {input} {text} {session} {l} {begun} out p =
+    p .state ∙ ap (λ (t : List ℕ). record { text = t; view = viewIn session; begun = take begun l }) (sym (append-nil text))
 
-start : {r : Session} (line : List ℕ) → Fresh r → PartWay [] [] (r .head) (r .octets) (r .messages) line 0
+start : {r : Session} (line : List ℕ) → Fresh r → PartWay [] [] (lentBy r) line 0
 unfolding fed
 start line f = record { state = ap (λ (v : View). record { text = []; view = v; begun = [] }) (sym (f .view)) }
 
-block : {input text : List ℕ} {h : Head} {o g l : List ℕ} {begun : ℕ} {s out : List ℕ} {k : Head} {p q m : List ℕ} {kept taken : ℕ}
-    {new : List ℕ} {end : ℕ} → PartWay input text h o g l begun → Feeds (goingIn h o g l begun out 0) s out k p q m kept taken new end
-    → PartWay (input ++ take taken s) (text ++ take end new) k p q m kept
-block {input} {text} {h} {o} {g} {l} {begun} {s} {out} {k} {p} {q} {m} {kept} {taken} way f =
+block : {input text : List ℕ} {session later : Lent} {l : List ℕ} {begun : ℕ} {s out : List ℕ} {m : List ℕ} {kept taken : ℕ}
+    {new : List ℕ} {end : ℕ} → PartWay input text session l begun → Feeds (goingIn session l begun out 0) s out later m kept taken new end
+    → PartWay (input ++ take taken s) (text ++ take end new) later m kept
+block {input} {text} {session} {later} {l} {begun} {s} {out} {m} {kept} {taken} way f =
     record {
       state =
           fed-append input (take taken s) atStart
           ∙ ap (fed (take taken s)) (from-start out way)
-          ∙ fed-after (take taken s) text (goingIn h o g l begun out 0)
+          ∙ fed-after (take taken s) text (goingIn session l begun out 0)
           ∙ ap (after text) (sym (f .takes .state));
     }
 
-finish : {input text : List ℕ} {h : Head} {o g l : List ℕ} {begun : ℕ} {out : List ℕ} {k : Head} {p q new : List ℕ} {end : ℕ}
-    → PartWay input text h o g l begun → Ends (goingIn h o g l begun out 0) out k p q new end → program input ≡ text ++ take end new
-finish {input} {text} {h} {o} {g} {l} {begun} {out} way f =
+finish : {input text : List ℕ} {session later : Lent} {l : List ℕ} {begun : ℕ} {out new : List ℕ} {end : ℕ}
+    → PartWay input text session l begun → Ends (goingIn session l begun out 0) out later new end → program input ≡ text ++ take end new
+finish {input} {text} {session} {later} {l} {begun} {out} way f =
     program-fed input
     ∙ ap (λ (now : Going). (atEnd now) .text) (from-start out way)
-    ∙ ap (λ (now : Going). now .text) (end-after text (goingIn h o g l begun out 0))
+    ∙ ap (λ (now : Going). now .text) (end-after text (goingIn session l begun out 0))
     ∙ ap (λ (now : Going). text ++ now .text) (sym (f .state))
 
 pub in-turn : InTurn

@@ -9,10 +9,10 @@ use lib.Seq.{ext-getD, getD-take, length-take-le}
 use native.Mathlib.Omega.{arith}
 use Rattle.octets.proofs.Cases.{below-or-not}
 use Rattle.lengths.proofs.Claims as lengths
-use Rattle.heads.specs.Head.{viewIn}
-use Rattle.heads.specs.Within.{Within}
-use Rattle.heads.specs.declared.Head.{Head}
-use Rattle.heads.proofs.Injective.{head-same, octets-same, messages-same}
+use Rattle.held.specs.Table.{Lent, lent, viewIn}
+use Rattle.held.specs.Laid.{InRanges}
+use Rattle.held.specs.declared.Counts.{Counts}
+use Rattle.held.proofs.Injective.{lent-same}
 use Rattle.lines.specs.Lines.{Made}
 use Rattle.lines.specs.Feed.{Going, fed, goingIn}
 use Rattle.lines.specs.Promise.{Does}
@@ -20,31 +20,37 @@ use Rattle.lines.specs.FeedPromise.{LineIn, Feeds, Ends}
 use Rattle.lines.specs.Claims.{Same, OneOutcome}
 use Rattle.lines.specs.declared.steps.Stepped.{Stepped}
 use Rattle.lines.specs.declared.feed.Fed.{Fed}
-use Rattle.lines.proofs.FeedTurn.{begun-length}
+use Rattle.lines.proofs.Laws.{begun-length}
 
 -- ---- a session, by its view
-module _ {r q : Stepped} {o p g k : List ℕ} (w : Within (r .head) o g) (v : Within (q .head) p k)
-    (same : viewIn (r .head) o g ≡ viewIn (q .head) p k) where
-  stepped-same : {new other : List ℕ} → r .end ≡ q .end → new ≡ other → Same r q o p g k new other
+module _ {r q : Stepped} {t u o p g k : List ℕ} (w : InRanges (lent (r .base) (r .counts) t o g))
+    (v : InRanges (lent (q .base) (q .counts) u p k)) (same : viewIn (lent (r .base) (r .counts) t o g) ≡ viewIn (lent (q .base) (q .counts) u p k)) where
+  stepped-same : {new written : List ℕ} → r .end ≡ q .end → new ≡ written
+      → Same r q (lent (r .base) (r .counts) t o g) (lent (q .base) (q .counts) u p k) new written
   stepped-same end lent =
+      let one = lent-same w v same in
       record {
-        answer = ap₂ (λ (h : Head) (e : ℕ). record { head = h; end = e }) (head-same w v same) end;
-        octets = octets-same w v same;
-        messages = messages-same w v same;
+        answer =
+            ap₂ (λ (b : ℕ) (c : Counts). record { base = b; counts = c; end = r .end }) (ap (λ (x : Lent). x .base) one)
+            (ap (λ (x : Lent). x .counts) one)
+            ∙ ap (λ (e : ℕ). record { base = q .base; counts = q .counts; end = e }) end;
+        held = one;
         lent = lent;
       }
 
-module _ {r q : Fed} {o p g k : List ℕ} (w : Within (r .head) o g) (v : Within (q .head) p k)
-    (same : viewIn (r .head) o g ≡ viewIn (q .head) p k) where
-  fed-same : {new other : List ℕ} → r .begun ≡ q .begun → r .taken ≡ q .taken → r .end ≡ q .end → new ≡ other → Same r q o p g k new other
+module _ {r q : Fed} {t u o p g k : List ℕ} (w : InRanges (lent (r .base) (r .counts) t o g))
+    (v : InRanges (lent (q .base) (q .counts) u p k)) (same : viewIn (lent (r .base) (r .counts) t o g) ≡ viewIn (lent (q .base) (q .counts) u p k)) where
+  fed-same : {new written : List ℕ} → r .begun ≡ q .begun → r .taken ≡ q .taken → r .end ≡ q .end → new ≡ written
+      → Same r q (lent (r .base) (r .counts) t o g) (lent (q .base) (q .counts) u p k) new written
   fed-same begun taken end lent =
+      let one = lent-same w v same in
       record {
         answer =
-            ap (λ (h : Head). record { head = h; begun = r .begun; taken = r .taken; end = r .end }) (head-same w v same)
-            ∙ ap (λ (b : ℕ). record { head = q .head; begun = b; taken = r .taken; end = r .end }) begun
-            ∙ ap₂ (λ (t e : ℕ). record { head = q .head; begun = q .begun; taken = t; end = e }) taken end;
-        octets = octets-same w v same;
-        messages = messages-same w v same;
+            ap₂ (λ (b : ℕ) (c : Counts). record { base = b; counts = c; begun = r .begun; taken = r .taken; end = r .end })
+            (ap (λ (x : Lent). x .base) one) (ap (λ (x : Lent). x .counts) one)
+            ∙ ap (λ (n : ℕ). record { base = q .base; counts = q .counts; begun = n; taken = r .taken; end = r .end }) begun
+            ∙ ap₂ (λ (n e : ℕ). record { base = q .base; counts = q .counts; begun = q .begun; taken = n; end = e }) taken end;
+        held = one;
         lent = lent;
       }
 
@@ -78,38 +84,43 @@ module _ {l m : List ℕ} {begun kept : ℕ} (a : LineIn l begun) (b : LineIn m 
       (below-or-not i begun))
 
 -- ---- the calls
-step-one : {m : Made} {old : List ℕ} {at : ℕ} {r q : Stepped} {o p g k new other : List ℕ} → Does m old at (r .head) (r .end) o g new
-    → Does m old at (q .head) (q .end) p k other → Same r q o p g k new other
+step-one : {m : Made} {old : List ℕ} {at : ℕ} {r q : Stepped} {t u o p g k new written : List ℕ}
+    → Does m old at (lent (r .base) (r .counts) t o g) (r .end) new → Does m old at (lent (q .base) (q .counts) u p k) (q .end) written
+    → Same r q (lent (r .base) (r .counts) t o g) (lent (q .base) (q .counts) u p k) new written
 step-one a b =
     stepped-same (a .within) (b .within) (a .state ∙ sym (b .state)) (a .lent .after ∙ sym (b .lent .after))
     (a .lent .lent ∙ sym (b .lent .lent))
 
-take-block-one : {before : Going} {s out : List ℕ} {r q : Fed} {o p g k l m new other : List ℕ}
-    → Feeds before s out (r .head) o g l (r .begun) (r .taken) new (r .end)
-    → Feeds before s out (q .head) p k m (q .begun) (q .taken) other (q .end) → (Same r q o p g k new other) × (l ≡ m)
-take-block-one {before} {s} {out} {r} {q} {o} {p} {g} {k} {l} {m} {new} {other} a b =
+take-block-one : {before : Going} {s out : List ℕ} {r q : Fed} {t u o p g k l m new written : List ℕ}
+    → Feeds before s out (lent (r .base) (r .counts) t o g) l (r .begun) (r .taken) new (r .end)
+    → Feeds before s out (lent (q .base) (q .counts) u p k) m (q .begun) (q .taken) written (q .end)
+    → (Same r q (lent (r .base) (r .counts) t o g) (lent (q .base) (q .counts) u p k) new written) × (l ≡ m)
+take-block-one {before} {s} {out} {r} {q} {t} {u} {o} {p} {g} {k} {l} {m} {new} {written} a b =
     let taken : r .taken ≡ q .taken = a .all ∙ sym (b .all) in
-    let same : goingIn (r .head) o g l (r .begun) new (r .end) ≡ goingIn (q .head) p k m (q .begun) other (q .end) =
-    a .takes .state ∙ ap (λ (t : ℕ). fed (take t s) before) taken ∙ sym (b .takes .state) in
+    let same : goingIn (lent (r .base) (r .counts) t o g) l (r .begun) new (r .end)
+    ≡ goingIn (lent (q .base) (q .counts) u p k) m (q .begun) written (q .end) =
+    a .takes .state ∙ ap (λ (n : ℕ). fed (take n s) before) taken ∙ sym (b .takes .state) in
     let view = ap (λ (x : Going). x .view) same in
     let text = ap (λ (x : Going). x .text) same in
     let begun = ap (λ (x : Going). x .begun) same in
     let ta = a .takes in
     let tb = b .takes in (
       fed-same (ta .within) (tb .within) view (begun-same (ta .line) (tb .line) begun) taken
-          (end-same out new other (r .end) (q .end) text (ta .fits) (tb .fits) (ta .long) (tb .long))
-          (buffer-same out new other (r .end) (q .end) text (ta .fits) (tb .fits) (ta .long) (tb .long) (ta .rest) (tb .rest)),
+          (end-same out new written (r .end) (q .end) text (ta .fits) (tb .fits) (ta .long) (tb .long))
+          (buffer-same out new written (r .end) (q .end) text (ta .fits) (tb .fits) (ta .long) (tb .long) (ta .rest) (tb .rest)),
       line-same (ta .line) (tb .line) begun,
     )
 
-finish-one : {before : Going} {out : List ℕ} {r q : Stepped} {o p g k new other : List ℕ} → Ends before out (r .head) o g new (r .end)
-    → Ends before out (q .head) p k other (q .end) → Same r q o p g k new other
-finish-one {before} {out} {r} {q} {o} {p} {g} {k} {new} {other} a b =
-    let same : goingIn (r .head) o g [] 0 new (r .end) ≡ goingIn (q .head) p k [] 0 other (q .end) = a .state ∙ sym (b .state) in
+finish-one : {before : Going} {out : List ℕ} {r q : Stepped} {t u o p g k new written : List ℕ}
+    → Ends before out (lent (r .base) (r .counts) t o g) new (r .end) → Ends before out (lent (q .base) (q .counts) u p k) written (q .end)
+    → Same r q (lent (r .base) (r .counts) t o g) (lent (q .base) (q .counts) u p k) new written
+finish-one {before} {out} {r} {q} {t} {u} {o} {p} {g} {k} {new} {written} a b =
+    let same : goingIn (lent (r .base) (r .counts) t o g) [] 0 new (r .end) ≡ goingIn (lent (q .base) (q .counts) u p k) [] 0 written (q .end) =
+    a .state ∙ sym (b .state) in
     let text = ap (λ (x : Going). x .text) same in
     stepped-same (a .within) (b .within) (ap (λ (x : Going). x .view) same)
-    (end-same out new other (r .end) (q .end) text (a .fits) (b .fits) (a .long) (b .long))
-    (buffer-same out new other (r .end) (q .end) text (a .fits) (b .fits) (a .long) (b .long) (a .rest) (b .rest))
+    (end-same out new written (r .end) (q .end) text (a .fits) (b .fits) (a .long) (b .long))
+    (buffer-same out new written (r .end) (q .end) text (a .fits) (b .fits) (a .long) (b .long) (a .rest) (b .rest))
 
 pub one-outcome : OneOutcome
 one-outcome =

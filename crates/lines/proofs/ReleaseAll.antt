@@ -1,11 +1,11 @@
 -- The releases after a line stop at 10 or 16: a packet has room, and after as many releases as there are numbers from the base
 -- on, the base is a number that came into view unknown. Assumes nothing.
-use Prim.Native.Nat.{ℕ, zero, suc, _+_, _*_, _≤_, _<_}
+use Prim.Native.Nat.{ℕ, zero, suc, _+_, _≤_, _<_}
 use mathlib.Core.Path.{_≡_, refl, ap, _∙_}
 use mathlib.Core.Bool.{Bool, true, false, cond}
 use mathlib.Core.List.{List, [], _∷_, _++_}
 use mathlib.Core.Logic.{_⊎_, inl, inr, ⊎-elim}
-use lib.ListN.{length, drop, length-append, length-take, length-drop, List·getD-append}
+use lib.ListN.{length, drop, length-append, length-drop, List·getD-append}
 use lib.Seq.{getD-drop, getD-at}
 use lib.Dec.{leb}
 use native.Mathlib.Omega.{arith}
@@ -16,15 +16,11 @@ use Rattle.lengths.specs.Answers.{Answer, done, refused, refuse}
 use Rattle.lengths.specs.declared.Refusal.{Refusal}
 use Rattle.datagrams.specs.Sizes.{packetLimit}
 use Rattle.repair.specs.Cells.{Cell, cellAt, unknownAt, unknownCell, blankCell, keptBefore, keptAhead, keptNumbers}
-use Rattle.stores.specs.Store.{part}
 use Rattle.views.specs.View.{View, Counts, sum, sessionLimit, goneOn}
 use Rattle.views.specs.Release as release
 use Rattle.views.specs.Release.{Release, next, atBase}
-use Rattle.heads.specs.Head.{viewIn, cellsOf, cellIn, slotAt, keptIn}
-use Rattle.heads.specs.Within.{Within}
-use Rattle.heads.specs.declared.Head.{Head}
-use Rattle.heads.proofs.Parts.{kept-right, size-right}
-use Rattle.heads.proofs.Seen.{length-cells, cell-at}
+use Rattle.views.proofs.Ranges.{size-fits}
+use Rattle.held.specs.Table.{viewIn}
 use Rattle.lines.specs.Lines.{onward, releasesF, releases}
 use Rattle.lines.specs.Claims.{ReleasesAll}
 
@@ -142,18 +138,11 @@ releases-stop (suc left) view a =
     turn left view a (λ v ahead. releases-stop left v ahead) (next-is view (a .fits keptBefore (omega arith)))
 
 -- a session within its ranges
-cell-fits : {h : Head} {o g : List ℕ} → Within h o g → (p : ℕ) → p < keptNumbers → length ((cellAt (cellsOf h o) p) .octets) ≤ packetLimit
-unfolding cellIn part
-cell-fits {h} {o} w p inside =
-    rw (cell-at h o p inside)
-    (omega (
-      arith,
-      length-take ((keptIn h (slotAt (h .base) p)) .size) (drop (slotAt (h .base) p * packetLimit) o),
-      size-right (kept-right h o p (w .kept .each p inside)),
-    ))
-
 pub releases-all : ReleasesAll
-unfolding viewIn
-releases-all h o g w =
-    releases-stop keptAhead (viewIn h o g)
-    (record { long = length-cells h o; fits = cell-fits w; unknown = λ p past inside. absurd (omega arith) })
+releases-all session w =
+    releases-stop keptAhead (viewIn session)
+    (record {
+      long = w .sound .kept;
+      fits = λ p inside. size-fits _ _ _ (w .sound .cell p inside);
+      unknown = λ p past inside. absurd (omega arith);
+    })

@@ -11,11 +11,10 @@ use Rattle.lengths.specs.Claims.{Octets}
 use Rattle.lengths.specs.declared.Written.{Written}
 use Rattle.datagrams.specs.Sizes.{packetLimit, datagramLimit}
 use Rattle.views.specs.Release.{next}
-use Rattle.heads.specs.Head.{viewIn}
-use Rattle.heads.specs.Within.{Within}
-use Rattle.heads.specs.Promise.{Fresh}
-use Rattle.heads.specs.declared.Head.{Head}
-use Rattle.heads.specs.declared.Session.{Session}
+use Rattle.held.specs.Table.{Lent, lent, lentBy, viewIn}
+use Rattle.held.specs.Laid.{InRanges}
+use Rattle.held.specs.Promise.{Fresh}
+use Rattle.held.specs.declared.Session.{Session}
 use Rattle.lines.specs.Hex.{lineOctets, hexOf}
 use Rattle.lines.specs.Lines.{Made, program, releases}
 use Rattle.lines.specs.Feed.{Going, atStart, fed, atEnd, goingIn, PartWay}
@@ -40,9 +39,9 @@ pub record Cases : Type 0 where
 
 -- "releases all it can": what is left after the releases is refused with 10 or 16, so that their count cuts nothing off
 abbrev pub ReleasesAll : Type 0
-ReleasesAll = (h : Head) (o g : List ℕ) → Within h o g
-    → (next packetLimit ((releases (viewIn h o g)) .after) ≡ refuse baseUnknown)
-    ⊎ (next packetLimit ((releases (viewIn h o g)) .after) ≡ refuse allPassed)
+ReleasesAll = (session : Lent) → InRanges session
+    → (next packetLimit ((releases (viewIn session)) .after) ≡ refuse baseUnknown)
+    ⊎ (next packetLimit ((releases (viewIn session)) .after) ≡ refuse allPassed)
 
 -- a line that was written reads back to the same octets
 abbrev pub WrittenReads : Type 0
@@ -56,35 +55,37 @@ pub record CutAnyhow : Type 0 where
 -- the calls in turn: whatever blocks are taken in, what they and the end of the input leave in the lent buffer, one after the
 -- other, is what the program writes of all that was taken in
 pub record InTurn : Type 0 where
-  pub start : {r : Session} (line : List ℕ) → Fresh r → PartWay [] [] (r .head) (r .octets) (r .messages) line 0
-  pub block : {input text : List ℕ} {h : Head} {o g l : List ℕ} {begun : ℕ} {s out : List ℕ} {k : Head} {p q m : List ℕ} {kept taken : ℕ}
-      {new : List ℕ} {end : ℕ} → PartWay input text h o g l begun → Feeds (goingIn h o g l begun out 0) s out k p q m kept taken new end
-      → PartWay (input ++ take taken s) (text ++ take end new) k p q m kept
+  pub start : {r : Session} (line : List ℕ) → Fresh r → PartWay [] [] (lentBy r) line 0
+  pub block : {input text : List ℕ} {session after : Lent} {l : List ℕ} {begun : ℕ} {s out : List ℕ} {m : List ℕ} {kept taken : ℕ}
+      {new : List ℕ} {end : ℕ} → PartWay input text session l begun → Feeds (goingIn session l begun out 0) s out after m kept taken new end
+      → PartWay (input ++ take taken s) (text ++ take end new) after m kept
   -- with room for a line, some of a block that is not empty is taken in
-  pub goesOn : {h : Head} {o g l : List ℕ} {begun : ℕ} {s out : List ℕ} {k : Head} {p q m : List ℕ} {kept taken : ℕ} {new : List ℕ} {end : ℕ}
-      → Feedable stepLimit h o g l begun out 0 → Feeds (goingIn h o g l begun out 0) s out k p q m kept taken new end → 1 ≤ length s
+  pub goesOn : {session after : Lent} {l : List ℕ} {begun : ℕ} {s out : List ℕ} {m : List ℕ} {kept taken : ℕ} {new : List ℕ} {end : ℕ}
+      → Feedable stepLimit session l begun out 0 → Feeds (goingIn session l begun out 0) s out after m kept taken new end → 1 ≤ length s
       → 0 < taken
-  pub finish : {input text : List ℕ} {h : Head} {o g l : List ℕ} {begun : ℕ} {out : List ℕ} {k : Head} {p q new : List ℕ} {end : ℕ}
-      → PartWay input text h o g l begun → Ends (goingIn h o g l begun out 0) out k p q new end → program input ≡ text ++ take end new
+  pub finish : {input text : List ℕ} {session after : Lent} {l : List ℕ} {begun : ℕ} {out new : List ℕ} {end : ℕ}
+      → PartWay input text session l begun → Ends (goingIn session l begun out 0) out after new end → program input ≡ text ++ take end new
 
--- the same answer, the same stores and the same lent buffer
-pub record Same {A : Type 0} (r q : A) (o p g k new other : List ℕ) : Type 0 where
+-- the same answer, the same session and the same lent buffer
+pub record Same {A : Type 0} (r q : A) (session other : Lent) (new written : List ℕ) : Type 0 where
   pub answer : r ≡ q
-  pub octets : o ≡ p
-  pub messages : g ≡ k
-  pub lent : new ≡ other
+  pub held : session ≡ other
+  pub lent : new ≡ written
 
 -- two outcomes that a promise allows are equal
 pub record OneOutcome : Type 0 where
   pub hexToOctets : (line : List ℕ) {old new other : List ℕ} {r q : Written} → Puts (lineOctets line) old new r → Puts (lineOctets line) old other q
       → (r ≡ q) × (new ≡ other)
-  pub step : {m : Made} {old : List ℕ} {at : ℕ} {r q : Stepped} {o p g k new other : List ℕ} → Does m old at (r .head) (r .end) o g new
-      → Does m old at (q .head) (q .end) p k other → Same r q o p g k new other
-  pub takeBlock : {before : Going} {s out : List ℕ} {r q : Fed} {o p g k l m new other : List ℕ}
-      → Feeds before s out (r .head) o g l (r .begun) (r .taken) new (r .end)
-      → Feeds before s out (q .head) p k m (q .begun) (q .taken) other (q .end) → (Same r q o p g k new other) × (l ≡ m)
-  pub finish : {before : Going} {out : List ℕ} {r q : Stepped} {o p g k new other : List ℕ}
-      → Ends before out (r .head) o g new (r .end) → Ends before out (q .head) p k other (q .end) → Same r q o p g k new other
+  pub step : {m : Made} {old : List ℕ} {at : ℕ} {r q : Stepped} {t u o p g k new written : List ℕ}
+      → Does m old at (lent (r .base) (r .counts) t o g) (r .end) new → Does m old at (lent (q .base) (q .counts) u p k) (q .end) written
+      → Same r q (lent (r .base) (r .counts) t o g) (lent (q .base) (q .counts) u p k) new written
+  pub takeBlock : {before : Going} {s out : List ℕ} {r q : Fed} {t u o p g k l m new written : List ℕ}
+      → Feeds before s out (lent (r .base) (r .counts) t o g) l (r .begun) (r .taken) new (r .end)
+      → Feeds before s out (lent (q .base) (q .counts) u p k) m (q .begun) (q .taken) written (q .end)
+      → (Same r q (lent (r .base) (r .counts) t o g) (lent (q .base) (q .counts) u p k) new written) × (l ≡ m)
+  pub finish : {before : Going} {out : List ℕ} {r q : Stepped} {t u o p g k new written : List ℕ}
+      → Ends before out (lent (r .base) (r .counts) t o g) new (r .end) → Ends before out (lent (q .base) (q .counts) u p k) written (q .end)
+      → Same r q (lent (r .base) (r .counts) t o g) (lent (q .base) (q .counts) u p k) new written
 
 pub record Claims : Type 0 where
   pub wholeCase : WholeCase

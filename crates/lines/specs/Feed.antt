@@ -7,8 +7,7 @@ use mathlib.Core.List.{List, [], _∷_, _++_}
 use lib.ListN.{length, take}
 use lib.Dec.{eqb}
 use Rattle.views.specs.View.{View, freshView}
-use Rattle.heads.specs.Head.{viewIn}
-use Rattle.heads.specs.declared.Head.{Head}
+use Rattle.held.specs.Table.{Lent, viewIn}
 use Rattle.lines.specs.Hex.{lineLimit}
 use Rattle.lines.specs.Lines.{lineFeed, step}
 
@@ -50,10 +49,10 @@ unfoldable pub atEnd : Going → Going
 atEnd now = cond (eqb (length (now .begun)) 0) now (lineDone now)
 
 -- the program part way as the code holds it: the text is the front of out, the line that has begun the front of line
-abbrev pub goingIn : Head → List ℕ → List ℕ → List ℕ → ℕ → List ℕ → ℕ → Going
-goingIn h o g line begun out end = record { text = take end out; view = viewIn h o g; begun = take begun line }
+abbrev pub goingIn : Lent → List ℕ → ℕ → List ℕ → ℕ → Going
+goingIn session line begun out end = record { text = take end out; view = viewIn session; begun = take begun line }
 
 -- between two blocks: some input is taken in and some text written, with the session and the line that has begun as the code
 -- holds them
-pub record PartWay (input text : List ℕ) (h : Head) (o g line : List ℕ) (begun : ℕ) : Type 0 where
-  pub state : fed input atStart ≡ record { text = text; view = viewIn h o g; begun = take begun line }
+pub record PartWay (input text : List ℕ) (session : Lent) (line : List ℕ) (begun : ℕ) : Type 0 where
+  pub state : fed input atStart ≡ record { text = text; view = viewIn session; begun = take begun line }

@@ -5,8 +5,8 @@ use mathlib.Core.Bool.{Bool, true, not, cond, _&&_}
 use mathlib.Core.List.{List, [], _∷_, _++_}
 use lib.ListN.{length, getD, take, drop}
 use lib.Dec.{eqb, ltb}
-use Rattle.heads.specs.Within.{Within}
-use Rattle.heads.specs.declared.Head.{Head}
+use Rattle.held.specs.Table.{Lent}
+use Rattle.held.specs.Laid.{InRanges}
 use Rattle.lines.specs.Lines.{lineFeed}
 use Rattle.lines.specs.Feed.{keptLimit, Going, takenIn, fed, atEnd, goingIn}
 use Rattle.lines.specs.Promise.{Able, stepLimit}
@@ -53,15 +53,15 @@ pub record LineKept (old : List ℕ) (begun : ℕ) (more new : List ℕ) (r : �
   pub holds : LineIn new r
 
 -- what is asked for: the session's ranges, room for so many characters, and the line that has begun
-pub record Feedable (most : ℕ) (h : Head) (o g l : List ℕ) (begun : ℕ) (out : List ℕ) (at : ℕ) : Type 0 where
-  pub able : Able most h o g out at
+pub record Feedable (most : ℕ) (session : Lent) (l : List ℕ) (begun : ℕ) (out : List ℕ) (at : ℕ) : Type 0 where
+  pub able : Able most session out at
   pub line : LineIn l begun
 
 -- what is owed of the first `taken` characters of s, with the program part way as before: the program part way after them,
 -- within its ranges; what stands in the lent buffer from its end on stays
-pub record Takes (before : Going) (s out : List ℕ) (h : Head) (o g l : List ℕ) (begun taken : ℕ) (new : List ℕ) (end : ℕ) : Type 0 where
-  pub state : goingIn h o g l begun new end ≡ fed (take taken s) before
-  pub within : Within h o g
+pub record Takes (before : Going) (s out : List ℕ) (session : Lent) (l : List ℕ) (begun taken : ℕ) (new : List ℕ) (end : ℕ) : Type 0 where
+  pub state : goingIn session l begun new end ≡ fed (take taken s) before
+  pub within : InRanges session
   pub line : LineIn l begun
   pub inside : taken ≤ length s
   pub fits : end ≤ length out
@@ -69,21 +69,21 @@ pub record Takes (before : Going) (s out : List ℕ) (h : Head) (o g l : List �
   pub long : length new ≡ length out
 
 -- one line, or what there is of it
-pub record TakesLine (before : Going) (s out : List ℕ) (at : ℕ) (h : Head) (o g l : List ℕ) (begun taken : ℕ) (new : List ℕ) (end : ℕ) : Type 0 where
-  pub takes : Takes before s out h o g l begun taken new end
+pub record TakesLine (before : Going) (s out : List ℕ) (at : ℕ) (session : Lent) (l : List ℕ) (begun taken : ℕ) (new : List ℕ) (end : ℕ) : Type 0 where
+  pub takes : Takes before s out session l begun taken new end
   pub all : taken ≡ lineEnd s
   pub some : 0 < taken
   pub later : at ≤ end
 
 -- a block: all of it, or as much as the lent buffer is sure to have room for
-pub record Feeds (before : Going) (s out : List ℕ) (h : Head) (o g l : List ℕ) (begun taken : ℕ) (new : List ℕ) (end : ℕ) : Type 0 where
-  pub takes : Takes before s out h o g l begun taken new end
+pub record Feeds (before : Going) (s out : List ℕ) (session : Lent) (l : List ℕ) (begun taken : ℕ) (new : List ℕ) (end : ℕ) : Type 0 where
+  pub takes : Takes before s out session l begun taken new end
   pub all : taken ≡ takenOf (length out) true s before
 
 -- what the end of the input owes
-pub record Ends (before : Going) (out : List ℕ) (h : Head) (o g new : List ℕ) (end : ℕ) : Type 0 where
-  pub state : goingIn h o g [] 0 new end ≡ atEnd before
-  pub within : Within h o g
+pub record Ends (before : Going) (out : List ℕ) (session : Lent) (new : List ℕ) (end : ℕ) : Type 0 where
+  pub state : goingIn session [] 0 new end ≡ atEnd before
+  pub within : InRanges session
   pub fits : end ≤ length out
   pub rest : drop end new ≡ drop end out
   pub long : length new ≡ length out

@@ -2,12 +2,14 @@
 -- written". And of refusals: 2, "line over 3,000 characters (before 15)"; 15, "a line not of paired hexadecimal digits". A
 -- line's characters are octets. Definitions only.
 use Prim.Native.Nat.{ℕ, _+_, _-_, _*_, _/_, _%_}
-use mathlib.Core.Bool.{Bool, cond}
+use mathlib.Core.Bool.{Bool, cond, not, _&&_}
 use mathlib.Core.List.{List, [], _∷_}
+use mathlib.Core.Option.{Option}
 use lib.ListN.{length, getD}
 use lib.Dec.{ltb, eqb}
 use Rattle.lengths.specs.Refusals.{tooLong, wrongSettings}
-use Rattle.lengths.specs.Answers.{Answer, done, refuse}
+use Rattle.lengths.specs.Answers.{Answer}
+use Rattle.lengths.specs.Tables.{when, unless}
 use Rattle.octets.specs.Place.{tab, allBelow}
 use Rattle.datagrams.specs.Sizes.{datagramLimit}
 use Rattle.datagrams.specs.Write.{within}
@@ -41,13 +43,17 @@ octetAt line k = digitOf (getD line (2 * k) 0) * 16 + digitOf (getD line (2 * k 
 unfoldable pub octetsIn : List ℕ → List ℕ
 octetsIn line = tab (length line / 2) (octetAt line)
 
+-- hexadecimal digits, in pairs
+abbrev pub paired : List ℕ → Bool
+paired line = eqb (length line % 2) 0 && allDigits line
+
+-- 2, "line over 3,000 characters (before 15)"; 15, "a line not of paired hexadecimal digits"
+abbrev pub lineRows : List ℕ → List (Option ℕ)
+lineRows line = when (ltb lineLimit (length line)) tooLong ∷ when (not (paired line)) wrongSettings ∷ []
+
 -- the octets of a line
 unfoldable pub lineOctets : List ℕ → Answer (List ℕ)
-lineOctets line =
-    cond (ltb lineLimit (length line)) (refuse tooLong)
-    (cond (eqb (length line % 2) 0)
-    (cond (allDigits line) (done (octetsIn line)) (refuse wrongSettings))
-    (refuse wrongSettings))
+lineOctets line = unless (lineRows line) (octetsIn line)
 
 -- ---- writing
 

@@ -4,4 +4,5 @@ pub mod Feed
 pub mod Promise
 pub mod FeedPromise
 pub mod Text
+pub mod Cases
 pub mod Claims

@@ -9,9 +9,8 @@ use Rattle.datagrams.specs.Sizes.{packetLimit}
 use Rattle.repair.specs.Cells.{keptAhead}
 use Rattle.views.specs.View.{View}
 use Rattle.views.specs.Release.{Release, next}
-use Rattle.heads.specs.Head.{viewIn}
-use Rattle.heads.specs.Within.{Within}
-use Rattle.heads.specs.declared.Head.{Head}
+use Rattle.held.specs.Table.{Lent, viewIn}
+use Rattle.held.specs.Laid.{InRanges}
 use Rattle.lines.specs.Lines.{Made, released}
 
 -- the most characters of a result line, of all releases after a line, and of all that a line can write
@@ -31,16 +30,16 @@ pub record Appends (text old : List ℕ) (at : ℕ) (new : List ℕ) (end : ℕ)
   pub fits : at + length text ≤ length old
 
 -- what a part of a step asks for: the session's ranges, and room for so many characters
-pub record Able (most : ℕ) (h : Head) (o g out : List ℕ) (at : ℕ) : Type 0 where
-  pub within : Within h o g
+pub record Able (most : ℕ) (session : Lent) (out : List ℕ) (at : ℕ) : Type 0 where
+  pub within : InRanges session
   pub room : at + most ≤ length out
 
 -- what a part of a step owes, of which m is the meaning: the text that it lays into the lent buffer, and the session after,
 -- within its ranges
-pub record Does (m : Made) (old : List ℕ) (at : ℕ) (h : Head) (end : ℕ) (o g new : List ℕ) : Type 0 where
+pub record Does (m : Made) (old : List ℕ) (at : ℕ) (session : Lent) (end : ℕ) (new : List ℕ) : Type 0 where
   pub lent : Appends (m .text) old at new end
-  pub state : viewIn h o g ≡ m .after
-  pub within : Within h o g
+  pub state : viewIn session ≡ m .after
+  pub within : InRanges session
 
 -- whether there was something to release
 abbrev pub goesOn : Answer Release → Bool
@@ -48,7 +47,7 @@ goesOn (done r) = true
 goesOn (refused x) = false
 
 -- what one release owes, from a session that is seen as view
-pub record Releases (view : View) (old : List ℕ) (at : ℕ) (h : Head) (end : ℕ) (more : Bool) (o g new : List ℕ) : Type 0 where
-  pub does : Does (released (next packetLimit view) view) old at h end o g new
+pub record Releases (view : View) (old : List ℕ) (at : ℕ) (session : Lent) (end : ℕ) (more : Bool) (new : List ℕ) : Type 0 where
+  pub does : Does (released (next packetLimit view) view) old at session end new
   pub goes : more ≡ goesOn (next packetLimit view)
   pub few : end ≤ at + resultLimit

@@ -1,22 +1,16 @@
 // Document 01, 'The program'.
 mod feed;
-mod hex;
-mod results;
 mod steps;
 
 pub use feed::Fed;
-pub use feed::finish;
-pub use feed::take_block;
-pub use hex::hex_to_octets;
 pub use steps::Stepped;
-pub use steps::step;
 ghost use mathlib.Core.Path.{_≡_};
 ghost use Rattle.lines.specs.Hex.{lineLimit};
 ghost use Rattle.lines.specs.Feed.{keptLimit};
 ghost use Rattle.lines.specs.Promise.{stepLimit};
 use datagrams::Datagram;
 use datagrams::Packet;
-use heads::Session;
+use held::Session;
 
 // A line of the program's input.
 pub struct Line {}
@@ -29,6 +23,8 @@ impl Line {
     pub const KEPT: usize = Line::LIMIT + 1;
     // So many characters are looked at together in the search for a line feed.
     pub const NEAR: usize = 32;
+    // So many octets are made of digits together.
+    pub const TOGETHER: usize = 16;
     // The most characters of a result line, of all releases after a line, and of all that a line can write.
     pub const RESULT: usize = 7 + 2 * Packet::LIMIT;
 

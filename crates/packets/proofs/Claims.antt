@@ -1,22 +1,16 @@
 -- The claims of this crate, each proved by a law. Two outcomes are equal because the promise gives the whole answer.
 -- Assumes nothing.
-use mathlib.Core.Path.{refl, sym, _∙_}
-use Rattle.lengths.specs.Length.{lengthAt}
+use mathlib.Core.Path.{sym, _∙_}
 use Rattle.lengths.proofs.Claims as lengths
-use Rattle.packets.specs.Packet.{every}
-use Rattle.packets.specs.Read.{readPacket, firstAt, countAt, fieldsAt, fieldAt, headerAt, sizeAt, afterHeader, endAt}
-use Rattle.packets.specs.Claims.{Claims, OneOutcome, Cases}
+use Rattle.packets.specs.Claims.{Claims, OneOutcome}
 use Rattle.packets.proofs.WrittenReads.{packet-written-reads, packet-repaired-reads}
 use Rattle.packets.proofs.ReadWrites.{packet-read-writes}
 use Rattle.packets.proofs.Follow.{parts-within, zeros-follow, zeros-alike}
+use Rattle.packets.proofs.Cases.{read-cases, write-cases}
 
 pub one-outcome : OneOutcome
 one-outcome =
     record { read = λ p t. p .whole ∙ sym (t .whole); written = λ p t. lengths.one-outcome .written p t }
-
-pub cases : Cases
-unfolding readPacket firstAt countAt fieldsAt fieldAt headerAt sizeAt afterHeader endAt every lengthAt
-cases = record { true-zero = refl }
 
 pub claims : Claims
 claims =
@@ -28,5 +22,6 @@ claims =
       zerosFollow = zeros-follow;
       zerosAlike = zeros-alike;
       oneOutcome = one-outcome;
-      cases = cases;
+      readCases = read-cases;
+      writeCases = write-cases;
     }

@@ -11,7 +11,7 @@ use native.Mathlib.Omega.{arith}
 use borrow.Author.Tests.{lt-ltb, le-ltb, le-leb, lt-leb, eq-eqb, ne-eqb}
 use Rattle.packets.specs.Packet.{fieldsLimit, every}
 use Rattle.packets.specs.Write.{total}
-use Rattle.packets.specs.Items.{Wide, Sized, FieldsSized, fieldSize}
+use Rattle.packets.specs.Inner.Items.{Wide, Sized, FieldsSized, fieldSize}
 
 pub drop-next : (s : List ℕ) (i : ℕ) → i < length s → drop i s ≡ getD s i 0 ∷ drop (i + 1) s
 drop-next s i h = drop-cons s i 0 h ∙ ap (λ (n : ℕ). getD s i 0 ∷ drop n s) (sym (add-one i))

@@ -19,7 +19,7 @@ use Rattle.packets.specs.Claims.{PartsWithin, ZerosFollow, ZerosAlike}
 use Rattle.packets.specs.declared.types.Ending.{Ending}
 use Rattle.packets.specs.declared.types.Ending.the-variants.{Repaired}
 use Rattle.packets.proofs.ReadLaws.{stepped, first-form, first-of, count-form, count-of, header-form, header-of, size-form, size-of, FieldForm, bare, full, field-form, bare-of, full-of, PacketForm, packet-form, packet-of}
-use Rattle.packets.proofs.ReadPacket.{count-within, fields-inside, FieldsInside}
+use Rattle.packets.proofs.ReadEnds.{count-within, fields-inside, FieldsInside}
 use Rattle.packets.proofs.WrittenReads.{zeros-all}
 
 module _ (s more : List ℕ) where

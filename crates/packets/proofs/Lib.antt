@@ -1,14 +1,10 @@
-mod Tests
-mod Every
+pub mod Cases
+pub mod Tests
+pub mod Every
+pub mod Rest
 pub mod ReadLaws
-mod ReadItems
-mod FieldsTurn
-mod ReadPacket
+pub mod ReadEnds
 pub mod WriteLaws
-mod Measure
-mod Putting
-mod PutFields
-mod WritePacket
 mod WrittenReads
 mod ReadWrites
 mod Follow

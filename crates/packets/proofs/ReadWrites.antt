@@ -18,14 +18,14 @@ use Rattle.datagrams.proofs.WriteLaws.{both}
 use Rattle.packets.specs.Packet.{Place, First, Header, fieldsLimit, typesLimit, rightFields, rightData, every, isSet, firstOf, headerOf, firstOctet, headerBits, dataOf, allData}
 use Rattle.packets.specs.Read.{Count, countAt, headerAt, sizeAt, FieldAnswer, fieldAt, FieldsAnswer, fieldsAt}
 use Rattle.packets.specs.Write.{withData, fieldOctets, fieldsOctets, packetOctets, sum, total, rightTypes, packetToWrite}
-use Rattle.packets.specs.Items.{countedOctets}
+use Rattle.packets.specs.Inner.Items.{countedOctets}
 use Rattle.packets.specs.Claims.{ReadWrites}
 use Rattle.packets.specs.declared.types.Ending.the-variants.{Whole}
 use Rattle.packets.specs.declared.types.Field.{Field}
 use Rattle.packets.proofs.Every.{drop-next}
 use Rattle.packets.proofs.ReadLaws.{stepped, FirstForm, first-form, count-form, header-form, size-form, FieldForm, bare, full, field-form, packet-form}
 use Rattle.packets.proofs.WriteLaws.{field-bare, field-full, write-of}
-use Rattle.packets.proofs.ReadPacket.{fields-inside}
+use Rattle.packets.proofs.ReadEnds.{fields-inside}
 
 -- ---- a test computed over all numbers below a bound
 below : (ℕ → Bool) → ℕ → Bool

@@ -1,7 +1,7 @@
 -- Laws of the writer's definitions, for this crate and those above: the octets of a field and of a packet, how many
 -- they are, and what it says of kind, value, types, lengths and data that a packet is written. Assumes nothing.
 use Prim.Native.Nat.{ℕ, suc, _+_, _-_, _/_, _%_, _≤_, _<_, _*_}
-use mathlib.Core.Path.{_≡_, refl, sym, ap, ap₂, _∙_}
+use mathlib.Core.Path.{_≡_, refl, ap, ap₂, _∙_}
 use mathlib.Core.Bool.{Bool, true, false, not, cond, _&&_}
 use mathlib.Core.List.{List, [], _∷_, _++_}
 use lib.ListN.{length, take, drop, length-append, length-drop}
@@ -9,19 +9,18 @@ use lib.Seq.{length-take-le}
 use lib.Dec.{leb, ltb, eqb}
 use native.Mathlib.Omega.{arith}
 use borrow.Author.Tests.{lt-ltb, le-ltb, eq-eqb, eqb-true, not-false, le-leb, ltb-true, ltb-false, leb-true}
-use Rattle.lengths.specs.Refusals.{outsideSizes, wrongSettings, notAssigned, wrongData}
 use Rattle.lengths.specs.Length.{lengthOctets}
+use Rattle.lengths.proofs.Tables.{unless-past, unless-done}
 use Rattle.lengths.proofs.Laws.{lengthOctets-one}
 use Rattle.lengths.specs.Answers.{done}
-use Rattle.lengths.specs.declared.Written.the-variants as written
+use Rattle.lengths.specs.Tables.{unless}
 use Rattle.datagrams.specs.Sizes.{packetLimit}
 use Rattle.datagrams.proofs.WriteLaws.{both}
 use Rattle.packets.specs.Packet.{fieldsLimit, typesLimit, assigned, rightFields, every, headerBits, firstOctet}
 use Rattle.packets.specs.Write.{withData, fieldOctets, fieldsOctets, packetOctets, sum, total, oneEach, allAssigned, rightTypes, allRight, inSizes, packetToWrite}
-use Rattle.packets.specs.Items.{fieldSize, packetSize, countedOctets}
+use Rattle.packets.specs.Inner.Items.{fieldSize, packetSize, countedOctets}
 use Rattle.packets.specs.declared.types.Kind.{Kind}
 use Rattle.packets.specs.declared.types.Kind.the-variants.{Indicator, Data}
-use Rattle.packets.proofs.ReadLaws.{past}
 
 -- ---- one length for each type, and all of them the data's
 module _ (ts ns d : List ℕ) where
@@ -104,12 +103,12 @@ pub write-form : (k : Kind) (v : ℕ) (ts ns d w : List ℕ) → packetToWrite k
 unfolding packetToWrite allAssigned allRight inSizes
 write-form k v ts ns d w e =
     let packet = packetOctets k v ts ns d in
-    let few = past (ltb fieldsLimit (length ts)) outsideSizes _ w e in
-    let each = past (not (oneEach ts ns d)) wrongSettings _ w (few .1) in
-    let known = past (not (allAssigned k v ts)) notAssigned _ w (each .1) in
-    let right = past (not (allRight k ts ns)) wrongData _ w (known .1) in
-    let sizes = past (not (inSizes ns (length packet))) outsideSizes _ w (right .1) in
-    let is : w ≡ packetOctets k v ts ns d = cc (sizes .1) in
+    let few = unless-past (ltb fieldsLimit (length ts)) _ _ _ w e in
+    let each = unless-past (not (oneEach ts ns d)) _ _ _ w (few .1) in
+    let known = unless-past (not (allAssigned k v ts)) _ _ _ w (each .1) in
+    let right = unless-past (not (allRight k ts ns)) _ _ _ w (known .1) in
+    let sizes = unless-past (not (inSizes ns (length packet))) _ _ _ w (right .1) in
+    let is : w ≡ packetOctets k v ts ns d = unless-done [] packet w (sizes .1) in
     let one = not-false (oneEach ts ns d) (each .0) in
     let assignedAll = not-false (ltb v (assigned k) && every (λ t. leb t typesLimit) ts) (known .0) in
     let rightAll = not-false (rightFields k (ltb 0 (length ts)) && rightTypes ts ns) (right .0) in
@@ -134,7 +133,7 @@ assigned-few Data = omega arith
 -- ---- and back: what passes each test is written
 pub write-of : (k : Kind) (v : ℕ) (ts ns d : List ℕ) → WriteForm k v ts ns d (packetOctets k v ts ns d)
     → packetToWrite k v ts ns d ≡ done (packetOctets k v ts ns d)
-unfolding packetToWrite oneEach allAssigned allRight inSizes
+unfolding packetToWrite unless oneEach allAssigned allRight inSizes
 write-of k v ts ns d form =
     rw (
       le-ltb fieldsLimit (length ts) (form .few),

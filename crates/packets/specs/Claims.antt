@@ -1,7 +1,7 @@
 -- The claims of this crate: statements alone. Definitions only.
 use Prim.Native.Nat.{ℕ, _+_, _≤_}
 use mathlib.Core.Path.{_≡_}
-use mathlib.Core.List.{List, [], _∷_, _++_, map}
+use mathlib.Core.List.{List, _++_, map}
 use lib.ListN.{length, getD, replicate}
 use Rattle.lengths.specs.Answers.{Answer, done}
 use Rattle.lengths.specs.Promise.{Puts}
@@ -12,8 +12,8 @@ use Rattle.packets.specs.Packet.{noField, allData}
 use Rattle.packets.specs.Read.{readPacket, PacketAnswer}
 use Rattle.packets.specs.Write.{packetToWrite}
 use Rattle.packets.specs.Promise.{PacketTold}
+use Rattle.packets.specs.Cases.{ReadCases, WriteCases}
 use Rattle.packets.specs.declared.types.Kind.{Kind}
-use Rattle.packets.specs.declared.types.Kind.the-variants.{Data}
 use Rattle.packets.specs.declared.types.Ending.{Ending}
 use Rattle.packets.specs.declared.types.Ending.the-variants.{Whole, Repaired}
 use Rattle.packets.specs.declared.types.PacketRead.{PacketRead}
@@ -76,12 +76,6 @@ pub record OneOutcome : Type 0 where
   pub written : {w : Answer (List ℕ)} {old new other : List ℕ} {r q : Written}
       → Puts w old new r → Puts w old other q → (r ≡ q) × (new ≡ other)
 
--- "Mistakes that look right: trimming zeros off a repaired packet, when a true last octet may be zero"
-pub record Cases : Type 0 where
-  -- `C0 01 80 00 01 55 00`, repaired, has data 55 00, whatever zeros follow
-  pub true-zero : readPacket Repaired (0xC0 ∷ 0x01 ∷ 0x80 ∷ 0x00 ∷ 0x01 ∷ 0x55 ∷ 0x00 ∷ [])
-      ≡ done (record { kind = Data; value = 0; fields = record { kind = 0; start = 5; size = 2 } ∷ [] })
-
 pub record Claims : Type 0 where
   pub writtenReads : WrittenReads
   pub repairedReads : RepairedReads
@@ -90,4 +84,5 @@ pub record Claims : Type 0 where
   pub zerosFollow : ZerosFollow
   pub zerosAlike : ZerosAlike
   pub oneOutcome : OneOutcome
-  pub cases : Cases
+  pub readCases : ReadCases
+  pub writeCases : WriteCases

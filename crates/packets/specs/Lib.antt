@@ -2,5 +2,6 @@ pub mod Packet
 pub mod Read
 pub mod Write
 pub mod Promise
-pub mod Items
+pub mod Inner
+pub mod Cases
 pub mod Claims

@@ -4,10 +4,12 @@
 use Prim.Native.Nat.{ℕ, _+_, _-_, _*_, _/_, _%_}
 use mathlib.Core.Bool.{Bool, true, not, cond, _&&_}
 use mathlib.Core.List.{List, [], _∷_, _++_}
+use mathlib.Core.Option.{Option}
 use lib.ListN.{length, take, drop}
 use lib.Dec.{leb, ltb, eqb}
 use Rattle.lengths.specs.Refusals.{outsideSizes, wrongSettings, notAssigned, wrongData}
-use Rattle.lengths.specs.Answers.{Answer, done, refuse}
+use Rattle.lengths.specs.Answers.{Answer}
+use Rattle.lengths.specs.Tables.{when, unless}
 use Rattle.lengths.specs.Length.{lengthOctets}
 use Rattle.datagrams.specs.Sizes.{packetLimit}
 use Rattle.packets.specs.Packet.{fieldsLimit, typesLimit, assigned, rightFields, rightData, every, firstOctet, headerBits}
@@ -74,12 +76,16 @@ allRight kind types lengths = rightFields kind (ltb 0 (length types)) && rightTy
 unfoldable pub inSizes : List ℕ → ℕ → Bool
 inSizes lengths size = every (λ n. leb n packetLimit) lengths && leb size packetLimit
 
+-- "over 16 fields 4, then 15, 12, 14, 4": what the packet writer refuses, and what it writes where no row is given
+abbrev pub packetWriterRows : Kind → ℕ → List ℕ → List ℕ → List ℕ → List (Option ℕ)
+packetWriterRows kind value types lengths octets =
+    when (ltb fieldsLimit (length types)) outsideSizes
+    ∷ when (not (oneEach types lengths octets)) wrongSettings
+    ∷ when (not (allAssigned kind value types)) notAssigned
+    ∷ when (not (allRight kind types lengths)) wrongData
+    ∷ when (not (inSizes lengths (length (packetOctets kind value types lengths octets)))) outsideSizes
+    ∷ []
+
 unfoldable pub packetToWrite : Kind → ℕ → List ℕ → List ℕ → List ℕ → Answer (List ℕ)
 packetToWrite kind value types lengths octets =
-    let packet = packetOctets kind value types lengths octets in
-    cond (ltb fieldsLimit (length types)) (refuse outsideSizes)
-    (cond (not (oneEach types lengths octets)) (refuse wrongSettings)
-    (cond (not (allAssigned kind value types)) (refuse notAssigned)
-    (cond (not (allRight kind types lengths)) (refuse wrongData)
-    (cond (not (inSizes lengths (length packet))) (refuse outsideSizes)
-    (done packet)))))
+    unless (packetWriterRows kind value types lengths octets) (packetOctets kind value types lengths octets)

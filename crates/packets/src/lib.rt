@@ -1,13 +1,12 @@
-// Packets, read and written: document 01, 'The packet'.
-mod reader;
+// Packets, what they are: document 01, 'The packet'.
 mod rules;
 mod types;
-mod writer;
 
-pub use reader::read;
+pub use rules::assigned;
+pub use rules::right_data;
+pub use rules::right_fields;
 pub use types::Ending;
 pub use types::Field;
 pub use types::Kind;
 pub use types::PacketRead;
 pub use types::Reading;
-pub use writer::write;

@@ -1,20 +1,44 @@
--- What taking in a block of the program's input owes. Definitions only.
-use Prim.Native.Nat.{ℕ}
+-- What taking in a block of the program's input owes, and the whole run: what was handed to `write` so far, part after part, is the
+-- program's text for the input so far. Definitions only.
+use Prim.Native.Nat.{ℕ, _%_, _^_}
 use mathlib.Core.Path.{_≡_}
 use mathlib.Core.Bool.{Bool, true}
 use mathlib.Core.List.{List, _++_}
-use Rattle.heads.specs.declared.Head.{Head}
-use Rattle.lines.specs.Feed.{PartWay}
+use lib.ListN.{length, take}
+use Rattle.held.specs.Table.{Lent, viewIn}
+use Rattle.lines.specs.Lines.{program}
+use Rattle.lines.specs.Feed.{atStart, fed, atEnd, PartWay}
 use Rattle.lines.specs.Promise.{stepLimit}
 use Rattle.lines.specs.FeedPromise.{Feedable}
 
--- the program part way, with more text written
-pub record Onward (input text : List ℕ) (h : Head) (o g line : List ℕ) (begun : ℕ) : Type 0 where
-  pub more : List ℕ
-  pub way : PartWay input (text ++ more) h o g line begun
+-- how many octets, as a counter of 64 bits shows it
+abbrev pub counted : List ℕ → ℕ
+counted octets = length octets % 2 ^ 64
 
--- the program may go on; and where all was written the whole block is taken in, whatever was taken in and written before it
-pub record Passes (h : Head) (o g line : List ℕ) (begun : ℕ) (block : List ℕ) (k : Head) (p q m : List ℕ) (kept : ℕ) (out : List ℕ) (written : Bool)
+-- the program part way, with more text handed over; all that was handed over so far is counted
+pub record Onward (input text : List ℕ) (session : Lent) (line : List ℕ) (begun handed : ℕ) : Type 0 where
+  pub more : List ℕ
+  pub way : PartWay input (text ++ more) session line begun
+  pub count : handed ≡ counted (text ++ more)
+
+-- the program may go on; a front of the block is taken in and its text handed over, whatever was taken in and handed over before
+-- it; where all was written that front is the whole block
+pub record Passes (before : Lent) (line : List ℕ) (begun : ℕ) (block : List ℕ) (handed : ℕ) (after : Lent) (new : List ℕ) (kept : ℕ) (out : List ℕ) (sum : ℕ) (written : Bool)
     : Type 0 where
-  pub feedable : Feedable stepLimit k p q m kept out 0
-  pub whole : written ≡ true → (input text : List ℕ) → PartWay input text h o g line begun → Onward (input ++ block) text k p q m kept
+  pub feedable : Feedable stepLimit after new kept out 0
+  pub front : ℕ
+  pub way : (input text : List ℕ) → PartWay input text before line begun → handed ≡ counted text
+      → Onward (input ++ take front block) text after new kept sum
+  pub whole : written ≡ true → take front block ≡ block
+
+-- there is an input, as long as all that was read: as many octets as the program writes of it were handed over, and the session is
+-- the one that the program ends it with
+pub record Complete (session : Lent) (taken handed : ℕ) : Type 0 where
+  pub input : List ℕ
+  pub read : taken ≡ counted input
+  pub wrote : handed ≡ counted (program input)
+  pub state : viewIn session ≡ (atEnd (fed input atStart)) .view
+
+-- the run: either a write failed, or it is complete
+pub record Serves (session : Lent) (taken handed : ℕ) (whole : Bool) : Type 0 where
+  pub complete : whole ≡ true → Complete session taken handed

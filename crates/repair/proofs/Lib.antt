@@ -1,3 +1,4 @@
+pub mod Answers
 pub mod Passing
 pub mod Fill
 pub mod Search

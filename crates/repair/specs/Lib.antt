@@ -5,3 +5,4 @@ pub mod Held
 pub mod Reached
 pub mod Honest
 pub mod Claims
+pub mod Cases

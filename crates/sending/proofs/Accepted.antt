@@ -3,13 +3,14 @@
 use Prim.Native.Nat.{ℕ, _<_}
 use mathlib.Core.Path.{_≡_, refl}
 use mathlib.Core.Bool.{Bool, true, false, cond, not}
-use mathlib.Core.List.{List}
+use mathlib.Core.List.{List, [], _∷_}
 use lib.ListN.{length}
 use lib.Dec.{leb}
 use native.Mathlib.Omega.{arith}
 use borrow.Author.Tests.{leb-false}
 use Rattle.lengths.specs.Refusals.{outsideSizes, noRoom, wrongSettings, allPassed}
 use Rattle.lengths.specs.Answers.{Answer, done, refused, refuse, fitted, sizeOf}
+use Rattle.lengths.specs.Tables.{when, unless}
 use Rattle.lengths.specs.declared.Refusal.{Refusal}
 use Rattle.datagrams.specs.Write.{datagramOctets}
 use Rattle.views.specs.View.{sessionLimit}
@@ -39,9 +40,9 @@ room-told true octets other e = cc
 room-told false octets other e = let z : _≡_ {A = ℕ} 0 1 = cc in absurd (omega arith)
 
 tests-told : (b₁ b₂ b₃ : Bool) (octets old other : List ℕ)
-    → fitted (cond b₁ (refuse allPassed) (cond (not b₂) (refuse wrongSettings) (cond (not b₃) (refuse outsideSizes) (done octets)))) old
-    ≡ done other
+    → fitted (unless (when b₁ allPassed ∷ when (not b₂) wrongSettings ∷ when (not b₃) outsideSizes ∷ []) octets) old ≡ done other
     → (b₁ ≡ false) × (b₂ ≡ true) × (b₃ ≡ true) × (other ≡ octets)
+unfolding unless
 tests-told true b₂ b₃ octets old other e = let z : _≡_ {A = ℕ} 0 1 = cc in absurd (omega arith)
 tests-told false false b₃ octets old other e = let z : _≡_ {A = ℕ} 0 1 = cc in absurd (omega arith)
 tests-told false true false octets old other e = let z : _≡_ {A = ℕ} 0 1 = cc in absurd (omega arith)

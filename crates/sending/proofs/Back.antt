@@ -26,9 +26,9 @@ use Rattle.sending.specs.Carries.{settingsInside, extraFrom}
 use Rattle.sending.specs.Send.{packetOf, carriedNext}
 use Rattle.sending.specs.Sender.{slotAt, sizeIn, historyIn, sendingIn, sendingOf}
 use Rattle.sending.specs.Ranges.{sizeInRange}
-use Rattle.sending.specs.Held.{Arrays, Within}
-use Rattle.sending.specs.Items.{membersIn, itemsFrom}
-use Rattle.sending.specs.Next.{kindOf, countOf, itemsNext}
+use Rattle.sending.specs.Inner.Held.{Arrays, Within}
+use Rattle.sending.specs.Inner.Items.{membersIn, itemsFrom}
+use Rattle.sending.specs.Inner.Next.{kindOf, countOf, itemsNext}
 use Rattle.sending.specs.Promise.{Sends}
 use Rattle.sending.specs.declared.Sender.{Sender}
 use Rattle.sending.specs.declared.Sent.{Sent}
@@ -38,9 +38,7 @@ use Rattle.sending.proofs.Slots.{slot-small}
 use Rattle.sending.proofs.History.{history-at, length-packet}
 use Rattle.sending.proofs.Kept.{place-size, stored-of}
 use Rattle.sending.proofs.Accepted.{Accepted}
-use Rattle.sending.proofs.SendSteps.{count-inside}
-use Rattle.sending.proofs.ItemSteps.{item-spare, item-message, members-short}
-use Rattle.sending.proofs.ItemsSteps.{items-count}
+use Rattle.sending.proofs.ItemLaws.{count-inside, item-spare, item-message, members-short, items-count}
 use Rattle.sending.proofs.Outcome.{sent-says}
 
 -- each length inside, all inside

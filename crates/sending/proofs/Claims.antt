@@ -8,6 +8,7 @@ use Rattle.lengths.specs.declared.Written.{Written}
 use Rattle.lengths.proofs.Claims.{written-told}
 use Rattle.octets.specs.Place.{tab}
 use Rattle.octets.specs.ExclusiveOr.{xorAt, exclusiveOr, longest}
+use Rattle.lengths.specs.Tables.{unless}
 use Rattle.lengths.specs.Length.{lengthOctets}
 use Rattle.datagrams.specs.Write.{numberOctets, itemOctets, itemsOctets, countedOctets, datagramOctets}
 use Rattle.repair.specs.Members.{membersOf}
@@ -58,7 +59,7 @@ chains =
     }
 
 pub cases : Cases
-unfolding datagramToSend freshSending sentOn sparesFrom messagesFrom membersOf tab xorAt exclusiveOr longest lengthOctets numberOctets itemOctets itemsOctets countedOctets datagramOctets
+unfolding datagramToSend unless freshSending sentOn sparesFrom messagesFrom membersOf tab xorAt exclusiveOr longest lengthOctets numberOctets itemOctets itemsOctets countedOctets datagramOctets
 cases = record { first-parity = refl; number-0-again = refl; first-spares = refl }
 
 pub claims : Claims

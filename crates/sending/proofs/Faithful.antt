@@ -11,7 +11,7 @@ use Rattle.datagrams.specs.Sizes.{packetLimit}
 use Rattle.sending.specs.Sending.{Sending, historyKept}
 use Rattle.sending.specs.Send.{packetOf}
 use Rattle.sending.specs.Sender.{slotAt, sizeIn, packetIn, historyIn, historyOctets, sendingOf}
-use Rattle.sending.specs.Held.{Arrays, Within, Stored}
+use Rattle.sending.specs.Inner.Held.{Arrays, Within, Stored}
 use Rattle.sending.specs.Promise.{Proper}
 use Rattle.sending.specs.declared.Sender.{Sender}
 use Rattle.sending.proofs.Slots.{placeOf, place-slot, place-small}

@@ -16,7 +16,7 @@ use Rattle.views.specs.View.{numbers}
 use Rattle.sending.specs.Sending.{historyKept}
 use Rattle.sending.specs.Send.{packetOf}
 use Rattle.sending.specs.Sender.{slotAt, sizeIn, packetIn, historyIn}
-use Rattle.sending.specs.Held.{Stored}
+use Rattle.sending.specs.Inner.Held.{Stored}
 use Rattle.sending.proofs.Slots.{has-slot, slot-small, slot-number}
 
 pub length-history : (sent : ℕ) (sizes o : List ℕ) → length (historyIn sent sizes o) ≡ historyKept

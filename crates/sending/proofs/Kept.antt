@@ -9,11 +9,12 @@ use lib.Seq.{getD-set-same, getD-set-other}
 use lib.Dec.{leb}
 use native.Mathlib.Numerals.{add-one}
 use native.Mathlib.Omega.{arith}
-use borrow.Author.Tests.{le-leb, le-ltb}
+use borrow.Author.Tests.{le-leb, le-ltb, lt-ltb, eqb-true, leb-true}
 use Rattle.octets.specs.Place.{tab, allBelow}
 use Rattle.octets.proofs.Place.{tab-ext, allBelow-at, allBelow-of, tab-shift}
-use Rattle.octets.proofs.Cases.{same-or-not, and-left, and-right, and-both}
+use Rattle.octets.proofs.Cases.{same-or-not, below-or-not, and-left, and-right, and-both}
 use Rattle.datagrams.specs.Sizes.{packetLeast, packetLimit}
+use Rattle.datagrams.proofs.WriteLaws.{within-true}
 use Rattle.stores.specs.Store.{part, pasted, zeros, zerosPast, HasSlot}
 use Rattle.stores.proofs.Laws.{zeros-fit, length-pasted, length-cleared, part-pasted, part-pasted-other, zerosPast-pasted, zerosPast-other, zerosPast-cleared}
 use Rattle.views.specs.View.{numbers, sessionLimit}
@@ -21,10 +22,20 @@ use Rattle.sending.specs.Sending.{historyKept}
 use Rattle.sending.specs.Send.{packetInside}
 use Rattle.sending.specs.Sender.{slotAt, sizeIn, packetIn, historyIn}
 use Rattle.sending.specs.Ranges.{sizeInRange, placeInRange, inRanges}
-use Rattle.sending.specs.Held.{Arrays, Within, Stored, sizesKept, octetsKept, Keeps}
+use Rattle.sending.specs.Inner.Held.{Arrays, Within, Stored, sizesKept, octetsKept, Keeps}
 use Rattle.sending.proofs.Slots.{slot-small, slot-apart, slot-number, placeOf, place-slot, place-small, has-slot}
-use Rattle.sending.proofs.RangeSteps.{size-limit}
-use Rattle.sending.proofs.NextSteps.{packet-fits}
+
+-- ---- packets inside the sizes
+pub packet-fits : (packet : List ℕ) → packetInside packet ≡ true → length packet ≤ packetLimit
+packet-fits packet inside = within-true packetLeast packetLimit (length packet) inside .1
+
+-- a length in range is a packet's
+pub size-limit : (at size : ℕ) → sizeInRange at size ≡ true → size ≤ packetLimit
+unfolding sizeInRange
+size-limit at size e =
+    ⊎-elim (λ early. let none : size ≡ 0 = eqb-true size 0 (rw (lt-ltb at historyKept early) at e) in omega arith)
+    (λ late. leb-true size packetLimit (and-right (leb 1 size) _ (rw (le-ltb at historyKept late) at e)))
+    (below-or-not at historyKept)
 
 -- ---- the ranges, place by place and slot by slot
 module _ {sent : ℕ} {sizes o : List ℕ} (within : Within sent sizes o) where

@@ -1,19 +1,13 @@
-mod Slots
-mod RangeSteps
-mod KeepSteps
+pub mod Slots
 pub mod History
-mod Walk
-mod MessageSteps
-mod ItemSteps
-mod ItemsSteps
-mod NextSteps
+pub mod ItemLaws
 pub mod Kept
 pub mod Accepted
-mod SendSteps
-mod SenderSteps
+mod FreshSteps
 pub mod HonestLaws
 pub mod Outcome
 pub mod Chain
 pub mod Faithful
 pub mod Back
+pub mod About
 pub mod Claims

@@ -3,16 +3,18 @@
 -- Assumes nothing.
 use Prim.Native.Nat.{ℕ}
 use mathlib.Core.Path.{_≡_, refl, sym, ap, _∙_}
-use mathlib.Core.Bool.{Bool, true, false, cond}
-use mathlib.Core.List.{List, _++_}
+use mathlib.Core.Bool.{Bool, true, false, not}
+use mathlib.Core.List.{List, _∷_, _++_}
+use mathlib.Core.Option.{Option}
 use lib.ListN.{length, take, drop}
 use lib.Seq.{take-at}
 use native.Mathlib.Omega.{arith}
 use Rattle.lengths.specs.Refusals.{outsideRanges}
-use Rattle.lengths.specs.Answers.{Answer, done, refused, refuse, writtenOutcome, fitted, sizeOf, over}
+use Rattle.lengths.specs.Answers.{Answer, done, refused, writtenOutcome, fitted, sizeOf, over}
+use Rattle.lengths.specs.Tables.{when, unless}
 use Rattle.lengths.specs.declared.Refusal.{Refusal}
 use Rattle.lengths.specs.declared.Written.the-variants as written
-use Rattle.sending.specs.Send.{datagramToSend}
+use Rattle.sending.specs.Send.{sendRows, datagramToSend}
 use Rattle.sending.specs.Sender.{sendingOf}
 use Rattle.sending.specs.Ranges.{senderInRanges}
 use Rattle.sending.specs.Promise.{Proper, SentOn, StateAfter, toSend, Sends}
@@ -21,10 +23,12 @@ use Rattle.sending.specs.declared.Sent.{Sent}
 use Rattle.sending.specs.declared.Settings.{Settings}
 use Rattle.sending.proofs.Accepted.{size-done, size-refused, Accepted, accepted}
 
-ranges-told : (b : Bool) (w : Answer (List ℕ)) (old octets : List ℕ) → fitted (cond b w (refuse outsideRanges)) old ≡ done octets
-    → (b ≡ true) × (fitted w old ≡ done octets)
-ranges-told true w old octets e = (refl, e)
-ranges-told false w old octets e = let z : _≡_ {A = ℕ} 0 1 = cc in absurd (omega arith)
+ranges-told : (b : Bool) (rows : List (Option ℕ)) (w old octets : List ℕ)
+    → fitted (unless (when (not b) outsideRanges ∷ rows) w) old ≡ done octets
+    → (b ≡ true) × (fitted (unless rows w) old ≡ done octets)
+unfolding unless
+ranges-told true rows w old octets e = (refl, e)
+ranges-told false rows w old octets e = let z : _≡_ {A = ℕ} 0 1 = cc in absurd (omega arith)
 
 -- an accepted send
 pub record SentSays (s : Sender) (settings : Settings) (packet new : List ℕ) (r : Sent) (n : ℕ) : Type 0 where
@@ -34,11 +38,11 @@ pub record SentSays (s : Sender) (settings : Settings) (packet new : List ℕ) (
 
 module _ {s : Sender} {settings : Settings} {packet old new : List ℕ} {r : Sent} (sends : Sends s settings packet old new r) where
   pub sent-says : {n : ℕ} → r .answer ≡ written.Octets n → SentSays s settings packet new r n
-  unfolding toSend
+  unfolding toSend datagramToSend
   sent-says {n} e =
       let told : done n ≡ sizeOf (fitted (toSend s settings packet) old) = rw e at (sends .answer) in
       let t = size-done (fitted (toSend s settings packet) old) told in
-      let inside = ranges-told (senderInRanges s) (datagramToSend settings packet (sendingOf s)) old (t .0) (t .1) in
+      let inside = ranges-told (senderInRanges s) (sendRows settings packet (sendingOf s)) _ old (t .0) (t .1) in
       let laid : new ≡ t .0 ++ drop (length (t .0)) old = rw (t .1) at (sends .lent) in
       let front : take n new ≡ t .0 = rw laid (take-at (t .0) (drop (length (t .0)) old) n (sym (t .2))) in
       record {

@@ -12,8 +12,8 @@ use Rattle.views.specs.View.{numbers}
 use Rattle.sending.specs.Sending.{historyKept, freshSending}
 use Rattle.sending.specs.Send.{carriedNext, datagramToSend}
 use Rattle.sending.specs.Sender.{sendingOf}
-use Rattle.sending.specs.Held.{Arrays}
-use Rattle.sending.specs.Next.{kindOf, itemsNext}
+use Rattle.sending.specs.Inner.Held.{Arrays}
+use Rattle.sending.specs.Inner.Next.{kindOf, itemsNext}
 use Rattle.sending.specs.Promise.{Proper, FreshMade, RangesTold, Sends}
 use Rattle.sending.specs.Honest.{HonestSender}
 use Rattle.sending.specs.Run.{Run}

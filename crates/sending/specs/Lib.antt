@@ -3,11 +3,9 @@ pub mod Carries
 pub mod Send
 pub mod Sender
 pub mod Ranges
-pub mod Held
-pub mod Items
-pub mod Next
-pub mod Promise
 pub mod Inner
+pub mod Promise
 pub mod Honest
 pub mod Run
+pub mod Cases
 pub mod Claims

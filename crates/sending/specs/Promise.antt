@@ -2,15 +2,18 @@
 -- buffer, a refusal's too. Definitions only.
 use Prim.Native.Nat.{ℕ}
 use mathlib.Core.Path.{_≡_}
-use mathlib.Core.Bool.{Bool, true, cond}
-use mathlib.Core.List.{List}
+use mathlib.Core.Bool.{Bool, true, not}
+use mathlib.Core.List.{List, _∷_}
+use mathlib.Core.Option.{Option}
 use Rattle.lengths.specs.Refusals.{outsideRanges}
-use Rattle.lengths.specs.Answers.{Answer, done, refused, refuse, writtenOutcome, fitted, sizeOf, over}
+use Rattle.lengths.specs.Answers.{Answer, done, refused, writtenOutcome, fitted, sizeOf, over}
+use Rattle.lengths.specs.Tables.{when, unless}
+use Rattle.datagrams.specs.Write.{datagramOctets}
 use Rattle.sending.specs.Sending.{freshSending, sentOn}
-use Rattle.sending.specs.Send.{datagramToSend}
+use Rattle.sending.specs.Send.{carriedNext, sendRows}
 use Rattle.sending.specs.Sender.{sendingOf}
 use Rattle.sending.specs.Ranges.{senderInRanges}
-use Rattle.sending.specs.Held.{Arrays}
+use Rattle.sending.specs.Inner.Held.{Arrays}
 use Rattle.sending.specs.declared.Sender.{Sender}
 use Rattle.sending.specs.declared.Sent.{Sent}
 use Rattle.sending.specs.declared.Settings.{Settings}
@@ -29,9 +32,12 @@ pub record FreshMade (s : Sender) : Type 0 where
 pub record RangesTold (s : Sender) (r : Bool) : Type 0 where
   pub answer : r ≡ senderInRanges s
 
--- what send writes, or why it is refused: 17, then the rest
+-- "Send 17, 16, 15, 4, 13": the rows of send but for 13, and what it writes where none is given
+abbrev pub senderRows : Sender → Settings → List ℕ → List (Option ℕ)
+senderRows s settings packet = when (not (senderInRanges s)) outsideRanges ∷ sendRows settings packet (sendingOf s)
+
 unfoldable pub toSend : Sender → Settings → List ℕ → Answer (List ℕ)
-toSend s settings packet = cond (senderInRanges s) (datagramToSend settings packet (sendingOf s)) (refuse outsideRanges)
+toSend s settings packet = unless (senderRows s settings packet) (datagramOctets (carriedNext settings packet (sendingOf s)))
 
 -- the session t after an accepted send: the packet is in its history
 pub record SentOn (s : Sender) (packet : List ℕ) (t : Sender) : Type 0 where

@@ -2,12 +2,14 @@
 -- of the order of refusals: "Send 17, 16, 15, 4, 13." The 17 is the held session's (Promise), the 13 that of every call that
 -- writes to a lent buffer. Definitions only.
 use Prim.Native.Nat.{ℕ}
-use mathlib.Core.Bool.{Bool, cond, not}
-use mathlib.Core.List.{List, []}
+use mathlib.Core.Bool.{Bool, not}
+use mathlib.Core.List.{List, [], _∷_}
+use mathlib.Core.Option.{Option}
 use lib.ListN.{length, getD}
 use lib.Dec.{leb}
 use Rattle.lengths.specs.Refusals.{outsideSizes, wrongSettings, allPassed}
-use Rattle.lengths.specs.Answers.{Answer, done, refuse}
+use Rattle.lengths.specs.Answers.{Answer}
+use Rattle.lengths.specs.Tables.{when, unless}
 use Rattle.datagrams.specs.Sizes.{packetLeast, packetLimit}
 use Rattle.datagrams.specs.Carried.{Carried}
 use Rattle.datagrams.specs.Write.{within, datagramOctets}
@@ -28,10 +30,13 @@ carriedNext settings packet s = carriedFrom settings (s .sent) packet (packetOf 
 abbrev pub packetInside : List ℕ → Bool
 packetInside packet = within packetLeast packetLimit (length packet)
 
--- the datagram as octets, or why it is refused: 16, 15, 4
+-- "16, 15, 4": what a send within the ranges refuses, and what it writes where no row is given
+abbrev pub sendRows : Settings → List ℕ → Sending → List (Option ℕ)
+sendRows settings packet s =
+    when (leb sessionLimit (s .sent)) allPassed
+    ∷ when (not (settingsInside settings)) wrongSettings
+    ∷ when (not (packetInside packet)) outsideSizes
+    ∷ []
+
 unfoldable pub datagramToSend : Settings → List ℕ → Sending → Answer (List ℕ)
-datagramToSend settings packet s =
-    cond (leb sessionLimit (s .sent)) (refuse allPassed)
-    (cond (not (settingsInside settings)) (refuse wrongSettings)
-    (cond (not (packetInside packet)) (refuse outsideSizes)
-    (done (datagramOctets (carriedNext settings packet s)))))
+datagramToSend settings packet s = unless (sendRows settings packet s) (datagramOctets (carriedNext settings packet s))

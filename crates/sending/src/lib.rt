@@ -1,19 +1,12 @@
-// The sending session: document 01, 'The sending session'.
-mod held;
-mod inner;
-mod items;
-mod next;
-
+// The sending session, what it is: document 01, 'The sending session'.
 use datagrams::Packet;
-use heads::Session;
-use lengths::Refusal;
+use held::Session;
 use lengths::Written;
 ghost use mathlib.Core.Path.{_≡_};
 ghost use Rattle.views.specs.View.{sessionLimit};
 ghost use Rattle.sending.specs.Sending.{historyKept};
 ghost use Rattle.sending.specs.Sender.{historyOctets};
-ghost use Rattle.sending.specs.Inner.{Unchanged};
-ghost use Rattle.sending.specs.Promise.{FreshMade, RangesTold, Sends};
+ghost use Rattle.sending.specs.Promise.{FreshMade};
 
 // Beside its packet a datagram carries k spares, or m messages, each over n packets.
 pub enum Settings {
@@ -70,51 +63,5 @@ impl Sender {
             sizes: [0; Sender::HISTORY],
             octets: [0; Sender::OCTETS],
         }
-    }
-}
-
-// Whether a session is within its ranges.
-pub fn in_ranges(s: Sender) -> bool
-    ensures { λ r. ⌜ RangesTold s r ⌝ }
-{
-    let sent = s.sent as usize;
-    let sizes = s.sizes;
-    let octets = s.octets;
-    held::in_ranges(sent, &sizes, &octets)
-}
-
-// "A refusal .. changes nothing."
-fn unchanged(s: Sender, why: Refusal) -> Sent
-    ensures { λ r. ⌜ Unchanged s why r ⌝ }
-{
-    Sent {
-        sender: s,
-        answer: Written::Refused(why),
-    }
-}
-
-// The packet, sent with these settings: its datagram is written to the front of out.
-pub fn send(s: Sender, packet: &[u8], settings: Settings, out: &mut [u8]) -> Sent
-    ensures { λ r. ⌜ Sends s settings (now (packet .entry)) (now (out .entry)) (now (out .exit)) r ⌝ }
-{
-    let sent = s.sent as usize;
-    let mut sizes = s.sizes;
-    let mut octets = s.octets;
-    if !held::in_ranges(sent, &sizes, &octets) {
-        return unchanged(s, Refusal::new(Refusal::OUTSIDE_RANGES));
-    }
-    let answer = inner::send_held(sent, &mut sizes, &mut octets, packet, settings, out);
-    let next = s.sent + 1;
-    let moved = Sender {
-        sent: next,
-        sizes,
-        octets,
-    };
-    match answer {
-        Written::Octets(n) => Sent {
-            sender: moved,
-            answer: Written::Octets(n),
-        },
-        Written::Refused(why) => unchanged(s, why),
     }
 }

@@ -2,46 +2,42 @@
 -- within them the core's promise is the call's. Assumes nothing.
 use Prim.Native.Nat.{ℕ}
 use mathlib.Core.Path.{_≡_, refl, sym, ap, subst, _∙_}
-use mathlib.Core.Bool.{Bool, true, false, cond}
-use mathlib.Core.List.{List, map}
-use lib.ListN.{length, length-map}
+use mathlib.Core.Bool.{Bool, true, false}
+use mathlib.Core.List.{List}
+use lib.ListN.{length}
 use Rattle.lengths.specs.Refusals.{outsideRanges}
-use Rattle.lengths.specs.Answers.{Answer, done, refused, refuse}
+use Rattle.lengths.specs.Answers.{Answer, done, refused}
 use Rattle.lengths.specs.Promise.{RefusalMade}
 use Rattle.lengths.specs.declared.Refusal.{Refusal}
 use Rattle.views.specs.View.{View}
 use Rattle.views.specs.Offer as offers
 use Rattle.views.specs.Release as release
 use Rattle.views.specs.Release.{Release, Loss}
-use Rattle.heads.specs.Head.{viewIn, viewOf}
-use Rattle.heads.specs.Ranges.{inRanges, sessionInRanges}
-use Rattle.heads.specs.Promise.{Sized}
-use Rattle.heads.specs.Within.{Within}
-use Rattle.heads.specs.declared.Head.{Head}
-use Rattle.heads.specs.declared.Session.{Session}
-use Rattle.ranges.proofs.Laws.{within-of}
-use Rattle.releasing.specs.Outcome.{releasedOutcome, lostOutcome, handedOf, octetsOf, numberOf, afterNext, afterGiveUp}
-use Rattle.releasing.specs.Promise.{Same, NextMade, GiveUpMade}
-use Rattle.releasing.specs.declared.NextDone.{NextDone}
-use Rattle.releasing.specs.declared.GivenUp.{GivenUp}
-use Rattle.releasing.specs.declared.Released.the-variants as released
-use Rattle.releasing.specs.declared.Lost.the-variants as lost
-use Rattle.receiving.specs.Promise as received
-use Rattle.receiving.specs.Promise.{OfferMade, afterOffer}
-use Rattle.receiving.specs.declared.OfferDone.{OfferDone}
-use Rattle.receiving.specs.declared.Offered.the-variants as offered
-use Rattle.sessions.specs.Receiver.{SeenAs, After, inRangesThen, offerOf, OfferOwes, nextOf, viewAfterNext, NextOwes, giveUpOf, viewAfterLoss, GiveUpOwes}
+use Rattle.held.specs.Table.{Lent, lent, lentBy, viewOf}
+use Rattle.held.specs.Laid.{sessionInRanges, InRanges}
+use Rattle.held.specs.Promise.{Sized}
+use Rattle.held.specs.declared.Counts.{Counts}
+use Rattle.held.specs.declared.Session.{Session}
+use Rattle.held.proofs.Ranges.{session-in-ranges}
+use Rattle.leaving.specs.Outcome.{afterNext, afterGiveUp}
+use Rattle.leaving.specs.Promise.{Releases, GivesUp}
+use Rattle.leaving.specs.declared.Released.{Released}
+use Rattle.leaving.specs.declared.Released.the-variants as released
+use Rattle.leaving.specs.declared.Lost.{Lost}
+use Rattle.leaving.specs.declared.Lost.the-variants as lost
+use Rattle.offering.specs.Outcome.{afterOffer}
+use Rattle.offering.specs.Promise.{Offers}
+use Rattle.offering.specs.declared.Offered.{Offered}
+use Rattle.offering.specs.declared.Offered.the-variants as offered
+use Rattle.sessions.specs.Receiver.{SeenAs, After, offerOf, OfferOwes, nextOf, viewAfterNext, NextOwes, giveUpOf, viewAfterLoss, GiveUpOwes}
 
--- the session of a head and its stores
-abbrev pub sessionOf : Head → List ℕ → List ℕ → Session
-sessionOf h o g = record { head = h; octets = o; messages = g }
+-- the session put together again
+abbrev pub sessionOf : ℕ → Counts → List ℕ → List ℕ → List ℕ → Session
+sessionOf b c t o g = record { base = b; counts = c; table = t; octets = o; messages = g }
 
 -- the session that a core hands back
-same-session : {h r : Head} {o g after messages : List ℕ} → Same h o g r after messages → sessionOf r after messages ≡ sessionOf h o g
-same-session s = rw (s .head, s .octets, s .messages)
-
-same-offer : {h r : Head} {o g after messages : List ℕ} → received.Same h o g r after messages → sessionOf r after messages ≡ sessionOf h o g
-same-offer s = rw (s .head, s .octets, s .messages)
+same-session : {s : Session} {b : ℕ} {c : Counts} {t o g : List ℕ} → lent b c t o g ≡ lentBy s → sessionOf b c t o g ≡ s
+same-session e = ap (λ (x : Lent). sessionOf (x .base) (x .counts) (x .table) (x .octets) (x .messages)) e
 
 -- the state after a call: by what it came to
 stands : {A : Type 0} (a : Answer A) (seen : A → View) (viewed : Answer View) (s r : Session)
@@ -52,7 +48,7 @@ stands (done x) seen viewed s r did stay is-done is-refused = subst (λ (v : Ans
 stands (refused x) seen viewed s r did stay is-done is-refused = subst (λ (v : Answer View). After v s r) (sym (is-refused x refl)) (stay x refl)
 
 -- ---- offer
-module _ {s : Session} {octets : List ℕ} {ok : Bool} (e : ok ≡ inRanges (s .head) (s .octets) (s .messages)) where
+module _ {s : Session} {octets : List ℕ} {ok : Bool} (e : ok ≡ sessionInRanges s) where
   pub offer-outside : {why : Refusal} → RefusalMade outsideRanges why → ok ≡ false
       → OfferOwes s octets (record { session = s; answer = offered.Refused why })
   unfolding offerOf
@@ -60,25 +56,25 @@ module _ {s : Session} {octets : List ℕ} {ok : Bool} (e : ok ≡ inRanges (s .
       let outside : sessionInRanges s ≡ false = sym e ∙ out in
       record { answer = rw (outside, made .answer); state = rw outside refl }
 
-  pub offer-inside : {d : OfferDone} {o g : List ℕ} → ok ≡ true
-      → OfferMade (offers.offer octets (viewOf s)) (s .head) (s .octets) (s .messages) d o g
-      → OfferOwes s octets (record { session = sessionOf (d .head) o g; answer = d .answer })
+  pub offer-inside : {b : ℕ} {c : Counts} {t o g : List ℕ} {answer : Offered} → ok ≡ true
+      → Offers octets (lentBy s) (lent b c t o g) answer
+      → OfferOwes s octets (record { session = sessionOf b c t o g; answer = answer })
   unfolding offerOf
-  offer-inside {d} {o} {g} yes-in m =
+  offer-inside {b} {c} {t} {o} {g} yes-in m =
       let inside : sessionInRanges s ≡ true = sym e ∙ yes-in in
       record {
-        answer = rw inside (m .answer);
+        answer = rw inside (m .told);
         state =
             rw inside
-            (stands (offers.offer octets (viewOf s)) (λ v. v) _ s (sessionOf (d .head) o g)
+            (stands (offers.offer octets (viewOf s)) (λ v. v) _ s (sessionOf b c t o g)
             (λ v is. record { within = m .within; view = m .state ∙ ap (λ (x : Answer View). afterOffer x (viewOf s)) is })
-            (λ x is. same-offer (m .stays x is))
+            (λ x is. same-session (m .stays x is))
             (λ v is. is)
             (λ x is. is));
       }
 
 -- ---- next
-module _ {s : Session} {old : List ℕ} {ok : Bool} (e : ok ≡ inRanges (s .head) (s .octets) (s .messages)) where
+module _ {s : Session} {old : List ℕ} {ok : Bool} (e : ok ≡ sessionInRanges s) where
   pub next-outside : {why : Refusal} → RefusalMade outsideRanges why → ok ≡ false
       → NextOwes s old old (record { session = s; answer = released.Refused why })
   unfolding nextOf
@@ -90,18 +86,18 @@ module _ {s : Session} {old : List ℕ} {ok : Bool} (e : ok ≡ inRanges (s .hea
         state = rw outside refl;
       }
 
-  pub next-inside : {new : List ℕ} {d : NextDone} {o g : List ℕ} → ok ≡ true
-      → NextMade (s .head) (s .octets) (s .messages) old d o g new
-      → NextOwes s old new (record { session = sessionOf (d .head) o g; answer = d .answer })
+  pub next-inside : {new : List ℕ} {b : ℕ} {c : Counts} {t o g : List ℕ} {answer : Released} → ok ≡ true
+      → Releases (lentBy s) (lent b c t o g) old new answer
+      → NextOwes s old new (record { session = sessionOf b c t o g; answer = answer })
   unfolding nextOf
-  next-inside {new} {d} {o} {g} yes-in m =
+  next-inside {new} {b} {c} {t} {o} {g} yes-in m =
       let inside : sessionInRanges s ≡ true = sym e ∙ yes-in in
       record {
-        answer = rw inside (m .answer);
-        lent = rw inside (m .lent);
+        answer = rw inside (m .told);
+        lent = rw inside (m .written);
         state =
             rw inside
-            (stands (release.next (length old) (viewOf s)) (λ a. a .after) _ s (sessionOf (d .head) o g)
+            (stands (release.next (length old) (viewOf s)) (λ a. a .after) _ s (sessionOf b c t o g)
             (λ a is. record { within = m .within; view = m .state ∙ ap (λ (x : Answer Release). afterNext x (viewOf s)) is })
             (λ x is. same-session (m .stays x is))
             (λ a is. ap viewAfterNext is)
@@ -109,7 +105,7 @@ module _ {s : Session} {old : List ℕ} {ok : Bool} (e : ok ≡ inRanges (s .hea
       }
 
 -- ---- give up
-module _ {s : Session} {ok : Bool} (e : ok ≡ inRanges (s .head) (s .octets) (s .messages)) where
+module _ {s : Session} {ok : Bool} (e : ok ≡ sessionInRanges s) where
   pub give-up-outside : {why : Refusal} → RefusalMade outsideRanges why → ok ≡ false
       → GiveUpOwes s (record { session = s; answer = lost.Refused why })
   unfolding giveUpOf
@@ -117,16 +113,16 @@ module _ {s : Session} {ok : Bool} (e : ok ≡ inRanges (s .head) (s .octets) (s
       let outside : sessionInRanges s ≡ false = sym e ∙ out in
       record { answer = rw (outside, made .answer); state = rw outside refl }
 
-  pub give-up-inside : {d : GivenUp} {o g : List ℕ} → ok ≡ true → GiveUpMade (s .head) (s .octets) (s .messages) d o g
-      → GiveUpOwes s (record { session = sessionOf (d .head) o g; answer = d .answer })
+  pub give-up-inside : {b : ℕ} {c : Counts} {t o g : List ℕ} {answer : Lost} → ok ≡ true → GivesUp (lentBy s) (lent b c t o g) answer
+      → GiveUpOwes s (record { session = sessionOf b c t o g; answer = answer })
   unfolding giveUpOf
-  give-up-inside {d} {o} {g} yes-in m =
+  give-up-inside {b} {c} {t} {o} {g} yes-in m =
       let inside : sessionInRanges s ≡ true = sym e ∙ yes-in in
       record {
-        answer = rw inside (m .answer);
+        answer = rw inside (m .told);
         state =
             rw inside
-            (stands (release.giveUp (viewOf s)) (λ a. a .after) _ s (sessionOf (d .head) o g)
+            (stands (release.giveUp (viewOf s)) (λ a. a .after) _ s (sessionOf b c t o g)
             (λ a is. record { within = m .within; view = m .state ∙ ap (λ (x : Answer Loss). afterGiveUp x (viewOf s)) is })
             (λ x is. same-session (m .stays x is))
             (λ a is. ap viewAfterLoss is)
@@ -134,12 +130,7 @@ module _ {s : Session} {ok : Bool} (e : ok ≡ inRanges (s .head) (s .octets) (s
       }
 
 -- ---- what the cores require
-pub within-session : {s : Session} {ok : Bool} → ok ≡ inRanges (s .head) (s .octets) (s .messages) → ok ≡ true
-    → Sized (s .head) (s .octets) (s .messages) → Within (s .head) (s .octets) (s .messages)
-within-session {s} e yes-in sized = within-of (s .head) (s .octets) (s .messages) (sym e ∙ yes-in) sized
+pub within-session : {s : Session} {ok : Bool} → ok ≡ sessionInRanges s → ok ≡ true → Sized s → InRanges (lentBy s)
+within-session {s} e yes-in sized = session-in-ranges s (sym e ∙ yes-in) sized
 
 pub ruleset calls = (offer-outside, offer-inside, next-outside, next-inside, give-up-outside, give-up-inside)
-
--- an array of structs has the length of its type
-pub mapped-long : {A B : Type 0} (f : A → B) (l : List A) (n : ℕ) → length (map f l) ≡ n → length l ≡ n
-mapped-long f l n long = sym (length-map l f) ∙ long

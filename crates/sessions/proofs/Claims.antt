@@ -1,6 +1,6 @@
 -- The claims of the receiving session. Assumes nothing.
-use Prim.Native.Nat.{ℕ, _+_, _-_, _≤_, _<_}
-use mathlib.Core.Path.{_≡_, refl, sym, ap, ap₂, subst, _∙_}
+use Prim.Native.Nat.{ℕ, _+_, _-_, _<_}
+use mathlib.Core.Path.{_≡_, refl, sym, ap, ap₂, _∙_}
 use mathlib.Core.Bool.{Bool, true, false, cond, true≢false}
 use mathlib.Core.List.{List, [], _∷_}
 use mathlib.Core.Logic.{⊎-elim}
@@ -12,26 +12,23 @@ use borrow.Author.Tests.{ltb-true}
 use Rattle.octets.proofs.Cases.{true-or-false}
 use Rattle.lengths.specs.Refusals.{repeated, tooFar, late}
 use Rattle.lengths.specs.Answers.{Answer, done, refused, refuse, _>>=_, over}
-use Rattle.lengths.specs.declared.Refusal.{Refusal}
 use Rattle.datagrams.specs.Carried.{Carried, Extra, spares, parity}
 use Rattle.datagrams.specs.Read.{DatagramParts, readDatagram, carriedBy}
 use Rattle.repair.specs.Cells.{State, received, spare, Cell, isUnknown, cellAt, unknownAt, keptBefore, keptAhead}
-use Rattle.repair.specs.Held.{Held, nothingHeld, heldMessages}
+use Rattle.repair.specs.Held.{Held, nothingHeld}
 use Rattle.repair.specs.Reached.{Known}
 use Rattle.repair.proofs.Grows.{repair-known}
 use Rattle.views.specs.View.{View, distance}
 use Rattle.views.specs.Offer as offers
-use Rattle.heads.specs.Ranges.{sessionInRanges}
-use Rattle.heads.specs.declared.Session.{Session}
-use Rattle.ranges.proofs.Laws.{inRanges-of, fresh-same}
-use Rattle.releasing.specs.Outcome.{octetsOf}
-use Rattle.releasing.proofs.Laws.{released-told, lost-told}
-use Rattle.sessions.specs.Receiver.{SeenAs, After, OfferOwes, offerOf, NextOwes, nextOf, viewAfterNext, GiveUpOwes, giveUpOf, viewAfterLoss}
+use Rattle.held.specs.Laid.{sessionInRanges}
+use Rattle.held.specs.declared.Session.{Session}
+use Rattle.held.proofs.Ranges.{in-ranges-true}
+use Rattle.held.proofs.Injective.{fresh-same}
+use Rattle.leaving.specs.Outcome.{octetsOf}
+use Rattle.sessions.specs.Receiver.{After, offerOf, nextOf, viewAfterNext, giveUpOf, viewAfterLoss}
 use Rattle.sessions.specs.Claims.{RefusedStays, OneOutcome, AcceptedOffer, Claims}
-use Rattle.sessions.specs.declared.receiver.AfterOffer.{AfterOffer}
-use Rattle.sessions.specs.declared.receiver.AfterNext.{AfterNext}
-use Rattle.sessions.specs.declared.receiver.AfterGiveUp.{AfterGiveUp}
-use Rattle.sessions.proofs.Outcomes.{after-same, after-refused, offered-told}
+use Rattle.sessions.proofs.Told.{released-told, lost-told, offered-told}
+use Rattle.sessions.proofs.Outcomes.{after-same, after-refused}
 
 refused-stays : RefusedStays
 refused-stays =
@@ -170,7 +167,7 @@ accepted-offer octets view after e =
 
 -- ---- within the ranges
 after-ranges : (a : Answer View) (s r : Session) → After a s r → sessionInRanges s ≡ true → sessionInRanges r ≡ true
-after-ranges (done v) s r x inside = inRanges-of (x .within)
+after-ranges (done v) s r x inside = in-ranges-true (x .within)
 after-ranges (refused why) s r x inside = ap (λ (q : Session). sessionInRanges q) x ∙ inside
 
 pub claims : Claims

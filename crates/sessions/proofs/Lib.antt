@@ -1,3 +1,4 @@
 mod Called
 mod Outcomes
+pub mod Told
 pub mod Claims

@@ -1,20 +1,15 @@
 -- Two outcomes of a call are equal, and a refused call leaves the session: from the promises. Assumes nothing.
-use Prim.Native.Nat.{ℕ}
-use mathlib.Core.Path.{_≡_, refl, sym, subst, _∙_}
-use native.Mathlib.Omega.{arith}
+use mathlib.Core.Path.{_≡_, sym, subst, _∙_}
 use Rattle.lengths.specs.Answers.{Answer, done, refused}
 use Rattle.lengths.specs.declared.Refusal.{Refusal}
 use Rattle.views.specs.View.{View}
-use Rattle.heads.specs.declared.Session.{Session}
-use Rattle.heads.proofs.Injective.{session-same}
-use Rattle.receiving.specs.Promise.{offeredOutcome}
-use Rattle.receiving.specs.declared.Offered.{Offered}
-use Rattle.receiving.specs.declared.Offered.the-variants as offered
+use Rattle.held.specs.declared.Session.{Session}
+use Rattle.held.proofs.Injective.{session-same}
 use Rattle.sessions.specs.Receiver.{SeenAs, After}
 
 -- one view, one session
 pub seen-same : {v : View} {r q : Session} → SeenAs v r → SeenAs v q → r ≡ q
-seen-same a b = session-same (a .within) (b .within) (a .view ∙ sym (b .view))
+seen-same {r = r} {q} a b = session-same r q (a .within) (b .within) (a .view ∙ sym (b .view))
 
 pub after-same : (a : Answer View) (s : Session) {r q : Session} → After a s r → After a s q → r ≡ q
 after-same (done v) s x y = seen-same x y
@@ -23,10 +18,3 @@ after-same (refused why) s x y = x ∙ sym y
 -- a refusal leaves the session
 pub after-refused : (a : Answer View) {s r : Session} (x : Refusal) → After a s r → a ≡ refused x → r ≡ s
 after-refused a {s} {r} x stands is = subst (λ (v : Answer View). After v s r) is stands
-
--- an answer's case is told by its number
-pub offered-told : (r q : Offered) → offeredOutcome r ≡ offeredOutcome q → r ≡ q
-offered-told offered.Accepted offered.Accepted e = refl
-offered-told offered.Accepted (offered.Refused x) e = let z : _≡_ {A = ℕ} 0 1 = cc in absurd (omega arith)
-offered-told (offered.Refused x) offered.Accepted e = let z : _≡_ {A = ℕ} 0 1 = cc in absurd (omega arith)
-offered-told (offered.Refused x) (offered.Refused y) e = cc

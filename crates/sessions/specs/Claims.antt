@@ -4,16 +4,16 @@ use mathlib.Core.Path.{_≡_}
 use mathlib.Core.Bool.{true}
 use mathlib.Core.List.{List}
 use lib.ListN.{length}
-use Rattle.lengths.specs.Answers.{Answer, done, refused}
+use Rattle.lengths.specs.Answers.{done, refused}
 use Rattle.lengths.specs.declared.Refusal.{Refusal}
 use Rattle.datagrams.specs.Read.{DatagramParts, readDatagram}
 use Rattle.repair.specs.Cells.{cellAt, keptAhead}
 use Rattle.repair.specs.Reached.{Known}
 use Rattle.views.specs.View.{View, distance}
 use Rattle.views.specs.Offer as offers
-use Rattle.heads.specs.Ranges.{sessionInRanges}
-use Rattle.heads.specs.Promise.{Fresh}
-use Rattle.heads.specs.declared.Session.{Session}
+use Rattle.held.specs.Laid.{sessionInRanges}
+use Rattle.held.specs.Promise.{Fresh}
+use Rattle.held.specs.declared.Session.{Session}
 use Rattle.sessions.specs.Receiver.{OfferOwes, offerOf, NextOwes, nextOf, GiveUpOwes, giveUpOf}
 use Rattle.sessions.specs.declared.receiver.AfterOffer.{AfterOffer}
 use Rattle.sessions.specs.declared.receiver.AfterNext.{AfterNext}

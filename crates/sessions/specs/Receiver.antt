@@ -3,29 +3,27 @@
 -- session after and all lent octets, for every session of the struct's type and every input. Definitions only.
 use Prim.Native.Nat.{ℕ}
 use mathlib.Core.Path.{_≡_}
-use mathlib.Core.Bool.{true, cond}
+use mathlib.Core.Bool.{cond}
 use mathlib.Core.List.{List}
 use lib.ListN.{length}
 use Rattle.lengths.specs.Refusals.{outsideRanges}
 use Rattle.lengths.specs.Answers.{Answer, done, refused, refuse, over}
-use Rattle.lengths.specs.declared.Refusal.{Refusal}
 use Rattle.views.specs.View.{View}
 use Rattle.views.specs.Offer as offers
 use Rattle.views.specs.Release as release
 use Rattle.views.specs.Release.{Release, Loss}
-use Rattle.heads.specs.Head.{viewOf}
-use Rattle.heads.specs.Ranges.{sessionInRanges}
-use Rattle.heads.specs.Within.{Within}
-use Rattle.heads.specs.declared.Session.{Session}
-use Rattle.releasing.specs.Outcome.{releasedOutcome, lostOutcome, handedOf, octetsOf, numberOf}
-use Rattle.receiving.specs.Promise.{offeredOutcome, acceptedOf}
+use Rattle.held.specs.Table.{lentBy, viewOf}
+use Rattle.held.specs.Laid.{sessionInRanges, InRanges}
+use Rattle.held.specs.declared.Session.{Session}
+use Rattle.leaving.specs.Outcome.{releasedOutcome, lostOutcome, handedOf, octetsOf, numberOf}
+use Rattle.offering.specs.Outcome.{offeredOutcome, acceptedOf}
 use Rattle.sessions.specs.declared.receiver.AfterOffer.{AfterOffer}
 use Rattle.sessions.specs.declared.receiver.AfterNext.{AfterNext}
 use Rattle.sessions.specs.declared.receiver.AfterGiveUp.{AfterGiveUp}
 
 -- a session within its ranges, which document 01 sees as this view
 pub record SeenAs (wanted : View) (s : Session) : Type 0 where
-  pub within : Within (s .head) (s .octets) (s .messages)
+  pub within : InRanges (lentBy s)
   pub view : viewOf s ≡ wanted
 
 -- the session after a call: the view that it came to, within the ranges; after a refusal the very session before

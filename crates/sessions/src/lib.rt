@@ -3,7 +3,12 @@
 // buffer as it is.
 mod receiver;
 
-pub use heads::Session;
+pub use held::Counts;
+pub use held::Session;
+pub use held::State;
+pub use leaving::Lost;
+pub use leaving::Released;
+pub use offering::Offered;
 pub use receiver::AfterGiveUp;
 pub use receiver::AfterNext;
 pub use receiver::AfterOffer;

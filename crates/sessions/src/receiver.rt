@@ -1,9 +1,9 @@
 // The receiving session: document 01, 'The receiving session'.
-use heads::Session;
+use held::Session;
+use leaving::Lost;
+use leaving::Released;
 use lengths::Refusal;
-use receiving::Offered;
-use releasing::Lost;
-use releasing::Released;
+use offering::Offered;
 ghost use Rattle.sessions.specs.Receiver.{OfferOwes, NextOwes, GiveUpOwes};
 
 // What offer answers, and the session after.
@@ -28,15 +28,24 @@ pub struct AfterGiveUp {
 pub fn offer(s: Session, datagram: &[u8]) -> AfterOffer
     ensures { λ r. ⌜ OfferOwes s (now (datagram .entry)) r ⌝ }
 {
-    let head = s.head;
+    let base = s.base;
+    let counts = s.counts;
+    let mut table = s.table;
     let mut octets = s.octets;
     let mut messages = s.messages;
-    if ranges::in_ranges(head, &octets, &messages) {
-        let done = receiving::offer_core(head, &mut octets, &mut messages, datagram);
-        let accepted = done.head;
-        let answer = done.answer;
+    if checking::in_ranges(base, counts, &table, &octets, &messages) {
+        let answer = offering::offer_core(
+            base,
+            counts,
+            &mut table,
+            &mut octets,
+            &mut messages,
+            datagram,
+        );
         let session = Session {
-            head: accepted,
+            base,
+            counts,
+            table,
             octets,
             messages,
         };
@@ -53,15 +62,20 @@ pub fn offer(s: Session, datagram: &[u8]) -> AfterOffer
 pub fn next(s: Session, out: &mut [u8]) -> AfterNext
     ensures { λ r. ⌜ NextOwes s (now (out .entry)) (now (out .exit)) r ⌝ }
 {
-    let head = s.head;
+    let base = s.base;
+    let counts = s.counts;
+    let mut table = s.table;
     let mut octets = s.octets;
     let mut messages = s.messages;
-    if ranges::in_ranges(head, &octets, &messages) {
-        let done = releasing::next_core(head, &mut octets, &mut messages, out);
-        let released = done.head;
+    if checking::in_ranges(base, counts, &table, &octets, &messages) {
+        let done = leaving::next_core(base, counts, &mut table, &mut octets, &mut messages, out);
+        let following = done.base;
+        let moved = done.counts;
         let answer = done.answer;
         let session = Session {
-            head: released,
+            base: following,
+            counts: moved,
+            table,
             octets,
             messages,
         };
@@ -78,15 +92,20 @@ pub fn next(s: Session, out: &mut [u8]) -> AfterNext
 pub fn give_up(s: Session) -> AfterGiveUp
     ensures { λ r. ⌜ GiveUpOwes s r ⌝ }
 {
-    let head = s.head;
+    let base = s.base;
+    let counts = s.counts;
+    let mut table = s.table;
     let mut octets = s.octets;
     let mut messages = s.messages;
-    if ranges::in_ranges(head, &octets, &messages) {
-        let done = releasing::give_up_core(head, &mut octets, &mut messages);
-        let after = done.head;
+    if checking::in_ranges(base, counts, &table, &octets, &messages) {
+        let done = leaving::give_up_core(base, counts, &mut table, &mut octets, &mut messages);
+        let following = done.base;
+        let moved = done.counts;
         let answer = done.answer;
         let session = Session {
-            head: after,
+            base: following,
+            counts: moved,
+            table,
             octets,
             messages,
         };

@@ -76,6 +76,17 @@ pub checked-done : {o : List ℕ} {slot n : ℕ} {ok : Bool} {j : ℕ} → Check
 unfolding zerosPast
 checked-done {o} {slot} {n} {ok} {j} c done = c .so ∙ ap (λ (k : ℕ). allBelow k (right o slot n)) (omega (arith, c .few))
 
+-- past no octet at all: each must be zero
+pub zero-turn : {o : List ℕ} {slot : ℕ} {ok : Bool} {j : ℕ} → Checked o slot 0 ok j → j < packetLimit
+    → Checked o slot 0 (ok && eqb (getD o (slot * packetLimit + j) 0) 0) (j + 1)
+zero-turn {o} {slot} {ok} {j} c more =
+    record {
+      so =
+          ap₂ (λ (a b : Bool). a && b) (c .so) (ap (λ (b : Bool). b || eqb (getD o (slot * packetLimit + j) 0) 0) (sym (le-ltb j 0 (omega arith))))
+          ∙ sym (allBelow-more j (right o slot 0));
+      few = omega arith;
+    }
+
 -- the mask is made: octets that let all pass are laid over zeros, j of them
 pub record Filled (table : List ℕ) (j : ℕ) : Type 0 where
   pub so : table ≡ replicate j 255 ++ drop j (zeros (packetLimit + packetLimit))

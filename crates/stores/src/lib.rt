@@ -75,6 +75,21 @@ pub fn zeros_past(o: &[u8], slot: usize, n: usize, table: &[u8]) -> bool
     ok
 }
 
+// Whether a slot has zeros alone: what has no octets is looked at without the mask.
+pub fn all_zero(o: &[u8], slot: usize) -> bool
+    requires { ⌜ HasSlot slot (now o) ⌝ }
+    ensures { λ r. ⌜ r ≡ zerosPast (now (o .entry)) slot 0 ⌝ }
+{
+    let at = slot * Packet::LIMIT;
+    let mut ok = true;
+    let mut j = 0;
+    while j < Packet::LIMIT {
+        ok = ok & (o[at + j] == 0);
+        j += 1;
+    }
+    ok
+}
+
 // The part of a slot, copied to the front of a lent buffer.
 pub fn copy_out(o: &[u8], slot: usize, n: usize, out: &mut [u8])
     requires { ⌜ HasSlot slot (now o) ⌝ }

@@ -4,10 +4,10 @@ use Rattle.calls.proofs.main.Statement.{statement}
 use Rattle.calls.proofs.main.Tie as tie
 
 abbrev Inv-loop : tie.InvT-loop
-Inv-loop held₀ block₀ line₀ input₀ turns₀ held block line input turns = Unit {0}
+Inv-loop held₀ block₀ at₀ end₀ turns₀ held block at end turns = Unit {0}
 
 abbrev μ-loop : tie.MeasureT-loop
-μ-loop held₀ block₀ line₀ input₀ turns₀ held block line input turns = turns
+μ-loop held₀ block₀ at₀ end₀ turns₀ held block at end turns = turns
 
 fresh-requires : tie.Need-fresh-requires Inv-loop μ-loop
 fresh-requires c κs = search needs
@@ -18,17 +18,14 @@ fresh-requires-2 c κs = search needs
 loop-holds : tie.Need-loop-holds Inv-loop μ-loop
 loop-holds c = search needs
 
-read-line-requires : tie.Need-read-line-requires Inv-loop μ-loop
-read-line-requires c κs = search needs
+sub-turns : tie.Need-sub-turns Inv-loop μ-loop
+sub-turns c = search needs
 
-answered-requires : tie.Need-answered-requires Inv-loop μ-loop
-answered-requires c κs = search needs
+turn-requires : tie.Need-turn-requires Inv-loop μ-loop
+turn-requires c κs = search needs
 
 returns : tie.Need-returns Inv-loop μ-loop
 returns c = search needs
-
-sub-turns : tie.Need-sub-turns Inv-loop μ-loop
-sub-turns c = search needs
 
 loop-less : tie.Need-loop-less Inv-loop μ-loop
 loop-less c = search needs
@@ -48,10 +45,9 @@ main-spec =
     fresh-requires
     fresh-requires-2
     loop-holds
-    read-line-requires
-    answered-requires
-    returns
     sub-turns
+    turn-requires
+    returns
     loop-less
     loop-again
     returns-2)

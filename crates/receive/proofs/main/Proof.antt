@@ -1,11 +1,11 @@
 -- `receive::main` is safe and ends: a fresh session is within its ranges. Assumes nothing.
-use Rattle.ranges.proofs.Laws.{within-of}
+use Rattle.held.proofs.Ranges.{session-in-ranges}
 use borrow.Author.Needs.{needs}
 use Rattle.receive.proofs.main.Statement.{statement}
 use Rattle.receive.proofs.main.Tie as tie
 use Rattle.receive.proofs.main.Reads as reads
 use Rattle.receive.proofs.main.Lts as lts
-use Rattle.heads.proofs.Session.fresh.Reads as fresh-reads
+use Rattle.held.proofs.Session.fresh.Reads as fresh-reads
 use Rattle.receive.proofs.serve.Reads as serve-reads
 
 fresh-requires : tie.Need-fresh-requires
@@ -13,8 +13,8 @@ fresh-requires c κs = search needs
 
 serve-requires : tie.Need-serve-requires
 serve-requires c κs =
-    let fresh = c .before .before .before .before .before .fresh .ensures in
-    within-of _ _ _ (fresh .ranges) (fresh .sized)
+    let fresh = c .before .before .before .before .before .before .before .fresh .ensures in
+    (session-in-ranges _ (fresh .ranges) (fresh .sized), fresh .view)
 
 returns : tie.Need-returns
 returns c = search needs

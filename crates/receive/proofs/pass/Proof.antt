@@ -1,29 +1,30 @@
--- `receive::pass` meets its contract: between two parts of the block the program may go on and the front of it is taken in; each part
--- takes some of it. Assumes nothing.
+-- `receive::pass` meets its contract: between two parts of the block the program may go on, the front of it is taken in and its text
+-- handed over; each part takes some of it. Assumes nothing.
 use Prim.Native.Nat.{_-_}
-use mathlib.Core.Path.{sym}
+use mathlib.Core.Path.{_∙_}
 use lib.ListN.{length}
-use lib.Seq.{length-take-le}
 use native.Mathlib.Omega.{arith}
 use borrow.Author.Needs.{needs}
+use Rattle.held.specs.Table.{lent}
 use Rattle.lines.proofs.Laws.{feedable-block}
-use Rattle.receive.proofs.Serving.{Serving, serving-start, served, part-some, part-inside, part-fits, part-lost, part-done}
+use Rattle.receive.proofs.Serving.{Serving, serving-start, served, stopped, part-some, part-inside, part-fits, part-done}
 use Rattle.receive.proofs.pass.Statement.{statement}
 use Rattle.receive.proofs.pass.Tie as tie
 use Rattle.receive.proofs.pass.Reads as reads
 use Rattle.receive.proofs.pass.Lts as lts
-use Rattle.io.proofs.write_all.Reads as write-all-reads
-use Rattle.lines.proofs.take_block.Reads as take-block-reads
+use Rattle.line_blocks.proofs.take_block.Reads as take-block-reads
+use Rattle.receive.proofs.hand_over.Reads as hand-over-reads
 
 abbrev Inv-loop : tie.InvT-loop
-Inv-loop o₀ g₀ line₀ begun block out₀ head₀ kept₀ from₀ o g line out head kept from =
-    Serving head₀ o₀ g₀ line₀ begun out₀ block head o g line kept out from
+Inv-loop base t₀ o₀ g₀ line₀ begun block out₀ handed₀ after₀ moves₀ kept₀ from₀ t o g line out handed after moves kept from =
+    Serving (lent after₀ moves₀ t₀ o₀ g₀) line₀ begun out₀ block handed₀ (lent after moves t o g) line kept out from handed
 
 abbrev μ-loop : tie.MeasureT-loop
-μ-loop o₀ g₀ line₀ begun block out₀ head₀ kept₀ from₀ o g line out head kept from = length block - from
+μ-loop base t₀ o₀ g₀ line₀ begun block out₀ handed₀ after₀ moves₀ kept₀ from₀ t o g line out handed after moves kept from =
+    length block - from
 
 loop-holds : tie.Need-loop-holds Inv-loop μ-loop
-loop-holds c = serving-start _ (c .before .before .before .pre)
+loop-holds c = serving-start _ _ (c .before .before .before .pre)
 
 sub-take-block : tie.Need-sub-take-block Inv-loop μ-loop
 sub-take-block c = search needs
@@ -36,60 +37,65 @@ part-take-block-end c = search needs
 
 take-block-requires : tie.Need-take-block-requires Inv-loop μ-loop
 take-block-requires c κs =
-    let loop = c .before .before .before .before .before .before in
+    let loop = c .before .before .before .before .before .before .before in
     feedable-block (loop .loop .inv .feedable)
 
 add-from : tie.Need-add-from Inv-loop μ-loop
 add-from c =
     let made = c .before .before .before .before .before .before in
-    let inside = made .before .before .before .before .before .before in
+    let inside = made .before .before .before .before .before .before .before in
     let loop = inside .before in
     let start = loop .before .before .before .before in
-    record { fits = omega (arith, start .good .1 .1 .1 .1 .1 .0, part-inside (start .args .block .now) (loop .loop .inv) (inside .loop-test .taken) (made .take-block .ensures)) }
+    let within = part-inside (start .args .block .now) (loop .loop .inv) (inside .loop-test .taken) (made .take-block .ensures) in
+    record { fits = omega (arith, start .good .1 .1 .1 .1 .1 .1 .1 .0, within) }
 
-slice-reshare-prefix-write-all : tie.Need-slice-reshare-prefix-write-all Inv-loop μ-loop
-slice-reshare-prefix-write-all c = search needs
-
-slice-aggregate-write-all : tie.Need-slice-aggregate-write-all Inv-loop μ-loop
-slice-aggregate-write-all c =
-    let made = c .before .before .before .before .before .before .before in
-    let inside = made .before .before .before .before .before .before in
+hand-over-requires : tie.Need-hand-over-requires Inv-loop μ-loop
+hand-over-requires c κs =
+    let made = c .before .before .before .before .before .before .before .before in
+    let inside = made .before .before .before .before .before .before .before in
     let loop = inside .before in
     let start = loop .before .before .before .before in
-    sym (length-take-le _ _ (part-fits (start .args .block .now) (loop .loop .inv) (inside .loop-test .taken) (made .take-block .ensures)))
-
-write-all-requires : tie.Need-write-all-requires Inv-loop μ-loop
-write-all-requires c κs = search needs
+    part-fits (start .args .block .now) (loop .loop .inv) (inside .loop-test .taken) (made .take-block .ensures)
 
 same-length : tie.Need-same-length Inv-loop μ-loop
-same-length c = search needs
+same-length c =
+    let made = c .before .before .before .before .before .before .before .before .before .before in
+    let loop = made .before .before .before .before .before .before .before .before in
+    made .take-block .kept .1 .1 .1 .1 .1 .0 ∙ loop .loop .inv .line-long
 
 same-length-2 : tie.Need-same-length-2 Inv-loop μ-loop
-same-length-2 c = search needs
+same-length-2 c =
+    let made = c .before .before .before .before .before .before .before .before .before .before in
+    let loop = made .before .before .before .before .before .before .before .before in
+    made .take-block .ensures .takes .long ∙ loop .loop .inv .out-long
 
 returns : tie.Need-returns Inv-loop μ-loop
 returns c =
-    let made = c .before .before .before .before .before .before .before .before .before in
-    let inside = made .before .before .before .before .before .before in
+    let made = c .before .before .before .before .before .before .before .before .before .before in
+    let inside = made .before .before .before .before .before .before .before in
     let loop = inside .before in
     let start = loop .before .before .before .before in
-    part-lost (start .args .block .now) (loop .loop .inv) (inside .loop-test .taken) (made .take-block .ensures)
+    stopped (start .args .block .now)
+    (part-done (start .args .block .now) (loop .loop .inv) (inside .loop-test .taken) (made .take-block .ensures)
+    (made .take-block .kept .1 .1 .1 .1 .1 .0) (c .before .hand-over .ensures))
 
 loop-less : tie.Need-loop-less Inv-loop μ-loop
 loop-less c =
-    let made = c .before .before .before .before .before .before .before .before .before in
-    let inside = made .before .before .before .before .before .before in
+    let made = c .before .before .before .before .before .before .before .before .before .before in
+    let inside = made .before .before .before .before .before .before .before in
     let loop = inside .before in
     let start = loop .before .before .before .before in
-    omega (arith, inside .loop-test .taken, part-some (start .args .block .now) (loop .loop .inv) (inside .loop-test .taken) (made .take-block .ensures))
+    let some = part-some (start .args .block .now) (loop .loop .inv) (inside .loop-test .taken) (made .take-block .ensures) in
+    omega (arith, inside .loop-test .taken, some)
 
 loop-again : tie.Need-loop-again Inv-loop μ-loop
 loop-again c =
-    let made = c .before .before .before .before .before .before .before .before .before in
-    let inside = made .before .before .before .before .before .before in
+    let made = c .before .before .before .before .before .before .before .before .before .before in
+    let inside = made .before .before .before .before .before .before .before in
     let loop = inside .before in
     let start = loop .before .before .before .before in
-    part-done (start .args .block .now) (loop .loop .inv) (inside .loop-test .taken) (made .take-block .ensures) (made .take-block .kept .1 .1 .1 .0)
+    part-done (start .args .block .now) (loop .loop .inv) (inside .loop-test .taken) (made .take-block .ensures)
+    (made .take-block .kept .1 .1 .1 .1 .1 .0) (c .before .hand-over .ensures)
 
 same-length-3 : tie.Need-same-length-3 Inv-loop μ-loop
 same-length-3 c = search needs
@@ -112,9 +118,7 @@ pass-spec =
     part-take-block-end
     take-block-requires
     add-from
-    slice-reshare-prefix-write-all
-    slice-aggregate-write-all
-    write-all-requires
+    hand-over-requires
     same-length
     same-length-2
     returns

@@ -1,5 +1,5 @@
 -- `Sender::fresh` meets its contract. Assumes nothing.
-use Rattle.sending.proofs.SenderSteps.{fresh-made}
+use Rattle.sending.proofs.FreshSteps.{fresh-made}
 use Rattle.sending.proofs.Sender.fresh.Statement.{statement}
 use Rattle.sending.proofs.Sender.fresh.Tie as tie
 

@@ -1,12 +1,8 @@
-use Rattle.sessions.proofs.Called.{calls, within-session, mapped-long}
+-- `receiver::offer` meets its contract: outside the ranges 17 and the very session, within them what the core owes. Assumes nothing.
+use Rattle.sessions.proofs.Called.{calls, within-session}
 use borrow.Author.Needs.{needs}
 use Rattle.sessions.proofs.receiver.offer.Statement.{statement}
 use Rattle.sessions.proofs.receiver.offer.Tie as tie
-use Rattle.sessions.proofs.receiver.offer.Reads as reads
-use Rattle.sessions.proofs.receiver.offer.Lts as lts
-use Rattle.lengths.proofs.Refusal.new.Reads as new-reads
-use Rattle.ranges.proofs.in_ranges.Reads as in-ranges-reads
-use Rattle.receiving.proofs.offer_core.Reads as offer-core-reads
 
 slice-aggregate-in-ranges : tie.Need-slice-aggregate-in-ranges
 slice-aggregate-in-ranges c = search needs
@@ -14,13 +10,16 @@ slice-aggregate-in-ranges c = search needs
 slice-aggregate-in-ranges-2 : tie.Need-slice-aggregate-in-ranges-2
 slice-aggregate-in-ranges-2 c = search needs
 
+slice-aggregate-in-ranges-3 : tie.Need-slice-aggregate-in-ranges-3
+slice-aggregate-in-ranges-3 c = search needs
+
 in-ranges-requires : tie.Need-in-ranges-requires
 in-ranges-requires c κs = search needs
 
 offer-core-requires : tie.Need-offer-core-requires
 offer-core-requires c κs =
-    within-session (c .before .before .before .in-ranges .ensures) (c .before .before .if1 .taken)
-    (record { kept = search mapped-long; heard = search mapped-long; sizes = search needs; octets = search needs; messages = search needs })
+    within-session (c .before .before .before .before .in-ranges .ensures) (c .before .before .before .if1 .taken)
+    (record { table = search needs; octets = search needs; messages = search needs })
 
 returns : tie.Need-returns
 returns c = search calls
@@ -37,6 +36,7 @@ offer-spec =
     (tie.spec
     slice-aggregate-in-ranges
     slice-aggregate-in-ranges-2
+    slice-aggregate-in-ranges-3
     in-ranges-requires
     offer-core-requires
     returns

@@ -1,0 +1,3 @@
+mod Turns
+mod Slot
+mod Same

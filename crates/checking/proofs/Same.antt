@@ -1,0 +1,249 @@
+-- The tests that the code makes, number by number, pass together exactly if what is lent is within its ranges. Over a layout that is
+-- right a cell of the view has as many octets as its slot's size says, so a test of the slot is the view's test. Assumes nothing.
+use Prim.Native.Nat.{ℕ, _+_, _%_, _<_}
+use mathlib.Core.Path.{_≡_, refl, sym, ap, ap₂, _∙_}
+use mathlib.Core.Bool.{Bool, true, not, _&&_}
+use mathlib.Core.List.{List, []}
+use lib.ListN.{length, getD}
+use lib.Dec.{leb, eqb}
+use native.Mathlib.Omega.{arith}
+use borrow.Author.Tests.{le-leb, leb-true}
+use Rattle.octets.specs.Place.{tab, allBelow}
+use Rattle.octets.proofs.Cases.{and-left, and-right, and-both}
+use Rattle.octets.proofs.Place.{allBelow-at, allBelow-of, length-tab}
+use Rattle.datagrams.specs.Sizes.{messageLimit, messagesLimit}
+use Rattle.repair.specs.Cells.{Cell, cellAt, isUnknown, keptBefore, keptAhead, keptNumbers}
+use Rattle.repair.specs.Held.{Held, heldAt}
+use Rattle.stores.specs.Store.{zerosPast}
+use Rattle.views.specs.View.{sum, numbers, sessionLimit}
+use Rattle.views.specs.Ranges.{sumRight, blankAt, sizeRight, cellRight, markRight, heldRight, knownAt, Sound}
+use Rattle.views.proofs.Ranges.{base-small, size-fits}
+use Rattle.views.proofs.Sizes.{mark-sizes}
+use Rattle.held.specs.Slots.{slotsKept, slotsHeard, slotAt, heardSlotAt, packetOctets, messageOctets}
+use Rattle.held.specs.Table.{Lent, lent, countsOf, places, lastState, stateIn, sizeIn, markIn, nIn, mIn, stateNumbered, cellIn, messageIn, heldIn, cellsOf, heldOf, viewIn}
+use Rattle.held.specs.Laid.{messageLaid, lentInRanges, Laid, InRanges}
+use Rattle.held.specs.declared.Counts.{Counts}
+use Rattle.held.proofs.Slots.{slot-small, heard-small, slot-of, heard-slot-of}
+use Rattle.held.proofs.Seen.{length-cells, length-held, cell-at, held-at, unknown-at, octets-long, cell-right, held-right}
+use Rattle.held.proofs.Messages.{message-length}
+use Rattle.held.proofs.Ranges.{message-fits, message-none, message-zeros, laid-message, in-ranges-of, in-ranges-true}
+use Rattle.checking.specs.Pieces.{stateRight, keptRight, markedRight, heardRight, keptTest, heardTest}
+use Rattle.checking.proofs.Turns.{both-ways}
+
+-- ---- a slot's test taken apart
+pub record KeptSeen (t o : List ℕ) (i : ℕ) (blank : Bool) : Type 0 where
+  pub number : leb (stateIn t i) lastState ≡ true
+  pub size : sizeRight (stateNumbered (stateIn t i)) (sizeIn t i) blank ≡ true
+  pub zeros : zerosPast o i (sizeIn t i) ≡ true
+
+kept-seen : (t o : List ℕ) (i : ℕ) (blank : Bool) → keptRight t o i blank ≡ true → KeptSeen t o i blank
+unfolding keptRight stateRight
+kept-seen t o i blank e =
+    let number = leb (stateIn t i) lastState in
+    let size = sizeRight (stateNumbered (stateIn t i)) (sizeIn t i) blank in
+    let both = and-left (number && size) (zerosPast o i (sizeIn t i)) e in
+    record {
+      number = and-left number size both;
+      size = and-right number size both;
+      zeros = and-right (number && size) (zerosPast o i (sizeIn t i)) e;
+    }
+
+seen-kept : {t o : List ℕ} {i : ℕ} {blank : Bool} → KeptSeen t o i blank → keptRight t o i blank ≡ true
+unfolding keptRight stateRight
+seen-kept s = and-both (and-both (s .number) (s .size)) (s .zeros)
+
+pub record HeardSeen (t g : List ℕ) (j : ℕ) (known : Bool) : Type 0 where
+  pub number : leb (markIn t j) 1 ≡ true
+  pub mark : markRight (eqb (markIn t j) 1) known (nIn t j) (mIn t j) ≡ true
+  pub message : (i : ℕ) → i < messagesLimit → messageLaid t g j (mIn t j) i ≡ true
+
+heard-seen : (t g : List ℕ) (j : ℕ) (known : Bool) → heardRight t g j known ≡ true → HeardSeen t g j known
+unfolding heardRight markedRight
+heard-seen t g j known e =
+    let number = leb (markIn t j) 1 in
+    let mark = markRight (eqb (markIn t j) 1) known (nIn t j) (mIn t j) in
+    let each = allBelow messagesLimit (messageLaid t g j (mIn t j)) in
+    let both = and-left (number && mark) each e in
+    record {
+      number = and-left number mark both;
+      mark = and-right number mark both;
+      message = allBelow-at messagesLimit (messageLaid t g j (mIn t j)) (and-right (number && mark) each e);
+    }
+
+seen-heard : {t g : List ℕ} {j : ℕ} {known : Bool} → HeardSeen t g j known → heardRight t g j known ≡ true
+unfolding heardRight markedRight
+seen-heard s = and-both (and-both (s .number) (s .mark)) (allBelow-of messagesLimit _ (s .message))
+
+-- ---- a slot's test and the view's, of what is laid
+module _ {t o g : List ℕ} (laid : Laid t o g) where
+  cell-told : (base p : ℕ) → p < keptNumbers → (blank : Bool)
+      → cellRight (cellAt (cellsOf base t o) p) blank
+      ≡ sizeRight (stateNumbered (stateIn t (slotAt base p))) (sizeIn t (slotAt base p)) blank
+  unfolding cellIn
+  cell-told base p below blank =
+      ap (λ (c : Cell). cellRight c blank) (cell-at base t o p below)
+      ∙ ap (λ (n : ℕ). sizeRight (stateNumbered (stateIn t (slotAt base p))) n blank) (octets-long laid (slotAt base p) (slot-small base p))
+
+  held-of-mark : (j : ℕ) → j < slotsHeard → (known : Bool) → markRight (eqb (markIn t j) 1) known (nIn t j) (mIn t j) ≡ true
+      → heldRight (heldIn t g j) known ≡ true
+  unfolding heldRight heldIn
+  held-of-mark j small known e =
+      and-both
+      (ap (λ (m : ℕ). markRight (eqb (markIn t j) 1) known (nIn t j) m) (length-tab (mIn t j) (messageIn t g j)) ∙ e)
+      (allBelow-of (length (tab (mIn t j) (messageIn t g j))) _
+      (λ i low.
+      let inside : i < mIn t j = rw (length-tab (mIn t j) (messageIn t g j)) at low in
+      let few : i < messagesLimit = omega (arith, laid .few j small) in
+      le-leb (length (getD (tab (mIn t j) (messageIn t g j)) i [])) messageLimit
+      (rw (message-length laid j i small few) (laid .part j i small few))))
+
+  mark-of-held : (j : ℕ) (known : Bool) → heldRight (heldIn t g j) known ≡ true
+      → markRight (eqb (markIn t j) 1) known (nIn t j) (mIn t j) ≡ true
+  unfolding heldRight heldIn
+  mark-of-held j known e =
+      sym (ap (λ (m : ℕ). markRight (eqb (markIn t j) 1) known (nIn t j) m) (length-tab (mIn t j) (messageIn t g j)))
+      ∙ and-left (markRight (eqb (markIn t j) 1) known (nIn t j) (length (tab (mIn t j) (messageIn t g j)))) _ e
+
+known-told : (l : Lent) (d : ℕ) → d < keptAhead
+    → knownAt (viewIn l) (keptBefore + d) ≡ not (isUnknown (stateNumbered (stateIn (l .table) (slotAt (l .base) (keptBefore + d)))))
+unfolding viewIn
+known-told l d below = ap not (unknown-at (l .base) (l .table) (l .octets) (keptBefore + d) (omega arith))
+
+-- ---- the tests at all numbers
+abbrev total : Lent → ℕ
+total l = sum (countsOf (l .counts))
+
+abbrev keptAll : Lent → Bool
+keptAll l = allBelow keptNumbers (keptTest (l .base) (total l) (l .table) (l .octets))
+
+abbrev heardAll : Lent → Bool
+heardAll l = allBelow keptAhead (heardTest (l .base) (l .table) (l .messages))
+
+-- from the tests to the ranges
+module _ (l : Lent) (long : length (l .table) ≡ places) (octets : length (l .octets) ≡ packetOctets)
+    (messages : length (l .messages) ≡ messageOctets) (summed : sumRight (viewIn l) ≡ true) (kept : keptAll l ≡ true)
+    (heard : heardAll l ≡ true) where
+  kept-at : (p : ℕ) → p < keptNumbers → KeptSeen (l .table) (l .octets) (slotAt (l .base) p) (blankAt (total l) p)
+  unfolding keptTest
+  kept-at p below = kept-seen (l .table) (l .octets) (slotAt (l .base) p) (blankAt (total l) p) (allBelow-at keptNumbers _ kept p below)
+
+  heard-at : (d : ℕ) → d < keptAhead
+      → HeardSeen (l .table) (l .messages) (heardSlotAt (l .base) d)
+      (not (isUnknown (stateNumbered (stateIn (l .table) (slotAt (l .base) (keptBefore + d))))))
+  unfolding heardTest
+  heard-at d below =
+      heard-seen (l .table) (l .messages) (heardSlotAt (l .base) d)
+      (not (isUnknown (stateNumbered (stateIn (l .table) (slotAt (l .base) (keptBefore + d))))))
+      (allBelow-at keptAhead _ heard d below)
+
+  kept-in : (i : ℕ) → i < slotsKept → (blank : Bool) × KeptSeen (l .table) (l .octets) i blank
+  kept-in i low =
+      let at = slot-of (l .base) i low in
+      (blankAt (total l) at.0, rw at.2 at (kept-at at.0 at.1))
+
+  heard-in : (j : ℕ) → j < slotsHeard → (known : Bool) × HeardSeen (l .table) (l .messages) j known
+  heard-in j low =
+      let at = heard-slot-of (l .base) j low in (
+        not (isUnknown (stateNumbered (stateIn (l .table) (slotAt (l .base) (keptBefore + at.0))))),
+        rw at.2 at (heard-at at.0 at.1),
+      )
+
+  laid-there : Laid (l .table) (l .octets) (l .messages)
+  laid-there =
+      let t = l .table in
+      let g = l .messages in
+      record {
+        long = long;
+        octets = octets;
+        messages = messages;
+        state = λ i low. leb-true (stateIn t i) lastState (kept-in i low .1 .number);
+        size = λ i low. size-fits (stateNumbered (stateIn t i)) (sizeIn t i) (kept-in i low .0) (kept-in i low .1 .size);
+        packet = λ i low. kept-in i low .1 .zeros;
+        mark = λ j low. leb-true (markIn t j) 1 (heard-in j low .1 .number);
+        few = λ j low. mark-sizes (eqb (markIn t j) 1) (heard-in j low .0) (nIn t j) (mIn t j) (heard-in j low .1 .mark) .1;
+        part = λ j i low below. message-fits t g j (mIn t j) i (heard-in j low .1 .message i below);
+        past = λ j i low below. message-none t g j (mIn t j) i (heard-in j low .1 .message i below);
+        message = λ j i low below. message-zeros t g j (mIn t j) i (heard-in j low .1 .message i below);
+      }
+
+  held-there : (d : ℕ) → d < keptAhead
+      → heldRight (heldAt (heldOf (l .base) (l .table) (l .messages)) d) (knownAt (viewIn l) (keptBefore + d)) ≡ true
+  held-there d below =
+      let j = heardSlotAt (l .base) d in
+      ap₂ (λ (h : Held) (b : Bool). heldRight h b) (held-at (l .base) (l .table) (l .messages) d below) (known-told l d below)
+      ∙ held-of-mark laid-there j (heard-small (l .base) d) _ (heard-at d below .mark)
+
+  sound-there : Sound (viewIn l)
+  unfolding viewIn
+  sound-there =
+      record {
+        small = base-small (viewIn l) summed;
+        total = summed;
+        kept = length-cells (l .base) (l .table) (l .octets);
+        ahead = length-held (l .base) (l .table) (l .messages);
+        cell = λ p below. cell-told laid-there (l .base) p below (blankAt (total l) p) ∙ kept-at p below .size;
+        held = held-there;
+      }
+
+  ranges-there : lentInRanges l ≡ true
+  ranges-there = in-ranges-true (record { laid = laid-there; sound = sound-there })
+
+-- and from the ranges to the tests
+module _ {l : Lent} (w : InRanges l) where
+  tests-kept : keptAll l ≡ true
+  unfolding keptTest cellIn
+  tests-kept =
+      allBelow-of keptNumbers _
+      (λ p below.
+      let i = slotAt (l .base) p in
+      let small = slot-small (l .base) p in
+      seen-kept
+      (record {
+        number = le-leb (stateIn (l .table) i) lastState (w .laid .state i small);
+        size =
+            ap (λ (n : ℕ). sizeRight (stateNumbered (stateIn (l .table) i)) n (blankAt (total l) p)) (sym (octets-long (w .laid) i small))
+            ∙ cell-right w p below;
+        zeros = w .laid .packet i small;
+      }))
+
+  tests-heard : heardAll l ≡ true
+  unfolding heardTest
+  tests-heard =
+      allBelow-of keptAhead _
+      (λ d below.
+      let j = heardSlotAt (l .base) d in
+      let small = heard-small (l .base) d in
+      seen-heard
+      (record {
+        number = le-leb (markIn (l .table) j) 1 (w .laid .mark j small);
+        mark =
+            mark-of-held (w .laid) j _
+            (ap (λ (b : Bool). heldRight (heldIn (l .table) (l .messages) j) b) (sym (known-told l d below)) ∙ held-right w d below);
+        message = λ i low. laid-message (w .laid) j i small low;
+      }))
+
+-- the whole
+sum-told : (l : Lent) → sumRight (viewIn l) ≡ (eqb (l .base) (total l % numbers) && leb (total l) sessionLimit)
+unfolding viewIn sumRight
+sum-told l = refl
+
+all-told : (l : Lent) → length (l .table) ≡ places → length (l .octets) ≡ packetOctets → length (l .messages) ≡ messageOctets
+    → ((sumRight (viewIn l) && keptAll l) && heardAll l) ≡ lentInRanges l
+all-told l long octets messages =
+    both-ways ((sumRight (viewIn l) && keptAll l) && heardAll l) (lentInRanges l)
+    (λ e.
+    let first = and-left (sumRight (viewIn l) && keptAll l) (heardAll l) e in
+    ranges-there l long octets messages (and-left (sumRight (viewIn l)) (keptAll l) first)
+    (and-right (sumRight (viewIn l)) (keptAll l) first)
+    (and-right (sumRight (viewIn l) && keptAll l) (heardAll l) e))
+    (λ e.
+    let w = in-ranges-of l e long octets messages in
+    and-both (and-both (w .sound .total) (tests-kept w)) (tests-heard w))
+
+pub whole-right : (base : ℕ) (counts : Counts) (t o g : List ℕ) {whole : ℕ} {summed kept heard : Bool} → length t ≡ places
+    → length o ≡ packetOctets → length g ≡ messageOctets → whole ≡ sum (countsOf counts)
+    → summed ≡ (eqb base (whole % numbers) && leb whole sessionLimit) → kept ≡ allBelow keptNumbers (keptTest base whole t o)
+    → heard ≡ allBelow keptAhead (heardTest base t g) → ((summed && kept) && heard) ≡ lentInRanges (lent base counts t o g)
+whole-right base counts t o g long octets messages whole-is summed-is kept-is heard-is =
+    rw (summed-is, kept-is, heard-is, whole-is, ← sum-told (lent base counts t o g))
+    (all-told (lent base counts t o g) long octets messages)

@@ -1,0 +1,161 @@
+-- One law for each answer about a slot, on plain values. Assumes nothing.
+use Prim.Native.Nat.{ℕ, _≤_, _<_}
+use mathlib.Core.Path.{_≡_, refl, sym, ap, _∙_}
+use mathlib.Core.Bool.{Bool, true, false, not, cond, _&&_}
+use mathlib.Core.List.{List}
+use mathlib.Core.Logic.{⊎-elim}
+use lib.Dec.{leb, ltb, eqb}
+use native.Mathlib.Omega.{arith}
+use borrow.Author.Tests.{lt-ltb, le-ltb, le-leb, lt-leb, ne-eqb, eqb-true, eq-eqb}
+use Rattle.octets.specs.Place.{allBelow}
+use Rattle.octets.proofs.Cases.{same-or-not, and-right}
+use Rattle.octets.proofs.Place.{allBelow-at, allBelow-of, allBelow-ext}
+use Rattle.datagrams.specs.Sizes.{packetLeast, packetLimit, coveredLimit, messageLimit, messagesLimit}
+use Rattle.stores.specs.Store.{zerosPast}
+use Rattle.views.specs.Ranges.{sizeRight, markRight}
+use Rattle.views.proofs.Ranges.{size-fits}
+use Rattle.held.specs.Slots.{messageSlot}
+use Rattle.held.specs.Table.{lastState, stateIn, sizeIn, markIn, nIn, mIn, messageSizeIn, stateNumbered}
+use Rattle.held.specs.Laid.{messageLaid}
+use Rattle.held.proofs.Ranges.{message-none}
+use Rattle.checking.specs.Pieces.{stateRight, keptRight, markedRight, heardRight, sizeless, emptyAt}
+
+-- ---- a state with its length
+module _ (state size : ℕ) (blank : Bool) where
+  pub state-unknown : state ≡ 0 → (eqb size 0 && not blank) ≡ stateRight state size blank
+  unfolding stateRight sizeRight stateNumbered
+  state-unknown e = rw e
+
+  pub state-blank : state ≡ lastState → (eqb size 0 && blank) ≡ stateRight state size blank
+  unfolding stateRight sizeRight stateNumbered
+  state-blank e = rw e
+
+  pub state-other : (state ≡ 0 → ⊥) → (state ≡ lastState → ⊥)
+      → (ltb state lastState && ((leb packetLeast size && leb size packetLimit) && not blank)) ≡ stateRight state size blank
+  unfolding stateRight sizeRight stateNumbered
+  state-other some full =
+      ⊎-elim (λ (e : state ≡ 1). rw e)
+      (λ no1.
+      ⊎-elim (λ (e : state ≡ 2). rw e)
+      (λ no2.
+      ⊎-elim (λ (e : state ≡ 3). rw e)
+      (λ no3. rw (le-ltb state lastState (omega arith), lt-leb state lastState (omega arith)))
+      (same-or-not state 3))
+      (same-or-not state 2))
+      (same-or-not state 1)
+
+-- the laws of `state_right`'s answers
+pub ruleset states = (state-unknown, state-blank, state-other)
+
+-- ---- octets past a length
+pub slot-empty : (o : List ℕ) (slot : ℕ) {size : ℕ} {right : Bool} → size ≡ 0 → right ≡ zerosPast o slot 0 → right ≡ zerosPast o slot size
+slot-empty o slot none right-is = rw none right-is
+
+-- a state that was found right has a size that a slot holds
+pub size-right : (state size : ℕ) (blank : Bool) {right : Bool} → right ≡ stateRight state size blank → right ≡ true → size ≤ packetLimit
+unfolding stateRight
+size-right state size blank so passed =
+    size-fits (stateNumbered state) size blank
+    (and-right (leb state lastState) (sizeRight (stateNumbered state) size blank) (sym so ∙ passed))
+
+-- ---- a kept number in its slot
+module _ (t o : List ℕ) (i : ℕ) (blank : Bool) {state size : ℕ} {test : Bool} (state-is : state ≡ stateIn t i)
+    (size-is : size ≡ sizeIn t i) (so : test ≡ stateRight state size blank) where
+  pub kept-passed : {right : Bool} → test ≡ true → right ≡ zerosPast o i size → right ≡ keptRight t o i blank
+  unfolding keptRight
+  kept-passed passed right-is = rw (← size-is, ← state-is, ← so, passed) right-is
+
+  pub kept-failed : test ≡ false → false ≡ keptRight t o i blank
+  unfolding keptRight
+  kept-failed failed = rw (← size-is, ← state-is, ← so, failed)
+
+-- ---- a mark, with n and m
+module _ (mark : ℕ) (known : Bool) (n m : ℕ) where
+  pub mark-alone : mark ≡ 1 → m ≡ 0 → (known && eqb n 0) ≡ markedRight mark known n m
+  unfolding markedRight markRight
+  mark-alone marked empty = rw (marked, empty)
+
+  pub mark-messages : mark ≡ 1 → (m ≡ 0 → ⊥)
+      → (known && ((leb 1 n && leb n coveredLimit) && leb m messagesLimit)) ≡ markedRight mark known n m
+  unfolding markedRight markRight
+  mark-messages marked some = rw (marked, ne-eqb m 0 some)
+
+  bare : (empty : Bool) → (empty && eqb n 0) ≡ (empty && cond empty (eqb n 0) ((leb 1 n && leb n coveredLimit) && leb m messagesLimit))
+  bare true = refl
+  bare false = refl
+
+  pub mark-none : (mark ≡ 1 → ⊥) → (eqb mark 0 && (eqb m 0 && eqb n 0)) ≡ markedRight mark known n m
+  unfolding markedRight markRight
+  mark-none other =
+      ⊎-elim (λ (e : mark ≡ 0). rw e (bare (eqb m 0))) (λ some. rw (ne-eqb mark 0 some, lt-leb mark 1 (omega arith))) (same-or-not mark 0)
+
+-- the laws of `mark_right`'s answers
+pub ruleset marks = (mark-alone, mark-messages, mark-none)
+
+-- ---- messages
+pub most-inside : {i m : ℕ} → i < m → messageLimit ≡ cond (ltb i m) messageLimit 0
+most-inside {i} {m} inside = rw (lt-ltb i m inside)
+
+pub most-past : {i m : ℕ} → m ≤ i → 0 ≡ cond (ltb i m) messageLimit 0
+most-past {i} {m} past = rw (le-ltb i m past)
+
+pub most-few : (i m : ℕ) {limit : ℕ} → limit ≡ cond (ltb i m) messageLimit 0 → limit ≤ messageLimit
+most-few i m e = rw e (pick (ltb i m)) where
+  pick : (b : Bool) → cond b messageLimit 0 ≤ messageLimit
+  pick true = omega arith
+  pick false = omega arith
+
+pub long-failed : {size limit : ℕ} (b : Bool) → limit < size → false ≡ (leb size limit && b)
+long-failed {size} {limit} b long = rw (lt-leb size limit long)
+
+pub short-passed : {size limit : ℕ} {b right : Bool} → size ≤ limit → right ≡ b → right ≡ (leb size limit && b)
+short-passed {size} {limit} short same = rw (le-leb size limit short) same
+
+-- ---- no messages: no lengths, and zeros in the slots of all
+laid-empty : (t g : List ℕ) (slot i : ℕ) → sizeless t slot i ≡ true → emptyAt g slot i ≡ messageLaid t g slot 0 i
+unfolding sizeless emptyAt messageLaid
+laid-empty t g slot i e =
+    rw (eqb-true (messageSizeIn t (messageSlot slot i)) 0 e, le-ltb i 0 (omega arith))
+
+pub none-passed : (t g : List ℕ) (slot : ℕ) {test right : Bool} → test ≡ allBelow messagesLimit (sizeless t slot) → test ≡ true
+    → right ≡ allBelow messagesLimit (emptyAt g slot) → right ≡ allBelow messagesLimit (messageLaid t g slot 0)
+none-passed t g slot so passed right-is =
+    right-is
+    ∙ allBelow-ext messagesLimit (emptyAt g slot) (messageLaid t g slot 0)
+    (λ i low. laid-empty t g slot i (allBelow-at messagesLimit (sizeless t slot) (sym so ∙ passed) i low))
+
+laid-sizeless : (t g : List ℕ) (slot i : ℕ) → messageLaid t g slot 0 i ≡ true → sizeless t slot i ≡ true
+unfolding sizeless
+laid-sizeless t g slot i e =
+    eq-eqb (messageSizeIn t (messageSlot slot i)) 0 (message-none t g slot 0 i e (omega arith))
+
+not-both : (a b : Bool) → (b ≡ true → a ≡ true) → a ≡ false → false ≡ b
+not-both a true f e = sym e ∙ f refl
+not-both a false f e = refl
+
+pub none-failed : (t g : List ℕ) (slot : ℕ) {test : Bool} → test ≡ allBelow messagesLimit (sizeless t slot) → test ≡ false
+    → false ≡ allBelow messagesLimit (messageLaid t g slot 0)
+none-failed t g slot so failed =
+    not-both (allBelow messagesLimit (sizeless t slot)) (allBelow messagesLimit (messageLaid t g slot 0))
+    (λ all.
+    allBelow-of messagesLimit (sizeless t slot)
+    (λ i low. laid-sizeless t g slot i (allBelow-at messagesLimit (messageLaid t g slot 0) all i low)))
+    (sym so ∙ failed)
+
+-- ---- a number from the base on in its slot
+module _ (t g : List ℕ) (j : ℕ) (known : Bool) {mark n m : ℕ} {test : Bool} (mark-is : mark ≡ markIn t j) (n-is : n ≡ nIn t j)
+    (m-is : m ≡ mIn t j) (so : test ≡ markedRight mark known n m) where
+  pub heard-some : {right : Bool} → test ≡ true → right ≡ allBelow messagesLimit (messageLaid t g j m) → right ≡ heardRight t g j known
+  unfolding heardRight
+  heard-some passed right-is = rw (← m-is, ← n-is, ← mark-is, ← so, passed) right-is
+
+  pub heard-none : {right : Bool} → test ≡ true → m ≡ 0 → right ≡ allBelow messagesLimit (messageLaid t g j 0)
+      → right ≡ heardRight t g j known
+  heard-none passed none right-is =
+      heard-some passed (right-is ∙ ap (λ (k : ℕ). allBelow messagesLimit (messageLaid t g j k)) (sym none))
+
+  pub heard-failed : test ≡ false → false ≡ heardRight t g j known
+  unfolding heardRight
+  heard-failed failed = rw (← m-is, ← n-is, ← mark-is, ← so, failed)
+
+pub ruleset heards = (heard-none, heard-some, heard-failed)

@@ -1,0 +1,121 @@
+-- What each loop of this crate keeps true, on plain values: where it starts, what a turn does, where it ends. Assumes nothing.
+use Prim.Native.Nat.{ℕ, _+_, _-_, _*_, _/_, _%_, _≤_, _<_}
+use mathlib.Core.Path.{_≡_, refl, sym, ap, ap₂, _∙_}
+use mathlib.Core.Bool.{Bool, true, false, cond, not, _&&_}
+use mathlib.Core.List.{List}
+use lib.ListN.{getD}
+use lib.Dec.{leb, ltb, eqb}
+use native.Mathlib.Omega.{arith}
+use borrow.Author.Tests.{lt-ltb, le-ltb}
+use Rattle.octets.specs.Place.{allBelow}
+use Rattle.octets.proofs.Place.{allBelow-more, allBelow-at, allBelow-of}
+use Rattle.datagrams.specs.Sizes.{packetLimit, messageLimit, messagesLimit}
+use Rattle.repair.specs.Cells.{isUnknown, keptBefore, keptAhead, keptNumbers}
+use Rattle.stores.specs.Store.{zerosPast}
+use Rattle.stores.proofs.Laws.{zerosPast-at}
+use Rattle.views.specs.Ranges.{blankAt}
+use Rattle.held.specs.Slots.{slotAt, heardSlotAt, messageSlot}
+use Rattle.held.specs.Table.{stateIn, messageSizeIn, stateNumbered}
+use Rattle.held.specs.Laid.{messageLaid}
+use Rattle.checking.specs.Pieces.{keptRight, heardRight, keptTest, heardTest, sizeless, emptyAt, heldOctets, octetZero}
+
+-- two tests that pass together
+pub both-ways : (a b : Bool) → (a ≡ true → b ≡ true) → (b ≡ true → a ≡ true) → a ≡ b
+both-ways true true f g = refl
+both-ways true false f g = sym (f refl)
+both-ways false true f g = g refl
+both-ways false false f g = refl
+
+-- ---- a loop over places: ok says whether the test passed at each place below p
+pub record Checked (limit : ℕ) (test : ℕ → Bool) (ok : Bool) (p : ℕ) : Type 0 where
+  pub so : ok ≡ allBelow p test
+  pub few : p ≤ limit
+
+pub checked-start : (limit : ℕ) (test : ℕ → Bool) → Checked limit test true 0
+unfolding allBelow
+checked-start limit test = record { so = refl; few = omega arith }
+
+pub checked-turn : {limit : ℕ} {test : ℕ → Bool} {ok right : Bool} {p : ℕ} → Checked limit test ok p → p < limit → right ≡ test p
+    → Checked limit test (ok && right) (p + 1)
+checked-turn {limit} {test} {ok} {right} {p} c more same =
+    record { so = ap₂ (λ (a b : Bool). a && b) (c .so) same ∙ sym (allBelow-more p test); few = omega arith }
+
+pub checked-done : {limit : ℕ} {test : ℕ → Bool} {ok : Bool} {p : ℕ} → Checked limit test ok p → limit ≤ p → ok ≡ allBelow limit test
+checked-done {limit} {test} {ok} {p} c done = c .so ∙ ap (λ (k : ℕ). allBelow k test) (omega (arith, c .few))
+
+-- ---- which numbers must be blank
+pub blank-before : (whole p : ℕ) → p < keptBefore → ltb whole (keptBefore - p) ≡ blankAt whole p
+blank-before whole p before = rw (lt-ltb p keptBefore before)
+
+pub blank-after : (whole p : ℕ) → keptBefore ≤ p → false ≡ blankAt whole p
+blank-after whole p after = rw (le-ltb p keptBefore after)
+
+-- ---- kept numbers
+module _ (base total : ℕ) (t o : List ℕ) {p : ℕ} {ok blank right : Bool} where
+  pub kept-turn : Checked keptNumbers (keptTest base total t o) ok p → p < keptNumbers → blank ≡ blankAt total p
+      → right ≡ keptRight t o (slotAt base p) blank → Checked keptNumbers (keptTest base total t o) (ok && right) (p + 1)
+  unfolding keptTest
+  kept-turn c more blank-is right-is =
+      checked-turn c more (right-is ∙ ap (λ (b : Bool). keptRight t o (slotAt base p) b) blank-is)
+
+-- ---- what is held at a distance
+module _ (base : ℕ) (t g : List ℕ) {ok known right : Bool} {d : ℕ} where
+  pub heard-turn : Checked keptAhead (heardTest base t g) ok d → d < keptAhead
+      → known ≡ not (isUnknown (stateNumbered (stateIn t (slotAt base (keptBefore + d)))))
+      → right ≡ heardRight t g (heardSlotAt base d) known → Checked keptAhead (heardTest base t g) (ok && right) (d + 1)
+  unfolding heardTest
+  heard-turn c more known-is right-is =
+      checked-turn c more (right-is ∙ ap (λ (b : Bool). heardRight t g (heardSlotAt base d) b) known-is)
+
+-- ---- messages
+module _ (t g : List ℕ) (slot m : ℕ) {ok right : Bool} {i limit size : ℕ} where
+  pub message-turn : Checked messagesLimit (messageLaid t g slot m) ok i → i < messagesLimit
+      → size ≡ messageSizeIn t (messageSlot slot i) → limit ≡ cond (ltb i m) messageLimit 0
+      → right ≡ (leb size limit && zerosPast g (messageSlot slot i) size)
+      → Checked messagesLimit (messageLaid t g slot m) (ok && right) (i + 1)
+  unfolding messageLaid
+  message-turn c more size-is most right-is = checked-turn c more (rw (← most, ← size-is) right-is)
+
+-- ---- no lengths
+pub sizeless-turn : (t : List ℕ) (slot : ℕ) {ok : Bool} {i size : ℕ} → Checked messagesLimit (sizeless t slot) ok i → i < messagesLimit
+    → size ≡ messageSizeIn t (messageSlot slot i) → Checked messagesLimit (sizeless t slot) (ok && eqb size 0) (i + 1)
+unfolding sizeless
+sizeless-turn t slot c more size-is = checked-turn c more (ap (λ (n : ℕ). eqb n 0) size-is)
+
+-- ---- no octets: those of all messages in one row
+pub octet-turn : (g : List ℕ) (slot : ℕ) {ok : Bool} {k : ℕ} → Checked heldOctets (octetZero g slot) ok k → k < heldOctets
+    → Checked heldOctets (octetZero g slot) (ok && eqb (getD g (slot * heldOctets + k) 0) 0) (k + 1)
+unfolding octetZero
+octet-turn g slot c more = checked-turn c more refl
+
+zero-there : (g : List ℕ) (slot i j : ℕ) → i < messagesLimit → j < packetLimit → allBelow heldOctets (octetZero g slot) ≡ true
+    → eqb (getD g (messageSlot slot i * packetLimit + j) 0) 0 ≡ true
+unfolding octetZero
+zero-there g slot i j low small all =
+    let e : slot * heldOctets + (i * packetLimit + j) ≡ messageSlot slot i * packetLimit + j = omega arith in
+    rw e at (allBelow-at heldOctets (octetZero g slot) all (i * packetLimit + j) (omega arith))
+
+row-empty : (g : List ℕ) (slot : ℕ) → allBelow heldOctets (octetZero g slot) ≡ true → allBelow messagesLimit (emptyAt g slot) ≡ true
+unfolding emptyAt zerosPast
+row-empty g slot all =
+    allBelow-of messagesLimit _
+    (λ i low. allBelow-of packetLimit _ (λ j small. rw (le-ltb j 0 (omega arith)) (zero-there g slot i j low small all)))
+
+empty-row : (g : List ℕ) (slot : ℕ) → allBelow messagesLimit (emptyAt g slot) ≡ true → allBelow heldOctets (octetZero g slot) ≡ true
+unfolding emptyAt octetZero
+empty-row g slot all =
+    allBelow-of heldOctets _
+    (λ k below.
+    let i = k / packetLimit in
+    let j = k % packetLimit in
+    let e : slot * heldOctets + k ≡ messageSlot slot (k / packetLimit) * packetLimit + k % packetLimit = omega arith in
+    rw (
+      e,
+      zerosPast-at g (messageSlot slot i) 0 j (allBelow-at messagesLimit (emptyAt g slot) all i (omega arith)) (omega arith) (omega arith),
+    ))
+
+pub octets-done : (g : List ℕ) (slot : ℕ) {ok : Bool} {k : ℕ} → Checked heldOctets (octetZero g slot) ok k → heldOctets ≤ k
+    → ok ≡ allBelow messagesLimit (emptyAt g slot)
+octets-done g slot c done =
+    checked-done c done
+    ∙ both-ways (allBelow heldOctets (octetZero g slot)) (allBelow messagesLimit (emptyAt g slot)) (row-empty g slot) (empty-row g slot)

@@ -1,0 +1,186 @@
+// One slot of a kept number, and one of a number from the base on: what document 01 says of the number, and how the slot is laid.
+// A slot without octets is looked at without the mask, and where there is no message the slots of all are looked at in one loop.
+use crate::HELD_OCTETS;
+use datagrams::Message;
+use datagrams::Packet;
+use datagrams::Parity;
+use held::Session;
+ghost use mathlib.Core.Path.{_≡_};
+ghost use mathlib.Core.Bool.{_&&_, cond};
+ghost use Prim.Native.Nat.{_≤_, _<_};
+ghost use lib.Dec.{leb, ltb};
+ghost use lib.ListN.{length};
+ghost use Rattle.octets.specs.Place.{allBelow};
+ghost use Rattle.datagrams.specs.Sizes.{packetLimit, messageLimit, messagesLimit};
+ghost use Rattle.stores.specs.Store.{HasSlot, zerosPast, mask};
+ghost use Rattle.held.specs.Slots.{slotsKept, slotsHeard, packetOctets, messageOctets};
+ghost use Rattle.held.specs.Table.{places};
+ghost use Rattle.held.specs.Laid.{messageLaid};
+ghost use Rattle.checking.specs.Pieces.{stateRight, keptRight, markedRight, heardRight, sizeless, emptyAt};
+
+// "Unknown and blank have length 0, others 1 to 160.", and the number stands for a state.
+fn state_right(state: u16, size: usize, blank: bool) -> bool
+    ensures { λ r. ⌜ r ≡ stateRight state size blank ⌝ }
+{
+    if state == Session::UNKNOWN {
+        return (size == 0) & !blank;
+    }
+    if state == Session::BLANK {
+        return (size == 0) & blank;
+    }
+    (state < Session::BLANK) & (((Packet::LEAST <= size) & (size <= Packet::LIMIT)) & !blank)
+}
+
+// "Octets past a length are zero."
+fn slot_right(o: &[u8], slot: usize, size: usize, passes: &[u8]) -> bool
+    requires { ⌜ HasSlot slot (now o) ⌝ }
+    requires { ⌜ size ≤ packetLimit ⌝ }
+    requires { ⌜ now passes ≡ mask ⌝ }
+    ensures { λ r. ⌜ r ≡ zerosPast (now (o .entry)) slot size ⌝ }
+{
+    if size == 0 {
+        return stores::all_zero(o, slot);
+    }
+    stores::zeros_past(o, slot, size, passes)
+}
+
+// A kept number in its slot.
+pub fn kept_right(t: &[u16], slot: usize, blank: bool, o: &[u8], passes: &[u8]) -> bool
+    requires { ⌜ length (now t) ≡ places ⌝ }
+    requires { ⌜ slot < slotsKept ⌝ }
+    requires { ⌜ length (now o) ≡ packetOctets ⌝ }
+    requires { ⌜ now passes ≡ mask ⌝ }
+    ensures { λ r. ⌜ r ≡ keptRight (now (t .entry)) (now (o .entry)) slot blank ⌝ }
+{
+    let state = held::state_at(t, slot);
+    let size = held::size_at(t, slot);
+    if state_right(state, size, blank) {
+        return slot_right(o, slot, size, passes);
+    }
+    false
+}
+
+// "An accepted number is known. Messages stand only at accepted numbers, and with m = 0 also n = 0, otherwise n [and] m .. are
+// within the sizes", and the mark is 0 or 1.
+fn mark_right(mark: u16, known: bool, n: usize, m: usize) -> bool
+    ensures { λ r. ⌜ r ≡ markedRight mark known n m ⌝ }
+{
+    if mark == 1 {
+        if m == 0 {
+            return known & (n == 0);
+        }
+        return known & ((1 <= n) & (n <= Parity::PACKETS) & (m <= Parity::MESSAGES));
+    }
+    (mark == 0) & ((m == 0) & (n == 0))
+}
+
+// The most octets that message i of m may have: "message places past m have length 0".
+fn most(i: usize, m: usize) -> usize
+    ensures { λ r. ⌜ r ≡ cond (ltb i m) messageLimit 0 ⌝ }
+{
+    if i < m {
+        return Message::LIMIT;
+    }
+    0
+}
+
+// A message in its slot: its length is within the sizes, and octets past it are zero.
+fn message_right(size: usize, limit: usize, g: &[u8], slot: usize, passes: &[u8]) -> bool
+    requires { ⌜ HasSlot slot (now g) ⌝ }
+    requires { ⌜ limit ≤ messageLimit ⌝ }
+    requires { ⌜ now passes ≡ mask ⌝ }
+    ensures { λ r. ⌜ r ≡ (leb size limit && zerosPast (now (g .entry)) slot size) ⌝ }
+{
+    if size <= limit {
+        return slot_right(g, slot, size, passes);
+    }
+    false
+}
+
+// The messages of the number whose slot is given, of which there are m.
+fn messages_right(t: &[u16], slot: usize, m: usize, g: &[u8], passes: &[u8]) -> bool
+    requires { ⌜ length (now t) ≡ places ⌝ }
+    requires { ⌜ slot < slotsHeard ⌝ }
+    requires { ⌜ length (now g) ≡ messageOctets ⌝ }
+    requires { ⌜ now passes ≡ mask ⌝ }
+    ensures { λ r. ⌜ r ≡ allBelow messagesLimit (messageLaid (now (t .entry)) (now (g .entry)) slot m) ⌝ }
+{
+    let at = slot * Parity::MESSAGES;
+    let mut ok = true;
+    let mut i = 0;
+    while i < Parity::MESSAGES {
+        let place = at + i;
+        let size = held::message_size_at(t, place);
+        let limit = most(i, m);
+        let right = message_right(size, limit, g, place, passes);
+        ok = ok & right;
+        i += 1;
+    }
+    ok
+}
+
+// Whether no message of a number has a length.
+fn no_sizes(t: &[u16], slot: usize) -> bool
+    requires { ⌜ length (now t) ≡ places ⌝ }
+    requires { ⌜ slot < slotsHeard ⌝ }
+    ensures { λ r. ⌜ r ≡ allBelow messagesLimit (sizeless (now (t .entry)) slot) ⌝ }
+{
+    let at = slot * Parity::MESSAGES;
+    let mut ok = true;
+    let mut i = 0;
+    while i < Parity::MESSAGES {
+        let size = held::message_size_at(t, at + i);
+        ok = ok & (size == 0);
+        i += 1;
+    }
+    ok
+}
+
+// Whether the slots of all messages of a number have zeros alone.
+fn no_octets(g: &[u8], slot: usize) -> bool
+    requires { ⌜ length (now g) ≡ messageOctets ⌝ }
+    requires { ⌜ slot < slotsHeard ⌝ }
+    ensures { λ r. ⌜ r ≡ allBelow messagesLimit (emptyAt (now (g .entry)) slot) ⌝ }
+{
+    let at = slot * HELD_OCTETS;
+    let mut ok = true;
+    let mut k = 0;
+    while k < HELD_OCTETS {
+        ok = ok & (g[at + k] == 0);
+        k += 1;
+    }
+    ok
+}
+
+// The messages of a number that has none.
+fn no_messages(t: &[u16], slot: usize, g: &[u8]) -> bool
+    requires { ⌜ length (now t) ≡ places ⌝ }
+    requires { ⌜ slot < slotsHeard ⌝ }
+    requires { ⌜ length (now g) ≡ messageOctets ⌝ }
+    ensures { λ r. ⌜ r ≡ allBelow messagesLimit (messageLaid (now (t .entry)) (now (g .entry)) slot 0) ⌝ }
+{
+    if no_sizes(t, slot) {
+        return no_octets(g, slot);
+    }
+    false
+}
+
+// A number from the base on in its slot: mark, n and m, and its messages.
+pub fn heard_right(t: &[u16], slot: usize, known: bool, g: &[u8], passes: &[u8]) -> bool
+    requires { ⌜ length (now t) ≡ places ⌝ }
+    requires { ⌜ slot < slotsHeard ⌝ }
+    requires { ⌜ length (now g) ≡ messageOctets ⌝ }
+    requires { ⌜ now passes ≡ mask ⌝ }
+    ensures { λ r. ⌜ r ≡ heardRight (now (t .entry)) (now (g .entry)) slot known ⌝ }
+{
+    let mark = held::mark_at(t, slot);
+    let n = held::n_at(t, slot);
+    let m = held::m_at(t, slot);
+    if mark_right(mark, known, n, m) {
+        if m == 0 {
+            return no_messages(t, slot, g);
+        }
+        return messages_right(t, slot, m, g, passes);
+    }
+    false
+}

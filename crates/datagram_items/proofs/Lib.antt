@@ -1,0 +1,3 @@
+mod PutSteps
+mod ItemSteps
+mod SizeSteps

@@ -1,0 +1,3 @@
+mod ReadSteps
+mod ReadTurn
+mod ReadWhole

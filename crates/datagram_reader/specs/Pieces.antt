@@ -1,0 +1,61 @@
+-- What the datagram reader's inner functions owe, each of one piece of a datagram at its place. Definitions only.
+use Prim.Native.Nat.{ℕ, _≤_}
+use mathlib.Core.Path.{_≡_}
+use mathlib.Core.List.{List}
+use lib.ListN.{length}
+use Rattle.lengths.specs.Answers.{Answer, done, refused, lengthOutcome}
+use Rattle.lengths.specs.declared.Refusal.{Refusal}
+use Rattle.lengths.specs.declared.Length.{Length}
+use Rattle.lengths.specs.declared.Length.the-variants as length
+use Rattle.datagrams.specs.Sizes.{sparesLimit}
+use Rattle.datagrams.specs.Read.{ExtraHead, octetAt, sizedAt, itemAt, sparesAt, parityAt, extraAt, wholeOf}
+use Rattle.datagrams.specs.declared.reader.Part.{Part}
+use Rattle.datagrams.specs.declared.reader.DatagramRead.{DatagramRead}
+use Rattle.datagram_reader.specs.declared.reader.Item.{Item}
+use Rattle.datagram_reader.specs.declared.reader.Item.the-variants as item
+use Rattle.datagram_reader.specs.declared.reader.Extra.{Extra}
+use Rattle.datagram_reader.specs.declared.reader.Extra.the-variants as extra
+use Rattle.datagrams.specs.declared.kind.Kind.{Kind}
+use Rattle.datagrams.specs.Promise.{datagramRead}
+
+-- a refused length's refusal is passed up whole
+pub record RefusalPassed (found : Length) (r : Refusal) : Type 0 where
+  pub same : (why : Refusal) → found ≡ length.Refused why → r ≡ why
+
+pub record OctetRead (least most : ℕ) (s : List ℕ) (at : ℕ) (r : Length) : Type 0 where
+  pub answer : lengthOutcome r ≡ octetAt least most s at
+
+pub record SizedRead (least most : ℕ) (s : List ℕ) (at : ℕ) (r : Length) : Type 0 where
+  pub answer : lengthOutcome r ≡ sizedAt least most s at
+
+abbrev pub itemOutcome : Item → Answer Part
+itemOutcome (item.Found p) = done p
+itemOutcome (item.Refused r) = refused r
+
+pub record ItemRead (least most : ℕ) (s : List ℕ) (at : ℕ) (r : Item) : Type 0 where
+  pub answer : itemOutcome r ≡ itemAt least most s at
+
+abbrev pub extraOutcome : Extra → Answer ExtraHead
+extraOutcome (extra.Found kind count first) = done (record { kind = kind; count = count; first = first })
+extraOutcome (extra.Refused r) = refused r
+
+pub record SparesRead (s : List ℕ) (at : ℕ) (r : Extra) : Type 0 where
+  pub answer : extraOutcome r ≡ sparesAt s at
+
+pub record ParityRead (s : List ℕ) (at : ℕ) (r : Extra) : Type 0 where
+  pub answer : extraOutcome r ≡ parityAt s at
+
+pub record ExtraRead (s : List ℕ) (at : ℕ) (r : Extra) : Type 0 where
+  pub answer : extraOutcome r ≡ extraAt s at
+
+-- a refusal, which leaves every place unused
+pub record Refuses (why : Refusal) (r : DatagramRead) : Type 0 where
+  pub whole : r ≡ datagramRead (refused why)
+
+-- the items begin within the octets, and are no more than there are places
+pub record ItemsAsked (s : List ℕ) (count first : ℕ) : Type 0 where
+  pub inside : first ≤ length s
+  pub few : count ≤ sparesLimit
+
+pub record WholeRead (s : List ℕ) (number : ℕ) (packet : Part) (k : Kind) (count first : ℕ) (r : DatagramRead) : Type 0 where
+  pub whole : r ≡ datagramRead (wholeOf s number packet (record { kind = k; count = count; first = first }))

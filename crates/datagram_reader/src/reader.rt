@@ -1,0 +1,279 @@
+// A datagram read: document 01, 'The datagram'. One pass over the octets, none of them copied: what was read is told as
+// parts of the input. It does not look inside a packet.
+use datagrams::Datagram;
+use datagrams::DatagramRead;
+use datagrams::Kind;
+use datagrams::Message;
+use datagrams::Packet;
+use datagrams::Parity;
+use datagrams::Part;
+use datagrams::Reading;
+use datagrams::Spares;
+use lengths::Length;
+use lengths::Refusal;
+ghost use mathlib.Core.Path.{_≡_};
+ghost use Prim.Native.Nat.{_+_, _*_, _≤_};
+ghost use lib.ListN.{length};
+ghost use Rattle.lengths.specs.Promise.{Octet};
+ghost use Rattle.datagrams.specs.Read.{leastOf, mostOf};
+ghost use Rattle.datagrams.specs.Promise.{DatagramReads};
+ghost use Rattle.datagram_reader.specs.Pieces.{RefusalPassed, OctetRead, SizedRead, ItemRead, SparesRead, ParityRead, ExtraRead, Refuses, ItemsAsked, WholeRead};
+
+// A packet, spare or message, or why it is refused.
+enum Item {
+    Found(Part),
+    Refused(Refusal),
+}
+
+// What follows the newest packet up to the items: their kind and count, and where the first begins.
+enum Extra {
+    Found {
+        kind: Kind,
+        count: usize,
+        first: usize,
+    },
+    Refused(Refusal),
+}
+
+// The number: two octets, high first.
+fn number_of(high: u8, low: u8) -> u16
+    ensures { λ r. ⌜ r ≡ high * 256 + low ⌝ }
+{
+    (high as u16) * 256 + (low as u16)
+}
+
+// An octet as a size.
+fn wide(octet: u8) -> usize
+    ensures { λ r. ⌜ Octet octet r ⌝ }
+{
+    octet as usize
+}
+
+// Why a length is refused: it is asked of a refused one alone.
+fn refusal_of(found: Length) -> Refusal
+    ensures { λ r. ⌜ RefusalPassed found r ⌝ }
+{
+    match found {
+        Length::Value(_, _) => Refusal::new(Refusal::ENDS_EARLY),
+        Length::Refused(why) => why,
+    }
+}
+
+// A plain octet from least to most.
+fn octet_at(s: &[u8], at: usize, least: usize, most: usize) -> Length
+    ensures { λ r. ⌜ OctetRead least most (now (s .entry)) at r ⌝ }
+{
+    if s.len() <= at {
+        return Length::Refused(Refusal::new(Refusal::ENDS_EARLY));
+    }
+    let value = wide(s[at]);
+    if value < least {
+        return Length::Refused(Refusal::new(Refusal::OUTSIDE_SIZES));
+    }
+    if most < value {
+        return Length::Refused(Refusal::new(Refusal::OUTSIDE_SIZES));
+    }
+    Length::Value(value, 1)
+}
+
+// A length or count from least to most.
+fn sized_at(s: &[u8], at: usize, least: usize, most: usize) -> Length
+    requires { ⌜ at ≤ length (now s) ⌝ }
+    ensures { λ r. ⌜ SizedRead least most (now (s .entry)) at r ⌝ }
+{
+    let found = lengths::read(&s[at..]);
+    let Length::Value(value, took) = found else {
+        return Length::Refused(refusal_of(found));
+    };
+    if value < least {
+        return Length::Refused(Refusal::new(Refusal::OUTSIDE_SIZES));
+    }
+    if most < value {
+        return Length::Refused(Refusal::new(Refusal::OUTSIDE_SIZES));
+    }
+    Length::Value(value, took)
+}
+
+// A packet, spare or message: its length, then its octets.
+fn item_at(s: &[u8], at: usize, least: usize, most: usize) -> Item
+    requires { ⌜ at ≤ length (now s) ⌝ }
+    ensures { λ r. ⌜ ItemRead least most (now (s .entry)) at r ⌝ }
+{
+    let found = sized_at(s, at, least, most);
+    let Length::Value(size, took) = found else {
+        return Item::Refused(refusal_of(found));
+    };
+    let start = at + took;
+    if s.len() - start < size {
+        return Item::Refused(Refusal::new(Refusal::ENDS_EARLY));
+    }
+    Item::Found(Part { start, size })
+}
+
+// Spares: a count.
+fn spares_at(s: &[u8], at: usize) -> Extra
+    requires { ⌜ at ≤ length (now s) ⌝ }
+    ensures { λ r. ⌜ SparesRead (now (s .entry)) at r ⌝ }
+{
+    let found = sized_at(s, at, 0, Spares::LIMIT);
+    let Length::Value(count, took) = found else {
+        return Extra::Refused(refusal_of(found));
+    };
+    let first = at + took;
+    Extra::Found {
+        kind: Kind::Spares,
+        count,
+        first,
+    }
+}
+
+// Parity: octet 01, octet n, count m.
+fn parity_at(s: &[u8], at: usize) -> Extra
+    requires { ⌜ at ≤ length (now s) ⌝ }
+    ensures { λ r. ⌜ ParityRead (now (s .entry)) at r ⌝ }
+{
+    let one = octet_at(s, at, 1, 1);
+    let Length::Value(_, _) = one else {
+        return Extra::Refused(refusal_of(one));
+    };
+    let second = at + 1;
+    let covered = octet_at(s, second, 1, Parity::PACKETS);
+    let Length::Value(n, _) = covered else {
+        return Extra::Refused(refusal_of(covered));
+    };
+    let third = at + 2;
+    let found = sized_at(s, third, 1, Parity::MESSAGES);
+    let Length::Value(count, took) = found else {
+        return Extra::Refused(refusal_of(found));
+    };
+    let first = third + took;
+    Extra::Found {
+        kind: Kind::Parity(n),
+        count,
+        first,
+    }
+}
+
+// What follows the newest packet: one octet, 00 for spares or 80 for parity.
+fn extra_at(s: &[u8], at: usize) -> Extra
+    ensures { λ r. ⌜ ExtraRead (now (s .entry)) at r ⌝ }
+{
+    if s.len() <= at {
+        return Extra::Refused(Refusal::new(Refusal::ENDS_EARLY));
+    }
+    let choice = wide(s[at]);
+    let low = choice % 128;
+    if low != 0 {
+        return Extra::Refused(Refusal::new(Refusal::SPARE_BIT));
+    }
+    let next = at + 1;
+    if choice < 128 {
+        return spares_at(s, next);
+    }
+    parity_at(s, next)
+}
+
+// The least length of an item.
+fn least(kind: Kind) -> usize
+    ensures { λ r. ⌜ r ≡ leastOf kind ⌝ }
+{
+    match kind {
+        Kind::Spares => Packet::LEAST,
+        Kind::Parity(_) => 0,
+    }
+}
+
+// The largest length of an item.
+fn most(kind: Kind) -> usize
+    ensures { λ r. ⌜ r ≡ mostOf kind ⌝ }
+{
+    match kind {
+        Kind::Spares => Packet::LIMIT,
+        Kind::Parity(_) => Message::LIMIT,
+    }
+}
+
+// A refusal: every place is unused.
+fn refused(why: Refusal) -> DatagramRead
+    ensures { λ r. ⌜ Refuses why r ⌝ }
+{
+    let nowhere = Part { start: 0, size: 0 };
+    DatagramRead {
+        reading: Reading::Refused(why),
+        items: [nowhere; Spares::LIMIT],
+    }
+}
+
+// The spares or messages, one after the other, of a datagram of which all before them is read. Nothing follows.
+fn whole_of(
+    s: &[u8],
+    number: u16,
+    packet: Part,
+    kind: Kind,
+    count: usize,
+    first: usize,
+) -> DatagramRead
+    requires { ⌜ ItemsAsked (now s) count first ⌝ }
+    ensures { λ r. ⌜ WholeRead (now (s .entry)) number packet kind count first r ⌝ }
+{
+    let low = least(kind);
+    let high = most(kind);
+    let nowhere = Part { start: 0, size: 0 };
+    let mut items = [nowhere; Spares::LIMIT];
+    let mut at = first;
+    let mut i = 0;
+    while i < count {
+        match item_at(s, at, low, high) {
+            Item::Refused(why) => {
+                return refused(why);
+            }
+            Item::Found(part) => {
+                items[i] = part;
+                at = part.start + part.size;
+            }
+        }
+        i += 1;
+    }
+    if at < s.len() {
+        return refused(Refusal::new(Refusal::LEFT_OVER));
+    }
+    DatagramRead {
+        reading: Reading::Datagram {
+            number,
+            packet,
+            kind,
+            count,
+        },
+        items,
+    }
+}
+
+// The datagram s, in reading order.
+pub fn read(s: &[u8]) -> DatagramRead
+    ensures { λ r. ⌜ DatagramReads (now (s .entry)) r ⌝ }
+{
+    if Datagram::LIMIT < s.len() {
+        return refused(Refusal::new(Refusal::TOO_LONG));
+    }
+    if s.len() < 2 {
+        return refused(Refusal::new(Refusal::ENDS_EARLY));
+    }
+    let number = number_of(s[0], s[1]);
+    match item_at(s, 2, Packet::LEAST, Packet::LIMIT) {
+        Item::Refused(why) => refused(why),
+        Item::Found(packet) => {
+            let at = packet.start + packet.size;
+            match extra_at(s, at) {
+                Extra::Refused(why) => refused(why),
+                Extra::Found { kind, count, first } => whole_of(
+                    s,
+                    number,
+                    packet,
+                    kind,
+                    count,
+                    first,
+                ),
+            }
+        }
+    }
+}

@@ -1,0 +1,2 @@
+mod SendSteps
+mod SenderSteps

@@ -1,0 +1,3 @@
+mod WriteTests
+mod SizeSteps
+mod WriteSteps

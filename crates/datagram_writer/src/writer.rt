@@ -1,0 +1,159 @@
+// Document 01, 'The datagram': the datagram writer. It decides everything first, the room included, and then lends the rest
+// of the buffer to the item writers in turn, each item into the part still free after the last.
+use datagram_items::item_size;
+use datagram_items::items_size;
+use datagram_items::kind_size;
+use datagram_items::put_head;
+use datagram_items::put_items;
+use datagram_items::put_kind;
+use datagram_items::wide;
+use datagrams::Kind;
+use datagrams::Message;
+use datagrams::Packet;
+use datagrams::count_inside;
+use datagrams::within;
+use lengths::Refusal;
+use lengths::Written;
+ghost use Prim.Native.Nat.{_≤_};
+ghost use mathlib.Core.Path.{_≡_};
+ghost use lib.ListN.{length};
+ghost use lib.Dec.{eqb};
+ghost use Rattle.lengths.specs.Answers.{done};
+ghost use Rattle.lengths.specs.Length.{lengthLimit};
+ghost use Rattle.lengths.specs.Promise.{Puts};
+ghost use Rattle.datagrams.specs.Write.{datagramOctets, datagramToWrite, carriedOf, sumOf, itemInside, itemsInside, lengthsInside};
+ghost use Rattle.datagrams.specs.Inner.Put.{Put, Bounded, datagramSize};
+
+// ---- what is refused
+
+// The length of a spare, or of a message, is inside the sizes.
+fn item_inside(kind: Kind, n: usize) -> bool
+    ensures { λ r. ⌜ r ≡ itemInside kind n ⌝ }
+{
+    match kind {
+        Kind::Spares => within(Packet::LEAST, Packet::LIMIT, n),
+        Kind::Parity(_) => within(0, Message::LIMIT, n),
+    }
+}
+
+// The length of every spare, or of every message.
+fn items_inside(kind: Kind, lengths: &[u16]) -> bool
+    ensures { λ r. ⌜ r ≡ itemsInside kind (now (lengths .entry)) ⌝ }
+{
+    let mut i = 0;
+    while i < lengths.len() {
+        if !item_inside(kind, wide(lengths[i])) {
+            return false;
+        }
+        i += 1;
+    }
+    true
+}
+
+// Every length is inside the sizes: the newest packet's, then those of the spares or messages.
+fn lengths_inside(packet: &[u8], kind: Kind, lengths: &[u16]) -> bool
+    ensures { λ r. ⌜ r ≡ lengthsInside (now (packet .entry)) kind (now (lengths .entry)) ⌝ }
+{
+    if !within(Packet::LEAST, Packet::LIMIT, packet.len()) {
+        return false;
+    }
+    items_inside(kind, lengths)
+}
+
+// The lengths sum to the total. What is left of the total goes down to nothing, so no sum can wrap.
+fn sums_to(lengths: &[u16], total: usize) -> bool
+    ensures { λ r. ⌜ r ≡ eqb (sumOf (now (lengths .entry))) total ⌝ }
+{
+    let mut left = total;
+    let mut i = 0;
+    while i < lengths.len() {
+        let n = wide(lengths[i]);
+        if left < n {
+            return false;
+        }
+        left -= n;
+        i += 1;
+    }
+    left == 0
+}
+
+// ---- what is written
+
+// The whole datagram.
+fn datagram_size(number: u16, packet: &[u8], kind: Kind, lengths: &[u16]) -> usize
+    requires { ⌜ (length (now packet) ≤ lengthLimit) × (sumOf (now lengths) ≤ lengthLimit) ⌝ }
+    ensures { λ r. ⌜ r ≡ datagramSize number (now (packet .entry)) kind (now (lengths .entry)) ⌝ }
+{
+    let newest = item_size(packet.len());
+    let before = kind_size(kind, lengths.len());
+    let items = items_size(lengths);
+    let head = 2 + newest;
+    let all = head + before;
+    all + items
+}
+
+// The whole datagram, each item into the part still free after the last.
+fn put_datagram(
+    number: u16,
+    packet: &[u8],
+    kind: Kind,
+    lengths: &[u16],
+    data: &[u8],
+    out: &mut [u8],
+) -> usize
+    requires { ⌜ (Bounded (now packet) kind (now lengths) (now «data»)) × (datagramSize number (now packet) kind (now lengths) ≤ length (now out)) ⌝ }
+    ensures { λ r. ⌜ Put (datagramOctets (carriedOf number (now (packet .entry)) kind (now (lengths .entry)) (now («data» .entry)))) (now (out .entry)) (now (out .exit)) r ⌝ }
+{
+    let head = put_head(number, packet, out);
+    let before = put_kind(kind, lengths.len(), &mut out[head..]);
+    let at = head + before;
+    let items = put_items(lengths, data, &mut out[at..]);
+    at + items
+}
+
+// What is allowed, written if there is room.
+fn write_allowed(
+    number: u16,
+    packet: &[u8],
+    kind: Kind,
+    lengths: &[u16],
+    data: &[u8],
+    out: &mut [u8],
+) -> Written
+    requires { ⌜ Bounded (now packet) kind (now lengths) (now «data») ⌝ }
+    ensures { λ r. ⌜ Puts (done (datagramOctets (carriedOf number (now (packet .entry)) kind (now (lengths .entry)) (now («data» .entry))))) (now (out .entry)) (now (out .exit)) r ⌝ }
+{
+    let size = datagram_size(number, packet, kind, lengths);
+    if out.len() < size {
+        return Written::Refused(Refusal::new(Refusal::NO_ROOM));
+    }
+    let written = put_datagram(number, packet, kind, lengths, data, out);
+    Written::Octets(written)
+}
+
+// A datagram of the number, the newest packet, and spares or messages, given as their lengths and one run of data. A
+// refusal writes nothing.
+pub fn write(
+    number: u16,
+    packet: &[u8],
+    kind: Kind,
+    lengths: &[u16],
+    data: &[u8],
+    out: &mut [u8],
+) -> Written
+    ensures { λ r. ⌜ Puts (datagramToWrite number (now (packet .entry)) kind (now (lengths .entry)) (now («data» .entry))) (now (out .entry)) (now (out .exit)) r ⌝ }
+{
+    let counted = count_inside(kind, lengths.len());
+    let summed = sums_to(lengths, data.len());
+    let sized = lengths_inside(packet, kind, lengths);
+    if !counted {
+        return Written::Refused(Refusal::new(Refusal::OUTSIDE_SIZES));
+    }
+    if !summed {
+        return Written::Refused(Refusal::new(Refusal::WRONG_SETTINGS));
+    }
+    if !sized {
+        return Written::Refused(Refusal::new(Refusal::OUTSIDE_SIZES));
+    }
+    write_allowed(number, packet, kind, lengths, data, out)
+}

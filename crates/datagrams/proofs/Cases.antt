@@ -1,0 +1,45 @@
+-- The cases of 'The datagram', each computed. Assumes nothing.
+use mathlib.Core.Path.{refl}
+use Rattle.lengths.specs.Tables.{unless}
+use Rattle.lengths.specs.Length.{lengthAt, lengthOctets}
+use Rattle.datagrams.specs.Read.{allowed, octetAt, sizedAt, itemAt, itemsAt, endOf, sparesAt, parityAt, extraAt}
+use Rattle.datagrams.specs.Read.{numberOf, wholeOf, readDatagram}
+use Rattle.datagrams.specs.Write.{numberOctets, itemOctets, itemsOctets, countedOctets, datagramOctets, cut}
+use Rattle.datagrams.specs.Write.{sumOf, itemsInside, datagramToWrite}
+use Rattle.datagrams.specs.Cases.{ReadCases, WriteCases}
+
+pub read-cases : ReadCases
+unfolding readDatagram numberOf wholeOf extraAt sparesAt parityAt itemsAt itemAt sizedAt octetAt allowed endOf lengthAt
+read-cases =
+    record {
+      octets-1501 = refl;
+      number-256 = refl;
+      packet-161 = refl;
+      packet-0 = refl;
+      bit-40 = refl;
+      spares-9 = refl;
+      spare-0 = refl;
+      spare-161 = refl;
+      octet-c0 = refl;
+      octet-02 = refl;
+      n-0 = refl;
+      n-9 = refl;
+      m-0 = refl;
+      m-5 = refl;
+      message-0 = refl;
+    }
+
+pub write-cases : WriteCases
+unfolding datagramToWrite datagramOctets numberOctets itemOctets itemsOctets countedOctets cut sumOf itemsInside lengthOctets unless
+write-cases =
+    record {
+      spares-9 = refl;
+      n-9 = refl;
+      m-0 = refl;
+      m-5 = refl;
+      count-first = refl;
+      sum-before-size = refl;
+      true-sum = refl;
+      packet-0 = refl;
+      spare-0 = refl;
+    }

@@ -1,0 +1,59 @@
+-- Small datagrams, read and written, at which another reading of document 01's 'The datagram' was possible: each case says one
+-- answer. Definitions only.
+use Prim.Native.Nat.{ℕ}
+use mathlib.Core.Path.{_≡_}
+use mathlib.Core.List.{List, [], _∷_, _++_}
+use lib.ListN.{replicate}
+use Rattle.lengths.specs.Refusals.{endsEarly, tooLong, badForm, outsideSizes, spareBit, wrongSettings}
+use Rattle.lengths.specs.Answers.{Answer, done, refuse}
+use Rattle.datagrams.specs.Write.{datagramToWrite}
+use Rattle.datagrams.specs.Read.{DatagramParts, readDatagram}
+use Rattle.datagrams.specs.declared.kind.Kind.the-variants as kind
+
+-- number 256 and the newest packet `06`, then these octets
+abbrev pub reads : List ℕ → Answer DatagramParts
+reads s = readDatagram (0x01 ∷ 0x00 ∷ 0x01 ∷ 0x06 ∷ s)
+
+pub record ReadCases : Type 0 where
+  pub octets-1501 : readDatagram (replicate 1501 0) ≡ refuse tooLong
+  -- "Number: two octets, high first"; the newest packet is at place 3
+  pub number-256 : reads (0x00 ∷ 0x00 ∷ [])
+      ≡ done (record { number = 256; packet = record { start = 3; size = 1 }; kind = kind.Spares; items = [] })
+  -- "At a length: 3 or 1 in its form, then 4, then 1 for missing octets"
+  pub packet-161 : readDatagram (0x00 ∷ 0x00 ∷ 0x80 ∷ 0xA1 ∷ []) ≡ refuse outsideSizes
+  pub packet-0 : readDatagram (0x00 ∷ 0x00 ∷ 0x00 ∷ []) ≡ refuse outsideSizes
+  -- "one octet, 00 for spares or 80 for parity; its low seven bits are zero"
+  pub bit-40 : reads (0x40 ∷ []) ≡ refuse spareBit
+  pub spares-9 : reads (0x00 ∷ 0x09 ∷ []) ≡ refuse outsideSizes
+  -- a spare is a packet: 1 to 160 octets
+  pub spare-0 : reads (0x00 ∷ 0x01 ∷ 0x00 ∷ []) ≡ refuse outsideSizes
+  pub spare-161 : reads (0x00 ∷ 0x01 ∷ 0x80 ∷ 0xA1 ∷ []) ≡ refuse outsideSizes
+  -- "Parity: octet 01, octet n": plain octets, not by the length rule, and then "count m"
+  pub octet-c0 : reads (0x80 ∷ 0xC0 ∷ []) ≡ refuse outsideSizes
+  pub octet-02 : reads (0x80 ∷ 0x02 ∷ []) ≡ refuse outsideSizes
+  pub n-0 : reads (0x80 ∷ 0x01 ∷ 0x00 ∷ []) ≡ refuse outsideSizes
+  pub n-9 : reads (0x80 ∷ 0x01 ∷ 0x09 ∷ []) ≡ refuse outsideSizes
+  pub m-0 : reads (0x80 ∷ 0x01 ∷ 0x02 ∷ 0x00 ∷ []) ≡ refuse outsideSizes
+  pub m-5 : reads (0x80 ∷ 0x01 ∷ 0x02 ∷ 0x05 ∷ []) ≡ refuse outsideSizes
+  -- a message may be empty
+  pub message-0 : reads (0x80 ∷ 0x01 ∷ 0x02 ∷ 0x01 ∷ 0x00 ∷ [])
+      ≡ done (record {
+        number = 256;
+        packet = record { start = 3; size = 1 };
+        kind = kind.Parity 2;
+        items = record { start = 9; size = 0 } ∷ [];
+      })
+
+pub record WriteCases : Type 0 where
+  -- "n or a count outside the sizes 4, then 15, 4"
+  pub spares-9 : datagramToWrite 0 (0x06 ∷ []) kind.Spares (replicate 9 1) (replicate 9 0x06) ≡ refuse outsideSizes
+  pub n-9 : datagramToWrite 0 (0x06 ∷ []) (kind.Parity 9) (1 ∷ []) (0xAA ∷ []) ≡ refuse outsideSizes
+  pub m-0 : datagramToWrite 0 (0x06 ∷ []) (kind.Parity 2) [] [] ≡ refuse outsideSizes
+  pub m-5 : datagramToWrite 0 (0x06 ∷ []) (kind.Parity 2) (replicate 5 1) (replicate 5 0xAA) ≡ refuse outsideSizes
+  pub count-first : datagramToWrite 0 (0x06 ∷ []) kind.Spares (replicate 10 1) [] ≡ refuse outsideSizes
+  pub sum-before-size : datagramToWrite 0 [] kind.Spares (2 ∷ []) (0x06 ∷ []) ≡ refuse wrongSettings
+  -- true sums: nothing wraps
+  pub true-sum : datagramToWrite 0 (0x06 ∷ []) kind.Spares (65535 ∷ 1 ∷ []) [] ≡ refuse wrongSettings
+  -- an empty packet, and an empty spare
+  pub packet-0 : datagramToWrite 0 [] kind.Spares [] [] ≡ refuse outsideSizes
+  pub spare-0 : datagramToWrite 0 (0x06 ∷ []) kind.Spares (0 ∷ []) [] ≡ refuse outsideSizes

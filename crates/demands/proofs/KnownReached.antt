@@ -1,0 +1,90 @@
+-- In a session fresh at its start the known numbers are exactly those that the calls reached: call by call, each of which did
+-- nothing, took a datagram, or made a number leave. Assumes nothing.
+use Prim.Native.Nat.{ℕ, suc, _+_, _<_}
+use mathlib.Core.Path.{_≡_, refl, sym, subst}
+use mathlib.Core.Logic.{_↔_}
+use mathlib.Core.List.{List, [], _∷_}
+use mathlib.Core.Option.{none, some}
+use lib.ListN.{length, take}
+use native.Mathlib.Omega.{arith}
+use Rattle.lengths.specs.Answers.{Answer, done, refused}
+use Rattle.repair.specs.Cells.{keptNumbers}
+use Rattle.repair.specs.Reached.{Known}
+use Rattle.views.specs.View.{View, Counts, sum, freshView, goneOn}
+use Rattle.views.specs.Offer as offers
+use Rattle.views.specs.Release as releases
+use Rattle.views.specs.Release.{Release, Loss}
+use Rattle.held.specs.Table.{stateOf}
+use Rattle.leaving.specs.Outcome.{releasedOutcome, lostOutcome, handedOf, numberOf, afterNext, afterGiveUp}
+use Rattle.leaving.specs.declared.Released.{Released}
+use Rattle.leaving.specs.declared.Released.the-variants as answer
+use Rattle.leaving.specs.declared.Lost.{Lost}
+use Rattle.leaving.specs.declared.Lost.the-variants as loss
+use Rattle.offering.specs.Outcome.{offeredOutcome, acceptedOf, afterOffer}
+use Rattle.offering.specs.declared.Offered.{Offered}
+use Rattle.offering.specs.declared.Offered.the-variants as outcome
+use Rattle.demands.specs.History.{Left, released, lost, after}
+use Rattle.demands.specs.Calls.{Call, offer, next, giveUp, Calls, _then_, acceptedIn, leftIn}
+use Rattle.demands.specs.GoesOn.{moveOf, Says, GoesOn, from, by}
+use Rattle.demands.specs.ReachedBy.{gone, ReachedBy}
+use Rattle.demands.proofs.Ranges.{ViewInRanges}
+use Rattle.demands.proofs.Steps.{OfferDone, offer-done, next-done, give-up-done, base-fills, released-sum}
+use Rattle.demands.proofs.Reaching.{Knows, knows-start, knows-stays, knows-left}
+use Rattle.demands.proofs.Arriving.{took-of}
+use Rattle.demands.proofs.Repairing.{knows-mid}
+
+-- ---- what a call did
+data Did (view : View) (call : Call) : View → Type 0 where
+  nothing : leftIn call ≡ [] → acceptedIn call ≡ none → Did view call view
+  took : {last : View} (octets : List ℕ) → leftIn call ≡ [] → acceptedIn call ≡ some octets → OfferDone octets view last
+      → Did view call last
+  leaves : (x : Left) (counts : Counts) → leftIn call ≡ x ∷ [] → acceptedIn call ≡ none → sum counts ≡ sum (view .counts) + 1
+      → Did view call (goneOn counts view)
+
+did : (view : View) (call : Call) → ViewInRanges view → Says view call → Did view call (after (moveOf call) view)
+unfolding after
+did view (offer octets r) ranges says = pick (offers.offer octets view) refl r says where
+  pick : (a : Answer View) → offers.offer octets view ≡ a → (r : Offered) → offeredOutcome r ≡ acceptedOf a
+      → Did view (offer octets r) (afterOffer a view)
+  pick (done v) e outcome.Accepted s = took octets refl refl (offer-done octets view v e)
+  pick (done v) e (outcome.Refused why) s = let z : _≡_ {A = ℕ} 0 1 = cc in absurd (omega arith)
+  pick (refused x) e outcome.Accepted s = let z : _≡_ {A = ℕ} 0 1 = cc in absurd (omega arith)
+  pick (refused x) e (outcome.Refused why) s = nothing refl refl
+did view (next old new r) ranges says = pick (releases.next (length old) view) refl r (says .0) where
+  pick : (a : Answer Release) → releases.next (length old) view ≡ a → (r : Released) → releasedOutcome r ≡ handedOf a
+      → Did view (next old new r) (afterNext a view)
+  pick (done a) e (answer.Packet kind number size) s =
+      let o = next-done (length old) view a e in
+      subst (Did view (next old new (answer.Packet kind number size))) (sym (o .after))
+      (leaves (released (stateOf kind) number (take size new)) _ refl refl
+      (released-sum (base-fills view ranges (o .known)) (view .counts)))
+  pick (done a) e (answer.Refused why) s = let z : _≡_ {A = ℕ} 0 1 = cc in absurd (omega arith)
+  pick (refused x) e (answer.Packet kind number size) s = let z : _≡_ {A = ℕ} 0 1 = cc in absurd (omega arith)
+  pick (refused x) e (answer.Refused why) s = nothing refl refl
+did view (giveUp r) ranges says = pick (releases.giveUp view) refl r says where
+  pick : (a : Answer Loss) → releases.giveUp view ≡ a → (r : Lost) → lostOutcome r ≡ numberOf a → Did view (giveUp r) (afterGiveUp a view)
+  pick (done a) e (loss.Number number) s =
+      let o = give-up-done view a e in
+      subst (Did view (giveUp (loss.Number number))) (sym (o .after)) (leaves (lost number) _ refl refl (omega arith))
+  pick (done a) e (loss.Refused why) s = let z : _≡_ {A = ℕ} 0 1 = cc in absurd (omega arith)
+  pick (refused x) e (loss.Number number) s = let z : _≡_ {A = ℕ} 0 1 = cc in absurd (omega arith)
+  pick (refused x) e (loss.Refused why) s = nothing refl refl
+
+-- ---- chains
+knows : {calls : Calls} {held : View} → GoesOn freshView calls held → (g : ℕ) × Knows calls g held
+knows from = (0, knows-start)
+knows (by {calls = calls} {call = call} {held = held} on says) = step (knows on) where
+  step : (g : ℕ) × Knows calls g held → (g : ℕ) × Knows (calls then call) g (after (moveOf call) held)
+  step t = pick (did held call (t .1 .ranges) says) where
+    pick : {last : View} → Did held call last → (g : ℕ) × Knows (calls then call) g last
+    pick (nothing stays none-taken) = (t .0, knows-stays (t .1) call none-taken stays)
+    pick (took octets stays taken o) =
+        (t .0, subst (Knows (calls then call) (t .0)) (o .is) (knows-mid (took-of (t .1) o call taken stays)))
+    pick (leaves x counts left none-taken more) = (suc (t .0), knows-left (t .1) call none-taken counts more x left)
+
+pub known-reached-by : {calls : Calls} {held : View} → GoesOn freshView calls held → (p : ℕ) → p < keptNumbers
+    → Known (held .cells) p ↔ ReachedBy calls (gone calls + p)
+known-reached-by {calls} on p small =
+    let t = knows on in
+    let same : t .0 + p ≡ gone calls + p = let left = t .1 .left in omega arith in
+    (λ known. subst (ReachedBy calls) same (t .1 .reached p small known), λ r. t .1 .seen (gone calls + p) r .1 p (sym same))

@@ -1,0 +1,180 @@
+-- No session that the library handed out is refused with 17: a session in a chain of calls is within its ranges, and document
+-- 01's calls on what it holds have lower refusals only. Assumes nothing.
+use Prim.Native.Nat.{ℕ, zero, suc, _+_, _-_, _%_, _<_}
+use mathlib.Core.Path.{_≡_, refl, sym, subst}
+use mathlib.Core.Bool.{Bool, true, false, cond}
+use mathlib.Core.List.{List}
+use mathlib.Core.Option.{some, Option·none-ne-some, Option·some-injective}
+use lib.ListN.{length, getD, drop}
+use lib.Dec.{leb, ltb, eqb}
+use native.Mathlib.Omega.{arith}
+use borrow.Author.Tests.{ltb-true}
+use Rattle.lengths.specs.Refusals.{endsEarly, tooLong, badForm, outsideSizes, spareBit, leftOver}
+use Rattle.lengths.specs.Refusals.{repeated, tooFar, late, baseUnknown, baseKnown, noRoom, allPassed, outsideRanges}
+use Rattle.lengths.specs.Answers.{Answer, done, refused, refuse, _>>=_, LengthAnswer}
+use Rattle.lengths.specs.Length.{ofTwo, lengthAt}
+use Rattle.lengths.specs.declared.Refusal.{Refusal}
+use Rattle.datagrams.specs.Read.{ExtraHead, allowed, octetAt, sizedAt, itemAt, itemsAt, sparesAt, parityAt, extraAt, wholeOf, readDatagram}
+use Rattle.datagrams.specs.Sizes.{datagramLimit}
+use Rattle.datagrams.specs.Write.{within}
+use Rattle.datagrams.specs.Read.{carriedBy, after, endOf, leastOf, mostOf}
+use Rattle.datagrams.specs.Read as reading
+use Rattle.datagrams.specs.Carried.{Carried}
+use Rattle.datagrams.specs.declared.reader.Part.{Part}
+use Rattle.repair.specs.Cells.{unknownAt, keptBefore, keptAhead}
+use Rattle.views.specs.View.{View, sum, distance, sessionLimit}
+use Rattle.views.specs.Offer as offers
+use Rattle.views.specs.Offer.{acceptedAt, lateFrom}
+use Rattle.views.specs.Release as releases
+use Rattle.views.specs.Release.{Release, Loss, atBase}
+use Rattle.held.specs.declared.Session.{Session}
+use Rattle.leaving.specs.Outcome.{handedOf, numberOf}
+use Rattle.offering.specs.Outcome.{acceptedOf}
+use Rattle.lengths.specs.Tables.{refusalIn}
+use Rattle.demands.specs.Calls.{Call, offer, next, giveUp, Calls, _then_, Called, refusalOf}
+use Rattle.demands.specs.GoesOn.{Says, GoesOn, by}
+use Rattle.demands.specs.Demand2.{Begins, fresh, saved}
+use Rattle.demands.proofs.Calling.{fresh-seen, saved-seen, called-on}
+
+-- ---- lower refusals only
+data Lower {A : Type 0} : Answer A → Type 0 where
+  value : (a : A) → Lower (done a)
+  below : {why : Refusal} → why .number < outsideRanges → Lower (refused why)
+
+low : {A : Type 0} (n : ℕ) → ltb n outsideRanges ≡ true → Lower {A = A} (refuse n)
+low n e = below (ltb-true n outsideRanges e)
+
+lower-cond : {A : Type 0} (b : Bool) {x y : Answer A} → Lower x → Lower y → Lower (cond b x y)
+lower-cond true first second = first
+lower-cond false first second = second
+
+lower-bind : {A B : Type 0} {a : Answer A} {f : A → Answer B} → Lower a → ((v : A) → Lower (f v)) → Lower (_>>=_ a f)
+lower-bind (value a) each = each a
+lower-bind (below low) each = below low
+
+not-17 : {A : Type 0} {a : Answer A} → Lower a → refusalIn a ≡ some outsideRanges → ⊥
+not-17 (value a) e = Option·none-ne-some outsideRanges e
+not-17 (below {why = why} low) e = let same = Option·some-injective (why .number) outsideRanges e in omega arith
+
+-- ---- reading a datagram
+lower-length : (s : List ℕ) → Lower (lengthAt s)
+unfolding lengthAt
+lower-length s =
+    lower-cond (ltb (length s) 1) (low endsEarly refl)
+    (lower-cond (ltb (getD s 0 0) 0x80) (value _)
+    (lower-cond (leb 0xC0 (getD s 0 0)) (low badForm refl)
+    (lower-cond (ltb (length s) 2) (low endsEarly refl)
+    (lower-cond (ltb (ofTwo (getD s 0 0) (getD s 1 0)) 0x80) (low badForm refl) (value _)))))
+
+lower-allowed : (least most : ℕ) (l : LengthAnswer) → Lower (allowed least most l)
+unfolding allowed
+lower-allowed least most l = lower-cond (within least most (l .value)) (value _) (low outsideSizes refl)
+
+lower-octet : (least most : ℕ) (s : List ℕ) (at : ℕ) → Lower (octetAt least most s at)
+unfolding octetAt
+lower-octet least most s at = lower-cond (leb (length s) at) (low endsEarly refl) (lower-allowed least most _)
+
+lower-sized : (least most : ℕ) (s : List ℕ) (at : ℕ) → Lower (sizedAt least most s at)
+unfolding sizedAt
+lower-sized least most s at = lower-bind (lower-length (drop at s)) (lower-allowed least most)
+
+lower-item : (least most : ℕ) (s : List ℕ) (at : ℕ) → Lower (itemAt least most s at)
+unfolding itemAt
+lower-item least most s at =
+    lower-bind (lower-sized least most s at)
+    (λ l. lower-cond (ltb (length s - (at + l .size)) (l .value)) (low endsEarly refl) (value _))
+
+lower-items : (least most : ℕ) (s : List ℕ) (at left : ℕ) → Lower (itemsAt least most s at left)
+unfolding itemsAt
+lower-items least most s at zero = value _
+lower-items least most s at (suc left) =
+    lower-bind (lower-item least most s at) (λ p. lower-bind (lower-items least most s (after p) left) (λ ps. value _))
+
+lower-spares : (s : List ℕ) (at : ℕ) → Lower (sparesAt s at)
+unfolding sparesAt
+lower-spares s at = lower-bind (lower-sized _ _ s at) (λ k. value _)
+
+lower-parity : (s : List ℕ) (at : ℕ) → Lower (parityAt s at)
+unfolding parityAt
+lower-parity s at =
+    lower-bind (lower-octet _ _ s at)
+    (λ one. lower-bind (lower-octet _ _ s (at + 1)) (λ n. lower-bind (lower-sized _ _ s (at + 2)) (λ m. value _)))
+
+lower-extra : (s : List ℕ) (at : ℕ) → Lower (extraAt s at)
+unfolding extraAt
+lower-extra s at =
+    lower-cond (leb (length s) at) (low endsEarly refl)
+    (lower-cond (eqb (getD s at 0 % 0x80) 0)
+    (lower-cond (ltb (getD s at 0) 0x80) (lower-spares s (at + 1)) (lower-parity s (at + 1)))
+    (low spareBit refl))
+
+lower-number : (s : List ℕ) → Lower (reading.numberOf s)
+unfolding reading.numberOf
+lower-number s = lower-cond (ltb (length s) 2) (low endsEarly refl) (value _)
+
+lower-whole : (s : List ℕ) (number : ℕ) (packet : Part) (extra : ExtraHead) → Lower (wholeOf s number packet extra)
+unfolding wholeOf
+lower-whole s number packet extra =
+    lower-bind (lower-items (leastOf (extra .kind)) (mostOf (extra .kind)) s (extra .first) (extra .count))
+    (λ items. lower-cond (ltb (endOf (extra .first) items) (length s)) (low leftOver refl) (value _))
+
+lower-read : (s : List ℕ) → Lower (readDatagram s)
+unfolding readDatagram
+lower-read s =
+    lower-cond (ltb datagramLimit (length s)) (low tooLong refl)
+    (lower-bind (lower-number s)
+    (λ number.
+    lower-bind (lower-item _ _ s 2) (λ packet. lower-bind (lower-extra s (after packet)) (λ extra. lower-whole s number packet extra))))
+
+-- ---- the calls
+lower-offered : (datagram : Carried) (view : View) → Lower (offers.offered datagram view)
+unfolding offers.offered
+lower-offered datagram view =
+    lower-cond (ltb (distance (view .base) (datagram .number)) keptAhead)
+    (lower-cond (acceptedAt view (distance (view .base) (datagram .number))) (low repeated refl) (value _))
+    (lower-cond (ltb (distance (view .base) (datagram .number)) lateFrom) (low tooFar refl) (low late refl))
+
+lower-offer : (octets : List ℕ) (view : View) → Lower (offers.offer octets view)
+unfolding offers.offer
+lower-offer octets view = lower-bind (lower-read octets) (λ parts. lower-offered (carriedBy octets parts) view)
+
+lower-next : (room : ℕ) (view : View) → Lower (releases.next room view)
+unfolding releases.next
+lower-next room view =
+    lower-cond (leb sessionLimit (sum (view .counts))) (low allPassed refl)
+    (lower-cond (unknownAt (view .cells) keptBefore) (low baseUnknown refl)
+    (lower-cond (ltb room (length ((atBase view) .octets))) (low noRoom refl) (value _)))
+
+lower-give-up : (view : View) → Lower (releases.giveUp view)
+unfolding releases.giveUp
+lower-give-up view =
+    lower-cond (leb sessionLimit (sum (view .counts))) (low allPassed refl)
+    (lower-cond (unknownAt (view .cells) keptBefore) (value _) (low baseKnown refl))
+
+-- the same of what they answer
+lower-accepted : {a : Answer View} → Lower a → Lower (acceptedOf a)
+lower-accepted (value a) = value _
+lower-accepted (below low) = below low
+
+lower-handed : {a : Answer Release} → Lower a → Lower (handedOf a)
+lower-handed (value a) = value _
+lower-handed (below low) = below low
+
+lower-lost : {a : Answer Loss} → Lower a → Lower (numberOf a)
+lower-lost (value a) = value _
+lower-lost (below low) = below low
+
+says-lower : (view : View) (call : Call) → Says view call → refusalOf call ≡ some outsideRanges → ⊥
+says-lower view (offer octets r) says = not-17 (subst Lower (sym says) (lower-accepted (lower-offer octets view)))
+says-lower view (next old new r) says = not-17 (subst Lower (sym (says .0)) (lower-handed (lower-next (length old) view)))
+says-lower view (giveUp r) says = not-17 (subst Lower (sym says) (lower-lost (lower-give-up view)))
+
+-- ---- chains
+last-says : {view held : View} {calls : Calls} {call : Call} → GoesOn view (calls then call) held → refusalOf call ≡ some outsideRanges → ⊥
+last-says (by {call = call} {held = held} on says) = says-lower held call says
+
+pub never-17 : {s t : Session} {calls : Calls} {call : Call} → Begins s → Called s (calls then call) t
+    → refusalOf call ≡ some outsideRanges
+    → ⊥
+never-17 {s} (fresh f) called = last-says (called-on (fresh-seen s f) called)
+never-17 {s} (saved v) called = last-says (called-on (saved-seen s v) called)

@@ -1,0 +1,73 @@
+-- Two answers of a call that only tells something are one: its promise is an equation with a function of what was given. Assumes
+-- nothing.
+use mathlib.Core.Path.{_≡_, sym, _∙_}
+use Rattle.demands.specs.OneTold.{ToldByLengths, ToldByDatagrams, ToldByPackets, ToldByStores, ToldByHeld, ToldBySending, ToldByLines, OneTold}
+
+-- both are what is told
+pub told-one : {A : Type 0} {told : A} (r q : A) → r ≡ told → q ≡ told → r ≡ q
+told-one r q a b = a ∙ sym b
+
+by-lengths : ToldByLengths
+by-lengths = record { refusal = λ number r q a b. a .answer ∙ sym (b .answer); lengthLimit = told-one }
+
+by-datagrams : ToldByDatagrams
+by-datagrams =
+    record {
+      packetLeast = told-one;
+      packetLimit = told-one;
+      messageLimit = told-one;
+      datagramLimit = told-one;
+      sparesLimit = told-one;
+      packetsLimit = told-one;
+      messagesLimit = told-one;
+      reachLimit = told-one;
+      countInside = λ kind count. told-one;
+      kindSize = λ kind count. told-one;
+      lengthSize = λ n r q a b. a .answer ∙ sym (b .answer);
+      wide = λ n. told-one;
+    }
+
+by-packets : ToldByPackets
+by-packets =
+    record {
+      fieldsLimit = told-one;
+      typesLimit = told-one;
+      assigned = λ kind. told-one;
+      rightFields = λ kind present. told-one;
+      rightData = λ kind present. told-one;
+    }
+
+by-stores : ToldByStores
+by-stores = record { wide = λ n. told-one; passing = told-one }
+
+by-held : ToldByHeld
+by-held =
+    record {
+      sessionLimit = told-one;
+      kept = told-one;
+      heard = told-one;
+      packetOctets = told-one;
+      messageOctets = told-one;
+      places = told-one;
+      keptSlot = λ number. told-one;
+      heardSlot = λ number. told-one;
+      total = λ c. told-one;
+    }
+
+by-sending : ToldBySending
+by-sending = record { senderLimit = told-one; historyKept = told-one; historyOctets = told-one; slotOf = λ number. told-one }
+
+by-lines : ToldByLines
+by-lines = record { lineLimit = told-one; keptLimit = told-one; stepLimit = told-one; kindOctet = λ kind. told-one }
+
+pub one-told : OneTold
+one-told =
+    record {
+      byLengths = by-lengths;
+      byDatagrams = by-datagrams;
+      byPackets = by-packets;
+      byStores = by-stores;
+      byHeld = by-held;
+      bySending = by-sending;
+      byLines = by-lines;
+    }

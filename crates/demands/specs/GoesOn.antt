@@ -1,0 +1,31 @@
+-- "One saved within its ranges goes on from what it holds, each call as 01 says." Definitions only.
+use mathlib.Core.Path.{_≡_}
+use lib.ListN.{length}
+use Rattle.lengths.specs.Answers.{over}
+use Rattle.views.specs.View.{View}
+use Rattle.views.specs.Offer as offers
+use Rattle.views.specs.Release as releases
+use Rattle.leaving.specs.Outcome.{releasedOutcome, lostOutcome, handedOf, octetsOf, numberOf}
+use Rattle.offering.specs.Outcome.{offeredOutcome, acceptedOf}
+use Rattle.demands.specs.History as moves
+use Rattle.demands.specs.History.{Move, after}
+use Rattle.demands.specs.Calls.{Call, offer, next, giveUp, Calls, start, _then_}
+
+-- what was called
+abbrev pub moveOf : Call → Move
+moveOf (offer octets r) = moves.offer octets
+moveOf (next old new r) = moves.next (length old)
+moveOf (giveUp r) = moves.giveUp
+
+-- the call's answer and its lent buffer are as document 01 says, of a session that holds this
+abbrev pub Says : View → Call → Type 0
+Says view (offer octets r) = offeredOutcome r ≡ acceptedOf (offers.offer octets view)
+Says view (next old new r) =
+    (releasedOutcome r ≡ handedOf (releases.next (length old) view)) × (new ≡ over (octetsOf (releases.next (length old) view)) old)
+Says view (giveUp r) = lostOutcome r ≡ numberOf (releases.giveUp view)
+
+-- each of the calls as document 01 says, from a session that holds the one to a session that holds the other
+pub data GoesOn (view : View) : Calls → View → Type 0 where
+  from : GoesOn view start view
+  by : {calls : Calls} {call : Call} {held : View} → GoesOn view calls held → Says held call
+      → GoesOn view (calls then call) (after (moveOf call) held)

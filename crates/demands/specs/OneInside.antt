@@ -1,0 +1,143 @@
+-- One outcome of the calls that serve callers inside this repository, each of which has a `requires`: a record for each crate, with
+-- a field for each call, under its name and with its promise. Where a field has a hypothesis more, the call requires it.
+-- Statements alone. Definitions only.
+use Prim.Native.Nat.{ℕ, _≤_, _<_}
+use mathlib.Core.Path.{_≡_}
+use mathlib.Core.Bool.{Bool, not}
+use mathlib.Core.List.{List, _++_}
+use lib.ListN.{set, drop}
+use lib.Dec.{eqb}
+use Rattle.lengths.specs.Answers.{done}
+use Rattle.lengths.specs.Length.{lengthOctets}
+use Rattle.lengths.specs.Promise.{Puts}
+use Rattle.lengths.specs.declared.Refusal.{Refusal}
+use Rattle.lengths.specs.declared.Written.{Written}
+use Rattle.datagrams.specs.Sizes.{packetLimit}
+use Rattle.datagrams.specs.Write.{numberOctets, itemOctets, itemsOctets, cut, datagramOctets}
+use Rattle.datagrams.specs.Inner.Put as sizes
+use Rattle.datagrams.specs.Inner.Put.{Put, sparesHead, parityHead, kindHead}
+use Rattle.datagrams.specs.declared.kind.Kind.{Kind}
+use Rattle.datagrams.specs.declared.reader.Part.{Part}
+use Rattle.stores.specs.Store as store
+use Rattle.repair.specs.Cells.{isUnknown, keptNumbers}
+use Rattle.held.specs.Slots.{numberAt}
+use Rattle.held.specs.Table as table
+use Rattle.held.specs.Table.{Lent, lent, stateNumbered, keptSet, heardSet, heardDropped, messagePlace}
+use Rattle.held.specs.Laid.{lentInRanges, InRanges}
+use Rattle.held.specs.declared.Counts.{Counts}
+use Rattle.keeping.specs.Promise.{Keeps, KeepsSpares, MayHold, Holds}
+use Rattle.repairing.specs.Promise.{Mends}
+use Rattle.leaving.specs.Promise.{Releases, GivesUp}
+use Rattle.leaving.specs.declared.Released.{Released}
+use Rattle.leaving.specs.declared.Lost.{Lost}
+use Rattle.offering.specs.Promise.{Offers}
+use Rattle.offering.specs.declared.Offered.{Offered}
+use Rattle.sending.specs.Sender as sender
+use Rattle.sending.specs.Ranges as sending
+use Rattle.sending.specs.Inner.Held as sent
+use Rattle.sending.specs.Inner.Held.{Sizes}
+use Rattle.sending.specs.Inner.Items.{itemsIn, ItemsSize}
+use Rattle.sending.specs.Inner.Next.{carriedIn}
+use Rattle.datagram_sender.specs.Inner.{SendsHeld}
+use Rattle.sending.specs.declared.Settings.{Settings}
+use Rattle.lines.specs.Hex.{hexOf}
+use Rattle.lines.specs.Lines.{resultLine, refusalLine}
+use Rattle.lines.specs.Promise.{Appends}
+use Rattle.demands.specs.OneTold.{One, OneLent}
+
+-- `stores`: `put`, `clear`, `zeros_past`, `all_zero`, `copy_out`, `add`
+pub record InStores : Type 0 where
+  pub put : (old : List ℕ) (slot : ℕ) (src : List ℕ) → One (λ (new : List ℕ). new ≡ store.pasted old slot src)
+  pub clear : (old : List ℕ) (slot : ℕ) → One (λ (new : List ℕ). new ≡ store.pasted old slot (store.zeros packetLimit))
+  pub zerosPast : (o : List ℕ) (slot n : ℕ) → One (λ (r : Bool). r ≡ store.zerosPast o slot n)
+  pub allZero : (o : List ℕ) (slot : ℕ) → One (λ (r : Bool). r ≡ store.zerosPast o slot 0)
+  pub copyOut : (o : List ℕ) (slot n : ℕ) (old : List ℕ) → One (λ (new : List ℕ). new ≡ store.part o slot n ++ drop n old)
+  pub add : (o : List ℕ) (slot : ℕ) (old : List ℕ) → One (λ (new : List ℕ). new ≡ store.added old o slot)
+
+-- `datagrams`: the item writers, and the sizes of items
+pub record InDatagrams : Type 0 where
+  pub putOctets : (octets old : List ℕ) → OneLent (Put octets old)
+  pub putLength : (n : ℕ) (old : List ℕ) → OneLent (Put (lengthOctets n) old)
+  pub putItem : (item old : List ℕ) → OneLent (Put (itemOctets item) old)
+  pub putNumber : (number : ℕ) (old : List ℕ) → OneLent (Put (numberOctets number) old)
+  pub putHead : (number : ℕ) (packet old : List ℕ) → OneLent (Put (numberOctets number ++ itemOctets packet) old)
+  pub putSpares : (count : ℕ) (old : List ℕ) → OneLent (Put (sparesHead count) old)
+  pub putParity : (n m : ℕ) (old : List ℕ) → OneLent (Put (parityHead n m) old)
+  pub putKind : (kind : Kind) (count : ℕ) (old : List ℕ) → OneLent (Put (kindHead kind count) old)
+  pub putItems : (lengths run old : List ℕ) → OneLent (Put (itemsOctets (cut lengths run)) old)
+  pub itemSize : (n : ℕ) → One (λ (r : ℕ). r ≡ sizes.itemSize n)
+  pub itemsSize : (lengths : List ℕ) → One (λ (r : ℕ). r ≡ sizes.itemsSize lengths)
+
+-- `held`: what stands in a slot of the table is read, and written
+pub record InHeld : Type 0 where
+  pub stateAt : (t : List ℕ) (slot : ℕ) → One (λ (r : ℕ). r ≡ table.stateIn t slot)
+  pub sizeAt : (t : List ℕ) (slot : ℕ) → One (λ (r : ℕ). r ≡ table.sizeIn t slot)
+  pub isKnown : (t : List ℕ) (slot : ℕ) → One (λ (r : Bool). r ≡ not (isUnknown (stateNumbered (table.stateIn t slot))))
+  pub markAt : (t : List ℕ) (slot : ℕ) → One (λ (r : ℕ). r ≡ table.markIn t slot)
+  pub acceptedAt : (t : List ℕ) (slot : ℕ) → One (λ (r : Bool). r ≡ eqb (table.markIn t slot) 1)
+  pub nAt : (t : List ℕ) (slot : ℕ) → One (λ (r : ℕ). r ≡ table.nIn t slot)
+  pub mAt : (t : List ℕ) (slot : ℕ) → One (λ (r : ℕ). r ≡ table.mIn t slot)
+  pub messageSizeAt : (t : List ℕ) (slot : ℕ) → One (λ (r : ℕ). r ≡ table.messageSizeIn t slot)
+  pub setKept : (t : List ℕ) (slot state size : ℕ) → One (λ (new : List ℕ). new ≡ keptSet t slot state size)
+  pub setHeard : (t : List ℕ) (slot n m : ℕ) → One (λ (new : List ℕ). new ≡ heardSet t slot 1 n m)
+  pub setMessageSize : (t : List ℕ) (slot size : ℕ) → One (λ (new : List ℕ). new ≡ set t (messagePlace slot) size)
+  pub dropHeard : (t : List ℕ) (slot : ℕ) → One (λ (new : List ℕ). new ≡ heardDropped t slot)
+
+-- the receiving session's: `checking::in_ranges`, `keep`, `keep_spares` and `hold` of `keeping`, `repairing::mend`, `next_core` and
+-- `give_up_core` of `leaving`, `offering::offer_core`. All that is lent after a call is one, base and counts too. `keep` and
+-- `keep_spares` see neither base nor messages: what they promise holds with any with which all is within the ranges, so it is said
+-- of such
+pub record InReceiving : Type 0 where
+  pub inRanges : (base : ℕ) (counts : Counts) (t o g : List ℕ) → One (λ (r : Bool). r ≡ lentInRanges (lent base counts t o g))
+  pub keep : (base : ℕ) (c : Counts) (g : List ℕ) (state number p : ℕ) (b t o : List ℕ) → InRanges (lent base c t o g)
+      → p < keptNumbers → number ≡ numberAt base p
+      → OneLent (λ (newO newT : List ℕ). Keeps state number b t o newT newO)
+  pub keepSpares : (base : ℕ) (c : Counts) (g : List ℕ) (number p : ℕ) (s : List ℕ) (items : List Part) (count : ℕ) (t o : List ℕ)
+      → InRanges (lent base c t o g) → p < keptNumbers → count ≤ p → number ≡ numberAt base p
+      → OneLent (λ (newO newT : List ℕ). KeepsSpares number s items count t o newT newO)
+  pub hold : (base d : ℕ) (s : List ℕ) (n : ℕ) (items : List Part) (count : ℕ) (t g : List ℕ) → MayHold base t g d
+      → OneLent (λ (newG newT : List ℕ). Holds base d s n items count t g newT newG)
+  pub mend : (before : Lent) → One (Mends before)
+  pub nextCore : {before after other : Lent} {old new newer : List ℕ} {r q : Released} → Releases before after old new r
+      → Releases before other old newer q
+      → (r ≡ q) × (after ≡ other) × (new ≡ newer)
+  pub giveUpCore : {before after other : Lent} {r q : Lost} → GivesUp before after r → GivesUp before other q → (r ≡ q) × (after ≡ other)
+  pub offerCore : {octets : List ℕ} {before after other : Lent} {r q : Offered} → Offers octets before after r
+      → Offers octets before other q
+      → (r ≡ q) × (after ≡ other)
+
+-- the same answer, and the same history as it is held: lengths and octets
+pub record Alike {A : Type 0} (r q : A) (s l o p : List ℕ) : Type 0 where
+  pub answer : r ≡ q
+  pub lengths : s ≡ l
+  pub octets : o ≡ p
+
+-- the sending session's: `size_in`, `in_ranges` and `keep` over the history as it is held; `items_size`, `put_items`, `write_next` and
+-- `send_held`
+pub record InSending : Type 0 where
+  pub sizeIn : (lengths : List ℕ) (slot : ℕ) → One (λ (r : ℕ). r ≡ sender.sizeIn lengths slot)
+  pub inRanges : (sent : ℕ) (lengths o : List ℕ) → One (λ (r : Bool). r ≡ sending.inRanges sent lengths o)
+  pub keep : (number : ℕ) (packet lengths o : List ℕ) → OneLent (sent.Keeps number packet lengths o)
+  pub itemsSize : (kind : Kind) (count number : ℕ) (lengths : List ℕ) → Sizes lengths → One (ItemsSize kind count number lengths)
+  pub putItems : (kind : Kind) (count number : ℕ) (lengths o old : List ℕ)
+      → OneLent (Put (itemsOctets (itemsIn kind count number lengths o)) old)
+  pub writeNext : (number : ℕ) (lengths o packet : List ℕ) (kind : Kind) (count : ℕ) (old : List ℕ)
+      → OneLent (Puts (done (datagramOctets (carriedIn number lengths o packet kind count))) old)
+  pub sendHeld : {sent : ℕ} {settings : Settings} {packet lengths o old : List ℕ} {r q : Written}
+      {newS newO new otherS otherO other : List ℕ}
+      → SendsHeld sent settings packet lengths o old newS newO new r → SendsHeld sent settings packet lengths o old otherS otherO other q
+      → (Alike r q newS otherS newO otherO) × (new ≡ other)
+
+-- the program's: `put_octets` of `hexadecimal`, `put_result` and `put_refusal` of `line_steps`
+pub record InLines : Type 0 where
+  pub putOctets : (octets old : List ℕ) (at : ℕ) → OneLent (Appends (hexOf octets) old at)
+  pub putResult : (kind number : ℕ) (octets old : List ℕ) (at : ℕ) → OneLent (Appends (resultLine kind number octets) old at)
+  pub putRefusal : (why : Refusal) (old : List ℕ) (at : ℕ) → OneLent (Appends (refusalLine why) old at)
+
+pub record OneInside : Type 0 where
+  pub inStores : InStores
+  pub inDatagrams : InDatagrams
+  pub inHeld : InHeld
+  pub inReceiving : InReceiving
+  pub inSending : InSending
+  pub inLines : InLines

@@ -1,0 +1,105 @@
+-- One outcome of the calls that only tell something: each limit, a slot, a size, a flag. A record for each crate, with a field for
+-- each call, under its name and with its promise. Statements alone. Definitions only.
+use Prim.Native.Nat.{ℕ, _%_}
+use mathlib.Core.Path.{_≡_}
+use mathlib.Core.Bool.{Bool}
+use mathlib.Core.List.{List}
+use lib.ListN.{length}
+use Rattle.lengths.specs.Length as lengths
+use Rattle.lengths.specs.Promise.{RefusalMade}
+use Rattle.datagrams.specs.Sizes as sizes
+use Rattle.datagrams.specs.Write as write
+use Rattle.datagrams.specs.Inner.Put.{LengthSize, kindHead}
+use Rattle.datagrams.specs.declared.kind.Kind.{Kind}
+use Rattle.packets.specs.Packet as packet
+use Rattle.packets.specs.declared.types.Kind as packets
+use Rattle.stores.specs.Store as store
+use Rattle.views.specs.View as views
+use Rattle.held.specs.Slots as slots
+use Rattle.held.specs.Table as table
+use Rattle.held.specs.declared.Counts.{Counts}
+use Rattle.held.specs.declared.State.{State}
+use Rattle.sending.specs.Sending as history
+use Rattle.sending.specs.Sender as sender
+use Rattle.lines.specs.Hex as hex
+use Rattle.lines.specs.Feed as feed
+use Rattle.lines.specs.Lines as lines
+use Rattle.lines.specs.Promise as steps
+
+-- two answers that a promise allows are one
+abbrev pub One : {A : Type 0} → (A → Type 0) → Type 0
+One {A} promise = (r q : A) → promise r → promise q → r ≡ q
+
+-- two answers that a promise allows are one, and so is all that they leave in a lent buffer
+abbrev pub OneLent : {A : Type 0} → (List ℕ → A → Type 0) → Type 0
+OneLent {A} promise = (new other : List ℕ) (r q : A) → promise new r → promise other q → (r ≡ q) × (new ≡ other)
+
+-- `lengths`: `Refusal::new`, `Length::limit`
+pub record ToldByLengths : Type 0 where
+  pub refusal : (number : ℕ) → One (RefusalMade number)
+  pub lengthLimit : One (λ (r : ℕ). r ≡ lengths.lengthLimit)
+
+-- `datagrams`: `least` and `limit` of `Packet`, `limit` of `Message`, `Datagram` and `Spares`, the three limits of `Parity`; then
+-- `count_inside`, `kind_size`, `length_size` and `wide`
+pub record ToldByDatagrams : Type 0 where
+  pub packetLeast : One (λ (r : ℕ). r ≡ sizes.packetLeast)
+  pub packetLimit : One (λ (r : ℕ). r ≡ sizes.packetLimit)
+  pub messageLimit : One (λ (r : ℕ). r ≡ sizes.messageLimit)
+  pub datagramLimit : One (λ (r : ℕ). r ≡ sizes.datagramLimit)
+  pub sparesLimit : One (λ (r : ℕ). r ≡ sizes.sparesLimit)
+  pub packetsLimit : One (λ (r : ℕ). r ≡ sizes.coveredLimit)
+  pub messagesLimit : One (λ (r : ℕ). r ≡ sizes.messagesLimit)
+  pub reachLimit : One (λ (r : ℕ). r ≡ sizes.reachLimit)
+  pub countInside : (kind : Kind) (count : ℕ) → One (λ (r : Bool). r ≡ write.countInside kind count)
+  pub kindSize : (kind : Kind) (count : ℕ) → One (λ (r : ℕ). r ≡ length (kindHead kind count))
+  pub lengthSize : (n : ℕ) → One (LengthSize n)
+  pub wide : (n : ℕ) → One (λ (r : ℕ). r ≡ n)
+
+-- `packets`: `limit` and `types_limit` of `Field`, `assigned`, `right_fields`, `right_data`
+pub record ToldByPackets : Type 0 where
+  pub fieldsLimit : One (λ (r : ℕ). r ≡ packet.fieldsLimit)
+  pub typesLimit : One (λ (r : ℕ). r ≡ packet.typesLimit)
+  pub assigned : (kind : packets.Kind) → One (λ (r : ℕ). r ≡ packet.assigned kind)
+  pub rightFields : (kind : packets.Kind) (present : Bool) → One (λ (r : Bool). r ≡ packet.rightFields kind present)
+  pub rightData : (kind : ℕ) (present : Bool) → One (λ (r : Bool). r ≡ packet.rightData kind present)
+
+-- `stores`: `wide`, `passing`
+pub record ToldByStores : Type 0 where
+  pub wide : (n : ℕ) → One (λ (r : ℕ). r ≡ n)
+  pub passing : One (λ (r : List ℕ). r ≡ store.mask)
+
+-- `held`: `limit`, `kept`, `heard`, `packet_octets`, `message_octets` and `places` of `Session`; then `kept_slot`, `heard_slot` and
+-- `total`
+pub record ToldByHeld : Type 0 where
+  pub sessionLimit : One (λ (r : ℕ). r ≡ views.sessionLimit)
+  pub kept : One (λ (r : ℕ). r ≡ slots.slotsKept)
+  pub heard : One (λ (r : ℕ). r ≡ slots.slotsHeard)
+  pub packetOctets : One (λ (r : ℕ). r ≡ slots.packetOctets)
+  pub messageOctets : One (λ (r : ℕ). r ≡ slots.messageOctets)
+  pub places : One (λ (r : ℕ). r ≡ table.places)
+  pub keptSlot : (number : ℕ) → One (λ (r : ℕ). r ≡ number % slots.slotsKept)
+  pub heardSlot : (number : ℕ) → One (λ (r : ℕ). r ≡ number % slots.slotsHeard)
+  pub total : (c : Counts) → One (λ (r : ℕ). r ≡ views.sum (table.countsOf c))
+
+-- `sending`: `limit`, `history` and `history_octets` of `Sender`, and `slot_of`
+pub record ToldBySending : Type 0 where
+  pub senderLimit : One (λ (r : ℕ). r ≡ views.sessionLimit)
+  pub historyKept : One (λ (r : ℕ). r ≡ history.historyKept)
+  pub historyOctets : One (λ (r : ℕ). r ≡ sender.historyOctets)
+  pub slotOf : (number : ℕ) → One (λ (r : ℕ). r ≡ number % history.historyKept)
+
+-- `lines`: `limit`, `kept_limit` and `step_limit` of `Line`; `line_steps`: `kind_octet`
+pub record ToldByLines : Type 0 where
+  pub lineLimit : One (λ (r : ℕ). r ≡ hex.lineLimit)
+  pub keptLimit : One (λ (r : ℕ). r ≡ feed.keptLimit)
+  pub stepLimit : One (λ (r : ℕ). r ≡ steps.stepLimit)
+  pub kindOctet : (kind : State) → One (λ (r : ℕ). r ≡ lines.kindOf (table.stateOf kind))
+
+pub record OneTold : Type 0 where
+  pub byLengths : ToldByLengths
+  pub byDatagrams : ToldByDatagrams
+  pub byPackets : ToldByPackets
+  pub byStores : ToldByStores
+  pub byHeld : ToldByHeld
+  pub bySending : ToldBySending
+  pub byLines : ToldByLines

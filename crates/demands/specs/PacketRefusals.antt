@@ -1,0 +1,122 @@
+-- What the packet reader refuses, and with which number, said of the public call's answer: as received (`Whole`) and as repaired.
+-- Octets are refused with the number of their first wrong item (`firstWrong`, over the tables of `PacketItems`); the other fields
+-- say plainly what that comes to for each number. Statements alone. Definitions only.
+use Prim.Native.Nat.{ℕ, _+_, _*_, _%_, _≤_, _<_}
+use mathlib.Core.Path.{_≡_}
+use mathlib.Core.Logic.{_↔_, _≢_}
+use mathlib.Core.Bool.{true, false, _||_}
+use mathlib.Core.List.{List, [], _∷_, _++_}
+use mathlib.Core.Option.{none, some}
+use lib.ListN.{length}
+use lib.Dec.{leb}
+use Rattle.lengths.specs.Refusals as number
+use Rattle.datagrams.specs.Sizes.{packetLimit}
+use Rattle.packets.specs.Packet.{fieldsLimit, assigned, kindOf}
+use Rattle.packets.specs.Read.{allZero}
+use Rattle.packets.specs.Promise.{PacketTold, packetOutcome}
+use Rattle.packets.specs.declared.types.Kind.the-variants.{Indicator}
+use Rattle.packets.specs.declared.types.Ending.{Ending}
+use Rattle.packets.specs.declared.types.Ending.the-variants.{Whole, Repaired}
+use Rattle.packets.specs.declared.types.PacketRead.{PacketRead}
+use Rattle.lengths.specs.Tables.{first, refusalIn}
+use Rattle.demands.specs.Refusals.{lengthRows}
+use Rattle.demands.specs.PacketItems.{Item, countOfFields, header, dataLength, end, Due, Packet, rows}
+use Rattle.demands.specs.PacketItems.{octetOf, hasFields, extension, valueIn, RightFirst, dataFits}
+
+-- all items before this one are as they must be, and from it on these octets are left
+pub record DueIn (s : List ℕ) (item : Item) (rest : List ℕ) : Type 0 where
+  pub before : List ℕ
+  pub is : s ≡ before ++ rest
+  pub due : Due before item
+
+-- the first wrong item: the table of an item that is due gives this number
+pub record FirstWrong (ending : Ending) (s : List ℕ) (n : ℕ) : Type 0 where
+  pub item : Item
+  pub rest : List ℕ
+  pub dueHere : DueIn s item rest
+  pub wrong : first (rows ending item rest) ≡ some n
+
+-- a whole packet stands at the front, and this follows it
+abbrev pub PacketThen : List ℕ → List ℕ → Type 0
+PacketThen s rest = DueIn s end rest
+
+-- the octets end early
+pub data EndsEarly (s : List ℕ) : Type 0 where
+  -- they are a front of a packet, if need be of one over the packet limit
+  front : (more : List ℕ) → 1 ≤ length more → Packet (s ++ more) → EndsEarly s
+  -- or they end inside a length that is outside the sizes whatever follows: a count of fields after the first of its two octets,
+  -- or a data length after its first, if that is not zero
+  inCount : (octet : ℕ) → DueIn s countOfFields (octet ∷ []) → 0x80 ≤ octet → octet < 0xC0 → EndsEarly s
+  inLength : (octet left : ℕ) → DueIn s (dataLength left) (octet ∷ []) → 1 ≤ octet → EndsEarly s
+
+-- the first octet has the extension bit set, or a value that is not assigned
+pub record NotAssigned (s : List ℕ) : Type 0 where
+  pub some : 1 ≤ length s
+  pub is : (extension (octetOf s) || leb (assigned (kindOf (octetOf s))) (valueIn (octetOf s))) ≡ true
+
+-- the first octet is as it must be, with fields, and the count after it is in a form not allowed
+pub record BadForm (s : List ℕ) : Type 0 where
+  pub octet : ℕ
+  pub rest : List ℕ
+  pub is : s ≡ octet ∷ rest
+  pub right : RightFirst octet
+  pub present : hasFields octet ≡ true
+  pub form : first (lengthRows rest) ≡ some number.badForm
+
+-- a count of fields is in its form and not 1 to 16, or a data length is over the packet limit
+pub data OutsideSizes (s : List ℕ) : Type 0 where
+  noFields : (rest : List ℕ) → DueIn s countOfFields (0 ∷ rest) → OutsideSizes s
+  manyFields : (octet : ℕ) (rest : List ℕ) → DueIn s countOfFields (octet ∷ rest) → first (lengthRows (octet ∷ rest)) ≡ none
+      → fieldsLimit < octet → OutsideSizes s
+  longData : (high low left : ℕ) (rest : List ℕ) → DueIn s (dataLength left) (high ∷ low ∷ rest) → packetLimit < high * 256 + low + 1
+      → OutsideSizes s
+
+-- a spare bit is set: the first octet's lowest, or one of a field header's last four
+pub data SpareBit (s : List ℕ) : Type 0 where
+  lowest : (octet : ℕ) (rest : List ℕ) → s ≡ octet ∷ rest → extension octet ≡ false → valueIn octet < assigned (kindOf octet)
+      → octet % 2 ≡ 1 → SpareBit s
+  lastFour : (octet left : ℕ) (rest : List ℕ) → DueIn s (header left) (octet ∷ rest) → 1 ≤ octet % 16 → SpareBit s
+
+-- data where none may be, or none where it must: an indicator with fields, or a field that its type does not let be so
+pub data WrongData (s : List ℕ) : Type 0 where
+  indicator : (octet : ℕ) (rest : List ℕ) → s ≡ octet ∷ rest → extension octet ≡ false → octet % 2 ≡ 0 → kindOf octet ≡ Indicator
+      → hasFields octet ≡ true → WrongData s
+  field : (octet left : ℕ) (rest : List ℕ) → DueIn s (header left) (octet ∷ rest) → octet % 16 ≡ 0 → dataFits octet ≡ false → WrongData s
+
+-- whatever the call answered, of at most the packet limit: it refused with this number exactly in this case
+abbrev pub Exactly : ℕ → (List ℕ → Type 0) → Type 0
+Exactly n Case = (ending : Ending) (s : List ℕ) (r : PacketRead) → PacketTold ending s r → length s ≤ packetLimit
+    → (refusalIn (packetOutcome r) ≡ some n) ↔ Case s
+
+pub record PacketRefusals : Type 0 where
+  -- "over 160 octets 4"; the fields below are for the others
+  pub overLimit : {ending : Ending} {s : List ℕ} {r : PacketRead} → PacketTold ending s r → packetLimit < length s
+      → refusalIn (packetOutcome r) ≡ some number.outsideSizes
+  -- "then reading order": refused exactly if there is a first wrong item, with its number
+  pub firstWrong : {ending : Ending} {s : List ℕ} {r : PacketRead} (n : ℕ) → PacketTold ending s r → length s ≤ packetLimit
+      → (refusalIn (packetOutcome r) ≡ some n) ↔ FirstWrong ending s n
+  -- not refused exactly if it is a packet; as repaired, with zeros only after it. (`isPacket` and `isRepaired` of `Demand1` say that
+  -- these are what the packet writer writes)
+  pub received : {s : List ℕ} {r : PacketRead} → PacketTold Whole s r → length s ≤ packetLimit
+      → (refusalIn (packetOutcome r) ≡ none) ↔ Packet s
+  pub repaired : {s : List ℕ} {r : PacketRead} → PacketTold Repaired s r → length s ≤ packetLimit
+      → (refusalIn (packetOutcome r) ≡ none) ↔ ((rest : List ℕ) × PacketThen s rest × (allZero rest ≡ true))
+  -- 6 exactly if a whole packet stands at the front and something follows; as repaired, something that is not all zeros
+  pub leftOver : {s : List ℕ} {r : PacketRead} → PacketTold Whole s r → length s ≤ packetLimit
+      → (refusalIn (packetOutcome r) ≡ some number.leftOver) ↔ ((rest : List ℕ) × PacketThen s rest × (1 ≤ length rest))
+  pub leftOverRepaired : {s : List ℕ} {r : PacketRead} → PacketTold Repaired s r → length s ≤ packetLimit
+      → (refusalIn (packetOutcome r) ≡ some number.leftOver) ↔ ((rest : List ℕ) × PacketThen s rest × (allZero rest ≡ false))
+  -- 1, 3, 4, 5, 12 and 14, each exactly in its case; so every proper front of a packet is refused with 1
+  pub endsEarly : Exactly number.endsEarly EndsEarly
+  pub badForm : Exactly number.badForm BadForm
+  pub outsideSizes : Exactly number.outsideSizes OutsideSizes
+  pub spareBit : Exactly number.spareBit SpareBit
+  pub notAssigned : Exactly number.notAssigned NotAssigned
+  pub wrongData : Exactly number.wrongData WrongData
+  -- a refusal with any number but 1 stays whatever octets follow, up to the packet limit; so no octets more would make it read
+  pub stays : {ending : Ending} {s : List ℕ} (more : List ℕ) {r t : PacketRead} {n : ℕ} → PacketTold ending s r
+      → PacketTold ending (s ++ more) t → length (s ++ more) ≤ packetLimit → refusalIn (packetOutcome r) ≡ some n
+      → n ≢ number.endsEarly → refusalIn (packetOutcome t) ≡ some n
+  -- as received and as repaired differ in 6 alone
+  pub eitherWay : {s : List ℕ} {r t : PacketRead} {n : ℕ} → PacketTold Whole s r → PacketTold Repaired s t → n ≢ number.leftOver
+      → (refusalIn (packetOutcome r) ≡ some n) ↔ (refusalIn (packetOutcome t) ≡ some n)

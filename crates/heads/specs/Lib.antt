@@ -1,4 +1,0 @@
-pub mod Head
-pub mod Ranges
-pub mod Within
-pub mod Promise

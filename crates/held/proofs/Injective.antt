@@ -1,0 +1,247 @@
+-- Within the ranges document 01's view of a session loses nothing: two that have the same view are the same, number by number and
+-- octet by octet. A slot is the slot of some place; the length of what stands there gives its size, and past it there are zeros.
+-- Assumes nothing.
+use Prim.Native.Nat.{ℕ, _+_, _-_, _*_, _/_, _%_, _≤_, _<_}
+use mathlib.Core.Path.{_≡_, sym, ap, ap₂, _∙_}
+use mathlib.Core.List.{List, []}
+use mathlib.Core.Logic.{⊎-elim}
+use lib.ListN.{length, getD}
+use lib.Seq.{ext-getD}
+use lib.Dec.{eqb}
+use native.Mathlib.Omega.{arith}
+use borrow.Author.Tests.{eqb-true, eq-eqb}
+use Rattle.octets.proofs.Place.{length-tab}
+use Rattle.octets.proofs.Cases.{below-or-not, same-or-not}
+use Rattle.datagrams.specs.Sizes.{packetLimit, messagesLimit}
+use Rattle.repair.specs.Cells as cells
+use Rattle.repair.specs.Cells.{Cell, cellAt, keptAhead, keptNumbers}
+use Rattle.repair.specs.Held.{Held, heldAt}
+use Rattle.views.specs.View as views
+use Rattle.views.specs.View.{View}
+use Rattle.held.specs.Slots.{slotsKept, slotsHeard, slotsMessages, packetOctets, messageOctets, slotAt, heardSlotAt, messageSlot}
+use Rattle.held.specs.Table.{Lent, lentBy, countsOf, places, lastState, sizePlace, markPlace, nPlace, mPlace, messagePlace, stateIn, sizeIn, markIn, nIn, mIn, messageSizeIn, stateNumbered, cellIn, heldIn, cellsOf, heldOf, viewIn, viewOf}
+use Rattle.held.specs.Laid.{InRanges}
+use Rattle.held.specs.Promise.{Fresh}
+use Rattle.held.specs.declared.Counts.{Counts}
+use Rattle.held.specs.declared.Session.{Session}
+use Rattle.held.proofs.Messages.{message-length, message-octet}
+use Rattle.held.proofs.Ranges.{session-in-ranges}
+use Rattle.held.proofs.Seen.{cell-at, held-at, octets-long, octet-at}
+use Rattle.held.proofs.Slots.{slot-of, heard-slot-of}
+
+-- ---- a state's number from document 01's word for it
+abbrev numberOf : cells.State → ℕ
+numberOf cells.unknown = 0
+numberOf cells.received = 1
+numberOf cells.spare = 2
+numberOf cells.repaired = 3
+numberOf cells.blank = 4
+
+number-back : (n : ℕ) → n ≤ lastState → numberOf (stateNumbered n) ≡ n
+unfolding stateNumbered
+number-back n few =
+    ⊎-elim (λ (e : n ≡ 0). rw e)
+    (λ no0.
+    ⊎-elim (λ (e : n ≡ 1). rw e)
+    (λ no1.
+    ⊎-elim (λ (e : n ≡ 2). rw e)
+    (λ no2.
+    ⊎-elim (λ (e : n ≡ 3). rw e)
+    (λ no3. let e : n ≡ 4 = omega arith in rw e)
+    (same-or-not n 3))
+    (same-or-not n 2))
+    (same-or-not n 1))
+    (same-or-not n 0)
+
+number-same : (a b : ℕ) → a ≤ lastState → b ≤ lastState → stateNumbered a ≡ stateNumbered b → a ≡ b
+number-same a b low few e = sym (number-back a low) ∙ ap numberOf e ∙ number-back b few
+
+mark-same : (a b : ℕ) → a ≤ 1 → b ≤ 1 → eqb a 1 ≡ eqb b 1 → a ≡ b
+mark-same a b low few e =
+    ⊎-elim (λ (one : a ≡ 1). let other : b ≡ 1 = eqb-true b 1 (sym e ∙ eq-eqb a 1 one) in omega arith)
+    (λ no.
+    ⊎-elim (λ (one : b ≡ 1). absurd (no (eqb-true a 1 (e ∙ eq-eqb b 1 one)))) (λ none. omega arith) (same-or-not b 1))
+    (same-or-not a 1)
+
+-- ---- a slot from what the view shows of it
+state-in-same : (t s o q : List ℕ) (i : ℕ) → stateIn t i ≤ lastState → stateIn s i ≤ lastState → cellIn t o i ≡ cellIn s q i
+    → stateIn t i ≡ stateIn s i
+unfolding cellIn
+state-in-same t s o q i low few e = number-same (stateIn t i) (stateIn s i) low few (ap (λ (c : Cell). c .state) e)
+
+module _ (t s g e : List ℕ) (j : ℕ) (same : heldIn t g j ≡ heldIn s e j) where
+  mark-in-same : markIn t j ≤ 1 → markIn s j ≤ 1 → markIn t j ≡ markIn s j
+  unfolding heldIn
+  mark-in-same low few = mark-same (markIn t j) (markIn s j) low few (ap (λ (h : Held). h .accepted) same)
+
+  n-in-same : nIn t j ≡ nIn s j
+  unfolding heldIn
+  n-in-same = ap (λ (h : Held). h .n) same
+
+  m-in-same : mIn t j ≡ mIn s j
+  unfolding heldIn
+  m-in-same = sym (length-tab (mIn t j) _) ∙ ap (λ (h : Held). length (h .messages)) same ∙ length-tab (mIn s j) _
+
+counts-of-same : (c d : Counts) → countsOf c ≡ countsOf d → c ≡ d
+counts-of-same c d e =
+    ap (λ (v : views.Counts). record { received = v .received; spare = v .spare; repaired = v .repaired; lost = v .lost }) e
+
+-- ---- two sessions with one view
+module _ {l k : Lent} (w : InRanges l) (v : InRanges k) (same : viewIn l ≡ viewIn k) where
+  base-same : l .base ≡ k .base
+  unfolding viewIn
+  base-same = ap (λ (x : View). x .base) same
+
+  counts-same : l .counts ≡ k .counts
+  unfolding viewIn
+  counts-same = counts-of-same (l .counts) (k .counts) (ap (λ (x : View). x .counts) same)
+
+  cells-same : cellsOf (l .base) (l .table) (l .octets) ≡ cellsOf (k .base) (k .table) (k .octets)
+  unfolding viewIn
+  cells-same = ap (λ (x : View). x .cells) same
+
+  held-same : heldOf (l .base) (l .table) (l .messages) ≡ heldOf (k .base) (k .table) (k .messages)
+  unfolding viewIn
+  held-same = ap (λ (x : View). x .held) same
+
+  cell-same : (i : ℕ) → i < slotsKept → cellIn (l .table) (l .octets) i ≡ cellIn (k .table) (k .octets) i
+  cell-same i small = at (slot-of (l .base) i small) where
+    at : (p : ℕ) × (p < keptNumbers) × (slotAt (l .base) p ≡ i) → cellIn (l .table) (l .octets) i ≡ cellIn (k .table) (k .octets) i
+    at x =
+        rw (← x .2)
+        (sym (cell-at (l .base) (l .table) (l .octets) (x .0) (x .1))
+        ∙ ap (λ (c : List Cell). cellAt c (x .0)) cells-same
+        ∙ cell-at (k .base) (k .table) (k .octets) (x .0) (x .1)
+        ∙ ap (λ (b : ℕ). cellIn (k .table) (k .octets) (slotAt b (x .0))) (sym base-same))
+
+  held-in-same : (j : ℕ) → j < slotsHeard → heldIn (l .table) (l .messages) j ≡ heldIn (k .table) (k .messages) j
+  held-in-same j small = at (heard-slot-of (l .base) j small) where
+    at : (d : ℕ) × (d < keptAhead) × (heardSlotAt (l .base) d ≡ j)
+        → heldIn (l .table) (l .messages) j ≡ heldIn (k .table) (k .messages) j
+    at x =
+        rw (← x .2)
+        (sym (held-at (l .base) (l .table) (l .messages) (x .0) (x .1))
+        ∙ ap (λ (c : List Held). heldAt c (x .0)) held-same
+        ∙ held-at (k .base) (k .table) (k .messages) (x .0) (x .1)
+        ∙ ap (λ (b : ℕ). heldIn (k .table) (k .messages) (heardSlotAt b (x .0))) (sym base-same))
+
+  -- ---- the table, run by run
+  state-same : (i : ℕ) → i < slotsKept → stateIn (l .table) i ≡ stateIn (k .table) i
+  state-same i small =
+      state-in-same (l .table) (k .table) (l .octets) (k .octets) i (w .laid .state i small) (v .laid .state i small) (cell-same i small)
+
+  size-same : (i : ℕ) → i < slotsKept → sizeIn (l .table) i ≡ sizeIn (k .table) i
+  size-same i small =
+      sym (octets-long (w .laid) i small)
+      ∙ ap (λ (c : Cell). length (c .octets)) (cell-same i small)
+      ∙ octets-long (v .laid) i small
+
+  message-size-same : (j i : ℕ) → j < slotsHeard → i < messagesLimit
+      → messageSizeIn (l .table) (messageSlot j i) ≡ messageSizeIn (k .table) (messageSlot j i)
+  message-size-same j i small low =
+      sym (message-length (w .laid) j i small low)
+      ∙ ap (λ (h : Held). length (getD (h .messages) i [])) (held-in-same j small)
+      ∙ message-length (v .laid) j i small low
+
+  heard-place-same : (j : ℕ) → j < slotsHeard → (markIn (l .table) j ≡ markIn (k .table) j) × (nIn (l .table) j ≡ nIn (k .table) j)
+      × (mIn (l .table) j ≡ mIn (k .table) j)
+  heard-place-same j small =
+      let e = held-in-same j small in (
+        mark-in-same (l .table) (k .table) (l .messages) (k .messages) j e (w .laid .mark j small) (v .laid .mark j small),
+        n-in-same (l .table) (k .table) (l .messages) (k .messages) j e,
+        m-in-same (l .table) (k .table) (l .messages) (k .messages) j e,
+      )
+
+  -- places from the marks on, then all
+  heard-run-same : (x : ℕ) → markPlace 0 ≤ x → x < places → getD (l .table) x 0 ≡ getD (k .table) x 0
+  heard-run-same x past small =
+      ⊎-elim (λ (low : x < nPlace 0).
+      let e : markPlace (x - markPlace 0) ≡ x = omega arith in
+      rw e at (heard-place-same (x - markPlace 0) (omega arith) .0))
+      (λ more.
+      ⊎-elim (λ (low : x < mPlace 0).
+      let e : nPlace (x - nPlace 0) ≡ x = omega arith in
+      rw e at (heard-place-same (x - nPlace 0) (omega arith) .1))
+      (λ further.
+      ⊎-elim (λ (low : x < messagePlace 0).
+      let e : mPlace (x - mPlace 0) ≡ x = omega arith in
+      rw e at (heard-place-same (x - mPlace 0) (omega arith) .2))
+      (λ last.
+      let y = x - messagePlace 0 in
+      let e : messagePlace (messageSlot ((x - messagePlace 0) / messagesLimit) ((x - messagePlace 0) % messagesLimit)) ≡ x = omega arith in
+      rw e at (message-size-same (y / messagesLimit) (y % messagesLimit) (omega arith) (omega arith)))
+      (below-or-not x (messagePlace 0)))
+      (below-or-not x (mPlace 0)))
+      (below-or-not x (nPlace 0))
+
+  table-same : l .table ≡ k .table
+  table-same =
+      ext-getD 0 (l .table) (k .table) (w .laid .long ∙ sym (v .laid .long))
+      (λ x inside.
+      let small : x < places = rw (w .laid .long) at inside in
+      ⊎-elim (λ (low : x < sizePlace 0). state-same x (omega arith))
+      (λ past.
+      ⊎-elim (λ (low : x < markPlace 0).
+      let e : sizePlace (x - sizePlace 0) ≡ x = omega arith in
+      rw e at (size-same (x - sizePlace 0) (omega arith)))
+      (λ far. heard-run-same x far small)
+      (below-or-not x (markPlace 0)))
+      (below-or-not x (sizePlace 0)))
+
+  -- ---- the stores
+  octets-same : l .octets ≡ k .octets
+  octets-same =
+      ext-getD 0 (l .octets) (k .octets) (w .laid .octets ∙ sym (v .laid .octets))
+      (λ x inside.
+      let small : x < packetOctets = rw (w .laid .octets) at inside in
+      let slot : x / packetLimit < slotsKept = omega arith in
+      let few : x % packetLimit < packetLimit = omega arith in
+      let place : x ≡ x / packetLimit * packetLimit + x % packetLimit = omega arith in
+      ap (λ (y : ℕ). getD (l .octets) y 0) place
+      ∙ sym (octet-at (w .laid) (x / packetLimit) slot (x % packetLimit) few)
+      ∙ ap (λ (c : Cell). getD (c .octets) (x % packetLimit) 0) (cell-same (x / packetLimit) slot)
+      ∙ octet-at (v .laid) (x / packetLimit) slot (x % packetLimit) few
+      ∙ ap (λ (y : ℕ). getD (k .octets) y 0) (sym place))
+
+  message-octet-same : (j i x : ℕ) → j < slotsHeard → i < messagesLimit → x < packetLimit
+      → getD (l .messages) (messageSlot j i * packetLimit + x) 0 ≡ getD (k .messages) (messageSlot j i * packetLimit + x) 0
+  message-octet-same j i x small low few =
+      sym (message-octet (w .laid) j i x small low few)
+      ∙ ap (λ (h : Held). getD (getD (h .messages) i []) x 0) (held-in-same j small)
+      ∙ message-octet (v .laid) j i x small low few
+
+  messages-same : l .messages ≡ k .messages
+  messages-same =
+      ext-getD 0 (l .messages) (k .messages) (w .laid .messages ∙ sym (v .laid .messages))
+      (λ x inside.
+      let small : x < messageOctets = rw (w .laid .messages) at inside in
+      let j = x / packetLimit / messagesLimit in
+      let i = x / packetLimit % messagesLimit in
+      let low : x / packetLimit < slotsMessages = omega arith in
+      let few : x % packetLimit < packetLimit = omega arith in
+      let place : x ≡ messageSlot j i * packetLimit + x % packetLimit = omega arith in
+      ap (λ (y : ℕ). getD (l .messages) y 0) place
+      ∙ message-octet-same j i (x % packetLimit) (omega arith) (omega arith) few
+      ∙ ap (λ (y : ℕ). getD (k .messages) y 0) (sym place))
+
+  -- what is lent is the same
+  pub lent-same : l ≡ k
+  lent-same =
+      ap₂ (λ (b : ℕ) (c : Counts). record { base = b; counts = c; table = l .table; octets = l .octets; messages = l .messages })
+      base-same counts-same
+      ∙ ap (λ (t : List ℕ). record { base = k .base; counts = k .counts; table = t; octets = l .octets; messages = l .messages }) table-same
+      ∙ ap₂ (λ (o g : List ℕ). record { base = k .base; counts = k .counts; table = k .table; octets = o; messages = g })
+      octets-same messages-same
+
+-- two sessions within their ranges in which document 01 sees the same are the same
+pub session-same : (s r : Session) → InRanges (lentBy s) → InRanges (lentBy r) → viewOf s ≡ viewOf r → s ≡ r
+session-same s r w v same =
+    ap (λ (x : Lent).
+    record { base = x .base; counts = x .counts; table = x .table; octets = x .octets; messages = x .messages })
+    (lent-same w v same)
+
+-- a fresh session is one session
+pub fresh-same : (r q : Session) → Fresh r → Fresh q → r ≡ q
+fresh-same r q f e =
+    session-same r q (session-in-ranges r (f .ranges) (f .sized)) (session-in-ranges q (e .ranges) (e .sized))
+    (f .view ∙ sym (e .view))

@@ -1,0 +1,59 @@
+-- What the layout in slots adds to the ranges of document 01: "Octets past a length are zero", "message places past m have length
+-- 0", and numbers that stand for a state or a mark. It goes by slots, without the base. Definitions only.
+use Prim.Native.Nat.{ℕ, _≤_, _<_}
+use mathlib.Core.Path.{_≡_}
+use mathlib.Core.Bool.{Bool, true, cond, _&&_}
+use mathlib.Core.List.{List}
+use lib.ListN.{length}
+use lib.Dec.{leb, ltb}
+use Rattle.octets.specs.Place.{allBelow}
+use Rattle.datagrams.specs.Sizes.{packetLimit, messageLimit, messagesLimit}
+use Rattle.stores.specs.Store.{zerosPast}
+use Rattle.views.specs.Ranges.{inRanges, Sound}
+use Rattle.held.specs.Slots.{slotsKept, slotsHeard, messageSlot, packetOctets, messageOctets}
+use Rattle.held.specs.Table.{Lent, lentBy, viewIn, places, lastState, stateIn, sizeIn, markIn, mIn, messageSizeIn}
+use Rattle.held.specs.declared.Session.{Session}
+
+-- slot i of kept numbers
+unfoldable pub keptLaid : List ℕ → List ℕ → ℕ → Bool
+keptLaid t o i = (leb (stateIn t i) lastState && leb (sizeIn t i) packetLimit) && zerosPast o i (sizeIn t i)
+
+-- message i of slot j, of which m are held: "message places past m have length 0"
+unfoldable pub messageLaid : List ℕ → List ℕ → ℕ → ℕ → ℕ → Bool
+messageLaid t g j m i =
+    leb (messageSizeIn t (messageSlot j i)) (cond (ltb i m) messageLimit 0)
+    && zerosPast g (messageSlot j i) (messageSizeIn t (messageSlot j i))
+
+-- slot j of numbers from the base on
+unfoldable pub heardLaid : List ℕ → List ℕ → ℕ → Bool
+heardLaid t g j = (leb (markIn t j) 1 && leb (mIn t j) messagesLimit) && allBelow messagesLimit (messageLaid t g j (mIn t j))
+
+unfoldable pub laid : Lent → Bool
+laid l =
+    allBelow slotsKept (keptLaid (l .table) (l .octets)) && allBelow slotsHeard (heardLaid (l .table) (l .messages))
+
+-- 17, "session outside its ranges", is given exactly where this does not hold
+unfoldable pub lentInRanges : Lent → Bool
+lentInRanges l = laid l && inRanges (viewIn l)
+
+abbrev pub sessionInRanges : Session → Bool
+sessionInRanges s = lentInRanges (lentBy s)
+
+-- the same as the calls inside the session require and keep it: slot by slot
+pub record Laid (t o g : List ℕ) : Type 0 where
+  pub long : length t ≡ places
+  pub octets : length o ≡ packetOctets
+  pub messages : length g ≡ messageOctets
+  pub state : (i : ℕ) → i < slotsKept → stateIn t i ≤ lastState
+  pub size : (i : ℕ) → i < slotsKept → sizeIn t i ≤ packetLimit
+  pub packet : (i : ℕ) → i < slotsKept → zerosPast o i (sizeIn t i) ≡ true
+  pub mark : (j : ℕ) → j < slotsHeard → markIn t j ≤ 1
+  pub few : (j : ℕ) → j < slotsHeard → mIn t j ≤ messagesLimit
+  pub part : (j i : ℕ) → j < slotsHeard → i < messagesLimit → messageSizeIn t (messageSlot j i) ≤ packetLimit
+  pub past : (j i : ℕ) → j < slotsHeard → i < messagesLimit → mIn t j ≤ i → messageSizeIn t (messageSlot j i) ≡ 0
+  pub message : (j i : ℕ) → j < slotsHeard → i < messagesLimit → zerosPast g (messageSlot j i) (messageSizeIn t (messageSlot j i)) ≡ true
+
+-- what is lent is within the ranges: how it is laid, and what document 01 sees in it
+pub record InRanges (l : Lent) : Type 0 where
+  pub laid : Laid (l .table) (l .octets) (l .messages)
+  pub sound : Sound (viewIn l)

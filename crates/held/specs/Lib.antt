@@ -1,0 +1,5 @@
+pub mod Slots
+pub mod Table
+pub mod Laid
+pub mod Heard
+pub mod Promise

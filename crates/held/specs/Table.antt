@@ -1,0 +1,141 @@
+-- The session as it is held and lent: base and counts by value, one table of numbers, two stores; and from there to the session
+-- that document 01 sees, `viewIn`, which serves every promise. Definitions only.
+use Prim.Native.Nat.{ℕ, _+_, _*_}
+use mathlib.Core.Bool.{Bool, cond}
+use mathlib.Core.List.{List}
+use lib.ListN.{getD, set}
+use lib.Dec.{eqb}
+use Rattle.octets.specs.Place.{tab}
+use Rattle.datagrams.specs.Sizes.{messagesLimit}
+use Rattle.repair.specs.Cells as cells
+use Rattle.repair.specs.Cells.{Cell, keptAhead, keptNumbers}
+use Rattle.repair.specs.Held as held
+use Rattle.stores.specs.Store.{part}
+use Rattle.views.specs.View as views
+use Rattle.views.specs.View.{View}
+use Rattle.held.specs.Slots.{slotsKept, slotsHeard, slotsMessages, slotAt, heardSlotAt, messageSlot}
+use Rattle.held.specs.declared.State.{State}
+use Rattle.held.specs.declared.State.the-variants.{Unknown, Received, Spare, Repaired, Blank}
+use Rattle.held.specs.declared.Counts.{Counts}
+use Rattle.held.specs.declared.Session.{Session}
+
+-- ---- where each value of a slot stands in the table: a run for each
+abbrev pub statePlace : ℕ → ℕ
+statePlace i = i
+
+abbrev pub sizePlace : ℕ → ℕ
+sizePlace i = slotsKept + i
+
+abbrev pub markPlace : ℕ → ℕ
+markPlace j = slotsKept + slotsKept + j
+
+abbrev pub nPlace : ℕ → ℕ
+nPlace j = slotsKept + slotsKept + slotsHeard + j
+
+abbrev pub mPlace : ℕ → ℕ
+mPlace j = slotsKept + slotsKept + slotsHeard + slotsHeard + j
+
+abbrev pub messagePlace : ℕ → ℕ
+messagePlace k = slotsKept + slotsKept + slotsHeard + slotsHeard + slotsHeard + k
+
+abbrev pub places : ℕ
+places = slotsKept + slotsKept + slotsHeard + slotsHeard + slotsHeard + slotsMessages
+
+-- what stands there
+abbrev pub stateIn : List ℕ → ℕ → ℕ
+stateIn t i = getD t (statePlace i) 0
+
+abbrev pub sizeIn : List ℕ → ℕ → ℕ
+sizeIn t i = getD t (sizePlace i) 0
+
+abbrev pub markIn : List ℕ → ℕ → ℕ
+markIn t j = getD t (markPlace j) 0
+
+abbrev pub nIn : List ℕ → ℕ → ℕ
+nIn t j = getD t (nPlace j) 0
+
+abbrev pub mIn : List ℕ → ℕ → ℕ
+mIn t j = getD t (mPlace j) 0
+
+abbrev pub messageSizeIn : List ℕ → ℕ → ℕ
+messageSizeIn t k = getD t (messagePlace k) 0
+
+-- ---- the numbers that stand for states; what is over 4 is outside the ranges
+abbrev pub lastState : ℕ
+lastState = 4
+
+unfoldable pub stateNumbered : ℕ → cells.State
+stateNumbered n =
+    cond (eqb n 0) cells.unknown (cond (eqb n 1) cells.received (cond (eqb n 2) cells.spare (cond (eqb n 3) cells.repaired cells.blank)))
+
+-- each state that an answer names, in document 01's word
+abbrev pub stateOf : State → cells.State
+stateOf Unknown = cells.unknown
+stateOf Received = cells.received
+stateOf Spare = cells.spare
+stateOf Repaired = cells.repaired
+stateOf Blank = cells.blank
+
+abbrev pub countsOf : Counts → views.Counts
+countsOf c = record { received = c .received; spare = c .spare; repaired = c .repaired; lost = c .lost }
+
+-- ---- all that is lent together
+pub record Lent : Type 0 where
+  pub base : ℕ
+  pub counts : Counts
+  pub table : List ℕ
+  pub octets : List ℕ
+  pub messages : List ℕ
+
+abbrev pub lent : ℕ → Counts → List ℕ → List ℕ → List ℕ → Lent
+lent b c t o g = record { base = b; counts = c; table = t; octets = o; messages = g }
+
+abbrev pub lentBy : Session → Lent
+lentBy s = lent (s .base) (s .counts) (s .table) (s .octets) (s .messages)
+
+-- ---- from slots to the session that document 01 sees
+-- the kept number in slot i, with its octets
+unfoldable pub cellIn : List ℕ → List ℕ → ℕ → Cell
+cellIn t o i = record { state = stateNumbered (stateIn t i); octets = part o i (sizeIn t i) }
+
+-- message i of the number whose slot is j
+unfoldable pub messageIn : List ℕ → List ℕ → ℕ → ℕ → List ℕ
+messageIn t g j i = part g (messageSlot j i) (messageSizeIn t (messageSlot j i))
+
+-- what is held in slot j: mark, n and messages
+unfoldable pub heldIn : List ℕ → List ℕ → ℕ → held.Held
+heldIn t g j = record { accepted = eqb (markIn t j) 1; n = nIn t j; messages = tab (mIn t j) (messageIn t g j) }
+
+-- the 64 numbers from 32 before the base upward, and the 32 from the base on
+unfoldable pub cellsOf : ℕ → List ℕ → List ℕ → List Cell
+cellsOf base t o = tab keptNumbers (λ p. cellIn t o (slotAt base p))
+
+unfoldable pub heldOf : ℕ → List ℕ → List ℕ → List held.Held
+heldOf base t g = tab keptAhead (λ d. heldIn t g (heardSlotAt base d))
+
+-- the session as document 01 sees it
+unfoldable pub viewIn : Lent → View
+viewIn l =
+    record {
+      base = l .base;
+      counts = countsOf (l .counts);
+      cells = cellsOf (l .base) (l .table) (l .octets);
+      held = heldOf (l .base) (l .table) (l .messages);
+    }
+
+abbrev pub viewOf : Session → View
+viewOf s = viewIn (lentBy s)
+
+-- ---- the table with another number in a slot
+abbrev pub keptSet : List ℕ → ℕ → ℕ → ℕ → List ℕ
+keptSet t i state size = set (set t (statePlace i) state) (sizePlace i) size
+
+abbrev pub heardSet : List ℕ → ℕ → ℕ → ℕ → ℕ → List ℕ
+heardSet t j mark n m = set (set (set t (markPlace j) mark) (nPlace j) n) (mPlace j) m
+
+-- nothing heard of slot j
+abbrev pub sizesFreed : List ℕ → ℕ → List ℕ
+sizesFreed t at = set (set (set (set t at 0) (at + 1) 0) (at + 2) 0) (at + 3) 0
+
+abbrev pub heardDropped : List ℕ → ℕ → List ℕ
+heardDropped t j = sizesFreed (heardSet t j 0 0 0) (messagePlace (j * messagesLimit))

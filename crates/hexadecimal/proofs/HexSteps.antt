@@ -1,0 +1,225 @@
+-- The loops over digits on plain values, and one law for each answer of `hex_to_octets`. Assumes nothing.
+use Prim.Native.Nat.{ℕ, suc, _+_, _*_, _/_, _%_, _≤_, _<_}
+use mathlib.Core.Path.{_≡_, refl, sym, ap, ap₂, _∙_}
+use mathlib.Core.Bool.{Bool, true, false, _&&_}
+use mathlib.Core.List.{List, [], _∷_, _++_, append-assoc}
+use lib.ListN.{length, getD, set, take, drop, length-set}
+use lib.Seq.{set-at, append-snoc, drop-cons, take-suc, length-take-le, take-length}
+use lib.Dec.{ltb}
+use native.Mathlib.Nat.{mod-eq-of-lt}
+use native.Mathlib.Numerals.{add-one}
+use native.Mathlib.Omega.{arith}
+use borrow.Author.Tests.{lt-ltb, le-ltb, le-leb, lt-leb, eq-eqb, ne-eqb, ltb-true}
+use Rattle.octets.specs.Place.{allBelow}
+use Rattle.octets.proofs.Place.{allBelow-more, allBelow-at, tab-at}
+use Rattle.lengths.specs.Refusals.{tooLong, wrongSettings, noRoom}
+use Rattle.lengths.specs.Answers.{over}
+use Rattle.lengths.specs.Tables.{unless}
+use Rattle.lengths.specs.Promise.{Puts, RefusalMade}
+use Rattle.lengths.specs.declared.Refusal.{Refusal}
+use Rattle.lengths.specs.declared.Written.the-variants as written
+use Rattle.lines.specs.Hex.{digitOf, digitFor, noDigit, allDigits, octetAt, octetsIn, lineOctets, hexOf}
+use Rattle.lines.specs.Promise.{Appends}
+use Rattle.lines.proofs.Appending.{appends-none, appends-one, appends-long}
+use Rattle.lines.proofs.HexLaws.{length-octetsIn}
+
+-- ---- every character is a digit
+abbrev digitAt : List ℕ → ℕ → Bool
+digitAt line k = ltb (digitOf (getD line k 0)) noDigit
+
+-- the first i characters are told
+pub record Told (line : List ℕ) (all : Bool) (i : ℕ) : Type 0 where
+  pub so : all ≡ allBelow i (digitAt line)
+  pub few : i ≤ length line
+
+pub told-start : (line : List ℕ) → Told line true 0
+unfolding allBelow
+told-start line = record { so = refl; few = omega arith }
+
+pub told-turn : {line : List ℕ} {all so : Bool} {i : ℕ} → Told line all i → i < length line → so ≡ ltb (digitOf (getD line i 0)) noDigit
+    → Told line (all && so) (i + 1)
+told-turn {line} {all} {so} {i} t more e =
+    record { so = ap₂ (λ (a b : Bool). a && b) (t .so) e ∙ sym (allBelow-more i (digitAt line)); few = omega arith }
+
+pub told-done : {line : List ℕ} {all : Bool} {i : ℕ} → Told line all i → length line ≤ i → all ≡ allDigits line
+unfolding allDigits
+told-done {line} {all} {i} t whole = t .so ∙ ap (λ (k : ℕ). allBelow k (digitAt line)) (omega (arith, t .few))
+
+pub digit-small : (line : List ℕ) (k : ℕ) → allDigits line ≡ true → k < length line → digitOf (getD line k 0) < 16
+unfolding allDigits
+digit-small line k all below = ltb-true _ 16 (allBelow-at (length line) (digitAt line) all k below)
+
+-- ---- octets of paired digits
+pub octetsIn-at : (line : List ℕ) (i : ℕ) → i < length line / 2 → getD (octetsIn line) i 0 ≡ octetAt line i
+unfolding octetsIn
+octetsIn-at line i below = tab-at (length line / 2) (octetAt line) i 0 below
+
+-- the first i octets stand at the front
+pub record Paired (line old new : List ℕ) (i : ℕ) : Type 0 where
+  pub front : new ≡ take i (octetsIn line) ++ drop i old
+  pub few : i ≤ length line / 2
+  pub long : length new ≡ length old
+
+pub paired-start : (line old : List ℕ) → Paired line old old 0
+paired-start line old = record { front = refl; few = omega arith; long = refl }
+
+front-turn : (x d : List ℕ) (i : ℕ) → i < length x → i < length d
+    → set (take i x ++ drop i d) i (getD x i 0) ≡ take (i + 1) x ++ drop (i + 1) d
+front-turn x d i inside room =
+    rw (add-one)
+    (ap (λ (l : List ℕ). set (take i x ++ l) i (getD x i 0)) (drop-cons d i 0 room)
+    ∙ set-at (take i x) (getD d i 0) (drop (suc i) d) (getD x i 0) i (length-take-le i x (omega arith))
+    ∙ sym (append-snoc (take i x) (getD x i 0) (drop (suc i) d))
+    ∙ ap (λ (l : List ℕ). l ++ drop (suc i) d) (sym (take-suc x i 0 inside)))
+
+pub paired-turn : {line old new : List ℕ} {i high low : ℕ} → Paired line old new i → i < length line / 2 → length line / 2 ≤ length old
+    → allDigits line ≡ true → high ≡ digitOf (getD line (2 * i) 0) → low ≡ digitOf (getD line (2 * i + 1) 0)
+    → Paired line old (set new i (high % 16 * 16 + low % 16)) (i + 1)
+paired-turn {line} {old} {new} {i} {high} {low} p more room all h l =
+    let hs : high < 16 = rw h (digit-small line (2 * i) all (omega arith)) in
+    let ls : low < 16 = rw l (digit-small line (2 * i + 1) all (omega arith)) in
+    let value : high % 16 * 16 + low % 16 ≡ getD (octetsIn line) i 0 =
+    ap₂ (λ (a b : ℕ). a * 16 + b) (mod-eq-of-lt hs ∙ h) (mod-eq-of-lt ls ∙ l) ∙ sym (octetsIn-at line i more) in
+    record {
+      front =
+          ap₂ (λ (s : List ℕ) (v : ℕ). set s i v) (p .front) value
+          ∙ front-turn (octetsIn line) old i (omega (arith, length-octetsIn line)) (omega arith);
+      few = omega arith;
+      long = length-set new i _ ∙ p .long;
+    }
+
+pub paired-done : {line old new : List ℕ} {i : ℕ} → Paired line old new i → length line / 2 ≤ i
+    → new ≡ octetsIn line ++ drop (length line / 2) old
+paired-done {line} {old} {new} {i} p whole =
+    let all : i ≡ length line / 2 = omega (arith, p .few) in
+    p .front
+    ∙ ap₂ (λ (j k : ℕ). take j (octetsIn line) ++ drop k old) (all ∙ sym (length-octetsIn line)) all
+    ∙ ap (λ (l : List ℕ). l ++ drop (length line / 2) old) (take-length (octetsIn line))
+
+-- ---- the answers of hex_to_octets
+module _ (line : List ℕ) {old : List ℕ} where
+  pub octets-long : {r : Refusal} → RefusalMade tooLong r → 3000 < length line → Puts (lineOctets line) old old (written.Refused r)
+  unfolding lineOctets unless
+  octets-long made long =
+      record { answer = rw (made .answer, lt-ltb 3000 (length line) long); lent = rw (lt-ltb 3000 (length line) long) }
+
+  pub octets-odd : {r : Refusal} → RefusalMade wrongSettings r → length line ≤ 3000 → (length line % 2 ≡ 0 → ⊥)
+      → Puts (lineOctets line) old old (written.Refused r)
+  unfolding lineOctets unless
+  octets-odd made short odd =
+      record {
+        answer = rw (made .answer, le-ltb 3000 (length line) short, ne-eqb (length line % 2) 0 odd);
+        lent = rw (le-ltb 3000 (length line) short, ne-eqb (length line % 2) 0 odd);
+      }
+
+  pub octets-undigit : {r : Refusal} {all : Bool} → RefusalMade wrongSettings r → length line ≤ 3000 → length line % 2 ≡ 0
+      → all ≡ allDigits line → all ≡ false → Puts (lineOctets line) old old (written.Refused r)
+  unfolding lineOctets unless
+  octets-undigit made short even told not =
+      let none : allDigits line ≡ false = sym told ∙ not in
+      record {
+        answer = rw (made .answer, le-ltb 3000 (length line) short, eq-eqb (length line % 2) 0 even, none);
+        lent = rw (le-ltb 3000 (length line) short, eq-eqb (length line % 2) 0 even, none);
+      }
+
+  pub octets-full : {r : Refusal} {all : Bool} → RefusalMade noRoom r → length line ≤ 3000 → length line % 2 ≡ 0
+      → all ≡ allDigits line → all ≡ true → length old < length line / 2 → Puts (lineOctets line) old old (written.Refused r)
+  unfolding lineOctets unless
+  octets-full made short even told passed full =
+      let every : allDigits line ≡ true = sym told ∙ passed in
+      let long = length-octetsIn line in
+      record {
+        answer =
+            rw (
+              made .answer,
+              le-ltb 3000 (length line) short,
+              eq-eqb (length line % 2) 0 even,
+              every,
+              long,
+              lt-leb (length line / 2) (length old) full,
+            );
+        lent =
+            rw (
+              le-ltb 3000 (length line) short,
+              eq-eqb (length line % 2) 0 even,
+              every,
+              long,
+              lt-leb (length line / 2) (length old) full,
+            );
+      }
+
+  pub octets-read : {all : Bool} {new : List ℕ} → length line ≤ 3000 → length line % 2 ≡ 0
+      → all ≡ allDigits line → all ≡ true → length line / 2 ≤ length old → new ≡ octetsIn line ++ drop (length line / 2) old
+      → Puts (lineOctets line) old new (written.Octets (length line / 2))
+  unfolding lineOctets unless
+  octets-read short even told passed room read =
+      let every : allDigits line ≡ true = sym told ∙ passed in
+      let long = length-octetsIn line in
+      record {
+        answer =
+            rw (
+              le-ltb 3000 (length line) short,
+              eq-eqb (length line % 2) 0 even,
+              every,
+              long,
+              le-leb (length line / 2) (length old) room,
+              long,
+            );
+        lent =
+            rw (
+              read,
+              le-ltb 3000 (length line) short,
+              eq-eqb (length line % 2) 0 even,
+              every,
+              long,
+              le-leb (length line / 2) (length old) room,
+              long,
+            );
+      }
+
+-- the laws of `hex_to_octets`'s answers
+pub ruleset linings = (octets-long, octets-odd, octets-undigit, octets-full, octets-read)
+
+-- ---- digits written
+pub hexOf-append : (a b : List ℕ) → hexOf (a ++ b) ≡ hexOf a ++ hexOf b
+unfolding hexOf
+hexOf-append [] b = refl
+hexOf-append (x ∷ a) b = ap (λ (l : List ℕ). digitFor (x / 16) ∷ digitFor (x % 16) ∷ l) (hexOf-append a b)
+
+-- the first i octets are written
+pub record Hexed (octets old : List ℕ) (at : ℕ) (new : List ℕ) (i : ℕ) : Type 0 where
+  pub laid : Appends (hexOf (take i octets)) old at new (at + 2 * i)
+  pub few : i ≤ length octets
+  pub long : length new ≡ length old
+
+pub hexed-start : {octets old : List ℕ} {at : ℕ} → at + 2 * length octets ≤ length old → Hexed octets old at old 0
+unfolding hexOf
+hexed-start {octets} {old} {at} room =
+    let e : at + 2 * 0 ≡ at = omega arith in
+    record { laid = rw e (appends-none (omega arith)); few = omega arith; long = refl }
+
+pub hexed-turn : {octets old : List ℕ} {at : ℕ} {new : List ℕ} {i high low : ℕ} → Hexed octets old at new i → i < length octets
+    → at + 2 * length octets ≤ length old → high ≡ digitFor (getD octets i 0 / 16) → low ≡ digitFor (getD octets i 0 % 16)
+    → Hexed octets old at (set (set new (at + 2 * i) high) (at + 2 * i + 1) low) (i + 1)
+unfolding hexOf
+hexed-turn {octets} {old} {at} {new} {i} {high} {low} x more room h l =
+    let one = appends-one (x .laid) high (omega arith) in
+    let two = appends-one one low (omega arith) in
+    let place : at + 2 * i + 1 + 1 ≡ at + 2 * (i + 1) = omega arith in
+    let text : hexOf (take i octets) ++ (high ∷ []) ++ (low ∷ []) ≡ hexOf (take (i + 1) octets) =
+    append-assoc (hexOf (take i octets)) (high ∷ []) (low ∷ [])
+    ∙ ap₂ (λ (a b : ℕ). hexOf (take i octets) ++ (a ∷ b ∷ [])) h l
+    ∙ sym (hexOf-append (take i octets) (getD octets i 0 ∷ []))
+    ∙ ap hexOf (sym (take-suc octets i 0 more))
+    ∙ ap (λ (k : ℕ). hexOf (take k octets)) (sym (add-one i)) in
+    record { laid = rw (text, place) at two; few = omega arith; long = appends-long two }
+
+pub hexed-done : {octets old : List ℕ} {at : ℕ} {new : List ℕ} {i : ℕ} → Hexed octets old at new i → length octets ≤ i
+    → Appends (hexOf octets) old at new (at + 2 * length octets)
+hexed-done {octets} {old} {at} {new} {i} x whole =
+    let all : i ≡ length octets = omega (arith, x .few) in
+    rw (all, take-length octets) at (x .laid)
+
+-- every character is a digit, as a call told
+pub digits-told : (line : List ℕ) {all : Bool} → all ≡ allDigits line → all ≡ true → allDigits line ≡ true
+digits-told line told passed = sym told ∙ passed

@@ -1,0 +1,20 @@
+-- `is_digit` meets its contract: the test of a character, computed for each octet. Assumes nothing.
+use Rattle.hexadecimal.proofs.Digits.{digit-told}
+use borrow.Author.Needs.{needs}
+use Rattle.hexadecimal.proofs.hex.is_digit.Statement.{statement}
+use Rattle.hexadecimal.proofs.hex.is_digit.Tie as tie
+use Rattle.hexadecimal.proofs.hex.is_digit.Reads as reads
+use Rattle.hexadecimal.proofs.hex.is_digit.Lts as lts
+use Rattle.std.proofs.num.wrapping_sub_u8.Reads as wrapping-sub-u8-reads
+
+wrapping-sub-u8-requires : tie.Need-wrapping-sub-u8-requires
+wrapping-sub-u8-requires c κs = search needs
+
+wrapping-sub-u8-requires-2 : tie.Need-wrapping-sub-u8-requires-2
+wrapping-sub-u8-requires-2 c κs = search needs
+
+returns : tie.Need-returns
+returns c = search (digit-told, needs)
+
+pub is-digit-spec : {M : Type 1} → statement M
+is-digit-spec = tie.close (tie.spec wrapping-sub-u8-requires wrapping-sub-u8-requires-2 returns)

@@ -1,0 +1,19 @@
+-- `value` meets its contract: the value of a digit, computed for each octet. Assumes nothing.
+use Rattle.hexadecimal.proofs.Digits.{digit-value}
+use borrow.Author.Needs.{needs}
+use Rattle.hexadecimal.proofs.hex.value.Statement.{statement}
+use Rattle.hexadecimal.proofs.hex.value.Tie as tie
+use Rattle.hexadecimal.proofs.hex.value.Reads as reads
+use Rattle.hexadecimal.proofs.hex.value.Lts as lts
+
+mul-result : tie.Need-mul-result
+mul-result c = search needs
+
+add-result : tie.Need-add-result
+add-result c = search needs
+
+returns : tie.Need-returns
+returns c = search (digit-value, needs)
+
+pub value-spec : {M : Type 1} → statement M
+value-spec = tie.close (tie.spec mul-result add-result returns)

@@ -1,0 +1,2 @@
+mod RangeSteps
+mod KeepSteps

@@ -1,0 +1,5 @@
+mod Walk
+mod MessageSteps
+mod ItemSteps
+mod ItemsSteps
+mod NextSteps

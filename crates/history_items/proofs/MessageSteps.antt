@@ -1,0 +1,115 @@
+-- Messages, in the words of the code: the loop that finds the size, and the loop that adds the members up. Each says: what
+-- the members so far give. Assumes nothing.
+use Prim.Native.Nat.{ℕ, zero, suc, _+_, _-_, _*_, _%_, _≤_, _<_, max}
+use mathlib.Core.Path.{_≡_, refl, sym, ap, ap₂, _∙_}
+use mathlib.Core.List.{List, [], _∷_, _++_, map}
+use lib.ListN.{length, getD, take, replicate, length-replicate}
+use lib.Bits.{bitXor}
+use native.Mathlib.Omega.{arith}
+use Rattle.octets.specs.Place.{tab}
+use Rattle.octets.specs.ExclusiveOr.{exclusiveOr, longest}
+use Rattle.octets.proofs.Place.{tab-ext}
+use Rattle.octets.proofs.ExclusiveOr.{longest-more, exclusiveOr-none, exclusiveOr-more}
+use Rattle.datagrams.specs.Sizes.{packetLimit}
+use Rattle.stores.specs.Store.{added, HasSlot}
+use Rattle.repair.specs.Members.{membersOf}
+use Rattle.views.specs.View.{numbers}
+use Rattle.sending.specs.Sending.{historyKept}
+use Rattle.sending.specs.Sender.{slotAt, sizeIn, packetIn, historyOctets}
+use Rattle.sending.specs.Inner.Held.{Sizes, Stored}
+use Rattle.sending.specs.Inner.Items.{Reach, membersIn, MessageSize, MessageSum}
+use Rattle.sending.proofs.History.{length-packet, packet-octet}
+use Rattle.history_items.proofs.Walk.{Standing, standing-start, standing-turn, standing-slot, place-inside, members-more}
+
+-- ---- message_size
+pub record Sizing (number : ℕ) (sizes : List ℕ) (n m i at size t : ℕ) : Type 0 where
+  pub standing : Standing number m i at t
+  pub bound : t ≤ n
+  pub small : size ≤ packetLimit
+  pub so : (o : List ℕ) → Stored sizes o → size ≡ longest (membersIn number sizes o t m i)
+
+pub sizing-start : (number : ℕ) (sizes : List ℕ) (n m i at : ℕ) → at ≡ (number + i) % numbers → Sizing number sizes n m i at 0 0
+unfolding longest membersOf tab
+sizing-start number sizes n m i at e =
+    record { standing = standing-start number m i at e; bound = omega arith; small = omega arith; so = λ o stored. refl }
+
+module _ {number : ℕ} {sizes : List ℕ} {n m i at size t : ℕ} (v : Sizing number sizes n m i at size t) where
+  pub sizing-turn : {r slot s g : ℕ} → Sizes sizes → Reach n m i → t < n → (r + m) % numbers ≡ at → slot ≡ r % historyKept
+      → s ≡ sizeIn sizes slot → g ≡ max size s → Sizing number sizes n m i r g (t + 1)
+  sizing-turn {r} {slot} {s} {g} lengths reach more back found at-slot most =
+      let inside = place-inside reach number t more in
+      let same : slot ≡ slotAt number ((historyKept + i) - suc t * m) = found ∙ standing-slot reach number t more (v .standing) r back in
+      record {
+        standing = standing-turn reach number t more (v .standing) r back;
+        bound = omega arith;
+        small =
+            (let low : slot < historyKept = omega arith in
+            let one : s ≤ packetLimit = rw at-slot (lengths .small slot low) in
+            let before = v .small in
+            omega arith);
+        so = λ o stored.
+            most
+            ∙ ap₂ max (v .so o stored)
+            (at-slot ∙ ap (sizeIn sizes) same
+            ∙ sym (length-packet stored (slotAt number ((historyKept + i) - suc t * m)) (omega arith)))
+            ∙ sym (ap longest (members-more number sizes o t m i inside) ∙ longest-more (membersIn number sizes o t m i) _);
+      }
+
+  pub sizing-done : n ≤ t → MessageSize number sizes n m i size
+  sizing-done end =
+      let all : t ≡ n = (let few = v .bound in omega arith) in
+      record { small = v .small; answer = λ o stored. v .so o stored ∙ ap (λ (k : ℕ). longest (membersIn number sizes o k m i)) all }
+
+pub ruleset sizings = (sizing-start, sizing-turn, sizing-done)
+
+-- ---- message_sum
+pub record Summing (number : ℕ) (o : List ℕ) (n m i at : ℕ) (sum : List ℕ) (t : ℕ) : Type 0 where
+  pub standing : Standing number m i at t
+  pub bound : t ≤ n
+  pub long : length sum ≡ packetLimit
+  pub so : (sizes : List ℕ) → Stored sizes o → sum ≡ exclusiveOr packetLimit (membersIn number sizes o t m i)
+
+pub summing-start : (number : ℕ) (o : List ℕ) (n m i at : ℕ) → at ≡ (number + i) % numbers
+    → Summing number o n m i at (replicate packetLimit 0) 0
+unfolding membersOf tab
+summing-start number o n m i at e =
+    record {
+      standing = standing-start number m i at e;
+      bound = omega arith;
+      long = length-replicate {A = ℕ} packetLimit 0;
+      so = λ sizes stored. exclusiveOr-none packetLimit;
+    }
+
+-- a slot added is its packet added
+added-packet : {sizes o : List ℕ} → Stored sizes o → (ls : List (List ℕ)) (i : ℕ) → i < historyKept
+    → added (exclusiveOr packetLimit ls) o i ≡ exclusiveOr packetLimit (ls ++ (packetIn sizes o i ∷ []))
+unfolding added
+added-packet {sizes} {o} stored ls i small =
+    tab-ext packetLimit (λ j. bitXor (getD (exclusiveOr packetLimit ls) j 0) (getD o (i * packetLimit + j) 0))
+    (λ k. bitXor (getD (exclusiveOr packetLimit ls) k 0) (getD (packetIn sizes o i) k 0))
+    (λ k low. ap (bitXor (getD (exclusiveOr packetLimit ls) k 0)) (sym (packet-octet stored i small k low)))
+    ∙ sym (exclusiveOr-more packetLimit ls (packetIn sizes o i))
+
+module _ {number : ℕ} {o : List ℕ} {n m i at : ℕ} {sum : List ℕ} {t : ℕ} (v : Summing number o n m i at sum t) where
+  pub summing-turn : {r slot : ℕ} {more-sum : List ℕ} → Reach n m i → t < n → (r + m) % numbers ≡ at → slot ≡ r % historyKept
+      → more-sum ≡ added sum o slot → length more-sum ≡ packetLimit → Summing number o n m i r more-sum (t + 1)
+  summing-turn {r} {slot} {more-sum} reach more back found plus long =
+      let inside = place-inside reach number t more in
+      let same : slot ≡ slotAt number ((historyKept + i) - suc t * m) = found ∙ standing-slot reach number t more (v .standing) r back in
+      record {
+        standing = standing-turn reach number t more (v .standing) r back;
+        bound = omega arith;
+        long = long;
+        so = λ sizes stored.
+            plus
+            ∙ ap₂ (λ (l : List ℕ) (k : ℕ). added l o k) (v .so sizes stored) same
+            ∙ added-packet stored (membersIn number sizes o t m i) (slotAt number ((historyKept + i) - suc t * m)) (omega arith)
+            ∙ sym (ap (exclusiveOr packetLimit) (members-more number sizes o t m i inside));
+      }
+
+  pub summing-done : n ≤ t → MessageSum number o n m i sum
+  summing-done end =
+      let all : t ≡ n = (let few = v .bound in omega arith) in
+      record { long = v .long; answer = λ sizes stored. v .so sizes stored ∙ ap (λ (k : ℕ). exclusiveOr packetLimit (membersIn number sizes o k m i)) all }
+
+pub ruleset summings = (summing-start, summing-turn, summing-done)

@@ -1,0 +1,67 @@
+-- `items::message_sum` meets its contract. Assumes nothing.
+use Prim.Native.Nat.{_-_}
+use borrow.Author.Needs.{needs}
+use Rattle.history_items.proofs.MessageSteps.{Summing, summings}
+use Rattle.history_items.proofs.items.message_sum.Statement.{statement}
+use Rattle.history_items.proofs.items.message_sum.Tie as tie
+
+abbrev Inv-loop : tie.InvT-loop
+Inv-loop number o n m i member₀ sum₀ t₀ member sum t = Summing number o n m i member sum t
+
+abbrev μ-loop : tie.MeasureT-loop
+μ-loop number o n m i member₀ sum₀ t₀ member sum t = n - t
+
+cast-wrapping-add-u16 : tie.Need-cast-wrapping-add-u16 Inv-loop μ-loop
+cast-wrapping-add-u16 c = search needs
+
+wrapping-add-u16-requires : tie.Need-wrapping-add-u16-requires Inv-loop μ-loop
+wrapping-add-u16-requires c κs = search needs
+
+loop-holds : tie.Need-loop-holds Inv-loop μ-loop
+loop-holds c = search summings
+
+cast-wrapping-sub-u16 : tie.Need-cast-wrapping-sub-u16 Inv-loop μ-loop
+cast-wrapping-sub-u16 c = search needs
+
+wrapping-sub-u16-requires : tie.Need-wrapping-sub-u16-requires Inv-loop μ-loop
+wrapping-sub-u16-requires c κs = search needs
+
+slot-of-requires : tie.Need-slot-of-requires Inv-loop μ-loop
+slot-of-requires c κs = search needs
+
+slice-aggregate-add : tie.Need-slice-aggregate-add Inv-loop μ-loop
+slice-aggregate-add c = search needs
+
+add-requires : tie.Need-add-requires Inv-loop μ-loop
+add-requires c κs = search needs
+
+add-t : tie.Need-add-t Inv-loop μ-loop
+add-t c = search needs
+
+loop-less : tie.Need-loop-less Inv-loop μ-loop
+loop-less c = search needs
+
+loop-again : tie.Need-loop-again Inv-loop μ-loop
+loop-again c = search summings
+
+returns : tie.Need-returns Inv-loop μ-loop
+returns c = search summings
+
+pub message-sum-spec : {M : Type 1} → statement M
+message-sum-spec =
+    tie.close
+    (tie.spec
+    Inv-loop
+    μ-loop
+    cast-wrapping-add-u16
+    wrapping-add-u16-requires
+    loop-holds
+    cast-wrapping-sub-u16
+    wrapping-sub-u16-requires
+    slot-of-requires
+    slice-aggregate-add
+    add-requires
+    add-t
+    loop-less
+    loop-again
+    returns)

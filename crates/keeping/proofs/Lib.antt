@@ -1,0 +1,4 @@
+pub mod Laying
+pub mod Keeping
+pub mod Sparing
+pub mod Holding

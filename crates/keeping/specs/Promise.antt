@@ -1,0 +1,95 @@
+-- What is kept of an accepted datagram: document 01, 'The receiving session', "its packet, then its spares in order, fill only
+-- numbers still unknown, those before the base too", and "For each number from the base on it keeps whether that datagram was
+-- accepted and its parity messages." A record for what each call requires, and one for what it owes. What a call does not see may be
+-- anything with which the session is within its ranges. Definitions only.
+use Prim.Native.Nat.{ℕ, _+_, _≤_, _<_}
+use mathlib.Core.Path.{_≡_}
+use mathlib.Core.Bool.{true, false}
+use mathlib.Core.List.{List, map}
+use mathlib.Core.Logic.{_⊎_}
+use lib.ListN.{length, set, take}
+use Rattle.datagrams.specs.Sizes.{packetLeast, packetLimit, sparesLimit, messageLeast, messageLimit, coveredLimit, messagesLimit}
+use Rattle.datagrams.specs.Read.{octetsOf}
+use Rattle.datagrams.specs.Claims.{PartInside}
+use Rattle.datagrams.specs.declared.reader.Part.{Part}
+use Rattle.repair.specs.Cells.{Cell, keptBefore, keptAhead, keptNumbers}
+use Rattle.repair.specs.Held.{Held, heldAt}
+use Rattle.repair.specs.Reached.{Known}
+use Rattle.views.specs.Offer as offers
+use Rattle.held.specs.Slots.{numberAt}
+use Rattle.held.specs.Table.{Lent, lent, stateNumbered, cellsOf, heldOf}
+use Rattle.held.specs.Laid.{InRanges}
+use Rattle.held.specs.declared.Counts.{Counts}
+use Rattle.keeping.specs.Steps.{itemAt}
+
+-- ---- a packet, and spares
+-- the cells are these, what is held is as it was, and all is within the ranges
+pub record CellsNow (before after : Lent) (wanted : List Cell) : Type 0 where
+  pub cells : cellsOf (after .base) (after .table) (after .octets) ≡ wanted
+  pub held : heldOf (after .base) (after .table) (after .messages) ≡ heldOf (before .base) (before .table) (before .messages)
+  pub within : InRanges after
+
+-- the octets b kept at a number, if that is still unknown: with every base, counts and messages with which all is within the
+-- ranges, where the number stands at a place p of the view
+pub record Keeps (state number : ℕ) (b t o newT newO : List ℕ) : Type 0 where
+  pub kept : (base : ℕ) (c : Counts) (g : List ℕ) (p : ℕ) → InRanges (lent base c t o g) → p < keptNumbers → number ≡ numberAt base p
+      → CellsNow (lent base c t o g) (lent base c newT newO g) (offers.keep (stateNumbered state) p b (cellsOf base t o))
+
+-- the spares of a datagram are its first `count` items: few enough, and each a packet
+pub record CarriesSpares (s : List ℕ) (items : List Part) (count : ℕ) : Type 0 where
+  pub few : count ≤ sparesLimit
+  pub there : count ≤ length items
+  pub each : (i : ℕ) → i < count → PartInside packetLeast packetLimit s (itemAt items i)
+
+-- the spares kept of the datagram with that number
+pub record KeepsSpares (number : ℕ) (s : List ℕ) (items : List Part) (count : ℕ) (t o newT newO : List ℕ) : Type 0 where
+  pub kept : (base : ℕ) (c : Counts) (g : List ℕ) (p : ℕ) → InRanges (lent base c t o g) → p < keptNumbers → count ≤ p
+      → number ≡ numberAt base p
+      → CellsNow (lent base c t o g) (lent base c newT newO g)
+      (offers.keepSpares p (map (octetsOf s) (take count items)) (cellsOf base t o))
+
+-- ---- mark and messages
+-- "with m = 0 also n = 0, otherwise n [and] m .. are within the sizes"
+pub record InSizes (n m : ℕ) : Type 0 where
+  pub least : 1 ≤ n
+  pub covered : n ≤ coveredLimit
+  pub some : 1 ≤ m
+  pub messages : m ≤ messagesLimit
+
+abbrev pub Settings : ℕ → ℕ → Type 0
+Settings n m = ((m ≡ 0) × (n ≡ 0)) ⊎ InSizes n m
+
+-- what a datagram at distance d carries beside its packet: n, and its messages as parts of its octets s; with spares there
+-- are no messages, and n is 0
+pub record Carries (s : List ℕ) (d n : ℕ) (items : List Part) (count : ℕ) : Type 0 where
+  pub near : d < keptAhead
+  pub settings : Settings n count
+  pub there : count ≤ length items
+  pub each : (i : ℕ) → i < count → PartInside messageLeast messageLimit s (itemAt items i)
+
+-- what is lent is within the ranges, and the number at distance d is known, but its datagram was not accepted before
+pub record Unmarked (l : Lent) (d : ℕ) : Type 0 where
+  pub within : InRanges l
+  pub known : Known (cellsOf (l .base) (l .table) (l .octets)) (keptBefore + d)
+  pub unmarked : (heldAt (heldOf (l .base) (l .table) (l .messages)) d) .accepted ≡ false
+
+-- the same of what hold sees: there are counts and octets with which it is so
+pub record MayHold (base : ℕ) (t g : List ℕ) (d : ℕ) : Type 0 where
+  pub counts : Counts
+  pub octets : List ℕ
+  pub unmarked : Unmarked (lent base counts t octets g) d
+
+-- what is held of the accepted datagram
+abbrev pub heldOfParts : List ℕ → ℕ → List Part → ℕ → Held
+heldOfParts s n items count = record { accepted = true; n = n; messages = map (octetsOf s) (take count items) }
+
+-- what is held is this, the cells are as they were, and all is within the ranges
+pub record HeldNow (before after : Lent) (wanted : List Held) : Type 0 where
+  pub held : heldOf (after .base) (after .table) (after .messages) ≡ wanted
+  pub cells : cellsOf (after .base) (after .table) (after .octets) ≡ cellsOf (before .base) (before .table) (before .octets)
+  pub within : InRanges after
+
+-- the number at distance d is marked and holds its n and messages: with every counts and octets with which it was unmarked
+pub record Holds (base d : ℕ) (s : List ℕ) (n : ℕ) (items : List Part) (count : ℕ) (t g newT newG : List ℕ) : Type 0 where
+  pub holds : (c : Counts) (o : List ℕ) → Unmarked (lent base c t o g) d
+      → HeldNow (lent base c t o g) (lent base c newT o newG) (set (heldOf base t g) d (heldOfParts s n items count))

@@ -1,0 +1,35 @@
+-- What the inner functions of this crate require and owe: a part of a datagram laid in a slot, messages laid in their slots one
+-- after the other. Definitions only.
+use Prim.Native.Nat.{ℕ, _≤_, _<_}
+use mathlib.Core.Path.{_≡_}
+use mathlib.Core.List.{List}
+use lib.ListN.{length, getD}
+use Rattle.datagrams.specs.Sizes.{messageLeast, messageLimit, messagesLimit}
+use Rattle.datagrams.specs.Read.{octetsOf}
+use Rattle.datagrams.specs.Promise.{nowhere}
+use Rattle.datagrams.specs.Claims.{PartInside}
+use Rattle.datagrams.specs.declared.reader.Part.{Part}
+use Rattle.stores.specs.Store.{pasted}
+use Rattle.held.specs.Heard.{SizesLaid, OctetsLaid}
+
+-- what put_part owes: the octets of the part at the front of the slot, and how many they are
+pub record PartPut (slot : ℕ) (s : List ℕ) (p : Part) (old new : List ℕ) (r : ℕ) : Type 0 where
+  pub size : r ≡ length (octetsOf s p)
+  pub octets : new ≡ pasted old slot (octetsOf s p)
+
+-- item i, and its octets
+abbrev pub itemAt : List Part → ℕ → Part
+itemAt items i = getD items i nowhere
+
+abbrev pub itemOctets : List ℕ → List Part → ℕ → List ℕ
+itemOctets s items = λ i. octetsOf s (itemAt items i)
+
+-- the messages are few enough, and each is a part of the octets s within the sizes
+pub record Fit (s : List ℕ) (items : List Part) (count : ℕ) : Type 0 where
+  pub few : count ≤ messagesLimit
+  pub each : (i : ℕ) → i < count → PartInside messageLeast messageLimit s (itemAt items i)
+
+-- what lay owes: the first `count` messages of slot j are the items
+pub record ItemsLaid (s : List ℕ) (j : ℕ) (items : List Part) (count : ℕ) (t g newT newG : List ℕ) : Type 0 where
+  pub sizes : SizesLaid j count (itemOctets s items) t newT
+  pub octets : OctetsLaid j count (itemOctets s items) g newG

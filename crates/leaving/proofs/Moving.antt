@@ -1,0 +1,152 @@
+-- The base goes on by one: slot by slot, all but two slots of kept numbers and marks are as they were; then place by place, the
+-- view is the one before, one place further, and its ranges are kept. Assumes nothing.
+use Prim.Native.Nat.{ℕ, suc, _+_, _%_, _≤_, _<_}
+use mathlib.Core.Path.{_≡_, ap, ap₂, _∙_}
+use mathlib.Core.List.{List, [], _∷_, _++_}
+use lib.ListN.{drop}
+use native.Mathlib.Omega.{arith}
+use Rattle.octets.specs.Place.{tab}
+use Rattle.octets.proofs.Place.{tab-ext, tab-shift}
+use Rattle.datagrams.specs.Sizes.{packetLimit, messagesLimit}
+use Rattle.repair.specs.Cells.{Cell, unknownCell, keptBefore, keptAhead, keptNumbers}
+use Rattle.repair.specs.Held.{Held, nothingHeld}
+use Rattle.stores.specs.Store.{HasSlot, part, pasted, zeros}
+use Rattle.stores.proofs.Laws.{zeros-fit, part-pasted-other}
+use Rattle.views.specs.View as views
+use Rattle.views.specs.View.{View, following, numbers, goneOn}
+use Rattle.views.proofs.GoesOn.{sound-goes-on}
+use Rattle.held.specs.Slots.{slotAt, heardSlotAt, messageSlot, Apart, slotsKept, slotsHeard}
+use Rattle.held.specs.Table.{lent, countsOf, stateNumbered, sizeIn, mIn, messageSizeIn, messageIn, cellIn, heldIn}
+use Rattle.held.specs.Table.{cellsOf, heldOf, viewIn, keptSet, heardDropped}
+use Rattle.held.specs.Laid.{InRanges}
+use Rattle.held.specs.declared.Counts.{Counts}
+use Rattle.held.proofs.Slots.{slot-after, slot-comes, heard-after, heard-leaves, slot-small, heard-small, message-small, slot-apart, heard-apart}
+use Rattle.held.proofs.Slots.{message-apart, has-packet-slot, has-message-slot}
+use Rattle.leaving.specs.Steps.{Freed}
+use Rattle.leaving.specs.Promise.{OneMore, GoesOn}
+use Rattle.leaving.proofs.Advanced.{advanced, state-other, size-other, state-comes, size-comes, mark-other, n-other, m-other}
+use Rattle.leaving.proofs.Advanced.{mark-gone, n-gone, m-gone, sizes-other}
+use Rattle.leaving.proofs.Laying.{laid-goes-on}
+
+abbrev seen : ℕ → views.Counts → List Cell → List Held → View
+seen base counts cells held = record { base = base; counts = counts; cells = cells; held = held }
+
+-- ---- slot by slot
+module _ {b : ℕ} {before : Counts} {t o g newO newG : List ℕ} (counts : Counts) (w : InRanges (lent b before t o g))
+    (cleared : newO ≡ pasted o (slotAt b 0) (zeros packetLimit)) (freed : Freed (heardSlotAt b 0) (mIn t (heardSlotAt b 0)) g newG) where
+  small : b < numbers
+  unfolding viewIn
+  small = w .sound .small
+
+  there : (i : ℕ) → i < slotsKept → HasSlot i o
+  there i small = has-packet-slot o i (w .laid .octets) small
+
+  comes-there : HasSlot (slotAt b 0) o
+  comes-there = there (slotAt b 0) (slot-small b 0)
+
+  -- kept numbers
+  cell-other : (i : ℕ) → i < slotsKept → (i ≡ slotAt b 0 → ⊥) → cellIn (advanced b t) newO i ≡ cellIn t o i
+  unfolding cellIn
+  cell-other i small other =
+      rw (
+        state-other b t i small other,
+        size-other b t i small other,
+        cleared,
+        part-pasted-other o (slotAt b 0) (zeros packetLimit) comes-there zeros-fit i (sizeIn t i) (there i small) (w .laid .size i small) other,
+      )
+
+  cell-comes : cellIn (advanced b t) newO (slotAt b 0) ≡ unknownCell
+  unfolding cellIn part stateNumbered
+  cell-comes = rw (state-comes b t, size-comes b t)
+
+  -- marks and messages: a message of another slot is none of those that were cleared
+  few : mIn t (heardSlotAt b 0) ≤ messagesLimit
+  few = w .laid .few (heardSlotAt b 0) (heard-small b 0)
+
+  apart : (j i : ℕ) → i < messagesLimit → (j ≡ heardSlotAt b 0 → ⊥) → Apart (heardSlotAt b 0) (mIn t (heardSlotAt b 0)) (messageSlot j i)
+  apart j i below other e low same = other (message-apart j i (heardSlotAt b 0) e below (omega (arith, few)) same .0)
+
+  message-other : (j i : ℕ) → j < slotsHeard → i < messagesLimit → (j ≡ heardSlotAt b 0 → ⊥)
+      → messageIn (advanced b t) newG j i ≡ messageIn t g j i
+  unfolding messageIn
+  message-other j i small below other =
+      ap (λ (n : ℕ). part newG (messageSlot j i) n) (sizes-other b t j small other i below)
+      ∙ freed .parts (messageSlot j i) (messageSizeIn t (messageSlot j i))
+      (has-message-slot g (messageSlot j i) (w .laid .messages) (message-small j i small below)) (w .laid .part j i small below)
+      (apart j i below other)
+
+  held-other : (j : ℕ) → j < slotsHeard → (j ≡ heardSlotAt b 0 → ⊥) → heldIn (advanced b t) newG j ≡ heldIn t g j
+  unfolding heldIn
+  held-other j small other =
+      rw (
+        mark-other b t j small other,
+        n-other b t j small other,
+        m-other b t j small other,
+        tab-ext (mIn t j) (messageIn (advanced b t) newG j) (messageIn t g j)
+            (λ i below. message-other j i small (omega (arith, w .laid .few j small)) other),
+      )
+
+  held-gone : heldIn (advanced b t) newG (heardSlotAt b 0) ≡ nothingHeld
+  unfolding heldIn tab
+  held-gone = rw (mark-gone b t, n-gone b t, m-gone b t)
+
+  -- ---- place by place
+  slot-stays : (p : ℕ) → suc p < keptNumbers → slotAt b (suc p) ≡ slotAt b 0 → ⊥
+  slot-stays p low same = let z = slot-apart b (suc p) 0 low (omega arith) same in omega arith
+
+  heard-stays : (d : ℕ) → suc d < keptAhead → heardSlotAt b (suc d) ≡ heardSlotAt b 0 → ⊥
+  heard-stays d low same = let z = heard-apart b (suc d) 0 low (omega arith) same in omega arith
+
+  cells-after : cellsOf (following b) (advanced b t) newO ≡ drop 1 (cellsOf b t o) ++ (unknownCell ∷ [])
+  unfolding cellsOf
+  cells-after =
+      tab-shift 63 _ (λ p. cellIn t o (slotAt b p)) unknownCell
+      (λ p low.
+      let inside : suc p < keptNumbers = omega arith in
+      ap (λ (i : ℕ). cellIn (advanced b t) newO i) (slot-after b p small)
+      ∙ cell-other (slotAt b (suc p)) (slot-small b (suc p)) (slot-stays p inside))
+      (ap (λ (i : ℕ). cellIn (advanced b t) newO i) (slot-comes b small) ∙ cell-comes)
+
+  held-after : heldOf (following b) (advanced b t) newG ≡ drop 1 (heldOf b t g) ++ (nothingHeld ∷ [])
+  unfolding heldOf
+  held-after =
+      tab-shift 31 _ (λ d. heldIn t g (heardSlotAt b d)) nothingHeld
+      (λ d low.
+      let inside : suc d < keptAhead = omega arith in
+      ap (λ (j : ℕ). heldIn (advanced b t) newG j) (heard-after b d small)
+      ∙ held-other (heardSlotAt b (suc d)) (heard-small b (suc d)) (heard-stays d inside))
+      (ap (λ (j : ℕ). heldIn (advanced b t) newG j) (heard-leaves b small) ∙ held-gone)
+
+  view-after : viewIn (lent (following b) counts (advanced b t) newO newG) ≡ goneOn (countsOf counts) (viewIn (lent b before t o g))
+  unfolding viewIn goneOn
+  view-after = ap₂ (seen (following b) (countsOf counts)) cells-after held-after
+
+  moved : OneMore before counts → GoesOn counts (lent b before t o g) (lent (following b) counts (advanced b t) newO newG)
+  unfolding viewIn
+  moved one =
+      record {
+        state = view-after;
+        within =
+            record {
+              laid = laid-goes-on b (w .laid) cleared freed;
+              sound = rw view-after (sound-goes-on (countsOf counts) (w .sound) (one .more) (one .fits));
+            };
+      }
+
+-- ---- in the words of the code
+-- the messages of the number that leaves are few enough
+pub few-leave : {base leaves m : ℕ} {before : Counts} {t o g : List ℕ} → InRanges (lent base before t o g) → leaves ≡ base % slotsHeard
+    → m ≡ mIn t leaves → m ≤ messagesLimit
+few-leave {base} {leaves} {m} {before} {t} {o} {g} w at-base read =
+    let e : leaves ≡ heardSlotAt base 0 = omega arith in
+    rw (read, e) (w .laid .few (heardSlotAt base 0) (heard-small base 0))
+
+pub base-moved : {base b leaves m after : ℕ} {before counts : Counts} {t o g t1 t2 newO newG : List ℕ} → InRanges (lent base before t o g)
+    → OneMore before counts → b ≡ base → leaves ≡ base % slotsHeard → m ≡ mIn t leaves
+    → newO ≡ pasted o ((b + keptBefore) % slotsKept) (zeros packetLimit) → Freed leaves m g newG
+    → t1 ≡ keptSet t ((b + keptBefore) % slotsKept) 0 0 → t2 ≡ heardDropped t1 leaves → after ≡ following base
+    → GoesOn counts (lent base before t o g) (lent after counts t2 newO newG)
+base-moved {base} {b} {leaves} {m} {after} {before} {counts} {t} {o} {g} {t1} {t2} {newO} {newG} w one wide at-base read cleared freed written gone next =
+    let comes : (b + keptBefore) % slotsKept ≡ slotAt base 0 = omega (arith, wide) in
+    let place : leaves ≡ heardSlotAt base 0 = omega arith in
+    rw (next, gone, written, comes, place) (moved counts w (rw comes at cleared) (rw (read, place) at freed) one)

@@ -1,0 +1,126 @@
+-- `leaving::next_core` meets its contract. Assumes nothing.
+use borrow.Author.Needs.{needs}
+use Rattle.leaving.proofs.Base.{goes-on, base-there}
+use Rattle.leaving.proofs.Next.{next-16, next-10, next-13, next-released, one-released, size-fits}
+use Rattle.leaving.proofs.next_core.Statement.{statement}
+use Rattle.leaving.proofs.next_core.Tie as tie
+
+all-passed-requires : tie.Need-all-passed-requires
+all-passed-requires c κs = search needs
+
+next-refused-requires : tie.Need-next-refused-requires
+next-refused-requires c κs = search needs
+
+returns : tie.Need-returns
+returns c =
+    let passed = c .before .before in
+    next-16 (passed .before .before .pre) (passed .all-passed .ensures) (c .before .if1 .taken) (c .next-refused .ensures)
+
+kept-slot-requires : tie.Need-kept-slot-requires
+kept-slot-requires c κs = search needs
+
+state-at-requires : tie.Need-state-at-requires
+state-at-requires c κs = search needs
+
+next-refused-requires-2 : tie.Need-next-refused-requires-2
+next-refused-requires-2 c κs = search needs
+
+returns-2 : tie.Need-returns-2
+returns-2 c =
+    let read = c .before .before in
+    let at = read .before .before .before in
+    let passed = at .before .before in
+    next-10 (passed .before .before .pre) (passed .all-passed .ensures) (at .before .if1 .left) (at .kept-slot .ensures)
+    (read .state-at .ensures) (c .before .if2 .taken) (c .next-refused2 .ensures)
+
+size-at-requires : tie.Need-size-at-requires
+size-at-requires c κs = search needs
+
+next-refused-requires-3 : tie.Need-next-refused-requires-3
+next-refused-requires-3 c κs = search needs
+
+returns-3 : tie.Need-returns-3
+returns-3 c =
+    let sized = c .before .before in
+    let other = sized .before .before .before in
+    let read = other .before in
+    let at = read .before .before .before in
+    let passed = at .before .before in
+    next-13 (passed .before .before .pre) (passed .all-passed .ensures) (at .before .if1 .left) (at .kept-slot .ensures)
+    (read .state-at .ensures) (other .if2 .left) (sized .size-at .ensures) (c .before .if3 .taken) (c .next-refused3 .ensures)
+
+copy-out-requires : tie.Need-copy-out-requires
+copy-out-requires c κs =
+    let room = c .before .before .before in
+    let sized = room .before in
+    let at = sized .before .before .before .before .before .before .before in
+    let start = at .before .before .before .before in (
+      base-there (start .pre) (at .kept-slot .ensures),
+      (size-fits (start .pre) (at .kept-slot .ensures) (sized .size-at .ensures), room .if3 .left),
+    )
+
+state-of-requires : tie.Need-state-of-requires
+state-of-requires c κs = search needs
+
+counted-requires : tie.Need-counted-requires
+counted-requires c κs =
+    let copied = c .before .before .before in
+    let room = copied .before .before .before .before in
+    let read = room .before .before .before .before .before in
+    let at = read .before .before .before in
+    goes-on (at .before .before .all-passed .ensures) (at .before .if1 .left)
+
+go-on-requires : tie.Need-go-on-requires
+go-on-requires c κs =
+    let counted = c .before .before .before in
+    let state = counted .before in
+    let copied = state .before .before .before in
+    let room = copied .before .before .before .before in
+    let other = room .before .before .before .before in
+    let read = other .before in
+    let at = read .before .before .before in
+    let passed = at .before .before in
+    let start = passed .before .before in (
+      start .pre,
+      one-released (start .pre) (passed .all-passed .ensures) (at .before .if1 .left) (at .kept-slot .ensures) (read .state-at .ensures)
+          (other .if2 .left) (state .state-of .ensures) (counted .counted .ensures),
+    )
+
+same-length : tie.Need-same-length
+same-length c = search needs
+
+returns-4 : tie.Need-returns-4
+returns-4 c =
+    let counted = c .before .before .before .before in
+    let state = counted .before in
+    let copied = state .before .before .before in
+    let room = copied .before .before .before .before in
+    let sized = room .before in
+    let other = sized .before .before .before in
+    let read = other .before in
+    let at = read .before .before .before in
+    let passed = at .before .before in
+    next-released (passed .before .before .pre) (passed .all-passed .ensures) (at .before .if1 .left) (at .kept-slot .ensures)
+    (read .state-at .ensures) (other .if2 .left) (sized .size-at .ensures) (room .if3 .left) (copied .copy-out .ensures)
+    (state .state-of .ensures) (counted .counted .ensures) (c .go-on .ensures)
+
+pub next-core-spec : {M : Type 1} → statement M
+next-core-spec =
+    tie.close
+    (tie.spec
+    all-passed-requires
+    next-refused-requires
+    returns
+    kept-slot-requires
+    state-at-requires
+    next-refused-requires-2
+    returns-2
+    size-at-requires
+    next-refused-requires-3
+    returns-3
+    copy-out-requires
+    state-of-requires
+    counted-requires
+    go-on-requires
+    same-length
+    returns-4)

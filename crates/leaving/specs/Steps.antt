@@ -1,0 +1,38 @@
+-- What the inner functions of this crate owe. Definitions only.
+use Prim.Native.Nat.{ℕ, _≤_, _<_}
+use mathlib.Core.Path.{_≡_}
+use mathlib.Core.Bool.{Bool, true}
+use mathlib.Core.List.{List}
+use lib.ListN.{length}
+use lib.Dec.{leb}
+use Rattle.lengths.specs.Refusals.{refusal}
+use Rattle.datagrams.specs.Sizes.{packetLimit}
+use Rattle.stores.specs.Store.{HasSlot, part, zerosPast}
+use Rattle.views.specs.View.{sum, sessionLimit}
+use Rattle.held.specs.Slots.{messageSlot, Apart}
+use Rattle.held.specs.Table.{countsOf, stateOf, stateNumbered}
+use Rattle.held.specs.declared.Counts.{Counts}
+use Rattle.held.specs.declared.State.{State}
+use Rattle.leaving.specs.declared.NextDone.{NextDone}
+use Rattle.leaving.specs.declared.Released.the-variants as released
+use Rattle.leaving.specs.declared.GivenUp.{GivenUp}
+use Rattle.leaving.specs.declared.Lost.the-variants as lost
+
+abbrev pub nextRefused : ℕ → Counts → ℕ → NextDone
+nextRefused b c number = record { base = b; counts = c; answer = released.Refused (refusal number) }
+
+abbrev pub giveUpRefused : ℕ → Counts → ℕ → GivenUp
+giveUpRefused b c number = record { base = b; counts = c; answer = lost.Refused (refusal number) }
+
+-- the state that a number of the table stands for, as an answer names it
+pub record Named (number : ℕ) (kind : State) : Type 0 where
+  pub same : stateOf kind ≡ stateNumbered number
+
+pub record Passed (c : Counts) (p : Bool) : Type 0 where
+  pub test : p ≡ leb sessionLimit (sum (countsOf c))
+
+pub record Freed (j m : ℕ) (old new : List ℕ) : Type 0 where
+  pub long : length new ≡ length old
+  pub cleared : (i n : ℕ) → i < m → zerosPast new (messageSlot j i) n ≡ true
+  pub parts : (k n : ℕ) → HasSlot k old → n ≤ packetLimit → Apart j m k → part new k n ≡ part old k n
+  pub zeros : (k n : ℕ) → Apart j m k → zerosPast new k n ≡ zerosPast old k n

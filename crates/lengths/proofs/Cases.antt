@@ -1,0 +1,20 @@
+-- The cases of a length, each computed. Assumes nothing.
+use mathlib.Core.Path.{refl}
+use Rattle.lengths.specs.Tables.{unless}
+use Rattle.lengths.specs.Length.{lengthAt, lengthOctets, lengthToWrite}
+use Rattle.lengths.specs.Cases.{Cases}
+
+pub cases : Cases
+unfolding lengthAt lengthOctets lengthToWrite unless
+cases =
+    record {
+      last-c0 = refl;
+      last-80 = refl;
+      written-16383 = refl;
+      written-16384 = refl;
+      two-into-one = refl;
+      one-into-one = refl;
+      size-first = refl;
+      refused-stays = refl;
+      rest-stays = refl;
+    }

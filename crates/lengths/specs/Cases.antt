@@ -1,0 +1,24 @@
+-- Small lengths, read and written, at which another reading of document 01 was possible: each case says one answer. Definitions
+-- only.
+use Prim.Native.Nat.{ℕ}
+use mathlib.Core.Path.{_≡_}
+use mathlib.Core.List.{List, [], _∷_}
+use Rattle.lengths.specs.Refusals.{endsEarly, badForm, outsideSizes, noRoom}
+use Rattle.lengths.specs.Answers.{done, refuse, fitted, over}
+use Rattle.lengths.specs.Length.{lengthAt, lengthToWrite}
+
+pub record Cases : Type 0 where
+  -- C0 or more is 3, as the last octet too; 80 as the last octet is 1
+  pub last-c0 : lengthAt (0xC0 ∷ []) ≡ refuse badForm
+  pub last-80 : lengthAt (0x80 ∷ []) ≡ refuse endsEarly
+  -- "From 128 to 16,383 it is two"
+  pub written-16383 : lengthToWrite 16383 ≡ done (0xBF ∷ 0xFF ∷ [])
+  pub written-16384 : lengthToWrite 16384 ≡ refuse outsideSizes
+  -- 13: "the result is longer than the lent buffer"; 4 comes before it
+  pub two-into-one : fitted (lengthToWrite 128) (0xAA ∷ []) ≡ refuse noRoom
+  pub one-into-one : fitted (lengthToWrite 5) (0xAA ∷ []) ≡ done (0x05 ∷ [])
+  pub size-first : fitted (lengthToWrite 16384) [] ≡ refuse outsideSizes
+  -- "A refusal .. changes nothing": the buffer of one octet after that 13
+  pub refused-stays : over (fitted (lengthToWrite 128) (0xAA ∷ [])) (0xAA ∷ []) ≡ 0xAA ∷ []
+  -- "Every call that writes to a lent buffer writes its front, and the rest stays"
+  pub rest-stays : over (fitted (lengthToWrite 5) (0xAA ∷ 0xBB ∷ [])) (0xAA ∷ 0xBB ∷ []) ≡ 0x05 ∷ 0xBB ∷ []

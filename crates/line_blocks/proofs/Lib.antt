@@ -1,0 +1,2 @@
+mod FeedSteps
+mod FeedTurn

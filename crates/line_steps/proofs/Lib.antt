@@ -1,0 +1,5 @@
+mod ResultSteps
+mod Stepping
+mod ReleaseLoop
+mod Offering
+mod StepLaws

@@ -1,0 +1,32 @@
+-- `line_steps::put_refusal` meets its contract: two parts laid one after the other. Assumes nothing.
+use Rattle.line_steps.proofs.ResultSteps.{room-left, refusal-put}
+use native.Mathlib.Omega.{arith}
+use borrow.Author.Needs.{needs}
+use Rattle.line_steps.proofs.results.put_refusal.Statement.{statement}
+use Rattle.line_steps.proofs.results.put_refusal.Tie as tie
+use Rattle.line_steps.proofs.results.put_refusal.Reads as reads
+use Rattle.line_steps.proofs.results.put_refusal.Lts as lts
+use Rattle.hexadecimal.proofs.put_octets.Reads as put-octets-reads
+use Rattle.line_steps.proofs.results.end_line.Reads as end-line-reads
+
+slice-aggregate-put-octets : tie.Need-slice-aggregate-put-octets
+slice-aggregate-put-octets c = search needs
+
+put-octets-requires : tie.Need-put-octets-requires
+put-octets-requires c κs = search needs
+
+end-line-requires : tie.Need-end-line-requires
+end-line-requires c κs = room-left _ 1 (c .before .before .before .put-octets .ensures) (omega arith)
+
+same-length : tie.Need-same-length
+same-length c = search needs
+
+returns : tie.Need-returns
+returns c =
+    let feed = c .before .before in
+    refusal-put _ (feed .before .before .before .before .put-octets .ensures) (feed .end-line .ensures)
+
+pub put-refusal-spec : {M : Type 1} → statement M
+put-refusal-spec =
+    tie.close
+    (tie.spec slice-aggregate-put-octets put-octets-requires end-line-requires same-length returns)

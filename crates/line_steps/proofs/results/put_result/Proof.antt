@@ -1,0 +1,52 @@
+-- `line_steps::put_result` meets its contract: three parts laid one after the other. Assumes nothing.
+use Rattle.line_steps.proofs.ResultSteps.{room-left, room-left-two, result-put}
+use native.Mathlib.Omega.{arith}
+use borrow.Author.Needs.{needs}
+use Rattle.line_steps.proofs.results.put_result.Statement.{statement}
+use Rattle.line_steps.proofs.results.put_result.Tie as tie
+use Rattle.line_steps.proofs.results.put_result.Reads as reads
+use Rattle.line_steps.proofs.results.put_result.Lts as lts
+use Rattle.hexadecimal.proofs.put_octets.Reads as put-octets-reads
+use Rattle.line_steps.proofs.results.end_line.Reads as end-line-reads
+
+cast-high : tie.Need-cast-high
+cast-high c = search needs
+
+cast-low : tie.Need-cast-low
+cast-low c = search needs
+
+slice-aggregate-put-octets : tie.Need-slice-aggregate-put-octets
+slice-aggregate-put-octets c = search needs
+
+put-octets-requires : tie.Need-put-octets-requires
+put-octets-requires c κs = search needs
+
+put-octets-requires-2 : tie.Need-put-octets-requires-2
+put-octets-requires-2 c κs = room-left _ _ (c .before .before .before .put-octets .ensures) (omega arith)
+
+end-line-requires : tie.Need-end-line-requires
+end-line-requires c κs =
+    let two = c .before .before .before in
+    room-left-two _ _ 1 (two .before .before .before .before .put-octets .ensures) (two .put-octets2 .ensures) (omega arith)
+
+same-length : tie.Need-same-length
+same-length c = search needs
+
+returns : tie.Need-returns
+returns c =
+    let feed = c .before .before in
+    let two = feed .before .before .before .before in
+    result-put _ _ _ (two .before .before .before .before .put-octets .ensures) (two .put-octets2 .ensures) (feed .end-line .ensures)
+
+pub put-result-spec : {M : Type 1} → statement M
+put-result-spec =
+    tie.close
+    (tie.spec
+    cast-high
+    cast-low
+    slice-aggregate-put-octets
+    put-octets-requires
+    put-octets-requires-2
+    end-line-requires
+    same-length
+    returns)

@@ -1,0 +1,58 @@
+// Result lines: "kind (00 received, 01 spare, 02 repaired, 03 lost), number, octets; a refusal is FF and its number as two
+// hexadecimal digits", "each line ended by a line feed". Each is laid into out from place at on; the answer is the place after
+// it.
+use held::State;
+use hexadecimal::put_octets;
+use lengths::Refusal;
+use lines::Line;
+ghost use mathlib.Core.Path.{_≡_};
+ghost use mathlib.Core.List.{[], _∷_};
+ghost use Prim.Native.Nat.{_+_, _*_, _/_, _%_, _≤_};
+ghost use lib.ListN.{length};
+ghost use Rattle.held.specs.Table.{stateOf};
+ghost use Rattle.lines.specs.Lines.{lineFeed, kindOf, resultLine, refusalLine};
+ghost use Rattle.lines.specs.Promise.{Appends};
+
+// The kind of a released number; an unknown or blank one is never released.
+pub fn kind_octet(kind: State) -> u8
+    ensures { λ r. ⌜ r ≡ kindOf (stateOf kind) ⌝ }
+{
+    match kind {
+        State::Unknown => Line::LOST,
+        State::Received => 0,
+        State::Spare => 1,
+        State::Repaired => 2,
+        State::Blank => Line::LOST,
+    }
+}
+
+// A line feed at a place.
+fn end_line(out: &mut [u8], at: usize) -> usize
+    requires { ⌜ at + 1 ≤ length (now out) ⌝ }
+    ensures { λ r. ⌜ Appends (lineFeed ∷ []) (now (out .entry)) at (now (out .exit)) r ⌝ }
+{
+    out[at] = Line::FEED;
+    at + 1
+}
+
+pub fn put_result(kind: u8, number: u16, octets: &[u8], out: &mut [u8], at: usize) -> usize
+    requires { ⌜ at + (7 + 2 * length (now octets)) ≤ length (now out) ⌝ }
+    ensures { λ r. ⌜ Appends (resultLine kind number (now (octets .entry))) (now (out .entry)) at (now (out .exit)) r ⌝ }
+{
+    let high = (number / 256) as u8;
+    let low = (number % 256) as u8;
+    let front = [kind, high, low];
+    let middle = put_octets(&front, out, at);
+    let end = put_octets(octets, out, middle);
+    end_line(out, end)
+}
+
+pub fn put_refusal(why: Refusal, out: &mut [u8], at: usize) -> usize
+    requires { ⌜ at + 5 ≤ length (now out) ⌝ }
+    ensures { λ r. ⌜ Appends (refusalLine why) (now (out .entry)) at (now (out .exit)) r ⌝ }
+{
+    let number = why.number;
+    let octets = [255, number];
+    let end = put_octets(&octets, out, at);
+    end_line(out, end)
+}

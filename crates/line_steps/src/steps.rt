@@ -1,0 +1,241 @@
+// One line of the program: its answer, then all releases. Base and counts go by value, all else of the session and the buffers are
+// lent: no range is checked and nothing copied for each line. These functions require the session's ranges and keep them.
+use crate::results::kind_octet;
+use crate::results::put_refusal;
+use crate::results::put_result;
+use datagrams::Datagram;
+use datagrams::Packet;
+use held::Counts;
+use held::Session;
+use hexadecimal::hex_to_octets;
+use leaving::Lost;
+use leaving::Released;
+use lengths::Written;
+use lines::Line;
+use lines::Stepped;
+use offering::Offered;
+ghost use Prim.Native.Nat.{_+_, _≤_};
+ghost use lib.ListN.{length};
+ghost use Rattle.views.specs.Offer.{offer};
+ghost use Rattle.views.specs.Release.{giveUp};
+ghost use Rattle.held.specs.Table.{lent, viewIn};
+ghost use Rattle.held.specs.Laid.{InRanges};
+ghost use Rattle.lines.specs.Lines.{giveUpMade, offerMade, offerLine, answerLine, releases as allReleases, step as wholeStep};
+ghost use Rattle.lines.specs.Promise.{Does, Able, Releases, resultLimit, releasesLimit, stepLimit};
+
+// A release, and whether there was something to release.
+struct Turn {
+    base: u16,
+    counts: Counts,
+    end: usize,
+    more: bool,
+}
+
+// One release: the packet at the base.
+fn release(
+    base: u16,
+    counts: Counts,
+    t: &mut [u16; Session::PLACES],
+    o: &mut [u8; Session::PACKET_OCTETS],
+    g: &mut [u8; Session::MESSAGE_OCTETS],
+    out: &mut [u8],
+    at: usize,
+) -> Turn
+    requires { ⌜ Able resultLimit (lent base counts (now t) (now o) (now g)) (now out) at ⌝ }
+    ensures { λ r. ⌜ Releases (viewIn (lent base counts (now (t .entry)) (now (o .entry)) (now (g .entry)))) (now (out .entry)) at (lent (r .base) (r .counts) (now (t .exit)) (now (o .exit)) (now (g .exit))) (r .end) (r .more) (now (out .exit)) ⌝ }
+{
+    let mut packet = [0u8; Packet::LIMIT];
+    let done = leaving::next_core(base, counts, t, o, g, &mut packet);
+    let after = done.base;
+    let moved = done.counts;
+    let answer = done.answer;
+    match answer {
+        Released::Refused(_) => Turn {
+            base: after,
+            counts: moved,
+            end: at,
+            more: false,
+        },
+        Released::Packet { kind, number, size } => {
+            let octet = kind_octet(kind);
+            let end = put_result(octet, number, &packet[..size], out, at);
+            Turn {
+                base: after,
+                counts: moved,
+                end,
+                more: true,
+            }
+        }
+    }
+}
+
+// "releases all it can": after as many releases as there are numbers from the base on, the base is unknown.
+fn releases(
+    base: u16,
+    counts: Counts,
+    t: &mut [u16; Session::PLACES],
+    o: &mut [u8; Session::PACKET_OCTETS],
+    g: &mut [u8; Session::MESSAGE_OCTETS],
+    out: &mut [u8],
+    at: usize,
+) -> Stepped
+    requires { ⌜ Able releasesLimit (lent base counts (now t) (now o) (now g)) (now out) at ⌝ }
+    ensures { λ r. ⌜ Does (allReleases (viewIn (lent base counts (now (t .entry)) (now (o .entry)) (now (g .entry))))) (now (out .entry)) at (lent (r .base) (r .counts) (now (t .exit)) (now (o .exit)) (now (g .exit))) (r .end) (now (out .exit)) ⌝ }
+{
+    let mut now = base;
+    let mut moves = counts;
+    let mut end = at;
+    let mut left = Session::HEARD;
+    while left > 0 {
+        let slot = held::kept_slot(now);
+        if !held::is_known(t, slot) {
+            return Stepped {
+                base: now,
+                counts: moves,
+                end,
+            };
+        }
+        let turn = release(now, moves, t, o, g, out, end);
+        now = turn.base;
+        let moved = turn.counts;
+        moves = moved;
+        end = turn.end;
+        if !turn.more {
+            return Stepped {
+                base: now,
+                counts: moves,
+                end,
+            };
+        }
+        left -= 1;
+    }
+    Stepped {
+        base: now,
+        counts: moves,
+        end,
+    }
+}
+
+// "An empty line is one give-up".
+fn give_up_line(
+    base: u16,
+    counts: Counts,
+    t: &mut [u16; Session::PLACES],
+    o: &mut [u8; Session::PACKET_OCTETS],
+    g: &mut [u8; Session::MESSAGE_OCTETS],
+    out: &mut [u8],
+    at: usize,
+) -> Stepped
+    requires { ⌜ InRanges (lent base counts (now t) (now o) (now g)) ⌝ }
+    requires { ⌜ at + resultLimit ≤ length (now out) ⌝ }
+    ensures { λ r. ⌜ Does (giveUpMade (giveUp (viewIn (lent base counts (now (t .entry)) (now (o .entry)) (now (g .entry))))) (viewIn (lent base counts (now (t .entry)) (now (o .entry)) (now (g .entry))))) (now (out .entry)) at (lent (r .base) (r .counts) (now (t .exit)) (now (o .exit)) (now (g .exit))) (r .end) (now (out .exit)) ⌝ }
+{
+    let done = leaving::give_up_core(base, counts, t, o, g);
+    let after = done.base;
+    let moved = done.counts;
+    let answer = done.answer;
+    match answer {
+        Lost::Number(number) => {
+            let end = put_result(Line::LOST, number, &[], out, at);
+            Stepped {
+                base: after,
+                counts: moved,
+                end,
+            }
+        }
+        Lost::Refused(why) => {
+            let end = put_refusal(why, out, at);
+            Stepped {
+                base: after,
+                counts: moved,
+                end,
+            }
+        }
+    }
+}
+
+// Octets offered: a line for a refusal alone. Base and counts stay as they are.
+fn offer_octets(
+    base: u16,
+    counts: Counts,
+    t: &mut [u16; Session::PLACES],
+    o: &mut [u8; Session::PACKET_OCTETS],
+    g: &mut [u8; Session::MESSAGE_OCTETS],
+    octets: &[u8],
+    out: &mut [u8],
+    at: usize,
+) -> usize
+    requires { ⌜ InRanges (lent base counts (now t) (now o) (now g)) ⌝ }
+    requires { ⌜ at + resultLimit ≤ length (now out) ⌝ }
+    ensures { λ r. ⌜ Does (offerMade (offer (now (octets .entry)) (viewIn (lent base counts (now (t .entry)) (now (o .entry)) (now (g .entry))))) (viewIn (lent base counts (now (t .entry)) (now (o .entry)) (now (g .entry))))) (now (out .entry)) at (lent base counts (now (t .exit)) (now (o .exit)) (now (g .exit))) r (now (out .exit)) ⌝ }
+{
+    let answer = offering::offer_core(base, counts, t, o, g, octets);
+    match answer {
+        Offered::Accepted => at,
+        Offered::Refused(why) => put_refusal(why, out, at),
+    }
+}
+
+// "one datagram a line": its octets are offered.
+fn offer_line(
+    base: u16,
+    counts: Counts,
+    t: &mut [u16; Session::PLACES],
+    o: &mut [u8; Session::PACKET_OCTETS],
+    g: &mut [u8; Session::MESSAGE_OCTETS],
+    line: &[u8],
+    out: &mut [u8],
+    at: usize,
+) -> usize
+    requires { ⌜ Able resultLimit (lent base counts (now t) (now o) (now g)) (now out) at ⌝ }
+    ensures { λ r. ⌜ Does (offerLine (now (line .entry)) (viewIn (lent base counts (now (t .entry)) (now (o .entry)) (now (g .entry))))) (now (out .entry)) at (lent base counts (now (t .exit)) (now (o .exit)) (now (g .exit))) r (now (out .exit)) ⌝ }
+{
+    let mut work = [0u8; Datagram::LIMIT];
+    let read = hex_to_octets(line, &mut work);
+    match read {
+        Written::Octets(size) => offer_octets(base, counts, t, o, g, &work[..size], out, at),
+        Written::Refused(why) => put_refusal(why, out, at),
+    }
+}
+
+// A line's own answer.
+fn answer_line(
+    base: u16,
+    counts: Counts,
+    t: &mut [u16; Session::PLACES],
+    o: &mut [u8; Session::PACKET_OCTETS],
+    g: &mut [u8; Session::MESSAGE_OCTETS],
+    line: &[u8],
+    out: &mut [u8],
+    at: usize,
+) -> Stepped
+    requires { ⌜ Able resultLimit (lent base counts (now t) (now o) (now g)) (now out) at ⌝ }
+    ensures { λ r. ⌜ Does (answerLine (now (line .entry)) (viewIn (lent base counts (now (t .entry)) (now (o .entry)) (now (g .entry))))) (now (out .entry)) at (lent (r .base) (r .counts) (now (t .exit)) (now (o .exit)) (now (g .exit))) (r .end) (now (out .exit)) ⌝ }
+{
+    if line.len() == 0 {
+        return give_up_line(base, counts, t, o, g, out, at);
+    }
+    let end = offer_line(base, counts, t, o, g, line, out, at);
+    Stepped { base, counts, end }
+}
+
+// One line: its answer, then releases.
+pub fn step(
+    base: u16,
+    counts: Counts,
+    t: &mut [u16; Session::PLACES],
+    o: &mut [u8; Session::PACKET_OCTETS],
+    g: &mut [u8; Session::MESSAGE_OCTETS],
+    line: &[u8],
+    out: &mut [u8],
+    at: usize,
+) -> Stepped
+    requires { ⌜ Able stepLimit (lent base counts (now t) (now o) (now g)) (now out) at ⌝ }
+    ensures { λ r. ⌜ Does (wholeStep (now (line .entry)) (viewIn (lent base counts (now (t .entry)) (now (o .entry)) (now (g .entry))))) (now (out .entry)) at (lent (r .base) (r .counts) (now (t .exit)) (now (o .exit)) (now (g .exit))) (r .end) (now (out .exit)) ⌝ }
+{
+    let first = answer_line(base, counts, t, o, g, line, out, at);
+    let after = first.base;
+    let moves = first.counts;
+    let end = first.end;
+    releases(after, moves, t, o, g, out, end)
+}

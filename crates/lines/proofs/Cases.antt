@@ -1,0 +1,29 @@
+-- The cases of 'The program', each computed. Assumes nothing.
+use mathlib.Core.Path.{refl}
+use Rattle.lengths.specs.Tables.{unless}
+use Rattle.octets.specs.Place.{tab, allBelow}
+use Rattle.lengths.specs.Length.{lengthAt}
+use Rattle.datagrams.specs.Read.{allowed, sizedAt, itemAt, itemsAt, endOf, sparesAt, extraAt, numberOf, wholeOf, readDatagram, carriedBy}
+use Rattle.repair.specs.Repair.{firstUsable, repairF, repair}
+use Rattle.repair.specs.Held.{messagesOf, messagesFrom, heldMessages}
+use Rattle.views.specs.View.{freshView, goneOn}
+use Rattle.views.specs.Offer.{keep, keepSpares, accept, offered, offer}
+use Rattle.views.specs.Release.{next, giveUp}
+use Rattle.lines.specs.Hex.{digitOf, digitFor, allDigits, octetsIn, lineOctets, hexOf}
+use Rattle.lines.specs.Lines.{resultLine, refusalLine, releasesF, lineOffered, offerLine, answerLine, step, linesFrom, steps, program}
+use Rattle.lines.specs.Text.{characters}
+use Rattle.lines.specs.Cases.{ProgramCases}
+
+pub program-cases : ProgramCases
+unfolding unless characters program steps linesFrom step answerLine offerLine lineOffered releasesF resultLine refusalLine
+    lineOctets octetsIn allDigits digitOf hexOf digitFor next giveUp offer offered accept keep keepSpares freshView goneOn
+    messagesOf messagesFrom heldMessages repair repairF firstUsable readDatagram wholeOf numberOf extraAt sparesAt endOf
+    itemsAt itemAt sizedAt allowed carriedBy lengthAt tab allBelow
+program-cases =
+    record {
+      too-long-first = refl;
+      carriage-return = refl;
+      last-line = refl;
+      no-line = refl;
+      at-limit = refl;
+    }

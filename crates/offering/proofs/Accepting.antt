@@ -1,0 +1,162 @@
+-- A datagram accepted, on plain values: what keeping, holding and mending owe, one after the other, is document 01's `accept`.
+-- Each step leaves the rest of the view as it was, so that the view after is put together from what each says of its own part.
+-- Assumes nothing.
+use Prim.Native.Nat.{ℕ, _+_, _≤_, _<_}
+use mathlib.Core.Path.{_≡_, refl, ap, ap₂, _∙_}
+use mathlib.Core.Bool.{true}
+use mathlib.Core.List.{List, map}
+use mathlib.Core.Logic.{inl, inr}
+use lib.ListN.{length, set, take}
+use native.Mathlib.Omega.{arith}
+use Rattle.datagrams.specs.Sizes.{coveredLimit, messagesLimit}
+use Rattle.datagrams.specs.Write.{within}
+use Rattle.datagrams.specs.Read.{octetsOf, carriedBy}
+use Rattle.datagrams.specs.Claims.{Inside}
+use Rattle.datagrams.specs.declared.reader.Part.{Part}
+use Rattle.datagrams.specs.declared.kind.Kind.{Kind}
+use Rattle.datagrams.specs.declared.kind.Kind.the-variants as kind
+use Rattle.datagrams.proofs.WriteLaws.{both, within-true, count-few}
+use Rattle.repair.specs.Cells.{received, Cell, unknownAt, keptBefore, keptAhead, keptNumbers}
+use Rattle.repair.specs.Held.{Held, heldAt, heldMessages}
+use Rattle.repair.specs.Reached.{Known}
+use Rattle.repair.specs.Repair.{repair}
+use Rattle.views.specs.Ranges.{isFill}
+use Rattle.views.specs.Offer as offers
+use Rattle.held.specs.Table.{Lent, lent, countsOf, stateNumbered, cellsOf, heldOf, viewIn}
+use Rattle.held.specs.Laid.{InRanges}
+use Rattle.held.specs.declared.Counts.{Counts}
+use Rattle.held.proofs.Seen.{length-cells}
+use Rattle.keeping.specs.Promise.{CellsNow, Keeps, CarriesSpares, KeepsSpares, Carries, Unmarked, MayHold, HeldNow, Holds, heldOfParts}
+use Rattle.repairing.specs.Promise.{Mends}
+use Rattle.offering.specs.Steps.{sparesOf, messagesOf, coveredOf, carriedOf, MayBeAccepted, Accepts}
+use Rattle.offering.proofs.Known.{keep-here, spares-stay}
+
+-- ---- what the calls along the way require
+-- the packet is kept as received
+is-received : stateNumbered 1 ≡ received
+unfolding stateNumbered
+is-received = refl
+
+pub received-fills : isFill (stateNumbered 1) ≡ true
+received-fills = rw is-received
+
+-- the spares: with parity there are none
+spares-carried : {s : List ℕ} {packet : Part} (k : Kind) {count : ℕ} {items : List Part} → Inside s packet k count items
+    → count ≤ length items → CarriesSpares s items (sparesOf k count)
+spares-carried kind.Spares {count} inside there =
+    record { few = count-few kind.Spares count (inside .counted); there = there; each = inside .each }
+spares-carried (kind.Parity n) inside there =
+    record { few = omega arith; there = omega arith; each = λ i low. absurd (omega arith) }
+
+pub carries-spares : {l : Lent} {s : List ℕ} {number d : ℕ} {packet : Part} {k : Kind} {count : ℕ} {items : List Part}
+    → MayBeAccepted l s number d packet k count items → {spares : ℕ} → spares ≡ sparesOf k count → CarriesSpares s items spares
+carries-spares {k = k} may e = rw e (spares-carried k (may .inside) (may .there))
+
+-- the messages: with spares there are none
+messages-carried : {s : List ℕ} {d : ℕ} {packet : Part} (k : Kind) {count : ℕ} {items : List Part} → d < keptAhead
+    → Inside s packet k count items → count ≤ length items → Carries s d (coveredOf k) items (messagesOf k count)
+messages-carried kind.Spares near inside there =
+    record { near = near; settings = inl (refl, refl); there = omega arith; each = λ i low. absurd (omega arith) }
+messages-carried (kind.Parity n) {count} near inside there =
+    let covered = within-true 1 coveredLimit n (both (within 1 coveredLimit n) _ (inside .counted) .0) in
+    let few = within-true 1 messagesLimit count (both (within 1 coveredLimit n) _ (inside .counted) .1) in
+    record {
+      near = near;
+      settings = inr (record { least = covered .0; covered = covered .1; some = few .0; messages = few .1 });
+      there = there;
+      each = inside .each;
+    }
+
+pub carries : {l : Lent} {s : List ℕ} {number d : ℕ} {packet : Part} {k : Kind} {count : ℕ} {items : List Part}
+    → MayBeAccepted l s number d packet k count items → {n m : ℕ} → n ≡ coveredOf k → m ≡ messagesOf k count → Carries s d n items m
+carries {k = k} may e-n e-m = rw (e-n, e-m) (messages-carried k (may .near) (may .inside) (may .there))
+
+-- ---- what is kept and held of both kinds, as document 01 has it
+kept-extra : (s : List ℕ) (number : ℕ) (packet : Part) (k : Kind) (count : ℕ) (items : List Part) (p : ℕ) (cells : List Cell)
+    → offers.keepSpares p (map (octetsOf s) (take (sparesOf k count) items)) cells
+    ≡ offers.keepExtra p ((carriedOf s number packet k count items) .extra) cells
+unfolding carriedBy offers.keepSpares
+kept-extra s number packet kind.Spares count items p cells = refl
+kept-extra s number packet (kind.Parity n) count items p cells = refl
+
+held-extra : (s : List ℕ) (number : ℕ) (packet : Part) (k : Kind) (count : ℕ) (items : List Part)
+    → heldOfParts s (coveredOf k) items (messagesOf k count) ≡ offers.heldOf ((carriedOf s number packet k count items) .extra)
+unfolding carriedBy
+held-extra s number packet kind.Spares count items = refl
+held-extra s number packet (kind.Parity n) count items = refl
+
+-- ---- from step to step
+module _ {base : ℕ} {c : Counts} {t o g s : List ℕ} {number d : ℕ} {packet : Part} {k : Kind} {count : ℕ} {items : List Part}
+    (w : InRanges (lent base c t o g)) (may : MayBeAccepted (lent base c t o g) s number d packet k count items)
+    {t₁ o₁ : List ℕ} (k₁ : Keeps 1 number (octetsOf s packet) t o t₁ o₁) where
+  in-view : keptBefore + d < keptNumbers
+  in-view = omega (arith, may .near)
+
+  packet-now : CellsNow (lent base c t o g) (lent base c t₁ o₁ g)
+      (offers.keep received (keptBefore + d) (octetsOf s packet) (cellsOf base t o))
+  packet-now = rw is-received at (k₁ .kept base c g (keptBefore + d) w in-view (may .place))
+
+  pub within-first : InRanges (lent base c t₁ o₁ g)
+  within-first = packet-now .within
+
+  known-first : Known (cellsOf base t₁ o₁) (keptBefore + d)
+  known-first =
+      ap (λ (x : List Cell). unknownAt x (keptBefore + d)) (packet-now .cells)
+      ∙ keep-here received (keptBefore + d) (octetsOf s packet) (cellsOf base t o) refl (rw (length-cells base t o) in-view)
+
+  module _ {spares : ℕ} (e-spares : spares ≡ sparesOf k count) {t₂ o₂ : List ℕ} (k₂ : KeepsSpares number s items spares t₁ o₁ t₂ o₂) where
+    spares-now : CellsNow (lent base c t₁ o₁ g) (lent base c t₂ o₂ g)
+        (offers.keepSpares (keptBefore + d) (map (octetsOf s) (take (sparesOf k count) items)) (cellsOf base t₁ o₁))
+    spares-now =
+        let few = spares-carried k (may .inside) (may .there) .few in
+        (rw e-spares at k₂) .kept base c g (keptBefore + d) within-first in-view (omega arith) (may .place)
+
+    held-second : heldOf base t₂ g ≡ heldOf base t g
+    held-second = spares-now .held ∙ packet-now .held
+
+    unmarked-second : Unmarked (lent base c t₂ o₂ g) d
+    unmarked-second =
+        record {
+          within = spares-now .within;
+          known =
+              ap (λ (x : List Cell). unknownAt x (keptBefore + d)) (spares-now .cells)
+              ∙ spares-stay (keptBefore + d) (map (octetsOf s) (take (sparesOf k count) items)) (cellsOf base t₁ o₁) (keptBefore + d)
+              known-first;
+          unmarked = ap (λ (x : List Held). (heldAt x d) .accepted) held-second ∙ may .unmarked;
+        }
+
+    pub may-hold : MayHold base t₂ g d
+    may-hold = record { counts = c; octets = o₂; unmarked = unmarked-second }
+
+    module _ {n m : ℕ} (e-n : n ≡ coveredOf k) (e-m : m ≡ messagesOf k count) {t₃ g₁ : List ℕ} (k₃ : Holds base d s n items m t₂ g t₃ g₁)
+      where
+        held-now : HeldNow (lent base c t₂ o₂ g) (lent base c t₃ o₂ g₁)
+            (set (heldOf base t₂ g) d (heldOfParts s (coveredOf k) items (messagesOf k count)))
+        held-now = (rw (e-n, e-m) at k₃) .holds c o₂ unmarked-second
+
+        pub within-third : InRanges (lent base c t₃ o₂ g₁)
+        within-third = held-now .within
+
+        cells-third : cellsOf base t₃ o₂ ≡ offers.keepExtra (keptBefore + d) ((carriedOf s number packet k count items) .extra)
+            (offers.keep received (keptBefore + d) (octetsOf s packet) (cellsOf base t o))
+        cells-third =
+            held-now .cells ∙ spares-now .cells
+            ∙ ap (offers.keepSpares (keptBefore + d) (map (octetsOf s) (take (sparesOf k count) items))) (packet-now .cells)
+            ∙ kept-extra s number packet k count items (keptBefore + d)
+            (offers.keep received (keptBefore + d) (octetsOf s packet) (cellsOf base t o))
+
+        held-third : heldOf base t₃ g₁ ≡ set (heldOf base t g) d (offers.heldOf ((carriedOf s number packet k count items) .extra))
+        held-third =
+            held-now .held ∙ ap₂ (λ (l : List Held) (x : Held). set l d x) held-second (held-extra s number packet k count items)
+
+        pub accepted : {t₄ o₃ : List ℕ} → Mends (lent base c t₃ o₂ g₁) (lent base c t₄ o₃ g₁)
+            → Accepts (carriedOf s number packet k count items) d (lent base c t o g) (lent base c t₄ o₃ g₁)
+        unfolding offers.accept viewIn carriedBy
+        accepted k₄ =
+            record {
+              state =
+                  k₄ .state
+                  ∙ ap₂ (λ (x : List Cell) (y : List Held).
+                  record { base = base; counts = countsOf c; cells = repair x (heldMessages y); held = y }) cells-third held-third;
+              within = k₄ .within;
+            }

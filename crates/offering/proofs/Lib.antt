@@ -1,0 +1,4 @@
+mod Known
+mod Accepting
+mod Offering
+pub mod Laws

@@ -1,0 +1,25 @@
+-- What each case of offer's answer is, in document 01's number. Definitions only.
+use Rattle.lengths.specs.Refusals.{refusal}
+use Rattle.lengths.specs.Answers.{Answer, done, refused}
+use Prim.Native.Nat.{ℕ}
+use Rattle.views.specs.View.{View}
+use Rattle.offering.specs.declared.Offered.{Offered}
+use Rattle.offering.specs.declared.Offered.the-variants as offered
+
+-- an accepted offer has no value
+abbrev pub offeredOutcome : Offered → Answer (Unit {0})
+offeredOutcome offered.Accepted = done tt
+offeredOutcome (offered.Refused r) = refused r
+
+abbrev pub acceptedOf : Answer View → Answer (Unit {0})
+acceptedOf (done view) = done tt
+acceptedOf (refused r) = refused r
+
+-- the session after an offer: "A refusal .. changes nothing"
+abbrev pub afterOffer : Answer View → View → View
+afterOffer (done after) view = after
+afterOffer (refused r) view = view
+
+-- the answer to a refused offer, by the refusal's number
+abbrev pub refusedAs : ℕ → Offered
+refusedAs number = offered.Refused (refusal number)

@@ -1,0 +1,61 @@
+-- What the inner functions of this crate require and owe: a datagram that was read, and one that is accepted. Definitions only.
+use Prim.Native.Nat.{ℕ, _+_, _≤_, _<_}
+use mathlib.Core.Path.{_≡_}
+use mathlib.Core.Bool.{false}
+use mathlib.Core.List.{List}
+use lib.ListN.{length, take}
+use Rattle.lengths.specs.Answers.{refused}
+use Rattle.lengths.specs.declared.Refusal.{Refusal}
+use Rattle.datagrams.specs.Carried.{Carried}
+use Rattle.datagrams.specs.Claims.{Inside}
+use Rattle.datagrams.specs.Read.{carriedBy}
+use Rattle.datagrams.specs.declared.reader.Part.{Part}
+use Rattle.datagrams.specs.declared.kind.Kind.{Kind}
+use Rattle.datagrams.specs.declared.kind.Kind.the-variants as kind
+use Rattle.repair.specs.Cells.{keptBefore, keptAhead}
+use Rattle.repair.specs.Held.{heldAt}
+use Rattle.views.specs.Offer as offers
+use Rattle.held.specs.Slots.{numberAt}
+use Rattle.held.specs.Table.{Lent, heldOf, viewIn}
+use Rattle.held.specs.Laid.{InRanges}
+use Rattle.offering.specs.Outcome.{offeredOutcome, acceptedOf, afterOffer}
+use Rattle.offering.specs.declared.Offered.{Offered}
+
+-- ---- of a datagram's items: how many are spares, how many are messages; and n, which is 0 with spares
+abbrev pub sparesOf : Kind → ℕ → ℕ
+sparesOf kind.Spares count = count
+sparesOf (kind.Parity n) count = 0
+
+abbrev pub messagesOf : Kind → ℕ → ℕ
+messagesOf kind.Spares count = 0
+messagesOf (kind.Parity n) count = count
+
+abbrev pub coveredOf : Kind → ℕ
+coveredOf kind.Spares = 0
+coveredOf (kind.Parity n) = n
+
+-- what the datagram carries
+abbrev pub carriedOf : List ℕ → ℕ → Part → Kind → ℕ → List Part → Carried
+carriedOf s number packet kind count items =
+    carriedBy s (record { number = number; packet = packet; kind = kind; items = take count items })
+
+-- ---- an accepted datagram
+-- a datagram that was read may be accepted at distance d: it is near, and none was accepted there before
+pub record MayBeAccepted (l : Lent) (s : List ℕ) (number d : ℕ) (packet : Part) (kind : Kind) (count : ℕ) (items : List Part) : Type 0 where
+  pub near : d < keptAhead
+  pub place : number ≡ numberAt (l .base) (keptBefore + d)
+  pub unmarked : (heldAt (heldOf (l .base) (l .table) (l .messages)) d) .accepted ≡ false
+  pub inside : Inside s packet kind count items
+  pub there : count ≤ length items
+
+-- the session after it
+pub record Accepts (datagram : Carried) (d : ℕ) (before after : Lent) : Type 0 where
+  pub state : viewIn after ≡ offers.accept d datagram (viewIn before)
+  pub within : InRanges after
+
+-- ---- a datagram that was read, offered
+pub record OffersRead (datagram : Carried) (before after : Lent) (answer : Offered) : Type 0 where
+  pub told : offeredOutcome answer ≡ acceptedOf (offers.offered datagram (viewIn before))
+  pub state : viewIn after ≡ afterOffer (offers.offered datagram (viewIn before)) (viewIn before)
+  pub within : InRanges after
+  pub stays : (x : Refusal) → offers.offered datagram (viewIn before) ≡ refused x → after ≡ before

@@ -1,0 +1,3 @@
+mod ReadItems
+mod FieldsTurn
+mod ReadPacket

@@ -1,0 +1,12 @@
+-- `packets::reader::no_fields` meets its contract. It is the definition's list. Assumes nothing.
+use mathlib.Core.Path.{refl}
+use Rattle.packets.specs.Promise.{padded}
+use Rattle.packet_reader.proofs.reader.no_fields.Statement.{statement}
+use Rattle.packet_reader.proofs.reader.no_fields.Tie as tie
+
+returns : tie.Need-returns
+unfolding padded
+returns c = refl
+
+pub no-fields-spec : {M : Type 1} → statement M
+no-fields-spec = tie.close (tie.spec returns)

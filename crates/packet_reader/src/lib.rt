@@ -1,0 +1,4 @@
+// The quick reader of packets: document 01, 'The packet', as `packets` defines it.
+mod reader;
+
+pub use reader::read;

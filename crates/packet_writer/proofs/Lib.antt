@@ -1,0 +1,4 @@
+mod Measure
+mod Putting
+mod PutFields
+mod WritePacket

@@ -1,0 +1,108 @@
+-- `packets::writer::put_fields` meets its contract. The loop's invariant: what is left to put, put after what is there
+-- now, gives the whole. The measure is how many are left. The sums fit because the fields end inside data and buffer.
+-- Assumes nothing.
+use Prim.Native.Nat.{_-_}
+use lib.ListN.{length}
+use native.Mathlib.Omega.{arith}
+use borrow.Author.Needs.{needs}
+use Rattle.packet_writer.proofs.PutFields.{Filling, fills, fill-data, fill-next}
+use Rattle.packet_writer.proofs.writer.put_fields.Statement.{statement}
+use Rattle.packet_writer.proofs.writer.put_fields.Tie as tie
+
+abbrev Inv-loop : tie.InvT-loop
+Inv-loop types lengths «data» out₀ i₀ from₀ at₀ out i from at = Filling types lengths «data» out₀ out i from at
+
+abbrev μ-loop : tie.MeasureT-loop
+μ-loop types lengths «data» out₀ i₀ from₀ at₀ out i from at = length types - i
+
+loop-holds : tie.Need-loop-holds Inv-loop μ-loop
+loop-holds c = search fills
+
+mul-wide : tie.Need-mul-wide Inv-loop μ-loop
+mul-wide c = search needs
+
+shared-slice-read-wide : tie.Need-shared-slice-read-wide Inv-loop μ-loop
+shared-slice-read-wide c = search needs
+
+wide-requires : tie.Need-wide-requires Inv-loop μ-loop
+wide-requires c κs = search needs
+
+add-to : tie.Need-add-to Inv-loop μ-loop
+add-to c =
+    let test = c .before .before in
+    let inside = fill-data (test .before .before .before .before .before .before .pre) (test .before .loop .inv) (test .loop-test .taken) (c .wide .ensures) in
+    omega arith
+
+shared-slice-read-put-field : tie.Need-shared-slice-read-put-field Inv-loop μ-loop
+shared-slice-read-put-field c = search needs
+
+sub-put-field : tie.Need-sub-put-field Inv-loop μ-loop
+sub-put-field c = search needs
+
+part-put-field-start : tie.Need-part-put-field-start Inv-loop μ-loop
+part-put-field-start c = search needs
+
+part-put-field-end : tie.Need-part-put-field-end Inv-loop μ-loop
+part-put-field-end c = search fills
+
+sub-put-field-2 : tie.Need-sub-put-field-2 Inv-loop μ-loop
+sub-put-field-2 c = search fills
+
+part-put-field-start-2 : tie.Need-part-put-field-start-2 Inv-loop μ-loop
+part-put-field-start-2 c = search fills
+
+part-put-field-end-2 : tie.Need-part-put-field-end-2 Inv-loop μ-loop
+part-put-field-end-2 c = search needs
+
+put-field-requires : tie.Need-put-field-requires Inv-loop μ-loop
+put-field-requires c κs = search fills
+
+add-at : tie.Need-add-at Inv-loop μ-loop
+add-at c =
+    let wide = c .before .before .before .before .before .before in
+    let test = wide .before .before in
+    let inside =
+    fill-next (test .before .before .before .before .before .before .pre) (test .before .loop .inv) (test .loop-test .taken) (wide .wide .ensures)
+    (c .before .before .put-field .ensures) in
+    omega arith
+
+add-i : tie.Need-add-i Inv-loop μ-loop
+add-i c = search needs
+
+loop-less : tie.Need-loop-less Inv-loop μ-loop
+loop-less c = search needs
+
+loop-again : tie.Need-loop-again Inv-loop μ-loop
+loop-again c = search fills
+
+same-length : tie.Need-same-length Inv-loop μ-loop
+same-length c = search needs
+
+returns : tie.Need-returns Inv-loop μ-loop
+returns c = search fills
+
+pub put-fields-spec : {M : Type 1} → statement M
+put-fields-spec =
+    tie.close
+    (tie.spec
+    Inv-loop
+    μ-loop
+    loop-holds
+    mul-wide
+    shared-slice-read-wide
+    wide-requires
+    add-to
+    shared-slice-read-put-field
+    sub-put-field
+    part-put-field-start
+    part-put-field-end
+    sub-put-field-2
+    part-put-field-start-2
+    part-put-field-end-2
+    put-field-requires
+    add-at
+    add-i
+    loop-less
+    loop-again
+    same-length
+    returns)

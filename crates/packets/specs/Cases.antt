@@ -1,0 +1,55 @@
+-- Small packets, read and written, at which another reading of document 01's 'The packet' was possible: each says one answer.
+-- Definitions only.
+use Prim.Native.Nat.{ℕ}
+use mathlib.Core.Path.{_≡_}
+use mathlib.Core.List.{List, [], _∷_}
+use lib.ListN.{replicate}
+use Rattle.lengths.specs.Refusals.{endsEarly, badForm, outsideSizes, spareBit, leftOver, notAssigned, wrongData, wrongSettings}
+use Rattle.lengths.specs.Answers.{done, refuse}
+use Rattle.packets.specs.Read.{readPacket}
+use Rattle.packets.specs.Write.{packetToWrite}
+use Rattle.packets.specs.declared.types.Kind.the-variants.{Indicator, Data}
+use Rattle.packets.specs.declared.types.Ending.the-variants.{Whole, Repaired}
+
+pub record ReadCases : Type 0 where
+  -- "over 160 octets 4"
+  pub octets-161 : readPacket Whole (0xC0 ∷ 0x01 ∷ 0x80 ∷ 0x00 ∷ 0x9B ∷ replicate 156 0x55) ≡ refuse outsideSizes
+  -- "in the first octet .. value 12, spare bit 5, indicator with data 14"
+  pub value-first : readPacket Whole (0xD3 ∷ []) ≡ refuse notAssigned
+  pub bit-first : readPacket Whole (0x81 ∷ []) ≡ refuse spareBit
+  -- "a count of fields follows, 1 to 16 (else refusal 4)", by the length rule
+  pub count-0 : readPacket Whole (0xC0 ∷ 0x00 ∷ []) ≡ refuse outsideSizes
+  pub count-17 : readPacket Whole (0xC0 ∷ 0x11 ∷ []) ≡ refuse outsideSizes
+  pub count-form : readPacket Whole (0xC0 ∷ 0x80 ∷ 0x01 ∷ []) ≡ refuse badForm
+  -- "three bits field type, four zero bits"; types "0 and 6 always do" carry data; "in a field header 5 before 14"
+  pub header-bit-first : readPacket Whole (0xC0 ∷ 0x01 ∷ 0x01 ∷ []) ≡ refuse spareBit
+  pub header-bit : readPacket Whole (0xC0 ∷ 0x01 ∷ 0x18 ∷ []) ≡ refuse spareBit
+  pub bare-0 : readPacket Whole (0xC0 ∷ 0x01 ∷ 0x00 ∷ []) ≡ refuse wrongData
+  -- "two octets hold its length minus one, then the data": no form to refuse; "then 4, then 1 for missing octets"
+  pub data-1 : readPacket Whole (0xC0 ∷ 0x01 ∷ 0x80 ∷ 0x00 ∷ 0x00 ∷ 0x55 ∷ [])
+      ≡ done (record { kind = Data; value = 0; fields = record { kind = 0; start = 5; size = 1 } ∷ [] })
+  pub length-cut : readPacket Whole (0xC0 ∷ 0x01 ∷ 0x80 ∷ 0xFF ∷ []) ≡ refuse endsEarly
+  pub data-161 : readPacket Whole (0xC0 ∷ 0x01 ∷ 0x80 ∷ 0x00 ∷ 0xA0 ∷ []) ≡ refuse outsideSizes
+  -- "A received or spare packet ends at its last field. A repaired one may go on with zeros only"
+  pub zero-after : readPacket Whole (0x06 ∷ 0x00 ∷ []) ≡ refuse leftOver
+  pub one-after-zero : readPacket Repaired (0x06 ∷ 0x00 ∷ 0x01 ∷ []) ≡ refuse leftOver
+  -- "trimming zeros off a repaired packet, when a true last octet may be zero": its data is 55 00, whatever zeros follow
+  pub true-zero : readPacket Repaired (0xC0 ∷ 0x01 ∷ 0x80 ∷ 0x00 ∷ 0x01 ∷ 0x55 ∷ 0x00 ∷ [])
+      ≡ done (record { kind = Data; value = 0; fields = record { kind = 0; start = 5; size = 2 } ∷ [] })
+
+pub record WriteCases : Type 0 where
+  -- "over 16 fields 4, then 15, 12, 14, 4": it is the types that are counted
+  pub types-17 : packetToWrite Data 0 (replicate 17 1) (replicate 17 0) [] ≡ refuse outsideSizes
+  pub lengths-17 : packetToWrite Data 0 (replicate 16 1) (replicate 17 0) [] ≡ refuse wrongSettings
+  pub types-first : packetToWrite Data 0 (replicate 18 1) [] [] ≡ refuse outsideSizes
+  pub settings-before-12 : packetToWrite Data 9 (0 ∷ []) [] [] ≡ refuse wrongSettings
+  pub value-before-14 : packetToWrite Data 9 (0 ∷ []) (0 ∷ []) [] ≡ refuse notAssigned
+  pub data-before-4 : packetToWrite Data 0 (1 ∷ []) (161 ∷ []) (replicate 161 0) ≡ refuse wrongData
+  -- true sums: nothing wraps
+  pub true-sum : packetToWrite Data 0 (0 ∷ 0 ∷ []) (65535 ∷ 1 ∷ []) [] ≡ refuse wrongSettings
+  -- "a type over 7 is refusal 12"
+  pub type-8 : packetToWrite Data 0 (8 ∷ []) (0 ∷ []) [] ≡ refuse notAssigned
+  -- "An indicator never has a data field", with or without data
+  pub indicator-field : packetToWrite Indicator 0 (1 ∷ []) (0 ∷ []) [] ≡ refuse wrongData
+  -- each field within the packet limit, and the whole over it by one
+  pub whole-161 : packetToWrite Data 0 (0 ∷ []) (156 ∷ []) (replicate 156 0) ≡ refuse outsideSizes

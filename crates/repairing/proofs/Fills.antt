@@ -1,0 +1,165 @@
+-- One message used, and all that can be used: on plain values. The loop's invariant: what is left of the steps, done to what is
+-- there now, gives the whole. Assumes nothing.
+use Prim.Native.Nat.{ℕ, suc, _-_, _≤_, _<_}
+use mathlib.Core.Path.{_≡_, refl, sym, ap, ap₂, subst, _∙_}
+use mathlib.Core.Bool.{true}
+use mathlib.Core.List.{List}
+use mathlib.Core.Option.{some}
+use lib.ListN.{length, take}
+use native.Mathlib.Omega.{arith}
+use Rattle.datagrams.specs.Sizes.{packetLeast, packetLimit, messagesLimit}
+use Rattle.repair.specs.Cells.{Cell, keptNumbers}
+use Rattle.repair.specs.Repair.{Message, usable, firstUsable, mended, fill, repairF, repair}
+use Rattle.repair.specs.Held.{Held, heldMessages}
+use Rattle.repair.proofs.Fill.{missing, usable-says, length-mended}
+use Rattle.repair.proofs.Search.{found-usable}
+use Rattle.repair.proofs.Grows.{repairF-done, repairF-fill}
+use Rattle.stores.specs.Store.{pasted}
+use Rattle.held.specs.Slots.{slotAt, slotsKept}
+use Rattle.held.specs.Table.{Lent, lent, countsOf, stateNumbered, cellsOf, heldOf, viewIn, keptSet}
+use Rattle.held.specs.Laid.{InRanges}
+use Rattle.held.specs.declared.Counts.{Counts}
+use Rattle.held.proofs.Placed.{beyond, placed-cells, placed-ranges}
+use Rattle.held.proofs.Seen.{length-cells}
+use Rattle.held.proofs.Slots.{slot-small}
+use Rattle.repairing.specs.Promise.{Searchable, sizeAt, messageHeld, Points, UsableFound, UsableAnswer, UsablePoints, MendedOctets, SameBeside, Fills, Mends}
+use Rattle.repairing.specs.declared.Usable.{Usable}
+use Rattle.repairing.specs.declared.Usable.the-variants as usables
+use Rattle.repairing.proofs.Beside.{same-beside, beside-twice, held-beside}
+use Rattle.repairing.proofs.Search.{searchable, m-near, size-near, octets-long}
+
+-- the number that stands for a repaired one
+abbrev repairedNumber : ℕ
+repairedNumber = 3
+
+module _ {l : Lent} (w : InRanges l) {d i slot : ℕ} (at : Points (l .base) (l .table) d i slot)
+    (fits : usable (cellsOf (l .base) (l .table) (l .octets)) (messageHeld (l .base) (l .table) (l .messages) d i) ≡ true) where
+  cells : List Cell
+  cells = cellsOf (l .base) (l .table) (l .octets)
+
+  message : Message
+  message = messageHeld (l .base) (l .table) (l .messages) d i
+
+  p : ℕ
+  p = missing cells message
+
+  inside : p < keptNumbers
+  unfolding p cells message
+  inside = rw (length-cells (l .base) (l .table) (l .octets)) at (usable-says cells message fits .inside)
+
+  slot-is : slot ≡ slotAt (l .base) p
+  unfolding p cells message
+  slot-is = at .target (l .octets) (l .messages)
+
+  pub slot-fits : slot < slotsKept
+  slot-fits = rw slot-is (slot-small (l .base) p)
+
+  pub index-fits : i < messagesLimit
+  index-fits = omega (arith, at .low, m-near (searchable w) (l .base) d)
+
+  pub size-fits : {size : ℕ} → size ≡ sizeAt (l .base) (l .table) d i → size ≤ packetLimit
+  size-fits e = rw e (size-near (searchable w) (l .base) d i (at .low))
+
+  pub filled : {sum newT newO : List ℕ} {size octets : ℕ} → MendedOctets (l .base) (l .table) (l .octets) (l .messages) d i sum
+      → size ≡ sizeAt (l .base) (l .table) d i → newO ≡ pasted (l .octets) slot (take size sum) → octets ≡ size
+      → newT ≡ keptSet (l .table) slot repairedNumber octets
+      → Fills l d i (lent (l .base) (l .counts) newT newO (l .messages))
+  unfolding p cells message fill stateNumbered
+  filled {sum} {newT} {newO} {size} {octets} m e-size e-o e-octets e-t =
+      let b = mended cells message in
+      let long : size ≡ length (message .octets) =
+      e-size ∙ sym (octets-long (searchable w) (l .base) d (l .messages) (w .laid .messages) i (at .low)) in
+      let front : take size sum ≡ b = rw long (m .front) in
+      let size-is : size ≡ length b = long ∙ sym (length-mended cells message) in
+      let least : packetLeast ≤ length b = omega (arith, usable-says cells message fits .length-one, length-mended cells message) in
+      let most : length b ≤ packetLimit = omega (arith, size-fits e-size, size-is) in
+      let free = usable-says cells message fits .unknown in
+      let o-is : newO ≡ pasted (l .octets) slot b = e-o ∙ ap (pasted (l .octets) slot) front in
+      let t-is : newT ≡ keptSet (l .table) slot repairedNumber (length b) =
+      e-t ∙ ap (λ (n : ℕ). keptSet (l .table) slot repairedNumber n) (e-octets ∙ size-is) in
+      rw (o-is, t-is)
+      (record {
+        cells = placed-cells (w .laid) slot repairedNumber b slot-fits (omega arith) most (l .base) p inside slot-is;
+        within = placed-ranges w p free repairedNumber (omega arith) refl b least most slot-is;
+        beside = record { stays = beyond (l .table) slot repairedNumber (length b) slot-fits };
+      })
+
+-- ---- the loop
+pub record Mending (base : ℕ) (counts : Counts) (g t₀ o₀ t o : List ℕ) (left : ℕ) : Type 0 where
+  pub within : InRanges (lent base counts t o g)
+  pub beside : SameBeside t₀ t
+  pub steps : repairF left (cellsOf base t o) (heldMessages (heldOf base t₀ g)) ≡ repair (cellsOf base t₀ o₀) (heldMessages (heldOf base t₀ g))
+
+pub mending-start : {base : ℕ} {counts : Counts} {t o g : List ℕ} → InRanges (lent base counts t o g)
+    → Mending base counts g t o t o keptNumbers
+unfolding repair
+mending-start {base} {counts} {t} {o} {g} w =
+    record {
+      within = w;
+      beside = same-beside t;
+      steps = ap (λ (n : ℕ). repairF n (cellsOf base t o) (heldMessages (heldOf base t g))) (sym (length-cells base t o));
+    }
+
+-- nothing is left to mend
+mends : {base : ℕ} {counts : Counts} {g t₀ o₀ t o : List ℕ} {left : ℕ} → Mending base counts g t₀ o₀ t o left
+    → cellsOf base t o ≡ repair (cellsOf base t₀ o₀) (heldMessages (heldOf base t₀ g))
+    → Mends (lent base counts t₀ o₀ g) (lent base counts t o g)
+unfolding viewIn
+mends {base} {counts} {g} m e =
+    record {
+      state =
+          ap₂ (λ (c : List Cell) (h : List Held). record { base = base; counts = countsOf counts; cells = c; held = h }) e
+          (held-beside (m .beside) g base);
+      within = m .within;
+      beside = m .beside;
+    }
+
+module _ {base : ℕ} {counts : Counts} {g t₀ o₀ t o : List ℕ} {left : ℕ} (m : Mending base counts g t₀ o₀ t o left) {found : Usable}
+    (f : UsableFound base t found) where
+  -- the first usable message of what is there now, in the words of the whole
+  found-now : firstUsable (cellsOf base t o) (heldMessages (heldOf base t₀ g)) ≡ UsableAnswer base t found g
+  found-now =
+      ap (λ (h : List Held). firstUsable (cellsOf base t o) (heldMessages h)) (sym (held-beside (m .beside) g base))
+      ∙ f .answer o g (m .within .laid .messages)
+
+  pub mending-stop : found ≡ usables.Nothing → Mends (lent base counts t₀ o₀ g) (lent base counts t o g)
+  mending-stop e =
+      mends m
+      (sym (repairF-done left (cellsOf base t o) (heldMessages (heldOf base t₀ g)) (found-now ∙ ap (λ (x : Usable). UsableAnswer base t x g) e))
+      ∙ m .steps)
+
+  module _ {d i slot : ℕ} (e : found ≡ usables.Message d i slot) where
+    some-now : firstUsable (cellsOf base t o) (heldMessages (heldOf base t₀ g)) ≡ some (messageHeld base t g d i)
+    some-now = found-now ∙ ap (λ (x : Usable). UsableAnswer base t x g) e
+
+    pub mending-usable : usable (cellsOf base t o) (messageHeld base t g d i) ≡ true
+    mending-usable = found-usable (cellsOf base t o) (heldMessages (heldOf base t₀ g)) (messageHeld base t g d i) some-now .1
+
+    pub mending-points : Points base t d i slot
+    mending-points = subst (λ (x : Usable). UsablePoints base t x) e (f .points)
+
+    pub mending-turn : {newT newO : List ℕ} → 0 < left → Fills (lent base counts t o g) d i (lent base counts newT newO g)
+        → Mending base counts g t₀ o₀ newT newO (left - 1)
+    mending-turn {newT} {newO} more x =
+        let one : left ≡ suc (left - 1) = omega arith in
+        let whole : repairF (suc (left - 1)) (cellsOf base t o) (heldMessages (heldOf base t₀ g))
+        ≡ repair (cellsOf base t₀ o₀) (heldMessages (heldOf base t₀ g)) = rw one at (m .steps) in
+        record {
+          within = x .within;
+          beside = beside-twice (m .beside) (x .beside);
+          steps =
+              ap (λ (c : List Cell). repairF (left - 1) c (heldMessages (heldOf base t₀ g))) (x .cells)
+              ∙ sym (repairF-fill (left - 1) (cellsOf base t o) (heldMessages (heldOf base t₀ g)) (messageHeld base t g d i) some-now)
+              ∙ whole;
+        }
+
+pub mending-end : {base : ℕ} {counts : Counts} {g t₀ o₀ t o : List ℕ} {left : ℕ} → Mending base counts g t₀ o₀ t o left → left ≤ 0
+    → Mends (lent base counts t₀ o₀ g) (lent base counts t o g)
+unfolding repairF
+mending-end {base} {counts} {g} {t₀} {o₀} {t} {o} {left} m all =
+    let none-left : left ≡ 0 = omega arith in
+    mends m (rw none-left at (m .steps))
+
+-- what the loop hands on
+pub searchable-now : {base : ℕ} {counts : Counts} {g t₀ o₀ t o : List ℕ} {left : ℕ} → Mending base counts g t₀ o₀ t o left → Searchable t
+searchable-now m = searchable (m .within)

@@ -1,0 +1,155 @@
+-- The sum of a message and its members, on plain values: what the loop over the members keeps true, and that the front of the
+-- sum is what document 01 fills with. Assumes nothing.
+use Prim.Native.Nat.{ℕ, suc, _+_, _-_, _*_, _%_, _≤_, _<_}
+use mathlib.Core.Path.{_≡_, sym, ap, ap₂, _∙_}
+use mathlib.Core.List.{List, _++_}
+use lib.ListN.{length, getD, take, drop, List·getD-append}
+use lib.Seq.{length-take-le, getD-take, ext-getD}
+use lib.Bits.{bitXor, xor-zero-r}
+use native.Mathlib.Omega.{arith}
+use Rattle.octets.proofs.ExclusiveOr.{xor-assoc, xorAt-cons, exclusiveOr-at}
+use Rattle.datagrams.specs.Sizes.{packetLimit, messagesLimit}
+use Rattle.repair.specs.Cells.{keptBefore, keptAhead}
+use Rattle.repair.specs.Members.{membersOf}
+use Rattle.repair.specs.Repair.{Message, mended}
+use Rattle.repair.proofs.Fill.{length-mended}
+use Rattle.stores.specs.Store.{added, part}
+use Rattle.stores.proofs.Laws.{length-added, added-at}
+use Rattle.views.specs.View.{distance, numbers}
+use Rattle.held.specs.Slots.{numberAt, heardSlotAt, messageSlot, slotsHeard}
+use Rattle.held.specs.Table.{Lent, nIn, mIn, messageSizeIn, messageIn, cellsOf}
+use Rattle.held.specs.Laid.{InRanges}
+use Rattle.repairing.specs.Back.{slotOf, xorBack, Summed}
+use Rattle.repairing.specs.Promise.{nAt, mAt, sizeAt, messageHeld, MendedOctets}
+use Rattle.repairing.proofs.Members.{summed}
+use Rattle.repairing.proofs.Search.{searchable, m-near, reach-near, size-near, octets-long}
+
+-- ---- the loop over the members: what is summed, with what is left to sum, is the whole
+pub record Summing (o : List ℕ) (x n m : ℕ) (start : List ℕ) (at : ℕ) (sum : List ℕ) (k : ℕ) : Type 0 where
+  pub long : length sum ≡ packetLimit
+  pub few : k ≤ n
+  pub left : (j : ℕ) → j < packetLimit
+      → bitXor (getD sum j 0) (xorBack o at (n - k) m j) ≡ bitXor (getD start j 0) (xorBack o x n m j)
+
+pub summing-start : (o : List ℕ) (x n m : ℕ) (sum : List ℕ) → length sum ≡ packetLimit → Summing o x n m sum x sum 0
+summing-start o x n m sum long =
+    record {
+      long = long;
+      few = omega arith;
+      left = λ j low. ap (λ (k : ℕ). bitXor (getD sum j 0) (xorBack o x k m j)) {x = n - 0} {y = n} (omega arith);
+    }
+
+xorBack-step : (o : List ℕ) (x n m k j : ℕ) → k < n
+    → xorBack o x (n - k) m j ≡ bitXor (getD o (slotOf (distance m x) * packetLimit + j) 0) (xorBack o (distance m x) (n - (k + 1)) m j)
+unfolding xorBack
+xorBack-step o x n m k j more =
+    let e : n - k ≡ suc (n - (k + 1)) = omega arith in
+    rw e
+
+pub summing-turn : {o start sum after : List ℕ} {x n m at k member slot : ℕ} → Summing o x n m start at sum k → k < n
+    → member ≡ distance m at → slot ≡ slotOf member → after ≡ added sum o slot → Summing o x n m start member after (k + 1)
+summing-turn {o} {start} {sum} {after} {x} {n} {m} {at} {k} {member} {slot} s more e f laid =
+    record {
+      long = ap (λ (l : List ℕ). length l) laid ∙ length-added sum o slot;
+      few = omega arith;
+      left =
+          λ j low.
+          rw (laid, f, e, added-at sum o (slotOf (distance m at)) j low)
+          (xor-assoc (getD sum j 0) _ _
+          ∙ ap (bitXor (getD sum j 0)) (sym (xorBack-step o at n m k j more))
+          ∙ s .left j low);
+    }
+
+xor-none : (o : List ℕ) (x m j a : ℕ) → bitXor a (xorBack o x 0 m j) ≡ a
+unfolding xorBack
+xor-none o x m j a = xor-zero-r a
+
+pub summing-done : {o start sum : List ℕ} {x n m at k : ℕ} → Summing o x n m start at sum k → n ≤ k → Summed o x n m start sum
+summing-done {o} {start} {sum} {x} {n} {m} {at} {k} s all =
+    let none : n - k ≡ 0 = omega arith in
+    record {
+      long = s .long;
+      each = λ j low. sym (xor-none o at m j (getD sum j 0)) ∙ (rw none at (s .left j low));
+    }
+
+-- ---- the size that the code reads
+pub size-read : (base : ℕ) (t : List ℕ) (d i : ℕ) {at slot size : ℕ} → at ≡ (base + d) % numbers → slot ≡ at % slotsHeard
+    → size ≡ messageSizeIn t (slot * messagesLimit + i) → size ≡ sizeAt base t d i
+size-read base t d i {at} {slot} {size} e-at e-slot e-size =
+    let slot-is : slot ≡ heardSlotAt base d = omega arith in
+    e-size ∙ ap (λ (j : ℕ). messageSizeIn t (j * messagesLimit + i)) slot-is
+
+pub size-small : {l : Lent} → InRanges l → (d i : ℕ) → i < mAt (l .base) (l .table) d → {at slot size : ℕ} → at ≡ (l .base + d) % numbers
+    → slot ≡ at % slotsHeard → size ≡ messageSizeIn (l .table) (slot * messagesLimit + i) → size ≤ packetLimit
+size-small {l} w d i low e-at e-slot e-size =
+    rw (size-read (l .base) (l .table) d i e-at e-slot e-size) (size-near (searchable w) (l .base) d i low)
+
+-- ---- the front of the sum
+module _ {l : Lent} (w : InRanges l) (d i : ℕ) (near : d < keptAhead) (low : i < mAt (l .base) (l .table) d)
+    {at slot n count m place size first index : ℕ} (start : List ℕ) {copied r : List ℕ}
+    (e-at : at ≡ (l .base + d) % numbers) (e-slot : slot ≡ at % slotsHeard) (e-n : n ≡ nIn (l .table) slot)
+    (e-count : count ≡ mIn (l .table) slot) (e-m : m ≡ count) (e-place : place ≡ slot * messagesLimit + i)
+    (e-size : size ≡ messageSizeIn (l .table) place) (e-copied : copied ≡ part (l .messages) place size ++ drop size start)
+    (e-index : index ≡ i) (e-first : first ≡ (at + index) % numbers) (s : Summed (l .octets) first n m copied r) where
+  message : Message
+  message = messageHeld (l .base) (l .table) (l .messages) d i
+
+  slot-is : slot ≡ heardSlotAt (l .base) d
+  slot-is = omega arith
+
+  m-is : m ≡ mAt (l .base) (l .table) d
+  m-is = e-m ∙ e-count ∙ ap (λ (j : ℕ). mIn (l .table) j) slot-is
+
+  n-is : n ≡ nAt (l .base) (l .table) d
+  n-is = e-n ∙ ap (λ (j : ℕ). nIn (l .table) j) slot-is
+
+  place-is : place ≡ messageSlot (heardSlotAt (l .base) d) i
+  place-is = e-place ∙ ap (λ (k : ℕ). k * messagesLimit + i) slot-is
+
+  first-is : first ≡ numberAt (l .base) (keptBefore + d + i)
+  first-is = omega arith
+
+  size-is : size ≡ length (message .octets)
+  unfolding message
+  size-is =
+      e-size ∙ ap (messageSizeIn (l .table)) place-is
+      ∙ sym (octets-long (searchable w) (l .base) d (l .messages) (w .laid .messages) i low)
+
+  part-is : part (l .messages) place size ≡ message .octets
+  unfolding message messageHeld messageIn
+  part-is = rw (e-size, place-is)
+
+  small : size ≤ packetLimit
+  small = rw (e-size, place-is) (size-near (searchable w) (l .base) d i low)
+
+  octet-is : (j : ℕ) → j < size → getD r j 0 ≡ getD (mended (cellsOf (l .base) (l .table) (l .octets)) message) j 0
+  unfolding mended message messageHeld membersOf
+  octet-is j below =
+      let N = nAt (l .base) (l .table) d in
+      let M = mAt (l .base) (l .table) d in
+      s .each j (omega (arith, small))
+      ∙ ap₂ bitXor
+      (ap (λ (x : List ℕ). getD x j 0) e-copied
+      ∙ List·getD-append (part (l .messages) place size) (drop size start) 0 j (rw (ap (λ (x : List ℕ). length x) part-is, ← size-is) below)
+      ∙ ap (λ (x : List ℕ). getD x j 0) part-is)
+      (ap₂ (λ (x k : ℕ). xorBack (l .octets) x k m j) first-is n-is
+      ∙ ap (λ (k : ℕ). xorBack (l .octets) (numberAt (l .base) (keptBefore + d + i)) N k j) m-is
+      ∙ summed w N (keptBefore + d + i) M j (omega (arith, reach-near (searchable w) (l .base) d)) (omega arith)
+      (omega (arith, m-near (searchable w) (l .base) d)) (omega (arith, small)))
+      ∙ sym (xorAt-cons _ _ j)
+      ∙ sym (exclusiveOr-at (length (message .octets)) _ j (rw (← size-is) below))
+
+  pub mended-front : MendedOctets (l .base) (l .table) (l .octets) (l .messages) d i r
+  unfolding message
+  mended-front =
+      let cut = length-take-le size r (omega (arith, small, s .long)) in
+      record {
+        long = s .long;
+        front =
+            rw (← size-is)
+            (ext-getD 0 (take size r) (mended (cellsOf (l .base) (l .table) (l .octets)) message)
+            (cut ∙ size-is ∙ sym (length-mended (cellsOf (l .base) (l .table) (l .octets)) message))
+            (λ j below.
+            let under : j < size = rw cut at below in
+            getD-take size r j 0 under ∙ octet-is j under));
+      }

@@ -1,0 +1,122 @@
+-- What the searches, the fill and the whole repair owe, a record for each. A search reads the table alone, so what it owes holds
+-- of every pair of stores. Definitions only.
+use Prim.Native.Nat.{ℕ, _+_, _%_, _≤_, _<_}
+use mathlib.Core.Path.{_≡_}
+use mathlib.Core.Bool.{cond}
+use mathlib.Core.List.{List}
+use mathlib.Core.Option.{Option, none, some}
+use lib.ListN.{length, getD, take}
+use lib.Dec.{eqb}
+use Rattle.datagrams.specs.Sizes.{packetLimit, coveredLimit, messagesLimit}
+use Rattle.repair.specs.Cells.{keptBefore, keptAhead}
+use Rattle.repair.specs.Members.{membersOf}
+use Rattle.repair.specs.Repair.{Message, unknownMembers, firstUsable, mended, fill, repair}
+use Rattle.repair.specs.Held.{messagesOf, heldMessages}
+use Rattle.views.specs.View.{View, numbers}
+use Rattle.held.specs.Slots.{slotAt, heardSlotAt, messageSlot, slotsKept, slotsHeard, messageOctets}
+use Rattle.held.specs.Table.{Lent, places, nIn, mIn, messageSizeIn, messageIn, heldIn, cellsOf, heldOf, viewIn}
+use Rattle.held.specs.Laid.{InRanges}
+use Rattle.repairing.specs.Back.{countBack}
+use Rattle.repairing.specs.declared.Usable.{Usable}
+use Rattle.repairing.specs.declared.Usable.the-variants as usables
+use Rattle.repairing.specs.declared.Lowest.{Lowest}
+use Rattle.repairing.specs.declared.Lowest.the-variants as lowest
+
+-- what the searches ask of the table: n, m and the sizes of messages are within the sizes
+pub record Searchable (t : List ℕ) : Type 0 where
+  pub long : length t ≡ places
+  pub covered : (j : ℕ) → j < slotsHeard → nIn t j ≤ coveredLimit
+  pub few : (j : ℕ) → j < slotsHeard → mIn t j ≤ messagesLimit
+  pub part : (j i : ℕ) → j < slotsHeard → i < messagesLimit → messageSizeIn t (messageSlot j i) ≤ packetLimit
+
+-- n and m of the number at distance d, the size of its message i, and that message
+abbrev pub nAt : ℕ → List ℕ → ℕ → ℕ
+nAt base t d = nIn t (heardSlotAt base d)
+
+abbrev pub mAt : ℕ → List ℕ → ℕ → ℕ
+mAt base t d = mIn t (heardSlotAt base d)
+
+abbrev pub sizeAt : ℕ → List ℕ → ℕ → ℕ → ℕ
+sizeAt base t d i = messageSizeIn t (messageSlot (heardSlotAt base d) i)
+
+unfoldable pub messageHeld : ℕ → List ℕ → List ℕ → ℕ → ℕ → Message
+messageHeld base t g d i =
+    record {
+      members = membersOf (keptBefore + d) (nAt base t d) (mAt base t d) i;
+      octets = messageIn t g (heardSlotAt base d) i;
+    }
+
+-- how many members of a message are unknown, or none where it has no octets
+abbrev pub missingOf : ℕ → List ℕ → ℕ → ℕ → ℕ → ℕ
+missingOf size t x n m = cond (eqb size 0) 0 (countBack t x n m)
+
+-- a message of distance d and index i is there, and the slot is that of its first unknown member
+pub record Points (base : ℕ) (t : List ℕ) (d i slot : ℕ) : Type 0 where
+  pub near : d < keptAhead
+  pub low : i < mAt base t d
+  pub target : (o g : List ℕ) → slot ≡ slotAt base (getD (unknownMembers (cellsOf base t o) (messageHeld base t g d i)) 0 0)
+
+-- the lowest usable message of the number at distance d
+abbrev pub LowestAnswer : ℕ → List ℕ → ℕ → Lowest → List ℕ → Option Message
+LowestAnswer base t d (lowest.Message i slot) g = some (messageHeld base t g d i)
+LowestAnswer base t d lowest.Nothing g = none
+
+abbrev pub LowestPoints : ℕ → List ℕ → ℕ → Lowest → Type 0
+LowestPoints base t d (lowest.Message i slot) = Points base t d i slot
+LowestPoints base t d lowest.Nothing = Unit {0}
+
+pub record LowestFound (base : ℕ) (t : List ℕ) (d : ℕ) (r : Lowest) : Type 0 where
+  pub answer : (o g : List ℕ) → length g ≡ messageOctets
+      → firstUsable (cellsOf base t o) (messagesOf (keptBefore + d) (heldIn t g (heardSlotAt base d))) ≡ LowestAnswer base t d r g
+  pub points : LowestPoints base t d r
+
+-- what the search of a number's messages asks for: the number's slot, n and m
+pub record Seeable (t : List ℕ) (at slot n m : ℕ) : Type 0 where
+  pub table : Searchable t
+  pub place : slot ≡ at % slotsHeard
+  pub covered : n ≡ nIn t slot
+  pub count : m ≡ mIn t slot
+
+-- what it owes: the answer for every base from which that number is seen
+pub record LowestSeen (t : List ℕ) (at : ℕ) (r : Lowest) : Type 0 where
+  pub found : (base d : ℕ) → d < keptAhead → at ≡ (base + d) % numbers → LowestFound base t d r
+
+-- the first usable message, counted from the base on
+abbrev pub UsableAnswer : ℕ → List ℕ → Usable → List ℕ → Option Message
+UsableAnswer base t (usables.Message d i slot) g = some (messageHeld base t g d i)
+UsableAnswer base t usables.Nothing g = none
+
+abbrev pub UsablePoints : ℕ → List ℕ → Usable → Type 0
+UsablePoints base t (usables.Message d i slot) = Points base t d i slot
+UsablePoints base t usables.Nothing = Unit {0}
+
+pub record UsableFound (base : ℕ) (t : List ℕ) (r : Usable) : Type 0 where
+  pub answer : (o g : List ℕ) → length g ≡ messageOctets
+      → firstUsable (cellsOf base t o) (heldMessages (heldOf base t g)) ≡ UsableAnswer base t r g
+  pub points : UsablePoints base t r
+
+-- the octets that mend: the front of packetLimit octets
+pub record MendedOctets (base : ℕ) (t o g : List ℕ) (d i : ℕ) (r : List ℕ) : Type 0 where
+  pub long : length r ≡ packetLimit
+  pub front : take (length ((messageHeld base t g d i) .octets)) r ≡ mended (cellsOf base t o) (messageHeld base t g d i)
+
+-- of the table only states and sizes of kept numbers have changed: marks, n, m and sizes of messages are as they were
+pub record SameBeside (before after : List ℕ) : Type 0 where
+  pub stays : (k : ℕ) → slotsKept + slotsKept ≤ k → getD after k 0 ≡ getD before k 0
+
+-- one message used
+pub record Fills (before : Lent) (d i : ℕ) (after : Lent) : Type 0 where
+  pub cells : cellsOf (after .base) (after .table) (after .octets)
+      ≡ fill (cellsOf (before .base) (before .table) (before .octets)) (messageHeld (before .base) (before .table) (before .messages) d i)
+  pub within : InRanges after
+  pub beside : SameBeside (before .table) (after .table)
+
+-- "Then repair": what is held stays, and the kept numbers are repaired
+abbrev pub repairedView : View → View
+repairedView v = record { base = v .base; counts = v .counts; cells = repair (v .cells) (heldMessages (v .held)); held = v .held }
+
+-- what mend owes: all that can be mended is
+pub record Mends (before after : Lent) : Type 0 where
+  pub state : viewIn after ≡ repairedView (viewIn before)
+  pub within : InRanges after
+  pub beside : SameBeside (before .table) (after .table)

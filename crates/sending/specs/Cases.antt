@@ -1,0 +1,33 @@
+-- Sends at which more than one refusal of document 01 could be given: each case says which. "Send 17, 16, 15, 4, 13." Definitions
+-- only.
+use Prim.Native.Nat.{ℕ}
+use mathlib.Core.Path.{_≡_}
+use mathlib.Core.List.{List, [], _∷_}
+use lib.ListN.{replicate}
+use Rattle.lengths.specs.Refusals.{outsideSizes, wrongSettings, allPassed, outsideRanges}
+use Rattle.lengths.specs.Answers.{refuse}
+use Rattle.views.specs.View.{sessionLimit}
+use Rattle.sending.specs.Sending.{Sending, historyKept, freshSending}
+use Rattle.sending.specs.Send.{datagramToSend}
+use Rattle.sending.specs.Promise.{toSend}
+use Rattle.sending.specs.declared.Sender.{Sender}
+use Rattle.sending.specs.declared.Settings.the-variants as settings
+
+-- a session that has sent 1,000,000 packets
+abbrev pub atLimit : Sending
+atLimit = record { sent = sessionLimit; history = replicate historyKept (0x02 ∷ []) }
+
+-- one that has sent more, which is outside its ranges
+abbrev pub pastLimit : Sender
+pastLimit = record { sent = 1000001; sizes = []; octets = [] }
+
+pub record RefusalCases : Type 0 where
+  pub ranges-first : toSend pastLimit (settings.Spares 9) [] ≡ refuse outsideRanges
+  pub passed-first : datagramToSend (settings.Spares 9) (0x06 ∷ []) atLimit ≡ refuse allPassed
+  pub settings-then-size : datagramToSend (settings.Spares 9) [] freshSending ≡ refuse wrongSettings
+  -- n = 0 and m = 0 are settings outside the sizes
+  pub n-0 : datagramToSend (settings.Parity 0 1) (0x06 ∷ []) freshSending ≡ refuse wrongSettings
+  pub m-0 : datagramToSend (settings.Parity 1 0) (0x06 ∷ []) freshSending ≡ refuse wrongSettings
+  -- an empty packet, and one of 161 octets
+  pub packet-0 : datagramToSend (settings.Spares 0) [] freshSending ≡ refuse outsideSizes
+  pub packet-161 : datagramToSend (settings.Spares 0) (replicate 161 0) freshSending ≡ refuse outsideSizes

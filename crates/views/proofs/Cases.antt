@@ -1,0 +1,47 @@
+-- The cases of 'The receiving session', each computed. Assumes nothing.
+use mathlib.Core.Path.{refl}
+use Rattle.octets.specs.Place.{tab}
+use Rattle.octets.specs.ExclusiveOr.{xorAt, exclusiveOr}
+use Rattle.lengths.specs.Length.{lengthAt}
+use Rattle.datagrams.specs.Read.{allowed, sizedAt, itemAt, numberOf, readDatagram}
+use Rattle.repair.specs.Members.{membersOf}
+use Rattle.repair.specs.Repair.{passing, usable, firstUsable, mended, fill, repairF, repair}
+use Rattle.repair.specs.Held.{messagesOf, messagesFrom, heldMessages}
+use Rattle.views.specs.View.{freshView, goneOn}
+use Rattle.views.specs.Offer.{keep, keepSpares, accept, offered, offer}
+use Rattle.views.specs.Release.{next, giveUp}
+use Rattle.views.specs.Cases.{OfferCases, ReleaseCases}
+
+pub offer-cases : OfferCases
+unfolding offer offered accept keep keepSpares freshView repair repairF firstUsable usable passing mended fill
+    messagesOf messagesFrom heldMessages membersOf tab xorAt exclusiveOr readDatagram numberOf itemAt sizedAt allowed lengthAt
+offer-cases =
+    record {
+      spare-kept = refl;
+      spare-before-first = refl;
+      spare-stays = refl;
+      repaired-then = refl;
+      before-base = refl;
+      two-missing = refl;
+      across-65535 = refl;
+      at-limit = refl;
+      read-first = refl;
+      far-first = refl;
+      late-first = refl;
+      far-32767 = refl;
+      late-32768 = refl;
+      again = refl;
+    }
+
+pub release-cases : ReleaseCases
+unfolding next giveUp goneOn freshView
+release-cases =
+    record {
+      passed-then-unknown = refl;
+      passed-then-room = refl;
+      unknown-then-room = refl;
+      no-room = refl;
+      passed-then-known = refl;
+      spare-leaves = refl;
+      stays-unknown = refl;
+    }

@@ -1,0 +1,125 @@
+-- The base goes on by one: the ranges stay, on the view alone. Assumes nothing.
+use Prim.Native.Nat.{ℕ, zero, suc, _+_, _-_, _%_, _≤_, _<_}
+use mathlib.Core.Path.{_≡_, refl, sym, ap, ap₂, _∙_}
+use mathlib.Core.Bool.{Bool, true, not}
+use mathlib.Core.List.{List, [], _∷_, _++_}
+use mathlib.Core.Logic.{⊎-elim}
+use lib.ListN.{length, getD, drop}
+use lib.Dec.{leb, eqb}
+use native.Mathlib.Omega.{arith}
+use borrow.Author.Tests.{lt-ltb, le-ltb, le-leb, eq-eqb, eqb-true}
+use Rattle.octets.specs.Place.{allBelow}
+use Rattle.octets.proofs.Cases.{same-or-not, below-or-not, and-left, and-both}
+use Rattle.repair.specs.Cells.{Cell, blankCell, unknownCell, cellAt, isUnknown, keptBefore}
+use Rattle.repair.specs.Held.{Held, nothingHeld, heldAt}
+use Rattle.views.specs.Ranges.{blankAt, sumRight, sizeRight, cellRight, markRight, heldRight, knownAt, Sound}
+use Rattle.views.specs.View as views
+use Rattle.views.specs.View.{View, sum, numbers, sessionLimit, following, goneOn}
+
+-- the base goes on by one: place p of the view is place p + 1 of the one before, and the sum is one more
+pub blank-further : (total p : ℕ) → blankAt (total + 1) p ≡ blankAt total (suc p)
+blank-further total p = ⊎-elim low high (below-or-not (suc p) keptBefore) where
+  low : suc p < keptBefore → blankAt (total + 1) p ≡ blankAt total (suc p)
+  low below =
+      ⊎-elim
+      (λ (blank : total < keptBefore - suc p).
+      rw (lt-ltb p keptBefore (omega arith), lt-ltb (suc p) keptBefore below, lt-ltb total (keptBefore - suc p) blank)
+      (lt-ltb (total + 1) (keptBefore - p) (omega arith)))
+      (λ (not : keptBefore - suc p ≤ total).
+      rw (lt-ltb p keptBefore (omega arith), lt-ltb (suc p) keptBefore below, le-ltb total (keptBefore - suc p) not)
+      (le-ltb (total + 1) (keptBefore - p) (omega arith)))
+      (below-or-not total (keptBefore - suc p))
+
+  high : keptBefore ≤ suc p → blankAt (total + 1) p ≡ blankAt total (suc p)
+  high past =
+      ⊎-elim
+      (λ (base : p < keptBefore).
+      rw (lt-ltb p keptBefore base, le-ltb (suc p) keptBefore past) (le-ltb (total + 1) (keptBefore - p) (omega arith)))
+      (λ ahead. rw (le-ltb p keptBefore ahead, le-ltb (suc p) keptBefore past))
+      (below-or-not p keptBefore)
+
+-- ---- a list one place further
+module _ {A : Type 0} where
+  further : (l : List A) (last d : A) (n p : ℕ) → length l ≡ suc n → p < n → getD (drop 1 l ++ (last ∷ [])) p d ≡ getD l (suc p) d
+  further [] last d n p long below = absurd (omega arith)
+  further (x ∷ l) last d n p long below = before l p (omega arith) where
+    before : (s : List A) (i : ℕ) → i < length s → getD (s ++ (last ∷ [])) i d ≡ getD s i d
+    before [] i low = absurd (omega arith)
+    before (y ∷ s) zero low = refl
+    before (y ∷ s) (suc i) low = before s i (omega arith)
+
+  at-end : (l : List A) (last d : A) (n : ℕ) → length l ≡ suc n → getD (drop 1 l ++ (last ∷ [])) n d ≡ last
+  at-end [] last d n long = absurd (omega arith)
+  at-end (x ∷ l) last d n long = ap (λ (k : ℕ). getD (l ++ (last ∷ [])) k d) (sym e) ∙ end l where
+    e : length l ≡ n
+    e = omega arith
+
+    end : (s : List A) → getD (s ++ (last ∷ [])) (length s) d ≡ last
+    end [] = refl
+    end (y ∷ s) = end s
+
+  as-long : (l : List A) (last : A) (n : ℕ) → length l ≡ suc n → length (drop 1 l ++ (last ∷ [])) ≡ suc n
+  as-long [] last n long = absurd (omega arith)
+  as-long (x ∷ l) last n long = more l ∙ long where
+    more : (s : List A) → length (s ++ (last ∷ [])) ≡ suc (length s)
+    more [] = refl
+    more (y ∷ s) = ap suc (more s)
+
+-- ---- the ranges, on the view alone
+module _ {v : View} (counts : views.Counts) (s : Sound v) (more : sum counts ≡ sum (v .counts) + 1) (fits : sum counts ≤ sessionLimit) where
+  cell-next : (p : ℕ) → p < 63 → cellAt ((goneOn counts v) .cells) p ≡ cellAt (v .cells) (suc p)
+  unfolding goneOn
+  cell-next p low = further (v .cells) unknownCell blankCell 63 p (s .kept) low
+
+  cell-last : cellAt ((goneOn counts v) .cells) 63 ≡ unknownCell
+  unfolding goneOn
+  cell-last = at-end (v .cells) unknownCell blankCell 63 (s .kept)
+
+  held-next : (d : ℕ) → d < 31 → heldAt ((goneOn counts v) .held) d ≡ heldAt (v .held) (suc d)
+  unfolding goneOn
+  held-next d low = further (v .held) nothingHeld nothingHeld 31 d (s .ahead) low
+
+  held-last : heldAt ((goneOn counts v) .held) 31 ≡ nothingHeld
+  unfolding goneOn
+  held-last = at-end (v .held) nothingHeld nothingHeld 31 (s .ahead)
+
+  total-next : sumRight (goneOn counts v) ≡ true
+  unfolding sumRight goneOn
+  total-next =
+      let S = sum (v .counts) in
+      let same : v .base ≡ S % numbers = eqb-true (v .base) (S % numbers) (and-left (eqb (v .base) (S % numbers)) (leb S sessionLimit) (s .total)) in
+      and-both (eq-eqb (following (v .base)) (sum counts % numbers) (rw more (omega arith))) (le-leb (sum counts) sessionLimit fits)
+
+  cell-right : (p : ℕ) → p < 63 → cellRight (cellAt ((goneOn counts v) .cells) p) (blankAt (sum counts) p) ≡ true
+  cell-right p low =
+      ap₂ (λ (c : Cell) (b : Bool). cellRight c b) (cell-next p low) (ap (λ (n : ℕ). blankAt n p) more ∙ blank-further (sum (v .counts)) p)
+      ∙ s .cell (suc p) (omega arith)
+
+  last-right : cellRight (cellAt ((goneOn counts v) .cells) 63) (blankAt (sum counts) 63) ≡ true
+  unfolding sizeRight
+  last-right = ap (λ (c : Cell). cellRight c (blankAt (sum counts) 63)) cell-last
+
+  held-right : (d : ℕ) → d < 31 → heldRight (heldAt ((goneOn counts v) .held) d) (knownAt (goneOn counts v) (keptBefore + d)) ≡ true
+  held-right d low =
+      let e : suc (keptBefore + d) ≡ keptBefore + suc d = omega arith in
+      ap₂ (λ (h : Held) (c : Cell). heldRight h (not (isUnknown (c .state)))) (held-next d low)
+      (cell-next (keptBefore + d) (omega arith) ∙ ap (λ (k : ℕ). cellAt (v .cells) k) e)
+      ∙ s .held (suc d) (omega arith)
+
+  gone-right : heldRight (heldAt ((goneOn counts v) .held) 31) (knownAt (goneOn counts v) (keptBefore + 31)) ≡ true
+  unfolding heldRight markRight allBelow
+  gone-right = ap (λ (h : Held). heldRight h (knownAt (goneOn counts v) (keptBefore + 31))) held-last
+
+  pub sound-goes-on : Sound (goneOn counts v)
+  unfolding goneOn
+  sound-goes-on =
+      record {
+        small = omega arith;
+        total = total-next;
+        kept = as-long (v .cells) unknownCell 63 (s .kept);
+        ahead = as-long (v .held) nothingHeld 31 (s .ahead);
+        cell = λ p below.
+            ⊎-elim (λ (e : p ≡ 63). rw e last-right) (λ other. cell-right p (omega arith)) (same-or-not p 63);
+        held = λ d below.
+            ⊎-elim (λ (e : d ≡ 31). rw e gone-right) (λ other. held-right d (omega arith)) (same-or-not d 31);
+      }

@@ -1,0 +1,139 @@
+-- Small sessions at which another reading of document 01's 'The receiving session' was possible: each case says one answer.
+-- Definitions only.
+use Prim.Native.Nat.{ℕ, _-_}
+use mathlib.Core.Path.{_≡_}
+use mathlib.Core.Bool.{true}
+use mathlib.Core.List.{List, [], _∷_, _++_}
+use lib.ListN.{length, replicate}
+use Rattle.lengths.specs.Refusals.{endsEarly, repeated, tooFar, late, baseUnknown, noRoom, allPassed}
+use Rattle.lengths.specs.Answers.{done, refuse}
+use Rattle.datagrams.specs.Carried.{Carried, spares, parity}
+use Rattle.repair.specs.Cells.{State, received, spare, repaired, Cell, blankCell, unknownCell, keptBefore, keptAhead}
+use Rattle.repair.specs.Held.{Held, nothingHeld}
+use Rattle.views.specs.View.{View, Counts, sessionLimit, freshView}
+use Rattle.views.specs.Offer.{offer, offered}
+use Rattle.views.specs.Release.{next, giveUp}
+
+-- ---- what stands in them
+-- a number that came with `06`, and a spare with `02`
+abbrev pub came : Cell
+came = record { state = received; octets = 0x06 ∷ [] }
+
+abbrev pub copy : Cell
+copy = record { state = spare; octets = 0x02 ∷ [] }
+
+-- the message `C6 01` over two packets, one of which is `C0 01`; the other is then `06` and a zero
+abbrev pub message : List ℕ
+message = 0xC6 ∷ 0x01 ∷ []
+
+abbrev pub member : Cell
+member = record { state = received; octets = 0xC0 ∷ 0x01 ∷ [] }
+
+abbrev pub mended : Cell
+mended = record { state = repaired; octets = 0x06 ∷ 0x00 ∷ [] }
+
+-- held of a datagram without messages, and of one with that message
+abbrev pub marked : Held
+marked = record { accepted = true; n = 0; messages = [] }
+
+abbrev pub overTwo : Held
+overTwo = record { accepted = true; n = 2; messages = message ∷ [] }
+
+-- datagram S with the packet `06` alone, with one spare, and with that message
+abbrev pub alone : ℕ → Carried
+alone S = record { number = S; packet = 0x06 ∷ []; extra = spares [] }
+
+abbrev pub withSpare : ℕ → Carried
+withSpare S = record { number = S; packet = 0x06 ∷ []; extra = spares ((0x02 ∷ []) ∷ []) }
+
+abbrev pub withMessage : ℕ → Carried
+withMessage S = record { number = S; packet = 0x06 ∷ []; extra = parity 2 (message ∷ []) }
+
+-- a session of which the first numbers from the base on are told, and nothing is known of those after them; before the base stand
+-- cells that are all alike; so many numbers were received and released
+abbrev pub session : ℕ → ℕ → Cell → List Cell → List Held → View
+session base passed before cells held =
+    record {
+      base = base;
+      counts = record { received = passed; spare = 0; repaired = 0; lost = 0 };
+      cells = replicate keptBefore before ++ (cells ++ replicate (keptAhead - length cells) unknownCell);
+      held = held ++ replicate (keptAhead - length held) nothingHeld;
+    }
+
+-- at its start, and later, at a base after so many
+abbrev pub started : List Cell → List Held → View
+started = session 0 0 blankCell
+
+abbrev pub later : ℕ → ℕ → List Cell → List Held → View
+later base passed = session base passed unknownCell
+
+-- after 1,000,000 the base is `42 40`
+abbrev pub atLimit : List Cell → List Held → View
+atLimit = later 0x4240 sessionLimit
+
+-- ---- offer
+pub record OfferCases : Type 0 where
+  -- a packet and its spare are kept, its number is marked, and no count moves
+  pub spare-kept : offered (withSpare 1) freshView ≡ done (started (copy ∷ came ∷ []) (nothingHeld ∷ marked ∷ []))
+  -- a spare for a number before the first is passed over: blank is known
+  pub spare-before-first : offered (withSpare 0) freshView ≡ done (started (came ∷ []) (marked ∷ []))
+  -- a datagram accepted for a number that is spare: kind and octets stay, and it is marked
+  pub spare-stays : offered (alone 0) (started (copy ∷ []) []) ≡ done (started (copy ∷ []) (marked ∷ []))
+  -- a datagram's own message repairs within its offer, whatever came before, and is kept
+  pub repaired-then : offered (withMessage 2) (started (unknownCell ∷ member ∷ []) (nothingHeld ∷ marked ∷ []))
+      ≡ done (started (mended ∷ member ∷ came ∷ []) (nothingHeld ∷ marked ∷ overTwo ∷ []))
+  -- a number before the base is repaired too, and no count moves
+  pub before-base : offered (withMessage 2) (later 1 1 (member ∷ []) (marked ∷ []))
+      ≡ done (record {
+        base = 1;
+        counts = record { received = 1; spare = 0; repaired = 0; lost = 0 };
+        cells = replicate 31 unknownCell ++ (mended ∷ member ∷ came ∷ replicate 30 unknownCell);
+        held = marked ∷ overTwo ∷ replicate 30 nothingHeld;
+      })
+  -- its message is kept while two members are missing
+  pub two-missing : offered (withMessage 2) freshView
+      ≡ done (started (unknownCell ∷ unknownCell ∷ came ∷ []) (nothingHeld ∷ nothingHeld ∷ overTwo ∷ []))
+  -- after base 65,535 comes number 0
+  pub across-65535 : offered (alone 0) (later 65535 65535 [] [])
+      ≡ done (later 65535 65535 (unknownCell ∷ came ∷ []) (nothingHeld ∷ marked ∷ []))
+  -- an offer is never refused by 16
+  pub at-limit : offered (alone 0x4240) (atLimit [] []) ≡ done (atLimit (came ∷ []) (marked ∷ []))
+  -- "reading order, then 8 or 9, then 7": a number that has left is late, not repeated
+  pub read-first : offer (0x01 ∷ 0x00 ∷ []) freshView ≡ refuse endsEarly
+  pub far-first : offered (alone 32) (started (came ∷ []) (marked ∷ [])) ≡ refuse tooFar
+  pub late-first : offered (alone 0) (later 1 1 (came ∷ []) []) ≡ refuse late
+  pub far-32767 : offered (alone 32767) freshView ≡ refuse tooFar
+  pub late-32768 : offered (alone 32768) freshView ≡ refuse late
+  pub again : offered (alone 0) (started (came ∷ []) (marked ∷ [])) ≡ refuse repeated
+
+-- ---- next and give up: "Next 17, 16, 10, 13. Give up 17, 16, 11."
+pub record ReleaseCases : Type 0 where
+  pub passed-then-unknown : next 0 (atLimit [] []) ≡ refuse allPassed
+  pub passed-then-room : next 0 (atLimit (came ∷ []) []) ≡ refuse allPassed
+  pub unknown-then-room : next 0 freshView ≡ refuse baseUnknown
+  pub no-room : next 0 (started (copy ∷ []) []) ≡ refuse noRoom
+  pub passed-then-known : giveUp (atLimit (came ∷ []) []) ≡ refuse allPassed
+  -- a spare is counted as it leaves, and after 65,535 comes 0
+  pub spare-leaves : next 1 (later 65535 65535 (copy ∷ []) (marked ∷ []))
+      ≡ done (record {
+        kind = spare;
+        number = 65535;
+        octets = 0x02 ∷ [];
+        after = record {
+          base = 0;
+          counts = record { received = 65535; spare = 1; repaired = 0; lost = 0 };
+          cells = replicate 31 unknownCell ++ (copy ∷ replicate keptAhead unknownCell);
+          held = replicate keptAhead nothingHeld;
+        };
+      })
+  -- a number given up stays unknown
+  pub stays-unknown : giveUp freshView
+      ≡ done (record {
+        number = 0;
+        after = record {
+          base = 1;
+          counts = record { received = 0; spare = 0; repaired = 0; lost = 1 };
+          cells = replicate 31 blankCell ++ (unknownCell ∷ replicate keptAhead unknownCell);
+          held = replicate keptAhead nothingHeld;
+        };
+      })

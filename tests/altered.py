@@ -1,0 +1,64 @@
+#!/usr/bin/env python3
+"""A wrong program, for the self-tests: the independent program with one alteration of its answers.
+
+altered.py calls CALL AT         the hexadecimal digit at this place of each answer to this call that was done (-1: its last)
+altered.py program KIND AT       the same of each result of this kind
+altered.py calls spares          spares are handed out and counted as repaired; likewise: program spares
+altered.py calls repeated        a repeated datagram is answered as done
+"""
+
+import sys
+
+from independent import lines_of
+from rules.calls import Calls
+from rules.program import Program
+
+
+def digit_changed(first, at):
+    """Of each done call or result with this first octet, the digit at a place."""
+    def alter(named, answer):
+        if named != first or not answer.startswith((b'00', b'01', b'02', b'03')):
+            return answer
+        place = at % len(answer)
+        return answer[:place] + b'%X' % (int(answer[place:place + 1], 16) ^ 1) + answer[place + 1:]
+    return alter
+
+
+def spares_called(call, answer):
+    """12 hands out a spare as repaired; 14 counts it so."""
+    if call == b'12' and answer.startswith(b'0001'):
+        return b'0002' + answer[4:]
+    if call == b'14':
+        spare, repaired = int(answer[10:18], 16), int(answer[18:26], 16)
+        return answer[:10] + b'%08X%08X' % (0, spare + repaired) + answer[26:]
+    return answer
+
+
+def spares_released(kind, result):
+    """A result that is a spare is shown as repaired."""
+    return b'02' + result[2:] if kind == b'01' else result
+
+
+def repeated_done(call, answer):
+    """11 does not refuse with 7."""
+    return b'00' if call == b'11' and answer == b'FF07' else answer
+
+
+def main():
+    """Answers standard input line by line, with the alteration."""
+    out, stream = sys.stdout.buffer, sys.stdin.buffer
+    program, how, *at = sys.argv[1:]
+    if at:
+        alter = digit_changed(how.encode(), int(at[0]))
+    else:
+        alter = {'calls spares': spares_called, 'calls repeated': repeated_done, 'program spares': spares_released}[program + ' ' + how]
+    if program == 'program':
+        session = Program()
+        out.writelines(alter(result[:2], result) + b'\n' for line in lines_of(stream) for result in session.results(line))
+    else:
+        calls = Calls()
+        out.writelines(alter(line[:2], calls.answer(line)) + b'\n' for line in lines_of(stream) if line)
+
+
+if __name__ == '__main__':
+    main()
