@@ -80,6 +80,7 @@ in-lines : InLines
 in-lines =
     record {
       putOctets = λ octets old at. appends-one;
+      pairUp = λ line old. told-one;
       putResult = λ kind number octets old at. appends-one;
       putRefusal = λ why old at. appends-one;
     }

@@ -1,11 +1,11 @@
 -- One outcome of the calls that serve callers inside this repository, each of which has a `requires`: a record for each crate, with
--- a field for each call, under its name and with its promise. Where a field has a hypothesis more, the call requires it.
--- Statements alone. Definitions only.
-use Prim.Native.Nat.{ℕ, _≤_, _<_}
+-- a field for each call, under its name and with its promise. Where a field has a hypothesis more, the call
+-- requires it, but for `keep` and `keep_spares`, as said there. Statements alone. Definitions only.
+use Prim.Native.Nat.{ℕ, _/_, _≤_, _<_}
 use mathlib.Core.Path.{_≡_}
 use mathlib.Core.Bool.{Bool, not}
 use mathlib.Core.List.{List, _++_}
-use lib.ListN.{set, drop}
+use lib.ListN.{length, set, drop}
 use lib.Dec.{eqb}
 use Rattle.lengths.specs.Answers.{done}
 use Rattle.lengths.specs.Length.{lengthOctets}
@@ -40,7 +40,7 @@ use Rattle.sending.specs.Inner.Items.{itemsIn, ItemsSize}
 use Rattle.sending.specs.Inner.Next.{carriedIn}
 use Rattle.datagram_sender.specs.Inner.{SendsHeld}
 use Rattle.sending.specs.declared.Settings.{Settings}
-use Rattle.lines.specs.Hex.{hexOf}
+use Rattle.lines.specs.Hex.{hexOf, octetsIn}
 use Rattle.lines.specs.Lines.{resultLine, refusalLine}
 use Rattle.lines.specs.Promise.{Appends}
 use Rattle.demands.specs.OneTold.{One, OneLent}
@@ -54,7 +54,7 @@ pub record InStores : Type 0 where
   pub copyOut : (o : List ℕ) (slot n : ℕ) (old : List ℕ) → One (λ (new : List ℕ). new ≡ store.part o slot n ++ drop n old)
   pub add : (o : List ℕ) (slot : ℕ) (old : List ℕ) → One (λ (new : List ℕ). new ≡ store.added old o slot)
 
--- `datagrams`: the item writers, and the sizes of items
+-- `datagram_items`: the item writers, and the sizes of items
 pub record InDatagrams : Type 0 where
   pub putOctets : (octets old : List ℕ) → OneLent (Put octets old)
   pub putLength : (n : ℕ) (old : List ℕ) → OneLent (Put (lengthOctets n) old)
@@ -112,8 +112,8 @@ pub record Alike {A : Type 0} (r q : A) (s l o p : List ℕ) : Type 0 where
   pub lengths : s ≡ l
   pub octets : o ≡ p
 
--- the sending session's: `size_in`, `in_ranges` and `keep` over the history as it is held; `items_size`, `put_items`, `write_next` and
--- `send_held`
+-- the sending session's: `size_in`, `in_ranges` and `keep` of `history`; `items_size`, `put_items` and `write_next` of `history_items`;
+-- `send_held` of `datagram_sender`
 pub record InSending : Type 0 where
   pub sizeIn : (lengths : List ℕ) (slot : ℕ) → One (λ (r : ℕ). r ≡ sender.sizeIn lengths slot)
   pub inRanges : (sent : ℕ) (lengths o : List ℕ) → One (λ (r : Bool). r ≡ sending.inRanges sent lengths o)
@@ -128,9 +128,10 @@ pub record InSending : Type 0 where
       → SendsHeld sent settings packet lengths o old newS newO new r → SendsHeld sent settings packet lengths o old otherS otherO other q
       → (Alike r q newS otherS newO otherO) × (new ≡ other)
 
--- the program's: `put_octets` of `hexadecimal`, `put_result` and `put_refusal` of `line_steps`
+-- the program's: `put_octets` and `pair_up` of `hexadecimal`, `put_result` and `put_refusal` of `line_steps`
 pub record InLines : Type 0 where
   pub putOctets : (octets old : List ℕ) (at : ℕ) → OneLent (Appends (hexOf octets) old at)
+  pub pairUp : (line old : List ℕ) → One (λ (new : List ℕ). new ≡ octetsIn line ++ drop (length line / 2) old)
   pub putResult : (kind number : ℕ) (octets old : List ℕ) (at : ℕ) → OneLent (Appends (resultLine kind number octets) old at)
   pub putRefusal : (why : Refusal) (old : List ℕ) (at : ℕ) → OneLent (Appends (refusalLine why) old at)
 

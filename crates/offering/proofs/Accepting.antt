@@ -1,4 +1,4 @@
--- A datagram accepted, on plain values: what keeping, holding and mending owe, one after the other, is document 01's `accept`.
+-- A datagram accepted, on plain values: what `keep`, `keep_spares`, `hold` and `mend` owe, one after the other, is document 01's `accept`.
 -- Each step leaves the rest of the view as it was, so that the view after is put together from what each says of its own part.
 -- Assumes nothing.
 use Prim.Native.Nat.{ℕ, _+_, _≤_, _<_}
