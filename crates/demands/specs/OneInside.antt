@@ -1,7 +1,7 @@
 -- One outcome of the calls that serve callers inside this repository, each of which has a `requires`: a record for each crate, with
 -- a field for each call, under its name and with its promise. Where a field has a hypothesis more, the call
--- requires it, but for `keep` and `keep_spares`, as said there. Statements alone. Definitions only.
-use Prim.Native.Nat.{ℕ, _/_, _≤_, _<_}
+-- requires it. Statements alone. Definitions only.
+use Prim.Native.Nat.{ℕ, _/_}
 use mathlib.Core.Path.{_≡_}
 use mathlib.Core.Bool.{Bool, not}
 use mathlib.Core.List.{List, _++_}
@@ -19,13 +19,12 @@ use Rattle.datagrams.specs.Inner.Put.{Put, sparesHead, parityHead, kindHead}
 use Rattle.datagrams.specs.declared.kind.Kind.{Kind}
 use Rattle.datagrams.specs.declared.reader.Part.{Part}
 use Rattle.stores.specs.Store as store
-use Rattle.repair.specs.Cells.{isUnknown, keptNumbers}
-use Rattle.held.specs.Slots.{numberAt}
+use Rattle.repair.specs.Cells.{isUnknown}
 use Rattle.held.specs.Table as table
 use Rattle.held.specs.Table.{Lent, lent, stateNumbered, keptSet, heardSet, heardDropped, messagePlace}
-use Rattle.held.specs.Laid.{lentInRanges, InRanges}
+use Rattle.held.specs.Laid.{lentInRanges}
 use Rattle.held.specs.declared.Counts.{Counts}
-use Rattle.keeping.specs.Promise.{Keeps, KeepsSpares, MayHold, Holds}
+use Rattle.keeping.specs.Promise.{MayKeep, Keeps, KeepsSpares, MayHold, Holds}
 use Rattle.repairing.specs.Promise.{Mends}
 use Rattle.leaving.specs.Promise.{Releases, GivesUp}
 use Rattle.leaving.specs.declared.Released.{Released}
@@ -84,16 +83,12 @@ pub record InHeld : Type 0 where
   pub dropHeard : (t : List ℕ) (slot : ℕ) → One (λ (new : List ℕ). new ≡ heardDropped t slot)
 
 -- the receiving session's: `checking::in_ranges`, `keep`, `keep_spares` and `hold` of `keeping`, `repairing::mend`, `next_core` and
--- `give_up_core` of `leaving`, `offering::offer_core`. All that is lent after a call is one, base and counts too. `keep` and
--- `keep_spares` see neither base nor messages: what they promise holds with any with which all is within the ranges, so it is said
--- of such
+-- `give_up_core` of `leaving`, `offering::offer_core`. All that is lent after a call is one, base and counts too
 pub record InReceiving : Type 0 where
   pub inRanges : (base : ℕ) (counts : Counts) (t o g : List ℕ) → One (λ (r : Bool). r ≡ lentInRanges (lent base counts t o g))
-  pub keep : (base : ℕ) (c : Counts) (g : List ℕ) (state number p : ℕ) (b t o : List ℕ) → InRanges (lent base c t o g)
-      → p < keptNumbers → number ≡ numberAt base p
+  pub keep : (state number : ℕ) (b t o : List ℕ) → MayKeep number 0 t o
       → OneLent (λ (newO newT : List ℕ). Keeps state number b t o newT newO)
-  pub keepSpares : (base : ℕ) (c : Counts) (g : List ℕ) (number p : ℕ) (s : List ℕ) (items : List Part) (count : ℕ) (t o : List ℕ)
-      → InRanges (lent base c t o g) → p < keptNumbers → count ≤ p → number ≡ numberAt base p
+  pub keepSpares : (number : ℕ) (s : List ℕ) (items : List Part) (count : ℕ) (t o : List ℕ) → MayKeep number count t o
       → OneLent (λ (newO newT : List ℕ). KeepsSpares number s items count t o newT newO)
   pub hold : (base d : ℕ) (s : List ℕ) (n : ℕ) (items : List Part) (count : ℕ) (t g : List ℕ) → MayHold base t g d
       → OneLent (λ (newG newT : List ℕ). Holds base d s n items count t g newT newG)
