@@ -37,7 +37,7 @@ datagramRead (done d) =
     }
 datagramRead (refused r) = record { reading = reading.Refused r; items = places [] }
 
--- what `read` owes of the octets s: its answer, and the whole of what it hands back
+-- what `datagram_reader::read` owes of the octets s: its answer, and the whole of what it hands back
 pub record DatagramReads (s : List ℕ) (r : DatagramRead) : Type 0 where
   pub answer : readOutcome r ≡ readDatagram s
   pub whole : r ≡ datagramRead (readDatagram s)

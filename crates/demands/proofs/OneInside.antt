@@ -1,27 +1,29 @@
 -- Two outcomes of a call that serves callers inside this repository are one. Most promises are equations. The receiving session's
 -- tell its view and that it is within its ranges, and within them the view tells all that is lent. Assumes nothing.
-use Prim.Native.Nat.{ℕ, _%_, _≤_, _<_}
+use Prim.Native.Nat.{ℕ, _%_}
 use mathlib.Core.Path.{_≡_, refl, sym, ap, ap₂, subst, _∙_}
-use mathlib.Core.List.{List}
+use mathlib.Core.List.{List, map}
+use lib.ListN.{take}
 use Rattle.lengths.specs.Answers.{Answer}
 use Rattle.lengths.specs.Promise.{Puts}
 use Rattle.lengths.specs.declared.Written.{Written}
 use Rattle.lengths.specs.declared.Written.the-variants as written
 use Rattle.lengths.proofs.Claims as lengths
+use Rattle.datagrams.specs.Read.{octetsOf}
 use Rattle.datagrams.specs.Inner.Put.{Put}
 use Rattle.datagrams.specs.declared.kind.Kind.{Kind}
 use Rattle.datagrams.specs.declared.reader.Part.{Part}
 use Rattle.stores.specs.Store.{zeros}
 use Rattle.stores.proofs.Laws.{length-zeros, zeros-at, zerosPast-zeros}
-use Rattle.repair.specs.Cells.{Cell, keptNumbers}
+use Rattle.repair.specs.Cells.{Cell}
 use Rattle.repair.specs.Held.{Held}
 use Rattle.views.specs.View.{numbers}
-use Rattle.held.specs.Slots.{numberAt}
-use Rattle.held.specs.Table.{Lent, lent, countsOf, viewIn}
+use Rattle.views.specs.Offer as offers
+use Rattle.held.specs.Table.{Lent, lent, countsOf, stateNumbered, cellsOf, viewIn}
 use Rattle.held.specs.Laid.{InRanges}
 use Rattle.held.specs.declared.Counts.{Counts}
 use Rattle.held.proofs.Injective.{lent-same}
-use Rattle.keeping.specs.Promise.{CellsNow, HeldNow, Keeps, KeepsSpares, MayHold, Holds}
+use Rattle.keeping.specs.Promise.{CellsNow, HeldNow, MayKeep, Keeps, KeepsSpares, MayHold, Holds}
 use Rattle.repairing.specs.Promise.{Mends}
 use Rattle.leaving.specs.Promise.{Releases, GivesUp}
 use Rattle.leaving.specs.declared.Released.{Released}
@@ -80,6 +82,7 @@ in-lines : InLines
 in-lines =
     record {
       putOctets = λ octets old at. appends-one;
+      pairUp = λ line old. told-one;
       putResult = λ kind number octets old at. appends-one;
       putRefusal = λ why old at. appends-one;
     }
@@ -130,17 +133,23 @@ table-octets e = (ap (λ (x : Lent). x .table) e, ap (λ (x : Lent). x .octets) 
 table-messages : {l k : Lent} → l ≡ k → (l .table ≡ k .table) × (l .messages ≡ k .messages)
 table-messages e = (ap (λ (x : Lent). x .table) e, ap (λ (x : Lent). x .messages) e)
 
-keep-one : (base : ℕ) (c : Counts) (g : List ℕ) (state number p : ℕ) (b t o : List ℕ) → InRanges (lent base c t o g)
-    → p < keptNumbers → number ≡ numberAt base p
-    → OneLent (λ (newO newT : List ℕ). Keeps state number b t o newT newO)
-keep-one base c g state number p b t o w small at newO otherO newT otherT x y =
-    table-octets (cells-one refl refl (x .kept base c g p w small at) (y .kept base c g p w small at))
+module _ (state number : ℕ) (b t o : List ℕ) (may : MayKeep number 0 t o) where
+  keep-told : {newT newO : List ℕ} → Keeps state number b t o newT newO
+      → CellsNow (lent (may .base) (may .counts) t o (may .messages)) (lent (may .base) (may .counts) newT newO (may .messages))
+      (offers.keep (stateNumbered state) (may .place) b (cellsOf (may .base) t o))
+  keep-told k = k .kept (may .base) (may .counts) (may .messages) (may .place) (may .within) (may .there) (may .stands)
 
-spares-one : (base : ℕ) (c : Counts) (g : List ℕ) (number p : ℕ) (s : List ℕ) (items : List Part) (count : ℕ) (t o : List ℕ)
-    → InRanges (lent base c t o g) → p < keptNumbers → count ≤ p → number ≡ numberAt base p
-    → OneLent (λ (newO newT : List ℕ). KeepsSpares number s items count t o newT newO)
-spares-one base c g number p s items count t o w small fits at newO otherO newT otherT x y =
-    table-octets (cells-one refl refl (x .kept base c g p w small fits at) (y .kept base c g p w small fits at))
+  keep-one : OneLent (λ (newO newT : List ℕ). Keeps state number b t o newT newO)
+  keep-one newO otherO newT otherT x y = table-octets (cells-one refl refl (keep-told x) (keep-told y))
+
+module _ (number : ℕ) (s : List ℕ) (items : List Part) (count : ℕ) (t o : List ℕ) (may : MayKeep number count t o) where
+  spares-told : {newT newO : List ℕ} → KeepsSpares number s items count t o newT newO
+      → CellsNow (lent (may .base) (may .counts) t o (may .messages)) (lent (may .base) (may .counts) newT newO (may .messages))
+      (offers.keepSpares (may .place) (map (octetsOf s) (take count items)) (cellsOf (may .base) t o))
+  spares-told k = k .kept (may .base) (may .counts) (may .messages) (may .place) (may .within) (may .there) (may .low) (may .stands)
+
+  spares-one : OneLent (λ (newO newT : List ℕ). KeepsSpares number s items count t o newT newO)
+  spares-one newO otherO newT otherT x y = table-octets (cells-one refl refl (spares-told x) (spares-told y))
 
 hold-one : (base d : ℕ) (s : List ℕ) (n : ℕ) (items : List Part) (count : ℕ) (t g : List ℕ) → MayHold base t g d
     → OneLent (λ (newG newT : List ℕ). Holds base d s n items count t g newT newG)

@@ -21,6 +21,7 @@ by-datagrams =
       packetsLimit = told-one;
       messagesLimit = told-one;
       reachLimit = told-one;
+      within = λ least limit n. told-one;
       countInside = λ kind count. told-one;
       kindSize = λ kind count. told-one;
       lengthSize = λ n r q a b. a .answer ∙ sym (b .answer);
@@ -58,7 +59,7 @@ by-sending : ToldBySending
 by-sending = record { senderLimit = told-one; historyKept = told-one; historyOctets = told-one; slotOf = λ number. told-one }
 
 by-lines : ToldByLines
-by-lines = record { lineLimit = told-one; keptLimit = told-one; stepLimit = told-one; kindOctet = λ kind. told-one }
+by-lines = record { lineLimit = told-one; keptLimit = told-one; stepLimit = told-one; allDigits = λ line. told-one; kindOctet = λ kind. told-one }
 
 pub one-told : OneTold
 one-told =

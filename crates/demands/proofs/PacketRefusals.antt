@@ -2,10 +2,10 @@
 -- item's table says. Assumes nothing.
 use Prim.Native.Nat.{ℕ, _≤_, _<_}
 use mathlib.Core.Path.{_≡_, refl, sym, ap, subst, _∙_}
-use mathlib.Core.Logic.{_↔_, _⊎_, inl, inr, _≢_}
+use mathlib.Core.Logic.{_↔_, _⊎_, inl, inr, ⊎-elim, _≢_}
 use mathlib.Core.Bool.{Bool, true, false, not}
 use mathlib.Core.List.{List, [], _∷_, _++_, append-assoc, append-nil}
-use mathlib.Core.Option.{none, some}
+use mathlib.Core.Option.{Option, none, some}
 use lib.ListN.{length, length-append}
 use native.Mathlib.Omega.{arith}
 use borrow.Author.Tests.{lt-ltb, ltb-true, ltb-false, not-true, not-false}
@@ -118,6 +118,15 @@ stays {ending} {s} more {r} {t} {n} told longer fits e apart =
       wrong = rows-stay ending (w .item) (w .rest) more n (λ same. apart (sym same)) (w .wrong);
     })
 
+not-both : {n : ℕ} {o : Option ℕ} → o ≡ none → o ≡ some n → ⊥
+not-both p q = let z : _≡_ {A = ℕ} 0 1 = cc in omega arith
+
+never : {ending : Ending} {s : List ℕ} (more : List ℕ) {r t : PacketRead} {n : ℕ} → PacketTold ending s r → PacketTold ending (s ++ more) t
+    → refusalIn (packetOutcome r) ≡ some n → n ≢ endsEarly → refusalIn (packetOutcome t) ≡ none → ⊥
+never {s = s} more told longer e apart reads =
+    ⊎-elim (λ over. not-both reads (over-limit longer over)) (λ fits. not-both reads (stays more told longer fits e apart))
+    (below-or-not packetLimit (length (s ++ more)))
+
 -- from one ending to the other
 other-way : (one other : Ending) {s : List ℕ} {r t : PacketRead} {n : ℕ} → PacketTold one s r → PacketTold other s t → n ≢ number.leftOver
     → refusalIn (packetOutcome r) ≡ some n → refusalIn (packetOutcome t) ≡ some n
@@ -171,6 +180,7 @@ packet-refusals =
       spareBit = λ ending s r told. spare-set told;
       notAssigned = λ ending s r told. unassigned told;
       wrongData = λ ending s r told. data-wrong told;
+      never = never;
       stays = stays;
       eitherWay = λ told again apart. (other-way Whole Repaired told again apart, other-way Repaired Whole again told apart);
     }

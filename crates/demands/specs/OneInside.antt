@@ -1,11 +1,11 @@
 -- One outcome of the calls that serve callers inside this repository, each of which has a `requires`: a record for each crate, with
--- a field for each call, under its name and with its promise. Where a field has a hypothesis more, the call requires it.
--- Statements alone. Definitions only.
-use Prim.Native.Nat.{ℕ, _≤_, _<_}
+-- a field for each call, under its name and with its promise. Where a field has a hypothesis more, the call
+-- requires it. Statements alone. Definitions only.
+use Prim.Native.Nat.{ℕ, _/_}
 use mathlib.Core.Path.{_≡_}
 use mathlib.Core.Bool.{Bool, not}
 use mathlib.Core.List.{List, _++_}
-use lib.ListN.{set, drop}
+use lib.ListN.{length, set, drop}
 use lib.Dec.{eqb}
 use Rattle.lengths.specs.Answers.{done}
 use Rattle.lengths.specs.Length.{lengthOctets}
@@ -19,13 +19,12 @@ use Rattle.datagrams.specs.Inner.Put.{Put, sparesHead, parityHead, kindHead}
 use Rattle.datagrams.specs.declared.kind.Kind.{Kind}
 use Rattle.datagrams.specs.declared.reader.Part.{Part}
 use Rattle.stores.specs.Store as store
-use Rattle.repair.specs.Cells.{isUnknown, keptNumbers}
-use Rattle.held.specs.Slots.{numberAt}
+use Rattle.repair.specs.Cells.{isUnknown}
 use Rattle.held.specs.Table as table
 use Rattle.held.specs.Table.{Lent, lent, stateNumbered, keptSet, heardSet, heardDropped, messagePlace}
-use Rattle.held.specs.Laid.{lentInRanges, InRanges}
+use Rattle.held.specs.Laid.{lentInRanges}
 use Rattle.held.specs.declared.Counts.{Counts}
-use Rattle.keeping.specs.Promise.{Keeps, KeepsSpares, MayHold, Holds}
+use Rattle.keeping.specs.Promise.{MayKeep, Keeps, KeepsSpares, MayHold, Holds}
 use Rattle.repairing.specs.Promise.{Mends}
 use Rattle.leaving.specs.Promise.{Releases, GivesUp}
 use Rattle.leaving.specs.declared.Released.{Released}
@@ -40,7 +39,7 @@ use Rattle.sending.specs.Inner.Items.{itemsIn, ItemsSize}
 use Rattle.sending.specs.Inner.Next.{carriedIn}
 use Rattle.datagram_sender.specs.Inner.{SendsHeld}
 use Rattle.sending.specs.declared.Settings.{Settings}
-use Rattle.lines.specs.Hex.{hexOf}
+use Rattle.lines.specs.Hex.{hexOf, octetsIn}
 use Rattle.lines.specs.Lines.{resultLine, refusalLine}
 use Rattle.lines.specs.Promise.{Appends}
 use Rattle.demands.specs.OneTold.{One, OneLent}
@@ -54,7 +53,7 @@ pub record InStores : Type 0 where
   pub copyOut : (o : List ℕ) (slot n : ℕ) (old : List ℕ) → One (λ (new : List ℕ). new ≡ store.part o slot n ++ drop n old)
   pub add : (o : List ℕ) (slot : ℕ) (old : List ℕ) → One (λ (new : List ℕ). new ≡ store.added old o slot)
 
--- `datagrams`: the item writers, and the sizes of items
+-- `datagram_items`: the item writers, and the sizes of items
 pub record InDatagrams : Type 0 where
   pub putOctets : (octets old : List ℕ) → OneLent (Put octets old)
   pub putLength : (n : ℕ) (old : List ℕ) → OneLent (Put (lengthOctets n) old)
@@ -84,16 +83,12 @@ pub record InHeld : Type 0 where
   pub dropHeard : (t : List ℕ) (slot : ℕ) → One (λ (new : List ℕ). new ≡ heardDropped t slot)
 
 -- the receiving session's: `checking::in_ranges`, `keep`, `keep_spares` and `hold` of `keeping`, `repairing::mend`, `next_core` and
--- `give_up_core` of `leaving`, `offering::offer_core`. All that is lent after a call is one, base and counts too. `keep` and
--- `keep_spares` see neither base nor messages: what they promise holds with any with which all is within the ranges, so it is said
--- of such
+-- `give_up_core` of `leaving`, `offering::offer_core`. All that is lent after a call is one, base and counts too
 pub record InReceiving : Type 0 where
   pub inRanges : (base : ℕ) (counts : Counts) (t o g : List ℕ) → One (λ (r : Bool). r ≡ lentInRanges (lent base counts t o g))
-  pub keep : (base : ℕ) (c : Counts) (g : List ℕ) (state number p : ℕ) (b t o : List ℕ) → InRanges (lent base c t o g)
-      → p < keptNumbers → number ≡ numberAt base p
+  pub keep : (state number : ℕ) (b t o : List ℕ) → MayKeep number 0 t o
       → OneLent (λ (newO newT : List ℕ). Keeps state number b t o newT newO)
-  pub keepSpares : (base : ℕ) (c : Counts) (g : List ℕ) (number p : ℕ) (s : List ℕ) (items : List Part) (count : ℕ) (t o : List ℕ)
-      → InRanges (lent base c t o g) → p < keptNumbers → count ≤ p → number ≡ numberAt base p
+  pub keepSpares : (number : ℕ) (s : List ℕ) (items : List Part) (count : ℕ) (t o : List ℕ) → MayKeep number count t o
       → OneLent (λ (newO newT : List ℕ). KeepsSpares number s items count t o newT newO)
   pub hold : (base d : ℕ) (s : List ℕ) (n : ℕ) (items : List Part) (count : ℕ) (t g : List ℕ) → MayHold base t g d
       → OneLent (λ (newG newT : List ℕ). Holds base d s n items count t g newT newG)
@@ -112,8 +107,8 @@ pub record Alike {A : Type 0} (r q : A) (s l o p : List ℕ) : Type 0 where
   pub lengths : s ≡ l
   pub octets : o ≡ p
 
--- the sending session's: `size_in`, `in_ranges` and `keep` over the history as it is held; `items_size`, `put_items`, `write_next` and
--- `send_held`
+-- the sending session's: `size_in`, `in_ranges` and `keep` of `history`; `items_size`, `put_items` and `write_next` of `history_items`;
+-- `send_held` of `datagram_sender`
 pub record InSending : Type 0 where
   pub sizeIn : (lengths : List ℕ) (slot : ℕ) → One (λ (r : ℕ). r ≡ sender.sizeIn lengths slot)
   pub inRanges : (sent : ℕ) (lengths o : List ℕ) → One (λ (r : Bool). r ≡ sending.inRanges sent lengths o)
@@ -128,9 +123,10 @@ pub record InSending : Type 0 where
       → SendsHeld sent settings packet lengths o old newS newO new r → SendsHeld sent settings packet lengths o old otherS otherO other q
       → (Alike r q newS otherS newO otherO) × (new ≡ other)
 
--- the program's: `put_octets` of `hexadecimal`, `put_result` and `put_refusal` of `line_steps`
+-- the program's: `put_octets` and `pair_up` of `hexadecimal`, `put_result` and `put_refusal` of `line_steps`
 pub record InLines : Type 0 where
   pub putOctets : (octets old : List ℕ) (at : ℕ) → OneLent (Appends (hexOf octets) old at)
+  pub pairUp : (line old : List ℕ) → One (λ (new : List ℕ). new ≡ octetsIn line ++ drop (length line / 2) old)
   pub putResult : (kind number : ℕ) (octets old : List ℕ) (at : ℕ) → OneLent (Appends (resultLine kind number octets) old at)
   pub putRefusal : (why : Refusal) (old : List ℕ) (at : ℕ) → OneLent (Appends (refusalLine why) old at)
 

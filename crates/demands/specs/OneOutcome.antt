@@ -9,9 +9,9 @@ use Rattle.lines.specs.Claims as lines
 use Rattle.demands.specs.OneTold.{OneTold}
 use Rattle.demands.specs.OneInside.{OneInside}
 
--- all public calls of the library: `read` and `write` of `lengths`, `datagrams` and `packets`; `Session::fresh`, `offer`, `next` and
--- `give_up`; `Sender::fresh`, `in_ranges` and `send`; the program's `hex_to_octets`, `step`, `take_block` and `finish`; those that
--- only tell; and those that serve callers inside this repository
+-- all public calls of the library: `read` and `write` of `lengths`, of `datagram_reader` and `datagram_writer`, of `packet_reader` and
+-- `packet_writer`; `Session::fresh`, `offer`, `next` and `give_up`; `Sender::fresh`, `in_ranges` and `send`; the program's
+-- `hex_to_octets`, `step`, `take_block` and `finish`; those that only tell; and those that serve callers inside this repository
 pub record OneOutcome : Type 0 where
   pub lengths : lengths.OneOutcome
   pub datagrams : datagrams.OneOutcome

@@ -40,7 +40,7 @@ pub record ToldByLengths : Type 0 where
   pub lengthLimit : One (λ (r : ℕ). r ≡ lengths.lengthLimit)
 
 -- `datagrams`: `least` and `limit` of `Packet`, `limit` of `Message`, `Datagram` and `Spares`, the three limits of `Parity`; then
--- `count_inside`, `kind_size`, `length_size` and `wide`
+-- `within` and `count_inside`; `datagram_items`: `kind_size`, `length_size` and `wide`
 pub record ToldByDatagrams : Type 0 where
   pub packetLeast : One (λ (r : ℕ). r ≡ sizes.packetLeast)
   pub packetLimit : One (λ (r : ℕ). r ≡ sizes.packetLimit)
@@ -50,6 +50,7 @@ pub record ToldByDatagrams : Type 0 where
   pub packetsLimit : One (λ (r : ℕ). r ≡ sizes.coveredLimit)
   pub messagesLimit : One (λ (r : ℕ). r ≡ sizes.messagesLimit)
   pub reachLimit : One (λ (r : ℕ). r ≡ sizes.reachLimit)
+  pub within : (least limit n : ℕ) → One (λ (r : Bool). r ≡ write.within least limit n)
   pub countInside : (kind : Kind) (count : ℕ) → One (λ (r : Bool). r ≡ write.countInside kind count)
   pub kindSize : (kind : Kind) (count : ℕ) → One (λ (r : ℕ). r ≡ length (kindHead kind count))
   pub lengthSize : (n : ℕ) → One (LengthSize n)
@@ -81,18 +82,19 @@ pub record ToldByHeld : Type 0 where
   pub heardSlot : (number : ℕ) → One (λ (r : ℕ). r ≡ number % slots.slotsHeard)
   pub total : (c : Counts) → One (λ (r : ℕ). r ≡ views.sum (table.countsOf c))
 
--- `sending`: `limit`, `history` and `history_octets` of `Sender`, and `slot_of`
+-- `sending`: `limit`, `history` and `history_octets` of `Sender`; `history`: `slot_of`
 pub record ToldBySending : Type 0 where
   pub senderLimit : One (λ (r : ℕ). r ≡ views.sessionLimit)
   pub historyKept : One (λ (r : ℕ). r ≡ history.historyKept)
   pub historyOctets : One (λ (r : ℕ). r ≡ sender.historyOctets)
   pub slotOf : (number : ℕ) → One (λ (r : ℕ). r ≡ number % history.historyKept)
 
--- `lines`: `limit`, `kept_limit` and `step_limit` of `Line`; `line_steps`: `kind_octet`
+-- `lines`: `limit`, `kept_limit` and `step_limit` of `Line`; `hexadecimal`: `all_digits`; `line_steps`: `kind_octet`
 pub record ToldByLines : Type 0 where
   pub lineLimit : One (λ (r : ℕ). r ≡ hex.lineLimit)
   pub keptLimit : One (λ (r : ℕ). r ≡ feed.keptLimit)
   pub stepLimit : One (λ (r : ℕ). r ≡ steps.stepLimit)
+  pub allDigits : (line : List ℕ) → One (λ (r : Bool). r ≡ hex.allDigits line)
   pub kindOctet : (kind : State) → One (λ (r : ℕ). r ≡ lines.kindOf (table.stateOf kind))
 
 pub record OneTold : Type 0 where

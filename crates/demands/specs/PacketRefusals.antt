@@ -113,7 +113,11 @@ pub record PacketRefusals : Type 0 where
   pub spareBit : Exactly number.spareBit SpareBit
   pub notAssigned : Exactly number.notAssigned NotAssigned
   pub wrongData : Exactly number.wrongData WrongData
-  -- a refusal with any number but 1 stays whatever octets follow, up to the packet limit; so no octets more would make it read
+  -- octets more may help against 1 only: octets refused with another number are refused with any octets after them, ..
+  pub never : {ending : Ending} {s : List ℕ} (more : List ℕ) {r t : PacketRead} {n : ℕ} → PacketTold ending s r
+      → PacketTold ending (s ++ more) t → refusalIn (packetOutcome r) ≡ some n → n ≢ number.endsEarly
+      → refusalIn (packetOutcome t) ≡ none → ⊥
+  -- .. and with the same number, up to the packet limit
   pub stays : {ending : Ending} {s : List ℕ} (more : List ℕ) {r t : PacketRead} {n : ℕ} → PacketTold ending s r
       → PacketTold ending (s ++ more) t → length (s ++ more) ≤ packetLimit → refusalIn (packetOutcome r) ≡ some n
       → n ≢ number.endsEarly → refusalIn (packetOutcome t) ≡ some n

@@ -19,7 +19,7 @@ use Rattle.held.specs.Table.{lent, places, cellsOf, heldOf}
 use Rattle.held.specs.Laid.{InRanges}
 use Rattle.held.specs.declared.Counts.{Counts}
 use Rattle.keeping.specs.Steps.{itemAt}
-use Rattle.keeping.specs.Promise.{Keeps, CarriesSpares, KeepsSpares}
+use Rattle.keeping.specs.Promise.{MayKeep, Keeps, CarriesSpares, KeepsSpares}
 use Rattle.keeping.proofs.Keeping.{spare-number}
 
 -- ---- one spare more to keep
@@ -82,6 +82,25 @@ module _ {number : ℕ} {s : List ℕ} {items : List Part} {count : ℕ} {t o ne
 
   pub sparing-part : CarriesSpares s items count → j < count → PartInside packetLeast packetLimit s (itemAt items j)
   sparing-part carries more = carries .each j more
+
+  pub sparing-may : {before : ℕ} → MayKeep number count t o → j < count → before < numbers → (before + 1) % numbers ≡ at
+      → MayKeep before 0 new store
+  sparing-may {before} may more small e-before =
+      let n =
+      l .now (may .base) (may .counts) (may .messages) (may .place) (may .within) (may .there) (may .low) (may .stands) in
+      let at-is = n .number in
+      let low = may .low in
+      let there = may .there in
+      record {
+        base = may .base;
+        counts = may .counts;
+        messages = may .messages;
+        place = may .place - (j + 1);
+        within = n .within;
+        there = omega arith;
+        low = omega arith;
+        stands = omega arith;
+      }
 
   pub sparing-turn : {before : ℕ} {newT newO : List ℕ} → CarriesSpares s items count → j < count → before < numbers
       → (before + 1) % numbers ≡ at → Keeps 2 before (octetsOf s (itemAt items j)) new store newT newO → length newT ≡ length new

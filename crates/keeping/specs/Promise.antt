@@ -29,6 +29,18 @@ pub record CellsNow (before after : Lent) (wanted : List Cell) : Type 0 where
   pub held : heldOf (after .base) (after .table) (after .messages) ≡ heldOf (before .base) (before .table) (before .messages)
   pub within : InRanges after
 
+-- the number stands at a place of the view with so many places before it: there are a base, counts and messages with which all that is
+-- lent is within the ranges, and it is so
+pub record MayKeep (number count : ℕ) (t o : List ℕ) : Type 0 where
+  pub base : ℕ
+  pub counts : Counts
+  pub messages : List ℕ
+  pub place : ℕ
+  pub within : InRanges (lent base counts t o messages)
+  pub there : place < keptNumbers
+  pub low : count ≤ place
+  pub stands : number ≡ numberAt base place
+
 -- the octets b kept at a number, if that is still unknown: with every base, counts and messages with which all is within the
 -- ranges, where the number stands at a place p of the view
 pub record Keeps (state number : ℕ) (b t o newT newO : List ℕ) : Type 0 where

@@ -18,7 +18,7 @@ ghost use Rattle.views.specs.Ranges.{isFill};
 ghost use Rattle.held.specs.Slots.{slotsHeard, packetOctets, messageOctets};
 ghost use Rattle.held.specs.Table.{places, stateNumbered};
 ghost use Rattle.keeping.specs.Steps.{PartPut, Fit, ItemsLaid};
-ghost use Rattle.keeping.specs.Promise.{CarriesSpares, Keeps, KeepsSpares, Carries, MayHold, Holds};
+ghost use Rattle.keeping.specs.Promise.{MayKeep, CarriesSpares, Keeps, KeepsSpares, Carries, MayHold, Holds};
 
 // The octets of a part of the datagram s, laid at the front of a slot: hands back how many.
 fn put_part(o: &mut [u8], slot: usize, s: &[u8], part: Part) -> u16
@@ -37,6 +37,7 @@ fn put_part(o: &mut [u8], slot: usize, s: &[u8], part: Part) -> u16
 pub fn keep(t: &mut [u16], o: &mut [u8], number: u16, state: u16, s: &[u8], part: Part)
     requires { ⌜ length (now t) ≡ places ⌝ }
     requires { ⌜ length (now o) ≡ packetOctets ⌝ }
+    requires { ⌜ MayKeep number 0 (now t) (now o) ⌝ }
     requires { ⌜ isFill (stateNumbered state) ≡ true ⌝ }
     requires { ⌜ PartInside packetLeast packetLimit (now s) part ⌝ }
     ensures { λ _. ⌜ Keeps state number (octetsOf (now (s .entry)) part) (now (t .entry)) (now (o .entry)) (now (t .exit)) (now (o .exit)) ⌝ }
@@ -60,6 +61,7 @@ pub fn keep_spares(
 )
     requires { ⌜ length (now t) ≡ places ⌝ }
     requires { ⌜ length (now o) ≡ packetOctets ⌝ }
+    requires { ⌜ MayKeep number count (now t) (now o) ⌝ }
     requires { ⌜ CarriesSpares (now s) items count ⌝ }
     ensures { λ _. ⌜ KeepsSpares number (now (s .entry)) items count (now (t .entry)) (now (o .entry)) (now (t .exit)) (now (o .exit)) ⌝ }
 {

@@ -1,4 +1,4 @@
--- What each call of this crate owes, a record for each, which its contract cites. Definitions only.
+-- What the calls owe that do one line of the program, a record for each, which their contracts cite. Definitions only.
 use Prim.Native.Nat.{ℕ, _+_, _*_, _≤_}
 use mathlib.Core.Path.{_≡_}
 use mathlib.Core.Bool.{Bool, true, false}

@@ -1,4 +1,4 @@
--- A datagram accepted, on plain values: what keeping, holding and mending owe, one after the other, is document 01's `accept`.
+-- A datagram accepted, on plain values: what `keep`, `keep_spares`, `hold` and `mend` owe, one after the other, is document 01's `accept`.
 -- Each step leaves the rest of the view as it was, so that the view after is put together from what each says of its own part.
 -- Assumes nothing.
 use Prim.Native.Nat.{ℕ, _+_, _≤_, _<_}
@@ -26,7 +26,7 @@ use Rattle.held.specs.Table.{Lent, lent, countsOf, stateNumbered, cellsOf, held
 use Rattle.held.specs.Laid.{InRanges}
 use Rattle.held.specs.declared.Counts.{Counts}
 use Rattle.held.proofs.Seen.{length-cells}
-use Rattle.keeping.specs.Promise.{CellsNow, Keeps, CarriesSpares, KeepsSpares, Carries, Unmarked, MayHold, HeldNow, Holds, heldOfParts}
+use Rattle.keeping.specs.Promise.{CellsNow, MayKeep, Keeps, CarriesSpares, KeepsSpares, Carries, Unmarked, MayHold, HeldNow, Holds, heldOfParts}
 use Rattle.repairing.specs.Promise.{Mends}
 use Rattle.offering.specs.Steps.{sparesOf, messagesOf, coveredOf, carriedOf, MayBeAccepted, Accepts}
 use Rattle.offering.proofs.Known.{keep-here, spares-stay}
@@ -71,6 +71,20 @@ pub carries : {l : Lent} {s : List ℕ} {number d : ℕ} {packet : Part} {k : Ki
     → MayBeAccepted l s number d packet k count items → {n m : ℕ} → n ≡ coveredOf k → m ≡ messagesOf k count → Carries s d n items m
 carries {k = k} may e-n e-m = rw (e-n, e-m) (messages-carried k (may .near) (may .inside) (may .there))
 
+pub may-keep : {base : ℕ} {c : Counts} {t o g s : List ℕ} {number d : ℕ} {packet : Part} {k : Kind} {count : ℕ} {items : List Part}
+    → InRanges (lent base c t o g) → MayBeAccepted (lent base c t o g) s number d packet k count items → MayKeep number 0 t o
+may-keep {base} {c} {g = g} {d = d} w may =
+    record {
+      base = base;
+      counts = c;
+      messages = g;
+      place = keptBefore + d;
+      within = w;
+      there = omega (arith, may .near);
+      low = omega arith;
+      stands = may .place;
+    }
+
 -- ---- what is kept and held of both kinds, as document 01 has it
 kept-extra : (s : List ℕ) (number : ℕ) (packet : Part) (k : Kind) (count : ℕ) (items : List Part) (p : ℕ) (cells : List Cell)
     → offers.keepSpares p (map (octetsOf s) (take (sparesOf k count) items)) cells
@@ -98,6 +112,20 @@ module _ {base : ℕ} {c : Counts} {t o g s : List ℕ} {number d : ℕ} {packet
 
   pub within-first : InRanges (lent base c t₁ o₁ g)
   within-first = packet-now .within
+
+  pub may-spare : {spares : ℕ} → spares ≡ sparesOf k count → MayKeep number spares t₁ o₁
+  may-spare e =
+      let few = spares-carried k (may .inside) (may .there) .few in
+      record {
+        base = base;
+        counts = c;
+        messages = g;
+        place = keptBefore + d;
+        within = within-first;
+        there = in-view;
+        low = omega arith;
+        stands = may .place;
+      }
 
   known-first : Known (cellsOf base t₁ o₁) (keptBefore + d)
   known-first =

@@ -1,5 +1,4 @@
--- One law for each answer of `read`, in the words of the code: what its items' readers answered gives the promise. Assumes
--- nothing.
+-- Where the items of a packet end: what reads lies inside the octets, and the count is within its limit. Assumes nothing.
 use Prim.Native.Nat.{ℕ, zero, suc, _+_, _-_, _≤_, _<_}
 use mathlib.Core.Path.{_≡_, refl, sym, ap, ap₂, _∙_}
 use mathlib.Core.Bool.{Bool, true, false}

@@ -1,4 +1,5 @@
--- What each public call of this crate owes, a record for each, which its contract cites. Definitions only.
+-- What the packet reader owes, a record which its contract cites, and what each case of its answer is in document 01's number and
+-- values. What the packet writer owes is the length layer's `Puts`, of `packetToWrite`. Definitions only.
 use Prim.Native.Nat.{ℕ, _-_}
 use mathlib.Core.Path.{_≡_}
 use mathlib.Core.List.{List, [], _++_}
@@ -29,7 +30,7 @@ abbrev pub packetRead : Answer PacketAnswer → PacketRead
 packetRead (done p) = record { reading = reading.Packet (p .kind) (p .value) (length (p .fields)); fields = padded (p .fields) }
 packetRead (refused r) = record { reading = reading.Refused r; fields = padded [] }
 
--- what `read` owes of the octets s: its outcome, and no other answer for it
+-- what `packet_reader::read` owes of the octets s: its outcome, and no other answer for it
 pub record PacketTold (ending : Ending) (s : List ℕ) (r : PacketRead) : Type 0 where
   pub answer : packetOutcome r ≡ readPacket ending s
   pub whole : r ≡ packetRead (readPacket ending s)

@@ -47,7 +47,7 @@ pub enum Reading {
     Refused(Refusal),
 }
 
-// The answer of `read`: the first `count` places of `fields` are the packet's; all others are zero.
+// The answer of `packet_reader::read`: the first `count` places of `fields` are the packet's; all others are zero.
 pub struct PacketRead {
     pub reading: Reading,
     pub fields: [Field; Field::LIMIT],

@@ -1,5 +1,5 @@
--- What taking in a block of the program's input owes, and the whole run: what was handed to `write` so far, part after part, is the
--- program's text for the input so far. Definitions only.
+-- What taking in a block of the program's input owes, and the whole run: as many octets were handed to `write` so far as the
+-- program's text for the input so far has. Definitions only.
 use Prim.Native.Nat.{ℕ, _%_, _^_}
 use mathlib.Core.Path.{_≡_}
 use mathlib.Core.Bool.{Bool, true}

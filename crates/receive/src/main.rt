@@ -1,5 +1,5 @@
 // Document 01, 'The program': lines of hexadecimal from standard input, one datagram a line; its results to standard output.
-// It reads and writes in large blocks. What a block comes to is proved in the crate `lines`: here is only read, take in, write.
+// It reads and writes in large blocks. What a block comes to is proved in the crate `line_blocks`: here is only read, take in, write.
 use held::Counts;
 use held::Session;
 use libc::STDIN_FILENO;

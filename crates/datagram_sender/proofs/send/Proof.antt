@@ -1,4 +1,4 @@
--- `send` meets its contract. Assumes nothing.
+-- `datagram_sender::send` meets its contract. Assumes nothing.
 use native.Mathlib.Omega.{arith}
 use borrow.Author.Needs.{needs}
 use Rattle.sending.specs.Inner.Held.{Arrays}

@@ -1,3 +1,4 @@
+-- `lengths::read` meets its contract. Assumes nothing.
 use borrow.Author.Needs.{needs}
 use Rattle.lengths.proofs.Steps.{readings}
 use Rattle.lengths.proofs.read.Statement.{statement}

@@ -1,3 +1,4 @@
+-- `lengths::write` meets its contract. Assumes nothing.
 use borrow.Author.Needs.{needs}
 use Rattle.lengths.proofs.Steps.{writings}
 use Rattle.lengths.proofs.write.Statement.{statement}

@@ -1,6 +1,6 @@
 -- `offering::accept` meets its contract: packet, spares, mark and messages, repair, one after the other. Assumes nothing.
 use borrow.Author.Needs.{needs}
-use Rattle.offering.proofs.Accepting.{received-fills, carries-spares, carries, within-first, may-hold, within-third, accepted}
+use Rattle.offering.proofs.Accepting.{received-fills, carries-spares, carries, may-keep, within-first, may-spare, may-hold, within-third, accepted}
 use Rattle.offering.proofs.accept.Statement.{statement}
 use Rattle.offering.proofs.accept.Tie as tie
 
@@ -8,7 +8,7 @@ keep-requires : tie.Need-keep-requires
 keep-requires c κs =
     let start = c .before .before .before in
     let laid = start .pre .0 .laid in
-    (laid .long, (laid .octets, (received-fills, start .pre .1 .inside .newest)))
+    (laid .long, (laid .octets, (may-keep (start .pre .0) (start .pre .1), (received-fills, start .pre .1 .inside .newest))))
 
 spares-of-requires : tie.Need-spares-of-requires
 spares-of-requires c κs = search needs
@@ -19,8 +19,10 @@ keep-spares-requires c κs =
     let keep = spares .before in
     let start = keep .before .before .before .before in
     let may = start .pre .1 in
-    let laid = within-first (start .pre .0) may (keep .keep .ensures) .laid in
-    (laid .long, (laid .octets, carries-spares may (spares .spares-of .ensures)))
+    let told = spares .spares-of .ensures in
+    let first = keep .keep .ensures in
+    let laid = within-first (start .pre .0) may first .laid in
+    (laid .long, (laid .octets, (may-spare (start .pre .0) may first told, carries-spares may told)))
 
 covered-of-requires : tie.Need-covered-of-requires
 covered-of-requires c κs = search needs

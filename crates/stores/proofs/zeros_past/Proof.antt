@@ -1,3 +1,4 @@
+-- `stores::zeros_past` meets its contract. Assumes nothing.
 use Prim.Native.Nat.{_+_, _-_, _*_}
 use lib.ListN.{length}
 use native.Mathlib.Omega.{arith}

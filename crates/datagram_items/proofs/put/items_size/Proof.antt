@@ -1,4 +1,4 @@
--- `put::items_size` meets its contract. Assumes nothing.
+-- `datagram_items::items_size` meets its contract. Assumes nothing.
 use Prim.Native.Nat.{_-_}
 use lib.ListN.{length}
 use native.Mathlib.Omega.{arith}

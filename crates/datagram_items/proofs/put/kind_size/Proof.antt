@@ -1,4 +1,4 @@
--- `put::kind_size` meets its contract. Assumes nothing.
+-- `datagram_items::kind_size` meets its contract. Assumes nothing.
 use borrow.Author.Needs.{needs}
 use Rattle.datagram_items.proofs.SizeSteps.{sizes}
 use Rattle.datagram_items.proofs.put.kind_size.Statement.{statement}

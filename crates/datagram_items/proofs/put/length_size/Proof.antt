@@ -1,4 +1,4 @@
--- `put::length_size` meets its contract. Assumes nothing.
+-- `datagram_items::length_size` meets its contract. Assumes nothing.
 use Rattle.datagram_items.proofs.SizeSteps.{sizes}
 use Rattle.datagram_items.proofs.put.length_size.Statement.{statement}
 use Rattle.datagram_items.proofs.put.length_size.Tie as tie

@@ -1,4 +1,4 @@
--- `put::put_kind` meets its contract. Assumes nothing.
+-- `datagram_items::put_kind` meets its contract. Assumes nothing.
 use borrow.Author.Needs.{needs}
 use Rattle.datagram_items.proofs.PutSteps.{puts, spares-asked, parity-asked}
 use Rattle.datagram_items.proofs.put.put_kind.Statement.{statement}

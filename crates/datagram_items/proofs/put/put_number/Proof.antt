@@ -1,4 +1,4 @@
--- `put::put_number` meets its contract. Assumes nothing.
+-- `datagram_items::put_number` meets its contract. Assumes nothing.
 use native.Mathlib.Omega.{arith}
 use borrow.Author.Needs.{needs}
 use Rattle.datagram_items.proofs.PutSteps.{puts}

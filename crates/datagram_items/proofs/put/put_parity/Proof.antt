@@ -1,4 +1,4 @@
--- `put::put_parity` meets its contract. Assumes nothing.
+-- `datagram_items::put_parity` meets its contract. Assumes nothing.
 use borrow.Author.Needs.{needs}
 use Rattle.datagram_items.proofs.PutSteps.{puts}
 use Rattle.datagram_items.proofs.put.put_parity.Statement.{statement}

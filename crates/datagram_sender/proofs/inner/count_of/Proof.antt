@@ -1,4 +1,4 @@
--- `inner::count_of` meets its contract. Assumes nothing.
+-- `datagram_sender::count_of` meets its contract. Assumes nothing.
 use borrow.Author.Needs.{needs}
 use Rattle.datagram_sender.proofs.SendSteps.{settingses}
 use Rattle.datagram_sender.proofs.inner.count_of.Statement.{statement}

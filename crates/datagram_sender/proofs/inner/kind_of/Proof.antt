@@ -1,4 +1,4 @@
--- `inner::kind_of` meets its contract. Assumes nothing.
+-- `datagram_sender::kind_of` meets its contract. Assumes nothing.
 use borrow.Author.Needs.{needs}
 use Rattle.datagram_sender.proofs.SendSteps.{settingses}
 use Rattle.datagram_sender.proofs.inner.kind_of.Statement.{statement}

@@ -1,4 +1,4 @@
--- `inner::packet_inside` meets its contract. Assumes nothing.
+-- `datagram_sender::packet_inside` meets its contract. Assumes nothing.
 use Rattle.datagram_sender.proofs.SendSteps.{packets}
 use Rattle.datagram_sender.proofs.inner.packet_inside.Statement.{statement}
 use Rattle.datagram_sender.proofs.inner.packet_inside.Tie as tie

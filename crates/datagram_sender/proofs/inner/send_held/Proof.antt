@@ -1,4 +1,4 @@
--- `inner::send_held` meets its contract. Assumes nothing.
+-- `datagram_sender::send_held` meets its contract. Assumes nothing.
 use borrow.Author.Needs.{needs}
 use Rattle.datagram_sender.proofs.SendSteps.{packet-kept, keepings}
 use Rattle.datagram_sender.proofs.inner.send_held.Statement.{statement}

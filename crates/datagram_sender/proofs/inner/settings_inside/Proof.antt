@@ -1,4 +1,4 @@
--- `inner::settings_inside` meets its contract. Assumes nothing.
+-- `datagram_sender::settings_inside` meets its contract. Assumes nothing.
 use borrow.Author.Needs.{needs}
 use Rattle.datagram_sender.proofs.SendSteps.{settingses}
 use Rattle.datagram_sender.proofs.inner.settings_inside.Statement.{statement}

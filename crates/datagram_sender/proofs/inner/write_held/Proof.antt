@@ -1,4 +1,4 @@
--- `inner::write_held` meets its contract. Assumes nothing.
+-- `datagram_sender::write_held` meets its contract. Assumes nothing.
 use borrow.Author.Needs.{needs}
 use Rattle.datagram_sender.proofs.SendSteps.{held-asked, helds}
 use Rattle.datagram_sender.proofs.inner.write_held.Statement.{statement}

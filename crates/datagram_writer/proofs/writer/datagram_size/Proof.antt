@@ -1,4 +1,4 @@
--- `writer::datagram_size` meets its contract. Assumes nothing.
+-- `datagram_writer::datagram_size` meets its contract. Assumes nothing.
 use lib.ListN.{length}
 use native.Mathlib.Omega.{arith}
 use borrow.Author.Needs.{needs}

@@ -1,4 +1,4 @@
--- `writer::item_inside` meets its contract. Assumes nothing.
+-- `datagram_writer::item_inside` meets its contract. Assumes nothing.
 use borrow.Author.Needs.{needs}
 use Rattle.datagram_writer.proofs.WriteTests.{tests}
 use Rattle.datagram_writer.proofs.writer.item_inside.Statement.{statement}

@@ -1,4 +1,4 @@
--- `writer::items_inside` meets its contract. Assumes nothing.
+-- `datagram_writer::items_inside` meets its contract. Assumes nothing.
 use Prim.Native.Nat.{_-_}
 use lib.ListN.{length}
 use borrow.Author.Needs.{needs}

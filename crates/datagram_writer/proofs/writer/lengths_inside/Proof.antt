@@ -1,4 +1,4 @@
--- `writer::lengths_inside` meets its contract. Assumes nothing.
+-- `datagram_writer::lengths_inside` meets its contract. Assumes nothing.
 use borrow.Author.Needs.{needs}
 use Rattle.datagram_writer.proofs.WriteTests.{tests}
 use Rattle.datagram_writer.proofs.writer.lengths_inside.Statement.{statement}

@@ -1,4 +1,4 @@
--- `writer::put_datagram` meets its contract. Assumes nothing.
+-- `datagram_writer::put_datagram` meets its contract. Assumes nothing.
 use borrow.Author.Needs.{needs}
 use Rattle.datagram_writer.proofs.WriteSteps.{writes, kind-asked, items-asked}
 use Rattle.datagram_writer.proofs.writer.put_datagram.Statement.{statement}

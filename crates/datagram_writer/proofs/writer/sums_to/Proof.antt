@@ -1,4 +1,4 @@
--- `writer::sums_to` meets its contract. Assumes nothing.
+-- `datagram_writer::sums_to` meets its contract. Assumes nothing.
 use Prim.Native.Nat.{_-_}
 use lib.ListN.{length}
 use borrow.Author.Needs.{needs}

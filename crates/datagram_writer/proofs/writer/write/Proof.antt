@@ -1,4 +1,4 @@
--- `writer::write` meets its contract. Assumes nothing.
+-- `datagram_writer::write` meets its contract. Assumes nothing.
 use borrow.Author.Needs.{needs}
 use Rattle.datagram_writer.proofs.WriteSteps.{writes}
 use Rattle.datagram_writer.proofs.writer.write.Statement.{statement}

@@ -1,4 +1,4 @@
--- `writer::write_allowed` meets its contract. Assumes nothing.
+-- `datagram_writer::write_allowed` meets its contract. Assumes nothing.
 use borrow.Author.Needs.{needs}
 use Rattle.datagram_writer.proofs.WriteSteps.{writes}
 use Rattle.datagram_writer.proofs.writer.write_allowed.Statement.{statement}

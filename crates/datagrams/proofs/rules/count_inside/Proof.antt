@@ -1,4 +1,4 @@
--- `rules::count_inside` meets its contract. Assumes nothing.
+-- `datagrams::count_inside` meets its contract. Assumes nothing.
 use borrow.Author.Needs.{needs}
 use Rattle.datagrams.proofs.SizeTests.{tests}
 use Rattle.datagrams.proofs.rules.count_inside.Statement.{statement}

@@ -1,4 +1,4 @@
--- `rules::within` meets its contract. Assumes nothing.
+-- `datagrams::within` meets its contract. Assumes nothing.
 use Rattle.datagrams.proofs.SizeTests.{tests}
 use Rattle.datagrams.proofs.rules.within.Statement.{statement}
 use Rattle.datagrams.proofs.rules.within.Tie as tie

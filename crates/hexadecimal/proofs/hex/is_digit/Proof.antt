@@ -1,4 +1,4 @@
--- `is_digit` meets its contract: the test of a character, computed for each octet. Assumes nothing.
+-- `hexadecimal::is_digit` meets its contract: the test of a character, computed for each octet. Assumes nothing.
 use Rattle.hexadecimal.proofs.Digits.{digit-told}
 use borrow.Author.Needs.{needs}
 use Rattle.hexadecimal.proofs.hex.is_digit.Statement.{statement}

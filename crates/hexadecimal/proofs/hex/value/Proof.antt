@@ -1,4 +1,4 @@
--- `value` meets its contract: the value of a digit, computed for each octet. Assumes nothing.
+-- `hexadecimal::value` meets its contract: the value of a digit, computed for each octet. Assumes nothing.
 use Rattle.hexadecimal.proofs.Digits.{digit-value}
 use borrow.Author.Needs.{needs}
 use Rattle.hexadecimal.proofs.hex.value.Statement.{statement}

@@ -1,4 +1,4 @@
--- `slots::in_ranges` meets its contract. Assumes nothing.
+-- `history::in_ranges` meets its contract. Assumes nothing.
 use Prim.Native.Nat.{_-_}
 use mathlib.Core.Path.{_≡_}
 use borrow.Author.Needs.{needs}

@@ -1,4 +1,4 @@
--- `slots::keep` meets its contract. Assumes nothing.
+-- `history::keep` meets its contract. Assumes nothing.
 use borrow.Author.Needs.{needs}
 use Rattle.history.proofs.KeepSteps.{keeping}
 use Rattle.history.proofs.slots.keep.Statement.{statement}

@@ -1,4 +1,4 @@
--- `slots::place_right` meets its contract. Assumes nothing.
+-- `history::place_right` meets its contract. Assumes nothing.
 use borrow.Author.Needs.{needs}
 use Rattle.history.proofs.RangeSteps.{placings, slot-there, size-told}
 use Rattle.history.proofs.slots.place_right.Statement.{statement}

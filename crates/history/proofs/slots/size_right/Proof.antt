@@ -1,4 +1,4 @@
--- `slots::size_right` meets its contract. Assumes nothing.
+-- `history::size_right` meets its contract. Assumes nothing.
 use Rattle.history.proofs.RangeSteps.{sizings}
 use Rattle.history.proofs.slots.size_right.Statement.{statement}
 use Rattle.history.proofs.slots.size_right.Tie as tie

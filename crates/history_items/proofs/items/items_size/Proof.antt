@@ -1,4 +1,4 @@
--- `items::items_size` meets its contract. Assumes nothing.
+-- `history_items::items_size` meets its contract. Assumes nothing.
 use Prim.Native.Nat.{_-_}
 use native.Mathlib.Omega.{arith}
 use borrow.Author.Needs.{needs}

@@ -1,4 +1,4 @@
--- `items::message_sum` meets its contract. Assumes nothing.
+-- `history_items::message_sum` meets its contract. Assumes nothing.
 use Prim.Native.Nat.{_-_}
 use borrow.Author.Needs.{needs}
 use Rattle.history_items.proofs.MessageSteps.{Summing, summings}

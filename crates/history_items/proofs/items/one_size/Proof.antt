@@ -1,4 +1,4 @@
--- `items::one_size` meets its contract. Assumes nothing.
+-- `history_items::one_size` meets its contract. Assumes nothing.
 use borrow.Author.Needs.{needs}
 use Rattle.history_items.proofs.ItemSteps.{ones}
 use Rattle.history_items.proofs.items.one_size.Statement.{statement}

@@ -1,4 +1,4 @@
--- `items::put_items` meets its contract. Assumes nothing.
+-- `history_items::put_items` meets its contract. Assumes nothing.
 use Prim.Native.Nat.{_-_}
 use borrow.Author.Needs.{needs}
 use Rattle.history_items.proofs.ItemsSteps.{Putting, puttings}

@@ -1,4 +1,4 @@
--- `items::put_message` meets its contract. Assumes nothing.
+-- `history_items::put_message` meets its contract. Assumes nothing.
 use borrow.Author.Needs.{needs}
 use Rattle.history_items.proofs.ItemSteps.{onePuts, message-asked}
 use Rattle.history_items.proofs.items.put_message.Statement.{statement}

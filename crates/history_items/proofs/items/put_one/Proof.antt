@@ -1,4 +1,4 @@
--- `items::put_one` meets its contract. Assumes nothing.
+-- `history_items::put_one` meets its contract. Assumes nothing.
 use borrow.Author.Needs.{needs}
 use Rattle.history_items.proofs.ItemSteps.{ones}
 use Rattle.history_items.proofs.items.put_one.Statement.{statement}

@@ -1,4 +1,4 @@
--- `items::put_spare` meets its contract. Assumes nothing.
+-- `history_items::put_spare` meets its contract. Assumes nothing.
 use borrow.Author.Needs.{needs}
 use Rattle.history_items.proofs.ItemSteps.{onePuts, spare-asked}
 use Rattle.history_items.proofs.items.put_spare.Statement.{statement}

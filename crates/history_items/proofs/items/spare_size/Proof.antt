@@ -1,4 +1,4 @@
--- `items::spare_size` meets its contract. Assumes nothing.
+-- `history_items::spare_size` meets its contract. Assumes nothing.
 use borrow.Author.Needs.{needs}
 use Rattle.history_items.proofs.ItemSteps.{onePuts}
 use Rattle.history_items.proofs.items.spare_size.Statement.{statement}

@@ -1,4 +1,4 @@
--- `next::next_size` meets its contract. Assumes nothing.
+-- `history_items::next_size` meets its contract. Assumes nothing.
 use native.Mathlib.Omega.{arith}
 use borrow.Author.Needs.{needs}
 use Rattle.sending.proofs.Kept.{packet-fits}

@@ -1,4 +1,4 @@
--- `next::put_next` meets its contract. Assumes nothing.
+-- `history_items::put_next` meets its contract. Assumes nothing.
 use borrow.Author.Needs.{needs}
 use Rattle.history_items.proofs.NextSteps.{nexts, head-asked, kind-asked, items-asked}
 use Rattle.history_items.proofs.next.put_next.Statement.{statement}

@@ -1,4 +1,4 @@
--- `next::write_next` meets its contract. Assumes nothing.
+-- `history_items::write_next` meets its contract. Assumes nothing.
 use borrow.Author.Needs.{needs}
 use Rattle.history_items.proofs.NextSteps.{nexts}
 use Rattle.history_items.proofs.next.write_next.Statement.{statement}

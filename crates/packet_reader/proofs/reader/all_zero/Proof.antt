@@ -1,4 +1,4 @@
--- `packets::reader::all_zero` meets its contract. The loop's invariant: what is left decides. The measure is how much
+-- `packet_reader::all_zero` meets its contract. The loop's invariant: what is left decides. The measure is how much
 -- is left. Assumes nothing.
 use Prim.Native.Nat.{_-_}
 use lib.Dec.{eqb}

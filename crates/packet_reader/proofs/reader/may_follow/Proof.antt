@@ -1,4 +1,4 @@
--- `packets::reader::may_follow` meets its contract. Each ending's answer is its case of the definition. Assumes nothing.
+-- `packet_reader::may_follow` meets its contract. Each ending's answer is its case of the definition. Assumes nothing.
 use borrow.Author.Needs.{needs}
 use Rattle.packet_reader.proofs.reader.may_follow.Statement.{statement}
 use Rattle.packet_reader.proofs.reader.may_follow.Tie as tie

@@ -1,4 +1,4 @@
--- `packets::reader::no_fields` meets its contract. It is the definition's list. Assumes nothing.
+-- `packet_reader::no_fields` meets its contract. It is the definition's list. Assumes nothing.
 use mathlib.Core.Path.{refl}
 use Rattle.packets.specs.Promise.{padded}
 use Rattle.packet_reader.proofs.reader.no_fields.Statement.{statement}

@@ -1,4 +1,4 @@
--- `packets::reader::read` meets its contract. Each answer is a law of `ReadPacket`: what the items' readers ensure
+-- `packet_reader::read` meets its contract. Each answer is a law of `ReadPacket`: what the items' readers ensure
 -- gives the promise. Assumes nothing.
 use borrow.Author.Needs.{needs}
 use Rattle.packet_reader.proofs.ReadPacket.{packets}

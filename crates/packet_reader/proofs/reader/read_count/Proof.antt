@@ -1,4 +1,4 @@
--- `packets::reader::read_count` meets its contract. Each answer is a law of `ReadItems`; an answer of the length reader
+-- `packet_reader::read_count` meets its contract. Each answer is a law of `ReadItems`; an answer of the length reader
 -- that is neither of its cases never comes. Assumes nothing.
 use borrow.Author.Needs.{needs}
 use Rattle.packet_reader.proofs.ReadItems.{counts}

@@ -1,4 +1,4 @@
--- `packets::reader::read_field` meets its contract. Each answer is a law of `ReadItems`. The sums fit because a field
+-- `packet_reader::read_field` meets its contract. Each answer is a law of `ReadItems`. The sums fit because a field
 -- that reads ends inside the octets. Assumes nothing.
 use native.Mathlib.Omega.{arith}
 use borrow.Author.Needs.{needs}

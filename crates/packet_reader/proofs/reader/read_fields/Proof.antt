@@ -1,4 +1,4 @@
--- `packets::reader::read_fields` meets its contract. The loop's invariant: the fields that are left, read from the
+-- `packet_reader::read_fields` meets its contract. The loop's invariant: the fields that are left, read from the
 -- place that was reached, come after those that were read. The measure is how many are left. Assumes nothing.
 use Prim.Native.Nat.{_-_}
 use borrow.Author.Needs.{needs}

@@ -1,4 +1,4 @@
--- `packets::reader::refused` meets its contract. It is the definition's answer for a refusal. Assumes nothing.
+-- `packet_reader::refused` meets its contract. It is the definition's answer for a refusal. Assumes nothing.
 use borrow.Author.Needs.{needs}
 use Rattle.packet_reader.proofs.reader.refused.Statement.{statement}
 use Rattle.packet_reader.proofs.reader.refused.Tie as tie

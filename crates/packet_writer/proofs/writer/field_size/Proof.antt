@@ -1,4 +1,4 @@
--- `packets::writer::field_size` meets its contract. Each answer is a case of the definition. Assumes nothing.
+-- `packet_writer::field_size` meets its contract. Each answer is a case of the definition. Assumes nothing.
 use borrow.Author.Needs.{needs}
 use Rattle.packets.proofs.Every.{sums}
 use Rattle.packet_writer.proofs.writer.field_size.Statement.{statement}

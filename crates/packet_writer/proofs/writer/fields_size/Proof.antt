@@ -1,4 +1,4 @@
--- `packets::writer::fields_size` meets its contract. The loop's invariant: the sum so far and the sum of what is left
+-- `packet_writer::fields_size` meets its contract. The loop's invariant: the sum so far and the sum of what is left
 -- are the whole sum. The measure is how many are left. Assumes nothing.
 use Prim.Native.Nat.{_-_}
 use lib.ListN.{length}

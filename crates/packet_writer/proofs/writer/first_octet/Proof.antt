@@ -1,4 +1,4 @@
--- `packets::writer::first_octet` meets its contract. The bits at their weights sum to the octet. Assumes nothing.
+-- `packet_writer::first_octet` meets its contract. The bits at their weights sum to the octet. Assumes nothing.
 use native.Mathlib.Omega.{arith}
 use borrow.Author.Needs.{needs}
 use Rattle.packets.specs.Packet.{firstOctet}

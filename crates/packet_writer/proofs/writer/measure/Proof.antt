@@ -1,4 +1,4 @@
--- `packets::writer::measure` meets its contract. Each answer is a law of `Measure`: the tests that led there are those
+-- `packet_writer::measure` meets its contract. Each answer is a law of `Measure`: the tests that led there are those
 -- of `packetToWrite`, in its order. Assumes nothing.
 use borrow.Author.Needs.{needs}
 use Rattle.packet_writer.proofs.Measure.{measures}

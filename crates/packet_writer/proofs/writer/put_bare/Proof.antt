@@ -1,4 +1,4 @@
--- `packets::writer::put_bare` meets its contract. The one octet is the field's. Assumes nothing.
+-- `packet_writer::put_bare` meets its contract. The one octet is the field's. Assumes nothing.
 use borrow.Author.Needs.{needs}
 use Rattle.packet_writer.proofs.Putting.{puts}
 use Rattle.packet_writer.proofs.writer.put_bare.Statement.{statement}

@@ -1,4 +1,4 @@
--- `packets::writer::put_counted` meets its contract. The count and then the fields are what is to be put; the length
+-- `packet_writer::put_counted` meets its contract. The count and then the fields are what is to be put; the length
 -- writer never refuses here. Assumes nothing.
 use borrow.Author.Needs.{needs}
 use Rattle.packet_writer.proofs.WritePacket.{counteds}

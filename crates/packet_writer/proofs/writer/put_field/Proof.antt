@@ -1,4 +1,4 @@
--- `packets::writer::put_field` meets its contract. The answers are those of the two calls, and their room follows from
+-- `packet_writer::put_field` meets its contract. The answers are those of the two calls, and their room follows from
 -- the field's. Assumes nothing.
 use borrow.Author.Needs.{needs}
 use Rattle.packet_writer.proofs.Putting.{puts}

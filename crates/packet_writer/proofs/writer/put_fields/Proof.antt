@@ -1,4 +1,4 @@
--- `packets::writer::put_fields` meets its contract. The loop's invariant: what is left to put, put after what is there
+-- `packet_writer::put_fields` meets its contract. The loop's invariant: what is left to put, put after what is there
 -- now, gives the whole. The measure is how many are left. The sums fit because the fields end inside data and buffer.
 -- Assumes nothing.
 use Prim.Native.Nat.{_-_}

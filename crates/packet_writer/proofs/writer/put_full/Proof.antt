@@ -1,4 +1,4 @@
--- `packets::writer::put_full` meets its contract. The three octets and then the data are the field's. Assumes nothing.
+-- `packet_writer::put_full` meets its contract. The three octets and then the data are the field's. Assumes nothing.
 use mathlib.Core.Path.{_∙_}
 use lib.ListN.{length-set, length-take, length-drop}
 use native.Mathlib.Omega.{arith}

@@ -1,4 +1,4 @@
--- `packets::writer::put_packet` meets its contract. The first octet, and then the count and the fields where there are
+-- `packet_writer::put_packet` meets its contract. The first octet, and then the count and the fields where there are
 -- any, are the packet. Assumes nothing.
 use mathlib.Core.Path.{_∙_}
 use lib.ListN.{length-set}

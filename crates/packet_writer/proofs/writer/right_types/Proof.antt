@@ -1,4 +1,4 @@
--- `packets::writer::right_types` meets its contract. The loop's invariant: what is left of types and lengths decides.
+-- `packet_writer::right_types` meets its contract. The loop's invariant: what is left of types and lengths decides.
 -- The measure is how many are left. Assumes nothing.
 use Prim.Native.Nat.{_-_}
 use lib.ListN.{length}

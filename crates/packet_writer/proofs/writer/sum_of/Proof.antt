@@ -1,4 +1,4 @@
--- `packets::writer::sum_of` meets its contract. The loop's invariant: the sum so far and the sum of what is left are
+-- `packet_writer::sum_of` meets its contract. The loop's invariant: the sum so far and the sum of what is left are
 -- the whole sum. The measure is how many are left. Assumes nothing.
 use Prim.Native.Nat.{_-_}
 use lib.ListN.{length}

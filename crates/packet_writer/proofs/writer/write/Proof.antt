@@ -1,4 +1,4 @@
--- `packets::writer::write` meets its contract. Each answer is a law of `WritePacket`: what was measured is what is put.
+-- `packet_writer::write` meets its contract. Each answer is a law of `WritePacket`: what was measured is what is put.
 -- Assumes nothing.
 use borrow.Author.Needs.{needs}
 use Rattle.packet_writer.proofs.WritePacket.{writes}

@@ -1,4 +1,4 @@
--- `Sender::fresh` meets its contract. Assumes nothing.
+-- `sending::Sender::fresh` meets its contract. Assumes nothing.
 use Rattle.sending.proofs.FreshSteps.{fresh-made}
 use Rattle.sending.proofs.Sender.fresh.Statement.{statement}
 use Rattle.sending.proofs.Sender.fresh.Tie as tie

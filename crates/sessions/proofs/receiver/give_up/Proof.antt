@@ -1,4 +1,4 @@
--- `receiver::give_up` meets its contract: outside the ranges 17 and the very session, within them what the core owes. Assumes nothing.
+-- `sessions::give_up` meets its contract: outside the ranges 17 and the very session, within them what the core owes. Assumes nothing.
 use Rattle.sessions.proofs.Called.{calls, within-session}
 use borrow.Author.Needs.{needs}
 use Rattle.sessions.proofs.receiver.give_up.Statement.{statement}
