@@ -12,8 +12,8 @@ use Rattle.octets.specs.Place.{tab, allBelow}
 use Rattle.octets.proofs.Cases.{and-left, and-right, and-both}
 use Rattle.octets.proofs.Place.{allBelow-at, allBelow-of, length-tab}
 use Rattle.datagrams.specs.Sizes.{messageLimit, messagesLimit}
-use Rattle.repair.specs.Cells.{Cell, cellAt, isUnknown, keptBefore, keptAhead, keptNumbers}
-use Rattle.repair.specs.Held.{Held, heldAt}
+use Rattle.views.specs.Cells.{Cell, cellAt, isUnknown, keptBefore, keptAhead, keptNumbers}
+use Rattle.views.specs.Held.{Held, heldAt}
 use Rattle.stores.specs.Store.{zerosPast}
 use Rattle.views.specs.View.{sum, numbers, sessionLimit}
 use Rattle.views.specs.Ranges.{sumRight, blankAt, sizeRight, cellRight, markRight, heldRight, knownAt, Sound}

@@ -10,7 +10,7 @@ use borrow.Author.Tests.{lt-ltb, le-ltb}
 use Rattle.octets.specs.Place.{allBelow}
 use Rattle.octets.proofs.Place.{allBelow-more, allBelow-at, allBelow-of}
 use Rattle.datagrams.specs.Sizes.{packetLimit, messageLimit, messagesLimit}
-use Rattle.repair.specs.Cells.{isUnknown, keptBefore, keptAhead, keptNumbers}
+use Rattle.views.specs.Cells.{isUnknown, keptBefore, keptAhead, keptNumbers}
 use Rattle.stores.specs.Store.{zerosPast}
 use Rattle.stores.proofs.Laws.{zerosPast-at}
 use Rattle.views.specs.Ranges.{blankAt}

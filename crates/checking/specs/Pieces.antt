@@ -7,7 +7,7 @@ use lib.ListN.{getD}
 use lib.Dec.{leb, eqb}
 use Rattle.octets.specs.Place.{allBelow}
 use Rattle.datagrams.specs.Sizes.{packetLimit, messagesLimit}
-use Rattle.repair.specs.Cells.{isUnknown, keptBefore}
+use Rattle.views.specs.Cells.{isUnknown, keptBefore}
 use Rattle.stores.specs.Store.{zerosPast}
 use Rattle.views.specs.Ranges.{blankAt, sizeRight, markRight}
 use Rattle.held.specs.Slots.{slotAt, heardSlotAt, messageSlot}

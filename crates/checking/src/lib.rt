@@ -15,7 +15,7 @@ ghost use Prim.Native.Nat.{_%_};
 ghost use lib.Dec.{leb, eqb};
 ghost use lib.ListN.{length};
 ghost use Rattle.octets.specs.Place.{allBelow};
-ghost use Rattle.repair.specs.Cells.{keptAhead, keptNumbers};
+ghost use Rattle.views.specs.Cells.{keptAhead, keptNumbers};
 ghost use Rattle.stores.specs.Store.{mask};
 ghost use Rattle.views.specs.View.{numbers, sessionLimit};
 ghost use Rattle.views.specs.Ranges.{blankAt};

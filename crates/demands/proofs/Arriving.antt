@@ -13,8 +13,8 @@ use Rattle.datagrams.specs.Sizes.{sparesLimit}
 use Rattle.datagrams.specs.Carried.{Carried}
 use Rattle.datagrams.specs.Read.{readDatagram, carriedBy}
 use Rattle.datagrams.proofs.AnswerLaws.{done-same}
-use Rattle.repair.specs.Cells.{keptBefore, keptAhead}
-use Rattle.repair.specs.Held.{Held, heldAt}
+use Rattle.views.specs.Cells.{keptBefore, keptAhead}
+use Rattle.views.specs.Held.{Held, heldAt}
 use Rattle.views.specs.View.{View, numbers, distance}
 use Rattle.views.specs.Offer.{heldOf, accept}
 use Rattle.demands.specs.History.{Left}

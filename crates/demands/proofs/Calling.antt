@@ -13,9 +13,9 @@ use Rattle.octets.proofs.Cases.{and-left, and-right}
 use Rattle.lengths.specs.Refusals.{outsideRanges}
 use Rattle.lengths.specs.Answers.{Answer, done, refused, refuse, over}
 use Rattle.datagrams.specs.Sizes.{coveredLimit, messagesLimit}
-use Rattle.repair.specs.Cells as cells
-use Rattle.repair.specs.Cells.{cellAt, keptBefore, keptAhead, keptNumbers}
-use Rattle.repair.specs.Held.{heldAt}
+use Rattle.views.specs.Cells as cells
+use Rattle.views.specs.Cells.{cellAt, keptBefore, keptAhead, keptNumbers}
+use Rattle.views.specs.Held.{heldAt}
 use Rattle.views.specs.View.{View, sum, numbers, sessionLimit, freshView}
 use Rattle.views.specs.Offer as offers
 use Rattle.views.specs.Release as releases

@@ -34,7 +34,7 @@ use Rattle.packets.specs.declared.types.Kind as packets
 use Rattle.packets.specs.declared.types.Ending.the-variants.{Whole, Repaired}
 use Rattle.packets.proofs.ReadLaws.{packet-form}
 use Rattle.packets.proofs.Claims as packet-claims
-use Rattle.repair.specs.Cells.{unknownAt, keptBefore, keptAhead}
+use Rattle.views.specs.Cells.{unknownAt, keptBefore, keptAhead}
 use Rattle.views.specs.View.{View, sum, distance, sessionLimit}
 use Rattle.views.specs.Offer as offers
 use Rattle.views.specs.Offer.{lateFrom, acceptedAt, offered, accept}

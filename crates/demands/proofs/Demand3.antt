@@ -7,7 +7,7 @@ use lib.ListN.{length}
 use native.Mathlib.Omega.{arith}
 use Rattle.lengths.specs.Refusals as refusals
 use Rattle.lengths.specs.Answers.{Answer, done, refused, refuse}
-use Rattle.repair.specs.Honest.{TrueCells}
+use Rattle.views.specs.Honest.{TrueCells}
 use Rattle.views.specs.View.{View, freshView}
 use Rattle.views.specs.Offer as offers
 use Rattle.held.specs.Table.{viewOf}

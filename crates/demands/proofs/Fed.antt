@@ -13,8 +13,8 @@ use Rattle.lengths.specs.Answers.{Answer, done, refused, refuse}
 use Rattle.datagrams.specs.Carried.{Carried}
 use Rattle.datagrams.specs.Read.{carriedBy}
 use Rattle.datagrams.proofs.AnswerLaws.{done-same}
-use Rattle.repair.specs.Cells.{keptAhead}
-use Rattle.repair.specs.Held.{heldAt}
+use Rattle.views.specs.Cells.{keptAhead}
+use Rattle.views.specs.Held.{heldAt}
 use Rattle.views.specs.View.{View, numbers, distance}
 use Rattle.views.specs.Offer as offers
 use Rattle.views.specs.Offer.{accept, acceptedAt, offered, lateFrom}

@@ -10,11 +10,11 @@ use lib.Seq.{getD-set-same, getD-set-other}
 use native.Mathlib.Omega.{arith}
 use Rattle.octets.proofs.Cases.{true-or-false, same-or-not}
 use Rattle.datagrams.specs.Carried.{Extra, spares, parity}
-use Rattle.repair.specs.Cells.{State, received, spare, repaired, Cell, cellAt, unknownAt, isUnknown}
-use Rattle.repair.specs.Repair.{Message, repair}
-use Rattle.repair.specs.Reached.{Known, Unknown}
-use Rattle.repair.proofs.Fill.{unknown-inside, known-not-unknown, same-unknown}
-use Rattle.repair.proofs.Grows.{length-repair, repair-known, repair-state}
+use Rattle.views.specs.Cells.{State, received, spare, repaired, Cell, cellAt, unknownAt, isUnknown}
+use Rattle.views.specs.Repair.{Message, repair}
+use Rattle.views.specs.Reached.{Known, Unknown}
+use Rattle.views.proofs.Fill.{unknown-inside, known-not-unknown, same-unknown}
+use Rattle.views.proofs.Grows.{length-repair, repair-known, repair-state}
 use Rattle.views.specs.Offer.{keep, keepSpares, keepExtra}
 
 -- the states that a number is filled with

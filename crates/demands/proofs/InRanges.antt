@@ -18,10 +18,10 @@ use Rattle.datagrams.specs.declared.kind.Kind.{Kind}
 use Rattle.datagrams.specs.declared.kind.Kind.the-variants as kind
 use Rattle.datagrams.proofs.ReadLaws.{read-inside}
 use Rattle.datagrams.proofs.WriteLaws.{within-true}
-use Rattle.repair.specs.Cells.{State, unknown, received, blank, Cell, blankCell, unknownCell, cellAt, keptBefore, keptAhead, keptNumbers}
-use Rattle.repair.specs.Held.{Held, nothingHeld, heldAt, heldMessages}
-use Rattle.repair.specs.Reached.{DistinctMembers}
-use Rattle.repair.proofs.Held.{held-distinct}
+use Rattle.views.specs.Cells.{State, unknown, received, blank, Cell, blankCell, unknownCell, cellAt, keptBefore, keptAhead, keptNumbers}
+use Rattle.views.specs.Held.{Held, nothingHeld, heldAt, heldMessages}
+use Rattle.views.specs.Reached.{DistinctMembers}
+use Rattle.views.proofs.Held.{held-distinct}
 use Rattle.views.specs.View.{View, Counts, sum, numbers, following, freshView, goneOn}
 use Rattle.views.specs.Offer.{keep, keepExtra, heldOf, accept}
 use Rattle.views.proofs.Sizes.{reach-kept}

@@ -8,8 +8,8 @@ use mathlib.Core.Option.{none, some}
 use lib.ListN.{length, take}
 use native.Mathlib.Omega.{arith}
 use Rattle.lengths.specs.Answers.{Answer, done, refused}
-use Rattle.repair.specs.Cells.{keptNumbers}
-use Rattle.repair.specs.Reached.{Known}
+use Rattle.views.specs.Cells.{keptNumbers}
+use Rattle.views.specs.Reached.{Known}
 use Rattle.views.specs.View.{View, Counts, sum, freshView, goneOn}
 use Rattle.views.specs.Offer as offers
 use Rattle.views.specs.Release as releases

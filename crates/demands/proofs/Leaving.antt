@@ -11,7 +11,7 @@ use native.Mathlib.Omega.{arith}
 use Rattle.octets.specs.Place.{tab}
 use Rattle.octets.proofs.Place.{tab-ext, tab-more}
 use Rattle.views.specs.View.{View, Counts, sum, numbers, following, freshView}
-use Rattle.repair.specs.Cells.{unknown, received, spare, repaired, blank}
+use Rattle.views.specs.Cells.{unknown, received, spare, repaired, blank}
 use Rattle.demands.specs.History.{Left, released, lost, isReceived, isSpare, isRepaired, isLost, numberOf, after, many, countsOf}
 use Rattle.demands.specs.Calls.{Calls, leftIn, leftBy}
 use Rattle.demands.specs.GoesOn.{moveOf, GoesOn, from, by}

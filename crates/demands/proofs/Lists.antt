@@ -12,17 +12,17 @@ use native.Mathlib.Omega.{arith}
 use Rattle.octets.proofs.Place.{tab-among}
 use Rattle.octets.proofs.Cases.{true-or-false, same-or-not, below-or-not}
 use Rattle.datagrams.specs.Carried.{Carried}
-use Rattle.repair.specs.Cells.{Cell, keptBefore, keptAhead}
-use Rattle.repair.specs.Repair.{Message, firstUsable}
-use Rattle.repair.specs.Held.{Held, nothingHeld, heldAt, messageAt, messagesOf, heldMessages}
-use Rattle.repair.specs.Reached.{Known, Closed}
-use Rattle.repair.specs.Claims.{SentBefore}
-use Rattle.repair.proofs.Fill.{known-not-unknown, usable-says}
-use Rattle.repair.proofs.Search.{found-usable}
-use Rattle.repair.proofs.Grows.{found-or-none}
-use Rattle.repair.proofs.Least.{known-within}
-use Rattle.repair.proofs.Held.{held-at, messagesOf-among}
-use Rattle.repair.proofs.Burst.{burst-mended}
+use Rattle.views.specs.Cells.{Cell, keptBefore, keptAhead}
+use Rattle.views.specs.Repair.{Message, firstUsable}
+use Rattle.views.specs.Held.{Held, nothingHeld, heldAt, messageAt, messagesOf, heldMessages}
+use Rattle.views.specs.Reached.{Known, Closed}
+use Rattle.views.specs.Claims.{SentBefore}
+use Rattle.views.proofs.Fill.{known-not-unknown, usable-says}
+use Rattle.views.proofs.Search.{found-usable}
+use Rattle.views.proofs.Grows.{found-or-none}
+use Rattle.views.proofs.Least.{known-within}
+use Rattle.views.proofs.Held.{held-at, messagesOf-among}
+use Rattle.views.proofs.Burst.{burst-mended}
 use Rattle.views.specs.View.{View, Counts, sum}
 use Rattle.views.specs.Offer as offers
 use Rattle.views.specs.Offer.{accept}

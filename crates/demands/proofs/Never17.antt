@@ -21,7 +21,7 @@ use Rattle.datagrams.specs.Read.{carriedBy, after, endOf, leastOf, mostOf}
 use Rattle.datagrams.specs.Read as reading
 use Rattle.datagrams.specs.Carried.{Carried}
 use Rattle.datagrams.specs.declared.reader.Part.{Part}
-use Rattle.repair.specs.Cells.{unknownAt, keptBefore, keptAhead}
+use Rattle.views.specs.Cells.{unknownAt, keptBefore, keptAhead}
 use Rattle.views.specs.View.{View, sum, distance, sessionLimit}
 use Rattle.views.specs.Offer as offers
 use Rattle.views.specs.Offer.{acceptedAt, lateFrom}

@@ -15,8 +15,8 @@ use Rattle.datagrams.specs.declared.kind.Kind.{Kind}
 use Rattle.datagrams.specs.declared.reader.Part.{Part}
 use Rattle.stores.specs.Store.{zeros}
 use Rattle.stores.proofs.Laws.{length-zeros, zeros-at, zerosPast-zeros}
-use Rattle.repair.specs.Cells.{Cell}
-use Rattle.repair.specs.Held.{Held}
+use Rattle.views.specs.Cells.{Cell}
+use Rattle.views.specs.Held.{Held}
 use Rattle.views.specs.View.{numbers}
 use Rattle.views.specs.Offer as offers
 use Rattle.held.specs.Table.{Lent, lent, countsOf, stateNumbered, cellsOf, viewIn}

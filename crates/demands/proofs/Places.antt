@@ -18,9 +18,9 @@ use Rattle.datagrams.specs.Read.{DatagramParts, octetsOf, readDatagram, carried
 use Rattle.datagrams.specs.declared.kind.Kind.{Kind}
 use Rattle.datagrams.specs.declared.kind.Kind.the-variants as kind
 use Rattle.datagrams.proofs.ReadLaws.{read-inside}
-use Rattle.repair.specs.Cells.{keptBefore, keptAhead}
-use Rattle.repair.specs.Members.{memberAt, membersOf}
-use Rattle.repair.proofs.Members.{member-says}
+use Rattle.views.specs.Cells.{keptBefore, keptAhead}
+use Rattle.views.specs.Members.{memberAt, membersOf}
+use Rattle.views.proofs.Members.{member-says}
 use Rattle.views.specs.View.{numbers, distance}
 use Rattle.views.specs.Offer.{heldOf}
 use Rattle.demands.specs.ReachedBy.{numberAt, sparesIn}

@@ -4,8 +4,8 @@ use Prim.Native.Nat.{ℕ, _%_, _≤_, _<_}
 use mathlib.Core.Path.{_≡_}
 use lib.ListN.{length}
 use Rattle.datagrams.specs.Sizes.{coveredLimit, messagesLimit}
-use Rattle.repair.specs.Cells.{blank, cellAt, keptBefore, keptAhead, keptNumbers}
-use Rattle.repair.specs.Held.{heldAt}
+use Rattle.views.specs.Cells.{blank, cellAt, keptBefore, keptAhead, keptNumbers}
+use Rattle.views.specs.Held.{heldAt}
 use Rattle.views.specs.View.{View, sum, numbers}
 
 pub record ViewInRanges (view : View) : Type 0 where

@@ -10,10 +10,10 @@ use lib.ListN.{length, length-append}
 use native.Mathlib.Omega.{arith}
 use Rattle.octets.proofs.Cases.{below-or-not}
 use Rattle.datagrams.specs.Carried.{Carried}
-use Rattle.repair.specs.Cells.{keptBefore, keptAhead, keptNumbers}
-use Rattle.repair.specs.Held.{Held, heldAt}
-use Rattle.repair.specs.Repair.{Message}
-use Rattle.repair.specs.Reached.{Known}
+use Rattle.views.specs.Cells.{keptBefore, keptAhead, keptNumbers}
+use Rattle.views.specs.Held.{Held, heldAt}
+use Rattle.views.specs.Repair.{Message}
+use Rattle.views.specs.Reached.{Known}
 use Rattle.views.specs.View.{View, Counts, sum, freshView, goneOn}
 use Rattle.views.specs.Offer.{heldOf}
 use Rattle.demands.specs.History.{Left}

@@ -10,14 +10,14 @@ use native.Mathlib.Omega.{arith}
 use Rattle.octets.proofs.Place.{tab-among}
 use Rattle.datagrams.specs.Sizes.{coveredLimit, messagesLimit}
 use Rattle.datagrams.specs.Carried.{Carried}
-use Rattle.repair.specs.Cells.{Cell, keptBefore, keptAhead, keptNumbers}
-use Rattle.repair.specs.Members.{membersOf}
-use Rattle.repair.specs.Held.{Held, heldAt, messageAt, messagesOf, heldMessages}
-use Rattle.repair.specs.Repair.{Message}
-use Rattle.repair.specs.Reached.{Known, Closed, known, DistinctMembers}
-use Rattle.repair.proofs.Members.{member-in-reach}
-use Rattle.repair.proofs.Held.{held-at, messagesOf-among}
-use Rattle.repair.proofs.Least.{reached-within, known-closed}
+use Rattle.views.specs.Cells.{Cell, keptBefore, keptAhead, keptNumbers}
+use Rattle.views.specs.Members.{membersOf}
+use Rattle.views.specs.Held.{Held, heldAt, messageAt, messagesOf, heldMessages}
+use Rattle.views.specs.Repair.{Message}
+use Rattle.views.specs.Reached.{Known, Closed, known, DistinctMembers}
+use Rattle.views.proofs.Members.{member-in-reach}
+use Rattle.views.proofs.Held.{held-at, messagesOf-among}
+use Rattle.views.proofs.Least.{reached-within, known-closed}
 use Rattle.views.specs.View.{View, sum}
 use Rattle.views.specs.Offer.{heldOf, accept}
 use Rattle.views.proofs.Sizes.{reach-kept}

@@ -24,9 +24,9 @@ use Rattle.datagrams.specs.declared.kind.Kind.the-variants as kind
 use Rattle.datagrams.proofs.AnswerLaws.{done-same, true-within}
 use Rattle.datagrams.proofs.WriteLaws.{within-true}
 use Rattle.datagrams.proofs.ReadBack.{Fit, datagram-back}
-use Rattle.repair.specs.Cells.{keptBefore}
-use Rattle.repair.specs.Members.{membersOf}
-use Rattle.repair.specs.Honest.{messageOver, HonestHeld}
+use Rattle.views.specs.Cells.{keptBefore}
+use Rattle.views.specs.Members.{membersOf}
+use Rattle.views.specs.Honest.{messageOver, HonestHeld}
 use Rattle.views.specs.View.{numbers}
 use Rattle.views.specs.Offer.{heldOf}
 use Rattle.views.proofs.Sizes.{reach-kept}

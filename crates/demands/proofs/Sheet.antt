@@ -8,9 +8,9 @@ use Rattle.packets.specs.Packet.{every}
 use Rattle.packets.specs.Read.{readPacket, firstAt, countAt, fieldsAt, fieldAt, headerAt, sizeAt, afterHeader, endAt}
 use Rattle.datagrams.specs.Read.{allowed, octetAt, sizedAt, itemAt, itemsAt, endOf, sparesAt, parityAt, extraAt, numberOf, wholeOf, readDatagram, carriedBy}
 use Rattle.datagrams.specs.Write.{numberOctets, itemOctets, itemsOctets, countedOctets, datagramOctets}
-use Rattle.repair.specs.Members.{membersOf}
-use Rattle.repair.specs.Repair.{passing, usable, firstUsable, mended, fill, repairF, repair}
-use Rattle.repair.specs.Held.{messagesOf, messagesFrom, heldMessages}
+use Rattle.views.specs.Members.{membersOf}
+use Rattle.views.specs.Repair.{passing, usable, firstUsable, mended, fill, repairF, repair}
+use Rattle.views.specs.Held.{messagesOf, messagesFrom, heldMessages}
 use Rattle.views.specs.View.{freshView}
 use Rattle.views.specs.Offer.{keep, keepSpares, accept, offered, offer}
 use Rattle.sending.specs.Sending.{freshSending, sentOn}

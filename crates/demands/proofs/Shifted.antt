@@ -7,8 +7,8 @@ use lib.ListN.{length, getD, drop, length-append, length-drop, List·getD-append
 use lib.Seq.{getD-at}
 use native.Mathlib.Nat.{not-suc-le-zero}
 use native.Mathlib.Omega.{arith}
-use Rattle.repair.specs.Cells.{Cell, unknownCell, cellAt, unknownAt, isUnknown}
-use Rattle.repair.specs.Held.{nothingHeld, heldAt}
+use Rattle.views.specs.Cells.{Cell, unknownCell, cellAt, unknownAt, isUnknown}
+use Rattle.views.specs.Held.{nothingHeld, heldAt}
 use Rattle.views.specs.View.{View, Counts, goneOn}
 
 -- ---- a list one place further

@@ -14,18 +14,18 @@ use Rattle.octets.proofs.Place.{tab-among}
 use Rattle.octets.proofs.Cases.{true-or-false, same-or-not, below-or-not}
 use Rattle.datagrams.specs.Sizes.{sparesLimit, coveredLimit, messagesLimit}
 use Rattle.datagrams.specs.Carried.{Extra, spares, parity, Carried}
-use Rattle.repair.specs.Cells.{State, received, spare, Cell, cellAt, unknownAt, isUnknown, keptBefore, keptAhead, keptNumbers}
-use Rattle.repair.specs.Members.{memberAt, membersOf}
-use Rattle.repair.specs.Repair.{Message}
-use Rattle.repair.specs.Held.{Held, nothingHeld, heldAt, messageAt, messagesOf, heldMessages}
-use Rattle.repair.specs.Reached.{Known, Closed}
-use Rattle.repair.specs.Honest.{UpToZeros, TrueCells, HonestHeld}
-use Rattle.repair.proofs.Fill.{unknown-inside, same-unknown}
-use Rattle.repair.proofs.Least.{known-closed}
-use Rattle.repair.proofs.Members.{member-says, member-in-reach}
-use Rattle.repair.proofs.Held.{held-at, messagesOf-among, held-honest}
-use Rattle.repair.proofs.Honest.{repair-right}
-use Rattle.repair.proofs.Zeros.{up-to-zeros-same}
+use Rattle.views.specs.Cells.{State, received, spare, Cell, cellAt, unknownAt, isUnknown, keptBefore, keptAhead, keptNumbers}
+use Rattle.views.specs.Members.{memberAt, membersOf}
+use Rattle.views.specs.Repair.{Message}
+use Rattle.views.specs.Held.{Held, nothingHeld, heldAt, messageAt, messagesOf, heldMessages}
+use Rattle.views.specs.Reached.{Known, Closed}
+use Rattle.views.specs.Honest.{UpToZeros, TrueCells, HonestHeld}
+use Rattle.views.proofs.Fill.{unknown-inside, same-unknown}
+use Rattle.views.proofs.Least.{known-closed}
+use Rattle.views.proofs.Members.{member-says, member-in-reach}
+use Rattle.views.proofs.Held.{held-at, messagesOf-among, held-honest}
+use Rattle.views.proofs.Honest.{repair-right}
+use Rattle.views.proofs.Zeros.{up-to-zeros-same}
 use Rattle.views.specs.View.{View, Counts, sum, freshView, goneOn}
 use Rattle.views.specs.Offer.{keep, keepSpares, keepExtra, heldOf, accept}
 use Rattle.views.proofs.Sizes.{reach-kept}

@@ -13,8 +13,8 @@ use Rattle.lengths.specs.Answers.{Answer, done, refused, refuse}
 use Rattle.datagrams.specs.Carried.{Carried}
 use Rattle.datagrams.specs.Read.{DatagramParts, readDatagram, carriedBy}
 use Rattle.datagrams.proofs.AnswerLaws.{not-done, bind-done, cond-done, cond-met, done-same}
-use Rattle.repair.specs.Cells.{State, unknown, received, spare, repaired, blank, unknownAt, isUnknown, keptBefore, keptAhead}
-use Rattle.repair.specs.Reached.{Known, Unknown}
+use Rattle.views.specs.Cells.{State, unknown, received, spare, repaired, blank, unknownAt, isUnknown, keptBefore, keptAhead}
+use Rattle.views.specs.Reached.{Known, Unknown}
 use Rattle.views.specs.View.{View, Counts, sum, following, distance, sessionLimit, goneOn}
 use Rattle.views.specs.Offer as offers
 use Rattle.views.specs.Offer.{accept, acceptedAt, offered, lateFrom}

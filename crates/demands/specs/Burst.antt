@@ -6,10 +6,10 @@ use mathlib.Core.Path.{_≡_}
 use mathlib.Core.Logic.{_⊎_}
 use mathlib.Core.Bool.{true}
 use mathlib.Core.List.{List, [], _∷_}
-use Rattle.repair.specs.Cells.{repaired, cellAt, keptBefore}
-use Rattle.repair.specs.Held.{heldAt}
-use Rattle.repair.specs.Members.{InReach}
-use Rattle.repair.specs.Reached.{Known, Unknown}
+use Rattle.views.specs.Cells.{repaired, cellAt, keptBefore}
+use Rattle.views.specs.Held.{heldAt}
+use Rattle.views.specs.Members.{InReach}
+use Rattle.views.specs.Reached.{Known, Unknown}
 use Rattle.held.specs.Table.{viewOf}
 use Rattle.held.specs.Promise.{Fresh}
 use Rattle.held.specs.declared.Session.{Session}

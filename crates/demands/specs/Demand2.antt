@@ -14,8 +14,8 @@ use mathlib.Core.Option.{some}
 use lib.ListN.{length}
 use Rattle.octets.specs.Place.{tab}
 use Rattle.lengths.specs.Refusals.{outsideRanges}
-use Rattle.repair.specs.Cells.{keptNumbers}
-use Rattle.repair.specs.Reached.{Known}
+use Rattle.views.specs.Cells.{keptNumbers}
+use Rattle.views.specs.Reached.{Known}
 use Rattle.views.specs.View.{View, Counts, sum, numbers}
 use Rattle.held.specs.Table.{viewOf}
 use Rattle.held.specs.Laid.{sessionInRanges}

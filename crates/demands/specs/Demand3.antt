@@ -10,11 +10,11 @@ use mathlib.Core.Logic.{_⊎_}
 use mathlib.Core.Bool.{true}
 use mathlib.Core.List.{List, List·Memᴰ as Among}
 use lib.ListN.{length}
-use Rattle.repair.specs.Members.{InReach}
-use Rattle.repair.specs.Cells.{keptBefore, keptAhead, keptNumbers}
-use Rattle.repair.specs.Held.{heldAt}
-use Rattle.repair.specs.Reached.{Known}
-use Rattle.repair.specs.Honest.{TrueCells}
+use Rattle.views.specs.Members.{InReach}
+use Rattle.views.specs.Cells.{keptBefore, keptAhead, keptNumbers}
+use Rattle.views.specs.Held.{heldAt}
+use Rattle.views.specs.Reached.{Known}
+use Rattle.views.specs.Honest.{TrueCells}
 use Rattle.views.specs.View.{View}
 use Rattle.held.specs.Table.{viewOf}
 use Rattle.held.specs.declared.Session.{Session}

@@ -4,9 +4,9 @@ use Prim.Native.Nat.{ℕ}
 use mathlib.Core.Path.{_≡_}
 use mathlib.Core.Bool.{true}
 use mathlib.Core.List.{List, [], _∷_, List·Memᴰ as Among}
-use Rattle.repair.specs.Cells.{repaired, cellAt, keptBefore}
-use Rattle.repair.specs.Held.{heldAt}
-use Rattle.repair.specs.Reached.{Unknown}
+use Rattle.views.specs.Cells.{repaired, cellAt, keptBefore}
+use Rattle.views.specs.Held.{heldAt}
+use Rattle.views.specs.Reached.{Unknown}
 use Rattle.held.specs.Table.{viewOf}
 use Rattle.held.specs.Promise.{Fresh}
 use Rattle.held.specs.declared.Session.{Session}

@@ -4,7 +4,7 @@
 use Prim.Native.Nat.{ℕ, _+_}
 use mathlib.Core.List.{List, [], _∷_}
 use mathlib.Core.Bool.{Bool, true, false, cond}
-use Rattle.repair.specs.Cells.{State, unknown, received, spare, repaired, blank}
+use Rattle.views.specs.Cells.{State, unknown, received, spare, repaired, blank}
 use Rattle.views.specs.View.{View, Counts}
 use Rattle.views.specs.Offer as offers
 use Rattle.views.specs.Release as releases

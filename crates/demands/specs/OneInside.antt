@@ -19,7 +19,7 @@ use Rattle.datagrams.specs.Inner.Put.{Put, sparesHead, parityHead, kindHead}
 use Rattle.datagrams.specs.declared.kind.Kind.{Kind}
 use Rattle.datagrams.specs.declared.reader.Part.{Part}
 use Rattle.stores.specs.Store as store
-use Rattle.repair.specs.Cells.{isUnknown}
+use Rattle.views.specs.Cells.{isUnknown}
 use Rattle.held.specs.Table as table
 use Rattle.held.specs.Table.{Lent, lent, stateNumbered, keptSet, heardSet, heardDropped, messagePlace}
 use Rattle.held.specs.Laid.{lentInRanges}

@@ -10,9 +10,9 @@ use mathlib.Core.Option.{some}
 use lib.ListN.{length}
 use Rattle.datagrams.specs.Carried.{Carried, Extra, spares, parity}
 use Rattle.datagrams.specs.Claims.{ReadsAs}
-use Rattle.repair.specs.Cells.{keptBefore, keptAhead}
-use Rattle.repair.specs.Held.{messageAt}
-use Rattle.repair.specs.Repair.{Message}
+use Rattle.views.specs.Cells.{keptBefore, keptAhead}
+use Rattle.views.specs.Held.{messageAt}
+use Rattle.views.specs.Repair.{Message}
 use Rattle.views.specs.View.{numbers}
 use Rattle.views.specs.Offer.{heldOf}
 use Rattle.demands.specs.Calls.{Call, Calls, _then_, acceptedIn, leftBy}

@@ -13,7 +13,7 @@ use Rattle.lengths.specs.Refusals.{allPassed, outsideRanges}
 use Rattle.lengths.specs.Tables.{when, refusalIn}
 use Rattle.lengths.specs.Length.{ofTwo}
 use Rattle.datagrams.specs.Read.{readDatagram}
-use Rattle.repair.specs.Cells.{unknownAt, keptBefore, keptAhead}
+use Rattle.views.specs.Cells.{unknownAt, keptBefore, keptAhead}
 use Rattle.views.specs.View.{sum, distance, sessionLimit}
 use Rattle.views.specs.Offer.{lateFrom, acceptedAt}
 use Rattle.views.specs.Release.{atBase}

@@ -9,8 +9,8 @@ use Rattle.packets.specs.Packet.{dataOf}
 use Rattle.packets.specs.Read.{readPacket}
 use Rattle.packets.specs.declared.types.Kind.the-variants.{Indicator, Data}
 use Rattle.packets.specs.declared.types.Ending.the-variants.{Whole, Repaired}
-use Rattle.repair.specs.Members.{membersOf}
-use Rattle.repair.specs.Cells.{repaired, cellAt, keptBefore}
+use Rattle.views.specs.Members.{membersOf}
+use Rattle.views.specs.Cells.{repaired, cellAt, keptBefore}
 use Rattle.views.specs.View.{View, freshView}
 use Rattle.views.specs.Offer.{offer}
 use Rattle.sending.specs.Sending.{Sending, freshSending, sentOn}

@@ -14,9 +14,9 @@ use borrow.Author.Tests.{lt-ltb, le-ltb}
 use Rattle.octets.specs.Place.{tab, allBelow}
 use Rattle.octets.proofs.Place.{tab-ext}
 use Rattle.octets.proofs.Cases.{below-or-not, and-both}
-use Rattle.repair.specs.Cells as cells
-use Rattle.repair.specs.Cells.{blankCell, unknownCell, keptBefore, keptAhead, keptNumbers}
-use Rattle.repair.specs.Held.{nothingHeld}
+use Rattle.views.specs.Cells as cells
+use Rattle.views.specs.Cells.{blankCell, unknownCell, keptBefore, keptAhead, keptNumbers}
+use Rattle.views.specs.Held.{nothingHeld}
 use Rattle.stores.specs.Store.{part}
 use Rattle.stores.proofs.Laws.{zerosPast-zeros}
 use Rattle.views.specs.View.{freshView}

@@ -12,9 +12,9 @@ use Rattle.octets.proofs.Cases.{same-or-not, below-or-not}
 use Rattle.octets.proofs.Place.{tab-set, tab-ext, tab-at, length-tab}
 use Rattle.octets.specs.Place.{tab}
 use Rattle.datagrams.specs.Sizes.{packetLimit, messageLimit, messagesLimit}
-use Rattle.repair.specs.Cells.{Cell, keptBefore, keptAhead, keptNumbers}
-use Rattle.repair.specs.Held.{Held, heldAt}
-use Rattle.repair.specs.Reached.{Known}
+use Rattle.views.specs.Cells.{Cell, keptBefore, keptAhead, keptNumbers}
+use Rattle.views.specs.Held.{Held, heldAt}
+use Rattle.views.specs.Reached.{Known}
 use Rattle.stores.specs.Store.{part, zerosPast}
 use Rattle.views.specs.Ranges.{markRight, heldRight, knownAt}
 use Rattle.views.proofs.Sizes.{mark-sizes}

@@ -13,9 +13,9 @@ use borrow.Author.Tests.{eqb-true, eq-eqb}
 use Rattle.octets.proofs.Place.{length-tab}
 use Rattle.octets.proofs.Cases.{below-or-not, same-or-not}
 use Rattle.datagrams.specs.Sizes.{packetLimit, messagesLimit}
-use Rattle.repair.specs.Cells as cells
-use Rattle.repair.specs.Cells.{Cell, cellAt, keptAhead, keptNumbers}
-use Rattle.repair.specs.Held.{Held, heldAt}
+use Rattle.views.specs.Cells as cells
+use Rattle.views.specs.Cells.{Cell, cellAt, keptAhead, keptNumbers}
+use Rattle.views.specs.Held.{Held, heldAt}
 use Rattle.views.specs.View as views
 use Rattle.views.specs.View.{View}
 use Rattle.held.specs.Slots.{slotsKept, slotsHeard, slotsMessages, packetOctets, messageOctets, slotAt, heardSlotAt, messageSlot}

@@ -13,9 +13,9 @@ use Rattle.octets.proofs.Cases.{same-or-not}
 use Rattle.octets.proofs.Place.{tab-set, tab-ext}
 use Rattle.octets.specs.Place.{tab}
 use Rattle.datagrams.specs.Sizes.{packetLeast, packetLimit}
-use Rattle.repair.specs.Cells.{Cell, unknownAt, keptAhead, keptNumbers}
-use Rattle.repair.specs.Held.{Held}
-use Rattle.repair.proofs.Fill.{unknown-inside}
+use Rattle.views.specs.Cells.{Cell, unknownAt, keptAhead, keptNumbers}
+use Rattle.views.specs.Held.{Held}
+use Rattle.views.proofs.Fill.{unknown-inside}
 use Rattle.stores.specs.Store.{part, pasted, zerosPast, HasSlot}
 use Rattle.stores.proofs.Laws.{length-pasted, part-pasted, part-pasted-other, zerosPast-pasted, zerosPast-other}
 use Rattle.views.specs.Ranges.{isFill}

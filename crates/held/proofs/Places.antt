@@ -10,7 +10,7 @@ use lib.Dec.{eqb}
 use native.Mathlib.Omega.{arith}
 use Rattle.octets.proofs.Cases.{same-or-not}
 use Rattle.datagrams.specs.Sizes.{messagesLimit}
-use Rattle.repair.specs.Cells.{unknown, received, spare, repaired, blank, isUnknown}
+use Rattle.views.specs.Cells.{unknown, received, spare, repaired, blank, isUnknown}
 use Rattle.held.specs.Slots.{slotsKept, slotsHeard, messageSlot}
 use Rattle.held.specs.Table.{places, statePlace, sizePlace, markPlace, nPlace, mPlace, messagePlace, stateNumbered, keptSet, sizesFreed, heardDropped}
 

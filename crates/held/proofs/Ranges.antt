@@ -13,7 +13,7 @@ use Rattle.octets.specs.Place.{allBelow}
 use Rattle.octets.proofs.Cases.{below-or-not, and-left, and-right, and-both}
 use Rattle.octets.proofs.Place.{allBelow-at, allBelow-of}
 use Rattle.datagrams.specs.Sizes.{packetLimit, messageLimit, messagesLimit}
-use Rattle.repair.specs.Cells.{keptAhead, keptNumbers}
+use Rattle.views.specs.Cells.{keptAhead, keptNumbers}
 use Rattle.stores.specs.Store.{zerosPast}
 use Rattle.views.specs.Ranges.{inRanges}
 use Rattle.views.proofs.Ranges.{sound-of, inRanges-of}

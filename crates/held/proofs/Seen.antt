@@ -7,8 +7,8 @@ use mathlib.Core.List.{List, []}
 use lib.ListN.{length, getD, take, drop}
 use Rattle.octets.proofs.Place.{tab-at, length-tab}
 use Rattle.datagrams.specs.Sizes.{packetLimit, coveredLimit}
-use Rattle.repair.specs.Cells.{Cell, cellAt, unknownAt, isUnknown, keptBefore, keptAhead, keptNumbers}
-use Rattle.repair.specs.Held.{Held, heldAt}
+use Rattle.views.specs.Cells.{Cell, cellAt, unknownAt, isUnknown, keptBefore, keptAhead, keptNumbers}
+use Rattle.views.specs.Held.{Held, heldAt}
 use Rattle.stores.specs.Store.{part}
 use Rattle.stores.proofs.Laws.{part-octet, length-part}
 use Rattle.views.specs.View.{sum}

@@ -8,7 +8,7 @@ use lib.ListN.{length}
 use native.Mathlib.Omega.{arith}
 use Rattle.octets.proofs.Cases.{below-or-not}
 use Rattle.datagrams.specs.Sizes.{packetLimit, messagesLimit}
-use Rattle.repair.specs.Cells.{keptAhead, keptNumbers}
+use Rattle.views.specs.Cells.{keptAhead, keptNumbers}
 use Rattle.stores.specs.Store.{HasSlot}
 use Rattle.views.specs.View.{numbers, following}
 use Rattle.held.specs.Slots.{slotAt, heardSlotAt, messageSlot, Apart, slotsKept, slotsHeard, slotsMessages, packetOctets, messageOctets}

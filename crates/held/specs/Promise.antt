@@ -4,7 +4,7 @@ use mathlib.Core.Path.{_≡_}
 use mathlib.Core.Bool.{true}
 use mathlib.Core.List.{List, _++_}
 use lib.ListN.{length, replicate}
-use Rattle.repair.specs.Cells.{keptBefore, keptAhead}
+use Rattle.views.specs.Cells.{keptBefore, keptAhead}
 use Rattle.views.specs.View.{freshView}
 use Rattle.held.specs.Slots.{slotsKept, packetOctets, messageOctets}
 use Rattle.held.specs.Table.{places, lastState, viewOf}

@@ -2,7 +2,7 @@
 use Prim.Native.Nat.{ℕ, _+_, _-_, _*_, _%_, _<_}
 use mathlib.Core.Path.{_≡_}
 use Rattle.datagrams.specs.Sizes.{packetLimit, messagesLimit}
-use Rattle.repair.specs.Cells.{keptBefore, keptAhead, keptNumbers}
+use Rattle.views.specs.Cells.{keptBefore, keptAhead, keptNumbers}
 use Rattle.views.specs.View.{numbers}
 
 -- the slots of kept numbers, of numbers from the base on, and of messages; the octets of both stores

@@ -7,9 +7,9 @@ use lib.ListN.{getD, set}
 use lib.Dec.{eqb}
 use Rattle.octets.specs.Place.{tab}
 use Rattle.datagrams.specs.Sizes.{messagesLimit}
-use Rattle.repair.specs.Cells as cells
-use Rattle.repair.specs.Cells.{Cell, keptAhead, keptNumbers}
-use Rattle.repair.specs.Held as held
+use Rattle.views.specs.Cells as cells
+use Rattle.views.specs.Cells.{Cell, keptAhead, keptNumbers}
+use Rattle.views.specs.Held as held
 use Rattle.stores.specs.Store.{part}
 use Rattle.views.specs.View as views
 use Rattle.views.specs.View.{View}

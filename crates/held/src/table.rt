@@ -9,7 +9,7 @@ ghost use Prim.Native.Nat.{_+_, _*_, _%_, _≤_, _<_};
 ghost use lib.ListN.{length, set};
 ghost use lib.Dec.{eqb};
 ghost use Rattle.datagrams.specs.Sizes.{messagesLimit};
-ghost use Rattle.repair.specs.Cells.{isUnknown};
+ghost use Rattle.views.specs.Cells.{isUnknown};
 ghost use Rattle.views.specs.View.{sum};
 ghost use Rattle.held.specs.Slots.{slotsKept, slotsHeard, slotsMessages};
 ghost use Rattle.held.specs.Table.{countsOf, places, stateIn, sizeIn, markIn, nIn, mIn, messageSizeIn, messagePlace, stateNumbered, keptSet, heardSet, sizesFreed, heardDropped};

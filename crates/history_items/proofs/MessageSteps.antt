@@ -12,7 +12,7 @@ use Rattle.octets.proofs.Place.{tab-ext}
 use Rattle.octets.proofs.ExclusiveOr.{longest-more, exclusiveOr-none, exclusiveOr-more}
 use Rattle.datagrams.specs.Sizes.{packetLimit}
 use Rattle.stores.specs.Store.{added, HasSlot}
-use Rattle.repair.specs.Members.{membersOf}
+use Rattle.views.specs.Members.{membersOf}
 use Rattle.views.specs.View.{numbers}
 use Rattle.sending.specs.Sending.{historyKept}
 use Rattle.sending.specs.Sender.{slotAt, sizeIn, packetIn, historyOctets}

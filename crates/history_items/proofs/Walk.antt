@@ -8,7 +8,7 @@ use native.Mathlib.Numerals.{add-one}
 use native.Mathlib.Omega.{arith}
 use Rattle.octets.specs.Place.{tab}
 use Rattle.octets.proofs.Place.{tab-more}
-use Rattle.repair.specs.Members.{membersOf}
+use Rattle.views.specs.Members.{membersOf}
 use Rattle.views.specs.View.{numbers}
 use Rattle.sending.specs.Sending.{historyKept}
 use Rattle.sending.specs.Send.{packetOf}

@@ -13,7 +13,7 @@ use Rattle.datagrams.specs.Sizes.{packetLeast, packetLimit}
 use Rattle.datagrams.specs.Claims.{PartInside}
 use Rattle.datagrams.specs.Read.{octetsOf}
 use Rattle.datagrams.specs.declared.reader.Part.{Part}
-use Rattle.repair.specs.Cells.{received, spare, blank, isUnknown, unknownAt}
+use Rattle.views.specs.Cells.{received, spare, blank, isUnknown, unknownAt}
 use Rattle.views.specs.Ranges.{isFill}
 use Rattle.views.specs.Offer as offers
 use Rattle.held.specs.Slots.{numberAt, slotAt, slotsKept}

@@ -11,7 +11,7 @@ use Rattle.datagrams.specs.Claims.{PartInside}
 use Rattle.datagrams.specs.Promise.{nowhere}
 use Rattle.datagrams.specs.Read.{octetsOf}
 use Rattle.datagrams.specs.declared.reader.Part.{Part}
-use Rattle.repair.specs.Cells.{Cell, spare, keptNumbers}
+use Rattle.views.specs.Cells.{Cell, spare, keptNumbers}
 use Rattle.views.specs.View.{numbers}
 use Rattle.views.specs.Offer as offers
 use Rattle.held.specs.Slots.{numberAt, packetOctets}

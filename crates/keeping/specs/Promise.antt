@@ -12,9 +12,9 @@ use Rattle.datagrams.specs.Sizes.{packetLeast, packetLimit, sparesLimit, messag
 use Rattle.datagrams.specs.Read.{octetsOf}
 use Rattle.datagrams.specs.Claims.{PartInside}
 use Rattle.datagrams.specs.declared.reader.Part.{Part}
-use Rattle.repair.specs.Cells.{Cell, keptBefore, keptAhead, keptNumbers}
-use Rattle.repair.specs.Held.{Held, heldAt}
-use Rattle.repair.specs.Reached.{Known}
+use Rattle.views.specs.Cells.{Cell, keptBefore, keptAhead, keptNumbers}
+use Rattle.views.specs.Held.{Held, heldAt}
+use Rattle.views.specs.Reached.{Known}
 use Rattle.views.specs.Offer as offers
 use Rattle.held.specs.Slots.{numberAt}
 use Rattle.held.specs.Table.{Lent, lent, stateNumbered, cellsOf, heldOf}

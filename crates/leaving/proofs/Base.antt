@@ -10,7 +10,7 @@ use borrow.Author.Tests.{leb-false}
 use Rattle.octets.proofs.Place.{tab-at}
 use Rattle.octets.proofs.Cases.{and-right}
 use Rattle.datagrams.specs.Sizes.{packetLimit}
-use Rattle.repair.specs.Cells.{State, unknown, received, spare, repaired, blank, Cell, blankCell, isUnknown, cellAt, unknownAt, keptBefore, keptNumbers}
+use Rattle.views.specs.Cells.{State, unknown, received, spare, repaired, blank, Cell, blankCell, isUnknown, cellAt, unknownAt, keptBefore, keptNumbers}
 use Rattle.stores.specs.Store.{HasSlot}
 use Rattle.stores.proofs.Laws.{length-part}
 use Rattle.views.specs.View as views

@@ -7,7 +7,7 @@ use mathlib.Core.List.{List}
 use native.Mathlib.Omega.{arith}
 use Rattle.lengths.specs.Refusals.{baseKnown, allPassed}
 use Rattle.lengths.specs.Answers.{done, refuse}
-use Rattle.repair.specs.Cells.{isUnknown}
+use Rattle.views.specs.Cells.{isUnknown}
 use Rattle.views.specs.View as views
 use Rattle.views.specs.View.{sum, goneOn}
 use Rattle.views.specs.Release.{giveUp}

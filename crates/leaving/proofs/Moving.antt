@@ -8,8 +8,8 @@ use native.Mathlib.Omega.{arith}
 use Rattle.octets.specs.Place.{tab}
 use Rattle.octets.proofs.Place.{tab-ext, tab-shift}
 use Rattle.datagrams.specs.Sizes.{packetLimit, messagesLimit}
-use Rattle.repair.specs.Cells.{Cell, unknownCell, keptBefore, keptAhead, keptNumbers}
-use Rattle.repair.specs.Held.{Held, nothingHeld}
+use Rattle.views.specs.Cells.{Cell, unknownCell, keptBefore, keptAhead, keptNumbers}
+use Rattle.views.specs.Held.{Held, nothingHeld}
 use Rattle.stores.specs.Store.{HasSlot, part, pasted, zeros}
 use Rattle.stores.proofs.Laws.{zeros-fit, part-pasted-other}
 use Rattle.views.specs.View as views

@@ -9,7 +9,7 @@ use native.Mathlib.Omega.{arith}
 use borrow.Author.Tests.{lt-ltb, le-ltb, eq-eqb, ne-eqb}
 use Rattle.lengths.specs.Refusals.{baseUnknown, noRoom, allPassed}
 use Rattle.lengths.specs.Answers.{done, refuse}
-use Rattle.repair.specs.Cells.{isUnknown}
+use Rattle.views.specs.Cells.{isUnknown}
 use Rattle.datagrams.specs.Sizes.{packetLimit}
 use Rattle.stores.specs.Store.{part}
 use Rattle.stores.proofs.Laws.{length-part}

@@ -3,7 +3,7 @@ use Prim.Native.Nat.{ℕ}
 use mathlib.Core.List.{List}
 use lib.ListN.{length}
 use Rattle.lengths.specs.Answers.{Answer, done, refused}
-use Rattle.repair.specs.Cells as cells
+use Rattle.views.specs.Cells as cells
 use Rattle.views.specs.View.{View}
 use Rattle.views.specs.Release.{Release, Loss}
 use Rattle.held.specs.Table.{stateOf}

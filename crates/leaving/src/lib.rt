@@ -11,7 +11,7 @@ ghost use mathlib.Core.Path.{_≡_};
 ghost use Prim.Native.Nat.{_+_, _≤_, _<_};
 ghost use lib.ListN.{length};
 ghost use Rattle.datagrams.specs.Sizes.{messagesLimit};
-ghost use Rattle.repair.specs.Cells.{received, spare, repaired};
+ghost use Rattle.views.specs.Cells.{received, spare, repaired};
 ghost use Rattle.views.specs.View.{following, sum, sessionLimit};
 ghost use Rattle.views.specs.Release.{released, booked};
 ghost use Rattle.held.specs.Slots.{slotsHeard, messageOctets};

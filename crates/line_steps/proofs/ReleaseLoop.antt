@@ -12,7 +12,7 @@ use borrow.Author.Tests.{not-true, not-false}
 use Rattle.lengths.specs.Answers.{Answer, done, refused}
 use Rattle.lengths.specs.declared.Refusal.{Refusal}
 use Rattle.datagrams.specs.Sizes.{packetLimit}
-use Rattle.repair.specs.Cells.{isUnknown, unknownAt, keptBefore, keptAhead}
+use Rattle.views.specs.Cells.{isUnknown, unknownAt, keptBefore, keptAhead}
 use Rattle.views.specs.View.{View, sum, sessionLimit}
 use Rattle.views.specs.Release.{Release, next}
 use Rattle.held.specs.Slots.{slotAt, slotsKept}

@@ -11,8 +11,8 @@ use borrow.Author.Tests.{ltb-false}
 use Rattle.lengths.specs.Answers.{Answer, done, refused, over}
 use Rattle.lengths.specs.declared.Refusal.{Refusal}
 use Rattle.datagrams.specs.Sizes.{packetLimit}
-use Rattle.repair.specs.Cells as cells
-use Rattle.repair.specs.Cells.{unknownAt, keptBefore}
+use Rattle.views.specs.Cells as cells
+use Rattle.views.specs.Cells.{unknownAt, keptBefore}
 use Rattle.views.specs.View.{View, sum, sessionLimit}
 use Rattle.views.specs.Release.{Release, Loss, next, giveUp, atBase}
 use Rattle.held.specs.Table.{Lent, viewIn, stateOf}

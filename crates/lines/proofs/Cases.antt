@@ -4,8 +4,8 @@ use Rattle.lengths.specs.Tables.{unless}
 use Rattle.octets.specs.Place.{tab, allBelow}
 use Rattle.lengths.specs.Length.{lengthAt}
 use Rattle.datagrams.specs.Read.{allowed, sizedAt, itemAt, itemsAt, endOf, sparesAt, extraAt, numberOf, wholeOf, readDatagram, carriedBy}
-use Rattle.repair.specs.Repair.{firstUsable, repairF, repair}
-use Rattle.repair.specs.Held.{messagesOf, messagesFrom, heldMessages}
+use Rattle.views.specs.Repair.{firstUsable, repairF, repair}
+use Rattle.views.specs.Held.{messagesOf, messagesFrom, heldMessages}
 use Rattle.views.specs.View.{freshView, goneOn}
 use Rattle.views.specs.Offer.{keep, keepSpares, accept, offered, offer}
 use Rattle.views.specs.Release.{next, giveUp}

@@ -15,7 +15,7 @@ use Rattle.lengths.specs.Refusals.{baseUnknown, allPassed, noRoom, refusal}
 use Rattle.lengths.specs.Answers.{Answer, done, refused, refuse}
 use Rattle.lengths.specs.declared.Refusal.{Refusal}
 use Rattle.datagrams.specs.Sizes.{packetLimit}
-use Rattle.repair.specs.Cells.{Cell, cellAt, unknownAt, unknownCell, blankCell, keptBefore, keptAhead, keptNumbers}
+use Rattle.views.specs.Cells.{Cell, cellAt, unknownAt, unknownCell, blankCell, keptBefore, keptAhead, keptNumbers}
 use Rattle.views.specs.View.{View, Counts, sum, sessionLimit, goneOn}
 use Rattle.views.specs.Release as release
 use Rattle.views.specs.Release.{Release, next, atBase}

@@ -10,7 +10,7 @@ use lib.Dec.{eqb}
 use Rattle.lengths.specs.Answers.{Answer, done, refused, _>>=_}
 use Rattle.lengths.specs.declared.Refusal.{Refusal}
 use Rattle.datagrams.specs.Sizes.{packetLimit}
-use Rattle.repair.specs.Cells.{State, unknown, received, spare, repaired, blank, keptAhead}
+use Rattle.views.specs.Cells.{State, unknown, received, spare, repaired, blank, keptAhead}
 use Rattle.views.specs.View.{View, freshView}
 use Rattle.views.specs.Offer.{offer}
 use Rattle.views.specs.Release.{Release, next, Loss, giveUp}

@@ -6,7 +6,7 @@ use mathlib.Core.List.{List, _++_}
 use lib.ListN.{length, take, drop}
 use Rattle.lengths.specs.Answers.{Answer, done, refused}
 use Rattle.datagrams.specs.Sizes.{packetLimit}
-use Rattle.repair.specs.Cells.{keptAhead}
+use Rattle.views.specs.Cells.{keptAhead}
 use Rattle.views.specs.View.{View}
 use Rattle.views.specs.Release.{Release, next}
 use Rattle.held.specs.Table.{Lent, viewIn}

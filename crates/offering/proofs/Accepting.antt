@@ -16,10 +16,10 @@ use Rattle.datagrams.specs.declared.reader.Part.{Part}
 use Rattle.datagrams.specs.declared.kind.Kind.{Kind}
 use Rattle.datagrams.specs.declared.kind.Kind.the-variants as kind
 use Rattle.datagrams.proofs.WriteLaws.{both, within-true, count-few}
-use Rattle.repair.specs.Cells.{received, Cell, unknownAt, keptBefore, keptAhead, keptNumbers}
-use Rattle.repair.specs.Held.{Held, heldAt, heldMessages}
-use Rattle.repair.specs.Reached.{Known}
-use Rattle.repair.specs.Repair.{repair}
+use Rattle.views.specs.Cells.{received, Cell, unknownAt, keptBefore, keptAhead, keptNumbers}
+use Rattle.views.specs.Held.{Held, heldAt, heldMessages}
+use Rattle.views.specs.Reached.{Known}
+use Rattle.views.specs.Repair.{repair}
 use Rattle.views.specs.Ranges.{isFill}
 use Rattle.views.specs.Offer as offers
 use Rattle.held.specs.Table.{Lent, lent, countsOf, stateNumbered, cellsOf, heldOf, viewIn}

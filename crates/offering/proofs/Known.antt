@@ -7,8 +7,8 @@ use mathlib.Core.Logic.{⊎-elim}
 use lib.ListN.{length, set}
 use lib.Seq.{getD-set-same, getD-set-other}
 use Rattle.octets.proofs.Cases.{true-or-false}
-use Rattle.repair.specs.Cells.{State, spare, Cell, isUnknown, unknownAt}
-use Rattle.repair.specs.Reached.{Known, Unknown}
+use Rattle.views.specs.Cells.{State, spare, Cell, isUnknown, unknownAt}
+use Rattle.views.specs.Reached.{Known, Unknown}
 use Rattle.views.specs.Offer.{keep, keepSpares}
 
 set-here : (cells : List Cell) (p : ℕ) (c : Cell) → p < length cells → isUnknown (c .state) ≡ false → Known (set cells p c) p

@@ -20,8 +20,8 @@ use Rattle.datagrams.specs.declared.reader.Part.{Part}
 use Rattle.datagrams.specs.declared.reader.Reading.the-variants as reading
 use Rattle.datagrams.specs.declared.reader.DatagramRead.{DatagramRead}
 use Rattle.datagrams.specs.declared.kind.Kind.{Kind}
-use Rattle.repair.specs.Cells.{keptAhead}
-use Rattle.repair.specs.Held.{Held, heldAt}
+use Rattle.views.specs.Cells.{keptAhead}
+use Rattle.views.specs.Held.{Held, heldAt}
 use Rattle.views.specs.View.{distance, numbers}
 use Rattle.views.specs.Offer as offers
 use Rattle.held.specs.Slots.{slotsHeard, heardSlotAt}

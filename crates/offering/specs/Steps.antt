@@ -12,8 +12,8 @@ use Rattle.datagrams.specs.Read.{carriedBy}
 use Rattle.datagrams.specs.declared.reader.Part.{Part}
 use Rattle.datagrams.specs.declared.kind.Kind.{Kind}
 use Rattle.datagrams.specs.declared.kind.Kind.the-variants as kind
-use Rattle.repair.specs.Cells.{keptBefore, keptAhead}
-use Rattle.repair.specs.Held.{heldAt}
+use Rattle.views.specs.Cells.{keptBefore, keptAhead}
+use Rattle.views.specs.Held.{heldAt}
 use Rattle.views.specs.Offer as offers
 use Rattle.held.specs.Slots.{numberAt}
 use Rattle.held.specs.Table.{Lent, heldOf, viewIn}

@@ -10,8 +10,8 @@ use native.Mathlib.Omega.{arith}
 use borrow.Author.Tests.{eq-eqb, ne-eqb}
 use Rattle.octets.proofs.Cases.{same-or-not}
 use Rattle.datagrams.specs.Sizes.{packetLimit, messagesLimit}
-use Rattle.repair.specs.Cells.{keptBefore, keptAhead}
-use Rattle.repair.specs.Repair.{Message, usable}
+use Rattle.views.specs.Cells.{keptBefore, keptAhead}
+use Rattle.views.specs.Repair.{Message, usable}
 use Rattle.views.specs.View.{numbers}
 use Rattle.held.specs.Slots.{numberAt, heardSlotAt, slotsHeard, messageOctets}
 use Rattle.held.specs.Table.{nIn, mIn, messageSizeIn, cellsOf}

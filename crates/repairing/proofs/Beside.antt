@@ -4,7 +4,7 @@ use mathlib.Core.Path.{_≡_, refl, ap, _∙_}
 use mathlib.Core.List.{List}
 use native.Mathlib.Omega.{arith}
 use Rattle.octets.proofs.Place.{tab-ext}
-use Rattle.repair.specs.Cells.{keptAhead}
+use Rattle.views.specs.Cells.{keptAhead}
 use Rattle.stores.specs.Store.{part}
 use Rattle.held.specs.Slots.{heardSlotAt, messageSlot}
 use Rattle.held.specs.Table.{markPlace, nPlace, mPlace, messagePlace, mIn, messageIn, heldIn, heldOf}

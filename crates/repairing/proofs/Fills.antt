@@ -8,12 +8,12 @@ use mathlib.Core.Option.{some}
 use lib.ListN.{length, take}
 use native.Mathlib.Omega.{arith}
 use Rattle.datagrams.specs.Sizes.{packetLeast, packetLimit, messagesLimit}
-use Rattle.repair.specs.Cells.{Cell, keptNumbers}
-use Rattle.repair.specs.Repair.{Message, usable, firstUsable, mended, fill, repairF, repair}
-use Rattle.repair.specs.Held.{Held, heldMessages}
-use Rattle.repair.proofs.Fill.{missing, usable-says, length-mended}
-use Rattle.repair.proofs.Search.{found-usable}
-use Rattle.repair.proofs.Grows.{repairF-done, repairF-fill}
+use Rattle.views.specs.Cells.{Cell, keptNumbers}
+use Rattle.views.specs.Repair.{Message, usable, firstUsable, mended, fill, repairF, repair}
+use Rattle.views.specs.Held.{Held, heldMessages}
+use Rattle.views.proofs.Fill.{missing, usable-says, length-mended}
+use Rattle.views.proofs.Search.{found-usable}
+use Rattle.views.proofs.Grows.{repairF-done, repairF-fill}
 use Rattle.stores.specs.Store.{pasted}
 use Rattle.held.specs.Slots.{slotAt, slotsKept}
 use Rattle.held.specs.Table.{Lent, lent, countsOf, stateNumbered, cellsOf, heldOf, viewIn, keptSet}

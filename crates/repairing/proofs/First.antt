@@ -7,11 +7,11 @@ use lib.ListN.{length}
 use native.Mathlib.Numerals.{add-one}
 use native.Mathlib.Omega.{arith}
 use Rattle.datagrams.specs.Sizes.{messagesLimit}
-use Rattle.repair.specs.Cells.{keptBefore, keptAhead}
-use Rattle.repair.specs.Repair.{firstUsable}
-use Rattle.repair.specs.Held.{Held, messagesOf, heldMessages}
-use Rattle.repair.proofs.Search.{firstUsable-front, firstUsable-rest}
-use Rattle.repair.proofs.Turns.{heldFrom, heldFrom-start, heldFrom-turn, heldFrom-end}
+use Rattle.views.specs.Cells.{keptBefore, keptAhead}
+use Rattle.views.specs.Repair.{firstUsable}
+use Rattle.views.specs.Held.{Held, messagesOf, heldMessages}
+use Rattle.views.proofs.Search.{firstUsable-front, firstUsable-rest}
+use Rattle.views.proofs.Turns.{heldFrom, heldFrom-start, heldFrom-turn, heldFrom-end}
 use Rattle.views.specs.View.{numbers}
 use Rattle.held.specs.Slots.{heardSlotAt, slotsHeard, messageOctets}
 use Rattle.held.specs.Table.{mIn, heldIn, cellsOf, heldOf}

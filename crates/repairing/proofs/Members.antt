@@ -14,9 +14,9 @@ use Rattle.octets.specs.ExclusiveOr.{xorAt}
 use Rattle.octets.proofs.Place.{tab-ext}
 use Rattle.octets.proofs.ExclusiveOr.{xorAt-cons}
 use Rattle.datagrams.specs.Sizes.{packetLimit}
-use Rattle.repair.specs.Cells.{Cell, cellAt, unknownAt, keptNumbers}
-use Rattle.repair.specs.Repair.{passing}
-use Rattle.repair.proofs.Passing.{passing-yes, passing-no}
+use Rattle.views.specs.Cells.{Cell, cellAt, unknownAt, keptNumbers}
+use Rattle.views.specs.Repair.{passing}
+use Rattle.views.proofs.Passing.{passing-yes, passing-no}
 use Rattle.views.specs.View.{distance, numbers}
 use Rattle.held.specs.Slots.{numberAt, slotAt}
 use Rattle.held.specs.Table.{Lent, cellsOf}

@@ -14,10 +14,10 @@ use Rattle.octets.specs.Place.{tab}
 use Rattle.octets.proofs.Place.{length-tab, tab-at, tab-ext}
 use Rattle.octets.proofs.Cases.{same-or-not}
 use Rattle.datagrams.specs.Sizes.{packetLimit, coveredLimit, messagesLimit}
-use Rattle.repair.specs.Cells.{Cell, keptBefore, keptAhead}
-use Rattle.repair.specs.Members.{membersOf}
-use Rattle.repair.specs.Repair.{Message, unknownMembers, usable, firstUsable}
-use Rattle.repair.specs.Held.{messagesOf, messageAt}
+use Rattle.views.specs.Cells.{Cell, keptBefore, keptAhead}
+use Rattle.views.specs.Members.{membersOf}
+use Rattle.views.specs.Repair.{Message, unknownMembers, usable, firstUsable}
+use Rattle.views.specs.Held.{messagesOf, messageAt}
 use Rattle.stores.proofs.Laws.{length-part}
 use Rattle.views.proofs.Sizes.{reach-kept}
 use Rattle.held.specs.Slots.{numberAt, slotAt, heardSlotAt, messageSlot, slotsHeard, slotsMessages, messageOctets}

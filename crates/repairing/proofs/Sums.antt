@@ -9,10 +9,10 @@ use lib.Bits.{bitXor, xor-zero-r}
 use native.Mathlib.Omega.{arith}
 use Rattle.octets.proofs.ExclusiveOr.{xor-assoc, xorAt-cons, exclusiveOr-at}
 use Rattle.datagrams.specs.Sizes.{packetLimit, messagesLimit}
-use Rattle.repair.specs.Cells.{keptBefore, keptAhead}
-use Rattle.repair.specs.Members.{membersOf}
-use Rattle.repair.specs.Repair.{Message, mended}
-use Rattle.repair.proofs.Fill.{length-mended}
+use Rattle.views.specs.Cells.{keptBefore, keptAhead}
+use Rattle.views.specs.Members.{membersOf}
+use Rattle.views.specs.Repair.{Message, mended}
+use Rattle.views.proofs.Fill.{length-mended}
 use Rattle.stores.specs.Store.{added, part}
 use Rattle.stores.proofs.Laws.{length-added, added-at}
 use Rattle.views.specs.View.{distance, numbers}

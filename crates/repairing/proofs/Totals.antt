@@ -9,7 +9,7 @@ use native.Mathlib.Numerals.{add-one}
 use native.Mathlib.Omega.{arith}
 use Rattle.octets.proofs.Cases.{same-or-not}
 use Rattle.datagrams.specs.Sizes.{messagesLimit}
-use Rattle.repair.specs.Cells.{keptAhead}
+use Rattle.views.specs.Cells.{keptAhead}
 use Rattle.held.specs.Slots.{slotsHeard}
 use Rattle.held.specs.Table.{mIn}
 use Rattle.repairing.specs.Back.{sumTo, Count, countAll}

@@ -8,7 +8,7 @@ use lib.ListN.{length, getD}
 use lib.Bits.{bitXor}
 use lib.Dec.{eqb}
 use Rattle.datagrams.specs.Sizes.{packetLimit, messagesLimit}
-use Rattle.repair.specs.Cells.{isUnknown}
+use Rattle.views.specs.Cells.{isUnknown}
 use Rattle.views.specs.View.{distance}
 use Rattle.held.specs.Slots.{slotsKept, slotsHeard}
 use Rattle.held.specs.Table.{stateIn, mIn, stateNumbered}

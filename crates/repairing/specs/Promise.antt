@@ -8,10 +8,10 @@ use mathlib.Core.Option.{Option, none, some}
 use lib.ListN.{length, getD, take}
 use lib.Dec.{eqb}
 use Rattle.datagrams.specs.Sizes.{packetLimit, coveredLimit, messagesLimit}
-use Rattle.repair.specs.Cells.{keptBefore, keptAhead}
-use Rattle.repair.specs.Members.{membersOf}
-use Rattle.repair.specs.Repair.{Message, unknownMembers, firstUsable, mended, fill, repair}
-use Rattle.repair.specs.Held.{messagesOf, heldMessages}
+use Rattle.views.specs.Cells.{keptBefore, keptAhead}
+use Rattle.views.specs.Members.{membersOf}
+use Rattle.views.specs.Repair.{Message, unknownMembers, firstUsable, mended, fill, repair}
+use Rattle.views.specs.Held.{messagesOf, heldMessages}
 use Rattle.views.specs.View.{View, numbers}
 use Rattle.held.specs.Slots.{slotAt, heardSlotAt, messageSlot, slotsKept, slotsHeard, messageOctets}
 use Rattle.held.specs.Table.{Lent, places, nIn, mIn, messageSizeIn, messageIn, heldIn, cellsOf, heldOf, viewIn}

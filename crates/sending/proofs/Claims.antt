@@ -11,7 +11,7 @@ use Rattle.octets.specs.ExclusiveOr.{xorAt, exclusiveOr, longest}
 use Rattle.lengths.specs.Tables.{unless}
 use Rattle.lengths.specs.Length.{lengthOctets}
 use Rattle.datagrams.specs.Write.{numberOctets, itemOctets, itemsOctets, countedOctets, datagramOctets}
-use Rattle.repair.specs.Members.{membersOf}
+use Rattle.views.specs.Members.{membersOf}
 use Rattle.sending.specs.Sending.{Sending, freshSending, sentOn}
 use Rattle.sending.specs.Carries.{sparesFrom, messagesFrom}
 use Rattle.sending.specs.Send.{datagramToSend}

@@ -15,8 +15,8 @@ use Rattle.datagrams.specs.Sizes.{sparesLimit, coveredLimit, messagesLimit}
 use Rattle.datagrams.specs.Carried.{Extra, spares, parity, Carried}
 use Rattle.datagrams.specs.Write.{within}
 use Rattle.datagrams.proofs.WriteLaws.{both, within-true}
-use Rattle.repair.specs.Members.{membersOf}
-use Rattle.repair.specs.Honest.{messageOver}
+use Rattle.views.specs.Members.{membersOf}
+use Rattle.views.specs.Honest.{messageOver}
 use Rattle.sending.specs.Sending.{historyKept}
 use Rattle.sending.specs.Carries.{settingsInside, sparesFrom, messagesFrom, extraFrom}
 use Rattle.sending.specs.Honest.{packetAt, carriedAt}

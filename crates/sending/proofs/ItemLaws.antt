@@ -13,7 +13,7 @@ use Rattle.datagrams.specs.Sizes.{packetLimit, sparesLimit}
 use Rattle.datagrams.specs.Write.{countInside}
 use Rattle.datagrams.specs.declared.kind.Kind.{Kind}
 use Rattle.datagrams.specs.declared.kind.Kind.the-variants as kind
-use Rattle.repair.specs.Members.{membersOf}
+use Rattle.views.specs.Members.{membersOf}
 use Rattle.sending.specs.Sending.{historyKept}
 use Rattle.sending.specs.Carries.{settingsInside, sparesFrom, messagesFrom}
 use Rattle.sending.specs.Send.{packetOf}

@@ -12,8 +12,8 @@ use Rattle.octets.specs.Place.{tab}
 use Rattle.datagrams.specs.Sizes.{sparesLimit, coveredLimit, messagesLimit}
 use Rattle.datagrams.specs.Carried.{Extra, spares, parity, Carried}
 use Rattle.datagrams.specs.Write.{within}
-use Rattle.repair.specs.Members.{membersOf}
-use Rattle.repair.specs.Honest.{messageOver}
+use Rattle.views.specs.Members.{membersOf}
+use Rattle.views.specs.Honest.{messageOver}
 use Rattle.views.specs.View.{numbers}
 use Rattle.sending.specs.declared.Settings.{Settings}
 use Rattle.sending.specs.declared.Settings.the-variants as settings

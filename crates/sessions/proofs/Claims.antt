@@ -14,10 +14,10 @@ use Rattle.lengths.specs.Refusals.{repeated, tooFar, late}
 use Rattle.lengths.specs.Answers.{Answer, done, refused, refuse, _>>=_, over}
 use Rattle.datagrams.specs.Carried.{Carried, Extra, spares, parity}
 use Rattle.datagrams.specs.Read.{DatagramParts, readDatagram, carriedBy}
-use Rattle.repair.specs.Cells.{State, received, spare, Cell, isUnknown, cellAt, unknownAt, keptBefore, keptAhead}
-use Rattle.repair.specs.Held.{Held, nothingHeld}
-use Rattle.repair.specs.Reached.{Known}
-use Rattle.repair.proofs.Grows.{repair-known}
+use Rattle.views.specs.Cells.{State, received, spare, Cell, isUnknown, cellAt, unknownAt, keptBefore, keptAhead}
+use Rattle.views.specs.Held.{Held, nothingHeld}
+use Rattle.views.specs.Reached.{Known}
+use Rattle.views.proofs.Grows.{repair-known}
 use Rattle.views.specs.View.{View, distance}
 use Rattle.views.specs.Offer as offers
 use Rattle.held.specs.Laid.{sessionInRanges}

@@ -2,7 +2,7 @@
 use Prim.Native.Nat.{ℕ}
 use mathlib.Core.Path.{_≡_, refl, sym, ap, _∙_}
 use native.Mathlib.Omega.{arith}
-use Rattle.repair.specs.Cells as cells
+use Rattle.views.specs.Cells as cells
 use Rattle.held.specs.Table.{stateOf}
 use Rattle.held.specs.declared.State.{State}
 use Rattle.held.specs.declared.State.the-variants.{Unknown, Received, Spare, Repaired, Blank}

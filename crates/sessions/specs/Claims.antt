@@ -7,8 +7,8 @@ use lib.ListN.{length}
 use Rattle.lengths.specs.Answers.{done, refused}
 use Rattle.lengths.specs.declared.Refusal.{Refusal}
 use Rattle.datagrams.specs.Read.{DatagramParts, readDatagram}
-use Rattle.repair.specs.Cells.{cellAt, keptAhead}
-use Rattle.repair.specs.Reached.{Known}
+use Rattle.views.specs.Cells.{cellAt, keptAhead}
+use Rattle.views.specs.Reached.{Known}
 use Rattle.views.specs.View.{View, distance}
 use Rattle.views.specs.Offer as offers
 use Rattle.held.specs.Laid.{sessionInRanges}

@@ -4,9 +4,9 @@ use Rattle.octets.specs.Place.{tab}
 use Rattle.octets.specs.ExclusiveOr.{xorAt, exclusiveOr}
 use Rattle.lengths.specs.Length.{lengthAt}
 use Rattle.datagrams.specs.Read.{allowed, sizedAt, itemAt, numberOf, readDatagram}
-use Rattle.repair.specs.Members.{membersOf}
-use Rattle.repair.specs.Repair.{passing, usable, firstUsable, mended, fill, repairF, repair}
-use Rattle.repair.specs.Held.{messagesOf, messagesFrom, heldMessages}
+use Rattle.views.specs.Members.{membersOf}
+use Rattle.views.specs.Repair.{passing, usable, firstUsable, mended, fill, repairF, repair}
+use Rattle.views.specs.Held.{messagesOf, messagesFrom, heldMessages}
 use Rattle.views.specs.View.{freshView, goneOn}
 use Rattle.views.specs.Offer.{keep, keepSpares, accept, offered, offer}
 use Rattle.views.specs.Release.{next, giveUp}

@@ -12,9 +12,9 @@ use native.Mathlib.Omega.{arith}
 use borrow.Author.Tests.{le-leb}
 use Rattle.octets.proofs.Cases.{same-or-not, and-left, and-right, and-both}
 use Rattle.datagrams.specs.Sizes.{packetLeast, packetLimit}
-use Rattle.repair.specs.Cells.{State, unknown, received, spare, repaired, blank, isUnknown, Cell, blankCell, cellAt, unknownAt, keptBefore, keptAhead, keptNumbers}
-use Rattle.repair.specs.Held.{Held, heldAt}
-use Rattle.repair.proofs.Fill.{unknown-inside}
+use Rattle.views.specs.Cells.{State, unknown, received, spare, repaired, blank, isUnknown, Cell, blankCell, cellAt, unknownAt, keptBefore, keptAhead, keptNumbers}
+use Rattle.views.specs.Held.{Held, heldAt}
+use Rattle.views.proofs.Fill.{unknown-inside}
 use Rattle.views.specs.View.{View, sum}
 use Rattle.views.specs.Ranges.{sumRight, blankAt, sizeRight, isFill, cellRight, markRight, heldRight, knownAt, Sound}
 use Rattle.views.proofs.Sizes.{unknown-size}

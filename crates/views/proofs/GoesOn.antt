@@ -10,8 +10,8 @@ use native.Mathlib.Omega.{arith}
 use borrow.Author.Tests.{lt-ltb, le-ltb, le-leb, eq-eqb, eqb-true}
 use Rattle.octets.specs.Place.{allBelow}
 use Rattle.octets.proofs.Cases.{same-or-not, below-or-not, and-left, and-both}
-use Rattle.repair.specs.Cells.{Cell, blankCell, unknownCell, cellAt, isUnknown, keptBefore}
-use Rattle.repair.specs.Held.{Held, nothingHeld, heldAt}
+use Rattle.views.specs.Cells.{Cell, blankCell, unknownCell, cellAt, isUnknown, keptBefore}
+use Rattle.views.specs.Held.{Held, nothingHeld, heldAt}
 use Rattle.views.specs.Ranges.{blankAt, sumRight, sizeRight, cellRight, markRight, heldRight, knownAt, Sound}
 use Rattle.views.specs.View as views
 use Rattle.views.specs.View.{View, sum, numbers, sessionLimit, following, goneOn}

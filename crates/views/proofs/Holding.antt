@@ -13,8 +13,8 @@ use borrow.Author.Tests.{le-leb, eqb-true}
 use Rattle.octets.proofs.Cases.{same-or-not, and-left, and-both}
 use Rattle.octets.proofs.Place.{allBelow-of}
 use Rattle.datagrams.specs.Sizes.{messageLimit}
-use Rattle.repair.specs.Cells.{keptBefore, keptAhead}
-use Rattle.repair.specs.Held.{Held, nothingHeld, heldAt}
+use Rattle.views.specs.Cells.{keptBefore, keptAhead}
+use Rattle.views.specs.Held.{Held, nothingHeld, heldAt}
 use Rattle.views.specs.View.{View}
 use Rattle.views.specs.Ranges.{sumRight, markRight, heldRight, knownAt, Sound}
 

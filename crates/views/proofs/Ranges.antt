@@ -10,8 +10,8 @@ use borrow.Author.Tests.{leb-true, eqb-true}
 use Rattle.octets.proofs.Cases.{and-left, and-right, and-both}
 use Rattle.octets.proofs.Place.{allBelow-at, allBelow-of}
 use Rattle.datagrams.specs.Sizes.{packetLeast, packetLimit}
-use Rattle.repair.specs.Cells.{State, unknown, received, spare, repaired, blank, cellAt, keptBefore, keptAhead, keptNumbers}
-use Rattle.repair.specs.Held.{heldAt}
+use Rattle.views.specs.Cells.{State, unknown, received, spare, repaired, blank, cellAt, keptBefore, keptAhead, keptNumbers}
+use Rattle.views.specs.Held.{heldAt}
 use Rattle.views.specs.View.{View, sum, numbers, sessionLimit}
 use Rattle.views.specs.Ranges.{sumRight, blankAt, sizeRight, cellRight, heldRight, knownAt, cellsRight, allHeldRight, inRanges, Sound}
 

@@ -10,8 +10,8 @@ use native.Mathlib.Omega.{arith}
 use borrow.Author.Tests.{leb-true, eqb-true}
 use Rattle.octets.proofs.Cases.{and-left, and-right}
 use Rattle.datagrams.specs.Sizes.{coveredLimit, messagesLimit, reachLimit}
-use Rattle.repair.specs.Cells.{State, unknown, received, spare, repaired, blank, isUnknown, keptBefore}
-use Rattle.repair.specs.Held.{Held}
+use Rattle.views.specs.Cells.{State, unknown, received, spare, repaired, blank, isUnknown, keptBefore}
+use Rattle.views.specs.Held.{Held}
 use Rattle.views.specs.Ranges.{sizeRight, markRight, heldRight}
 
 -- ---- a kept number

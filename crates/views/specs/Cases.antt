@@ -2,22 +2,22 @@
 -- Definitions only.
 use Prim.Native.Nat.{ℕ, _-_}
 use mathlib.Core.Path.{_≡_}
-use mathlib.Core.Bool.{true}
 use mathlib.Core.List.{List, [], _∷_, _++_}
 use lib.ListN.{length, replicate}
 use Rattle.lengths.specs.Refusals.{endsEarly, repeated, tooFar, late, baseUnknown, noRoom, allPassed}
 use Rattle.lengths.specs.Answers.{done, refuse}
 use Rattle.datagrams.specs.Carried.{Carried, spares, parity}
-use Rattle.repair.specs.Cells.{State, received, spare, repaired, Cell, blankCell, unknownCell, keptBefore, keptAhead}
-use Rattle.repair.specs.Held.{Held, nothingHeld}
+use Rattle.views.specs.Cells.{spare, Cell, blankCell, unknownCell, keptBefore, keptAhead}
+use Rattle.views.specs.Held.{Held, nothingHeld}
+use Rattle.views.specs.RepairCases.{came, filled, holding}
 use Rattle.views.specs.View.{View, Counts, sessionLimit, freshView}
 use Rattle.views.specs.Offer.{offer, offered}
 use Rattle.views.specs.Release.{next, giveUp}
 
 -- ---- what stands in them
 -- a number that came with `06`, and a spare with `02`
-abbrev pub came : Cell
-came = record { state = received; octets = 0x06 ∷ [] }
+abbrev pub arrived : Cell
+arrived = came (0x06 ∷ [])
 
 abbrev pub copy : Cell
 copy = record { state = spare; octets = 0x02 ∷ [] }
@@ -27,17 +27,17 @@ abbrev pub message : List ℕ
 message = 0xC6 ∷ 0x01 ∷ []
 
 abbrev pub member : Cell
-member = record { state = received; octets = 0xC0 ∷ 0x01 ∷ [] }
+member = came (0xC0 ∷ 0x01 ∷ [])
 
-abbrev pub mended : Cell
-mended = record { state = repaired; octets = 0x06 ∷ 0x00 ∷ [] }
+abbrev pub restored : Cell
+restored = filled (0x06 ∷ 0x00 ∷ [])
 
 -- held of a datagram without messages, and of one with that message
 abbrev pub marked : Held
-marked = record { accepted = true; n = 0; messages = [] }
+marked = holding 0 []
 
 abbrev pub overTwo : Held
-overTwo = record { accepted = true; n = 2; messages = message ∷ [] }
+overTwo = holding 2 (message ∷ [])
 
 -- datagram S with the packet `06` alone, with one spare, and with that message
 abbrev pub alone : ℕ → Carried
@@ -74,45 +74,45 @@ atLimit = later 0x4240 sessionLimit
 -- ---- offer
 pub record OfferCases : Type 0 where
   -- a packet and its spare are kept, its number is marked, and no count moves
-  pub spare-kept : offered (withSpare 1) freshView ≡ done (started (copy ∷ came ∷ []) (nothingHeld ∷ marked ∷ []))
+  pub spare-kept : offered (withSpare 1) freshView ≡ done (started (copy ∷ arrived ∷ []) (nothingHeld ∷ marked ∷ []))
   -- a spare for a number before the first is passed over: blank is known
-  pub spare-before-first : offered (withSpare 0) freshView ≡ done (started (came ∷ []) (marked ∷ []))
+  pub spare-before-first : offered (withSpare 0) freshView ≡ done (started (arrived ∷ []) (marked ∷ []))
   -- a datagram accepted for a number that is spare: kind and octets stay, and it is marked
   pub spare-stays : offered (alone 0) (started (copy ∷ []) []) ≡ done (started (copy ∷ []) (marked ∷ []))
   -- a datagram's own message repairs within its offer, whatever came before, and is kept
   pub repaired-then : offered (withMessage 2) (started (unknownCell ∷ member ∷ []) (nothingHeld ∷ marked ∷ []))
-      ≡ done (started (mended ∷ member ∷ came ∷ []) (nothingHeld ∷ marked ∷ overTwo ∷ []))
+      ≡ done (started (restored ∷ member ∷ arrived ∷ []) (nothingHeld ∷ marked ∷ overTwo ∷ []))
   -- a number before the base is repaired too, and no count moves
   pub before-base : offered (withMessage 2) (later 1 1 (member ∷ []) (marked ∷ []))
       ≡ done (record {
         base = 1;
         counts = record { received = 1; spare = 0; repaired = 0; lost = 0 };
-        cells = replicate 31 unknownCell ++ (mended ∷ member ∷ came ∷ replicate 30 unknownCell);
+        cells = replicate 31 unknownCell ++ (restored ∷ member ∷ arrived ∷ replicate 30 unknownCell);
         held = marked ∷ overTwo ∷ replicate 30 nothingHeld;
       })
   -- its message is kept while two members are missing
   pub two-missing : offered (withMessage 2) freshView
-      ≡ done (started (unknownCell ∷ unknownCell ∷ came ∷ []) (nothingHeld ∷ nothingHeld ∷ overTwo ∷ []))
+      ≡ done (started (unknownCell ∷ unknownCell ∷ arrived ∷ []) (nothingHeld ∷ nothingHeld ∷ overTwo ∷ []))
   -- after base 65,535 comes number 0
   pub across-65535 : offered (alone 0) (later 65535 65535 [] [])
-      ≡ done (later 65535 65535 (unknownCell ∷ came ∷ []) (nothingHeld ∷ marked ∷ []))
+      ≡ done (later 65535 65535 (unknownCell ∷ arrived ∷ []) (nothingHeld ∷ marked ∷ []))
   -- an offer is never refused by 16
-  pub at-limit : offered (alone 0x4240) (atLimit [] []) ≡ done (atLimit (came ∷ []) (marked ∷ []))
+  pub at-limit : offered (alone 0x4240) (atLimit [] []) ≡ done (atLimit (arrived ∷ []) (marked ∷ []))
   -- "reading order, then 8 or 9, then 7": a number that has left is late, not repeated
   pub read-first : offer (0x01 ∷ 0x00 ∷ []) freshView ≡ refuse endsEarly
-  pub far-first : offered (alone 32) (started (came ∷ []) (marked ∷ [])) ≡ refuse tooFar
-  pub late-first : offered (alone 0) (later 1 1 (came ∷ []) []) ≡ refuse late
+  pub far-first : offered (alone 32) (started (arrived ∷ []) (marked ∷ [])) ≡ refuse tooFar
+  pub late-first : offered (alone 0) (later 1 1 (arrived ∷ []) []) ≡ refuse late
   pub far-32767 : offered (alone 32767) freshView ≡ refuse tooFar
   pub late-32768 : offered (alone 32768) freshView ≡ refuse late
-  pub again : offered (alone 0) (started (came ∷ []) (marked ∷ [])) ≡ refuse repeated
+  pub again : offered (alone 0) (started (arrived ∷ []) (marked ∷ [])) ≡ refuse repeated
 
 -- ---- next and give up: "Next 17, 16, 10, 13. Give up 17, 16, 11."
 pub record ReleaseCases : Type 0 where
   pub passed-then-unknown : next 0 (atLimit [] []) ≡ refuse allPassed
-  pub passed-then-room : next 0 (atLimit (came ∷ []) []) ≡ refuse allPassed
+  pub passed-then-room : next 0 (atLimit (arrived ∷ []) []) ≡ refuse allPassed
   pub unknown-then-room : next 0 freshView ≡ refuse baseUnknown
   pub no-room : next 0 (started (copy ∷ []) []) ≡ refuse noRoom
-  pub passed-then-known : giveUp (atLimit (came ∷ []) []) ≡ refuse allPassed
+  pub passed-then-known : giveUp (atLimit (arrived ∷ []) []) ≡ refuse allPassed
   -- a spare is counted as it leaves, and after 65,535 comes 0
   pub spare-leaves : next 1 (later 65535 65535 (copy ∷ []) (marked ∷ []))
       ≡ done (record {

@@ -1,5 +1,13 @@
+pub mod Members
+pub mod Cells
+pub mod Repair
+pub mod Held
+pub mod Reached
+pub mod Honest
 pub mod View
 pub mod Ranges
 pub mod Offer
 pub mod Release
+pub mod Claims
+pub mod RepairCases
 pub mod Cases

@@ -11,9 +11,9 @@ use Rattle.lengths.specs.Refusals.{repeated, tooFar, late}
 use Rattle.lengths.specs.Answers.{Answer, done, refuse, _>>=_}
 use Rattle.datagrams.specs.Carried.{Carried, Extra, spares, parity}
 use Rattle.datagrams.specs.Read.{readDatagram, carriedBy}
-use Rattle.repair.specs.Cells.{State, received, spare, Cell, unknownAt, keptBefore, keptAhead}
-use Rattle.repair.specs.Held.{Held, nothingHeld, heldMessages}
-use Rattle.repair.specs.Repair.{repair}
+use Rattle.views.specs.Cells.{State, received, spare, Cell, unknownAt, keptBefore, keptAhead}
+use Rattle.views.specs.Held.{Held, nothingHeld, heldMessages}
+use Rattle.views.specs.Repair.{repair}
 use Rattle.views.specs.View.{View, distance}
 
 -- late from this distance on

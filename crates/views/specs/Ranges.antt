@@ -11,8 +11,8 @@ use lib.ListN.{length, getD}
 use lib.Dec.{leb, ltb, eqb}
 use Rattle.octets.specs.Place.{allBelow}
 use Rattle.datagrams.specs.Sizes.{packetLeast, packetLimit, messageLimit, coveredLimit, messagesLimit}
-use Rattle.repair.specs.Cells.{State, unknown, received, spare, repaired, blank, Cell, cellAt, unknownAt, keptBefore, keptAhead, keptNumbers}
-use Rattle.repair.specs.Held.{Held, heldAt}
+use Rattle.views.specs.Cells.{State, unknown, received, spare, repaired, blank, Cell, cellAt, unknownAt, keptBefore, keptAhead, keptNumbers}
+use Rattle.views.specs.Held.{Held, heldAt}
 use Rattle.views.specs.View.{View, sum, numbers, sessionLimit}
 
 -- "Base equals the sum of counts modulo 65,536, sum at most 1,000,000."

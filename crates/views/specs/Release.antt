@@ -8,7 +8,7 @@ use lib.ListN.{length}
 use lib.Dec.{leb, ltb}
 use Rattle.lengths.specs.Refusals.{baseUnknown, baseKnown, noRoom, allPassed}
 use Rattle.lengths.specs.Answers.{Answer, done, refuse}
-use Rattle.repair.specs.Cells.{State, unknown, received, spare, repaired, blank, Cell, cellAt, unknownAt, keptBefore}
+use Rattle.views.specs.Cells.{State, unknown, received, spare, repaired, blank, Cell, cellAt, unknownAt, keptBefore}
 use Rattle.views.specs.View.{View, Counts, sum, sessionLimit, goneOn}
 
 -- one more released of its kind; an unknown or blank number is never released

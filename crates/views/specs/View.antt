@@ -6,8 +6,8 @@ use Prim.Native.Nat.{ℕ, _+_, _-_, _%_}
 use mathlib.Core.List.{List, [], _∷_, _++_}
 use lib.ListN.{drop, replicate}
 use Rattle.octets.specs.Place.{tab}
-use Rattle.repair.specs.Cells.{Cell, blankCell, unknownCell, keptBefore, keptAhead}
-use Rattle.repair.specs.Held.{Held, nothingHeld}
+use Rattle.views.specs.Cells.{Cell, blankCell, unknownCell, keptBefore, keptAhead}
+use Rattle.views.specs.Held.{Held, nothingHeld}
 
 -- 'Sizes': "Session: 1,000,000 numbers."
 abbrev pub sessionLimit : ℕ

@@ -3,7 +3,7 @@
 use Prim.Native.Nat.{_-_}
 use native.Mathlib.Omega.{arith}
 use borrow.Author.Needs.{needs}
-use Rattle.repair.specs.Cells.{keptAhead}
+use Rattle.views.specs.Cells.{keptAhead}
 use Rattle.checking.specs.Pieces.{heardTest}
 use Rattle.checking.proofs.Turns.{Checked, checked-start, heard-turn, checked-done}
 use Rattle.checking.proofs.all_heard_right.Statement.{statement}

@@ -3,7 +3,7 @@
 use Prim.Native.Nat.{_-_}
 use native.Mathlib.Omega.{arith}
 use borrow.Author.Needs.{needs}
-use Rattle.repair.specs.Cells.{keptNumbers}
+use Rattle.views.specs.Cells.{keptNumbers}
 use Rattle.checking.specs.Pieces.{keptTest}
 use Rattle.checking.proofs.Turns.{Checked, checked-start, kept-turn, checked-done}
 use Rattle.checking.proofs.all_kept_right.Statement.{statement}

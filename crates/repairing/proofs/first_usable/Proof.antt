@@ -1,7 +1,7 @@
 -- `repairing::first_usable` meets its contract: what is left to search holds the whole answer, and the messages seen are those of the numbers searched. Assumes nothing.
 use native.Mathlib.Omega.{arith}
 use Prim.Native.Nat.{_-_}
-use Rattle.repair.specs.Cells.{keptAhead}
+use Rattle.views.specs.Cells.{keptAhead}
 use Rattle.repairing.proofs.First.{Seen, seen-start, more-left, seen-hit, seen-turn, seen-done}
 use borrow.Author.Needs.{needs}
 use Rattle.repairing.proofs.first_usable.Statement.{statement}

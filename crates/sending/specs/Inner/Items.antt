@@ -11,8 +11,8 @@ use Rattle.datagrams.specs.Write.{countInside, itemsOctets}
 use Rattle.datagrams.specs.Inner.Put.{itemSize}
 use Rattle.datagrams.specs.declared.kind.Kind.{Kind}
 use Rattle.datagrams.specs.declared.kind.Kind.the-variants as kind
-use Rattle.repair.specs.Members.{membersOf}
-use Rattle.repair.specs.Honest.{messageOver}
+use Rattle.views.specs.Members.{membersOf}
+use Rattle.views.specs.Honest.{messageOver}
 use Rattle.sending.specs.Sending.{historyKept}
 use Rattle.sending.specs.Carries.{sparesFrom, messagesFrom}
 use Rattle.sending.specs.Send.{packetOf}

@@ -8,7 +8,7 @@ use lib.ListN.{length, getD, replicate, length-append, length-replicate, getD-re
 use lib.Seq.{ext-getD, getD-append-add}
 use native.Mathlib.Omega.{arith}
 use Rattle.octets.proofs.Cases.{below-or-not}
-use Rattle.repair.specs.Honest.{UpToZeros}
+use Rattle.views.specs.Honest.{UpToZeros}
 
 zeros-at : (n j : ℕ) → _≡_ {A = ℕ} (getD (replicate n 0) j 0) 0
 zeros-at n j =

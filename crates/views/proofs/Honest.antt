@@ -14,13 +14,13 @@ use Rattle.octets.specs.ExclusiveOr.{xorAt, longest}
 use Rattle.octets.proofs.Cases.{below-or-not, same-or-not}
 use Rattle.octets.proofs.ExclusiveOr.{xor-cancel-right, xorAt-same, longest-reaches}
 use Rattle.octets.proofs.ExclusiveOr.{exclusiveOr-at, exclusiveOr-longest, exclusiveOr-past, length-exclusiveOr}
-use Rattle.repair.specs.Cells.{Cell, cellAt, unknownAt}
-use Rattle.repair.specs.Repair.{Message, otherMembers, usable, mended, fill, repair}
-use Rattle.repair.specs.Honest.{HonestMessage, HonestMessages, UpToZeros, TrueCells}
-use Rattle.repair.proofs.Passing.{passing-among, xorAt-parted}
-use Rattle.repair.proofs.Fill.{missing, usable-says, length-fill, length-mended, fill-missing, fill-other, same-unknown}
-use Rattle.repair.proofs.Search.{found-usable}
-use Rattle.repair.proofs.Grows.{repair-keeps}
+use Rattle.views.specs.Cells.{Cell, cellAt, unknownAt}
+use Rattle.views.specs.Repair.{Message, otherMembers, usable, mended, fill, repair}
+use Rattle.views.specs.Honest.{HonestMessage, HonestMessages, UpToZeros, TrueCells}
+use Rattle.views.proofs.Passing.{passing-among, xorAt-parted}
+use Rattle.views.proofs.Fill.{missing, usable-says, length-fill, length-mended, fill-missing, fill-other, same-unknown}
+use Rattle.views.proofs.Search.{found-usable}
+use Rattle.views.proofs.Grows.{repair-keeps}
 
 -- ---- one fill
 module _ (row : ℕ → List ℕ) (cells : List Cell) (message : Message) (can : usable cells message ≡ true)

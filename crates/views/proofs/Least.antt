@@ -8,13 +8,13 @@ use mathlib.Core.Bool.{false≢true}
 use mathlib.Core.List.{List, List·Memᴰ as Among}
 use mathlib.Core.Option.{none}
 use Rattle.octets.proofs.Cases.{true-or-false}
-use Rattle.repair.specs.Cells.{Cell, unknownAt}
-use Rattle.repair.specs.Repair.{Message, firstUsable, repair}
-use Rattle.repair.specs.Reached.{Known, Closed, Reached, known, byMessage, DistinctMembers}
-use Rattle.repair.proofs.Fill.{missing, usable-says, usable-of, known-fill}
-use Rattle.repair.proofs.Search.{found-usable, none-usable}
-use Rattle.repair.proofs.Grows.{repair-keeps, known-repair}
-use Rattle.repair.proofs.Enough.{repair-closed}
+use Rattle.views.specs.Cells.{Cell, unknownAt}
+use Rattle.views.specs.Repair.{Message, firstUsable, repair}
+use Rattle.views.specs.Reached.{Known, Closed, Reached, known, byMessage, DistinctMembers}
+use Rattle.views.proofs.Fill.{missing, usable-says, usable-of, known-fill}
+use Rattle.views.proofs.Search.{found-usable, none-usable}
+use Rattle.views.proofs.Grows.{repair-keeps, known-repair}
+use Rattle.views.proofs.Enough.{repair-closed}
 
 -- ---- reached places
 -- they lie within every closed set that holds the known ones

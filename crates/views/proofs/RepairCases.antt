@@ -2,14 +2,14 @@
 use mathlib.Core.Path.{refl}
 use Rattle.octets.specs.Place.{tab}
 use Rattle.octets.specs.ExclusiveOr.{xorAt, exclusiveOr, longest}
-use Rattle.repair.specs.Members.{membersOf}
-use Rattle.repair.specs.Repair.{passing, usable, firstUsable, mended, fill, repairF, repair}
-use Rattle.repair.specs.Held.{messagesOf, messagesFrom}
-use Rattle.repair.specs.Cases.{Cases}
+use Rattle.views.specs.Members.{membersOf}
+use Rattle.views.specs.Repair.{passing, usable, firstUsable, mended, fill, repairF, repair}
+use Rattle.views.specs.Held.{messagesOf, messagesFrom}
+use Rattle.views.specs.RepairCases.{RepairCases}
 
-pub cases : Cases
+pub repair-cases : RepairCases
 unfolding repair repairF firstUsable usable passing mended fill messagesOf messagesFrom membersOf tab xorAt exclusiveOr longest
-cases =
+repair-cases =
     record {
       zeros-stay = refl;
       short-message = refl;

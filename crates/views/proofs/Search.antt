@@ -7,8 +7,8 @@ use mathlib.Core.List.{List, [], _∷_, _++_, List·Memᴰ as Among}
 use mathlib.Core.List.{List·Memᴰ·not-nil, List·Memᴰ·cases-cons, List·Memᴰ·head as here, List·Memᴰ·tail as further}
 use mathlib.Core.Option.{none, some, Option·some-injective, Option·none-ne-some, Option·some-ne-none}
 use Rattle.octets.proofs.Cases.{true-or-false}
-use Rattle.repair.specs.Cells.{Cell}
-use Rattle.repair.specs.Repair.{Message, usable, firstUsable}
+use Rattle.views.specs.Cells.{Cell}
+use Rattle.views.specs.Repair.{Message, usable, firstUsable}
 
 -- ---- steps
 pub firstUsable-yes : (cells : List Cell) (message : Message) (messages : List Message) → usable cells message ≡ true

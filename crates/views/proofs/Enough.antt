@@ -8,12 +8,12 @@ use mathlib.Core.List.{List, [], _∷_}
 use mathlib.Core.Option.{none, some}
 use lib.ListN.{length, set}
 use native.Mathlib.Omega.{arith}
-use Rattle.repair.specs.Cells.{Cell, isUnknown, repaired}
-use Rattle.repair.specs.Repair.{Message, usable, firstUsable, fill, mended, repairF, repair}
-use Rattle.repair.specs.Reached.{Unknown}
-use Rattle.repair.proofs.Fill.{missing, usable-says, length-fill}
-use Rattle.repair.proofs.Search.{found-usable}
-use Rattle.repair.proofs.Grows.{repairF-done, repairF-fill, found-or-none}
+use Rattle.views.specs.Cells.{Cell, isUnknown, repaired}
+use Rattle.views.specs.Repair.{Message, usable, firstUsable, fill, mended, repairF, repair}
+use Rattle.views.specs.Reached.{Unknown}
+use Rattle.views.proofs.Fill.{missing, usable-says, length-fill}
+use Rattle.views.proofs.Search.{found-usable}
+use Rattle.views.proofs.Grows.{repairF-done, repairF-fill, found-or-none}
 
 -- ---- how many numbers are unknown
 unfoldable pub unknowns : List Cell → ℕ

@@ -10,8 +10,8 @@ use lib.Arith.{digits-mod}
 use Rattle.octets.specs.Place.{tab}
 use Rattle.octets.proofs.Place.{tab-among, among-tab}
 use Rattle.octets.proofs.Cases.{below-or-not, same-or-not}
-use Rattle.repair.specs.Members.{memberAt, membersOf, InReach}
-use Rattle.repair.specs.Reached.{Distinct, nothing, fresh}
+use Rattle.views.specs.Members.{memberAt, membersOf, InReach}
+use Rattle.views.specs.Reached.{Distinct, nothing, fresh}
 
 -- a list given by place has no element twice if its places' elements differ
 pub distinct-tab : (n : ℕ) (f : ℕ → ℕ) → ((j k : ℕ) → j < k → k < n → f j ≡ f k → ⊥) → Distinct (tab n f)

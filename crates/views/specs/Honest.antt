@@ -6,10 +6,10 @@ use mathlib.Core.Path.{_≡_}
 use mathlib.Core.List.{List, [], map, List·Memᴰ as Among}
 use lib.ListN.{length, getD}
 use Rattle.octets.specs.ExclusiveOr.{exclusiveOr, longest}
-use Rattle.repair.specs.Cells.{Cell, cellAt}
-use Rattle.repair.specs.Repair.{Message}
-use Rattle.repair.specs.Reached.{Known}
-use Rattle.repair.specs.Held.{Held, messageAt}
+use Rattle.views.specs.Cells.{Cell, cellAt}
+use Rattle.views.specs.Repair.{Message}
+use Rattle.views.specs.Reached.{Known}
+use Rattle.views.specs.Held.{Held, messageAt}
 
 -- "the exclusive or of the members, shorter ones padded with zeros to the longest"
 abbrev pub messageOver : List (List ℕ) → List ℕ

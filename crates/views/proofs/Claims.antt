@@ -1,12 +1,12 @@
 -- The claims of this crate, each proved by a law. Assumes nothing.
-use Rattle.repair.specs.Claims.{Claims}
-use Rattle.repair.proofs.Members.{members-distinct, members-exact}
-use Rattle.repair.proofs.Held.{held-distinct}
-use Rattle.repair.proofs.Grows.{repair-known, length-repair}
-use Rattle.repair.proofs.Enough.{repair-closed}
-use Rattle.repair.proofs.Least.{known-within, known-reached, reached-known, known-any-order, known-more}
-use Rattle.repair.proofs.Honest.{repair-right}
-use Rattle.repair.proofs.Burst.{burst-mended, burst-repaired}
+use Rattle.views.specs.Claims.{Claims}
+use Rattle.views.proofs.Members.{members-distinct, members-exact}
+use Rattle.views.proofs.Held.{held-distinct}
+use Rattle.views.proofs.Grows.{repair-known, length-repair}
+use Rattle.views.proofs.Enough.{repair-closed}
+use Rattle.views.proofs.Least.{known-within, known-reached, reached-known, known-any-order, known-more}
+use Rattle.views.proofs.Honest.{repair-right}
+use Rattle.views.proofs.Burst.{burst-mended, burst-repaired}
 
 pub claims : Claims
 claims =

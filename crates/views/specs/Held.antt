@@ -5,9 +5,9 @@ use mathlib.Core.Bool.{Bool, false}
 use mathlib.Core.List.{List, [], _∷_, _++_}
 use lib.ListN.{length, getD}
 use Rattle.octets.specs.Place.{tab}
-use Rattle.repair.specs.Cells.{keptBefore}
-use Rattle.repair.specs.Members.{membersOf}
-use Rattle.repair.specs.Repair.{Message}
+use Rattle.views.specs.Cells.{keptBefore}
+use Rattle.views.specs.Members.{membersOf}
+use Rattle.views.specs.Repair.{Message}
 
 -- what is kept of a number from the base on: m is the number of its messages
 pub record Held : Type 0 where

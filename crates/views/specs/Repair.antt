@@ -9,7 +9,7 @@ use mathlib.Core.Option.{Option, none, some}
 use lib.ListN.{length, getD, set}
 use lib.Dec.{leb, eqb}
 use Rattle.octets.specs.ExclusiveOr.{exclusiveOr}
-use Rattle.repair.specs.Cells.{Cell, repaired, cellAt, unknownAt}
+use Rattle.views.specs.Cells.{Cell, repaired, cellAt, unknownAt}
 
 -- a held message: the places of its members in the view, and its octets
 pub record Message : Type 0 where

@@ -12,8 +12,8 @@ use lib.Bits.{bitXor}
 use Rattle.octets.specs.ExclusiveOr.{xorAt}
 use Rattle.octets.proofs.Cases.{true-or-false}
 use Rattle.octets.proofs.ExclusiveOr.{xor-assoc, xor-left-comm}
-use Rattle.repair.specs.Repair.{passing}
-use Rattle.repair.specs.Reached.{Distinct, fresh}
+use Rattle.views.specs.Repair.{passing}
+use Rattle.views.specs.Reached.{Distinct, fresh}
 
 pub passing-yes : (test : ℕ → Bool) (x : ℕ) (l : List ℕ) → test x ≡ true → passing test (x ∷ l) ≡ x ∷ passing test l
 unfolding passing

@@ -9,12 +9,12 @@ use lib.ListN.{length}
 use native.Mathlib.Nat.{add-zero, add-suc, suc-add, not-suc-le-zero, le-of-suc-le-suc}
 use native.Mathlib.Omega.{arith}
 use Rattle.octets.proofs.Place.{among-tab}
-use Rattle.repair.specs.Cells.{keptBefore, keptAhead, keptNumbers}
-use Rattle.repair.specs.Repair.{Message}
-use Rattle.repair.specs.Held.{Held, heldAt, messageAt, messagesOf, messagesFrom, heldMessages}
-use Rattle.repair.specs.Reached.{Distinct, DistinctMembers}
-use Rattle.repair.specs.Honest.{HonestHeld, HonestMessage, HonestMessages}
-use Rattle.repair.proofs.Members.{members-distinct, member-in-reach}
+use Rattle.views.specs.Cells.{keptBefore, keptAhead, keptNumbers}
+use Rattle.views.specs.Repair.{Message}
+use Rattle.views.specs.Held.{Held, heldAt, messageAt, messagesOf, messagesFrom, heldMessages}
+use Rattle.views.specs.Reached.{Distinct, DistinctMembers}
+use Rattle.views.specs.Honest.{HonestHeld, HonestMessage, HonestMessages}
+use Rattle.views.proofs.Members.{members-distinct, member-in-reach}
 
 -- where a message stands: message i of the datagram j after the first place
 pub record HeldAt (S : ℕ) (held : List Held) (message : Message) : Type 0 where

@@ -5,12 +5,12 @@ use mathlib.Core.Logic.{_↔_}
 use mathlib.Core.List.{List, List·Memᴰ as Among}
 use mathlib.Core.Option.{none}
 use lib.ListN.{length}
-use Rattle.repair.specs.Members.{membersOf, InReach}
-use Rattle.repair.specs.Cells.{Cell, cellAt, keptBefore}
-use Rattle.repair.specs.Repair.{Message, firstUsable, repair}
-use Rattle.repair.specs.Held.{Held, heldAt, messagesOf, heldMessages}
-use Rattle.repair.specs.Reached.{Known, Unknown, Closed, Reached, Distinct, DistinctMembers}
-use Rattle.repair.specs.Honest.{HonestMessages, HonestHeld, TrueCells}
+use Rattle.views.specs.Members.{membersOf, InReach}
+use Rattle.views.specs.Cells.{Cell, cellAt, keptBefore}
+use Rattle.views.specs.Repair.{Message, firstUsable, repair}
+use Rattle.views.specs.Held.{Held, heldAt, messagesOf, heldMessages}
+use Rattle.views.specs.Reached.{Known, Unknown, Closed, Reached, Distinct, DistinctMembers}
+use Rattle.views.specs.Honest.{HonestMessages, HonestHeld, TrueCells}
 
 -- ---- members
 -- "Message i .. covers S+i−m, S+i−2m, up to n members; S itself is in none", where the reach n·m does not go below zero: no

@@ -14,12 +14,12 @@ use Rattle.octets.specs.Place.{tab}
 use Rattle.octets.specs.ExclusiveOr.{exclusiveOr, xorAt}
 use Rattle.octets.proofs.Place.{length-tab, tab-at, tab-ext, tab-snoc}
 use Rattle.octets.proofs.ExclusiveOr.{exclusiveOr-more, xorAt-zeros}
-use Rattle.repair.specs.Cells.{Cell, cellAt, unknownAt, keptBefore}
-use Rattle.repair.specs.Members.{memberAt, membersOf}
-use Rattle.repair.specs.Repair.{Message, passing, unknownMembers, otherMembers, mended}
-use Rattle.repair.specs.Held.{Held, nothingHeld, heldAt, messageAt, messagesOf, messagesFrom, heldMessages}
-use Rattle.repair.specs.Reached.{Unknown}
-use Rattle.repair.proofs.Passing.{passing-yes, passing-no, passing-among, passing-append, xorAt-parted}
+use Rattle.views.specs.Cells.{Cell, cellAt, unknownAt, keptBefore}
+use Rattle.views.specs.Members.{memberAt, membersOf}
+use Rattle.views.specs.Repair.{Message, passing, unknownMembers, otherMembers, mended}
+use Rattle.views.specs.Held.{Held, nothingHeld, heldAt, messageAt, messagesOf, messagesFrom, heldMessages}
+use Rattle.views.specs.Reached.{Unknown}
+use Rattle.views.proofs.Passing.{passing-yes, passing-no, passing-among, passing-append, xorAt-parted}
 
 -- ---- along the numbers from the base on
 -- the messages held from distance d on

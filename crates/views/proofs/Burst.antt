@@ -14,19 +14,19 @@ use Rattle.octets.specs.ExclusiveOr.{longest}
 use Rattle.octets.proofs.Cases.{true-or-false, below-or-not}
 use Rattle.octets.proofs.Place.{tab-among}
 use Rattle.octets.proofs.ExclusiveOr.{length-exclusiveOr, longest-reaches}
-use Rattle.repair.specs.Cells.{Cell, unknownAt, keptBefore}
-use Rattle.repair.specs.Members.{membersOf, InReach}
-use Rattle.repair.specs.Repair.{Message, firstUsable, repair}
-use Rattle.repair.specs.Held.{Held, heldAt, messageAt, messagesOf, heldMessages}
-use Rattle.repair.specs.Reached.{Known, Unknown}
-use Rattle.repair.specs.Honest.{HonestHeld}
-use Rattle.repair.specs.Claims.{SentBefore, BurstAt, BurstMended, BurstRepaired}
-use Rattle.repair.proofs.Fill.{usable-of, known-not-unknown}
-use Rattle.repair.proofs.Search.{none-usable}
-use Rattle.repair.proofs.Members.{members-exact, members-apart, members-distinct, member-in-reach}
-use Rattle.repair.proofs.Held.{messagesOf-among}
-use Rattle.repair.proofs.Grows.{known-repair}
-use Rattle.repair.proofs.Enough.{repair-closed}
+use Rattle.views.specs.Cells.{Cell, unknownAt, keptBefore}
+use Rattle.views.specs.Members.{membersOf, InReach}
+use Rattle.views.specs.Repair.{Message, firstUsable, repair}
+use Rattle.views.specs.Held.{Held, heldAt, messageAt, messagesOf, heldMessages}
+use Rattle.views.specs.Reached.{Known, Unknown}
+use Rattle.views.specs.Honest.{HonestHeld}
+use Rattle.views.specs.Claims.{SentBefore, BurstAt, BurstMended, BurstRepaired}
+use Rattle.views.proofs.Fill.{usable-of, known-not-unknown}
+use Rattle.views.proofs.Search.{none-usable}
+use Rattle.views.proofs.Members.{members-exact, members-apart, members-distinct, member-in-reach}
+use Rattle.views.proofs.Held.{messagesOf-among}
+use Rattle.views.proofs.Grows.{known-repair}
+use Rattle.views.proofs.Enough.{repair-closed}
 
 -- an honest message is as long as each member's packet at least
 honest-long : (row : ℕ → List ℕ) (S : ℕ) (held : Held) (i p : ℕ) → HonestHeld row S held → i < length (held .messages)

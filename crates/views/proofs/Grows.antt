@@ -8,11 +8,11 @@ use mathlib.Core.List.{List, List·Memᴰ as Among}
 use mathlib.Core.Option.{Option, none, some}
 use lib.ListN.{length}
 use Rattle.octets.proofs.Cases.{same-or-not}
-use Rattle.repair.specs.Cells.{Cell, cellAt, repaired}
-use Rattle.repair.specs.Repair.{Message, usable, firstUsable, mended, fill, repairF, repair}
-use Rattle.repair.specs.Reached.{Known}
-use Rattle.repair.proofs.Fill.{missing, length-fill, fill-missing, fill-other, fill-known, same-unknown}
-use Rattle.repair.proofs.Search.{found-usable}
+use Rattle.views.specs.Cells.{Cell, cellAt, repaired}
+use Rattle.views.specs.Repair.{Message, usable, firstUsable, mended, fill, repairF, repair}
+use Rattle.views.specs.Reached.{Known}
+use Rattle.views.proofs.Fill.{missing, length-fill, fill-missing, fill-other, fill-known, same-unknown}
+use Rattle.views.proofs.Search.{found-usable}
 
 -- ---- steps
 -- nothing found, nothing done

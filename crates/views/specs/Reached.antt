@@ -6,8 +6,8 @@ use mathlib.Core.Path.{_≡_}
 use mathlib.Core.Bool.{true, false}
 use mathlib.Core.List.{List, [], _∷_, List·Memᴰ as Among}
 use lib.ListN.{length}
-use Rattle.repair.specs.Cells.{Cell, unknownAt}
-use Rattle.repair.specs.Repair.{Message}
+use Rattle.views.specs.Cells.{Cell, unknownAt}
+use Rattle.views.specs.Repair.{Message}
 
 -- the number at a place is known, or is unknown
 abbrev pub Known : List Cell → ℕ → Type 0

@@ -13,10 +13,10 @@ use borrow.Author.Tests.{leb-true, eqb-true, le-leb, eq-eqb}
 use native.Mathlib.Omega.{arith}
 use Rattle.octets.proofs.Cases.{below-or-not, same-or-not, true-or-false, and-left, and-right, and-both}
 use Rattle.octets.proofs.ExclusiveOr.{length-exclusiveOr, exclusiveOr-octet}
-use Rattle.repair.specs.Cells.{Cell, blankCell, cellAt, unknownAt, isUnknown, repaired}
-use Rattle.repair.specs.Repair.{Message, unknownMembers, otherMembers, usable, mended, fill}
-use Rattle.repair.specs.Reached.{Known, Unknown, Distinct}
-use Rattle.repair.proofs.Passing.{passing-among, among-passing, passing-one, list-of-one}
+use Rattle.views.specs.Cells.{Cell, blankCell, cellAt, unknownAt, isUnknown, repaired}
+use Rattle.views.specs.Repair.{Message, unknownMembers, otherMembers, usable, mended, fill}
+use Rattle.views.specs.Reached.{Known, Unknown, Distinct}
+use Rattle.views.proofs.Passing.{passing-among, among-passing, passing-one, list-of-one}
 
 -- the place that a fill fills
 abbrev pub missing : List Cell → Message → ℕ

@@ -1,1 +1,0 @@
-// Definitions and proofs alone: the theory of repair.
