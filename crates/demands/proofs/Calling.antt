@@ -42,7 +42,7 @@ use Rattle.demands.specs.History.{after}
 use Rattle.demands.specs.Calls.{Call, offer, next, giveUp, Calls, handedOut, givenUp, leftIn}
 use Rattle.demands.specs.Calls.{Called, atStart, offered, asked, gaveUp}
 use Rattle.demands.specs.GoesOn.{moveOf, Says, GoesOn, from, by}
-use Rattle.demands.specs.Demand2.{Saved}
+use Rattle.demands.specs.Demand2.{Saved, Begins, fresh, saved}
 use Rattle.demands.proofs.Ranges.{ViewInRanges}
 use Rattle.demands.proofs.Steps.{leaving, releasedBy, lostBy}
 
@@ -51,7 +51,11 @@ pub fresh-seen : (s : Session) → Fresh s → SeenAs freshView s
 fresh-seen s f = record { within = session-in-ranges s (f .ranges) (f .sized); view = f .view }
 
 pub saved-seen : (s : Session) → Saved s → SeenAs (viewOf s) s
-saved-seen s saved = record { within = session-in-ranges s (saved .inRanges) (saved .sized); view = refl }
+saved-seen s v = record { within = session-in-ranges s (v .inRanges) (v .sized); view = refl }
+
+pub begins-seen : (s : Session) → Begins s → SeenAs (viewOf s) s
+begins-seen s (fresh f) = record { within = session-in-ranges s (f .ranges) (f .sized); view = refl }
+begins-seen s (saved v) = saved-seen s v
 
 pub seen-in-ranges : (view : View) (s : Session) → SeenAs view s → sessionInRanges s ≡ true
 seen-in-ranges view s seen = in-ranges-true (seen .within)

@@ -23,6 +23,7 @@ use Rattle.demands.proofs.Calling.{fresh-seen, offer-is, offered-seen, 
 use Rattle.demands.proofs.FedViews as views
 use Rattle.demands.proofs.FedViews.{FedView, TakesViews, arrives, asks, givesUp}
 use Rattle.demands.proofs.Fed.{fed-sound}
+use Rattle.demands.proofs.FedCalls.{call-of, fed-calls, takes-calls}
 use Rattle.demands.proofs.Lists.{views-no-less, view-burst}
 
 -- ---- what an offer came to
@@ -46,9 +47,6 @@ record SeenTaken (row datagrams : List (List ℕ)) (places : List ℕ) (view : V
   takes : TakesViews row datagrams places view last
 
 module _ {row datagrams : List (List ℕ)} where
-  call-of : {S : ℕ} {s : Session} {r : AfterOffer} → Offers row datagrams S s r → OfferOwes s (datagramAt datagrams S) r
-  call-of {s = s} {r = r} o = subst (λ (octets : List ℕ). OfferOwes s octets r) (o .one) (o .call)
-
   -- a session that the sender feeds
   fed-seen : {s : Session} → Fed row datagrams s → SeenFed row datagrams s
   fed-seen (fresh {s} f) = record { view = freshView; seen = fresh-seen s f; fed = views.fresh }
@@ -123,4 +121,6 @@ demand-3 =
       knownRight = λ row datagrams honest s f. known-right honest f;
       burstBack = λ row datagrams honest s f. burst-back honest f;
       takesFed = λ row datagrams places s t f takes. takes-fed f takes;
+      fedCalls = λ row datagrams s f. fed-calls f;
+      takesCalls = λ row datagrams places s t takes calls came. takes-calls came takes;
     }

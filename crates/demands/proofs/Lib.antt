@@ -9,12 +9,14 @@ pub mod Steps
 pub mod Leaving
 pub mod Knowing
 pub mod Calling
+pub mod Keeping
 pub mod Places
 pub mod Reaching
 pub mod Arriving
 pub mod Repairing
 pub mod KnownReached
 pub mod Never17
+pub mod SendNever17
 pub mod RoundTrips
 pub mod Demand2
 pub mod Sheet
@@ -39,6 +41,7 @@ pub mod PacketRefusals
 pub mod Demand1
 pub mod Sent
 pub mod Sound
+pub mod FedCalls
 pub mod FedViews
 pub mod Fed
 pub mod Lists

@@ -33,8 +33,8 @@ use Rattle.offering.specs.Outcome.{acceptedOf}
 use Rattle.lengths.specs.Tables.{refusalIn}
 use Rattle.demands.specs.Calls.{Call, offer, next, giveUp, Calls, _then_, Called, refusalOf}
 use Rattle.demands.specs.GoesOn.{Says, GoesOn, by}
-use Rattle.demands.specs.Demand2.{Begins, fresh, saved}
-use Rattle.demands.proofs.Calling.{fresh-seen, saved-seen, called-on}
+use Rattle.demands.specs.Demand2.{Begins}
+use Rattle.demands.proofs.Calling.{begins-seen, called-on}
 
 -- ---- lower refusals only
 data Lower {A : Type 0} : Answer A → Type 0 where
@@ -176,5 +176,4 @@ last-says (by {call = call} {held = held} on says) = says-lower held call says
 pub never-17 : {s t : Session} {calls : Calls} {call : Call} → Begins s → Called s (calls then call) t
     → refusalOf call ≡ some outsideRanges
     → ⊥
-never-17 {s} (fresh f) called = last-says (called-on (fresh-seen s f) called)
-never-17 {s} (saved v) called = last-says (called-on (saved-seen s v) called)
+never-17 {s} begins called = last-says (called-on (begins-seen s begins) called)

@@ -5,26 +5,33 @@
 -- it holds, each call as 01 says." The first sentence is what the readers and writers promise (LengthRead, DatagramReads,
 -- PacketTold, Puts): their answers are those of the definitions that write document 01 out, `lengthAt`, `readDatagram` and
 -- `readPacket`, `lengthToWrite`, `datagramToWrite` and `packetToWrite`. Statements alone. Definitions only.
-use Prim.Native.Nat.{ℕ, _+_, _%_, _<_}
+use Prim.Native.Nat.{ℕ, _+_, _-_, _%_, _≤_, _<_}
 use mathlib.Core.Path.{_≡_}
 use mathlib.Core.Logic.{_↔_}
 use mathlib.Core.Bool.{true, _||_}
 use mathlib.Core.List.{List, map, List·Memᴰ as Among}
 use mathlib.Core.Option.{some}
-use lib.ListN.{length}
+use lib.ListN.{length, getD}
 use Rattle.octets.specs.Place.{tab}
 use Rattle.lengths.specs.Refusals.{outsideRanges}
-use Rattle.views.specs.Cells.{keptNumbers}
+use Rattle.lengths.specs.Answers.{writtenOutcome}
+use Rattle.lengths.specs.Tables.{refusalIn}
+use Rattle.views.specs.Cells.{cellAt, keptBefore, keptNumbers}
 use Rattle.views.specs.Reached.{Known}
 use Rattle.views.specs.View.{View, Counts, sum, numbers}
 use Rattle.held.specs.Table.{viewOf}
 use Rattle.held.specs.Laid.{sessionInRanges}
 use Rattle.held.specs.Promise.{Sized, Fresh}
 use Rattle.held.specs.declared.Session.{Session}
-use Rattle.demands.specs.History.{Left, numberOf, isReceived, isSpare, isRepaired, isLost, countsOf}
+use Rattle.sending.specs.Promise.{Sends}
+use Rattle.sending.specs.declared.Sender.{Sender}
+use Rattle.sending.specs.declared.Sent.{Sent}
+use Rattle.sending.specs.declared.Settings.{Settings}
+use Rattle.demands.specs.History.{Left, released, lost, numberOf, isReceived, isSpare, isRepaired, isLost, countsOf}
 use Rattle.demands.specs.Calls.{Call, Calls, _then_, Called, refusalOf, leftBy}
 use Rattle.demands.specs.GoesOn.{GoesOn}
 use Rattle.demands.specs.ReachedBy.{gone, ReachedBy}
+use Rattle.demands.specs.SendChain.{SenderBegins, SentFrom}
 use Rattle.demands.specs.RoundTrips.{RoundTrips}
 
 -- ---- where a chain of calls begins
@@ -74,6 +81,17 @@ pub record SavedLeaves (before : View) (left : List Left) (after : View) : Type 
   pub advance : sum (after .counts) ≡ sum (before .counts) + length left
   pub base : after .base ≡ (before .base + length left) % numbers
 
+-- ---- "What is known is never written over."
+
+-- a number that is known at place p in view, and what became of it by calls that made these numbers leave
+pub record Keeps (before : View) (left : List Left) (after : View) (p : ℕ) : Type 0 where
+  -- as long as it is in view it keeps its kind and its octets
+  pub stays : length left ≤ p → cellAt (after .cells) (p - length left) ≡ cellAt (before .cells) p
+  -- from the base on it leaves in its turn, released with that kind and those octets
+  pub leaves : keptBefore ≤ p → p < keptBefore + length left
+      → getD left (p - keptBefore) (lost 0)
+      ≡ released ((cellAt (before .cells) p) .state) ((before .base + (p - keptBefore)) % numbers) ((cellAt (before .cells) p) .octets)
+
 -- ---- the demand: of every chain of public calls, with whatever they answered, refusals among them
 pub record Demand2 : Type 0 where
   -- "What you write reads back to the same fields, and what you read as received writes back to the same octets."
@@ -86,9 +104,19 @@ pub record Demand2 : Type 0 where
   pub leaves : {s t : Session} {calls : Calls} → Fresh s → Called s calls t → FreshLeaves (leftBy calls) (viewOf t)
   pub savedLeaves : {s t : Session} {calls : Calls} → Saved s → Called s calls t
       → SavedLeaves (viewOf s) (leftBy calls) (viewOf t)
-  -- "One saved within its ranges goes on from what it holds, each call as 01 says."
-  pub goesOn : {s t : Session} {calls : Calls} → Saved s → Called s calls t → GoesOn (viewOf s) calls (viewOf t)
-  -- "17 | session outside its ranges": no session that the library handed out is ever refused with it, nor is the first
+  -- "What is known is never written over": not by any calls that come after
+  pub keeps : {s t u : Session} {calls more : Calls} → Begins s → Called s calls t → Called t more u
+      → (p : ℕ) → p < keptNumbers → Known ((viewOf t) .cells) p
+      → Keeps (viewOf t) (leftBy more) (viewOf u) p
+  -- "One saved within its ranges goes on from what it holds, each call as 01 says": one fresh at its start too, so that kind and
+  -- octets of all that is released are settled
+  pub goesOn : {s t : Session} {calls : Calls} → Begins s → Called s calls t → GoesOn (viewOf s) calls (viewOf t)
+  -- "17 | session outside its ranges": no session that the library handed out is ever refused with it, nor is the first; of the
+  -- receiving session, and of the sending one
   pub never17 : {s t : Session} {calls : Calls} {call : Call} → Begins s → Called s (calls then call) t
       → refusalOf call ≡ some outsideRanges
+      → ⊥
+  pub sendNever17 : {s t : Sender} {settings : Settings} {packet old new : List ℕ} {r : Sent} → SenderBegins s → SentFrom s t
+      → Sends t settings packet old new r
+      → refusalIn (writtenOutcome (r .answer)) ≡ some outsideRanges
       → ⊥

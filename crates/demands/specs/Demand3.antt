@@ -19,7 +19,9 @@ use Rattle.views.specs.View.{View}
 use Rattle.held.specs.Table.{viewOf}
 use Rattle.held.specs.declared.Session.{Session}
 use Rattle.sending.specs.Honest.{HonestSender}
+use Rattle.demands.specs.Calls.{Calls}
 use Rattle.demands.specs.Feeding.{sentAt, Fed, Takes}
+use Rattle.demands.specs.FedCalls.{CameBy, CameOn}
 
 -- ---- two lists from one state
 -- what is known after the one and after the other
@@ -65,3 +67,9 @@ pub record Demand3 : Type 0 where
   pub takesFed : (row datagrams : List (List ℕ)) (places : List ℕ) (s t : Session) → Fed row datagrams s
       → Takes row datagrams places s t
       → Fed row datagrams t
+  -- "it is stated over demand 2's known set": a session that the sender feeds was come to by a chain of calls, and each of the two
+  -- lists makes that chain longer; what is known is what such calls reached
+  pub fedCalls : (row datagrams : List (List ℕ)) (s : Session) → Fed row datagrams s → (calls : Calls) × CameBy calls s
+  pub takesCalls : (row datagrams : List (List ℕ)) (places : List ℕ) (s t : Session) → Takes row datagrams places s t
+      → (calls : Calls) → CameBy calls s
+      → CameOn datagrams calls places t

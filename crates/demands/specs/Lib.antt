@@ -2,6 +2,7 @@ pub mod History
 pub mod Calls
 pub mod GoesOn
 pub mod ReachedBy
+pub mod SendChain
 pub mod RoundTrips
 pub mod Demand2
 pub mod OneTold
@@ -15,6 +16,7 @@ pub mod DatagramRefusals
 pub mod Demand1
 pub mod Sheet
 pub mod Feeding
+pub mod FedCalls
 pub mod Demand3
 pub mod Example
 pub mod Burst

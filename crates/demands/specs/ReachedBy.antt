@@ -85,5 +85,5 @@ pub data ReachedBy : Calls → ℕ → Type 0 where
       → (message : Message) → HeldBy (calls then call) message → 1 ≤ length (message .octets) → Among p (message .members)
       → ((q : ℕ) → Among q (message .members) → (q ≡ p → ⊥) → ReachedBy (calls then call) q)
       → ReachedBy (calls then call) p
-  -- "What is known is never written over": what was reached stays so
+  -- what was reached stays so
   earlier : {calls : Calls} {call : Call} {p : ℕ} → ReachedBy calls p → ReachedBy (calls then call) p

@@ -1,0 +1,134 @@
+-- What is known is never written over: call by call, each of which leaves what is known as it is, or makes the number at the base
+-- leave, released with its kind and octets if it is known. Assumes nothing.
+use Prim.Native.Nat.{ℕ, suc, _+_, _-_, _%_, _≤_, _<_}
+use mathlib.Core.Path.{_≡_, refl, sym, ap, ap₂, subst, _∙_}
+use mathlib.Core.Logic.{⊎-elim}
+use mathlib.Core.Bool.{true≢false}
+use mathlib.Core.List.{List, [], _∷_, _++_, append-nil}
+use lib.ListN.{length, length-append, getD, List·getD-append}
+use lib.Seq.{getD-at}
+use native.Mathlib.Omega.{arith}
+use Rattle.octets.proofs.Cases.{below-or-not}
+use Rattle.lengths.specs.Answers.{Answer, done, refused}
+use Rattle.views.specs.Cells.{Cell, isUnknown, cellAt, unknownAt, keptBefore, keptNumbers}
+use Rattle.views.specs.Reached.{Known, Unknown}
+use Rattle.views.specs.View.{View, Counts, numbers, goneOn}
+use Rattle.views.specs.Offer as offers
+use Rattle.views.specs.Release as releases
+use Rattle.views.specs.Release.{Release, Loss, atBase}
+use Rattle.held.specs.Table.{viewOf}
+use Rattle.held.specs.declared.Session.{Session}
+use Rattle.leaving.specs.Outcome.{afterNext, afterGiveUp}
+use Rattle.offering.specs.Outcome.{afterOffer}
+use Rattle.sessions.specs.Receiver.{SeenAs}
+use Rattle.demands.specs.History as moves
+use Rattle.demands.specs.History.{Move, Left, released, lost, after}
+use Rattle.demands.specs.Calls.{Call, Calls, Called, leftIn, leftBy}
+use Rattle.demands.specs.GoesOn.{moveOf, GoesOn, from, by}
+use Rattle.demands.specs.Demand2.{Keeps}
+use Rattle.demands.proofs.Ranges.{ViewInRanges}
+use Rattle.demands.proofs.Growing.{grown-known}
+use Rattle.demands.proofs.Shifted.{cell-on}
+use Rattle.demands.proofs.InRanges.{grown-accept}
+use Rattle.demands.proofs.Steps.{leaving, releasedBy, lostBy, offer-done, next-done, give-up-done}
+use Rattle.demands.proofs.Leaving.{on-ranges, went}
+use Rattle.demands.proofs.Calling.{seen-ranges, left-is, called-went, called-on}
+
+-- ---- one call
+data Does (view : View) : List Left → View → Type 0 where
+  stays : {last : View} → ((p : ℕ) → Known (view .cells) p → cellAt (last .cells) p ≡ cellAt (view .cells) p) → Does view [] last
+  hands : (counts : Counts) → Does view (released ((atBase view) .state) (view .base) ((atBase view) .octets) ∷ []) (goneOn counts view)
+  loses : (counts : Counts) → Unknown (view .cells) keptBefore → Does view (lost (view .base) ∷ []) (goneOn counts view)
+
+does : (move : Move) (view : View) → Does view (leaving move view) (after move view)
+unfolding after leaving
+does (moves.offer octets) view = pick (offers.offer octets view) refl where
+  pick : (a : Answer View) → offers.offer octets view ≡ a → Does view [] (afterOffer a view)
+  pick (done last) e =
+      let o = offer-done octets view last e in
+      subst (Does view []) (o .is) (stays (grown-known (grown-accept _ _ view)))
+  pick (refused why) e = stays (λ p known. refl)
+does (moves.next room) view = pick (releases.next room view) refl where
+  pick : (a : Answer Release) → releases.next room view ≡ a → Does view (releasedBy a) (afterNext a view)
+  pick (done a) e = let o = next-done room view a e in rw (o .kind, o .number, o .octets, o .after) (hands _)
+  pick (refused why) e = stays (λ p known. refl)
+does moves.giveUp view = pick (releases.giveUp view) refl where
+  pick : (a : Answer Loss) → releases.giveUp view ≡ a → Does view (lostBy a) (afterGiveUp a view)
+  pick (done a) e = let o = give-up-done view a e in rw (o .number, o .after) (loses _ (o .unknown))
+  pick (refused why) e = stays (λ p known. refl)
+
+-- ---- one number, from call to call
+module _ {view : View} {p : ℕ} (small : p < keptNumbers) (known : Known (view .cells) p) where
+  keeps-none : Keeps view [] view p
+  keeps-none =
+      record {
+        stays = λ low. let same : p - 0 ≡ p = omega arith in ap (cellAt (view .cells)) same;
+        leaves = λ past low. absurd (omega arith);
+      }
+
+  module _ {left : List Left} {held : View} (k : Keeps view left held p) where
+    still : length left ≤ p → Known (held .cells) (p - length left)
+    still low = ap (λ (c : Cell). isUnknown (c .state)) (k .stays low) ∙ known
+
+    -- nothing left
+    keeps-stays : {last : View} → ((q : ℕ) → Known (held .cells) q → cellAt (last .cells) q ≡ cellAt (held .cells) q) → Keeps view left last p
+    keeps-stays same = record { stays = λ low. same (p - length left) (still low) ∙ k .stays low; leaves = k .leaves }
+
+    -- the number at the base left; if it is this one, it was released as it was known
+    module _ (r : ViewInRanges held) (x : Left)
+        (is : Known (held .cells) keptBefore → x ≡ released ((atBase held) .state) (held .base) ((atBase held) .octets))
+        (base : held .base ≡ (view .base + length left) % numbers) where
+      long : length (left ++ (x ∷ [])) ≡ length left + 1
+      long = length-append left (x ∷ [])
+
+      goes-on : (counts : Counts) → length (left ++ (x ∷ [])) ≤ p
+          → cellAt ((goneOn counts held) .cells) (p - length (left ++ (x ∷ []))) ≡ cellAt (view .cells) p
+      goes-on counts low =
+          let one : suc (p - length (left ++ (x ∷ []))) ≡ p - length left = omega (arith, long) in
+          cell-on counts held (p - length (left ++ (x ∷ []))) (rw (r .kept) (omega (arith, long)))
+          ∙ ap (cellAt (held .cells)) one
+          ∙ k .stays (omega (arith, long))
+
+      leaves-now : p ≡ keptBefore + length left
+          → x ≡ released ((cellAt (view .cells) p) .state) ((view .base + (p - keptBefore)) % numbers) ((cellAt (view .cells) p) .octets)
+      leaves-now at =
+          let here : p - length left ≡ keptBefore = omega arith in
+          let cell : atBase held ≡ cellAt (view .cells) p = ap (cellAt (held .cells)) (sym here) ∙ k .stays (omega arith) in
+          let turn : held .base ≡ (view .base + (p - keptBefore)) % numbers =
+          base ∙ ap (λ (n : ℕ). (view .base + n) % numbers) (let same : length left ≡ p - keptBefore = omega arith in same) in
+          is (subst (Known (held .cells)) here (still (omega arith)))
+          ∙ ap₂ (λ (c : Cell) (n : ℕ). released (c .state) n (c .octets)) cell turn
+
+      keeps-left : (counts : Counts) → Keeps view (left ++ (x ∷ [])) (goneOn counts held) p
+      keeps-left counts =
+          record {
+            stays = goes-on counts;
+            leaves = λ past low.
+                ⊎-elim
+                (λ before. List·getD-append left (x ∷ []) (lost 0) (p - keptBefore) (omega arith) ∙ k .leaves past before)
+                (λ now.
+                let at : p ≡ keptBefore + length left = omega (arith, long) in
+                getD-at left x [] (lost 0) (p - keptBefore) (omega arith) ∙ leaves-now at)
+                (below-or-not p (keptBefore + length left));
+          }
+
+  -- one call more
+  keeps-by : {left more : List Left} {held last : View} → Keeps view left held p → ViewInRanges held
+      → held .base ≡ (view .base + length left) % numbers → Does held more last → Keeps view (left ++ more) last p
+  keeps-by {left} k r base (stays same) = rw (append-nil left) (keeps-stays k same)
+  keeps-by k r base (hands counts) = keeps-left k r _ (λ now. refl) base counts
+  keeps-by k r base (loses counts unknown) = keeps-left k r _ (λ now. absurd (true≢false (sym unknown ∙ now))) base counts
+
+  -- ---- chains
+  pub keeps : {calls : Calls} {held : View} → ViewInRanges view → GoesOn view calls held → Keeps view (leftBy calls) held p
+  unfolding leftBy
+  keeps r from = keeps-none
+  keeps r (by {calls = calls} {call = call} {held = held} on says) =
+      rw (left-is held call says) (keeps-by (keeps r on) (on-ranges r on) (went r on .reached) (does (moveOf call) held))
+
+pub called-keeps : {s t u : Session} {calls more : Calls} {view : View} → SeenAs view s → Called s calls t → Called t more u
+    → (p : ℕ) → p < keptNumbers → Known ((viewOf t) .cells) p → Keeps (viewOf t) (leftBy more) (viewOf u) p
+called-keeps {t = t} seen called more p small known =
+    let w = called-went seen called in
+    let here : SeenAs (viewOf t) t = record { within = w .seen .within; view = refl } in
+    keeps small known (seen-ranges _ t here) (called-on here more)
