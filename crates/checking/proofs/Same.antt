@@ -1,15 +1,16 @@
 -- The tests that the code makes, number by number, pass together exactly if what is lent is within its ranges. Over a layout that is
 -- right a cell of the view has as many octets as its slot's size says, so a test of the slot is the view's test. Assumes nothing.
-use Prim.Native.Nat.{ℕ, _+_, _%_, _<_}
+use Prim.Native.Nat.{ℕ, _+_, _-_, _%_, _≤_, _<_}
 use mathlib.Core.Path.{_≡_, refl, sym, ap, ap₂, _∙_}
 use mathlib.Core.Bool.{Bool, true, not, _&&_}
 use mathlib.Core.List.{List, []}
+use mathlib.Core.Logic.{⊎-elim}
 use lib.ListN.{length, getD}
 use lib.Dec.{leb, eqb}
 use native.Mathlib.Omega.{arith}
 use borrow.Author.Tests.{le-leb, leb-true}
 use Rattle.octets.specs.Place.{tab, allBelow}
-use Rattle.octets.proofs.Cases.{and-left, and-right, and-both}
+use Rattle.octets.proofs.Cases.{below-or-not, and-left, and-right, and-both}
 use Rattle.octets.proofs.Place.{allBelow-at, allBelow-of, length-tab}
 use Rattle.datagrams.specs.Sizes.{messageLimit, messagesLimit}
 use Rattle.views.specs.Cells.{Cell, cellAt, isUnknown, keptBefore, keptAhead, keptNumbers}
@@ -23,12 +24,40 @@ use Rattle.held.specs.Slots.{slotsKept, slotsHeard, slotAt, heardSlotAt, packet
 use Rattle.held.specs.Table.{Lent, lent, countsOf, places, lastState, stateIn, sizeIn, markIn, nIn, mIn, stateNumbered, cellIn, messageIn, heldIn, cellsOf, heldOf, viewIn}
 use Rattle.held.specs.Laid.{messageLaid, lentInRanges, Laid, InRanges}
 use Rattle.held.specs.declared.Counts.{Counts}
-use Rattle.held.proofs.Slots.{slot-small, heard-small, slot-of, heard-slot-of}
+use Rattle.held.proofs.Slots.{slot-small, slot-apart, heard-small, heard-slot-of}
 use Rattle.held.proofs.Seen.{length-cells, length-held, cell-at, held-at, unknown-at, octets-long, cell-right, held-right}
 use Rattle.held.proofs.Messages.{message-length}
 use Rattle.held.proofs.Ranges.{message-fits, message-none, message-zeros, laid-message, in-ranges-of, in-ranges-true}
-use Rattle.checking.specs.Pieces.{stateRight, keptRight, markedRight, heardRight, keptTest, heardTest}
+use Rattle.checking.specs.Pieces.{stateRight, placeIn, stateTest, packetTest, allKept, markedRight, heardRight, heardTest}
 use Rattle.checking.proofs.Turns.{both-ways}
+
+-- ---- the slot of a place, and the place of a slot
+module _ (b i : ℕ) (low : b < slotsKept) (small : i < slotsKept) where
+  place-far : i + keptBefore < b → (i + (keptBefore + slotsKept - b)) % slotsKept ≡ i + 96 - b
+  place-far far = omega arith
+
+  place-near : b ≤ i + keptBefore → i < b + keptBefore → (i + (keptBefore + slotsKept - b)) % slotsKept ≡ i + 32 - b
+  place-near near before = omega arith
+
+  place-past : b + keptBefore ≤ i → (i + (keptBefore + slotsKept - b)) % slotsKept ≡ i - 32 - b
+  place-past past = omega arith
+
+place-small : (base i : ℕ) → placeIn base i < keptNumbers
+place-small base i = omega arith
+
+slot-place : (base i : ℕ) → i < slotsKept → slotAt base (placeIn base i) ≡ i
+slot-place base i small =
+    ⊎-elim (λ far. rw (place-far (base % slotsKept) i (omega arith) small far) (omega arith))
+    (λ near.
+    ⊎-elim (λ before. rw (place-near (base % slotsKept) i (omega arith) small near before) (omega arith))
+    (λ past. rw (place-past (base % slotsKept) i (omega arith) small past) (omega arith))
+    (below-or-not i (base % slotsKept + keptBefore)))
+    (below-or-not (i + keptBefore) (base % slotsKept))
+
+place-slot : (base p : ℕ) → p < keptNumbers → placeIn base (slotAt base p) ≡ p
+place-slot base p below =
+    slot-apart base (placeIn base (slotAt base p)) p (place-small base (slotAt base p)) below
+    (slot-place base (slotAt base p) (slot-small base p))
 
 -- ---- a slot's test taken apart
 pub record KeptSeen (t o : List ℕ) (i : ℕ) (blank : Bool) : Type 0 where
@@ -36,21 +65,13 @@ pub record KeptSeen (t o : List ℕ) (i : ℕ) (blank : Bool) : Type 0 where
   pub size : sizeRight (stateNumbered (stateIn t i)) (sizeIn t i) blank ≡ true
   pub zeros : zerosPast o i (sizeIn t i) ≡ true
 
-kept-seen : (t o : List ℕ) (i : ℕ) (blank : Bool) → keptRight t o i blank ≡ true → KeptSeen t o i blank
-unfolding keptRight stateRight
-kept-seen t o i blank e =
+kept-seen : (t o : List ℕ) (i : ℕ) (blank : Bool) → stateRight (stateIn t i) (sizeIn t i) blank ≡ true → zerosPast o i (sizeIn t i) ≡ true
+    → KeptSeen t o i blank
+unfolding stateRight
+kept-seen t o i blank e zeros =
     let number = leb (stateIn t i) lastState in
     let size = sizeRight (stateNumbered (stateIn t i)) (sizeIn t i) blank in
-    let both = and-left (number && size) (zerosPast o i (sizeIn t i)) e in
-    record {
-      number = and-left number size both;
-      size = and-right number size both;
-      zeros = and-right (number && size) (zerosPast o i (sizeIn t i)) e;
-    }
-
-seen-kept : {t o : List ℕ} {i : ℕ} {blank : Bool} → KeptSeen t o i blank → keptRight t o i blank ≡ true
-unfolding keptRight stateRight
-seen-kept s = and-both (and-both (s .number) (s .size)) (s .zeros)
+    record { number = and-left number size e; size = and-right number size e; zeros = zeros }
 
 pub record HeardSeen (t g : List ℕ) (j : ℕ) (known : Bool) : Type 0 where
   pub number : leb (markIn t j) 1 ≡ true
@@ -114,7 +135,7 @@ abbrev total : Lent → ℕ
 total l = sum (countsOf (l .counts))
 
 abbrev keptAll : Lent → Bool
-keptAll l = allBelow keptNumbers (keptTest (l .base) (total l) (l .table) (l .octets))
+keptAll l = allKept (l .base) (total l) (l .table) (l .octets)
 
 abbrev heardAll : Lent → Bool
 heardAll l = allBelow keptAhead (heardTest (l .base) (l .table) (l .messages))
@@ -123,9 +144,18 @@ heardAll l = allBelow keptAhead (heardTest (l .base) (l .table) (l .messages))
 module _ (l : Lent) (long : length (l .table) ≡ places) (octets : length (l .octets) ≡ packetOctets)
     (messages : length (l .messages) ≡ messageOctets) (summed : sumRight (viewIn l) ≡ true) (kept : keptAll l ≡ true)
     (heard : heardAll l ≡ true) where
+  kept-in : (i : ℕ) → i < slotsKept → KeptSeen (l .table) (l .octets) i (blankAt (total l) (placeIn (l .base) i))
+  unfolding allKept stateTest packetTest
+  kept-in i low =
+      let states = allBelow slotsKept (stateTest (l .base) (total l) (l .table)) in
+      let packets = allBelow slotsKept (packetTest (l .table) (l .octets)) in
+      kept-seen (l .table) (l .octets) i (blankAt (total l) (placeIn (l .base) i))
+      (allBelow-at slotsKept (stateTest (l .base) (total l) (l .table)) (and-left states packets kept) i low)
+      (allBelow-at slotsKept (packetTest (l .table) (l .octets)) (and-right states packets kept) i low)
+
   kept-at : (p : ℕ) → p < keptNumbers → KeptSeen (l .table) (l .octets) (slotAt (l .base) p) (blankAt (total l) p)
-  unfolding keptTest
-  kept-at p below = kept-seen (l .table) (l .octets) (slotAt (l .base) p) (blankAt (total l) p) (allBelow-at keptNumbers _ kept p below)
+  kept-at p below =
+      rw (place-slot (l .base) p below) at (kept-in (slotAt (l .base) p) (slot-small (l .base) p))
 
   heard-at : (d : ℕ) → d < keptAhead
       → HeardSeen (l .table) (l .messages) (heardSlotAt (l .base) d)
@@ -135,11 +165,6 @@ module _ (l : Lent) (long : length (l .table) ≡ places) (octets : length (l .o
       heard-seen (l .table) (l .messages) (heardSlotAt (l .base) d)
       (not (isUnknown (stateNumbered (stateIn (l .table) (slotAt (l .base) (keptBefore + d))))))
       (allBelow-at keptAhead _ heard d below)
-
-  kept-in : (i : ℕ) → i < slotsKept → (blank : Bool) × KeptSeen (l .table) (l .octets) i blank
-  kept-in i low =
-      let at = slot-of (l .base) i low in
-      (blankAt (total l) at.0, rw at.2 at (kept-at at.0 at.1))
 
   heard-in : (j : ℕ) → j < slotsHeard → (known : Bool) × HeardSeen (l .table) (l .messages) j known
   heard-in j low =
@@ -156,9 +181,9 @@ module _ (l : Lent) (long : length (l .table) ≡ places) (octets : length (l .o
         long = long;
         octets = octets;
         messages = messages;
-        state = λ i low. leb-true (stateIn t i) lastState (kept-in i low .1 .number);
-        size = λ i low. size-fits (stateNumbered (stateIn t i)) (sizeIn t i) (kept-in i low .0) (kept-in i low .1 .size);
-        packet = λ i low. kept-in i low .1 .zeros;
+        state = λ i low. leb-true (stateIn t i) lastState (kept-in i low .number);
+        size = λ i low. size-fits (stateNumbered (stateIn t i)) (sizeIn t i) (blankAt (total l) (placeIn (l .base) i)) (kept-in i low .size);
+        packet = λ i low. kept-in i low .zeros;
         mark = λ j low. leb-true (markIn t j) 1 (heard-in j low .1 .number);
         few = λ j low. mark-sizes (eqb (markIn t j) 1) (heard-in j low .0) (nIn t j) (mIn t j) (heard-in j low .1 .mark) .1;
         part = λ j i low below. message-fits t g j (mIn t j) i (heard-in j low .1 .message i below);
@@ -190,21 +215,23 @@ module _ (l : Lent) (long : length (l .table) ≡ places) (octets : length (l .o
 
 -- and from the ranges to the tests
 module _ {l : Lent} (w : InRanges l) where
+  size-there : (i : ℕ) → i < slotsKept
+      → sizeRight (stateNumbered (stateIn (l .table) i)) (sizeIn (l .table) i) (blankAt (total l) (placeIn (l .base) i)) ≡ true
+  unfolding cellIn
+  size-there i small =
+      let p = placeIn (l .base) i in
+      rw (slot-place (l .base) i small) at
+      (ap (λ (n : ℕ). sizeRight (stateNumbered (stateIn (l .table) (slotAt (l .base) p))) n (blankAt (total l) p))
+      (sym (octets-long (w .laid) (slotAt (l .base) p) (slot-small (l .base) p)))
+      ∙ cell-right w p (place-small (l .base) i))
+
   tests-kept : keptAll l ≡ true
-  unfolding keptTest cellIn
+  unfolding allKept stateTest packetTest stateRight
   tests-kept =
-      allBelow-of keptNumbers _
-      (λ p below.
-      let i = slotAt (l .base) p in
-      let small = slot-small (l .base) p in
-      seen-kept
-      (record {
-        number = le-leb (stateIn (l .table) i) lastState (w .laid .state i small);
-        size =
-            ap (λ (n : ℕ). sizeRight (stateNumbered (stateIn (l .table) i)) n (blankAt (total l) p)) (sym (octets-long (w .laid) i small))
-            ∙ cell-right w p below;
-        zeros = w .laid .packet i small;
-      }))
+      and-both
+      (allBelow-of slotsKept _
+      (λ i small. and-both (le-leb (stateIn (l .table) i) lastState (w .laid .state i small)) (size-there i small)))
+      (allBelow-of slotsKept _ (w .laid .packet))
 
   tests-heard : heardAll l ≡ true
   unfolding heardTest
@@ -242,7 +269,7 @@ all-told l long octets messages =
 
 pub whole-right : (base : ℕ) (counts : Counts) (t o g : List ℕ) {whole : ℕ} {summed kept heard : Bool} → length t ≡ places
     → length o ≡ packetOctets → length g ≡ messageOctets → whole ≡ sum (countsOf counts)
-    → summed ≡ (eqb base (whole % numbers) && leb whole sessionLimit) → kept ≡ allBelow keptNumbers (keptTest base whole t o)
+    → summed ≡ (eqb base (whole % numbers) && leb whole sessionLimit) → kept ≡ allKept base whole t o
     → heard ≡ allBelow keptAhead (heardTest base t g) → ((summed && kept) && heard) ≡ lentInRanges (lent base counts t o g)
 whole-right base counts t o g long octets messages whole-is summed-is kept-is heard-is =
     rw (summed-is, kept-is, heard-is, whole-is, ← sum-told (lent base counts t o g))

@@ -12,13 +12,13 @@ use Rattle.octets.proofs.Cases.{same-or-not, and-right}
 use Rattle.octets.proofs.Place.{allBelow-at, allBelow-of, allBelow-ext}
 use Rattle.datagrams.specs.Sizes.{packetLeast, packetLimit, coveredLimit, messageLimit, messagesLimit}
 use Rattle.stores.specs.Store.{zerosPast}
-use Rattle.views.specs.Ranges.{sizeRight, markRight}
+use Rattle.views.specs.Ranges.{blankAt, sizeRight, markRight}
 use Rattle.views.proofs.Ranges.{size-fits}
-use Rattle.held.specs.Slots.{messageSlot}
+use Rattle.held.specs.Slots.{slotsKept, messageSlot}
 use Rattle.held.specs.Table.{lastState, stateIn, sizeIn, markIn, nIn, mIn, messageSizeIn, stateNumbered}
 use Rattle.held.specs.Laid.{messageLaid}
 use Rattle.held.proofs.Ranges.{message-none}
-use Rattle.checking.specs.Pieces.{stateRight, keptRight, markedRight, heardRight, sizeless, emptyAt}
+use Rattle.checking.specs.Pieces.{stateRight, placeIn, stateTest, packetTest, SizesFit, allKept, markedRight, heardRight, sizeless, emptyAt}
 
 -- ---- a state with its length
 module _ (state size : ℕ) (blank : Bool) where
@@ -58,16 +58,22 @@ size-right state size blank so passed =
     size-fits (stateNumbered state) size blank
     (and-right (leb state lastState) (sizeRight (stateNumbered state) size blank) (sym so ∙ passed))
 
--- ---- a kept number in its slot
-module _ (t o : List ℕ) (i : ℕ) (blank : Bool) {state size : ℕ} {test : Bool} (state-is : state ≡ stateIn t i)
-    (size-is : size ≡ sizeIn t i) (so : test ≡ stateRight state size blank) where
-  pub kept-passed : {right : Bool} → test ≡ true → right ≡ zerosPast o i size → right ≡ keptRight t o i blank
-  unfolding keptRight
-  kept-passed passed right-is = rw (← size-is, ← state-is, ← so, passed) right-is
+-- ---- all kept numbers
+module _ (base total : ℕ) (t o : List ℕ) {test : Bool} (so : test ≡ allBelow slotsKept (stateTest base total t)) where
+  -- states that were found right have sizes that a slot holds
+  pub sizes-right : test ≡ true → SizesFit t
+  unfolding stateTest
+  sizes-right passed i low =
+      size-right (stateIn t i) (sizeIn t i) (blankAt total (placeIn base i)) refl
+      (allBelow-at slotsKept (stateTest base total t) (sym so ∙ passed) i low)
 
-  pub kept-failed : test ≡ false → false ≡ keptRight t o i blank
-  unfolding keptRight
-  kept-failed failed = rw (← size-is, ← state-is, ← so, failed)
+  pub kept-passed : {right : Bool} → test ≡ true → right ≡ allBelow slotsKept (packetTest t o) → right ≡ allKept base total t o
+  unfolding allKept
+  kept-passed passed right-is = rw (← so, passed) right-is
+
+  pub kept-failed : test ≡ false → false ≡ allKept base total t o
+  unfolding allKept
+  kept-failed failed = rw (← so, failed)
 
 -- ---- a mark, with n and m
 module _ (mark : ℕ) (known : Bool) (n m : ℕ) where

@@ -1,23 +1,25 @@
 -- What each loop of this crate keeps true, on plain values: where it starts, what a turn does, where it ends. Assumes nothing.
-use Prim.Native.Nat.{ℕ, _+_, _-_, _*_, _/_, _%_, _≤_, _<_}
+use Prim.Native.Nat.{ℕ, _+_, _-_, _*_, _/_, _%_, _^_, _≤_, _<_}
 use mathlib.Core.Path.{_≡_, refl, sym, ap, ap₂, _∙_}
 use mathlib.Core.Bool.{Bool, true, false, cond, not, _&&_}
 use mathlib.Core.List.{List}
+use mathlib.Core.Logic.{⊎-elim}
 use lib.ListN.{getD}
 use lib.Dec.{leb, ltb, eqb}
 use native.Mathlib.Omega.{arith}
 use borrow.Author.Tests.{lt-ltb, le-ltb}
 use Rattle.octets.specs.Place.{allBelow}
+use Rattle.octets.proofs.Cases.{below-or-not}
 use Rattle.octets.proofs.Place.{allBelow-more, allBelow-at, allBelow-of}
 use Rattle.datagrams.specs.Sizes.{packetLimit, messageLimit, messagesLimit}
-use Rattle.views.specs.Cells.{isUnknown, keptBefore, keptAhead, keptNumbers}
+use Rattle.views.specs.Cells.{isUnknown, keptBefore, keptAhead}
 use Rattle.stores.specs.Store.{zerosPast}
 use Rattle.stores.proofs.Laws.{zerosPast-at}
 use Rattle.views.specs.Ranges.{blankAt}
-use Rattle.held.specs.Slots.{slotAt, heardSlotAt, messageSlot}
-use Rattle.held.specs.Table.{stateIn, messageSizeIn, stateNumbered}
+use Rattle.held.specs.Slots.{slotsKept, slotAt, heardSlotAt, messageSlot}
+use Rattle.held.specs.Table.{stateIn, sizeIn, messageSizeIn, stateNumbered}
 use Rattle.held.specs.Laid.{messageLaid}
-use Rattle.checking.specs.Pieces.{keptRight, heardRight, keptTest, heardTest, sizeless, emptyAt, heldOctets, octetZero}
+use Rattle.checking.specs.Pieces.{stateRight, passedOf, placeIn, stateTest, packetTest, SizesFit, heardRight, heardTest, sizeless, emptyAt, heldOctets, octetZero}
 
 -- two tests that pass together
 pub both-ways : (a b : Bool) → (a ≡ true → b ≡ true) → (b ≡ true → a ≡ true) → a ≡ b
@@ -44,19 +46,62 @@ pub checked-done : {limit : ℕ} {test : ℕ → Bool} {ok : Bool} {p : ℕ} →
 checked-done {limit} {test} {ok} {p} c done = c .so ∙ ap (λ (k : ℕ). allBelow k test) (omega (arith, c .few))
 
 -- ---- which numbers must be blank
-pub blank-before : (whole p : ℕ) → p < keptBefore → ltb whole (keptBefore - p) ≡ blankAt whole p
-blank-before whole p before = rw (lt-ltb p keptBefore before)
+pub passed-few : {whole : ℕ} → whole < keptBefore → whole ≡ passedOf whole
+unfolding passedOf
+passed-few {whole} few = rw (lt-ltb whole keptBefore few)
 
-pub blank-after : (whole p : ℕ) → keptBefore ≤ p → false ≡ blankAt whole p
-blank-after whole p after = rw (le-ltb p keptBefore after)
+pub passed-all : {whole : ℕ} → keptBefore ≤ whole → keptBefore ≡ passedOf whole
+unfolding passedOf
+passed-all {whole} all = rw (le-ltb whole keptBefore all)
+
+pub ruleset passes = (passed-few, passed-all)
+
+-- no more than are in view, so that a place may be added
+passed-small : (whole : ℕ) → passedOf whole ≤ keptBefore
+unfolding passedOf
+passed-small whole =
+    ⊎-elim (λ few. rw (lt-ltb whole keptBefore few) (omega arith)) (λ all. rw (le-ltb whole keptBefore all) (omega arith))
+    (below-or-not whole keptBefore)
+
+pub sum-small : (whole p : ℕ) {gone : ℕ} → gone ≡ passedOf whole → gone + p % slotsKept < 2 ^ 16
+sum-small whole p gone-is = rw gone-is (omega (arith, passed-small whole))
+
+-- the number j before the base is blank exactly if j exceeds the sum
+blank-told : (whole p : ℕ) → ltb (passedOf whole + p) keptBefore ≡ blankAt whole p
+unfolding passedOf
+blank-told whole p =
+    ⊎-elim
+    (λ few.
+    ⊎-elim
+    (λ early.
+    rw (lt-ltb whole keptBefore few, lt-ltb p keptBefore early)
+    (⊎-elim (λ low. rw (lt-ltb (whole + p) keptBefore low, lt-ltb whole (keptBefore - p) (omega arith)))
+    (λ high. rw (le-ltb (whole + p) keptBefore high, le-ltb whole (keptBefore - p) (omega arith)))
+    (below-or-not (whole + p) keptBefore)))
+    (λ late. rw (lt-ltb whole keptBefore few, le-ltb p keptBefore late, le-ltb (whole + p) keptBefore (omega arith)))
+    (below-or-not p keptBefore))
+    (λ all.
+    rw (le-ltb whole keptBefore all, le-ltb (keptBefore + p) keptBefore (omega arith))
+    (⊎-elim (λ early. rw (lt-ltb p keptBefore early, le-ltb whole (keptBefore - p) (omega arith))) (λ late. rw (le-ltb p keptBefore late))
+    (below-or-not p keptBefore)))
+    (below-or-not whole keptBefore)
 
 -- ---- kept numbers
-module _ (base total : ℕ) (t o : List ℕ) {p : ℕ} {ok blank right : Bool} where
-  pub kept-turn : Checked keptNumbers (keptTest base total t o) ok p → p < keptNumbers → blank ≡ blankAt total p
-      → right ≡ keptRight t o (slotAt base p) blank → Checked keptNumbers (keptTest base total t o) (ok && right) (p + 1)
-  unfolding keptTest
-  kept-turn c more blank-is right-is =
-      checked-turn c more (right-is ∙ ap (λ (b : Bool). keptRight t o (slotAt base p) b) blank-is)
+module _ (base total : ℕ) (t : List ℕ) {i state size gone place : ℕ} {ok right : Bool} where
+  pub state-turn : Checked slotsKept (stateTest base total t) ok i → i < slotsKept → state ≡ stateIn t i → size ≡ sizeIn t i
+      → gone ≡ passedOf total → place ≡ placeIn base i → right ≡ stateRight state size (ltb (gone + place) keptBefore)
+      → Checked slotsKept (stateTest base total t) (ok && right) (i + 1)
+  unfolding stateTest
+  state-turn c more state-is size-is gone-is place-is right-is =
+      checked-turn c more (rw (state-is, size-is, gone-is, place-is, blank-told total (placeIn base i)) at right-is)
+
+pub packet-turn : (t o : List ℕ) {i size : ℕ} {ok right : Bool} → Checked slotsKept (packetTest t o) ok i → i < slotsKept
+    → size ≡ sizeIn t i → right ≡ zerosPast o i size → Checked slotsKept (packetTest t o) (ok && right) (i + 1)
+unfolding packetTest
+packet-turn t o {i} c more size-is right-is = checked-turn c more (right-is ∙ ap (λ (n : ℕ). zerosPast o i n) size-is)
+
+pub size-fits-there : (t : List ℕ) {i size : ℕ} → SizesFit t → i < slotsKept → size ≡ sizeIn t i → size ≤ packetLimit
+size-fits-there t {i} fit low size-is = rw size-is (fit i low)
 
 -- ---- what is held at a distance
 module _ (base : ℕ) (t g : List ℕ) {ok known right : Bool} {d : ℕ} where

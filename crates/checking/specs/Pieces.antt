@@ -1,16 +1,16 @@
--- The ranges of what is lent, number by number as the code goes: at each number document 01's paragraph, and how its slot is laid.
--- That all of them together are `lentInRanges` is proved. Definitions only.
-use Prim.Native.Nat.{ℕ, _+_, _*_}
-use mathlib.Core.Bool.{Bool, not, _&&_}
+-- The ranges of what is lent, as the code goes: the kept numbers slot by slot, what is held by distance from the base; of each document
+-- 01's paragraph, and how its slot is laid. That all of them together are `lentInRanges` is proved. Definitions only.
+use Prim.Native.Nat.{ℕ, _+_, _-_, _*_, _%_, _≤_, _<_}
+use mathlib.Core.Bool.{Bool, cond, not, _&&_}
 use mathlib.Core.List.{List}
 use lib.ListN.{getD}
-use lib.Dec.{leb, eqb}
+use lib.Dec.{leb, ltb, eqb}
 use Rattle.octets.specs.Place.{allBelow}
 use Rattle.datagrams.specs.Sizes.{packetLimit, messagesLimit}
 use Rattle.views.specs.Cells.{isUnknown, keptBefore}
 use Rattle.stores.specs.Store.{zerosPast}
 use Rattle.views.specs.Ranges.{blankAt, sizeRight, markRight}
-use Rattle.held.specs.Slots.{slotAt, heardSlotAt, messageSlot}
+use Rattle.held.specs.Slots.{slotsKept, slotAt, heardSlotAt, messageSlot}
 use Rattle.held.specs.Table.{lastState, stateIn, sizeIn, markIn, nIn, mIn, messageSizeIn, stateNumbered}
 use Rattle.held.specs.Laid.{messageLaid}
 
@@ -18,9 +18,29 @@ use Rattle.held.specs.Laid.{messageLaid}
 unfoldable pub stateRight : ℕ → ℕ → Bool → Bool
 stateRight number size mustBeBlank = leb number lastState && sizeRight (stateNumbered number) size mustBeBlank
 
--- slot i of kept numbers
-unfoldable pub keptRight : List ℕ → List ℕ → ℕ → Bool → Bool
-keptRight t o i mustBeBlank = stateRight (stateIn t i) (sizeIn t i) mustBeBlank && zerosPast o i (sizeIn t i)
+-- of the numbers before the base that are in view, how many have been in the session
+unfoldable pub passedOf : ℕ → ℕ
+passedOf total = cond (ltb total keptBefore) total keptBefore
+
+-- the place in the view of the number in slot i: number - base + 32
+abbrev pub placeIn : ℕ → ℕ → ℕ
+placeIn base i = (i + (keptBefore + slotsKept - base % slotsKept)) % slotsKept
+
+-- the kept number in slot i: its state and its length
+unfoldable pub stateTest : ℕ → ℕ → List ℕ → ℕ → Bool
+stateTest base total t i = stateRight (stateIn t i) (sizeIn t i) (blankAt total (placeIn base i))
+
+-- .. and its octets
+unfoldable pub packetTest : List ℕ → List ℕ → ℕ → Bool
+packetTest t o i = zerosPast o i (sizeIn t i)
+
+-- no length is more than a slot holds
+abbrev pub SizesFit : List ℕ → Type 0
+SizesFit t = (i : ℕ) → i < slotsKept → sizeIn t i ≤ packetLimit
+
+-- all kept numbers
+unfoldable pub allKept : ℕ → ℕ → List ℕ → List ℕ → Bool
+allKept base total t o = allBelow slotsKept (stateTest base total t) && allBelow slotsKept (packetTest t o)
 
 -- a number that stands for a mark, with n and m beside it
 unfoldable pub markedRight : ℕ → Bool → ℕ → ℕ → Bool
@@ -31,10 +51,7 @@ unfoldable pub heardRight : List ℕ → List ℕ → ℕ → Bool → Bool
 heardRight t g j known =
     markedRight (markIn t j) known (nIn t j) (mIn t j) && allBelow messagesLimit (messageLaid t g j (mIn t j))
 
--- place p of the view, and distance d from the base
-unfoldable pub keptTest : ℕ → ℕ → List ℕ → List ℕ → ℕ → Bool
-keptTest base total t o p = keptRight t o (slotAt base p) (blankAt total p)
-
+-- the number at distance d from the base
 unfoldable pub heardTest : ℕ → List ℕ → List ℕ → ℕ → Bool
 heardTest base t g d =
     heardRight t g (heardSlotAt base d) (not (isUnknown (stateNumbered (stateIn t (slotAt base (keptBefore + d))))))

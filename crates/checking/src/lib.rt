@@ -1,5 +1,5 @@
 // Whether a session stands within its ranges: document 01, 'Ranges of a session', decided for all that is lent. Refusal 17 is given
-// exactly where it does not. Each number is looked at in the order of the view, with how its slot is laid. These functions serve
+// exactly where it does not. Kept numbers are looked at slot by slot, what is held by distance from the base. These functions serve
 // callers inside this repository: they require the lengths of the table and the stores.
 mod slots;
 
@@ -8,24 +8,28 @@ use datagrams::Parity;
 use held::Counts;
 use held::Session;
 use slots::heard_right;
-use slots::kept_right;
+use slots::slot_right;
+use slots::state_right;
 ghost use mathlib.Core.Path.{_≡_};
 ghost use mathlib.Core.Bool.{_&&_};
 ghost use Prim.Native.Nat.{_%_};
 ghost use lib.Dec.{leb, eqb};
 ghost use lib.ListN.{length};
 ghost use Rattle.octets.specs.Place.{allBelow};
-ghost use Rattle.views.specs.Cells.{keptAhead, keptNumbers};
+ghost use Rattle.views.specs.Cells.{keptAhead};
 ghost use Rattle.stores.specs.Store.{mask};
 ghost use Rattle.views.specs.View.{numbers, sessionLimit};
-ghost use Rattle.views.specs.Ranges.{blankAt};
-ghost use Rattle.held.specs.Slots.{packetOctets, messageOctets};
+ghost use Rattle.held.specs.Slots.{slotsKept, packetOctets, messageOctets};
 ghost use Rattle.held.specs.Table.{places, lent};
 ghost use Rattle.held.specs.Laid.{lentInRanges};
-ghost use Rattle.checking.specs.Pieces.{keptTest, heardTest};
+ghost use Rattle.checking.specs.Pieces.{passedOf, SizesFit, stateTest, packetTest, allKept, heardTest};
 
 // Numbers are counted modulo this.
 const NUMBERS: u64 = 65536;
+// The slots of kept numbers, and the numbers before the base among them, in the table's sixteen bits.
+const KEPT: u16 = Session::KEPT as u16;
+
+const BEFORE: u16 = Session::BEFORE as u16;
 // The octets of the slots of all messages of a number.
 const HELD_OCTETS: usize = Parity::MESSAGES * Packet::LIMIT;
 
@@ -38,35 +42,68 @@ fn sum_right(base: u16, whole: u64) -> bool
     (base == wrapped) & (whole <= Session::LIMIT)
 }
 
-// "The number j before the base is blank exactly if j exceeds the sum; no other is blank.": must the one at place p be?
-fn must_be_blank(whole: u64, p: usize) -> bool
-    ensures { λ r. ⌜ r ≡ blankAt whole p ⌝ }
+// Of the numbers before the base that are in view, how many have been in the session.
+fn passed(whole: u64) -> u16
+    ensures { λ r. ⌜ r ≡ passedOf whole ⌝ }
 {
-    if p < Session::BEFORE {
-        let j = Session::BEFORE - p;
-        return whole < j as u64;
+    if whole < Session::BEFORE as u64 {
+        return whole as u16;
     }
-    false
+    BEFORE
 }
 
-// All kept numbers, in the order of the view.
+// The states and lengths of all kept numbers, slot by slot. "The number j before the base is blank exactly if j exceeds the sum; no
+// other is blank.": the number in a slot stands at the place number - base + 32 of the view. Sixteen-bit numbers, and no branch that
+// leaves the loop, let eight slots be looked at together.
+fn all_states_right(base: u16, whole: u64, t: &[u16]) -> bool
+    requires { ⌜ length (now t) ≡ places ⌝ }
+    ensures { λ r. ⌜ r ≡ allBelow slotsKept (stateTest base whole (now (t .entry))) ⌝ }
+{
+    let shift = BEFORE + KEPT - base % KEPT;
+    let gone = passed(whole);
+    let mut ok = true;
+    let mut i = 0;
+    while i < Session::KEPT {
+        let state = held::state_at(t, i);
+        let size = held::size_at(t, i);
+        let place = (i as u16 + shift) % KEPT;
+        let right = state_right(state, size, gone + place < BEFORE);
+        ok = ok & right;
+        i += 1;
+    }
+    ok
+}
+
+// The octets of all packets, whose lengths are right.
+fn all_packets_laid(t: &[u16], o: &[u8], passes: &[u8]) -> bool
+    requires { ⌜ length (now t) ≡ places ⌝ }
+    requires { ⌜ SizesFit (now t) ⌝ }
+    requires { ⌜ length (now o) ≡ packetOctets ⌝ }
+    requires { ⌜ now passes ≡ mask ⌝ }
+    ensures { λ r. ⌜ r ≡ allBelow slotsKept (packetTest (now (t .entry)) (now (o .entry))) ⌝ }
+{
+    let mut ok = true;
+    let mut i = 0;
+    while i < Session::KEPT {
+        let size = held::size_at(t, i);
+        let right = slot_right(o, i, size, passes);
+        ok = ok & right;
+        i += 1;
+    }
+    ok
+}
+
+// All kept numbers.
 fn all_kept_right(base: u16, whole: u64, t: &[u16], o: &[u8], passes: &[u8]) -> bool
     requires { ⌜ length (now t) ≡ places ⌝ }
     requires { ⌜ length (now o) ≡ packetOctets ⌝ }
     requires { ⌜ now passes ≡ mask ⌝ }
-    ensures { λ r. ⌜ r ≡ allBelow keptNumbers (keptTest base whole (now (t .entry)) (now (o .entry))) ⌝ }
+    ensures { λ r. ⌜ r ≡ allKept base whole (now (t .entry)) (now (o .entry)) ⌝ }
 {
-    let first = base as usize + Session::BEFORE;
-    let mut ok = true;
-    let mut p = 0;
-    while p < Session::KEPT {
-        let slot = (first + p) % Session::KEPT;
-        let blank = must_be_blank(whole, p);
-        let right = kept_right(t, slot, blank, o, passes);
-        ok = ok & right;
-        p += 1;
+    if all_states_right(base, whole, t) {
+        return all_packets_laid(t, o, passes);
     }
-    ok
+    false
 }
 
 // All that is held, by distance from the base.

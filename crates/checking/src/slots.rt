@@ -13,13 +13,13 @@ ghost use lib.ListN.{length};
 ghost use Rattle.octets.specs.Place.{allBelow};
 ghost use Rattle.datagrams.specs.Sizes.{packetLimit, messageLimit, messagesLimit};
 ghost use Rattle.stores.specs.Store.{HasSlot, zerosPast, mask};
-ghost use Rattle.held.specs.Slots.{slotsKept, slotsHeard, packetOctets, messageOctets};
+ghost use Rattle.held.specs.Slots.{slotsHeard, messageOctets};
 ghost use Rattle.held.specs.Table.{places};
 ghost use Rattle.held.specs.Laid.{messageLaid};
-ghost use Rattle.checking.specs.Pieces.{stateRight, keptRight, markedRight, heardRight, sizeless, emptyAt};
+ghost use Rattle.checking.specs.Pieces.{stateRight, markedRight, heardRight, sizeless, emptyAt};
 
 // "Unknown and blank have length 0, others 1 to 160.", and the number stands for a state.
-fn state_right(state: u16, size: usize, blank: bool) -> bool
+pub fn state_right(state: u16, size: usize, blank: bool) -> bool
     ensures { λ r. ⌜ r ≡ stateRight state size blank ⌝ }
 {
     if state == Session::UNKNOWN {
@@ -32,7 +32,7 @@ fn state_right(state: u16, size: usize, blank: bool) -> bool
 }
 
 // "Octets past a length are zero."
-fn slot_right(o: &[u8], slot: usize, size: usize, passes: &[u8]) -> bool
+pub fn slot_right(o: &[u8], slot: usize, size: usize, passes: &[u8]) -> bool
     requires { ⌜ HasSlot slot (now o) ⌝ }
     requires { ⌜ size ≤ packetLimit ⌝ }
     requires { ⌜ now passes ≡ mask ⌝ }
@@ -42,22 +42,6 @@ fn slot_right(o: &[u8], slot: usize, size: usize, passes: &[u8]) -> bool
         return stores::all_zero(o, slot);
     }
     stores::zeros_past(o, slot, size, passes)
-}
-
-// A kept number in its slot.
-pub fn kept_right(t: &[u16], slot: usize, blank: bool, o: &[u8], passes: &[u8]) -> bool
-    requires { ⌜ length (now t) ≡ places ⌝ }
-    requires { ⌜ slot < slotsKept ⌝ }
-    requires { ⌜ length (now o) ≡ packetOctets ⌝ }
-    requires { ⌜ now passes ≡ mask ⌝ }
-    ensures { λ r. ⌜ r ≡ keptRight (now (t .entry)) (now (o .entry)) slot blank ⌝ }
-{
-    let state = held::state_at(t, slot);
-    let size = held::size_at(t, slot);
-    if state_right(state, size, blank) {
-        return slot_right(o, slot, size, passes);
-    }
-    false
 }
 
 // "An accepted number is known. Messages stand only at accepted numbers, and with m = 0 also n = 0, otherwise n [and] m .. are
