@@ -1,6 +1,5 @@
 -- The demands, each proved in its file. Assumes nothing.
 use Rattle.sending.proofs.Claims as sending
-use Rattle.lines.proofs.Claims as lines
 use Rattle.demands.specs.Claims.{Claims}
 use Rattle.demands.proofs.Demand1.{demand-1}
 use Rattle.demands.proofs.Demand2.{demand-2}
@@ -9,6 +8,7 @@ use Rattle.demands.proofs.Example as example
 use Rattle.demands.proofs.Burst as burst
 use Rattle.demands.proofs.OneOutcome.{one-outcome}
 use Rattle.demands.proofs.Sheet.{twelve-cases}
+use Rattle.demands.proofs.Program.{program-claims}
 
 pub claims : Claims
 claims =
@@ -21,5 +21,5 @@ claims =
       burst = burst.burst;
       oneOutcome = one-outcome;
       twelveCases = twelve-cases;
-      program = lines.claims;
+      program = program-claims;
     }

@@ -4,7 +4,7 @@ use mathlib.Core.Path.{_≡_, refl, sym, ap, _∙_}
 use mathlib.Core.Logic.{_↔_, _⊎_, ⊎-elim}
 use mathlib.Core.Bool.{Bool, true, false, not, cond, _&&_}
 use mathlib.Core.List.{List, [], _∷_, _++_, map}
-use mathlib.Core.Option.{none, some}
+use mathlib.Core.Option.{Option, none, some}
 use lib.ListN.{length, getD, replicate, length-append, length-replicate}
 use lib.Dec.{leb, ltb}
 use native.Mathlib.Omega.{arith}
@@ -144,15 +144,19 @@ is-repaired s octets = (
       ap (λ (l : List ℕ). refusalIn (readPacket Repaired l)) (is .is) ∙ ap refusalIn reads,
 )
 
+-- the same of a call with that refusal
+of-call : {told said : Option ℕ} {P : Type 0} → told ≡ said → (said ≡ none) ↔ P → (told ≡ none) ↔ P
+of-call same t = (λ e. t .0 (sym same ∙ e), λ p. same ∙ t .1 p)
+
 readers : Readers
 readers =
     record {
       length = λ {s} {r} p. ap refusalIn (p .answer) ∙ length-rows s;
       datagram = λ p. ap refusalIn (p .answer);
       packet = λ p. ap refusalIn (p .answer);
-      isDatagram = is-datagram;
-      isPacket = is-packet;
-      isRepaired = is-repaired;
+      isDatagram = λ {s} octets p. of-call (ap refusalIn (p .answer)) (is-datagram s octets);
+      isPacket = λ {s} octets p. of-call (ap refusalIn (p .answer)) (is-packet s octets);
+      isRepaired = λ {s} octets p. of-call (ap refusalIn (p .answer)) (is-repaired s octets);
       packetRefusals = packet-refusals;
       datagramRefusals = datagram-refusals;
     }

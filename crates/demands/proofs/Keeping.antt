@@ -71,7 +71,8 @@ module _ {view : View} {p : ℕ} (small : p < keptNumbers) (known : Known (view 
     still low = ap (λ (c : Cell). isUnknown (c .state)) (k .stays low) ∙ known
 
     -- nothing left
-    keeps-stays : {last : View} → ((q : ℕ) → Known (held .cells) q → cellAt (last .cells) q ≡ cellAt (held .cells) q) → Keeps view left last p
+    keeps-stays : {last : View} → ((q : ℕ) → Known (held .cells) q → cellAt (last .cells) q ≡ cellAt (held .cells) q)
+        → Keeps view left last p
     keeps-stays same = record { stays = λ low. same (p - length left) (still low) ∙ k .stays low; leaves = k .leaves }
 
     -- the number at the base left; if it is this one, it was released as it was known

@@ -49,4 +49,5 @@ pub mod Demand3
 pub mod OfferedTo
 pub mod Example
 pub mod Burst
+pub mod Program
 pub mod Claims

@@ -1,6 +1,5 @@
 -- The demands on the whole, each under its name: what the library is proved to do. Definitions only.
 use Rattle.sending.specs.Claims as sending
-use Rattle.lines.specs.Claims as lines
 use Rattle.demands.specs.Demand1.{Demand1}
 use Rattle.demands.specs.Demand2.{Demand2}
 use Rattle.demands.specs.Demand3.{Demand3}
@@ -8,6 +7,7 @@ use Rattle.demands.specs.Example.{Example}
 use Rattle.demands.specs.Burst.{Burst}
 use Rattle.demands.specs.OneOutcome.{OneOutcome}
 use Rattle.demands.specs.Sheet.{TwelveCases}
+use Rattle.demands.specs.Program.{Program}
 
 pub record Claims : Type 0 where
   pub demand1 : Demand1
@@ -21,4 +21,4 @@ pub record Claims : Type 0 where
   pub oneOutcome : OneOutcome
   pub twelveCases : TwelveCases
   -- the program: document 01's whole case, and what it writes of any input, however it is cut
-  pub program : lines.Claims
+  pub program : Program

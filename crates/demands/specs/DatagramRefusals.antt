@@ -1,6 +1,6 @@
 -- Document 01, 'Refusals by number', of the datagram reader: what it refuses, and with which number, said without a reading
 -- of the octets. They are right up to the first item that is wrong, and what is wrong with that item is the number. A datagram
--- of these items is what the datagram writer writes (Demand1, `isDatagram`). Statements alone. Definitions only.
+-- of these items is what the datagram writer writes (Demand1, `isDatagram`). Statements alone.
 use Prim.Native.Nat.{ℕ, _%_, _≤_, _<_}
 use mathlib.Core.Path.{_≡_}
 use mathlib.Core.Logic.{_↔_, _⊎_}

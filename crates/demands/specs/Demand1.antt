@@ -3,8 +3,8 @@
 -- were." That a call ends is part of the proof of its contract, which asks nothing of its caller. The field of a call's name says
 -- that its refusal is the first row of its table that is given, and that it is not refused where none is; the field
 -- `unchanged` beside it (`offerUnchanged`, `nextUnchanged`, ..) says what a refusal leaves. Readers change nothing. The refusals
--- of the datagram and the packet reader are those of their definitions, met in reading order; what they do not refuse is told
--- apart from that order (`isDatagram`, `isPacket`, `isRepaired`). Statements alone. Definitions only.
+-- of the datagram and the packet reader are those of their definitions, met in reading order; apart from that order is told what
+-- they do not refuse (`isDatagram`, `isPacket`, `isRepaired`) and what they do (`datagramRefusals`, `packetRefusals`). Statements alone.
 use Prim.Native.Nat.{ℕ, _≤_}
 use mathlib.Core.Path.{_≡_}
 use mathlib.Core.Logic.{_↔_}
@@ -80,10 +80,12 @@ pub record Readers : Type 0 where
   pub datagram : {s : List ℕ} {r : DatagramRead} → DatagramReads s r → refusalIn (readOutcome r) ≡ refusalIn (readDatagram s)
   pub packet : {ending : Ending} {s : List ℕ} {r : PacketRead} → PacketTold ending s r
       → refusalIn (packetOutcome r) ≡ refusalIn (readPacket ending s)
-  -- a datagram reads exactly if it is one, and so does a packet as received; one as repaired "may go on with zeros only"
-  pub isDatagram : (s : List ℕ) → Octets s → (refusalIn (readDatagram s) ≡ none) ↔ IsDatagram s
-  pub isPacket : (s : List ℕ) → Octets s → (refusalIn (readPacket Whole s) ≡ none) ↔ IsPacket s
-  pub isRepaired : (s : List ℕ) → Octets s → (refusalIn (readPacket Repaired s) ≡ none) ↔ IsRepaired s
+  -- a datagram reads exactly if it is one, and so does a packet as received; one as repaired "may go on with zeros only". That
+  -- octets are below 256 (`Octets`) is so of every slice of octets
+  pub isDatagram : {s : List ℕ} {r : DatagramRead} → Octets s → DatagramReads s r → (refusalIn (readOutcome r) ≡ none) ↔ IsDatagram s
+  pub isPacket : {s : List ℕ} {r : PacketRead} → Octets s → PacketTold Whole s r → (refusalIn (packetOutcome r) ≡ none) ↔ IsPacket s
+  pub isRepaired : {s : List ℕ} {r : PacketRead} → Octets s → PacketTold Repaired s r
+      → (refusalIn (packetOutcome r) ≡ none) ↔ IsRepaired s
   pub packetRefusals : PacketRefusals
   pub datagramRefusals : DatagramRefusals
 

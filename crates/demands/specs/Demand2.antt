@@ -4,7 +4,7 @@
 -- in order, each place once, released or lost, and the counts match the history. One saved within its ranges goes on from what
 -- it holds, each call as 01 says." The first sentence is what the readers and writers promise (LengthRead, DatagramReads,
 -- PacketTold, Puts): their answers are those of the definitions that write document 01 out, `lengthAt`, `readDatagram` and
--- `readPacket`, `lengthToWrite`, `datagramToWrite` and `packetToWrite`. Statements alone. Definitions only.
+-- `readPacket`, `lengthToWrite`, `datagramToWrite` and `packetToWrite`. Statements alone.
 use Prim.Native.Nat.{ℕ, _+_, _-_, _%_, _≤_, _<_}
 use mathlib.Core.Path.{_≡_}
 use mathlib.Core.Logic.{_↔_}

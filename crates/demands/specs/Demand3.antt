@@ -3,7 +3,7 @@
 -- second hold all of the first, in any order. Then every number known after the first is known after the second, both equal to
 -- the sender's packet up to zeros at the end. And one accepted datagram, still held, with m parity messages brings back any m or
 -- fewer numbers in a row within its reach, if the rest of its reach is known." Said of sessions and the public calls; what a
--- session knows and holds is what document 01 sees in it. Statements alone. Definitions only.
+-- session knows and holds is what document 01 sees in it. Statements alone.
 use Prim.Native.Nat.{ℕ, _+_, _≤_, _<_}
 use mathlib.Core.Path.{_≡_}
 use mathlib.Core.Logic.{_⊎_}

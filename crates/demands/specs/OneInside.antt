@@ -1,6 +1,6 @@
 -- One outcome of the calls that serve callers inside this repository, each of which has a `requires`: a record for each crate, with
 -- a field for each call, under its name and with its promise. Where a field has a hypothesis more, the call
--- requires it. Statements alone. Definitions only.
+-- requires it. Statements alone.
 use Prim.Native.Nat.{ℕ, _/_}
 use mathlib.Core.Path.{_≡_}
 use mathlib.Core.Bool.{Bool, not}

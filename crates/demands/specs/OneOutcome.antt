@@ -1,5 +1,5 @@
 -- "Any two outcomes allowed by it are proved equal": of each public call, two outcomes that its promise allows are one: the
--- answer, the session after and the lent buffer. Statements alone. Definitions only.
+-- answer, the session after and the lent buffer. Statements alone.
 use Rattle.lengths.specs.Claims as lengths
 use Rattle.datagrams.specs.Claims as datagrams
 use Rattle.packets.specs.Claims as packets

@@ -1,5 +1,5 @@
 -- One outcome of the calls that only tell something: each limit, a slot, a size, a flag. A record for each crate, with a field for
--- each call, under its name and with its promise. Statements alone. Definitions only.
+-- each call, under its name and with its promise. Statements alone.
 use Prim.Native.Nat.{ℕ, _%_}
 use mathlib.Core.Path.{_≡_}
 use mathlib.Core.Bool.{Bool}

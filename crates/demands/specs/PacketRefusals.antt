@@ -1,6 +1,6 @@
 -- What the packet reader refuses, and with which number, said of the public call's answer: as received (`Whole`) and as repaired.
 -- Octets are refused with the number of their first wrong item (`firstWrong`, over the tables of `PacketItems`); the other fields
--- say plainly what that comes to for each number. Statements alone. Definitions only.
+-- say plainly what that comes to for each number. Statements alone.
 use Prim.Native.Nat.{ℕ, _+_, _*_, _%_, _≤_, _<_}
 use mathlib.Core.Path.{_≡_}
 use mathlib.Core.Logic.{_↔_, _≢_}

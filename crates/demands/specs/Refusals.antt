@@ -1,7 +1,8 @@
 -- Document 01, 'Refusals by number', as tables: for each call its refusals in the page's order, each with its number and the
 -- condition under which it is given (`lengths`, Tables). The first row that is given is the call's answer, and where none is, the
 -- call is not refused. The writers' tables stand where their definitions do, which follow from them: `lengthWriterRows`,
--- `datagramWriterRows`, `packetWriterRows`, `senderRows`, `lineRows`. Here are the others. Definitions only.
+-- `datagramWriterRows`, `packetWriterRows`, `senderRows`, `lineRows`. Here are those of the length reader and of the receiving
+-- session; what the packet reader and the datagram reader refuse stands in PacketItems and DatagramRefusals. Definitions only.
 use Prim.Native.Nat.{ℕ, _+_, _*_}
 use mathlib.Core.Bool.{not, _&&_}
 use mathlib.Core.List.{List, [], _∷_}

@@ -1,6 +1,6 @@
 -- Demand 2: "What you write reads back to the same fields, and what you read as received writes back to the same octets." Said of
 -- what the calls answered: whatever a write left in the lent buffer, whatever a read then answers of it, and the other way
--- round. Statements alone. Definitions only.
+-- round. Statements alone.
 use Prim.Native.Nat.{ℕ, _+_, _-_, _%_, _≤_, min}
 use mathlib.Core.Path.{_≡_}
 use mathlib.Core.List.{List, _++_, map, flatten}
