@@ -6,6 +6,7 @@ use Rattle.demands.proofs.Demand2.{demand-2}
 use Rattle.demands.proofs.Demand3.{demand-3}
 use Rattle.demands.proofs.Example as example
 use Rattle.demands.proofs.Burst as burst
+use Rattle.demands.proofs.NotInside.{not-inside}
 use Rattle.demands.proofs.OneOutcome.{one-outcome}
 use Rattle.demands.proofs.Sheet.{twelve-cases}
 use Rattle.demands.proofs.Program.{program-claims}
@@ -19,6 +20,7 @@ claims =
       sendsHonest = sending.claims .chains;
       example = example.example;
       burst = burst.burst;
+      notInside = not-inside;
       oneOutcome = one-outcome;
       twelveCases = twelve-cases;
       program = program-claims;

@@ -5,6 +5,7 @@ use Rattle.demands.specs.Demand2.{Demand2}
 use Rattle.demands.specs.Demand3.{Demand3}
 use Rattle.demands.specs.Example.{Example}
 use Rattle.demands.specs.Burst.{Burst}
+use Rattle.demands.specs.NotInside.{NotInside}
 use Rattle.demands.specs.OneOutcome.{OneOutcome}
 use Rattle.demands.specs.Sheet.{TwelveCases}
 use Rattle.demands.specs.Program.{Program}
@@ -18,6 +19,8 @@ pub record Claims : Type 0 where
   -- demand 3's hypotheses can be met: two lists, and a burst of two numbers
   pub example : Example
   pub burst : Burst
+  -- "The datagram calls, offer and send don't read inside a packet"
+  pub notInside : NotInside
   pub oneOutcome : OneOutcome
   pub twelveCases : TwelveCases
   -- the program: document 01's whole case, and what it writes of any input, however it is cut

@@ -13,6 +13,7 @@ pub mod GoesOn
 pub mod ReachedBy
 pub mod SendChain
 pub mod RoundTrips
+pub mod NotInside
 pub mod Demand2
 pub mod Sheet
 pub mod Feeding

@@ -1,0 +1,49 @@
+-- "The datagram calls, offer and send don't read inside a packet": other octets of the same lengths are answered alike. Statements
+-- alone.
+use Prim.Native.Nat.{ℕ}
+use mathlib.Core.Path.{_≡_}
+use mathlib.Core.List.{List}
+use lib.ListN.{length}
+use Rattle.lengths.specs.Answers.{done}
+use Rattle.lengths.specs.Promise.{Puts}
+use Rattle.lengths.specs.declared.Written.{Written}
+use Rattle.datagrams.specs.Write.{datagramToWrite}
+use Rattle.datagrams.specs.declared.kind.Kind.{Kind}
+use Rattle.held.specs.declared.Session.{Session}
+use Rattle.sessions.specs.Receiver.{OfferOwes}
+use Rattle.sessions.specs.declared.receiver.AfterOffer.{AfterOffer}
+use Rattle.sending.specs.Promise.{Sends}
+use Rattle.sending.specs.declared.Sender.{Sender}
+use Rattle.sending.specs.declared.Sent.{Sent}
+use Rattle.sending.specs.declared.Settings.{Settings}
+
+-- two datagrams with one number and one kind (spares, or n), whose packets have one length, and whose spares or messages have the
+-- same lengths
+pub record Alike (s t : List ℕ) : Type 0 where
+  pub number : ℕ
+  pub kind : Kind
+  pub lengths : List ℕ
+  pub packet : List ℕ
+  pub run : List ℕ
+  pub otherPacket : List ℕ
+  pub otherRun : List ℕ
+  pub oneLength : length packet ≡ length otherPacket
+  pub one : datagramToWrite number packet kind lengths run ≡ done s
+  pub other : datagramToWrite number otherPacket kind lengths otherRun ≡ done t
+
+pub record NotInside : Type 0 where
+  -- the datagram writer: the same refusal, or the same number of octets
+  pub write : (number : ℕ) (kind : Kind) (lengths packet otherPacket run otherRun : List ℕ)
+      → length packet ≡ length otherPacket → length run ≡ length otherRun
+      → {old new otherOld otherNew : List ℕ} {r q : Written} → length old ≡ length otherOld
+      → Puts (datagramToWrite number packet kind lengths run) old new r
+      → Puts (datagramToWrite number otherPacket kind lengths otherRun) otherOld otherNew q
+      → r ≡ q
+  -- offer, and with it the reading: accepted, or refused with the same number
+  pub offer : {session : Session} {s t : List ℕ} → Alike s t → {r q : AfterOffer} → OfferOwes session s r → OfferOwes session t q
+      → r .answer ≡ q .answer
+  -- send: the same refusal, or the same number of octets
+  pub send : {s : Sender} {settings : Settings} {packet otherPacket : List ℕ} → length packet ≡ length otherPacket
+      → {old new otherOld otherNew : List ℕ} {r q : Sent} → length old ≡ length otherOld
+      → Sends s settings packet old new r → Sends s settings otherPacket otherOld otherNew q
+      → r .answer ≡ q .answer
