@@ -10,24 +10,21 @@ use lib.Dec.{leb, eqb}
 use native.Mathlib.Omega.{arith}
 use borrow.Author.Tests.{le-leb, leb-true}
 use Rattle.octets.specs.Place.{tab, allBelow}
-use Rattle.octets.proofs.Cases.{below-or-not, and-left, and-right, and-both}
-use Rattle.octets.proofs.Place.{allBelow-at, allBelow-of, length-tab}
+use Rattle.octets.proofs.Laws.{below-or-not, and-left, and-right, and-both, allBelow-at, allBelow-of, length-tab}
 use Rattle.datagrams.specs.Sizes.{messageLimit, messagesLimit}
 use Rattle.views.specs.Cells.{Cell, cellAt, isUnknown, keptBefore, keptAhead, keptNumbers}
 use Rattle.views.specs.Held.{Held, heldAt}
 use Rattle.stores.specs.Store.{zerosPast}
 use Rattle.views.specs.View.{sum, numbers, sessionLimit}
 use Rattle.views.specs.Ranges.{sumRight, blankAt, sizeRight, cellRight, markRight, heldRight, knownAt, Sound}
-use Rattle.views.proofs.Ranges.{base-small, size-fits}
-use Rattle.views.proofs.Sizes.{mark-sizes}
+use Rattle.views.proofs.Laws.{base-small, size-fits, mark-sizes}
 use Rattle.held.specs.Slots.{slotsKept, slotsHeard, slotAt, heardSlotAt, packetOctets, messageOctets}
 use Rattle.held.specs.Table.{Lent, lent, countsOf, places, lastState, stateIn, sizeIn, markIn, nIn, mIn, stateNumbered, cellIn, messageIn, heldIn, cellsOf, heldOf, viewIn}
 use Rattle.held.specs.Laid.{messageLaid, lentInRanges, Laid, InRanges}
 use Rattle.held.specs.declared.Counts.{Counts}
-use Rattle.held.proofs.Slots.{slot-small, slot-apart, heard-small, heard-slot-of}
-use Rattle.held.proofs.Seen.{length-cells, length-held, cell-at, held-at, unknown-at, octets-long, cell-right, held-right}
-use Rattle.held.proofs.Messages.{message-length}
-use Rattle.held.proofs.Ranges.{message-fits, message-none, message-zeros, laid-message, in-ranges-of, in-ranges-true}
+use Rattle.held.proofs.Laws.{slot-small, slot-apart, heard-small, heard-slot-of, length-cells, length-held, cell-at, held-at, unknown-at}
+use Rattle.held.proofs.Laws.{octets-long, cell-right, held-right, message-length, message-fits, message-none, message-zeros, laid-message}
+use Rattle.held.proofs.Laws.{in-ranges-of, in-ranges-true}
 use Rattle.checking.specs.Pieces.{stateRight, placeIn, stateTest, packetTest, allKept, markedRight, heardRight, heardTest}
 use Rattle.checking.proofs.Turns.{both-ways}
 

@@ -8,16 +8,15 @@ use lib.Dec.{leb, ltb, eqb}
 use native.Mathlib.Omega.{arith}
 use borrow.Author.Tests.{lt-ltb, le-ltb, le-leb, lt-leb, ne-eqb, eqb-true, eq-eqb}
 use Rattle.octets.specs.Place.{allBelow}
-use Rattle.octets.proofs.Cases.{same-or-not, and-right}
-use Rattle.octets.proofs.Place.{allBelow-at, allBelow-of, allBelow-ext}
+use Rattle.octets.proofs.Laws.{same-or-not, and-right, allBelow-at, allBelow-of, allBelow-ext}
 use Rattle.datagrams.specs.Sizes.{packetLeast, packetLimit, coveredLimit, messageLimit, messagesLimit}
 use Rattle.stores.specs.Store.{zerosPast}
 use Rattle.views.specs.Ranges.{blankAt, sizeRight, markRight}
-use Rattle.views.proofs.Ranges.{size-fits}
+use Rattle.views.proofs.Laws.{size-fits}
 use Rattle.held.specs.Slots.{slotsKept, messageSlot}
 use Rattle.held.specs.Table.{lastState, stateIn, sizeIn, markIn, nIn, mIn, messageSizeIn, stateNumbered}
 use Rattle.held.specs.Laid.{messageLaid}
-use Rattle.held.proofs.Ranges.{message-none}
+use Rattle.held.proofs.Laws.{message-none}
 use Rattle.checking.specs.Pieces.{stateRight, placeIn, stateTest, packetTest, SizesFit, allKept, markedRight, heardRight, sizeless, emptyAt}
 
 -- ---- a state with its length

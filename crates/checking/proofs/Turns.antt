@@ -9,8 +9,7 @@ use lib.Dec.{leb, ltb, eqb}
 use native.Mathlib.Omega.{arith}
 use borrow.Author.Tests.{lt-ltb, le-ltb}
 use Rattle.octets.specs.Place.{allBelow}
-use Rattle.octets.proofs.Cases.{below-or-not}
-use Rattle.octets.proofs.Place.{allBelow-more, allBelow-at, allBelow-of}
+use Rattle.octets.proofs.Laws.{below-or-not, allBelow-more, allBelow-at, allBelow-of}
 use Rattle.datagrams.specs.Sizes.{packetLimit, messageLimit, messagesLimit}
 use Rattle.views.specs.Cells.{isUnknown, keptBefore, keptAhead}
 use Rattle.stores.specs.Store.{zerosPast}

@@ -8,7 +8,7 @@ use mathlib.Core.List.{List, [], _++_, append-nil}
 use mathlib.Core.Option.{some, Option·some-injective}
 use lib.ListN.{length}
 use native.Mathlib.Omega.{arith}
-use Rattle.octets.proofs.Cases.{same-or-not}
+use Rattle.octets.proofs.Laws.{same-or-not}
 use Rattle.datagrams.specs.Sizes.{sparesLimit}
 use Rattle.datagrams.specs.Carried.{Carried}
 use Rattle.datagrams.specs.Read.{readDatagram, carriedBy}

@@ -9,7 +9,7 @@ use lib.Seq.{take-append-seam}
 use lib.Dec.{leb, eqb}
 use native.Mathlib.Omega.{arith}
 use borrow.Author.Tests.{eqb-true, le-ltb}
-use Rattle.octets.proofs.Cases.{and-left, and-right}
+use Rattle.octets.proofs.Laws.{and-left, and-right}
 use Rattle.lengths.specs.Refusals.{outsideRanges}
 use Rattle.lengths.specs.Answers.{Answer, done, refused, refuse, over}
 use Rattle.datagrams.specs.Sizes.{coveredLimit, messagesLimit}
@@ -21,12 +21,12 @@ use Rattle.views.specs.Offer as offers
 use Rattle.views.specs.Release as releases
 use Rattle.views.specs.Release.{Release, Loss}
 use Rattle.views.specs.Ranges.{sumRight, sizeRight, Sound}
-use Rattle.views.proofs.Sizes.{held-sizes}
+use Rattle.views.proofs.Laws.{held-sizes}
 use Rattle.held.specs.Table.{stateOf, viewOf}
 use Rattle.held.specs.Laid.{sessionInRanges}
 use Rattle.held.specs.Promise.{Fresh}
 use Rattle.held.specs.declared.Session.{Session}
-use Rattle.held.proofs.Ranges.{session-in-ranges, in-ranges-true}
+use Rattle.held.proofs.Laws.{session-in-ranges, in-ranges-true}
 use Rattle.leaving.specs.Outcome.{Handed, releasedOutcome, lostOutcome, handedOf, octetsOf, numberOf, afterNext, afterGiveUp}
 use Rattle.leaving.specs.declared.Released.{Released}
 use Rattle.leaving.specs.declared.Released.the-variants as answer

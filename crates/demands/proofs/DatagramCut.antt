@@ -10,7 +10,7 @@ use Rattle.lengths.specs.Refusals.{endsEarly, badForm, outsideSizes}
 use Rattle.lengths.specs.Length.{lengthOctets, ofTwo}
 use Rattle.lengths.specs.Claims.{Octets}
 use Rattle.datagrams.specs.Sizes.{packetLimit}
-use Rattle.octets.proofs.Cases.{below-or-not}
+use Rattle.octets.proofs.Laws.{below-or-not}
 use Rattle.demands.specs.DatagramItems.{Item, number, packet, kind, spares, octet01, octetN, countM, message, inside, Form}
 use Rattle.demands.specs.DatagramItems.{many, sized, formOf, formDue}
 use Rattle.demands.specs.DatagramItems.{Right, rightOctets, rightSize, Due, passes}

@@ -10,7 +10,7 @@ use lib.Seq.{length-take-le}
 use lib.Dec.{ltb, eqb}
 use native.Mathlib.Omega.{arith}
 use borrow.Author.Tests.{lt-ltb, le-ltb, le-leb, lt-leb, ne-eqb}
-use Rattle.octets.proofs.Cases.{below-or-not, same-or-not}
+use Rattle.octets.proofs.Laws.{below-or-not, same-or-not}
 use Rattle.lengths.specs.Refusals.{endsEarly, outsideSizes, spareBit, leftOver}
 use Rattle.lengths.specs.Answers.{Answer, done, refuse, _>>=_, LengthAnswer}
 use Rattle.lengths.specs.Length.{lengthAt, lengthOctets, lengthLimit, ofTwo}

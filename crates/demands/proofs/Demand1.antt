@@ -9,7 +9,7 @@ use lib.ListN.{length, getD, replicate, length-append, length-replicate}
 use lib.Dec.{leb, ltb}
 use native.Mathlib.Omega.{arith}
 use borrow.Author.Tests.{lt-ltb, le-ltb, le-leb, lt-leb, ltb-true, ltb-false}
-use Rattle.octets.proofs.Cases.{below-or-not}
+use Rattle.octets.proofs.Laws.{below-or-not}
 use Rattle.lengths.specs.Refusals.{endsEarly, badForm, repeated, tooFar, late, baseUnknown, baseKnown, noRoom}
 use Rattle.lengths.specs.Refusals.{allPassed, outsideRanges}
 use Rattle.lengths.specs.Answers.{Answer, done, refused, refuse, fitted, writtenOutcome}

@@ -9,7 +9,7 @@ use lib.Seq.{drop-append-le, length-take-le}
 use lib.Dec.{eqb}
 use native.Mathlib.Omega.{arith}
 use borrow.Author.Tests.{eqb-true}
-use Rattle.octets.proofs.Cases.{and-left, and-right}
+use Rattle.octets.proofs.Laws.{and-left, and-right}
 use Rattle.lengths.specs.Answers.{done, LengthAnswer}
 use Rattle.lengths.specs.Length.{lengthAt, ofTwo}
 use Rattle.lengths.specs.Claims.{Octets}

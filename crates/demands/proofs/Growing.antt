@@ -8,13 +8,12 @@ use mathlib.Core.List.{List, [], _∷_}
 use lib.ListN.{length, set, length-set}
 use lib.Seq.{getD-set-same, getD-set-other}
 use native.Mathlib.Omega.{arith}
-use Rattle.octets.proofs.Cases.{true-or-false, same-or-not}
+use Rattle.octets.proofs.Laws.{true-or-false, same-or-not}
 use Rattle.datagrams.specs.Carried.{Extra, spares, parity}
 use Rattle.views.specs.Cells.{State, received, spare, repaired, Cell, cellAt, unknownAt, isUnknown}
 use Rattle.views.specs.Repair.{Message, repair}
 use Rattle.views.specs.Reached.{Known, Unknown}
-use Rattle.views.proofs.Fill.{unknown-inside, known-not-unknown, same-unknown}
-use Rattle.views.proofs.Grows.{length-repair, repair-known, repair-state}
+use Rattle.views.proofs.Laws.{unknown-inside, known-not-unknown, same-unknown, length-repair, repair-known, repair-state}
 use Rattle.views.specs.Offer.{keep, keepSpares, keepExtra}
 
 -- the states that a number is filled with

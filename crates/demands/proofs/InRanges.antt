@@ -8,7 +8,7 @@ use mathlib.Core.List.{List, _++_, map}
 use lib.ListN.{length, getD, set, replicate, length-set, length-map, length-replicate, getD-replicate, List·getD-append}
 use lib.Seq.{getD-set-same, getD-set-other, getD-append-add}
 use native.Mathlib.Omega.{arith}
-use Rattle.octets.proofs.Cases.{same-or-not, below-or-not, and-left, and-right}
+use Rattle.octets.proofs.Laws.{same-or-not, below-or-not, and-left, and-right}
 use Rattle.lengths.specs.Answers.{done}
 use Rattle.datagrams.specs.Sizes.{coveredLimit, messagesLimit}
 use Rattle.datagrams.specs.Carried.{Carried}
@@ -21,10 +21,9 @@ use Rattle.datagrams.proofs.WriteLaws.{within-true}
 use Rattle.views.specs.Cells.{State, unknown, received, blank, Cell, blankCell, unknownCell, cellAt, keptBefore, keptAhead, keptNumbers}
 use Rattle.views.specs.Held.{Held, nothingHeld, heldAt, heldMessages}
 use Rattle.views.specs.Reached.{DistinctMembers}
-use Rattle.views.proofs.Held.{held-distinct}
+use Rattle.views.proofs.Laws.{held-distinct, reach-kept}
 use Rattle.views.specs.View.{View, Counts, sum, numbers, following, freshView, goneOn}
 use Rattle.views.specs.Offer.{keep, keepExtra, heldOf, accept}
-use Rattle.views.proofs.Sizes.{reach-kept}
 use Rattle.demands.proofs.Ranges.{ViewInRanges}
 use Rattle.demands.proofs.Growing.{Fills, asReceived, asSpare, asRepaired, Grown, grown-twice, grown-keep, grown-extra, grown-repair}
 use Rattle.demands.proofs.Shifted.{length-cells-on, length-held-on, cell-on, cell-last, held-on, held-last}

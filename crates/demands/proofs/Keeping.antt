@@ -8,7 +8,7 @@ use mathlib.Core.List.{List, [], _∷_, _++_, append-nil}
 use lib.ListN.{length, length-append, getD, List·getD-append}
 use lib.Seq.{getD-at}
 use native.Mathlib.Omega.{arith}
-use Rattle.octets.proofs.Cases.{below-or-not}
+use Rattle.octets.proofs.Laws.{below-or-not}
 use Rattle.lengths.specs.Answers.{Answer, done, refused}
 use Rattle.views.specs.Cells.{Cell, isUnknown, cellAt, unknownAt, keptBefore, keptNumbers}
 use Rattle.views.specs.Reached.{Known, Unknown}

@@ -6,13 +6,13 @@ use mathlib.Core.Bool.{true≢false}
 use mathlib.Core.List.{List}
 use lib.ListN.{length}
 use native.Mathlib.Omega.{arith}
-use Rattle.octets.proofs.Cases.{below-or-not}
+use Rattle.octets.proofs.Laws.{below-or-not}
 use Rattle.datagrams.specs.Carried.{Extra, spares, parity, Carried}
 use Rattle.views.specs.Cells.{Cell, received, isUnknown, keptBefore, keptAhead, keptNumbers}
 use Rattle.views.specs.Held.{heldMessages}
 use Rattle.views.specs.Repair.{repair}
 use Rattle.views.specs.Reached.{Known, Reached, DistinctMembers}
-use Rattle.views.proofs.Least.{known-reached, reached-known}
+use Rattle.views.proofs.Laws.{known-reached, reached-known}
 use Rattle.views.specs.View.{View, Counts, freshView, goneOn}
 use Rattle.views.specs.Offer.{keep, keepExtra, accept}
 use Rattle.demands.specs.ReachedBy.{sparesIn}

@@ -9,7 +9,7 @@ use mathlib.Core.List.{List·Memᴰ as Among, List·Memᴰ·not-nil, List·Mem�
 use lib.ListN.{length, length-append}
 use native.Mathlib.Omega.{arith}
 use Rattle.octets.specs.Place.{tab}
-use Rattle.octets.proofs.Place.{tab-ext, tab-more}
+use Rattle.octets.proofs.Laws.{tab-ext, tab-more}
 use Rattle.views.specs.View.{View, Counts, sum, numbers, following, freshView}
 use Rattle.views.specs.Cells.{unknown, received, spare, repaired, blank}
 use Rattle.demands.specs.History.{Left, released, lost, isReceived, isSpare, isRepaired, isLost, numberOf, after, many, countsOf}

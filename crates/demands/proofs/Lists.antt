@@ -9,20 +9,15 @@ use mathlib.Core.List.{List, List·Memᴰ as Among, List·Memᴰ·head as here, 
 use mathlib.Core.Option.{none}
 use lib.ListN.{length}
 use native.Mathlib.Omega.{arith}
-use Rattle.octets.proofs.Place.{tab-among}
-use Rattle.octets.proofs.Cases.{true-or-false, same-or-not, below-or-not}
+use Rattle.octets.proofs.Laws.{tab-among, true-or-false, same-or-not, below-or-not}
 use Rattle.datagrams.specs.Carried.{Carried}
 use Rattle.views.specs.Cells.{Cell, keptBefore, keptAhead}
 use Rattle.views.specs.Repair.{Message, firstUsable}
 use Rattle.views.specs.Held.{Held, nothingHeld, heldAt, messageAt, messagesOf, heldMessages}
 use Rattle.views.specs.Reached.{Known, Closed}
 use Rattle.views.specs.Claims.{SentBefore}
-use Rattle.views.proofs.Fill.{known-not-unknown, usable-says}
-use Rattle.views.proofs.Search.{found-usable}
-use Rattle.views.proofs.Grows.{found-or-none}
-use Rattle.views.proofs.Least.{known-within}
-use Rattle.views.proofs.Held.{held-at, messagesOf-among}
-use Rattle.views.proofs.Burst.{burst-mended}
+use Rattle.views.proofs.Laws.{known-not-unknown, usable-says, found-usable, found-or-none, known-within, held-at, messagesOf-among}
+use Rattle.views.proofs.Laws.{burst-mended}
 use Rattle.views.specs.View.{View, Counts, sum}
 use Rattle.views.specs.Offer as offers
 use Rattle.views.specs.Offer.{accept}

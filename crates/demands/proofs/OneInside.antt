@@ -22,15 +22,16 @@ use Rattle.views.specs.Offer as offers
 use Rattle.held.specs.Table.{Lent, lent, countsOf, stateNumbered, cellsOf, viewIn}
 use Rattle.held.specs.Laid.{InRanges}
 use Rattle.held.specs.declared.Counts.{Counts}
-use Rattle.held.proofs.Injective.{lent-same}
+use Rattle.held.proofs.Laws.{lent-same}
 use Rattle.keeping.specs.Promise.{CellsNow, HeldNow, MayKeep, Keeps, KeepsSpares, MayHold, Holds}
 use Rattle.repairing.specs.Promise.{Mends}
 use Rattle.leaving.specs.Promise.{Releases, GivesUp}
 use Rattle.leaving.specs.declared.Released.{Released}
 use Rattle.leaving.specs.declared.Lost.{Lost}
+use Rattle.leaving.proofs.Laws.{released-told, lost-told}
 use Rattle.offering.specs.Promise.{Offers}
 use Rattle.offering.specs.declared.Offered.{Offered}
-use Rattle.sessions.proofs.Told.{released-told, lost-told, offered-told}
+use Rattle.offering.proofs.Laws.{offered-told}
 use Rattle.sending.specs.Sender.{historyOctets}
 use Rattle.sending.specs.Inner.Held.{Sizes, Stored}
 use Rattle.sending.specs.Inner.Items.{ItemsSize}

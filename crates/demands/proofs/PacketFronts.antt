@@ -12,7 +12,7 @@ use lib.Seq.{take-append-seam, take-append-le}
 use lib.Dec.{leb, ltb, eqb}
 use native.Mathlib.Omega.{arith}
 use borrow.Author.Tests.{lt-ltb, ltb-true}
-use Rattle.octets.proofs.Cases.{below-or-not}
+use Rattle.octets.proofs.Laws.{below-or-not}
 use Rattle.lengths.specs.Refusals.{endsEarly, badForm, leftOver}
 use Rattle.packets.specs.Packet.{every}
 use Rattle.packets.specs.Read.{allZero}

@@ -9,7 +9,7 @@ use native.Mathlib.Nat.{suc-mul}
 use native.Mathlib.Omega.{arith}
 use borrow.Author.Tests.{leb-true}
 use Rattle.octets.specs.Place.{tab}
-use Rattle.octets.proofs.Place.{tab-among}
+use Rattle.octets.proofs.Laws.{tab-among}
 use Rattle.lengths.specs.Answers.{done}
 use Rattle.datagrams.specs.Sizes.{sparesLimit}
 use Rattle.datagrams.specs.Carried.{Extra, spares, parity}
@@ -20,7 +20,7 @@ use Rattle.datagrams.specs.declared.kind.Kind.the-variants as kind
 use Rattle.datagrams.proofs.ReadLaws.{read-inside}
 use Rattle.views.specs.Cells.{keptBefore, keptAhead}
 use Rattle.views.specs.Members.{memberAt, membersOf}
-use Rattle.views.proofs.Members.{member-says}
+use Rattle.views.proofs.Laws.{member-says}
 use Rattle.views.specs.View.{numbers, distance}
 use Rattle.views.specs.Offer.{heldOf}
 use Rattle.demands.specs.ReachedBy.{numberAt, sparesIn}

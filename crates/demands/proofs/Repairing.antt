@@ -7,7 +7,7 @@ use mathlib.Core.Logic.{inr, ⊎-elim}
 use mathlib.Core.List.{List, List·Memᴰ as Among}
 use lib.ListN.{length}
 use native.Mathlib.Omega.{arith}
-use Rattle.octets.proofs.Place.{tab-among}
+use Rattle.octets.proofs.Laws.{tab-among}
 use Rattle.datagrams.specs.Sizes.{coveredLimit, messagesLimit}
 use Rattle.datagrams.specs.Carried.{Carried}
 use Rattle.views.specs.Cells.{Cell, keptBefore, keptAhead, keptNumbers}
@@ -15,12 +15,9 @@ use Rattle.views.specs.Members.{membersOf}
 use Rattle.views.specs.Held.{Held, heldAt, messageAt, messagesOf, heldMessages}
 use Rattle.views.specs.Repair.{Message}
 use Rattle.views.specs.Reached.{Known, Closed, known, DistinctMembers}
-use Rattle.views.proofs.Members.{member-in-reach}
-use Rattle.views.proofs.Held.{held-at, messagesOf-among}
-use Rattle.views.proofs.Least.{reached-within, known-closed}
+use Rattle.views.proofs.Laws.{member-in-reach, held-at, messagesOf-among, reached-within, known-closed, reach-kept}
 use Rattle.views.specs.View.{View, sum}
 use Rattle.views.specs.Offer.{heldOf, accept}
-use Rattle.views.proofs.Sizes.{reach-kept}
 use Rattle.demands.specs.Calls.{Call, Calls, _then_}
 use Rattle.demands.specs.ReachedBy.{spareAt, sparesIn, HasSpare, Accepts, now, HeldBy, ReachedBy, packet, spare, repaired, earlier}
 use Rattle.demands.proofs.Growing.{known-grown}

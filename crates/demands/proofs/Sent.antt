@@ -11,9 +11,7 @@ use native.Mathlib.Omega.{arith}
 use borrow.Author.Tests.{leb-true, le-leb}
 use Rattle.octets.specs.Place.{tab}
 use Rattle.octets.specs.ExclusiveOr.{longest}
-use Rattle.octets.proofs.Place.{length-tab, tab-at}
-use Rattle.octets.proofs.Cases.{below-or-not, and-left, and-right, and-both}
-use Rattle.octets.proofs.ExclusiveOr.{length-exclusiveOr}
+use Rattle.octets.proofs.Laws.{length-tab, tab-at, below-or-not, and-left, and-right, and-both, length-exclusiveOr}
 use Rattle.datagrams.specs.Sizes.{packetLeast, packetLimit, messageLimit, sparesLimit, coveredLimit, messagesLimit}
 use Rattle.datagrams.specs.Carried.{Carried}
 use Rattle.datagrams.specs.Read.{carriedBy}
@@ -29,7 +27,7 @@ use Rattle.views.specs.Members.{membersOf}
 use Rattle.views.specs.Honest.{messageOver, HonestHeld}
 use Rattle.views.specs.View.{numbers}
 use Rattle.views.specs.Offer.{heldOf}
-use Rattle.views.proofs.Sizes.{reach-kept}
+use Rattle.views.proofs.Laws.{reach-kept}
 use Rattle.sending.specs.Sending.{historyKept}
 use Rattle.sending.specs.Carries.{settingsInside, sparesFrom, messagesFrom, extraFrom}
 use Rattle.sending.specs.Honest.{packetAt, carriedAt, HonestSender}

@@ -10,8 +10,7 @@ use lib.Seq.{getD-set-same, getD-set-other}
 use native.Mathlib.Nat.{suc-mul}
 use native.Mathlib.Omega.{arith}
 use Rattle.octets.specs.Place.{tab}
-use Rattle.octets.proofs.Place.{tab-among}
-use Rattle.octets.proofs.Cases.{true-or-false, same-or-not, below-or-not}
+use Rattle.octets.proofs.Laws.{tab-among, true-or-false, same-or-not, below-or-not}
 use Rattle.datagrams.specs.Sizes.{sparesLimit, coveredLimit, messagesLimit}
 use Rattle.datagrams.specs.Carried.{Extra, spares, parity, Carried}
 use Rattle.views.specs.Cells.{State, received, spare, Cell, cellAt, unknownAt, isUnknown, keptBefore, keptAhead, keptNumbers}
@@ -20,15 +19,10 @@ use Rattle.views.specs.Repair.{Message}
 use Rattle.views.specs.Held.{Held, nothingHeld, heldAt, messageAt, messagesOf, heldMessages}
 use Rattle.views.specs.Reached.{Known, Closed}
 use Rattle.views.specs.Honest.{UpToZeros, TrueCells, HonestHeld}
-use Rattle.views.proofs.Fill.{unknown-inside, same-unknown}
-use Rattle.views.proofs.Least.{known-closed}
-use Rattle.views.proofs.Members.{member-says, member-in-reach}
-use Rattle.views.proofs.Held.{held-at, messagesOf-among, held-honest}
-use Rattle.views.proofs.Honest.{repair-right}
-use Rattle.views.proofs.Zeros.{up-to-zeros-same}
+use Rattle.views.proofs.Laws.{unknown-inside, same-unknown, known-closed, member-says, member-in-reach, held-at, messagesOf-among}
+use Rattle.views.proofs.Laws.{held-honest, repair-right, up-to-zeros-same, reach-kept}
 use Rattle.views.specs.View.{View, Counts, sum, freshView, goneOn}
 use Rattle.views.specs.Offer.{keep, keepSpares, keepExtra, heldOf, accept}
-use Rattle.views.proofs.Sizes.{reach-kept}
 use Rattle.sending.specs.Carries.{sparesFrom, extraFrom}
 use Rattle.sending.specs.Honest.{packetAt}
 use Rattle.sending.specs.declared.Settings.{Settings}

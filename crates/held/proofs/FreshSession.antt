@@ -12,8 +12,7 @@ use native.Mathlib.Omega.{arith}
 use borrow.Author.Fill.{fill-more}
 use borrow.Author.Tests.{lt-ltb, le-ltb}
 use Rattle.octets.specs.Place.{tab, allBelow}
-use Rattle.octets.proofs.Place.{tab-ext}
-use Rattle.octets.proofs.Cases.{below-or-not, and-both}
+use Rattle.octets.proofs.Laws.{tab-ext, below-or-not, and-both}
 use Rattle.views.specs.Cells as cells
 use Rattle.views.specs.Cells.{blankCell, unknownCell, keptBefore, keptAhead, keptNumbers}
 use Rattle.views.specs.Held.{nothingHeld}

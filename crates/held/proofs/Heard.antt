@@ -8,8 +8,7 @@ use mathlib.Core.List.{List, []}
 use mathlib.Core.Logic.{⊎-elim}
 use lib.ListN.{length, getD, set}
 use native.Mathlib.Omega.{arith}
-use Rattle.octets.proofs.Cases.{same-or-not, below-or-not}
-use Rattle.octets.proofs.Place.{tab-set, tab-ext, tab-at, length-tab}
+use Rattle.octets.proofs.Laws.{same-or-not, below-or-not, tab-set, tab-ext, tab-at, length-tab}
 use Rattle.octets.specs.Place.{tab}
 use Rattle.datagrams.specs.Sizes.{packetLimit, messageLimit, messagesLimit}
 use Rattle.views.specs.Cells.{Cell, keptBefore, keptAhead, keptNumbers}
@@ -17,8 +16,7 @@ use Rattle.views.specs.Held.{Held, heldAt}
 use Rattle.views.specs.Reached.{Known}
 use Rattle.stores.specs.Store.{part, zerosPast}
 use Rattle.views.specs.Ranges.{markRight, heldRight, knownAt}
-use Rattle.views.proofs.Sizes.{mark-sizes}
-use Rattle.views.proofs.Holding.{heldThere, held-none, accepted-right, held-sound}
+use Rattle.views.proofs.Laws.{mark-sizes, heldThere, held-none, accepted-right, held-sound}
 use Rattle.held.specs.Slots.{slotAt, heardSlotAt, messageSlot, Apart, slotsKept, slotsHeard}
 use Rattle.held.specs.Table.{Lent, lent, countsOf, statePlace, sizePlace, markPlace, nPlace, mPlace, messagePlace, markIn, nIn, mIn, messageSizeIn, stateNumbered, cellIn, messageIn, heldIn, cellsOf, heldOf, viewIn, heardSet}
 use Rattle.held.specs.Laid.{Laid, InRanges}

@@ -10,8 +10,7 @@ use lib.Seq.{ext-getD}
 use lib.Dec.{eqb}
 use native.Mathlib.Omega.{arith}
 use borrow.Author.Tests.{eqb-true, eq-eqb}
-use Rattle.octets.proofs.Place.{length-tab}
-use Rattle.octets.proofs.Cases.{below-or-not, same-or-not}
+use Rattle.octets.proofs.Laws.{length-tab, below-or-not, same-or-not}
 use Rattle.datagrams.specs.Sizes.{packetLimit, messagesLimit}
 use Rattle.views.specs.Cells as cells
 use Rattle.views.specs.Cells.{Cell, cellAt, keptAhead, keptNumbers}

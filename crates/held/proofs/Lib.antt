@@ -1,4 +1,5 @@
 pub mod Slots
+pub mod States
 pub mod Places
 pub mod Seen
 pub mod Placed
@@ -8,3 +9,4 @@ pub mod Messages
 pub mod Injective
 pub mod Marked
 pub mod Heard
+pub mod Laws

@@ -6,8 +6,7 @@ use mathlib.Core.List.{List, []}
 use mathlib.Core.Logic.{⊎-elim}
 use lib.ListN.{length, getD, take, drop, List·getD-eq-default}
 use Rattle.octets.specs.Place.{tab}
-use Rattle.octets.proofs.Place.{tab-at, length-tab}
-use Rattle.octets.proofs.Cases.{below-or-not}
+use Rattle.octets.proofs.Laws.{tab-at, length-tab, below-or-not}
 use Rattle.datagrams.specs.Sizes.{packetLimit, messagesLimit}
 use Rattle.stores.specs.Store.{part, HasSlot}
 use Rattle.stores.proofs.Laws.{length-part, part-octet}

@@ -9,17 +9,15 @@ use mathlib.Core.Logic.{⊎-elim}
 use lib.ListN.{length, getD, set, length-set}
 use lib.Seq.{getD-set-same, getD-set-other}
 use native.Mathlib.Omega.{arith}
-use Rattle.octets.proofs.Cases.{same-or-not}
-use Rattle.octets.proofs.Place.{tab-set, tab-ext}
+use Rattle.octets.proofs.Laws.{same-or-not, tab-set, tab-ext}
 use Rattle.octets.specs.Place.{tab}
 use Rattle.datagrams.specs.Sizes.{packetLeast, packetLimit}
 use Rattle.views.specs.Cells.{Cell, unknownAt, keptAhead, keptNumbers}
 use Rattle.views.specs.Held.{Held}
-use Rattle.views.proofs.Fill.{unknown-inside}
+use Rattle.views.proofs.Laws.{unknown-inside, filledAt, filled-sound}
 use Rattle.stores.specs.Store.{part, pasted, zerosPast, HasSlot}
 use Rattle.stores.proofs.Laws.{length-pasted, part-pasted, part-pasted-other, zerosPast-pasted, zerosPast-other}
 use Rattle.views.specs.Ranges.{isFill}
-use Rattle.views.proofs.Filled.{filledAt, filled-sound}
 use Rattle.held.specs.Slots.{slotAt, heardSlotAt, messageSlot, slotsKept}
 use Rattle.held.specs.Table.{Lent, lent, countsOf, places, lastState, statePlace, sizePlace, markPlace, nPlace, mPlace, messagePlace, stateIn, sizeIn, mIn, stateNumbered, cellIn, messageIn, heldIn, cellsOf, heldOf, viewIn, keptSet}
 use Rattle.held.specs.Laid.{Laid, InRanges}

@@ -8,7 +8,7 @@ use lib.ListN.{length, getD, set, length-set}
 use lib.Seq.{getD-set-other}
 use lib.Dec.{eqb}
 use native.Mathlib.Omega.{arith}
-use Rattle.octets.proofs.Cases.{same-or-not}
+use Rattle.octets.proofs.Laws.{same-or-not}
 use Rattle.datagrams.specs.Sizes.{messagesLimit}
 use Rattle.views.specs.Cells.{unknown, received, spare, repaired, blank, isUnknown}
 use Rattle.held.specs.Slots.{slotsKept, slotsHeard, messageSlot}

@@ -10,13 +10,12 @@ use lib.Dec.{leb, ltb}
 use native.Mathlib.Omega.{arith}
 use borrow.Author.Tests.{lt-ltb, le-ltb, le-leb, leb-true}
 use Rattle.octets.specs.Place.{allBelow}
-use Rattle.octets.proofs.Cases.{below-or-not, and-left, and-right, and-both}
-use Rattle.octets.proofs.Place.{allBelow-at, allBelow-of}
+use Rattle.octets.proofs.Laws.{below-or-not, and-left, and-right, and-both, allBelow-at, allBelow-of}
 use Rattle.datagrams.specs.Sizes.{packetLimit, messageLimit, messagesLimit}
 use Rattle.views.specs.Cells.{keptAhead, keptNumbers}
 use Rattle.stores.specs.Store.{zerosPast}
 use Rattle.views.specs.Ranges.{inRanges}
-use Rattle.views.proofs.Ranges.{sound-of, inRanges-of}
+use Rattle.views.proofs.Laws.{sound-of, inRanges-of}
 use Rattle.held.specs.Slots.{slotsKept, slotsHeard, messageSlot, packetOctets, messageOctets}
 use Rattle.held.specs.Table.{Lent, lentBy, viewIn, places, lastState, stateIn, sizeIn, markIn, mIn, messageSizeIn}
 use Rattle.held.specs.Laid.{keptLaid, messageLaid, heardLaid, laid, lentInRanges, sessionInRanges, Laid, InRanges}

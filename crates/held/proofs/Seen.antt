@@ -5,7 +5,7 @@ use mathlib.Core.Path.{_≡_, sym, ap, _∙_}
 use mathlib.Core.Bool.{true}
 use mathlib.Core.List.{List, []}
 use lib.ListN.{length, getD, take, drop}
-use Rattle.octets.proofs.Place.{tab-at, length-tab}
+use Rattle.octets.proofs.Laws.{tab-at, length-tab}
 use Rattle.datagrams.specs.Sizes.{packetLimit, coveredLimit}
 use Rattle.views.specs.Cells.{Cell, cellAt, unknownAt, isUnknown, keptBefore, keptAhead, keptNumbers}
 use Rattle.views.specs.Held.{Held, heldAt}
@@ -13,7 +13,7 @@ use Rattle.stores.specs.Store.{part}
 use Rattle.stores.proofs.Laws.{part-octet, length-part}
 use Rattle.views.specs.View.{sum}
 use Rattle.views.specs.Ranges.{blankAt, cellRight, heldRight, knownAt}
-use Rattle.views.proofs.Sizes.{unknown-size, held-sizes}
+use Rattle.views.proofs.Laws.{unknown-size, held-sizes}
 use Rattle.held.specs.Slots.{slotAt, heardSlotAt, slotsKept, slotsHeard}
 use Rattle.held.specs.Table.{Lent, countsOf, stateIn, sizeIn, nIn, stateNumbered, cellIn, heldIn, cellsOf, heldOf, viewIn}
 use Rattle.held.specs.Laid.{Laid, InRanges}

@@ -6,7 +6,7 @@ use mathlib.Core.List.{List}
 use mathlib.Core.Logic.{⊎-elim}
 use lib.ListN.{length}
 use native.Mathlib.Omega.{arith}
-use Rattle.octets.proofs.Cases.{below-or-not}
+use Rattle.octets.proofs.Laws.{below-or-not}
 use Rattle.datagrams.specs.Sizes.{packetLimit, messagesLimit}
 use Rattle.views.specs.Cells.{keptAhead, keptNumbers}
 use Rattle.stores.specs.Store.{HasSlot}

@@ -7,7 +7,7 @@ use lib.Dec.{ltb, eqb}
 use native.Mathlib.Omega.{arith}
 use borrow.Author.Tests.{lt-ltb, le-ltb, eqb-true}
 use Rattle.octets.specs.Place.{allBelow}
-use Rattle.octets.proofs.Place.{allBelow-at}
+use Rattle.octets.proofs.Laws.{allBelow-at}
 use Rattle.lines.specs.Hex.{digitOf, digitFor, noDigit}
 
 -- ---- read: what is so of each of 256 octets is computed

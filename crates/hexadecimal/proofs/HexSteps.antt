@@ -11,7 +11,7 @@ use native.Mathlib.Numerals.{add-one}
 use native.Mathlib.Omega.{arith}
 use borrow.Author.Tests.{lt-ltb, le-ltb, le-leb, lt-leb, eq-eqb, ne-eqb, ltb-true}
 use Rattle.octets.specs.Place.{allBelow}
-use Rattle.octets.proofs.Place.{allBelow-more, allBelow-at, tab-at}
+use Rattle.octets.proofs.Laws.{allBelow-more, allBelow-at, tab-at}
 use Rattle.lengths.specs.Refusals.{tooLong, wrongSettings, noRoom}
 use Rattle.lengths.specs.Answers.{over}
 use Rattle.lengths.specs.Tables.{unless}

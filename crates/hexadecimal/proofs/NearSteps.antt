@@ -11,8 +11,7 @@ use lib.Seq.{getD-set-same, getD-set-other, getD-append-add, getD-drop}
 use native.Mathlib.Nat.{mod-eq-of-lt}
 use native.Mathlib.Omega.{arith}
 use Rattle.octets.specs.Place.{tab}
-use Rattle.octets.proofs.Place.{tab-ext, tab-getD}
-use Rattle.octets.proofs.Cases.{below-or-not, same-or-not}
+use Rattle.octets.proofs.Laws.{tab-ext, tab-getD, below-or-not, same-or-not}
 use Rattle.lines.specs.Hex.{digitOf, allDigits, octetAt, octetsIn}
 use Rattle.hexadecimal.specs.Near.{together, NearRead, NearPut}
 use Rattle.lines.proofs.HexLaws.{length-octetsIn}

@@ -8,7 +8,7 @@ use lib.ListN.{length, take, drop}
 use lib.Seq.{length-take-le, getD-take, ext-getD}
 use native.Mathlib.Omega.{arith}
 use Rattle.octets.specs.ExclusiveOr.{exclusiveOr, longest}
-use Rattle.octets.proofs.ExclusiveOr.{length-exclusiveOr, exclusiveOr-at}
+use Rattle.octets.proofs.Laws.{length-exclusiveOr, exclusiveOr-at}
 use Rattle.lengths.specs.Length.{lengthLimit}
 use Rattle.datagrams.specs.Sizes.{packetLimit, coveredLimit, messagesLimit}
 use Rattle.datagrams.specs.Write.{itemOctets, within, countInside}

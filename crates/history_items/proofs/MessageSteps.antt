@@ -8,8 +8,7 @@ use lib.Bits.{bitXor}
 use native.Mathlib.Omega.{arith}
 use Rattle.octets.specs.Place.{tab}
 use Rattle.octets.specs.ExclusiveOr.{exclusiveOr, longest}
-use Rattle.octets.proofs.Place.{tab-ext}
-use Rattle.octets.proofs.ExclusiveOr.{longest-more, exclusiveOr-none, exclusiveOr-more}
+use Rattle.octets.proofs.Laws.{tab-ext, longest-more, exclusiveOr-none, exclusiveOr-more}
 use Rattle.datagrams.specs.Sizes.{packetLimit}
 use Rattle.stores.specs.Store.{added, HasSlot}
 use Rattle.views.specs.Members.{membersOf}

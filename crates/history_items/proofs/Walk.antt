@@ -7,7 +7,7 @@ use native.Mathlib.Nat.{mul-le-mul-right, suc-mul, mod-add-mod}
 use native.Mathlib.Numerals.{add-one}
 use native.Mathlib.Omega.{arith}
 use Rattle.octets.specs.Place.{tab}
-use Rattle.octets.proofs.Place.{tab-more}
+use Rattle.octets.proofs.Laws.{tab-more}
 use Rattle.views.specs.Members.{membersOf}
 use Rattle.views.specs.View.{numbers}
 use Rattle.sending.specs.Sending.{historyKept}

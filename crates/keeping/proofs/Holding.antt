@@ -8,8 +8,7 @@ use mathlib.Core.Logic.{⊎-elim}
 use lib.ListN.{length, set}
 use native.Mathlib.Omega.{arith}
 use borrow.Author.Tests.{le-leb, eq-eqb, ne-eqb}
-use Rattle.octets.proofs.Cases.{and-both}
-use Rattle.octets.proofs.Place.{tab-take}
+use Rattle.octets.proofs.Laws.{and-both, tab-take}
 use Rattle.datagrams.specs.Sizes.{messageLimit, coveredLimit, messagesLimit}
 use Rattle.datagrams.specs.Read.{octetsOf}
 use Rattle.datagrams.specs.Promise.{nowhere}
@@ -18,8 +17,7 @@ use Rattle.views.specs.View.{numbers}
 use Rattle.views.specs.Ranges.{markRight}
 use Rattle.held.specs.Slots.{heardSlotAt, slotsHeard, messageOctets}
 use Rattle.held.specs.Table.{places, heldOf, heardSet}
-use Rattle.held.proofs.Slots.{heard-small}
-use Rattle.held.proofs.Heard.{heard-cells, heard-held, heard-ranges}
+use Rattle.held.proofs.Laws.{heard-small, heard-cells, heard-held, heard-ranges}
 use Rattle.keeping.specs.Steps.{itemOctets, Fit, ItemsLaid}
 use Rattle.keeping.specs.Promise.{Settings, Carries, MayHold, Holds}
 use Rattle.keeping.proofs.Laying.{length-octets}

@@ -8,7 +8,7 @@ use mathlib.Core.Logic.{⊎-elim}
 use lib.ListN.{length}
 use native.Mathlib.Omega.{arith}
 use borrow.Author.Tests.{ne-eqb}
-use Rattle.octets.proofs.Cases.{below-or-not}
+use Rattle.octets.proofs.Laws.{below-or-not}
 use Rattle.datagrams.specs.Sizes.{packetLeast, packetLimit}
 use Rattle.datagrams.specs.Claims.{PartInside}
 use Rattle.datagrams.specs.Read.{octetsOf}
@@ -18,9 +18,7 @@ use Rattle.views.specs.Ranges.{isFill}
 use Rattle.views.specs.Offer as offers
 use Rattle.held.specs.Slots.{numberAt, slotAt, slotsKept}
 use Rattle.held.specs.Table.{lastState, stateIn, stateNumbered, cellsOf, keptSet}
-use Rattle.held.proofs.Slots.{slot-small}
-use Rattle.held.proofs.Seen.{unknown-at}
-use Rattle.held.proofs.Placed.{placed-cells, placed-held, placed-ranges}
+use Rattle.held.proofs.Laws.{slot-small, unknown-at, placed-cells, placed-held, placed-ranges}
 use Rattle.keeping.specs.Steps.{PartPut}
 use Rattle.keeping.specs.Promise.{Keeps}
 use Rattle.keeping.proofs.Laying.{length-octets}

@@ -9,7 +9,7 @@ use lib.ListN.{length, set, take, drop, length-set, length-drop}
 use lib.Seq.{getD-set-same, getD-set-other, length-take-le}
 use native.Mathlib.Nat.{not-suc-le-zero}
 use native.Mathlib.Omega.{arith}
-use Rattle.octets.proofs.Cases.{same-or-not}
+use Rattle.octets.proofs.Laws.{same-or-not}
 use Rattle.datagrams.specs.Sizes.{packetLimit, messageLeast, messageLimit}
 use Rattle.datagrams.specs.Read.{octetsOf}
 use Rattle.datagrams.specs.Claims.{PartInside}
@@ -19,7 +19,7 @@ use Rattle.stores.proofs.Laws.{length-pasted, part-pasted, part-pasted-other, z
 use Rattle.held.specs.Slots.{messageSlot, Apart, slotsHeard, slotsMessages, messageOctets}
 use Rattle.held.specs.Table.{places, messagePlace}
 use Rattle.held.specs.Heard.{SizesLaid, OctetsLaid}
-use Rattle.held.proofs.Slots.{message-small, has-message-slot, apart-before, apart-here}
+use Rattle.held.proofs.Laws.{message-small, has-message-slot, apart-before, apart-here}
 use Rattle.keeping.specs.Steps.{itemAt, itemOctets, PartPut, Fit, ItemsLaid}
 
 -- ---- a part of the datagram has as many octets as it says

@@ -8,7 +8,7 @@ use Rattle.datagrams.specs.Sizes.{messagesLimit}
 use Rattle.held.specs.Slots.{slotAt, heardSlotAt, messageSlot, slotsKept, slotsHeard}
 use Rattle.held.specs.Table.{places, statePlace, sizePlace, markPlace, nPlace, mPlace, messagePlace, stateIn, sizeIn, markIn, nIn, mIn}
 use Rattle.held.specs.Table.{messageSizeIn, keptSet, heardDropped}
-use Rattle.held.proofs.Places.{long-kept, long-dropped, kept-zero, kept-elsewhere, dropped-stays, dropped, dropped-elsewhere}
+use Rattle.held.proofs.Laws.{long-kept, long-dropped, kept-zero, kept-elsewhere, dropped-stays, dropped, dropped-elsewhere}
 
 -- the table t of a session whose base was b
 abbrev pub advanced : ℕ → List ℕ → List ℕ

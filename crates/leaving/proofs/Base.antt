@@ -7,8 +7,7 @@ use lib.ListN.{length}
 use lib.Dec.{eqb}
 use native.Mathlib.Omega.{arith}
 use borrow.Author.Tests.{leb-false}
-use Rattle.octets.proofs.Place.{tab-at}
-use Rattle.octets.proofs.Cases.{and-right}
+use Rattle.octets.proofs.Laws.{tab-at, and-right}
 use Rattle.datagrams.specs.Sizes.{packetLimit}
 use Rattle.views.specs.Cells.{State, unknown, received, spare, repaired, blank, Cell, blankCell, isUnknown, cellAt, unknownAt, keptBefore, keptNumbers}
 use Rattle.stores.specs.Store.{HasSlot}
@@ -21,7 +20,7 @@ use Rattle.held.specs.Slots.{slotAt, slotsKept}
 use Rattle.held.specs.Table.{lent, countsOf, stateIn, sizeIn, stateNumbered, cellIn, cellsOf, viewIn}
 use Rattle.held.specs.Laid.{InRanges}
 use Rattle.held.specs.declared.Counts.{Counts}
-use Rattle.held.proofs.Slots.{has-packet-slot}
+use Rattle.held.proofs.Laws.{has-packet-slot}
 use Rattle.leaving.specs.Steps.{Passed}
 
 -- a number at the base that is known is received, spare or repaired: one count is one more

@@ -6,12 +6,12 @@ use mathlib.Core.Logic.{⊎-elim}
 use lib.ListN.{length}
 use native.Mathlib.Nat.{not-suc-le-zero}
 use native.Mathlib.Omega.{arith}
-use Rattle.octets.proofs.Cases.{same-or-not}
+use Rattle.octets.proofs.Laws.{same-or-not}
 use Rattle.datagrams.specs.Sizes.{packetLimit, messagesLimit}
 use Rattle.stores.specs.Store.{HasSlot, pasted, zeros}
 use Rattle.stores.proofs.Laws.{zeros-fit, length-cleared, part-pasted-other, zerosPast-other, zerosPast-cleared}
 use Rattle.held.specs.Slots.{messageSlot, slotsHeard, messageOctets}
-use Rattle.held.proofs.Slots.{message-small, has-message-slot, apart-before, apart-here}
+use Rattle.held.proofs.Laws.{message-small, has-message-slot, apart-before, apart-here}
 use Rattle.leaving.specs.Steps.{Freed}
 
 pub freed-none : (j : ℕ) (g : List ℕ) → Freed j 0 g g

@@ -6,14 +6,14 @@ use mathlib.Core.List.{List}
 use mathlib.Core.Logic.{⊎-elim}
 use lib.ListN.{length}
 use native.Mathlib.Omega.{arith}
-use Rattle.octets.proofs.Cases.{same-or-not, below-or-not}
+use Rattle.octets.proofs.Laws.{same-or-not, below-or-not}
 use Rattle.datagrams.specs.Sizes.{packetLimit, messagesLimit}
 use Rattle.stores.specs.Store.{HasSlot, zerosPast, pasted, zeros}
 use Rattle.stores.proofs.Laws.{zeros-fit, length-cleared, zerosPast-other, zerosPast-cleared}
 use Rattle.held.specs.Slots.{slotAt, heardSlotAt, messageSlot, Apart}
 use Rattle.held.specs.Table.{sizeIn, mIn, messageSizeIn}
 use Rattle.held.specs.Laid.{Laid}
-use Rattle.held.proofs.Slots.{slot-small, heard-small, message-apart, has-packet-slot}
+use Rattle.held.proofs.Laws.{slot-small, heard-small, message-apart, has-packet-slot}
 use Rattle.leaving.specs.Steps.{Freed}
 use Rattle.leaving.proofs.Advanced.{advanced, state-other, size-other, state-comes, size-comes, mark-other, m-other, mark-gone, m-gone}
 use Rattle.leaving.proofs.Advanced.{sizes-freed, sizes-other, long-after}

@@ -5,3 +5,4 @@ pub mod Base
 pub mod Moving
 pub mod Next
 pub mod GiveUp
+pub mod Laws

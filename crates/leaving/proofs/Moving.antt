@@ -6,7 +6,7 @@ use mathlib.Core.List.{List, [], _∷_, _++_}
 use lib.ListN.{drop}
 use native.Mathlib.Omega.{arith}
 use Rattle.octets.specs.Place.{tab}
-use Rattle.octets.proofs.Place.{tab-ext, tab-shift}
+use Rattle.octets.proofs.Laws.{tab-ext, tab-shift}
 use Rattle.datagrams.specs.Sizes.{packetLimit, messagesLimit}
 use Rattle.views.specs.Cells.{Cell, unknownCell, keptBefore, keptAhead, keptNumbers}
 use Rattle.views.specs.Held.{Held, nothingHeld}
@@ -14,14 +14,14 @@ use Rattle.stores.specs.Store.{HasSlot, part, pasted, zeros}
 use Rattle.stores.proofs.Laws.{zeros-fit, part-pasted-other}
 use Rattle.views.specs.View as views
 use Rattle.views.specs.View.{View, following, numbers, goneOn}
-use Rattle.views.proofs.GoesOn.{sound-goes-on}
+use Rattle.views.proofs.Laws.{sound-goes-on}
 use Rattle.held.specs.Slots.{slotAt, heardSlotAt, messageSlot, Apart, slotsKept, slotsHeard}
 use Rattle.held.specs.Table.{lent, countsOf, stateNumbered, sizeIn, mIn, messageSizeIn, messageIn, cellIn, heldIn}
 use Rattle.held.specs.Table.{cellsOf, heldOf, viewIn, keptSet, heardDropped}
 use Rattle.held.specs.Laid.{InRanges}
 use Rattle.held.specs.declared.Counts.{Counts}
-use Rattle.held.proofs.Slots.{slot-after, slot-comes, heard-after, heard-leaves, slot-small, heard-small, message-small, slot-apart, heard-apart}
-use Rattle.held.proofs.Slots.{message-apart, has-packet-slot, has-message-slot}
+use Rattle.held.proofs.Laws.{slot-after, slot-comes, heard-after, heard-leaves, slot-small, heard-small, message-small, slot-apart}
+use Rattle.held.proofs.Laws.{heard-apart, message-apart, has-packet-slot, has-message-slot}
 use Rattle.leaving.specs.Steps.{Freed}
 use Rattle.leaving.specs.Promise.{OneMore, GoesOn}
 use Rattle.leaving.proofs.Advanced.{advanced, state-other, size-other, state-comes, size-comes, mark-other, n-other, m-other}

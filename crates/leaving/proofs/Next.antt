@@ -22,7 +22,7 @@ use Rattle.held.specs.Table.{Lent, lent, countsOf, stateOf, stateIn, sizeIn, ce
 use Rattle.held.specs.Laid.{InRanges}
 use Rattle.held.specs.declared.Counts.{Counts}
 use Rattle.held.specs.declared.State.{State}
-use Rattle.held.proofs.Places.{unknown-number}
+use Rattle.held.proofs.Laws.{unknown-number}
 use Rattle.leaving.specs.Steps.{Named, Passed, nextRefused}
 use Rattle.leaving.specs.Promise.{OneMore, GoesOn, Releases}
 use Rattle.leaving.specs.declared.NextDone.{NextDone}

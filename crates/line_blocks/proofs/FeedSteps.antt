@@ -12,8 +12,7 @@ use native.Mathlib.Omega.{arith}
 use borrow.Author.Count.{below-more}
 use borrow.Author.Tests.{eqb-false, eq-eqb, ne-eqb, not-true}
 use Rattle.octets.specs.Place.{allBelow}
-use Rattle.octets.proofs.Place.{allBelow-more, allBelow-at}
-use Rattle.octets.proofs.Cases.{below-or-not, same-or-not}
+use Rattle.octets.proofs.Laws.{allBelow-more, allBelow-at, below-or-not, same-or-not}
 use Rattle.lines.specs.Lines.{lineFeed}
 use Rattle.lines.specs.Feed.{keptLimit}
 use Rattle.lines.specs.FeedPromise.{lookedAt, plainAt, Begun, Found, lineEnd, LineIn, LineKept}

@@ -18,7 +18,7 @@ use Rattle.views.specs.Release.{Release, next}
 use Rattle.held.specs.Slots.{slotAt, slotsKept}
 use Rattle.held.specs.Table.{Lent, viewIn, stateIn, stateNumbered}
 use Rattle.held.specs.Laid.{InRanges}
-use Rattle.held.proofs.Seen.{unknown-at}
+use Rattle.held.proofs.Laws.{unknown-at}
 use Rattle.lines.specs.Lines.{Made, silent, _then_, released, onward, releasesF, releases}
 use Rattle.lines.specs.Promise.{Appends, Does, Able, Releases, goesOn, resultLimit, releasesLimit}
 use Rattle.lines.proofs.Appending.{appends-none, appends-then, appends-long}

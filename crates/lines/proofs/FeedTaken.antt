@@ -8,7 +8,7 @@ use lib.ListN.{length, take, drop}
 use lib.Dec.{eqb}
 use native.Mathlib.Omega.{arith}
 use borrow.Author.Tests.{eq-eqb, ne-eqb, lt-ltb, le-ltb}
-use Rattle.octets.proofs.Cases.{same-or-not}
+use Rattle.octets.proofs.Laws.{same-or-not}
 use Rattle.lines.specs.Lines.{lineFeed}
 use Rattle.lines.specs.Feed.{Going, takenIn, fed}
 use Rattle.lines.specs.Promise.{stepLimit}

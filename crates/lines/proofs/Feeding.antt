@@ -8,7 +8,7 @@ use lib.ListN.{length, take, getD, length-append, length-take}
 use lib.Seq.{take-all, length-take-le}
 use native.Mathlib.Omega.{arith}
 use borrow.Author.Tests.{lt-ltb, eq-eqb, ne-eqb}
-use Rattle.octets.proofs.Cases.{below-or-not, same-or-not}
+use Rattle.octets.proofs.Laws.{below-or-not, same-or-not}
 use Rattle.lengths.specs.Answers.{refuse}
 use Rattle.lengths.specs.Refusals.{tooLong}
 use Rattle.views.specs.View.{View}

@@ -9,8 +9,7 @@ use lib.Dec.{eqb, ltb}
 use native.Mathlib.Omega.{arith}
 use borrow.Author.Tests.{eq-eqb, eqb-true, lt-ltb, le-ltb}
 use Rattle.octets.specs.Place.{tab, allBelow}
-use Rattle.octets.proofs.Place.{allBelow-at, allBelow-of, tab-ext, tab-getD}
-use Rattle.octets.proofs.Cases.{same-or-not}
+use Rattle.octets.proofs.Laws.{allBelow-at, allBelow-of, tab-ext, tab-getD, same-or-not}
 use Rattle.lengths.specs.Answers.{done}
 use Rattle.lengths.specs.Claims.{Octets}
 use Rattle.lengths.specs.Tables.{unless}

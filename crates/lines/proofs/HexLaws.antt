@@ -4,7 +4,7 @@ use mathlib.Core.Path.{_≡_, refl}
 use mathlib.Core.List.{List, [], _∷_}
 use lib.ListN.{length}
 use native.Mathlib.Omega.{arith}
-use Rattle.octets.proofs.Place.{length-tab}
+use Rattle.octets.proofs.Laws.{length-tab}
 use Rattle.lines.specs.Hex.{octetAt, octetsIn, hexOf}
 
 pub length-octetsIn : (line : List ℕ) → length (octetsIn line) ≡ length line / 2

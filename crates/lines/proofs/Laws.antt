@@ -7,7 +7,7 @@ use mathlib.Core.Logic.{⊎-elim}
 use lib.ListN.{length, take, replicate, length-replicate, getD-replicate, List·getD-eq-default}
 use lib.Seq.{length-take-le}
 use native.Mathlib.Omega.{arith}
-use Rattle.octets.proofs.Cases.{below-or-not}
+use Rattle.octets.proofs.Laws.{below-or-not}
 use Rattle.held.specs.Table.{Lent}
 use Rattle.lines.specs.Feed.{keptLimit, goingIn}
 use Rattle.lines.specs.Promise.{stepLimit}

@@ -7,12 +7,12 @@ use mathlib.Core.Logic.{⊎-elim}
 use lib.ListN.{length, getD, take, drop, take-append-drop}
 use lib.Seq.{ext-getD, getD-take, length-take-le}
 use native.Mathlib.Omega.{arith}
-use Rattle.octets.proofs.Cases.{below-or-not}
+use Rattle.octets.proofs.Laws.{below-or-not}
 use Rattle.lengths.proofs.Claims as lengths
 use Rattle.held.specs.Table.{Lent, lent, viewIn}
 use Rattle.held.specs.Laid.{InRanges}
 use Rattle.held.specs.declared.Counts.{Counts}
-use Rattle.held.proofs.Injective.{lent-same}
+use Rattle.held.proofs.Laws.{lent-same}
 use Rattle.lines.specs.Lines.{Made}
 use Rattle.lines.specs.Feed.{Going, fed, goingIn}
 use Rattle.lines.specs.Promise.{Does}

@@ -10,7 +10,7 @@ use lib.Seq.{getD-drop, getD-at}
 use lib.Dec.{leb}
 use native.Mathlib.Omega.{arith}
 use borrow.Author.Tests.{le-ltb}
-use Rattle.octets.proofs.Cases.{below-or-not}
+use Rattle.octets.proofs.Laws.{below-or-not}
 use Rattle.lengths.specs.Refusals.{baseUnknown, allPassed, noRoom, refusal}
 use Rattle.lengths.specs.Answers.{Answer, done, refused, refuse}
 use Rattle.lengths.specs.declared.Refusal.{Refusal}
@@ -19,7 +19,7 @@ use Rattle.views.specs.Cells.{Cell, cellAt, unknownAt, unknownCell, blankCell, 
 use Rattle.views.specs.View.{View, Counts, sum, sessionLimit, goneOn}
 use Rattle.views.specs.Release as release
 use Rattle.views.specs.Release.{Release, next, atBase}
-use Rattle.views.proofs.Ranges.{size-fits}
+use Rattle.views.proofs.Laws.{size-fits}
 use Rattle.held.specs.Table.{viewIn}
 use Rattle.lines.specs.Lines.{onward, releasesF, releases}
 use Rattle.lines.specs.Claims.{ReleasesAll}

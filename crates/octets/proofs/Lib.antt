@@ -1,3 +1,4 @@
 pub mod Cases
 pub mod Place
 pub mod ExclusiveOr
+pub mod Laws

@@ -25,7 +25,7 @@ use Rattle.views.specs.Offer as offers
 use Rattle.held.specs.Table.{Lent, lent, countsOf, stateNumbered, cellsOf, heldOf, viewIn}
 use Rattle.held.specs.Laid.{InRanges}
 use Rattle.held.specs.declared.Counts.{Counts}
-use Rattle.held.proofs.Seen.{length-cells}
+use Rattle.held.proofs.Laws.{length-cells}
 use Rattle.keeping.specs.Promise.{CellsNow, MayKeep, Keeps, CarriesSpares, KeepsSpares, Carries, Unmarked, MayHold, HeldNow, Holds, heldOfParts}
 use Rattle.repairing.specs.Promise.{Mends}
 use Rattle.offering.specs.Steps.{sparesOf, messagesOf, coveredOf, carriedOf, MayBeAccepted, Accepts}

@@ -6,7 +6,7 @@ use mathlib.Core.List.{List, [], _∷_}
 use mathlib.Core.Logic.{⊎-elim}
 use lib.ListN.{length, set}
 use lib.Seq.{getD-set-same, getD-set-other}
-use Rattle.octets.proofs.Cases.{true-or-false}
+use Rattle.octets.proofs.Laws.{true-or-false}
 use Rattle.views.specs.Cells.{State, spare, Cell, isUnknown, unknownAt}
 use Rattle.views.specs.Reached.{Known, Unknown}
 use Rattle.views.specs.Offer.{keep, keepSpares}

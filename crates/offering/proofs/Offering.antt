@@ -28,7 +28,7 @@ use Rattle.held.specs.Slots.{slotsHeard, heardSlotAt}
 use Rattle.held.specs.Table.{Lent, lent, markIn, heldIn, heldOf, viewIn}
 use Rattle.held.specs.Laid.{InRanges}
 use Rattle.held.specs.declared.Counts.{Counts}
-use Rattle.held.proofs.Seen.{held-at}
+use Rattle.held.proofs.Laws.{held-at}
 use Rattle.offering.specs.Outcome.{refusedAs}
 use Rattle.offering.specs.Steps.{carriedOf, MayBeAccepted, Accepts, OffersRead}
 use Rattle.offering.specs.Promise.{Offers}

@@ -3,7 +3,7 @@ use Prim.Native.Nat.{ℕ}
 use mathlib.Core.Path.{_≡_, refl, ap, _∙_}
 use mathlib.Core.List.{List}
 use native.Mathlib.Omega.{arith}
-use Rattle.octets.proofs.Place.{tab-ext}
+use Rattle.octets.proofs.Laws.{tab-ext}
 use Rattle.views.specs.Cells.{keptAhead}
 use Rattle.stores.specs.Store.{part}
 use Rattle.held.specs.Slots.{heardSlotAt, messageSlot}

@@ -11,17 +11,13 @@ use Rattle.datagrams.specs.Sizes.{packetLeast, packetLimit, messagesLimit}
 use Rattle.views.specs.Cells.{Cell, keptNumbers}
 use Rattle.views.specs.Repair.{Message, usable, firstUsable, mended, fill, repairF, repair}
 use Rattle.views.specs.Held.{Held, heldMessages}
-use Rattle.views.proofs.Fill.{missing, usable-says, length-mended}
-use Rattle.views.proofs.Search.{found-usable}
-use Rattle.views.proofs.Grows.{repairF-done, repairF-fill}
+use Rattle.views.proofs.Laws.{missing, usable-says, length-mended, found-usable, repairF-done, repairF-fill}
 use Rattle.stores.specs.Store.{pasted}
 use Rattle.held.specs.Slots.{slotAt, slotsKept}
 use Rattle.held.specs.Table.{Lent, lent, countsOf, stateNumbered, cellsOf, heldOf, viewIn, keptSet}
 use Rattle.held.specs.Laid.{InRanges}
 use Rattle.held.specs.declared.Counts.{Counts}
-use Rattle.held.proofs.Placed.{beyond, placed-cells, placed-ranges}
-use Rattle.held.proofs.Seen.{length-cells}
-use Rattle.held.proofs.Slots.{slot-small}
+use Rattle.held.proofs.Laws.{beyond, placed-cells, placed-ranges, length-cells, slot-small}
 use Rattle.repairing.specs.Promise.{Searchable, sizeAt, messageHeld, Points, UsableFound, UsableAnswer, UsablePoints, MendedOctets, SameBeside, Fills, Mends}
 use Rattle.repairing.specs.declared.Usable.{Usable}
 use Rattle.repairing.specs.declared.Usable.the-variants as usables

@@ -10,12 +10,11 @@ use Rattle.datagrams.specs.Sizes.{messagesLimit}
 use Rattle.views.specs.Cells.{keptBefore, keptAhead}
 use Rattle.views.specs.Repair.{firstUsable}
 use Rattle.views.specs.Held.{Held, messagesOf, heldMessages}
-use Rattle.views.proofs.Search.{firstUsable-front, firstUsable-rest}
-use Rattle.views.proofs.Turns.{heldFrom, heldFrom-start, heldFrom-turn, heldFrom-end}
+use Rattle.views.proofs.Laws.{firstUsable-front, firstUsable-rest, heldFrom, heldFrom-start, heldFrom-turn, heldFrom-end}
 use Rattle.views.specs.View.{numbers}
 use Rattle.held.specs.Slots.{heardSlotAt, slotsHeard, messageOctets}
 use Rattle.held.specs.Table.{mIn, heldIn, cellsOf, heldOf}
-use Rattle.held.proofs.Seen.{length-held, held-at}
+use Rattle.held.proofs.Laws.{length-held, held-at}
 use Rattle.repairing.specs.Back.{sumTo, Count, countAll}
 use Rattle.repairing.specs.Promise.{mAt, messageHeld, LowestFound, LowestSeen, UsableFound}
 use Rattle.repairing.specs.declared.Lowest.{Lowest}

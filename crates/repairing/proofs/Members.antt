@@ -11,18 +11,16 @@ use native.Mathlib.Nat.{zero-add, suc-mul}
 use native.Mathlib.Omega.{arith}
 use Rattle.octets.specs.Place.{tab}
 use Rattle.octets.specs.ExclusiveOr.{xorAt}
-use Rattle.octets.proofs.Place.{tab-ext}
-use Rattle.octets.proofs.ExclusiveOr.{xorAt-cons}
+use Rattle.octets.proofs.Laws.{tab-ext, xorAt-cons}
 use Rattle.datagrams.specs.Sizes.{packetLimit}
 use Rattle.views.specs.Cells.{Cell, cellAt, unknownAt, keptNumbers}
 use Rattle.views.specs.Repair.{passing}
-use Rattle.views.proofs.Passing.{passing-yes, passing-no}
+use Rattle.views.proofs.Laws.{passing-yes, passing-no}
 use Rattle.views.specs.View.{distance, numbers}
 use Rattle.held.specs.Slots.{numberAt, slotAt}
 use Rattle.held.specs.Table.{Lent, cellsOf}
 use Rattle.held.specs.Laid.{InRanges}
-use Rattle.held.proofs.Seen.{cell-at, unknown-at, octet-at, unknown-empty}
-use Rattle.held.proofs.Slots.{slot-small}
+use Rattle.held.proofs.Laws.{cell-at, unknown-at, octet-at, unknown-empty, slot-small}
 use Rattle.repairing.specs.Back.{unknownOne, slotOf, countBack, findBack, xorBack}
 
 -- the members, from place P back by m

@@ -11,20 +11,18 @@ use lib.Dec.{leb, eqb}
 use native.Mathlib.Omega.{arith}
 use borrow.Author.Tests.{le-leb, ne-eqb}
 use Rattle.octets.specs.Place.{tab}
-use Rattle.octets.proofs.Place.{length-tab, tab-at, tab-ext}
-use Rattle.octets.proofs.Cases.{same-or-not}
+use Rattle.octets.proofs.Laws.{length-tab, tab-at, tab-ext, same-or-not}
 use Rattle.datagrams.specs.Sizes.{packetLimit, coveredLimit, messagesLimit}
 use Rattle.views.specs.Cells.{Cell, keptBefore, keptAhead}
 use Rattle.views.specs.Members.{membersOf}
 use Rattle.views.specs.Repair.{Message, unknownMembers, usable, firstUsable}
 use Rattle.views.specs.Held.{messagesOf, messageAt}
 use Rattle.stores.proofs.Laws.{length-part}
-use Rattle.views.proofs.Sizes.{reach-kept}
+use Rattle.views.proofs.Laws.{reach-kept}
 use Rattle.held.specs.Slots.{numberAt, slotAt, heardSlotAt, messageSlot, slotsHeard, slotsMessages, messageOctets}
 use Rattle.held.specs.Table.{Lent, messageIn, heldIn, cellsOf}
 use Rattle.held.specs.Laid.{InRanges}
-use Rattle.held.proofs.Seen.{n-small}
-use Rattle.held.proofs.Slots.{heard-small, message-small, has-message-slot}
+use Rattle.held.proofs.Laws.{n-small, heard-small, message-small, has-message-slot}
 use Rattle.repairing.specs.Back.{countBack, findBack}
 use Rattle.repairing.specs.Promise.{Searchable, nAt, mAt, sizeAt, messageHeld, missingOf, Seeable}
 use Rattle.repairing.specs.declared.Lowest.the-variants as lowest

@@ -7,12 +7,12 @@ use lib.ListN.{length, getD, take, drop, List·getD-append}
 use lib.Seq.{length-take-le, getD-take, ext-getD}
 use lib.Bits.{bitXor, xor-zero-r}
 use native.Mathlib.Omega.{arith}
-use Rattle.octets.proofs.ExclusiveOr.{xor-assoc, xorAt-cons, exclusiveOr-at}
+use Rattle.octets.proofs.Laws.{xor-assoc, xorAt-cons, exclusiveOr-at}
 use Rattle.datagrams.specs.Sizes.{packetLimit, messagesLimit}
 use Rattle.views.specs.Cells.{keptBefore, keptAhead}
 use Rattle.views.specs.Members.{membersOf}
 use Rattle.views.specs.Repair.{Message, mended}
-use Rattle.views.proofs.Fill.{length-mended}
+use Rattle.views.proofs.Laws.{length-mended}
 use Rattle.stores.specs.Store.{added, part}
 use Rattle.stores.proofs.Laws.{length-added, added-at}
 use Rattle.views.specs.View.{distance, numbers}

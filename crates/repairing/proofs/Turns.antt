@@ -9,7 +9,7 @@ use borrow.Author.Tests.{eq-eqb, ne-eqb}
 use Rattle.views.specs.View.{distance}
 use Rattle.held.specs.Slots.{slotsKept}
 use Rattle.held.specs.Table.{stateIn}
-use Rattle.held.proofs.Places.{unknown-number}
+use Rattle.held.proofs.Laws.{unknown-number}
 use Rattle.repairing.specs.Back.{unknownOne, One, slotOf, countBack, findBack}
 
 -- ---- one for an unknown number

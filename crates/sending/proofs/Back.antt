@@ -8,8 +8,7 @@ use lib.ListN.{length, getD, take, length-map, List·getD-map}
 use native.Mathlib.Omega.{arith}
 use borrow.Author.Tests.{le-leb, le-ltb, leb-true}
 use Rattle.octets.specs.ExclusiveOr.{longest}
-use Rattle.octets.proofs.Cases.{and-both}
-use Rattle.octets.proofs.ExclusiveOr.{length-exclusiveOr}
+use Rattle.octets.proofs.Laws.{and-both, length-exclusiveOr}
 use Rattle.lengths.specs.Answers.{done}
 use Rattle.lengths.specs.declared.Written.the-variants as written
 use Rattle.datagrams.specs.Sizes.{packetLeast, packetLimit, messageLimit, sparesLimit}

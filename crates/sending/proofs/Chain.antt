@@ -10,8 +10,7 @@ use lib.Seq.{getD-at}
 use native.Mathlib.Nat.{not-suc-le-zero}
 use native.Mathlib.Omega.{arith}
 use Rattle.octets.specs.Place.{tab}
-use Rattle.octets.proofs.Place.{tab-at, tab-ext, tab-shift, tab-same}
-use Rattle.octets.proofs.Cases.{below-or-not}
+use Rattle.octets.proofs.Laws.{tab-at, tab-ext, tab-shift, tab-same, below-or-not}
 use Rattle.datagrams.specs.Carried.{Extra, Carried}
 use Rattle.datagrams.specs.Write.{datagramOctets}
 use Rattle.lengths.specs.declared.Written.the-variants as written

@@ -6,7 +6,7 @@ use mathlib.Core.List.{List, []}
 use lib.ListN.{getD, replicate}
 use native.Mathlib.Omega.{arith}
 use borrow.Author.Tests.{lt-ltb}
-use Rattle.octets.proofs.Place.{tab-ext, tab-same, allBelow-of}
+use Rattle.octets.proofs.Laws.{tab-ext, tab-same, allBelow-of}
 use Rattle.stores.specs.Store.{zeros, part}
 use Rattle.stores.proofs.Laws.{length-zeros, zeros-at, zerosPast-zeros}
 use Rattle.sending.specs.Sending.{historyKept, freshSending}

@@ -10,7 +10,7 @@ use native.Mathlib.Nat.{mul-le-mul-right, suc-mul}
 use native.Mathlib.Omega.{arith}
 use borrow.Author.Tests.{leb-true}
 use Rattle.octets.specs.Place.{tab}
-use Rattle.octets.proofs.Place.{tab-ext, map-tab}
+use Rattle.octets.proofs.Laws.{tab-ext, map-tab}
 use Rattle.datagrams.specs.Sizes.{sparesLimit, coveredLimit, messagesLimit}
 use Rattle.datagrams.specs.Carried.{Extra, spares, parity, Carried}
 use Rattle.datagrams.specs.Write.{within}

@@ -7,8 +7,7 @@ use lib.ListN.{length}
 use native.Mathlib.Omega.{arith}
 use borrow.Author.Tests.{le-leb, leb-true}
 use Rattle.octets.specs.ExclusiveOr.{longest}
-use Rattle.octets.proofs.Place.{tab-at, length-tab}
-use Rattle.octets.proofs.ExclusiveOr.{longest-least}
+use Rattle.octets.proofs.Laws.{tab-at, length-tab, longest-least}
 use Rattle.datagrams.specs.Sizes.{packetLimit, sparesLimit}
 use Rattle.datagrams.specs.Write.{countInside}
 use Rattle.datagrams.specs.declared.kind.Kind.{Kind}

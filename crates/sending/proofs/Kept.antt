@@ -11,8 +11,7 @@ use native.Mathlib.Numerals.{add-one}
 use native.Mathlib.Omega.{arith}
 use borrow.Author.Tests.{le-leb, le-ltb, lt-ltb, eqb-true, leb-true}
 use Rattle.octets.specs.Place.{tab, allBelow}
-use Rattle.octets.proofs.Place.{tab-ext, allBelow-at, allBelow-of, tab-shift}
-use Rattle.octets.proofs.Cases.{same-or-not, below-or-not, and-left, and-right, and-both}
+use Rattle.octets.proofs.Laws.{tab-ext, allBelow-at, allBelow-of, tab-shift, same-or-not, below-or-not, and-left, and-right, and-both}
 use Rattle.datagrams.specs.Sizes.{packetLeast, packetLimit}
 use Rattle.datagrams.proofs.WriteLaws.{within-true}
 use Rattle.stores.specs.Store.{part, pasted, zeros, zerosPast, HasSlot}

@@ -18,7 +18,7 @@ use Rattle.held.specs.Laid.{sessionInRanges, InRanges}
 use Rattle.held.specs.Promise.{Sized}
 use Rattle.held.specs.declared.Counts.{Counts}
 use Rattle.held.specs.declared.Session.{Session}
-use Rattle.held.proofs.Ranges.{session-in-ranges}
+use Rattle.held.proofs.Laws.{session-in-ranges}
 use Rattle.leaving.specs.Outcome.{afterNext, afterGiveUp}
 use Rattle.leaving.specs.Promise.{Releases, GivesUp}
 use Rattle.leaving.specs.declared.Released.{Released}

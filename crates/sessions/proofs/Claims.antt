@@ -9,7 +9,7 @@ use lib.Seq.{getD-set-same, getD-set-other}
 use lib.Dec.{ltb}
 use native.Mathlib.Omega.{arith}
 use borrow.Author.Tests.{ltb-true}
-use Rattle.octets.proofs.Cases.{true-or-false}
+use Rattle.octets.proofs.Laws.{true-or-false}
 use Rattle.lengths.specs.Refusals.{repeated, tooFar, late}
 use Rattle.lengths.specs.Answers.{Answer, done, refused, refuse, _>>=_, over}
 use Rattle.datagrams.specs.Carried.{Carried, Extra, spares, parity}
@@ -17,17 +17,17 @@ use Rattle.datagrams.specs.Read.{DatagramParts, readDatagram, carriedBy}
 use Rattle.views.specs.Cells.{State, received, spare, Cell, isUnknown, cellAt, unknownAt, keptBefore, keptAhead}
 use Rattle.views.specs.Held.{Held, nothingHeld}
 use Rattle.views.specs.Reached.{Known}
-use Rattle.views.proofs.Grows.{repair-known}
+use Rattle.views.proofs.Laws.{repair-known}
 use Rattle.views.specs.View.{View, distance}
 use Rattle.views.specs.Offer as offers
 use Rattle.held.specs.Laid.{sessionInRanges}
 use Rattle.held.specs.declared.Session.{Session}
-use Rattle.held.proofs.Ranges.{in-ranges-true}
-use Rattle.held.proofs.Injective.{fresh-same}
+use Rattle.held.proofs.Laws.{in-ranges-true, fresh-same}
 use Rattle.leaving.specs.Outcome.{octetsOf}
+use Rattle.leaving.proofs.Laws.{released-told, lost-told}
+use Rattle.offering.proofs.Laws.{offered-told}
 use Rattle.sessions.specs.Receiver.{After, offerOf, nextOf, viewAfterNext, giveUpOf, viewAfterLoss}
 use Rattle.sessions.specs.Claims.{RefusedStays, OneOutcome, AcceptedOffer, Claims}
-use Rattle.sessions.proofs.Told.{released-told, lost-told, offered-told}
 use Rattle.sessions.proofs.Outcomes.{after-same, after-refused}
 
 refused-stays : RefusedStays

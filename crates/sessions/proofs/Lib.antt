@@ -1,4 +1,3 @@
 mod Called
 mod Outcomes
-pub mod Told
 pub mod Claims

@@ -4,7 +4,7 @@ use Rattle.lengths.specs.Answers.{Answer, done, refused}
 use Rattle.lengths.specs.declared.Refusal.{Refusal}
 use Rattle.views.specs.View.{View}
 use Rattle.held.specs.declared.Session.{Session}
-use Rattle.held.proofs.Injective.{session-same}
+use Rattle.held.proofs.Laws.{session-same}
 use Rattle.sessions.specs.Receiver.{SeenAs, After}
 
 -- one view, one session

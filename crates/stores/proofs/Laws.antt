@@ -12,8 +12,7 @@ use lib.Dec.{ltb, eqb}
 use native.Mathlib.Omega.{arith}
 use borrow.Author.Tests.{lt-ltb, le-ltb, eqb-true}
 use Rattle.octets.specs.Place.{allBelow}
-use Rattle.octets.proofs.Place.{length-tab, tab-at, allBelow-at, allBelow-of, allBelow-ext}
-use Rattle.octets.proofs.Cases.{below-or-not, or-true}
+use Rattle.octets.proofs.Laws.{length-tab, tab-at, allBelow-at, allBelow-of, allBelow-ext, below-or-not, or-true}
 use Rattle.datagrams.specs.Sizes.{packetLimit}
 use Rattle.stores.specs.Store.{pasted, zeros, zerosPast, part, added, HasSlot}
 

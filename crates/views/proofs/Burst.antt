@@ -11,9 +11,7 @@ use lib.ListN.{length}
 use native.Mathlib.Nat.{mod-lt, mul-zero}
 use native.Mathlib.Omega.{arith}
 use Rattle.octets.specs.ExclusiveOr.{longest}
-use Rattle.octets.proofs.Cases.{true-or-false, below-or-not}
-use Rattle.octets.proofs.Place.{tab-among}
-use Rattle.octets.proofs.ExclusiveOr.{length-exclusiveOr, longest-reaches}
+use Rattle.octets.proofs.Laws.{true-or-false, below-or-not, tab-among, length-exclusiveOr, longest-reaches}
 use Rattle.views.specs.Cells.{Cell, unknownAt, keptBefore}
 use Rattle.views.specs.Members.{membersOf, InReach}
 use Rattle.views.specs.Repair.{Message, firstUsable, repair}

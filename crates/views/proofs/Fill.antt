@@ -11,8 +11,8 @@ use lib.Seq.{getD-set-same, getD-set-other}
 use lib.Dec.{leb}
 use borrow.Author.Tests.{leb-true, eqb-true, le-leb, eq-eqb}
 use native.Mathlib.Omega.{arith}
-use Rattle.octets.proofs.Cases.{below-or-not, same-or-not, true-or-false, and-left, and-right, and-both}
-use Rattle.octets.proofs.ExclusiveOr.{length-exclusiveOr, exclusiveOr-octet}
+use Rattle.octets.proofs.Laws.{below-or-not, same-or-not, true-or-false, and-left, and-right, and-both, length-exclusiveOr}
+use Rattle.octets.proofs.Laws.{exclusiveOr-octet}
 use Rattle.views.specs.Cells.{Cell, blankCell, cellAt, unknownAt, isUnknown, repaired}
 use Rattle.views.specs.Repair.{Message, unknownMembers, otherMembers, usable, mended, fill}
 use Rattle.views.specs.Reached.{Known, Unknown, Distinct}

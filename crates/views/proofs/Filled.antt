@@ -10,7 +10,7 @@ use lib.ListN.{length, set, length-set}
 use lib.Seq.{getD-set-same, getD-set-other}
 use native.Mathlib.Omega.{arith}
 use borrow.Author.Tests.{le-leb}
-use Rattle.octets.proofs.Cases.{same-or-not, and-left, and-right, and-both}
+use Rattle.octets.proofs.Laws.{same-or-not, and-left, and-right, and-both}
 use Rattle.datagrams.specs.Sizes.{packetLeast, packetLimit}
 use Rattle.views.specs.Cells.{State, unknown, received, spare, repaired, blank, isUnknown, Cell, blankCell, cellAt, unknownAt, keptBefore, keptAhead, keptNumbers}
 use Rattle.views.specs.Held.{Held, heldAt}

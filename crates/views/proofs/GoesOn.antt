@@ -9,7 +9,7 @@ use lib.Dec.{leb, eqb}
 use native.Mathlib.Omega.{arith}
 use borrow.Author.Tests.{lt-ltb, le-ltb, le-leb, eq-eqb, eqb-true}
 use Rattle.octets.specs.Place.{allBelow}
-use Rattle.octets.proofs.Cases.{same-or-not, below-or-not, and-left, and-both}
+use Rattle.octets.proofs.Laws.{same-or-not, below-or-not, and-left, and-both}
 use Rattle.views.specs.Cells.{Cell, blankCell, unknownCell, cellAt, isUnknown, keptBefore}
 use Rattle.views.specs.Held.{Held, nothingHeld, heldAt}
 use Rattle.views.specs.Ranges.{blankAt, sumRight, sizeRight, cellRight, markRight, heldRight, knownAt, Sound}

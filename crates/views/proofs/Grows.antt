@@ -7,7 +7,7 @@ use mathlib.Core.Bool.{true}
 use mathlib.Core.List.{List, List·Memᴰ as Among}
 use mathlib.Core.Option.{Option, none, some}
 use lib.ListN.{length}
-use Rattle.octets.proofs.Cases.{same-or-not}
+use Rattle.octets.proofs.Laws.{same-or-not}
 use Rattle.views.specs.Cells.{Cell, cellAt, repaired}
 use Rattle.views.specs.Repair.{Message, usable, firstUsable, mended, fill, repairF, repair}
 use Rattle.views.specs.Reached.{Known}

@@ -8,7 +8,7 @@ use mathlib.Core.List.{List·Memᴰ·not-nil, List·Memᴰ·append-cases, Memᴰ
 use lib.ListN.{length}
 use native.Mathlib.Nat.{add-zero, add-suc, suc-add, not-suc-le-zero, le-of-suc-le-suc}
 use native.Mathlib.Omega.{arith}
-use Rattle.octets.proofs.Place.{among-tab}
+use Rattle.octets.proofs.Laws.{among-tab}
 use Rattle.views.specs.Cells.{keptBefore, keptAhead, keptNumbers}
 use Rattle.views.specs.Repair.{Message}
 use Rattle.views.specs.Held.{Held, heldAt, messageAt, messagesOf, messagesFrom, heldMessages}

@@ -10,8 +10,7 @@ use lib.Seq.{getD-set-same, getD-set-other}
 use lib.Dec.{leb, eqb}
 use native.Mathlib.Omega.{arith}
 use borrow.Author.Tests.{le-leb, eqb-true}
-use Rattle.octets.proofs.Cases.{same-or-not, and-left, and-both}
-use Rattle.octets.proofs.Place.{allBelow-of}
+use Rattle.octets.proofs.Laws.{same-or-not, and-left, and-both, allBelow-of}
 use Rattle.datagrams.specs.Sizes.{messageLimit}
 use Rattle.views.specs.Cells.{keptBefore, keptAhead}
 use Rattle.views.specs.Held.{Held, nothingHeld, heldAt}

@@ -11,9 +11,8 @@ use lib.Bits.{bitXor, xor-zero-r}
 use native.Mathlib.Omega.{arith}
 use borrow.Author.Tests.{not-true}
 use Rattle.octets.specs.ExclusiveOr.{xorAt, longest}
-use Rattle.octets.proofs.Cases.{below-or-not, same-or-not}
-use Rattle.octets.proofs.ExclusiveOr.{xor-cancel-right, xorAt-same, longest-reaches}
-use Rattle.octets.proofs.ExclusiveOr.{exclusiveOr-at, exclusiveOr-longest, exclusiveOr-past, length-exclusiveOr}
+use Rattle.octets.proofs.Laws.{below-or-not, same-or-not, xor-cancel-right, xorAt-same, longest-reaches, exclusiveOr-at}
+use Rattle.octets.proofs.Laws.{exclusiveOr-longest, exclusiveOr-past, length-exclusiveOr}
 use Rattle.views.specs.Cells.{Cell, cellAt, unknownAt}
 use Rattle.views.specs.Repair.{Message, otherMembers, usable, mended, fill, repair}
 use Rattle.views.specs.Honest.{HonestMessage, HonestMessages, UpToZeros, TrueCells}

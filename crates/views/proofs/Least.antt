@@ -7,7 +7,7 @@ use mathlib.Core.Logic.{_↔_, ⊎-elim}
 use mathlib.Core.Bool.{false≢true}
 use mathlib.Core.List.{List, List·Memᴰ as Among}
 use mathlib.Core.Option.{none}
-use Rattle.octets.proofs.Cases.{true-or-false}
+use Rattle.octets.proofs.Laws.{true-or-false}
 use Rattle.views.specs.Cells.{Cell, unknownAt}
 use Rattle.views.specs.Repair.{Message, firstUsable, repair}
 use Rattle.views.specs.Reached.{Known, Closed, Reached, known, byMessage, DistinctMembers}

@@ -18,3 +18,4 @@ pub mod Holding
 pub mod GoesOn
 pub mod Ranges
 pub mod Claims
+pub mod Laws

@@ -8,8 +8,7 @@ use native.Mathlib.Nat.{suc-mul, mul-le-mul-right, div-add-mod', div-lt-iff-lt-m
 use native.Mathlib.Omega.{arith}
 use lib.Arith.{digits-mod}
 use Rattle.octets.specs.Place.{tab}
-use Rattle.octets.proofs.Place.{tab-among, among-tab}
-use Rattle.octets.proofs.Cases.{below-or-not, same-or-not}
+use Rattle.octets.proofs.Laws.{tab-among, among-tab, below-or-not, same-or-not}
 use Rattle.views.specs.Members.{memberAt, membersOf, InReach}
 use Rattle.views.specs.Reached.{Distinct, nothing, fresh}
 

@@ -10,8 +10,7 @@ use lib.ListN.{length, getD}
 use native.Mathlib.Omega.{arith}
 use lib.Bits.{bitXor}
 use Rattle.octets.specs.ExclusiveOr.{xorAt}
-use Rattle.octets.proofs.Cases.{true-or-false}
-use Rattle.octets.proofs.ExclusiveOr.{xor-assoc, xor-left-comm}
+use Rattle.octets.proofs.Laws.{true-or-false, xor-assoc, xor-left-comm}
 use Rattle.views.specs.Repair.{passing}
 use Rattle.views.specs.Reached.{Distinct, fresh}
 

@@ -7,8 +7,7 @@ use lib.ListN.{length}
 use lib.Dec.{leb, eqb}
 use native.Mathlib.Omega.{arith}
 use borrow.Author.Tests.{leb-true, eqb-true}
-use Rattle.octets.proofs.Cases.{and-left, and-right, and-both}
-use Rattle.octets.proofs.Place.{allBelow-at, allBelow-of}
+use Rattle.octets.proofs.Laws.{and-left, and-right, and-both, allBelow-at, allBelow-of}
 use Rattle.datagrams.specs.Sizes.{packetLeast, packetLimit}
 use Rattle.views.specs.Cells.{State, unknown, received, spare, repaired, blank, cellAt, keptBefore, keptAhead, keptNumbers}
 use Rattle.views.specs.Held.{heldAt}

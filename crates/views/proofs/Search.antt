@@ -6,7 +6,7 @@ use mathlib.Core.Bool.{true, false}
 use mathlib.Core.List.{List, [], _∷_, _++_, List·Memᴰ as Among}
 use mathlib.Core.List.{List·Memᴰ·not-nil, List·Memᴰ·cases-cons, List·Memᴰ·head as here, List·Memᴰ·tail as further}
 use mathlib.Core.Option.{none, some, Option·some-injective, Option·none-ne-some, Option·some-ne-none}
-use Rattle.octets.proofs.Cases.{true-or-false}
+use Rattle.octets.proofs.Laws.{true-or-false}
 use Rattle.views.specs.Cells.{Cell}
 use Rattle.views.specs.Repair.{Message, usable, firstUsable}
 

@@ -8,7 +8,7 @@ use lib.Dec.{leb, eqb}
 use native.Mathlib.Nat.{mul-le-mul, le-trans}
 use native.Mathlib.Omega.{arith}
 use borrow.Author.Tests.{leb-true, eqb-true}
-use Rattle.octets.proofs.Cases.{and-left, and-right}
+use Rattle.octets.proofs.Laws.{and-left, and-right}
 use Rattle.datagrams.specs.Sizes.{coveredLimit, messagesLimit, reachLimit}
 use Rattle.views.specs.Cells.{State, unknown, received, spare, repaired, blank, isUnknown, keptBefore}
 use Rattle.views.specs.Held.{Held}

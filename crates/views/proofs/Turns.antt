@@ -12,8 +12,7 @@ use native.Mathlib.Nat.{add-suc, suc-mul}
 use native.Mathlib.Omega.{arith}
 use Rattle.octets.specs.Place.{tab}
 use Rattle.octets.specs.ExclusiveOr.{exclusiveOr, xorAt}
-use Rattle.octets.proofs.Place.{length-tab, tab-at, tab-ext, tab-snoc}
-use Rattle.octets.proofs.ExclusiveOr.{exclusiveOr-more, xorAt-zeros}
+use Rattle.octets.proofs.Laws.{length-tab, tab-at, tab-ext, tab-snoc, exclusiveOr-more, xorAt-zeros}
 use Rattle.views.specs.Cells.{Cell, cellAt, unknownAt, keptBefore}
 use Rattle.views.specs.Members.{memberAt, membersOf}
 use Rattle.views.specs.Repair.{Message, passing, unknownMembers, otherMembers, mended}

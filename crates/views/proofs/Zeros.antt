@@ -7,7 +7,7 @@ use mathlib.Core.List.{List, _++_}
 use lib.ListN.{length, getD, replicate, length-append, length-replicate, getD-replicate, List·getD-append, List·getD-eq-default}
 use lib.Seq.{ext-getD, getD-append-add}
 use native.Mathlib.Omega.{arith}
-use Rattle.octets.proofs.Cases.{below-or-not}
+use Rattle.octets.proofs.Laws.{below-or-not}
 use Rattle.views.specs.Honest.{UpToZeros}
 
 zeros-at : (n j : ℕ) → _≡_ {A = ℕ} (getD (replicate n 0) j 0) 0

@@ -1,5 +1,5 @@
 -- `receive::main` is safe and ends: a fresh session is within its ranges. Assumes nothing.
-use Rattle.held.proofs.Ranges.{session-in-ranges}
+use Rattle.held.proofs.Laws.{session-in-ranges}
 use borrow.Author.Needs.{needs}
 use Rattle.receive.proofs.main.Statement.{statement}
 use Rattle.receive.proofs.main.Tie as tie

@@ -1,0 +1,34 @@
+-- The laws of a session's meaning that others use; each is proved in the file that it is passed on from. Assumes nothing.
+
+-- ---- the members that pass a test
+pub use Rattle.views.proofs.Passing.{passing-yes, passing-no}
+-- ---- known and unknown, usable messages, fills
+pub use Rattle.views.proofs.Fill.{missing, unknown-inside, known-not-unknown, same-unknown, usable-says, length-mended}
+-- ---- the first usable message
+pub use Rattle.views.proofs.Search.{firstUsable-front, firstUsable-rest, found-usable}
+-- ---- the messages from a number on, as a search goes
+pub use Rattle.views.proofs.Turns.{heldFrom, heldFrom-start, heldFrom-turn, heldFrom-end}
+-- ---- what repair keeps
+pub use Rattle.views.proofs.Grows.{repairF-done, repairF-fill, found-or-none, length-repair, repair-known, repair-state}
+-- ---- known exactly if reached
+pub use Rattle.views.proofs.Least.{reached-within, known-within, known-closed, known-reached, reached-known}
+-- ---- members and reach
+pub use Rattle.views.proofs.Members.{member-says, member-in-reach}
+-- ---- the held messages
+pub use Rattle.views.proofs.Held.{held-at, messagesOf-among, held-distinct, held-honest}
+-- ---- equal up to zeros at the end
+pub use Rattle.views.proofs.Zeros.{up-to-zeros-same}
+-- ---- an honest sender
+pub use Rattle.views.proofs.Honest.{repair-right}
+-- ---- a burst
+pub use Rattle.views.proofs.Burst.{burst-mended}
+-- ---- the ranges: lengths, n and m
+pub use Rattle.views.proofs.Sizes.{unknown-size, mark-sizes, held-sizes, reach-kept}
+-- ---- the ranges: the test and the record
+pub use Rattle.views.proofs.Ranges.{base-small, size-fits, sound-of, inRanges-of}
+-- ---- the ranges: a number is filled
+pub use Rattle.views.proofs.Filled.{filledAt, filled-sound}
+-- ---- the ranges: a datagram is held
+pub use Rattle.views.proofs.Holding.{heldThere, held-none, accepted-right, held-sound}
+-- ---- the ranges: the base goes on
+pub use Rattle.views.proofs.GoesOn.{sound-goes-on}
