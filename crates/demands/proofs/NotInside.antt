@@ -31,7 +31,7 @@ use Rattle.held.specs.Laid.{sessionInRanges}
 use Rattle.held.specs.declared.Session.{Session}
 use Rattle.offering.specs.Outcome.{acceptedOf}
 use Rattle.sessions.specs.Receiver.{offerOf}
-use Rattle.sessions.proofs.Told.{offered-told}
+use Rattle.offering.proofs.Laws.{offered-told}
 use Rattle.sending.specs.Send.{carriedNext}
 use Rattle.sending.specs.Sender.{sendingOf}
 use Rattle.sending.specs.Promise.{senderRows, toSend}
