@@ -18,6 +18,7 @@ pub mod KnownReached
 pub mod Never17
 pub mod SendNever17
 pub mod RoundTrips
+pub mod AlikeReads
 pub mod NotInside
 pub mod Demand2
 pub mod Sheet

@@ -17,6 +17,7 @@ use Rattle.datagrams.specs.Carried.{Carried}
 use Rattle.datagrams.specs.Claims.{ReadsAs}
 use Rattle.datagrams.specs.Read.{readDatagram, carriedBy}
 use Rattle.datagrams.specs.Write.{numberOctets, itemOctets, extraOctets, carriedOf, datagramOctets, datagramWriterRows, datagramToWrite}
+use Rattle.datagrams.specs.Promise.{datagramRead}
 use Rattle.datagrams.specs.Inner.Put.{itemSize}
 use Rattle.datagrams.specs.declared.kind.Kind.{Kind}
 use Rattle.datagrams.proofs.PutLaws.{item-length}
@@ -38,6 +39,7 @@ use Rattle.sending.specs.Promise.{senderRows, toSend}
 use Rattle.sending.specs.declared.Sender.{Sender}
 use Rattle.sending.specs.declared.Settings.{Settings}
 use Rattle.demands.specs.NotInside.{Alike, NotInside}
+use Rattle.demands.proofs.AlikeReads.{alike-parts}
 
 -- ---- a writer with a table, of octets of one length
 -- the answer, by the sizes alone
@@ -64,10 +66,12 @@ module _ (number : ℕ) (kind : Kind) (lengths packet otherPacket run otherRun :
   rows-same = rw (one, two)
 
   long-same : first (datagramWriterRows packet kind lengths run) ≡ none
-      → length (datagramOctets (carriedOf number packet kind lengths run)) ≡ length (datagramOctets (carriedOf number otherPacket kind lengths otherRun))
+      → length (datagramOctets (carriedOf number packet kind lengths run))
+      ≡ length (datagramOctets (carriedOf number otherPacket kind lengths otherRun))
   unfolding datagramToWrite
   long-same e =
-      let d = done-none (datagramToWrite number packet kind lengths run) (unless-first (datagramWriterRows packet kind lengths run) _ ∙ e) in
+      let none-given = unless-first (datagramWriterRows packet kind lengths run) _ ∙ e in
+      let d = done-none (datagramToWrite number packet kind lengths run) none-given in
       let sum = written-allowed number packet kind lengths run (d .0) (d .1) .0 .summed in
       datagram-length number packet kind lengths run (omega arith)
       ∙ rw one refl
@@ -79,6 +83,13 @@ module _ (number : ℕ) (kind : Kind) (lengths packet otherPacket run otherRun :
   unfolding datagramToWrite
   write-same old other room =
       rw (← rows-same) (size-same (datagramWriterRows packet kind lengths run) _ _ old other long-same room)
+
+-- ---- the datagram reader
+read-same : {s t : List ℕ} → Alike s t → readDatagram s ≡ readDatagram t
+read-same {s} {t} a =
+    alike-parts (a .number) (a .packet) (a .kind) (a .lengths) (a .run) s (a .one)
+    ∙ rw (a .oneLength) refl
+    ∙ sym (alike-parts (a .number) (a .otherPacket) (a .kind) (a .lengths) (a .otherRun) t (a .other))
 
 -- ---- send
 around : (front x y back : List ℕ) → length x ≡ length y → length (front ++ (x ++ back)) ≡ length (front ++ (y ++ back))
@@ -145,8 +156,10 @@ not-inside =
       write = λ number kind lengths packet otherPacket run otherRun one two {old} {new} {otherOld} {otherNew} {r} {q} room p t.
           written-told r q
           (p .answer ∙ write-same number kind lengths packet otherPacket run otherRun one two old otherOld room ∙ sym (t .answer));
+      read = λ a p t. p .whole ∙ ap datagramRead (read-same a) ∙ sym (t .whole);
       offer = λ {session} a {r} {q} p t.
           offered-told (r .answer) (q .answer) (p .answer ∙ offer-same session a ∙ sym (t .answer));
       send = λ {s} {settings} {packet} {otherPacket} one {old} {new} {otherOld} {otherNew} {r} {q} room p t.
-          written-told (r .answer) (q .answer) (p .answer ∙ send-same s settings packet otherPacket one old otherOld room ∙ sym (t .answer));
+          written-told (r .answer) (q .answer)
+          (p .answer ∙ send-same s settings packet otherPacket one old otherOld room ∙ sym (t .answer));
     }

@@ -8,7 +8,9 @@ use Rattle.lengths.specs.Answers.{done}
 use Rattle.lengths.specs.Promise.{Puts}
 use Rattle.lengths.specs.declared.Written.{Written}
 use Rattle.datagrams.specs.Write.{datagramToWrite}
+use Rattle.datagrams.specs.Promise.{DatagramReads}
 use Rattle.datagrams.specs.declared.kind.Kind.{Kind}
+use Rattle.datagrams.specs.declared.reader.DatagramRead.{DatagramRead}
 use Rattle.held.specs.declared.Session.{Session}
 use Rattle.sessions.specs.Receiver.{OfferOwes}
 use Rattle.sessions.specs.declared.receiver.AfterOffer.{AfterOffer}
@@ -39,7 +41,9 @@ pub record NotInside : Type 0 where
       → Puts (datagramToWrite number packet kind lengths run) old new r
       → Puts (datagramToWrite number otherPacket kind lengths otherRun) otherOld otherNew q
       → r ≡ q
-  -- offer, and with it the reading: accepted, or refused with the same number
+  -- the datagram reader: the same number and kind, and parts at the same places
+  pub read : {s t : List ℕ} → Alike s t → {r q : DatagramRead} → DatagramReads s r → DatagramReads t q → r ≡ q
+  -- offer: accepted, or refused with the same number
   pub offer : {session : Session} {s t : List ℕ} → Alike s t → {r q : AfterOffer} → OfferOwes session s r → OfferOwes session t q
       → r .answer ≡ q .answer
   -- send: the same refusal, or the same number of octets
