@@ -56,7 +56,7 @@ use Rattle.sending.specs.declared.Settings.{Settings}
 use Rattle.lines.specs.Hex.{octetsIn, lineRows, lineOctets}
 use Rattle.demands.specs.Refusals.{lengthRows, distanceTo, offerRows, nextRows, giveUpRows}
 use Rattle.demands.specs.Demand1 as demand
-use Rattle.demands.specs.Demand1.{IsDatagram, IsPacket, IsRepaired, Readers, Writers, Receiving, Demand1}
+use Rattle.demands.specs.Demand1.{IsDatagram, IsPacket, IsRepaired, Readers, Unchanged, Writers, Receiving, Demand1}
 use Rattle.demands.proofs.Front.{repaired-front}
 use Rattle.demands.proofs.PacketRefusals.{packet-refusals}
 use Rattle.demands.proofs.DatagramRefusals.{datagram-refusals}
@@ -189,9 +189,8 @@ over-refused : (w : Answer (List ℕ)) (old : List ℕ) (n : ℕ) → refusalIn 
 over-refused (done x) old n e = let z : _≡_ {A = ℕ} 0 1 = cc in absurd (omega arith)
 over-refused (refused why) old n e = refl
 
-puts-unchanged : {w : Answer (List ℕ)} {old new : List ℕ} {r : Written} {n : ℕ} → Puts w old new r → refusalIn (writtenOutcome r) ≡ some n
-    → new ≡ old
-puts-unchanged {w} {old} {new} {r} {n} p e = p .lent ∙ over-refused (fitted w old) old n (sym (puts-refusal p) ∙ e)
+puts-unchanged : (w : Answer (List ℕ)) → Unchanged w
+puts-unchanged w old new r n p e = p .lent ∙ over-refused (fitted w old) old n (sym (puts-refusal p) ∙ e)
 
 writers : Writers
 writers =
@@ -200,7 +199,10 @@ writers =
       datagram = λ number packet kind lengths run {old} p. puts-refusal p ∙ datagram-writer number packet kind lengths run old;
       packet = λ kind value types lengths octets {old} p. puts-refusal p ∙ packet-writer kind value types lengths octets old;
       line = λ line {old} p. puts-refusal p ∙ line-writer line old;
-      unchanged = puts-unchanged;
+      lengthUnchanged = λ n. puts-unchanged (lengthToWrite n);
+      datagramUnchanged = λ number packet kind lengths run. puts-unchanged (datagramToWrite number packet kind lengths run);
+      packetUnchanged = λ kind value types lengths octets. puts-unchanged (packetToWrite kind value types lengths octets);
+      lineUnchanged = λ line. puts-unchanged (lineOctets line);
     }
 
 -- ---- offer

@@ -1,13 +1,22 @@
 -- Two outcomes of a public call are one: each crate's claim, those that only tell, and those inside. Assumes nothing.
+use Prim.Native.Nat.{ℕ}
+use mathlib.Core.List.{List}
+use Rattle.lengths.specs.Answers.{Answer}
+use Rattle.lengths.specs.Length.{lengthToWrite}
+use Rattle.datagrams.specs.Write.{datagramToWrite}
+use Rattle.packets.specs.Write.{packetToWrite}
 use Rattle.lengths.proofs.Claims as lengths
 use Rattle.datagrams.proofs.Claims as datagrams
 use Rattle.packets.proofs.Claims as packets
 use Rattle.sessions.proofs.Claims as sessions
 use Rattle.sending.proofs.Claims as sending
 use Rattle.lines.proofs.Claims as lines
-use Rattle.demands.specs.OneOutcome.{OneOutcome}
+use Rattle.demands.specs.OneOutcome.{OneWrite, OneOutcome}
 use Rattle.demands.proofs.OneTold.{one-told}
 use Rattle.demands.proofs.OneInside.{one-inside}
+
+one-write : (w : Answer (List ℕ)) → OneWrite w
+one-write w old new other r q a b = lengths.claims .oneOutcome .written a b
 
 pub one-outcome : OneOutcome
 one-outcome =
@@ -15,6 +24,12 @@ one-outcome =
       lengths = lengths.claims .oneOutcome;
       datagrams = datagrams.claims .oneOutcome;
       packets = packets.claims .oneOutcome;
+      writers =
+          record {
+            length = λ n. one-write (lengthToWrite n);
+            datagram = λ number packet kind lengths run. one-write (datagramToWrite number packet kind lengths run);
+            packet = λ kind value types lengths octets. one-write (packetToWrite kind value types lengths octets);
+          };
       receiver = sessions.claims .oneOutcome;
       sender = sending.claims .oneOutcome;
       program = lines.claims .oneOutcome;

@@ -2,7 +2,7 @@
 -- document 01 says, with the number it says, and then only. A refused call leaves the session and each lent buffer as they
 -- were." That a call ends is part of the proof of its contract, which asks nothing of its caller. The field of a call's name says
 -- that its refusal is the first row of its table that is given, and that it is not refused where none is; the field
--- `unchanged` beside it (`offerUnchanged`, `nextUnchanged`, ..) says what a refusal leaves. Readers change nothing. The refusals
+-- beside it (`offerUnchanged`, `nextUnchanged`, ..) says what a refusal leaves. Readers change nothing. The refusals
 -- of the datagram and the packet reader are those of their definitions, met in reading order; apart from that order is told what
 -- they do not refuse (`isDatagram`, `isPacket`, `isRepaired`) and what they do (`datagramRefusals`, `packetRefusals`). Statements alone.
 use Prim.Native.Nat.{ℕ, _≤_}
@@ -90,6 +90,10 @@ pub record Readers : Type 0 where
   pub datagramRefusals : DatagramRefusals
 
 -- ---- writers
+-- a refused call that was to write w leaves the lent buffer as it was
+abbrev pub Unchanged : Answer (List ℕ) → Type 0
+Unchanged w = (old new : List ℕ) (r : Written) (n : ℕ) → Puts w old new r → refusalIn (writtenOutcome r) ≡ some n → new ≡ old
+
 pub record Writers : Type 0 where
   pub length : (n : ℕ) {old new : List ℕ} {r : Written} → Puts (lengthToWrite n) old new r
       → refusalIn (writtenOutcome r) ≡ first (lengthWriterRows n ++ roomRow (lengthOctets n) old)
@@ -104,8 +108,12 @@ pub record Writers : Type 0 where
   -- the octets of a line of hexadecimal: "line over 3,000 characters (before 15)", "a line not of paired hexadecimal digits", 13
   pub line : (line : List ℕ) {old new : List ℕ} {r : Written} → Puts (lineOctets line) old new r
       → refusalIn (writtenOutcome r) ≡ first (lineRows line ++ roomRow (octetsIn line) old)
-  pub unchanged : {w : Answer (List ℕ)} {old new : List ℕ} {r : Written} {n : ℕ} → Puts w old new r
-      → refusalIn (writtenOutcome r) ≡ some n → new ≡ old
+  pub lengthUnchanged : (n : ℕ) → Unchanged (lengthToWrite n)
+  pub datagramUnchanged : (number : ℕ) (packet : List ℕ) (kind : Kind) (lengths run : List ℕ)
+      → Unchanged (datagramToWrite number packet kind lengths run)
+  pub packetUnchanged : (kind : packets.Kind) (value : ℕ) (types lengths octets : List ℕ)
+      → Unchanged (packetToWrite kind value types lengths octets)
+  pub lineUnchanged : (line : List ℕ) → Unchanged (lineOctets line)
 
 -- ---- the receiving session
 pub record Receiving : Type 0 where

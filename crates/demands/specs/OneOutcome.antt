@@ -1,5 +1,16 @@
 -- "Any two outcomes allowed by it are proved equal": of each public call, two outcomes that its promise allows are one: the
 -- answer, the session after and the lent buffer. Statements alone.
+use Prim.Native.Nat.{ℕ}
+use mathlib.Core.Path.{_≡_}
+use mathlib.Core.List.{List}
+use Rattle.lengths.specs.Answers.{Answer}
+use Rattle.lengths.specs.Length.{lengthToWrite}
+use Rattle.lengths.specs.Promise.{Puts}
+use Rattle.lengths.specs.declared.Written.{Written}
+use Rattle.datagrams.specs.Write.{datagramToWrite}
+use Rattle.datagrams.specs.declared.kind.Kind.{Kind}
+use Rattle.packets.specs.Write.{packetToWrite}
+use Rattle.packets.specs.declared.types.Kind as packetKinds
 use Rattle.lengths.specs.Claims as lengths
 use Rattle.datagrams.specs.Claims as datagrams
 use Rattle.packets.specs.Claims as packets
@@ -9,6 +20,18 @@ use Rattle.lines.specs.Claims as lines
 use Rattle.demands.specs.OneTold.{OneTold}
 use Rattle.demands.specs.OneInside.{OneInside}
 
+-- two outcomes of a call that writes w to the front of a lent buffer
+abbrev pub OneWrite : Answer (List ℕ) → Type 0
+OneWrite w = (old new other : List ℕ) (r q : Written) → Puts w old new r → Puts w old other q → (r ≡ q) × (new ≡ other)
+
+-- `write` of `lengths`, `datagram_writer` and `packet_writer`
+pub record Writers : Type 0 where
+  pub length : (n : ℕ) → OneWrite (lengthToWrite n)
+  pub datagram : (number : ℕ) (packet : List ℕ) (kind : Kind) (lengths run : List ℕ)
+      → OneWrite (datagramToWrite number packet kind lengths run)
+  pub packet : (kind : packetKinds.Kind) (value : ℕ) (types lengths octets : List ℕ)
+      → OneWrite (packetToWrite kind value types lengths octets)
+
 -- all public calls of the library: `read` and `write` of `lengths`, of `datagram_reader` and `datagram_writer`, of `packet_reader` and
 -- `packet_writer`; `Session::fresh`, `offer`, `next` and `give_up`; `Sender::fresh`, `in_ranges` and `send`; the program's
 -- `hex_to_octets`, `step`, `take_block` and `finish`; those that only tell; and those that serve callers inside this repository
@@ -16,6 +39,7 @@ pub record OneOutcome : Type 0 where
   pub lengths : lengths.OneOutcome
   pub datagrams : datagrams.OneOutcome
   pub packets : packets.OneOutcome
+  pub writers : Writers
   pub receiver : sessions.OneOutcome
   pub sender : sending.OneOutcome
   pub program : lines.OneOutcome
