@@ -42,14 +42,14 @@ pub data Carries : Type 0 where
 abbrev pub dataRule : List Carries
 dataRule = always ∷ never ∷ never ∷ never ∷ never ∷ never ∷ always ∷ may ∷ []
 
--- whether a rule lets a field be so, with data or without
+-- whether a rule allows a field with data, or one without
 abbrev pub lets : Carries → Bool → Bool
 lets always present = present
 lets never present = not present
 lets may present = true
 
 -- "Each field begins on an octet of its own: top bit data present, three bits field type, four zero bits": a header's type, whether
--- it has data, and whether its type lets it be so
+-- it has data, and whether its type allows that
 abbrev pub typeIn : ℕ → ℕ
 typeIn octet = (headerOf (octet / 16)) .kind
 

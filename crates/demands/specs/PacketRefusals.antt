@@ -77,7 +77,7 @@ pub data SpareBit (s : List ℕ) : Type 0 where
       → octet % 2 ≡ 1 → SpareBit s
   lastFour : (octet left : ℕ) (rest : List ℕ) → DueIn s (header left) (octet ∷ rest) → 1 ≤ octet % 16 → SpareBit s
 
--- data where none may be, or none where it must: an indicator with fields, or a field that its type does not let be so
+-- data where none may be, or none where it must: an indicator with fields, or a field with data, or without, against its type
 pub data WrongData (s : List ℕ) : Type 0 where
   indicator : (octet : ℕ) (rest : List ℕ) → s ≡ octet ∷ rest → extension octet ≡ false → octet % 2 ≡ 0 → kindOf octet ≡ Indicator
       → hasFields octet ≡ true → WrongData s
