@@ -57,6 +57,7 @@ use Rattle.lines.specs.Hex.{octetsIn, lineRows, lineOctets}
 use Rattle.demands.specs.Refusals.{lengthRows, distanceTo, offerRows, nextRows, giveUpRows}
 use Rattle.demands.specs.Demand1 as demand
 use Rattle.demands.specs.Demand1.{IsDatagram, IsPacket, IsRepaired, Readers, Unchanged, Writers, Receiving, Demand1}
+use Rattle.demands.proofs.OfferReads.{offer-reads}
 use Rattle.demands.proofs.Front.{repaired-front}
 use Rattle.demands.proofs.PacketRefusals.{packet-refusals}
 use Rattle.demands.proofs.DatagramRefusals.{datagram-refusals}
@@ -336,4 +337,4 @@ sending =
     }
 
 pub demand-1 : Demand1
-demand-1 = record { readers = readers; writers = writers; receiving = receiving; sending = sending }
+demand-1 = record { readers = readers; writers = writers; receiving = receiving; offerReads = offer-reads; sending = sending }

@@ -40,6 +40,7 @@ pub mod PacketEarly
 pub mod PacketPlain
 pub mod PacketExact
 pub mod PacketRefusals
+pub mod OfferReads
 pub mod Demand1
 pub mod Sent
 pub mod Sound

@@ -8,6 +8,7 @@
 use Prim.Native.Nat.{ℕ, _≤_}
 use mathlib.Core.Path.{_≡_}
 use mathlib.Core.Logic.{_↔_}
+use mathlib.Core.Bool.{true}
 use mathlib.Core.List.{List, _++_}
 use mathlib.Core.Option.{none, some}
 use lib.ListN.{length, replicate}
@@ -33,6 +34,7 @@ use Rattle.packets.specs.declared.types.Ending.the-variants.{Whole, Repaired}
 use Rattle.packets.specs.declared.types.PacketRead.{PacketRead}
 use Rattle.leaving.specs.Outcome.{releasedOutcome, lostOutcome}
 use Rattle.offering.specs.Outcome.{offeredOutcome}
+use Rattle.held.specs.Laid.{sessionInRanges}
 use Rattle.held.specs.declared.Session.{Session}
 use Rattle.sessions.specs.Receiver.{OfferOwes, NextOwes, GiveUpOwes}
 use Rattle.sessions.specs.declared.receiver.AfterOffer.{AfterOffer}
@@ -141,4 +143,8 @@ pub record Demand1 : Type 0 where
   pub readers : Readers
   pub writers : Writers
   pub receiving : Receiving
+  -- "offer 17, 2, then reading order": of a session within its ranges, what the datagram reader refuses is refused with its number
+  pub offerReads : {s : Session} {octets : List ℕ} {r : AfterOffer} {q : DatagramRead} {n : ℕ} → OfferOwes s octets r
+      → DatagramReads octets q → sessionInRanges s ≡ true → refusalIn (readOutcome q) ≡ some n
+      → refusalIn (offeredOutcome (r .answer)) ≡ some n
   pub sending : Sending
