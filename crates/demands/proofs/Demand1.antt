@@ -27,12 +27,12 @@ use Rattle.datagrams.specs.Claims.{lengthsOf, runOf}
 use Rattle.datagrams.specs.declared.kind.Kind.{Kind}
 use Rattle.datagrams.proofs.Claims as datagrams
 use Rattle.datagrams.proofs.ReadLaws.{read-done}
-use Rattle.packets.specs.Packet.{allData}
-use Rattle.packets.specs.Read.{readPacket}
+use Rattle.packets.specs.Packet.{allData, readPacket}
 use Rattle.packets.specs.Write.{packetOctets, packetWriterRows, packetToWrite}
 use Rattle.packets.specs.declared.types.Kind as packets
 use Rattle.packets.specs.declared.types.Ending.the-variants.{Whole, Repaired}
 use Rattle.packets.proofs.ReadLaws.{packet-form}
+use Rattle.packets.proofs.ReadAt.{read-at}
 use Rattle.packets.proofs.Claims as packet-claims
 use Rattle.views.specs.Cells.{unknownAt, keptBefore, keptAhead}
 use Rattle.views.specs.View.{View, sum, distance, sessionLimit}
@@ -131,7 +131,7 @@ is-repaired s octets = (
         packet = f .front;
         zeros = f .zeros;
         is = f .is;
-        fits = packet-form Repaired s (p .0) (p .1) .fits;
+        fits = packet-form Repaired s (p .0) (sym (read-at Repaired s) ∙ p .1) .fits;
         written = is-packet (f .front) (f .octets octets) .0 (ap refusalIn (f .reads));
       },
   λ is.

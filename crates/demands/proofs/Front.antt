@@ -1,6 +1,6 @@
 -- A packet that reads as repaired is one that reads as received, then zeros: each of its items lies in the octets up to the end
 -- of its last field, and reads the same from these alone. Assumes nothing.
-use Prim.Native.Nat.{ℕ, zero, suc, _+_, _-_, _≤_, _<_}
+use Prim.Native.Nat.{ℕ, zero, suc, _+_, _≤_, _<_}
 use mathlib.Core.Path.{_≡_, refl, sym, ap, ap₂, subst, _∙_}
 use mathlib.Core.Bool.{Bool, true, false}
 use mathlib.Core.List.{List, [], _∷_, _++_}
@@ -14,9 +14,10 @@ use Rattle.lengths.specs.Answers.{done, LengthAnswer}
 use Rattle.lengths.specs.Length.{lengthAt, ofTwo}
 use Rattle.lengths.specs.Claims.{Octets}
 use Rattle.lengths.proofs.Laws.{Form, one, two, form, lengthAt-one, lengthAt-two, sizes-read, octets-cons, octets-none}
-use Rattle.packets.specs.Packet.{Place, First, every}
-use Rattle.packets.specs.Read.{PacketAnswer, firstAt, Count, countAt, headerAt, sizeAt, FieldAnswer, fieldAt, FieldsAnswer, fieldsAt, allZero, readPacket}
+use Rattle.packets.specs.Packet.{First, every, PacketAnswer, allZero, readPacket}
+use Rattle.packets.specs.Inner.Octets.{Place, firstAt, Count, countAt, headerAt, sizeAt, FieldAnswer, fieldAt, FieldsAnswer, fieldsAt}
 use Rattle.packets.specs.declared.types.Ending.the-variants.{Whole, Repaired}
+use Rattle.packets.proofs.ReadAt.{read-at}
 use Rattle.packets.proofs.ReadLaws.{stepped, first-form, first-of, count-form, count-of, header-form, header-of, size-form, size-of}
 use Rattle.packets.proofs.ReadLaws.{FieldForm, bare, full, field-form, bare-of, full-of, packet-form, packet-of}
 
@@ -162,7 +163,7 @@ pub record InFront (s : List ℕ) (p : PacketAnswer) : Type 0 where
 
 pub repaired-front : (s : List ℕ) (p : PacketAnswer) → readPacket Repaired s ≡ done p → InFront s p
 repaired-front s p e =
-    let f = packet-form Repaired s p e in
+    let f = packet-form Repaired s p (sym (read-at Repaired s) ∙ e) in
     let some = first-form s (f .first) (f .firstWas) .some in
     let counted = count-end s (f .first .present) (f .count) some (f .countWas) in
     let ended = fields-end (f .count .value) s (f .count .next) (f .all) (counted .1) (f .allWas) in
@@ -186,6 +187,6 @@ repaired-front s p e =
       is = sym whole ∙ ap (λ (l : List ℕ). w ++ l) (zeros-only more (f .follows));
       octets = λ octets. octets-front w more (subst Octets (sym whole) octets);
       reads =
-          packet-of Whole w (f .first) (f .count) (f .all) (omega (arith, f .fits)) first count all (ap (λ (k : ℕ). eqb k 0) nothing)
+          read-at Whole w ∙ packet-of Whole w (f .first) (f .count) (f .all) (omega (arith, f .fits)) first count all (ap (λ (k : ℕ). eqb k 0) nothing)
           ∙ ap (λ (x : PacketAnswer). done x) (sym (f .is));
     }

@@ -14,7 +14,8 @@ use borrow.Author.Tests.{le-ltb, lt-leb, ltb-false, leb-false, not-false}
 use Rattle.lengths.specs.Refusals.{endsEarly, badForm, outsideSizes, spareBit, notAssigned, wrongData}
 use Rattle.lengths.specs.Length.{ofTwo}
 use Rattle.datagrams.specs.Sizes.{packetLimit}
-use Rattle.packets.specs.Packet.{fieldsLimit, assigned, rightFields, isSet, firstOf}
+use Rattle.packets.specs.Packet.{fieldsLimit, assigned, rightFields}
+use Rattle.packets.specs.Inner.Octets.{isSet, firstOf}
 use Rattle.packets.specs.declared.types.Ending.{Ending}
 use Rattle.lengths.specs.Tables.{first}
 use Rattle.demands.specs.Refusals.{lengthRows}

@@ -14,8 +14,7 @@ use native.Mathlib.Omega.{arith}
 use borrow.Author.Tests.{lt-ltb, ltb-true}
 use Rattle.octets.proofs.Laws.{below-or-not}
 use Rattle.lengths.specs.Refusals.{endsEarly, badForm, leftOver}
-use Rattle.packets.specs.Packet.{every}
-use Rattle.packets.specs.Read.{allZero}
+use Rattle.packets.specs.Packet.{every, allZero}
 use Rattle.packets.specs.declared.types.Ending.{Ending}
 use Rattle.packets.specs.declared.types.Ending.the-variants.{Whole, Repaired}
 use Rattle.lengths.specs.Tables.{when, first}

@@ -10,7 +10,8 @@ use lib.Dec.{leb, ltb}
 use native.Mathlib.Omega.{arith}
 use borrow.Author.Tests.{le-ltb, ltb-false}
 use Rattle.lengths.specs.Refusals.{endsEarly, badForm, spareBit, notAssigned, wrongData}
-use Rattle.packets.specs.Packet.{fieldsLimit, assigned, rightFields, isSet, firstOf}
+use Rattle.packets.specs.Packet.{fieldsLimit, assigned, rightFields}
+use Rattle.packets.specs.Inner.Octets.{isSet, firstOf}
 use Rattle.packets.specs.declared.types.Ending.{Ending}
 use Rattle.lengths.specs.Tables.{when, first}
 use Rattle.demands.specs.Refusals.{lengthRows}

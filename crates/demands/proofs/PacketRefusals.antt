@@ -13,7 +13,7 @@ use Rattle.octets.proofs.Laws.{below-or-not}
 use Rattle.lengths.specs.Refusals.{endsEarly, badForm, outsideSizes, spareBit, notAssigned, wrongData}
 use Rattle.lengths.specs.Refusals as number
 use Rattle.datagrams.specs.Sizes.{packetLimit}
-use Rattle.packets.specs.Read.{readPacket}
+use Rattle.packets.specs.Packet.{readPacket}
 use Rattle.packets.specs.Promise.{PacketTold, packetOutcome}
 use Rattle.packets.specs.declared.types.Ending.{Ending}
 use Rattle.packets.specs.declared.types.Ending.the-variants.{Whole, Repaired}

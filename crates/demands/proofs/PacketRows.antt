@@ -12,7 +12,8 @@ use borrow.Author.Tests.{le-ltb, ltb-true, leb-true, leb-false}
 use Rattle.lengths.specs.Refusals.{endsEarly, badForm, outsideSizes, spareBit, leftOver, notAssigned, wrongData}
 use Rattle.lengths.specs.Length.{ofTwo}
 use Rattle.datagrams.specs.Sizes.{packetLimit}
-use Rattle.packets.specs.Packet.{fieldsLimit, assigned, rightFields, isSet, firstOf}
+use Rattle.packets.specs.Packet.{fieldsLimit, assigned, rightFields}
+use Rattle.packets.specs.Inner.Octets.{isSet, firstOf}
 use Rattle.packets.specs.declared.types.Ending.{Ending}
 use Rattle.lengths.specs.Tables.{when, first}
 use Rattle.demands.specs.Refusals.{lengthRows}

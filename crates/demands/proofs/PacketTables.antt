@@ -13,8 +13,8 @@ use Rattle.lengths.specs.Refusals.{endsEarly, badForm, outsideSizes, spareBit, 
 use Rattle.lengths.specs.Answers.{Answer, done, refuse, _>>=_, LengthAnswer}
 use Rattle.lengths.specs.Length.{lengthAt, ofTwo}
 use Rattle.datagrams.specs.Sizes.{packetLimit}
-use Rattle.packets.specs.Packet.{Place, every, fieldsLimit, assigned, isSet, rightFields, rightData, firstOf, headerOf}
-use Rattle.packets.specs.Read.{firstAt, Count, countIn, HeaderAnswer, headerAt, sizeAt, allZero, mayFollow, endAt}
+use Rattle.packets.specs.Packet.{every, fieldsLimit, assigned, rightFields, rightData, allZero, mayFollow}
+use Rattle.packets.specs.Inner.Octets.{Place, isSet, firstOf, headerOf, firstAt, Count, countIn, HeaderAnswer, headerAt, sizeAt, endAt}
 use Rattle.packets.specs.declared.types.Ending.{Ending}
 use Rattle.packets.specs.declared.types.Ending.the-variants.{Whole, Repaired}
 use Rattle.lengths.specs.Tables.{when, first}

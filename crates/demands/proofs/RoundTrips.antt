@@ -33,8 +33,7 @@ use Rattle.datagrams.specs.declared.reader.Reading.{Reading}
 use Rattle.datagrams.specs.declared.reader.Reading.the-variants as reading
 use Rattle.datagrams.proofs.AnswerLaws.{cond-met}
 use Rattle.datagrams.proofs.Claims as datagrams
-use Rattle.packets.specs.Packet.{allData, fieldsLimit, noField}
-use Rattle.packets.specs.Read.{PacketAnswer, readPacket}
+use Rattle.packets.specs.Packet.{allData, fieldsLimit, noField, PacketAnswer, readPacket}
 use Rattle.packets.specs.Promise as packetPromise
 use Rattle.packets.specs.Promise.{PacketTold, packetRead, padded}
 use Rattle.packets.specs.Claims as packetClaims

@@ -4,8 +4,10 @@ use Rattle.lengths.specs.Tables.{unless}
 use Rattle.octets.specs.Place.{tab}
 use Rattle.octets.specs.ExclusiveOr.{xorAt, exclusiveOr, longest}
 use Rattle.lengths.specs.Length.{lengthAt, lengthOctets, lengthToWrite}
-use Rattle.packets.specs.Packet.{every}
-use Rattle.packets.specs.Read.{readPacket, firstAt, countAt, fieldsAt, fieldAt, headerAt, sizeAt, afterHeader, endAt}
+use Rattle.formats.specs.Reading as reading
+use Rattle.formats.specs.Format.{octetsFront, twoFront}
+use Rattle.packets.specs.Packet as packets
+use Rattle.packets.specs.Packet.{every, readPacket}
 use Rattle.datagrams.specs.Read.{allowed, octetAt, sizedAt, itemAt, itemsAt, endOf, sparesAt, parityAt, extraAt, numberOf, wholeOf, readDatagram, carriedBy}
 use Rattle.datagrams.specs.Write.{numberOctets, itemOctets, itemsOctets, countedOctets, datagramOctets}
 use Rattle.views.specs.Members.{membersOf}
@@ -19,14 +21,18 @@ use Rattle.sending.specs.Send.{datagramToSend}
 use Rattle.demands.specs.Sheet.{Losing0, TwelveCases}
 
 losing-0 : Losing0
-unfolding readPacket firstAt countAt fieldsAt fieldAt headerAt sizeAt afterHeader endAt every lengthAt
+unfolding readPacket packets.whole packets.packet packets.start packets.first packets.enumerated packets.root packets.addition
+    packets.dataField packets.count packets.field packets.header packets.fieldData packets.size
+    reading.bit reading.bits reading.flag reading.align reading.octetwise reading.many octetsFront twoFront every lengthAt
     tab xorAt exclusiveOr longest membersOf passing usable firstUsable mended fill repairF repair messagesOf messagesFrom heldMessages
     readDatagram carriedBy numberOf wholeOf extraAt sparesAt parityAt itemsAt itemAt sizedAt octetAt allowed endOf
     freshView keep keepSpares accept offered offer
 losing-0 = record { with1 = _; after = _; first = refl; second = refl; cell = refl; reads = refl }
 
 pub twelve-cases : TwelveCases
-unfolding readPacket firstAt countAt fieldsAt fieldAt headerAt sizeAt afterHeader endAt every lengthAt lengthToWrite lengthOctets unless
+unfolding readPacket packets.whole packets.packet packets.start packets.first packets.enumerated packets.root packets.addition
+    packets.dataField packets.count packets.field packets.header packets.fieldData packets.size
+    reading.bit reading.bits reading.flag reading.align reading.octetwise reading.many octetsFront twoFront every lengthAt lengthToWrite lengthOctets unless
     tab xorAt exclusiveOr longest membersOf freshSending sentOn carries.sparesFrom carries.messagesFrom datagramToSend
     numberOctets itemOctets itemsOctets countedOctets datagramOctets
 twelve-cases =

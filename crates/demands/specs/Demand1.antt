@@ -25,7 +25,7 @@ use Rattle.datagrams.specs.Write.{carriedOf, datagramOctets, datagramWriterRows
 use Rattle.datagrams.specs.Promise.{DatagramReads, readOutcome}
 use Rattle.datagrams.specs.declared.kind.Kind.{Kind}
 use Rattle.datagrams.specs.declared.reader.DatagramRead.{DatagramRead}
-use Rattle.packets.specs.Read.{readPacket}
+use Rattle.packets.specs.Packet.{readPacket}
 use Rattle.packets.specs.Write.{packetOctets, packetWriterRows, packetToWrite}
 use Rattle.packets.specs.Promise.{PacketTold, packetOutcome}
 use Rattle.packets.specs.declared.types.Kind as packets

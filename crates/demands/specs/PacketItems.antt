@@ -11,8 +11,8 @@ use lib.ListN.{length, getD}
 use lib.Dec.{leb, ltb}
 use Rattle.lengths.specs.Refusals.{endsEarly, outsideSizes, spareBit, leftOver, notAssigned, wrongData}
 use Rattle.datagrams.specs.Sizes.{packetLimit}
-use Rattle.packets.specs.Packet.{fieldsLimit, assigned, rightFields, isSet, kindOf, headerOf}
-use Rattle.packets.specs.Read.{allZero}
+use Rattle.packets.specs.Packet.{fieldsLimit, assigned, rightFields, allZero}
+use Rattle.packets.specs.Inner.Octets.{isSet, kindOf, headerOf}
 use Rattle.packets.specs.declared.types.Ending.{Ending}
 use Rattle.packets.specs.declared.types.Ending.the-variants.{Whole, Repaired}
 use Rattle.lengths.specs.Tables.{when}

@@ -11,8 +11,8 @@ use lib.ListN.{length}
 use lib.Dec.{leb}
 use Rattle.lengths.specs.Refusals as number
 use Rattle.datagrams.specs.Sizes.{packetLimit}
-use Rattle.packets.specs.Packet.{fieldsLimit, assigned, kindOf}
-use Rattle.packets.specs.Read.{allZero}
+use Rattle.packets.specs.Packet.{fieldsLimit, assigned, allZero}
+use Rattle.packets.specs.Inner.Octets.{kindOf}
 use Rattle.packets.specs.Promise.{PacketTold, packetOutcome}
 use Rattle.packets.specs.declared.types.Kind.the-variants.{Indicator}
 use Rattle.packets.specs.declared.types.Ending.{Ending}

@@ -5,8 +5,7 @@ use mathlib.Core.List.{List, [], _∷_}
 use Rattle.lengths.specs.Refusals.{badForm, spareBit, notAssigned, wrongData}
 use Rattle.lengths.specs.Answers.{done, refuse}
 use Rattle.lengths.specs.Length.{lengthAt, lengthToWrite}
-use Rattle.packets.specs.Packet.{dataOf}
-use Rattle.packets.specs.Read.{readPacket}
+use Rattle.packets.specs.Packet.{dataOf, readPacket}
 use Rattle.packets.specs.declared.types.Kind.the-variants.{Indicator, Data}
 use Rattle.packets.specs.declared.types.Ending.the-variants.{Whole, Repaired}
 use Rattle.views.specs.Members.{membersOf}

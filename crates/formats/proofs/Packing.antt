@@ -10,7 +10,7 @@ use native.Mathlib.Nat.{pow-suc, div-div-eq-div-mul, div-eq-of-lt}
 use native.Mathlib.Omega.{arith}
 use borrow.Author.Tests.{eqb-true, eqb-false}
 use Rattle.lengths.specs.Claims.{Octets}
-use Rattle.formats.specs.Spelling.{Cell, bit, octet, wide, packed, octetsOf}
+use Rattle.formats.specs.Spelling.{Cell, bit, octet, whole, wide, packed, octetsOf}
 use Rattle.formats.specs.Reading.{found, bitAt}
 use Rattle.formats.specs.Format.{Format}
 use Rattle.formats.proofs.Standing.{Stands}
@@ -166,6 +166,13 @@ packed-back s p v k j (bit b ∷ cells) small at few st ends is =
       by false e end on =
           let n : 7 - k ≡ 8 - (1 + k) = omega arith in
           on (below-seven k few (eqb-false k 7 e)) (joined ∙ ap (λ (m : ℕ). getD s j 0 / 2 ^ m) n)
+
+-- ---- one after the other
+-- octets as they are
+pub packed-whole : (l : List ℕ) (cells : List Cell) → packed 0 0 (whole l ++ cells) ≡ l ++ packed 0 0 cells
+unfolding packed whole
+packed-whole [] cells = refl
+packed-whole (x ∷ l) cells = ap (λ (m : List ℕ). x ∷ m) (packed-whole l cells)
 
 -- ---- a format that begins at the first octet and ends at an octet edge
 module _ {A : Type 0} {f : Format A} (law : Lawful f) where

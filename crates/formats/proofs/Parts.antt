@@ -102,7 +102,7 @@ gap-edge p = by (p % 8) refl (mod-lt p {m = 8} (omega arith)) where
       let small : (8 - suc r) % 8 ≡ 8 - suc r = mod-eq-of-lt (omega arith) in
       rw (e, small) (omega arith)
 
-wide-whole : (l : List ℕ) → wide (whole l) ≡ 8 * length l
+pub wide-whole : (l : List ℕ) → wide (whole l) ≡ 8 * length l
 unfolding wide whole
 wide-whole [] = refl
 wide-whole (x ∷ l) = omega (arith, wide-whole l)

@@ -9,8 +9,8 @@ use native.Mathlib.Omega.{arith}
 use Rattle.lengths.specs.Answers.{Answer, done, refused, _>>=_}
 use Rattle.lengths.specs.declared.Refusal.{Refusal}
 use Rattle.packets.specs.Packet.{fieldsLimit, noField}
+use Rattle.packets.specs.Inner.Octets.{FieldAnswer, fieldAt, FieldsAnswer, fieldsAt}
 use Rattle.packets.specs.Promise.{padded}
-use Rattle.packets.specs.Read.{FieldAnswer, fieldAt, FieldsAnswer, fieldsAt}
 use Rattle.packet_reader.specs.Items.{FieldTold, FieldsTold, fieldOutcome}
 use Rattle.packets.specs.declared.types.Field.{Field}
 use Rattle.packet_reader.specs.declared.reader.FieldRead.{FieldRead}

@@ -4,8 +4,7 @@ use Prim.Native.Nat.{ℕ, _+_, _-_, _*_, _/_, _%_, _≤_, _<_, _^_}
 use mathlib.Core.Path.{_≡_, sym, ap, _∙_}
 use mathlib.Core.Bool.{Bool, true, false, not}
 use mathlib.Core.List.{List}
-use lib.ListN.{length, getD, take, drop, length-drop}
-use lib.Seq.{take-all}
+use lib.ListN.{length, getD, drop, length-drop}
 use lib.Dec.{ltb}
 use native.Mathlib.Omega.{arith}
 use borrow.Author.Tests.{lt-ltb, le-ltb, le-leb, lt-leb, not-true, not-false}
@@ -19,8 +18,8 @@ use Rattle.lengths.specs.declared.Length.{Length}
 use Rattle.lengths.specs.declared.Refusal.{Refusal}
 use Rattle.lengths.specs.declared.Length.the-variants as length
 use Rattle.datagrams.specs.Sizes.{packetLimit}
-use Rattle.packets.specs.Packet.{Header, fieldsLimit, kindOf, assigned, rightFields, rightData}
-use Rattle.packets.specs.Read.{firstAt, countAt, headerAt, sizeAt, afterHeader, fieldAt}
+use Rattle.packets.specs.Packet.{fieldsLimit, assigned, rightFields, rightData}
+use Rattle.packets.specs.Inner.Octets.{kindOf, firstAt, countAt, headerAt, sizeAt, afterHeader, fieldAt}
 use Rattle.packet_reader.specs.Items.{FirstTold, CountTold, HeaderTold, SizeTold, FieldTold, headerOutcome, sizeOutcome}
 use Rattle.packets.specs.declared.types.Kind.{Kind}
 use Rattle.packet_reader.specs.declared.reader.HeaderRead.{HeaderRead}

@@ -1,21 +1,20 @@
 -- One law for each answer of `read`, in the words of the code: what its items' readers answered gives the promise. Assumes
 -- nothing.
-use Prim.Native.Nat.{ℕ, zero, suc, _+_, _-_, _≤_, _<_}
+use Prim.Native.Nat.{ℕ, _≤_, _<_}
 use mathlib.Core.Path.{_≡_, refl, sym, ap, ap₂, _∙_}
 use mathlib.Core.Bool.{Bool, true, false}
-use mathlib.Core.List.{List, [], _∷_}
-use lib.ListN.{length, getD, drop, length-drop}
+use mathlib.Core.List.{List}
+use lib.ListN.{length}
 use native.Mathlib.Omega.{arith}
 use borrow.Author.Tests.{lt-ltb, le-ltb}
 use Rattle.lengths.specs.Refusals.{outsideSizes, leftOver}
 use Rattle.lengths.specs.Answers.{Answer, done, refused}
 use Rattle.lengths.specs.Promise.{RefusalMade}
 use Rattle.lengths.specs.declared.Refusal.{Refusal}
-use Rattle.lengths.proofs.Laws.{sizes-read}
 use Rattle.datagrams.specs.Sizes.{packetLimit}
-use Rattle.packets.specs.Packet.{Place, fieldsLimit, noField, First}
+use Rattle.packets.specs.Packet.{fieldsLimit, PacketAnswer, mayFollow}
+use Rattle.packets.specs.Inner.Octets.{firstAt, countAt, FieldsAnswer, fieldsAt, endAt, packetAt}
 use Rattle.packets.specs.Promise.{PacketTold, packetOutcome, packetRead, padded}
-use Rattle.packets.specs.Read.{PacketAnswer, firstAt, Count, countAt, FieldAnswer, fieldAt, FieldsAnswer, fieldsAt, mayFollow, endAt, readPacket}
 use Rattle.packet_reader.specs.Items.{FirstTold, CountTold, FieldsTold, firstOutcome, countOutcome, fieldsRead}
 use Rattle.packets.specs.declared.types.Field.{Field}
 use Rattle.packets.specs.declared.types.Kind.{Kind}
@@ -28,9 +27,10 @@ use Rattle.packets.specs.declared.types.Reading.the-variants as reading
 use Rattle.packet_reader.specs.declared.reader.FirstRead.the-variants as first
 use Rattle.packet_reader.specs.declared.reader.CountRead.the-variants as count
 use Rattle.packet_reader.specs.declared.reader.FieldsEnd.the-variants as end
-use Rattle.packets.proofs.ReadLaws.{stepped, first-form, count-form, header-form, size-form, FieldForm, bare, full, field-form, read-outcome}
+use Rattle.packets.proofs.ReadLaws.{first-form}
+use Rattle.packets.proofs.ReadAt.{read-at}
 use Rattle.packets.proofs.Rest.{rest, rest-is}
-use Rattle.packets.proofs.ReadEnds.{FieldInside, FieldsInside, field-inside, fields-inside, count-limit, count-within}
+use Rattle.packets.proofs.ReadEnds.{read-outcome, fields-inside, count-limit, count-within}
 
 -- ---- from the items' answers to the definitions
 module _ {s : List ℕ} where
@@ -78,10 +78,11 @@ fields-refused n s at x r told next = by (fieldsAt n s at) refl (told .answer) w
       let same : y ≡ x = cc (ap (λ (q : FieldsRead). q .end) is, next) in
       e ∙ ap (λ (q : Refusal). refused q) same
 
-pub told-of : (e : Ending) (s : List ℕ) (r : PacketRead) (x : Answer PacketAnswer) → readPacket e s ≡ x → r ≡ packetRead x
+pub told-of : (e : Ending) (s : List ℕ) (r : PacketRead) (x : Answer PacketAnswer) → packetAt e s ≡ x → r ≡ packetRead x
     → PacketTold e s r
 told-of e s r x is image =
-    record { answer = ap packetOutcome image ∙ read-outcome x ∙ sym is; whole = image ∙ ap packetRead (sym is) }
+    let so = read-at e s ∙ is in
+    record { answer = ap packetOutcome image ∙ read-outcome x ∙ sym so; whole = image ∙ ap packetRead (sym so) }
 
 -- ---- the answers of `read`
 abbrev answered : Kind → ℕ → ℕ → List Field → PacketRead
@@ -97,18 +98,18 @@ packet-inside {s = s} {n = n} {at = at} {m = m} {all = all} told is counted coun
 module _ {e : Ending} {s : List ℕ} where
   pub packet-over : {x : Refusal} {r : PacketRead} → packetLimit < length s → RefusalMade outsideSizes x → r ≡ packetRead (refused x)
       → PacketTold e s r
-  unfolding readPacket
+  unfolding packetAt
   packet-over {x} {r} over made is = told-of e s r (refused x) (rw (lt-ltb packetLimit (length s) over, made .answer)) is
 
   module _ {f : FirstRead} (fits : length s ≤ packetLimit) (told : FirstTold s f) where
     pub packet-first : {x : Refusal} {r : PacketRead} → f ≡ first.Refused x → r ≡ packetRead (refused x) → PacketTold e s r
-    unfolding readPacket
+    unfolding packetAt
     packet-first {x} {r} is image =
         told-of e s r (refused x) (rw (le-ltb packetLimit (length s) fits, sym (told .answer) ∙ ap firstOutcome is)) image
 
     module _ {k : Kind} {v : ℕ} {p : Bool} {c : CountRead} (is : f ≡ first.First k v p) (counted : CountTold s p c) where
       pub packet-count : {x : Refusal} {r : PacketRead} → c ≡ count.Refused x → r ≡ packetRead (refused x) → PacketTold e s r
-      unfolding readPacket
+      unfolding packetAt
       packet-count {x} {r} countIs image =
           told-of e s r (refused x)
           (rw (le-ltb packetLimit (length s) fits, first-is told is, sym (counted .answer) ∙ ap countOutcome countIs))
@@ -116,7 +117,7 @@ module _ {e : Ending} {s : List ℕ} where
 
       module _ {n at : ℕ} {all : FieldsRead} (countIs : c ≡ count.Count n at) (read : FieldsTold n s at all) where
         pub packet-fields : {x : Refusal} {r : PacketRead} → all .end ≡ end.Refused x → r ≡ packetRead (refused x) → PacketTold e s r
-        unfolding readPacket
+        unfolding packetAt
         packet-fields {x} {r} ends image =
             told-of e s r (refused x)
             (rw
@@ -126,7 +127,7 @@ module _ {e : Ending} {s : List ℕ} where
         module _ {m : ℕ} {b : Bool} (ends : all .end ≡ end.Next m) (follows : b ≡ mayFollow e (rest m s)) where
           pub packet-left : {x : Refusal} {r : PacketRead} → b ≡ false → RefusalMade leftOver x → r ≡ packetRead (refused x)
               → PacketTold e s r
-          unfolding readPacket endAt
+          unfolding packetAt endAt
           packet-left {x} {r} not-so made image =
               let a = all-read n s at m all read ends in
               told-of e s r (refused x)
@@ -135,7 +136,7 @@ module _ {e : Ending} {s : List ℕ} where
               image
 
           pub packet-read : b ≡ true → PacketTold e s (record { reading = reading.Packet k v n; fields = all .fields })
-          unfolding readPacket endAt
+          unfolding packetAt endAt
           packet-read so =
               let a = all-read n s at m all read ends in
               let inside = fields-inside n s at _ (count-inside (first-some told is) counted countIs) (a .was) in

@@ -1,8 +1,8 @@
 -- What the writer decides before it writes: one law for each answer, in the words of the code; and the size of what is
 -- to be written. Assumes nothing.
-use Prim.Native.Nat.{ℕ, _+_, _-_, _≤_, _<_}
+use Prim.Native.Nat.{ℕ, _+_, _≤_, _<_}
 use mathlib.Core.Path.{_≡_, refl, sym, ap, ap₂, _∙_}
-use mathlib.Core.Bool.{Bool, true, false, not, cond, _&&_}
+use mathlib.Core.Bool.{Bool, true, false, not, _&&_}
 use mathlib.Core.List.{List, [], _∷_}
 use lib.ListN.{length, getD, drop, drop-of-length-le}
 use lib.Dec.{leb, ltb, eqb}
@@ -19,7 +19,7 @@ use Rattle.packets.specs.Write.{withData, packetOctets, sum, oneEach, allAssign
 use Rattle.packets.specs.Inner.Items.{Wide, FieldsSized, packetSize, Measured}
 use Rattle.packets.specs.declared.types.Kind.{Kind}
 use Rattle.packets.proofs.Every.{drop-next}
-use Rattle.packets.proofs.WriteLaws.{each-length, packet-length}
+use Rattle.packets.proofs.WriteLaws.{each-length, packet-size}
 
 -- ---- both of two tests
 both-left : (a b : Bool) → a ≡ false → false ≡ (a && b)
@@ -134,11 +134,10 @@ pub ruleset decided = (
 )
 
 -- ---- the answers
-size-is : (k : Kind) (v : ℕ) (ts ns d : List ℕ) (each : Bool) (size : ℕ) → length ts ≤ fieldsLimit → each ≡ oneEach ts ns d
-    → not each ≡ false
-    → size ≡ packetSize ns → length (packetOctets k v ts ns d) ≡ size
-size-is k v ts ns d each size few isEach so isSize =
-    packet-length k v ts ns d few (sym isEach ∙ not-false each so) ∙ sym isSize
+size-is : (k : Kind) (v : ℕ) (ts ns d : List ℕ) {each known : Bool} {size : ℕ} → length ts ≤ fieldsLimit → each ≡ oneEach ts ns d
+    → not each ≡ false → known ≡ allAssigned k v ts → not known ≡ false → size ≡ packetSize ns → length (packetOctets k v ts ns d) ≡ size
+size-is k v ts ns d {each} {known} few isEach so isKnown soKnown isSize =
+    packet-size k v ts ns d few (sym isEach ∙ not-false each so) (sym isKnown ∙ not-false known soKnown) ∙ sym isSize
 
 -- where all tests before that of the sizes are passed
 passed : (k : Kind) (v : ℕ) (ts ns d : List ℕ) {each known right fits : Bool} {size : ℕ} → length ts ≤ fieldsLimit → each ≡ oneEach ts ns d
@@ -146,7 +145,8 @@ passed : (k : Kind) (v : ℕ) (ts ns d : List ℕ) {each known right fits : Bool
     → size ≡ packetSize ns → fits ≡ inSizes ns size
     → packetToWrite k v ts ns d ≡ unless (when (not fits) outsideSizes ∷ []) (packetOctets k v ts ns d)
 unfolding packetToWrite unless
-passed k v ts ns d {each} {known} {right} {fits} {size} few isEach so isKnown soKnown isRight soRight isSize isFits =
+passed k v ts ns d few isEach so isKnown soKnown isRight soRight isSize isFits =
+    let size = size-is k v ts ns d few isEach so isKnown soKnown isSize in
     rw (
       le-ltb fieldsLimit (length ts) few,
       ← isEach,
@@ -155,7 +155,7 @@ passed k v ts ns d {each} {known} {right} {fits} {size} few isEach so isKnown so
       soKnown,
       ← isRight,
       soRight,
-      size-is k v ts ns d each size few isEach so isSize,
+      size,
       ← isFits,
     )
 
@@ -197,7 +197,7 @@ module _ {k : Kind} {v : ℕ} {ts ns d : List ℕ} where
                     rw (
                       passed k v ts ns d few isEach so isKnown soKnown isRight soRight isSize isFits,
                       soFits,
-                      size-is k v ts ns d each size few isEach so isSize,
+                      size-is k v ts ns d few isEach so isKnown soKnown isSize,
                     );
               }
 

@@ -13,7 +13,8 @@ use borrow.Author.Tests.{leb-true}
 use Rattle.datagrams.specs.Sizes.{packetLimit}
 use Rattle.datagrams.proofs.WriteLaws.{both}
 use Rattle.packets.specs.Packet.{typesLimit, every}
-use Rattle.packets.specs.Write.{fieldOctets, fieldsOctets, sum}
+use Rattle.packets.specs.Write.{sum}
+use Rattle.packets.specs.Inner.Octets.{fieldOctets, fieldsOctets}
 use Rattle.packets.specs.Inner.Items.{Laid, FieldFits, FieldLaid, FieldsFit, Wide}
 use Rattle.packets.proofs.Rest.{rest, rest-is}
 use Rattle.packets.proofs.Every.{drop-next, total-next}

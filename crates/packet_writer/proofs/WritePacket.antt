@@ -18,8 +18,8 @@ use Rattle.lengths.specs.Promise.{RefusalMade, Puts}
 use Rattle.lengths.specs.declared.Refusal.{Refusal}
 use Rattle.lengths.specs.declared.Written.{Written}
 use Rattle.lengths.specs.declared.Written.the-variants as written
-use Rattle.packets.specs.Packet.{firstOctet}
-use Rattle.packets.specs.Write.{fieldsOctets, packetOctets, packetToWrite}
+use Rattle.packets.specs.Write.{packetToWrite}
+use Rattle.packets.specs.Inner.Octets.{firstOctet, fieldsOctets, laidOctets}
 use Rattle.packets.specs.Inner.Items.{Laid, FieldsFit, CountedFit, countedOctets, PacketFits, Measured}
 use Rattle.packets.specs.declared.types.Kind.{Kind}
 use Rattle.packets.proofs.Rest.{rest, rest-is}
@@ -117,7 +117,7 @@ module _ {k : Kind} {v : ℕ} {ts ns d old : List ℕ} where
   packet-value fits = omega (arith, write-form k v ts ns d _ (fits .allowed) .known, assigned-few k)
 
   pub packet-some : PacketFits k v ts ns d old → 0 < length old
-  unfolding packetOctets
+  unfolding laidOctets
   packet-some fits = omega (arith, fits .room)
 
   module _ (r : ℕ) where
@@ -125,7 +125,7 @@ module _ {k : Kind} {v : ℕ} {ts ns d old : List ℕ} where
     packet-after fits = omega (arith, packet-some fits, length-set old 0 r)
 
     pub packet-first : PacketFits k v ts ns d old → r ≡ firstOctet (record { kind = k; value = v; present = ltb 0 (length ts) })
-        → not (ltb 0 (length ts)) ≡ true → Laid (packetOctets k v ts ns d) old (set old 0 r)
+        → not (ltb 0 (length ts)) ≡ true → Laid (laidOctets k v ts ns d) old (set old 0 r)
     packet-first fits is none =
         record {
           lent =
@@ -153,7 +153,7 @@ module _ {k : Kind} {v : ℕ} {ts ns d old : List ℕ} where
     pub packet-laid : {part : List ℕ} → PacketFits k v ts ns d old
         → r ≡ firstOctet (record { kind = k; value = v; present = ltb 0 (length ts) })
         → not (ltb 0 (length ts)) ≡ false → Laid (countedOctets ts ns d) (rest 1 (set old 0 r)) part
-        → Laid (packetOctets k v ts ns d) old (putMid 1 (length (set old 0 r) - 1) (set old 0 r) part)
+        → Laid (laidOctets k v ts ns d) old (putMid 1 (length (set old 0 r) - 1) (set old 0 r) part)
     packet-laid {part} fits is some laid =
         record {
           lent =
@@ -167,10 +167,10 @@ pub ruleset packets = (packet-value, packet-some, packet-after, packet-first, pa
 -- ---- the answers of `write`
 -- what is measured is written
 write-is : {k : Kind} {v : ℕ} {ts ns d : List ℕ} {r : Written} {n : ℕ} → Measured k v ts ns d r → r ≡ written.Octets n
-    → (packetToWrite k v ts ns d ≡ done (packetOctets k v ts ns d)) × (length (packetOctets k v ts ns d) ≡ n)
+    → (packetToWrite k v ts ns d ≡ done (laidOctets k v ts ns d)) × (length (laidOctets k v ts ns d) ≡ n)
 write-is {k} {v} {ts} {ns} {d} {r} {n} measured is = by (packetToWrite k v ts ns d) refl (sym (measured .answer) ∙ ap writtenOutcome is) where
   by : (a : Answer (List ℕ)) → packetToWrite k v ts ns d ≡ a → sizeOf a ≡ done n
-      → (packetToWrite k v ts ns d ≡ done (packetOctets k v ts ns d)) × (length (packetOctets k v ts ns d) ≡ n)
+      → (packetToWrite k v ts ns d ≡ done (laidOctets k v ts ns d)) × (length (laidOctets k v ts ns d) ≡ n)
   by (done w) e size =
       let form = write-form k v ts ns d w e in
       let long : length w ≡ n = cc in
@@ -193,15 +193,15 @@ module _ {k : Kind} {v : ℕ} {ts ns d old : List ℕ} {r : Written} where
         → Puts (packetToWrite k v ts ns d) old old (written.Refused x)
     write-full {x} measured is full made =
         let w = write-is measured is in
-        let short : leb (length (packetOctets k v ts ns d)) (length old) ≡ false = lt-leb (length (packetOctets k v ts ns d)) (length old) (omega (arith, w .1)) in
+        let short : leb (length (laidOctets k v ts ns d)) (length old) ≡ false = lt-leb (length (laidOctets k v ts ns d)) (length old) (omega (arith, w .1)) in
         record { answer = rw (w .0, short, made .answer); lent = rw (w .0, short) }
 
     pub write-done : {new : List ℕ} → Measured k v ts ns d r → r ≡ written.Octets n → n ≤ length old
-        → Laid (packetOctets k v ts ns d) old new
+        → Laid (laidOctets k v ts ns d) old new
         → Puts (packetToWrite k v ts ns d) old new (written.Octets n)
     write-done {new} measured is room laid =
         let w = write-is measured is in
-        let fits : leb (length (packetOctets k v ts ns d)) (length old) ≡ true = le-leb (length (packetOctets k v ts ns d)) (length old) (omega (arith, w .1)) in
+        let fits : leb (length (laidOctets k v ts ns d)) (length old) ≡ true = le-leb (length (laidOctets k v ts ns d)) (length old) (omega (arith, w .1)) in
         record { answer = rw (w .0, fits, w .1); lent = rw (w .0, fits) (laid .lent) }
 
 pub ruleset writes = (write-refused, write-fits, write-full, write-done)

@@ -12,8 +12,9 @@ ghost use mathlib.Core.List.{[]};
 ghost use lib.ListN.{length};
 ghost use lib.Dec.{leb};
 ghost use Rattle.lengths.specs.Promise.{Puts};
-ghost use Rattle.packets.specs.Packet.{fieldsLimit, typesLimit, every, ofFlag, ofKind, firstOctet};
-ghost use Rattle.packets.specs.Write.{sum, total, oneEach, allAssigned, rightTypes, allRight, inSizes, fieldsOctets, packetOctets, packetToWrite};
+ghost use Rattle.packets.specs.Packet.{fieldsLimit, typesLimit, every};
+ghost use Rattle.packets.specs.Write.{sum, total, oneEach, allAssigned, rightTypes, allRight, inSizes, packetToWrite};
+ghost use Rattle.packets.specs.Inner.Octets.{ofFlag, ofKind, firstOctet, fieldsOctets, laidOctets};
 ghost use Rattle.packets.specs.Inner.Items.{Wide, Sized, FieldsSized, packetSize, Measured, Laid, FullFits, FieldFits, FieldLaid, FieldsFit, CountedFit, countedOctets, Mark, PacketFits};
 ghost use Rattle.datagrams.specs.Sizes.{packetLimit};
 
@@ -290,7 +291,7 @@ fn first_octet(kind: Kind, value: u8, present: bool) -> u8
 // A packet at the front of out.
 fn put_packet(kind: Kind, value: u8, types: &[u8], lengths: &[u16], data: &[u8], out: &mut [u8])
     requires { ⌜ PacketFits kind value (now types) (now lengths) (now «data») (now out) ⌝ }
-    ensures { λ _. ⌜ Laid (packetOctets kind value (now (types .entry)) (now (lengths .entry)) (now («data» .entry))) (now (out .entry)) (now (out .exit)) ⌝ }
+    ensures { λ _. ⌜ Laid (laidOctets kind value (now (types .entry)) (now (lengths .entry)) (now («data» .entry))) (now (out .entry)) (now (out .exit)) ⌝ }
 {
     let present = 0 < types.len();
     out[0] = first_octet(kind, value, present);

@@ -3,8 +3,8 @@
 use mathlib.Core.Path.{sym, _∙_}
 use Rattle.lengths.proofs.Claims as lengths
 use Rattle.packets.specs.Claims.{Claims, OneOutcome}
-use Rattle.packets.proofs.WrittenReads.{packet-written-reads, packet-repaired-reads}
-use Rattle.packets.proofs.ReadWrites.{packet-read-writes}
+use Rattle.packets.proofs.RoundTrips.{packet-written-reads, packet-repaired-reads}
+use Rattle.packets.proofs.ReadBack.{packet-read-writes}
 use Rattle.packets.proofs.Follow.{parts-within, zeros-follow, zeros-alike}
 use Rattle.packets.proofs.Cases.{read-cases, write-cases}
 

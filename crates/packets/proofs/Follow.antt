@@ -13,14 +13,15 @@ use Rattle.lengths.specs.Answers.{done, LengthAnswer}
 use Rattle.lengths.specs.Length.{lengthAt, ofTwo}
 use Rattle.lengths.proofs.Laws.{Form, one, two, form, lengthAt-one, lengthAt-two}
 use Rattle.datagrams.proofs.WriteLaws.{both}
-use Rattle.packets.specs.Packet.{Place, First, every}
-use Rattle.packets.specs.Read.{PacketAnswer, firstAt, Count, countAt, headerAt, sizeAt, FieldAnswer, fieldAt, FieldsAnswer, fieldsAt, readPacket}
+use Rattle.packets.specs.Packet.{First, every, PacketAnswer, readPacket}
+use Rattle.packets.specs.Inner.Octets.{Place, firstAt, Count, countAt, headerAt, sizeAt, FieldAnswer, fieldAt, FieldsAnswer, fieldsAt}
 use Rattle.packets.specs.Claims.{PartsWithin, ZerosFollow, ZerosAlike}
 use Rattle.packets.specs.declared.types.Ending.{Ending}
 use Rattle.packets.specs.declared.types.Ending.the-variants.{Repaired}
 use Rattle.packets.proofs.ReadLaws.{stepped, first-form, first-of, count-form, count-of, header-form, header-of, size-form, size-of, FieldForm, bare, full, field-form, bare-of, full-of, PacketForm, packet-form, packet-of}
 use Rattle.packets.proofs.ReadEnds.{count-within, fields-inside, FieldsInside}
-use Rattle.packets.proofs.WrittenReads.{zeros-all}
+use Rattle.packets.proofs.ReadAt.{read-at}
+use Rattle.packets.proofs.RoundTrips.{zeros-all}
 
 module _ (s more : List ℕ) where
   same-at : (i : ℕ) → i < length s → getD (s ++ more) i 0 ≡ getD s i 0
@@ -115,7 +116,7 @@ inside-packet {e} {s} f =
 
 pub parts-within : PartsWithin
 parts-within e s p reads i =
-    let f = packet-form e s p reads in
+    let f = packet-form e s p (sym (read-at e s) ∙ reads) in
     rw (f .is) (inside-packet f .parts i)
 
 zeros-more : (s : List ℕ) (n : ℕ) → every (λ x. eqb x 0) s ≡ true → every (λ x. eqb x 0) (s ++ replicate n 0) ≡ true
@@ -126,12 +127,13 @@ zeros-more (x ∷ s) n all =
 
 pub zeros-follow : ZerosFollow
 zeros-follow s p n reads room =
-    let f = packet-form Repaired s p reads in
+    let f = packet-form Repaired s p (sym (read-at Repaired s) ∙ reads) in
     let some = first-form s (f .first) (f .firstWas) .some in
     let zeros : List ℕ = replicate n 0 in
     let left = drop-more s zeros (f .all .next) (inside-packet f .next) in
     rw (f .is)
-    (packet-of Repaired (s ++ zeros) (f .first) (f .count) (f .all) (omega (arith, length-append s zeros, length-replicate {A = ℕ} n 0))
+    (read-at Repaired (s ++ zeros)
+    ∙ packet-of Repaired (s ++ zeros) (f .first) (f .count) (f .all) (omega (arith, length-append s zeros, length-replicate {A = ℕ} n 0))
     (first-more s zeros (f .first) (f .firstWas))
     (count-more s zeros (f .first .present) (f .count) some (f .countWas))
     (fields-more (f .count .value) s zeros (f .count .next) (f .all) (f .allWas))
@@ -145,7 +147,7 @@ zeros-up s p q n m few less more =
     = append-assoc s (replicate n 0) (replicate (m - n) 0)
     ∙ ap (λ (l : List ℕ). s ++ l) (replicate-append-replicate n (m - n) 0)
     ∙ ap (λ (k : ℕ). s ++ replicate k 0) (rejoined n m few) in
-    let fits = packet-form Repaired (s ++ replicate m 0) q more .fits in
+    let fits = packet-form Repaired (s ++ replicate m 0) q (sym (read-at Repaired (s ++ replicate m 0)) ∙ more) .fits in
     let goes : readPacket Repaired (s ++ replicate m 0) ≡ done p
     = ap (readPacket Repaired) (sym longer)
     ∙ zeros-follow (s ++ replicate n 0) p (m - n) less

@@ -1,26 +1,18 @@
 -- Where the items of a packet end: what reads lies inside the octets, and the count is within its limit. Assumes nothing.
-use Prim.Native.Nat.{ℕ, zero, suc, _+_, _-_, _≤_, _<_}
-use mathlib.Core.Path.{_≡_, refl, sym, ap, ap₂, _∙_}
+use Prim.Native.Nat.{ℕ, zero, suc, _+_, _≤_}
+use mathlib.Core.Path.{_≡_, refl, ap}
 use mathlib.Core.Bool.{Bool, true, false}
 use mathlib.Core.List.{List, [], _∷_}
 use lib.ListN.{length, getD, drop, length-drop}
 use native.Mathlib.Omega.{arith}
-use borrow.Author.Tests.{lt-ltb, le-ltb}
-use Rattle.lengths.specs.Refusals.{outsideSizes, leftOver}
 use Rattle.lengths.specs.Answers.{Answer, done, refused}
-use Rattle.lengths.specs.Promise.{RefusalMade}
-use Rattle.lengths.specs.declared.Refusal.{Refusal}
 use Rattle.lengths.proofs.Laws.{sizes-read}
-use Rattle.datagrams.specs.Sizes.{packetLimit}
-use Rattle.packets.specs.Packet.{Place, fieldsLimit, noField, First}
-use Rattle.packets.specs.Promise.{PacketTold, packetOutcome, packetRead, padded}
-use Rattle.packets.specs.Read.{PacketAnswer, firstAt, Count, countAt, FieldAnswer, fieldAt, FieldsAnswer, fieldsAt, mayFollow, endAt, readPacket}
+use Rattle.packets.specs.Packet.{fieldsLimit, noField, PacketAnswer}
+use Rattle.packets.specs.Promise.{packetOutcome, packetRead, padded}
+use lib.Seq.{take-at}
+use Rattle.packets.specs.Inner.Octets.{Place, Count, countAt, FieldAnswer, fieldAt, FieldsAnswer, fieldsAt}
 use Rattle.packets.specs.declared.types.Field.{Field}
-use Rattle.packets.specs.declared.types.Kind.{Kind}
-use Rattle.packets.specs.declared.types.Ending.{Ending}
-use Rattle.packets.specs.declared.types.PacketRead.{PacketRead}
-use Rattle.packets.specs.declared.types.Reading.the-variants as reading
-use Rattle.packets.proofs.ReadLaws.{stepped, first-form, count-form, header-form, size-form, FieldForm, bare, full, field-form, read-outcome}
+use Rattle.packets.proofs.ReadLaws.{stepped, count-form, header-form, size-form, FieldForm, bare, full, field-form}
 
 -- ---- where the items of a packet end
 -- what holds of a field that reads: its part and the place after it lie inside the octets
@@ -81,3 +73,10 @@ count-within s true c some e =
 count-within s false c some e =
     let is : c ≡ record { value = 0; next = 1 } = cc in
     omega (arith, ap (λ (x : Count). x .next) is)
+
+-- ---- the answer's cases are the definition's
+pub read-outcome : (x : Answer PacketAnswer) → packetOutcome (packetRead x) ≡ x
+unfolding padded
+read-outcome (done p) =
+    ap (λ (l : List Field). done (record { kind = p .kind; value = p .value; fields = l })) (take-at (p .fields) _ (length (p .fields)) refl)
+read-outcome (refused r) = refl

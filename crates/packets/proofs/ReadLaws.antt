@@ -7,18 +7,15 @@ use mathlib.Core.Bool.{Bool, true, false, cond}
 use mathlib.Core.List.{List}
 use lib.ListN.{length, getD, drop}
 use lib.Dec.{leb, ltb}
-use lib.Seq.{take-at}
 use native.Mathlib.Omega.{arith}
 use borrow.Author.Tests.{ltb-false, leb-false, lt-leb, le-ltb}
 use Rattle.lengths.specs.Refusals.{endsEarly, outsideSizes, spareBit, leftOver, notAssigned, wrongData}
 use Rattle.lengths.specs.Answers.{Answer, done, refused, refuse, _>>=_, LengthAnswer}
 use Rattle.lengths.specs.Length.{lengthAt}
 use Rattle.datagrams.specs.Sizes.{packetLimit}
-use Rattle.packets.specs.Packet.{Place, First, Header, firstOf, headerOf, isSet, assigned, rightFields, rightData, fieldsLimit}
-use Rattle.packets.specs.Promise.{packetOutcome, packetRead, padded}
-use Rattle.packets.specs.Read.{PacketAnswer, firstAt, Count, countIn, countAt, HeaderAnswer, headerAt, sizeAt, FieldAnswer, afterHeader, fieldAt, FieldsAnswer, fieldsAt, mayFollow, endAt, readPacket}
+use Rattle.packets.specs.Packet.{First, Header, PacketAnswer, assigned, rightFields, rightData, fieldsLimit, mayFollow}
+use Rattle.packets.specs.Inner.Octets.{Place, firstOf, headerOf, isSet, firstAt, Count, countIn, countAt, HeaderAnswer, headerAt, sizeAt, FieldAnswer, afterHeader, fieldAt, FieldsAnswer, fieldsAt, endAt, packetAt}
 use Rattle.packets.specs.declared.types.Ending.{Ending}
-use Rattle.packets.specs.declared.types.Field.{Field}
 
 -- ---- steps
 module _ {A : Type 0} where
@@ -220,8 +217,8 @@ pub record PacketForm (ending : Ending) (s : List ℕ) (p : PacketAnswer) : Type
   pub follows : mayFollow ending (drop (all .next) s) ≡ true
   pub is : p ≡ record { kind = first .kind; value = first .value; fields = all .fields }
 
-pub packet-form : (ending : Ending) (s : List ℕ) (p : PacketAnswer) → readPacket ending s ≡ done p → PacketForm ending s p
-unfolding readPacket endAt
+pub packet-form : (ending : Ending) (s : List ℕ) (p : PacketAnswer) → packetAt ending s ≡ done p → PacketForm ending s p
+unfolding packetAt endAt
 packet-form ending s p e =
     let fits = past (ltb packetLimit (length s)) outsideSizes _ p e in
     let f = stepped (firstAt s) _ p (fits .1) in
@@ -242,13 +239,6 @@ packet-form ending s p e =
 
 pub packet-of : (ending : Ending) (s : List ℕ) (f : First) (c : Count) (a : FieldsAnswer) → length s ≤ packetLimit → firstAt s ≡ done f
     → countAt s (f .present) ≡ done c → fieldsAt (c .value) s (c .next) ≡ done a → mayFollow ending (drop (a .next) s) ≡ true
-    → readPacket ending s ≡ done (record { kind = f .kind; value = f .value; fields = a .fields })
-unfolding readPacket endAt
+    → packetAt ending s ≡ done (record { kind = f .kind; value = f .value; fields = a .fields })
+unfolding packetAt endAt
 packet-of ending s f c a fits first count all follows = rw (le-ltb packetLimit (length s) fits, first, count, all, follows)
-
--- ---- the answer's cases are the definition's
-pub read-outcome : (x : Answer PacketAnswer) → packetOutcome (packetRead x) ≡ x
-unfolding padded
-read-outcome (done p) =
-    ap (λ (l : List Field). done (record { kind = p .kind; value = p .value; fields = l })) (take-at (p .fields) _ (length (p .fields)) refl)
-read-outcome (refused r) = refl

@@ -16,11 +16,13 @@ use Rattle.lengths.specs.Answers.{done}
 use Rattle.lengths.specs.Tables.{unless}
 use Rattle.datagrams.specs.Sizes.{packetLimit}
 use Rattle.datagrams.proofs.WriteLaws.{both}
-use Rattle.packets.specs.Packet.{fieldsLimit, typesLimit, assigned, rightFields, every, headerBits, firstOctet}
-use Rattle.packets.specs.Write.{withData, fieldOctets, fieldsOctets, packetOctets, sum, total, oneEach, allAssigned, rightTypes, allRight, inSizes, packetToWrite}
+use Rattle.packets.specs.Packet.{fieldsLimit, typesLimit, assigned, rightFields, every}
+use Rattle.packets.specs.Write.{withData, packetOctets, sum, total, oneEach, allAssigned, rightTypes, allRight, inSizes, packetToWrite}
+use Rattle.packets.specs.Inner.Octets.{headerBits, firstOctet, fieldOctets, fieldsOctets, laidOctets}
 use Rattle.packets.specs.Inner.Items.{fieldSize, packetSize, countedOctets}
 use Rattle.packets.specs.declared.types.Kind.{Kind}
 use Rattle.packets.specs.declared.types.Kind.the-variants.{Indicator, Data}
+use Rattle.packets.proofs.Laid.{packet-laid}
 
 -- ---- one length for each type, and all of them the data's
 module _ (ts ns d : List ℕ) where
@@ -52,8 +54,8 @@ fields-length (t ∷ ts) (n ∷ ns) d same all =
     length-append (fieldOctets t (take n d)) (fieldsOctets ts ns (drop n d)) ∙ ap₂ (λ (x y : ℕ). x + y) (here ∙ part) more
 
 pub packet-length : (k : Kind) (v : ℕ) (ts ns d : List ℕ) → length ts ≤ fieldsLimit → oneEach ts ns d ≡ true
-    → length (packetOctets k v ts ns d) ≡ packetSize ns
-unfolding packetOctets
+    → length (laidOctets k v ts ns d) ≡ packetSize ns
+unfolding laidOctets
 packet-length k v ts ns d few each = rw (← same) (by (ltb 0 (length ts))) where
   same : length ts ≡ length ns
   same = each-length ts ns d each
@@ -64,6 +66,15 @@ packet-length k v ts ns d few each = rw (← same) (by (ltb 0 (length ts))) wher
       let count : length (lengthOctets (length ts)) ≡ 1 = ap length (lengthOctets-one (length ts) (omega arith)) in
       omega (arith, length-append (lengthOctets (length ts)) (fieldsOctets ts ns d))
   by false = refl
+
+-- the octets that the description spells are as many
+pub packet-size : (k : Kind) (v : ℕ) (ts ns d : List ℕ) → length ts ≤ fieldsLimit → oneEach ts ns d ≡ true → allAssigned k v ts ≡ true
+    → length (packetOctets k v ts ns d) ≡ packetSize ns
+unfolding allAssigned
+packet-size k v ts ns d few each known =
+    let parts = both (ltb v (assigned k)) (every (λ t. leb t typesLimit) ts) known in
+    ap length (packet-laid ts ns d (parts .1) (each-length ts ns d each) k v (ltb-true v (assigned k) (parts .0)))
+    ∙ packet-length k v ts ns d few each
 
 -- ---- the octets of a field, without data and with it
 pub field-bare : (k : ℕ) → fieldOctets k [] ≡ (k * 16) ∷ []
@@ -77,13 +88,13 @@ field-full k d some = rw (lt-ltb 0 (length d) some)
 
 -- ---- the octets of a packet, without fields and with them
 pub packet-bare : (k : Kind) (v : ℕ) (ts ns d : List ℕ) → ltb 0 (length ts) ≡ false
-    → packetOctets k v ts ns d ≡ firstOctet (record { kind = k; value = v; present = ltb 0 (length ts) }) ∷ []
-unfolding packetOctets
+    → laidOctets k v ts ns d ≡ firstOctet (record { kind = k; value = v; present = ltb 0 (length ts) }) ∷ []
+unfolding laidOctets
 packet-bare k v ts ns d none = ap (λ (b : Bool). firstOctet (record { kind = k; value = v; present = ltb 0 (length ts) }) ∷ cond b (countedOctets ts ns d) []) none
 
 pub packet-full : (k : Kind) (v : ℕ) (ts ns d : List ℕ) → ltb 0 (length ts) ≡ true
-    → packetOctets k v ts ns d ≡ firstOctet (record { kind = k; value = v; present = ltb 0 (length ts) }) ∷ countedOctets ts ns d
-unfolding packetOctets
+    → laidOctets k v ts ns d ≡ firstOctet (record { kind = k; value = v; present = ltb 0 (length ts) }) ∷ countedOctets ts ns d
+unfolding laidOctets
 packet-full k v ts ns d some = ap (λ (b : Bool). firstOctet (record { kind = k; value = v; present = ltb 0 (length ts) }) ∷ cond b (countedOctets ts ns d) []) some
 
 -- ---- a packet that is written
@@ -97,7 +108,7 @@ pub record WriteForm (k : Kind) (v : ℕ) (ts ns d w : List ℕ) : Type 0 where
   pub right : rightTypes ts ns ≡ true
   pub short : every (λ n. leb n packetLimit) ns ≡ true
   pub size : length w ≤ packetLimit
-  pub is : w ≡ packetOctets k v ts ns d
+  pub is : w ≡ laidOctets k v ts ns d
 
 pub write-form : (k : Kind) (v : ℕ) (ts ns d w : List ℕ) → packetToWrite k v ts ns d ≡ done w → WriteForm k v ts ns d w
 unfolding packetToWrite allAssigned allRight inSizes
@@ -113,17 +124,20 @@ write-form k v ts ns d w e =
     let assignedAll = not-false (ltb v (assigned k) && every (λ t. leb t typesLimit) ts) (known .0) in
     let rightAll = not-false (rightFields k (ltb 0 (length ts)) && rightTypes ts ns) (right .0) in
     let sizesAll = not-false (every (λ n. leb n packetLimit) ns && leb (length packet) packetLimit) (sizes .0) in
+    let same = each-length ts ns d one in
+    let value = ltb-true v (assigned k) (both _ (every (λ t. leb t typesLimit) ts) assignedAll .0) in
+    let types = both (ltb v (assigned k)) _ assignedAll .1 in
     record {
       few = ltb-false _ _ (few .0);
-      same = each-length ts ns d one;
+      same = same;
       all = each-sum ts ns d one;
-      known = ltb-true v (assigned k) (both _ (every (λ t. leb t typesLimit) ts) assignedAll .0);
-      types = both (ltb v (assigned k)) _ assignedAll .1;
+      known = value;
+      types = types;
       fields = both _ (rightTypes ts ns) rightAll .0;
       right = both (rightFields k (ltb 0 (length ts))) _ rightAll .1;
       short = both _ (leb (length packet) packetLimit) sizesAll .0;
       size = rw is (leb-true (length packet) packetLimit (both (every (λ n. leb n packetLimit) ns) _ sizesAll .1));
-      is = is;
+      is = is ∙ packet-laid ts ns d types same k v value;
     }
 
 pub assigned-few : (k : Kind) → assigned k ≤ 16
@@ -131,11 +145,12 @@ assigned-few Indicator = omega arith
 assigned-few Data = omega arith
 
 -- ---- and back: what passes each test is written
-pub write-of : (k : Kind) (v : ℕ) (ts ns d : List ℕ) → WriteForm k v ts ns d (packetOctets k v ts ns d)
-    → packetToWrite k v ts ns d ≡ done (packetOctets k v ts ns d)
+pub write-of : (k : Kind) (v : ℕ) (ts ns d : List ℕ) → WriteForm k v ts ns d (laidOctets k v ts ns d)
+    → packetToWrite k v ts ns d ≡ done (laidOctets k v ts ns d)
 unfolding packetToWrite unless oneEach allAssigned allRight inSizes
 write-of k v ts ns d form =
     rw (
+      packet-laid ts ns d (form .types) (form .same) k v (form .known),
       le-ltb fieldsLimit (length ts) (form .few),
       eq-eqb (length ts) (length ns) (form .same),
       eq-eqb (sum ns) (length d) (form .all),
@@ -144,5 +159,5 @@ write-of k v ts ns d form =
       form .fields,
       form .right,
       form .short,
-      le-leb (length (packetOctets k v ts ns d)) packetLimit (form .size),
+      le-leb (length (laidOctets k v ts ns d)) packetLimit (form .size),
     )

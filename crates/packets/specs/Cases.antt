@@ -6,7 +6,7 @@ use mathlib.Core.List.{List, [], _∷_}
 use lib.ListN.{replicate}
 use Rattle.lengths.specs.Refusals.{endsEarly, badForm, outsideSizes, spareBit, leftOver, notAssigned, wrongData, wrongSettings}
 use Rattle.lengths.specs.Answers.{done, refuse}
-use Rattle.packets.specs.Read.{readPacket}
+use Rattle.packets.specs.Packet.{readPacket}
 use Rattle.packets.specs.Write.{packetToWrite}
 use Rattle.packets.specs.declared.types.Kind.the-variants.{Indicator, Data}
 use Rattle.packets.specs.declared.types.Ending.the-variants.{Whole, Repaired}

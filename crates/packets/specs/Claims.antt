@@ -8,8 +8,7 @@ use Rattle.lengths.specs.Promise.{Puts}
 use Rattle.lengths.specs.Claims.{Octets}
 use Rattle.lengths.specs.declared.Written.{Written}
 use Rattle.datagrams.specs.Sizes.{packetLimit}
-use Rattle.packets.specs.Packet.{noField, allData}
-use Rattle.packets.specs.Read.{readPacket, PacketAnswer}
+use Rattle.packets.specs.Packet.{noField, allData, readPacket, PacketAnswer}
 use Rattle.packets.specs.Write.{packetToWrite}
 use Rattle.packets.specs.Promise.{PacketTold}
 use Rattle.packets.specs.Cases.{ReadCases, WriteCases}

@@ -1,5 +1,5 @@
+pub mod Edition
 pub mod Packet
-pub mod Read
 pub mod Write
 pub mod Promise
 pub mod Inner

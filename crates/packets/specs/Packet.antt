@@ -1,95 +1,200 @@
--- Document 01, 'The packet': what its first octet, its field headers and its data lengths say, for reading and writing
--- alike. "First octet, from the top: data-field present; 0 indicator or 1 data; extension; four bits of value; one
--- zero. .. Each field begins on an octet of its own: top bit data present, three bits field type, four zero bits. With
--- data, two octets hold its length minus one, then the data." Definitions only.
-use Prim.Native.Nat.{ℕ, _+_, _-_, _*_, _/_, _%_, _^_}
-use mathlib.Core.Bool.{Bool, true, not, cond, _&&_}
-use mathlib.Core.List.{List, [], _∷_, _++_}
-use lib.ListN.{take, drop}
-use lib.Dec.{ltb, eqb}
+-- Document 01, 'The packet', by the ASN.1 of an edition: one description, production by production, from which both reading and
+-- writing follow. "First octet, from the top: data-field present; 0 indicator or 1 data; extension; four bits of value; one zero. ..
+-- Each field begins on an octet of its own: top bit data present, three bits field type, four zero bits. With data, two octets hold
+-- its length minus one, then the data." And what a packet reads as. Definitions only.
+use Prim.Native.Nat.{ℕ, _+_, _-_, _/_}
+use mathlib.Core.Bool.{Bool, true, false, not, cond, _&&_}
+use mathlib.Core.List.{List, [], _∷_, _++_, map}
+use lib.ListN.{length, take, drop}
+use lib.Dec.{leb, ltb, eqb}
+use Rattle.lengths.specs.Refusals.{outsideSizes, leftOver, notAssigned, wrongData}
+use Rattle.lengths.specs.Answers.{Answer, done, refused, refuse}
+use Rattle.formats.specs.Reading.{Found, found, stopped, Reader, _>>=_, give, check}
+use Rattle.formats.specs.Reading as reading
+use Rattle.formats.specs.Format.{Format, flag, bits, align, here, octets, twoOctets, lengthRule, known, item, guarded, demand, _⊳_, made, many}
+use Rattle.datagrams.specs.Sizes.{packetLimit}
+use Rattle.packets.specs.Edition.{Enumerated, Edition, allows, values, edition98}
 use Rattle.packets.specs.declared.types.Kind.{Kind}
 use Rattle.packets.specs.declared.types.Kind.the-variants.{Indicator, Data}
+use Rattle.packets.specs.declared.types.Ending.{Ending}
+use Rattle.packets.specs.declared.types.Ending.the-variants.{Whole, Repaired}
 use Rattle.packets.specs.declared.types.Field.{Field}
 
+-- ---- what a packet may hold
 -- "Fields in a packet 0 to 16"
 abbrev pub fieldsLimit : ℕ
 fieldsLimit = 16
 
--- "three bits field type": types 0 to 7
+-- the highest field type
 abbrev pub typesLimit : ℕ
 typesLimit = 7
 
--- "Indicators 0 to 15 and data kinds 0 to 8 are assigned": how many values a kind has, from 0 on
+-- how many values a kind has, from 0 on
 abbrev pub assigned : Kind → ℕ
-assigned Indicator = 16
-assigned Data = 9
+assigned kind = values edition98 kind .assigned
 
 -- "An indicator never has a data field": whether a packet of this kind may be so, with or without
 abbrev pub rightFields : Kind → Bool → Bool
 rightFields Indicator present = not present
 rightFields Data present = true
 
--- "Types 1 to 5 carry no data, 0 and 6 always do, 7 may": whether a field of this type may be so, with or without
+-- whether a field of this type may be so, with data or without
 abbrev pub rightData : ℕ → Bool → Bool
-rightData kind present =
-    cond (eqb kind 0) present
-    (cond (ltb kind 6) (not present)
-    (cond (eqb kind 6) present
-    true))
+rightData kind present = allows (edition98 .rule kind) present
 
--- whether a test holds of every element of a list
-unfoldable pub every : (ℕ → Bool) → List ℕ → Bool
-every test [] = true
-every test (x ∷ s) = test x && every test s
+-- ---- a value of an ENUMERATED type
+-- one of those before the extension mark
+unfoldable pub root : Enumerated → Format ℕ
+root e = guarded notAssigned (λ v. ltb v (e .assigned)) (bits (e .width))
 
--- whether the bit of an octet is set that stands k places above the lowest
-abbrev pub isSet : ℕ → ℕ → Bool
-isSet k octet = ltb 0 (octet / 2 ^ k % 2)
+-- one of those added after it: a 0 bit, then six bits counted from zero
+unfoldable pub addition : Enumerated → Format ℕ
+addition e =
+    made (λ x. e .assigned + x .1 .1) (λ v. (tt, (false, v - e .assigned)))
+    (demand notAssigned (ltb 0 (e .added))
+    ⊳ λ _. guarded notAssigned not flag
+    ⊳ λ _. guarded notAssigned (λ v. ltb v (e .added)) (bits 6))
 
--- what a first octet says
+-- the bit for extension, where there is an extension mark
+unfoldable pub enumerated : Enumerated → Format ℕ
+enumerated e =
+    made (λ x. x .1) (λ v. (leb (e .assigned) v, v))
+    (cond (e .extensible) flag (known false)
+    ⊳ λ extended. cond extended (addition e) (root e))
+
+-- ---- Type-of-msg ::= CHOICE { t30-indicator, data }, behind the bit for data-field OPTIONAL
 pub record First : Type 0 where
   pub kind : Kind
   pub value : ℕ
   pub present : Bool
 
-abbrev pub kindOf : ℕ → Kind
-kindOf octet = cond (isSet 6 octet) Data Indicator
+abbrev pub chosen : Bool → Kind
+chosen isData = cond isData Data Indicator
 
-abbrev pub firstOf : ℕ → First
-firstOf octet = record { kind = kindOf octet; value = octet / 2 % 16; present = isSet 7 octet }
+abbrev pub isData : Kind → Bool
+isData Indicator = false
+isData Data = true
 
--- what a field header says
+unfoldable pub first : Edition → Format First
+first edition =
+    made (λ x. record { kind = chosen (x .1 .0); value = x .1 .1; present = x .0 }) (λ f. (f .present, (isData (f .kind), f .value)))
+    (flag
+    ⊳ λ present. flag
+    ⊳ λ choice. enumerated (values edition (chosen choice)))
+
+-- "in the first octet extension 12, value 12, spare bit 5, indicator with data 14"
+unfoldable pub start : Edition → Format First
+start edition =
+    made (λ x. x .0) (λ f. (f, (tt, tt)))
+    (item (first edition)
+    ⊳ λ f. align
+    ⊳ λ _. demand wrongData (rightFields (f .kind) (f .present)))
+
+-- ---- Data-Field ::= SEQUENCE OF SEQUENCE { field-type ENUMERATED, field-data OCTET STRING (SIZE (1..65535)) OPTIONAL }
+-- "a count of fields follows, 1 to 16 (else refusal 4)"
+unfoldable pub count : Format ℕ
+count = guarded outsideSizes (λ n. leb 1 n && leb n fieldsLimit) lengthRule
+
 pub record Header : Type 0 where
   pub kind : ℕ
   pub present : Bool
 
--- the four bits of a header: one for data present, three for the field type
-abbrev pub headerOf : ℕ → Header
-headerOf bits = record { kind = bits % 8; present = isSet 3 bits }
+-- the bit for field-data OPTIONAL, the field type, and zero bits to an octet edge; "in a field header 5 before 14"
+unfoldable pub header : Edition → Format Header
+header edition =
+    guarded wrongData (λ h. allows (edition .rule (h .kind)) (h .present))
+    (made (λ x. record { kind = x .1 .0; present = x .0 }) (λ h. (h .present, (h .kind, tt)))
+    (flag
+    ⊳ λ present. enumerated (edition .types)
+    ⊳ λ _. align))
 
--- the same bits, written
-abbrev pub ofFlag : ℕ → Bool → ℕ
-ofFlag weight present = cond present weight 0
+-- "two octets hold its length minus one"; "the data of each at most the packet limit"
+unfoldable pub size : Format ℕ
+size = guarded outsideSizes (λ n. leb n packetLimit) (made (λ n. n + 1) (λ n. n - 1) twoOctets)
 
-abbrev pub ofKind : Kind → ℕ
-ofKind Indicator = 0
-ofKind Data = 64
+-- a field as it is read and written: its type, where its data begins, and the data. Without data both are nothing
+pub record Content : Type 0 where
+  pub kind : ℕ
+  pub start : ℕ
+  pub octets : List ℕ
 
-unfoldable pub firstOctet : First → ℕ
-firstOctet first = ofFlag 128 (first .present) + ofKind (first .kind) + first .value * 2
+-- the length, the octet at which the data begins, and the data
+unfoldable pub fieldData : Format (ℕ × List ℕ)
+fieldData =
+    made (λ x. x .1) (λ x. (length (x .1), x))
+    (size
+    ⊳ λ n. here
+    ⊳ λ _. octets n)
 
-unfoldable pub headerBits : Header → ℕ
-headerBits header = ofFlag 8 (header .present) + header .kind
+unfoldable pub field : Edition → Format Content
+field edition =
+    made (λ x. record { kind = x .0 .kind; start = x .1 .0; octets = x .1 .1 })
+    (λ c. (record { kind = c .kind; present = ltb 0 (length (c .octets)) }, (c .start, c .octets)))
+    (item (header edition)
+    ⊳ λ h. cond (h .present) fieldData (known (0, [])))
 
--- a place in a packet: the octet at which an item begins
-abbrev pub Place : Type 0
-Place = ℕ
+unfoldable pub dataField : Edition → Format (List Content)
+dataField edition =
+    made (λ x. x .1) (λ contents. (length contents, contents))
+    (count
+    ⊳ λ n. many n (field edition))
 
+-- ---- IFPPacket ::= SEQUENCE { type-of-msg Type-of-msg, data-field Data-Field OPTIONAL }
+pub record Packet : Type 0 where
+  pub kind : Kind
+  pub value : ℕ
+  pub contents : List Content
+
+-- "If present, a count of fields follows"; "A data packet with no field has the top bit clear"
+unfoldable pub packet : Edition → Format Packet
+packet edition =
+    made (λ x. record { kind = x .0 .kind; value = x .0 .value; contents = x .1 })
+    (λ p. (record { kind = p .kind; value = p .value; present = ltb 0 (length (p .contents)) }, p .contents))
+    (start edition
+    ⊳ λ f. cond (f .present) (dataField edition) (known []))
+
+-- ---- what a packet reads as
+-- whether a test holds of every element of a list
+unfoldable pub every : (ℕ → Bool) → List ℕ → Bool
+every test [] = true
+every test (x ∷ s) = test x && every test s
+
+abbrev pub allZero : List ℕ → Bool
+allZero s = every (λ x. eqb x 0) s
+
+-- "A received or spare packet ends at its last field. A repaired one may go on with zeros only": what may follow
+abbrev pub mayFollow : Ending → List ℕ → Bool
+mayFollow Whole rest = eqb (length rest) 0
+mayFollow Repaired rest = allZero rest
+
+-- "anything else left is refusal 6"
+unfoldable pub whole : Edition → Ending → Reader Packet
+whole edition ending = do
+  p ← packet edition .read
+  _ ← reading.item (λ s i at. check leftOver (mayFollow ending (drop (at / 8) s)) s i at)
+  give p
+
+pub record PacketAnswer : Type 0 where
+  pub kind : Kind
+  pub value : ℕ
+  pub fields : List Field
+
+abbrev pub fieldOf : Content → Field
+fieldOf c = record { kind = c .kind; start = c .start; size = length (c .octets) }
+
+abbrev pub answerOf : Found Packet → Answer PacketAnswer
+answerOf (found p at) = done (record { kind = p .kind; value = p .value; fields = map fieldOf (p .contents) })
+answerOf (stopped r) = refused r
+
+-- "over 160 octets 4, then reading order"
+unfoldable pub readPacket : Ending → List ℕ → Answer PacketAnswer
+readPacket ending s = cond (ltb packetLimit (length s)) (refuse outsideSizes) (answerOf (whole edition98 ending s 0 0))
+
+-- ---- a field's data, as a part of the packet's octets
 -- no field: what stands in the places that a packet's fields leave unused
 abbrev pub noField : Field
 noField = record { kind = 0; start = 0; size = 0 }
 
--- a field's data, as a part of the packet's octets
 abbrev pub dataOf : List ℕ → Field → List ℕ
 dataOf s field = take (field .size) (drop (field .start) s)
 

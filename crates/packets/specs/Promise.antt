@@ -5,8 +5,7 @@ use mathlib.Core.Path.{_≡_}
 use mathlib.Core.List.{List, [], _++_}
 use lib.ListN.{length, take, replicate}
 use Rattle.lengths.specs.Answers.{Answer, done, refused}
-use Rattle.packets.specs.Packet.{fieldsLimit, noField}
-use Rattle.packets.specs.Read.{PacketAnswer, readPacket}
+use Rattle.packets.specs.Packet.{fieldsLimit, noField, PacketAnswer, readPacket}
 use Rattle.packets.specs.declared.types.Field.{Field}
 use Rattle.packets.specs.declared.types.Ending.{Ending}
 use Rattle.packets.specs.declared.types.Reading.{Reading}

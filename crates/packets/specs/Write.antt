@@ -1,49 +1,36 @@
 -- Document 01, 'The packet', written: kind, value, the fields' types, the length of each one's data and all the data
 -- give the packet's octets, or a refusal. "Packet writer: over 16 fields 4, then 15, 12, 14, 4, 13, each over the whole
 -- packet." 13 is the promise's, which knows the lent buffer. Definitions only.
-use Prim.Native.Nat.{ℕ, _+_, _-_, _*_, _/_, _%_}
-use mathlib.Core.Bool.{Bool, true, not, cond, _&&_}
-use mathlib.Core.List.{List, [], _∷_, _++_}
+use Prim.Native.Nat.{ℕ, _+_}
+use mathlib.Core.Bool.{Bool, true, not, _&&_}
+use mathlib.Core.List.{List, [], _∷_}
 use mathlib.Core.Option.{Option}
 use lib.ListN.{length, take, drop}
 use lib.Dec.{leb, ltb, eqb}
 use Rattle.lengths.specs.Refusals.{outsideSizes, wrongSettings, notAssigned, wrongData}
 use Rattle.lengths.specs.Answers.{Answer}
 use Rattle.lengths.specs.Tables.{when, unless}
-use Rattle.lengths.specs.Length.{lengthOctets}
+use Rattle.formats.specs.Spelling.{octetsOf}
 use Rattle.datagrams.specs.Sizes.{packetLimit}
-use Rattle.packets.specs.Packet.{fieldsLimit, typesLimit, assigned, rightFields, rightData, every, firstOctet, headerBits}
+use Rattle.packets.specs.Edition.{edition98}
+use Rattle.packets.specs.Packet.{fieldsLimit, typesLimit, assigned, rightFields, rightData, every, Content, packet}
 use Rattle.packets.specs.declared.types.Kind.{Kind}
 
--- ---- a field
 -- "To the writer a field of length 0 has no data"
 abbrev pub withData : ℕ → Bool
 withData size = ltb 0 size
 
--- "two octets hold its length minus one"
-abbrev pub sizeOctets : ℕ → List ℕ
-sizeOctets size = ((size - 1) / 256) ∷ ((size - 1) % 256) ∷ []
+-- the fields in order; each has the next part of the data, of its length. Where the data begins is not written
+unfoldable pub contentsOf : List ℕ → List ℕ → List ℕ → List Content
+contentsOf [] lengths octets = []
+contentsOf (kind ∷ types) [] octets = []
+contentsOf (kind ∷ types) (size ∷ lengths) octets =
+    record { kind = kind; start = 0; octets = take size octets } ∷ contentsOf types lengths (drop size octets)
 
--- "Each field begins on an octet of its own: .. four zero bits. With data, two octets hold its length minus one, then the data"
-unfoldable pub fieldOctets : ℕ → List ℕ → List ℕ
-fieldOctets kind octets =
-    let present = withData (length octets) in
-    (headerBits (record { kind = kind; present = withData (length octets) }) * 16)
-    ∷ cond present (sizeOctets (length octets) ++ octets) []
-
--- the fields in order; each has the next part of the data, of its length
-unfoldable pub fieldsOctets : List ℕ → List ℕ → List ℕ → List ℕ
-fieldsOctets [] lengths octets = []
-fieldsOctets (kind ∷ types) [] octets = []
-fieldsOctets (kind ∷ types) (size ∷ lengths) octets = fieldOctets kind (take size octets) ++ fieldsOctets types lengths (drop size octets)
-
--- ---- the packet
--- "If present, a count of fields follows"; "A data packet with no field has the top bit clear"
+-- what the description spells, in octets
 unfoldable pub packetOctets : Kind → ℕ → List ℕ → List ℕ → List ℕ → List ℕ
 packetOctets kind value types lengths octets =
-    let present = ltb 0 (length types) in
-    firstOctet (record { kind = kind; value = value; present = ltb 0 (length types) })
-    ∷ cond present (lengthOctets (length types) ++ fieldsOctets types lengths octets) []
+    octetsOf (packet edition98 .spelling (record { kind = kind; value = value; contents = contentsOf types lengths octets }) 0)
 
 -- ---- the refusals, each over the whole packet
 -- the sum of what a measure gives for each element

@@ -11,7 +11,8 @@ use Rattle.lengths.specs.Length.{lengthOctets}
 use Rattle.lengths.specs.declared.Written.{Written}
 use Rattle.datagrams.specs.Sizes.{packetLimit}
 use Rattle.packets.specs.Packet.{fieldsLimit, typesLimit, every}
-use Rattle.packets.specs.Write.{withData, total, sum, fieldOctets, fieldsOctets, packetOctets, packetToWrite}
+use Rattle.packets.specs.Write.{withData, total, sum, packetToWrite}
+use Rattle.packets.specs.Inner.Octets.{fieldOctets, fieldsOctets, laidOctets}
 use Rattle.packets.specs.declared.types.Kind.{Kind}
 
 -- ---- writing: sizes
@@ -90,5 +91,5 @@ pub record Mark (mark limit r : ℕ) : Type 0 where
 
 -- what may be written, and has room
 pub record PacketFits (kind : Kind) (value : ℕ) (types lengths octets old : List ℕ) : Type 0 where
-  pub allowed : packetToWrite kind value types lengths octets ≡ done (packetOctets kind value types lengths octets)
-  pub room : length (packetOctets kind value types lengths octets) ≤ length old
+  pub allowed : packetToWrite kind value types lengths octets ≡ done (laidOctets kind value types lengths octets)
+  pub room : length (laidOctets kind value types lengths octets) ≤ length old

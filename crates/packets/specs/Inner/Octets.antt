@@ -1,27 +1,55 @@
--- Document 01, 'The packet', read: a packet's octets and its ending give kind, value and fields, or a refusal. "Packet
--- reader: over 160 octets 4, then reading order; in the first octet extension 12, value 12, spare bit 5, indicator with
--- data 14; in a field header 5 before 14. At a length: 3 or 1 in its form, then 4, then 1 for missing octets."
--- Definitions only.
-use Prim.Native.Nat.{ℕ, zero, suc, _+_, _-_, _*_, _/_, _%_}
-use mathlib.Core.Bool.{Bool, true, not, cond}
-use mathlib.Core.List.{List, [], _∷_}
-use lib.ListN.{length, getD, drop}
-use lib.Dec.{leb, ltb, eqb}
+-- A packet octet by octet, as its items lie where every header has an octet of its own: what is read at an octet and what is written
+-- there. The code goes by this, and so do the tables of refusals; it is proved to be what the description of `Packet` says. No part
+-- of the meaning. Definitions only.
+use Prim.Native.Nat.{ℕ, zero, suc, _+_, _-_, _*_, _/_, _%_, _^_}
+use mathlib.Core.Bool.{Bool, cond}
+use mathlib.Core.List.{List, [], _∷_, _++_}
+use lib.ListN.{length, getD, take, drop}
+use lib.Dec.{leb, ltb}
 use Rattle.lengths.specs.Refusals.{endsEarly, outsideSizes, spareBit, leftOver, notAssigned, wrongData}
 use Rattle.lengths.specs.Answers.{Answer, done, refuse, _>>=_, LengthAnswer}
-use Rattle.lengths.specs.Length.{lengthAt}
+use Rattle.lengths.specs.Length.{lengthAt, lengthOctets}
 use Rattle.datagrams.specs.Sizes.{packetLimit}
-use Rattle.packets.specs.Packet.{Place, First, Header, firstOf, headerOf, isSet, assigned, rightFields, rightData, fieldsLimit, every}
+use Rattle.packets.specs.Packet.{First, Header, PacketAnswer, assigned, rightFields, rightData, fieldsLimit, mayFollow}
+use Rattle.packets.specs.Write.{withData}
 use Rattle.packets.specs.declared.types.Kind.{Kind}
+use Rattle.packets.specs.declared.types.Kind.the-variants.{Indicator, Data}
 use Rattle.packets.specs.declared.types.Ending.{Ending}
-use Rattle.packets.specs.declared.types.Ending.the-variants.{Whole, Repaired}
 use Rattle.packets.specs.declared.types.Field.{Field}
 
--- a packet as read
-pub record PacketAnswer : Type 0 where
-  pub kind : Kind
-  pub value : ℕ
-  pub fields : List Field
+-- ---- an octet's bits
+-- whether the bit of an octet is set that stands k places above the lowest
+abbrev pub isSet : ℕ → ℕ → Bool
+isSet k octet = ltb 0 (octet / 2 ^ k % 2)
+
+-- what a first octet says
+abbrev pub kindOf : ℕ → Kind
+kindOf octet = cond (isSet 6 octet) Data Indicator
+
+abbrev pub firstOf : ℕ → First
+firstOf octet = record { kind = kindOf octet; value = octet / 2 % 16; present = isSet 7 octet }
+
+-- what the four bits of a header say: one for data present, three for the field type
+abbrev pub headerOf : ℕ → Header
+headerOf bits = record { kind = bits % 8; present = isSet 3 bits }
+
+-- the same bits, written
+abbrev pub ofFlag : ℕ → Bool → ℕ
+ofFlag weight present = cond present weight 0
+
+abbrev pub ofKind : Kind → ℕ
+ofKind Indicator = 0
+ofKind Data = 64
+
+unfoldable pub firstOctet : First → ℕ
+firstOctet first = ofFlag 128 (first .present) + ofKind (first .kind) + first .value * 2
+
+unfoldable pub headerBits : Header → ℕ
+headerBits header = ofFlag 8 (header .present) + header .kind
+
+-- a place in a packet: the octet at which an item begins
+abbrev pub Place : Type 0
+Place = ℕ
 
 -- ---- the first octet
 -- "in the first octet extension 12, value 12, spare bit 5, indicator with data 14"
@@ -122,26 +150,40 @@ fieldsAt (suc n) s at = do
   rest ← fieldsAt n s (f .next)
   done (record { fields = f .field ∷ rest .fields; next = rest .next })
 
--- ---- the end
-abbrev pub allZero : List ℕ → Bool
-allZero s = every (λ x. eqb x 0) s
-
--- "A received or spare packet ends at its last field. A repaired one may go on with zeros only": what may follow
-abbrev pub mayFollow : Ending → List ℕ → Bool
-mayFollow Whole rest = eqb (length rest) 0
-mayFollow Repaired rest = allZero rest
-
--- "anything else left is refusal 6"
+-- ---- the packet
 unfoldable pub endAt : {A : Type 0} → Ending → List ℕ → Place → A → Answer A
 endAt ending s at a = cond (mayFollow ending (drop at s)) (done a) (refuse leftOver)
 
--- ---- the packet
--- "over 160 octets 4, then reading order"
-unfoldable pub readPacket : Ending → List ℕ → Answer PacketAnswer
-readPacket ending s =
+unfoldable pub packetAt : Ending → List ℕ → Answer PacketAnswer
+packetAt ending s =
     cond (ltb packetLimit (length s)) (refuse outsideSizes)
     (do
       first ← firstAt s
       count ← countAt s (first .present)
       all ← fieldsAt (count .value) s (count .next)
       endAt ending s (all .next) (record { kind = first .kind; value = first .value; fields = all .fields }))
+
+-- ---- written
+-- "two octets hold its length minus one"
+abbrev pub sizeOctets : ℕ → List ℕ
+sizeOctets size = ((size - 1) / 256) ∷ ((size - 1) % 256) ∷ []
+
+-- "Each field begins on an octet of its own: .. four zero bits. With data, two octets hold its length minus one, then the data"
+unfoldable pub fieldOctets : ℕ → List ℕ → List ℕ
+fieldOctets kind octets =
+    let present = withData (length octets) in
+    (headerBits (record { kind = kind; present = withData (length octets) }) * 16)
+    ∷ cond present (sizeOctets (length octets) ++ octets) []
+
+-- the fields in order; each has the next part of the data, of its length
+unfoldable pub fieldsOctets : List ℕ → List ℕ → List ℕ → List ℕ
+fieldsOctets [] lengths octets = []
+fieldsOctets (kind ∷ types) [] octets = []
+fieldsOctets (kind ∷ types) (size ∷ lengths) octets = fieldOctets kind (take size octets) ++ fieldsOctets types lengths (drop size octets)
+
+-- the first octet, then the count of fields and the fields, if there are any
+unfoldable pub laidOctets : Kind → ℕ → List ℕ → List ℕ → List ℕ → List ℕ
+laidOctets kind value types lengths octets =
+    let present = ltb 0 (length types) in
+    firstOctet (record { kind = kind; value = value; present = ltb 0 (length types) })
+    ∷ cond present (lengthOctets (length types) ++ fieldsOctets types lengths octets) []

@@ -1,0 +1,146 @@
+-- Both round trips of a packet, from the laws of its description: what is written reads back, received and repaired, and what reads as
+-- received writes back to the same octets. Assumes nothing.
+use Prim.Native.Nat.{ℕ, zero, suc, _+_, _*_, _/_, _%_, _≤_}
+use mathlib.Core.Path.{_≡_, refl, sym, ap, ap₂, _∙_}
+use mathlib.Core.Bool.{Bool, true, false, cond}
+use mathlib.Core.List.{List, [], _∷_, _++_, map, append-nil}
+use lib.ListN.{length, take, drop, replicate, length-append, length-drop, length-map, length-replicate, take-append-drop}
+use lib.Seq.{length-take-le, drop-at}
+use lib.Dec.{ltb, eqb}
+use native.Mathlib.Omega.{arith}
+use borrow.Author.Tests.{le-ltb}
+use Rattle.formats.specs.Spelling.{Cell, wide, octetsOf}
+use Rattle.formats.specs.Reading.{found}
+use Rattle.formats.specs.Format.{known, manySpelt}
+use Rattle.formats.proofs.Packing.{written-found}
+use Rattle.datagrams.specs.Sizes.{packetLimit}
+use Rattle.packets.specs.Edition.{edition98}
+use Rattle.packets.specs.Packet.{every, Content, start, count, header, fieldData, field, dataField, Packet, packet, whole, mayFollow, fieldOf, readPacket}
+use Rattle.packets.specs.Write.{contentsOf, packetOctets, sum, total}
+use Rattle.packets.specs.Claims.{ReadsAs, WrittenReads, RepairedReads}
+use Rattle.packets.specs.declared.types.Kind.{Kind}
+use Rattle.packets.specs.declared.types.Ending.{Ending}
+use Rattle.packets.specs.declared.types.Ending.the-variants.{Whole, Repaired}
+use Rattle.packets.proofs.Described.{lawful-packet}
+use Rattle.packets.proofs.Laid.{packet-laid, packet-edge}
+use Rattle.packets.proofs.WriteLaws.{WriteForm, write-form}
+use Rattle.packets.proofs.ReadAt.{allOctets, packet-in}
+use Rattle.packets.proofs.Fitting.{placedAt, placed, Cut, fieldsFrom, packet-fits}
+
+-- where the data begins is not spelt
+field-same : (c : Content) (start p : ℕ) → field edition98 .spelling c p
+    ≡ field edition98 .spelling (record { kind = c .kind; start = start; octets = c .octets }) p
+unfolding field fieldData
+field-same c start p = by (ltb 0 (length (c .octets))) where
+  by : (b : Bool) → header edition98 .spelling (record { kind = c .kind; present = b }) p
+      ++ (cond b fieldData (known (0, []))) .spelling (c .start, c .octets) (wide (header edition98 .spelling (record { kind = c .kind; present = b }) p) + p)
+      ≡ header edition98 .spelling (record { kind = c .kind; present = b }) p
+      ++ (cond b fieldData (known (0, []))) .spelling (start, c .octets) (wide (header edition98 .spelling (record { kind = c .kind; present = b }) p) + p)
+  by true = refl
+  by false = refl
+
+abbrev pub bare : Content → Content
+bare c = record { kind = c .kind; start = 0; octets = c .octets }
+
+many-bare : (cs : List Content) (p : ℕ) → manySpelt (field edition98) cs p ≡ manySpelt (field edition98) (map bare cs) p
+unfolding manySpelt
+many-bare [] p = refl
+many-bare (c ∷ cs) p =
+    let cells = field edition98 .spelling c p in
+    ap (λ (l : List Cell). cells ++ l) (many-bare cs (wide cells + p))
+    ∙ ap (λ (l : List Cell). l ++ manySpelt (field edition98) (map bare cs) (wide l + p)) (field-same c 0 p)
+
+pub packet-bare : (k : Kind) (v : ℕ) (cs : List Content)
+    → packet edition98 .spelling (record { kind = k; value = v; contents = cs }) 0
+    ≡ packet edition98 .spelling (record { kind = k; value = v; contents = map bare cs }) 0
+unfolding packet dataField
+packet-bare k v cs =
+    let first = start edition98 .spelling (record { kind = k; value = v; present = ltb 0 (length cs) }) 0 in
+    rw (length-map cs bare) (ap (λ (l : List Cell). first ++ l) (by (ltb 0 (length cs)) (wide first + 0))) where
+      by : (b : Bool) (p : ℕ)
+          → (cond b (dataField edition98) (known [])) .spelling cs p ≡ (cond b (dataField edition98) (known [])) .spelling (map bare cs) p
+      by true p =
+          let n = count .spelling (length cs) p in
+          rw (length-map cs bare) (ap (λ (l : List Cell). n ++ l) (many-bare cs (wide n + p)))
+      by false p = refl
+
+-- ---- what is written
+cut-of : (ns d : List ℕ) → sum ns ≡ length d → Cut ns d
+unfolding Cut total
+cut-of [] d all = tt
+cut-of (n ∷ ns) d all = (length-take-le n d (omega arith), cut-of ns (drop n d) (omega (arith, length-drop n d)))
+
+abbrev pub kinds : List Content → List ℕ
+kinds cs = map (λ f. f .kind) (map fieldOf cs)
+
+abbrev pub sizes : List Content → List ℕ
+sizes cs = map (λ f. f .size) (map fieldOf cs)
+
+record Same (ts ns d : List ℕ) (cs : List Content) : Type 0 where
+  types : kinds cs ≡ ts
+  lengths : sizes cs ≡ ns
+  octets : allOctets cs ≡ d
+  contents : map bare cs ≡ contentsOf ts ns d
+
+empty : (d : List ℕ) → 0 ≡ length d → [] ≡ d
+empty [] e = refl
+empty (x ∷ d) e = absurd (omega arith)
+
+placed-same : (ts ns d : List ℕ) (p : ℕ) → length ts ≡ length ns → sum ns ≡ length d → Same ts ns d (placed ts ns d p)
+unfolding placed contentsOf total allOctets
+placed-same [] [] d p same all = record { types = refl; lengths = refl; octets = empty d all; contents = refl }
+placed-same [] (n ∷ ns) d p same all = absurd (omega arith)
+placed-same (t ∷ ts) [] d p same all = absurd (omega arith)
+placed-same (t ∷ ts) (n ∷ ns) d p same all =
+    let rest =
+    placed-same ts ns (drop n d) (wide (field edition98 .spelling (placedAt t (take n d) p) p) + p) (omega arith)
+    (omega (arith, length-drop n d)) in
+    record {
+      types = ap (λ (l : List ℕ). t ∷ l) (rest .types);
+      lengths = ap₂ (λ (a : ℕ) (l : List ℕ). a ∷ l) (length-take-le n d (omega arith)) (rest .lengths);
+      octets = ap (λ (l : List ℕ). take n d ++ l) (rest .octets) ∙ take-append-drop n d;
+      contents = ap (λ (l : List Content). record { kind = t; start = 0; octets = take n d } ∷ l) (rest .contents);
+    }
+
+packet-back : (e : Ending) (k : Kind) (v : ℕ) (ts ns d w more : List ℕ) → WriteForm k v ts ns d w → mayFollow e more ≡ true
+    → length (w ++ more) ≤ packetLimit → ReadsAs e (w ++ more) k v ts ns d
+unfolding readPacket whole packetOctets
+packet-back e k v ts ns d w more form follows room =
+    let cs = placed ts ns d (fieldsFrom (length ts) 8) in
+    let x : Packet = record { kind = k; value = v; contents = cs } in
+    let same = placed-same ts ns d (fieldsFrom (length ts) 8) (form .same) (form .all) in
+    let fits =
+    packet-fits ts ns d (form .same) k v (form .known) (form .few) (cut-of ns d (form .all)) (form .types) (form .short) (form .right) (form .fields) in
+    let spelt : packet edition98 .spelling x 0 ≡ packet edition98 .spelling (record { kind = k; value = v; contents = contentsOf ts ns d }) 0
+    = packet-bare k v cs ∙ ap (λ (l : List Content). packet edition98 .spelling (record { kind = k; value = v; contents = l }) 0) (same .contents) in
+    let is : octetsOf (packet edition98 .spelling x 0) ≡ w
+    = ap octetsOf spelt ∙ packet-laid ts ns d (form .types) (form .same) k v (form .known) ∙ sym (form .is) in
+    let edge : wide (packet edition98 .spelling x 0) % 8 ≡ 0
+    = ap (λ (l : List Cell). wide l % 8) spelt ∙ packet-edge ts ns d (form .types) (form .same) k v (form .known) in
+    let reads : packet edition98 .read (w ++ more) 0 0 ≡ found x (8 * length w) = rw is at (written-found (lawful-packet edition98) x 0 more fits edge) in
+    let at : 8 * length w / 8 ≡ length w = omega arith in
+    record {
+      packet = record { kind = k; value = v; fields = map fieldOf cs };
+      reads = rw (le-ltb packetLimit (length (w ++ more)) room, reads, at, drop-at w more (length w) refl, follows);
+      kindSame = refl;
+      valueSame = refl;
+      typesSame = same .types;
+      lengthsSame = same .lengths;
+      octetsSame = packet-in (w ++ more) 0 x (8 * length w) reads .octets ∙ same .octets;
+    }
+
+pub packet-written-reads : WrittenReads
+packet-written-reads k v ts ns d w e =
+    let form = write-form k v ts ns d w e in
+    let alone : w ++ [] ≡ w = append-nil w in
+    rw alone at (packet-back Whole k v ts ns d w [] form refl (rw alone (form .size)))
+
+pub zeros-all : (n : ℕ) → every (λ x. eqb x 0) (replicate n 0) ≡ true
+unfolding every
+zeros-all zero = refl
+zeros-all (suc n) = zeros-all n
+
+pub packet-repaired-reads : RepairedReads
+packet-repaired-reads k v ts ns d w n e room =
+    packet-back Repaired k v ts ns d w (replicate n 0) (write-form k v ts ns d w e) (zeros-all n)
+    (omega (arith, length-append w (replicate n 0), length-replicate {A = ℕ} n 0))
