@@ -1,7 +1,7 @@
 -- One law for each answer about a slot, on plain values. Assumes nothing.
 use Prim.Native.Nat.{ℕ, _≤_, _<_}
 use mathlib.Core.Path.{_≡_, refl, sym, ap, _∙_}
-use mathlib.Core.Bool.{Bool, true, false, not, cond, _&&_}
+use mathlib.Core.Bool.{Bool, true, false, not, cond, _&&_, _||_}
 use mathlib.Core.List.{List}
 use mathlib.Core.Logic.{⊎-elim}
 use lib.Dec.{leb, ltb, eqb}
@@ -20,31 +20,52 @@ use Rattle.held.proofs.Laws.{message-none}
 use Rattle.checking.specs.Pieces.{stateRight, placeIn, stateTest, packetTest, SizesFit, allKept, markedRight, heardRight, sizeless, emptyAt}
 
 -- ---- a state with its length
-module _ (state size : ℕ) (blank : Bool) where
-  pub state-unknown : state ≡ 0 → (eqb size 0 && not blank) ≡ stateRight state size blank
-  unfolding stateRight sizeRight stateNumbered
-  state-unknown e = rw e
+-- the answer of `state_right`
+abbrev stateAnswer : ℕ → ℕ → Bool → Bool
+stateAnswer state size blank =
+    (((eqb state 0 && not blank) || (eqb state lastState && blank)) && eqb size 0)
+    || ((not (eqb state 0) && ltb state lastState) && ((leb packetLeast size && leb size packetLimit) && not blank))
 
-  pub state-blank : state ≡ lastState → (eqb size 0 && blank) ≡ stateRight state size blank
-  unfolding stateRight sizeRight stateNumbered
-  state-blank e = rw e
+empty-unknown : (blank none : Bool) → (((not blank || false) && none) || false) ≡ (none && not blank)
+empty-unknown true true = refl
+empty-unknown true false = refl
+empty-unknown false true = refl
+empty-unknown false false = refl
 
-  pub state-other : (state ≡ 0 → ⊥) → (state ≡ lastState → ⊥)
-      → (ltb state lastState && ((leb packetLeast size && leb size packetLimit) && not blank)) ≡ stateRight state size blank
-  unfolding stateRight sizeRight stateNumbered
-  state-other some full =
-      ⊎-elim (λ (e : state ≡ 1). rw e)
-      (λ no1.
-      ⊎-elim (λ (e : state ≡ 2). rw e)
-      (λ no2.
-      ⊎-elim (λ (e : state ≡ 3). rw e)
-      (λ no3. rw (le-ltb state lastState (omega arith), lt-leb state lastState (omega arith)))
-      (same-or-not state 3))
-      (same-or-not state 2))
-      (same-or-not state 1)
+empty-blank : (blank none : Bool) → ((blank && none) || false) ≡ (none && blank)
+empty-blank true true = refl
+empty-blank true false = refl
+empty-blank false true = refl
+empty-blank false false = refl
 
--- the laws of `state_right`'s answers
-pub ruleset states = (state-unknown, state-blank, state-other)
+state-over : (state size : ℕ) (blank : Bool) → lastState < state → stateAnswer state size blank ≡ stateRight state size blank
+unfolding stateRight
+state-over state size blank over =
+    rw (
+      ne-eqb state 0 (λ e. omega arith),
+      ne-eqb state lastState (λ e. omega arith),
+      le-ltb state lastState (omega arith),
+      lt-leb state lastState over,
+    )
+
+pub state-told : (state size : ℕ) (blank : Bool) → stateAnswer state size blank ≡ stateRight state size blank
+unfolding stateRight sizeRight stateNumbered
+state-told state size blank =
+    ⊎-elim (λ (e : state ≡ 0). rw e (empty-unknown blank (eqb size 0)))
+    (λ (no0 : state ≡ 0 → ⊥).
+    ⊎-elim (λ (e : state ≡ 1). rw e)
+    (λ (no1 : state ≡ 1 → ⊥).
+    ⊎-elim (λ (e : state ≡ 2). rw e)
+    (λ (no2 : state ≡ 2 → ⊥).
+    ⊎-elim (λ (e : state ≡ 3). rw e)
+    (λ (no3 : state ≡ 3 → ⊥).
+    ⊎-elim (λ (e : state ≡ lastState). rw e (empty-blank blank (eqb size 0)))
+    (λ (no4 : state ≡ lastState → ⊥). state-over state size blank (omega arith))
+    (same-or-not state lastState))
+    (same-or-not state 3))
+    (same-or-not state 2))
+    (same-or-not state 1))
+    (same-or-not state 0)
 
 -- ---- octets past a length
 pub slot-empty : (o : List ℕ) (slot : ℕ) {size : ℕ} {right : Bool} → size ≡ 0 → right ≡ zerosPast o slot 0 → right ≡ zerosPast o slot size

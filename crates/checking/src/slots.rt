@@ -18,17 +18,15 @@ ghost use Rattle.held.specs.Table.{places};
 ghost use Rattle.held.specs.Laid.{messageLaid};
 ghost use Rattle.checking.specs.Pieces.{stateRight, markedRight, heardRight, sizeless, emptyAt};
 
-// "Unknown and blank have length 0, others 1 to 160.", and the number stands for a state.
+// "Unknown and blank have length 0, others 1 to 160.", and the number stands for a state. There is no branch, so that the loop over
+// all slots may take several together.
 pub fn state_right(state: u16, size: usize, blank: bool) -> bool
     ensures { λ r. ⌜ r ≡ stateRight state size blank ⌝ }
 {
-    if state == Session::UNKNOWN {
-        return (size == 0) & !blank;
-    }
-    if state == Session::BLANK {
-        return (size == 0) & blank;
-    }
-    (state < Session::BLANK) & (((Packet::LEAST <= size) & (size <= Packet::LIMIT)) & !blank)
+    let empty = ((state == Session::UNKNOWN) & !blank) | ((state == Session::BLANK) & blank);
+    let filled = (state != Session::UNKNOWN) & (state < Session::BLANK);
+    let fits = (Packet::LEAST <= size) & (size <= Packet::LIMIT);
+    (empty & (size == 0)) | (filled & (fits & !blank))
 }
 
 // "Octets past a length are zero."
