@@ -1,5 +1,5 @@
 #!/usr/bin/env python3
-"""Makes each check of running.py, cutting.py, run, prove, long, speed/measure and ../test fail, and looks for what it must say."""
+"""Makes each check of running.py, cutting.py, run, prove, long, speed/ and ../test fail, and looks for what it must say."""
 
 import argparse
 import importlib.machinery
@@ -16,7 +16,7 @@ from cutting import cut_calls, cut_lines
 from failing import HERE, Cases, altered, independent
 from running import difference, left_out, lines_of, run, text_of
 
-LONG, RUN, MEASURE = (str(HERE / name) for name in ('long', 'run', 'speed/measure'))
+LONG, RUN = (str(HERE / name) for name in ('long', 'run'))
 
 
 def of_failing(test):
@@ -73,21 +73,31 @@ def of_long(test):
     test.ends('no command', 2, 'a command is needed', [LONG, '5'], env={'PATH': os.environ['PATH']})
 
 
+def of_speed(name):
+    """A script of speed/ as a module."""
+    loader = importlib.machinery.SourceFileLoader(name, str(HERE / 'speed' / name))
+    module = importlib.util.module_from_spec(importlib.util.spec_from_loader(name, loader))
+    loader.exec_module(module)
+    return module
+
+
 def of_measure(test):
     """Wrong receivers are not measured, and what cannot be counted is said."""
-    loader = importlib.machinery.SourceFileLoader('measure', MEASURE)
-    measure = importlib.util.module_from_spec(importlib.util.spec_from_loader('measure', loader))
-    loader.exec_module(measure)
+    measure = of_speed('measure')
+    traces = measure.traces
     right, wrong = independent('program'), altered('program 00 5')
     test.fails('a wrong C receiver', 'differs receive.c with seed 0: result line', measure.check_receiver, wrong)
     with tempfile.TemporaryDirectory() as made:
-        recording = measure.trace('k3', measure.TRACES[0][1], 0)
+        recording = traces.trace('k3', traces.TRACES[0][1], 0)
         for name, commands in (('program', (wrong, right)), ('C receiver', (right, wrong))):
             run_by = [(['sh', '-c', command], 0) for command in commands]
             test.fails('a wrong %s over a trace' % name, 'differs k3: result line', measure.measure_trace, pathlib.Path(made), recording,
                        'k3', run_by, lambda command, path: 1)
-    measure.corpus, corpus = (lambda name: corpus(name) if name == measure.CALL else [b''] * measure.LINES), measure.corpus
-    test.fails('other datagrams than the recorded', 'AssertionError', measure.trace, 'k3', measure.TRACES[0][1], 0)
+    traces.corpus, corpus = (lambda name: corpus(name) if name == traces.CALL else [b''] * traces.LINES), traces.corpus
+    test.fails('other datagrams than the recorded', 'AssertionError', traces.trace, 'k3', traces.TRACES[0][1], 0)
+    traces.corpus = corpus
+    test.passes('the goal met', measure.held_to_goal, [0.5, 0.7])
+    test.fails('the goal missed', 'takes 0.71 times the instructions of the C receiver', measure.held_to_goal, [0.71, 0.5])
     for name, count, status, words in (
             ('status 3 under the emulator', measure.by_emulator, 3, 'not counted: exit 3 ended with status 3'),
             ('nothing counted by the emulator', measure.by_emulator, 0, 'status 0 and 0 instructions'),
@@ -101,6 +111,32 @@ def of_measure(test):
     measure.NATIVE = True
     test.fails('no counter', 'neither valgrind nor perf is here', measure.counter)
     os.environ.update({name: value for name, value in kept.items() if value is not None})
+
+
+def of_calls(test):
+    """Counts go to the functions that they belong to, the goals are held, and what cannot be counted is said."""
+    calls, parts = of_speed('calls'), of_speed('parts')
+    run = calls.counting.Run.__new__(calls.counting.Run)
+    run.costs, run.outside = {1: 3, 2: 2, 3: 10}, 4
+    run.calls = [(1, None, 5), (2, 'b::g', 20), (3, None, 10)]
+    run.called = {1: [(None, 5)], 2: [('b::g', 20)], 3: [(None, 10)]}
+    run.chains, run.names = {1: ['a::inner::f', 'a::main'], 2: ['a::main'], 3: ['b::g']}, {1: 'memcpy', 3: 'memset'}
+    for name, words, found in (
+            ('inlined', '8', run.within('a::f')), ('with what it calls', '30', run.within('a::main')),
+            ('under another', '20.0', run.within('b::g', 'a::main')), ('not under another', '0', run.within('b::g', 'a::f')),
+            ('the C library under it', '15.0', run.library('a::main')), ('all', '19', run.all()),
+            ('by parts', "Counter({'glue of offer and line': 15, 'clearing': 10, 'copies (memcpy)': 5})", parts.parts_of(run))):
+        test.says('counts, ' + name, words, str(found))
+    test.fails('a function that is not there', 'no function a::h ran', run.within, 'a::h')
+    test.says('goals met', '[]', str(list(calls.missed('offer', 7000, 2.9))))
+    test.says('a range check over its goal', 'offer: the range check takes 7001 instructions', str(list(calls.missed('offer', 7001, 2))))
+    test.says('copies over their goal', 'offer: a call copies 3.0 sessions', str(list(calls.missed('offer', 7000, 3))))
+    calls.counting.whole = lambda program, lines: len(program)
+    test.passes('the same code', calls.same_code, 'other', b'')
+    test.fails('other code', 'takes 7 instructions, the proved one 5', calls.same_code, 'another', b'')
+    os.environ['PATH'], path = '', os.environ['PATH']
+    test.fails('no valgrind', 'valgrind is not here', calls.counting.watched, '', 'calls', b'')
+    os.environ['PATH'] = path
 
 
 RT = '''#!/bin/sh
@@ -199,7 +235,8 @@ def main():
     argparse.ArgumentParser(description=__doc__).parse_args()
     test = Cases('')
     for test.of_what, cases in (('failing.py', of_failing), ('running.py', of_running), ('cutting.py', of_cutting), ('run', of_run),
-                                ('long', of_long), ('speed/measure', of_measure), ('../test', of_test), ('prove', of_prove)):
+                                ('long', of_long), ('speed/measure', of_measure), ('speed/calls, parts', of_calls),
+                                ('../test', of_test), ('prove', of_prove)):
         cases(test)
     test.end()
 
