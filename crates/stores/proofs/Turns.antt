@@ -1,21 +1,21 @@
 -- What each loop of this crate keeps true, on plain values: where it starts, what a turn does, where it ends.
 -- Assumes nothing.
-use Prim.Native.Nat.{ℕ, _+_, _-_, _*_, _≤_, _<_}
+use Prim.Native.Nat.{ℕ, _+_, _-_, _*_, _%_, _^_, _≤_, _<_}
 use mathlib.Core.Path.{_≡_, refl, sym, ap, ap₂, _∙_}
 use mathlib.Core.Bool.{Bool, true, _&&_, _||_}
 use mathlib.Core.List.{List, _++_, append-nil}
 use mathlib.Core.Logic.{⊎-elim}
 use lib.ListN.{length, getD, set, take, drop, replicate, length-replicate, getD-replicate, length-append, length-set, List·getD-append, drop-of-length-le}
 use lib.Seq.{paste, paste-zero, paste-suc, getD-append-add, getD-drop, length-take-le, take-length}
-use lib.Bits.{bitXor}
-use lib.Dec.{leb, ltb, eqb}
+use lib.Bits.{bitAnd, bitXor, and-zero-r, and-mask}
+use lib.Dec.{ltb, eqb}
 use native.Mathlib.Nat.{zero-add, add-zero}
 use native.Mathlib.Numerals.{add-one}
 use native.Mathlib.Omega.{arith}
 use borrow.Author.Fill.{fill-none, fill-more}
-use borrow.Author.Tests.{lt-ltb, le-ltb, le-leb, lt-leb, ne-eqb}
+use borrow.Author.Tests.{lt-ltb, le-ltb}
 use Rattle.octets.specs.Place.{allBelow}
-use Rattle.octets.proofs.Laws.{allBelow-more, below-or-not, same-or-not}
+use Rattle.octets.proofs.Laws.{allBelow-more, below-or-not}
 use Rattle.datagrams.specs.Sizes.{packetLimit}
 use Rattle.stores.specs.Store.{pasted, zeros, zerosPast, mask, part, added, HasSlot}
 use Rattle.stores.proofs.Laws.{length-zeros, zeros-at, length-part, part-at, length-added, added-at}
@@ -86,19 +86,21 @@ zero-turn {o} {slot} {ok} {j} c more =
       few = omega arith;
     }
 
--- the mask is made: octets that let all pass are laid over zeros, j of them
+-- the mask is made: octets that let all pass are laid over those that let zero alone pass, j of them
 pub record Filled (table : List ℕ) (j : ℕ) : Type 0 where
-  pub so : table ≡ replicate j 255 ++ drop j (zeros (packetLimit + packetLimit))
+  pub so : table ≡ replicate j 0 ++ drop j (replicate (packetLimit + packetLimit) 255)
   pub few : j ≤ packetLimit
 
-pub filled-start : Filled (replicate (packetLimit + packetLimit) 0) 0
-unfolding zeros
-filled-start = record { so = fill-none (replicate (packetLimit + packetLimit) 0) 255; few = omega arith }
+pub filled-start : Filled (replicate (packetLimit + packetLimit) 255) 0
+filled-start = record { so = fill-none (replicate (packetLimit + packetLimit) 255) 0; few = omega arith }
 
-pub filled-turn : {table : List ℕ} {j : ℕ} → Filled table j → j < packetLimit → Filled (set table j 255) (j + 1)
+pub filled-turn : {table : List ℕ} {j : ℕ} → Filled table j → j < packetLimit → Filled (set table j 0) (j + 1)
 filled-turn {table} {j} f more =
     record {
-      so = rw (f .so) (fill-more j 255 (zeros (packetLimit + packetLimit)) (rw (length-zeros (packetLimit + packetLimit)) (omega arith)));
+      so =
+          rw (f .so)
+          (fill-more j 0 (replicate (packetLimit + packetLimit) 255)
+          (rw (length-replicate {A = ℕ} (packetLimit + packetLimit) 255) (omega arith)));
       few = omega arith;
     }
 
@@ -106,52 +108,50 @@ pub filled-done : {table : List ℕ} {j : ℕ} → Filled table j → packetLimi
 unfolding mask zeros
 filled-done {table} {j} f done =
     let all : j ≡ packetLimit = omega (arith, f .few) in
-    f .so ∙ ap (λ (k : ℕ). replicate k 255 ++ drop k (zeros (packetLimit + packetLimit))) all
+    f .so ∙ ap (λ (k : ℕ). replicate k 0 ++ drop k (replicate (packetLimit + packetLimit) 255)) all
 
 pub ruleset fillings = (filled-start, filled-turn, filled-done)
 
 length-mask : length mask ≡ packetLimit + packetLimit
 unfolding mask
 length-mask =
-    length-append (replicate packetLimit 255) (zeros packetLimit)
-    ∙ ap₂ (λ (a b : ℕ). a + b) (length-replicate {A = ℕ} packetLimit 255) (length-zeros packetLimit)
+    length-append (zeros packetLimit) (replicate packetLimit 255)
+    ∙ ap₂ (λ (a b : ℕ). a + b) (length-zeros packetLimit) (length-replicate {A = ℕ} packetLimit 255)
 
-mask-low : (k : ℕ) → k < packetLimit → getD mask k 0 ≡ 255
+mask-low : (k : ℕ) → k < packetLimit → getD mask k 0 ≡ 0
 unfolding mask
 mask-low k below =
-    List·getD-append (replicate packetLimit 255) (zeros packetLimit) 0 k (rw (length-replicate {A = ℕ} packetLimit 255) below)
+    List·getD-append (zeros packetLimit) (replicate packetLimit 255) 0 k (rw (length-zeros packetLimit) below) ∙ zeros-at packetLimit k
+
+mask-high : (k : ℕ) → k < packetLimit → getD mask (packetLimit + k) 0 ≡ 255
+unfolding mask
+mask-high k below =
+    ap (λ (n : ℕ). getD (zeros packetLimit ++ replicate packetLimit 255) (n + k) 0) (sym (length-zeros packetLimit))
+    ∙ getD-append-add (zeros packetLimit) (replicate packetLimit 255) k 0
     ∙ getD-replicate packetLimit k 255 0 below
 
-mask-high : (k : ℕ) → getD mask (packetLimit + k) 0 ≡ 0
-unfolding mask
-mask-high k =
-    ap (λ (n : ℕ). getD (replicate packetLimit 255 ++ zeros packetLimit) (n + k) 0) (sym (length-replicate {A = ℕ} packetLimit 255))
-    ∙ getD-append-add (replicate packetLimit 255) (zeros packetLimit) k 0
-    ∙ zeros-at packetLimit k
-
 -- below n the mask lets any octet pass, from n on only zero
-passes : (x n j : ℕ) → x < 256 → n ≤ packetLimit → leb x (getD mask (packetLimit - n + j) 0) ≡ (ltb j n || eqb x 0)
-passes x n j octet fits = ⊎-elim low high (below-or-not j n) where
-  low : j < n → leb x (getD mask (packetLimit - n + j) 0) ≡ (ltb j n || eqb x 0)
-  low below = rw (mask-low (packetLimit - n + j) (omega arith), lt-ltb j n below) (le-leb x 255 (omega arith))
+passes : (x n j : ℕ) → x < 256 → n ≤ packetLimit → j < packetLimit
+    → eqb (bitAnd x (getD mask (packetLimit - n + j) 0)) 0 ≡ (ltb j n || eqb x 0)
+passes x n j octet fits more = ⊎-elim low high (below-or-not j n) where
+  low : j < n → eqb (bitAnd x (getD mask (packetLimit - n + j) 0)) 0 ≡ (ltb j n || eqb x 0)
+  low below = rw (mask-low (packetLimit - n + j) (omega arith), lt-ltb j n below, and-zero-r x)
 
-  zero? : leb x 0 ≡ eqb x 0
-  zero? = ⊎-elim (λ e. rw e) (λ other. lt-leb x 0 (omega arith) ∙ sym (ne-eqb x 0 other)) (same-or-not x 0)
-
-  high : n ≤ j → leb x (getD mask (packetLimit - n + j) 0) ≡ (ltb j n || eqb x 0)
+  high : n ≤ j → eqb (bitAnd x (getD mask (packetLimit - n + j) 0)) 0 ≡ (ltb j n || eqb x 0)
   high past =
       let e : packetLimit - n + j ≡ packetLimit + (j - n) = omega arith in
-      rw (e, mask-high (j - n), le-ltb j n past) zero?
+      let same : x % 2 ^ 8 ≡ x = omega arith in
+      rw (e, mask-high (j - n) (omega arith), le-ltb j n past, and-mask x 8, same)
 
 pub checked-turn : {o table : List ℕ} {slot n : ℕ} {ok : Bool} {j : ℕ} → Checked o slot n ok j → j < packetLimit → n ≤ packetLimit
     → table ≡ mask → getD o (slot * packetLimit + j) 0 < 256
-    → Checked o slot n (ok && leb (getD o (slot * packetLimit + j) 0) (getD table (packetLimit - n + j) 0)) (j + 1)
+    → Checked o slot n (ok && eqb (bitAnd (getD o (slot * packetLimit + j) 0) (getD table (packetLimit - n + j) 0)) 0) (j + 1)
 checked-turn {o} {table} {slot} {n} {ok} {j} c more fits e octet =
     record {
       so =
           ap₂ (λ (a b : Bool). a && b) (c .so)
-          (ap (λ (t : List ℕ). leb (getD o (slot * packetLimit + j) 0) (getD t (packetLimit - n + j) 0)) e
-          ∙ passes (getD o (slot * packetLimit + j) 0) n j octet fits)
+          (ap (λ (t : List ℕ). eqb (bitAnd (getD o (slot * packetLimit + j) 0) (getD t (packetLimit - n + j) 0)) 0) e
+          ∙ passes (getD o (slot * packetLimit + j) 0) n j octet fits more)
           ∙ sym (allBelow-more j (right o slot n));
       few = omega arith;
     }

@@ -29,9 +29,9 @@ zeros n = replicate n 0
 unfoldable pub zerosPast : List ℕ → ℕ → ℕ → Bool
 zerosPast o i n = allBelow packetLimit (λ j. ltb j n || eqb (getD o (i * packetLimit + j) 0) 0)
 
--- what lets every octet pass, then what lets zero alone pass
+-- what lets every octet pass, then what lets zero alone pass: an octet passes if it has no bit in common with the mask
 unfoldable pub mask : List ℕ
-mask = replicate packetLimit 255 ++ zeros packetLimit
+mask = zeros packetLimit ++ replicate packetLimit 255
 
 -- packetLimit octets, to which those of slot i are added by exclusive or
 unfoldable pub added : List ℕ → List ℕ → ℕ → List ℕ

@@ -43,14 +43,14 @@ pub fn clear(o: &mut [u8], slot: usize)
     }
 }
 
-// The mask: what lets every octet pass, then what lets zero alone pass.
+// The mask: what lets every octet pass, then what lets zero alone pass. An octet passes if it has no bit in common with the mask.
 pub fn passing() -> [u8; Packet::LIMIT + Packet::LIMIT]
     ensures { λ r. ⌜ r ≡ mask ⌝ }
 {
-    let mut table = [0; Packet::LIMIT + Packet::LIMIT];
+    let mut table = [255; Packet::LIMIT + Packet::LIMIT];
     let mut j = 0;
     while j < Packet::LIMIT {
-        table[j] = 255;
+        table[j] = 0;
         j += 1;
     }
     table
@@ -69,7 +69,7 @@ pub fn zeros_past(o: &[u8], slot: usize, n: usize, table: &[u8]) -> bool
     let mut ok = true;
     let mut j = 0;
     while j < Packet::LIMIT {
-        ok = ok & (o[at + j] <= table[from + j]);
+        ok = ok & ((o[at + j] & table[from + j]) == 0);
         j += 1;
     }
     ok

@@ -1,4 +1,4 @@
--- `stores::passing` meets its contract. The loop's invariant: the first j octets let all pass, and zeros follow. The measure is
+-- `stores::passing` meets its contract. The loop's invariant: the first j octets let all pass, the rest zero alone. The measure is
 -- the octets left to lay. Assumes nothing.
 use Prim.Native.Nat.{_-_}
 use borrow.Author.Needs.{needs}
