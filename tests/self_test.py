@@ -131,9 +131,9 @@ def of_calls(test):
     test.says('goals met', '[]', str(list(calls.missed('offer', 7000, 2.9))))
     test.says('a range check over its goal', 'offer: the range check takes 7001 instructions', str(list(calls.missed('offer', 7001, 2))))
     test.says('copies over their goal', 'offer: a call copies 3.0 sessions', str(list(calls.missed('offer', 7000, 3))))
-    calls.counting.whole = lambda program, lines: len(program)
-    test.passes('the same code', calls.same_code, 'other', b'')
-    test.fails('other code', 'takes 7 instructions, the proved one 5', calls.same_code, 'another', b'')
+    calls.counting.whole = lambda program, lines: 5000 + len(program)
+    test.passes('the same code', calls.same_code, 'others', b'')
+    test.fails('other code', 'takes 5012 instructions, the proved one 5005', calls.same_code, 'another code', b'')
     os.environ['PATH'], path = '', os.environ['PATH']
     test.fails('no valgrind', 'valgrind is not here', calls.counting.watched, '', 'calls', b'')
     os.environ['PATH'] = path
