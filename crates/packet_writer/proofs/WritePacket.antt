@@ -1,15 +1,14 @@
 -- What the writer's definition says of a packet that it writes, and one law for each answer of `write` and of the
 -- functions that put the count and the packet. Assumes nothing.
-use Prim.Native.Nat.{ℕ, _+_, _-_, _≤_, _<_}
-use mathlib.Core.Path.{_≡_, refl, sym, ap, ap₂, _∙_}
+use Prim.Native.Nat.{ℕ, _+_, _-_, _^_, _≤_, _<_}
+use mathlib.Core.Path.{_≡_, refl, sym, ap, subst, _∙_}
 use mathlib.Core.Bool.{true, false, not}
-use mathlib.Core.List.{List, [], _∷_, _++_, append-assoc}
-use lib.ListN.{length, set, take, drop, length-append, length-drop, length-set}
-use lib.Seq.{take-at, drop-at, drop-drop}
+use mathlib.Core.List.{List, [], _∷_, _++_}
+use lib.ListN.{length, set, drop, length-append, length-set}
 use lib.Dec.{leb, ltb}
 use native.Mathlib.Omega.{arith}
 use borrow.Rule.Slice.PartMut.{putMid}
-use borrow.Author.Tests.{le-ltb, le-leb, lt-leb, not-true, not-false}
+use borrow.Author.Tests.{le-ltb, le-leb, not-true, not-false}
 use Rattle.lengths.specs.Refusals.{noRoom}
 use Rattle.lengths.specs.Answers.{Answer, done, refused, writtenOutcome, sizeOf}
 use Rattle.lengths.specs.Tables.{unless}
@@ -18,98 +17,59 @@ use Rattle.lengths.specs.Promise.{RefusalMade, Puts}
 use Rattle.lengths.specs.declared.Refusal.{Refusal}
 use Rattle.lengths.specs.declared.Written.{Written}
 use Rattle.lengths.specs.declared.Written.the-variants as written
+use Rattle.datagrams.specs.Inner.Put.{Put}
+use Rattle.datagrams.proofs.PutLaws.{put-none, put-one, put-next, put-long, put-puts, full-puts, room-left}
 use Rattle.packets.specs.Write.{packetToWrite}
 use Rattle.packets.specs.Inner.Octets.{firstOctet, fieldsOctets, laidOctets}
-use Rattle.packets.specs.Inner.Items.{Laid, FieldsFit, CountedFit, countedOctets, PacketFits, Measured}
+use Rattle.packets.specs.Inner.Items.{FieldsFit, CountedFit, countedOctets, PacketFits, Measured}
 use Rattle.packets.specs.declared.types.Kind.{Kind}
-use Rattle.packets.proofs.Rest.{rest, rest-is}
+use Rattle.packets.proofs.Rest.{rest}
 use Rattle.packets.proofs.WriteLaws.{write-form, assigned-few, packet-bare, packet-full}
-use Rattle.packet_writer.proofs.Putting.{one-set}
-use Rattle.packet_writer.proofs.PutFields.{out-is}
-
--- ---- one part after another
-pub laid-twice : (w f old mid part : List ℕ) → mid ≡ w ++ drop (length w) old → part ≡ f ++ drop (length f) (rest (length w) mid)
-    → putMid (length w) (length mid - length w) mid part ≡ (w ++ f) ++ drop (length (w ++ f)) old
-laid-twice w f old mid part first second =
-    let long : length w + length f ≡ length (w ++ f) = sym (length-append w f) in
-    out-is f mid part (length w) second
-    ∙ ap (λ (l : List ℕ). take (length w) l ++ (f ++ drop (length f) (drop (length w) l))) first
-    ∙ ap₂ (λ (a b : List ℕ). a ++ (f ++ drop (length f) b)) (take-at w (drop (length w) old) (length w) refl) (drop-at w (drop (length w) old) (length w) refl)
-    ∙ ap (λ (l : List ℕ). w ++ (f ++ l)) (drop-drop (length f) (length w) old ∙ ap (λ (n : ℕ). drop n old) long)
-    ∙ sym (append-assoc w f (drop (length (w ++ f)) old))
 
 -- ---- the count, then the fields
--- a writer with room writes all
-puts-all : (w old mid : List ℕ) (r : Written) → length w ≤ length old → Puts (done w) old mid r
-    → (writtenOutcome r ≡ done (length w)) × (mid ≡ w ++ drop (length w) old)
-puts-all w old mid r room puts =
-    let fits : leb (length w) (length old) ≡ true = le-leb _ _ room in
-    (rw fits at (puts .answer), rw fits at (puts .lent))
-
-module _ {ts ns d old mid : List ℕ} {r : Written} where
-  count-puts : CountedFit ts ns d old → Puts (lengthToWrite (length ts)) old mid r
-      → (writtenOutcome r ≡ done (length (lengthOctets (length ts)))) × (mid ≡ lengthOctets (length ts) ++ drop (length (lengthOctets (length ts))) old)
+module _ {ts ns d old mid : List ℕ} {r : Written} (fits : CountedFit ts ns d old) (puts : Puts (lengthToWrite (length ts)) old mid r) where
+  -- the count has room, so that it is written
+  count-written : (writtenOutcome r ≡ done (length (lengthOctets (length ts))))
+      × (mid ≡ lengthOctets (length ts) ++ drop (length (lengthOctets (length ts))) old)
   unfolding lengthToWrite unless
-  count-puts fits puts =
+  count-written =
+      let w = lengthOctets (length ts) in
       let small : ltb lengthLimit (length ts) ≡ false = le-ltb lengthLimit (length ts) (omega (arith, fits .few)) in
-      puts-all (lengthOctets (length ts)) old mid r
-      (omega (arith, fits .room, length-append (lengthOctets (length ts)) (fieldsOctets ts ns d)))
-      (rw small at puts)
+      let room : leb (length w) (length old) ≡ true
+      = le-leb (length w) (length old) (omega (arith, fits .room, length-append w (fieldsOctets ts ns d))) in
+      (rw (small, room) at (puts .answer), rw (small, room) at (puts .lent))
 
-  pub count-never : {x : Refusal} → CountedFit ts ns d old → Puts (lengthToWrite (length ts)) old mid r → r ≡ written.Refused x
-      → Laid (countedOctets ts ns d) old mid
-  count-never {x} fits puts is =
-      let z : _≡_ {A = ℕ} 0 1 = cc (count-puts fits puts .0, ap writtenOutcome is) in
+  pub count-never : {x : Refusal} → r ≡ written.Refused x → Put (countedOctets ts ns d) old mid 0
+  count-never is =
+      let z : _≡_ {A = ℕ} 0 1 = cc (count-written .0, ap writtenOutcome is) in
       absurd (omega arith)
 
-  module _ {size : ℕ} where
-    count-size : CountedFit ts ns d old → Puts (lengthToWrite (length ts)) old mid r → r ≡ written.Octets size
-        → size ≡ length (lengthOctets (length ts))
-    count-size fits puts is = cc (count-puts fits puts .0, ap writtenOutcome is)
+  module _ {at : ℕ} (is : r ≡ written.Octets at) where
+    count-is : Put (lengthOctets (length ts)) old mid at
+    count-is =
+        record {
+          inside = omega (arith, fits .room, length-append (lengthOctets (length ts)) (fieldsOctets ts ns d));
+          answer = cc (count-written .0, ap writtenOutcome is);
+          lent = count-written .1;
+        }
 
-    pub count-inside : CountedFit ts ns d old → Puts (lengthToWrite (length ts)) old mid r → r ≡ written.Octets size → size ≤ length mid
-    count-inside fits puts is =
-        omega (
-          arith,
-          count-size fits puts is,
-          ap length (count-puts fits puts .1),
-          length-append (lengthOctets (length ts)) (drop (length (lengthOctets (length ts))) old),
-        )
+    pub count-inside : at ≤ length mid
+    count-inside = omega (arith, count-is .inside, count-is .answer, put-long count-is)
 
-    pub count-fits : CountedFit ts ns d old → Puts (lengthToWrite (length ts)) old mid r → r ≡ written.Octets size
-        → FieldsFit ts ns d (rest size mid)
-    count-fits fits puts is =
-        let w = lengthOctets (length ts) in
+    pub count-fits : FieldsFit ts ns d (rest at mid)
+    count-fits =
         record {
           right = fits .right;
           room =
-              rw (rest-is size mid)
-              (omega (
-                arith,
-                length-drop size mid,
-                count-size fits puts is,
-                ap length (count-puts fits puts .1),
-                length-append w (drop (length w) old),
-                length-drop (length w) old,
-                fits .room,
-                length-append w (fieldsOctets ts ns d),
-              ));
+              room-left mid at (length (fieldsOctets ts ns d))
+              (omega (arith, fits .room, length-append (lengthOctets (length ts)) (fieldsOctets ts ns d), count-is .answer, put-long count-is));
         }
 
-    pub count-laid : {part : List ℕ} → CountedFit ts ns d old → Puts (lengthToWrite (length ts)) old mid r → r ≡ written.Octets size
-        → Laid (fieldsOctets ts ns d) (rest size mid) part
-        → Laid (countedOctets ts ns d) old (putMid size (length mid - size) mid part)
-    count-laid {part} fits puts is laid =
-        let w = lengthOctets (length ts) in
-        let e = count-size fits puts is in
-        record {
-          lent =
-              ap (λ (n : ℕ). putMid n (length mid - n) mid part) e
-              ∙ laid-twice w (fieldsOctets ts ns d) old mid part (count-puts fits puts .1)
-              (laid .lent ∙ ap (λ (n : ℕ). fieldsOctets ts ns d ++ drop (length (fieldsOctets ts ns d)) (rest n mid)) e);
-        }
+    module _ {part : List ℕ} {n : ℕ} (put : Put (fieldsOctets ts ns d) (rest at mid) part n) where
+      pub count-put : Put (countedOctets ts ns d) old (putMid at (length mid - at) mid part) (at + n)
+      count-put = put-next count-is put
 
-pub ruleset counteds = (count-never, count-inside, count-fits, count-laid)
+pub ruleset counteds = (count-never, count-inside, count-fits, count-put)
 
 -- ---- the packet
 module _ {k : Kind} {v : ℕ} {ts ns d old : List ℕ} where
@@ -124,14 +84,15 @@ module _ {k : Kind} {v : ℕ} {ts ns d old : List ℕ} where
     pub packet-after : PacketFits k v ts ns d old → 1 ≤ length (set old 0 r)
     packet-after fits = omega (arith, packet-some fits, length-set old 0 r)
 
+    -- the first octet lies at the front
+    first-put : PacketFits k v ts ns d old → Put (r ∷ []) old (set old 0 r) 1
+    first-put fits = put-one r put-none (packet-some fits)
+
     pub packet-first : PacketFits k v ts ns d old → r ≡ firstOctet (record { kind = k; value = v; present = ltb 0 (length ts) })
-        → not (ltb 0 (length ts)) ≡ true → Laid (laidOctets k v ts ns d) old (set old 0 r)
+        → not (ltb 0 (length ts)) ≡ true → Put (laidOctets k v ts ns d) old (set old 0 r) 1
     packet-first fits is none =
-        record {
-          lent =
-              one-set old r (packet-some fits) ∙ ap (λ (a : ℕ). a ∷ drop 1 old) is
-              ∙ ap (λ (l : List ℕ). l ++ drop (length l) old) (sym (packet-bare k v ts ns d (not-true _ none)));
-        }
+        let same : r ∷ [] ≡ laidOctets k v ts ns d = ap (λ (a : ℕ). a ∷ []) is ∙ sym (packet-bare k v ts ns d (not-true _ none)) in
+        subst (λ (l : List ℕ). Put l old (set old 0 r) 1) same (first-put fits)
 
     pub packet-fits : PacketFits k v ts ns d old → not (ltb 0 (length ts)) ≡ false → CountedFit ts ns d (rest 1 (set old 0 r))
     packet-fits fits some =
@@ -140,29 +101,28 @@ module _ {k : Kind} {v : ℕ} {ts ns d old : List ℕ} where
           few = form .few;
           right = record { same = form .same; all = form .all; known = form .types; short = form .short };
           room =
-              rw (rest-is 1 (set old 0 r))
-              (omega (
-                arith,
-                length-drop 1 (set old 0 r),
-                length-set old 0 r,
-                fits .room,
-                ap length (packet-full k v ts ns d (not-false _ some)),
-              ));
+              room-left (set old 0 r) 1 (length (countedOctets ts ns d))
+              (omega (arith, length-set old 0 r, fits .room, ap length (packet-full k v ts ns d (not-false _ some))));
         }
 
-    pub packet-laid : {part : List ℕ} → PacketFits k v ts ns d old
-        → r ≡ firstOctet (record { kind = k; value = v; present = ltb 0 (length ts) })
-        → not (ltb 0 (length ts)) ≡ false → Laid (countedOctets ts ns d) (rest 1 (set old 0 r)) part
-        → Laid (laidOctets k v ts ns d) old (putMid 1 (length (set old 0 r) - 1) (set old 0 r) part)
-    packet-laid {part} fits is some laid =
-        record {
-          lent =
-              laid-twice (r ∷ []) (countedOctets ts ns d) old (set old 0 r) part (one-set old r (packet-some fits)) (laid .lent)
-              ∙ ap (λ (l : List ℕ). l ++ drop (length l) old)
-              (ap (λ (a : ℕ). a ∷ countedOctets ts ns d) is ∙ sym (packet-full k v ts ns d (not-false _ some)));
-        }
+    module _ {part : List ℕ} {n : ℕ} where
+      pub packet-next : PacketFits k v ts ns d old → not (ltb 0 (length ts)) ≡ false → Put (countedOctets ts ns d) (rest 1 (set old 0 r)) part n
+          → 1 + n < 2 ^ 64
+      packet-next fits some put =
+          let short = write-form k v ts ns d _ (fits .allowed) .size in
+          omega (arith, ap length (packet-full k v ts ns d (not-false _ some)), put .answer)
 
-pub ruleset packets = (packet-value, packet-some, packet-after, packet-first, packet-fits, packet-laid)
+      pub packet-put : PacketFits k v ts ns d old
+          → r ≡ firstOctet (record { kind = k; value = v; present = ltb 0 (length ts) })
+          → not (ltb 0 (length ts)) ≡ false → Put (countedOctets ts ns d) (rest 1 (set old 0 r)) part n
+          → Put (laidOctets k v ts ns d) old (putMid 1 (length (set old 0 r) - 1) (set old 0 r) part) (1 + n)
+      packet-put fits is some put =
+          let same : r ∷ countedOctets ts ns d ≡ laidOctets k v ts ns d
+          = ap (λ (a : ℕ). a ∷ countedOctets ts ns d) is ∙ sym (packet-full k v ts ns d (not-false _ some)) in
+          subst (λ (l : List ℕ). Put l old (putMid 1 (length (set old 0 r) - 1) (set old 0 r) part) (1 + n)) same
+          (put-next (first-put fits) put)
+
+pub ruleset packets = (packet-value, packet-some, packet-after, packet-first, packet-fits, packet-next, packet-put)
 
 -- ---- the answers of `write`
 -- what is measured is written
@@ -191,17 +151,13 @@ module _ {k : Kind} {v : ℕ} {ts ns d old : List ℕ} {r : Written} where
 
     pub write-full : {x : Refusal} → Measured k v ts ns d r → r ≡ written.Octets n → length old < n → RefusalMade noRoom x
         → Puts (packetToWrite k v ts ns d) old old (written.Refused x)
-    write-full {x} measured is full made =
+    write-full measured is full made =
         let w = write-is measured is in
-        let short : leb (length (laidOctets k v ts ns d)) (length old) ≡ false = lt-leb (length (laidOctets k v ts ns d)) (length old) (omega (arith, w .1)) in
-        record { answer = rw (w .0, short, made .answer); lent = rw (w .0, short) }
+        rw (w .0) (full-puts made (omega (arith, w .1)))
 
-    pub write-done : {new : List ℕ} → Measured k v ts ns d r → r ≡ written.Octets n → n ≤ length old
-        → Laid (laidOctets k v ts ns d) old new
-        → Puts (packetToWrite k v ts ns d) old new (written.Octets n)
-    write-done {new} measured is room laid =
-        let w = write-is measured is in
-        let fits : leb (length (laidOctets k v ts ns d)) (length old) ≡ true = le-leb (length (laidOctets k v ts ns d)) (length old) (omega (arith, w .1)) in
-        record { answer = rw (w .0, fits, w .1); lent = rw (w .0, fits) (laid .lent) }
+    pub write-done : {new : List ℕ} {m : ℕ} → Measured k v ts ns d r → r ≡ written.Octets n
+        → Put (laidOctets k v ts ns d) old new m
+        → Puts (packetToWrite k v ts ns d) old new (written.Octets m)
+    write-done {new} {m} measured is put = rw (write-is measured is .0) (put-puts put)
 
 pub ruleset writes = (write-refused, write-fits, write-full, write-done)

@@ -14,8 +14,9 @@ ghost use lib.Dec.{leb};
 ghost use Rattle.lengths.specs.Promise.{Puts};
 ghost use Rattle.packets.specs.Packet.{fieldsLimit, typesLimit, every};
 ghost use Rattle.packets.specs.Write.{sum, total, oneEach, allAssigned, rightTypes, allRight, inSizes, packetToWrite};
-ghost use Rattle.packets.specs.Inner.Octets.{ofFlag, ofKind, firstOctet, fieldsOctets, laidOctets};
-ghost use Rattle.packets.specs.Inner.Items.{Wide, Sized, FieldsSized, packetSize, Measured, Laid, FullFits, FieldFits, FieldLaid, FieldsFit, CountedFit, countedOctets, Mark, PacketFits};
+ghost use Rattle.packets.specs.Inner.Octets.{ofFlag, ofKind, firstOctet, fieldOctets, fieldsOctets, laidOctets};
+ghost use Rattle.datagrams.specs.Inner.Put.{Put};
+ghost use Rattle.packets.specs.Inner.Items.{Wide, Sized, FieldsSized, packetSize, Measured, FullFits, FieldFits, FieldsFit, CountedFit, countedOctets, Mark, PacketFits};
 ghost use Rattle.datagrams.specs.Sizes.{packetLimit};
 
 // A length as a size.
@@ -194,7 +195,7 @@ fn measure(kind: Kind, value: u8, types: &[u8], lengths: &[u16], data: &[u8]) ->
 // A field without data at the front of out, and how many octets it took.
 fn put_bare(kind: u8, out: &mut [u8]) -> usize
     requires { ⌜ (kind ≤ typesLimit) × (1 ≤ length (now out)) ⌝ }
-    ensures { λ r. ⌜ FieldLaid kind [] (now (out .entry)) (now (out .exit)) r ⌝ }
+    ensures { λ r. ⌜ Put (fieldOctets kind []) (now (out .entry)) (now (out .exit)) r ⌝ }
 {
     out[0] = kind * 16;
     1
@@ -203,7 +204,7 @@ fn put_bare(kind: u8, out: &mut [u8]) -> usize
 // A field with data at the front of out, and how many octets it took.
 fn put_full(kind: u8, data: &[u8], out: &mut [u8]) -> usize
     requires { ⌜ FullFits kind (now «data») (now out) ⌝ }
-    ensures { λ r. ⌜ FieldLaid kind (now («data» .entry)) (now (out .entry)) (now (out .exit)) r ⌝ }
+    ensures { λ r. ⌜ Put (fieldOctets kind (now («data» .entry))) (now (out .entry)) (now (out .exit)) r ⌝ }
 {
     let size = data.len();
     let bits = 8 + kind;
@@ -212,14 +213,13 @@ fn put_full(kind: u8, data: &[u8], out: &mut [u8]) -> usize
     out[0] = bits * 16;
     out[1] = (high % 256) as u8;
     out[2] = (less % 256) as u8;
-    datagram_items::put_octets(data, &mut out[3..]);
-    3 + size
+    3 + datagram_items::put_octets(data, &mut out[3..])
 }
 
 // A field at the front of out, and how many octets it took.
 fn put_field(kind: u8, data: &[u8], out: &mut [u8]) -> usize
     requires { ⌜ FieldFits kind (now «data») (now out) ⌝ }
-    ensures { λ r. ⌜ FieldLaid kind (now («data» .entry)) (now (out .entry)) (now (out .exit)) r ⌝ }
+    ensures { λ r. ⌜ Put (fieldOctets kind (now («data» .entry))) (now (out .entry)) (now (out .exit)) r ⌝ }
 {
     if data.len() < 1 {
         return put_bare(kind, out);
@@ -227,10 +227,10 @@ fn put_field(kind: u8, data: &[u8], out: &mut [u8]) -> usize
     put_full(kind, data, out)
 }
 
-// As many fields as there are types at the front of out, the data of each the next part of data.
-fn put_fields(types: &[u8], lengths: &[u16], data: &[u8], out: &mut [u8])
+// As many fields as there are types at the front of out, the data of each the next part of data, and how many octets they took.
+fn put_fields(types: &[u8], lengths: &[u16], data: &[u8], out: &mut [u8]) -> usize
     requires { ⌜ FieldsFit (now types) (now lengths) (now «data») (now out) ⌝ }
-    ensures { λ _. ⌜ Laid (fieldsOctets (now (types .entry)) (now (lengths .entry)) (now («data» .entry))) (now (out .entry)) (now (out .exit)) ⌝ }
+    ensures { λ r. ⌜ Put (fieldsOctets (now (types .entry)) (now (lengths .entry)) (now («data» .entry))) (now (out .entry)) (now (out .exit)) r ⌝ }
 {
     let mut i: usize = 0;
     let mut from: usize = 0;
@@ -243,19 +243,21 @@ fn put_fields(types: &[u8], lengths: &[u16], data: &[u8], out: &mut [u8])
         from = to;
         i += 1;
     }
+    at
 }
 
-// The count of fields and the fields at the front of out.
-fn put_counted(types: &[u8], lengths: &[u16], data: &[u8], out: &mut [u8])
+// The count of fields and the fields at the front of out, and how many octets they took.
+fn put_counted(types: &[u8], lengths: &[u16], data: &[u8], out: &mut [u8]) -> usize
     requires { ⌜ CountedFit (now types) (now lengths) (now «data») (now out) ⌝ }
-    ensures { λ _. ⌜ Laid (countedOctets (now (types .entry)) (now (lengths .entry)) (now («data» .entry))) (now (out .entry)) (now (out .exit)) ⌝ }
+    ensures { λ r. ⌜ Put (countedOctets (now (types .entry)) (now (lengths .entry)) (now («data» .entry))) (now (out .entry)) (now (out .exit)) r ⌝ }
 {
     let count = lengths::write(types.len(), &mut *out);
     // at most 16 fields, and room for their count: it is never refused
-    let Written::Octets(size) = count else {
-        return;
+    let Written::Octets(at) = count else {
+        return 0;
     };
-    put_fields(types, lengths, data, &mut out[size..]);
+    let size = put_fields(types, lengths, data, &mut out[at..]);
+    at + size
 }
 
 // The top bit of the first octet: data field present.
@@ -288,17 +290,24 @@ fn first_octet(kind: Kind, value: u8, present: bool) -> u8
     high + low
 }
 
-// A packet at the front of out.
-fn put_packet(kind: Kind, value: u8, types: &[u8], lengths: &[u16], data: &[u8], out: &mut [u8])
+// A packet at the front of out, and how many octets it took.
+fn put_packet(
+    kind: Kind,
+    value: u8,
+    types: &[u8],
+    lengths: &[u16],
+    data: &[u8],
+    out: &mut [u8],
+) -> usize
     requires { ⌜ PacketFits kind value (now types) (now lengths) (now «data») (now out) ⌝ }
-    ensures { λ _. ⌜ Laid (laidOctets kind value (now (types .entry)) (now (lengths .entry)) (now («data» .entry))) (now (out .entry)) (now (out .exit)) ⌝ }
+    ensures { λ r. ⌜ Put (laidOctets kind value (now (types .entry)) (now (lengths .entry)) (now («data» .entry))) (now (out .entry)) (now (out .exit)) r ⌝ }
 {
     let present = 0 < types.len();
     out[0] = first_octet(kind, value, present);
     if !present {
-        return;
+        return 1;
     }
-    put_counted(types, lengths, data, &mut out[1..]);
+    1 + put_counted(types, lengths, data, &mut out[1..])
 }
 
 // A packet, written to the front of out. A refusal writes nothing.
@@ -318,8 +327,7 @@ pub fn write(
             if out.len() < size {
                 return Written::Refused(Refusal::new(Refusal::NO_ROOM));
             }
-            put_packet(kind, value, types, lengths, data, out);
-            Written::Octets(size)
+            Written::Octets(put_packet(kind, value, types, lengths, data, out))
         }
     }
 }

@@ -4,7 +4,7 @@ use Prim.Native.Nat.{ℕ, _+_, _*_, _<_, _≤_}
 use mathlib.Core.Path.{_≡_}
 use mathlib.Core.Bool.{true, cond}
 use mathlib.Core.List.{List, _++_}
-use lib.ListN.{length, drop}
+use lib.ListN.{length}
 use lib.Dec.{leb, ltb}
 use Rattle.lengths.specs.Answers.{done, writtenOutcome, sizeOf}
 use Rattle.lengths.specs.Length.{lengthOctets}
@@ -42,11 +42,7 @@ packetSize lengths = cond (ltb 0 (length lengths)) (2 + total fieldSize lengths)
 pub record Measured (kind : Kind) (value : ℕ) (types lengths octets : List ℕ) (r : Written) : Type 0 where
   pub answer : writtenOutcome r ≡ sizeOf (packetToWrite kind value types lengths octets)
 
--- ---- writing: what has room, and what lies in the buffer afterwards
--- octets lie at the front of a lent part, and the rest of it stays
-pub record Laid (octets old new : List ℕ) : Type 0 where
-  pub lent : new ≡ octets ++ drop (length octets) old
-
+-- ---- writing: what has room
 -- a field has room, and one with data has
 pub record FieldFits (kind : ℕ) (octets old : List ℕ) : Type 0 where
   pub type : kind ≤ typesLimit
@@ -58,11 +54,6 @@ pub record FullFits (kind : ℕ) (octets old : List ℕ) : Type 0 where
   pub some : 1 ≤ length octets
   pub short : length octets ≤ packetLimit
   pub room : 3 + length octets ≤ length old
-
--- a field lies at the front, and how many octets it took
-pub record FieldLaid (kind : ℕ) (octets old new : List ℕ) (r : ℕ) : Type 0 where
-  pub answer : r ≡ length (fieldOctets kind octets)
-  pub lent : new ≡ fieldOctets kind octets ++ drop (length (fieldOctets kind octets)) old
 
 -- types, lengths and data from which fields can be put
 pub record FieldsRight (types lengths octets : List ℕ) : Type 0 where

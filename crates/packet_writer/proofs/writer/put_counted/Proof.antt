@@ -32,6 +32,9 @@ part-put-fields-end c = search needs
 put-fields-requires : tie.Need-put-fields-requires
 put-fields-requires c κs = search counteds
 
+add-result : tie.Need-add-result
+add-result c = search needs
+
 same-length-2 : tie.Need-same-length-2
 same-length-2 c = search needs
 
@@ -51,5 +54,6 @@ put-counted-spec =
     part-put-fields-start
     part-put-fields-end
     put-fields-requires
+    add-result
     same-length-2
     returns-2)

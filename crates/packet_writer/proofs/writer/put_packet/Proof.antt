@@ -31,6 +31,9 @@ part-put-counted-end c = search needs
 put-counted-requires : tie.Need-put-counted-requires
 put-counted-requires c κs = search packets
 
+add-result : tie.Need-add-result
+add-result c = search packets
+
 same-length-2 : tie.Need-same-length-2
 same-length-2 c = c .before .out .given .1 ∙ simp length-set
 
@@ -49,5 +52,6 @@ put-packet-spec =
     part-put-counted-start
     part-put-counted-end
     put-counted-requires
+    add-result
     same-length-2
     returns-2)
