@@ -31,8 +31,7 @@ use Rattle.packets.specs.Packet.{allData, readPacket}
 use Rattle.packets.specs.Write.{packetOctets, packetWriterRows, packetToWrite}
 use Rattle.packets.specs.declared.types.Kind as packets
 use Rattle.packets.specs.declared.types.Ending.the-variants.{Whole, Repaired}
-use Rattle.packets.proofs.ReadLaws.{packet-form}
-use Rattle.packets.proofs.ReadAt.{read-at}
+use Rattle.packets.proofs.Laws.{packet-form, read-at}
 use Rattle.packets.proofs.Claims as packet-claims
 use Rattle.views.specs.Cells.{unknownAt, keptBefore, keptAhead}
 use Rattle.views.specs.View.{View, sum, distance, sessionLimit}

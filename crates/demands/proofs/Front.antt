@@ -17,9 +17,8 @@ use Rattle.lengths.proofs.Laws.{Form, one, two, form, lengthAt-one, lengthAt-tw
 use Rattle.packets.specs.Packet.{First, every, PacketAnswer, allZero, readPacket}
 use Rattle.packets.specs.Inner.Octets.{Place, firstAt, Count, countAt, headerAt, sizeAt, FieldAnswer, fieldAt, FieldsAnswer, fieldsAt}
 use Rattle.packets.specs.declared.types.Ending.the-variants.{Whole, Repaired}
-use Rattle.packets.proofs.ReadAt.{read-at}
-use Rattle.packets.proofs.ReadLaws.{stepped, first-form, first-of, count-form, count-of, header-form, header-of, size-form, size-of}
-use Rattle.packets.proofs.ReadLaws.{FieldForm, bare, full, field-form, bare-of, full-of, packet-form, packet-of}
+use Rattle.packets.proofs.Laws.{read-at, stepped, first-form, first-of, count-form, count-of, header-form, header-of, size-form, size-of}
+use Rattle.packets.proofs.Laws.{FieldForm, bare, full, field-form, bare-of, full-of, packet-form, packet-of}
 
 -- ---- each item from the front alone
 module _ (w more : List ℕ) where

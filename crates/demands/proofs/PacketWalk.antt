@@ -13,8 +13,8 @@ use Rattle.lengths.specs.Answers.{Answer, done, refused, _>>=_}
 use Rattle.lengths.specs.Length.{lengthAt}
 use Rattle.datagrams.specs.Sizes.{packetLimit}
 use Rattle.packets.specs.Packet.{readPacket}
-use Rattle.packets.specs.Inner.Octets.{Place, firstOf, headerOf, firstAt, countIn, countAt, HeaderAnswer, headerAt, sizeAt, FieldAnswer, afterHeader, fieldAt, FieldsAnswer, fieldsAt, endAt, packetAt}
-use Rattle.packets.proofs.ReadAt.{read-at}
+use Rattle.packets.specs.Inner.Octets.{Place, firstOf, headerOf, firstAt, countIn, countAt, HeaderAnswer, headerAt, sizeAt, FieldAnswer, afterHeader, fieldAt, FieldsAnswer, fieldsAt, endAt, packetByOctets}
+use Rattle.packets.proofs.Laws.{read-at}
 use Rattle.packets.specs.declared.types.Ending.{Ending}
 use Rattle.lengths.specs.Tables.{first, refusalIn}
 use Rattle.demands.specs.PacketItems.{Item, firstOctet, countOfFields, header, dataLength, fieldData, end, fields}
@@ -152,7 +152,7 @@ module _ {B : Type 0} (ending : Ending) (s : List ℕ) where
       fields-walk 0 1 _ (λ a. ap refusalIn (end-table ending s (a .next) (make a)) ∙ answered-number _ (make a))
 
 pub packet-walk : (ending : Ending) (s : List ℕ) → length s ≤ packetLimit → refusalIn (readPacket ending s) ≡ from ending firstOctet s
-unfolding packetAt from firstFrom
+unfolding packetByOctets from firstFrom
 packet-walk ending s fits =
     let o = first (rows ending firstOctet s) in
     let f = firstOf (getD s 0 0) in

@@ -21,18 +21,18 @@ use Rattle.sending.specs.Send.{datagramToSend}
 use Rattle.demands.specs.Sheet.{Losing0, TwelveCases}
 
 losing-0 : Losing0
-unfolding readPacket packets.whole packets.packet packets.start packets.first packets.enumerated packets.root packets.addition
+unfolding readPacket packets.wholePacket packets.packet packets.start packets.typeOfMsg packets.enumerated packets.root packets.addition
     packets.dataField packets.count packets.field packets.header packets.fieldData packets.size
-    reading.bit reading.bits reading.flag reading.align reading.octetwise reading.many octetsFront twoFront every lengthAt
+    reading.bit reading.bits reading.flag reading.align reading.octetwise reading.sequenceOf octetsFront twoFront every lengthAt
     tab xorAt exclusiveOr longest membersOf passing usable firstUsable mended fill repairF repair messagesOf messagesFrom heldMessages
     readDatagram carriedBy numberOf wholeOf extraAt sparesAt parityAt itemsAt itemAt sizedAt octetAt allowed endOf
     freshView keep keepSpares accept offered offer
 losing-0 = record { with1 = _; after = _; first = refl; second = refl; cell = refl; reads = refl }
 
 pub twelve-cases : TwelveCases
-unfolding readPacket packets.whole packets.packet packets.start packets.first packets.enumerated packets.root packets.addition
+unfolding readPacket packets.wholePacket packets.packet packets.start packets.typeOfMsg packets.enumerated packets.root packets.addition
     packets.dataField packets.count packets.field packets.header packets.fieldData packets.size
-    reading.bit reading.bits reading.flag reading.align reading.octetwise reading.many octetsFront twoFront every lengthAt lengthToWrite lengthOctets unless
+    reading.bit reading.bits reading.flag reading.align reading.octetwise reading.sequenceOf octetsFront twoFront every lengthAt lengthToWrite lengthOctets unless
     tab xorAt exclusiveOr longest membersOf freshSending sentOn carries.sparesFrom carries.messagesFrom datagramToSend
     numberOctets itemOctets itemsOctets countedOctets datagramOctets
 twelve-cases =

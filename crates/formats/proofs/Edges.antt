@@ -8,7 +8,7 @@ use native.Mathlib.Nat.{pow-suc, mul-one, mul-assoc, mod-one, mod-eq-of-lt, div-
 use native.Mathlib.Omega.{arith}
 use borrow.Author.Tests.{lt-ltb, le-ltb, eq-eqb, ne-eqb}
 use Rattle.lengths.specs.Refusals.{endsEarly, spareBit}
-use Rattle.formats.specs.Reading.{Found, found, andThen, stop, bit, bits, flag, align, octetwise}
+use Rattle.formats.specs.Reading.{Finding, found, andThen, stop, bit, bits, flag, align, octetwise}
 use Rattle.formats.specs.Format as format
 use Rattle.formats.proofs.Standing.{low-bits, pow-some}
 
@@ -87,7 +87,7 @@ align-edge s i p at is =
 
 module _ {A : Type 0} where
   -- whole octets from an edge on
-  pub octetwise-edge : (front : List ℕ → Found A) (octets : A → List ℕ) (right : A → Type 0) (s : List ℕ) (i p at : ℕ) → p ≡ 8 * at
+  pub octetwise-edge : (front : List ℕ → Finding A) (octets : A → List ℕ) (right : A → Type 0) (s : List ℕ) (i p at : ℕ) → p ≡ 8 * at
       → format.octetwise front octets right .read s i p ≡ andThen (front (drop at s)) (λ a n. found a (8 * n + p))
   unfolding octetwise
   octetwise-edge front octets right s i p at is =

@@ -7,20 +7,20 @@ use lib.ListN.{length}
 use native.Mathlib.Nat.{mod-lt}
 use native.Mathlib.Omega.{arith}
 use Rattle.lengths.specs.Claims.{Octets}
-use Rattle.formats.specs.Spelling.{Cell, bit, octet, spelt, whole, wide}
+use Rattle.formats.specs.Spelling.{Letter, bit, octet, spelt, whole, wide}
 use Rattle.formats.specs.Reading.{found, check}
 use Rattle.formats.specs.Reading as reading
-use Rattle.formats.specs.Format.{Format, octets, known, item, guarded, demand, _⊳_, made, manySpelt, manyFit, many}
+use Rattle.formats.specs.Format.{Format, octets, known, item, guarded, demand, _⊳_, made, sequenceSpelt, sequenceFits, sequenceOf}
 use Rattle.formats.proofs.Standing.{Reads, Spells, stepped, passed, reads-bind, reads-made, reads-give, spells-none, spells-join}
 
 -- ---- what may be packed into octets
 -- from a place on: each bit is one, each whole octet begins at an octet edge
-unfoldable pub Formed : ℕ → List Cell → Type 0
+unfoldable pub Formed : ℕ → List Letter → Type 0
 Formed p [] = Unit {0}
-Formed p (bit b ∷ cells) = (b < 2) × Formed (1 + p) cells
-Formed p (octet x ∷ cells) = (p % 8 ≡ 0) × Formed (8 + p) cells
+Formed p (bit b ∷ letters) = (b < 2) × Formed (1 + p) letters
+Formed p (octet x ∷ letters) = (p % 8 ≡ 0) × Formed (8 + p) letters
 
-pub formed-append : (p : ℕ) (a b : List Cell) → Formed p a → Formed (wide a + p) b → Formed p (a ++ b)
+pub formed-append : (p : ℕ) (a b : List Letter) → Formed p a → Formed (wide a + p) b → Formed p (a ++ b)
 unfolding Formed wide
 formed-append p [] b x y = let e : 0 + p ≡ p = omega arith in rw e at y
 formed-append p (bit c ∷ a) b x y =
@@ -155,48 +155,48 @@ module _ {A : Type 0} where
   lawful-either true l m = l
   lawful-either false l m = m
 
-  many-reads : {f : Format A} → Lawful f → (l : List A) (p : ℕ) → manyFit f l p
-      → Reads (reading.many (length l) (f .read)) p l (manySpelt f l p)
-  unfolding reading.many manyFit manySpelt
-  many-reads {f} law [] p fits = reads-give
-  many-reads {f} law (a ∷ l) p fits =
-      reads-bind _ (law .reads a p (fits .0)) (reads-made (λ r. a ∷ r) (many-reads law l (wide (f .spelling a p) + p) (fits .1)))
+  sequence-reads : {f : Format A} → Lawful f → (l : List A) (p : ℕ) → sequenceFits f l p
+      → Reads (reading.sequenceOf (length l) (f .read)) p l (sequenceSpelt f l p)
+  unfolding reading.sequenceOf sequenceFits sequenceSpelt
+  sequence-reads {f} law [] p fits = reads-give
+  sequence-reads {f} law (a ∷ l) p fits =
+      reads-bind _ (law .reads a p (fits .0)) (reads-made (λ r. a ∷ r) (sequence-reads law l (wide (f .spelling a p) + p) (fits .1)))
 
-  many-formed : {f : Format A} → Lawful f → (l : List A) (p : ℕ) → manyFit f l p → Formed p (manySpelt f l p)
-  unfolding manyFit manySpelt
-  many-formed law [] p fits = formed-none p
-  many-formed {f} law (a ∷ l) p fits =
-      formed-append p (f .spelling a p) _ (law .formed a p (fits .0)) (many-formed law l (wide (f .spelling a p) + p) (fits .1))
+  sequence-formed : {f : Format A} → Lawful f → (l : List A) (p : ℕ) → sequenceFits f l p → Formed p (sequenceSpelt f l p)
+  unfolding sequenceFits sequenceSpelt
+  sequence-formed law [] p fits = formed-none p
+  sequence-formed {f} law (a ∷ l) p fits =
+      formed-append p (f .spelling a p) _ (law .formed a p (fits .0)) (sequence-formed law l (wide (f .spelling a p) + p) (fits .1))
 
-  many-back : {f : Format A} → Lawful f → (n : ℕ) (s : List ℕ) (i p : ℕ) (l : List A) (q : ℕ) → Octets s
-      → reading.many n (f .read) s i p ≡ found l q → Back (many n f) s p l q
-  unfolding reading.many manyFit manySpelt
-  many-back {f} law zero s i p l q small e =
+  sequence-back : {f : Format A} → Lawful f → (n : ℕ) (s : List ℕ) (i p : ℕ) (l : List A) (q : ℕ) → Octets s
+      → reading.sequenceOf n (f .read) s i p ≡ found l q → Back (sequenceOf n f) s p l q
+  unfolding reading.sequenceOf sequenceFits sequenceSpelt
+  sequence-back {f} law zero s i p l q small e =
       let is : [] ≡ l = cc in
       let next : p ≡ q = cc in
-      back-same {f = many 0 f} (record { fits = (tt, refl); spells = spells-none refl }) is next
-  many-back {f} law (suc n) s i p l q small e =
+      back-same {f = sequenceOf 0 f} (record { fits = (tt, refl); spells = spells-none refl }) is next
+  sequence-back {f} law (suc n) s i p l q small e =
       let first = stepped (f .read s i p) _ l q e in
-      let second = stepped (reading.many n (f .read) s i (first .at)) _ l q (first .gave) in
+      let second = stepped (reading.sequenceOf n (f .read) s i (first .at)) _ l q (first .gave) in
       let a = law .back s i p (first .value) (first .at) small (first .was) in
-      let b = many-back law n s i (first .at) (second .value) (second .at) small (second .was) in
+      let b = sequence-back law n s i (first .at) (second .value) (second .at) small (second .was) in
       let is : first .value ∷ second .value ≡ l = cc in
       let next : second .at ≡ q = cc in
-      back-same {f = many (suc n) f} (joined (first .value) (second .value) a b) is next where
-        joined : {s : List ℕ} {p m q : ℕ} (a : A) (l : List A) → Back f s p a m → Back (many n f) s m l q
-            → Back (many (suc n) f) s p (a ∷ l) q
+      back-same {f = sequenceOf (suc n) f} (joined (first .value) (second .value) a b) is next where
+        joined : {s : List ℕ} {p m q : ℕ} (a : A) (l : List A) → Back f s p a m → Back (sequenceOf n f) s m l q
+            → Back (sequenceOf (suc n) f) s p (a ∷ l) q
         joined {s} {p} {m} {q} a l x y =
-            let z : Back (many n f) s (wide (f .spelling a p) + p) l q
-            = subst (λ (k : ℕ). Back (many n f) s k l q) (x .spells .next) y in
+            let z : Back (sequenceOf n f) s (wide (f .spelling a p) + p) l q
+            = subst (λ (k : ℕ). Back (sequenceOf n f) s k l q) (x .spells .next) y in
             record {
               fits = ((x .fits, z .fits .0), ap suc (z .fits .1));
               spells = spells-join (record { stands = x .spells .stands; next = refl }) (z .spells);
             }
 
-  pub lawful-many : (n : ℕ) {f : Format A} → Lawful f → Lawful (many n f)
-  lawful-many n law =
+  pub lawful-sequence-of : (n : ℕ) {f : Format A} → Lawful f → Lawful (sequenceOf n f)
+  lawful-sequence-of n law =
       record {
-        reads = λ l p fits. rw (fits .1) at (many-reads law l p (fits .0));
-        formed = λ l p fits. many-formed law l p (fits .0);
-        back = λ s i p l q small e. many-back law n s i p l q small e;
+        reads = λ l p fits. rw (fits .1) at (sequence-reads law l p (fits .0));
+        formed = λ l p fits. sequence-formed law l p (fits .0);
+        back = λ s i p l q small e. sequence-back law n s i p l q small e;
       }

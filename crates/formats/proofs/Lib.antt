@@ -1,5 +1,6 @@
-pub mod Standing
-pub mod Lawful
-pub mod Parts
-pub mod Packing
-pub mod Edges
+mod Standing
+mod Lawful
+mod Parts
+mod Packing
+mod Edges
+pub mod Laws

@@ -15,25 +15,25 @@ use Rattle.lengths.specs.Claims.{Octets}
 use Rattle.lengths.specs.Length.{lengthAt, lengthOctets, lengthLimit}
 use Rattle.lengths.proofs.Laws.{written-reads, read-writes, value-read, sizes-read}
 use Rattle.formats.specs.Spelling.{bit, spelt, whole, wide, gap}
-use Rattle.formats.specs.Reading.{Found, found, stopped}
+use Rattle.formats.specs.Reading.{Finding, found, stopped}
 use Rattle.formats.specs.Reading as reading
-use Rattle.formats.specs.Format.{ofFlag, flag, bits, align, here, octetwise, octetsFront, octets, twoFront, twoOctets, lengthFound, lengthRule}
+use Rattle.formats.specs.Format.{flagBit, flag, bits, align, here, octetwise, octetsFront, octets, twoFront, twoOctets, lengthFound, lengthRule}
 use Rattle.formats.proofs.Standing.{Stands, Reads, Spells, stepped, passed, reads-bind, reads-made, reads-bit, reads-spelt, bit-form, bits-form, pow-some, wide-spelt, spells-none, spells-join}
 use Rattle.formats.proofs.Lawful.{Formed, formed-append, formed-none, formed-spelt, formed-whole, Lawful, back-same}
 
 -- ---- bits
-flag-reads : (b : Bool) (p : ℕ) → Reads reading.flag p b (bit (ofFlag b) ∷ [])
+flag-reads : (b : Bool) (p : ℕ) → Reads reading.flag p b (bit (flagBit b) ∷ [])
 unfolding reading.flag
 flag-reads true p = reads-made (λ x. ltb 0 x) reads-bit
 flag-reads false p = reads-made (λ x. ltb 0 x) reads-bit
 
-flag-back : (b : ℕ) → b < 2 → ofFlag (ltb 0 b) ≡ b
+flag-back : (b : ℕ) → b < 2 → flagBit (ltb 0 b) ≡ b
 flag-back b small = by (ltb 0 b) refl where
-  by : (t : Bool) → ltb 0 b ≡ t → ofFlag t ≡ b
+  by : (t : Bool) → ltb 0 b ≡ t → flagBit t ≡ b
   by true e = omega (arith, ltb-true 0 b e)
   by false e = omega (arith, ltb-false 0 b e)
 
-flag-formed : (b : Bool) (p : ℕ) → Formed p (bit (ofFlag b) ∷ [])
+flag-formed : (b : Bool) (p : ℕ) → Formed p (bit (flagBit b) ∷ [])
 unfolding Formed
 flag-formed true p = (omega arith, tt)
 flag-formed false p = (omega arith, tt)
@@ -52,7 +52,7 @@ lawful-flag =
           let next : first .at ≡ q = cc in
           back-same {f = flag} (record { fits = tt; spells = spelled (first .value) (form .small) (form .spells) }) is next;
     } where
-      spelled : {s : List ℕ} {p q : ℕ} (b : ℕ) → b < 2 → Spells s p q (bit b ∷ []) → Spells s p q (bit (ofFlag (ltb 0 b)) ∷ [])
+      spelled : {s : List ℕ} {p q : ℕ} (b : ℕ) → b < 2 → Spells s p q (bit b ∷ []) → Spells s p q (bit (flagBit (ltb 0 b)) ∷ [])
       spelled b small x = rw (flag-back b small) x
 
 pub lawful-bits : (n : ℕ) → Lawful (bits n)
@@ -132,11 +132,11 @@ octets-rest n s small i = rw (getD-drop n s i 0) (small (n + i))
 
 -- what is asked of octets and their front
 module _ {A : Type 0} where
-  pub record Fronts (front : List ℕ → Found A) (octets : A → List ℕ) (right : A → Type 0) : Type 0 where
+  pub record Fronts (front : List ℕ → Finding A) (octets : A → List ℕ) (right : A → Type 0) : Type 0 where
     pub reads : (a : A) (rest : List ℕ) → right a → front (octets a ++ rest) ≡ found a (length (octets a))
     pub back : (s : List ℕ) (a : A) (n : ℕ) → Octets s → front s ≡ found a n → (right a) × (octets a ≡ take n s) × (n ≤ length s)
 
-  pub lawful-octetwise : {front : List ℕ → Found A} {octets : A → List ℕ} {right : A → Type 0} → Fronts front octets right
+  pub lawful-octetwise : {front : List ℕ → Finding A} {octets : A → List ℕ} {right : A → Type 0} → Fronts front octets right
       → Lawful (octetwise front octets right)
   unfolding reading.octetwise
   lawful-octetwise {front} {octets} {right} f =

@@ -9,24 +9,24 @@ use native.Mathlib.Nat.{pow-suc, one-le-pow, mul-assoc, mul-comm, add-mul, one-m
 use native.Mathlib.Omega.{arith}
 use borrow.Author.Tests.{lt-ltb, ltb-true}
 use Rattle.lengths.specs.Refusals.{endsEarly}
-use Rattle.formats.specs.Spelling.{Cell, bit, octet, spelt, wide}
-use Rattle.formats.specs.Reading.{Found, found, stopped, andThen, Reader, _>>=_, give, stop, check, bitAt}
+use Rattle.formats.specs.Spelling.{Letter, bit, octet, spelt, wide}
+use Rattle.formats.specs.Reading.{Finding, found, stopped, andThen, Reader, _>>=_, give, stop, check, bitAt}
 use Rattle.formats.specs.Reading as reading
 
 -- ---- what stands where
--- some octets, from a place on, begin with these cells
-unfoldable pub Stands : List ℕ → ℕ → List Cell → Type 0
+-- some octets, from a place on, begin with these letters
+unfoldable pub Stands : List ℕ → ℕ → List Letter → Type 0
 Stands s p [] = Unit {0}
-Stands s p (bit b ∷ cells) = (p < 8 * length s) × (bitAt s p ≡ b) × Stands s (1 + p) cells
-Stands s p (octet x ∷ cells) = (p % 8 ≡ 0) × (p / 8 < length s) × (getD s (p / 8) 0 ≡ x) × Stands s (8 + p) cells
+Stands s p (bit b ∷ letters) = (p < 8 * length s) × (bitAt s p ≡ b) × Stands s (1 + p) letters
+Stands s p (octet x ∷ letters) = (p % 8 ≡ 0) × (p / 8 < length s) × (getD s (p / 8) 0 ≡ x) × Stands s (8 + p) letters
 
-pub wide-append : (a b : List Cell) → wide (a ++ b) ≡ wide a + wide b
+pub wide-append : (a b : List Letter) → wide (a ++ b) ≡ wide a + wide b
 unfolding wide
 wide-append [] b = omega arith
 wide-append (bit x ∷ a) b = omega (arith, wide-append a b)
 wide-append (octet x ∷ a) b = omega (arith, wide-append a b)
 
-pub stands-join : (s : List ℕ) (p : ℕ) (a b : List Cell) → Stands s p a → Stands s (wide a + p) b → Stands s p (a ++ b)
+pub stands-join : (s : List ℕ) (p : ℕ) (a b : List Letter) → Stands s p a → Stands s (wide a + p) b → Stands s p (a ++ b)
 unfolding Stands wide
 stands-join s p [] b x y = let e : 0 + p ≡ p = omega arith in rw e at y
 stands-join s p (bit c ∷ a) b x y =
@@ -36,13 +36,13 @@ stands-join s p (octet c ∷ a) b x y =
     let e : 8 + wide a + p ≡ wide a + (8 + p) = omega arith in
     (x .0, x .1, x .2, stands-join s (8 + p) a b (x .3) (rw e at y))
 
-pub stands-left : (s : List ℕ) (p : ℕ) (a b : List Cell) → Stands s p (a ++ b) → Stands s p a
+pub stands-left : (s : List ℕ) (p : ℕ) (a b : List Letter) → Stands s p (a ++ b) → Stands s p a
 unfolding Stands
 stands-left s p [] b x = tt
 stands-left s p (bit c ∷ a) b x = (x .0, x .1, stands-left s (1 + p) a b (x .2))
 stands-left s p (octet c ∷ a) b x = (x .0, x .1, x .2, stands-left s (8 + p) a b (x .3))
 
-pub stands-right : (s : List ℕ) (p : ℕ) (a b : List Cell) → Stands s p (a ++ b) → Stands s (wide a + p) b
+pub stands-right : (s : List ℕ) (p : ℕ) (a b : List Letter) → Stands s p (a ++ b) → Stands s (wide a + p) b
 unfolding Stands wide
 stands-right s p [] b x = let e : 0 + p ≡ p = omega arith in rw e x
 stands-right s p (bit c ∷ a) b x =
@@ -52,25 +52,25 @@ stands-right s p (octet c ∷ a) b x =
     let e : wide a + (8 + p) ≡ 8 + wide a + p = omega arith in
     rw e at (stands-right s (8 + p) a b (x .3))
 
-pub stands-inside : (s : List ℕ) (p : ℕ) (cells : List Cell) → p ≤ 8 * length s → Stands s p cells → wide cells + p ≤ 8 * length s
+pub stands-inside : (s : List ℕ) (p : ℕ) (letters : List Letter) → p ≤ 8 * length s → Stands s p letters → wide letters + p ≤ 8 * length s
 unfolding Stands wide
 stands-inside s p [] h st = omega arith
-stands-inside s p (bit b ∷ cells) h st =
+stands-inside s p (bit b ∷ letters) h st =
     let here = st .0 in
-    let rest = stands-inside s (1 + p) cells (omega arith) (st .2) in
+    let rest = stands-inside s (1 + p) letters (omega arith) (st .2) in
     omega arith
-stands-inside s p (octet x ∷ cells) h st =
+stands-inside s p (octet x ∷ letters) h st =
     let edge = st .0 in
     let here = st .1 in
-    let rest = stands-inside s (8 + p) cells (omega arith) (st .3) in
+    let rest = stands-inside s (8 + p) letters (omega arith) (st .3) in
     omega arith
 
--- ---- a reader reads these cells as this value
-pub record Reads {A : Type 0} (r : Reader A) (p : ℕ) (a : A) (cells : List Cell) : Type 0 where
-  pub reads : (s : List ℕ) (i : ℕ) → Stands s p cells → r s i p ≡ found a (wide cells + p)
+-- ---- a reader reads these letters as this value
+pub record Reads {A : Type 0} (r : Reader A) (p : ℕ) (a : A) (letters : List Letter) : Type 0 where
+  pub reads : (s : List ℕ) (i : ℕ) → Stands s p letters → r s i p ≡ found a (wide letters + p)
 
 module _ {A B : Type 0} where
-  pub reads-bind : {r : Reader A} (next : A → Reader B) {p : ℕ} {a : A} {b : B} {bs cs : List Cell}
+  pub reads-bind : {r : Reader A} (next : A → Reader B) {p : ℕ} {a : A} {b : B} {bs cs : List Letter}
       → Reads r p a bs → Reads (next a) (wide bs + p) b cs → Reads (_>>=_ r next) p b (bs ++ cs)
   reads-bind {r} next {p} {a} {b} {bs} {cs} x y =
       record {
@@ -82,8 +82,8 @@ module _ {A B : Type 0} where
       }
 
   -- a value, and what is made of it
-  pub reads-made : {r : Reader A} (make : A → B) {p : ℕ} {a : A} {cells : List Cell} → Reads r p a cells
-      → Reads (do x ← r; give (make x)) p (make a) cells
+  pub reads-made : {r : Reader A} (make : A → B) {p : ℕ} {a : A} {letters : List Letter} → Reads r p a letters
+      → Reads (do x ← r; give (make x)) p (make a) letters
   reads-made make x = record { reads = λ s i st. rw (x .reads s i st) }
 
 module _ {A : Type 0} where
@@ -158,13 +158,13 @@ reads-spelt n {p} {v} small = rw (mod-eq-of-lt small) at (reads-low n v {p = p})
 -- ---- what was read stands there
 module _ {A B : Type 0} where
   -- the step that came first was done, and the next one with its value
-  pub record Stepped (first : Found A) (next : A → ℕ → Found B) (b : B) (q : ℕ) : Type 0 where
+  pub record Stepped (first : Finding A) (next : A → ℕ → Finding B) (b : B) (q : ℕ) : Type 0 where
     pub value : A
     pub at : ℕ
     pub was : first ≡ found value at
     pub gave : next value at ≡ found b q
 
-  pub stepped : (first : Found A) (next : A → ℕ → Found B) (b : B) (q : ℕ) → andThen first next ≡ found b q → Stepped first next b q
+  pub stepped : (first : Finding A) (next : A → ℕ → Finding B) (b : B) (q : ℕ) → andThen first next ≡ found b q → Stepped first next b q
   stepped (found a p) next b q e = record { value = a; at = p; was = refl; gave = e }
   stepped (stopped r) next b q e = let z : _≡_ {A = ℕ} 0 1 = cc in absurd (omega arith)
 
@@ -177,15 +177,15 @@ pub passed : (n : ℕ) (test : Bool) (s : List ℕ) (i p : ℕ) (u : Unit {0}) (
 passed n true s i p u q e = record { holds = refl; stays = cc }
 passed n false s i p u q e = let z : _≡_ {A = ℕ} 0 1 = cc in absurd (omega arith)
 
-pub record Spells (s : List ℕ) (p q : ℕ) (cells : List Cell) : Type 0 where
-  pub stands : Stands s p cells
-  pub next : q ≡ wide cells + p
+pub record Spells (s : List ℕ) (p q : ℕ) (letters : List Letter) : Type 0 where
+  pub stands : Stands s p letters
+  pub next : q ≡ wide letters + p
 
 pub spells-none : {s : List ℕ} {p q : ℕ} → p ≡ q → Spells s p q []
 unfolding Stands wide
 spells-none next = record { stands = tt; next = omega arith }
 
-pub spells-join : {s : List ℕ} {p m q : ℕ} {a b : List Cell} → Spells s p m a → Spells s m q b → Spells s p q (a ++ b)
+pub spells-join : {s : List ℕ} {p m q : ℕ} {a b : List Letter} → Spells s p m a → Spells s m q b → Spells s p q (a ++ b)
 spells-join {s} {p} {m} {q} {a} {b} x y =
     record {
       stands = stands-join s p a b (x .stands) (rw (x .next) at (y .stands));

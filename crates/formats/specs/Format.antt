@@ -9,22 +9,22 @@ use lib.Dec.{ltb}
 use Rattle.lengths.specs.Refusals.{refusal, endsEarly}
 use Rattle.lengths.specs.Answers.{Answer, done, refused, LengthAnswer}
 use Rattle.lengths.specs.Length.{lengthAt, lengthOctets, lengthLimit}
-use Rattle.formats.specs.Spelling.{Cell, bit, spelt, whole, wide, gap}
-use Rattle.formats.specs.Reading.{Found, found, stopped, Reader, give, _>>=_, check}
+use Rattle.formats.specs.Spelling.{Letter, bit, spelt, whole, wide, gap}
+use Rattle.formats.specs.Reading.{Finding, found, stopped, Reader, give, _>>=_, check}
 use Rattle.formats.specs.Reading as reading
 
 infixr 2 _⊳_
 pub record Format (A : Type 0) : Type 1 where
   pub read : Reader A
-  pub spelling : A → ℕ → List Cell
+  pub spelling : A → ℕ → List Letter
   pub fits : A → ℕ → Type 0
 
 -- ---- bits
-abbrev pub ofFlag : Bool → ℕ
-ofFlag flag = cond flag 1 0
+abbrev pub flagBit : Bool → ℕ
+flagBit flag = cond flag 1 0
 
 abbrev pub flag : Format Bool
-flag = record { read = reading.flag; spelling = λ b p. bit (ofFlag b) ∷ []; fits = λ b p. Unit {0} }
+flag = record { read = reading.flag; spelling = λ b p. bit (flagBit b) ∷ []; fits = λ b p. Unit {0} }
 
 -- a number in n bits
 abbrev pub bits : ℕ → Format ℕ
@@ -41,7 +41,7 @@ here = record { read = λ s i p. found (p / 8) p; spelling = λ x p. []; fits = 
 -- ---- whole octets, from an octet edge on
 module _ {A : Type 0} where
   -- what `front` finds at the front of some octets, written as `octets` says
-  abbrev pub octetwise : (List ℕ → Found A) → (A → List ℕ) → (A → Type 0) → Format A
+  abbrev pub octetwise : (List ℕ → Finding A) → (A → List ℕ) → (A → Type 0) → Format A
   octetwise front octets right = record {
     read = do
       _ ← reading.align
@@ -50,22 +50,22 @@ module _ {A : Type 0} where
     fits = λ a p. right a;
   }
 
--- so many octets
-unfoldable pub octetsFront : ℕ → List ℕ → Found (List ℕ)
+-- so sequenceOf octets
+unfoldable pub octetsFront : ℕ → List ℕ → Finding (List ℕ)
 octetsFront n s = cond (ltb (length s) n) (stopped (refusal endsEarly)) (found (take n s) n)
 
 abbrev pub octets : ℕ → Format (List ℕ)
 octets n = octetwise (octetsFront n) (λ l. l) (λ l. length l ≡ n)
 
 -- a number in two octets, the high one first
-unfoldable pub twoFront : List ℕ → Found ℕ
+unfoldable pub twoFront : List ℕ → Finding ℕ
 twoFront s = cond (ltb (length s) 2) (stopped (refusal endsEarly)) (found (getD s 0 0 * 256 + getD s 1 0) 2)
 
 abbrev pub twoOctets : Format ℕ
 twoOctets = octetwise twoFront (λ v. (v / 256) ∷ (v % 256) ∷ []) (λ v. Unit {0})
 
 -- a length or count by document 01's length rule
-abbrev pub lengthFound : Answer LengthAnswer → Found ℕ
+abbrev pub lengthFound : Answer LengthAnswer → Finding ℕ
 lengthFound (done a) = found (a .value) (a .size)
 lengthFound (refused r) = stopped r
 
@@ -119,19 +119,19 @@ module _ {A B : Type 0} where
     fits = λ b p. (f .fits (from b) p) × (to (from b) ≡ b);
   }
 
--- so many of the same
+-- so sequenceOf of the same
 module _ {A : Type 0} where
-  unfoldable pub manySpelt : Format A → List A → ℕ → List Cell
-  manySpelt f [] p = []
-  manySpelt f (a ∷ l) p = f .spelling a p ++ manySpelt f l (wide (f .spelling a p) + p)
+  unfoldable pub sequenceSpelt : Format A → List A → ℕ → List Letter
+  sequenceSpelt f [] p = []
+  sequenceSpelt f (a ∷ l) p = f .spelling a p ++ sequenceSpelt f l (wide (f .spelling a p) + p)
 
-  unfoldable pub manyFit : Format A → List A → ℕ → Type 0
-  manyFit f [] p = Unit {0}
-  manyFit f (a ∷ l) p = (f .fits a p) × (manyFit f l (wide (f .spelling a p) + p))
+  unfoldable pub sequenceFits : Format A → List A → ℕ → Type 0
+  sequenceFits f [] p = Unit {0}
+  sequenceFits f (a ∷ l) p = (f .fits a p) × (sequenceFits f l (wide (f .spelling a p) + p))
 
-  abbrev pub many : ℕ → Format A → Format (List A)
-  many n f = record {
-    read = reading.many n (f .read);
-    spelling = manySpelt f;
-    fits = λ l p. (manyFit f l p) × (length l ≡ n);
+  abbrev pub sequenceOf : ℕ → Format A → Format (List A)
+  sequenceOf n f = record {
+    read = reading.sequenceOf n (f .read);
+    spelling = sequenceSpelt f;
+    fits = λ l p. (sequenceFits f l p) × (length l ≡ n);
   }

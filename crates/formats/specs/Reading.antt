@@ -9,17 +9,17 @@ use Rattle.lengths.specs.declared.Refusal.{Refusal}
 use Rattle.formats.specs.Spelling.{gap}
 
 -- what was found, and the place after it; or why it is refused
-pub data Found (A : Type 0) : Type 0 where
-  found : A → ℕ → Found A
-  stopped : Refusal → Found A
+pub data Finding (A : Type 0) : Type 0 where
+  found : A → ℕ → Finding A
+  stopped : Refusal → Finding A
 
-abbrev pub andThen : {A B : Type 0} → Found A → (A → ℕ → Found B) → Found B
+abbrev pub andThen : {A B : Type 0} → Finding A → (A → ℕ → Finding B) → Finding B
 andThen (found a p) next = next a p
 andThen (stopped r) next = stopped r
 
 -- from some octets, the octet at which the present item begins, and a place in bits
 abbrev pub Reader : Type 0 → Type 0
-Reader A = List ℕ → ℕ → ℕ → Found A
+Reader A = List ℕ → ℕ → ℕ → Finding A
 
 abbrev pub give : {A : Type 0} → A → Reader A
 give a s i p = found a p
@@ -46,7 +46,7 @@ bitAt s p = getD s (p / 8) 0 / 2 ^ (7 - p % 8) % 2
 unfoldable pub bit : Reader ℕ
 bit s i p = cond (ltb p (8 * length s)) (found (bitAt s p) (1 + p)) (stop endsEarly s i p)
 
--- so many bits as a number, the highest first
+-- so sequenceOf bits as a number, the highest first
 unfoldable pub bits : ℕ → Reader ℕ
 bits zero = give 0
 bits (suc n) = do
@@ -64,14 +64,14 @@ flag = do
 unfoldable pub align : Reader (Unit {0})
 align s i p = item (do v ← bits (gap p); check spareBit (eqb v 0)) s i p
 
--- what stands in whole octets, of which `front` says what they are and how many it takes: an item that begins at an octet edge
-unfoldable pub octetwise : {A : Type 0} → (List ℕ → Found A) → Reader A
+-- what stands in whole octets, of which `front` says what they are and how sequenceOf it takes: an item that begins at an octet edge
+unfoldable pub octetwise : {A : Type 0} → (List ℕ → Finding A) → Reader A
 octetwise front s i p = andThen (front (drop (p / 8) s)) (λ a n. found a (8 * n + p))
 
--- so many of the same
-unfoldable pub many : {A : Type 0} → ℕ → Reader A → Reader (List A)
-many zero r = give []
-many (suc n) r = do
+-- so sequenceOf of the same
+unfoldable pub sequenceOf : {A : Type 0} → ℕ → Reader A → Reader (List A)
+sequenceOf zero r = give []
+sequenceOf (suc n) r = do
   a ← r
-  rest ← many n r
+  rest ← sequenceOf n r
   give (a ∷ rest)

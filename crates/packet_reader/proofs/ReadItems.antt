@@ -8,7 +8,7 @@ use lib.ListN.{length, getD, drop, length-drop}
 use lib.Dec.{ltb}
 use native.Mathlib.Omega.{arith}
 use borrow.Author.Tests.{lt-ltb, le-ltb, le-leb, lt-leb, not-true, not-false}
-use Rattle.packets.proofs.Rest.{rest, rest-is}
+use Rattle.packets.proofs.Laws.{rest, rest-is, header-form, size-form}
 use Rattle.lengths.specs.Refusals.{endsEarly, outsideSizes, spareBit, notAssigned, wrongData}
 use Rattle.lengths.specs.Answers.{done, refused, lengthOutcome}
 use Rattle.lengths.specs.Length.{lengthAt}
@@ -29,7 +29,6 @@ use Rattle.packet_reader.specs.declared.reader.CountRead.the-variants as
 use Rattle.packet_reader.specs.declared.reader.HeaderRead.the-variants as header
 use Rattle.packet_reader.specs.declared.reader.SizeRead.the-variants as size
 use Rattle.packet_reader.specs.declared.reader.FieldRead.the-variants as field
-use Rattle.packets.proofs.ReadLaws.{header-form, size-form}
 
 -- ---- the first octet
 module _ {s : List ℕ} where

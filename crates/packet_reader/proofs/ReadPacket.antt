@@ -13,7 +13,7 @@ use Rattle.lengths.specs.Promise.{RefusalMade}
 use Rattle.lengths.specs.declared.Refusal.{Refusal}
 use Rattle.datagrams.specs.Sizes.{packetLimit}
 use Rattle.packets.specs.Packet.{fieldsLimit, PacketAnswer, mayFollow}
-use Rattle.packets.specs.Inner.Octets.{firstAt, countAt, FieldsAnswer, fieldsAt, endAt, packetAt}
+use Rattle.packets.specs.Inner.Octets.{firstAt, countAt, FieldsAnswer, fieldsAt, endAt, packetByOctets}
 use Rattle.packets.specs.Promise.{PacketTold, packetOutcome, packetRead, padded}
 use Rattle.packet_reader.specs.Items.{FirstTold, CountTold, FieldsTold, firstOutcome, countOutcome, fieldsRead}
 use Rattle.packets.specs.declared.types.Field.{Field}
@@ -27,10 +27,7 @@ use Rattle.packets.specs.declared.types.Reading.the-variants as reading
 use Rattle.packet_reader.specs.declared.reader.FirstRead.the-variants as first
 use Rattle.packet_reader.specs.declared.reader.CountRead.the-variants as count
 use Rattle.packet_reader.specs.declared.reader.FieldsEnd.the-variants as end
-use Rattle.packets.proofs.ReadLaws.{first-form}
-use Rattle.packets.proofs.ReadAt.{read-at}
-use Rattle.packets.proofs.Rest.{rest, rest-is}
-use Rattle.packets.proofs.ReadEnds.{read-outcome, fields-inside, count-limit, count-within}
+use Rattle.packets.proofs.Laws.{first-form, read-at, rest, rest-is, read-outcome, fields-inside, count-limit, count-within}
 
 -- ---- from the items' answers to the definitions
 module _ {s : List ℕ} where
@@ -78,7 +75,7 @@ fields-refused n s at x r told next = by (fieldsAt n s at) refl (told .answer) w
       let same : y ≡ x = cc (ap (λ (q : FieldsRead). q .end) is, next) in
       e ∙ ap (λ (q : Refusal). refused q) same
 
-pub told-of : (e : Ending) (s : List ℕ) (r : PacketRead) (x : Answer PacketAnswer) → packetAt e s ≡ x → r ≡ packetRead x
+pub told-of : (e : Ending) (s : List ℕ) (r : PacketRead) (x : Answer PacketAnswer) → packetByOctets e s ≡ x → r ≡ packetRead x
     → PacketTold e s r
 told-of e s r x is image =
     let so = read-at e s ∙ is in
@@ -98,18 +95,18 @@ packet-inside {s = s} {n = n} {at = at} {m = m} {all = all} told is counted coun
 module _ {e : Ending} {s : List ℕ} where
   pub packet-over : {x : Refusal} {r : PacketRead} → packetLimit < length s → RefusalMade outsideSizes x → r ≡ packetRead (refused x)
       → PacketTold e s r
-  unfolding packetAt
+  unfolding packetByOctets
   packet-over {x} {r} over made is = told-of e s r (refused x) (rw (lt-ltb packetLimit (length s) over, made .answer)) is
 
   module _ {f : FirstRead} (fits : length s ≤ packetLimit) (told : FirstTold s f) where
     pub packet-first : {x : Refusal} {r : PacketRead} → f ≡ first.Refused x → r ≡ packetRead (refused x) → PacketTold e s r
-    unfolding packetAt
+    unfolding packetByOctets
     packet-first {x} {r} is image =
         told-of e s r (refused x) (rw (le-ltb packetLimit (length s) fits, sym (told .answer) ∙ ap firstOutcome is)) image
 
     module _ {k : Kind} {v : ℕ} {p : Bool} {c : CountRead} (is : f ≡ first.First k v p) (counted : CountTold s p c) where
       pub packet-count : {x : Refusal} {r : PacketRead} → c ≡ count.Refused x → r ≡ packetRead (refused x) → PacketTold e s r
-      unfolding packetAt
+      unfolding packetByOctets
       packet-count {x} {r} countIs image =
           told-of e s r (refused x)
           (rw (le-ltb packetLimit (length s) fits, first-is told is, sym (counted .answer) ∙ ap countOutcome countIs))
@@ -117,7 +114,7 @@ module _ {e : Ending} {s : List ℕ} where
 
       module _ {n at : ℕ} {all : FieldsRead} (countIs : c ≡ count.Count n at) (read : FieldsTold n s at all) where
         pub packet-fields : {x : Refusal} {r : PacketRead} → all .end ≡ end.Refused x → r ≡ packetRead (refused x) → PacketTold e s r
-        unfolding packetAt
+        unfolding packetByOctets
         packet-fields {x} {r} ends image =
             told-of e s r (refused x)
             (rw
@@ -127,7 +124,7 @@ module _ {e : Ending} {s : List ℕ} where
         module _ {m : ℕ} {b : Bool} (ends : all .end ≡ end.Next m) (follows : b ≡ mayFollow e (rest m s)) where
           pub packet-left : {x : Refusal} {r : PacketRead} → b ≡ false → RefusalMade leftOver x → r ≡ packetRead (refused x)
               → PacketTold e s r
-          unfolding packetAt endAt
+          unfolding packetByOctets endAt
           packet-left {x} {r} not-so made image =
               let a = all-read n s at m all read ends in
               told-of e s r (refused x)
@@ -136,7 +133,7 @@ module _ {e : Ending} {s : List ℕ} where
               image
 
           pub packet-read : b ≡ true → PacketTold e s (record { reading = reading.Packet k v n; fields = all .fields })
-          unfolding packetAt endAt
+          unfolding packetByOctets endAt
           packet-read so =
               let a = all-read n s at m all read ends in
               let inside = fields-inside n s at _ (count-inside (first-some told is) counted countIs) (a .was) in

@@ -18,8 +18,7 @@ use Rattle.packets.specs.Packet.{fieldsLimit, typesLimit, assigned, rightFields
 use Rattle.packets.specs.Write.{withData, packetOctets, sum, oneEach, allAssigned, rightTypes, allRight, inSizes, packetToWrite}
 use Rattle.packets.specs.Inner.Items.{Wide, FieldsSized, packetSize, Measured}
 use Rattle.packets.specs.declared.types.Kind.{Kind}
-use Rattle.packets.proofs.Every.{drop-next}
-use Rattle.packets.proofs.WriteLaws.{each-length, packet-size}
+use Rattle.packets.proofs.Laws.{drop-next, each-length, packet-size}
 
 -- ---- both of two tests
 both-left : (a b : Bool) → a ≡ false → false ≡ (a && b)

@@ -18,8 +18,7 @@ use Rattle.packets.specs.Packet.{typesLimit, every}
 use Rattle.packets.specs.Write.{sum}
 use Rattle.packets.specs.Inner.Octets.{fieldOctets, fieldsOctets}
 use Rattle.packets.specs.Inner.Items.{FieldFits, FieldsFit, Wide}
-use Rattle.packets.proofs.Rest.{rest}
-use Rattle.packets.proofs.Every.{drop-next, total-next}
+use Rattle.packets.proofs.Laws.{rest, drop-next, total-next}
 
 -- what holds of every element holds of one
 every-at : (test : ℕ → Bool) (s : List ℕ) (i : ℕ) → every test s ≡ true → i < length s → test (getD s i 0) ≡ true

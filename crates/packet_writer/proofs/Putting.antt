@@ -11,8 +11,7 @@ use Rattle.datagrams.specs.Inner.Put.{Put}
 use Rattle.datagrams.proofs.PutLaws.{put-none, put-one, put-next}
 use Rattle.packets.specs.Inner.Octets.{fieldOctets}
 use Rattle.packets.specs.Inner.Items.{FullFits, FieldFits}
-use Rattle.packets.proofs.Rest.{rest}
-use Rattle.packets.proofs.WriteLaws.{field-length, field-bare, field-full}
+use Rattle.packets.proofs.Laws.{rest, field-length, field-bare, field-full}
 
 -- ---- one field
 pub bare-put : (k : ℕ) {old : List ℕ} → 1 ≤ length old → Put (fieldOctets k []) old (set old 0 (k * 16)) 1

@@ -23,8 +23,7 @@ use Rattle.packets.specs.Write.{packetToWrite}
 use Rattle.packets.specs.Inner.Octets.{firstOctet, fieldsOctets, laidOctets}
 use Rattle.packets.specs.Inner.Items.{FieldsFit, CountedFit, countedOctets, PacketFits, Measured}
 use Rattle.packets.specs.declared.types.Kind.{Kind}
-use Rattle.packets.proofs.Rest.{rest}
-use Rattle.packets.proofs.WriteLaws.{write-form, assigned-few, packet-bare, packet-full}
+use Rattle.packets.proofs.Laws.{rest, write-form, assigned-few, packet-bare, packet-full}
 
 -- ---- the count, then the fields
 module _ {ts ns d old mid : List ℕ} {r : Written} (fits : CountedFit ts ns d old) (puts : Puts (lengthToWrite (length ts)) old mid r) where

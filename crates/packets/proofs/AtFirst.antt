@@ -9,15 +9,15 @@ use native.Mathlib.Omega.{arith}
 use borrow.Author.Tests.{lt-ltb, le-ltb, ltb-true, ltb-false, leb-true, leb-false}
 use Rattle.lengths.specs.Refusals.{refusal, notAssigned}
 use Rattle.lengths.specs.Answers.{Answer, done, refused, _>>=_}
-use Rattle.formats.specs.Reading.{Found, found, stopped, andThen}
+use Rattle.formats.specs.Reading.{Finding, found, stopped, andThen}
 use Rattle.formats.specs.Reading as reading
-use Rattle.formats.proofs.Edges.{flag-in, flag-cut, bits-in, align-zero, align-set}
+use Rattle.formats.proofs.Laws.{flag-in, flag-cut, bits-in, align-zero, align-set}
 use Rattle.packets.specs.Edition.{edition98}
-use Rattle.packets.specs.Packet.{root, addition, enumerated, first, start, packet, rightFields, assigned, chosen}
+use Rattle.packets.specs.Packet.{root, addition, enumerated, typeOfMsg, start, packet, rightFields, assigned, chosen}
 use Rattle.packets.specs.Inner.Octets.{isSet, firstAt}
 
 -- an answer, and how reading goes on from it
-abbrev pub onward : {A B : Type 0} → Answer A → (A → Found B) → Found B
+abbrev pub onward : {A B : Type 0} → Answer A → (A → Finding B) → Finding B
 onward (done a) next = next a
 onward (refused r) next = stopped r
 
@@ -35,7 +35,7 @@ module _ (s : List ℕ) (i : ℕ) (some : 1 ≤ length s) where
     low true e = rw (bits-in 4 s i 3 0 3 refl some (omega arith), le-ltb (getD s 0 0 / 2 % 16) n (leb-true n (getD s 0 0 / 2 % 16) e))
     low false e = rw (bits-in 4 s i 3 0 3 refl some (omega arith), lt-ltb (getD s 0 0 / 2 % 16) n (leb-false n (getD s 0 0 / 2 % 16) e))
 
-    each : (x : Found ℕ) → andThen {A = Bool × ℕ} (andThen x (λ v q. found (false, v) q)) (λ a q. found (a .1) q) ≡ x
+    each : (x : Finding ℕ) → andThen {A = Bool × ℕ} (andThen x (λ v q. found (false, v) q)) (λ a q. found (a .1) q) ≡ x
     each (found v q) = refl
     each (stopped r) = refl
 
@@ -51,7 +51,7 @@ module _ (s : List ℕ) (i : ℕ) (some : 1 ≤ length s) where
     by false e = rw (low (leb n (getD s 0 0 / 2 % 16)) refl) (each (cond (leb n (getD s 0 0 / 2 % 16)) (stopped (refusal notAssigned)) (found (getD s 0 0 / 2 % 16) 7)))
 
 pub start-at : (s : List ℕ) (i : ℕ) → start edition98 .read s i 0 ≡ onward (firstAt s) (λ f. found f 8)
-unfolding start first firstAt
+unfolding start typeOfMsg firstAt
 start-at s i = by (ltb (length s) 1) refl where
   -- by the bits of the octet: data, extension, a value that is not assigned, the spare bit, data where none may be
   told : 1 ≤ length s → (c e o p r : Bool) → isSet 6 (getD s 0 0) ≡ c → isSet 5 (getD s 0 0) ≡ e

@@ -16,9 +16,9 @@ use Rattle.formats.specs.Format.{lengthFound, twoFront, octetsFront, twoOctets,
 use Rattle.datagrams.specs.Sizes.{packetLimit}
 use Rattle.formats.specs.Reading.{found, andThen}
 use Rattle.formats.specs.Reading as reading
-use Rattle.formats.proofs.Edges.{flag-in, flag-cut, bits-in, align-zero, align-set, octetwise-edge}
+use Rattle.formats.proofs.Laws.{flag-in, flag-cut, bits-in, align-zero, align-set, octetwise-edge}
 use Rattle.packets.specs.Edition.{edition98}
-use Rattle.packets.specs.Packet.{root, enumerated, first, start, count, header, size, fieldData, field, rightData, fieldsLimit}
+use Rattle.packets.specs.Packet.{root, enumerated, typeOfMsg, start, count, header, size, fieldData, field, rightData, fieldsLimit}
 use Rattle.packets.specs.Inner.Octets.{countIn, countAt, headerAt, sizeAt}
 use Rattle.packets.proofs.AtFirst.{onward}
 

@@ -4,15 +4,15 @@ use Rattle.lengths.specs.Tables.{unless}
 use Rattle.lengths.specs.Length.{lengthAt, lengthOctets}
 use Rattle.formats.specs.Spelling.{spelt, whole, wide, packed}
 use Rattle.formats.specs.Reading as reading
-use Rattle.formats.specs.Format.{octetsFront, twoFront, manySpelt}
-use Rattle.packets.specs.Packet.{every, root, addition, enumerated, first, start, count, header, size, fieldData, field, dataField, packet, readPacket}
+use Rattle.formats.specs.Format.{octetsFront, twoFront, sequenceSpelt}
+use Rattle.packets.specs.Packet.{every, root, addition, enumerated, typeOfMsg, start, count, header, size, fieldData, field, dataField, packet, readPacket}
 use Rattle.packets.specs.Packet as description
 use Rattle.packets.specs.Write.{contentsOf, packetOctets, total, oneEach, allAssigned, rightTypes, allRight, inSizes, packetToWrite}
 use Rattle.packets.specs.Cases.{ReadCases, WriteCases}
 
 pub read-cases : ReadCases
-unfolding readPacket description.whole packet start first enumerated root addition dataField count field header fieldData size
-    reading.bit reading.bits reading.flag reading.align reading.octetwise reading.many octetsFront twoFront every lengthAt
+unfolding readPacket description.wholePacket packet start typeOfMsg enumerated root addition dataField count field header fieldData size
+    reading.bit reading.bits reading.flag reading.align reading.octetwise reading.sequenceOf octetsFront twoFront every lengthAt
 read-cases =
     record {
       octets-161 = refl;
@@ -33,8 +33,8 @@ read-cases =
     }
 
 pub write-cases : WriteCases
-unfolding packetToWrite packetOctets contentsOf packet start first enumerated root addition dataField count field header fieldData size
-    spelt whole wide packed manySpelt total oneEach allAssigned rightTypes allRight inSizes every unless lengthOctets
+unfolding packetToWrite packetOctets contentsOf packet start typeOfMsg enumerated root addition dataField count field header fieldData size
+    spelt whole wide packed sequenceSpelt total oneEach allAssigned rightTypes allRight inSizes every unless lengthOctets
 write-cases =
     record {
       types-17 = refl;

@@ -10,11 +10,12 @@ use native.Mathlib.Omega.{arith}
 use borrow.Author.Tests.{lt-ltb, le-leb, lt-leb, ltb-true, leb-true}
 use Rattle.lengths.specs.Refusals.{outsideSizes, notAssigned, wrongData}
 use Rattle.formats.specs.Format.{known}
-use Rattle.formats.proofs.Lawful.{Lawful, lawful-known, lawful-item, lawful-guarded, lawful-demand, lawful-then, lawful-made, lawful-either, lawful-many}
-use Rattle.formats.proofs.Parts.{lawful-flag, lawful-bits, lawful-align, lawful-here, lawful-octets, lawful-two-octets, lawful-length-rule}
+use Rattle.formats.proofs.Laws.{Lawful, lawful-known, lawful-item, lawful-guarded, lawful-demand, lawful-then, lawful-made, lawful-either}
+use Rattle.formats.proofs.Laws.{lawful-sequence-of, lawful-flag, lawful-bits, lawful-align, lawful-here, lawful-octets, lawful-two-octets}
+use Rattle.formats.proofs.Laws.{lawful-length-rule}
 use Rattle.datagrams.proofs.WriteLaws.{both}
 use Rattle.packets.specs.Edition.{Enumerated, Edition, values}
-use Rattle.packets.specs.Packet.{root, addition, enumerated, chosen, isData, first, rightFields, start, count, fieldsLimit, Header, header, size, Content, fieldData, field, dataField, packet}
+use Rattle.packets.specs.Packet.{root, addition, enumerated, chosen, isData, typeOfMsg, rightFields, start, count, fieldsLimit, Header, header, size, Content, fieldData, field, dataField, packet}
 
 -- ---- a value of an ENUMERATED type
 module _ (e : Enumerated) where
@@ -81,8 +82,8 @@ data-some part p fits = size-some (length (part .1)) _ (fits .0 .0)
 
 module _ (edition : Edition) where
   -- ---- the first item
-  lawful-first : Lawful (first edition)
-  unfolding first
+  lawful-first : Lawful (typeOfMsg edition)
+  unfolding typeOfMsg
   lawful-first =
       lawful-made (λ x. record { kind = chosen (x .1 .0); value = x .1 .1; present = x .0 }) (λ f. (f .present, (isData (f .kind), f .value)))
       (λ x p fits. back (x .0) (x .1 .0) (x .1 .1))
@@ -125,7 +126,7 @@ module _ (edition : Edition) where
   lawful-data-field : Lawful (dataField edition)
   unfolding dataField
   lawful-data-field =
-      lawful-made _ _ (λ x p fits. ap (λ (n : ℕ). (n, x .1)) (fits .1 .1)) (lawful-then _ lawful-count (λ n. lawful-many n lawful-field))
+      lawful-made _ _ (λ x p fits. ap (λ (n : ℕ). (n, x .1)) (fits .1 .1)) (lawful-then _ lawful-count (λ n. lawful-sequence-of n lawful-field))
 
   fields-some : (present : Bool) (contents : List Content) (p : ℕ) → (cond present (dataField edition) (known [])) .fits contents p
       → ltb 0 (length contents) ≡ present

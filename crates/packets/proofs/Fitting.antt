@@ -9,12 +9,12 @@ use native.Mathlib.Omega.{arith}
 use borrow.Author.Tests.{lt-ltb, le-leb, ltb-true, ltb-false, leb-true, leb-false}
 use Rattle.lengths.specs.Length.{lengthOctets}
 use Rattle.formats.specs.Spelling.{wide}
-use Rattle.formats.specs.Format.{flag, known, manyFit}
-use Rattle.formats.proofs.Parts.{wide-whole}
+use Rattle.formats.specs.Format.{flag, known, sequenceFits}
+use Rattle.formats.proofs.Laws.{wide-whole}
 use Rattle.datagrams.specs.Sizes.{packetLimit}
 use Rattle.datagrams.proofs.WriteLaws.{both}
 use Rattle.packets.specs.Edition.{Enumerated, values, edition98}
-use Rattle.packets.specs.Packet.{assigned, typesLimit, fieldsLimit, rightFields, rightData, every, root, addition, enumerated, first, start, count, header, size, Content, fieldData, field, dataField, packet}
+use Rattle.packets.specs.Packet.{assigned, typesLimit, fieldsLimit, rightFields, rightData, every, root, addition, enumerated, typeOfMsg, start, count, header, size, Content, fieldData, field, dataField, packet}
 use Rattle.packets.specs.Write.{withData, rightTypes}
 use Rattle.packets.specs.declared.types.Kind.{Kind}
 use Rattle.packets.specs.declared.types.Kind.the-variants.{Indicator, Data}
@@ -117,8 +117,8 @@ Cut [] d = Unit {0}
 Cut (n ∷ ns) d = (length (take n d) ≡ n) × Cut ns (drop n d)
 
 fields-fit : (ts ns d : List ℕ) (p : ℕ) → p % 8 ≡ 0 → Cut ns d → every (λ t. leb t typesLimit) ts ≡ true → every (λ n. leb n packetLimit) ns ≡ true
-    → rightTypes ts ns ≡ true → manyFit (field edition98) (placed ts ns d p) p
-unfolding placed manyFit every rightTypes Cut
+    → rightTypes ts ns ≡ true → sequenceFits (field edition98) (placed ts ns d p) p
+unfolding placed sequenceFits every rightTypes Cut
 fields-fit [] ns d p edge cut types short right = tt
 fields-fit (t ∷ ts) [] d p edge cut types short right = tt
 fields-fit (t ∷ ts) (n ∷ ns) d p edge cut types short right =
@@ -133,8 +133,8 @@ fields-fit (t ∷ ts) (n ∷ ns) d p edge cut types short right =
     )
 
 -- ---- the packet
-first-fits : (k : Kind) (v : ℕ) (b : Bool) → v < assigned k → first edition98 .fits (record { kind = k; value = v; present = b }) 0
-unfolding first
+first-fits : (k : Kind) (v : ℕ) (b : Bool) → v < assigned k → typeOfMsg edition98 .fits (record { kind = k; value = v; present = b }) 0
+unfolding typeOfMsg
 first-fits Indicator v b known' = ((tt, (tt, enumerated-fits (values edition98 Indicator) v (sound-values Indicator) (omega arith) _)), refl)
 first-fits Data v b known' = ((tt, (tt, enumerated-fits (values edition98 Data) v (sound-values Data) (omega arith) _)), refl)
 
@@ -162,7 +162,7 @@ module _ (ts ns d : List ℕ) (same : length ts ≡ length ns) where
         (
           subst (λ (n : ℕ). count .fits n p) (sym long) (count-fits (length ts) p (ltb-true 0 (length ts) e) few),
           (
-            subst (λ (n : ℕ). manyFit (field edition98) (placed ts ns d (fieldsFrom (length ts) p)) (fieldsFrom n p)) (sym long)
+            subst (λ (n : ℕ). sequenceFits (field edition98) (placed ts ns d (fieldsFrom (length ts) p)) (fieldsFrom n p)) (sym long)
                 (fields-fit ts ns d (fieldsFrom (length ts) p) on cut types short right),
             refl,
           ),

@@ -1,17 +1,18 @@
-pub mod Cases
-pub mod Tests
-pub mod Every
-pub mod Rest
-pub mod ReadLaws
-pub mod ReadEnds
+mod Cases
+mod Tests
+mod Every
+mod Rest
+mod ReadLaws
+mod ReadEnds
 mod Described
 mod AtFirst
 mod AtOctets
-pub mod ReadAt
+mod ReadAt
 mod Laid
-pub mod WriteLaws
+mod WriteLaws
 mod Fitting
 mod RoundTrips
 mod ReadBack
 mod Follow
+pub mod Laws
 pub mod Claims

@@ -9,12 +9,12 @@ use lib.Dec.{ltb}
 use native.Mathlib.Omega.{arith}
 use Rattle.lengths.specs.Refusals.{outsideSizes, leftOver}
 use Rattle.lengths.specs.Answers.{Answer, done, refused, refuse, _>>=_}
-use Rattle.formats.specs.Reading.{Found, found, andThen}
+use Rattle.formats.specs.Reading.{Finding, found, andThen}
 use Rattle.formats.specs.Reading as reading
 use Rattle.datagrams.specs.Sizes.{packetLimit}
 use Rattle.packets.specs.Edition.{edition98}
-use Rattle.packets.specs.Packet.{First, Content, field, dataField, Packet, packet, fieldOf, PacketAnswer, answerOf, noField, dataOf, allData, mayFollow, whole, readPacket}
-use Rattle.packets.specs.Inner.Octets.{firstAt, Count, countAt, HeaderAnswer, headerAt, sizeAt, FieldAnswer, afterHeader, fieldAt, FieldsAnswer, fieldsAt, endAt, packetAt}
+use Rattle.packets.specs.Packet.{First, Content, field, dataField, IfpPacket, packet, fieldOf, PacketAnswer, answerOf, noField, dataOf, allData, mayFollow, wholePacket, readPacket}
+use Rattle.packets.specs.Inner.Octets.{firstAt, Count, countAt, HeaderAnswer, headerAt, sizeAt, FieldAnswer, afterHeader, fieldAt, FieldsAnswer, fieldsAt, endAt, packetByOctets}
 use Rattle.packets.specs.declared.types.Field.{Field}
 use Rattle.packets.specs.declared.types.Ending.{Ending}
 use Rattle.packets.proofs.AtFirst.{onward, start-at}
@@ -41,8 +41,8 @@ field-at s i at = by (headerAt s at) refl where
   by (refused r) e = rw (header-at s (8 * at / 8) at, e)
 
 fields-at : (n : ℕ) (s : List ℕ) (i at : ℕ)
-    → reading.many n (field edition98 .read) s i (8 * at) ≡ onward (fieldsAt n s at) (λ a. found (map (contentIn s) (a .fields)) (8 * a .next))
-unfolding reading.many fieldsAt
+    → reading.sequenceOf n (field edition98 .read) s i (8 * at) ≡ onward (fieldsAt n s at) (λ a. found (map (contentIn s) (a .fields)) (8 * a .next))
+unfolding reading.sequenceOf fieldsAt
 fields-at zero s i at = refl
 fields-at (suc n) s i at = rw (field-at s i at) (by (fieldAt s at) (λ k. fields-at n s i k)) where
   after : (f : FieldAnswer) (x : Answer FieldsAnswer)
@@ -54,9 +54,9 @@ fields-at (suc n) s i at = rw (field-at s i at) (by (fieldAt s at) (λ k. fields
 
   by : (x : Answer FieldAnswer)
       → ((k : ℕ)
-      → reading.many n (field edition98 .read) s i (8 * k) ≡ onward (fieldsAt n s k) (λ a. found (map (contentIn s) (a .fields)) (8 * a .next)))
+      → reading.sequenceOf n (field edition98 .read) s i (8 * k) ≡ onward (fieldsAt n s k) (λ a. found (map (contentIn s) (a .fields)) (8 * a .next)))
       → andThen (onward x (λ f. found (contentIn s (f .field)) (8 * f .next)))
-      (λ c q. andThen (reading.many n (field edition98 .read) s i q) (λ l r. found (c ∷ l) r))
+      (λ c q. andThen (reading.sequenceOf n (field edition98 .read) s i q) (λ l r. found (c ∷ l) r))
       ≡ onward {A = FieldsAnswer}
       (_>>=_ x (λ f. _>>=_ (fieldsAt n s (f .next)) (λ rest. done (record { fields = f .field ∷ rest .fields; next = rest .next }))))
       (λ a. found (map (contentIn s) (a .fields)) (8 * a .next))
@@ -78,7 +78,7 @@ data-field-at s i = rw (count-at s i) (by (countAt s true)) where
   by : (x : Answer Count)
       → andThen
       (andThen {B = ℕ × List Content} (onward x (λ c. found (c .value) (8 * c .next)))
-      (λ n q. andThen (reading.many n (field edition98 .read) s i q) (λ l r. found (n, l) r)))
+      (λ n q. andThen (reading.sequenceOf n (field edition98 .read) s i q) (λ l r. found (n, l) r)))
       (λ a q. found (a .1) q)
       ≡ onward x (λ c. onward (fieldsAt (c .value) s (c .next)) (λ a. found (map (contentIn s) (a .fields)) (8 * a .next)))
   by (done c) = rw (fields-at (c .value) s i (c .next)) (after (c .value) (fieldsAt (c .value) s (c .next)))
@@ -97,10 +97,10 @@ contents-same s (f ∷ l) inside =
     (contents-same s l (λ i. inside (suc i)))
 
 -- the description's packet at the front of s, told by the octets
-abbrev packetIn : List ℕ → First → FieldsAnswer → Packet
+abbrev packetIn : List ℕ → First → FieldsAnswer → IfpPacket
 packetIn s f a = record { kind = f .kind; value = f .value; contents = map (contentIn s) (a .fields) }
 
-abbrev packetFound : List ℕ → Found Packet
+abbrev packetFound : List ℕ → Finding IfpPacket
 packetFound s =
     onward (firstAt s)
     (λ f. onward (countAt s (f .present)) (λ c. onward (fieldsAt (c .value) s (c .next)) (λ a. found (packetIn s f a) (8 * a .next))))
@@ -158,8 +158,8 @@ module _ (e : Ending) (s : List ℕ) where
     endAt e s (all .next) (record { kind = first .kind; value = first .value; fields = all .fields })
 
   fields-told : (f : First) (c : Count) (x : Answer FieldsAnswer) → firstAt s ≡ done f → countAt s (f .present) ≡ done c
-      → fieldsAt (c .value) s (c .next) ≡ x → answerOf (whole edition98 e s 0 0) ≡ walked
-  unfolding whole endAt
+      → fieldsAt (c .value) s (c .next) ≡ x → answerOf (wholePacket edition98 e s 0 0) ≡ walked
+  unfolding wholePacket endAt
   fields-told f c (done a) first count fields =
       let within = count-within s (f .present) c (first-form s f first .some) count in
       rw (packet-at s 0, first, count, fields)
@@ -168,18 +168,18 @@ module _ (e : Ending) (s : List ℕ) where
   fields-told f c (refused r) first count fields = rw (packet-at s 0, first, count, fields)
 
   count-told : (f : First) (x : Answer Count) → firstAt s ≡ done f → countAt s (f .present) ≡ x
-      → answerOf (whole edition98 e s 0 0) ≡ walked
-  unfolding whole
+      → answerOf (wholePacket edition98 e s 0 0) ≡ walked
+  unfolding wholePacket
   count-told f (done c) first count = fields-told f c (fieldsAt (c .value) s (c .next)) first count refl
   count-told f (refused r) first count = rw (packet-at s 0, first, count)
 
-  first-told : (x : Answer First) → firstAt s ≡ x → answerOf (whole edition98 e s 0 0) ≡ walked
-  unfolding whole
+  first-told : (x : Answer First) → firstAt s ≡ x → answerOf (wholePacket edition98 e s 0 0) ≡ walked
+  unfolding wholePacket
   first-told (done f) first = count-told f (countAt s (f .present)) first refl
   first-told (refused r) first = rw (packet-at s 0, first)
 
-  pub read-at : readPacket e s ≡ packetAt e s
-  unfolding readPacket packetAt
+  pub read-at : readPacket e s ≡ packetByOctets e s
+  unfolding readPacket packetByOctets
   read-at = ap (cond (ltb packetLimit (length s)) (refuse outsideSizes)) (first-told (firstAt s) refl)
 
 -- ---- a packet that reads
@@ -194,13 +194,13 @@ data-same s [] = refl
 data-same s (f ∷ l) = ap (λ (d : List ℕ). dataOf s f ++ d) (data-same s l)
 
 -- it ends at an octet edge inside the octets, and its data is where its fields say
-pub record PacketIn (s : List ℕ) (x : Packet) (q : ℕ) : Type 0 where
+pub record PacketIn (s : List ℕ) (x : IfpPacket) (q : ℕ) : Type 0 where
   pub next : ℕ
   pub is : q ≡ 8 * next
   pub inside : next ≤ length s
   pub octets : allData s (map fieldOf (x .contents)) ≡ allOctets (x .contents)
 
-pub packet-in : (s : List ℕ) (i : ℕ) (x : Packet) (q : ℕ) → packet edition98 .read s i 0 ≡ found x q → PacketIn s x q
+pub packet-in : (s : List ℕ) (i : ℕ) (x : IfpPacket) (q : ℕ) → packet edition98 .read s i 0 ≡ found x q → PacketIn s x q
 packet-in s i x q e = first (firstAt s) refl (sym (packet-at s i) ∙ e) where
   fields : (f : First) (c : Count) (y : Answer FieldsAnswer) → firstAt s ≡ done f → countAt s (f .present) ≡ done c
       → fieldsAt (c .value) s (c .next) ≡ y → onward y (λ a. found (packetIn s f a) (8 * a .next)) ≡ found x q → PacketIn s x q
@@ -209,7 +209,7 @@ packet-in s i x q e = first (firstAt s) refl (sym (packet-at s i) ∙ e) where
       let inside = fields-inside (c .value) s (c .next) a within ae in
       let is : packetIn s f a ≡ x = cc in
       let at : 8 * a .next ≡ q = cc in
-      let same : map (contentIn s) (a .fields) ≡ x .contents = ap (λ (y : Packet). y .contents) is in
+      let same : map (contentIn s) (a .fields) ≡ x .contents = ap (λ (y : IfpPacket). y .contents) is in
       record {
         next = a .next;
         is = sym at;

@@ -12,15 +12,15 @@ use borrow.Author.Tests.{le-leb, ltb-true, ltb-false, leb-true, leb-false, eqb-t
 use Rattle.lengths.specs.Refusals.{outsideSizes, leftOver}
 use Rattle.lengths.specs.Answers.{done}
 use Rattle.lengths.specs.Claims.{Octets}
-use Rattle.formats.specs.Spelling.{wide, octetsOf}
-use Rattle.formats.specs.Reading.{Found, found, stopped, andThen}
+use Rattle.formats.specs.Spelling.{wide, inOctets}
+use Rattle.formats.specs.Reading.{Finding, found, stopped, andThen}
 use Rattle.formats.specs.Reading as reading
-use Rattle.formats.specs.Format.{known, manyFit}
-use Rattle.formats.proofs.Packing.{found-written}
+use Rattle.formats.specs.Format.{known, sequenceFits}
+use Rattle.formats.proofs.Laws.{found-written}
 use Rattle.datagrams.specs.Sizes.{packetLimit}
 use Rattle.datagrams.proofs.WriteLaws.{both}
 use Rattle.packets.specs.Edition.{values, edition98}
-use Rattle.packets.specs.Packet.{assigned, typesLimit, fieldsLimit, rightFields, rightData, every, enumerated, root, addition, First, chosen, isData, first, start, count, header, size, Content, fieldData, field, dataField, Packet, packet, whole, fieldOf, PacketAnswer, answerOf, readPacket, allData}
+use Rattle.packets.specs.Packet.{assigned, typesLimit, fieldsLimit, rightFields, rightData, every, enumerated, root, addition, First, chosen, isData, typeOfMsg, start, count, header, size, Content, fieldData, field, dataField, IfpPacket, packet, wholePacket, fieldOf, PacketAnswer, answerOf, readPacket, allData}
 use Rattle.packets.specs.Write.{withData, contentsOf, packetOctets, sum, total, rightTypes, packetToWrite}
 use Rattle.packets.specs.Claims.{ReadWrites}
 use Rattle.packets.specs.Inner.Octets.{laidOctets}
@@ -72,8 +72,8 @@ record FieldsRight (cs : List Content) : Type 0 where
   all : sum (sizes cs) ≡ length (allOctets cs)
   contents : contentsOf (kinds cs) (sizes cs) (allOctets cs) ≡ map bare cs
 
-fields-right : (cs : List Content) (p : ℕ) → manyFit (field edition98) cs p → FieldsRight cs
-unfolding every rightTypes total contentsOf allOctets manyFit
+fields-right : (cs : List Content) (p : ℕ) → sequenceFits (field edition98) cs p → FieldsRight cs
+unfolding every rightTypes total contentsOf allOctets sequenceFits
 fields-right [] p fits = record { types = refl; short = refl; right = refl; all = refl; contents = refl }
 fields-right (c ∷ cs) p fits =
     let one = field-right c p (fits .0) in
@@ -90,21 +90,21 @@ fields-right (c ∷ cs) p fits =
     }
 
 -- ---- the packet
-record PacketRight (x : Packet) : Type 0 where
+record PacketRight (x : IfpPacket) : Type 0 where
   known : x .value < assigned (x .kind)
   few : length (x .contents) ≤ fieldsLimit
   fields : rightFields (x .kind) (ltb 0 (length (x .contents))) ≡ true
   right : FieldsRight (x .contents)
 
-first-known : (f : First) → first edition98 .fits f 0 → f .value < assigned (f .kind)
-unfolding first wide
+first-known : (f : First) → typeOfMsg edition98 .fits f 0 → f .value < assigned (f .kind)
+unfolding typeOfMsg wide
 first-known f fits = by (f .kind) refl (fits .0 .1 .1) where
   by : (k : Kind) → f .kind ≡ k → enumerated (values edition98 (chosen (isData k))) .fits (f .value) 2 → f .value < assigned (f .kind)
   by Indicator is e = rw is (value-known Indicator (f .value) 2 e)
   by Data is e = rw is (value-known Data (f .value) 2 e)
 
 after-right : (b : Bool) (cs : List Content) (p : ℕ) → (cond b (dataField edition98) (known [])) .fits cs p → (length cs ≤ fieldsLimit) × FieldsRight cs
-unfolding dataField count manyFit
+unfolding dataField count sequenceFits
 after-right true cs p fits = (
   leb-true (length cs) fieldsLimit (both (leb 1 (length cs)) (leb (length cs) fieldsLimit) (fits .0 .0 .1) .1),
   fields-right cs _ (fits .0 .1 .0),
@@ -113,7 +113,7 @@ after-right false cs p fits =
     let none : length cs ≡ 0 = ap length fits in
     (omega arith, subst FieldsRight (sym fits) (fields-right [] p tt))
 
-packet-right : (x : Packet) → packet edition98 .fits x 0 → PacketRight x
+packet-right : (x : IfpPacket) → packet edition98 .fits x 0 → PacketRight x
 unfolding packet start
 packet-right x fits =
     let after = after-right (ltb 0 (length (x .contents))) (x .contents) _ (fits .0 .1) in
@@ -122,16 +122,16 @@ packet-right x fits =
 -- what was read as received: a packet up to the last octet
 record Received (s : List ℕ) (p : PacketAnswer) : Type 0 where
   fits : length s ≤ packetLimit
-  content : Packet
+  content : IfpPacket
   reads : packet edition98 .read s 0 0 ≡ found content (8 * length s)
   is : p ≡ record { kind = content .kind; value = content .value; fields = map fieldOf (content .contents) }
 
 received : (s : List ℕ) (p : PacketAnswer) → readPacket Whole s ≡ done p → Received s p
-unfolding readPacket whole
+unfolding readPacket wholePacket
 received s p e =
     let short = past (ltb packetLimit (length s)) outsideSizes _ p e in
     by (packet edition98 .read s 0 0) refl (ltb-false packetLimit (length s) (short .0)) (short .1) where
-      ended : (x : Packet) (q : ℕ) (b : Bool) → packet edition98 .read s 0 0 ≡ found x q → length s ≤ packetLimit
+      ended : (x : IfpPacket) (q : ℕ) (b : Bool) → packet edition98 .read s 0 0 ≡ found x q → length s ≤ packetLimit
           → eqb (length (drop (q / 8) s)) 0 ≡ b
           → answerOf (andThen (reading.check leftOver (eqb (length (drop (q / 8) s)) 0) s (q / 8) q) (λ _ r. found x r)) ≡ done p → Received s p
       ended x q true was few end e =
@@ -143,13 +143,13 @@ received s p e =
           record { fits = few; content = x; reads = was ∙ ap (found x) all; is = sym is }
       ended x q false was few end e = let z : _≡_ {A = ℕ} 0 1 = cc (rw end at e) in absurd (omega arith)
 
-      by : (y : Found Packet) → packet edition98 .read s 0 0 ≡ y → length s ≤ packetLimit
+      by : (y : Finding IfpPacket) → packet edition98 .read s 0 0 ≡ y → length s ≤ packetLimit
           → answerOf (andThen y (λ x q. andThen (reading.check leftOver (eqb (length (drop (q / 8) s)) 0) s (q / 8) q) (λ _ r. found x r))) ≡ done p
           → Received s p
       by (found x q) was few e = ended x q (eqb (length (drop (q / 8) s)) 0) was few refl e
       by (stopped r) was few e = let z : _≡_ {A = ℕ} 0 1 = cc in absurd (omega arith)
 
-writes-of : (s : List ℕ) (x : Packet) → Octets s → length s ≤ packetLimit → packet edition98 .read s 0 0 ≡ found x (8 * length s)
+writes-of : (s : List ℕ) (x : IfpPacket) → Octets s → length s ≤ packetLimit → packet edition98 .read s 0 0 ≡ found x (8 * length s)
     → packetToWrite (x .kind) (x .value) (kinds (x .contents)) (sizes (x .contents)) (allData s (map fieldOf (x .contents))) ≡ done s
 unfolding packetOctets
 writes-of s x octets fits reads =
@@ -166,8 +166,8 @@ writes-of s x octets fits reads =
     let same : length ts ≡ length ns = many ∙ sym (length-map (map fieldOf cs) (λ f. f .size) ∙ length-map cs fieldOf) in
     let laid = packet-laid ts ns (allOctets cs) (fields .types) same k v (right .known) in
     let is : laidOctets k v ts ns (allOctets cs) ≡ s
-    = sym laid ∙ ap (λ (l : List Content). octetsOf (packet edition98 .spelling (record { kind = k; value = v; contents = l }) 0)) (fields .contents)
-    ∙ ap octetsOf (sym (packet-bare k v cs)) ∙ back .1 in
+    = sym laid ∙ ap (λ (l : List Content). inOctets (packet edition98 .spelling (record { kind = k; value = v; contents = l }) 0)) (fields .contents)
+    ∙ ap inOctets (sym (packet-bare k v cs)) ∙ back .1 in
     ap (packetToWrite k v ts ns) data'
     ∙ write-of k v ts ns (allOctets cs)
     (record {

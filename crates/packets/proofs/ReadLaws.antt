@@ -14,7 +14,7 @@ use Rattle.lengths.specs.Answers.{Answer, done, refused, refuse, _>>=_, LengthA
 use Rattle.lengths.specs.Length.{lengthAt}
 use Rattle.datagrams.specs.Sizes.{packetLimit}
 use Rattle.packets.specs.Packet.{First, Header, PacketAnswer, assigned, rightFields, rightData, fieldsLimit, mayFollow}
-use Rattle.packets.specs.Inner.Octets.{Place, firstOf, headerOf, isSet, firstAt, Count, countIn, countAt, HeaderAnswer, headerAt, sizeAt, FieldAnswer, afterHeader, fieldAt, FieldsAnswer, fieldsAt, endAt, packetAt}
+use Rattle.packets.specs.Inner.Octets.{Place, firstOf, headerOf, isSet, firstAt, Count, countIn, countAt, HeaderAnswer, headerAt, sizeAt, FieldAnswer, afterHeader, fieldAt, FieldsAnswer, fieldsAt, endAt, packetByOctets}
 use Rattle.packets.specs.declared.types.Ending.{Ending}
 
 -- ---- steps
@@ -217,8 +217,8 @@ pub record PacketForm (ending : Ending) (s : List ℕ) (p : PacketAnswer) : Type
   pub follows : mayFollow ending (drop (all .next) s) ≡ true
   pub is : p ≡ record { kind = first .kind; value = first .value; fields = all .fields }
 
-pub packet-form : (ending : Ending) (s : List ℕ) (p : PacketAnswer) → packetAt ending s ≡ done p → PacketForm ending s p
-unfolding packetAt endAt
+pub packet-form : (ending : Ending) (s : List ℕ) (p : PacketAnswer) → packetByOctets ending s ≡ done p → PacketForm ending s p
+unfolding packetByOctets endAt
 packet-form ending s p e =
     let fits = past (ltb packetLimit (length s)) outsideSizes _ p e in
     let f = stepped (firstAt s) _ p (fits .1) in
@@ -239,6 +239,6 @@ packet-form ending s p e =
 
 pub packet-of : (ending : Ending) (s : List ℕ) (f : First) (c : Count) (a : FieldsAnswer) → length s ≤ packetLimit → firstAt s ≡ done f
     → countAt s (f .present) ≡ done c → fieldsAt (c .value) s (c .next) ≡ done a → mayFollow ending (drop (a .next) s) ≡ true
-    → packetAt ending s ≡ done (record { kind = f .kind; value = f .value; fields = a .fields })
-unfolding packetAt endAt
+    → packetByOctets ending s ≡ done (record { kind = f .kind; value = f .value; fields = a .fields })
+unfolding packetByOctets endAt
 packet-of ending s f c a fits first count all follows = rw (le-ltb packetLimit (length s) fits, first, count, all, follows)

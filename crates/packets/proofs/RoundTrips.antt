@@ -9,13 +9,13 @@ use lib.Seq.{length-take-le, drop-at}
 use lib.Dec.{ltb, eqb}
 use native.Mathlib.Omega.{arith}
 use borrow.Author.Tests.{le-ltb}
-use Rattle.formats.specs.Spelling.{Cell, wide, octetsOf}
+use Rattle.formats.specs.Spelling.{Letter, wide, inOctets}
 use Rattle.formats.specs.Reading.{found}
-use Rattle.formats.specs.Format.{known, manySpelt}
-use Rattle.formats.proofs.Packing.{written-found}
+use Rattle.formats.specs.Format.{known, sequenceSpelt}
+use Rattle.formats.proofs.Laws.{written-found}
 use Rattle.datagrams.specs.Sizes.{packetLimit}
 use Rattle.packets.specs.Edition.{edition98}
-use Rattle.packets.specs.Packet.{every, Content, start, count, header, fieldData, field, dataField, Packet, packet, whole, mayFollow, fieldOf, readPacket}
+use Rattle.packets.specs.Packet.{every, Content, start, count, header, fieldData, field, dataField, IfpPacket, packet, wholePacket, mayFollow, fieldOf, readPacket}
 use Rattle.packets.specs.Write.{contentsOf, packetOctets, sum, total}
 use Rattle.packets.specs.Claims.{ReadsAs, WrittenReads, RepairedReads}
 use Rattle.packets.specs.declared.types.Kind.{Kind}
@@ -42,13 +42,13 @@ field-same c start p = by (ltb 0 (length (c .octets))) where
 abbrev pub bare : Content → Content
 bare c = record { kind = c .kind; start = 0; octets = c .octets }
 
-many-bare : (cs : List Content) (p : ℕ) → manySpelt (field edition98) cs p ≡ manySpelt (field edition98) (map bare cs) p
-unfolding manySpelt
-many-bare [] p = refl
-many-bare (c ∷ cs) p =
-    let cells = field edition98 .spelling c p in
-    ap (λ (l : List Cell). cells ++ l) (many-bare cs (wide cells + p))
-    ∙ ap (λ (l : List Cell). l ++ manySpelt (field edition98) (map bare cs) (wide l + p)) (field-same c 0 p)
+sequence-bare : (cs : List Content) (p : ℕ) → sequenceSpelt (field edition98) cs p ≡ sequenceSpelt (field edition98) (map bare cs) p
+unfolding sequenceSpelt
+sequence-bare [] p = refl
+sequence-bare (c ∷ cs) p =
+    let letters = field edition98 .spelling c p in
+    ap (λ (l : List Letter). letters ++ l) (sequence-bare cs (wide letters + p))
+    ∙ ap (λ (l : List Letter). l ++ sequenceSpelt (field edition98) (map bare cs) (wide l + p)) (field-same c 0 p)
 
 pub packet-bare : (k : Kind) (v : ℕ) (cs : List Content)
     → packet edition98 .spelling (record { kind = k; value = v; contents = cs }) 0
@@ -56,12 +56,12 @@ pub packet-bare : (k : Kind) (v : ℕ) (cs : List Content)
 unfolding packet dataField
 packet-bare k v cs =
     let first = start edition98 .spelling (record { kind = k; value = v; present = ltb 0 (length cs) }) 0 in
-    rw (length-map cs bare) (ap (λ (l : List Cell). first ++ l) (by (ltb 0 (length cs)) (wide first + 0))) where
+    rw (length-map cs bare) (ap (λ (l : List Letter). first ++ l) (by (ltb 0 (length cs)) (wide first + 0))) where
       by : (b : Bool) (p : ℕ)
           → (cond b (dataField edition98) (known [])) .spelling cs p ≡ (cond b (dataField edition98) (known [])) .spelling (map bare cs) p
       by true p =
           let n = count .spelling (length cs) p in
-          rw (length-map cs bare) (ap (λ (l : List Cell). n ++ l) (many-bare cs (wide n + p)))
+          rw (length-map cs bare) (ap (λ (l : List Letter). n ++ l) (sequence-bare cs (wide n + p)))
       by false p = refl
 
 -- ---- what is written
@@ -104,19 +104,19 @@ placed-same (t ∷ ts) (n ∷ ns) d p same all =
 
 packet-back : (e : Ending) (k : Kind) (v : ℕ) (ts ns d w more : List ℕ) → WriteForm k v ts ns d w → mayFollow e more ≡ true
     → length (w ++ more) ≤ packetLimit → ReadsAs e (w ++ more) k v ts ns d
-unfolding readPacket whole packetOctets
+unfolding readPacket wholePacket packetOctets
 packet-back e k v ts ns d w more form follows room =
     let cs = placed ts ns d (fieldsFrom (length ts) 8) in
-    let x : Packet = record { kind = k; value = v; contents = cs } in
+    let x : IfpPacket = record { kind = k; value = v; contents = cs } in
     let same = placed-same ts ns d (fieldsFrom (length ts) 8) (form .same) (form .all) in
     let fits =
     packet-fits ts ns d (form .same) k v (form .known) (form .few) (cut-of ns d (form .all)) (form .types) (form .short) (form .right) (form .fields) in
     let spelt : packet edition98 .spelling x 0 ≡ packet edition98 .spelling (record { kind = k; value = v; contents = contentsOf ts ns d }) 0
     = packet-bare k v cs ∙ ap (λ (l : List Content). packet edition98 .spelling (record { kind = k; value = v; contents = l }) 0) (same .contents) in
-    let is : octetsOf (packet edition98 .spelling x 0) ≡ w
-    = ap octetsOf spelt ∙ packet-laid ts ns d (form .types) (form .same) k v (form .known) ∙ sym (form .is) in
+    let is : inOctets (packet edition98 .spelling x 0) ≡ w
+    = ap inOctets spelt ∙ packet-laid ts ns d (form .types) (form .same) k v (form .known) ∙ sym (form .is) in
     let edge : wide (packet edition98 .spelling x 0) % 8 ≡ 0
-    = ap (λ (l : List Cell). wide l % 8) spelt ∙ packet-edge ts ns d (form .types) (form .same) k v (form .known) in
+    = ap (λ (l : List Letter). wide l % 8) spelt ∙ packet-edge ts ns d (form .types) (form .same) k v (form .known) in
     let reads : packet edition98 .read (w ++ more) 0 0 ≡ found x (8 * length w) = rw is at (written-found (lawful-packet edition98) x 0 more fits edge) in
     let at : 8 * length w / 8 ≡ length w = omega arith in
     record {

@@ -9,9 +9,9 @@ use lib.ListN.{length, take, drop}
 use lib.Dec.{leb, ltb, eqb}
 use Rattle.lengths.specs.Refusals.{outsideSizes, leftOver, notAssigned, wrongData}
 use Rattle.lengths.specs.Answers.{Answer, done, refused, refuse}
-use Rattle.formats.specs.Reading.{Found, found, stopped, Reader, _>>=_, give, check}
+use Rattle.formats.specs.Reading.{Finding, found, stopped, Reader, _>>=_, give, check}
 use Rattle.formats.specs.Reading as reading
-use Rattle.formats.specs.Format.{Format, flag, bits, align, here, octets, twoOctets, lengthRule, known, item, guarded, demand, _⊳_, made, many}
+use Rattle.formats.specs.Format.{Format, flag, bits, align, here, octets, twoOctets, lengthRule, known, item, guarded, demand, _⊳_, made, sequenceOf}
 use Rattle.datagrams.specs.Sizes.{packetLimit}
 use Rattle.packets.specs.Edition.{Enumerated, Edition, allows, values, edition98}
 use Rattle.packets.specs.declared.types.Kind.{Kind}
@@ -27,9 +27,9 @@ fieldsLimit = 16
 
 -- the highest field type
 abbrev pub typesLimit : ℕ
-typesLimit = 7
+typesLimit = edition98 .types .assigned - 1
 
--- how many values a kind has, from 0 on
+-- how sequenceOf values a kind has, from 0 on
 abbrev pub assigned : Kind → ℕ
 assigned kind = values edition98 kind .assigned
 
@@ -75,8 +75,8 @@ abbrev pub isData : Kind → Bool
 isData Indicator = false
 isData Data = true
 
-unfoldable pub first : Edition → Format First
-first edition =
+unfoldable pub typeOfMsg : Edition → Format First
+typeOfMsg edition =
     made (λ x. record { kind = chosen (x .1 .0); value = x .1 .1; present = x .0 }) (λ f. (f .present, (isData (f .kind), f .value)))
     (flag
     ⊳ λ present. flag
@@ -86,7 +86,7 @@ first edition =
 unfoldable pub start : Edition → Format First
 start edition =
     made (λ x. x .0) (λ f. (f, (tt, tt)))
-    (item (first edition)
+    (item (typeOfMsg edition)
     ⊳ λ f. align
     ⊳ λ _. demand wrongData (rightFields (f .kind) (f .present)))
 
@@ -137,16 +137,16 @@ unfoldable pub dataField : Edition → Format (List Content)
 dataField edition =
     made (λ x. x .1) (λ contents. (length contents, contents))
     (count
-    ⊳ λ n. many n (field edition))
+    ⊳ λ n. sequenceOf n (field edition))
 
 -- ---- IFPPacket ::= SEQUENCE { type-of-msg Type-of-msg, data-field Data-Field OPTIONAL }
-pub record Packet : Type 0 where
+pub record IfpPacket : Type 0 where
   pub kind : Kind
   pub value : ℕ
   pub contents : List Content
 
 -- "If present, a count of fields follows"; "A data packet with no field has the top bit clear"
-unfoldable pub packet : Edition → Format Packet
+unfoldable pub packet : Edition → Format IfpPacket
 packet edition =
     made (λ x. record { kind = x .0 .kind; value = x .0 .value; contents = x .1 })
     (λ p. (record { kind = p .kind; value = p .value; present = ltb 0 (length (p .contents)) }, p .contents))
@@ -168,8 +168,8 @@ mayFollow Whole rest = eqb (length rest) 0
 mayFollow Repaired rest = allZero rest
 
 -- "anything else left is refusal 6"
-unfoldable pub whole : Edition → Ending → Reader Packet
-whole edition ending = do
+unfoldable pub wholePacket : Edition → Ending → Reader IfpPacket
+wholePacket edition ending = do
   p ← packet edition .read
   _ ← reading.item (λ s i at. check leftOver (mayFollow ending (drop (at / 8) s)) s i at)
   give p
@@ -182,13 +182,13 @@ pub record PacketAnswer : Type 0 where
 abbrev pub fieldOf : Content → Field
 fieldOf c = record { kind = c .kind; start = c .start; size = length (c .octets) }
 
-abbrev pub answerOf : Found Packet → Answer PacketAnswer
+abbrev pub answerOf : Finding IfpPacket → Answer PacketAnswer
 answerOf (found p at) = done (record { kind = p .kind; value = p .value; fields = map fieldOf (p .contents) })
 answerOf (stopped r) = refused r
 
 -- "over 160 octets 4, then reading order"
 unfoldable pub readPacket : Ending → List ℕ → Answer PacketAnswer
-readPacket ending s = cond (ltb packetLimit (length s)) (refuse outsideSizes) (answerOf (whole edition98 ending s 0 0))
+readPacket ending s = cond (ltb packetLimit (length s)) (refuse outsideSizes) (answerOf (wholePacket edition98 ending s 0 0))
 
 -- ---- a field's data, as a part of the packet's octets
 -- no field: what stands in the places that a packet's fields leave unused

@@ -10,7 +10,7 @@ use lib.Dec.{leb, ltb, eqb}
 use Rattle.lengths.specs.Refusals.{outsideSizes, wrongSettings, notAssigned, wrongData}
 use Rattle.lengths.specs.Answers.{Answer}
 use Rattle.lengths.specs.Tables.{when, unless}
-use Rattle.formats.specs.Spelling.{octetsOf}
+use Rattle.formats.specs.Spelling.{inOctets}
 use Rattle.datagrams.specs.Sizes.{packetLimit}
 use Rattle.packets.specs.Edition.{edition98}
 use Rattle.packets.specs.Packet.{fieldsLimit, typesLimit, assigned, rightFields, rightData, every, Content, packet}
@@ -30,7 +30,7 @@ contentsOf (kind ∷ types) (size ∷ lengths) octets =
 -- what the description spells, in octets
 unfoldable pub packetOctets : Kind → ℕ → List ℕ → List ℕ → List ℕ → List ℕ
 packetOctets kind value types lengths octets =
-    octetsOf (packet edition98 .spelling (record { kind = kind; value = value; contents = contentsOf types lengths octets }) 0)
+    inOctets (packet edition98 .spelling (record { kind = kind; value = value; contents = contentsOf types lengths octets }) 0)
 
 -- ---- the refusals, each over the whole packet
 -- the sum of what a measure gives for each element

@@ -87,8 +87,8 @@ countAt s present =
 abbrev pub bitsAt : List ℕ → Place → ℕ
 bitsAt s at = getD s at 0 / 16
 
-abbrev pub spareAt : List ℕ → Place → ℕ
-spareAt s at = getD s at 0 % 16
+abbrev pub lowBitsAt : List ℕ → Place → ℕ
+lowBitsAt s at = getD s at 0 % 16
 
 abbrev pub pastHeader : Place → Place
 pastHeader at = at + 1
@@ -105,7 +105,7 @@ headerAt s at =
     let right = rightData (header .kind) (header .present) in
     let read : HeaderAnswer = record { header = header; next = pastHeader at } in
     cond (leb (length s) at) (refuse endsEarly)
-    (cond (ltb 0 (spareAt s at)) (refuse spareBit) (cond right (done read) (refuse wrongData)))
+    (cond (ltb 0 (lowBitsAt s at)) (refuse spareBit) (cond right (done read) (refuse wrongData)))
 
 -- "two octets hold its length minus one, then the data": the data's length, at the front of octets that must hold it all. The
 -- two octets have no form to refuse, so it is 1, then 4, then 1 for missing octets
@@ -154,8 +154,8 @@ fieldsAt (suc n) s at = do
 unfoldable pub endAt : {A : Type 0} → Ending → List ℕ → Place → A → Answer A
 endAt ending s at a = cond (mayFollow ending (drop at s)) (done a) (refuse leftOver)
 
-unfoldable pub packetAt : Ending → List ℕ → Answer PacketAnswer
-packetAt ending s =
+unfoldable pub packetByOctets : Ending → List ℕ → Answer PacketAnswer
+packetByOctets ending s =
     cond (ltb packetLimit (length s)) (refuse outsideSizes)
     (do
       first ← firstAt s

@@ -1,5 +1,5 @@
 -- `packet_reader::kind_of` meets its contract. The test of the bit is the definition's. Assumes nothing.
-use Rattle.packets.proofs.Tests.{tests}
+use Rattle.packets.proofs.Laws.{tests}
 use Rattle.packet_reader.proofs.reader.kind_of.Statement.{statement}
 use Rattle.packet_reader.proofs.reader.kind_of.Tie as tie
 

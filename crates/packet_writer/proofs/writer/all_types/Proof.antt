@@ -5,7 +5,7 @@ use lib.ListN.{length}
 use lib.Dec.{leb}
 use borrow.Author.Needs.{needs}
 use Rattle.packets.specs.Packet.{typesLimit}
-use Rattle.packets.proofs.Every.{EveryLeft, evers}
+use Rattle.packets.proofs.Laws.{EveryLeft, evers}
 use Rattle.packet_writer.proofs.writer.all_types.Statement.{statement}
 use Rattle.packet_writer.proofs.writer.all_types.Tie as tie
 

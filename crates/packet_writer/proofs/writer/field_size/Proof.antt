@@ -1,6 +1,6 @@
 -- `packet_writer::field_size` meets its contract. Each answer is a case of the definition. Assumes nothing.
 use borrow.Author.Needs.{needs}
-use Rattle.packets.proofs.Every.{sums}
+use Rattle.packets.proofs.Laws.{sums}
 use Rattle.packet_writer.proofs.writer.field_size.Statement.{statement}
 use Rattle.packet_writer.proofs.writer.field_size.Tie as tie
 

@@ -4,7 +4,7 @@ use Prim.Native.Nat.{_-_}
 use lib.ListN.{length}
 use borrow.Author.Needs.{needs}
 use Rattle.packets.specs.Inner.Items.{fieldSize}
-use Rattle.packets.proofs.Every.{Summing, sums}
+use Rattle.packets.proofs.Laws.{Summing, sums}
 use Rattle.packet_writer.proofs.writer.fields_size.Statement.{statement}
 use Rattle.packet_writer.proofs.writer.fields_size.Tie as tie
 
