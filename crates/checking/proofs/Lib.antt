@@ -1,3 +1,4 @@
 mod Turns
 mod Slot
+mod Places
 mod Same

@@ -1,16 +1,15 @@
 -- The tests that the code makes, number by number, pass together exactly if what is lent is within its ranges. Over a layout that is
 -- right a cell of the view has as many octets as its slot's size says, so a test of the slot is the view's test. Assumes nothing.
-use Prim.Native.Nat.{ℕ, _+_, _-_, _%_, _≤_, _<_}
+use Prim.Native.Nat.{ℕ, _+_, _%_, _<_}
 use mathlib.Core.Path.{_≡_, refl, sym, ap, ap₂, _∙_}
 use mathlib.Core.Bool.{Bool, true, not, _&&_}
 use mathlib.Core.List.{List, []}
-use mathlib.Core.Logic.{⊎-elim}
 use lib.ListN.{length, getD}
 use lib.Dec.{leb, eqb}
 use native.Mathlib.Omega.{arith}
 use borrow.Author.Tests.{le-leb, leb-true}
 use Rattle.octets.specs.Place.{tab, allBelow}
-use Rattle.octets.proofs.Laws.{below-or-not, and-left, and-right, and-both, allBelow-at, allBelow-of, length-tab}
+use Rattle.octets.proofs.Laws.{and-left, and-right, and-both, allBelow-at, allBelow-of, length-tab}
 use Rattle.datagrams.specs.Sizes.{messageLimit, messagesLimit}
 use Rattle.views.specs.Cells.{Cell, cellAt, isUnknown, keptBefore, keptAhead, keptNumbers}
 use Rattle.views.specs.Held.{Held, heldAt}
@@ -19,42 +18,16 @@ use Rattle.views.specs.View.{sum, numbers, sessionLimit}
 use Rattle.views.specs.Ranges.{sumRight, blankAt, sizeRight, cellRight, markRight, heldRight, knownAt, Sound}
 use Rattle.views.proofs.Laws.{base-small, size-fits, mark-sizes}
 use Rattle.held.specs.Slots.{slotsKept, slotsHeard, slotAt, heardSlotAt, packetOctets, messageOctets}
-use Rattle.held.specs.Table.{Lent, lent, countsOf, places, lastState, stateIn, sizeIn, markIn, nIn, mIn, stateNumbered, cellIn, messageIn, heldIn, cellsOf, heldOf, viewIn}
+use Rattle.held.specs.Table.{Lent, lent, countsOf, places, lastState, stateIn, sizeIn, markIn, nIn, mIn, stateNumbered}
+use Rattle.held.specs.Table.{cellIn, messageIn, heldIn, cellsOf, heldOf, viewIn}
 use Rattle.held.specs.Laid.{messageLaid, lentInRanges, Laid, InRanges}
 use Rattle.held.specs.declared.Counts.{Counts}
-use Rattle.held.proofs.Laws.{slot-small, slot-apart, heard-small, heard-slot-of, length-cells, length-held, cell-at, held-at, unknown-at}
+use Rattle.held.proofs.Laws.{slot-small, heard-small, heard-slot-of, length-cells, length-held, cell-at, held-at, unknown-at}
 use Rattle.held.proofs.Laws.{octets-long, cell-right, held-right, message-length, message-fits, message-none, message-zeros, laid-message}
 use Rattle.held.proofs.Laws.{in-ranges-of, in-ranges-true}
 use Rattle.checking.specs.Pieces.{stateRight, placeIn, stateTest, packetTest, allKept, markedRight, heardRight, heardTest}
 use Rattle.checking.proofs.Turns.{both-ways}
-
--- ---- the slot of a place, and the place of a slot
-module _ (b i : ℕ) (low : b < slotsKept) (small : i < slotsKept) where
-  place-far : i + keptBefore < b → (i + (keptBefore + slotsKept - b)) % slotsKept ≡ i + 96 - b
-  place-far far = omega arith
-
-  place-near : b ≤ i + keptBefore → i < b + keptBefore → (i + (keptBefore + slotsKept - b)) % slotsKept ≡ i + 32 - b
-  place-near near before = omega arith
-
-  place-past : b + keptBefore ≤ i → (i + (keptBefore + slotsKept - b)) % slotsKept ≡ i - 32 - b
-  place-past past = omega arith
-
-place-small : (base i : ℕ) → placeIn base i < keptNumbers
-place-small base i = omega arith
-
-slot-place : (base i : ℕ) → i < slotsKept → slotAt base (placeIn base i) ≡ i
-slot-place base i small =
-    ⊎-elim (λ far. rw (place-far (base % slotsKept) i (omega arith) small far) (omega arith))
-    (λ near.
-    ⊎-elim (λ before. rw (place-near (base % slotsKept) i (omega arith) small near before) (omega arith))
-    (λ past. rw (place-past (base % slotsKept) i (omega arith) small past) (omega arith))
-    (below-or-not i (base % slotsKept + keptBefore)))
-    (below-or-not (i + keptBefore) (base % slotsKept))
-
-place-slot : (base p : ℕ) → p < keptNumbers → placeIn base (slotAt base p) ≡ p
-place-slot base p below =
-    slot-apart base (placeIn base (slotAt base p)) p (place-small base (slotAt base p)) below
-    (slot-place base (slotAt base p) (slot-small base p))
+use Rattle.checking.proofs.Places.{place-small, slot-place, place-slot}
 
 -- ---- a slot's test taken apart
 pub record KeptSeen (t o : List ℕ) (i : ℕ) (blank : Bool) : Type 0 where
@@ -179,7 +152,8 @@ module _ (l : Lent) (long : length (l .table) ≡ places) (octets : length (l .o
         octets = octets;
         messages = messages;
         state = λ i low. leb-true (stateIn t i) lastState (kept-in i low .number);
-        size = λ i low. size-fits (stateNumbered (stateIn t i)) (sizeIn t i) (blankAt (total l) (placeIn (l .base) i)) (kept-in i low .size);
+        size =
+            λ i low. size-fits (stateNumbered (stateIn t i)) (sizeIn t i) (blankAt (total l) (placeIn (l .base) i)) (kept-in i low .size);
         packet = λ i low. kept-in i low .zeros;
         mark = λ j low. leb-true (markIn t j) 1 (heard-in j low .1 .number);
         few = λ j low. mark-sizes (eqb (markIn t j) 1) (heard-in j low .0) (nIn t j) (mIn t j) (heard-in j low .1 .mark) .1;

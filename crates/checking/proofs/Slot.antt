@@ -17,7 +17,8 @@ use Rattle.held.specs.Slots.{slotsKept, messageSlot}
 use Rattle.held.specs.Table.{lastState, stateIn, sizeIn, markIn, nIn, mIn, messageSizeIn, stateNumbered}
 use Rattle.held.specs.Laid.{messageLaid}
 use Rattle.held.proofs.Laws.{message-none}
-use Rattle.checking.specs.Pieces.{stateRight, placeIn, stateTest, packetTest, SizesFit, allKept, markedRight, heardRight, sizeless, emptyAt}
+use Rattle.checking.specs.Pieces.{stateRight, placeIn, stateTest, packetTest, SizesFit, allKept}
+use Rattle.checking.specs.Pieces.{markedRight, heardRight, sizeless, emptyAt}
 
 -- ---- a state with its length
 -- the answer of `state_right`

@@ -18,7 +18,8 @@ use Rattle.views.specs.Ranges.{blankAt}
 use Rattle.held.specs.Slots.{slotsKept, slotAt, heardSlotAt, messageSlot}
 use Rattle.held.specs.Table.{stateIn, sizeIn, messageSizeIn, stateNumbered}
 use Rattle.held.specs.Laid.{messageLaid}
-use Rattle.checking.specs.Pieces.{stateRight, passedOf, placeIn, stateTest, packetTest, SizesFit, heardRight, heardTest, sizeless, emptyAt, heldOctets, octetZero}
+use Rattle.checking.specs.Pieces.{stateRight, passedOf, placeIn, stateTest, packetTest, SizesFit}
+use Rattle.checking.specs.Pieces.{heardRight, heardTest, sizeless, emptyAt, heldOctets, octetZero}
 
 -- two tests that pass together
 pub both-ways : (a b : Bool) → (a ≡ true → b ≡ true) → (b ≡ true → a ≡ true) → a ≡ b
