@@ -74,26 +74,35 @@ def written_back(script, command, originals):
     as_expected(script.answers, answers)
 
 
+def datagram_back(script, octets):
+    """A datagram is read (03) and written again (04)."""
+    given = read_datagram(octets)
+    script.call(0x03, octets)
+    script.call(0x04, shown(given.number, 2), sized(given.packet), bytes([given.kind, given.n, len(given.items)]),
+                b''.join(shown(len(item), 2) for item in given.items), sized(b''.join(given.items)), shown(len(octets), 2))
+
+
+def packet_back(script, octets):
+    """A packet is read (05) and written again (06)."""
+    kind, value, fields = read_packet(octets, False)
+    script.call(0x05, b'\x00', octets)
+    script.call(0x06, bytes([kind, value, len(fields)] + [field_type for field_type, _ in fields] + [len(fields)]),
+                b''.join(shown(len(data), 2) for _, data in fields), sized(b''.join(data for _, data in fields)), shown(len(octets), 2))
+
+
 def datagrams_back(command, name):
-    """Each real datagram is read (03) and written back (04) as the same octets."""
+    """Each real datagram is read and written back as the same octets."""
     script = Script(name, UNLIMITED)
     for octets in corpus(name):
-        given = read_datagram(octets)
-        script.call(0x03, octets)
-        script.call(0x04, shown(given.number, 2), sized(given.packet), bytes([given.kind, given.n, len(given.items)]),
-                    b''.join(shown(len(item), 2) for item in given.items), sized(b''.join(given.items)), shown(len(octets), 2))
+        datagram_back(script, octets)
     written_back(script, command, corpus(name))
 
 
 def packets_back(command, name):
-    """Each real packet is read (05) and written back (06) as the same octets."""
+    """Each real packet is read and written back as the same octets."""
     script = Script(name, UNLIMITED)
     for octets in corpus(name):
-        kind, value, fields = read_packet(octets, False)
-        script.call(0x05, b'\x00', octets)
-        script.call(0x06, bytes([kind, value, len(fields)] + [field_type for field_type, _ in fields] + [len(fields)]),
-                    b''.join(shown(len(data), 2) for _, data in fields), sized(b''.join(data for _, data in fields)),
-                    shown(len(octets), 2))
+        packet_back(script, octets)
     written_back(script, command, corpus(name))
 
 
