@@ -9,7 +9,7 @@ use native.Mathlib.Omega.{arith}
 use borrow.Author.Tests.{lt-ltb, le-ltb, le-leb, lt-leb, ne-eqb, eqb-true, eq-eqb}
 use Rattle.octets.specs.Place.{allBelow}
 use Rattle.octets.proofs.Laws.{same-or-not, and-right, allBelow-at, allBelow-of, allBelow-ext}
-use Rattle.datagrams.specs.Sizes.{packetLeast, packetLimit, coveredLimit, messageLimit, messagesLimit}
+use Rattle.datagrams.specs.Sizes.{packetLeast, packetLimit, coveredLimit, messageLimit, messagesLimit, coveredLeast}
 use Rattle.stores.specs.Store.{zerosPast}
 use Rattle.views.specs.Ranges.{blankAt, sizeRight, markRight}
 use Rattle.views.proofs.Laws.{size-fits}
@@ -103,11 +103,11 @@ module _ (mark : ℕ) (known : Bool) (n m : ℕ) where
   mark-alone marked empty = rw (marked, empty)
 
   pub mark-messages : mark ≡ 1 → (m ≡ 0 → ⊥)
-      → (known && ((leb 1 n && leb n coveredLimit) && leb m messagesLimit)) ≡ markedRight mark known n m
+      → (known && ((leb coveredLeast n && leb n coveredLimit) && leb m messagesLimit)) ≡ markedRight mark known n m
   unfolding markedRight markRight
   mark-messages marked some = rw (marked, ne-eqb m 0 some)
 
-  bare : (empty : Bool) → (empty && eqb n 0) ≡ (empty && cond empty (eqb n 0) ((leb 1 n && leb n coveredLimit) && leb m messagesLimit))
+  bare : (empty : Bool) → (empty && eqb n 0) ≡ (empty && cond empty (eqb n 0) ((leb coveredLeast n && leb n coveredLimit) && leb m messagesLimit))
   bare true = refl
   bare false = refl
 

@@ -51,7 +51,8 @@ fn mark_right(mark: u16, known: bool, n: usize, m: usize) -> bool
         if m == 0 {
             return known & (n == 0);
         }
-        return known & ((1 <= n) & (n <= Parity::PACKETS) & (m <= Parity::MESSAGES));
+        return known
+            & ((Parity::PACKETS_LEAST <= n) & (n <= Parity::PACKETS) & (m <= Parity::MESSAGES));
     }
     (mark == 0) & ((m == 0) & (n == 0))
 }

@@ -9,10 +9,11 @@ use native.Mathlib.Numerals.{add-one}
 use native.Mathlib.Omega.{arith}
 use borrow.Rule.Slice.PartMut.{midOf, putMid}
 use Rattle.lengths.specs.Length.{lengthLimit}
+use Rattle.lengths.specs.Promise.{Put}
+use Rattle.lengths.proofs.Laws.{put-none, put-next, put-long, room-left}
 use Rattle.datagrams.specs.Write.{itemOctets, itemsOctets, cut, sumOf}
-use Rattle.datagrams.specs.Inner.Put.{Put, itemSize, itemsSize}
-use Rattle.datagrams.proofs.PutLaws.{item-length, put-none, put-next, put-long, room-left}
-use Rattle.datagrams.proofs.SizeLaws.{sum-next, size-next}
+use Rattle.datagrams.specs.Inner.Heads.{itemSize, itemsSize}
+use Rattle.datagrams.proofs.Laws.{sum-next, size-next, item-length}
 
 -- ---- one item more
 cut-next : (lengths run : List ℕ) (i from : ℕ) → i < length lengths

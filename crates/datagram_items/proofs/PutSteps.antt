@@ -2,25 +2,24 @@
 use Prim.Native.Nat.{ℕ, _+_, _-_, _/_, _%_, _≤_, _<_}
 use mathlib.Core.Path.{_≡_, refl}
 use mathlib.Core.List.{List, [], _∷_, _++_}
-use lib.ListN.{length, getD, take, set, length-set}
-use lib.Seq.{take-suc, take-all}
+use lib.ListN.{length, getD, take, set, length-set, length-append}
 use native.Mathlib.Nat.{mod-eq-of-lt}
-use native.Mathlib.Numerals.{add-one}
 use native.Mathlib.Omega.{arith}
 use borrow.Author.Tests.{le-ltb, le-leb, ltb-true}
 use borrow.Rule.Slice.PartMut.{midOf, putMid}
 use Rattle.lengths.specs.Answers.{done, refused, fitted, sizeOf}
 use Rattle.lengths.specs.Tables.{unless}
 use Rattle.lengths.specs.Length.{lengthOctets, lengthToWrite, lengthLimit}
-use Rattle.lengths.specs.Promise.{Puts}
+use Rattle.lengths.specs.Promise.{Puts, Put}
 use Rattle.lengths.specs.declared.Refusal.{Refusal}
 use Rattle.lengths.specs.declared.Written.{Written}
 use Rattle.lengths.specs.declared.Written.the-variants as written
+use Rattle.lengths.proofs.Laws.{put-none, put-turn, put-all, put-next, put-long, room-left}
 use Rattle.datagrams.specs.Write.{numberOctets, itemOctets}
-use Rattle.datagrams.specs.Inner.Put.{Put, sparesHead, parityHead, kindHead, KindFits}
+use Rattle.datagrams.specs.Inner.Heads.{sparesHead, parityHead, kindHead, frontOctets, itemSize, KindFits, FrontAsked}
 use Rattle.datagrams.specs.declared.kind.Kind.{Kind}
 use Rattle.datagrams.specs.declared.kind.Kind.the-variants as kind
-use Rattle.datagrams.proofs.PutLaws.{put-none, put-one, put-next}
+use Rattle.datagrams.proofs.Laws.{number-length, item-length, front-length}
 
 -- ---- put_octets
 
@@ -40,11 +39,11 @@ module _ {octets old : List ℕ} where
       record {
         bound = omega arith;
         long = rw (length-set new i (getD octets i 0)) (v .long);
-        put = rw (add-one, take-suc octets i 0 more) (rw add-one at (put-one (getD octets i 0) (v .put) (omega arith)));
+        put = put-turn octets (v .put) more (omega arith);
       }
 
   pub copy-done : {new : List ℕ} {i : ℕ} → Copied octets old new i → length octets ≤ i → Put octets old new i
-  copy-done {new} {i} v end = rw (take-all i octets end) at (v .put)
+  copy-done v end = put-all (v .put) end
 
 -- ---- put_length
 length-fitted : (n : ℕ) (old : List ℕ) → n ≤ lengthLimit → length (lengthOctets n) ≤ length old
@@ -119,6 +118,32 @@ pub kind-parity : (k : Kind) (count : ℕ) {p n : ℕ} {old new : List ℕ} → 
     → Put (kindHead k count) old new n
 kind-parity k count e p = rw e p
 
+-- ---- put_front
+module _ {number : ℕ} {packet : List ℕ} {k : Kind} {count : ℕ} {old : List ℕ} (asked : FrontAsked number packet k count old) where
+  pub head-asked : (length packet ≤ lengthLimit) × (length (numberOctets number) + itemSize (length packet) ≤ length old)
+  head-asked =
+      let size = front-length number packet k count in
+      let two = number-length number in
+      let room = asked .room in
+      (asked .newest, omega arith)
+
+  pub kind-asked : {mid : List ℕ} {at : ℕ} → Put (numberOctets number ++ itemOctets packet) old mid at
+      → (KindFits k count) × (length (kindHead k count) ≤ length (midOf at (length mid - at) mid))
+  kind-asked {mid} {at} p =
+      let size = front-length number packet k count in
+      let two = number-length number in
+      let head = length-append (numberOctets number) (itemOctets packet) in
+      let item = item-length packet in
+      let long = put-long p in
+      let told = p .answer in
+      let room = asked .room in
+      (asked .head, room-left mid at (length (kindHead k count)) (omega arith))
+
+pub front-put : (number : ℕ) (packet : List ℕ) (k : Kind) (count : ℕ) {old mid part : List ℕ} {at n : ℕ}
+    → Put (numberOctets number ++ itemOctets packet) old mid at → Put (kindHead k count) (midOf at (length mid - at) mid) part n
+    → Put (frontOctets number packet k count) old (putMid at (length mid - at) mid part) (at + n)
+front-put number packet k count p q = put-next p q
+
 pub ruleset puts = (
   copy-start,
   copy-turn,
@@ -134,4 +159,5 @@ pub ruleset puts = (
   parity-asked,
   kind-spares,
   kind-parity,
+  front-put,
 )

@@ -8,10 +8,10 @@ use native.Mathlib.Omega.{arith}
 use Rattle.lengths.specs.Length.{lengthLimit}
 use Rattle.lengths.proofs.Laws.{lengthOctets-one, lengthOctets-two}
 use Rattle.datagrams.specs.Write.{sumOf}
-use Rattle.datagrams.specs.Inner.Put.{LengthSize, kindHead, itemSize, itemsSize}
+use Rattle.datagrams.specs.Inner.Heads.{LengthSize, kindHead, itemSize, itemsSize}
 use Rattle.datagrams.specs.declared.kind.Kind.{Kind}
 use Rattle.datagrams.specs.declared.kind.Kind.the-variants as kind
-use Rattle.datagrams.proofs.SizeLaws.{sum-next, size-next, items-bound}
+use Rattle.datagrams.proofs.Laws.{sum-next, size-next, items-bound}
 
 -- ---- length_size, kind_size
 pub length-one : {n : ℕ} → n < 128 → LengthSize n 1

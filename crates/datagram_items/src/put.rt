@@ -1,14 +1,17 @@
 // Document 01, 'The datagram', item by item: "each item into the part still free after the last". Each writer writes to the
 // front of the part that it is lent, which its caller has made sure is long enough, and answers how many octets it wrote.
 use datagrams::Kind;
+use lengths::Length;
 use lengths::Written;
 ghost use Prim.Native.Nat.{_+_, _≤_, _<_};
 ghost use mathlib.Core.Path.{_≡_};
 ghost use mathlib.Core.List.{_++_};
 ghost use lib.ListN.{length};
 ghost use Rattle.lengths.specs.Length.{lengthOctets, lengthLimit};
+ghost use Rattle.lengths.specs.Promise.{Put};
 ghost use Rattle.datagrams.specs.Write.{numberOctets, itemOctets, itemsOctets, cut, sumOf};
-ghost use Rattle.datagrams.specs.Inner.Put.{Put, LengthSize, KindFits, sparesHead, parityHead, kindHead, itemSize, itemsSize};
+ghost use Rattle.datagrams.specs.Inner.Heads.{LengthSize, KindFits, FrontAsked, sparesHead, parityHead, kindHead, frontOctets, itemSize};
+ghost use Rattle.datagrams.specs.Inner.Heads.{itemsSize};
 
 // A length as a size.
 pub fn wide(length: u16) -> usize
@@ -55,7 +58,7 @@ pub fn put_item(item: &[u8], out: &mut [u8]) -> usize
 }
 
 // The number: two octets, high first.
-pub fn put_number(number: u16, out: &mut [u8]) -> usize
+fn put_number(number: u16, out: &mut [u8]) -> usize
     requires { ⌜ length (numberOctets number) ≤ length (now out) ⌝ }
     ensures { λ r. ⌜ Put (numberOctets number) (now (out .entry)) (now (out .exit)) r ⌝ }
 {
@@ -66,8 +69,9 @@ pub fn put_number(number: u16, out: &mut [u8]) -> usize
 }
 
 // The number and the newest packet.
-pub fn put_head(number: u16, packet: &[u8], out: &mut [u8]) -> usize
-    requires { ⌜ (length (now packet) ≤ lengthLimit) × (length (numberOctets number) + itemSize (length (now packet)) ≤ length (now out)) ⌝ }
+fn put_head(number: u16, packet: &[u8], out: &mut [u8]) -> usize
+    requires { ⌜ (length (now packet) ≤ lengthLimit) ×
+        (length (numberOctets number) + itemSize (length (now packet)) ≤ length (now out)) ⌝ }
     ensures { λ r. ⌜ Put (numberOctets number ++ itemOctets (now (packet .entry))) (now (out .entry)) (now (out .exit)) r ⌝ }
 {
     let at = put_number(number, out);
@@ -76,7 +80,7 @@ pub fn put_head(number: u16, packet: &[u8], out: &mut [u8]) -> usize
 }
 
 // Octet 00, and how many spares there are.
-pub fn put_spares(count: usize, out: &mut [u8]) -> usize
+fn put_spares(count: usize, out: &mut [u8]) -> usize
     requires { ⌜ (count ≤ lengthLimit) × (1 + length (lengthOctets count) ≤ length (now out)) ⌝ }
     ensures { λ r. ⌜ Put (sparesHead count) (now (out .entry)) (now (out .exit)) r ⌝ }
 {
@@ -87,7 +91,7 @@ pub fn put_spares(count: usize, out: &mut [u8]) -> usize
 }
 
 // Octet 80, octet 01, octet n, and m, how many messages there are.
-pub fn put_parity(n: usize, m: usize, out: &mut [u8]) -> usize
+fn put_parity(n: usize, m: usize, out: &mut [u8]) -> usize
     requires { ⌜ (n < 256) × (m ≤ lengthLimit) × (3 + length (lengthOctets m) ≤ length (now out)) ⌝ }
     ensures { λ r. ⌜ Put (parityHead n m) (now (out .entry)) (now (out .exit)) r ⌝ }
 {
@@ -99,7 +103,7 @@ pub fn put_parity(n: usize, m: usize, out: &mut [u8]) -> usize
 }
 
 // What stands before the spares or messages.
-pub fn put_kind(kind: Kind, count: usize, out: &mut [u8]) -> usize
+fn put_kind(kind: Kind, count: usize, out: &mut [u8]) -> usize
     requires { ⌜ (KindFits kind count) × (length (kindHead kind count) ≤ length (now out)) ⌝ }
     ensures { λ r. ⌜ Put (kindHead kind count) (now (out .entry)) (now (out .exit)) r ⌝ }
 {
@@ -109,9 +113,20 @@ pub fn put_kind(kind: Kind, count: usize, out: &mut [u8]) -> usize
     }
 }
 
+// All that stands before the spares or messages: the number, the newest packet, and what a kind has before them.
+pub fn put_front(number: u16, packet: &[u8], kind: Kind, count: usize, out: &mut [u8]) -> usize
+    requires { ⌜ FrontAsked number (now packet) kind count (now out) ⌝ }
+    ensures { λ r. ⌜ Put (frontOctets number (now (packet .entry)) kind count) (now (out .entry)) (now (out .exit)) r ⌝ }
+{
+    let head = put_head(number, packet, out);
+    let before = put_kind(kind, count, &mut out[head..]);
+    head + before
+}
+
 // Spares or messages, each with its length.
 pub fn put_items(lengths: &[u16], data: &[u8], out: &mut [u8]) -> usize
-    requires { ⌜ (sumOf (now lengths) ≡ length (now «data»)) × (length (now «data») ≤ lengthLimit) × (itemsSize (now lengths) ≤ length (now out)) ⌝ }
+    requires { ⌜ (sumOf (now lengths) ≡ length (now «data»)) × (length (now «data») ≤ lengthLimit) ×
+        (itemsSize (now lengths) ≤ length (now out)) ⌝ }
     ensures { λ r. ⌜ Put (itemsOctets (cut (now (lengths .entry)) (now («data» .entry)))) (now (out .entry)) (now (out .exit)) r ⌝ }
 {
     let mut i = 0;
@@ -134,7 +149,7 @@ pub fn put_items(lengths: &[u16], data: &[u8], out: &mut [u8]) -> usize
 pub fn length_size(n: usize) -> usize
     ensures { λ r. ⌜ LengthSize n r ⌝ }
 {
-    if n < 128 {
+    if n < Length::TWO_FROM {
         return 1;
     }
     2

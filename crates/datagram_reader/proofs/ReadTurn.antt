@@ -10,12 +10,12 @@ use Rattle.lengths.specs.Answers.{Answer, done, refused, _>>=_}
 use Rattle.lengths.specs.declared.Refusal.{Refusal}
 use Rattle.datagrams.specs.Sizes.{sparesLimit}
 use Rattle.datagrams.specs.Read.{after, itemAt, itemsAt, endOf}
-use Rattle.datagrams.specs.Promise.{places, nowhere}
-use Rattle.datagram_reader.specs.Pieces.{ItemRead, ItemsAsked}
+use Rattle.datagrams.specs.Promise.{paddedParts, nowhere}
+use Rattle.datagram_reader.specs.Pieces.{ItemRead, ItemsBegin}
 use Rattle.datagrams.specs.declared.reader.Part.{Part}
 use Rattle.datagram_reader.specs.declared.reader.Item.{Item}
 use Rattle.datagram_reader.specs.declared.reader.Item.the-variants as item
-use Rattle.datagrams.proofs.ReadLaws.{item-done}
+use Rattle.datagrams.proofs.Laws.{item-done}
 
 -- what was read before, in front of what is left to read
 pub prefixed : List Part → Answer (List Part) → Answer (List Part)
@@ -25,14 +25,14 @@ pub record Turning (least most : ℕ) (s : List ℕ) (count first : ℕ) (items 
   pub got : List Part
   pub counted : length got ≡ i
   pub some : i ≤ count
-  pub asked : ItemsAsked s count at
-  pub kept : items ≡ places got
+  pub asked : ItemsBegin s count at
+  pub kept : items ≡ paddedParts got
   pub ends : endOf first got ≡ at
   pub left : itemsAt least most s first count ≡ prefixed got (itemsAt least most s at (count - i))
 
 -- one more part at the first place that is not used
-places-set : (got : List Part) (p : Part) → length got < sparesLimit → set (places got) (length got) p ≡ places (got ++ (p ∷ []))
-unfolding places
+places-set : (got : List Part) (p : Part) → length got < sparesLimit → set (paddedParts got) (length got) p ≡ paddedParts (got ++ (p ∷ []))
+unfolding paddedParts
 places-set got p few =
     let more : sparesLimit - length got ≡ suc (sparesLimit - length (got ++ (p ∷ []))) = omega (arith, length-append got (p ∷ [])) in
     ap (λ (n : ℕ). set (got ++ replicate n nowhere) (length got) p) more
@@ -71,8 +71,8 @@ unfolding itemsAt
 items-none least most s at = refl
 
 module _ {least most : ℕ} {s : List ℕ} {count first : ℕ} where
-  pub turn-start : ItemsAsked s count first → Turning least most s count first (replicate sparesLimit nowhere) first 0
-  unfolding places endOf
+  pub turn-start : ItemsBegin s count first → Turning least most s count first (replicate sparesLimit nowhere) first 0
+  unfolding paddedParts endOf
   turn-start asked =
       record {
         got = [];
@@ -99,7 +99,7 @@ module _ {least most : ℕ} {s : List ℕ} {count first : ℕ} where
           asked = record { inside = item-done least most s at p (sym e) .inside (so .asked .inside); few = so .asked .few };
           kept =
               ap (λ (l : List Part). set l i p) (so .kept)
-              ∙ ap (λ (k : ℕ). set (places (so .got)) k p) (sym (so .counted))
+              ∙ ap (λ (k : ℕ). set (paddedParts (so .got)) k p) (sym (so .counted))
               ∙ places-set (so .got) p (omega (arith, so .counted, so .asked .few));
           ends = endOf-more first (so .got) p;
           left =

@@ -12,8 +12,8 @@ use Rattle.lengths.specs.Promise.{RefusalMade}
 use Rattle.lengths.specs.declared.Refusal.{Refusal}
 use Rattle.datagrams.specs.Sizes.{packetLeast, packetLimit, datagramLimit, sparesLimit}
 use Rattle.datagrams.specs.Read.{after, itemAt, itemsAt, endOf, extraAt, leastOf, mostOf, numberOf, wholeOf, readDatagram}
-use Rattle.datagrams.specs.Promise.{DatagramReads, places, nowhere, datagramRead}
-use Rattle.datagram_reader.specs.Pieces.{ItemRead, ExtraRead, Refuses, ItemsAsked, WholeRead}
+use Rattle.datagrams.specs.Promise.{DatagramReads, paddedParts, nowhere, datagramRead}
+use Rattle.datagram_reader.specs.Pieces.{ItemRead, ExtraRead, Refuses, ItemsBegin, WholeRead}
 use Rattle.datagrams.specs.declared.reader.Part.{Part}
 use Rattle.datagram_reader.specs.declared.reader.Item.{Item}
 use Rattle.datagram_reader.specs.declared.reader.Item.the-variants as item
@@ -22,14 +22,13 @@ use Rattle.datagram_reader.specs.declared.reader.Extra.the-variants as e
 use Rattle.datagrams.specs.declared.reader.Reading.the-variants as reading
 use Rattle.datagrams.specs.declared.reader.DatagramRead.{DatagramRead}
 use Rattle.datagrams.specs.declared.kind.Kind.{Kind}
-use Rattle.datagrams.proofs.WriteLaws.{count-few}
-use Rattle.datagrams.proofs.ReadLaws.{items-done, extra-done, whole-reads, outcome-whole}
+use Rattle.datagrams.proofs.Laws.{count-few, items-done, extra-done, whole-reads, outcome-whole}
 use Rattle.datagram_reader.proofs.ReadTurn.{Turning, turn-refused, turn-done}
 
 -- ---- refused
 
 pub refuses : {why : Refusal} → Refuses why (record { reading = reading.Refused why; items = replicate sparesLimit nowhere })
-unfolding datagramRead places
+unfolding datagramRead paddedParts
 refuses = record { whole = refl }
 
 -- ---- whole_of
@@ -75,7 +74,7 @@ head-read s at read is = sym (rw is at (read .answer))
 
 -- the items begin within the octets, and are no more than there are places
 pub extra-asked : {s : List ℕ} {at : ℕ} {e : Extra} {k : Kind} {count first : ℕ} → ExtraRead s at e → e ≡ extra.Found k count first
-    → ItemsAsked s count first
+    → ItemsBegin s count first
 extra-asked {s} {at} {e} {k} {count} read is =
     let h = extra-done s at _ (head-read s at read is) in
     record { inside = h .inside; few = count-few k count (h .counted) }

@@ -2,13 +2,13 @@
 use Prim.Native.Nat.{ℕ, _≤_}
 use mathlib.Core.Path.{_≡_}
 use mathlib.Core.List.{List}
-use lib.ListN.{length}
+use lib.ListN.{length, drop}
 use Rattle.lengths.specs.Answers.{Answer, done, refused, lengthOutcome}
+use Rattle.lengths.specs.Length.{lengthWithin}
 use Rattle.lengths.specs.declared.Refusal.{Refusal}
 use Rattle.lengths.specs.declared.Length.{Length}
-use Rattle.lengths.specs.declared.Length.the-variants as length
 use Rattle.datagrams.specs.Sizes.{sparesLimit}
-use Rattle.datagrams.specs.Read.{ExtraHead, octetAt, sizedAt, itemAt, sparesAt, parityAt, extraAt, wholeOf}
+use Rattle.datagrams.specs.Read.{ExtraHead, octetAt, itemAt, sparesAt, parityAt, extraAt, wholeOf}
 use Rattle.datagrams.specs.declared.reader.Part.{Part}
 use Rattle.datagrams.specs.declared.reader.DatagramRead.{DatagramRead}
 use Rattle.datagram_reader.specs.declared.reader.Item.{Item}
@@ -18,15 +18,12 @@ use Rattle.datagram_reader.specs.declared.reader.Extra.the-variants as e
 use Rattle.datagrams.specs.declared.kind.Kind.{Kind}
 use Rattle.datagrams.specs.Promise.{datagramRead}
 
--- a refused length's refusal is passed up whole
-pub record RefusalPassed (found : Length) (r : Refusal) : Type 0 where
-  pub same : (why : Refusal) → found ≡ length.Refused why → r ≡ why
-
 pub record OctetRead (least most : ℕ) (s : List ℕ) (at : ℕ) (r : Length) : Type 0 where
   pub answer : lengthOutcome r ≡ octetAt least most s at
 
-pub record SizedRead (least most : ℕ) (s : List ℕ) (at : ℕ) (r : Length) : Type 0 where
-  pub answer : lengthOutcome r ≡ sizedAt least most s at
+-- a length or count at its place
+pub record LengthTold (least most : ℕ) (s : List ℕ) (at : ℕ) (r : Length) : Type 0 where
+  pub answer : lengthOutcome r ≡ lengthWithin least most (drop at s)
 
 abbrev pub itemOutcome : Item → Answer Part
 itemOutcome (item.Found p) = done p
@@ -53,7 +50,7 @@ pub record Refuses (why : Refusal) (r : DatagramRead) : Type 0 where
   pub whole : r ≡ datagramRead (refused why)
 
 -- the items begin within the octets, and are no more than there are places
-pub record ItemsAsked (s : List ℕ) (count first : ℕ) : Type 0 where
+pub record ItemsBegin (s : List ℕ) (count first : ℕ) : Type 0 where
   pub inside : first ≤ length s
   pub few : count ≤ sparesLimit
 

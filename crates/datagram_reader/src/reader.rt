@@ -11,13 +11,14 @@ use datagrams::Reading;
 use datagrams::Spares;
 use lengths::Length;
 use lengths::Refusal;
+use lengths::wide;
 ghost use mathlib.Core.Path.{_≡_};
 ghost use Prim.Native.Nat.{_+_, _*_, _≤_};
 ghost use lib.ListN.{length};
-ghost use Rattle.lengths.specs.Promise.{Octet};
 ghost use Rattle.datagrams.specs.Read.{leastOf, mostOf};
 ghost use Rattle.datagrams.specs.Promise.{DatagramReads};
-ghost use Rattle.datagram_reader.specs.Pieces.{RefusalPassed, OctetRead, SizedRead, ItemRead, SparesRead, ParityRead, ExtraRead, Refuses, ItemsAsked, WholeRead};
+ghost use Rattle.datagram_reader.specs.Pieces.{OctetRead, LengthTold, ItemRead, SparesRead, ParityRead, ExtraRead, Refuses};
+ghost use Rattle.datagram_reader.specs.Pieces.{ItemsBegin, WholeRead};
 
 // A packet, spare or message, or why it is refused.
 enum Item {
@@ -42,23 +43,6 @@ fn number_of(high: u8, low: u8) -> u16
     (high as u16) * 256 + (low as u16)
 }
 
-// An octet as a size.
-fn wide(octet: u8) -> usize
-    ensures { λ r. ⌜ Octet octet r ⌝ }
-{
-    octet as usize
-}
-
-// Why a length is refused: it is asked of a refused one alone.
-fn refusal_of(found: Length) -> Refusal
-    ensures { λ r. ⌜ RefusalPassed found r ⌝ }
-{
-    match found {
-        Length::Value(_, _) => Refusal::new(Refusal::ENDS_EARLY),
-        Length::Refused(why) => why,
-    }
-}
-
 // A plain octet from least to most.
 fn octet_at(s: &[u8], at: usize, least: usize, most: usize) -> Length
     ensures { λ r. ⌜ OctetRead least most (now (s .entry)) at r ⌝ }
@@ -67,31 +51,18 @@ fn octet_at(s: &[u8], at: usize, least: usize, most: usize) -> Length
         return Length::Refused(Refusal::new(Refusal::ENDS_EARLY));
     }
     let value = wide(s[at]);
-    if value < least {
-        return Length::Refused(Refusal::new(Refusal::OUTSIDE_SIZES));
+    if lengths::within(least, most, value) {
+        return Length::Value(value, 1);
     }
-    if most < value {
-        return Length::Refused(Refusal::new(Refusal::OUTSIDE_SIZES));
-    }
-    Length::Value(value, 1)
+    Length::Refused(Refusal::new(Refusal::OUTSIDE_SIZES))
 }
 
 // A length or count from least to most.
-fn sized_at(s: &[u8], at: usize, least: usize, most: usize) -> Length
+fn length_at(s: &[u8], at: usize, least: usize, most: usize) -> Length
     requires { ⌜ at ≤ length (now s) ⌝ }
-    ensures { λ r. ⌜ SizedRead least most (now (s .entry)) at r ⌝ }
+    ensures { λ r. ⌜ LengthTold least most (now (s .entry)) at r ⌝ }
 {
-    let found = lengths::read(&s[at..]);
-    let Length::Value(value, took) = found else {
-        return Length::Refused(refusal_of(found));
-    };
-    if value < least {
-        return Length::Refused(Refusal::new(Refusal::OUTSIDE_SIZES));
-    }
-    if most < value {
-        return Length::Refused(Refusal::new(Refusal::OUTSIDE_SIZES));
-    }
-    Length::Value(value, took)
+    lengths::read_within(&s[at..], least, most)
 }
 
 // A packet, spare or message: its length, then its octets.
@@ -99,9 +70,9 @@ fn item_at(s: &[u8], at: usize, least: usize, most: usize) -> Item
     requires { ⌜ at ≤ length (now s) ⌝ }
     ensures { λ r. ⌜ ItemRead least most (now (s .entry)) at r ⌝ }
 {
-    let found = sized_at(s, at, least, most);
+    let found = length_at(s, at, least, most);
     let Length::Value(size, took) = found else {
-        return Item::Refused(refusal_of(found));
+        return Item::Refused(found.refusal());
     };
     let start = at + took;
     if s.len() - start < size {
@@ -115,9 +86,9 @@ fn spares_at(s: &[u8], at: usize) -> Extra
     requires { ⌜ at ≤ length (now s) ⌝ }
     ensures { λ r. ⌜ SparesRead (now (s .entry)) at r ⌝ }
 {
-    let found = sized_at(s, at, 0, Spares::LIMIT);
+    let found = length_at(s, at, Spares::LEAST, Spares::LIMIT);
     let Length::Value(count, took) = found else {
-        return Extra::Refused(refusal_of(found));
+        return Extra::Refused(found.refusal());
     };
     let first = at + took;
     Extra::Found {
@@ -134,17 +105,17 @@ fn parity_at(s: &[u8], at: usize) -> Extra
 {
     let one = octet_at(s, at, 1, 1);
     let Length::Value(_, _) = one else {
-        return Extra::Refused(refusal_of(one));
+        return Extra::Refused(one.refusal());
     };
     let second = at + 1;
-    let covered = octet_at(s, second, 1, Parity::PACKETS);
+    let covered = octet_at(s, second, Parity::PACKETS_LEAST, Parity::PACKETS);
     let Length::Value(n, _) = covered else {
-        return Extra::Refused(refusal_of(covered));
+        return Extra::Refused(covered.refusal());
     };
     let third = at + 2;
-    let found = sized_at(s, third, 1, Parity::MESSAGES);
+    let found = length_at(s, third, Parity::MESSAGES_LEAST, Parity::MESSAGES);
     let Length::Value(count, took) = found else {
-        return Extra::Refused(refusal_of(found));
+        return Extra::Refused(found.refusal());
     };
     let first = third + took;
     Extra::Found {
@@ -179,7 +150,7 @@ fn least(kind: Kind) -> usize
 {
     match kind {
         Kind::Spares => Packet::LEAST,
-        Kind::Parity(_) => 0,
+        Kind::Parity(_) => Message::LEAST,
     }
 }
 
@@ -213,7 +184,7 @@ fn whole_of(
     count: usize,
     first: usize,
 ) -> DatagramRead
-    requires { ⌜ ItemsAsked (now s) count first ⌝ }
+    requires { ⌜ ItemsBegin (now s) count first ⌝ }
     ensures { λ r. ⌜ WholeRead (now (s .entry)) number packet kind count first r ⌝ }
 {
     let low = least(kind);

@@ -23,15 +23,12 @@ use Rattle.sending.specs.Sending.{historyKept}
 use Rattle.sending.specs.Carries.{settingsInside, carriedFrom}
 use Rattle.sending.specs.Send.{packetOf, packetInside, carriedNext, datagramToSend}
 use Rattle.sending.specs.Sender.{sendingIn}
-use Rattle.sending.specs.Inner.Held.{Within, Keeps}
-use Rattle.sending.specs.Inner.Next.{kindOf, countOf, carriedIn, NextAsked}
+use Rattle.sending.specs.Inner.Held.{Within, Joins}
+use Rattle.sending.specs.Inner.Next.{kindAsked, countOf, carriedIn, NextAsked}
 use Rattle.datagram_sender.specs.Inner.{SendsHeld}
 use Rattle.sending.specs.declared.Settings.{Settings}
 use Rattle.sending.specs.declared.Settings.the-variants as settings
-use Rattle.sending.proofs.History.{history-number}
-use Rattle.sending.proofs.ItemLaws.{count-inside}
-use Rattle.sending.proofs.Kept.{stored-of, packet-fits}
-use Rattle.sending.proofs.Accepted.{size-done, accepted}
+use Rattle.sending.proofs.Laws.{history-number, count-inside, stored-of, packet-fits, size-done, accepted}
 
 -- ---- the settings
 module _ (s : Settings) where
@@ -41,10 +38,10 @@ module _ (s : Settings) where
   pub inside-parity : {n m : ℕ} {r : Bool} → s ≡ settings.Parity n m → r ≡ countInside (kind.Parity n) m → r ≡ settingsInside s
   inside-parity e found = rw e found
 
-  pub kind-spares : {k : ℕ} → s ≡ settings.Spares k → kind.Spares ≡ kindOf s
+  pub kind-spares : {k : ℕ} → s ≡ settings.Spares k → kind.Spares ≡ kindAsked s
   kind-spares e = rw e
 
-  pub kind-parity : {n m : ℕ} → s ≡ settings.Parity n m → kind.Parity n ≡ kindOf s
+  pub kind-parity : {n m : ℕ} → s ≡ settings.Parity n m → kind.Parity n ≡ kindAsked s
   kind-parity e = rw e
 
   pub count-sent : (sent : ℕ) {k : ℕ} → s ≡ settings.Spares k → sent < k → sent ≡ countOf s sent
@@ -70,7 +67,7 @@ pub ruleset packets = (packet-none, packet-some)
 -- ---- write_held
 -- what the next datagram carries, in the words of document 01 and in those of the code
 carried-same : (s : Settings) (sent : ℕ) (packet sizes o : List ℕ)
-    → carriedIn (sent % numbers) sizes o packet (kindOf s) (countOf s sent) ≡ carriedNext s packet (sendingIn sent sizes o)
+    → carriedIn (sent % numbers) sizes o packet (kindAsked s) (countOf s sent) ≡ carriedNext s packet (sendingIn sent sizes o)
 carried-same (settings.Spares k) sent packet sizes o =
     ap (λ (h : List (List ℕ)). carriedFrom (settings.Spares k) sent packet (packetOf h) historyKept) (history-number sent sizes o)
 carried-same (settings.Parity n m) sent packet sizes o =
@@ -99,8 +96,9 @@ module _ (s : Settings) (sent : ℕ) (packet sizes o old : List ℕ) where
       let wrong : packetInside packet ≡ false = sym told ∙ not-true d out in
       record { answer = rw (e, right, wrong, made .answer); lent = rw (e, right, wrong) }
 
-  pub held-written : {b d : Bool} {number : ℕ} {k : Kind} {count : ℕ} {new : List ℕ} {r : Written} → sent < sessionLimit → b ≡ settingsInside s
-      → not b ≡ false → d ≡ packetInside packet → not d ≡ false → number ≡ sent % numbers → k ≡ kindOf s → count ≡ countOf s sent
+  pub held-written : {b d : Bool} {number : ℕ} {k : Kind} {count : ℕ} {new : List ℕ} {r : Written} → sent < sessionLimit
+      → b ≡ settingsInside s
+      → not b ≡ false → d ≡ packetInside packet → not d ≡ false → number ≡ sent % numbers → k ≡ kindAsked s → count ≡ countOf s sent
       → Puts (done (datagramOctets (carriedIn number sizes o packet k count))) old new r
       → Puts (datagramToSend s packet (sendingIn sent sizes o)) old new r
   unfolding datagramToSend unless
@@ -110,8 +108,9 @@ module _ (s : Settings) (sent : ℕ) (packet sizes o old : List ℕ) where
       let fits : packetInside packet ≡ true = sym told ∙ not-false d in″ in
       rw (e, right, fits) (rw (number-is, kind-is, count-is, carried-same s sent packet sizes o) at p)
 
-pub held-asked : (s : Settings) (sent : ℕ) (packet sizes o : List ℕ) {b d : Bool} {k : Kind} {count : ℕ} → Within sent sizes o → b ≡ settingsInside s → not b ≡ false
-    → d ≡ packetInside packet → not d ≡ false → k ≡ kindOf s → count ≡ countOf s sent → NextAsked sizes o packet k count
+pub held-asked : (s : Settings) (sent : ℕ) (packet sizes o : List ℕ) {b d : Bool} {k : Kind} {count : ℕ} → Within sent sizes o
+    → b ≡ settingsInside s → not b ≡ false
+    → d ≡ packetInside packet → not d ≡ false → k ≡ kindAsked s → count ≡ countOf s sent → NextAsked sizes o packet k count
 held-asked s sent packet sizes o {b} {d} within found in′ told in″ kind-is count-is =
     rw (kind-is, count-is)
     (record {
@@ -133,7 +132,7 @@ module _ (s : Settings) (sent : ℕ) (packet sizes o old : List ℕ) {new : List
 
   pub held-kept : {n number : ℕ} {sizes′ o′ : List ℕ} → answer ≡ written.Octets n
       → Puts (datagramToSend s packet (sendingIn sent sizes o)) old new answer → number ≡ sent % numbers
-      → Keeps number packet sizes o sizes′ o′ → SendsHeld sent s packet sizes o old sizes′ o′ new (written.Octets n)
+      → Joins number packet sizes o sizes′ o′ → SendsHeld sent s packet sizes o old sizes′ o′ new (written.Octets n)
   held-kept e p number-is keeps = record { puts = rw e at p; history = rw number-is at keeps }
 
   pub held-refused : {r : Refusal} → answer ≡ written.Refused r → Puts (datagramToSend s packet (sendingIn sent sizes o)) old new answer

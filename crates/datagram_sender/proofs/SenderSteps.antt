@@ -15,24 +15,25 @@ use Rattle.views.specs.View.{numbers, sessionLimit}
 use Rattle.sending.specs.Sending.{sentOn}
 use Rattle.sending.specs.Send.{datagramToSend}
 use Rattle.sending.specs.Sender.{sendingOf}
-use Rattle.sending.specs.Ranges.{inRanges, senderInRanges}
-use Rattle.sending.specs.Inner.Held.{Arrays, Within, Keeps}
+use Rattle.sending.specs.Ranges.{historyInRanges, senderInRanges}
+use Rattle.sending.specs.Inner.Held.{Arrays, Within, Joins}
 use Rattle.datagram_sender.specs.Inner.{SendsHeld, Unchanged}
 use Rattle.sending.specs.Promise.{toSend, SentOn, Sends}
 use Rattle.sending.specs.declared.Sender.{Sender}
 use Rattle.sending.specs.declared.Sent.{Sent}
 use Rattle.sending.specs.declared.Settings.{Settings}
-use Rattle.sending.proofs.Kept.{sent-limit, arrays-kept, history-kept, ranges-kept}
-use Rattle.sending.proofs.Accepted.{size-done, size-refused, accepted}
+use Rattle.sending.proofs.Laws.{sent-limit, arrays-kept, history-kept, ranges-kept, size-done, size-refused, accepted}
 
-pub within-told : (sent : ℕ) (sizes o : List ℕ) {b : Bool} → Arrays sizes o → b ≡ inRanges sent sizes o → not b ≡ false → Within sent sizes o
+pub within-told : (sent : ℕ) (sizes o : List ℕ) {b : Bool} → Arrays sizes o → b ≡ historyInRanges sent sizes o → not b ≡ false
+    → Within sent sizes o
 within-told sent sizes o {b} arrays found in′ = record { arrays = arrays; ranges = sym found ∙ not-false b in′ }
 
 pub sent-few : (sent : ℕ) (sizes o : List ℕ) → Within sent sizes o → sent ≤ sessionLimit
 sent-few sent sizes o within = leb-true sent sessionLimit (sent-limit within)
 
 module _ (s : Sender) (settings : Settings) (packet old : List ℕ) where
-  pub sends-outside : {b : Bool} {why : Refusal} {r : Sent} → RefusalMade outsideRanges why → b ≡ inRanges (s .sent) (s .sizes) (s .octets)
+  pub sends-outside : {b : Bool} {why : Refusal} {r : Sent} → RefusalMade outsideRanges why
+      → b ≡ historyInRanges (s .sent) (s .sizes) (s .octets)
       → not b ≡ true → Unchanged s why r → Sends s settings packet old old r
   unfolding toSend unless
   sends-outside {b} made found out same =
@@ -55,11 +56,15 @@ module _ (s : Sender) (settings : Settings) (packet old : List ℕ) where
           state = rw (inside within, none) refl;
         })
 
-    joined : (n : ℕ) → answer ≡ written.Octets n → Keeps (s .sent % numbers) packet (s .sizes) (s .octets) sizes o
+    joined : (n : ℕ) → answer ≡ written.Octets n → Joins (s .sent % numbers) packet (s .sizes) (s .octets) sizes o
     joined n e = rw e at (sends .history)
 
     pub sends-kept : {n : ℕ} → answer ≡ written.Octets n
-        → Sends s settings packet old new (record { sender = record { sent = s .sent + 1; sizes = sizes; octets = o }; answer = written.Octets n })
+        → Sends s settings packet old new (record {
+          sender = record
+              { sent = s .sent + 1; sizes = sizes; octets = o };
+          answer = written.Octets n;
+        })
     unfolding sentOn
     sends-kept {n} e =
         let puts = rw e at (sends .puts) in

@@ -9,14 +9,14 @@ use Rattle.lengths.specs.declared.Written.the-variants as written
 use Rattle.views.specs.View.{numbers}
 use Rattle.sending.specs.Send.{datagramToSend}
 use Rattle.sending.specs.Sender.{sendingIn}
-use Rattle.sending.specs.Inner.Held.{Keeps}
+use Rattle.sending.specs.Inner.Held.{Joins}
 use Rattle.sending.specs.declared.Sender.{Sender}
 use Rattle.sending.specs.declared.Sent.{Sent}
 use Rattle.sending.specs.declared.Settings.{Settings}
 
 -- the history after it: with the packet, or as it was
 abbrev pub HistoryAfter : Written → ℕ → List ℕ → List ℕ → List ℕ → List ℕ → List ℕ → Type 0
-HistoryAfter (written.Octets n) number packet sizes o sizes′ o′ = Keeps number packet sizes o sizes′ o′
+HistoryAfter (written.Octets n) number packet sizes o sizes′ o′ = Joins number packet sizes o sizes′ o′
 HistoryAfter (written.Refused r) number packet sizes o sizes′ o′ = (sizes′ ≡ sizes) × (o′ ≡ o)
 
 pub record SendsHeld (sent : ℕ) (settings : Settings) (packet sizes o old sizes′ o′ new : List ℕ) (r : Written) : Type 0 where

@@ -16,7 +16,7 @@ ghost use Rattle.sending.specs.Carries.{settingsInside};
 ghost use Rattle.sending.specs.Send.{packetInside, datagramToSend};
 ghost use Rattle.sending.specs.Sender.{sendingIn};
 ghost use Rattle.sending.specs.Inner.Held.{Within};
-ghost use Rattle.sending.specs.Inner.Next.{kindOf, countOf};
+ghost use Rattle.sending.specs.Inner.Next.{kindAsked, countOf};
 ghost use Rattle.datagram_sender.specs.Inner.{SendsHeld};
 
 // ---- the settings
@@ -31,7 +31,7 @@ fn settings_inside(settings: Settings) -> bool
 }
 
 fn kind_of(settings: Settings) -> Kind
-    ensures { λ r. ⌜ r ≡ kindOf settings ⌝ }
+    ensures { λ r. ⌜ r ≡ kindAsked settings ⌝ }
 {
     match settings {
         Settings::Spares(_) => Kind::Spares,
@@ -83,7 +83,8 @@ fn write_held(
     out: &mut [u8],
 ) -> Written
     requires { ⌜ Within sent (now sizes) (now o) ⌝ }
-    ensures { λ r. ⌜ Puts (datagramToSend settings (now (packet .entry)) (sendingIn sent (now (sizes .entry)) (now (o .entry)))) (now (out .entry)) (now (out .exit)) r ⌝ }
+    ensures { λ r. ⌜ Puts (datagramToSend settings (now (packet .entry)) (sendingIn sent (now (sizes .entry)) (now (o .entry))))
+        (now (out .entry)) (now (out .exit)) r ⌝ }
 {
     if Sender::LIMIT <= sent {
         return Written::Refused(Refusal::new(Refusal::ALL_PASSED));
@@ -110,7 +111,8 @@ pub fn send_held(
     out: &mut [u8],
 ) -> Written
     requires { ⌜ Within sent (now sizes) (now o) ⌝ }
-    ensures { λ r. ⌜ SendsHeld sent settings (now (packet .entry)) (now (sizes .entry)) (now (o .entry)) (now (out .entry)) (now (sizes .exit)) (now (o .exit)) (now (out .exit)) r ⌝ }
+    ensures { λ r. ⌜ SendsHeld sent settings (now (packet .entry)) (now (sizes .entry)) (now (o .entry)) (now (out .entry))
+        (now (sizes .exit)) (now (o .exit)) (now (out .exit)) r ⌝ }
 {
     let answer = write_held(sent, sizes, o, packet, settings, out);
     match answer {

@@ -6,10 +6,9 @@ use lib.ListN.{length}
 use native.Mathlib.Omega.{arith}
 use Rattle.lengths.proofs.Laws.{size-written}
 use Rattle.datagrams.specs.Write.{sumOf}
-use Rattle.datagrams.specs.Inner.Put.{kindHead, itemSize, itemsSize, datagramSize}
+use Rattle.datagrams.specs.Inner.Heads.{kindHead, itemSize, itemsSize, datagramSize}
 use Rattle.datagrams.specs.declared.kind.Kind.{Kind}
-use Rattle.datagrams.proofs.PutLaws.{number-length}
-use Rattle.datagrams.proofs.SizeLaws.{items-bound, kind-bound}
+use Rattle.datagrams.proofs.Laws.{items-bound, kind-bound, number-length}
 
 pub datagram-bound : (n : ℕ) (k : Kind) (count : ℕ) (lengths : List ℕ) {newest before items : ℕ} → newest ≡ itemSize n
     → before ≡ length (kindHead k count) → items ≡ itemsSize lengths → newest + before + items ≤ n + sumOf lengths + length lengths * 2 + 7

@@ -2,8 +2,8 @@
 use Prim.Native.Nat.{ℕ, _+_, _-_, _≤_, _<_}
 use mathlib.Core.Path.{_≡_, sym, _∙_}
 use mathlib.Core.Bool.{Bool, true, false, not}
-use mathlib.Core.List.{List, _++_}
-use lib.ListN.{length, length-append}
+use mathlib.Core.List.{List}
+use lib.ListN.{length}
 use lib.Dec.{eqb}
 use native.Mathlib.Omega.{arith}
 use borrow.Author.Tests.{not-true, not-false, eqb-true}
@@ -12,50 +12,40 @@ use Rattle.lengths.specs.Refusals.{outsideSizes, wrongSettings, noRoom}
 use Rattle.lengths.specs.Answers.{done}
 use Rattle.lengths.specs.Tables.{unless}
 use Rattle.lengths.specs.Length.{lengthLimit}
-use Rattle.lengths.specs.Promise.{Puts, RefusalMade}
+use Rattle.lengths.specs.Promise.{Puts, RefusalMade, Put}
 use Rattle.lengths.specs.declared.Refusal.{Refusal}
 use Rattle.lengths.specs.declared.Written.{Written}
 use Rattle.lengths.specs.declared.Written.the-variants as written
-use Rattle.datagrams.specs.Write.{numberOctets, itemOctets, itemsOctets, datagramOctets, datagramToWrite, carriedOf, cut, sumOf, countInside, lengthsInside}
-use Rattle.datagrams.specs.Inner.Put.{Put, Bounded, KindFits, kindHead, itemSize, itemsSize, datagramSize}
+use Rattle.lengths.proofs.Laws.{both, put-next, put-long, put-puts, full-puts, room-left}
+use Rattle.datagrams.specs.Write.{itemsOctets, datagramOctets, datagramToWrite, carriedOf, cut, sumOf}
+use Rattle.datagrams.specs.Write.{countInside, lengthsInside}
+use Rattle.datagrams.specs.Inner.Heads.{Bounded, FrontAsked, frontOctets, itemsSize, datagramSize}
 use Rattle.datagrams.specs.declared.kind.Kind.{Kind}
-use Rattle.datagrams.proofs.PutLaws.{put-next, put-long, put-puts, full-puts, room-left, item-length}
-use Rattle.datagrams.proofs.WriteLaws.{Allowed, allowed-bounded, allowed-written, datagram-form, datagram-length, both}
+use Rattle.datagrams.proofs.Laws.{Allowed, allowed-bounded, allowed-written, datagram-form, datagram-length, number-length, front-length}
 
 module _ (number : ℕ) (packet : List ℕ) (k : Kind) (lengths run : List ℕ) where
   -- ---- put_datagram
-  head-size : length (numberOctets number ++ itemOctets packet) ≡ length (numberOctets number) + itemSize (length packet)
-  head-size = rw (length-append (numberOctets number) (itemOctets packet), item-length packet)
+  pub front-asked : {old : List ℕ} → Bounded packet k lengths run → datagramSize number packet k lengths ≤ length old
+      → FrontAsked number packet k (length lengths) old
+  front-asked b room =
+      let size = front-length number packet k (length lengths) in
+      let two = number-length number in
+      record { newest = b .newest; head = b .head; room = omega arith }
 
-  pub kind-asked : {old mid : List ℕ} {at : ℕ} → Bounded packet k lengths run → datagramSize number packet k lengths ≤ length old
-      → Put (numberOctets number ++ itemOctets packet) old mid at
-      → (KindFits k (length lengths)) × (length (kindHead k (length lengths)) ≤ length (midOf at (length mid - at) mid))
-  kind-asked {old} {mid} {at} b room p =
-      let size = head-size in
+  pub items-asked : {old mid : List ℕ} {at : ℕ} → Bounded packet k lengths run → datagramSize number packet k lengths ≤ length old
+      → Put (frontOctets number packet k (length lengths)) old mid at
+      → (sumOf lengths ≡ length run) × (length run ≤ lengthLimit) × (itemsSize lengths ≤ length (midOf at (length mid - at) mid))
+  items-asked {old} {mid} {at} b room p =
+      let size = front-length number packet k (length lengths) in
+      let two = number-length number in
       let long = put-long p in
-      (b .head, room-left mid at (length (kindHead k (length lengths))) (omega arith))
+      let told = p .answer in
+      (b .summed, b .few, room-left mid at (itemsSize lengths) (omega arith))
 
-  pub items-asked : {old mid part : List ℕ} {at n : ℕ} → Bounded packet k lengths run → datagramSize number packet k lengths ≤ length old
-      → Put (numberOctets number ++ itemOctets packet) old mid at → Put (kindHead k (length lengths)) (midOf at (length mid - at) mid) part n
-      → (sumOf lengths ≡ length run) × (length run ≤ lengthLimit)
-      × (itemsSize lengths
-      ≤ length (midOf (at + n) (length (putMid at (length mid - at) mid part) - (at + n)) (putMid at (length mid - at) mid part)))
-  items-asked {old} {mid} {part} {at} {n} b room p q =
-      let size = head-size in
-      let both = put-next p q in
-      let long = put-long both in
-      (b .summed, b .few, room-left (putMid at (length mid - at) mid part) (at + n) (itemsSize lengths) (omega arith))
-
-  pub datagram-put : {old mid part part₂ : List ℕ} {at n m : ℕ} → Put (numberOctets number ++ itemOctets packet) old mid at
-      → Put (kindHead k (length lengths)) (midOf at (length mid - at) mid) part n
-      → Put (itemsOctets (cut lengths run))
-      (midOf (at + n) (length (putMid at (length mid - at) mid part) - (at + n)) (putMid at (length mid - at) mid part))
-      part₂
-      m
-      → Put (datagramOctets (carriedOf number packet k lengths run)) old
-      (putMid (at + n) (length (putMid at (length mid - at) mid part) - (at + n)) (putMid at (length mid - at) mid part) part₂)
-      (at + n + m)
-  datagram-put p q r = rw (datagram-form number packet k lengths run) (put-next (put-next p q) r)
+  pub datagram-put : {old mid part : List ℕ} {at n : ℕ} → Put (frontOctets number packet k (length lengths)) old mid at
+      → Put (itemsOctets (cut lengths run)) (midOf at (length mid - at) mid) part n
+      → Put (datagramOctets (carriedOf number packet k lengths run)) old (putMid at (length mid - at) mid part) (at + n)
+  datagram-put p q = rw (datagram-form number packet k lengths run) (put-next p q)
 
   -- ---- write_allowed
   pub allowed-full : {old : List ℕ} {size : ℕ} {r : Refusal} → RefusalMade noRoom r → Bounded packet k lengths run
@@ -110,4 +100,4 @@ module _ (number : ℕ) (packet : List ℕ) (k : Kind) (lengths run : List ℕ) 
 
 -- the answers of the writer
 pub ruleset writes =
-    (datagram-put, put-puts, allowed-full, write-uncounted, write-unsummed, write-unsized, passed, write-passed, allowed-bounded)
+    (front-asked, datagram-put, put-puts, allowed-full, write-uncounted, write-unsummed, write-unsized, passed, write-passed, allowed-bounded)

@@ -3,26 +3,25 @@
 use datagram_items::item_size;
 use datagram_items::items_size;
 use datagram_items::kind_size;
-use datagram_items::put_head;
+use datagram_items::put_front;
 use datagram_items::put_items;
-use datagram_items::put_kind;
 use datagram_items::wide;
 use datagrams::Kind;
 use datagrams::Message;
 use datagrams::Packet;
 use datagrams::count_inside;
-use datagrams::within;
 use lengths::Refusal;
 use lengths::Written;
+use lengths::within;
 ghost use Prim.Native.Nat.{_≤_};
 ghost use mathlib.Core.Path.{_≡_};
 ghost use lib.ListN.{length};
 ghost use lib.Dec.{eqb};
 ghost use Rattle.lengths.specs.Answers.{done};
 ghost use Rattle.lengths.specs.Length.{lengthLimit};
-ghost use Rattle.lengths.specs.Promise.{Puts};
+ghost use Rattle.lengths.specs.Promise.{Puts, Put};
 ghost use Rattle.datagrams.specs.Write.{datagramOctets, datagramToWrite, carriedOf, sumOf, itemInside, itemsInside, lengthsInside};
-ghost use Rattle.datagrams.specs.Inner.Put.{Put, Bounded, datagramSize};
+ghost use Rattle.datagrams.specs.Inner.Heads.{Bounded, datagramSize};
 
 // ---- what is refused
 
@@ -32,7 +31,7 @@ fn item_inside(kind: Kind, n: usize) -> bool
 {
     match kind {
         Kind::Spares => within(Packet::LEAST, Packet::LIMIT, n),
-        Kind::Parity(_) => within(0, Message::LIMIT, n),
+        Kind::Parity(_) => within(Message::LEAST, Message::LIMIT, n),
     }
 }
 
@@ -101,12 +100,12 @@ fn put_datagram(
     data: &[u8],
     out: &mut [u8],
 ) -> usize
-    requires { ⌜ (Bounded (now packet) kind (now lengths) (now «data»)) × (datagramSize number (now packet) kind (now lengths) ≤ length (now out)) ⌝ }
-    ensures { λ r. ⌜ Put (datagramOctets (carriedOf number (now (packet .entry)) kind (now (lengths .entry)) (now («data» .entry)))) (now (out .entry)) (now (out .exit)) r ⌝ }
+    requires { ⌜ (Bounded (now packet) kind (now lengths) (now «data»)) ×
+        (datagramSize number (now packet) kind (now lengths) ≤ length (now out)) ⌝ }
+    ensures { λ r. ⌜ Put (datagramOctets (carriedOf number (now (packet .entry)) kind (now (lengths .entry)) (now («data» .entry))))
+        (now (out .entry)) (now (out .exit)) r ⌝ }
 {
-    let head = put_head(number, packet, out);
-    let before = put_kind(kind, lengths.len(), &mut out[head..]);
-    let at = head + before;
+    let at = put_front(number, packet, kind, lengths.len(), out);
     let items = put_items(lengths, data, &mut out[at..]);
     at + items
 }
@@ -121,7 +120,8 @@ fn write_allowed(
     out: &mut [u8],
 ) -> Written
     requires { ⌜ Bounded (now packet) kind (now lengths) (now «data») ⌝ }
-    ensures { λ r. ⌜ Puts (done (datagramOctets (carriedOf number (now (packet .entry)) kind (now (lengths .entry)) (now («data» .entry))))) (now (out .entry)) (now (out .exit)) r ⌝ }
+    ensures { λ r. ⌜ Puts (done (datagramOctets (carriedOf number (now (packet .entry)) kind (now (lengths .entry))
+        (now («data» .entry))))) (now (out .entry)) (now (out .exit)) r ⌝ }
 {
     let size = datagram_size(number, packet, kind, lengths);
     if out.len() < size {
@@ -141,7 +141,8 @@ pub fn write(
     data: &[u8],
     out: &mut [u8],
 ) -> Written
-    ensures { λ r. ⌜ Puts (datagramToWrite number (now (packet .entry)) kind (now (lengths .entry)) (now («data» .entry))) (now (out .entry)) (now (out .exit)) r ⌝ }
+    ensures { λ r. ⌜ Puts (datagramToWrite number (now (packet .entry)) kind (now (lengths .entry)) (now («data» .entry)))
+        (now (out .entry)) (now (out .exit)) r ⌝ }
 {
     let counted = count_inside(kind, lengths.len());
     let summed = sums_to(lengths, data.len());

@@ -1,15 +1,15 @@
 -- The cases of 'The datagram', each computed. Assumes nothing.
 use mathlib.Core.Path.{refl}
 use Rattle.lengths.specs.Tables.{unless}
-use Rattle.lengths.specs.Length.{lengthAt, lengthOctets}
-use Rattle.datagrams.specs.Read.{allowed, octetAt, sizedAt, itemAt, itemsAt, endOf, sparesAt, parityAt, extraAt}
+use Rattle.lengths.specs.Length.{lengthAt, lengthOctets, allowed, lengthWithin}
+use Rattle.datagrams.specs.Read.{octetAt, itemAt, itemsAt, endOf, sparesAt, parityAt, extraAt}
 use Rattle.datagrams.specs.Read.{numberOf, wholeOf, readDatagram}
 use Rattle.datagrams.specs.Write.{numberOctets, itemOctets, itemsOctets, countedOctets, datagramOctets, cut}
 use Rattle.datagrams.specs.Write.{sumOf, itemsInside, datagramToWrite}
 use Rattle.datagrams.specs.Cases.{ReadCases, WriteCases}
 
 pub read-cases : ReadCases
-unfolding readDatagram numberOf wholeOf extraAt sparesAt parityAt itemsAt itemAt sizedAt octetAt allowed endOf lengthAt
+unfolding readDatagram numberOf wholeOf extraAt sparesAt parityAt itemsAt itemAt lengthWithin octetAt allowed endOf lengthAt
 read-cases =
     record {
       octets-1501 = refl;

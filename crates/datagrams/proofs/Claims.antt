@@ -1,8 +1,8 @@
 -- The claims of this crate, each proved by a law. Assumes nothing.
 use mathlib.Core.Path.{refl, sym, _∙_}
-use Rattle.lengths.specs.Length.{lengthAt}
+use Rattle.lengths.specs.Length.{lengthAt, allowed, lengthWithin}
 use Rattle.lengths.proofs.Claims as lengths
-use Rattle.datagrams.specs.Read.{allowed, octetAt, sizedAt, itemAt, itemsAt, endOf, sparesAt, parityAt, extraAt, numberOf, wholeOf, readDatagram}
+use Rattle.datagrams.specs.Read.{octetAt, itemAt, itemsAt, endOf, sparesAt, parityAt, extraAt, numberOf, wholeOf, readDatagram}
 use Rattle.datagrams.specs.Claims.{OneOutcome, Cases, Claims}
 use Rattle.datagrams.proofs.ReadLaws.{accepted-inside}
 use Rattle.datagrams.proofs.ReadBack.{written-back}
@@ -13,7 +13,7 @@ one-outcome =
     record { read = λ p q. p .whole ∙ sym (q .whole); written = λ p q. lengths.one-outcome .written p q }
 
 cases : Cases
-unfolding readDatagram numberOf wholeOf extraAt sparesAt parityAt itemsAt itemAt sizedAt octetAt allowed endOf lengthAt
+unfolding readDatagram numberOf wholeOf extraAt sparesAt parityAt itemsAt itemAt lengthWithin octetAt allowed endOf lengthAt
 cases =
     record {
       one-is-octet = refl;

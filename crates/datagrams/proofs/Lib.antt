@@ -1,10 +1,10 @@
 mod SizeTests
-pub mod SizeLaws
-pub mod PutLaws
+mod SizeLaws
 pub mod WriteLaws
-pub mod AnswerLaws
-pub mod ReadLaws
-pub mod ReadBack
-pub mod WriteBack
+mod PieceLaws
+mod ReadLaws
+mod ReadBack
+mod WriteBack
+pub mod Laws
 pub mod Cases
 pub mod Claims

@@ -9,17 +9,20 @@ use lib.Seq.{length-take-le, drop-drop, drop-append-seam, take-append-seam, getD
 use native.Mathlib.Omega.{arith}
 use borrow.Author.Tests.{le-ltb, lt-leb}
 use Rattle.lengths.specs.Answers.{done}
-use Rattle.lengths.specs.Length.{lengthOctets, lengthLimit}
-use Rattle.lengths.proofs.Laws.{written-reads}
-use Rattle.datagrams.specs.Sizes.{packetLeast, packetLimit, datagramLimit, sparesLimit, coveredLimit, messagesLimit}
-use Rattle.datagrams.specs.Write.{numberOctets, itemOctets, itemsOctets, countedOctets, extraOctets, extraOf, datagramOctets, within, countInside, itemInside, itemsInside, cut, sumOf}
-use Rattle.datagrams.specs.Read.{after, octetsOf, octetAt, sizedAt, itemAt, itemsAt, endOf, sparesAt, parityAt, extraAt, leastOf, mostOf, numberOf, readDatagram, carriedBy}
+use Rattle.lengths.specs.Length.{lengthOctets, lengthLimit, within, lengthWithin}
+use Rattle.lengths.proofs.Laws.{both, within-true, allowed-sizes, within-written}
+use Rattle.datagrams.specs.Sizes.{packetLeast, packetLimit, datagramLimit, sparesLeast, sparesLimit, coveredLeast, coveredLimit}
+use Rattle.datagrams.specs.Sizes.{messagesLeast, messagesLimit}
+use Rattle.datagrams.specs.Write.{numberOctets, itemOctets, itemsOctets, countedOctets, extraOctets, extraOf, datagramOctets}
+use Rattle.datagrams.specs.Write.{countInside, itemInside, itemsInside, cut, sumOf}
+use Rattle.datagrams.specs.Read.{after, octetsOf, octetAt, itemAt, itemsAt, endOf, sparesAt, parityAt, extraAt, leastOf, mostOf}
+use Rattle.datagrams.specs.Read.{numberOf, readDatagram, carriedBy}
 use Rattle.datagrams.specs.Claims.{ReadsAs, WrittenReads}
 use Rattle.datagrams.specs.declared.reader.Part.{Part}
 use Rattle.datagrams.specs.declared.kind.Kind.{Kind}
 use Rattle.datagrams.specs.declared.kind.Kind.the-variants as kind
-use Rattle.datagrams.proofs.WriteLaws.{both, within-true, count-few, cut-length, Allowed, allowed-short, written-allowed}
-use Rattle.datagrams.proofs.ReadLaws.{allowed-sizes, whole-reads}
+use Rattle.datagrams.proofs.WriteLaws.{count-few, cut-length, Allowed, allowed-short, written-allowed}
+use Rattle.datagrams.proofs.ReadLaws.{whole-reads}
 
 -- ---- places
 
@@ -42,13 +45,12 @@ pub octet-is : (least most : ℕ) (s : List ℕ) (at v : ℕ) (t : List ℕ) →
     → octetAt least most s at ≡ done (record { value = v; size = 1 })
 unfolding octetAt
 octet-is least most s at v t e low high =
-    rw (lt-leb (length s) at (some-left s at v t e), first-left s at v t e) (allowed-sizes least most (record { value = v; size = 1 }) low high)
+    rw (lt-leb (length s) at (some-left s at v t e), first-left s at v t e)
+    (allowed-sizes least most (record { value = v; size = 1 }) low high)
 
-pub sized-is : (least most : ℕ) (s : List ℕ) (at n : ℕ) (t : List ℕ) → drop at s ≡ lengthOctets n ++ t → least ≤ n → n ≤ most
-    → n ≤ lengthLimit → sizedAt least most s at ≡ done (record { value = n; size = length (lengthOctets n) })
-unfolding sizedAt
-sized-is least most s at n t e low high fits =
-    rw (e, written-reads n t fits) (allowed-sizes least most (record { value = n; size = length (lengthOctets n) }) low high)
+pub length-is : (least most : ℕ) (s : List ℕ) (at n : ℕ) (t : List ℕ) → drop at s ≡ lengthOctets n ++ t → least ≤ n → n ≤ most
+    → n ≤ lengthLimit → lengthWithin least most (drop at s) ≡ done (record { value = n; size = length (lengthOctets n) })
+length-is least most s at n t e low high fits = rw e (within-written least most n t low high fits)
 
 -- a packet, spare or message that was written reads back
 pub record ItemBack (least most : ℕ) (s : List ℕ) (at : ℕ) (x rest : List ℕ) : Type 0 where
@@ -70,7 +72,7 @@ item-back least most s at x rest e low high fits =
       part = record { start = at + length (lengthOctets (length x)); size = length x };
       read =
           rw (
-            sized-is least most s at (length x) (x ++ rest) whole low high fits,
+            length-is least most s at (length x) (x ++ rest) whole low high fits,
             le-ltb (length s - (at + length (lengthOctets (length x)))) (length x) room,
           );
       octets = rw body (take-append-seam x rest);
@@ -125,7 +127,7 @@ unfolding extraAt sparesAt parityAt countedOctets
 extra-back s at kind.Spares xs e inside =
     let next = rest-after s (0 ∷ []) (countedOctets xs) at e in
     let few = count-few kind.Spares (length xs) inside in
-    let count = sized-is 0 sparesLimit s (at + 1) (length xs) (itemsOctets xs) next (omega arith) few (omega arith) in
+    let count = length-is sparesLeast sparesLimit s (at + 1) (length xs) (itemsOctets xs) next (omega arith) few (omega arith) in
     record {
       first = at + 1 + length (lengthOctets (length xs));
       read =
@@ -133,20 +135,27 @@ extra-back s at kind.Spares xs e inside =
       next = rest-after s (lengthOctets (length xs)) (itemsOctets xs) (at + 1) next;
     }
 extra-back s at (kind.Parity n) xs e inside =
-    let both = both (within 1 coveredLimit n) (within 1 messagesLimit (length xs)) inside in
-    let covered = within-true 1 coveredLimit n (both .0) in
-    let few = within-true 1 messagesLimit (length xs) (both .1) in
+    let both = both (within coveredLeast coveredLimit n) (within messagesLeast messagesLimit (length xs)) inside in
+    let covered = within-true coveredLeast coveredLimit n (both .0) in
+    let few = within-true messagesLeast messagesLimit (length xs) (both .1) in
     let next = rest-after s (128 ∷ []) (1 ∷ n ∷ countedOctets xs) at e in
     let second = rest-after s (1 ∷ []) (n ∷ countedOctets xs) (at + 1) next in
     let third : drop (at + 1 + 2) s ≡ countedOctets xs =
     rest-after s (1 ∷ n ∷ []) (countedOctets xs) (at + 1) next in
     let one = octet-is 1 1 s (at + 1) 1 (n ∷ countedOctets xs) next (omega arith) (omega arith) in
-    let number = octet-is 1 coveredLimit s (at + 1 + 1) n (countedOctets xs) second (covered .0) (covered .1) in
-    let count = sized-is 1 messagesLimit s (at + 1 + 2) (length xs) (itemsOctets xs) third (few .0) (few .1) (omega (arith, few .1)) in
+    let number = octet-is coveredLeast coveredLimit s (at + 1 + 1) n (countedOctets xs) second (covered .0) (covered .1) in
+    let count = length-is messagesLeast messagesLimit s (at + 1 + 2) (length xs) (itemsOctets xs) third (few .0) (few .1)
+    (omega (arith, few .1)) in
     record {
       first = at + 1 + 2 + length (lengthOctets (length xs));
       read =
-          rw (lt-leb (length s) at (some-left s at 128 (1 ∷ n ∷ countedOctets xs) e), first-left s at 128 (1 ∷ n ∷ countedOctets xs) e, one, number, count);
+          rw (
+            lt-leb (length s) at (some-left s at 128 (1 ∷ n ∷ countedOctets xs) e),
+            first-left s at 128 (1 ∷ n ∷ countedOctets xs) e,
+            one,
+            number,
+            count,
+          );
       next = rest-after s (lengthOctets (length xs)) (itemsOctets xs) (at + 1 + 2) third;
     }
 
@@ -205,8 +214,10 @@ datagram-back s number packet k xs fit e =
     (omega (arith, newest .1)) in
     let head = extra-back s (after (first .part)) k xs (first .next) (fit .counted) in
     let all = items-back k s (head .first) xs [] (head .next ∙ sym (append-nil (itemsOctets xs))) (fit .sized) in
-    let none : length s ≤ endOf (head .first) (all .parts) = omega (arith, length-drop (endOf (head .first) (all .parts)) s, ap length (all .next)) in
-    let rest = whole-reads s number (first .part) (record { kind = k; count = length xs; first = head .first }) (all .parts) (all .read) none in
+    let none : length s ≤ endOf (head .first) (all .parts) = omega
+    (arith, length-drop (endOf (head .first) (all .parts)) s, ap length (all .next)) in
+    let rest = whole-reads s number (first .part) (record { kind = k; count = length xs; first = head .first }) (all .parts)
+    (all .read) none in
     record {
       parts = record { number = number; packet = first .part; kind = k; items = all .parts };
       read = rw (le-ltb datagramLimit (length s) short, number-back s number _ e, first .read, head .read, rest);

@@ -1,16 +1,36 @@
--- Laws of how many octets the items of a datagram take: one item more, and how many they are at most. Assumes nothing.
+-- Laws of how many octets the items of a datagram take: an item, one item more, and how many they are at most. Assumes nothing.
 use Prim.Native.Nat.{ℕ, _+_, _*_, _≤_, _<_}
-use mathlib.Core.Path.{_≡_}
-use mathlib.Core.List.{List, [], _∷_}
-use lib.ListN.{length, getD, drop}
+use mathlib.Core.Path.{_≡_, refl}
+use mathlib.Core.List.{List, [], _∷_, _++_}
+use lib.ListN.{length, getD, drop, length-append}
 use lib.Seq.{drop-cons}
 use native.Mathlib.Numerals.{add-one}
 use native.Mathlib.Omega.{arith}
+use Rattle.lengths.specs.Length.{lengthOctets}
 use Rattle.lengths.proofs.Laws.{size-written}
-use Rattle.datagrams.specs.Write.{sumOf}
-use Rattle.datagrams.specs.Inner.Put.{kindHead, itemSize, itemsSize}
+use Rattle.datagrams.specs.Write.{numberOctets, itemOctets, sumOf}
+use Rattle.datagrams.specs.Inner.Heads.{kindHead, frontOctets, itemSize, itemsSize}
 use Rattle.datagrams.specs.declared.kind.Kind.{Kind}
 use Rattle.datagrams.specs.declared.kind.Kind.the-variants as kind
+
+-- ---- the number, and an item
+pub number-length : (number : ℕ) → length (numberOctets number) ≡ 2
+unfolding numberOctets
+number-length number = refl
+
+pub item-length : (item : List ℕ) → length (itemOctets item) ≡ itemSize (length item)
+unfolding itemOctets
+item-length item = length-append (lengthOctets (length item)) item
+
+pub front-length : (number : ℕ) (packet : List ℕ) (k : Kind) (count : ℕ)
+    → length (frontOctets number packet k count) ≡ 2 + itemSize (length packet) + length (kindHead k count)
+front-length number packet k count =
+    rw (
+      length-append (numberOctets number ++ itemOctets packet) (kindHead k count),
+      length-append (numberOctets number) (itemOctets packet),
+      number-length number,
+      item-length packet,
+    )
 
 -- ---- one item more
 pub sum-next : (lengths : List ℕ) (i : ℕ) → i < length lengths → sumOf (drop i lengths) ≡ getD lengths i 0 + sumOf (drop (i + 1) lengths)

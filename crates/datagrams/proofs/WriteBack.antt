@@ -12,20 +12,23 @@ use native.Mathlib.Omega.{arith}
 use borrow.Author.Tests.{ltb-true, ltb-false, leb-false, eqb-true}
 use Rattle.lengths.specs.Refusals.{endsEarly, spareBit}
 use Rattle.lengths.specs.Answers.{done, LengthAnswer}
-use Rattle.lengths.specs.Length.{lengthAt, lengthOctets}
+use Rattle.lengths.specs.Length.{lengthAt, lengthOctets, lengthWithin}
 use Rattle.lengths.specs.Claims.{Octets}
-use Rattle.lengths.proofs.Laws.{read-writes}
-use Rattle.datagrams.specs.Sizes.{packetLeast, packetLimit, sparesLimit, coveredLimit, messagesLimit}
-use Rattle.datagrams.specs.Write.{numberOctets, itemOctets, itemsOctets, extraOctets, extraOf, datagramOctets, itemInside, itemsInside, cut, sumOf}
-use Rattle.datagrams.specs.Inner.Put.{kindHead}
-use Rattle.datagrams.specs.Read.{DatagramParts, ExtraHead, after, octetsOf, octetAt, sizedAt, itemAt, itemsAt, endOf, sparesAt, parityAt, extraAt, leastOf, mostOf}
+use Rattle.lengths.proofs.Laws.{read-writes, bind-done, cond-done, cond-met, done-same, true-within, within-done}
+use Rattle.datagrams.specs.Sizes.{packetLeast, packetLimit, sparesLeast, sparesLimit, coveredLeast, coveredLimit, messagesLeast}
+use Rattle.datagrams.specs.Sizes.{messagesLimit}
+use Rattle.datagrams.specs.Write.{numberOctets, itemOctets, itemsOctets, extraOctets, extraOf, datagramOctets, itemInside}
+use Rattle.datagrams.specs.Write.{itemsInside, cut, sumOf}
+use Rattle.datagrams.specs.Inner.Heads.{kindHead}
+use Rattle.datagrams.specs.Read.{DatagramParts, ExtraHead, after, octetsOf, octetAt, itemAt, itemsAt, endOf, sparesAt, parityAt}
+use Rattle.datagrams.specs.Read.{extraAt, leastOf, mostOf}
 use Rattle.datagrams.specs.Claims.{ReadWrites, lengthsOf, runOf}
 use Rattle.datagrams.specs.declared.reader.Part.{Part}
 use Rattle.datagrams.specs.declared.kind.Kind.{Kind}
 use Rattle.datagrams.specs.declared.kind.Kind.the-variants as kind
-use Rattle.datagrams.proofs.AnswerLaws.{bind-done, cond-done, cond-met, done-same, true-within}
 use Rattle.datagrams.proofs.WriteLaws.{extra-form, Allowed, allowed-written}
-use Rattle.datagrams.proofs.ReadLaws.{octet-done, sized-done, item-done, items-done, extra-done, Datagram, read-done}
+use Rattle.datagrams.proofs.PieceLaws.{octet-done, item-done, items-done, extra-done}
+use Rattle.datagrams.proofs.ReadLaws.{Datagram, read-done}
 use Rattle.datagrams.proofs.ReadBack.{cut-flatten, sum-flatten}
 
 -- ---- the pieces
@@ -103,8 +106,8 @@ spares-forth : (s : List ℕ) (at : ℕ) (h : ExtraHead) → Octets s → at < l
     → ExtraForth s at h
 unfolding sparesAt
 spares-forth s at h octets some is e =
-    let found = bind-done (sizedAt 0 sparesLimit s (at + 1)) _ h e in
-    let fits = sized-done 0 sparesLimit s (at + 1) (found .0) (found .1) in
+    let found = bind-done (lengthWithin sparesLeast sparesLimit (drop (at + 1) s)) _ h e in
+    let fits = within-done sparesLeast sparesLimit (drop (at + 1) s) (found .0) (found .1) in
     rw (← done-same (found .2))
     (record {
       whole =
@@ -117,11 +120,11 @@ parity-forth : (s : List ℕ) (at : ℕ) (h : ExtraHead) → Octets s → at < l
 unfolding parityAt
 parity-forth s at h octets some is e =
     let one = bind-done (octetAt 1 1 s (at + 1)) _ h e in
-    let n = bind-done (octetAt 1 coveredLimit s (at + 1 + 1)) _ h (one .2) in
-    let m = bind-done (sizedAt 1 messagesLimit s (at + 1 + 2)) _ h (n .2) in
+    let n = bind-done (octetAt coveredLeast coveredLimit s (at + 1 + 1)) _ h (one .2) in
+    let m = bind-done (lengthWithin messagesLeast messagesLimit (drop (at + 1 + 2) s)) _ h (n .2) in
     let first = octet-done 1 1 s (at + 1) (one .0) (one .1) in
-    let second = octet-done 1 coveredLimit s (at + 1 + 1) (n .0) (n .1) in
-    let third = sized-done 1 messagesLimit s (at + 1 + 2) (m .0) (m .1) in
+    let second = octet-done coveredLeast coveredLimit s (at + 1 + 1) (n .0) (n .1) in
+    let third = within-done messagesLeast messagesLimit (drop (at + 1 + 2) s) (m .0) (m .1) in
     let is-one : getD s (at + 1) 0 ≡ 1 = omega (arith, first .value, first .low, first .high) in
     let on : at + 1 + 1 + 1 ≡ at + 1 + 2 = omega arith in
     rw (← done-same (m .2))
@@ -161,7 +164,11 @@ number-forth s number octets two is =
     rw (high, rest) (sym (octet-forth s 0 (omega arith) ∙ ap (λ (l : List ℕ). getD s 0 0 ∷ l) (octet-forth s 1 (omega arith))))
 
 datagram-forth : (s : List ℕ) (d : DatagramParts) → Octets s → Datagram s d
-    → datagramOctets (record { number = d .number; packet = octetsOf s (d .packet); extra = extraOf (d .kind) (map (octetsOf s) (d .items)) }) ≡ s
+    → datagramOctets (record {
+      number = d .number;
+      packet = octetsOf s (d .packet);
+      extra = extraOf (d .kind) (map (octetsOf s) (d .items));
+    }) ≡ s
 unfolding datagramOctets
 datagram-forth s d octets so =
     let head = extra-done s (after (d .packet)) _ (so .extra) in
@@ -199,6 +206,7 @@ read-back s d octets e =
     } in
     allowed-written (d .number) allowed
     ∙ ap
-    (λ (l : List (List ℕ)). done (datagramOctets (record { number = d .number; packet = octetsOf s (d .packet); extra = extraOf (d .kind) l })))
+    (λ (l : List (List ℕ)). done (datagramOctets (record
+    { number = d .number; packet = octetsOf s (d .packet); extra = extraOf (d .kind) l })))
     pieces
     ∙ ap (λ (l : List ℕ). done l) (datagram-forth s d octets so)

@@ -2,24 +2,28 @@
 -- what is true of whatever is not refused. Assumes nothing.
 use Prim.Native.Nat.{ℕ, suc, _*_, _≤_}
 use mathlib.Core.Path.{_≡_, refl, sym, ap, _∙_}
-use mathlib.Core.Bool.{Bool, true, false, not, _&&_, true≢false}
+use mathlib.Core.Bool.{true, not}
 use mathlib.Core.List.{List, [], _∷_, _++_, append-assoc}
 use lib.ListN.{length, take, drop, length-append, length-drop}
-use lib.Dec.{leb, eqb}
+use lib.Dec.{eqb}
 use lib.Seq.{length-take-le}
 use native.Mathlib.Omega.{arith}
 use borrow.Author.Tests.{leb-true, eqb-true, eq-eqb, lt-ltb, not-false}
 use Rattle.lengths.specs.Answers.{done}
 use Rattle.lengths.specs.Tables.{unless}
-use Rattle.lengths.proofs.Tables.{unless-past, unless-done}
-use Rattle.lengths.proofs.Laws.{size-written}
-use Rattle.datagrams.specs.Sizes.{packetLeast, packetLimit, messageLeast, messageLimit, sparesLimit, coveredLimit, messagesLimit, datagramLimit}
-use Rattle.datagrams.specs.Write.{numberOctets, itemOctets, itemsOctets, countedOctets, datagramOctets, extraOctets, cut, extraOf, carriedOf, sumOf, within, countInside, itemInside, itemsInside, lengthsInside, datagramToWrite}
-use Rattle.datagrams.specs.Inner.Put.{kindHead, itemsSize, datagramSize, nFits, Bounded}
+pub use Rattle.lengths.proofs.Laws.{both}
+use Rattle.lengths.proofs.Laws.{within-true, size-written}
+use Rattle.lengths.specs.Length.{within}
+use Rattle.lengths.proofs.Laws.{unless-past, unless-done}
+use Rattle.datagrams.specs.Sizes.{packetLeast, packetLimit, messageLeast, messageLimit, sparesLimit, coveredLeast, coveredLimit}
+use Rattle.datagrams.specs.Sizes.{messagesLeast, messagesLimit, datagramLimit}
+use Rattle.datagrams.specs.Write.{numberOctets, itemOctets, itemsOctets, countedOctets, datagramOctets, extraOctets, cut, extraOf}
+use Rattle.datagrams.specs.Write.{carriedOf, sumOf, countInside, itemInside, itemsInside, lengthsInside, datagramToWrite}
+use Rattle.datagrams.specs.Inner.Heads.{kindHead, itemsSize, datagramSize, nFits, Bounded}
 use Rattle.datagrams.specs.declared.kind.Kind.{Kind}
 use Rattle.datagrams.specs.declared.kind.Kind.the-variants as kind
-use Rattle.datagrams.proofs.PutLaws.{number-length, item-length}
 use Rattle.datagrams.proofs.SizeLaws.{items-bound, kind-bound}
+use Rattle.datagrams.proofs.SizeLaws.{number-length, item-length}
 
 -- ---- the octets, part by part
 pub cut-length : (lengths run : List ℕ) → length (cut lengths run) ≡ length lengths
@@ -67,24 +71,15 @@ datagram-length number packet k lengths run enough =
     )
 
 -- ---- inside the sizes
-pub both : (a b : Bool) → (a && b) ≡ true → (a ≡ true) × (b ≡ true)
-both true true e = (refl, refl)
-both true false e = (refl, e)
-both false b e = (e, absurd (true≢false (sym e)))
-
-pub within-true : (least limit n : ℕ) → within least limit n ≡ true → (least ≤ n) × (n ≤ limit)
-within-true least limit n e =
-    let t = both (leb least n) (leb n limit) e in
-    (leb-true least n (t .0), leb-true n limit (t .1))
-
 pub count-few : (k : Kind) (count : ℕ) → countInside k count ≡ true → count ≤ sparesLimit
 count-few kind.Spares count e = leb-true count sparesLimit e
-count-few (kind.Parity n) count e = let t = within-true 1 messagesLimit count (both (within 1 coveredLimit n) _ e .1) in omega arith
+count-few (kind.Parity n) count e = let t = within-true messagesLeast messagesLimit count
+    (both (within coveredLeast coveredLimit n) _ e .1) in omega arith
 
 pub n-fits : (k : Kind) (count : ℕ) → countInside k count ≡ true → nFits k ≡ true
 n-fits kind.Spares count e = refl
 n-fits (kind.Parity n) count e =
-    let t = within-true 1 coveredLimit n (both (within 1 coveredLimit n) _ e .0) in
+    let t = within-true coveredLeast coveredLimit n (both (within coveredLeast coveredLimit n) _ e .0) in
     lt-ltb n 256 (omega arith)
 
 item-few : (k : Kind) (n : ℕ) → itemInside k n ≡ true → n ≤ packetLimit

@@ -1,2 +1,2 @@
 -- What the functions inside the library owe each other: no part of the meaning.
-pub mod Put
+pub mod Heads

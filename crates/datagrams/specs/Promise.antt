@@ -13,29 +13,29 @@ use Rattle.datagrams.specs.declared.reader.Reading.the-variants as readi
 use Rattle.datagrams.specs.declared.reader.DatagramRead.{DatagramRead}
 
 -- each case of the datagram reader's answer, in document 01's number and values
-abbrev pub readingOutcome : Reading → List Part → Answer DatagramParts
-readingOutcome (reading.Datagram number packet kind count) items =
+abbrev pub datagramOutcome : Reading → List Part → Answer DatagramParts
+datagramOutcome (reading.Datagram number packet kind count) items =
     done (record { number = number; packet = packet; kind = kind; items = take count items })
-readingOutcome (reading.Refused r) items = refused r
+datagramOutcome (reading.Refused r) items = refused r
 
 abbrev pub readOutcome : DatagramRead → Answer DatagramParts
-readOutcome r = readingOutcome (r .reading) (r .items)
+readOutcome r = datagramOutcome (r .reading) (r .items)
 
 -- an empty part, at the places past the count
 abbrev pub nowhere : Part
 nowhere = record { start = 0; size = 0 }
 
-unfoldable pub places : List Part → List Part
-places ps = ps ++ replicate (sparesLimit - length ps) nowhere
+unfoldable pub paddedParts : List Part → List Part
+paddedParts ps = ps ++ replicate (sparesLimit - length ps) nowhere
 
 -- the whole answer, unused places too
 unfoldable pub datagramRead : Answer DatagramParts → DatagramRead
 datagramRead (done d) =
     record {
       reading = reading.Datagram (d .number) (d .packet) (d .kind) (length (d .items));
-      items = places (d .items);
+      items = paddedParts (d .items);
     }
-datagramRead (refused r) = record { reading = reading.Refused r; items = places [] }
+datagramRead (refused r) = record { reading = reading.Refused r; items = paddedParts [] }
 
 -- what `datagram_reader::read` owes of the octets s: its answer, and the whole of what it hands back
 pub record DatagramReads (s : List ℕ) (r : DatagramRead) : Type 0 where

@@ -7,12 +7,13 @@ use mathlib.Core.Bool.{cond}
 use mathlib.Core.List.{List, [], _∷_, map}
 use lib.ListN.{length, getD, take, drop}
 use lib.Dec.{leb, ltb, eqb}
-use Rattle.lengths.specs.Refusals.{endsEarly, tooLong, outsideSizes, spareBit, leftOver}
+use Rattle.lengths.specs.Refusals.{endsEarly, tooLong, spareBit, leftOver}
 use Rattle.lengths.specs.Answers.{Answer, done, refuse, _>>=_, LengthAnswer}
-use Rattle.lengths.specs.Length.{lengthAt}
-use Rattle.datagrams.specs.Sizes.{packetLeast, packetLimit, messageLeast, messageLimit, datagramLimit, sparesLimit, coveredLimit, messagesLimit}
+use Rattle.lengths.specs.Length.{allowed, lengthWithin}
+use Rattle.datagrams.specs.Sizes.{packetLeast, packetLimit, messageLeast, messageLimit, datagramLimit, sparesLeast, sparesLimit}
+use Rattle.datagrams.specs.Sizes.{coveredLeast, coveredLimit, messagesLeast, messagesLimit}
 use Rattle.datagrams.specs.Carried.{Carried}
-use Rattle.datagrams.specs.Write.{within, extraOf}
+use Rattle.datagrams.specs.Write.{extraOf}
 use Rattle.datagrams.specs.declared.reader.Part.{Part}
 use Rattle.datagrams.specs.declared.kind.Kind.{Kind}
 use Rattle.datagrams.specs.declared.kind.Kind.the-variants as kind
@@ -30,26 +31,16 @@ pub record DatagramParts : Type 0 where
 abbrev pub after : Part → ℕ
 after p = p .start + p .size
 
--- 4: a length, count, n or m outside the sizes
-unfoldable pub allowed : ℕ → ℕ → LengthAnswer → Answer LengthAnswer
-allowed least most l = cond (within least most (l .value)) (done l) (refuse outsideSizes)
-
 -- a plain octet from least to most, that is no length
 unfoldable pub octetAt : ℕ → ℕ → List ℕ → ℕ → Answer LengthAnswer
 octetAt least most s at =
     cond (leb (length s) at) (refuse endsEarly)
     (allowed least most (record { value = getD s at 0; size = 1 }))
 
--- a length or count from least to most
-unfoldable pub sizedAt : ℕ → ℕ → List ℕ → ℕ → Answer LengthAnswer
-sizedAt least most s at = do
-  l ← lengthAt (drop at s)
-  allowed least most l
-
 -- a packet, spare or message: length, octets
 unfoldable pub itemAt : ℕ → ℕ → List ℕ → ℕ → Answer Part
 itemAt least most s at = do
-  l ← sizedAt least most s at
+  l ← lengthWithin least most (drop at s)
   cond (ltb (length s - (at + l .size)) (l .value)) (refuse endsEarly)
       (done (record { start = at + l .size; size = l .value }))
 
@@ -77,15 +68,15 @@ pub record ExtraHead : Type 0 where
 -- "Spares: a count"
 unfoldable pub sparesAt : List ℕ → ℕ → Answer ExtraHead
 sparesAt s at = do
-  k ← sizedAt 0 sparesLimit s at
+  k ← lengthWithin sparesLeast sparesLimit (drop at s)
   done (record { kind = kind.Spares; count = k .value; first = at + k .size })
 
 -- "Parity: octet 01, octet n, count m"
 unfoldable pub parityAt : List ℕ → ℕ → Answer ExtraHead
 parityAt s at = do
   one ← octetAt 1 1 s at
-  n ← octetAt 1 coveredLimit s (at + 1)
-  m ← sizedAt 1 messagesLimit s (at + 2)
+  n ← octetAt coveredLeast coveredLimit s (at + 1)
+  m ← lengthWithin messagesLeast messagesLimit (drop (at + 2) s)
   done (record { kind = kind.Parity (n .value); count = m .value; first = at + 2 + m .size })
 
 -- "Then one octet, 00 for spares or 80 for parity; its low seven bits are zero"

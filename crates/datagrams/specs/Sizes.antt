@@ -20,15 +20,24 @@ messageLimit = packetLimit
 abbrev pub datagramLimit : ℕ
 datagramLimit = 1500
 
--- spare copies: at most so many
+-- spare copies: from sparesLeast to sparesLimit
+abbrev pub sparesLeast : ℕ
+sparesLeast = 0
+
 abbrev pub sparesLimit : ℕ
 sparesLimit = 8
 
--- n, the packets that a parity message covers: from 1 to so many
+-- n, the packets that a parity message covers: from coveredLeast to coveredLimit
+abbrev pub coveredLeast : ℕ
+coveredLeast = 1
+
 abbrev pub coveredLimit : ℕ
 coveredLimit = 8
 
--- m, the parity messages: from 1 to so many
+-- m, the parity messages: from messagesLeast to messagesLimit
+abbrev pub messagesLeast : ℕ
+messagesLeast = 1
+
 abbrev pub messagesLimit : ℕ
 messagesLimit = 4
 

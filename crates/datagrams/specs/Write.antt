@@ -4,7 +4,7 @@
 -- follows." And of the order of refusals: "Datagram writer (number, packet, spares or n and messages): n or a count outside
 -- the sizes 4, then 15, 4, 13." The 13 is that of every call that writes to a lent buffer. Definitions only.
 use Prim.Native.Nat.{ℕ, _+_, _/_, _%_}
-use mathlib.Core.Bool.{Bool, true, cond, not, _&&_}
+use mathlib.Core.Bool.{Bool, true, not, _&&_}
 use mathlib.Core.List.{List, [], _∷_, _++_}
 use mathlib.Core.Option.{Option}
 use lib.ListN.{length, take, drop}
@@ -12,8 +12,9 @@ use lib.Dec.{leb, eqb}
 use Rattle.lengths.specs.Refusals.{outsideSizes, wrongSettings}
 use Rattle.lengths.specs.Answers.{Answer}
 use Rattle.lengths.specs.Tables.{when, unless}
-use Rattle.lengths.specs.Length.{lengthOctets}
-use Rattle.datagrams.specs.Sizes.{packetLeast, packetLimit, messageLeast, messageLimit, sparesLimit, coveredLimit, messagesLimit}
+use Rattle.lengths.specs.Length.{within, lengthOctets}
+use Rattle.datagrams.specs.Sizes.{packetLeast, packetLimit, messageLeast, messageLimit, sparesLimit, coveredLeast, coveredLimit}
+use Rattle.datagrams.specs.Sizes.{messagesLeast, messagesLimit}
 use Rattle.datagrams.specs.Carried.{Extra, spares, parity, Carried}
 use Rattle.datagrams.specs.declared.kind.Kind.{Kind}
 use Rattle.datagrams.specs.declared.kind.Kind.the-variants as kind
@@ -68,13 +69,10 @@ unfoldable pub sumOf : List ℕ → ℕ
 sumOf [] = 0
 sumOf (n ∷ lengths) = n + sumOf lengths
 
-abbrev pub within : ℕ → ℕ → ℕ → Bool
-within least limit n = leb least n && leb n limit
-
 -- n and the count are inside the sizes
 abbrev pub countInside : Kind → ℕ → Bool
 countInside kind.Spares count = leb count sparesLimit
-countInside (kind.Parity n) count = within 1 coveredLimit n && within 1 messagesLimit count
+countInside (kind.Parity n) count = within coveredLeast coveredLimit n && within messagesLeast messagesLimit count
 
 -- the length of a spare, or of a message, is inside the sizes
 abbrev pub itemInside : Kind → ℕ → Bool

@@ -9,7 +9,6 @@ pub use reader::DatagramRead;
 pub use reader::Part;
 pub use reader::Reading;
 pub use rules::count_inside;
-pub use rules::within;
 pub use sizes::Datagram;
 pub use sizes::Message;
 pub use sizes::Packet;

@@ -10,20 +10,18 @@ use native.Mathlib.Omega.{arith}
 use Rattle.lengths.specs.Answers.{done, LengthAnswer}
 use Rattle.lengths.specs.Length.{lengthAt, lengthOctets, lengthLimit}
 use Rattle.lengths.proofs.Claims as lengths
+use Rattle.lengths.proofs.Laws.{bind-done, done-same, both, within-true}
 use Rattle.datagrams.specs.Sizes.{packetLeast, packetLimit}
 use Rattle.datagrams.specs.Carried.{Carried}
 use Rattle.datagrams.specs.Read.{DatagramParts, ExtraHead, after, itemAt, itemsAt, extraAt, leastOf, mostOf, readDatagram, carriedBy}
 use Rattle.datagrams.specs.Write.{numberOctets, itemOctets, itemsOctets, extraOctets, extraOf, itemInside, itemsInside, cut, sumOf}
 use Rattle.datagrams.specs.Write.{carriedOf, datagramOctets, datagramToWrite}
 use Rattle.datagrams.specs.Claims.{ReadsAs}
-use Rattle.datagrams.specs.Inner.Put.{itemsSize, datagramSize}
+use Rattle.datagrams.specs.Inner.Heads.{itemsSize, datagramSize}
 use Rattle.datagrams.specs.declared.reader.Part.{Part}
 use Rattle.datagrams.specs.declared.kind.Kind.{Kind}
-use Rattle.datagrams.proofs.AnswerLaws.{bind-done, done-same}
-use Rattle.datagrams.proofs.PutLaws.{item-length}
-use Rattle.datagrams.proofs.WriteLaws.{Allowed, both, within-true, cut-length, items-length, datagram-length, written-allowed}
-use Rattle.datagrams.proofs.ReadLaws.{Datagram, item-done, extra-done, read-done}
-use Rattle.datagrams.proofs.ReadBack.{rest-after, item-sizes, most-fits, ExtraBack, extra-back}
+use Rattle.datagrams.proofs.Laws.{Allowed, cut-length, items-length, datagram-length, written-allowed, Datagram, item-done, extra-done}
+use Rattle.datagrams.proofs.Laws.{read-done, rest-after, item-sizes, most-fits, ExtraBack, extra-back, item-length}
 use Rattle.datagrams.proofs.Claims as datagrams
 
 -- the part of an item of n octets at a place, and of items one after the other

@@ -12,17 +12,17 @@ use Rattle.octets.proofs.Laws.{same-or-not}
 use Rattle.datagrams.specs.Sizes.{sparesLimit}
 use Rattle.datagrams.specs.Carried.{Carried}
 use Rattle.datagrams.specs.Read.{readDatagram, carriedBy}
-use Rattle.datagrams.proofs.AnswerLaws.{done-same}
+use Rattle.lengths.proofs.Laws.{done-same}
 use Rattle.views.specs.Cells.{keptBefore, keptAhead}
 use Rattle.views.specs.Held.{Held, heldAt}
 use Rattle.views.specs.View.{View, numbers, distance}
-use Rattle.views.specs.Offer.{heldOf, accept}
+use Rattle.views.specs.Offer.{heldBy, accept}
 use Rattle.demands.specs.History.{Left}
 use Rattle.demands.specs.Calls.{Call, Calls, _then_, acceptedIn, leftIn, leftBy}
-use Rattle.demands.specs.ReachedBy.{gone, numberAt, sparesIn, Accepts, Arrived, now, before}
+use Rattle.demands.specs.ReachedBy.{gone, placeNumber, sparesIn, Accepts, Arrived, now, before}
 use Rattle.demands.proofs.Ranges.{ViewInRanges}
 use Rattle.demands.proofs.InRanges.{read-held, accept-in-ranges, held-accepted, held-beside}
-use Rattle.demands.proofs.Steps.{OfferDone}
+use Rattle.demands.proofs.Taken.{OfferDone}
 use Rattle.demands.proofs.Places.{number-there, place-there, few-spares, marked-true, number-of}
 use Rattle.demands.proofs.Reaching.{Brought, Knows}
 
@@ -40,7 +40,7 @@ pub record Took (calls : Calls) (call : Call) (g d : ℕ) (c : Carried) (view : 
   pub marked : (e : ℕ) → e < keptAhead → (i : ℕ) → i < length ((heldAt ((accept d c view) .held) e) .messages)
       → Brought (calls then call) g e (heldAt ((accept d c view) .held) e)
   pub holds : (S : ℕ) (x : Carried) → Arrived (calls then call) S x → (e : ℕ) → S ≡ g + (keptBefore + e)
-      → (e < keptAhead) × (heldAt ((accept d c view) .held) e ≡ heldOf (x .extra))
+      → (e < keptAhead) × (heldAt ((accept d c view) .held) e ≡ heldBy (x .extra))
 
 module _ {calls : Calls} {g : ℕ} {view last : View} (k : Knows calls g view) {octets : List ℕ} (o : OfferDone octets view last)
     (call : Call) (taken : acceptedIn call ≡ some octets) (stays : leftIn call ≡ []) where
@@ -79,7 +79,7 @@ module _ {calls : Calls} {g : ℕ} {view last : View} (k : Knows calls g view) {
       let same : a .octets ≡ octets = Option·some-injective (a .octets) octets (sym (a .accepted) ∙ taken) in
       let parts : a .reads .parts ≡ o .parts = done-same (sym (a .reads .read) ∙ ap readDatagram same ∙ o .read) in
       let is : x ≡ c = sym (a .reads .carried) ∙ ap₂ carriedBy same parts in
-      let number : (o .parts .number) % numbers ≡ numberAt S =
+      let number : (o .parts .number) % numbers ≡ placeNumber S =
       ap (λ (n : ℕ). n % numbers) (sym (number-of octets (o .parts))) ∙ ap (λ (y : Carried). (y .number) % numbers) (sym is) ∙ a .number in
       let so-far = k .left in
       let from = a .from in
@@ -106,7 +106,7 @@ module _ {calls : Calls} {g : ℕ} {view last : View} (k : Knows calls g view) {
       (same-or-not e d)
 
   mid-holds : (S : ℕ) (x : Carried) → Arrived (calls then call) S x → (e : ℕ) → S ≡ g + (keptBefore + e)
-      → (e < keptAhead) × (heldAt (mid .held) e ≡ heldOf (x .extra))
+      → (e < keptAhead) × (heldAt (mid .held) e ≡ heldBy (x .extra))
   mid-holds S x (now a) e place =
       let only = one a in
       let at = only .0 in
@@ -114,7 +114,7 @@ module _ {calls : Calls} {g : ℕ} {view last : View} (k : Knows calls g view) {
         rw same (o .near),
         ap (heldAt (mid .held)) same
             ∙ held-accepted d c view (rw (k .ranges .heard) (o .near))
-            ∙ ap (λ (y : Carried). heldOf (y .extra)) (sym (only .1)),
+            ∙ ap (λ (y : Carried). heldBy (y .extra)) (sym (only .1)),
       )
   mid-holds S x (before a) e place =
       let was = k .holds S x a e place in (

@@ -9,14 +9,14 @@ use native.Mathlib.Omega.{arith}
 use Rattle.octets.specs.Place.{tab}
 use Rattle.octets.specs.ExclusiveOr.{xorAt, exclusiveOr, longest}
 use Rattle.lengths.specs.Answers.{done}
-use Rattle.lengths.specs.Length.{lengthAt, lengthOctets}
+use Rattle.lengths.specs.Length.{lengthAt, lengthOctets, allowed, lengthWithin}
 use Rattle.datagrams.specs.Carried.{spares, parity, Carried}
-use Rattle.datagrams.specs.Read.{allowed, octetAt, sizedAt, itemAt, itemsAt, endOf, sparesAt, parityAt, extraAt, numberOf, wholeOf, readDatagram, carriedBy}
+use Rattle.datagrams.specs.Read.{octetAt, itemAt, itemsAt, endOf, sparesAt, parityAt, extraAt, numberOf, wholeOf, readDatagram, carriedBy}
 use Rattle.datagrams.specs.Write.{numberOctets, itemOctets, itemsOctets, countedOctets, datagramOctets}
 use Rattle.views.specs.Cells.{repaired, cellAt, keptBefore}
 use Rattle.views.specs.Members.{membersOf, InReach}
 use Rattle.views.specs.Repair.{passing, usable, firstUsable, mended, fill, repairF, repair}
-use Rattle.views.specs.Held.{Held, heldAt, messagesOf, messagesFrom, heldMessages}
+use Rattle.views.specs.Held.{Held, heldAt, messagesOf, messagesInRow, heldMessages}
 use Rattle.views.specs.Reached.{Known, Unknown}
 use Rattle.views.specs.View.{View, freshView}
 use Rattle.views.specs.Offer as offers
@@ -77,17 +77,17 @@ abbrev with034 : View
 with034 = accept 4 carried4 with03
 
 takes-0 : offers.offer datagram0 freshView ≡ done with0
-unfolding offers.offer readDatagram carriedBy numberOf wholeOf extraAt sparesAt parityAt itemsAt itemAt sizedAt octetAt allowed endOf
+unfolding offers.offer readDatagram carriedBy numberOf wholeOf extraAt sparesAt parityAt itemsAt itemAt lengthWithin octetAt allowed endOf
     lengthAt offered freshView
 takes-0 = refl
 
 takes-3 : offers.offer datagram3 with0 ≡ done with03
-unfolding offers.offer readDatagram carriedBy numberOf wholeOf extraAt sparesAt parityAt itemsAt itemAt sizedAt octetAt allowed endOf
+unfolding offers.offer readDatagram carriedBy numberOf wholeOf extraAt sparesAt parityAt itemsAt itemAt lengthWithin octetAt allowed endOf
     lengthAt offered accept freshView
 takes-3 = refl
 
 takes-4 : offers.offer datagram4 with03 ≡ done with034
-unfolding offers.offer readDatagram carriedBy numberOf wholeOf extraAt sparesAt parityAt itemsAt itemAt sizedAt octetAt allowed endOf
+unfolding offers.offer readDatagram carriedBy numberOf wholeOf extraAt sparesAt parityAt itemsAt itemAt lengthWithin octetAt allowed endOf
     lengthAt offered accept freshView
 takes-4 = refl
 
@@ -117,7 +117,7 @@ record Cells : Type 0 where
 
 cells : Cells
 unfolding freshView accept keep keepSpares tab xorAt exclusiveOr membersOf passing usable firstUsable mended fill repairF repair messagesOf
-    messagesFrom heldMessages
+    messagesInRow heldMessages
 cells =
     record {
       missing1 = refl;

@@ -11,7 +11,7 @@ use native.Mathlib.Omega.{arith}
 use borrow.Author.Tests.{eqb-true, le-ltb}
 use Rattle.octets.proofs.Laws.{and-left, and-right}
 use Rattle.lengths.specs.Refusals.{outsideRanges}
-use Rattle.lengths.specs.Answers.{Answer, done, refused, refuse, over}
+use Rattle.lengths.specs.Answers.{Answer, done, refused, refuse, over, afterwards}
 use Rattle.datagrams.specs.Sizes.{coveredLimit, messagesLimit}
 use Rattle.views.specs.Cells as cells
 use Rattle.views.specs.Cells.{cellAt, keptBefore, keptAhead, keptNumbers}
@@ -19,7 +19,7 @@ use Rattle.views.specs.Held.{heldAt}
 use Rattle.views.specs.View.{View, sum, numbers, sessionLimit, freshView}
 use Rattle.views.specs.Offer as offers
 use Rattle.views.specs.Release as releases
-use Rattle.views.specs.Release.{Release, Loss}
+use Rattle.views.specs.Release.{Release, Loss, viewAfterNext, viewAfterLoss}
 use Rattle.views.specs.Ranges.{sumRight, sizeRight, Sound}
 use Rattle.views.proofs.Laws.{held-sizes}
 use Rattle.held.specs.Table.{stateOf, viewOf}
@@ -27,18 +27,18 @@ use Rattle.held.specs.Laid.{sessionInRanges}
 use Rattle.held.specs.Promise.{Fresh}
 use Rattle.held.specs.declared.Session.{Session}
 use Rattle.held.proofs.Laws.{session-in-ranges, in-ranges-true}
-use Rattle.leaving.specs.Outcome.{Handed, releasedOutcome, lostOutcome, handedOf, octetsOf, numberOf, afterNext, afterGiveUp}
+use Rattle.leaving.specs.Outcome.{Handed, releasedOutcome, lostOutcome, handedOf, octetsHanded, numberLost}
 use Rattle.leaving.specs.declared.Released.{Released}
 use Rattle.leaving.specs.declared.Released.the-variants as answer
 use Rattle.leaving.specs.declared.Lost.{Lost}
 use Rattle.leaving.specs.declared.Lost.the-variants as loss
-use Rattle.offering.specs.Outcome.{acceptedOf, afterOffer}
-use Rattle.sessions.specs.Receiver.{SeenAs, After, inRangesThen, offerOf, OfferOwes, nextOf, viewAfterNext, NextOwes, giveUpOf, viewAfterLoss, GiveUpOwes}
+use Rattle.offering.specs.Outcome.{acceptedOf}
+use Rattle.sessions.specs.Receiver.{SeenAs, After, inRangesThen, offerOf, OfferOwes, nextOf, NextOwes, giveUpOf, GiveUpOwes}
 use Rattle.sessions.specs.declared.receiver.AfterOffer.{AfterOffer}
 use Rattle.sessions.specs.declared.receiver.AfterNext.{AfterNext}
 use Rattle.sessions.specs.declared.receiver.AfterGiveUp.{AfterGiveUp}
 use Rattle.demands.specs.History as moves
-use Rattle.demands.specs.History.{after}
+use Rattle.demands.specs.History.{afterMove}
 use Rattle.demands.specs.Calls.{Call, offer, next, giveUp, Calls, handedOut, givenUp, leftIn}
 use Rattle.demands.specs.Calls.{Called, atStart, offered, asked, gaveUp}
 use Rattle.demands.specs.GoesOn.{moveOf, Says, GoesOn, from, by}
@@ -120,39 +120,40 @@ module _ {view : View} {s : Session} (seen : SeenAs view s) where
   give-up-is = in-ranges-then releases.giveUp seen
 
   -- the session after it
-  after-offer : (a : Answer View) (t : Session) → After a s t → SeenAs (afterOffer a view) t
+  after-offer : (a : Answer View) (t : Session) → After a s t → SeenAs (afterwards a view) t
   after-offer (done v) t state = state
   after-offer (refused why) t state = subst (SeenAs view) (sym state) seen
 
-  after-next : (a : Answer Release) (t : Session) → After (viewAfterNext a) s t → SeenAs (afterNext a view) t
+  after-next : (a : Answer Release) (t : Session) → After (viewAfterNext a) s t → SeenAs (afterwards (viewAfterNext a) view) t
   after-next (done v) t state = state
   after-next (refused why) t state = subst (SeenAs view) (sym state) seen
 
-  after-give-up : (a : Answer Loss) (t : Session) → After (viewAfterLoss a) s t → SeenAs (afterGiveUp a view) t
+  after-give-up : (a : Answer Loss) (t : Session) → After (viewAfterLoss a) s t → SeenAs (afterwards (viewAfterLoss a) view) t
   after-give-up (done v) t state = state
   after-give-up (refused why) t state = subst (SeenAs view) (sym state) seen
 
-  pub offered-seen : {octets : List ℕ} {r : AfterOffer} → OfferOwes s octets r → SeenAs (after (moves.offer octets) view) (r .session)
-  unfolding after
+  pub offered-seen : {octets : List ℕ} {r : AfterOffer} → OfferOwes s octets r → SeenAs (afterMove (moves.offer octets) view) (r .session)
+  unfolding afterMove
   offered-seen {octets} {r} owes =
       after-offer (offers.offer octets view) (r .session)
       (subst (λ (a : Answer View). After a s (r .session)) (offer-is octets) (owes .state))
 
-  pub asked-seen : {old new : List ℕ} {r : AfterNext} → NextOwes s old new r → SeenAs (after (moves.next (length old)) view) (r .session)
-  unfolding after
+  pub asked-seen : {old new : List ℕ} {r : AfterNext} → NextOwes s old new r
+      → SeenAs (afterMove (moves.next (length old)) view) (r .session)
+  unfolding afterMove
   asked-seen {old} {new} {r} owes =
       after-next (releases.next (length old) view) (r .session)
       (subst (λ (a : Answer Release). After (viewAfterNext a) s (r .session)) (next-is (length old)) (owes .state))
 
-  pub gave-up-seen : {r : AfterGiveUp} → GiveUpOwes s r → SeenAs (after moves.giveUp view) (r .session)
-  unfolding after
+  pub gave-up-seen : {r : AfterGiveUp} → GiveUpOwes s r → SeenAs (afterMove moves.giveUp view) (r .session)
+  unfolding afterMove
   gave-up-seen {r} owes =
       after-give-up (releases.giveUp view) (r .session)
       (subst (λ (a : Answer Loss). After (viewAfterLoss a) s (r .session)) give-up-is (owes .state))
 
 -- ---- what the answers hand out
 handed-out : (a : Answer Release) (r : Released) (old : List ℕ) → releasedOutcome r ≡ handedOf a
-    → handedOut r (over (octetsOf a) old) ≡ releasedBy a
+    → handedOut r (over (octetsHanded a) old) ≡ releasedBy a
 handed-out (done a) (answer.Packet kind number size) old e =
     let same : _≡_ {A = Handed} (record { kind = stateOf kind; number = number; size = size })
     (record { kind = a .kind; number = a .number; size = length (a .octets) }) = cc in
@@ -164,7 +165,7 @@ handed-out (done a) (answer.Refused why) old e = let z : _≡_ {A = ℕ} 0 1 = c
 handed-out (refused x) (answer.Packet kind number size) old e = let z : _≡_ {A = ℕ} 0 1 = cc in absurd (omega arith)
 handed-out (refused x) (answer.Refused why) old e = refl
 
-given-up : (a : Answer Loss) (r : Lost) → lostOutcome r ≡ numberOf a → givenUp r ≡ lostBy a
+given-up : (a : Answer Loss) (r : Lost) → lostOutcome r ≡ numberLost a → givenUp r ≡ lostBy a
 given-up (done a) (loss.Number number) e = let same : number ≡ a .number = cc in rw same
 given-up (done a) (loss.Refused why) e = let z : _≡_ {A = ℕ} 0 1 = cc in absurd (omega arith)
 given-up (refused x) (loss.Number number) e = let z : _≡_ {A = ℕ} 0 1 = cc in absurd (omega arith)
@@ -185,11 +186,11 @@ module _ {view : View} {s : Session} (seen : SeenAs view s) where
   asked-says : {old new : List ℕ} {r : AfterNext} → NextOwes s old new r → Says view (next old new (r .answer))
   asked-says {old} owes = (
     owes .answer ∙ ap handedOf (next-is seen (length old)),
-    owes .lent ∙ ap (λ (a : Answer Release). over (octetsOf a) old) (next-is seen (length old)),
+    owes .lent ∙ ap (λ (a : Answer Release). over (octetsHanded a) old) (next-is seen (length old)),
   )
 
   gave-up-says : {r : AfterGiveUp} → GiveUpOwes s r → Says view (giveUp (r .answer))
-  gave-up-says owes = owes .answer ∙ ap numberOf (give-up-is seen)
+  gave-up-says owes = owes .answer ∙ ap numberLost (give-up-is seen)
 
 -- a chain of calls goes on from what the first session holds
 pub record Went (view : View) (calls : Calls) (t : Session) : Type 0 where
@@ -202,21 +203,21 @@ called-went {view = view} seen atStart = record { held = view; seen = seen; on =
 called-went seen (offered {octets = octets} rest owes) =
     let w = called-went seen rest in
     record {
-      held = after (moves.offer octets) (w .held);
+      held = afterMove (moves.offer octets) (w .held);
       seen = offered-seen (w .seen) owes;
       on = by (w .on) (offered-says (w .seen) owes);
     }
 called-went seen (asked {old = old} rest owes) =
     let w = called-went seen rest in
     record {
-      held = after (moves.next (length old)) (w .held);
+      held = afterMove (moves.next (length old)) (w .held);
       seen = asked-seen (w .seen) owes;
       on = by (w .on) (asked-says (w .seen) owes);
     }
 called-went seen (gaveUp rest owes) =
     let w = called-went seen rest in
     record {
-      held = after moves.giveUp (w .held);
+      held = afterMove moves.giveUp (w .held);
       seen = gave-up-seen (w .seen) owes;
       on = by (w .on) (gave-up-says (w .seen) owes);
     }

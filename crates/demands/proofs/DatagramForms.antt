@@ -13,11 +13,9 @@ use borrow.Author.Tests.{lt-ltb, le-ltb, le-leb, lt-leb, ne-eqb}
 use Rattle.octets.proofs.Laws.{below-or-not, same-or-not}
 use Rattle.lengths.specs.Refusals.{endsEarly, outsideSizes, spareBit, leftOver}
 use Rattle.lengths.specs.Answers.{Answer, done, refuse, _>>=_, LengthAnswer}
-use Rattle.lengths.specs.Length.{lengthAt, lengthOctets, lengthLimit, ofTwo}
+use Rattle.lengths.specs.Length.{lengthAt, lengthOctets, lengthLimit, ofTwo, allowed}
 use Rattle.lengths.specs.Claims.{Octets}
-use Rattle.lengths.proofs.Laws.{lengthOctets-one, lengthOctets-two, written-reads}
-use Rattle.datagrams.specs.Read.{allowed}
-use Rattle.datagrams.proofs.ReadLaws.{allowed-sizes}
+use Rattle.lengths.proofs.Laws.{lengthOctets-one, lengthOctets-two, written-reads, allowed-sizes}
 use Rattle.demands.specs.DatagramItems.{Form, many, sized, plain, flag, nothing, Right, rightOctets, rightSize, rightOctet}
 use Rattle.demands.specs.DatagramItems.{rightSpares, rightParity}
 use Rattle.demands.specs.DatagramRefusals.{Wrong, fewOctets, noSize, cutSize, noOctet, noFlag, highSize, longSize, otherSize}

@@ -14,13 +14,14 @@ use Rattle.octets.proofs.Laws.{below-or-not}
 use Rattle.lengths.specs.Refusals.{endsEarly, spareBit, leftOver}
 use Rattle.lengths.specs.Answers.{Answer, done, refused, refuse, _>>=_, LengthAnswer}
 use Rattle.lengths.specs.Claims.{Octets}
-use Rattle.datagrams.specs.Sizes.{packetLeast, packetLimit, datagramLimit, sparesLimit, coveredLimit, messagesLimit}
-use Rattle.datagrams.specs.Read.{ExtraHead, after, allowed, octetAt, sizedAt, itemAt, itemsAt, endOf}
+use Rattle.datagrams.specs.Sizes.{packetLeast, packetLimit, datagramLimit, sparesLeast, sparesLimit, coveredLeast, coveredLimit, messagesLeast, messagesLimit}
+use Rattle.datagrams.specs.Read.{ExtraHead, after, octetAt, itemAt, itemsAt, endOf}
 use Rattle.datagrams.specs.Read.{sparesAt, parityAt, extraAt, leastOf, mostOf, numberOf, wholeOf, readDatagram}
 use Rattle.datagrams.specs.declared.reader.Part.{Part}
 use Rattle.datagrams.specs.declared.kind.Kind.the-variants as kinds
-use Rattle.datagrams.proofs.ReadBack.{rest-after}
+use Rattle.datagrams.proofs.Laws.{rest-after}
 use Rattle.lengths.specs.Tables.{refusalIn}
+use Rattle.lengths.specs.Length.{allowed, lengthWithin}
 use Rattle.demands.specs.DatagramItems.{Item, number, packet, kind, spares, octet01, octetN, countM, message, inside, Form}
 use Rattle.demands.specs.DatagramItems.{many, sized, plain, flag, formOf, formDue, brings, Right, rightOctets, rightOctet}
 use Rattle.demands.specs.DatagramItems.{rightSpares, rightParity}
@@ -107,8 +108,8 @@ module _ (s : List ℕ) (octets : Octets s) where
   sized-walk : {B : Type 0} (item : Item) (later : List Item) (at least most : ℕ) (g : LengthAnswer → Answer B)
       → formOf item ≡ sized least most
       → ((v n : ℕ) → Leads s (brings item v ++ later) (at + n) (g (record { value = v; size = n })))
-      → Leads s (item ∷ later) at (_>>=_ (sizedAt least most s at) g)
-  unfolding formAt sizedAt
+      → Leads s (item ∷ later) at (_>>=_ (lengthWithin least most (drop at s)) g)
+  unfolding formAt lengthWithin
   sized-walk item later at least most g is next =
       step at g is (size-stands least most (drop at s) (left-octets at)) (λ x v n r long. next v n)
 
@@ -132,7 +133,7 @@ module _ (s : List ℕ) (octets : Octets s) where
       → Leads s (item ∷ later) at (_>>=_ (itemAt least most s at) g)
   unfolding itemAt formOf brings
   item-walk item later at least most g is brought next =
-      rw (then-then (sizedAt least most s at) _ g)
+      rw (then-then (lengthWithin least most (drop at s)) _ g)
       (sized-walk item later at least most _ is
       (λ v n.
       let part : Part = record { start = at + n; size = v } in
@@ -162,17 +163,17 @@ module _ (s : List ℕ) (octets : Octets s) where
       spares-walk : (at : ℕ) → Leads s (spares ∷ later) at (_>>=_ (sparesAt s at) g)
       unfolding sparesAt formOf brings
       spares-walk at =
-          rw (then-then (sizedAt 0 sparesLimit s at) _ g) (sized-walk spares later at 0 sparesLimit _ refl (λ v n. of-spares v (at + n)))
+          rw (then-then (lengthWithin sparesLeast sparesLimit (drop at s)) _ g) (sized-walk spares later at sparesLeast sparesLimit _ refl (λ v n. of-spares v (at + n)))
 
       parity-walk : (at : ℕ) → Leads s (octet01 ∷ octetN ∷ countM ∷ later) at (_>>=_ (parityAt s at) g)
       unfolding parityAt formOf brings
       parity-walk at =
           rw (then-then (octetAt 1 1 s at) _ g)
           (octet-walk octet01 (octetN ∷ countM ∷ later) at 1 1 _ refl (λ v. refl)
-          (λ one. rw (then-then (octetAt 1 coveredLimit s (at + 1)) _ g)
-          (octet-walk octetN (countM ∷ later) (at + 1) 1 coveredLimit _ refl (λ v. refl)
-          (λ n. rw (then-then (sizedAt 1 messagesLimit s (at + 2)) _ g, ← next-place at)
-          (sized-walk countM later (at + 2) 1 messagesLimit _ refl (λ m k. of-parity n m (at + 2 + k)))))))
+          (λ one. rw (then-then (octetAt coveredLeast coveredLimit s (at + 1)) _ g)
+          (octet-walk octetN (countM ∷ later) (at + 1) coveredLeast coveredLimit _ refl (λ v. refl)
+          (λ n. rw (then-then (lengthWithin messagesLeast messagesLimit (drop (at + 2) s)) _ g, ← next-place at)
+          (sized-walk countM later (at + 2) messagesLeast messagesLimit _ refl (λ m k. of-parity n m (at + 2 + k)))))))
 
       extra-walk : (at : ℕ) → Leads s (kind ∷ later) at (_>>=_ (extraAt s at) g)
       unfolding extraAt formAt formOf brings

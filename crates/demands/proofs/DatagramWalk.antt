@@ -12,7 +12,7 @@ use Rattle.lengths.specs.Refusals.{refusal}
 use Rattle.lengths.specs.Answers.{Answer, refuse, LengthAnswer}
 use Rattle.lengths.specs.Length.{lengthLimit}
 use Rattle.lengths.specs.declared.Refusal.{Refusal}
-use Rattle.datagrams.proofs.AnswerLaws.{done-same}
+use Rattle.lengths.proofs.Laws.{done-same}
 use Rattle.demands.specs.DatagramItems.{Item, number, packet, kind, spares, octet01, octetN, countM, message, inside, nothing}
 use Rattle.demands.specs.DatagramItems.{formOf, formDue, brings, Right, Due, begins, passes, WholeDatagram}
 use Rattle.demands.specs.DatagramRefusals.{Wrong, FirstWrong}

@@ -6,25 +6,27 @@ use mathlib.Core.List.{List, List·Memᴰ as Among}
 use lib.ListN.{length}
 use native.Mathlib.Omega.{arith}
 use Rattle.lengths.specs.Refusals as refusals
-use Rattle.lengths.specs.Answers.{Answer, done, refused, refuse}
+use Rattle.lengths.specs.Answers.{Answer, done, refused, refuse, afterwards}
 use Rattle.views.specs.Honest.{TrueCells}
 use Rattle.views.specs.View.{View, freshView}
 use Rattle.views.specs.Offer as offers
 use Rattle.held.specs.Table.{viewOf}
 use Rattle.held.specs.declared.Session.{Session}
-use Rattle.offering.specs.Outcome.{offeredOutcome, acceptedOf, afterOffer}
+use Rattle.offering.specs.Outcome.{offeredOutcome, acceptedOf}
 use Rattle.sessions.specs.Receiver.{SeenAs, OfferOwes}
 use Rattle.sessions.specs.declared.receiver.AfterOffer.{AfterOffer}
 use Rattle.sending.specs.Honest.{HonestSender}
-use Rattle.demands.specs.History.{after, offer}
-use Rattle.demands.specs.Feeding.{Near, sentAt, datagramAt, Offers, Fed, fresh, offered, asked, gaveUp, Takes, none, accepted, repeated}
+use Rattle.demands.specs.History.{afterMove, offer}
+use Rattle.demands.specs.Feeding.{Near, sentAt, datagramAt, Offers, Fed, fresh, offered, asked, gaveUp, Takes, none, accepted}
+use Rattle.demands.specs.Feeding.{repeated}
 use Rattle.demands.specs.Demand3.{TwoLists, BurstBack, Demand3}
 use Rattle.demands.proofs.Calling.{fresh-seen, offer-is, offered-seen, asked-seen, gave-up-seen}
 use Rattle.demands.proofs.FedViews as views
 use Rattle.demands.proofs.FedViews.{FedView, TakesViews, arrives, asks, givesUp}
 use Rattle.demands.proofs.Fed.{fed-sound}
 use Rattle.demands.proofs.FedCalls.{call-of, fed-calls, takes-calls}
-use Rattle.demands.proofs.Lists.{views-no-less, view-burst}
+use Rattle.demands.proofs.Lists.{views-no-less}
+use Rattle.demands.proofs.ListBurst.{view-burst}
 
 -- ---- what an offer came to
 done-of : (a : Answer View) → acceptedOf a ≡ done tt → (mid : View) × (a ≡ done mid)
@@ -53,7 +55,7 @@ module _ {row datagrams : List (List ℕ)} where
   fed-seen (offered {S = S} f o) =
       let b = fed-seen f in
       record {
-        view = after (offer (datagramAt datagrams S)) (b .view);
+        view = afterMove (offer (datagramAt datagrams S)) (b .view);
         seen = offered-seen (b .seen) (call-of o);
         fed = arrives (b .fed) S (o .sent) (subst (Near S) (b .seen .view) (o .near));
       }
@@ -70,9 +72,9 @@ module _ {row datagrams : List (List ℕ)} where
     near-seen = subst (Near S) (seen .view) (o .near)
 
     -- the view that the offer came to
-    came-to : (a : Answer View) → offers.offer (datagramAt datagrams S) view ≡ a → SeenAs (afterOffer a view) (r .session)
-    unfolding after
-    came-to a is = subst (λ (x : Answer View). SeenAs (afterOffer x view) (r .session)) is (offered-seen seen (call-of o))
+    came-to : (a : Answer View) → offers.offer (datagramAt datagrams S) view ≡ a → SeenAs (afterwards a view) (r .session)
+    unfolding afterMove
+    came-to a is = subst (λ (x : Answer View). SeenAs (afterwards x view) (r .session)) is (offered-seen seen (call-of o))
 
     answer-is : acceptedOf (offers.offer (datagramAt datagrams S) view) ≡ offeredOutcome (r .answer)
     answer-is = sym (call-of o .answer ∙ ap acceptedOf (offer-is seen (datagramAt datagrams S)))

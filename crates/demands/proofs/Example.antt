@@ -3,21 +3,22 @@ use Prim.Native.Nat.{ℕ, zero, suc, _<_}
 use mathlib.Core.Path.{_≡_, refl, subst, _∙_}
 use mathlib.Core.Logic.{⊎-elim}
 use mathlib.Core.Bool.{true}
-use mathlib.Core.List.{List, [], _∷_, List·Memᴰ as Among, List·Memᴰ·head as here, List·Memᴰ·tail as further, List·Memᴰ·not-nil, List·Memᴰ·cases-cons}
+use mathlib.Core.List.{List, [], _∷_, List·Memᴰ as Among, List·Memᴰ·head as here, List·Memᴰ·tail as further, List·Memᴰ·not-nil}
+use mathlib.Core.List.{List·Memᴰ·cases-cons}
 use lib.ListN.{length, getD}
 use native.Mathlib.Omega.{arith}
 use Rattle.octets.specs.Place.{tab}
 use Rattle.octets.specs.ExclusiveOr.{xorAt, exclusiveOr, longest}
 use Rattle.lengths.specs.Refusals as refusals
 use Rattle.lengths.specs.Answers.{done, refuse}
-use Rattle.lengths.specs.Length.{lengthAt, lengthOctets}
+use Rattle.lengths.specs.Length.{lengthAt, lengthOctets, allowed, lengthWithin}
 use Rattle.datagrams.specs.Carried.{spares, parity, Carried}
-use Rattle.datagrams.specs.Read.{allowed, octetAt, sizedAt, itemAt, itemsAt, endOf, sparesAt, parityAt, extraAt, numberOf, wholeOf, readDatagram, carriedBy}
+use Rattle.datagrams.specs.Read.{octetAt, itemAt, itemsAt, endOf, sparesAt, parityAt, extraAt, numberOf, wholeOf, readDatagram, carriedBy}
 use Rattle.datagrams.specs.Write.{numberOctets, itemOctets, itemsOctets, countedOctets, datagramOctets}
 use Rattle.views.specs.Cells.{repaired, cellAt, keptBefore}
 use Rattle.views.specs.Members.{membersOf, InReach}
 use Rattle.views.specs.Repair.{passing, usable, firstUsable, mended, fill, repairF, repair}
-use Rattle.views.specs.Held.{Held, heldAt, messagesOf, messagesFrom, heldMessages}
+use Rattle.views.specs.Held.{Held, heldAt, messagesOf, messagesInRow, heldMessages}
 use Rattle.views.specs.Reached.{Known, Unknown}
 use Rattle.views.specs.View.{View, freshView}
 use Rattle.views.specs.Offer as offers
@@ -69,12 +70,12 @@ near-fresh S low = record { ahead = omega arith; behind = omega arith }
 
 -- a read datagram, offered
 reads-1 : (view : View) → offers.offer datagram1 view ≡ offered carried1 view
-unfolding offers.offer readDatagram carriedBy numberOf wholeOf extraAt sparesAt parityAt itemsAt itemAt sizedAt octetAt allowed endOf
+unfolding offers.offer readDatagram carriedBy numberOf wholeOf extraAt sparesAt parityAt itemsAt itemAt lengthWithin octetAt allowed endOf
     lengthAt
 reads-1 view = refl
 
 reads-2 : (view : View) → offers.offer datagram2 view ≡ offered carried2 view
-unfolding offers.offer readDatagram carriedBy numberOf wholeOf extraAt sparesAt parityAt itemsAt itemAt sizedAt octetAt allowed endOf
+unfolding offers.offer readDatagram carriedBy numberOf wholeOf extraAt sparesAt parityAt itemsAt itemAt lengthWithin octetAt allowed endOf
     lengthAt
 reads-2 view = refl
 
@@ -114,12 +115,12 @@ all S among = ⊎-elim (λ same. further (here same)) (λ later. absurd (List·M
 
 missing : Unknown (only2 .cells) keptBefore
 unfolding freshView accept keep keepSpares tab xorAt exclusiveOr membersOf passing usable firstUsable mended fill repairF repair messagesOf
-    messagesFrom heldMessages
+    messagesInRow heldMessages
 missing = refl
 
 back : cellAt (with12 .cells) keptBefore ≡ record { state = repaired; octets = 0x06 ∷ 0 ∷ 0 ∷ 0 ∷ 0 ∷ 0 ∷ [] }
 unfolding freshView accept keep keepSpares tab xorAt exclusiveOr membersOf passing usable firstUsable mended fill repairF repair messagesOf
-    messagesFrom heldMessages
+    messagesInRow heldMessages
 back = refl
 
 held : heldAt (with12 .held) 2 ≡ record { accepted = true; n = 2; messages = message2 ∷ [] }
@@ -129,7 +130,7 @@ held = refl
 -- of the reach of datagram 2, places 32 and 33, the second is known
 known33 : Known (with12 .cells) 33
 unfolding freshView accept keep keepSpares tab xorAt exclusiveOr membersOf passing usable firstUsable mended fill repairF repair messagesOf
-    messagesFrom heldMessages
+    messagesInRow heldMessages
 known33 = refl
 
 rest : RestKnown with12 2 keptBefore 1

@@ -9,28 +9,28 @@ use lib.Dec.{ltb}
 use native.Mathlib.Omega.{arith}
 use borrow.Author.Tests.{ltb-true}
 use Rattle.lengths.specs.Refusals as refusals
-use Rattle.lengths.specs.Answers.{Answer, done, refused, refuse}
+use Rattle.lengths.specs.Answers.{Answer, done, refused, refuse, afterwards}
+use Rattle.lengths.proofs.Laws.{done-same}
 use Rattle.datagrams.specs.Carried.{Carried}
 use Rattle.datagrams.specs.Read.{carriedBy}
-use Rattle.datagrams.proofs.AnswerLaws.{done-same}
 use Rattle.views.specs.Cells.{keptAhead}
 use Rattle.views.specs.Held.{heldAt}
 use Rattle.views.specs.View.{View, numbers, distance}
 use Rattle.views.specs.Offer as offers
 use Rattle.views.specs.Offer.{accept, acceptedAt, offered, lateFrom}
 use Rattle.views.specs.Release as releases
-use Rattle.views.specs.Release.{Release, Loss}
-use Rattle.leaving.specs.Outcome.{afterNext, afterGiveUp}
-use Rattle.offering.specs.Outcome.{afterOffer}
+use Rattle.views.specs.Release.{Release, Loss, viewAfterNext, viewAfterLoss}
 use Rattle.sending.specs.Honest.{HonestSender}
 use Rattle.demands.specs.History as moves
-use Rattle.demands.specs.History.{after, offer}
+use Rattle.demands.specs.History.{afterMove, offer}
 use Rattle.demands.specs.Feeding.{placeOf, Near, datagramAt}
 use Rattle.demands.proofs.Ranges.{ViewInRanges}
 use Rattle.demands.proofs.FedViews.{FedView, fresh, arrives, asks, givesUp}
-use Rattle.demands.proofs.Steps.{offer-done, next-done, give-up-done, base-fills, released-sum}
+use Rattle.demands.proofs.Taken.{offer-done, next-done, give-up-done}
+use Rattle.demands.proofs.Steps.{moved-sum}
 use Rattle.demands.proofs.Sent.{Follows, follows-of}
-use Rattle.demands.proofs.Sound.{Sound, fresh-sound, accept-sound, on-sound}
+use Rattle.demands.proofs.Sound.{Sound, fresh-sound, accept-sound}
+use Rattle.demands.proofs.SoundOn.{on-sound}
 
 -- ---- places and numbers: within 32,000 places a number tells its place
 place-of : (B S : ℕ) → S ≤ B + 32000 → B ≤ S + 32000 → distance (B % numbers) (S % numbers) < keptAhead
@@ -135,32 +135,33 @@ module _ {row datagrams : List (List ℕ)} (honest : HonestSender row datagrams)
 pub took-sound : {row datagrams : List (List ℕ)} {view last : View} {S : ℕ} → S < length row → Sound row datagrams view
     → Took row datagrams view S last → Sound row datagrams last
 took-sound {row} {datagrams} low s t =
-    subst (Sound row datagrams) (t .is) (accept-sound s (t .d) (t .low) (t .carried) (subst (λ (x : ℕ). x < length row) (t .place) low) (t .follows))
+    subst (Sound row datagrams) (t .is) (accept-sound s (t .d) (t .low) (t .carried) (subst (λ (x : ℕ). x < length row) (t .place) low)
+    (t .follows))
 
 module _ {row datagrams : List (List ℕ)} (honest : HonestSender row datagrams) {view : View} (s : Sound row datagrams view) where
-  arrives-sound : (S : ℕ) → S < length row → Near S view → Sound row datagrams (after (offer (datagramAt datagrams S)) view)
-  unfolding after
+  arrives-sound : (S : ℕ) → S < length row → Near S view → Sound row datagrams (afterMove (offer (datagramAt datagrams S)) view)
+  unfolding afterMove
   arrives-sound S low near = pick (offers.offer (datagramAt datagrams S) view) refl where
-    pick : (a : Answer View) → offers.offer (datagramAt datagrams S) view ≡ a → Sound row datagrams (afterOffer a view)
+    pick : (a : Answer View) → offers.offer (datagramAt datagrams S) view ≡ a → Sound row datagrams (afterwards a view)
     pick (done last) e = took-sound low s (took honest (s .ranges) S low near last e)
     pick (refused why) e = s
 
-  asks-sound : (room : ℕ) → Sound row datagrams (after (moves.next room) view)
-  unfolding after
+  asks-sound : (room : ℕ) → Sound row datagrams (afterMove (moves.next room) view)
+  unfolding afterMove
   asks-sound room = pick (releases.next room view) refl where
-    pick : (a : Answer Release) → releases.next room view ≡ a → Sound row datagrams (afterNext a view)
+    pick : (a : Answer Release) → releases.next room view ≡ a → Sound row datagrams (afterwards (viewAfterNext a) view)
     pick (done a) e =
         let o = next-done room view a e in
-        subst (Sound row datagrams) (sym (o .after)) (on-sound s _ (released-sum (base-fills view (s .ranges) (o .known)) (view .counts)))
+        subst (Sound row datagrams) (sym (o .after)) (on-sound s _ (moved-sum view (s .ranges)))
     pick (refused why) e = s
 
-  gives-up-sound : Sound row datagrams (after moves.giveUp view)
-  unfolding after
+  gives-up-sound : Sound row datagrams (afterMove moves.giveUp view)
+  unfolding afterMove
   gives-up-sound = pick (releases.giveUp view) refl where
-    pick : (a : Answer Loss) → releases.giveUp view ≡ a → Sound row datagrams (afterGiveUp a view)
+    pick : (a : Answer Loss) → releases.giveUp view ≡ a → Sound row datagrams (afterwards (viewAfterLoss a) view)
     pick (done a) e =
         let o = give-up-done view a e in
-        subst (Sound row datagrams) (sym (o .after)) (on-sound s _ (omega arith))
+        subst (Sound row datagrams) (sym (o .after)) (on-sound s _ (moved-sum view (s .ranges)))
     pick (refused why) e = s
 
 pub fed-sound : {row datagrams : List (List ℕ)} → HonestSender row datagrams → {view : View} → FedView row datagrams view

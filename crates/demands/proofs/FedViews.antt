@@ -7,16 +7,16 @@ use Rattle.lengths.specs.Refusals as refusals
 use Rattle.lengths.specs.Answers.{done, refuse}
 use Rattle.views.specs.View.{View, freshView}
 use Rattle.views.specs.Offer as offers
-use Rattle.demands.specs.History.{after, offer, next, giveUp}
+use Rattle.demands.specs.History.{afterMove, offer, next, giveUp}
 use Rattle.demands.specs.Feeding.{Near, datagramAt}
 
 module _ (row datagrams : List (List ℕ)) where
   pub data FedView : View → Type 0 where
     fresh : FedView freshView
     arrives : {view : View} → FedView view → (S : ℕ) → S < length row → Near S view
-        → FedView (after (offer (datagramAt datagrams S)) view)
-    asks : {view : View} → FedView view → (room : ℕ) → FedView (after (next room) view)
-    givesUp : {view : View} → FedView view → FedView (after giveUp view)
+        → FedView (afterMove (offer (datagramAt datagrams S)) view)
+    asks : {view : View} → FedView view → (room : ℕ) → FedView (afterMove (next room) view)
+    givesUp : {view : View} → FedView view → FedView (afterMove giveUp view)
 
   -- a list of accepted or repeated datagrams
   pub data TakesViews : List ℕ → View → View → Type 0 where

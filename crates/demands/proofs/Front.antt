@@ -179,7 +179,8 @@ repaired-front s p e =
     let all =
     fields-front (f .count .value) w more (f .count .next) (f .all) (omega (arith, ended .0)) (omega arith)
     (ap (λ (l : List ℕ). fieldsAt (f .count .value) l (f .count .next)) whole ∙ f .allWas) in
-    let nothing : length (drop (f .all .next) (take (f .all .next) s)) ≡ 0 = omega (arith, length-drop (f .all .next) (take (f .all .next) s)) in
+    let nothing : length (drop (f .all .next) (take (f .all .next) s)) ≡ 0 =
+    omega (arith, length-drop (f .all .next) (take (f .all .next) s)) in
     record {
       front = w;
       zeros = length more;

@@ -122,7 +122,8 @@ known-kept {state} p octets cells inside fills =
     ⊎-elim
     (λ u.
     rw (keep-unknown state p octets cells u)
-    (ap (λ (c : Cell). isUnknown (c .state)) (getD-set-same cells p (record { state = state; octets = octets }) _ inside) ∙ fills-known fills))
+    (ap (λ (c : Cell). isUnknown (c .state)) (getD-set-same cells p (record { state = state; octets = octets }) _ inside)
+    ∙ fills-known fills))
     (λ k. rw (keep-known state p octets cells k) k)
     (true-or-false (unknownAt cells p))
 

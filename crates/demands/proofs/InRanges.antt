@@ -10,20 +10,21 @@ use lib.Seq.{getD-set-same, getD-set-other, getD-append-add}
 use native.Mathlib.Omega.{arith}
 use Rattle.octets.proofs.Laws.{same-or-not, below-or-not, and-left, and-right}
 use Rattle.lengths.specs.Answers.{done}
-use Rattle.datagrams.specs.Sizes.{coveredLimit, messagesLimit}
+use Rattle.lengths.specs.Length.{within}
+use Rattle.lengths.proofs.Laws.{within-true}
+use Rattle.datagrams.specs.Sizes.{coveredLeast, coveredLimit, messagesLeast, messagesLimit}
 use Rattle.datagrams.specs.Carried.{Carried}
-use Rattle.datagrams.specs.Write.{within, countInside, extraOf}
+use Rattle.datagrams.specs.Write.{countInside, extraOf}
 use Rattle.datagrams.specs.Read.{DatagramParts, octetsOf, readDatagram, carriedBy}
 use Rattle.datagrams.specs.declared.kind.Kind.{Kind}
 use Rattle.datagrams.specs.declared.kind.Kind.the-variants as kind
-use Rattle.datagrams.proofs.ReadLaws.{read-inside}
-use Rattle.datagrams.proofs.WriteLaws.{within-true}
+use Rattle.datagrams.proofs.Laws.{read-inside}
 use Rattle.views.specs.Cells.{State, unknown, received, blank, Cell, blankCell, unknownCell, cellAt, keptBefore, keptAhead, keptNumbers}
 use Rattle.views.specs.Held.{Held, nothingHeld, heldAt, heldMessages}
 use Rattle.views.specs.Reached.{DistinctMembers}
 use Rattle.views.proofs.Laws.{held-distinct, reach-kept}
 use Rattle.views.specs.View.{View, Counts, sum, numbers, following, freshView, goneOn}
-use Rattle.views.specs.Offer.{keep, keepExtra, heldOf, accept}
+use Rattle.views.specs.Offer.{keep, keepExtra, heldBy, accept}
 use Rattle.demands.proofs.Ranges.{ViewInRanges}
 use Rattle.demands.proofs.Growing.{Fills, asReceived, asSpare, asRepaired, Grown, grown-twice, grown-keep, grown-extra, grown-repair}
 use Rattle.demands.proofs.Shifted.{length-cells-on, length-held-on, cell-on, cell-last, held-on, held-last}
@@ -74,18 +75,18 @@ pub record HeldInside (held : Held) : Type 0 where
   pub covered : held .n ≤ coveredLimit
   pub messages : length (held .messages) ≤ messagesLimit
 
-held-inside : (k : Kind) (items : List (List ℕ)) → countInside k (length items) ≡ true → HeldInside (heldOf (extraOf k items))
+held-inside : (k : Kind) (items : List (List ℕ)) → countInside k (length items) ≡ true → HeldInside (heldBy (extraOf k items))
 held-inside kind.Spares items e = record { covered = omega arith; messages = omega arith }
 held-inside (kind.Parity n) items e =
     record {
-      covered = within-true 1 coveredLimit n (and-left (within 1 coveredLimit n) (within 1 messagesLimit (length items)) e) .1;
+      covered = within-true coveredLeast coveredLimit n (and-left (within coveredLeast coveredLimit n) (within messagesLeast messagesLimit (length items)) e) .1;
       messages =
-          within-true 1 messagesLimit (length items)
-          (and-right (within 1 coveredLimit n) (within 1 messagesLimit (length items)) e) .1;
+          within-true messagesLeast messagesLimit (length items)
+          (and-right (within coveredLeast coveredLimit n) (within messagesLeast messagesLimit (length items)) e) .1;
     }
 
 pub read-held : (octets : List ℕ) (parts : DatagramParts) → readDatagram octets ≡ done parts
-    → HeldInside (heldOf ((carriedBy octets parts) .extra))
+    → HeldInside (heldBy ((carriedBy octets parts) .extra))
 unfolding carriedBy
 read-held octets parts e =
     held-inside (parts .kind) (map (octetsOf octets) (parts .items))
@@ -105,7 +106,7 @@ pub grown-accept : (d : ℕ) (datagram : Carried) (view : View) → Grown (view 
 unfolding accept
 grown-accept d datagram view =
     grown-twice (grown-filled d datagram view)
-    (grown-repair (filled d datagram view) (heldMessages (set (view .held) d (heldOf (datagram .extra)))))
+    (grown-repair (filled d datagram view) (heldMessages (set (view .held) d (heldBy (datagram .extra)))))
 
 fills-not-blank : {st : State} → Fills st → st ≡ blank → ⊥
 fills-not-blank asReceived e = let z : _≡_ {A = ℕ} 0 1 = cc in omega arith
@@ -114,23 +115,25 @@ fills-not-blank asRepaired e = let z : _≡_ {A = ℕ} 0 1 = cc in omega arith
 
 -- what is held at each distance
 pub held-accepted : (d : ℕ) (datagram : Carried) (view : View) → d < length (view .held)
-    → heldAt ((accept d datagram view) .held) d ≡ heldOf (datagram .extra)
+    → heldAt ((accept d datagram view) .held) d ≡ heldBy (datagram .extra)
 unfolding accept
-held-accepted d datagram view low = getD-set-same (view .held) d (heldOf (datagram .extra)) nothingHeld low
+held-accepted d datagram view low = getD-set-same (view .held) d (heldBy (datagram .extra)) nothingHeld low
 
 pub held-beside : (d : ℕ) (datagram : Carried) (view : View) (e : ℕ) → (e ≡ d → ⊥)
     → heldAt ((accept d datagram view) .held) e ≡ heldAt (view .held) e
 unfolding accept
-held-beside d datagram view e other = getD-set-other (view .held) d e (heldOf (datagram .extra)) nothingHeld other
+held-beside d datagram view e other = getD-set-other (view .held) d e (heldBy (datagram .extra)) nothingHeld other
 
 module _ (d : ℕ) (datagram : Carried) (view : View) (r : ViewInRanges view) (low : d < keptAhead)
-    (inside : HeldInside (heldOf (datagram .extra))) where
+    (inside : HeldInside (heldBy (datagram .extra))) where
   held-all : (e : ℕ) → e < keptAhead → HeldInside (heldAt ((accept d datagram view) .held) e)
   held-all e small =
       ⊎-elim
-      (λ same. subst HeldInside (sym (ap (heldAt ((accept d datagram view) .held)) same ∙ held-accepted d datagram view (rw (r .heard) low))) inside)
+      (λ same. subst HeldInside (sym (ap (heldAt ((accept d datagram view) .held)) same ∙ held-accepted d datagram view
+      (rw (r .heard) low))) inside)
       (λ other.
-      subst HeldInside (sym (held-beside d datagram view e other)) (record { covered = r .covered e small; messages = r .messages e small }))
+      subst HeldInside (sym (held-beside d datagram view e other))
+      (record { covered = r .covered e small; messages = r .messages e small }))
       (same-or-not e d)
 
   pub accept-in-ranges : ViewInRanges (accept d datagram view)
@@ -139,7 +142,7 @@ module _ (d : ℕ) (datagram : Carried) (view : View) (r : ViewInRanges view) (l
       let g = grown-accept d datagram view in
       record {
         kept = g .long ∙ r .kept;
-        heard = length-set (view .held) d (heldOf (datagram .extra)) ∙ r .heard;
+        heard = length-set (view .held) d (heldBy (datagram .extra)) ∙ r .heard;
         base = r .base;
         noBlank = λ p past small e.
             ⊎-elim (λ same. r .noBlank p past small (sym (ap (λ (c : Cell). c .state) same) ∙ e)) (λ new. fills-not-blank (new .1) e)
@@ -188,5 +191,6 @@ on-in-ranges counts view r more =
         subst HeldInside (sym (held-on counts view d (rw (r .heard) inside)))
         (record { covered = r .covered (suc d) inside; messages = r .messages (suc d) inside }))
         (λ last.
-        subst HeldInside (sym (held-last counts view d (omega (arith, r .heard)))) (record { covered = omega arith; messages = omega arith }))
+        subst HeldInside (sym (held-last counts view d (omega (arith, r .heard))))
+        (record { covered = omega arith; messages = omega arith }))
         (below-or-not (suc d) keptAhead)

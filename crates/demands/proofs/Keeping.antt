@@ -9,20 +9,18 @@ use lib.ListN.{length, length-append, getD, List·getD-append}
 use lib.Seq.{getD-at}
 use native.Mathlib.Omega.{arith}
 use Rattle.octets.proofs.Laws.{below-or-not}
-use Rattle.lengths.specs.Answers.{Answer, done, refused}
+use Rattle.lengths.specs.Answers.{Answer, done, refused, afterwards}
 use Rattle.views.specs.Cells.{Cell, isUnknown, cellAt, unknownAt, keptBefore, keptNumbers}
 use Rattle.views.specs.Reached.{Known, Unknown}
 use Rattle.views.specs.View.{View, Counts, numbers, goneOn}
 use Rattle.views.specs.Offer as offers
 use Rattle.views.specs.Release as releases
-use Rattle.views.specs.Release.{Release, Loss, atBase}
+use Rattle.views.specs.Release.{Release, Loss, atBase, viewAfterNext, viewAfterLoss}
 use Rattle.held.specs.Table.{viewOf}
 use Rattle.held.specs.declared.Session.{Session}
-use Rattle.leaving.specs.Outcome.{afterNext, afterGiveUp}
-use Rattle.offering.specs.Outcome.{afterOffer}
 use Rattle.sessions.specs.Receiver.{SeenAs}
 use Rattle.demands.specs.History as moves
-use Rattle.demands.specs.History.{Move, Left, released, lost, after}
+use Rattle.demands.specs.History.{Move, Left, released, lost, afterMove}
 use Rattle.demands.specs.Calls.{Call, Calls, Called, leftIn, leftBy}
 use Rattle.demands.specs.GoesOn.{moveOf, GoesOn, from, by}
 use Rattle.demands.specs.Demand2.{Keeps}
@@ -30,7 +28,8 @@ use Rattle.demands.proofs.Ranges.{ViewInRanges}
 use Rattle.demands.proofs.Growing.{grown-known}
 use Rattle.demands.proofs.Shifted.{cell-on}
 use Rattle.demands.proofs.InRanges.{grown-accept}
-use Rattle.demands.proofs.Steps.{leaving, releasedBy, lostBy, offer-done, next-done, give-up-done}
+use Rattle.demands.proofs.Steps.{leaving, releasedBy, lostBy}
+use Rattle.demands.proofs.Taken.{offer-done, next-done, give-up-done}
 use Rattle.demands.proofs.Leaving.{on-ranges, went}
 use Rattle.demands.proofs.Calling.{seen-ranges, left-is, called-went, called-on}
 
@@ -40,20 +39,20 @@ data Does (view : View) : List Left → View → Type 0 where
   hands : (counts : Counts) → Does view (released ((atBase view) .state) (view .base) ((atBase view) .octets) ∷ []) (goneOn counts view)
   loses : (counts : Counts) → Unknown (view .cells) keptBefore → Does view (lost (view .base) ∷ []) (goneOn counts view)
 
-does : (move : Move) (view : View) → Does view (leaving move view) (after move view)
-unfolding after leaving
+does : (move : Move) (view : View) → Does view (leaving move view) (afterMove move view)
+unfolding afterMove leaving
 does (moves.offer octets) view = pick (offers.offer octets view) refl where
-  pick : (a : Answer View) → offers.offer octets view ≡ a → Does view [] (afterOffer a view)
+  pick : (a : Answer View) → offers.offer octets view ≡ a → Does view [] (afterwards a view)
   pick (done last) e =
       let o = offer-done octets view last e in
       subst (Does view []) (o .is) (stays (grown-known (grown-accept _ _ view)))
   pick (refused why) e = stays (λ p known. refl)
 does (moves.next room) view = pick (releases.next room view) refl where
-  pick : (a : Answer Release) → releases.next room view ≡ a → Does view (releasedBy a) (afterNext a view)
+  pick : (a : Answer Release) → releases.next room view ≡ a → Does view (releasedBy a) (afterwards (viewAfterNext a) view)
   pick (done a) e = let o = next-done room view a e in rw (o .kind, o .number, o .octets, o .after) (hands _)
   pick (refused why) e = stays (λ p known. refl)
 does moves.giveUp view = pick (releases.giveUp view) refl where
-  pick : (a : Answer Loss) → releases.giveUp view ≡ a → Does view (lostBy a) (afterGiveUp a view)
+  pick : (a : Answer Loss) → releases.giveUp view ≡ a → Does view (lostBy a) (afterwards (viewAfterLoss a) view)
   pick (done a) e = let o = give-up-done view a e in rw (o .number, o .after) (loses _ (o .unknown))
   pick (refused why) e = stays (λ p known. refl)
 

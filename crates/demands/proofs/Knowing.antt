@@ -17,7 +17,8 @@ use Rattle.views.specs.View.{View, Counts, freshView, goneOn}
 use Rattle.views.specs.Offer.{keep, keepExtra, accept}
 use Rattle.demands.specs.ReachedBy.{sparesIn}
 use Rattle.demands.proofs.Ranges.{ViewInRanges}
-use Rattle.demands.proofs.Growing.{asReceived, grown-keep, grown-extra, known-grown, known-kept, kept-known, known-spares, spares-known}
+use Rattle.demands.proofs.Growing.{asReceived, grown-keep, grown-extra, known-grown, known-kept, kept-known, known-spares}
+use Rattle.demands.proofs.Growing.{spares-known}
 use Rattle.demands.proofs.Shifted.{cell-last, unknown-on}
 use Rattle.demands.proofs.InRanges.{fresh-before, fresh-ahead, filled}
 
@@ -44,7 +45,8 @@ module _ (datagram : Carried) (d : ℕ) (view : View) (long : length (view .cell
     ⊎-elim (known-grown (grown-extra (keptBefore + d) (spares copies) arrived) p)
         (λ t.
         rw (t .2)
-        (known-spares (keptBefore + d) copies arrived (let long = arrived-long in omega arith) (let long = arrived-long in omega arith) (t .0)
+        (known-spares (keptBefore + d) copies arrived (let long = arrived-long in omega arith) (let long = arrived-long in omega arith)
+        (t .0)
         (t .1))),
   )
   extras (parity n messages) p = (λ k. inl k, ⊎-elim (λ k. k) (λ t. absurd (let none = t .1 in omega arith)))
@@ -59,7 +61,8 @@ module _ (datagram : Carried) (d : ℕ) (view : View) (long : length (view .cell
         (λ t. inr (subst (Brings datagram d) (sym (t .2)) (copy (t .0) (t .1))))
         (extras (datagram .extra) p .0 k),
     ⊎-elim
-        (λ k. extras (datagram .extra) p .1 (inl (known-grown (grown-keep (keptBefore + d) (datagram .packet) (view .cells) asReceived) p k)))
+        (λ k. extras (datagram .extra) p .1 (inl (known-grown
+        (grown-keep (keptBefore + d) (datagram .packet) (view .cells) asReceived) p k)))
         (brings p),
   )
     where

@@ -7,28 +7,29 @@ use mathlib.Core.List.{List, [], _∷_}
 use mathlib.Core.Option.{none, some}
 use lib.ListN.{length, take}
 use native.Mathlib.Omega.{arith}
-use Rattle.lengths.specs.Answers.{Answer, done, refused}
+use Rattle.lengths.specs.Answers.{Answer, done, refused, afterwards}
 use Rattle.views.specs.Cells.{keptNumbers}
 use Rattle.views.specs.Reached.{Known}
 use Rattle.views.specs.View.{View, Counts, sum, freshView, goneOn}
 use Rattle.views.specs.Offer as offers
 use Rattle.views.specs.Release as releases
-use Rattle.views.specs.Release.{Release, Loss}
+use Rattle.views.specs.Release.{Release, Loss, viewAfterNext, viewAfterLoss}
 use Rattle.held.specs.Table.{stateOf}
-use Rattle.leaving.specs.Outcome.{releasedOutcome, lostOutcome, handedOf, numberOf, afterNext, afterGiveUp}
+use Rattle.leaving.specs.Outcome.{releasedOutcome, lostOutcome, handedOf, numberLost}
 use Rattle.leaving.specs.declared.Released.{Released}
 use Rattle.leaving.specs.declared.Released.the-variants as answer
 use Rattle.leaving.specs.declared.Lost.{Lost}
 use Rattle.leaving.specs.declared.Lost.the-variants as loss
-use Rattle.offering.specs.Outcome.{offeredOutcome, acceptedOf, afterOffer}
+use Rattle.offering.specs.Outcome.{offeredOutcome, acceptedOf}
 use Rattle.offering.specs.declared.Offered.{Offered}
 use Rattle.offering.specs.declared.Offered.the-variants as outcome
-use Rattle.demands.specs.History.{Left, released, lost, after}
+use Rattle.demands.specs.History.{Left, released, lost, afterMove}
 use Rattle.demands.specs.Calls.{Call, offer, next, giveUp, Calls, _then_, acceptedIn, leftIn}
 use Rattle.demands.specs.GoesOn.{moveOf, Says, GoesOn, from, by}
 use Rattle.demands.specs.ReachedBy.{gone, ReachedBy}
 use Rattle.demands.proofs.Ranges.{ViewInRanges}
-use Rattle.demands.proofs.Steps.{OfferDone, offer-done, next-done, give-up-done, base-fills, released-sum}
+use Rattle.demands.proofs.Taken.{OfferDone, offer-done, next-done, give-up-done}
+use Rattle.demands.proofs.Steps.{moved-sum}
 use Rattle.demands.proofs.Reaching.{Knows, knows-start, knows-stays, knows-left}
 use Rattle.demands.proofs.Arriving.{took-of}
 use Rattle.demands.proofs.Repairing.{knows-mid}
@@ -41,31 +42,31 @@ data Did (view : View) (call : Call) : View → Type 0 where
   leaves : (x : Left) (counts : Counts) → leftIn call ≡ x ∷ [] → acceptedIn call ≡ none → sum counts ≡ sum (view .counts) + 1
       → Did view call (goneOn counts view)
 
-did : (view : View) (call : Call) → ViewInRanges view → Says view call → Did view call (after (moveOf call) view)
-unfolding after
+did : (view : View) (call : Call) → ViewInRanges view → Says view call → Did view call (afterMove (moveOf call) view)
+unfolding afterMove
 did view (offer octets r) ranges says = pick (offers.offer octets view) refl r says where
   pick : (a : Answer View) → offers.offer octets view ≡ a → (r : Offered) → offeredOutcome r ≡ acceptedOf a
-      → Did view (offer octets r) (afterOffer a view)
+      → Did view (offer octets r) (afterwards a view)
   pick (done v) e outcome.Accepted s = took octets refl refl (offer-done octets view v e)
   pick (done v) e (outcome.Refused why) s = let z : _≡_ {A = ℕ} 0 1 = cc in absurd (omega arith)
   pick (refused x) e outcome.Accepted s = let z : _≡_ {A = ℕ} 0 1 = cc in absurd (omega arith)
   pick (refused x) e (outcome.Refused why) s = nothing refl refl
 did view (next old new r) ranges says = pick (releases.next (length old) view) refl r (says .0) where
   pick : (a : Answer Release) → releases.next (length old) view ≡ a → (r : Released) → releasedOutcome r ≡ handedOf a
-      → Did view (next old new r) (afterNext a view)
+      → Did view (next old new r) (afterwards (viewAfterNext a) view)
   pick (done a) e (answer.Packet kind number size) s =
       let o = next-done (length old) view a e in
       subst (Did view (next old new (answer.Packet kind number size))) (sym (o .after))
-      (leaves (released (stateOf kind) number (take size new)) _ refl refl
-      (released-sum (base-fills view ranges (o .known)) (view .counts)))
+      (leaves (released (stateOf kind) number (take size new)) _ refl refl (moved-sum view ranges))
   pick (done a) e (answer.Refused why) s = let z : _≡_ {A = ℕ} 0 1 = cc in absurd (omega arith)
   pick (refused x) e (answer.Packet kind number size) s = let z : _≡_ {A = ℕ} 0 1 = cc in absurd (omega arith)
   pick (refused x) e (answer.Refused why) s = nothing refl refl
 did view (giveUp r) ranges says = pick (releases.giveUp view) refl r says where
-  pick : (a : Answer Loss) → releases.giveUp view ≡ a → (r : Lost) → lostOutcome r ≡ numberOf a → Did view (giveUp r) (afterGiveUp a view)
+  pick : (a : Answer Loss) → releases.giveUp view ≡ a → (r : Lost) → lostOutcome r ≡ numberLost a
+      → Did view (giveUp r) (afterwards (viewAfterLoss a) view)
   pick (done a) e (loss.Number number) s =
       let o = give-up-done view a e in
-      subst (Did view (giveUp (loss.Number number))) (sym (o .after)) (leaves (lost number) _ refl refl (omega arith))
+      subst (Did view (giveUp (loss.Number number))) (sym (o .after)) (leaves (lost number) _ refl refl (moved-sum view ranges))
   pick (done a) e (loss.Refused why) s = let z : _≡_ {A = ℕ} 0 1 = cc in absurd (omega arith)
   pick (refused x) e (loss.Number number) s = let z : _≡_ {A = ℕ} 0 1 = cc in absurd (omega arith)
   pick (refused x) e (loss.Refused why) s = nothing refl refl
@@ -74,7 +75,7 @@ did view (giveUp r) ranges says = pick (releases.giveUp view) refl r says where
 knows : {calls : Calls} {held : View} → GoesOn freshView calls held → (g : ℕ) × Knows calls g held
 knows from = (0, knows-start)
 knows (by {calls = calls} {call = call} {held = held} on says) = step (knows on) where
-  step : (g : ℕ) × Knows calls g held → (g : ℕ) × Knows (calls then call) g (after (moveOf call) held)
+  step : (g : ℕ) × Knows calls g held → (g : ℕ) × Knows (calls then call) g (afterMove (moveOf call) held)
   step t = pick (did held call (t .1 .ranges) says) where
     pick : {last : View} → Did held call last → (g : ℕ) × Knows (calls then call) g last
     pick (nothing stays none-taken) = (t .0, knows-stays (t .1) call none-taken stays)

@@ -12,7 +12,8 @@ use Rattle.octets.specs.Place.{tab}
 use Rattle.octets.proofs.Laws.{tab-ext, tab-more}
 use Rattle.views.specs.View.{View, Counts, sum, numbers, following, freshView}
 use Rattle.views.specs.Cells.{unknown, received, spare, repaired, blank}
-use Rattle.demands.specs.History.{Left, released, lost, isReceived, isSpare, isRepaired, isLost, numberOf, after, many, countsOf}
+use Rattle.demands.specs.History.{Left, released, lost, isReceived, isSpare, isRepaired, isLost, numberLeft, afterMove, many}
+use Rattle.demands.specs.History.{historyCounts}
 use Rattle.demands.specs.Calls.{Calls, leftIn, leftBy}
 use Rattle.demands.specs.GoesOn.{moveOf, GoesOn, from, by}
 use Rattle.demands.specs.Demand2.{OneKind, grown, FreshLeaves, SavedLeaves}
@@ -32,18 +33,19 @@ unfolding many
 many-append test [] more = omega arith
 many-append test (x ∷ some) more = let rest = many-append test some more in omega arith
 
-grown-append : (c : Counts) (some more : List Left) → grown (grown c (countsOf some)) (countsOf more) ≡ grown c (countsOf (some ++ more))
+grown-append : (c : Counts) (some more : List Left)
+    → grown (grown c (historyCounts some)) (historyCounts more) ≡ grown c (historyCounts (some ++ more))
 grown-append c some more =
     counts-path (omega (arith, many-append isReceived some more))
     (omega (arith, many-append isSpare some more))
     (omega (arith, many-append isRepaired some more))
     (omega (arith, many-append isLost some more))
 
-grown-none : (c : Counts) → c ≡ grown c (countsOf [])
+grown-none : (c : Counts) → c ≡ grown c (historyCounts [])
 unfolding many
 grown-none c = counts-path (omega arith) (omega arith) (omega arith) (omega arith)
 
-one-sum : (x : Left) → OneKind x → sum (countsOf (x ∷ [])) ≡ 1
+one-sum : (x : Left) → OneKind x → sum (historyCounts (x ∷ [])) ≡ 1
 unfolding many
 one-sum (released unknown number octets) one = absurd (false≢true one)
 one-sum (released received number octets) one = refl
@@ -54,9 +56,9 @@ one-sum (lost number) one = refl
 
 -- ---- what left, on plain values: from a base and counts to others
 pub record Went (base : ℕ) (counts : Counts) (left : List Left) (on : ℕ) (more : Counts) : Type 0 where
-  pub inOrder : map numberOf left ≡ tab (length left) (λ j. (base + j) % numbers)
+  pub inOrder : map numberLeft left ≡ tab (length left) (λ j. (base + j) % numbers)
   pub kinds : (x : Left) → Among x left → OneKind x
-  pub counted : more ≡ grown counts (countsOf left)
+  pub counted : more ≡ grown counts (historyCounts left)
   pub advance : sum more ≡ sum counts + length left
   pub reached : on ≡ (base + length left) % numbers
 
@@ -72,17 +74,17 @@ went-none {base} counts small =
     }
 
 module _ {base : ℕ} {counts : Counts} {left : List Left} {on : ℕ} {more : Counts} (w : Went base counts left on more) (x : Left)
-    (at : numberOf x ≡ on) (one : OneKind x) where
-  in-order : map numberOf (left ++ (x ∷ [])) ≡ tab (length (left ++ (x ∷ []))) (λ j. (base + j) % numbers)
+    (at : numberLeft x ≡ on) (one : OneKind x) where
+  in-order : map numberLeft (left ++ (x ∷ [])) ≡ tab (length (left ++ (x ∷ []))) (λ j. (base + j) % numbers)
   in-order =
-      let last : numberOf x ≡ (base + length left) % numbers = at ∙ w .reached in
+      let last : numberLeft x ≡ (base + length left) % numbers = at ∙ w .reached in
       let long : length left + 1 ≡ length (left ++ (x ∷ [])) = omega (arith, length-append left (x ∷ [])) in
-      map-append numberOf left (x ∷ [])
+      map-append numberLeft left (x ∷ [])
       ∙ ap₂ (λ (l : List ℕ) (n : ℕ). l ++ (n ∷ [])) (w .inOrder) last
       ∙ sym (tab-more (length left) (λ j. (base + j) % numbers))
       ∙ ap (λ (n : ℕ). tab n (λ j. (base + j) % numbers)) long
 
-  pub went-more : Went base counts (left ++ (x ∷ [])) (following on) (grown more (countsOf (x ∷ [])))
+  pub went-more : Went base counts (left ++ (x ∷ [])) (following on) (grown more (historyCounts (x ∷ [])))
   went-more =
       let long = length-append left (x ∷ []) in
       record {
@@ -91,7 +93,7 @@ module _ {base : ℕ} {counts : Counts} {left : List Left} {on : ℕ} {more : Co
             ⊎-elim (w .kinds y)
             (λ last. ⊎-elim (λ same. rw same one) (λ none. absurd (List·Memᴰ·not-nil none)) (List·Memᴰ·cases-cons last))
             (List·Memᴰ·append-cases left among);
-        counted = ap (λ (c : Counts). grown c (countsOf (x ∷ []))) (w .counted) ∙ grown-append counts left (x ∷ []);
+        counted = ap (λ (c : Counts). grown c (historyCounts (x ∷ []))) (w .counted) ∙ grown-append counts left (x ∷ []);
         advance = let total = w .advance in let single = one-sum x one in omega arith;
         reached = let total = w .reached in omega arith;
       }
@@ -107,10 +109,10 @@ went {view = view} r from = went-none (view .counts) (let b = r .base in omega a
 went {view = view} r (by {calls = calls} {call = call} {held = held} on says) =
     pick (step (moveOf call) held (on-ranges r on)) (went r on)
   where
-    pick : Step held (after (moveOf call) held) (leaving (moveOf call) held)
+    pick : Step held (afterMove (moveOf call) held) (leaving (moveOf call) held)
         → Went (view .base) (view .counts) (leftBy calls) (held .base) (held .counts)
-        → Went (view .base) (view .counts) (leftBy calls ++ leftIn call) ((after (moveOf call) held) .base)
-        ((after (moveOf call) held) .counts)
+        → Went (view .base) (view .counts) (leftBy calls ++ leftIn call) ((afterMove (moveOf call) held) .base)
+        ((afterMove (moveOf call) held) .counts)
     pick (stays counts base left) w = rw (left-is held call says, left, append-nil (leftBy calls)) (went-to base counts w)
     pick (leaves x left at one counts base) w = rw (left-is held call says, left) (went-to base counts (went-more w x at one))
 

@@ -1,36 +1,32 @@
 -- Demand 3, of views. Known after the first list lies within known after the second: that set holds what was known, what each
--- datagram of the first list brings, and is closed under its messages, since the second list holds them all. A burst is mended,
--- since no held message adds a number to the known ones. Assumes nothing.
-use Prim.Native.Nat.{ℕ, _+_, _-_, _≤_, _<_}
+-- datagram of the first list brings, and is closed under its messages, since the second list holds them all. Assumes nothing.
+use Prim.Native.Nat.{ℕ, _+_, _-_, _<_}
 use mathlib.Core.Path.{_≡_, refl, sym, ap, subst, _∙_}
-use mathlib.Core.Logic.{_⊎_, inl, inr, ⊎-elim}
+use mathlib.Core.Logic.{_⊎_, ⊎-elim}
 use mathlib.Core.Bool.{true}
 use mathlib.Core.List.{List, List·Memᴰ as Among, List·Memᴰ·head as here, List·Memᴰ·tail as further, List·Memᴰ·not-nil, List·Memᴰ·cases-cons}
 use mathlib.Core.Option.{none}
 use lib.ListN.{length}
 use native.Mathlib.Omega.{arith}
-use Rattle.octets.proofs.Laws.{tab-among, true-or-false, same-or-not, below-or-not}
+use Rattle.octets.proofs.Laws.{tab-among, true-or-false, same-or-not}
 use Rattle.datagrams.specs.Carried.{Carried}
-use Rattle.views.specs.Cells.{Cell, keptBefore, keptAhead}
-use Rattle.views.specs.Repair.{Message, firstUsable}
+use Rattle.views.specs.Cells.{keptBefore, keptAhead}
+use Rattle.views.specs.Repair.{Message}
 use Rattle.views.specs.Held.{Held, nothingHeld, heldAt, messageAt, messagesOf, heldMessages}
-use Rattle.views.specs.Reached.{Known, Closed}
-use Rattle.views.specs.Claims.{SentBefore}
-use Rattle.views.proofs.Laws.{known-not-unknown, usable-says, found-usable, found-or-none, known-within, held-at, messagesOf-among}
-use Rattle.views.proofs.Laws.{burst-mended}
+use Rattle.views.specs.Reached.{Known}
+use Rattle.views.proofs.Laws.{known-within, held-at, messagesOf-among}
 use Rattle.views.specs.View.{View, Counts, sum}
 use Rattle.views.specs.Offer as offers
 use Rattle.views.specs.Offer.{accept}
-use Rattle.sending.specs.Sending.{historyKept}
-use Rattle.sending.specs.Honest.{packetAt, HonestSender}
-use Rattle.demands.specs.Feeding.{placeOf, sentAt}
-use Rattle.demands.specs.Demand3.{TwoLists, BurstBack}
+use Rattle.sending.specs.Honest.{HonestSender}
+use Rattle.demands.specs.Feeding.{placeOf}
+use Rattle.demands.specs.Demand3.{TwoLists}
 use Rattle.demands.proofs.Growing.{known-grown}
 use Rattle.demands.proofs.InRanges.{filled, grown-accept, held-beside}
 use Rattle.demands.proofs.Steps.{accept-base, accept-counts}
 use Rattle.demands.proofs.Knowing.{Brings, brought, accept-cells}
-use Rattle.demands.proofs.Sent.{packetAt-sent, packet-sized, Follows, follows-same}
-use Rattle.demands.proofs.Sound.{Marked, Sound, held-sound, accept-sound, new-mark}
+use Rattle.demands.proofs.Sent.{Follows, follows-same}
+use Rattle.demands.proofs.Sound.{Marked, Sound, accept-sound, new-mark}
 use Rattle.demands.proofs.FedViews.{FedView, TakesViews, none, accepted, repeated}
 use Rattle.demands.proofs.Fed.{Took, took, Again, again, took-sound, fed-sound}
 
@@ -66,7 +62,7 @@ module _ {row datagrams : List (List ℕ)} {view two : View} (s : Sound row data
   same-held d low m =
       let a = s .marked d low m in
       let b = t .marked d low (marks d low m) in
-      a .held ∙ ap (λ (c : Carried). offers.heldOf (c .extra)) (same-carried d a b) ∙ sym (b .held)
+      a .held ∙ ap (λ (c : Carried). offers.heldBy (c .extra)) (same-carried d a b) ∙ sym (b .held)
 
   messages-among : (message : Message) → Among message (heldMessages (view .held)) → Among message (heldMessages (two .held))
   unfolding heldMessages messagesOf
@@ -126,7 +122,8 @@ module _ {row datagrams : List (List ℕ)} {view : View} (s : Sound row datagram
     two-marked = t .marked d low both
 
     two-carries : c ≡ two-marked .carried
-    two-carries = follows-same f (subst (λ (x : ℕ). Follows row datagrams (x + d) (two-marked .carried)) (sym same-place) (two-marked .follows))
+    two-carries =
+        follows-same f (subst (λ (x : ℕ). Follows row datagrams (x + d) (two-marked .carried)) (sym same-place) (two-marked .follows))
 
     start : (p : ℕ) → Known (filled d c view) p → Known (two .cells) p
     start p k =
@@ -161,7 +158,8 @@ module _ {row datagrams : List (List ℕ)} (honest : HonestSender row datagrams)
   takes-sound : {places : List ℕ} {view last : View} → TakesViews row datagrams places view last → Sound row datagrams view
       → Sound row datagrams last
   takes-sound none s = s
-  takes-sound (accepted {S = S} {mid = mid} low near e rest) s = takes-sound rest (took-sound low s (took honest (s .ranges) S low near mid e))
+  takes-sound (accepted {S = S} {mid = mid} low near e rest) s =
+      takes-sound rest (took-sound low s (took honest (s .ranges) S low near mid e))
   takes-sound (repeated low near e rest) s = takes-sound rest s
 
   took-less : {view last : View} {S : ℕ} → S < length row → Sound row datagrams view → Took row datagrams view S last → Less view last
@@ -244,50 +242,3 @@ views-no-less honest f takes-one takes-two all =
       sameBase = less .base;
       sameCounts = less .counts;
     }
-
--- ---- a burst
--- where the known numbers are closed, no message is usable
-closed-none : (cells : List Cell) (messages : List Message) → Closed messages (Known cells) → firstUsable cells messages ≡ none
-closed-none cells messages closed =
-    ⊎-elim
-    (λ found.
-    let got = found-usable cells messages (found .0) (found .1) in
-    let says = usable-says cells (found .0) (got .1) in
-    absurd
-    (known-not-unknown cells _
-    (closed (found .0) _ (got .0) (says .length-one) (says .member) (says .others))
-    (says .unknown)))
-    (λ e. e)
-    (found-or-none cells messages)
-
-module _ {row datagrams : List (List ℕ)} (honest : HonestSender row datagrams) {view : View} (s : Sound row datagrams view) (d : ℕ)
-    (low : d < keptAhead) (m : Marked row datagrams view d) where
-  -- an unknown number before the datagram is one that was sent
-  sent-before : SentBefore (sentAt row view) (view .cells) (keptBefore + d)
-  sent-before p before u =
-      ⊎-elim (λ blank. absurd (known-not-unknown (view .cells) p (s .blanks p blank) u))
-      (λ past.
-      let place : placeOf view + p ≡ historyKept + (placeOf view + p - historyKept) = omega arith in
-      let least = packet-sized honest (placeOf view + p - historyKept) (omega (arith, m .sent)) .0 in
-      subst (λ (x : ℕ). 1 ≤ length (packetAt row x)) (sym place)
-      (subst (λ (l : List ℕ). 1 ≤ length l) (sym (packetAt-sent row (placeOf view + p - historyKept))) least))
-      (below-or-not (placeOf view + p) keptBefore)
-
-pub view-burst : {row datagrams : List (List ℕ)} → HonestSender row datagrams → {view : View} → FedView row datagrams view
-    → BurstBack view
-unfolding heldMessages
-view-burst {row} honest {view} f d low is a k few rest p inside =
-    let s = fed-sound honest f in
-    let h : Held = heldAt (view .held) d in
-    burst-mended (sentAt row view) (view .cells) (heldMessages (view .held)) (keptBefore + d) (heldAt (view .held) d) a (held-sound s d low)
-    (closed-none (view .cells) (heldMessages (view .held)) (s .closed))
-    (λ message among. messagesOf-among keptBefore (view .held) d message (rw (s .ranges .heard) low) among)
-    (sent-before honest s d low (s .marked d low is))
-    (λ q reach u.
-    ⊎-elim (λ under. absurd (known-not-unknown (view .cells) q (rest q reach (inl under)) u))
-    (λ over-a.
-    ⊎-elim (λ under. (over-a, omega arith)) (λ over-k. absurd (known-not-unknown (view .cells) q (rest q reach (inr over-k)) u))
-    (below-or-not q (a + k)))
-    (below-or-not q a))
-    p
-    inside

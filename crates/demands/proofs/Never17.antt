@@ -12,11 +12,10 @@ use borrow.Author.Tests.{ltb-true}
 use Rattle.lengths.specs.Refusals.{endsEarly, tooLong, badForm, outsideSizes, spareBit, leftOver}
 use Rattle.lengths.specs.Refusals.{repeated, tooFar, late, baseUnknown, baseKnown, noRoom, allPassed, outsideRanges}
 use Rattle.lengths.specs.Answers.{Answer, done, refused, refuse, _>>=_, LengthAnswer}
-use Rattle.lengths.specs.Length.{ofTwo, lengthAt}
+use Rattle.lengths.specs.Length.{ofTwo, lengthAt, within, allowed, lengthWithin}
 use Rattle.lengths.specs.declared.Refusal.{Refusal}
-use Rattle.datagrams.specs.Read.{ExtraHead, allowed, octetAt, sizedAt, itemAt, itemsAt, sparesAt, parityAt, extraAt, wholeOf, readDatagram}
+use Rattle.datagrams.specs.Read.{ExtraHead, octetAt, itemAt, itemsAt, sparesAt, parityAt, extraAt, wholeOf, readDatagram}
 use Rattle.datagrams.specs.Sizes.{datagramLimit}
-use Rattle.datagrams.specs.Write.{within}
 use Rattle.datagrams.specs.Read.{carriedBy, after, endOf, leastOf, mostOf}
 use Rattle.datagrams.specs.Read as reading
 use Rattle.datagrams.specs.Carried.{Carried}
@@ -28,10 +27,10 @@ use Rattle.views.specs.Offer.{acceptedAt, lateFrom}
 use Rattle.views.specs.Release as releases
 use Rattle.views.specs.Release.{Release, Loss, atBase}
 use Rattle.held.specs.declared.Session.{Session}
-use Rattle.leaving.specs.Outcome.{handedOf, numberOf}
+use Rattle.leaving.specs.Outcome.{handedOf, numberLost}
 use Rattle.offering.specs.Outcome.{acceptedOf}
 use Rattle.lengths.specs.Tables.{refusalIn}
-use Rattle.demands.specs.Calls.{Call, offer, next, giveUp, Calls, _then_, Called, refusalOf}
+use Rattle.demands.specs.Calls.{Call, offer, next, giveUp, Calls, _then_, Called, callRefusal}
 use Rattle.demands.specs.GoesOn.{Says, GoesOn, by}
 use Rattle.demands.specs.Demand2.{Begins}
 use Rattle.demands.proofs.Calling.{begins-seen, called-on}
@@ -74,8 +73,8 @@ lower-octet : (least most : ℕ) (s : List ℕ) (at : ℕ) → Lower (octetAt le
 unfolding octetAt
 lower-octet least most s at = lower-cond (leb (length s) at) (low endsEarly refl) (lower-allowed least most _)
 
-lower-sized : (least most : ℕ) (s : List ℕ) (at : ℕ) → Lower (sizedAt least most s at)
-unfolding sizedAt
+lower-sized : (least most : ℕ) (s : List ℕ) (at : ℕ) → Lower (lengthWithin least most (drop at s))
+unfolding lengthWithin
 lower-sized least most s at = lower-bind (lower-length (drop at s)) (lower-allowed least most)
 
 lower-item : (least most : ℕ) (s : List ℕ) (at : ℕ) → Lower (itemAt least most s at)
@@ -160,20 +159,20 @@ lower-handed : {a : Answer Release} → Lower a → Lower (handedOf a)
 lower-handed (value a) = value _
 lower-handed (below low) = below low
 
-lower-lost : {a : Answer Loss} → Lower a → Lower (numberOf a)
+lower-lost : {a : Answer Loss} → Lower a → Lower (numberLost a)
 lower-lost (value a) = value _
 lower-lost (below low) = below low
 
-says-lower : (view : View) (call : Call) → Says view call → refusalOf call ≡ some outsideRanges → ⊥
+says-lower : (view : View) (call : Call) → Says view call → callRefusal call ≡ some outsideRanges → ⊥
 says-lower view (offer octets r) says = not-17 (subst Lower (sym says) (lower-accepted (lower-offer octets view)))
 says-lower view (next old new r) says = not-17 (subst Lower (sym (says .0)) (lower-handed (lower-next (length old) view)))
 says-lower view (giveUp r) says = not-17 (subst Lower (sym says) (lower-lost (lower-give-up view)))
 
 -- ---- chains
-last-says : {view held : View} {calls : Calls} {call : Call} → GoesOn view (calls then call) held → refusalOf call ≡ some outsideRanges → ⊥
+last-says : {view held : View} {calls : Calls} {call : Call} → GoesOn view (calls then call) held → callRefusal call ≡ some outsideRanges → ⊥
 last-says (by {call = call} {held = held} on says) = says-lower held call says
 
 pub never-17 : {s t : Session} {calls : Calls} {call : Call} → Begins s → Called s (calls then call) t
-    → refusalOf call ≡ some outsideRanges
+    → callRefusal call ≡ some outsideRanges
     → ⊥
 never-17 {s} begins called = last-says (called-on (begins-seen s begins) called)

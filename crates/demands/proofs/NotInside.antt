@@ -11,17 +11,16 @@ use native.Mathlib.Omega.{arith}
 use Rattle.lengths.specs.Refusals.{noRoom, repeated, tooFar, late, outsideRanges}
 use Rattle.lengths.specs.Answers.{Answer, done, refuse, fitted, sizeOf}
 use Rattle.lengths.specs.Tables.{first, unless}
-use Rattle.lengths.proofs.Tables.{unless-first, done-none}
 use Rattle.lengths.proofs.Claims.{written-told}
+use Rattle.lengths.proofs.Laws.{unless-first, done-none}
 use Rattle.datagrams.specs.Carried.{Carried}
 use Rattle.datagrams.specs.Claims.{ReadsAs}
 use Rattle.datagrams.specs.Read.{readDatagram, carriedBy}
 use Rattle.datagrams.specs.Write.{numberOctets, itemOctets, extraOctets, carriedOf, datagramOctets, datagramWriterRows, datagramToWrite}
 use Rattle.datagrams.specs.Promise.{datagramRead}
-use Rattle.datagrams.specs.Inner.Put.{itemSize}
+use Rattle.datagrams.specs.Inner.Heads.{itemSize}
 use Rattle.datagrams.specs.declared.kind.Kind.{Kind}
-use Rattle.datagrams.proofs.PutLaws.{item-length}
-use Rattle.datagrams.proofs.WriteLaws.{written-allowed, datagram-length}
+use Rattle.datagrams.proofs.Laws.{written-allowed, datagram-length, item-length}
 use Rattle.datagrams.proofs.Claims as datagrams
 use Rattle.views.specs.Cells.{keptAhead}
 use Rattle.views.specs.View.{View, distance}

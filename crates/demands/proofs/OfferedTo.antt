@@ -5,17 +5,17 @@ use mathlib.Core.Path.{_≡_, refl, sym, ap, subst, _∙_}
 use mathlib.Core.List.{List}
 use lib.ListN.{length}
 use native.Mathlib.Omega.{arith}
-use Rattle.lengths.specs.Answers.{Answer, done, refused}
+use Rattle.lengths.specs.Answers.{Answer, done, refused, afterwards}
 use Rattle.lengths.specs.declared.Refusal.{Refusal}
 use Rattle.views.specs.View.{View}
 use Rattle.views.specs.Offer as offers
 use Rattle.held.specs.declared.Session.{Session}
-use Rattle.offering.specs.Outcome.{offeredOutcome, acceptedOf, afterOffer}
+use Rattle.offering.specs.Outcome.{offeredOutcome, acceptedOf}
 use Rattle.offering.specs.declared.Offered as offering
 use Rattle.offering.specs.declared.Offered.the-variants as answer
 use Rattle.sessions.specs.Receiver.{SeenAs, OfferOwes}
 use Rattle.sessions.specs.declared.receiver.AfterOffer.{AfterOffer}
-use Rattle.demands.specs.History.{after}
+use Rattle.demands.specs.History.{afterMove}
 use Rattle.demands.specs.Feeding.{Near, datagramAt, Offers}
 use Rattle.demands.proofs.Calling.{offer-is, offered-seen}
 
@@ -38,9 +38,9 @@ module _ {view : View} {s : Session} (seen : SeenAs view s) {octets : List ℕ} 
   pub call-refused : {why : Refusal} → offers.offer octets view ≡ refused why → r .answer ≡ answer.Refused why
   call-refused is = answer-refused (r .answer) _ (outcome-is ∙ ap acceptedOf is)
 
-  pub then-seen : (a : Answer View) → offers.offer octets view ≡ a → SeenAs (afterOffer a view) (r .session)
-  unfolding after
-  then-seen a is = subst (λ (x : Answer View). SeenAs (afterOffer x view) (r .session)) is (offered-seen seen owes)
+  pub then-seen : (a : Answer View) → offers.offer octets view ≡ a → SeenAs (afterwards a view) (r .session)
+  unfolding afterMove
+  then-seen a is = subst (λ (x : Answer View). SeenAs (afterwards x view) (r .session)) is (offered-seen seen owes)
 
 -- it is an offer of the sender's
 pub offers-of : (row datagrams : List (List ℕ)) (S : ℕ) {view : View} {s : Session} {r : AfterOffer} → S < length row → SeenAs view s

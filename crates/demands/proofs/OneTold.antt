@@ -1,27 +1,39 @@
 -- Two answers of a call that only tells something are one: its promise is an equation with a function of what was given. Assumes
 -- nothing.
 use mathlib.Core.Path.{_≡_, sym, _∙_}
-use Rattle.demands.specs.OneTold.{ToldByLengths, ToldByDatagrams, ToldByPackets, ToldByStores, ToldByHeld, ToldBySending, ToldByLines, OneTold}
+use Rattle.demands.specs.OneTold.{ToldByLengths, ToldByDatagrams, ToldByPackets, ToldByStores, ToldByHeld, ToldBySending, ToldByLines}
+use Rattle.demands.specs.OneTold.{OneTold}
 
 -- both are what is told
 pub told-one : {A : Type 0} {told : A} (r q : A) → r ≡ told → q ≡ told → r ≡ q
 told-one r q a b = a ∙ sym b
 
 by-lengths : ToldByLengths
-by-lengths = record { refusal = λ number r q a b. a .answer ∙ sym (b .answer); lengthLimit = told-one }
+by-lengths =
+    record {
+      refusal = λ number r q a b. a .answer ∙ sym (b .answer);
+      lengthTwoFrom = told-one;
+      lengthLimit = told-one;
+      lengthRefusal = λ found r q a b. a .answer ∙ sym (b .answer);
+      octetWide = λ octet r q a b. a .same ∙ sym (b .same);
+      within = λ least most n. told-one;
+    }
 
 by-datagrams : ToldByDatagrams
 by-datagrams =
     record {
       packetLeast = told-one;
       packetLimit = told-one;
+      messageLeast = told-one;
       messageLimit = told-one;
       datagramLimit = told-one;
+      sparesLeast = told-one;
       sparesLimit = told-one;
+      packetsLeast = told-one;
       packetsLimit = told-one;
+      messagesLeast = told-one;
       messagesLimit = told-one;
       reachLimit = told-one;
-      within = λ least limit n. told-one;
       countInside = λ kind count. told-one;
       kindSize = λ kind count. told-one;
       lengthSize = λ n r q a b. a .answer ∙ sym (b .answer);
@@ -59,7 +71,14 @@ by-sending : ToldBySending
 by-sending = record { senderLimit = told-one; historyKept = told-one; historyOctets = told-one; slotOf = λ number. told-one }
 
 by-lines : ToldByLines
-by-lines = record { lineLimit = told-one; keptLimit = told-one; stepLimit = told-one; allDigits = λ line. told-one; kindOctet = λ kind. told-one }
+by-lines =
+    record {
+      lineLimit = told-one;
+      keptLimit = told-one;
+      stepLimit = told-one;
+      allDigits = λ line. told-one;
+      kindOctet = λ kind. told-one;
+    }
 
 pub one-told : OneTold
 one-told =

@@ -18,7 +18,7 @@ use Rattle.packets.specs.declared.types.Ending.{Ending}
 use Rattle.lengths.specs.Tables.{when, first}
 use Rattle.demands.specs.Refusals.{lengthRows}
 use Rattle.demands.specs.PacketItems.{Item, firstOctet, countOfFields, header, dataLength, fieldData, end}
-use Rattle.demands.specs.PacketItems.{dataFits, octetOf, sizeOf, leftAfter, rows}
+use Rattle.demands.specs.PacketItems.{dataFits, octetOf, dataSize, leftAfter, rows}
 
 -- ---- which row refuses
 -- a row that is not given, and what it says that a row is not
@@ -191,7 +191,7 @@ unfolding rows
 size-missing ending left rest n not-4 e =
     let t =
     this-row (ltb (length rest) 2) endsEarly n _
-    (λ later. no-row-given n (other-row (ltb packetLimit (sizeOf rest)) outsideSizes n _ not-4 later)) e in
+    (λ later. no-row-given n (other-row (ltb packetLimit (dataSize rest)) outsideSizes n _ not-4 later)) e in
     (ltb-true (length rest) 2 (t .0), t .1)
 
 pub data-missing : (ending : Ending) (size left : ℕ) (rest : List ℕ) (n : ℕ) → first (rows ending (fieldData size left) rest) ≡ some n

@@ -20,7 +20,7 @@ use Rattle.packets.specs.declared.types.Ending.the-variants.{Whole, Repaired}
 use Rattle.lengths.specs.Tables.{when, first}
 use Rattle.demands.specs.Refusals.{lengthRows}
 use Rattle.demands.specs.PacketItems.{firstOctet, countOfFields, header, dataLength, fieldData, end}
-use Rattle.demands.specs.PacketItems.{lets, may, dataRule, dataFits, sizeOf, leftAfter, rows}
+use Rattle.demands.specs.PacketItems.{lets, may, dataRule, dataFits, dataSize, leftAfter, rows}
 
 -- ---- a table as an answer
 -- refused with the number that a table gives, or done
@@ -152,12 +152,12 @@ size-tests false false false n = refl
 
 pub size-table : (ending : Ending) (left : ℕ) (rest : List ℕ)
     → sizeAt rest
-    ≡ answered (onward (first (rows ending (dataLength left) rest)) (first (rows ending (fieldData (sizeOf rest) left) (drop 2 rest))))
-    (sizeOf rest)
+    ≡ answered (onward (first (rows ending (dataLength left) rest)) (first (rows ending (fieldData (dataSize rest) left) (drop 2 rest))))
+    (dataSize rest)
 unfolding sizeAt rows
 size-table ending left rest =
     rw (length-drop 2 rest)
-    (size-tests (ltb (length rest) 2) (ltb packetLimit (sizeOf rest)) (ltb (length rest - 2) (sizeOf rest)) (sizeOf rest))
+    (size-tests (ltb (length rest) 2) (ltb packetLimit (dataSize rest)) (ltb (length rest - 2) (dataSize rest)) (dataSize rest))
 
 -- what may follow the last field
 not-not : (b : Bool) → b ≡ not (not b)

@@ -13,12 +13,13 @@ use Rattle.lengths.specs.Answers.{Answer, done, refused, _>>=_}
 use Rattle.lengths.specs.Length.{lengthAt}
 use Rattle.datagrams.specs.Sizes.{packetLimit}
 use Rattle.packets.specs.Packet.{readPacket}
-use Rattle.packets.specs.Inner.Octets.{Place, firstOf, headerOf, firstAt, countIn, countAt, HeaderAnswer, headerAt, sizeAt, FieldAnswer, afterHeader, fieldAt, FieldsAnswer, fieldsAt, endAt, packetByOctets}
+use Rattle.packets.specs.Inner.Octets.{Place, firstOf, headerOf, firstAt, countIn, countAt, HeaderAnswer, headerAt, sizeAt, FieldAnswer}
+use Rattle.packets.specs.Inner.Octets.{afterHeader, fieldAt, FieldsAnswer, fieldsAt, endAt, packetByOctets}
 use Rattle.packets.proofs.Laws.{read-at}
 use Rattle.packets.specs.declared.types.Ending.{Ending}
 use Rattle.lengths.specs.Tables.{first, refusalIn}
 use Rattle.demands.specs.PacketItems.{Item, firstOctet, countOfFields, header, dataLength, fieldData, end, fields}
-use Rattle.demands.specs.PacketItems.{presentIn, sizeOf, rows}
+use Rattle.demands.specs.PacketItems.{presentIn, dataSize, rows}
 use Rattle.demands.specs.PacketItems.{Right, alone, withFields, counted, bare, full, sized, carried}
 use Rattle.demands.proofs.PacketTables.{answered, onward, first-table, spare-before-data, count-table, size-table, end-table}
 
@@ -51,7 +52,7 @@ dataFrom : Ending → ℕ → (List ℕ → Option ℕ) → ℕ → List ℕ →
 dataFrom ending left on size rest = onward (first (rows ending (fieldData size left) rest)) (on (drop size rest))
 
 lengthFrom : Ending → ℕ → (List ℕ → Option ℕ) → List ℕ → Option ℕ
-lengthFrom ending left on rest = onward (first (rows ending (dataLength left) rest)) (dataFrom ending left on (sizeOf rest) (drop 2 rest))
+lengthFrom ending left on rest = onward (first (rows ending (dataLength left) rest)) (dataFrom ending left on (dataSize rest) (drop 2 rest))
 
 headerFrom : Ending → ℕ → (List ℕ → Option ℕ) → List ℕ → Option ℕ
 headerFrom ending left on rest =
@@ -91,7 +92,7 @@ module _ {B : Type 0} (ending : Ending) (s : List ℕ) where
   unfolding lengthFrom dataFrom
   length-walk left on at make k after =
       let rest = drop at s in
-      let n = sizeOf (drop at s) in
+      let n = dataSize (drop at s) in
       let a = first (rows ending (dataLength left) rest) in
       let b = first (rows ending (fieldData n left) (drop 2 rest)) in
       let there : drop n (drop 2 rest) ≡ drop (at + 2 + n) s = ap (drop n) (drop-drop 2 at s) ∙ drop-drop n (at + 2) s in

@@ -17,13 +17,13 @@ use Rattle.datagrams.specs.Write.{countInside, extraOf}
 use Rattle.datagrams.specs.Read.{DatagramParts, octetsOf, readDatagram, carriedBy}
 use Rattle.datagrams.specs.declared.kind.Kind.{Kind}
 use Rattle.datagrams.specs.declared.kind.Kind.the-variants as kind
-use Rattle.datagrams.proofs.ReadLaws.{read-inside}
+use Rattle.datagrams.proofs.Laws.{read-inside}
 use Rattle.views.specs.Cells.{keptBefore, keptAhead}
 use Rattle.views.specs.Members.{memberAt, membersOf}
 use Rattle.views.proofs.Laws.{member-says}
 use Rattle.views.specs.View.{numbers, distance}
-use Rattle.views.specs.Offer.{heldOf}
-use Rattle.demands.specs.ReachedBy.{numberAt, sparesIn}
+use Rattle.views.specs.Offer.{heldBy}
+use Rattle.demands.specs.ReachedBy.{placeNumber, sparesIn}
 
 -- ---- members, g places further on
 pub members-up : (g S n m i q : ℕ) → n * m ≤ S → i < m → Among q (membersOf S n m i) → Among (g + q) (membersOf (g + S) n m i)
@@ -48,11 +48,11 @@ members-down g S n m i P reach low among =
 
 -- ---- a number within reach of the base tells its place, and a place its number
 pub number-there : (n base d g : ℕ) → base ≡ g % numbers → d ≡ distance base n → d < keptAhead
-    → n % numbers ≡ numberAt (g + (keptBefore + d))
+    → n % numbers ≡ placeNumber (g + (keptBefore + d))
 number-there n base d g at is low = omega arith
 
 pub place-there : (n base d g S : ℕ) → base ≡ g % numbers → d ≡ distance base n → keptBefore + g ≤ S → S < keptBefore + g + keptAhead
-    → n % numbers ≡ numberAt S
+    → n % numbers ≡ placeNumber S
     → S ≡ g + (keptBefore + d)
 place-there n base d g S at is low high same = omega arith
 
@@ -69,7 +69,7 @@ few-spares octets parts e =
     (rw (length-map (parts .items) (octetsOf octets)) (read-inside octets parts e .counted))
 
 -- what is held of it is marked
-pub marked-true : (extra : Extra) → (heldOf extra) .accepted ≡ true
+pub marked-true : (extra : Extra) → (heldBy extra) .accepted ≡ true
 marked-true (spares copies) = refl
 marked-true (parity n messages) = refl
 

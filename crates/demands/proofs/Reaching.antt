@@ -15,7 +15,7 @@ use Rattle.views.specs.Held.{Held, heldAt}
 use Rattle.views.specs.Repair.{Message}
 use Rattle.views.specs.Reached.{Known}
 use Rattle.views.specs.View.{View, Counts, sum, freshView, goneOn}
-use Rattle.views.specs.Offer.{heldOf}
+use Rattle.views.specs.Offer.{heldBy}
 use Rattle.demands.specs.History.{Left}
 use Rattle.demands.specs.Calls.{Call, Calls, start, _then_, acceptedIn, leftIn, leftBy}
 use Rattle.demands.specs.ReachedBy.{gone, spareAt, HasSpare, Accepts, Arrived, now, before, HeldBy}
@@ -60,7 +60,7 @@ Seen view g P = (P < g + keptNumbers) × ((p : ℕ) → P ≡ g + p → Known (v
 pub record Brought (calls : Calls) (g d : ℕ) (held : Held) : Type 0 where
   pub datagram : Carried
   pub arrived : Arrived calls (g + (keptBefore + d)) datagram
-  pub is : held ≡ heldOf (datagram .extra)
+  pub is : held ≡ heldBy (datagram .extra)
 
 pub record Knows (calls : Calls) (g : ℕ) (view : View) : Type 0 where
   pub ranges : ViewInRanges view
@@ -73,7 +73,7 @@ pub record Knows (calls : Calls) (g : ℕ) (view : View) : Type 0 where
       → Brought calls g d (heldAt (view .held) d)
   -- what arrived and has not left is held
   pub holds : (S : ℕ) (c : Carried) → Arrived calls S c → (d : ℕ) → S ≡ g + (keptBefore + d)
-      → (d < keptAhead) × (heldAt (view .held) d ≡ heldOf (c .extra))
+      → (d < keptAhead) × (heldAt (view .held) d ≡ heldBy (c .extra))
 
 -- ---- the start
 none-arrived : {S : ℕ} {c : Carried} → Arrived start S c → ⊥
@@ -175,7 +175,7 @@ module _ {calls : Calls} {g : ℕ} {view : View} (k : Knows calls g view) (call 
         (below-or-not (suc d) keptAhead)
 
     on-holds : (S : ℕ) (c : Carried) → Arrived (calls then call) S c → (d : ℕ) → S ≡ suc g + (keptBefore + d)
-        → (d < keptAhead) × (heldAt (on .held) d ≡ heldOf (c .extra))
+        → (d < keptAhead) × (heldAt (on .held) d ≡ heldBy (c .extra))
     on-holds S c a d place =
         let was = k .holds S c (was-arrived a) (suc d) (omega arith) in
         let inside = was .0 in

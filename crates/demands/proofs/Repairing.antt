@@ -17,7 +17,7 @@ use Rattle.views.specs.Repair.{Message}
 use Rattle.views.specs.Reached.{Known, Closed, known, DistinctMembers}
 use Rattle.views.proofs.Laws.{member-in-reach, held-at, messagesOf-among, reached-within, known-closed, reach-kept}
 use Rattle.views.specs.View.{View, sum}
-use Rattle.views.specs.Offer.{heldOf, accept}
+use Rattle.views.specs.Offer.{heldBy, accept}
 use Rattle.demands.specs.Calls.{Call, Calls, _then_}
 use Rattle.demands.specs.ReachedBy.{spareAt, sparesIn, HasSpare, Accepts, now, HeldBy, ReachedBy, packet, spare, repaired, earlier}
 use Rattle.demands.proofs.Growing.{known-grown}
@@ -71,7 +71,7 @@ module _ {calls : Calls} {call : Call} {g d : ℕ} {c : Carried} {view : View} (
         → ReachedBy (calls then call) (g + q)
     mend-reached long q at others =
         let b = t .marked e low i (subst (λ (x : Held). i < length (x .messages)) (sym is) few) in
-        let same : heldOf (b .datagram .extra) ≡ h = sym (b .is) ∙ is in
+        let same : heldBy (b .datagram .extra) ≡ h = sym (b .is) ∙ is in
         repaired (t .here) (messageAt (g + (keptBefore + e)) h i)
         (record {
           S = g + (keptBefore + e);
@@ -174,8 +174,8 @@ module _ {calls : Calls} {call : Call} {g d : ℕ} {c : Carried} {view : View} (
           → Seen mid g P
       held-seen e place long P at others =
           let holds = t .holds (m .S) (m .datagram) (m .arrived) e place in
-          let same = m .is ∙ ap (λ (S : ℕ). messageAt S (heldOf (m .datagram .extra)) (m .i)) place in
-          message-seen e (m .i) (heldOf (m .datagram .extra)) (holds .0) (holds .1) (m .low)
+          let same = m .is ∙ ap (λ (S : ℕ). messageAt S (heldBy (m .datagram .extra)) (m .i)) place in
+          message-seen e (m .i) (heldBy (m .datagram .extra)) (holds .0) (holds .1) (m .low)
           (subst (λ (x : Message). 1 ≤ length (x .octets)) same long)
           P
           (subst (λ (x : Message). Among P (x .members)) same at)

@@ -9,7 +9,6 @@ use lib.Dec.{leb, ltb}
 use native.Mathlib.Omega.{arith}
 use borrow.Author.Tests.{le-leb, le-ltb, ltb-false}
 use Rattle.lengths.specs.Tables.{unless}
-use Rattle.lengths.proofs.Tables.{unless-past, unless-done}
 use Rattle.lengths.specs.Refusals.{noRoom, outsideSizes}
 use Rattle.lengths.specs.Answers.{Answer, done, refused, LengthAnswer, lengthOutcome, writtenOutcome, fitted, sizeOf}
 use Rattle.lengths.specs.Length.{lengthAt, lengthOctets, lengthLimit, lengthWriterRows, lengthToWrite}
@@ -19,19 +18,18 @@ use Rattle.lengths.specs.declared.Length.the-variants as length
 use Rattle.lengths.specs.declared.Written.{Written}
 use Rattle.lengths.specs.declared.Written.the-variants as written
 use Rattle.lengths.proofs.Claims as lengths
-use Rattle.lengths.proofs.Laws.{value-read, sizes-read}
+use Rattle.lengths.proofs.Laws.{value-read, sizes-read, cond-met, unless-past, unless-done}
 use Rattle.datagrams.specs.Sizes.{sparesLimit}
 use Rattle.datagrams.specs.Carried.{spares, Carried}
 use Rattle.datagrams.specs.Read.{DatagramParts, octetsOf, readDatagram, carriedBy}
 use Rattle.datagrams.specs.Write.{extraOf}
-use Rattle.datagrams.specs.Promise.{DatagramReads, datagramRead, readingOutcome, places, nowhere}
+use Rattle.datagrams.specs.Promise.{DatagramReads, datagramRead, datagramOutcome, paddedParts, nowhere}
 use Rattle.datagrams.specs.Claims as datagramClaims
 use Rattle.datagrams.specs.declared.kind.Kind.{Kind}
 use Rattle.datagrams.specs.declared.kind.Kind.the-variants as kind
 use Rattle.datagrams.specs.declared.reader.DatagramRead.{DatagramRead}
 use Rattle.datagrams.specs.declared.reader.Reading.{Reading}
 use Rattle.datagrams.specs.declared.reader.Reading.the-variants as reading
-use Rattle.datagrams.proofs.AnswerLaws.{cond-met}
 use Rattle.datagrams.proofs.Claims as datagrams
 use Rattle.packets.specs.Packet.{allData, fieldsLimit, noField, PacketAnswer, readPacket}
 use Rattle.packets.specs.Promise as packetPromise
@@ -44,9 +42,10 @@ use Rattle.packets.specs.declared.types.Ending.the-variants.{Whole}
 use Rattle.packets.specs.declared.types.PacketRead.{PacketRead}
 use Rattle.packets.specs.declared.types.Reading as packetReadings
 use Rattle.packets.proofs.Claims as packetProofs
-use Rattle.sending.proofs.Accepted.{size-done}
+use Rattle.sending.proofs.Laws.{size-done}
 use Rattle.sending.proofs.Claims as sending
-use Rattle.demands.specs.RoundTrips.{WrittenBack, LengthTrips, DatagramSame, DatagramTrips, PacketSame, PacketTrips, SendTrips, RoundTrips}
+use Rattle.demands.specs.RoundTrips.{WrittenBack, LengthTrips, DatagramSame, DatagramTrips, PacketSame, PacketTrips, SendTrips}
+use Rattle.demands.specs.RoundTrips.{RoundTrips}
 
 -- ---- what a write says
 -- what fitted was to be written
@@ -130,7 +129,7 @@ same-told : {s : List ℕ} {number : ℕ} {packet : List ℕ} (kind : Kind) {ite
     → datagramClaims.ReadsAs s (record { number = number; packet = packet; extra = extraOf kind items })
     → DatagramReads s r
     → DatagramSame s number packet kind items r
-unfolding carriedBy datagramRead places
+unfolding carriedBy datagramRead paddedParts
 same-told {s} {number} {packet} kind {items} {r} reads told =
     let d = reads .parts in
     let whole : r ≡ datagramRead (done d) = told .whole ∙ ap datagramRead (reads .read) in
@@ -157,7 +156,7 @@ datagram-trips =
       writesBack =
           λ {s} {r} {number} {packet} {kind} {count} octets told e {old} {new} {w} puts room.
           let d : DatagramParts = record { number = number; packet = packet; kind = kind; items = take count (r .items) } in
-          let is : readDatagram s ≡ done d = sym (told .answer) ∙ ap (λ (x : Reading). readingOutcome x (r .items)) e in
+          let is : readDatagram s ≡ done d = sym (told .answer) ∙ ap (λ (x : Reading). datagramOutcome x (r .items)) e in
           puts-back puts (datagrams.claims .readWrites s d octets is) refl room;
     }
 

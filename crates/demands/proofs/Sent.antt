@@ -12,28 +12,29 @@ use borrow.Author.Tests.{leb-true, le-leb}
 use Rattle.octets.specs.Place.{tab}
 use Rattle.octets.specs.ExclusiveOr.{longest}
 use Rattle.octets.proofs.Laws.{length-tab, tab-at, below-or-not, and-left, and-right, and-both, length-exclusiveOr}
-use Rattle.datagrams.specs.Sizes.{packetLeast, packetLimit, messageLimit, sparesLimit, coveredLimit, messagesLimit}
+use Rattle.datagrams.specs.Sizes.{packetLeast, packetLimit, messageLimit, sparesLimit, coveredLimit, messagesLimit, coveredLeast}
+use Rattle.datagrams.specs.Sizes.{messagesLeast}
 use Rattle.datagrams.specs.Carried.{Carried}
 use Rattle.datagrams.specs.Read.{carriedBy}
-use Rattle.datagrams.specs.Write.{within, itemInside, itemsInside, datagramOctets}
+use Rattle.lengths.specs.Length.{within}
+use Rattle.lengths.proofs.Laws.{done-same, true-within, within-true}
+use Rattle.datagrams.specs.Write.{itemInside, itemsInside, datagramOctets}
 use Rattle.datagrams.specs.Claims.{ReadsAs}
 use Rattle.datagrams.specs.declared.kind.Kind.{Kind}
 use Rattle.datagrams.specs.declared.kind.Kind.the-variants as kind
-use Rattle.datagrams.proofs.AnswerLaws.{done-same, true-within}
-use Rattle.datagrams.proofs.WriteLaws.{within-true}
-use Rattle.datagrams.proofs.ReadBack.{Fit, datagram-back}
+use Rattle.datagrams.proofs.Laws.{Fit, datagram-back}
 use Rattle.views.specs.Cells.{keptBefore}
 use Rattle.views.specs.Members.{membersOf}
 use Rattle.views.specs.Honest.{messageOver, HonestHeld}
 use Rattle.views.specs.View.{numbers}
-use Rattle.views.specs.Offer.{heldOf}
+use Rattle.views.specs.Offer.{heldBy}
 use Rattle.views.proofs.Laws.{reach-kept}
 use Rattle.sending.specs.Sending.{historyKept}
 use Rattle.sending.specs.Carries.{settingsInside, sparesFrom, messagesFrom, extraFrom}
 use Rattle.sending.specs.Honest.{packetAt, carriedAt, HonestSender}
 use Rattle.sending.specs.declared.Settings.{Settings}
 use Rattle.sending.specs.declared.Settings.the-variants as settings
-use Rattle.sending.proofs.HonestLaws.{before-length, extra-same}
+use Rattle.sending.proofs.Laws.{before-length, extra-same}
 use Rattle.demands.specs.Feeding.{datagramAt}
 use Rattle.demands.specs.ReachedBy.{sparesIn}
 
@@ -200,13 +201,13 @@ in-view {row} B d {c} f =
 
 -- ---- what is held of it is honest
 honest-from : (st : Settings) (before : ℕ) (sent : ℕ → List ℕ) (S : ℕ) → settingsInside st ≡ true → keptBefore ≤ S
-    → HonestHeld sent S (heldOf (extraFrom st before sent S))
+    → HonestHeld sent S (heldBy (extraFrom st before sent S))
 unfolding messagesFrom
 honest-from (settings.Spares k) before sent S inside far =
     record { reach = omega arith; sums = λ i none. absurd (omega arith) }
 honest-from (settings.Parity n m) before sent S inside far =
-    let few = within-true 1 coveredLimit n (and-left (within 1 coveredLimit n) (within 1 messagesLimit m) inside) in
-    let less = within-true 1 messagesLimit m (and-right (within 1 coveredLimit n) (within 1 messagesLimit m) inside) in
+    let few = within-true coveredLeast coveredLimit n (and-left (within coveredLeast coveredLimit n) (within messagesLeast messagesLimit m) inside) in
+    let less = within-true messagesLeast messagesLimit m (and-right (within coveredLeast coveredLimit n) (within messagesLeast messagesLimit m) inside) in
     let long = length-tab m (λ i. messageOver (map sent (membersOf S n m i))) in
     record {
       reach = rw long (let reach = reach-kept (few .1) (less .1) in omega arith);
@@ -214,5 +215,5 @@ honest-from (settings.Parity n m) before sent S inside far =
           rw long (tab-at m (λ i. messageOver (map sent (membersOf S n m i))) i [] (rw long at low));
     }
 
-pub honest-held : (sent : ℕ → List ℕ) (d : ℕ) (c : Carried) → InView sent d c → HonestHeld sent (keptBefore + d) (heldOf (c .extra))
+pub honest-held : (sent : ℕ → List ℕ) (d : ℕ) (c : Carried) → InView sent d c → HonestHeld sent (keptBefore + d) (heldBy (c .extra))
 honest-held sent d c v = rw (v .extra) (honest-from (v .settings) (v .before) sent (keptBefore + d) (v .inside) (omega arith))

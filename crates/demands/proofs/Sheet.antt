@@ -3,16 +3,16 @@ use mathlib.Core.Path.{refl}
 use Rattle.lengths.specs.Tables.{unless}
 use Rattle.octets.specs.Place.{tab}
 use Rattle.octets.specs.ExclusiveOr.{xorAt, exclusiveOr, longest}
-use Rattle.lengths.specs.Length.{lengthAt, lengthOctets, lengthToWrite}
+use Rattle.lengths.specs.Length.{lengthAt, lengthOctets, lengthToWrite, allowed, lengthWithin}
 use Rattle.formats.specs.Reading as reading
 use Rattle.formats.specs.Format.{octetsFront, twoFront}
 use Rattle.packets.specs.Packet as packets
 use Rattle.packets.specs.Packet.{every, readPacket}
-use Rattle.datagrams.specs.Read.{allowed, octetAt, sizedAt, itemAt, itemsAt, endOf, sparesAt, parityAt, extraAt, numberOf, wholeOf, readDatagram, carriedBy}
+use Rattle.datagrams.specs.Read.{octetAt, itemAt, itemsAt, endOf, sparesAt, parityAt, extraAt, numberOf, wholeOf, readDatagram, carriedBy}
 use Rattle.datagrams.specs.Write.{numberOctets, itemOctets, itemsOctets, countedOctets, datagramOctets}
 use Rattle.views.specs.Members.{membersOf}
 use Rattle.views.specs.Repair.{passing, usable, firstUsable, mended, fill, repairF, repair}
-use Rattle.views.specs.Held.{messagesOf, messagesFrom, heldMessages}
+use Rattle.views.specs.Held.{messagesOf, messagesInRow, heldMessages}
 use Rattle.views.specs.View.{freshView}
 use Rattle.views.specs.Offer.{keep, keepSpares, accept, offered, offer}
 use Rattle.sending.specs.Sending.{freshSending, sentOn}
@@ -24,8 +24,8 @@ losing-0 : Losing0
 unfolding readPacket packets.wholePacket packets.packet packets.start packets.typeOfMsg packets.enumerated packets.root packets.addition
     packets.dataField packets.count packets.field packets.header packets.fieldData packets.size
     reading.bit reading.bits reading.flag reading.align reading.octetwise reading.sequenceOf octetsFront twoFront every lengthAt
-    tab xorAt exclusiveOr longest membersOf passing usable firstUsable mended fill repairF repair messagesOf messagesFrom heldMessages
-    readDatagram carriedBy numberOf wholeOf extraAt sparesAt parityAt itemsAt itemAt sizedAt octetAt allowed endOf
+    tab xorAt exclusiveOr longest membersOf passing usable firstUsable mended fill repairF repair messagesOf messagesInRow heldMessages
+    readDatagram carriedBy numberOf wholeOf extraAt sparesAt parityAt itemsAt itemAt lengthWithin octetAt allowed endOf
     freshView keep keepSpares accept offered offer
 losing-0 = record { with1 = _; after = _; first = refl; second = refl; cell = refl; reads = refl }
 

@@ -55,10 +55,10 @@ acceptedIn (next old new r) = none
 acceptedIn (giveUp r) = none
 
 -- the number of the refusal that it was answered with, or none
-abbrev pub refusalOf : Call → Option ℕ
-refusalOf (offer octets r) = refusalIn (offeredOutcome r)
-refusalOf (next old new r) = refusalIn (releasedOutcome r)
-refusalOf (giveUp r) = refusalIn (lostOutcome r)
+abbrev pub callRefusal : Call → Option ℕ
+callRefusal (offer octets r) = refusalIn (offeredOutcome r)
+callRefusal (next old new r) = refusalIn (releasedOutcome r)
+callRefusal (giveUp r) = refusalIn (lostOutcome r)
 
 -- ---- what left by a call
 -- the number that an answer of next hands out, its octets at the front of the lent buffer; and that of give up

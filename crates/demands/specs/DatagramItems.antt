@@ -9,7 +9,7 @@ use mathlib.Core.List.{List, [], _∷_, _++_}
 use lib.ListN.{length, replicate}
 use lib.Dec.{eqb}
 use Rattle.lengths.specs.Length.{lengthOctets}
-use Rattle.datagrams.specs.Sizes.{packetLeast, packetLimit, messageLeast, messageLimit, sparesLimit, coveredLimit, messagesLimit}
+use Rattle.datagrams.specs.Sizes.{packetLeast, packetLimit, messageLeast, messageLimit, sparesLeast, sparesLimit, coveredLeast, coveredLimit, messagesLeast, messagesLimit}
 
 -- ---- the items
 pub data Item : Type 0 where
@@ -47,10 +47,10 @@ unfoldable pub formOf : Item → Form
 formOf number = many 2
 formOf packet = sized packetLeast packetLimit
 formOf kind = flag
-formOf spares = sized 0 sparesLimit
+formOf spares = sized sparesLeast sparesLimit
 formOf octet01 = plain 0x01 0x01
-formOf octetN = plain 1 coveredLimit
-formOf countM = sized 1 messagesLimit
+formOf octetN = plain coveredLeast coveredLimit
+formOf countM = sized messagesLeast messagesLimit
 formOf message = sized messageLeast messageLimit
 formOf (inside n) = many n
 

@@ -27,8 +27,8 @@ use Rattle.sending.specs.Promise.{Sends}
 use Rattle.sending.specs.declared.Sender.{Sender}
 use Rattle.sending.specs.declared.Sent.{Sent}
 use Rattle.sending.specs.declared.Settings.{Settings}
-use Rattle.demands.specs.History.{Left, released, lost, numberOf, isReceived, isSpare, isRepaired, isLost, countsOf}
-use Rattle.demands.specs.Calls.{Call, Calls, _then_, Called, refusalOf, leftBy}
+use Rattle.demands.specs.History.{Left, released, lost, numberLeft, isReceived, isSpare, isRepaired, isLost, historyCounts}
+use Rattle.demands.specs.Calls.{Call, Calls, _then_, Called, callRefusal, leftBy}
 use Rattle.demands.specs.GoesOn.{GoesOn}
 use Rattle.demands.specs.ReachedBy.{gone, ReachedBy}
 use Rattle.demands.specs.SendChain.{SenderBegins, SentFrom}
@@ -54,10 +54,10 @@ OneKind x = (isReceived x || (isSpare x || (isRepaired x || isLost x))) ≡ true
 -- what left a session fresh at its start, and where that took it
 pub record FreshLeaves (left : List Left) (after : View) : Type 0 where
   -- in order, each place once: the j-th number to leave, from 0, is j
-  pub inOrder : map numberOf left ≡ tab (length left) (λ j. j % numbers)
+  pub inOrder : map numberLeft left ≡ tab (length left) (λ j. j % numbers)
   pub kinds : (x : Left) → Among x left → OneKind x
   -- "Each equals the number of such moves since the start"
-  pub counts : after .counts ≡ countsOf left
+  pub counts : after .counts ≡ historyCounts left
   -- "their sum is the base's whole advance"
   pub advance : sum (after .counts) ≡ length left
   pub base : after .base ≡ length left % numbers
@@ -75,9 +75,9 @@ grown c more =
 -- the same of a saved session, from its own base and counts
 pub record SavedLeaves (before : View) (left : List Left) (after : View) : Type 0 where
   -- the j-th number to leave, from 0, is j after the base
-  pub inOrder : map numberOf left ≡ tab (length left) (λ j. (before .base + j) % numbers)
+  pub inOrder : map numberLeft left ≡ tab (length left) (λ j. (before .base + j) % numbers)
   pub kinds : (x : Left) → Among x left → OneKind x
-  pub counts : after .counts ≡ grown (before .counts) (countsOf left)
+  pub counts : after .counts ≡ grown (before .counts) (historyCounts left)
   pub advance : sum (after .counts) ≡ sum (before .counts) + length left
   pub base : after .base ≡ (before .base + length left) % numbers
 
@@ -114,7 +114,7 @@ pub record Demand2 : Type 0 where
   -- "17 | session outside its ranges": no session that the library handed out is ever refused with it, nor is the first; of the
   -- receiving session, and of the sending one
   pub never17 : {s t : Session} {calls : Calls} {call : Call} → Begins s → Called s (calls then call) t
-      → refusalOf call ≡ some outsideRanges
+      → callRefusal call ≡ some outsideRanges
       → ⊥
   pub sendNever17 : {s t : Sender} {settings : Settings} {packet old new : List ℕ} {r : Sent} → SenderBegins s → SentFrom s t
       → Sends t settings packet old new r

@@ -5,10 +5,10 @@ use Rattle.lengths.specs.Answers.{over}
 use Rattle.views.specs.View.{View}
 use Rattle.views.specs.Offer as offers
 use Rattle.views.specs.Release as releases
-use Rattle.leaving.specs.Outcome.{releasedOutcome, lostOutcome, handedOf, octetsOf, numberOf}
+use Rattle.leaving.specs.Outcome.{releasedOutcome, lostOutcome, handedOf, octetsHanded, numberLost}
 use Rattle.offering.specs.Outcome.{offeredOutcome, acceptedOf}
 use Rattle.demands.specs.History as moves
-use Rattle.demands.specs.History.{Move, after}
+use Rattle.demands.specs.History.{Move, afterMove}
 use Rattle.demands.specs.Calls.{Call, offer, next, giveUp, Calls, start, _then_}
 
 -- what was called
@@ -21,11 +21,11 @@ moveOf (giveUp r) = moves.giveUp
 abbrev pub Says : View → Call → Type 0
 Says view (offer octets r) = offeredOutcome r ≡ acceptedOf (offers.offer octets view)
 Says view (next old new r) =
-    (releasedOutcome r ≡ handedOf (releases.next (length old) view)) × (new ≡ over (octetsOf (releases.next (length old) view)) old)
-Says view (giveUp r) = lostOutcome r ≡ numberOf (releases.giveUp view)
+    (releasedOutcome r ≡ handedOf (releases.next (length old) view)) × (new ≡ over (octetsHanded (releases.next (length old) view)) old)
+Says view (giveUp r) = lostOutcome r ≡ numberLost (releases.giveUp view)
 
 -- each of the calls as document 01 says, from a session that holds the one to a session that holds the other
 pub data GoesOn (view : View) : Calls → View → Type 0 where
   from : GoesOn view start view
   by : {calls : Calls} {call : Call} {held : View} → GoesOn view calls held → Says held call
-      → GoesOn view (calls then call) (after (moveOf call) held)
+      → GoesOn view (calls then call) (afterMove (moveOf call) held)

@@ -4,12 +4,12 @@
 use Prim.Native.Nat.{ℕ, _+_}
 use mathlib.Core.List.{List, [], _∷_}
 use mathlib.Core.Bool.{Bool, true, false, cond}
+use Rattle.lengths.specs.Answers.{afterwards}
 use Rattle.views.specs.Cells.{State, unknown, received, spare, repaired, blank}
 use Rattle.views.specs.View.{View, Counts}
 use Rattle.views.specs.Offer as offers
 use Rattle.views.specs.Release as releases
-use Rattle.leaving.specs.Outcome.{afterNext, afterGiveUp}
-use Rattle.offering.specs.Outcome.{afterOffer}
+use Rattle.views.specs.Release.{viewAfterNext, viewAfterLoss}
 
 -- one call
 pub data Move : Type 0 where
@@ -25,15 +25,15 @@ pub data Left : Type 0 where
   lost : ℕ → Left
 
 -- that number
-abbrev pub numberOf : Left → ℕ
-numberOf (released kind number octets) = number
-numberOf (lost number) = number
+abbrev pub numberLeft : Left → ℕ
+numberLeft (released kind number octets) = number
+numberLeft (lost number) = number
 
 -- the session after a call: "A refusal .. changes nothing."
-unfoldable pub after : Move → View → View
-after (offer octets) view = afterOffer (offers.offer octets view) view
-after (next room) view = afterNext (releases.next room view) view
-after giveUp view = afterGiveUp (releases.giveUp view) view
+unfoldable pub afterMove : Move → View → View
+afterMove (offer octets) view = afterwards (offers.offer octets view) view
+afterMove (next room) view = afterwards (viewAfterNext (releases.next room view)) view
+afterMove giveUp view = afterwards (viewAfterLoss (releases.giveUp view)) view
 
 -- ---- "Four counts: received, spare, repaired (each released) and lost. Each equals the number of such moves since the start"
 
@@ -71,8 +71,8 @@ many test [] = 0
 many test (left ∷ more) = cond (test left) 1 0 + many test more
 
 -- the four counts of a history
-abbrev pub countsOf : List Left → Counts
-countsOf left =
+abbrev pub historyCounts : List Left → Counts
+historyCounts left =
     record {
       received = many isReceived left;
       spare = many isSpare left;

@@ -9,13 +9,13 @@ use lib.ListN.{length, set, drop}
 use lib.Dec.{eqb}
 use Rattle.lengths.specs.Answers.{done}
 use Rattle.lengths.specs.Length.{lengthOctets}
-use Rattle.lengths.specs.Promise.{Puts}
+use Rattle.lengths.specs.Promise.{Puts, Put}
 use Rattle.lengths.specs.declared.Refusal.{Refusal}
 use Rattle.lengths.specs.declared.Written.{Written}
 use Rattle.datagrams.specs.Sizes.{packetLimit}
-use Rattle.datagrams.specs.Write.{numberOctets, itemOctets, itemsOctets, cut, datagramOctets}
-use Rattle.datagrams.specs.Inner.Put as sizes
-use Rattle.datagrams.specs.Inner.Put.{Put, sparesHead, parityHead, kindHead}
+use Rattle.datagrams.specs.Write.{itemOctets, itemsOctets, cut, datagramOctets}
+use Rattle.datagrams.specs.Inner.Heads as sizes
+use Rattle.datagrams.specs.Inner.Heads.{frontOctets}
 use Rattle.datagrams.specs.declared.kind.Kind.{Kind}
 use Rattle.datagrams.specs.declared.reader.Part.{Part}
 use Rattle.stores.specs.Store as store
@@ -25,7 +25,7 @@ use Rattle.held.specs.Table.{Lent, lent, stateNumbered, keptSet, heardSet, hear
 use Rattle.held.specs.Laid.{lentInRanges}
 use Rattle.held.specs.declared.Counts.{Counts}
 use Rattle.keeping.specs.Promise.{MayKeep, Keeps, KeepsSpares, MayHold, Holds}
-use Rattle.repairing.specs.Promise.{Mends}
+use Rattle.repairing.specs.Promise.{MayMend, Mends}
 use Rattle.leaving.specs.Promise.{Releases, GivesUp}
 use Rattle.leaving.specs.declared.Released.{Released}
 use Rattle.leaving.specs.declared.Lost.{Lost}
@@ -58,11 +58,8 @@ pub record InDatagrams : Type 0 where
   pub putOctets : (octets old : List ℕ) → OneLent (Put octets old)
   pub putLength : (n : ℕ) (old : List ℕ) → OneLent (Put (lengthOctets n) old)
   pub putItem : (item old : List ℕ) → OneLent (Put (itemOctets item) old)
-  pub putNumber : (number : ℕ) (old : List ℕ) → OneLent (Put (numberOctets number) old)
-  pub putHead : (number : ℕ) (packet old : List ℕ) → OneLent (Put (numberOctets number ++ itemOctets packet) old)
-  pub putSpares : (count : ℕ) (old : List ℕ) → OneLent (Put (sparesHead count) old)
-  pub putParity : (n m : ℕ) (old : List ℕ) → OneLent (Put (parityHead n m) old)
-  pub putKind : (kind : Kind) (count : ℕ) (old : List ℕ) → OneLent (Put (kindHead kind count) old)
+  pub putFront : (number : ℕ) (packet : List ℕ) (kind : Kind) (count : ℕ) (old : List ℕ)
+      → OneLent (Put (frontOctets number packet kind count) old)
   pub putItems : (lengths run old : List ℕ) → OneLent (Put (itemsOctets (cut lengths run)) old)
   pub itemSize : (n : ℕ) → One (λ (r : ℕ). r ≡ sizes.itemSize n)
   pub itemsSize : (lengths : List ℕ) → One (λ (r : ℕ). r ≡ sizes.itemsSize lengths)
@@ -92,7 +89,7 @@ pub record InReceiving : Type 0 where
       → OneLent (λ (newO newT : List ℕ). KeepsSpares number s items count t o newT newO)
   pub hold : (base d : ℕ) (s : List ℕ) (n : ℕ) (items : List Part) (count : ℕ) (t g : List ℕ) → MayHold base t g d
       → OneLent (λ (newG newT : List ℕ). Holds base d s n items count t g newT newG)
-  pub mend : (before : Lent) → One (Mends before)
+  pub mend : (base : ℕ) (t o g : List ℕ) → MayMend base t o g → OneLent (λ (newO newT : List ℕ). Mends base t o g newT newO)
   pub nextCore : {before after other : Lent} {old new newer : List ℕ} {r q : Released} → Releases before after old new r
       → Releases before other old newer q
       → (r ≡ q) × (after ≡ other) × (new ≡ newer)
@@ -110,9 +107,9 @@ pub record Alike {A : Type 0} (r q : A) (s l o p : List ℕ) : Type 0 where
 -- the sending session's: `size_in`, `in_ranges` and `keep` of `history`; `items_size`, `put_items` and `write_next` of `history_items`;
 -- `send_held` of `datagram_sender`
 pub record InSending : Type 0 where
-  pub sizeIn : (lengths : List ℕ) (slot : ℕ) → One (λ (r : ℕ). r ≡ sender.sizeIn lengths slot)
-  pub inRanges : (sent : ℕ) (lengths o : List ℕ) → One (λ (r : Bool). r ≡ sending.inRanges sent lengths o)
-  pub keep : (number : ℕ) (packet lengths o : List ℕ) → OneLent (sent.Keeps number packet lengths o)
+  pub sizeIn : (lengths : List ℕ) (slot : ℕ) → One (λ (r : ℕ). r ≡ sender.lengthIn lengths slot)
+  pub inRanges : (sent : ℕ) (lengths o : List ℕ) → One (λ (r : Bool). r ≡ sending.historyInRanges sent lengths o)
+  pub keep : (number : ℕ) (packet lengths o : List ℕ) → OneLent (sent.Joins number packet lengths o)
   pub itemsSize : (kind : Kind) (count number : ℕ) (lengths : List ℕ) → Sizes lengths → One (ItemsSize kind count number lengths)
   pub putItems : (kind : Kind) (count number : ℕ) (lengths o old : List ℕ)
       → OneLent (Put (itemsOctets (itemsIn kind count number lengths o)) old)

@@ -32,8 +32,8 @@ pub record Writers : Type 0 where
   pub packet : (kind : packetKinds.Kind) (value : ℕ) (types lengths octets : List ℕ)
       → OneWrite (packetToWrite kind value types lengths octets)
 
--- all public calls of the library: `read` and `write` of `lengths`, of `datagram_reader` and `datagram_writer`, of `packet_reader` and
--- `packet_writer`; `Session::fresh`, `offer`, `next` and `give_up`; `Sender::fresh`, `in_ranges` and `send`; the program's
+-- all public calls of the library: `read`, `read_within` and `write` of `lengths`, `read` and `write` of `datagram_reader` and
+-- `datagram_writer`, of `packet_reader` and `packet_writer`; `Session::fresh`, `offer`, `next` and `give_up`; `Sender::fresh`, `in_ranges` and `send`; the program's
 -- `hex_to_octets`, `step`, `take_block` and `finish`; those that only tell; and those that serve callers inside this repository
 pub record OneOutcome : Type 0 where
   pub lengths : lengths.OneOutcome

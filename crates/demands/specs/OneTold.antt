@@ -6,10 +6,11 @@ use mathlib.Core.Bool.{Bool}
 use mathlib.Core.List.{List}
 use lib.ListN.{length}
 use Rattle.lengths.specs.Length as lengths
-use Rattle.lengths.specs.Promise.{RefusalMade}
+use Rattle.lengths.specs.Promise.{Octet, RefusalMade, RefusalTold}
+use Rattle.lengths.specs.declared.Length.{Length}
 use Rattle.datagrams.specs.Sizes as sizes
 use Rattle.datagrams.specs.Write as write
-use Rattle.datagrams.specs.Inner.Put.{LengthSize, kindHead}
+use Rattle.datagrams.specs.Inner.Heads.{LengthSize, kindHead}
 use Rattle.datagrams.specs.declared.kind.Kind.{Kind}
 use Rattle.packets.specs.Packet as packet
 use Rattle.packets.specs.declared.types.Kind as packets
@@ -34,23 +35,30 @@ One {A} promise = (r q : A) → promise r → promise q → r ≡ q
 abbrev pub OneLent : {A : Type 0} → (List ℕ → A → Type 0) → Type 0
 OneLent {A} promise = (new other : List ℕ) (r q : A) → promise new r → promise other q → (r ≡ q) × (new ≡ other)
 
--- `lengths`: `Refusal::new`, `Length::limit`
+-- `lengths`: `Refusal::new`, `two_from`, `limit` and `refusal` of `Length`, `wide`, `within`
 pub record ToldByLengths : Type 0 where
   pub refusal : (number : ℕ) → One (RefusalMade number)
+  pub lengthTwoFrom : One (λ (r : ℕ). r ≡ lengths.twoFrom)
   pub lengthLimit : One (λ (r : ℕ). r ≡ lengths.lengthLimit)
+  pub lengthRefusal : (found : Length) → One (RefusalTold found)
+  pub octetWide : (octet : ℕ) → One (Octet octet)
+  pub within : (least most n : ℕ) → One (λ (r : Bool). r ≡ lengths.within least most n)
 
--- `datagrams`: `least` and `limit` of `Packet`, `limit` of `Message`, `Datagram` and `Spares`, the three limits of `Parity`; then
--- `within` and `count_inside`; `datagram_items`: `kind_size`, `length_size` and `wide`
+-- `datagrams`: `least` and `limit` of `Packet`, `Message` and `Spares`, `limit` of `Datagram`, the five limits of `Parity`; then
+-- `count_inside`; `datagram_items`: `kind_size`, `length_size` and `wide`
 pub record ToldByDatagrams : Type 0 where
   pub packetLeast : One (λ (r : ℕ). r ≡ sizes.packetLeast)
   pub packetLimit : One (λ (r : ℕ). r ≡ sizes.packetLimit)
+  pub messageLeast : One (λ (r : ℕ). r ≡ sizes.messageLeast)
   pub messageLimit : One (λ (r : ℕ). r ≡ sizes.messageLimit)
   pub datagramLimit : One (λ (r : ℕ). r ≡ sizes.datagramLimit)
+  pub sparesLeast : One (λ (r : ℕ). r ≡ sizes.sparesLeast)
   pub sparesLimit : One (λ (r : ℕ). r ≡ sizes.sparesLimit)
+  pub packetsLeast : One (λ (r : ℕ). r ≡ sizes.coveredLeast)
   pub packetsLimit : One (λ (r : ℕ). r ≡ sizes.coveredLimit)
+  pub messagesLeast : One (λ (r : ℕ). r ≡ sizes.messagesLeast)
   pub messagesLimit : One (λ (r : ℕ). r ≡ sizes.messagesLimit)
   pub reachLimit : One (λ (r : ℕ). r ≡ sizes.reachLimit)
-  pub within : (least limit n : ℕ) → One (λ (r : Bool). r ≡ write.within least limit n)
   pub countInside : (kind : Kind) (count : ℕ) → One (λ (r : Bool). r ≡ write.countInside kind count)
   pub kindSize : (kind : Kind) (count : ℕ) → One (λ (r : ℕ). r ≡ length (kindHead kind count))
   pub lengthSize : (n : ℕ) → One (LengthSize n)
@@ -95,7 +103,7 @@ pub record ToldByLines : Type 0 where
   pub keptLimit : One (λ (r : ℕ). r ≡ feed.keptLimit)
   pub stepLimit : One (λ (r : ℕ). r ≡ steps.stepLimit)
   pub allDigits : (line : List ℕ) → One (λ (r : Bool). r ≡ hex.allDigits line)
-  pub kindOctet : (kind : State) → One (λ (r : ℕ). r ≡ lines.kindOf (table.stateOf kind))
+  pub kindOctet : (kind : State) → One (λ (r : ℕ). r ≡ lines.kindOctet (table.stateOf kind))
 
 pub record OneTold : Type 0 where
   pub byLengths : ToldByLengths

@@ -105,15 +105,15 @@ Packet s = Due s end
 
 -- ---- what each item is refused for
 -- "input ends inside an item or before one that must come": fewer octets are left than the item takes
-abbrev pub cut : ℕ → List ℕ → Option ℕ
-cut size rest = when (ltb (length rest) size) endsEarly
+abbrev pub cutShort : ℕ → List ℕ → Option ℕ
+cutShort size rest = when (ltb (length rest) size) endsEarly
 
 -- the first octet of what is left, and the data length in its first two
 abbrev pub octetOf : List ℕ → ℕ
 octetOf rest = getD rest 0 0
 
-abbrev pub sizeOf : List ℕ → ℕ
-sizeOf rest = getD rest 0 0 * 256 + getD rest 1 0 + 1
+abbrev pub dataSize : List ℕ → ℕ
+dataSize rest = getD rest 0 0 * 256 + getD rest 1 0 + 1
 
 -- "A received or spare packet ends at its last field. A repaired one may go on with zeros only; anything else left is refusal 6"
 abbrev pub leftAfter : Ending → List ℕ → Bool
@@ -124,7 +124,7 @@ leftAfter Repaired rest = not (allZero rest)
 -- every length; in two octets it is 128 or more, and so is the first of them. A data length has no form to refuse
 unfoldable pub rows : Ending → Item → List ℕ → List (Option ℕ)
 rows ending firstOctet rest =
-    cut 1 rest
+    cutShort 1 rest
     ∷ when (extension (octetOf rest)) notAssigned
     ∷ when (leb (assigned (kindOf (octetOf rest))) (valueIn (octetOf rest))) notAssigned
     ∷ when (ltb 0 (octetOf rest % 2)) spareBit
@@ -133,7 +133,7 @@ rows ending firstOctet rest =
 rows ending countOfFields rest =
     lengthRows rest ++ (when (ltb (octetOf rest) 1) outsideSizes ∷ when (ltb fieldsLimit (octetOf rest)) outsideSizes ∷ [])
 rows ending (header left) rest =
-    cut 1 rest ∷ when (ltb 0 (octetOf rest % 16)) spareBit ∷ when (not (dataFits (octetOf rest))) wrongData ∷ []
-rows ending (dataLength left) rest = cut 2 rest ∷ when (ltb packetLimit (sizeOf rest)) outsideSizes ∷ []
-rows ending (fieldData size left) rest = cut size rest ∷ []
+    cutShort 1 rest ∷ when (ltb 0 (octetOf rest % 16)) spareBit ∷ when (not (dataFits (octetOf rest))) wrongData ∷ []
+rows ending (dataLength left) rest = cutShort 2 rest ∷ when (ltb packetLimit (dataSize rest)) outsideSizes ∷ []
+rows ending (fieldData size left) rest = cutShort size rest ∷ []
 rows ending end rest = when (leftAfter ending rest) leftOver ∷ []

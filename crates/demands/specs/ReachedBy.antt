@@ -14,7 +14,7 @@ use Rattle.views.specs.Cells.{keptBefore, keptAhead}
 use Rattle.views.specs.Held.{messageAt}
 use Rattle.views.specs.Repair.{Message}
 use Rattle.views.specs.View.{numbers}
-use Rattle.views.specs.Offer.{heldOf}
+use Rattle.views.specs.Offer.{heldBy}
 use Rattle.demands.specs.Calls.{Call, Calls, _then_, acceptedIn, leftBy}
 
 -- how many numbers have left by these calls: "the base's whole advance"
@@ -26,8 +26,8 @@ abbrev pub baseBy : Calls → ℕ
 baseBy calls = keptBefore + gone calls
 
 -- the number of a place: the first is number 0
-abbrev pub numberAt : ℕ → ℕ
-numberAt S = (S - keptBefore) % numbers
+abbrev pub placeNumber : ℕ → ℕ
+placeNumber S = (S - keptBefore) % numbers
 
 -- "the j-th spare of datagram S is packet S−j"
 abbrev pub spareAt : ℕ → ℕ → ℕ
@@ -50,7 +50,7 @@ pub record Accepts (calls : Calls) (call : Call) (S : ℕ) (datagram : Carried) 
   pub reads : ReadsAs octets datagram
   pub from : baseBy calls ≤ S
   pub near : S < baseBy calls + keptAhead
-  pub number : datagram .number % numbers ≡ numberAt S
+  pub number : datagram .number % numbers ≡ placeNumber S
 
 -- one of these calls is such an offer: the datagram arrived at place S
 pub data Arrived : Calls → ℕ → Carried → Type 0 where
@@ -67,8 +67,8 @@ pub record HeldBy (calls : Calls) (message : Message) : Type 0 where
   pub arrived : Arrived calls S datagram
   pub stays : baseBy calls ≤ S
   pub i : ℕ
-  pub low : i < length ((heldOf (datagram .extra)) .messages)
-  pub is : message ≡ messageAt S (heldOf (datagram .extra)) i
+  pub low : i < length ((heldBy (datagram .extra)) .messages)
+  pub is : message ≡ messageAt S (heldBy (datagram .extra)) i
 
 -- the number at a place is reached by these calls
 pub data ReachedBy : Calls → ℕ → Type 0 where

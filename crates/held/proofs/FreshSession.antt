@@ -21,7 +21,8 @@ use Rattle.stores.proofs.Laws.{zerosPast-zeros}
 use Rattle.views.specs.View.{freshView}
 use Rattle.views.specs.Ranges.{sumRight, sizeRight, markRight, heldRight, cellsRight, allHeldRight, inRanges}
 use Rattle.held.specs.Slots.{slotsKept, slotAt, heardSlotAt, messageSlot, packetOctets, messageOctets}
-use Rattle.held.specs.Table.{Lent, lentBy, places, lastState, markPlace, nPlace, mPlace, messagePlace, stateIn, sizeIn, nIn, mIn, stateNumbered, cellIn, messageIn, heldIn, cellsOf, heldOf, viewIn}
+use Rattle.held.specs.Table.{Lent, lentBy, places, lastState, markPlace, nPlace, mPlace, messagePlace, stateIn, sizeIn, nIn, mIn}
+use Rattle.held.specs.Table.{stateNumbered, cellIn, messageIn, heldIn, cellsOf, heldOf, viewIn}
 use Rattle.held.specs.Laid.{lentInRanges, Laid}
 use Rattle.held.specs.Promise.{freshTable, Fresh}
 use Rattle.held.specs.declared.Counts.{Counts}

@@ -18,7 +18,8 @@ use Rattle.stores.specs.Store.{part, zerosPast}
 use Rattle.views.specs.Ranges.{markRight, heldRight, knownAt}
 use Rattle.views.proofs.Laws.{mark-sizes, heldThere, held-none, accepted-right, held-sound}
 use Rattle.held.specs.Slots.{slotAt, heardSlotAt, messageSlot, Apart, slotsKept, slotsHeard}
-use Rattle.held.specs.Table.{Lent, lent, countsOf, statePlace, sizePlace, markPlace, nPlace, mPlace, messagePlace, markIn, nIn, mIn, messageSizeIn, stateNumbered, cellIn, messageIn, heldIn, cellsOf, heldOf, viewIn, heardSet}
+use Rattle.held.specs.Table.{Lent, lent, countsOf, statePlace, sizePlace, markPlace, nPlace, mPlace, messagePlace, markIn, nIn, mIn}
+use Rattle.held.specs.Table.{messageSizeIn, stateNumbered, cellIn, messageIn, heldIn, cellsOf, heldOf, viewIn, heardSet}
 use Rattle.held.specs.Laid.{Laid, InRanges}
 use Rattle.held.specs.Heard.{NoSize, SizesLaid, OctetsLaid}
 use Rattle.held.proofs.Marked.{long-heard, mark-set, n-set, m-set, heard-elsewhere}
@@ -26,7 +27,8 @@ use Rattle.held.proofs.Seen.{held-at, held-right}
 use Rattle.held.proofs.Slots.{slot-small, heard-small, message-small, heard-apart, message-apart, has-message-slot}
 
 module _ {t o g : List ℕ} (laid : Laid t o g) {j m : ℕ} (n : ℕ) {messages : ℕ → List ℕ} (small : j < slotsHeard)
-    (few : m ≤ messagesLimit) {newT newG : List ℕ} (sizes : SizesLaid j m messages (heardSet t j 1 n m) newT) (octets : OctetsLaid j m messages g newG) where
+    (few : m ≤ messagesLimit) {newT newG : List ℕ} (sizes : SizesLaid j m messages (heardSet t j 1 n m) newT)
+    (octets : OctetsLaid j m messages g newG) where
   -- ---- the table: every place that stays
   stays : (k : ℕ) → (k ≡ markPlace j → ⊥) → (k ≡ nPlace j → ⊥) → (k ≡ mPlace j → ⊥) → NoSize j m k → getD newT k 0 ≡ getD t k 0
   stays k no-mark no-n no-m no-size = sizes .other k no-size ∙ heard-elsewhere t j 1 n m k no-mark no-n no-m
@@ -180,7 +182,8 @@ module _ {t o g : List ℕ} (laid : Laid t o g) {j m : ℕ} (n : ℕ) {messages 
       (ap (λ (i : ℕ). heldIn newT newG i) (sym e) ∙ heard-here)
 
 -- ---- all together, at distance d from the base
-module _ {l : Lent} (w : InRanges l) {d : ℕ} (near : d < keptAhead) (known : Known (cellsOf (l .base) (l .table) (l .octets)) (keptBefore + d))
+module _ {l : Lent} (w : InRanges l) {d : ℕ} (near : d < keptAhead)
+    (known : Known (cellsOf (l .base) (l .table) (l .octets)) (keptBefore + d))
     (unmarked : (heldAt (heldOf (l .base) (l .table) (l .messages)) d) .accepted ≡ false) (n : ℕ) {m : ℕ} {messages : ℕ → List ℕ}
     (settings : markRight true true n m ≡ true) (fits : (i : ℕ) → i < m → length (messages i) ≤ messageLimit) {j : ℕ}
     (at : j ≡ heardSlotAt (l .base) d) {newT newG : List ℕ} (sizes : SizesLaid j m messages (heardSet (l .table) j 1 n m) newT)

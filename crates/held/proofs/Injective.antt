@@ -18,7 +18,8 @@ use Rattle.views.specs.Held.{Held, heldAt}
 use Rattle.views.specs.View as views
 use Rattle.views.specs.View.{View}
 use Rattle.held.specs.Slots.{slotsKept, slotsHeard, slotsMessages, packetOctets, messageOctets, slotAt, heardSlotAt, messageSlot}
-use Rattle.held.specs.Table.{Lent, lentBy, countsOf, places, lastState, sizePlace, markPlace, nPlace, mPlace, messagePlace, stateIn, sizeIn, markIn, nIn, mIn, messageSizeIn, stateNumbered, cellIn, heldIn, cellsOf, heldOf, viewIn, viewOf}
+use Rattle.held.specs.Table.{Lent, lentBy, countsOf, places, lastState, sizePlace, markPlace, nPlace, mPlace, messagePlace, stateIn}
+use Rattle.held.specs.Table.{sizeIn, markIn, nIn, mIn, messageSizeIn, stateNumbered, cellIn, heldIn, cellsOf, heldOf, viewIn, viewOf}
 use Rattle.held.specs.Laid.{InRanges}
 use Rattle.held.specs.Promise.{Fresh}
 use Rattle.held.specs.declared.Counts.{Counts}

@@ -19,7 +19,8 @@ use Rattle.stores.specs.Store.{part, pasted, zerosPast, HasSlot}
 use Rattle.stores.proofs.Laws.{length-pasted, part-pasted, part-pasted-other, zerosPast-pasted, zerosPast-other}
 use Rattle.views.specs.Ranges.{isFill}
 use Rattle.held.specs.Slots.{slotAt, heardSlotAt, messageSlot, slotsKept}
-use Rattle.held.specs.Table.{Lent, lent, countsOf, places, lastState, statePlace, sizePlace, markPlace, nPlace, mPlace, messagePlace, stateIn, sizeIn, mIn, stateNumbered, cellIn, messageIn, heldIn, cellsOf, heldOf, viewIn, keptSet}
+use Rattle.held.specs.Table.{Lent, lent, countsOf, places, lastState, statePlace, sizePlace, markPlace, nPlace, mPlace, messagePlace}
+use Rattle.held.specs.Table.{stateIn, sizeIn, mIn, stateNumbered, cellIn, messageIn, heldIn, cellsOf, heldOf, viewIn, keptSet}
 use Rattle.held.specs.Laid.{Laid, InRanges}
 use Rattle.held.proofs.Places.{long-kept, kept-elsewhere}
 use Rattle.held.proofs.Seen.{length-cells, size-none}
@@ -92,7 +93,8 @@ module _ {t o g : List ℕ} (laid : Laid t o g) (slot state : ℕ) (b : List ℕ
       let clean : zerosPast o slot 0 ≡ true = rw none at (laid .packet slot small) in
       rw (e, size-here t slot state (length b) small (laid .long)) (zerosPast-pasted o slot b has most clean))
       (λ other.
-      rw (size-other t slot state (length b) small i below other, zerosPast-other o slot b has most i (sizeIn t i) other) (laid .packet i below))
+      rw (size-other t slot state (length b) small i below other, zerosPast-other o slot b has most i (sizeIn t i) other)
+      (laid .packet i below))
       (same-or-not i slot)
 
   pub placed-laid : sizeIn t slot ≡ 0 → Laid (keptSet t slot state (length b)) (pasted o slot b) g

@@ -12,7 +12,8 @@ use Rattle.octets.proofs.Laws.{same-or-not}
 use Rattle.datagrams.specs.Sizes.{messagesLimit}
 use Rattle.views.specs.Cells.{unknown, received, spare, repaired, blank, isUnknown}
 use Rattle.held.specs.Slots.{slotsKept, slotsHeard, messageSlot}
-use Rattle.held.specs.Table.{places, statePlace, sizePlace, markPlace, nPlace, mPlace, messagePlace, stateNumbered, keptSet, sizesFreed, heardDropped}
+use Rattle.held.specs.Table.{places, statePlace, sizePlace, markPlace, nPlace, mPlace, messagePlace, stateNumbered, keptSet}
+use Rattle.held.specs.Table.{sizesFreed, heardDropped}
 
 -- ---- the length, and that a place is there after writes
 long-set : (t : List ℕ) (i v : ℕ) → length t ≡ places → length (set t i v) ≡ places
@@ -134,7 +135,8 @@ dropped t j =
     record {
       mark =
           sizes-stay three at (markPlace j)
-          (zero-stays two (mPlace j) (markPlace j) (zero-stays one (nPlace j) (markPlace j) (zero-stored t (markPlace j) (markPlace j) refl)));
+          (zero-stays two (mPlace j) (markPlace j) (zero-stays one (nPlace j) (markPlace j)
+          (zero-stored t (markPlace j) (markPlace j) refl)));
       n = sizes-stay three at (nPlace j) (zero-stays two (mPlace j) (nPlace j) (zero-stored one (nPlace j) (nPlace j) refl));
       m = sizes-stay three at (mPlace j) (zero-stored two (mPlace j) (mPlace j) refl);
       sizes = λ i below.

@@ -11,7 +11,8 @@ use Rattle.datagrams.specs.Sizes.{packetLimit, messagesLimit}
 use Rattle.views.specs.Cells.{keptAhead, keptNumbers}
 use Rattle.stores.specs.Store.{HasSlot}
 use Rattle.views.specs.View.{numbers, following}
-use Rattle.held.specs.Slots.{slotAt, heardSlotAt, messageSlot, Apart, slotsKept, slotsHeard, slotsMessages, packetOctets, messageOctets}
+use Rattle.held.specs.Slots.{slotAt, heardSlotAt, messageSlot, Apart, slotsKept, slotsHeard, slotsMessages, packetOctets}
+use Rattle.held.specs.Slots.{messageOctets}
 
 pub slot-small : (base p : ℕ) → slotAt base p < slotsKept
 slot-small base p = omega arith

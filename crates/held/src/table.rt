@@ -12,7 +12,8 @@ ghost use Rattle.datagrams.specs.Sizes.{messagesLimit};
 ghost use Rattle.views.specs.Cells.{isUnknown};
 ghost use Rattle.views.specs.View.{sum};
 ghost use Rattle.held.specs.Slots.{slotsKept, slotsHeard, slotsMessages};
-ghost use Rattle.held.specs.Table.{countsOf, places, stateIn, sizeIn, markIn, nIn, mIn, messageSizeIn, messagePlace, stateNumbered, keptSet, heardSet, sizesFreed, heardDropped};
+ghost use Rattle.held.specs.Table.{countsOf, places, stateIn, sizeIn, markIn, nIn, mIn, messageSizeIn, messagePlace, stateNumbered};
+ghost use Rattle.held.specs.Table.{keptSet, heardSet, sizesFreed, heardDropped};
 
 // The slot of a number among those kept, and among those from the base on.
 pub fn kept_slot(number: u16) -> usize

@@ -1,27 +1,27 @@
 -- The loops over digits on plain values, and one law for each answer of `hex_to_octets`. Assumes nothing.
-use Prim.Native.Nat.{ℕ, suc, _+_, _*_, _/_, _%_, _≤_, _<_}
+use Prim.Native.Nat.{ℕ, _+_, _*_, _/_, _%_, _≤_, _<_}
 use mathlib.Core.Path.{_≡_, refl, sym, ap, ap₂, _∙_}
 use mathlib.Core.Bool.{Bool, true, false, _&&_}
 use mathlib.Core.List.{List, [], _∷_, _++_, append-assoc}
 use lib.ListN.{length, getD, set, take, drop, length-set}
-use lib.Seq.{set-at, append-snoc, drop-cons, take-suc, length-take-le, take-length}
+use lib.Seq.{take-suc, take-length}
 use lib.Dec.{ltb}
 use native.Mathlib.Nat.{mod-eq-of-lt}
 use native.Mathlib.Numerals.{add-one}
 use native.Mathlib.Omega.{arith}
-use borrow.Author.Tests.{lt-ltb, le-ltb, le-leb, lt-leb, eq-eqb, ne-eqb, ltb-true}
+use borrow.Author.Tests.{lt-ltb, le-ltb, eq-eqb, ne-eqb, ltb-true}
 use Rattle.octets.specs.Place.{allBelow}
 use Rattle.octets.proofs.Laws.{allBelow-more, allBelow-at, tab-at}
 use Rattle.lengths.specs.Refusals.{tooLong, wrongSettings, noRoom}
-use Rattle.lengths.specs.Answers.{over}
+use Rattle.lengths.specs.Answers.{done}
 use Rattle.lengths.specs.Tables.{unless}
-use Rattle.lengths.specs.Promise.{Puts, RefusalMade}
+use Rattle.lengths.specs.Promise.{Put, Puts, RefusalMade}
 use Rattle.lengths.specs.declared.Refusal.{Refusal}
 use Rattle.lengths.specs.declared.Written.the-variants as written
-use Rattle.lines.specs.Hex.{digitOf, digitFor, noDigit, allDigits, octetAt, octetsIn, lineOctets, hexOf}
+use Rattle.lengths.proofs.Laws.{put-none, put-turn, put-all, put-puts, full-puts}
+use Rattle.lines.specs.Hex.{lineLimit, digitOf, digitFor, noDigit, allDigits, pairAt, octetsIn, lineOctets, hexOf}
 use Rattle.lines.specs.Promise.{Appends}
-use Rattle.lines.proofs.Appending.{appends-none, appends-one, appends-long}
-use Rattle.lines.proofs.HexLaws.{length-octetsIn}
+use Rattle.lines.proofs.Laws.{appends-none, appends-one, appends-long, length-octetsIn}
 
 -- ---- every character is a digit
 abbrev digitAt : List ℕ → ℕ → Bool
@@ -50,27 +50,18 @@ unfolding allDigits
 digit-small line k all below = ltb-true _ 16 (allBelow-at (length line) (digitAt line) all k below)
 
 -- ---- octets of paired digits
-pub octetsIn-at : (line : List ℕ) (i : ℕ) → i < length line / 2 → getD (octetsIn line) i 0 ≡ octetAt line i
+pub octetsIn-at : (line : List ℕ) (i : ℕ) → i < length line / 2 → getD (octetsIn line) i 0 ≡ pairAt line i
 unfolding octetsIn
-octetsIn-at line i below = tab-at (length line / 2) (octetAt line) i 0 below
+octetsIn-at line i below = tab-at (length line / 2) (pairAt line) i 0 below
 
 -- the first i octets stand at the front
 pub record Paired (line old new : List ℕ) (i : ℕ) : Type 0 where
-  pub front : new ≡ take i (octetsIn line) ++ drop i old
+  pub put : Put (take i (octetsIn line)) old new i
   pub few : i ≤ length line / 2
   pub long : length new ≡ length old
 
 pub paired-start : (line old : List ℕ) → Paired line old old 0
-paired-start line old = record { front = refl; few = omega arith; long = refl }
-
-front-turn : (x d : List ℕ) (i : ℕ) → i < length x → i < length d
-    → set (take i x ++ drop i d) i (getD x i 0) ≡ take (i + 1) x ++ drop (i + 1) d
-front-turn x d i inside room =
-    rw (add-one)
-    (ap (λ (l : List ℕ). set (take i x ++ l) i (getD x i 0)) (drop-cons d i 0 room)
-    ∙ set-at (take i x) (getD d i 0) (drop (suc i) d) (getD x i 0) i (length-take-le i x (omega arith))
-    ∙ sym (append-snoc (take i x) (getD x i 0) (drop (suc i) d))
-    ∙ ap (λ (l : List ℕ). l ++ drop (suc i) d) (sym (take-suc x i 0 inside)))
+paired-start line old = record { put = put-none; few = omega arith; long = refl }
 
 pub paired-turn : {line old new : List ℕ} {i high low : ℕ} → Paired line old new i → i < length line / 2 → length line / 2 ≤ length old
     → allDigits line ≡ true → high ≡ digitOf (getD line (2 * i) 0) → low ≡ digitOf (getD line (2 * i + 1) 0)
@@ -81,9 +72,7 @@ paired-turn {line} {old} {new} {i} {high} {low} p more room all h l =
     let value : high % 16 * 16 + low % 16 ≡ getD (octetsIn line) i 0 =
     ap₂ (λ (a b : ℕ). a * 16 + b) (mod-eq-of-lt hs ∙ h) (mod-eq-of-lt ls ∙ l) ∙ sym (octetsIn-at line i more) in
     record {
-      front =
-          ap₂ (λ (s : List ℕ) (v : ℕ). set s i v) (p .front) value
-          ∙ front-turn (octetsIn line) old i (omega (arith, length-octetsIn line)) (omega arith);
+      put = rw value (put-turn (octetsIn line) (p .put) (omega (arith, length-octetsIn line)) (omega arith));
       few = omega arith;
       long = length-set new i _ ∙ p .long;
     }
@@ -91,91 +80,55 @@ paired-turn {line} {old} {new} {i} {high} {low} p more room all h l =
 pub paired-done : {line old new : List ℕ} {i : ℕ} → Paired line old new i → length line / 2 ≤ i
     → new ≡ octetsIn line ++ drop (length line / 2) old
 paired-done {line} {old} {new} {i} p whole =
-    let all : i ≡ length line / 2 = omega (arith, p .few) in
-    p .front
-    ∙ ap₂ (λ (j k : ℕ). take j (octetsIn line) ++ drop k old) (all ∙ sym (length-octetsIn line)) all
-    ∙ ap (λ (l : List ℕ). l ++ drop (length line / 2) old) (take-length (octetsIn line))
+    let long = length-octetsIn line in
+    put-all (p .put) (omega arith) .lent ∙ ap (λ (k : ℕ). octetsIn line ++ drop k old) long
 
 -- ---- the answers of hex_to_octets
+digits-read : (line : List ℕ) {all : Bool} → length line ≤ lineLimit → length line % 2 ≡ 0 → all ≡ allDigits line → all ≡ true
+    → lineOctets line ≡ done (octetsIn line)
+unfolding lineOctets unless
+digits-read line short even told passed =
+    let every : allDigits line ≡ true = sym told ∙ passed in
+    rw (le-ltb lineLimit (length line) short, eq-eqb (length line % 2) 0 even, every)
+
 module _ (line : List ℕ) {old : List ℕ} where
-  pub octets-long : {r : Refusal} → RefusalMade tooLong r → 3000 < length line → Puts (lineOctets line) old old (written.Refused r)
+  pub octets-long : {r : Refusal} → RefusalMade tooLong r → lineLimit < length line → Puts (lineOctets line) old old (written.Refused r)
   unfolding lineOctets unless
   octets-long made long =
-      record { answer = rw (made .answer, lt-ltb 3000 (length line) long); lent = rw (lt-ltb 3000 (length line) long) }
+      record { answer = rw (made .answer, lt-ltb lineLimit (length line) long); lent = rw (lt-ltb lineLimit (length line) long) }
 
-  pub octets-odd : {r : Refusal} → RefusalMade wrongSettings r → length line ≤ 3000 → (length line % 2 ≡ 0 → ⊥)
+  pub octets-odd : {r : Refusal} → RefusalMade wrongSettings r → length line ≤ lineLimit → (length line % 2 ≡ 0 → ⊥)
       → Puts (lineOctets line) old old (written.Refused r)
   unfolding lineOctets unless
   octets-odd made short odd =
       record {
-        answer = rw (made .answer, le-ltb 3000 (length line) short, ne-eqb (length line % 2) 0 odd);
-        lent = rw (le-ltb 3000 (length line) short, ne-eqb (length line % 2) 0 odd);
+        answer = rw (made .answer, le-ltb lineLimit (length line) short, ne-eqb (length line % 2) 0 odd);
+        lent = rw (le-ltb lineLimit (length line) short, ne-eqb (length line % 2) 0 odd);
       }
 
-  pub octets-undigit : {r : Refusal} {all : Bool} → RefusalMade wrongSettings r → length line ≤ 3000 → length line % 2 ≡ 0
+  pub octets-undigit : {r : Refusal} {all : Bool} → RefusalMade wrongSettings r → length line ≤ lineLimit → length line % 2 ≡ 0
       → all ≡ allDigits line → all ≡ false → Puts (lineOctets line) old old (written.Refused r)
   unfolding lineOctets unless
   octets-undigit made short even told not =
       let none : allDigits line ≡ false = sym told ∙ not in
       record {
-        answer = rw (made .answer, le-ltb 3000 (length line) short, eq-eqb (length line % 2) 0 even, none);
-        lent = rw (le-ltb 3000 (length line) short, eq-eqb (length line % 2) 0 even, none);
+        answer = rw (made .answer, le-ltb lineLimit (length line) short, eq-eqb (length line % 2) 0 even, none);
+        lent = rw (le-ltb lineLimit (length line) short, eq-eqb (length line % 2) 0 even, none);
       }
 
-  pub octets-full : {r : Refusal} {all : Bool} → RefusalMade noRoom r → length line ≤ 3000 → length line % 2 ≡ 0
+  pub octets-full : {r : Refusal} {all : Bool} → RefusalMade noRoom r → length line ≤ lineLimit → length line % 2 ≡ 0
       → all ≡ allDigits line → all ≡ true → length old < length line / 2 → Puts (lineOctets line) old old (written.Refused r)
-  unfolding lineOctets unless
   octets-full made short even told passed full =
-      let every : allDigits line ≡ true = sym told ∙ passed in
       let long = length-octetsIn line in
-      record {
-        answer =
-            rw (
-              made .answer,
-              le-ltb 3000 (length line) short,
-              eq-eqb (length line % 2) 0 even,
-              every,
-              long,
-              lt-leb (length line / 2) (length old) full,
-            );
-        lent =
-            rw (
-              le-ltb 3000 (length line) short,
-              eq-eqb (length line % 2) 0 even,
-              every,
-              long,
-              lt-leb (length line / 2) (length old) full,
-            );
-      }
+      rw (digits-read line short even told passed) (full-puts made (omega arith))
 
-  pub octets-read : {all : Bool} {new : List ℕ} → length line ≤ 3000 → length line % 2 ≡ 0
+  pub octets-read : {all : Bool} {new : List ℕ} → length line ≤ lineLimit → length line % 2 ≡ 0
       → all ≡ allDigits line → all ≡ true → length line / 2 ≤ length old → new ≡ octetsIn line ++ drop (length line / 2) old
       → Puts (lineOctets line) old new (written.Octets (length line / 2))
-  unfolding lineOctets unless
   octets-read short even told passed room read =
-      let every : allDigits line ≡ true = sym told ∙ passed in
       let long = length-octetsIn line in
-      record {
-        answer =
-            rw (
-              le-ltb 3000 (length line) short,
-              eq-eqb (length line % 2) 0 even,
-              every,
-              long,
-              le-leb (length line / 2) (length old) room,
-              long,
-            );
-        lent =
-            rw (
-              read,
-              le-ltb 3000 (length line) short,
-              eq-eqb (length line % 2) 0 even,
-              every,
-              long,
-              le-leb (length line / 2) (length old) room,
-              long,
-            );
-      }
+      let front = read ∙ ap (λ (k : ℕ). octetsIn line ++ drop k old) (sym long) in
+      rw (digits-read line short even told passed) (put-puts (record { inside = omega arith; answer = sym long; lent = front }))
 
 -- the laws of `hex_to_octets`'s answers
 pub ruleset linings = (octets-long, octets-odd, octets-undigit, octets-full, octets-read)

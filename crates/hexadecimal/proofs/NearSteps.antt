@@ -12,14 +12,14 @@ use native.Mathlib.Nat.{mod-eq-of-lt}
 use native.Mathlib.Omega.{arith}
 use Rattle.octets.specs.Place.{tab}
 use Rattle.octets.proofs.Laws.{tab-ext, tab-getD, below-or-not, same-or-not}
-use Rattle.lines.specs.Hex.{digitOf, allDigits, octetAt, octetsIn}
+use Rattle.lines.specs.Hex.{digitOf, allDigits, octetsIn, pairAt}
 use Rattle.hexadecimal.specs.Near.{together, NearRead, NearPut}
-use Rattle.lines.proofs.HexLaws.{length-octetsIn}
+use Rattle.lines.proofs.Laws.{length-octetsIn}
 use Rattle.hexadecimal.proofs.HexSteps.{digit-small, octetsIn-at}
 
 -- ---- reading: the first j octets from place `from` on are in the chunk
 pub record Nearing (line : List ℕ) (from : ℕ) (chunk : List ℕ) (j : ℕ) : Type 0 where
-  pub read : (k : ℕ) → k < j → getD chunk k 0 ≡ octetAt line (from + k)
+  pub read : (k : ℕ) → k < j → getD chunk k 0 ≡ pairAt line (from + k)
   pub few : j ≤ together
   pub long : length chunk ≡ together
 
@@ -32,7 +32,7 @@ pub nearing-turn : {line chunk : List ℕ} {from j high low : ℕ} → Nearing l
 nearing-turn {line} {chunk} {from} {j} {high} {low} n more inside all h l =
     let hs : high < 16 = rw h (digit-small line (2 * (from + j)) all (omega arith)) in
     let ls : low < 16 = rw l (digit-small line (2 * (from + j) + 1) all (omega arith)) in
-    let value : high % 16 * 16 + low % 16 ≡ octetAt line (from + j) =
+    let value : high % 16 * 16 + low % 16 ≡ pairAt line (from + j) =
     ap₂ (λ (a b : ℕ). a * 16 + b) (mod-eq-of-lt hs ∙ h) (mod-eq-of-lt ls ∙ l) in
     record {
       read =
@@ -42,7 +42,7 @@ nearing-turn {line} {chunk} {from} {j} {high} {low} n more inside all h l =
           ap (λ (p : ℕ). getD (set chunk j (high % 16 * 16 + low % 16)) p 0) e
           ∙ getD-set-same chunk j _ 0 (omega (arith, n .long))
           ∙ value
-          ∙ ap (λ (p : ℕ). octetAt line (from + p)) (sym e))
+          ∙ ap (λ (p : ℕ). pairAt line (from + p)) (sym e))
           (λ other. getD-set-other chunk j k _ 0 other ∙ n .read k (omega (arith, below, other)))
           (same-or-not k j);
       few = omega arith;
@@ -98,7 +98,7 @@ putting-done {chunk} {old} {new} {from} {j} p whole =
 -- ---- the whole line: the first i octets are made, and the rest is as it was
 pub record Pairing (line old new : List ℕ) (i : ℕ) : Type 0 where
   pub long : length new ≡ length old
-  pub made : (k : ℕ) → k < i → getD new k 0 ≡ octetAt line k
+  pub made : (k : ℕ) → k < i → getD new k 0 ≡ pairAt line k
   pub rest : (k : ℕ) → i ≤ k → getD new k 0 ≡ getD old k 0
   pub few : i ≤ length line / 2
 
@@ -121,7 +121,7 @@ pairing-over {line} {old} {new} {newer} {chunk} {i} {from} p start reach inside 
           ap (λ (q : ℕ). getD newer q 0) e
           ∙ w .inside (k - from) (omega (arith, below, late))
           ∙ r .read (k - from) (omega (arith, below, late))
-          ∙ ap (λ (q : ℕ). octetAt line q) (sym e))
+          ∙ ap (λ (q : ℕ). pairAt line q) (sym e))
           (below-or-not k from);
       rest = λ k past. w .after k past ∙ p .rest k (omega (arith, past, reach));
       few = inside;

@@ -3,7 +3,7 @@ use Prim.Native.Nat.{ℕ, _+_, _≤_, _<_}
 use mathlib.Core.Path.{_≡_}
 use mathlib.Core.List.{List}
 use lib.ListN.{length, getD}
-use Rattle.lines.specs.Hex.{octetAt}
+use Rattle.lines.specs.Hex.{pairAt}
 
 -- so many octets are made together
 abbrev pub together : ℕ
@@ -11,7 +11,7 @@ together = 16
 
 -- the chunk holds the octets of a line from octet `from` on
 pub record NearRead (line : List ℕ) (from : ℕ) (chunk : List ℕ) : Type 0 where
-  pub read : (k : ℕ) → k < together → getD chunk k 0 ≡ octetAt line (from + k)
+  pub read : (k : ℕ) → k < together → getD chunk k 0 ≡ pairAt line (from + k)
 
 -- the octets of the chunk stand from place `from` on, and all else is as it was
 pub record NearPut (chunk : List ℕ) (from : ℕ) (old new : List ℕ) : Type 0 where

@@ -6,9 +6,9 @@ use lib.ListN.{length, set}
 use Rattle.datagrams.specs.Sizes.{packetLimit}
 use Rattle.stores.specs.Store.{pasted, zeros}
 use Rattle.sending.specs.Sending.{historyKept}
-use Rattle.sending.specs.Inner.Held.{Keeps}
+use Rattle.sending.specs.Inner.Held.{Joins}
 
 pub keeping : (number slot : ℕ) (packet sizes o cleared o′ : List ℕ) → slot ≡ number % historyKept
     → cleared ≡ pasted o slot (zeros packetLimit) → o′ ≡ pasted cleared slot packet
-    → Keeps number packet sizes o (set sizes slot (length packet)) o′
+    → Joins number packet sizes o (set sizes slot (length packet)) o′
 keeping number slot packet sizes o cleared o′ found clear put = rw (put, clear, found) (record { size = refl; octets = refl })

@@ -13,11 +13,10 @@ use Rattle.datagrams.specs.Sizes.{packetLimit}
 use Rattle.stores.specs.Store.{zerosPast, HasSlot}
 use Rattle.views.specs.View.{sessionLimit}
 use Rattle.sending.specs.Sending.{historyKept}
-use Rattle.sending.specs.Sender.{slotAt, sizeIn}
-use Rattle.sending.specs.Ranges.{sizeInRange, placeInRange, inRanges}
+use Rattle.sending.specs.Sender.{historySlot, lengthIn}
+use Rattle.sending.specs.Ranges.{sizeInRange, placeInRange, historyInRanges}
 use Rattle.sending.specs.Inner.Held.{Arrays}
-use Rattle.sending.proofs.Slots.{has-slot, slot-small}
-use Rattle.sending.proofs.Kept.{size-limit}
+use Rattle.sending.proofs.Laws.{has-slot, slot-small, size-limit}
 
 -- ---- size_right
 module _ (at size : ℕ) where
@@ -37,19 +36,19 @@ pub ruleset sizings = (size-before, size-empty, size-packet)
 
 -- ---- place_right
 module _ (sent p : ℕ) (sizes o : List ℕ) {size : ℕ} {b : Bool} where
-  pub place-wrong : size ≡ sizeIn sizes (slotAt sent p) → b ≡ sizeInRange (sent + p) size → not b ≡ true
+  pub place-wrong : size ≡ lengthIn sizes (historySlot sent p) → b ≡ sizeInRange (sent + p) size → not b ≡ true
       → false ≡ placeInRange sent sizes o p
   unfolding placeInRange
   place-wrong found tested out = rw (sym found, sym tested, not-true b out)
 
-  pub place-rest : {r : Bool} → size ≡ sizeIn sizes (slotAt sent p) → b ≡ sizeInRange (sent + p) size → not b ≡ false
-      → r ≡ zerosPast o (slotAt sent p) size → r ≡ placeInRange sent sizes o p
+  pub place-rest : {r : Bool} → size ≡ lengthIn sizes (historySlot sent p) → b ≡ sizeInRange (sent + p) size → not b ≡ false
+      → r ≡ zerosPast o (historySlot sent p) size → r ≡ placeInRange sent sizes o p
   unfolding placeInRange
   place-rest found tested in′ last = rw (sym found, sym tested, not-false b in′) last
 
 -- what the zero check asks
-pub slot-there : (sent p : ℕ) (sizes o : List ℕ) → Arrays sizes o → HasSlot (slotAt sent p) o
-slot-there sent p sizes o arrays = has-slot o (slotAt sent p) (arrays .octets) (slot-small sent p)
+pub slot-there : (sent p : ℕ) (sizes o : List ℕ) → Arrays sizes o → HasSlot (historySlot sent p) o
+slot-there sent p sizes o arrays = has-slot o (historySlot sent p) (arrays .octets) (slot-small sent p)
 
 pub size-told : (at : ℕ) {size : ℕ} {b : Bool} → b ≡ sizeInRange at size → not b ≡ false → size ≤ packetLimit
 size-told at {size} tested in′ = size-limit at size (sym tested ∙ not-false _ in′)
@@ -62,8 +61,8 @@ pub record Ranging (sent : ℕ) (sizes o : List ℕ) (ok : Bool) (p : ℕ) : Typ
   pub few : p ≤ historyKept
 
 module _ (sent : ℕ) (sizes o : List ℕ) where
-  pub ranges-over : sessionLimit < sent → false ≡ inRanges sent sizes o
-  unfolding inRanges
+  pub ranges-over : sessionLimit < sent → false ≡ historyInRanges sent sizes o
+  unfolding historyInRanges
   ranges-over over = rw (lt-leb sent sessionLimit over)
 
   pub ranging-start : Ranging sent sizes o true 0
@@ -78,8 +77,9 @@ module _ (sent : ℕ) (sizes o : List ℕ) where
         few = omega arith;
       }
 
-  pub ranging-done : {ok : Bool} {p : ℕ} → Ranging sent sizes o ok p → historyKept ≤ p → sent ≤ sessionLimit → ok ≡ inRanges sent sizes o
-  unfolding inRanges
+  pub ranging-done : {ok : Bool} {p : ℕ} → Ranging sent sizes o ok p → historyKept ≤ p → sent ≤ sessionLimit
+      → ok ≡ historyInRanges sent sizes o
+  unfolding historyInRanges
   ranging-done {ok} {p} v end few =
       let all : p ≡ historyKept = (let small = v .few in omega arith) in
       rw (le-leb sent sessionLimit few) (v .so ∙ ap (λ (k : ℕ). allBelow k (placeInRange sent sizes o)) all)

@@ -7,9 +7,9 @@ ghost use lib.ListN.{length};
 ghost use Rattle.datagrams.specs.Sizes.{packetLimit};
 ghost use Rattle.stores.specs.Store.{mask};
 ghost use Rattle.sending.specs.Sending.{historyKept};
-ghost use Rattle.sending.specs.Sender.{sizeIn};
-ghost use Rattle.sending.specs.Ranges.{sizeInRange, placeInRange, inRanges};
-ghost use Rattle.sending.specs.Inner.Held.{Arrays, Keeps};
+ghost use Rattle.sending.specs.Sender.{lengthIn};
+ghost use Rattle.sending.specs.Ranges.{sizeInRange, placeInRange, historyInRanges};
+ghost use Rattle.sending.specs.Inner.Held.{Arrays, Joins};
 
 // The slot of a number.
 pub fn slot_of(number: u16) -> usize
@@ -21,7 +21,7 @@ pub fn slot_of(number: u16) -> usize
 // How many octets the packet in a slot has.
 pub fn size_in(sizes: &[u16], slot: usize) -> usize
     requires { ⌜ slot < length (now sizes) ⌝ }
-    ensures { λ r. ⌜ r ≡ sizeIn (now (sizes .entry)) slot ⌝ }
+    ensures { λ r. ⌜ r ≡ lengthIn (now (sizes .entry)) slot ⌝ }
 {
     stores::wide(sizes[slot])
 }
@@ -58,7 +58,7 @@ fn place_right(sent: usize, sizes: &[u16], o: &[u8], p: usize, table: &[u8]) -> 
 // The whole sentence.
 pub fn in_ranges(sent: usize, sizes: &[u16], o: &[u8]) -> bool
     requires { ⌜ Arrays (now sizes) (now o) ⌝ }
-    ensures { λ r. ⌜ r ≡ inRanges sent (now (sizes .entry)) (now (o .entry)) ⌝ }
+    ensures { λ r. ⌜ r ≡ historyInRanges sent (now (sizes .entry)) (now (o .entry)) ⌝ }
 {
     if Sender::LIMIT < sent {
         return false;
@@ -79,7 +79,7 @@ pub fn in_ranges(sent: usize, sizes: &[u16], o: &[u8]) -> bool
 // The packet takes the slot of its number, from which the oldest leaves.
 pub fn keep(number: u16, packet: &[u8], sizes: &mut [u16], o: &mut [u8])
     requires { ⌜ (Arrays (now sizes) (now o)) × (length (now packet) ≤ packetLimit) ⌝ }
-    ensures { λ _. ⌜ Keeps number (now (packet .entry)) (now (sizes .entry)) (now (o .entry)) (now (sizes .exit)) (now (o .exit)) ⌝ }
+    ensures { λ _. ⌜ Joins number (now (packet .entry)) (now (sizes .entry)) (now (o .entry)) (now (sizes .exit)) (now (o .exit)) ⌝ }
 {
     let slot = slot_of(number);
     stores::clear(o, slot);

@@ -9,40 +9,41 @@ use lib.Seq.{length-take-le, getD-take, ext-getD}
 use native.Mathlib.Omega.{arith}
 use Rattle.octets.specs.ExclusiveOr.{exclusiveOr, longest}
 use Rattle.octets.proofs.Laws.{length-exclusiveOr, exclusiveOr-at}
-use Rattle.lengths.specs.Length.{lengthLimit}
-use Rattle.datagrams.specs.Sizes.{packetLimit, coveredLimit, messagesLimit}
-use Rattle.datagrams.specs.Write.{itemOctets, within, countInside}
-use Rattle.datagrams.specs.Inner.Put.{Put, itemSize}
+use Rattle.lengths.specs.Length.{lengthLimit, within}
+use Rattle.lengths.proofs.Laws.{both, within-true}
+use Rattle.lengths.specs.Promise.{Put}
+use Rattle.datagrams.specs.Sizes.{packetLimit, coveredLeast, coveredLimit, messagesLeast, messagesLimit}
+use Rattle.datagrams.specs.Write.{itemOctets, countInside}
+use Rattle.datagrams.specs.Inner.Heads.{itemSize}
 use Rattle.datagrams.specs.declared.kind.Kind.{Kind}
 use Rattle.datagrams.specs.declared.kind.Kind.the-variants as kind
-use Rattle.datagrams.proofs.WriteLaws.{both, within-true, count-few}
+use Rattle.datagrams.proofs.Laws.{count-few}
 use Rattle.stores.specs.Store.{part}
 use Rattle.sending.specs.Sending.{historyKept}
-use Rattle.sending.specs.Sender.{slotAt, sizeIn}
+use Rattle.sending.specs.Sender.{historySlot, lengthIn}
 use Rattle.sending.specs.Inner.Held.{Sizes}
-use Rattle.sending.specs.Inner.Items.{Reach, membersIn, messageIn, MessageSize, MessageSum, MessageAsked, spareIn, SpareSize, SpareAsked, itemIn, ItemOf, ItemSize, ItemAsked}
-use Rattle.sending.proofs.Slots.{slot-small}
-use Rattle.sending.proofs.History.{history-at, length-packet, packet-short}
-use Rattle.sending.proofs.ItemLaws.{members-short, item-spare, item-message}
+use Rattle.sending.specs.Inner.Items.{Reach, membersIn, parityIn, MessageSize, MessageSum, MessageAsked, spareIn, SpareSize, SpareAsked}
+use Rattle.sending.specs.Inner.Items.{itemIn, ItemOf, ItemSize, ItemAsked}
+use Rattle.sending.proofs.Laws.{slot-small, history-at, length-packet, packet-short, members-short, item-spare, item-message}
 
 -- ---- a spare
-pub spare-told : (number j slot : ℕ) (sizes : List ℕ) {size : ℕ} → Sizes sizes → slot ≡ slotAt number (historyKept - suc j)
-    → size ≡ sizeIn sizes slot → SpareSize number sizes j size
+pub spare-told : (number j slot : ℕ) (sizes : List ℕ) {size : ℕ} → Sizes sizes → slot ≡ historySlot number (historyKept - suc j)
+    → size ≡ lengthIn sizes slot → SpareSize number sizes j size
 spare-told number j slot sizes lengths found told =
     let low : slot < historyKept = omega arith in
-    record { small = rw told (lengths .small slot low); answer = told ∙ ap (sizeIn sizes) found }
+    record { small = rw told (lengths .small slot low); answer = told ∙ ap (lengthIn sizes) found }
 
 -- a spare as the part of the store that the code takes
 abbrev pub slotPart : List ℕ → ℕ → ℕ → List ℕ
 slotPart o slot size = take ((slot * packetLimit + size) - slot * packetLimit) (drop (slot * packetLimit) o)
 
 module _ {number : ℕ} {sizes o : List ℕ} {j : ℕ} {out : List ℕ} (asked : SpareAsked number sizes o j out) (slot : ℕ) {size : ℕ}
-    (found : slot ≡ slotAt number (historyKept - suc j)) (told : SpareSize number sizes j size) where
+    (found : slot ≡ historySlot number (historyKept - suc j)) (told : SpareSize number sizes j size) where
   spare-part : slotPart o slot size ≡ spareIn number sizes o j
   unfolding part
   spare-part =
       let near = asked .near in
-      let all : (slot * packetLimit + size) - slot * packetLimit ≡ sizeIn sizes (slotAt number (historyKept - suc j)) =
+      let all : (slot * packetLimit + size) - slot * packetLimit ≡ lengthIn sizes (historySlot number (historyKept - suc j)) =
       (let is = told .answer in omega arith) in
       rw (all, found) (sym (history-at number sizes o (historyKept - suc j) (omega arith)))
 
@@ -75,7 +76,7 @@ message-count number sizes o n m i {size} {sum} told summed =
 
 module _ {number : ℕ} {sizes o : List ℕ} {n m i : ℕ} {out : List ℕ} (asked : MessageAsked number sizes o n m i out) {size : ℕ}
     {sum : List ℕ} (told : MessageSize number sizes n m i size) (summed : MessageSum number o n m i sum) where
-  message-made : take size sum ≡ messageIn number sizes o n m i
+  message-made : take size sum ≡ parityIn number sizes o n m i
   message-made =
       rw (summed .answer sizes (asked .stored), told .answer o (asked .stored))
       (exclusiveOr-cut packetLimit (longest (membersIn number sizes o n m i)) (membersIn number sizes o n m i)
@@ -88,7 +89,7 @@ module _ {number : ℕ} {sizes o : List ℕ} {n m i : ℕ} {out : List ℕ} (ask
       (omega arith, rw message-made (asked .room))
 
   pub message-put : {new : List ℕ} {r : ℕ} → Put (itemOctets (take size sum)) out new r
-      → Put (itemOctets (messageIn number sizes o n m i)) out new r
+      → Put (itemOctets (parityIn number sizes o n m i)) out new r
   message-put p = rw message-made at p
 
 pub ruleset onePuts = (spare-told, spare-put, message-count, message-put)
@@ -103,10 +104,10 @@ one-near k count j one =
 pub one-reach : (k : Kind) {n count j : ℕ} → k ≡ kind.Parity n → ItemOf k count j → Reach n count j
 one-reach k {n} {count} e one =
     let inside : countInside (kind.Parity n) count ≡ true = rw e at (one .counted) in
-    let t = both (within 1 coveredLimit n) (within 1 messagesLimit count) inside in
+    let t = both (within coveredLeast coveredLimit n) (within messagesLeast messagesLimit count) inside in
     record {
-      covered = within-true 1 coveredLimit n (t .0) .1;
-      messages = within-true 1 messagesLimit count (t .1) .1;
+      covered = within-true coveredLeast coveredLimit n (t .0) .1;
+      messages = within-true messagesLeast messagesLimit count (t .1) .1;
       one = one .below;
     }
 
@@ -120,7 +121,7 @@ module _ {k : Kind} {count number : ℕ} {sizes : List ℕ} {j : ℕ} where
             ∙ sym (ap length
             (item-spare k count number sizes o j e (one .below)
             ∙ history-at number sizes o (historyKept - suc j) (let near = one-near k count j one in omega arith))
-            ∙ length-packet stored (slotAt number (historyKept - suc j)) (slot-small number (historyKept - suc j)));
+            ∙ length-packet stored (historySlot number (historyKept - suc j)) (slot-small number (historyKept - suc j)));
       }
 
   pub one-message : {n r : ℕ} → k ≡ kind.Parity n → ItemOf k count j → MessageSize number sizes n count j r
@@ -155,7 +156,7 @@ module _ {k : Kind} {count number : ℕ} {sizes o : List ℕ} {j : ℕ} {out : L
       → Put (itemOctets (itemIn k count number sizes o j)) out new r
   put-spare-one e p = rw (item-spare k count number sizes o j e (asked .one .below)) p
 
-  pub put-message-one : {n : ℕ} {new : List ℕ} {r : ℕ} → k ≡ kind.Parity n → Put (itemOctets (messageIn number sizes o n count j)) out new r
+  pub put-message-one : {n : ℕ} {new : List ℕ} {r : ℕ} → k ≡ kind.Parity n → Put (itemOctets (parityIn number sizes o n count j)) out new r
       → Put (itemOctets (itemIn k count number sizes o j)) out new r
   put-message-one e p = rw (item-message k count number sizes o j e (asked .one .below)) p
 

@@ -9,17 +9,16 @@ use lib.Seq.{take-suc, take-all}
 use native.Mathlib.Numerals.{add-one}
 use native.Mathlib.Omega.{arith}
 use borrow.Rule.Slice.PartMut.{midOf, putMid}
-use Rattle.lengths.proofs.Laws.{size-written}
+use Rattle.lengths.proofs.Laws.{size-written, put-none, put-next, put-long, room-left}
+use Rattle.lengths.specs.Promise.{Put}
 use Rattle.datagrams.specs.Sizes.{packetLimit}
 use Rattle.datagrams.specs.Write.{itemOctets, itemsOctets, countInside}
-use Rattle.datagrams.specs.Inner.Put.{Put, itemSize}
+use Rattle.datagrams.specs.Inner.Heads.{itemSize}
 use Rattle.datagrams.specs.declared.kind.Kind.{Kind}
-use Rattle.datagrams.specs.declared.kind.Kind.the-variants as kind
-use Rattle.datagrams.proofs.PutLaws.{put-none, put-next, put-long, room-left, item-length}
-use Rattle.datagrams.proofs.WriteLaws.{count-few}
+use Rattle.datagrams.proofs.Laws.{count-few, item-length}
 use Rattle.sending.specs.Inner.Held.{Stored}
 use Rattle.sending.specs.Inner.Items.{itemsIn, itemIn, ItemOf, ItemSize, ItemAsked, ItemsSize, ItemsAsked}
-use Rattle.sending.proofs.ItemLaws.{items-count}
+use Rattle.sending.proofs.Laws.{items-count}
 
 -- ---- items as octets
 itemsOctets-append : (items more : List (List ℕ)) → itemsOctets (items ++ more) ≡ itemsOctets items ++ itemsOctets more

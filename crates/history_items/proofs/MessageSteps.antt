@@ -14,10 +14,10 @@ use Rattle.stores.specs.Store.{added, HasSlot}
 use Rattle.views.specs.Members.{membersOf}
 use Rattle.views.specs.View.{numbers}
 use Rattle.sending.specs.Sending.{historyKept}
-use Rattle.sending.specs.Sender.{slotAt, sizeIn, packetIn, historyOctets}
+use Rattle.sending.specs.Sender.{historySlot, lengthIn, packetIn, historyOctets}
 use Rattle.sending.specs.Inner.Held.{Sizes, Stored}
 use Rattle.sending.specs.Inner.Items.{Reach, membersIn, MessageSize, MessageSum}
-use Rattle.sending.proofs.History.{length-packet, packet-octet}
+use Rattle.sending.proofs.Laws.{length-packet, packet-octet}
 use Rattle.history_items.proofs.Walk.{Standing, standing-start, standing-turn, standing-slot, place-inside, members-more}
 
 -- ---- message_size
@@ -34,10 +34,11 @@ sizing-start number sizes n m i at e =
 
 module _ {number : ℕ} {sizes : List ℕ} {n m i at size t : ℕ} (v : Sizing number sizes n m i at size t) where
   pub sizing-turn : {r slot s g : ℕ} → Sizes sizes → Reach n m i → t < n → (r + m) % numbers ≡ at → slot ≡ r % historyKept
-      → s ≡ sizeIn sizes slot → g ≡ max size s → Sizing number sizes n m i r g (t + 1)
+      → s ≡ lengthIn sizes slot → g ≡ max size s → Sizing number sizes n m i r g (t + 1)
   sizing-turn {r} {slot} {s} {g} lengths reach more back found at-slot most =
       let inside = place-inside reach number t more in
-      let same : slot ≡ slotAt number ((historyKept + i) - suc t * m) = found ∙ standing-slot reach number t more (v .standing) r back in
+      let same : slot ≡ historySlot number ((historyKept + i) - suc t * m) = found
+      ∙ standing-slot reach number t more (v .standing) r back in
       record {
         standing = standing-turn reach number t more (v .standing) r back;
         bound = omega arith;
@@ -49,8 +50,8 @@ module _ {number : ℕ} {sizes : List ℕ} {n m i at size t : ℕ} (v : Sizing n
         so = λ o stored.
             most
             ∙ ap₂ max (v .so o stored)
-            (at-slot ∙ ap (sizeIn sizes) same
-            ∙ sym (length-packet stored (slotAt number ((historyKept + i) - suc t * m)) (omega arith)))
+            (at-slot ∙ ap (lengthIn sizes) same
+            ∙ sym (length-packet stored (historySlot number ((historyKept + i) - suc t * m)) (omega arith)))
             ∙ sym (ap longest (members-more number sizes o t m i inside) ∙ longest-more (membersIn number sizes o t m i) _);
       }
 
@@ -94,7 +95,8 @@ module _ {number : ℕ} {o : List ℕ} {n m i at : ℕ} {sum : List ℕ} {t : �
       → more-sum ≡ added sum o slot → length more-sum ≡ packetLimit → Summing number o n m i r more-sum (t + 1)
   summing-turn {r} {slot} {more-sum} reach more back found plus long =
       let inside = place-inside reach number t more in
-      let same : slot ≡ slotAt number ((historyKept + i) - suc t * m) = found ∙ standing-slot reach number t more (v .standing) r back in
+      let same : slot ≡ historySlot number ((historyKept + i) - suc t * m) = found
+      ∙ standing-slot reach number t more (v .standing) r back in
       record {
         standing = standing-turn reach number t more (v .standing) r back;
         bound = omega arith;
@@ -102,13 +104,17 @@ module _ {number : ℕ} {o : List ℕ} {n m i at : ℕ} {sum : List ℕ} {t : �
         so = λ sizes stored.
             plus
             ∙ ap₂ (λ (l : List ℕ) (k : ℕ). added l o k) (v .so sizes stored) same
-            ∙ added-packet stored (membersIn number sizes o t m i) (slotAt number ((historyKept + i) - suc t * m)) (omega arith)
+            ∙ added-packet stored (membersIn number sizes o t m i) (historySlot number ((historyKept + i) - suc t * m)) (omega arith)
             ∙ sym (ap (exclusiveOr packetLimit) (members-more number sizes o t m i inside));
       }
 
   pub summing-done : n ≤ t → MessageSum number o n m i sum
   summing-done end =
       let all : t ≡ n = (let few = v .bound in omega arith) in
-      record { long = v .long; answer = λ sizes stored. v .so sizes stored ∙ ap (λ (k : ℕ). exclusiveOr packetLimit (membersIn number sizes o k m i)) all }
+      record {
+        long = v .long;
+        answer = λ sizes stored. v .so sizes stored
+            ∙ ap (λ (k : ℕ). exclusiveOr packetLimit (membersIn number sizes o k m i)) all;
+      }
 
 pub ruleset summings = (summing-start, summing-turn, summing-done)

@@ -7,56 +7,46 @@ use native.Mathlib.Omega.{arith}
 use borrow.Rule.Slice.PartMut.{midOf, putMid}
 use Rattle.lengths.specs.Refusals.{noRoom}
 use Rattle.lengths.specs.Answers.{done}
-use Rattle.lengths.specs.Length.{lengthLimit}
-use Rattle.lengths.specs.Promise.{Puts, RefusalMade}
+use Rattle.lengths.specs.Promise.{Puts, RefusalMade, Put}
 use Rattle.lengths.specs.declared.Refusal.{Refusal}
 use Rattle.lengths.specs.declared.Written.the-variants as written
-use Rattle.lengths.proofs.Laws.{size-written}
+use Rattle.lengths.proofs.Laws.{size-written, put-next, put-long, put-puts, full-puts, room-left}
 use Rattle.datagrams.specs.Write.{numberOctets, itemOctets, itemsOctets, datagramOctets}
-use Rattle.datagrams.specs.Inner.Put.{Put, KindFits, kindHead, itemSize}
+use Rattle.datagrams.specs.Inner.Heads.{FrontAsked, kindHead, frontOctets, itemSize}
 use Rattle.datagrams.specs.declared.kind.Kind.{Kind}
 use Rattle.datagrams.specs.declared.kind.Kind.the-variants as kind
-use Rattle.datagrams.proofs.PutLaws.{put-next, put-long, put-puts, full-puts, room-left, number-length, item-length}
-use Rattle.datagrams.proofs.WriteLaws.{extra-form, count-few, n-fits}
+use Rattle.datagrams.proofs.Laws.{extra-form, count-few, n-fits, front-length, kind-bound}
 use Rattle.sending.specs.Inner.Items.{itemsIn, ItemsSize, ItemsAsked}
 use Rattle.sending.specs.Inner.Next.{carriedIn, NextSizes, NextSize, NextAsked, NextRoom}
-use Rattle.sending.proofs.ItemLaws.{items-count}
-use Rattle.sending.proofs.Kept.{packet-fits}
+use Rattle.sending.proofs.Laws.{items-count, packet-fits}
 
 -- ---- its octets, part by part
 module _ (number : ℕ) (sizes o packet : List ℕ) (k : Kind) (count : ℕ) where
   next-form : datagramOctets (carriedIn number sizes o packet k count)
-      ≡ ((numberOctets number ++ itemOctets packet) ++ kindHead k count) ++ itemsOctets (itemsIn k count number sizes o)
+      ≡ frontOctets number packet k count ++ itemsOctets (itemsIn k count number sizes o)
   unfolding datagramOctets
   next-form =
       rw (extra-form k (itemsIn k count number sizes o), items-count k count number sizes o)
       (sym (append-assoc (numberOctets number ++ itemOctets packet) _ _ ∙ append-assoc (numberOctets number) (itemOctets packet) _))
-
-  head-length : length (numberOctets number ++ itemOctets packet) ≡ 2 + itemSize (length packet)
-  head-length = rw (length-append (numberOctets number) (itemOctets packet), number-length number, item-length packet)
 
   next-length : length (datagramOctets (carriedIn number sizes o packet k count))
       ≡ 2 + itemSize (length packet) + length (kindHead k count) + length (itemsOctets (itemsIn k count number sizes o))
   next-length =
       rw (
         next-form,
-        length-append ((numberOctets number ++ itemOctets packet) ++ kindHead k count) (itemsOctets (itemsIn k count number sizes o)),
-        length-append (numberOctets number ++ itemOctets packet) (kindHead k count),
-        head-length,
+        length-append (frontOctets number packet k count) (itemsOctets (itemsIn k count number sizes o)),
+        front-length number packet k count,
       )
 
 -- ---- next_size
-kind-few : (k : Kind) (count : ℕ) → length (kindHead k count) ≤ 5
-kind-few kind.Spares count = let two = size-written count .1 in omega arith
-kind-few (kind.Parity n) count = let two = size-written count .1 in omega arith
-
 module _ {number : ℕ} {sizes packet : List ℕ} {k : Kind} {count newest before items : ℕ} (asked : NextSizes sizes packet k count)
-    (first : newest ≡ itemSize (length packet)) (head : before ≡ length (kindHead k count)) (rest : ItemsSize k count number sizes items) where
+    (first : newest ≡ itemSize (length packet)) (head : before ≡ length (kindHead k count))
+    (rest : ItemsSize k count number sizes items) where
   pub next-few : 2 + newest + before + items ≤ 2000
   next-few =
       let short = packet-fits packet (asked .newest) in
       let two = size-written (length packet) .1 in
-      let five = kind-few k count in
+      let five = kind-bound k count in
       let many = rest .small in
       omega arith
 
@@ -70,57 +60,40 @@ module _ {number : ℕ} {sizes packet : List ℕ} {k : Kind} {count newest befor
       }
 
 -- ---- put_next
-module _ {number : ℕ} {sizes o packet : List ℕ} {k : Kind} {count : ℕ} {old : List ℕ} (asked : NextRoom number sizes o packet k count old) where
-  pub head-asked : (length packet ≤ lengthLimit) × (length (numberOctets number) + itemSize (length packet) ≤ length old)
-  head-asked =
+module _ {number : ℕ} {sizes o packet : List ℕ} {k : Kind} {count : ℕ} {old : List ℕ}
+    (asked : NextRoom number sizes o packet k count old) where
+  pub front-asked : FrontAsked number packet k count old
+  front-asked =
       let short = packet-fits packet (asked .asked .newest) in
-      let room = asked .room in
-      let whole = next-length number sizes o packet k count in
-      let two = number-length number in
-      (omega arith, omega arith)
-
-  pub kind-asked : {mid : List ℕ} {at : ℕ} → Put (numberOctets number ++ itemOctets packet) old mid at
-      → (KindFits k count) × (length (kindHead k count) ≤ length (midOf at (length mid - at) mid))
-  kind-asked {mid} {at} p =
       let few = count-few k count (asked .asked .counted) in
-      let size = head-length number sizes o packet k count in
       let whole = next-length number sizes o packet k count in
+      let size = front-length number packet k count in
+      let room = asked .room in
+      record {
+        newest = omega arith;
+        head = record { n = n-fits k count (asked .asked .counted); counted = omega arith };
+        room = omega arith;
+      }
+
+  pub items-asked : {mid : List ℕ} {at : ℕ} → Put (frontOctets number packet k count) old mid at
+      → ItemsAsked k count number sizes o (midOf at (length mid - at) mid)
+  items-asked {mid} {at} p =
+      let whole = next-length number sizes o packet k count in
+      let size = front-length number packet k count in
       let long = put-long p in
       let room = asked .room in
-      let told = p .answer in (
-        record { n = n-fits k count (asked .asked .counted); counted = omega arith },
-        room-left mid at (length (kindHead k count)) (omega arith),
-      )
-
-  pub items-asked : {mid part : List ℕ} {at n : ℕ} → Put (numberOctets number ++ itemOctets packet) old mid at
-      → Put (kindHead k count) (midOf at (length mid - at) mid) part n
-      → ItemsAsked k count number sizes o
-      (midOf (at + n) (length (putMid at (length mid - at) mid part) - (at + n)) (putMid at (length mid - at) mid part))
-  items-asked {mid} {part} {at} {n} p q =
-      let size = head-length number sizes o packet k count in
-      let whole = next-length number sizes o packet k count in
-      let both = put-next p q in
-      let long = put-long both in
-      let room = asked .room in
       let told = p .answer in
-      let more = q .answer in
       record {
         counted = asked .asked .counted;
         stored = asked .asked .stored;
-        room = room-left (putMid at (length mid - at) mid part) (at + n) (length (itemsOctets (itemsIn k count number sizes o))) (omega arith);
+        room = room-left mid at (length (itemsOctets (itemsIn k count number sizes o))) (omega arith);
       }
 
-pub next-put : (number : ℕ) (sizes o packet : List ℕ) (k : Kind) (count : ℕ) {old mid part part₂ : List ℕ} {at n m : ℕ}
-    → Put (numberOctets number ++ itemOctets packet) old mid at
-    → Put (kindHead k count) (midOf at (length mid - at) mid) part n
-    → Put (itemsOctets (itemsIn k count number sizes o))
-    (midOf (at + n) (length (putMid at (length mid - at) mid part) - (at + n)) (putMid at (length mid - at) mid part))
-    part₂
-    m
-    → Put (datagramOctets (carriedIn number sizes o packet k count)) old
-    (putMid (at + n) (length (putMid at (length mid - at) mid part) - (at + n)) (putMid at (length mid - at) mid part) part₂)
-    (at + n + m)
-next-put number sizes o packet k count p q r = rw (next-form number sizes o packet k count) (put-next (put-next p q) r)
+pub next-put : (number : ℕ) (sizes o packet : List ℕ) (k : Kind) (count : ℕ) {old mid part : List ℕ} {at n : ℕ}
+    → Put (frontOctets number packet k count) old mid at
+    → Put (itemsOctets (itemsIn k count number sizes o)) (midOf at (length mid - at) mid) part n
+    → Put (datagramOctets (carriedIn number sizes o packet k count)) old (putMid at (length mid - at) mid part) (at + n)
+next-put number sizes o packet k count p q = rw (next-form number sizes o packet k count) (put-next p q)
 
 -- ---- write_next
 module _ {number : ℕ} {sizes o packet : List ℕ} {k : Kind} {count : ℕ} {old : List ℕ} {size : ℕ}
@@ -135,4 +108,4 @@ module _ {number : ℕ} {sizes o packet : List ℕ} {k : Kind} {count : ℕ} {ol
 pub next-sizes : {sizes o packet : List ℕ} {k : Kind} {count : ℕ} → NextAsked sizes o packet k count → NextSizes sizes packet k count
 next-sizes asked = record { lengths = asked .stored .lengths; newest = asked .newest; counted = asked .counted }
 
-pub ruleset nexts = (next-told, next-put, next-full, next-room, next-sizes, put-puts)
+pub ruleset nexts = (next-told, front-asked, items-asked, next-put, next-full, next-room, next-sizes, put-puts)

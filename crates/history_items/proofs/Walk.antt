@@ -12,10 +12,9 @@ use Rattle.views.specs.Members.{membersOf}
 use Rattle.views.specs.View.{numbers}
 use Rattle.sending.specs.Sending.{historyKept}
 use Rattle.sending.specs.Send.{packetOf}
-use Rattle.sending.specs.Sender.{slotAt, packetIn, historyIn}
+use Rattle.sending.specs.Sender.{historySlot, packetIn, historyIn}
 use Rattle.sending.specs.Inner.Items.{Reach, membersIn}
-use Rattle.sending.proofs.Slots.{covered-kept}
-use Rattle.sending.proofs.History.{history-at}
+use Rattle.sending.proofs.Laws.{covered-kept, history-at}
 
 -- after t turns the number `at` has the place of member t − 1, counted from number − historyKept
 pub record Standing (number m i at t : ℕ) : Type 0 where
@@ -60,15 +59,16 @@ module _ {n m i : ℕ} (reach : Reach n m i) (number t : ℕ) (more : t < n) whe
         record { stands = rw next (step number i at r m (t * m) (reach-back t reach more) back (s .stands)) }
 
     -- the slot of the number is the slot of the member's place
-    pub standing-slot : r % historyKept ≡ slotAt number ((historyKept + i) - suc t * m)
+    pub standing-slot : r % historyKept ≡ historySlot number ((historyKept + i) - suc t * m)
     standing-slot =
-        let now : (r + historyKept) % numbers ≡ (number + ((historyKept + i) - suc t * m)) % numbers = rw add-one at (standing-turn .stands) in
+        let now : (r + historyKept) % numbers ≡ (number + ((historyKept + i) - suc t * m)) % numbers = rw add-one at
+        (standing-turn .stands) in
         omega arith
 
 -- ---- one member more
 pub members-more : (number : ℕ) (sizes o : List ℕ) (t m i : ℕ) → (historyKept + i) - suc t * m < historyKept
     → membersIn number sizes o (t + 1) m i
-    ≡ membersIn number sizes o t m i ++ (packetIn sizes o (slotAt number ((historyKept + i) - suc t * m)) ∷ [])
+    ≡ membersIn number sizes o t m i ++ (packetIn sizes o (historySlot number ((historyKept + i) - suc t * m)) ∷ [])
 unfolding membersOf
 members-more number sizes o t m i inside =
     let place : ℕ → ℕ = λ u. (historyKept + i) - suc u * m in

@@ -8,12 +8,13 @@ ghost use mathlib.Core.Path.{_≡_};
 ghost use mathlib.Core.Bool.{true};
 ghost use Prim.Native.Nat.{suc, _-_, _<_, max};
 ghost use lib.ListN.{length};
-ghost use Rattle.datagrams.specs.Inner.Put.{Put};
+ghost use Rattle.lengths.specs.Promise.{Put};
 ghost use Rattle.datagrams.specs.Write.{countInside, itemOctets, itemsOctets};
 ghost use Rattle.sending.specs.Sending.{historyKept};
-ghost use Rattle.sending.specs.Sender.{historyOctets, slotAt};
+ghost use Rattle.sending.specs.Sender.{historyOctets, historySlot};
 ghost use Rattle.sending.specs.Inner.Held.{Sizes};
-ghost use Rattle.sending.specs.Inner.Items.{Reach, messageIn, MessageSize, MessageSum, MessageAsked, spareIn, SpareSize, SpareAsked, itemsIn, itemIn, ItemOf, ItemSize, ItemAsked, ItemsSize, ItemsAsked};
+ghost use Rattle.sending.specs.Inner.Items.{Reach, parityIn, MessageSize, MessageSum, MessageAsked, spareIn, SpareSize, SpareAsked};
+ghost use Rattle.sending.specs.Inner.Items.{itemsIn, itemIn, ItemOf, ItemSize, ItemAsked, ItemsSize, ItemsAsked};
 
 fn greater(a: usize, b: usize) -> usize
     ensures { λ r. ⌜ r ≡ max a b ⌝ }
@@ -67,7 +68,8 @@ fn put_message(
     out: &mut [u8],
 ) -> usize
     requires { ⌜ MessageAsked number (now sizes) (now o) n m i (now out) ⌝ }
-    ensures { λ r. ⌜ Put (itemOctets (messageIn number (now (sizes .entry)) (now (o .entry)) n m i)) (now (out .entry)) (now (out .exit)) r ⌝ }
+    ensures { λ r. ⌜ Put (itemOctets (parityIn number (now (sizes .entry)) (now (o .entry)) n m i)) (now (out .entry))
+        (now (out .exit)) r ⌝ }
 {
     let size = message_size(number, sizes, n, m, i);
     let sum = message_sum(number, o, n, m, i);
@@ -79,7 +81,7 @@ fn put_message(
 // The slot of the spare after j others, which is packet S-1-j.
 fn spare_slot(number: u16, j: usize) -> usize
     requires { ⌜ j < historyKept ⌝ }
-    ensures { λ r. ⌜ r ≡ slotAt number (historyKept - suc j) ⌝ }
+    ensures { λ r. ⌜ r ≡ historySlot number (historyKept - suc j) ⌝ }
 {
     let back = j + 1;
     slot_of(std::num::wrapping_sub_u16(number, back as u16))
@@ -125,7 +127,8 @@ fn put_one(
     out: &mut [u8],
 ) -> usize
     requires { ⌜ ItemAsked kind count number (now sizes) (now o) j (now out) ⌝ }
-    ensures { λ r. ⌜ Put (itemOctets (itemIn kind count number (now (sizes .entry)) (now (o .entry)) j)) (now (out .entry)) (now (out .exit)) r ⌝ }
+    ensures { λ r. ⌜ Put (itemOctets (itemIn kind count number (now (sizes .entry)) (now (o .entry)) j)) (now (out .entry))
+        (now (out .exit)) r ⌝ }
 {
     match kind {
         Kind::Spares => put_spare(number, sizes, o, j, out),
@@ -158,7 +161,8 @@ pub fn put_items(
     out: &mut [u8],
 ) -> usize
     requires { ⌜ ItemsAsked kind count number (now sizes) (now o) (now out) ⌝ }
-    ensures { λ r. ⌜ Put (itemsOctets (itemsIn kind count number (now (sizes .entry)) (now (o .entry)))) (now (out .entry)) (now (out .exit)) r ⌝ }
+    ensures { λ r. ⌜ Put (itemsOctets (itemsIn kind count number (now (sizes .entry)) (now (o .entry)))) (now (out .entry))
+        (now (out .exit)) r ⌝ }
 {
     let mut j = 0;
     let mut at = 0;

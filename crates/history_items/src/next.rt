@@ -6,8 +6,7 @@ use datagrams::Kind;
 use lengths::Refusal;
 use lengths::Written;
 ghost use Rattle.lengths.specs.Answers.{done};
-ghost use Rattle.lengths.specs.Promise.{Puts};
-ghost use Rattle.datagrams.specs.Inner.Put.{Put};
+ghost use Rattle.lengths.specs.Promise.{Puts, Put};
 ghost use Rattle.datagrams.specs.Write.{datagramOctets};
 ghost use Rattle.sending.specs.Inner.Next.{carriedIn, NextSizes, NextSize, NextAsked, NextRoom};
 
@@ -35,11 +34,10 @@ fn put_next(
     out: &mut [u8],
 ) -> usize
     requires { ⌜ NextRoom number (now sizes) (now o) (now packet) kind count (now out) ⌝ }
-    ensures { λ r. ⌜ Put (datagramOctets (carriedIn number (now (sizes .entry)) (now (o .entry)) (now (packet .entry)) kind count)) (now (out .entry)) (now (out .exit)) r ⌝ }
+    ensures { λ r. ⌜ Put (datagramOctets (carriedIn number (now (sizes .entry)) (now (o .entry)) (now (packet .entry)) kind count))
+        (now (out .entry)) (now (out .exit)) r ⌝ }
 {
-    let head = datagram_items::put_head(number, packet, out);
-    let before = datagram_items::put_kind(kind, count, &mut out[head..]);
-    let at = head + before;
+    let at = datagram_items::put_front(number, packet, kind, count, out);
     let items = put_items(number, sizes, o, kind, count, &mut out[at..]);
     at + items
 }
@@ -55,7 +53,8 @@ pub fn write_next(
     out: &mut [u8],
 ) -> Written
     requires { ⌜ NextAsked (now sizes) (now o) (now packet) kind count ⌝ }
-    ensures { λ r. ⌜ Puts (done (datagramOctets (carriedIn number (now (sizes .entry)) (now (o .entry)) (now (packet .entry)) kind count))) (now (out .entry)) (now (out .exit)) r ⌝ }
+    ensures { λ r. ⌜ Puts (done (datagramOctets (carriedIn number (now (sizes .entry)) (now (o .entry))
+        (now (packet .entry)) kind count))) (now (out .entry)) (now (out .exit)) r ⌝ }
 {
     let size = next_size(number, sizes, packet, kind, count);
     if out.len() < size {

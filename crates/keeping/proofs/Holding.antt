@@ -18,8 +18,8 @@ use Rattle.views.specs.Ranges.{markRight}
 use Rattle.held.specs.Slots.{heardSlotAt, slotsHeard, messageOctets}
 use Rattle.held.specs.Table.{places, heldOf, heardSet}
 use Rattle.held.proofs.Laws.{heard-small, heard-cells, heard-held, heard-ranges}
-use Rattle.keeping.specs.Steps.{itemOctets, Fit, ItemsLaid}
-use Rattle.keeping.specs.Promise.{Settings, Carries, MayHold, Holds}
+use Rattle.keeping.specs.Steps.{partOctets, Fit, ItemsLaid}
+use Rattle.keeping.specs.Promise.{Settings, CarriesMessages, MayHold, Holds}
 use Rattle.keeping.proofs.Laying.{length-octets}
 
 -- ---- the settings
@@ -36,7 +36,7 @@ settings-right n m settings =
     (and-both (and-both (le-leb 1 n (sizes .least)) (le-leb n coveredLimit (sizes .covered))) (le-leb m messagesLimit (sizes .messages))))
     settings
 
-module _ {s : List ℕ} {d n : ℕ} {items : List Part} {count : ℕ} (c : Carries s d n items count) where
+module _ {s : List ℕ} {d n : ℕ} {items : List Part} {count : ℕ} (c : CarriesMessages s d n items count) where
   pub carried-fit : Fit s items count
   carried-fit = record { few = settings-few (c .settings) .1; each = c .each }
 
@@ -53,13 +53,13 @@ module _ {base : ℕ} {t g : List ℕ} {d : ℕ} (may : MayHold base t g d) wher
 
 -- ---- what hold owes
 pub number-held : {base d : ℕ} {s : List ℕ} {n : ℕ} {items : List Part} {count number slot : ℕ} {t g marked newT newG : List ℕ}
-    → Carries s d n items count → number ≡ (base + d) % numbers → slot ≡ number % slotsHeard → marked ≡ heardSet t slot 1 n count
+    → CarriesMessages s d n items count → number ≡ (base + d) % numbers → slot ≡ number % slotsHeard → marked ≡ heardSet t slot 1 n count
     → ItemsLaid s slot items count marked g newT newG → Holds base d s n items count t g newT newG
 number-held {base} {d} {s} {n} {items} {count} {number} {slot} {t} {g} {marked} {newT} {newG} carries e-number e-slot e-marked l =
     let at : slot ≡ heardSlotAt base d = omega arith in
     let small : slot < slotsHeard = rw at (heard-small base d) in
     let few = settings-few (carries .settings) .1 in
-    let fits : (i : ℕ) → i < count → length (itemOctets s items i) ≤ messageLimit =
+    let fits : (i : ℕ) → i < count → length (partOctets s items i) ≤ messageLimit =
     λ i below. omega (arith, length-octets (carries .each i below), carries .each i below .high) in
     let sizes = rw e-marked at (l .sizes) in
     record {

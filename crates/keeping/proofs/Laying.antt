@@ -20,7 +20,7 @@ use Rattle.held.specs.Slots.{messageSlot, Apart, slotsHeard, slotsMessages, mes
 use Rattle.held.specs.Table.{places, messagePlace}
 use Rattle.held.specs.Heard.{SizesLaid, OctetsLaid}
 use Rattle.held.proofs.Laws.{message-small, has-message-slot, apart-before, apart-here}
-use Rattle.keeping.specs.Steps.{itemAt, itemOctets, PartPut, Fit, ItemsLaid}
+use Rattle.keeping.specs.Steps.{partAt, partOctets, PartPut, Fit, ItemsLaid}
 
 -- ---- a part of the datagram has as many octets as it says
 pub length-octets : {least most : ℕ} {s : List ℕ} {p : Part} → PartInside least most s p → length (octetsOf s p) ≡ p .size
@@ -123,7 +123,7 @@ pub record Laying (s : List ℕ) (j : ℕ) (items : List Part) (count : ℕ) (t 
 pub laying-start : (s : List ℕ) (j : ℕ) (items : List Part) (count : ℕ) (t g : List ℕ) → Laying s j items count t g t g 0
 laying-start s j items count t g =
     record {
-      laid = record { sizes = sizes-none j (itemOctets s items) t; octets = octets-none j (itemOctets s items) g };
+      laid = record { sizes = sizes-none j (partOctets s items) t; octets = octets-none j (partOctets s items) g };
       few = omega arith;
     }
 
@@ -143,7 +143,7 @@ module _ {s : List ℕ} {j : ℕ} {items : List Part} {count : ℕ} {t g now sto
     slot-there e below =
         has-message-slot store (messageSlot j e) (l .laid .octets .long ∙ octets) (message-small j e small (omega (arith, fit .few)))
 
-    item-fits : (e : ℕ) → e < i + 1 → length (itemOctets s items e) ≤ packetLimit
+    item-fits : (e : ℕ) → e < i + 1 → length (partOctets s items e) ≤ packetLimit
     item-fits e below =
         let item = fit .each e (omega arith) in
         omega (arith, length-octets item, item .high)
@@ -151,13 +151,13 @@ module _ {s : List ℕ} {j : ℕ} {items : List Part} {count : ℕ} {t g now sto
     pub laying-slot : HasSlot (messageSlot j i) store
     laying-slot = slot-there i (omega arith)
 
-    pub laying-item : PartInside messageLeast messageLimit s (itemAt items i)
+    pub laying-item : PartInside messageLeast messageLimit s (partAt items i)
     laying-item = fit .each i more
 
     pub laying-place : messageSlot j i < slotsMessages
     laying-place = message-small j i small (omega (arith, fit .few))
 
-    pub laying-turn : {new : List ℕ} {size : ℕ} {after : List ℕ} → PartPut (messageSlot j i) s (itemAt items i) store new size
+    pub laying-turn : {new : List ℕ} {size : ℕ} {after : List ℕ} → PartPut (messageSlot j i) s (partAt items i) store new size
         → after ≡ set now (messagePlace (messageSlot j i)) size → Laying s j items count t g after new (i + 1)
     laying-turn {new} {size} {after} put set-is =
         record {

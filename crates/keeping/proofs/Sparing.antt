@@ -18,7 +18,7 @@ use Rattle.held.specs.Slots.{numberAt, packetOctets}
 use Rattle.held.specs.Table.{lent, places, cellsOf, heldOf}
 use Rattle.held.specs.Laid.{InRanges}
 use Rattle.held.specs.declared.Counts.{Counts}
-use Rattle.keeping.specs.Steps.{itemAt}
+use Rattle.keeping.specs.Steps.{partAt}
 use Rattle.keeping.specs.Promise.{MayKeep, Keeps, CarriesSpares, KeepsSpares}
 use Rattle.keeping.proofs.Keeping.{spare-number}
 
@@ -31,18 +31,18 @@ keepSpares-cons p x xs cells = refl
 spares-step : (s : List ℕ) (items : List Part) (count p j : ℕ) (cells : List Cell) → count ≤ length items → j < count → count ≤ p
     → offers.keepSpares (p - j) (map (octetsOf s) (drop j (take count items))) cells
     ≡ offers.keepSpares (p - (j + 1)) (map (octetsOf s) (drop (j + 1) (take count items)))
-    (offers.keep spare (p - (j + 1)) (octetsOf s (itemAt items j)) cells)
+    (offers.keep spare (p - (j + 1)) (octetsOf s (partAt items j)) cells)
 spares-step s items count p j cells fits more low =
     let long : length (take count items) ≡ count = length-take-le count items fits in
-    let part : getD (take count items) j nowhere ≡ itemAt items j = getD-take count items j nowhere more in
+    let part : getD (take count items) j nowhere ≡ partAt items j = getD-take count items j nowhere more in
     let back : (p - j) - 1 ≡ p - (j + 1) = omega arith in
-    let parted : drop j (take count items) ≡ itemAt items j ∷ drop (j + 1) (take count items) =
+    let parted : drop j (take count items) ≡ partAt items j ∷ drop (j + 1) (take count items) =
     drop-cons (take count items) j nowhere (rw long more)
     ∙ ap₂ (λ (x : Part) (k : ℕ). x ∷ drop k (take count items)) part (sym (add-one j)) in
     ap (λ (l : List Part). offers.keepSpares (p - j) (map (octetsOf s) l) cells) parted
-    ∙ keepSpares-cons (p - j) (octetsOf s (itemAt items j)) (map (octetsOf s) (drop (j + 1) (take count items))) cells
+    ∙ keepSpares-cons (p - j) (octetsOf s (partAt items j)) (map (octetsOf s) (drop (j + 1) (take count items))) cells
     ∙ ap (λ (k : ℕ). offers.keepSpares k (map (octetsOf s) (drop (j + 1) (take count items)))
-    (offers.keep spare k (octetsOf s (itemAt items j)) cells)) back
+    (offers.keep spare k (octetsOf s (partAt items j)) cells)) back
 
 -- ---- the loop
 pub record SparesNow (s : List ℕ) (items : List Part) (count base : ℕ) (c : Counts) (g : List ℕ) (p : ℕ) (t o new store : List ℕ) (at j : ℕ)
@@ -80,7 +80,7 @@ module _ {number : ℕ} {s : List ℕ} {items : List Part} {count : ℕ} {t o ne
   pub sparing-octets : length store ≡ packetOctets
   sparing-octets = l .octets
 
-  pub sparing-part : CarriesSpares s items count → j < count → PartInside packetLeast packetLimit s (itemAt items j)
+  pub sparing-part : CarriesSpares s items count → j < count → PartInside packetLeast packetLimit s (partAt items j)
   sparing-part carries more = carries .each j more
 
   pub sparing-may : {before : ℕ} → MayKeep number count t o → j < count → before < numbers → (before + 1) % numbers ≡ at
@@ -103,7 +103,7 @@ module _ {number : ℕ} {s : List ℕ} {items : List Part} {count : ℕ} {t o ne
       }
 
   pub sparing-turn : {before : ℕ} {newT newO : List ℕ} → CarriesSpares s items count → j < count → before < numbers
-      → (before + 1) % numbers ≡ at → Keeps 2 before (octetsOf s (itemAt items j)) new store newT newO → length newT ≡ length new
+      → (before + 1) % numbers ≡ at → Keeps 2 before (octetsOf s (partAt items j)) new store newT newO → length newT ≡ length new
       → length newO ≡ length store → Sparing number s items count t o newT newO before (j + 1)
   sparing-turn {before} {newT} {newO} carries more small e-before k same-t same-o =
       record {

@@ -20,7 +20,7 @@ use Rattle.held.specs.Slots.{numberAt}
 use Rattle.held.specs.Table.{Lent, lent, stateNumbered, cellsOf, heldOf}
 use Rattle.held.specs.Laid.{InRanges}
 use Rattle.held.specs.declared.Counts.{Counts}
-use Rattle.keeping.specs.Steps.{itemAt}
+use Rattle.keeping.specs.Steps.{partAt}
 
 -- ---- a packet, and spares
 -- the cells are these, what is held is as it was, and all is within the ranges
@@ -51,7 +51,7 @@ pub record Keeps (state number : ℕ) (b t o newT newO : List ℕ) : Type 0 wher
 pub record CarriesSpares (s : List ℕ) (items : List Part) (count : ℕ) : Type 0 where
   pub few : count ≤ sparesLimit
   pub there : count ≤ length items
-  pub each : (i : ℕ) → i < count → PartInside packetLeast packetLimit s (itemAt items i)
+  pub each : (i : ℕ) → i < count → PartInside packetLeast packetLimit s (partAt items i)
 
 -- the spares kept of the datagram with that number
 pub record KeepsSpares (number : ℕ) (s : List ℕ) (items : List Part) (count : ℕ) (t o newT newO : List ℕ) : Type 0 where
@@ -73,11 +73,11 @@ Settings n m = ((m ≡ 0) × (n ≡ 0)) ⊎ InSizes n m
 
 -- what a datagram at distance d carries beside its packet: n, and its messages as parts of its octets s; with spares there
 -- are no messages, and n is 0
-pub record Carries (s : List ℕ) (d n : ℕ) (items : List Part) (count : ℕ) : Type 0 where
+pub record CarriesMessages (s : List ℕ) (d n : ℕ) (items : List Part) (count : ℕ) : Type 0 where
   pub near : d < keptAhead
   pub settings : Settings n count
   pub there : count ≤ length items
-  pub each : (i : ℕ) → i < count → PartInside messageLeast messageLimit s (itemAt items i)
+  pub each : (i : ℕ) → i < count → PartInside messageLeast messageLimit s (partAt items i)
 
 -- what is lent is within the ranges, and the number at distance d is known, but its datagram was not accepted before
 pub record Unmarked (l : Lent) (d : ℕ) : Type 0 where

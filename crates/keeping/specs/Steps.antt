@@ -18,18 +18,18 @@ pub record PartPut (slot : ℕ) (s : List ℕ) (p : Part) (old new : List ℕ) (
   pub octets : new ≡ pasted old slot (octetsOf s p)
 
 -- item i, and its octets
-abbrev pub itemAt : List Part → ℕ → Part
-itemAt items i = getD items i nowhere
+abbrev pub partAt : List Part → ℕ → Part
+partAt items i = getD items i nowhere
 
-abbrev pub itemOctets : List ℕ → List Part → ℕ → List ℕ
-itemOctets s items = λ i. octetsOf s (itemAt items i)
+abbrev pub partOctets : List ℕ → List Part → ℕ → List ℕ
+partOctets s items = λ i. octetsOf s (partAt items i)
 
 -- the messages are few enough, and each is a part of the octets s within the sizes
 pub record Fit (s : List ℕ) (items : List Part) (count : ℕ) : Type 0 where
   pub few : count ≤ messagesLimit
-  pub each : (i : ℕ) → i < count → PartInside messageLeast messageLimit s (itemAt items i)
+  pub each : (i : ℕ) → i < count → PartInside messageLeast messageLimit s (partAt items i)
 
 -- what lay owes: the first `count` messages of slot j are the items
 pub record ItemsLaid (s : List ℕ) (j : ℕ) (items : List Part) (count : ℕ) (t g newT newG : List ℕ) : Type 0 where
-  pub sizes : SizesLaid j count (itemOctets s items) t newT
-  pub octets : OctetsLaid j count (itemOctets s items) g newG
+  pub sizes : SizesLaid j count (partOctets s items) t newT
+  pub octets : OctetsLaid j count (partOctets s items) g newG

@@ -18,7 +18,7 @@ ghost use Rattle.views.specs.Ranges.{isFill};
 ghost use Rattle.held.specs.Slots.{slotsHeard, packetOctets, messageOctets};
 ghost use Rattle.held.specs.Table.{places, stateNumbered};
 ghost use Rattle.keeping.specs.Steps.{PartPut, Fit, ItemsLaid};
-ghost use Rattle.keeping.specs.Promise.{MayKeep, CarriesSpares, Keeps, KeepsSpares, Carries, MayHold, Holds};
+ghost use Rattle.keeping.specs.Promise.{MayKeep, CarriesSpares, Keeps, KeepsSpares, CarriesMessages, MayHold, Holds};
 
 // The octets of a part of the datagram s, laid at the front of a slot: hands back how many.
 fn put_part(o: &mut [u8], slot: usize, s: &[u8], part: Part) -> u16
@@ -40,7 +40,8 @@ pub fn keep(t: &mut [u16], o: &mut [u8], number: u16, state: u16, s: &[u8], part
     requires { ⌜ MayKeep number 0 (now t) (now o) ⌝ }
     requires { ⌜ isFill (stateNumbered state) ≡ true ⌝ }
     requires { ⌜ PartInside packetLeast packetLimit (now s) part ⌝ }
-    ensures { λ _. ⌜ Keeps state number (octetsOf (now (s .entry)) part) (now (t .entry)) (now (o .entry)) (now (t .exit)) (now (o .exit)) ⌝ }
+    ensures { λ _. ⌜ Keeps state number (octetsOf (now (s .entry)) part) (now (t .entry)) (now (o .entry)) (now (t .exit))
+        (now (o .exit)) ⌝ }
 {
     let slot = held::kept_slot(number);
     if held::is_known(t, slot) {
@@ -109,8 +110,9 @@ pub fn hold(
     count: usize,
 )
     requires { ⌜ MayHold base (now t) (now g) distance ⌝ }
-    requires { ⌜ Carries (now s) distance n items count ⌝ }
-    ensures { λ _. ⌜ Holds base distance (now (s .entry)) n items count (now (t .entry)) (now (g .entry)) (now (t .exit)) (now (g .exit)) ⌝ }
+    requires { ⌜ CarriesMessages (now s) distance n items count ⌝ }
+    ensures { λ _. ⌜ Holds base distance (now (s .entry)) n items count (now (t .entry)) (now (g .entry)) (now (t .exit))
+        (now (g .exit)) ⌝ }
 {
     let number = std::num::wrapping_add_u16(base, distance);
     let slot = held::heard_slot(number);

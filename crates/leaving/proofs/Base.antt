@@ -1,7 +1,7 @@
 -- The number at the base of a session within its ranges. Assumes nothing.
 use Prim.Native.Nat.{ℕ, _+_, _%_, _≤_, _<_}
 use mathlib.Core.Path.{_≡_, sym, ap, _∙_}
-use mathlib.Core.Bool.{Bool, true, false, false≢true, true≢false}
+use mathlib.Core.Bool.{Bool, true, false, false≢true}
 use mathlib.Core.List.{List}
 use lib.ListN.{length}
 use lib.Dec.{eqb}
@@ -9,12 +9,13 @@ use native.Mathlib.Omega.{arith}
 use borrow.Author.Tests.{leb-false}
 use Rattle.octets.proofs.Laws.{tab-at, and-right}
 use Rattle.datagrams.specs.Sizes.{packetLimit}
-use Rattle.views.specs.Cells.{State, unknown, received, spare, repaired, blank, Cell, blankCell, isUnknown, cellAt, unknownAt, keptBefore, keptNumbers}
+use Rattle.views.specs.Cells.{State, unknown, received, spare, repaired, blank, Cell, blankCell, isUnknown, cellAt, unknownAt, keptBefore}
+use Rattle.views.specs.Cells.{keptNumbers}
 use Rattle.stores.specs.Store.{HasSlot}
 use Rattle.stores.proofs.Laws.{length-part}
 use Rattle.views.specs.View as views
 use Rattle.views.specs.View.{sum, sessionLimit}
-use Rattle.views.specs.Release as release
+use Rattle.views.specs.Release.{counted, atBase}
 use Rattle.views.specs.Ranges.{sizeRight}
 use Rattle.held.specs.Slots.{slotAt, slotsKept}
 use Rattle.held.specs.Table.{lent, countsOf, stateIn, sizeIn, stateNumbered, cellIn, cellsOf, viewIn}
@@ -23,15 +24,14 @@ use Rattle.held.specs.declared.Counts.{Counts}
 use Rattle.held.proofs.Laws.{has-packet-slot}
 use Rattle.leaving.specs.Steps.{Passed}
 
--- a number at the base that is known is received, spare or repaired: one count is one more
-pub sum-released : (s : State) (n : ℕ) (c : views.Counts) → sizeRight s n false ≡ true → isUnknown s ≡ false
-    → sum (release.released s c) ≡ sum c + 1
+-- a number at the base is not blank: one count is one more
+pub sum-counted : (s : State) (n : ℕ) (c : views.Counts) → sizeRight s n false ≡ true → sum (counted s c) ≡ sum c + 1
 unfolding sizeRight
-sum-released unknown n c e known = absurd (true≢false known)
-sum-released received n c e known = omega arith
-sum-released spare n c e known = omega arith
-sum-released repaired n c e known = omega arith
-sum-released blank n c e known = absurd (false≢true (and-right (eqb n 0) false e))
+sum-counted unknown n c e = omega arith
+sum-counted received n c e = omega arith
+sum-counted spare n c e = omega arith
+sum-counted repaired n c e = omega arith
+sum-counted blank n c e = absurd (false≢true (and-right (eqb n 0) false e))
 
 pub goes-on : {c : Counts} {p : Bool} → Passed c p → p ≡ false → sum (countsOf c) < sessionLimit
 goes-on {c} limit more = leb-false sessionLimit (sum (countsOf c)) (sym (limit .test) ∙ more)
@@ -49,6 +49,10 @@ module _ {b : ℕ} {c : Counts} {t o g : List ℕ} (w : InRanges (lent b c t o g
       tab-at keptNumbers (λ p. cellIn t o (slotAt b p)) keptBefore blankCell (omega arith)
       ∙ ap (λ (i : ℕ). cellIn t o i) base-slot
 
+  pub base-kind : (atBase (viewIn (lent b c t o g))) .state ≡ stateNumbered (stateIn t slot)
+  unfolding viewIn cellIn
+  base-kind = ap (λ (c : Cell). c .state) base-cell
+
   pub base-size : sizeIn t slot ≤ packetLimit
   base-size = w .laid .size slot (omega arith)
 
@@ -65,4 +69,5 @@ module _ {b : ℕ} {c : Counts} {t o g : List ℕ} (w : InRanges (lent b c t o g
   pub base-state : sizeRight (stateNumbered (stateIn t slot)) (sizeIn t slot) false ≡ true
   unfolding viewIn cellIn
   base-state =
-      rw (sym base-octets) (ap (λ (c : Cell). sizeRight (c .state) (length ((cellAt (cellsOf b t o) keptBefore) .octets)) false) (sym base-cell) ∙ w .sound .cell keptBefore (omega arith))
+      rw (sym base-octets) (ap (λ (c : Cell). sizeRight (c .state) (length ((cellAt (cellsOf b t o) keptBefore) .octets)) false)
+      (sym base-cell) ∙ w .sound .cell keptBefore (omega arith))

@@ -41,7 +41,8 @@ module _ {j i m : ℕ} {old g : List ℕ} (f : Freed j i old g) (small : j < slo
             ∙ f .cleared e n (omega arith))
             (same-or-not e i);
         parts = λ k n there low apart.
-            part-pasted-other g (messageSlot j i) (zeros packetLimit) has zeros-fit k n (omega (arith, f .long)) low (apart-here j i k apart)
+            part-pasted-other g (messageSlot j i) (zeros packetLimit) has zeros-fit k n (omega (arith, f .long)) low
+            (apart-here j i k apart)
             ∙ f .parts k n there low (apart-before j i k apart);
         zeros = λ k n apart.
             zerosPast-other g (messageSlot j i) (zeros packetLimit) has zeros-fit k n (apart-here j i k apart)

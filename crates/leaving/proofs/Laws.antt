@@ -13,7 +13,8 @@ use Rattle.leaving.specs.declared.Lost.the-variants as lost
 
 pub released-told : (r q : Released) → releasedOutcome r ≡ releasedOutcome q → r ≡ q
 released-told (released.Packet k n s) (released.Packet l m t) e =
-    let same : _≡_ {A = Handed} (record { kind = stateOf k; number = n; size = s }) (record { kind = stateOf l; number = m; size = t }) = cc in
+    let same : _≡_ {A = Handed} (record { kind = stateOf k; number = n; size = s })
+    (record { kind = stateOf l; number = m; size = t }) = cc in
     let kind = state-same k l (ap (λ (a : Handed). a .kind) same) in
     let number = ap (λ (a : Handed). a .number) same in
     let size = ap (λ (a : Handed). a .size) same in

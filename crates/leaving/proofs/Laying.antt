@@ -15,7 +15,8 @@ use Rattle.held.specs.Table.{sizeIn, mIn, messageSizeIn}
 use Rattle.held.specs.Laid.{Laid}
 use Rattle.held.proofs.Laws.{slot-small, heard-small, message-apart, has-packet-slot}
 use Rattle.leaving.specs.Steps.{Freed}
-use Rattle.leaving.proofs.Advanced.{advanced, state-other, size-other, state-comes, size-comes, mark-other, m-other, mark-gone, m-gone}
+use Rattle.leaving.proofs.Advanced.{advanced, state-other, size-other, state-comes, size-comes, mark-other, m-other, mark-gone}
+use Rattle.leaving.proofs.Advanced.{m-gone}
 use Rattle.leaving.proofs.Advanced.{sizes-freed, sizes-other, long-after}
 
 module _ (b : ℕ) {t o g newO newG : List ℕ} (l : Laid t o g) (cleared : newO ≡ pasted o (slotAt b 0) (zeros packetLimit))

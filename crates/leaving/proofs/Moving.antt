@@ -1,7 +1,7 @@
 -- The base goes on by one: slot by slot, all but two slots of kept numbers and marks are as they were; then place by place, the
 -- view is the one before, one place further, and its ranges are kept. Assumes nothing.
 use Prim.Native.Nat.{ℕ, suc, _+_, _%_, _≤_, _<_}
-use mathlib.Core.Path.{_≡_, ap, ap₂, _∙_}
+use mathlib.Core.Path.{_≡_, refl, ap, ap₂, _∙_}
 use mathlib.Core.List.{List, [], _∷_, _++_}
 use lib.ListN.{drop}
 use native.Mathlib.Omega.{arith}
@@ -13,20 +13,23 @@ use Rattle.views.specs.Held.{Held, nothingHeld}
 use Rattle.stores.specs.Store.{HasSlot, part, pasted, zeros}
 use Rattle.stores.proofs.Laws.{zeros-fit, part-pasted-other}
 use Rattle.views.specs.View as views
-use Rattle.views.specs.View.{View, following, numbers, goneOn}
-use Rattle.views.proofs.Laws.{sound-goes-on}
+use Rattle.views.specs.View.{View, sum, following, numbers, goneOn}
+use Rattle.views.specs.Release.{counted}
+use Rattle.views.proofs.Laws.{lastPlace, lastAhead, sound-goes-on}
 use Rattle.held.specs.Slots.{slotAt, heardSlotAt, messageSlot, Apart, slotsKept, slotsHeard}
-use Rattle.held.specs.Table.{lent, countsOf, stateNumbered, sizeIn, mIn, messageSizeIn, messageIn, cellIn, heldIn}
+use Rattle.held.specs.Table.{lent, countsOf, stateOf, stateNumbered, stateIn, sizeIn, mIn, messageSizeIn, messageIn, cellIn, heldIn}
 use Rattle.held.specs.Table.{cellsOf, heldOf, viewIn, keptSet, heardDropped}
 use Rattle.held.specs.Laid.{InRanges}
 use Rattle.held.specs.declared.Counts.{Counts}
+use Rattle.held.specs.declared.State.{State}
 use Rattle.held.proofs.Laws.{slot-after, slot-comes, heard-after, heard-leaves, slot-small, heard-small, message-small, slot-apart}
 use Rattle.held.proofs.Laws.{heard-apart, message-apart, has-packet-slot, has-message-slot}
 use Rattle.leaving.specs.Steps.{Freed}
-use Rattle.leaving.specs.Promise.{OneMore, GoesOn}
+use Rattle.leaving.specs.Promise.{MayMoveOn, MovesOn}
 use Rattle.leaving.proofs.Advanced.{advanced, state-other, size-other, state-comes, size-comes, mark-other, n-other, m-other}
 use Rattle.leaving.proofs.Advanced.{mark-gone, n-gone, m-gone, sizes-other}
 use Rattle.leaving.proofs.Laying.{laid-goes-on}
+use Rattle.leaving.proofs.Base.{sum-counted, base-kind, base-state}
 
 abbrev seen : ℕ → views.Counts → List Cell → List Held → View
 seen base counts cells held = record { base = base; counts = counts; cells = cells; held = held }
@@ -52,7 +55,8 @@ module _ {b : ℕ} {before : Counts} {t o g newO newG : List ℕ} (counts : Coun
         state-other b t i small other,
         size-other b t i small other,
         cleared,
-        part-pasted-other o (slotAt b 0) (zeros packetLimit) comes-there zeros-fit i (sizeIn t i) (there i small) (w .laid .size i small) other,
+        part-pasted-other o (slotAt b 0) (zeros packetLimit) comes-there zeros-fit i (sizeIn t i) (there i small)
+            (w .laid .size i small) other,
       )
 
   cell-comes : cellIn (advanced b t) newO (slotAt b 0) ≡ unknownCell
@@ -100,7 +104,7 @@ module _ {b : ℕ} {before : Counts} {t o g newO newG : List ℕ} (counts : Coun
   cells-after : cellsOf (following b) (advanced b t) newO ≡ drop 1 (cellsOf b t o) ++ (unknownCell ∷ [])
   unfolding cellsOf
   cells-after =
-      tab-shift 63 _ (λ p. cellIn t o (slotAt b p)) unknownCell
+      tab-shift lastPlace _ (λ p. cellIn t o (slotAt b p)) unknownCell
       (λ p low.
       let inside : suc p < keptNumbers = omega arith in
       ap (λ (i : ℕ). cellIn (advanced b t) newO i) (slot-after b p small)
@@ -110,7 +114,7 @@ module _ {b : ℕ} {before : Counts} {t o g newO newG : List ℕ} (counts : Coun
   held-after : heldOf (following b) (advanced b t) newG ≡ drop 1 (heldOf b t g) ++ (nothingHeld ∷ [])
   unfolding heldOf
   held-after =
-      tab-shift 31 _ (λ d. heldIn t g (heardSlotAt b d)) nothingHeld
+      tab-shift lastAhead _ (λ d. heldIn t g (heardSlotAt b d)) nothingHeld
       (λ d low.
       let inside : suc d < keptAhead = omega arith in
       ap (λ (j : ℕ). heldIn (advanced b t) newG j) (heard-after b d small)
@@ -121,15 +125,20 @@ module _ {b : ℕ} {before : Counts} {t o g newO newG : List ℕ} (counts : Coun
   unfolding viewIn goneOn
   view-after = ap₂ (seen (following b) (countsOf counts)) cells-after held-after
 
-  moved : OneMore before counts → GoesOn counts (lent b before t o g) (lent (following b) counts (advanced b t) newO newG)
+  moved : {kind : State} → MayMoveOn kind (lent b before t o g) → countsOf counts ≡ counted (stateOf kind) (countsOf before)
+      → MovesOn (lent b before t o g) (lent (following b) counts (advanced b t) newO newG)
   unfolding viewIn
-  moved one =
+  moved {kind} may e =
+      let one : sum (countsOf counts) ≡ sum (countsOf before) + 1 =
+      ap (λ (c : views.Counts). sum c) (rw (may .same ∙ base-kind w refl) at e)
+      ∙ sum-counted (stateNumbered (stateIn t (b % slotsKept))) (sizeIn t (b % slotsKept)) (countsOf before) (base-state w refl)
+      in
       record {
-        state = view-after;
+        state = view-after ∙ rw (e, may .same);
         within =
             record {
               laid = laid-goes-on b (w .laid) cleared freed;
-              sound = rw view-after (sound-goes-on (countsOf counts) (w .sound) (one .more) (one .fits));
+              sound = rw view-after (sound-goes-on (countsOf counts) (w .sound) one (omega (arith, may .left)));
             };
       }
 
@@ -141,12 +150,14 @@ few-leave {base} {leaves} {m} {before} {t} {o} {g} w at-base read =
     let e : leaves ≡ heardSlotAt base 0 = omega arith in
     rw (read, e) (w .laid .few (heardSlotAt base 0) (heard-small base 0))
 
-pub base-moved : {base b leaves m after : ℕ} {before counts : Counts} {t o g t1 t2 newO newG : List ℕ} → InRanges (lent base before t o g)
-    → OneMore before counts → b ≡ base → leaves ≡ base % slotsHeard → m ≡ mIn t leaves
+pub base-moved : {base b leaves m after : ℕ} {before counts : Counts} {kind : State} {t o g t1 t2 newO newG : List ℕ}
+    → InRanges (lent base before t o g)
+    → MayMoveOn kind (lent base before t o g) → countsOf counts ≡ counted (stateOf kind) (countsOf before) → b ≡ base
+    → leaves ≡ base % slotsHeard → m ≡ mIn t leaves
     → newO ≡ pasted o ((b + keptBefore) % slotsKept) (zeros packetLimit) → Freed leaves m g newG
     → t1 ≡ keptSet t ((b + keptBefore) % slotsKept) 0 0 → t2 ≡ heardDropped t1 leaves → after ≡ following base
-    → GoesOn counts (lent base before t o g) (lent after counts t2 newO newG)
-base-moved {base} {b} {leaves} {m} {after} {before} {counts} {t} {o} {g} {t1} {t2} {newO} {newG} w one wide at-base read cleared freed written gone next =
+    → MovesOn (lent base before t o g) (lent after counts t2 newO newG)
+base-moved {base} {b} {leaves} {counts = counts} w may one wide at-base read cleared freed written gone next =
     let comes : (b + keptBefore) % slotsKept ≡ slotAt base 0 = omega (arith, wide) in
     let place : leaves ≡ heardSlotAt base 0 = omega arith in
-    rw (next, gone, written, comes, place) (moved counts w (rw comes at cleared) (rw (read, place) at freed) one)
+    rw (next, gone, written, comes, place) (moved counts w (rw comes at cleared) (rw (read, place) at freed) may one)

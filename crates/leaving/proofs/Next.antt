@@ -13,10 +13,7 @@ use Rattle.views.specs.Cells.{isUnknown}
 use Rattle.datagrams.specs.Sizes.{packetLimit}
 use Rattle.stores.specs.Store.{part}
 use Rattle.stores.proofs.Laws.{length-part}
-use Rattle.views.specs.View as views
-use Rattle.views.specs.View.{sum, goneOn}
-use Rattle.views.specs.Release.{next}
-use Rattle.views.specs.Release as release
+use Rattle.views.specs.Release.{movedOn, next}
 use Rattle.held.specs.Slots.{slotsKept}
 use Rattle.held.specs.Table.{Lent, lent, countsOf, stateOf, stateIn, sizeIn, cellIn, viewIn, stateNumbered}
 use Rattle.held.specs.Laid.{InRanges}
@@ -24,10 +21,10 @@ use Rattle.held.specs.declared.Counts.{Counts}
 use Rattle.held.specs.declared.State.{State}
 use Rattle.held.proofs.Laws.{unknown-number}
 use Rattle.leaving.specs.Steps.{Named, Passed, nextRefused}
-use Rattle.leaving.specs.Promise.{OneMore, GoesOn, Releases}
+use Rattle.leaving.specs.Promise.{MayMoveOn, MovesOn, Releases}
 use Rattle.leaving.specs.declared.NextDone.{NextDone}
 use Rattle.leaving.specs.declared.Released.the-variants as released
-use Rattle.leaving.proofs.Base.{sum-released, goes-on, base-there, base-cell, base-state, base-size, base-unknown, base-octets}
+use Rattle.leaving.proofs.Base.{goes-on, base-there, base-cell, base-kind, base-size, base-unknown, base-octets}
 
 -- ---- next: what the definition says, by the tests of the code
 module _ {b : ℕ} {c : Counts} {t o g : List ℕ} (w : InRanges (lent b c t o g)) {p : Bool} (limit : Passed c p) (room : ℕ) where
@@ -60,7 +57,7 @@ module _ {b : ℕ} {c : Counts} {t o g : List ℕ} (w : InRanges (lent b c t o g
           kind = stateNumbered (stateIn t slot);
           number = b;
           octets = part o slot (sizeIn t slot);
-          after = goneOn (release.released (stateNumbered (stateIn t slot)) (countsOf c)) (viewIn (lent b c t o g));
+          after = movedOn (viewIn (lent b c t o g));
         })
     unfolding next viewIn cellIn
     next-done known fits =
@@ -75,7 +72,8 @@ module _ {b : ℕ} {c : Counts} {t o g : List ℕ} (w : InRanges (lent b c t o g
 
 -- ---- next: each answer
 -- a refusal: the very session and buffer
-refused-next : {b : ℕ} {c : Counts} {t o g old : List ℕ} {r : NextDone} (n : ℕ) → InRanges (lent b c t o g) → next (length old) (viewIn (lent b c t o g)) ≡ refuse n
+refused-next : {b : ℕ} {c : Counts} {t o g old : List ℕ} {r : NextDone} (n : ℕ) → InRanges (lent b c t o g)
+    → next (length old) (viewIn (lent b c t o g)) ≡ refuse n
     → r ≡ nextRefused b c n
     → Releases (lent b c t o g) (lent (r .base) (r .counts) t o g) old old (r .answer)
 refused-next n w e made =
@@ -113,36 +111,27 @@ module _ {b : ℕ} {c : Counts} {t o g old : List ℕ} {p : Bool} (w : InRanges 
           refused-next noRoom w
           (next-short w limit (length old) more at-base (number-known _ (λ e. known (state ∙ e))) (rw (size) at short)) made
 
-      pub next-released : {kind : State} {counts : Counts} {after : Lent} {new : List ℕ} → s ≤ length old
-          → new ≡ part o slot s ++ drop s old → Named number kind
-          → countsOf counts ≡ release.released (stateOf kind) (countsOf c)
-          → GoesOn counts (lent b c t o g) after
+      pub next-released : {kind : State} {after : Lent} {new : List ℕ} → s ≤ length old
+          → new ≡ part o slot s ++ drop s old → Named number kind → MovesOn (lent b c t o g) after
           → Releases (lent b c t o g) after old new (released.Packet kind b s)
-      next-released {kind} fits copied told e moved =
+      next-released {kind} fits copied told moved =
           let long = length-part o slot (sizeIn t slot) (base-there w at-base) (base-size w at-base) in
           let whole = next-done w limit (length old) more at-base (number-known _ (λ z. known (state ∙ z))) (rw (size) at fits) in
           let kinds : stateOf kind ≡ stateNumbered (stateIn t slot) = told .same ∙ ap stateNumbered state in
           record {
             told = rw (whole, long, size, kinds);
             written = rw (whole, long) (copied ∙ rw (size));
-            state = rw whole (moved .state ∙ rw (e, kinds));
+            state = rw whole (moved .state);
             within = moved .within;
             stays = λ x same. let z : _≡_ {A = ℕ} 0 1 = cc in absurd (omega arith);
           }
 
--- a release is one move more
-pub one-released : {b slot number : ℕ} {c counts : Counts} {t o g : List ℕ} {p : Bool} {kind : State}
-    → InRanges (lent b c t o g) → Passed c p → p ≡ false
-    → slot ≡ b % slotsKept → number ≡ stateIn t slot → (number ≡ 0 → ⊥) → Named number kind
-    → countsOf counts ≡ release.released (stateOf kind) (countsOf c) → OneMore c counts
-one-released {b} {slot} {number} {c} {counts} {t} {o} {g} {p} {kind} w limit more at-base state known told e =
-    let kinds : stateOf kind ≡ stateNumbered (stateIn t slot) = told .same ∙ ap stateNumbered state in
-    let one : sum (countsOf counts) ≡ sum (countsOf c) + 1 =
-    ap (λ (c : views.Counts). sum c) (rw kinds at e)
-    ∙ sum-released (stateNumbered (stateIn t slot)) (sizeIn t slot) (countsOf c) (base-state w at-base)
-    (number-known _ (λ z. known (state ∙ z)))
-    in
-    record { more = one; fits = omega (arith, goes-on limit more) }
+-- the number that is released is the one at the base, and not all have passed
+pub may-release : {b slot number : ℕ} {c : Counts} {t o g : List ℕ} {p : Bool} {kind : State}
+    → InRanges (lent b c t o g) → Passed c p → p ≡ false → slot ≡ b % slotsKept → number ≡ stateIn t slot → Named number kind
+    → MayMoveOn kind (lent b c t o g)
+may-release w limit more at-base state told =
+    record { same = told .same ∙ ap stateNumbered state ∙ sym (base-kind w at-base); left = goes-on limit more }
 
 -- what is handed out there is no longer than a packet
 pub size-fits : {b slot s : ℕ} {c : Counts} {t o g : List ℕ} → InRanges (lent b c t o g) → slot ≡ b % slotsKept

@@ -1,10 +1,9 @@
--- What each case of next's answer is. Definitions only.
+-- What each case of next's and give up's answers is, in document 01's number and values. Definitions only.
 use Prim.Native.Nat.{ℕ}
 use mathlib.Core.List.{List}
 use lib.ListN.{length}
-use Rattle.lengths.specs.Answers.{Answer, done, refused}
+use Rattle.lengths.specs.Answers.{Answer, done, refused, mapped}
 use Rattle.views.specs.Cells as cells
-use Rattle.views.specs.View.{View}
 use Rattle.views.specs.Release.{Release, Loss}
 use Rattle.held.specs.Table.{stateOf}
 use Rattle.leaving.specs.declared.Released.{Released}
@@ -12,6 +11,8 @@ use Rattle.leaving.specs.declared.Released.the-variants as released
 use Rattle.leaving.specs.declared.Lost.{Lost}
 use Rattle.leaving.specs.declared.Lost.the-variants as lost
 
+-- ---- next
+-- what it answers of the packet that it hands out
 pub record Handed : Type 0 where
   pub kind : cells.State
   pub number : ℕ
@@ -22,28 +23,16 @@ releasedOutcome (released.Packet kind number size) = done (record { kind = state
 releasedOutcome (released.Refused r) = refused r
 
 abbrev pub handedOf : Answer Release → Answer Handed
-handedOf (done a) = done (record { kind = a .kind; number = a .number; size = length (a .octets) })
-handedOf (refused r) = refused r
+handedOf answer = mapped (λ (r : Release). record { kind = r .kind; number = r .number; size = length (r .octets) }) answer
 
-abbrev pub octetsOf : Answer Release → Answer (List ℕ)
-octetsOf (done a) = done (a .octets)
-octetsOf (refused r) = refused r
+-- the octets that it puts into the lent buffer
+abbrev pub octetsHanded : Answer Release → Answer (List ℕ)
+octetsHanded answer = mapped (λ (r : Release). r .octets) answer
 
-abbrev pub afterNext : Answer Release → View → View
-afterNext (done a) view = a .after
-afterNext (refused r) view = view
-
--- each case of give up's answer: the number that was booked lost
+-- ---- give up: the number that was booked lost
 abbrev pub lostOutcome : Lost → Answer ℕ
 lostOutcome (lost.Number number) = done number
 lostOutcome (lost.Refused r) = refused r
 
--- what give up answers
-abbrev pub numberOf : Answer Loss → Answer ℕ
-numberOf (done a) = done (a .number)
-numberOf (refused r) = refused r
-
--- the session after give up
-abbrev pub afterGiveUp : Answer Loss → View → View
-afterGiveUp (done a) view = a .after
-afterGiveUp (refused r) view = view
+abbrev pub numberLost : Answer Loss → Answer ℕ
+numberLost answer = mapped (λ (l : Loss). l .number) answer

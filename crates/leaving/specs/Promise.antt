@@ -1,40 +1,40 @@
 -- What each call owes, over what is lent before and after. Definitions only.
-use Prim.Native.Nat.{ℕ, _+_, _≤_}
+use Prim.Native.Nat.{ℕ, _<_}
 use mathlib.Core.Path.{_≡_}
 use mathlib.Core.List.{List}
 use lib.ListN.{length}
-use Rattle.lengths.specs.Answers.{refused, over}
+use Rattle.lengths.specs.Answers.{refused, over, afterwards}
 use Rattle.lengths.specs.declared.Refusal.{Refusal}
-use Rattle.views.specs.View.{sum, sessionLimit, goneOn}
-use Rattle.views.specs.Release.{next, giveUp}
-use Rattle.held.specs.Table.{countsOf}
-use Rattle.held.specs.declared.Counts.{Counts}
-use Rattle.held.specs.Table.{Lent, viewIn}
+use Rattle.views.specs.View.{sum, sessionLimit}
+use Rattle.views.specs.Release.{atBase, movedOn, next, giveUp, viewAfterNext, viewAfterLoss}
+use Rattle.held.specs.Table.{stateOf, countsOf, Lent, viewIn}
 use Rattle.held.specs.Laid.{InRanges}
-use Rattle.leaving.specs.Outcome.{releasedOutcome, handedOf, octetsOf, afterNext, lostOutcome, numberOf, afterGiveUp}
+use Rattle.held.specs.declared.State.{State}
+use Rattle.leaving.specs.Outcome.{releasedOutcome, handedOf, octetsHanded, lostOutcome, numberLost}
 use Rattle.leaving.specs.declared.Lost.{Lost}
 use Rattle.leaving.specs.declared.Released.{Released}
 
-pub record OneMore (old new : Counts) : Type 0 where
-  pub more : sum (countsOf new) ≡ sum (countsOf old) + 1
-  pub fits : sum (countsOf new) ≤ sessionLimit
+-- the base may go on: the number there is of this kind, and not all numbers have passed
+pub record MayMoveOn (kind : State) (l : Lent) : Type 0 where
+  pub same : stateOf kind ≡ (atBase (viewIn l)) .state
+  pub left : sum (countsOf (l .counts)) < sessionLimit
 
 -- the base went on by one
-pub record GoesOn (counts : Counts) (before after : Lent) : Type 0 where
-  pub state : viewIn after ≡ goneOn (countsOf counts) (viewIn before)
+pub record MovesOn (before after : Lent) : Type 0 where
+  pub state : viewIn after ≡ movedOn (viewIn before)
   pub within : InRanges after
 
 -- next: its answer, the lent buffer old before and new after, and the session after
 pub record Releases (before after : Lent) (old new : List ℕ) (answer : Released) : Type 0 where
   pub told : releasedOutcome answer ≡ handedOf (next (length old) (viewIn before))
-  pub written : new ≡ over (octetsOf (next (length old) (viewIn before))) old
-  pub state : viewIn after ≡ afterNext (next (length old) (viewIn before)) (viewIn before)
+  pub written : new ≡ over (octetsHanded (next (length old) (viewIn before))) old
+  pub state : viewIn after ≡ afterwards (viewAfterNext (next (length old) (viewIn before))) (viewIn before)
   pub within : InRanges after
   pub stays : (x : Refusal) → next (length old) (viewIn before) ≡ refused x → after ≡ before
 
 -- give up, likewise
 pub record GivesUp (before after : Lent) (answer : Lost) : Type 0 where
-  pub told : lostOutcome answer ≡ numberOf (giveUp (viewIn before))
-  pub state : viewIn after ≡ afterGiveUp (giveUp (viewIn before)) (viewIn before)
+  pub told : lostOutcome answer ≡ numberLost (giveUp (viewIn before))
+  pub state : viewIn after ≡ afterwards (viewAfterLoss (giveUp (viewIn before))) (viewIn before)
   pub within : InRanges after
   pub stays : (x : Refusal) → giveUp (viewIn before) ≡ refused x → after ≡ before

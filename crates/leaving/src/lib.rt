@@ -1,24 +1,25 @@
 // The calls that move the base of a receiving session: document 01, 'The receiving session', Next and Give up, over a session that
 // is lent. They serve callers inside this repository: they require the session's ranges, which the public calls check (refusal
 // 17), and keep them. Only the slots of the number that leaves and of the one that comes into view are written.
+mod counts;
+
+use counts::all_passed;
+use counts::count_one;
 use datagrams::Parity;
 use held::Counts;
 use held::Session;
 use held::State;
-use held::total;
 use lengths::Refusal;
 ghost use mathlib.Core.Path.{_≡_};
 ghost use Prim.Native.Nat.{_+_, _≤_, _<_};
 ghost use lib.ListN.{length};
 ghost use Rattle.datagrams.specs.Sizes.{messagesLimit};
-ghost use Rattle.views.specs.Cells.{received, spare, repaired};
-ghost use Rattle.views.specs.View.{following, sum, sessionLimit};
-ghost use Rattle.views.specs.Release.{released, booked};
+ghost use Rattle.views.specs.View.{following};
 ghost use Rattle.held.specs.Slots.{slotsHeard, messageOctets};
-ghost use Rattle.held.specs.Table.{lent, countsOf, stateOf};
+ghost use Rattle.held.specs.Table.{lent};
 ghost use Rattle.held.specs.Laid.{InRanges};
-ghost use Rattle.leaving.specs.Steps.{Named, Passed, Freed, nextRefused, giveUpRefused};
-ghost use Rattle.leaving.specs.Promise.{OneMore, GoesOn, Releases, GivesUp};
+ghost use Rattle.leaving.specs.Steps.{Named, Freed, nextRefused, giveUpRefused};
+ghost use Rattle.leaving.specs.Promise.{MayMoveOn, MovesOn, Releases, GivesUp};
 
 // What next answers: the kind, the number and the size of the packet that it handed out, or why it is refused.
 pub enum Released {
@@ -74,64 +75,6 @@ fn number_after(n: u16) -> u16
     std::num::wrapping_add_u16(n, 1)
 }
 
-// Whether 1,000,000 numbers have passed.
-fn all_passed(c: Counts) -> bool
-    ensures { λ r. ⌜ Passed c r ⌝ }
-{
-    Session::LIMIT <= total(c)
-}
-
-// One more received, spare or repaired number released, and one more lost.
-fn one_received(c: Counts) -> Counts
-    requires { ⌜ sum (countsOf c) < sessionLimit ⌝ }
-    ensures { λ r. ⌜ countsOf r ≡ released received (countsOf c) ⌝ }
-{
-    let mut r = c;
-    r.received = c.received + 1;
-    r
-}
-
-fn one_spare(c: Counts) -> Counts
-    requires { ⌜ sum (countsOf c) < sessionLimit ⌝ }
-    ensures { λ r. ⌜ countsOf r ≡ released spare (countsOf c) ⌝ }
-{
-    let mut r = c;
-    r.spare = c.spare + 1;
-    r
-}
-
-fn one_repaired(c: Counts) -> Counts
-    requires { ⌜ sum (countsOf c) < sessionLimit ⌝ }
-    ensures { λ r. ⌜ countsOf r ≡ released repaired (countsOf c) ⌝ }
-{
-    let mut r = c;
-    r.repaired = c.repaired + 1;
-    r
-}
-
-fn one_lost(c: Counts) -> Counts
-    requires { ⌜ sum (countsOf c) < sessionLimit ⌝ }
-    ensures { λ r. ⌜ countsOf r ≡ booked (countsOf c) ⌝ }
-{
-    let mut r = c;
-    r.lost = c.lost + 1;
-    r
-}
-
-// One more released of its kind: a count is of releases, never of arrivals. An unknown or blank number is not released.
-fn counted(kind: State, c: Counts) -> Counts
-    requires { ⌜ sum (countsOf c) < sessionLimit ⌝ }
-    ensures { λ r. ⌜ countsOf r ≡ released (stateOf kind) (countsOf c) ⌝ }
-{
-    match kind {
-        State::Unknown => c,
-        State::Received => one_received(c),
-        State::Spare => one_spare(c),
-        State::Repaired => one_repaired(c),
-        State::Blank => c,
-    }
-}
-
 // The first m messages of the number in slot j of those from the base on, cleared.
 fn free_messages(g: &mut [u8], j: usize, m: usize)
     requires { ⌜ j < slotsHeard ⌝ }
@@ -147,20 +90,29 @@ fn free_messages(g: &mut [u8], j: usize, m: usize)
     }
 }
 
-// "the base goes on by one": "The number that leaves drops its accepted mark and messages; the one that comes into view is
-// unknown." The number that comes into view has the slot of the oldest before the base, which leaves the view.
-fn go_on(
+// Base and counts after a number left.
+struct Moved {
     base: u16,
-    before: Counts,
     counts: Counts,
+}
+
+// How next and give up move on: the number at the base, which is of this kind, is counted, and "the base goes on by one": "The
+// number that leaves drops its accepted mark and messages; the one that comes into view is unknown." The number that comes into
+// view has the slot of the oldest before the base, which leaves the view.
+fn move_on(
+    base: u16,
+    counts: Counts,
+    kind: State,
     t: &mut [u16; Session::PLACES],
     o: &mut [u8; Session::PACKET_OCTETS],
     g: &mut [u8; Session::MESSAGE_OCTETS],
-) -> u16
-    requires { ⌜ InRanges (lent base before (now t) (now o) (now g)) ⌝ }
-    requires { ⌜ OneMore before counts ⌝ }
-    ensures { λ r. ⌜ GoesOn counts (lent base before (now (t .entry)) (now (o .entry)) (now (g .entry))) (lent r counts (now (t .exit)) (now (o .exit)) (now (g .exit))) ⌝ }
+) -> Moved
+    requires { ⌜ InRanges (lent base counts (now t) (now o) (now g)) ⌝ }
+    requires { ⌜ MayMoveOn kind (lent base counts (now t) (now o) (now g)) ⌝ }
+    ensures { λ r. ⌜ MovesOn (lent base counts (now (t .entry)) (now (o .entry)) (now (g .entry)))
+        (lent (r .base) (r .counts) (now (t .exit)) (now (o .exit)) (now (g .exit))) ⌝ }
 {
+    let moved = count_one(kind, counts);
     let wide = stores::wide(base);
     let comes = (wide + Session::BEFORE) % Session::KEPT;
     let leaves = held::heard_slot(base);
@@ -169,7 +121,11 @@ fn go_on(
     free_messages(g, leaves, m);
     held::set_kept(t, comes, Session::UNKNOWN, 0);
     held::drop_heard(t, leaves);
-    number_after(base)
+    let after = number_after(base);
+    Moved {
+        base: after,
+        counts: moved,
+    }
 }
 
 fn next_refused(base: u16, counts: Counts, number: u8) -> NextDone
@@ -193,7 +149,8 @@ pub fn next_core(
     out: &mut [u8],
 ) -> NextDone
     requires { ⌜ InRanges (lent base counts (now t) (now o) (now g)) ⌝ }
-    ensures { λ r. ⌜ Releases (lent base counts (now (t .entry)) (now (o .entry)) (now (g .entry))) (lent (r .base) (r .counts) (now (t .exit)) (now (o .exit)) (now (g .exit))) (now (out .entry)) (now (out .exit)) (r .answer) ⌝ }
+    ensures { λ r. ⌜ Releases (lent base counts (now (t .entry)) (now (o .entry)) (now (g .entry)))
+        (lent (r .base) (r .counts) (now (t .exit)) (now (o .exit)) (now (g .exit))) (now (out .entry)) (now (out .exit)) (r .answer) ⌝ }
 {
     if all_passed(counts) {
         return next_refused(base, counts, Refusal::ALL_PASSED);
@@ -209,11 +166,12 @@ pub fn next_core(
     }
     stores::copy_out(o, slot, size, out);
     let kind = state_of(number);
-    let moved = counted(kind, counts);
-    let after = go_on(base, counts, moved, t, o, g);
+    let moved = move_on(base, counts, kind, t, o, g);
+    let after = moved.base;
+    let released = moved.counts;
     NextDone {
         base: after,
-        counts: moved,
+        counts: released,
         answer: Released::Packet {
             kind,
             number: base,
@@ -242,7 +200,8 @@ pub fn give_up_core(
     g: &mut [u8; Session::MESSAGE_OCTETS],
 ) -> GivenUp
     requires { ⌜ InRanges (lent base counts (now t) (now o) (now g)) ⌝ }
-    ensures { λ r. ⌜ GivesUp (lent base counts (now (t .entry)) (now (o .entry)) (now (g .entry))) (lent (r .base) (r .counts) (now (t .exit)) (now (o .exit)) (now (g .exit))) (r .answer) ⌝ }
+    ensures { λ r. ⌜ GivesUp (lent base counts (now (t .entry)) (now (o .entry)) (now (g .entry)))
+        (lent (r .base) (r .counts) (now (t .exit)) (now (o .exit)) (now (g .exit))) (r .answer) ⌝ }
 {
     if all_passed(counts) {
         return give_up_refused(base, counts, Refusal::ALL_PASSED);
@@ -250,11 +209,12 @@ pub fn give_up_core(
     let slot = held::kept_slot(base);
     let number = held::state_at(t, slot);
     if number == Session::UNKNOWN {
-        let moved = one_lost(counts);
-        let after = go_on(base, counts, moved, t, o, g);
+        let moved = move_on(base, counts, State::Unknown, t, o, g);
+        let after = moved.base;
+        let booked = moved.counts;
         return GivenUp {
             base: after,
-            counts: moved,
+            counts: booked,
             answer: Lost::Number(base),
         };
     }

@@ -9,7 +9,7 @@ use Rattle.lengths.specs.declared.Length.{Length}
 use Rattle.lengths.specs.declared.Length.the-variants as read
 use Rattle.lengths.specs.declared.Written.{Written}
 use Rattle.lengths.specs.declared.Written.the-variants as written
-use Rattle.lengths.proofs.Laws.{written-reads, read-writes}
+use Rattle.lengths.proofs.LengthRule.{written-reads, read-writes}
 
 -- an answer's case is told by its number and values
 pub length-told : (r q : Length) → lengthOutcome r ≡ lengthOutcome q → r ≡ q
@@ -30,6 +30,7 @@ pub one-outcome : OneOutcome
 one-outcome =
     record {
       read = λ {s} {r} {q} p t. length-told r q (p .answer ∙ sym (t .answer));
+      readWithin = λ {least} {most} {s} {r} {q} p t. length-told r q (p .answer ∙ sym (t .answer));
       written = λ {w} {old} {new} {other} {r} {q} p t. (written-told r q (p .answer ∙ sym (t .answer)), p .lent ∙ sym (t .lent));
     }
 

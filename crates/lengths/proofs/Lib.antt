@@ -1,4 +1,7 @@
 mod Steps
+mod LengthRule
+mod Answers
+mod Fronts
 pub mod Tables
 pub mod Laws
 pub mod Cases

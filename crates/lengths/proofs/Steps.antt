@@ -1,24 +1,24 @@
--- One law for each answer of `read` and of `write`, in the words of the code: the tests that led there give the promise.
--- Assumes nothing.
-use Prim.Native.Nat.{ℕ, suc, _+_, _-_, _*_, _/_, _%_, _≤_, _<_}
+-- One law for each answer of `read`, `read_within` and `write`, in the words of the code: the tests that led there give the
+-- promise. Assumes nothing.
+use Prim.Native.Nat.{ℕ, _+_, _/_, _%_, _≤_, _<_}
 use mathlib.Core.Path.{_≡_, refl, sym, ap, _∙_}
-use mathlib.Core.Bool.{Bool, true, false, cond}
-use mathlib.Core.List.{List, [], _∷_, _++_}
+use mathlib.Core.Bool.{Bool, true, false}
+use mathlib.Core.List.{List, [], _∷_}
 use lib.ListN.{length, getD, set, drop}
-use lib.Dec.{leb, ltb}
+use lib.Dec.{leb}
 use native.Mathlib.Nat.{not-suc-le-zero, le-of-suc-le-suc, mod-eq-of-lt}
 use native.Mathlib.Omega.{arith}
 use borrow.Author.Tests.{lt-ltb, le-ltb, le-leb, lt-leb}
 use Rattle.lengths.specs.Refusals.{refusal, endsEarly, badForm, outsideSizes, noRoom}
-use Rattle.lengths.specs.Answers.{Answer, done, refused, refuse, LengthAnswer, lengthOutcome, writtenOutcome, fitted, sizeOf, over}
+use Rattle.lengths.specs.Answers.{done, refused}
 use Rattle.lengths.specs.Tables.{unless}
-use Rattle.lengths.specs.Length.{lengthAt, lengthOctets, lengthToWrite, ofTwo, lengthLimit}
-use Rattle.lengths.specs.Promise.{LengthRead, Octet, Puts, RefusalMade}
+use Rattle.lengths.specs.Length.{lengthAt, within, lengthWithin, lengthOctets, lengthToWrite, ofTwo}
+use Rattle.lengths.specs.Promise.{LengthRead, Octet, Puts, RefusalMade, RefusalTold, WithinRead}
 use Rattle.lengths.specs.declared.Refusal.{Refusal}
 use Rattle.lengths.specs.declared.Length.{Length}
 use Rattle.lengths.specs.declared.Length.the-variants as read
-use Rattle.lengths.specs.declared.Written.{Written}
 use Rattle.lengths.specs.declared.Written.the-variants as written
+use Rattle.lengths.proofs.Answers.{allowed-met, allowed-not}
 
 -- ---- read
 module _ {s : List ℕ} where
@@ -84,6 +84,47 @@ module _ {s : List ℕ} where
 
 -- the laws of `read`'s answers
 pub ruleset readings = (read-empty, read-one, read-high, read-cut, read-small, read-two)
+
+-- ---- the refusal of a length
+pub refusal-made : {found : Length} {v n : ℕ} {r : Refusal} → found ≡ read.Value v n → RefusalMade endsEarly r → RefusalTold found r
+refusal-made is made = record { answer = rw (is, made .answer) }
+
+pub refusal-whole : {found : Length} {r : Refusal} → found ≡ read.Refused r → RefusalTold found r
+refusal-whole is = record { answer = rw is }
+
+pub ruleset refusals = (refusal-made, refusal-whole)
+
+-- ---- read_within
+pub within-low : (least most n : ℕ) → n < least → false ≡ within least most n
+within-low least most n low = rw (lt-leb least n low)
+
+pub within-rest : (least most n : ℕ) → least ≤ n → leb n most ≡ within least most n
+within-rest least most n some = rw (le-leb least n some)
+
+pub ruleset tests = (within-low, within-rest)
+
+module _ {least most : ℕ} {s : List ℕ} {found : Length} where
+  pub within-refused : {why : Refusal} → LengthRead s found → found ≡ read.Refused why → WithinRead least most s found
+  unfolding lengthWithin
+  within-refused {why} length is =
+      let e : refused why ≡ lengthAt s = rw is at (length .answer) in
+      record { answer = rw (is, ← e) }
+
+  module _ {v n : ℕ} {b : Bool} (length : LengthRead s found) (is : found ≡ read.Value v n) (test : b ≡ within least most v) where
+    pub within-read : b ≡ true → WithinRead least most s (read.Value v n)
+    unfolding lengthWithin
+    within-read met =
+        let e : done (record { value = v; size = n }) ≡ lengthAt s = rw is at (length .answer) in
+        record { answer = rw (← e, allowed-met least most (record { value = v; size = n }) (sym test ∙ met)) }
+
+    pub within-outside : {r : Refusal} → b ≡ false → RefusalMade outsideSizes r → WithinRead least most s (read.Refused r)
+    unfolding lengthWithin
+    within-outside out made =
+        let e : done (record { value = v; size = n }) ≡ lengthAt s = rw is at (length .answer) in
+        record { answer = rw (made .answer, ← e, allowed-not least most (record { value = v; size = n }) (sym test ∙ out)) }
+
+-- the laws of `read_within`'s answers
+pub ruleset withins = (within-refused, within-read, within-outside)
 
 -- ---- write
 first-set : (l : List ℕ) (a : ℕ) → 1 ≤ length l → set l 0 a ≡ a ∷ drop 1 l

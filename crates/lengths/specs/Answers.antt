@@ -1,11 +1,11 @@
 -- What a call of document 01 comes to: its values, or a refusal. And what each case of the answer enums of this layer is
 -- in these words. Definitions only.
 use Prim.Native.Nat.{ℕ}
-use mathlib.Core.Bool.{Bool, cond}
-use mathlib.Core.List.{List, [], _++_}
+use mathlib.Core.Bool.{cond}
+use mathlib.Core.List.{List, _++_}
 use lib.ListN.{length, drop}
 use lib.Dec.{leb}
-use Rattle.lengths.specs.Refusals.{refusal, noRoom}
+use Rattle.lengths.specs.Refusals.{refusal, endsEarly, noRoom}
 use Rattle.lengths.specs.declared.Refusal.{Refusal}
 use Rattle.lengths.specs.declared.Length.{Length}
 use Rattle.lengths.specs.declared.Length.the-variants as length
@@ -26,6 +26,16 @@ abbrev pub _>>=_ : {A B : Type 0} → Answer A → (A → Answer B) → Answer B
 _>>=_ (done a) next = next a
 _>>=_ (refused r) next = refused r
 
+-- the same answer of other values: a refusal stays
+abbrev pub mapped : {A B : Type 0} → (A → B) → Answer A → Answer B
+mapped f (done a) = done (f a)
+mapped f (refused r) = refused r
+
+-- what there is after a call: what it came to; after a refusal what there was before, since that changes nothing
+abbrev pub afterwards : {A : Type 0} → Answer A → A → A
+afterwards (done after) before = after
+afterwards (refused r) before = before
+
 -- a length as read: its value, and how many octets it took
 pub record LengthAnswer : Type 0 where
   pub value : ℕ
@@ -35,6 +45,11 @@ pub record LengthAnswer : Type 0 where
 abbrev pub lengthOutcome : Length → Answer LengthAnswer
 lengthOutcome (length.Value v n) = done (record { value = v; size = n })
 lengthOutcome (length.Refused r) = refused r
+
+-- why a length is refused; it is asked of a refused one alone, and of another it answers 1
+abbrev pub refusalOf : Length → Refusal
+refusalOf (length.Value v n) = refusal endsEarly
+refusalOf (length.Refused r) = r
 
 -- each case of a writer's answer, in document 01's number and value: how many octets were written
 abbrev pub writtenOutcome : Written → Answer ℕ
@@ -48,8 +63,7 @@ fitted (refused r) old = refused r
 
 -- the number of octets that a writer answers with
 abbrev pub sizeOf : Answer (List ℕ) → Answer ℕ
-sizeOf (done octets) = done (length octets)
-sizeOf (refused r) = refused r
+sizeOf answer = mapped length answer
 
 -- "Every call that writes to a lent buffer writes its front, and the rest stays"; a refusal changes nothing
 abbrev pub over : Answer (List ℕ) → List ℕ → List ℕ

@@ -1,8 +1,7 @@
 -- Small lengths, read and written, at which another reading of document 01 was possible: each case says one answer. Definitions
 -- only.
-use Prim.Native.Nat.{ℕ}
 use mathlib.Core.Path.{_≡_}
-use mathlib.Core.List.{List, [], _∷_}
+use mathlib.Core.List.{[], _∷_}
 use Rattle.lengths.specs.Refusals.{endsEarly, badForm, outsideSizes, noRoom}
 use Rattle.lengths.specs.Answers.{done, refuse, fitted, over}
 use Rattle.lengths.specs.Length.{lengthAt, lengthToWrite}

@@ -5,7 +5,7 @@ use mathlib.Core.List.{List, _++_}
 use lib.ListN.{length, getD, take}
 use Rattle.lengths.specs.Answers.{Answer, done, LengthAnswer}
 use Rattle.lengths.specs.Length.{lengthAt, lengthOctets, lengthLimit}
-use Rattle.lengths.specs.Promise.{LengthRead, Puts}
+use Rattle.lengths.specs.Promise.{LengthRead, WithinRead, Puts}
 use Rattle.lengths.specs.declared.Length.{Length}
 use Rattle.lengths.specs.declared.Written.{Written}
 
@@ -25,6 +25,7 @@ ReadWrites = (s : List ℕ) (a : LengthAnswer) → Octets s → lengthAt s ≡ d
 -- two outcomes that a promise allows are equal
 pub record OneOutcome : Type 0 where
   pub read : {s : List ℕ} {r q : Length} → LengthRead s r → LengthRead s q → r ≡ q
+  pub readWithin : {least most : ℕ} {s : List ℕ} {r q : Length} → WithinRead least most s r → WithinRead least most s q → r ≡ q
   pub written : {w : Answer (List ℕ)} {old new other : List ℕ} {r q : Written}
       → Puts w old new r → Puts w old other q → (r ≡ q) × (new ≡ other)
 

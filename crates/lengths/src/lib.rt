@@ -1,8 +1,9 @@
 // A length or count at the front of some octets, read and written: document 01, 'The datagram'. One rule serves packets,
 // spares, messages and counts. The project's refusal type lives here too, below every layer that gives one.
-ghost use Rattle.lengths.specs.Promise.{LengthRead, Octet, Puts, RefusalMade};
+ghost use Rattle.lengths.specs.Promise.{LengthRead, Octet, Puts, RefusalMade, RefusalTold, WithinRead};
 ghost use mathlib.Core.Path.{_≡_};
-ghost use Rattle.lengths.specs.Length.{lengthLimit, lengthToWrite};
+ghost use Rattle.lengths.specs.Length.{twoFrom, lengthLimit, lengthToWrite};
+ghost use Rattle.lengths.specs.Length.{within as isWithin};
 
 // Why a call was refused: document 01's number. It is made here alone and passed up whole.
 pub struct Refusal {
@@ -59,13 +60,32 @@ pub enum Length {
 }
 
 impl Length {
+    // From here on a length takes two octets.
+    pub const TWO_FROM: usize = 128;
+
     // The largest length that two octets hold.
     pub const LIMIT: usize = 16383;
+
+    pub fn two_from() -> usize
+        ensures { λ r. ⌜ r ≡ twoFrom ⌝ }
+    {
+        Length::TWO_FROM
+    }
 
     pub fn limit() -> usize
         ensures { λ r. ⌜ r ≡ lengthLimit ⌝ }
     {
         Length::LIMIT
+    }
+
+    // Why a length is refused, to be passed up whole: it is asked of a refused one alone.
+    pub fn refusal(self) -> Refusal
+        ensures { λ r. ⌜ RefusalTold self r ⌝ }
+    {
+        match self {
+            Length::Value(_, _) => Refusal::new(Refusal::ENDS_EARLY),
+            Length::Refused(why) => why,
+        }
     }
 }
 
@@ -76,7 +96,7 @@ pub enum Written {
 }
 
 // An octet as a size.
-fn wide(octet: u8) -> usize
+pub fn wide(octet: u8) -> usize
     ensures { λ r. ⌜ Octet octet r ⌝ }
 {
     octet as usize
@@ -90,7 +110,7 @@ pub fn read(s: &[u8]) -> Length
         return Length::Refused(Refusal::new(Refusal::ENDS_EARLY));
     }
     let first = wide(s[0]);
-    if first < 128 {
+    if first < Length::TWO_FROM {
         return Length::Value(first, 1);
     }
     if 192 <= first {
@@ -102,10 +122,34 @@ pub fn read(s: &[u8]) -> Length
     let second = wide(s[1]);
     let high = (first - 128) * 256;
     let value = high + second;
-    if value < 128 {
+    if value < Length::TWO_FROM {
         return Length::Refused(Refusal::new(Refusal::BAD_FORM));
     }
     Length::Value(value, 2)
+}
+
+// From least to most.
+pub fn within(least: usize, most: usize, n: usize) -> bool
+    ensures { λ r. ⌜ r ≡ isWithin least most n ⌝ }
+{
+    if n < least {
+        return false;
+    }
+    n <= most
+}
+
+// The length or count at the front of s, from least to most.
+pub fn read_within(s: &[u8], least: usize, most: usize) -> Length
+    ensures { λ r. ⌜ WithinRead least most (now (s .entry)) r ⌝ }
+{
+    let found = read(s);
+    let Length::Value(value, size) = found else {
+        return found;
+    };
+    if within(least, most, value) {
+        return Length::Value(value, size);
+    }
+    Length::Refused(Refusal::new(Refusal::OUTSIDE_SIZES))
 }
 
 // The length n, written to the front of out. A refusal writes nothing.
@@ -115,7 +159,7 @@ pub fn write(n: usize, out: &mut [u8]) -> Written
     if Length::LIMIT < n {
         return Written::Refused(Refusal::new(Refusal::OUTSIDE_SIZES));
     }
-    if n < 128 {
+    if n < Length::TWO_FROM {
         if out.len() < 1 {
             return Written::Refused(Refusal::new(Refusal::NO_ROOM));
         }

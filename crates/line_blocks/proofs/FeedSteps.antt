@@ -5,7 +5,8 @@ use mathlib.Core.Bool.{Bool, true, false, not, _&&_}
 use mathlib.Core.List.{List, [], _∷_, _++_}
 use mathlib.Core.Logic.{⊎-elim}
 use lib.ListN.{length, getD, set, take, drop, length-set}
-use lib.Seq.{paste, paste-zero, paste-suc, take-paste, drop-paste, take-append-add, length-take-le, take-all, getD-drop, getD-set-same, getD-set-other}
+use lib.Seq.{paste, paste-zero, paste-suc, take-paste, drop-paste, take-append-add, length-take-le, take-all, getD-drop, getD-set-same}
+use lib.Seq.{getD-set-other}
 use lib.Dec.{eqb}
 use native.Mathlib.Numerals.{add-one}
 use native.Mathlib.Omega.{arith}
@@ -106,7 +107,7 @@ pub keeping-start : (old more : List ℕ) (begun count : ℕ) → Keeping old mo
 keeping-start old more begun count = record { laid = paste-zero old begun more; few = omega arith; long = refl }
 
 pub keeping-turn : {old more : List ℕ} {begun count : ℕ} {new : List ℕ} {j : ℕ} → Keeping old more begun count new j → j < count
-    → count ≡ min (3001 - begun) (length more) → LineIn old begun
+    → count ≡ min (keptLimit - begun) (length more) → LineIn old begun
     → Keeping old more begun count (set new (begun + j) (getD more j 0)) (j + 1)
 keeping-turn {old} {more} {begun} {count} {new} {j} k less is held =
     let size = held .size in
@@ -139,21 +140,21 @@ getD-rest a b n k same past =
     ∙ ap (λ (j : ℕ). getD b j 0) place
 
 pub keeping-done : {old more : List ℕ} {begun count : ℕ} {new : List ℕ} {j : ℕ} → Keeping old more begun count new j → count ≤ j
-    → count ≡ min (3001 - begun) (length more) → LineIn old begun → LineKept old begun more new (begun + count)
+    → count ≡ min (keptLimit - begun) (length more) → LineIn old begun → LineKept old begun more new (begun + count)
 keeping-done {old} {more} {begun} {count} {new} {j} k end is held =
     let size = held .size in
     let short = held .short in
     let all : j ≡ count = omega (arith, k .few) in
     let front : length (take begun old) ≡ begun = length-take-le begun old (omega arith) in
-    let place : length (take begun old) + (3001 - begun) ≡ keptLimit = omega arith in
+    let place : length (take begun old) + (keptLimit - begun) ≡ keptLimit = omega arith in
     let laid : new ≡ paste old begun more count = k .laid ∙ ap (λ (n : ℕ). paste old begun more n) all in
     record {
       line =
           ap (λ (l : List ℕ). take (begun + count) l) laid
           ∙ take-paste old begun more count (omega arith) (omega arith)
           ∙ ap (λ (n : ℕ). take begun old ++ take n more) is
-          ∙ ap (λ (l : List ℕ). take begun old ++ l) (take-least (3001 - begun) more)
-          ∙ sym (take-append-add (take begun old) more (3001 - begun))
+          ∙ ap (λ (l : List ℕ). take begun old ++ l) (take-least (keptLimit - begun) more)
+          ∙ sym (take-append-add (take begun old) more (keptLimit - begun))
           ∙ ap (λ (n : ℕ). take n (take begun old ++ more)) place;
       holds =
           record {

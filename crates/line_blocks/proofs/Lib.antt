@@ -1,2 +1,3 @@
 mod FeedSteps
 mod FeedTurn
+mod FeedLoop

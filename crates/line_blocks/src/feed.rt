@@ -110,7 +110,10 @@ fn take_line(
 ) -> Fed
     requires { ⌜ Feedable stepLimit (lent base counts (now t) (now o) (now g)) (now line) begun (now out) at ⌝ }
     requires { ⌜ 1 ≤ length (now s) ⌝ }
-    ensures { λ r. ⌜ TakesLine (goingIn (lent base counts (now (t .entry)) (now (o .entry)) (now (g .entry))) (now (line .entry)) begun (now (out .entry)) at) (now (s .entry)) (now (out .entry)) at (lent (r .base) (r .counts) (now (t .exit)) (now (o .exit)) (now (g .exit))) (now (line .exit)) (r .begun) (r .taken) (now (out .exit)) (r .end) ⌝ }
+    ensures { λ r. ⌜ TakesLine (goingIn (lent base counts (now (t .entry)) (now (o .entry)) (now (g .entry))) (now (line .entry)) begun
+        (now (out .entry)) at) (now (s .entry)) (now (out .entry)) at
+        (lent (r .base) (r .counts) (now (t .exit)) (now (o .exit)) (now (g .exit))) (now (line .exit)) (r .begun) (r .taken)
+        (now (out .exit)) (r .end) ⌝ }
 {
     let stop = find_feed(s);
     if s.len() <= stop {
@@ -166,7 +169,10 @@ pub fn take_block(
     at: usize,
 ) -> Fed
     requires { ⌜ Feedable 0 (lent base counts (now t) (now o) (now g)) (now line) begun (now out) at ⌝ }
-    ensures { λ r. ⌜ Feeds (goingIn (lent base counts (now (t .entry)) (now (o .entry)) (now (g .entry))) (now (line .entry)) begun (now (out .entry)) at) (now (block .entry)) (now (out .entry)) (lent (r .base) (r .counts) (now (t .exit)) (now (o .exit)) (now (g .exit))) (now (line .exit)) (r .begun) (r .taken) (now (out .exit)) (r .end) ⌝ }
+    ensures { λ r. ⌜ Feeds (goingIn (lent base counts (now (t .entry)) (now (o .entry)) (now (g .entry))) (now (line .entry)) begun
+        (now (out .entry)) at) (now (block .entry)) (now (out .entry))
+        (lent (r .base) (r .counts) (now (t .exit)) (now (o .exit)) (now (g .exit))) (now (line .exit)) (r .begun) (r .taken)
+        (now (out .exit)) (r .end) ⌝ }
 {
     let mut after = base;
     let mut moves = counts;
@@ -213,7 +219,9 @@ pub fn finish(
     at: usize,
 ) -> Stepped
     requires { ⌜ Feedable stepLimit (lent base counts (now t) (now o) (now g)) (now line) begun (now out) at ⌝ }
-    ensures { λ r. ⌜ Ends (goingIn (lent base counts (now (t .entry)) (now (o .entry)) (now (g .entry))) (now (line .entry)) begun (now (out .entry)) at) (now (out .entry)) (lent (r .base) (r .counts) (now (t .exit)) (now (o .exit)) (now (g .exit))) (now (out .exit)) (r .end) ⌝ }
+    ensures { λ r. ⌜ Ends (goingIn (lent base counts (now (t .entry)) (now (o .entry)) (now (g .entry))) (now (line .entry)) begun
+        (now (out .entry)) at) (now (out .entry)) (lent (r .base) (r .counts) (now (t .exit)) (now (o .exit)) (now (g .exit)))
+        (now (out .exit)) (r .end) ⌝ }
 {
     if begun == 0 {
         return Stepped {

@@ -1,5 +1,5 @@
 -- A line that is offered, on plain values: its octets, the offer's answer, and the line for a refusal. Assumes nothing.
-use Prim.Native.Nat.{ℕ, _+_, _%_, _≤_}
+use Prim.Native.Nat.{ℕ, _+_, _≤_}
 use mathlib.Core.Path.{_≡_, refl, sym, ap, ap₂, _∙_}
 use mathlib.Core.Bool.{not}
 use mathlib.Core.List.{List, [], _∷_, _++_}
@@ -10,38 +10,38 @@ use native.Mathlib.Omega.{arith}
 use borrow.Author.Tests.{ltb-false, le-leb}
 use Rattle.lengths.specs.Refusals.{tooLong, wrongSettings}
 use Rattle.lengths.specs.Tables.{when}
-use Rattle.lengths.proofs.Tables.{unless-past, unless-done}
-use Rattle.lengths.specs.Answers.{Answer, done, refused, fitted, sizeOf, over, writtenOutcome}
+use Rattle.lengths.specs.Answers.{Answer, done, refused, fitted, sizeOf, over, writtenOutcome, afterwards}
 use Rattle.lengths.specs.Promise.{Puts}
 use Rattle.lengths.specs.declared.Refusal.{Refusal}
 use Rattle.lengths.specs.declared.Written.{Written}
 use Rattle.lengths.specs.declared.Written.the-variants as written
+use Rattle.lengths.proofs.Laws.{unless-past, unless-done}
 use Rattle.datagrams.specs.Sizes.{datagramLimit}
 use Rattle.views.specs.View.{View}
 use Rattle.views.specs.Offer.{offer}
 use Rattle.held.specs.Table.{Lent, viewIn}
 use Rattle.held.specs.Laid.{InRanges}
-use Rattle.offering.specs.Outcome.{offeredOutcome, acceptedOf, afterOffer}
+use Rattle.offering.specs.Outcome.{offeredOutcome, acceptedOf}
 use Rattle.offering.specs.Promise.{Offers}
 use Rattle.offering.specs.declared.Offered.{Offered}
 use Rattle.offering.specs.declared.Offered.the-variants as offered
 use Rattle.lines.specs.Hex.{lineLimit, paired, lineRows, octetsIn, lineOctets}
 use Rattle.lines.specs.Lines.{refusalLine, offerMade, lineOffered, offerLine}
 use Rattle.lines.specs.Promise.{Appends, Does}
-use Rattle.lines.proofs.Appending.{appends-none}
-use Rattle.lines.proofs.HexLaws.{length-octetsIn}
+use Rattle.lines.proofs.Laws.{appends-none, length-octetsIn}
 
 -- ---- an offer's answer
 offer-silent : (x : Answer View) (view : View) → done tt ≡ acceptedOf x → (offerMade x view) .text ≡ []
 offer-silent (done after) view e = refl
 offer-silent (refused r) view e = let z : _≡_ {A = ℕ} 0 1 = cc in absurd (omega arith)
 
-offer-refused : (x : Answer View) (view : View) {why : Refusal} {old : List ℕ} {at : ℕ} {new : List ℕ} {end : ℕ} → refused why ≡ acceptedOf x
+offer-refused : (x : Answer View) (view : View) {why : Refusal} {old : List ℕ} {at : ℕ} {new : List ℕ} {end : ℕ}
+    → refused why ≡ acceptedOf x
     → Appends (refusalLine why) old at new end → Appends ((offerMade x view) .text) old at new end
 offer-refused (done after) view e a = let z : _≡_ {A = ℕ} 0 1 = cc in absurd (omega arith)
 offer-refused (refused r) view {why} e a = let same : why ≡ r = cc in rw same at a
 
-after-offer : (x : Answer View) (view : View) → afterOffer x view ≡ (offerMade x view) .after
+after-offer : (x : Answer View) (view : View) → afterwards x view ≡ (offerMade x view) .after
 after-offer (done after) view = refl
 after-offer (refused r) view = refl
 
@@ -110,7 +110,8 @@ module _ (line : List ℕ) {old new : List ℕ} (work : datagramLimit ≤ length
     pub line-length : {size : ℕ} → r ≡ written.Octets size → size ≡ length (take size new)
     line-length {size} is = sym (length-take-le size new (line-inside is))
 
-    pub line-offered : (view : View) {size : ℕ} {out : List ℕ} {at : ℕ} {session : Lent} {end : ℕ} {after : List ℕ} → r ≡ written.Octets size
+    pub line-offered : (view : View) {size : ℕ} {out : List ℕ} {at : ℕ} {session : Lent} {end : ℕ} {after : List ℕ}
+        → r ≡ written.Octets size
         → Does (offerMade (offer (take size new) view) view) out at session end after → Does (offerLine line view) out at session end after
     unfolding offerLine lineOffered
     line-offered view is d = rw ((octets is) .0) d

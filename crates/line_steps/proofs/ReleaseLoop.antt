@@ -19,16 +19,16 @@ use Rattle.held.specs.Slots.{slotAt, slotsKept}
 use Rattle.held.specs.Table.{Lent, viewIn, stateIn, stateNumbered}
 use Rattle.held.specs.Laid.{InRanges}
 use Rattle.held.proofs.Laws.{unknown-at}
-use Rattle.lines.specs.Lines.{Made, silent, _then_, released, onward, releasesF, releases}
-use Rattle.lines.specs.Promise.{Appends, Does, Able, Releases, goesOn, resultLimit, releasesLimit}
-use Rattle.lines.proofs.Appending.{appends-none, appends-then, appends-long}
+use Rattle.lines.specs.Lines.{Made, silent, _then_, onward, releasesF, releases, releaseMade}
+use Rattle.lines.specs.Promise.{Appends, Does, Able, goesOn, resultLimit, releasesLimit, ReleasesOne}
+use Rattle.lines.proofs.Laws.{appends-none, appends-then, appends-long}
 
 -- ---- the definition, as the loop goes
-onward-goes : (x : Answer Release) (f : View → Made) (view : View) → true ≡ goesOn x → onward x f view ≡ (released x view then f)
+onward-goes : (x : Answer Release) (f : View → Made) (view : View) → true ≡ goesOn x → onward x f view ≡ (releaseMade x view then f)
 onward-goes (done r) f view goes = refl
 onward-goes (refused x) f view goes = absurd (false≢true (sym goes))
 
-onward-stops : (x : Answer Release) (f : View → Made) (view : View) → false ≡ goesOn x → onward x f view ≡ released x view
+onward-stops : (x : Answer Release) (f : View → Made) (view : View) → false ≡ goesOn x → onward x f view ≡ releaseMade x view
 onward-stops (done r) f view stops = absurd (false≢true stops)
 onward-stops (refused x) f view stops = refl
 
@@ -48,7 +48,7 @@ unknown-stops : (view : View) → unknownAt (view .cells) keptBefore ≡ true �
 unfolding next
 unknown-stops view unknown = rw unknown (refused-both (leb sessionLimit (sum (view .counts))) _ _)
 
-stops-silent : (x : Answer Release) (view : View) → goesOn x ≡ false → released x view ≡ silent view
+stops-silent : (x : Answer Release) (view : View) → goesOn x ≡ false → releaseMade x view ≡ silent view
 stops-silent (done r) view e = absurd (false≢true (sym e))
 stops-silent (refused x) view e = refl
 
@@ -62,7 +62,8 @@ pub record Left (start : View) (old : List ℕ) (at : ℕ) (session : Lent) (out
   pub room : end + left * resultLimit ≤ length old
   pub long : length out ≡ length old
 
-pub left-start : {session : Lent} {out : List ℕ} {at : ℕ} → Able releasesLimit session out at → Left (viewIn session) out at session out at keptAhead
+pub left-start : {session : Lent} {out : List ℕ} {at : ℕ} → Able releasesLimit session out at
+    → Left (viewIn session) out at session out at keptAhead
 left-start able =
     record {
       text = [];
@@ -74,7 +75,8 @@ left-start able =
     }
 
 -- before a turn
-pub left-ready : {start : View} {old : List ℕ} {at : ℕ} {session : Lent} {out : List ℕ} {end left : ℕ} → Left start old at session out end left
+pub left-ready : {start : View} {old : List ℕ} {at : ℕ} {session : Lent} {out : List ℕ} {end left : ℕ}
+    → Left start old at session out end left
     → 0 < left → Able resultLimit session out end
 left-ready l some = record { within = l .within; room = omega (arith, l .room, l .long) }
 
@@ -95,7 +97,8 @@ module _ {start : View} {old : List ℕ} {at : ℕ} {session : Lent} {out : List
 
     -- the base is unknown: all was released
     pub left-unknown : 0 < left → {slot : ℕ} {was : Bool} → slot ≡ session .base % slotsKept
-        → was ≡ not (isUnknown (stateNumbered (stateIn (session .table) slot))) → not was ≡ true → Does (releases start) old at session end out
+        → was ≡ not (isUnknown (stateNumbered (stateIn (session .table) slot))) → not was ≡ true
+        → Does (releases start) old at session end out
     unfolding viewIn
     left-unknown some {slot} {was} e-slot e-was is =
         let v = viewIn session in
@@ -103,7 +106,8 @@ module _ {start : View} {old : List ℕ} {at : ℕ} {session : Lent} {out : List
         let known : not (isUnknown (stateNumbered (stateIn (session .table) slot))) ≡ false = sym e-was ∙ not-true was is in
         let unknown : isUnknown (stateNumbered (stateIn (session .table) slot)) ≡ true =
         not-false (isUnknown (stateNumbered (stateIn (session .table) slot))) known in
-        let at-base : isUnknown (stateNumbered (stateIn (session .table) (slotAt (session .base) keptBefore))) ≡ true = rw place at unknown in
+        let at-base : isUnknown (stateNumbered (stateIn (session .table) (slotAt (session .base) keptBefore)))
+        ≡ true = rw place at unknown in
         let stops = unknown-stops v (unknown-at (session .base) (session .table) (session .octets) keptBefore (omega arith) ∙ at-base) in
         let step : releasesF left v ≡ silent v =
         one-of left v some
@@ -114,12 +118,12 @@ module _ {start : View} {old : List ℕ} {at : ℕ} {session : Lent} {out : List
         record { lent = rw (all, append-nil (l .text)) (l .laid); state = rw all refl; within = l .within }
 
     module _ (some : 0 < left) {after : Lent} {later : ℕ} {more : Bool} {new : List ℕ}
-        (r : Releases (viewIn session) out end after later more new) where
+        (r : ReleasesOne (viewIn session) out end after later more new) where
       -- something was released
       pub left-turn : more ≡ true → Left start old at after new later (left - 1)
       left-turn goes =
           let v = viewIn session in
-          let a = released (next packetLimit v) v in
+          let a = releaseMade (next packetLimit v) v in
           let b = releasesF (left - 1) (a .after) in
           let step : releasesF left v ≡ (a then releasesF (left - 1)) =
           one-of left v some ∙ onward-goes (next packetLimit v) (releasesF (left - 1)) v (sym goes ∙ r .goes) in
@@ -140,7 +144,7 @@ module _ {start : View} {old : List ℕ} {at : ℕ} {session : Lent} {out : List
       pub left-stop : more ≡ false → Does (releases start) old at after later new
       left-stop stops =
           let v = viewIn session in
-          let a = released (next packetLimit v) v in
+          let a = releaseMade (next packetLimit v) v in
           let step : releasesF left v ≡ a =
           one-of left v some ∙ onward-stops (next packetLimit v) (releasesF (left - 1)) v (sym stops ∙ r .goes) in
           let all : releases start ≡ record { text = l .text ++ a .text; after = a .after } =

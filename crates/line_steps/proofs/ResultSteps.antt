@@ -8,8 +8,7 @@ use Rattle.lengths.specs.declared.Refusal.{Refusal}
 use Rattle.lines.specs.Hex.{hexOf}
 use Rattle.lines.specs.Lines.{resultLine, refusalLine}
 use Rattle.lines.specs.Promise.{Appends}
-use Rattle.lines.proofs.Appending.{appends-none, appends-one, appends-then, appends-long}
-use Rattle.lines.proofs.HexLaws.{length-hexOf}
+use Rattle.lines.proofs.Laws.{appends-none, appends-one, appends-then, appends-long, length-hexOf}
 
 -- one character at a place
 pub appends-single : (x : ℕ) {old : List ℕ} {at : ℕ} → at + 1 ≤ length old → Appends (x ∷ []) old at (set old at x) (at + 1)
@@ -18,11 +17,13 @@ appends-single x room = appends-one (appends-none (omega arith)) x (omega arith)
 -- the room that is left after some digits, and after two parts of them
 pub room-left : (octets : List ℕ) {old new : List ℕ} {at end : ℕ} (k : ℕ) → Appends (hexOf octets) old at new end
     → at + 2 * length octets + k ≤ length old → end + k ≤ length new
-room-left octets k a room = omega (arith, a .after, appends-long a, length-hexOf octets)
+room-left octets k a room =
+    omega (arith, a .after, appends-long a, length-hexOf octets)
 
 pub room-left-two : (front octets : List ℕ) {old one new : List ℕ} {at middle end : ℕ} (k : ℕ) → Appends (hexOf front) old at one middle
     → Appends (hexOf octets) one middle new end → at + 2 * length front + 2 * length octets + k ≤ length old → end + k ≤ length new
-room-left-two front octets k a b room = omega (arith, a .after, appends-long a, length-hexOf front, b .after, appends-long b, length-hexOf octets)
+room-left-two front octets k a b room =
+    omega (arith, a .after, appends-long a, length-hexOf front, b .after, appends-long b, length-hexOf octets)
 
 pub result-put : (kind number : ℕ) (octets : List ℕ) {old one two new : List ℕ} {at middle end r : ℕ}
     → Appends (hexOf (kind ∷ number / 256 ∷ number % 256 ∷ [])) old at one middle → Appends (hexOf octets) one middle two end

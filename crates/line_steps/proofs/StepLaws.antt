@@ -10,7 +10,7 @@ use Rattle.views.specs.Release.{Loss, giveUp}
 use Rattle.held.specs.Table.{Lent, viewIn}
 use Rattle.lines.specs.Lines.{giveUpMade, offerMade, lineOffered, offerLine, answerLine, releases, step}
 use Rattle.lines.specs.Promise.{Does, Able, resultLimit, releasesLimit, stepLimit}
-use Rattle.lines.proofs.Appending.{appends-long}
+use Rattle.lines.proofs.Laws.{appends-long}
 use Rattle.line_steps.proofs.ResultSteps.{length-result, length-refusal}
 use Rattle.line_steps.proofs.Stepping.{does-then}
 
@@ -30,7 +30,8 @@ module _ (line : List ℕ) (view : View) {old : List ℕ} {at : ℕ} {session : 
       → Does (answerLine line view) old at session end new
   answers-empty none d = rw (answerLine-none line view none) d
 
-  pub answers-line : (length line ≡ 0 → ⊥) → Does (offerLine line view) old at session end new → Does (answerLine line view) old at session end new
+  pub answers-line : (length line ≡ 0 → ⊥) → Does (offerLine line view) old at session end new
+      → Does (answerLine line view) old at session end new
   answers-line some d = rw (answerLine-some line view some) d
 
 -- ---- its length

@@ -8,25 +8,25 @@ use lib.Seq.{take-append-seam, length-take-le}
 use lib.Dec.{leb, ltb}
 use native.Mathlib.Omega.{arith}
 use borrow.Author.Tests.{ltb-false}
-use Rattle.lengths.specs.Answers.{Answer, done, refused, over}
+use Rattle.lengths.specs.Answers.{Answer, done, refused, over, afterwards}
 use Rattle.lengths.specs.declared.Refusal.{Refusal}
 use Rattle.datagrams.specs.Sizes.{packetLimit}
 use Rattle.views.specs.Cells as cells
 use Rattle.views.specs.Cells.{unknownAt, keptBefore}
 use Rattle.views.specs.View.{View, sum, sessionLimit}
-use Rattle.views.specs.Release.{Release, Loss, next, giveUp, atBase}
+use Rattle.views.specs.Release.{Release, Loss, next, giveUp, atBase, viewAfterNext, viewAfterLoss}
 use Rattle.held.specs.Table.{Lent, viewIn, stateOf}
 use Rattle.held.specs.declared.State.{State}
-use Rattle.leaving.specs.Outcome.{Handed, releasedOutcome, lostOutcome, handedOf, octetsOf, afterNext, numberOf, afterGiveUp}
+use Rattle.leaving.specs.Outcome.{Handed, releasedOutcome, lostOutcome, handedOf, octetsHanded, numberLost}
 use Rattle.leaving.specs.Promise as leaving
 use Rattle.leaving.specs.declared.Released.{Released}
 use Rattle.leaving.specs.declared.Released.the-variants as released
 use Rattle.leaving.specs.declared.Lost.{Lost}
 use Rattle.leaving.specs.declared.Lost.the-variants as lost
 use Rattle.lines.specs.Lines as lines
-use Rattle.lines.specs.Lines.{Made, kindOf, resultLine, refusalLine, giveUpMade, _then_}
-use Rattle.lines.specs.Promise.{Appends, Does, Releases, goesOn, resultLimit}
-use Rattle.lines.proofs.Appending.{appends-none, appends-then}
+use Rattle.lines.specs.Lines.{Made, kindOctet, resultLine, refusalLine, giveUpMade, _then_}
+use Rattle.lines.specs.Promise.{Appends, Does, ReleasesOne, goesOn, resultLimit}
+use Rattle.lines.proofs.Laws.{appends-none, appends-then}
 use Rattle.line_steps.proofs.ResultSteps.{length-result}
 
 -- ---- one part after the other
@@ -42,17 +42,17 @@ module _ {first : Made} {old : List ℕ} {at : ℕ} {session : Lent} {end : ℕ}
       }
 
 -- ---- a give-up
-number-lost : (x : Answer Loss) (view : View) {number : ℕ} {old : List ℕ} {at : ℕ} {new : List ℕ} {end : ℕ} → done number ≡ numberOf x
+number-lost : (x : Answer Loss) (view : View) {number : ℕ} {old : List ℕ} {at : ℕ} {new : List ℕ} {end : ℕ} → done number ≡ numberLost x
     → Appends (resultLine 3 number []) old at new end → Appends ((giveUpMade x view) .text) old at new end
 number-lost (done l) view {number} e a = let same : number ≡ l .number = cc in rw same at a
 number-lost (refused r) view e a = let z : _≡_ {A = ℕ} 0 1 = cc in absurd (omega arith)
 
-number-refused : (x : Answer Loss) (view : View) {why : Refusal} {old : List ℕ} {at : ℕ} {new : List ℕ} {end : ℕ} → refused why ≡ numberOf x
+number-refused : (x : Answer Loss) (view : View) {why : Refusal} {old : List ℕ} {at : ℕ} {new : List ℕ} {end : ℕ} → refused why ≡ numberLost x
     → Appends (refusalLine why) old at new end → Appends ((giveUpMade x view) .text) old at new end
 number-refused (done l) view e a = let z : _≡_ {A = ℕ} 0 1 = cc in absurd (omega arith)
 number-refused (refused r) view {why} e a = let same : why ≡ r = cc in rw same at a
 
-after-given-up : (x : Answer Loss) (view : View) → afterGiveUp x view ≡ (giveUpMade x view) .after
+after-given-up : (x : Answer Loss) (view : View) → afterwards (viewAfterLoss x) view ≡ (giveUpMade x view) .after
 after-given-up (done l) view = refl
 after-given-up (refused r) view = refl
 
@@ -79,7 +79,8 @@ module _ {before session : Lent} {answer : Lost} (made : leaving.GivesUp before 
 
 -- ---- a release
 -- what next hands out fits the lent room
-fitting : (b₁ b₂ b₃ : Bool) (x y z : Refusal) (a r : Release) → cond b₁ (refused x) (cond b₂ (refused y) (cond b₃ (refused z) (done a))) ≡ done r
+fitting : (b₁ b₂ b₃ : Bool) (x y z : Refusal) (a r : Release)
+    → cond b₁ (refused x) (cond b₂ (refused y) (cond b₃ (refused z) (done a))) ≡ done r
     → (b₃ ≡ false) × (a ≡ r)
 fitting true b₂ b₃ x y z a r e = let n : _≡_ {A = ℕ} 0 1 = cc in absurd (omega arith)
 fitting false true b₃ x y z a r e = let n : _≡_ {A = ℕ} 0 1 = cc in absurd (omega arith)
@@ -97,12 +98,12 @@ next-fits room view r e =
 record HandedOut (x : Answer Release) (view : View) (kind : cells.State) (number size : ℕ) (new : List ℕ) : Type 0 where
   fits : size ≤ length new
   short : size ≤ packetLimit
-  text : (lines.released x view) .text ≡ resultLine (kindOf kind) number (take size new)
+  text : (lines.releaseMade x view) .text ≡ resultLine (kindOctet kind) number (take size new)
   goes : true ≡ goesOn x
 
 handed : (x : Answer Release) (view : View) (kind : cells.State) (number size : ℕ) (old new : List ℕ)
     → ((r : Release) → x ≡ done r → length (r .octets) ≤ packetLimit)
-    → done (record { kind = kind; number = number; size = size }) ≡ handedOf x → new ≡ over (octetsOf x) old
+    → done (record { kind = kind; number = number; size = size }) ≡ handedOf x → new ≡ over (octetsHanded x) old
     → HandedOut x view kind number size new
 handed (done r) view kind number size old new most e lent =
     let same : _≡_ {A = Handed} (record { kind = kind; number = number; size = size })
@@ -122,11 +123,11 @@ handed (refused x) view kind number size old new most e lent = let z : _≡_ {A 
 
 -- nothing was released
 none-left : (x : Answer Release) (view : View) (why : Refusal) → refused why ≡ handedOf x
-    → ((lines.released x view) .text ≡ []) × (false ≡ goesOn x)
+    → ((lines.releaseMade x view) .text ≡ []) × (false ≡ goesOn x)
 none-left (done r) view why e = let z : _≡_ {A = ℕ} 0 1 = cc in absurd (omega arith)
 none-left (refused x) view why e = (refl, refl)
 
-after-next : (x : Answer Release) (view : View) → afterNext x view ≡ (lines.released x view) .after
+after-next : (x : Answer Release) (view : View) → afterwards (viewAfterNext x) view ≡ (lines.releaseMade x view) .after
 after-next (done r) view = refl
 after-next (refused x) view = refl
 
@@ -139,7 +140,7 @@ module _ {before session : Lent} {old new : List ℕ} {answer : Released} (made 
       (λ a e. next-fits packetLimit (viewIn before) a e)
       (sym (ap releasedOutcome is) ∙ rw room at (made .told)) (rw room at (made .written))
 
-  after : viewIn session ≡ (lines.released (next packetLimit (viewIn before)) (viewIn before)) .after
+  after : viewIn session ≡ (lines.releaseMade (next packetLimit (viewIn before)) (viewIn before)) .after
   after = rw room at (made .state) ∙ after-next (next packetLimit (viewIn before)) (viewIn before)
 
   -- its octets stand at the front of the lent packet
@@ -154,9 +155,9 @@ module _ {before session : Lent} {old new : List ℕ} {answer : Released} (made 
   packet-room {kind} {number} {size} at buffer is most = omega (arith, (out is) .short, packet-length is)
 
   pub released-one : {kind : State} {number size octet : ℕ} {buffer : List ℕ} {at : ℕ} {after : List ℕ} {end : ℕ}
-      → answer ≡ released.Packet kind number size → octet ≡ kindOf (stateOf kind)
+      → answer ≡ released.Packet kind number size → octet ≡ kindOctet (stateOf kind)
       → Appends (resultLine octet number (take size new)) buffer at after end
-      → Releases (viewIn before) buffer at session end true after
+      → ReleasesOne (viewIn before) buffer at session end true after
   released-one {kind} {number} {size} {octet} is k a =
       let handed = out is in
       record {
@@ -171,7 +172,7 @@ module _ {before session : Lent} {old new : List ℕ} {answer : Released} (made 
       }
 
   pub released-none : {why : Refusal} {buffer : List ℕ} {at : ℕ} → answer ≡ released.Refused why → at ≤ length buffer
-      → Releases (viewIn before) buffer at session at false buffer
+      → ReleasesOne (viewIn before) buffer at session at false buffer
   released-none {why} is inside =
       let none = none-left (next packetLimit (viewIn before)) (viewIn before) why (sym (ap releasedOutcome is) ∙ rw room at (made .told)) in
       record {

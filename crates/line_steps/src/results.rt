@@ -10,12 +10,12 @@ ghost use mathlib.Core.List.{[], _∷_};
 ghost use Prim.Native.Nat.{_+_, _*_, _/_, _%_, _≤_};
 ghost use lib.ListN.{length};
 ghost use Rattle.held.specs.Table.{stateOf};
-ghost use Rattle.lines.specs.Lines.{lineFeed, kindOf, resultLine, refusalLine};
+ghost use Rattle.lines.specs.Lines.{lineFeed, kindOctet, resultLine, refusalLine};
 ghost use Rattle.lines.specs.Promise.{Appends};
 
 // The kind of a released number; an unknown or blank one is never released.
 pub fn kind_octet(kind: State) -> u8
-    ensures { λ r. ⌜ r ≡ kindOf (stateOf kind) ⌝ }
+    ensures { λ r. ⌜ r ≡ kindOctet (stateOf kind) ⌝ }
 {
     match kind {
         State::Unknown => Line::LOST,

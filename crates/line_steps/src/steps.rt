@@ -21,7 +21,7 @@ ghost use Rattle.views.specs.Release.{giveUp};
 ghost use Rattle.held.specs.Table.{lent, viewIn};
 ghost use Rattle.held.specs.Laid.{InRanges};
 ghost use Rattle.lines.specs.Lines.{giveUpMade, offerMade, offerLine, answerLine, releases as allReleases, step as wholeStep};
-ghost use Rattle.lines.specs.Promise.{Does, Able, Releases, resultLimit, releasesLimit, stepLimit};
+ghost use Rattle.lines.specs.Promise.{Does, Able, ReleasesOne, resultLimit, releasesLimit, stepLimit};
 
 // A release, and whether there was something to release.
 struct Turn {
@@ -42,7 +42,8 @@ fn release(
     at: usize,
 ) -> Turn
     requires { ⌜ Able resultLimit (lent base counts (now t) (now o) (now g)) (now out) at ⌝ }
-    ensures { λ r. ⌜ Releases (viewIn (lent base counts (now (t .entry)) (now (o .entry)) (now (g .entry)))) (now (out .entry)) at (lent (r .base) (r .counts) (now (t .exit)) (now (o .exit)) (now (g .exit))) (r .end) (r .more) (now (out .exit)) ⌝ }
+    ensures { λ r. ⌜ ReleasesOne (viewIn (lent base counts (now (t .entry)) (now (o .entry)) (now (g .entry)))) (now (out .entry)) at
+        (lent (r .base) (r .counts) (now (t .exit)) (now (o .exit)) (now (g .exit))) (r .end) (r .more) (now (out .exit)) ⌝ }
 {
     let mut packet = [0u8; Packet::LIMIT];
     let done = leaving::next_core(base, counts, t, o, g, &mut packet);
@@ -80,7 +81,8 @@ fn releases(
     at: usize,
 ) -> Stepped
     requires { ⌜ Able releasesLimit (lent base counts (now t) (now o) (now g)) (now out) at ⌝ }
-    ensures { λ r. ⌜ Does (allReleases (viewIn (lent base counts (now (t .entry)) (now (o .entry)) (now (g .entry))))) (now (out .entry)) at (lent (r .base) (r .counts) (now (t .exit)) (now (o .exit)) (now (g .exit))) (r .end) (now (out .exit)) ⌝ }
+    ensures { λ r. ⌜ Does (allReleases (viewIn (lent base counts (now (t .entry)) (now (o .entry)) (now (g .entry)))))
+        (now (out .entry)) at (lent (r .base) (r .counts) (now (t .exit)) (now (o .exit)) (now (g .exit))) (r .end) (now (out .exit)) ⌝ }
 {
     let mut now = base;
     let mut moves = counts;
@@ -128,7 +130,9 @@ fn give_up_line(
 ) -> Stepped
     requires { ⌜ InRanges (lent base counts (now t) (now o) (now g)) ⌝ }
     requires { ⌜ at + resultLimit ≤ length (now out) ⌝ }
-    ensures { λ r. ⌜ Does (giveUpMade (giveUp (viewIn (lent base counts (now (t .entry)) (now (o .entry)) (now (g .entry))))) (viewIn (lent base counts (now (t .entry)) (now (o .entry)) (now (g .entry))))) (now (out .entry)) at (lent (r .base) (r .counts) (now (t .exit)) (now (o .exit)) (now (g .exit))) (r .end) (now (out .exit)) ⌝ }
+    ensures { λ r. ⌜ Does (giveUpMade (giveUp (viewIn (lent base counts (now (t .entry)) (now (o .entry)) (now (g .entry)))))
+        (viewIn (lent base counts (now (t .entry)) (now (o .entry)) (now (g .entry))))) (now (out .entry)) at
+        (lent (r .base) (r .counts) (now (t .exit)) (now (o .exit)) (now (g .exit))) (r .end) (now (out .exit)) ⌝ }
 {
     let done = leaving::give_up_core(base, counts, t, o, g);
     let after = done.base;
@@ -167,7 +171,10 @@ fn offer_octets(
 ) -> usize
     requires { ⌜ InRanges (lent base counts (now t) (now o) (now g)) ⌝ }
     requires { ⌜ at + resultLimit ≤ length (now out) ⌝ }
-    ensures { λ r. ⌜ Does (offerMade (offer (now (octets .entry)) (viewIn (lent base counts (now (t .entry)) (now (o .entry)) (now (g .entry))))) (viewIn (lent base counts (now (t .entry)) (now (o .entry)) (now (g .entry))))) (now (out .entry)) at (lent base counts (now (t .exit)) (now (o .exit)) (now (g .exit))) r (now (out .exit)) ⌝ }
+    ensures { λ r. ⌜ Does (offerMade (offer (now (octets .entry))
+        (viewIn (lent base counts (now (t .entry)) (now (o .entry)) (now (g .entry)))))
+        (viewIn (lent base counts (now (t .entry)) (now (o .entry)) (now (g .entry))))) (now (out .entry)) at
+        (lent base counts (now (t .exit)) (now (o .exit)) (now (g .exit))) r (now (out .exit)) ⌝ }
 {
     let answer = offering::offer_core(base, counts, t, o, g, octets);
     match answer {
@@ -188,7 +195,8 @@ fn offer_line(
     at: usize,
 ) -> usize
     requires { ⌜ Able resultLimit (lent base counts (now t) (now o) (now g)) (now out) at ⌝ }
-    ensures { λ r. ⌜ Does (offerLine (now (line .entry)) (viewIn (lent base counts (now (t .entry)) (now (o .entry)) (now (g .entry))))) (now (out .entry)) at (lent base counts (now (t .exit)) (now (o .exit)) (now (g .exit))) r (now (out .exit)) ⌝ }
+    ensures { λ r. ⌜ Does (offerLine (now (line .entry)) (viewIn (lent base counts (now (t .entry)) (now (o .entry)) (now (g .entry)))))
+        (now (out .entry)) at (lent base counts (now (t .exit)) (now (o .exit)) (now (g .exit))) r (now (out .exit)) ⌝ }
 {
     let mut work = [0u8; Datagram::LIMIT];
     let read = hex_to_octets(line, &mut work);
@@ -210,7 +218,8 @@ fn answer_line(
     at: usize,
 ) -> Stepped
     requires { ⌜ Able resultLimit (lent base counts (now t) (now o) (now g)) (now out) at ⌝ }
-    ensures { λ r. ⌜ Does (answerLine (now (line .entry)) (viewIn (lent base counts (now (t .entry)) (now (o .entry)) (now (g .entry))))) (now (out .entry)) at (lent (r .base) (r .counts) (now (t .exit)) (now (o .exit)) (now (g .exit))) (r .end) (now (out .exit)) ⌝ }
+    ensures { λ r. ⌜ Does (answerLine (now (line .entry)) (viewIn (lent base counts (now (t .entry)) (now (o .entry)) (now (g .entry)))))
+        (now (out .entry)) at (lent (r .base) (r .counts) (now (t .exit)) (now (o .exit)) (now (g .exit))) (r .end) (now (out .exit)) ⌝ }
 {
     if line.len() == 0 {
         return give_up_line(base, counts, t, o, g, out, at);
@@ -231,7 +240,8 @@ pub fn step(
     at: usize,
 ) -> Stepped
     requires { ⌜ Able stepLimit (lent base counts (now t) (now o) (now g)) (now out) at ⌝ }
-    ensures { λ r. ⌜ Does (wholeStep (now (line .entry)) (viewIn (lent base counts (now (t .entry)) (now (o .entry)) (now (g .entry))))) (now (out .entry)) at (lent (r .base) (r .counts) (now (t .exit)) (now (o .exit)) (now (g .exit))) (r .end) (now (out .exit)) ⌝ }
+    ensures { λ r. ⌜ Does (wholeStep (now (line .entry)) (viewIn (lent base counts (now (t .entry)) (now (o .entry)) (now (g .entry)))))
+        (now (out .entry)) at (lent (r .base) (r .counts) (now (t .exit)) (now (o .exit)) (now (g .exit))) (r .end) (now (out .exit)) ⌝ }
 {
     let first = answer_line(base, counts, t, o, g, line, out, at);
     let after = first.base;

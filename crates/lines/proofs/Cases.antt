@@ -2,10 +2,10 @@
 use mathlib.Core.Path.{refl}
 use Rattle.lengths.specs.Tables.{unless}
 use Rattle.octets.specs.Place.{tab, allBelow}
-use Rattle.lengths.specs.Length.{lengthAt}
-use Rattle.datagrams.specs.Read.{allowed, sizedAt, itemAt, itemsAt, endOf, sparesAt, extraAt, numberOf, wholeOf, readDatagram, carriedBy}
+use Rattle.lengths.specs.Length.{lengthAt, allowed, lengthWithin}
+use Rattle.datagrams.specs.Read.{itemAt, itemsAt, endOf, sparesAt, extraAt, numberOf, wholeOf, readDatagram, carriedBy}
 use Rattle.views.specs.Repair.{firstUsable, repairF, repair}
-use Rattle.views.specs.Held.{messagesOf, messagesFrom, heldMessages}
+use Rattle.views.specs.Held.{messagesOf, messagesInRow, heldMessages}
 use Rattle.views.specs.View.{freshView, goneOn}
 use Rattle.views.specs.Offer.{keep, keepSpares, accept, offered, offer}
 use Rattle.views.specs.Release.{next, giveUp}
@@ -17,8 +17,8 @@ use Rattle.lines.specs.Cases.{ProgramCases}
 pub program-cases : ProgramCases
 unfolding unless characters program steps linesFrom step answerLine offerLine lineOffered releasesF resultLine refusalLine
     lineOctets octetsIn allDigits digitOf hexOf digitFor next giveUp offer offered accept keep keepSpares freshView goneOn
-    messagesOf messagesFrom heldMessages repair repairF firstUsable readDatagram wholeOf numberOf extraAt sparesAt endOf
-    itemsAt itemAt sizedAt allowed carriedBy lengthAt tab allBelow
+    messagesOf messagesInRow heldMessages repair repairF firstUsable readDatagram wholeOf numberOf extraAt sparesAt endOf
+    itemsAt itemAt lengthWithin allowed carriedBy lengthAt tab allBelow
 program-cases =
     record {
       too-long-first = refl;

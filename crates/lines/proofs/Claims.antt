@@ -2,10 +2,10 @@
 use mathlib.Core.Path.{refl}
 use Rattle.octets.specs.Place.{tab, allBelow}
 use Rattle.octets.specs.ExclusiveOr.{xorAt, exclusiveOr}
-use Rattle.lengths.specs.Length.{lengthAt}
-use Rattle.datagrams.specs.Read.{allowed, octetAt, sizedAt, itemAt, itemsAt, endOf, sparesAt, parityAt, extraAt, numberOf, wholeOf, readDatagram, carriedBy}
+use Rattle.lengths.specs.Length.{lengthAt, allowed, lengthWithin}
+use Rattle.datagrams.specs.Read.{octetAt, itemAt, itemsAt, endOf, sparesAt, parityAt, extraAt, numberOf, wholeOf, readDatagram, carriedBy}
 use Rattle.views.specs.Repair.{passing, usable, firstUsable, mended, fill, repairF, repair}
-use Rattle.views.specs.Held.{messagesOf, messagesFrom, heldMessages}
+use Rattle.views.specs.Held.{messagesOf, messagesInRow, heldMessages}
 use Rattle.views.specs.Members.{membersOf}
 use Rattle.views.specs.View.{freshView, goneOn}
 use Rattle.views.specs.Offer.{keep, keepSpares, accept, offered, offer}
@@ -22,7 +22,10 @@ use Rattle.lines.proofs.InTurn.{in-turn}
 use Rattle.lines.proofs.OneOutcome.{one-outcome}
 
 pub whole-case : WholeCase
-unfolding characters program steps linesFrom step answerLine offerLine lineOffered releasesF resultLine refusalLine lineOctets unless octetsIn allDigits digitOf hexOf digitFor next giveUp offer offered accept keep keepSpares freshView goneOn messagesOf messagesFrom heldMessages membersOf repair repairF firstUsable usable passing mended fill readDatagram wholeOf numberOf extraAt parityAt sparesAt endOf itemsAt itemAt sizedAt octetAt allowed carriedBy lengthAt tab allBelow exclusiveOr xorAt
+unfolding characters program steps linesFrom step answerLine offerLine lineOffered releasesF resultLine refusalLine lineOctets unless
+    octetsIn allDigits digitOf hexOf digitFor next giveUp offer offered accept keep keepSpares freshView goneOn messagesOf messagesInRow
+    heldMessages membersOf repair repairF firstUsable usable passing mended fill readDatagram wholeOf numberOf extraAt parityAt sparesAt
+    endOf itemsAt itemAt lengthWithin octetAt allowed carriedBy lengthAt tab allBelow exclusiveOr xorAt
 whole-case = refl
 
 pub cases : Cases

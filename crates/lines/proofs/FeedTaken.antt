@@ -33,7 +33,8 @@ within-line room (c ∷ s) now =
     (same-or-not c lineFeed)
 
 -- room for a line: it is taken in, and what comes after it
-room-for : (room : ℕ) (s : List ℕ) (now : Going) → length (now .text) + stepLimit ≤ room → takenOf room true s now ≡ takenOf room false s now
+room-for : (room : ℕ) (s : List ℕ) (now : Going) → length (now .text) + stepLimit ≤ room
+    → takenOf room true s now ≡ takenOf room false s now
 unfolding takenOf
 room-for room [] now free = refl
 room-for room (c ∷ s) now free =
@@ -47,4 +48,5 @@ pub lineEnd-some : (s : List ℕ) → 1 ≤ length s → 0 < lineEnd s
 unfolding lineEnd
 lineEnd-some [] some = absurd (omega (arith, some))
 lineEnd-some (c ∷ s) some =
-    ⊎-elim (λ feed. rw (eq-eqb c lineFeed feed) (omega arith)) (λ other. rw (ne-eqb c lineFeed other) (omega arith)) (same-or-not c lineFeed)
+    ⊎-elim (λ feed. rw (eq-eqb c lineFeed feed) (omega arith)) (λ other. rw (ne-eqb c lineFeed other) (omega arith))
+    (same-or-not c lineFeed)

@@ -151,7 +151,8 @@ onFrom-other : (c : ℕ) (line input : List ℕ) (view : View) → (c ≡ lineFe
     → onFrom line (c ∷ input) view ≡ onFrom (line ++ (c ∷ [])) input view
 unfolding onFrom linesFrom
 onFrom-other c line input view other =
-    ap (λ (b : Bool). (steps (cond b (line ∷ linesFrom [] input) (linesFrom (line ++ (c ∷ [])) input)) view) .text) (ne-eqb c lineFeed other)
+    ap (λ (b : Bool). (steps (cond b (line ∷ linesFrom [] input) (linesFrom (line ++ (c ∷ [])) input)) view) .text)
+    (ne-eqb c lineFeed other)
 
 -- a line feed
 ended : (c : ℕ) (input line : List ℕ) (now : Going) → Keeps line (now .begun) → c ≡ lineFeed

@@ -13,7 +13,7 @@ use Rattle.octets.proofs.Laws.{allBelow-at, allBelow-of, tab-ext, tab-getD, sam
 use Rattle.lengths.specs.Answers.{done}
 use Rattle.lengths.specs.Claims.{Octets}
 use Rattle.lengths.specs.Tables.{unless}
-use Rattle.lines.specs.Hex.{lineLimit, noDigit, digitOf, digitFor, allDigits, octetAt, octetsIn, lineOctets, hexOf}
+use Rattle.lines.specs.Hex.{lineLimit, noDigit, digitOf, digitFor, allDigits, pairAt, octetsIn, lineOctets, hexOf}
 use Rattle.lines.specs.Claims.{WrittenReads}
 use Rattle.lines.proofs.HexLaws.{length-hexOf}
 
@@ -68,15 +68,15 @@ module _ (octets : List ℕ) (small : Octets octets) where
       allBelow-of (length (hexOf octets)) (λ k. ltb (digitOf (getD (hexOf octets) k 0)) noDigit)
       (λ j inside. lt-ltb (digitOf (getD (hexOf octets) j 0)) 16 (digit-at j inside))
 
-  octet-back : (k : ℕ) → k < length octets → octetAt (hexOf octets) k ≡ getD octets k 0
+  octet-back : (k : ℕ) → k < length octets → pairAt (hexOf octets) k ≡ getD octets k 0
   octet-back k inside = omega (arith, high k inside, low k inside)
 
   back : octetsIn (hexOf octets) ≡ octets
   unfolding octetsIn
   back =
       let many : length (hexOf octets) / 2 ≡ length octets = omega (arith, length-hexOf octets) in
-      ap (λ (n : ℕ). tab n (octetAt (hexOf octets))) many
-      ∙ tab-ext (length octets) (octetAt (hexOf octets)) (λ k. getD octets k 0) octet-back
+      ap (λ (n : ℕ). tab n (pairAt (hexOf octets))) many
+      ∙ tab-ext (length octets) (pairAt (hexOf octets)) (λ k. getD octets k 0) octet-back
       ∙ tab-getD octets 0
 
 pub written-reads : WrittenReads

@@ -14,14 +14,15 @@ use Rattle.lines.specs.Lines.{lineFeed, step, program}
 use Rattle.lines.specs.Feed.{Going, atStart, lineDone, longer, takenIn, fed, atEnd, goingIn, PartWay}
 use Rattle.lines.specs.FeedPromise.{Feeds, Ends}
 use Rattle.lines.specs.Claims.{InTurn}
-use Rattle.lines.proofs.Laws.{feeds-some}
+use Rattle.lines.proofs.BlockLaws.{feeds-some}
 use Rattle.lines.proofs.Feeding.{fed-append, program-fed}
 
 -- ---- some text written before
 abbrev after : List ℕ → Going → Going
 after text now = record { text = text ++ now .text; view = now .view; begun = now .begun }
 
-cond-after : (b : Bool) (text : List ℕ) (x y : Going) {u v : Going} → u ≡ after text x → v ≡ after text y → cond b u v ≡ after text (cond b x y)
+cond-after : (b : Bool) (text : List ℕ) (x y : Going) {u v : Going} → u ≡ after text x → v ≡ after text y
+    → cond b u v ≡ after text (cond b x y)
 cond-after true text x y first second = first
 cond-after false text x y first second = second
 

@@ -1,11 +1,12 @@
-pub mod Appending
-pub mod HexLaws
-pub mod Feeding
-pub mod FeedTaken
+mod Appending
+mod HexLaws
+mod Feeding
+mod FeedTaken
+mod BlockLaws
+mod ReleaseAll
+mod HexBack
+mod InTurn
 pub mod Laws
-pub mod ReleaseAll
-pub mod HexBack
-pub mod InTurn
-pub mod OneOutcome
+mod OneOutcome
 pub mod Cases
 pub mod Claims

@@ -20,11 +20,12 @@ use Rattle.lines.specs.FeedPromise.{LineIn, Feeds, Ends}
 use Rattle.lines.specs.Claims.{Same, OneOutcome}
 use Rattle.lines.specs.declared.steps.Stepped.{Stepped}
 use Rattle.lines.specs.declared.feed.Fed.{Fed}
-use Rattle.lines.proofs.Laws.{begun-length}
+use Rattle.lines.proofs.BlockLaws.{begun-length}
 
 -- ---- a session, by its view
 module _ {r q : Stepped} {t u o p g k : List ℕ} (w : InRanges (lent (r .base) (r .counts) t o g))
-    (v : InRanges (lent (q .base) (q .counts) u p k)) (same : viewIn (lent (r .base) (r .counts) t o g) ≡ viewIn (lent (q .base) (q .counts) u p k)) where
+    (v : InRanges (lent (q .base) (q .counts) u p k))
+    (same : viewIn (lent (r .base) (r .counts) t o g) ≡ viewIn (lent (q .base) (q .counts) u p k)) where
   stepped-same : {new written : List ℕ} → r .end ≡ q .end → new ≡ written
       → Same r q (lent (r .base) (r .counts) t o g) (lent (q .base) (q .counts) u p k) new written
   stepped-same end lent =
@@ -39,7 +40,8 @@ module _ {r q : Stepped} {t u o p g k : List ℕ} (w : InRanges (lent (r .base) 
       }
 
 module _ {r q : Fed} {t u o p g k : List ℕ} (w : InRanges (lent (r .base) (r .counts) t o g))
-    (v : InRanges (lent (q .base) (q .counts) u p k)) (same : viewIn (lent (r .base) (r .counts) t o g) ≡ viewIn (lent (q .base) (q .counts) u p k)) where
+    (v : InRanges (lent (q .base) (q .counts) u p k))
+    (same : viewIn (lent (r .base) (r .counts) t o g) ≡ viewIn (lent (q .base) (q .counts) u p k)) where
   fed-same : {new written : List ℕ} → r .begun ≡ q .begun → r .taken ≡ q .taken → r .end ≡ q .end → new ≡ written
       → Same r q (lent (r .base) (r .counts) t o g) (lent (q .base) (q .counts) u p k) new written
   fed-same begun taken end lent =
@@ -55,7 +57,8 @@ module _ {r q : Fed} {t u o p g k : List ℕ} (w : InRanges (lent (r .base) (r .
       }
 
 -- ---- a buffer, by what is written and what stays
-module _ (out new other : List ℕ) (end last : ℕ) (front : take end new ≡ take last other) (fits : end ≤ length out) (also : last ≤ length out)
+module _ (out new other : List ℕ) (end last : ℕ) (front : take end new ≡ take last other) (fits : end ≤ length out)
+    (also : last ≤ length out)
     (long : length new ≡ length out) (as-long : length other ≡ length out) where
   end-same : end ≡ last
   end-same =
@@ -115,7 +118,8 @@ finish-one : {before : Going} {out : List ℕ} {r q : Stepped} {t u o p g k new 
     → Ends before out (lent (r .base) (r .counts) t o g) new (r .end) → Ends before out (lent (q .base) (q .counts) u p k) written (q .end)
     → Same r q (lent (r .base) (r .counts) t o g) (lent (q .base) (q .counts) u p k) new written
 finish-one {before} {out} {r} {q} {t} {u} {o} {p} {g} {k} {new} {written} a b =
-    let same : goingIn (lent (r .base) (r .counts) t o g) [] 0 new (r .end) ≡ goingIn (lent (q .base) (q .counts) u p k) [] 0 written (q .end) =
+    let same : goingIn (lent (r .base) (r .counts) t o g) [] 0 new (r .end) ≡ goingIn (lent (q .base) (q .counts) u p k) [] 0 written
+    (q .end) =
     a .state ∙ sym (b .state) in
     let text = ap (λ (x : Going). x .text) same in
     stepped-same (a .within) (b .within) (ap (λ (x : Going). x .view) same)

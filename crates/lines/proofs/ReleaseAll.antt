@@ -1,6 +1,6 @@
 -- The releases after a line stop at 10 or 16: a packet has room, and after as many releases as there are numbers from the base
 -- on, the base is a number that came into view unknown. Assumes nothing.
-use Prim.Native.Nat.{ℕ, zero, suc, _+_, _≤_, _<_}
+use Prim.Native.Nat.{ℕ, zero, suc, _+_, _-_, _≤_, _<_}
 use mathlib.Core.Path.{_≡_, refl, ap, _∙_}
 use mathlib.Core.Bool.{Bool, true, false, cond}
 use mathlib.Core.List.{List, [], _∷_, _++_}
@@ -47,11 +47,12 @@ tested false false b₃ x y z a e = neither (ap (λ (b : Bool). cond b (refused 
 
 next-is : (view : View) → length ((atBase view) .octets) ≤ packetLimit → Next view
 unfolding next
-next-is view fits = from (tested (leb sessionLimit (sum (view .counts))) (unknownAt (view .cells) keptBefore) _ (refusal allPassed) (refusal baseUnknown)
+next-is view fits = from (tested (leb sessionLimit (sum (view .counts))) (unknownAt (view .cells) keptBefore) _ (refusal allPassed)
+    (refusal baseUnknown)
     (refusal noRoom) handed (le-ltb packetLimit (length ((atBase view) .octets)) fits))
   where
     counts : Counts
-    counts = release.released ((atBase view) .state) (view .counts)
+    counts = release.counted ((atBase view) .state) (view .counts)
 
     handed : Release
     handed =
@@ -79,7 +80,7 @@ ahead-cells : (cells : List Cell) (p : ℕ) → length cells ≡ keptNumbers →
     → ((cellAt (drop 1 cells ++ (unknownCell ∷ [])) p ≡ cellAt cells (p + 1)) × (p + 1 < keptNumbers))
     ⊎ (cellAt (drop 1 cells ++ (unknownCell ∷ [])) p ≡ unknownCell)
 ahead-cells cells p long inside =
-    let left : length (drop 1 cells) ≡ 63 = omega (arith, length-drop 1 cells) in
+    let left : length (drop 1 cells) ≡ keptNumbers - 1 = omega (arith, length-drop 1 cells) in
     let one : 1 + p ≡ p + 1 = omega arith in
     ⊎-elim
     (λ below.
@@ -90,7 +91,7 @@ ahead-cells cells p long inside =
       omega arith,
     ))
     (λ past. inr (getD-at (drop 1 cells) unknownCell [] blankCell p (omega arith)))
-    (below-or-not p 63)
+    (below-or-not p (keptNumbers - 1))
 
 ahead-on : (left : ℕ) (cells : List Cell) → Ahead (suc left) cells → Ahead left (drop 1 cells ++ (unknownCell ∷ []))
 ahead-on left cells a =

@@ -74,7 +74,8 @@ pub record Same {A : Type 0} (r q : A) (session other : Lent) (new written : Lis
 
 -- two outcomes that a promise allows are equal
 pub record OneOutcome : Type 0 where
-  pub hexToOctets : (line : List ℕ) {old new other : List ℕ} {r q : Written} → Puts (lineOctets line) old new r → Puts (lineOctets line) old other q
+  pub hexToOctets : (line : List ℕ) {old new other : List ℕ} {r q : Written} → Puts (lineOctets line) old new r
+      → Puts (lineOctets line) old other q
       → (r ≡ q) × (new ≡ other)
   pub step : {m : Made} {old : List ℕ} {at : ℕ} {r q : Stepped} {t u o p g k new written : List ℕ}
       → Does m old at (lent (r .base) (r .counts) t o g) (r .end) new → Does m old at (lent (q .base) (q .counts) u p k) (q .end) written
@@ -84,7 +85,8 @@ pub record OneOutcome : Type 0 where
       → Feeds before s out (lent (q .base) (q .counts) u p k) m (q .begun) (q .taken) written (q .end)
       → (Same r q (lent (r .base) (r .counts) t o g) (lent (q .base) (q .counts) u p k) new written) × (l ≡ m)
   pub finish : {before : Going} {out : List ℕ} {r q : Stepped} {t u o p g k new written : List ℕ}
-      → Ends before out (lent (r .base) (r .counts) t o g) new (r .end) → Ends before out (lent (q .base) (q .counts) u p k) written (q .end)
+      → Ends before out (lent (r .base) (r .counts) t o g) new (r .end)
+      → Ends before out (lent (q .base) (q .counts) u p k) written (q .end)
       → Same r q (lent (r .base) (r .counts) t o g) (lent (q .base) (q .counts) u p k) new written
 
 pub record Claims : Type 0 where

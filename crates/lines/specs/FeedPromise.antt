@@ -69,7 +69,8 @@ pub record Takes (before : Going) (s out : List ℕ) (session : Lent) (l : List 
   pub long : length new ≡ length out
 
 -- one line, or what there is of it
-pub record TakesLine (before : Going) (s out : List ℕ) (at : ℕ) (session : Lent) (l : List ℕ) (begun taken : ℕ) (new : List ℕ) (end : ℕ) : Type 0 where
+pub record TakesLine (before : Going) (s out : List ℕ) (at : ℕ) (session : Lent) (l : List ℕ) (begun taken : ℕ) (new : List ℕ)
+    (end : ℕ) : Type 0 where
   pub takes : Takes before s out session l begun taken new end
   pub all : taken ≡ lineEnd s
   pub some : 0 < taken

@@ -10,9 +10,9 @@ use lib.Dec.{ltb, eqb}
 use Rattle.lengths.specs.Refusals.{tooLong, wrongSettings}
 use Rattle.lengths.specs.Answers.{Answer}
 use Rattle.lengths.specs.Tables.{when, unless}
+use Rattle.lengths.specs.Length.{within}
 use Rattle.octets.specs.Place.{tab, allBelow}
 use Rattle.datagrams.specs.Sizes.{datagramLimit}
-use Rattle.datagrams.specs.Write.{within}
 
 -- a line has at most so many characters: two for each octet of the longest datagram
 abbrev pub lineLimit : ℕ
@@ -37,11 +37,11 @@ unfoldable pub allDigits : List ℕ → Bool
 allDigits line = allBelow (length line) (λ k. ltb (digitOf (getD line k 0)) noDigit)
 
 -- octet k stands in the digits 2k and 2k + 1, the high one first
-abbrev pub octetAt : List ℕ → ℕ → ℕ
-octetAt line k = digitOf (getD line (2 * k) 0) * 16 + digitOf (getD line (2 * k + 1) 0)
+abbrev pub pairAt : List ℕ → ℕ → ℕ
+pairAt line k = digitOf (getD line (2 * k) 0) * 16 + digitOf (getD line (2 * k + 1) 0)
 
 unfoldable pub octetsIn : List ℕ → List ℕ
-octetsIn line = tab (length line / 2) (octetAt line)
+octetsIn line = tab (length line / 2) (pairAt line)
 
 -- hexadecimal digits, in pairs
 abbrev pub paired : List ℕ → Bool

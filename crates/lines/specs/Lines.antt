@@ -26,12 +26,12 @@ abbrev pub lostKind : ℕ
 lostKind = 0x03
 
 -- the kind of a released number; an unknown or blank one is never released
-abbrev pub kindOf : State → ℕ
-kindOf received = 0x00
-kindOf spare = 0x01
-kindOf repaired = 0x02
-kindOf unknown = lostKind
-kindOf blank = lostKind
+abbrev pub kindOctet : State → ℕ
+kindOctet received = 0x00
+kindOctet spare = 0x01
+kindOctet repaired = 0x02
+kindOctet unknown = lostKind
+kindOctet blank = lostKind
 
 -- "each line ended by a line feed"
 abbrev pub lineOf : List ℕ → List ℕ
@@ -63,14 +63,14 @@ first then second =
     record { text = first .text ++ (second (first .after)) .text; after = (second (first .after)) .after }
 
 -- a release's line; "Releasing stops without a line at 10 or 16"
-abbrev pub released : Answer Release → View → Made
-released (done r) view = record { text = resultLine (kindOf (r .kind)) (r .number) (r .octets); after = r .after }
-released (refused x) view = silent view
+abbrev pub releaseMade : Answer Release → View → Made
+releaseMade (done r) view = record { text = resultLine (kindOctet (r .kind)) (r .number) (r .octets); after = r .after }
+releaseMade (refused x) view = silent view
 
 -- a release, and what comes after it
 abbrev pub onward : Answer Release → (View → Made) → View → Made
-onward (done r) more view = released (done r) view then more
-onward (refused x) more view = released (refused x) view
+onward (done r) more view = releaseMade (done r) view then more
+onward (refused x) more view = releaseMade (refused x) view
 
 -- at most so many releases, with room for any packet
 unfoldable pub releasesF : ℕ → View → Made

@@ -11,7 +11,7 @@ use Rattle.views.specs.View.{View}
 use Rattle.views.specs.Release.{Release, next}
 use Rattle.held.specs.Table.{Lent, viewIn}
 use Rattle.held.specs.Laid.{InRanges}
-use Rattle.lines.specs.Lines.{Made, released}
+use Rattle.lines.specs.Lines.{Made, releaseMade}
 
 -- the most characters of a result line, of all releases after a line, and of all that a line can write
 abbrev pub resultLimit : ℕ
@@ -47,7 +47,7 @@ goesOn (done r) = true
 goesOn (refused x) = false
 
 -- what one release owes, from a session that is seen as view
-pub record Releases (view : View) (old : List ℕ) (at : ℕ) (session : Lent) (end : ℕ) (more : Bool) (new : List ℕ) : Type 0 where
-  pub does : Does (released (next packetLimit view) view) old at session end new
+pub record ReleasesOne (view : View) (old : List ℕ) (at : ℕ) (session : Lent) (end : ℕ) (more : Bool) (new : List ℕ) : Type 0 where
+  pub does : Does (releaseMade (next packetLimit view) view) old at session end new
   pub goes : more ≡ goesOn (next packetLimit view)
   pub few : end ≤ at + resultLimit

@@ -8,14 +8,15 @@ use mathlib.Core.List.{List, map}
 use mathlib.Core.Logic.{inl, inr}
 use lib.ListN.{length, set, take}
 use native.Mathlib.Omega.{arith}
-use Rattle.datagrams.specs.Sizes.{coveredLimit, messagesLimit}
-use Rattle.datagrams.specs.Write.{within}
+use Rattle.datagrams.specs.Sizes.{coveredLeast, coveredLimit, messagesLeast, messagesLimit}
+use Rattle.lengths.specs.Length.{within}
+use Rattle.lengths.proofs.Laws.{both, within-true}
 use Rattle.datagrams.specs.Read.{octetsOf, carriedBy}
 use Rattle.datagrams.specs.Claims.{Inside}
 use Rattle.datagrams.specs.declared.reader.Part.{Part}
 use Rattle.datagrams.specs.declared.kind.Kind.{Kind}
 use Rattle.datagrams.specs.declared.kind.Kind.the-variants as kind
-use Rattle.datagrams.proofs.WriteLaws.{both, within-true, count-few}
+use Rattle.datagrams.proofs.Laws.{count-few}
 use Rattle.views.specs.Cells.{received, Cell, unknownAt, keptBefore, keptAhead, keptNumbers}
 use Rattle.views.specs.Held.{Held, heldAt, heldMessages}
 use Rattle.views.specs.Reached.{Known}
@@ -26,9 +27,10 @@ use Rattle.held.specs.Table.{Lent, lent, countsOf, stateNumbered, cellsOf, held
 use Rattle.held.specs.Laid.{InRanges}
 use Rattle.held.specs.declared.Counts.{Counts}
 use Rattle.held.proofs.Laws.{length-cells}
-use Rattle.keeping.specs.Promise.{CellsNow, MayKeep, Keeps, CarriesSpares, KeepsSpares, Carries, Unmarked, MayHold, HeldNow, Holds, heldOfParts}
-use Rattle.repairing.specs.Promise.{Mends}
-use Rattle.offering.specs.Steps.{sparesOf, messagesOf, coveredOf, carriedOf, MayBeAccepted, Accepts}
+use Rattle.keeping.specs.Promise.{CellsNow, MayKeep, Keeps, CarriesSpares, KeepsSpares, CarriesMessages, Unmarked, MayHold, HeldNow, Holds}
+use Rattle.keeping.specs.Promise.{heldOfParts}
+use Rattle.repairing.specs.Promise.{MayMend, Mends}
+use Rattle.offering.specs.Steps.{spareCount, messageCount, coveredOf, carriedItems, MayBeAccepted, AcceptedAt}
 use Rattle.offering.proofs.Known.{keep-here, spares-stay}
 
 -- ---- what the calls along the way require
@@ -42,24 +44,24 @@ received-fills = rw is-received
 
 -- the spares: with parity there are none
 spares-carried : {s : List ℕ} {packet : Part} (k : Kind) {count : ℕ} {items : List Part} → Inside s packet k count items
-    → count ≤ length items → CarriesSpares s items (sparesOf k count)
+    → count ≤ length items → CarriesSpares s items (spareCount k count)
 spares-carried kind.Spares {count} inside there =
     record { few = count-few kind.Spares count (inside .counted); there = there; each = inside .each }
 spares-carried (kind.Parity n) inside there =
     record { few = omega arith; there = omega arith; each = λ i low. absurd (omega arith) }
 
 pub carries-spares : {l : Lent} {s : List ℕ} {number d : ℕ} {packet : Part} {k : Kind} {count : ℕ} {items : List Part}
-    → MayBeAccepted l s number d packet k count items → {spares : ℕ} → spares ≡ sparesOf k count → CarriesSpares s items spares
+    → MayBeAccepted l s number d packet k count items → {spares : ℕ} → spares ≡ spareCount k count → CarriesSpares s items spares
 carries-spares {k = k} may e = rw e (spares-carried k (may .inside) (may .there))
 
 -- the messages: with spares there are none
 messages-carried : {s : List ℕ} {d : ℕ} {packet : Part} (k : Kind) {count : ℕ} {items : List Part} → d < keptAhead
-    → Inside s packet k count items → count ≤ length items → Carries s d (coveredOf k) items (messagesOf k count)
+    → Inside s packet k count items → count ≤ length items → CarriesMessages s d (coveredOf k) items (messageCount k count)
 messages-carried kind.Spares near inside there =
     record { near = near; settings = inl (refl, refl); there = omega arith; each = λ i low. absurd (omega arith) }
 messages-carried (kind.Parity n) {count} near inside there =
-    let covered = within-true 1 coveredLimit n (both (within 1 coveredLimit n) _ (inside .counted) .0) in
-    let few = within-true 1 messagesLimit count (both (within 1 coveredLimit n) _ (inside .counted) .1) in
+    let covered = within-true coveredLeast coveredLimit n (both (within coveredLeast coveredLimit n) _ (inside .counted) .0) in
+    let few = within-true messagesLeast messagesLimit count (both (within coveredLeast coveredLimit n) _ (inside .counted) .1) in
     record {
       near = near;
       settings = inr (record { least = covered .0; covered = covered .1; some = few .0; messages = few .1 });
@@ -68,7 +70,8 @@ messages-carried (kind.Parity n) {count} near inside there =
     }
 
 pub carries : {l : Lent} {s : List ℕ} {number d : ℕ} {packet : Part} {k : Kind} {count : ℕ} {items : List Part}
-    → MayBeAccepted l s number d packet k count items → {n m : ℕ} → n ≡ coveredOf k → m ≡ messagesOf k count → Carries s d n items m
+    → MayBeAccepted l s number d packet k count items → {n m : ℕ} → n ≡ coveredOf k → m ≡ messageCount k count
+    → CarriesMessages s d n items m
 carries {k = k} may e-n e-m = rw (e-n, e-m) (messages-carried k (may .near) (may .inside) (may .there))
 
 pub may-keep : {base : ℕ} {c : Counts} {t o g s : List ℕ} {number d : ℕ} {packet : Part} {k : Kind} {count : ℕ} {items : List Part}
@@ -87,14 +90,14 @@ may-keep {base} {c} {g = g} {d = d} w may =
 
 -- ---- what is kept and held of both kinds, as document 01 has it
 kept-extra : (s : List ℕ) (number : ℕ) (packet : Part) (k : Kind) (count : ℕ) (items : List Part) (p : ℕ) (cells : List Cell)
-    → offers.keepSpares p (map (octetsOf s) (take (sparesOf k count) items)) cells
-    ≡ offers.keepExtra p ((carriedOf s number packet k count items) .extra) cells
+    → offers.keepSpares p (map (octetsOf s) (take (spareCount k count) items)) cells
+    ≡ offers.keepExtra p ((carriedItems s number packet k count items) .extra) cells
 unfolding carriedBy offers.keepSpares
 kept-extra s number packet kind.Spares count items p cells = refl
 kept-extra s number packet (kind.Parity n) count items p cells = refl
 
 held-extra : (s : List ℕ) (number : ℕ) (packet : Part) (k : Kind) (count : ℕ) (items : List Part)
-    → heldOfParts s (coveredOf k) items (messagesOf k count) ≡ offers.heldOf ((carriedOf s number packet k count items) .extra)
+    → heldOfParts s (coveredOf k) items (messageCount k count) ≡ offers.heldBy ((carriedItems s number packet k count items) .extra)
 unfolding carriedBy
 held-extra s number packet kind.Spares count items = refl
 held-extra s number packet (kind.Parity n) count items = refl
@@ -113,7 +116,7 @@ module _ {base : ℕ} {c : Counts} {t o g s : List ℕ} {number d : ℕ} {packet
   pub within-first : InRanges (lent base c t₁ o₁ g)
   within-first = packet-now .within
 
-  pub may-spare : {spares : ℕ} → spares ≡ sparesOf k count → MayKeep number spares t₁ o₁
+  pub may-spare : {spares : ℕ} → spares ≡ spareCount k count → MayKeep number spares t₁ o₁
   may-spare e =
       let few = spares-carried k (may .inside) (may .there) .few in
       record {
@@ -132,9 +135,9 @@ module _ {base : ℕ} {c : Counts} {t o g s : List ℕ} {number d : ℕ} {packet
       ap (λ (x : List Cell). unknownAt x (keptBefore + d)) (packet-now .cells)
       ∙ keep-here received (keptBefore + d) (octetsOf s packet) (cellsOf base t o) refl (rw (length-cells base t o) in-view)
 
-  module _ {spares : ℕ} (e-spares : spares ≡ sparesOf k count) {t₂ o₂ : List ℕ} (k₂ : KeepsSpares number s items spares t₁ o₁ t₂ o₂) where
+  module _ {spares : ℕ} (e-spares : spares ≡ spareCount k count) {t₂ o₂ : List ℕ} (k₂ : KeepsSpares number s items spares t₁ o₁ t₂ o₂) where
     spares-now : CellsNow (lent base c t₁ o₁ g) (lent base c t₂ o₂ g)
-        (offers.keepSpares (keptBefore + d) (map (octetsOf s) (take (sparesOf k count) items)) (cellsOf base t₁ o₁))
+        (offers.keepSpares (keptBefore + d) (map (octetsOf s) (take (spareCount k count) items)) (cellsOf base t₁ o₁))
     spares-now =
         let few = spares-carried k (may .inside) (may .there) .few in
         (rw e-spares at k₂) .kept base c g (keptBefore + d) within-first in-view (omega arith) (may .place)
@@ -148,7 +151,7 @@ module _ {base : ℕ} {c : Counts} {t o g s : List ℕ} {number d : ℕ} {packet
           within = spares-now .within;
           known =
               ap (λ (x : List Cell). unknownAt x (keptBefore + d)) (spares-now .cells)
-              ∙ spares-stay (keptBefore + d) (map (octetsOf s) (take (sparesOf k count) items)) (cellsOf base t₁ o₁) (keptBefore + d)
+              ∙ spares-stay (keptBefore + d) (map (octetsOf s) (take (spareCount k count) items)) (cellsOf base t₁ o₁) (keptBefore + d)
               known-first;
           unmarked = ap (λ (x : List Held). (heldAt x d) .accepted) held-second ∙ may .unmarked;
         }
@@ -156,35 +159,39 @@ module _ {base : ℕ} {c : Counts} {t o g s : List ℕ} {number d : ℕ} {packet
     pub may-hold : MayHold base t₂ g d
     may-hold = record { counts = c; octets = o₂; unmarked = unmarked-second }
 
-    module _ {n m : ℕ} (e-n : n ≡ coveredOf k) (e-m : m ≡ messagesOf k count) {t₃ g₁ : List ℕ} (k₃ : Holds base d s n items m t₂ g t₃ g₁)
+    module _ {n m : ℕ} (e-n : n ≡ coveredOf k) (e-m : m ≡ messageCount k count) {t₃ g₁ : List ℕ} (k₃ : Holds base d s n items m t₂ g t₃ g₁)
       where
         held-now : HeldNow (lent base c t₂ o₂ g) (lent base c t₃ o₂ g₁)
-            (set (heldOf base t₂ g) d (heldOfParts s (coveredOf k) items (messagesOf k count)))
+            (set (heldOf base t₂ g) d (heldOfParts s (coveredOf k) items (messageCount k count)))
         held-now = (rw (e-n, e-m) at k₃) .holds c o₂ unmarked-second
 
-        pub within-third : InRanges (lent base c t₃ o₂ g₁)
+        within-third : InRanges (lent base c t₃ o₂ g₁)
         within-third = held-now .within
 
-        cells-third : cellsOf base t₃ o₂ ≡ offers.keepExtra (keptBefore + d) ((carriedOf s number packet k count items) .extra)
+        pub may-mend : MayMend base t₃ o₂ g₁
+        may-mend = record { counts = c; within = within-third }
+
+        cells-third : cellsOf base t₃ o₂ ≡ offers.keepExtra (keptBefore + d) ((carriedItems s number packet k count items) .extra)
             (offers.keep received (keptBefore + d) (octetsOf s packet) (cellsOf base t o))
         cells-third =
             held-now .cells ∙ spares-now .cells
-            ∙ ap (offers.keepSpares (keptBefore + d) (map (octetsOf s) (take (sparesOf k count) items))) (packet-now .cells)
+            ∙ ap (offers.keepSpares (keptBefore + d) (map (octetsOf s) (take (spareCount k count) items))) (packet-now .cells)
             ∙ kept-extra s number packet k count items (keptBefore + d)
             (offers.keep received (keptBefore + d) (octetsOf s packet) (cellsOf base t o))
 
-        held-third : heldOf base t₃ g₁ ≡ set (heldOf base t g) d (offers.heldOf ((carriedOf s number packet k count items) .extra))
+        held-third : heldOf base t₃ g₁ ≡ set (heldOf base t g) d (offers.heldBy ((carriedItems s number packet k count items) .extra))
         held-third =
             held-now .held ∙ ap₂ (λ (l : List Held) (x : Held). set l d x) held-second (held-extra s number packet k count items)
 
-        pub accepted : {t₄ o₃ : List ℕ} → Mends (lent base c t₃ o₂ g₁) (lent base c t₄ o₃ g₁)
-            → Accepts (carriedOf s number packet k count items) d (lent base c t o g) (lent base c t₄ o₃ g₁)
+        pub accepted : {t₄ o₃ : List ℕ} → Mends base t₃ o₂ g₁ t₄ o₃
+            → AcceptedAt (carriedItems s number packet k count items) d (lent base c t o g) (lent base c t₄ o₃ g₁)
         unfolding offers.accept viewIn carriedBy
         accepted k₄ =
+            let mended = k₄ .mends c within-third in
             record {
               state =
-                  k₄ .state
+                  mended .state
                   ∙ ap₂ (λ (x : List Cell) (y : List Held).
                   record { base = base; counts = countsOf c; cells = repair x (heldMessages y); held = y }) cells-third held-third;
-              within = k₄ .within;
+              within = mended .within;
             }

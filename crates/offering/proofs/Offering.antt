@@ -15,7 +15,7 @@ use Rattle.datagrams.specs.Carried.{Carried}
 use Rattle.datagrams.specs.Claims.{Inside}
 use Rattle.datagrams.specs.Promise.{DatagramReads}
 use Rattle.datagrams.specs.Read.{carriedBy}
-use Rattle.datagrams.proofs.ReadLaws.{refused-read, accepted-read, accepted-count, accepted-inside}
+use Rattle.datagrams.proofs.Laws.{refused-read, accepted-read, accepted-count, accepted-inside}
 use Rattle.datagrams.specs.declared.reader.Part.{Part}
 use Rattle.datagrams.specs.declared.reader.Reading.the-variants as reading
 use Rattle.datagrams.specs.declared.reader.DatagramRead.{DatagramRead}
@@ -30,7 +30,7 @@ use Rattle.held.specs.Laid.{InRanges}
 use Rattle.held.specs.declared.Counts.{Counts}
 use Rattle.held.proofs.Laws.{held-at}
 use Rattle.offering.specs.Outcome.{refusedAs}
-use Rattle.offering.specs.Steps.{carriedOf, MayBeAccepted, Accepts, OffersRead}
+use Rattle.offering.specs.Steps.{carriedItems, MayBeAccepted, AcceptedAt, OffersRead}
 use Rattle.offering.specs.Promise.{Offers}
 use Rattle.offering.specs.declared.Offered.{Offered}
 use Rattle.offering.specs.declared.Offered.the-variants as offered
@@ -45,7 +45,7 @@ done-refused e = let z : _≡_ {A = ℕ} 0 1 = cc in omega arith
 
 -- ---- a datagram that was read: d is its distance from the base
 carried-number : (s : List ℕ) (number : ℕ) (packet : Part) (k : Kind) (count : ℕ) (items : List Part)
-    → (carriedOf s number packet k count items) .number ≡ number
+    → (carriedItems s number packet k count items) .number ≡ number
 unfolding carriedBy
 carried-number s number packet k count items = refl
 
@@ -55,36 +55,36 @@ module _ {base : ℕ} {c : Counts} {t o g : List ℕ} (w : InRanges (lent base c
   unfolding viewIn
   base-small = w .sound .small
 
-  d-is : distance base ((carriedOf s number packet k count items) .number) ≡ d
+  d-is : distance base ((carriedItems s number packet k count items) .number) ≡ d
   d-is = omega (arith, base-small, carried-number s number packet k count items)
 
   offered-far : keptAhead ≤ d → d < offers.lateFrom
-      → offers.offered (carriedOf s number packet k count items) (viewIn (lent base c t o g)) ≡ refuse tooFar
+      → offers.offered (carriedItems s number packet k count items) (viewIn (lent base c t o g)) ≡ refuse tooFar
   unfolding offers.offered viewIn
   offered-far far low = rw (d-is, le-ltb d keptAhead far, lt-ltb d offers.lateFrom low)
 
   offered-late : keptAhead ≤ d → offers.lateFrom ≤ d
-      → offers.offered (carriedOf s number packet k count items) (viewIn (lent base c t o g)) ≡ refuse late
+      → offers.offered (carriedItems s number packet k count items) (viewIn (lent base c t o g)) ≡ refuse late
   unfolding offers.offered viewIn
   offered-late far past = rw (d-is, le-ltb d keptAhead far, le-ltb d offers.lateFrom past)
 
   offered-again : d < keptAhead → (heldAt (heldOf base t g) d) .accepted ≡ true
-      → offers.offered (carriedOf s number packet k count items) (viewIn (lent base c t o g)) ≡ refuse repeated
+      → offers.offered (carriedItems s number packet k count items) (viewIn (lent base c t o g)) ≡ refuse repeated
   unfolding offers.offered viewIn
   offered-again low again = rw (d-is, lt-ltb d keptAhead low, again)
 
   offered-new : d < keptAhead → (heldAt (heldOf base t g) d) .accepted ≡ false
-      → offers.offered (carriedOf s number packet k count items) (viewIn (lent base c t o g))
-      ≡ done (offers.accept d (carriedOf s number packet k count items) (viewIn (lent base c t o g)))
+      → offers.offered (carriedItems s number packet k count items) (viewIn (lent base c t o g))
+      ≡ done (offers.accept d (carriedItems s number packet k count items) (viewIn (lent base c t o g)))
   unfolding offers.offered viewIn
   offered-new low new = rw (d-is, lt-ltb d keptAhead low, new)
 
   pub made-far : {r : Offered} → keptAhead ≤ d → d < offers.lateFrom → r ≡ refusedAs tooFar
-      → OffersRead (carriedOf s number packet k count items) (lent base c t o g) (lent base c t o g) r
+      → OffersRead (carriedItems s number packet k count items) (lent base c t o g) (lent base c t o g) r
   made-far far low is = refused-read-so w (offered-far far low) is
 
   pub made-late : {r : Offered} → keptAhead ≤ d → offers.lateFrom ≤ d → r ≡ refusedAs late
-      → OffersRead (carriedOf s number packet k count items) (lent base c t o g) (lent base c t o g) r
+      → OffersRead (carriedItems s number packet k count items) (lent base c t o g) (lent base c t o g) r
   made-late far past is = refused-read-so w (offered-late far past) is
 
   -- ---- near: the mark is read in the number's slot
@@ -97,7 +97,7 @@ module _ {base : ℕ} {c : Counts} {t o g : List ℕ} (w : InRanges (lent base c
           ap (λ (x : Held). x .accepted) (held-at base t g d low) ∙ ap (λ (j : ℕ). eqb (markIn t j) 1) same ∙ sym e-again
 
       pub made-again : {r : Offered} → again ≡ true → r ≡ refusedAs repeated
-          → OffersRead (carriedOf s number packet k count items) (lent base c t o g) (lent base c t o g) r
+          → OffersRead (carriedItems s number packet k count items) (lent base c t o g) (lent base c t o g) r
       made-again so is = refused-read-so w (offered-again low (mark-is ∙ so)) is
 
       -- what accept requires
@@ -107,8 +107,8 @@ module _ {base : ℕ} {c : Counts} {t o g : List ℕ} (w : InRanges (lent base c
           record { near = low; place = omega (arith, base-small); unmarked = mark-is ∙ new; inside = inside; there = there }
 
       pub made-accepted : {t₁ o₁ g₁ : List ℕ} → again ≡ false
-          → Accepts (carriedOf s number packet k count items) d (lent base c t o g) (lent base c t₁ o₁ g₁)
-          → OffersRead (carriedOf s number packet k count items) (lent base c t o g) (lent base c t₁ o₁ g₁) offered.Accepted
+          → AcceptedAt (carriedItems s number packet k count items) d (lent base c t o g) (lent base c t₁ o₁ g₁)
+          → OffersRead (carriedItems s number packet k count items) (lent base c t o g) (lent base c t₁ o₁ g₁) offered.Accepted
       made-accepted new a =
           let e = offered-new low (mark-is ∙ new) in
           record { told = rw e; state = rw e (a .state); within = a .within; stays = λ x is. absurd (done-refused (sym e ∙ is)) }
@@ -128,11 +128,11 @@ module _ {s : List ℕ} {read : DatagramRead} (reads : DatagramReads s read) whe
     pub offer-there : count ≤ length (read .items)
     offer-there = omega (arith, accepted-count reads is, length-take count (read .items))
 
-    pub offer-taken : {l after : Lent} {r : Offered} → OffersRead (carriedOf s number packet k count (read .items)) l after r
+    pub offer-taken : {l after : Lent} {r : Offered} → OffersRead (carriedItems s number packet k count (read .items)) l after r
         → Offers s l after r
     unfolding offers.offer
     offer-taken {l} {after} {r} m =
-        let e : offers.offer s (viewIn l) ≡ offers.offered (carriedOf s number packet k count (read .items)) (viewIn l) =
+        let e : offers.offer s (viewIn l) ≡ offers.offered (carriedItems s number packet k count (read .items)) (viewIn l) =
         rw (accepted-read reads is) in
         record {
           told = rw e (m .told);

@@ -1,6 +1,6 @@
 -- What each case of offer's answer is, in document 01's number. Definitions only.
 use Rattle.lengths.specs.Refusals.{refusal}
-use Rattle.lengths.specs.Answers.{Answer, done, refused}
+use Rattle.lengths.specs.Answers.{Answer, done, refused, mapped}
 use Prim.Native.Nat.{ℕ}
 use Rattle.views.specs.View.{View}
 use Rattle.offering.specs.declared.Offered.{Offered}
@@ -12,13 +12,7 @@ offeredOutcome offered.Accepted = done tt
 offeredOutcome (offered.Refused r) = refused r
 
 abbrev pub acceptedOf : Answer View → Answer (Unit {0})
-acceptedOf (done view) = done tt
-acceptedOf (refused r) = refused r
-
--- the session after an offer: "A refusal .. changes nothing"
-abbrev pub afterOffer : Answer View → View → View
-afterOffer (done after) view = after
-afterOffer (refused r) view = view
+acceptedOf answer = mapped (λ (view : View). tt) answer
 
 -- the answer to a refused offer, by the refusal's number
 abbrev pub refusedAs : ℕ → Offered

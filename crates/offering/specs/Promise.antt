@@ -2,17 +2,17 @@
 use Prim.Native.Nat.{ℕ}
 use mathlib.Core.Path.{_≡_}
 use mathlib.Core.List.{List}
-use Rattle.lengths.specs.Answers.{refused}
+use Rattle.lengths.specs.Answers.{refused, afterwards}
 use Rattle.lengths.specs.declared.Refusal.{Refusal}
 use Rattle.views.specs.Offer as offers
 use Rattle.held.specs.Table.{Lent, viewIn}
 use Rattle.held.specs.Laid.{InRanges}
-use Rattle.offering.specs.Outcome.{offeredOutcome, acceptedOf, afterOffer}
+use Rattle.offering.specs.Outcome.{offeredOutcome, acceptedOf}
 use Rattle.offering.specs.declared.Offered.{Offered}
 
 -- any octets offered: the answer, and the session after, within its ranges; after a refusal the very one before
 pub record Offers (octets : List ℕ) (before after : Lent) (answer : Offered) : Type 0 where
   pub told : offeredOutcome answer ≡ acceptedOf (offers.offer octets (viewIn before))
-  pub state : viewIn after ≡ afterOffer (offers.offer octets (viewIn before)) (viewIn before)
+  pub state : viewIn after ≡ afterwards (offers.offer octets (viewIn before)) (viewIn before)
   pub within : InRanges after
   pub stays : (x : Refusal) → offers.offer octets (viewIn before) ≡ refused x → after ≡ before

@@ -4,7 +4,7 @@ use mathlib.Core.Path.{_≡_}
 use mathlib.Core.Bool.{false}
 use mathlib.Core.List.{List}
 use lib.ListN.{length, take}
-use Rattle.lengths.specs.Answers.{refused}
+use Rattle.lengths.specs.Answers.{refused, afterwards}
 use Rattle.lengths.specs.declared.Refusal.{Refusal}
 use Rattle.datagrams.specs.Carried.{Carried}
 use Rattle.datagrams.specs.Claims.{Inside}
@@ -18,25 +18,25 @@ use Rattle.views.specs.Offer as offers
 use Rattle.held.specs.Slots.{numberAt}
 use Rattle.held.specs.Table.{Lent, heldOf, viewIn}
 use Rattle.held.specs.Laid.{InRanges}
-use Rattle.offering.specs.Outcome.{offeredOutcome, acceptedOf, afterOffer}
+use Rattle.offering.specs.Outcome.{offeredOutcome, acceptedOf}
 use Rattle.offering.specs.declared.Offered.{Offered}
 
 -- ---- of a datagram's items: how many are spares, how many are messages; and n, which is 0 with spares
-abbrev pub sparesOf : Kind → ℕ → ℕ
-sparesOf kind.Spares count = count
-sparesOf (kind.Parity n) count = 0
+abbrev pub spareCount : Kind → ℕ → ℕ
+spareCount kind.Spares count = count
+spareCount (kind.Parity n) count = 0
 
-abbrev pub messagesOf : Kind → ℕ → ℕ
-messagesOf kind.Spares count = 0
-messagesOf (kind.Parity n) count = count
+abbrev pub messageCount : Kind → ℕ → ℕ
+messageCount kind.Spares count = 0
+messageCount (kind.Parity n) count = count
 
 abbrev pub coveredOf : Kind → ℕ
 coveredOf kind.Spares = 0
 coveredOf (kind.Parity n) = n
 
 -- what the datagram carries
-abbrev pub carriedOf : List ℕ → ℕ → Part → Kind → ℕ → List Part → Carried
-carriedOf s number packet kind count items =
+abbrev pub carriedItems : List ℕ → ℕ → Part → Kind → ℕ → List Part → Carried
+carriedItems s number packet kind count items =
     carriedBy s (record { number = number; packet = packet; kind = kind; items = take count items })
 
 -- ---- an accepted datagram
@@ -49,13 +49,13 @@ pub record MayBeAccepted (l : Lent) (s : List ℕ) (number d : ℕ) (packet : Pa
   pub there : count ≤ length items
 
 -- the session after it
-pub record Accepts (datagram : Carried) (d : ℕ) (before after : Lent) : Type 0 where
+pub record AcceptedAt (datagram : Carried) (d : ℕ) (before after : Lent) : Type 0 where
   pub state : viewIn after ≡ offers.accept d datagram (viewIn before)
   pub within : InRanges after
 
 -- ---- a datagram that was read, offered
 pub record OffersRead (datagram : Carried) (before after : Lent) (answer : Offered) : Type 0 where
   pub told : offeredOutcome answer ≡ acceptedOf (offers.offered datagram (viewIn before))
-  pub state : viewIn after ≡ afterOffer (offers.offered datagram (viewIn before)) (viewIn before)
+  pub state : viewIn after ≡ afterwards (offers.offered datagram (viewIn before)) (viewIn before)
   pub within : InRanges after
   pub stays : (x : Refusal) → offers.offered datagram (viewIn before) ≡ refused x → after ≡ before

@@ -14,7 +14,7 @@ ghost use Rattle.datagrams.specs.Claims.{Inside};
 ghost use Rattle.held.specs.Table.{lent};
 ghost use Rattle.held.specs.Laid.{InRanges};
 ghost use Rattle.offering.specs.Outcome.{refusedAs};
-ghost use Rattle.offering.specs.Steps.{sparesOf, messagesOf, coveredOf, carriedOf, MayBeAccepted, Accepts, OffersRead};
+ghost use Rattle.offering.specs.Steps.{spareCount, messageCount, coveredOf, carriedItems, MayBeAccepted, AcceptedAt, OffersRead};
 ghost use Rattle.offering.specs.Promise.{Offers};
 
 // What offer answers: accepted, or why it is refused.
@@ -25,7 +25,7 @@ pub enum Offered {
 
 // How many of a datagram's items are spares, and how many are messages; and n, which is 0 with spares.
 fn spares_of(kind: Kind, count: usize) -> usize
-    ensures { λ r. ⌜ r ≡ sparesOf kind count ⌝ }
+    ensures { λ r. ⌜ r ≡ spareCount kind count ⌝ }
 {
     match kind {
         Kind::Spares => count,
@@ -34,7 +34,7 @@ fn spares_of(kind: Kind, count: usize) -> usize
 }
 
 fn messages_of(kind: Kind, count: usize) -> usize
-    ensures { λ r. ⌜ r ≡ messagesOf kind count ⌝ }
+    ensures { λ r. ⌜ r ≡ messageCount kind count ⌝ }
 {
     match kind {
         Kind::Spares => 0,
@@ -69,7 +69,9 @@ fn accept(
 )
     requires { ⌜ InRanges (lent base counts (now t) (now o) (now g)) ⌝ }
     requires { ⌜ MayBeAccepted (lent base counts (now t) (now o) (now g)) (now s) number distance packet kind count items ⌝ }
-    ensures { λ _. ⌜ Accepts (carriedOf (now (s .entry)) number packet kind count items) distance (lent base counts (now (t .entry)) (now (o .entry)) (now (g .entry))) (lent base counts (now (t .exit)) (now (o .exit)) (now (g .exit))) ⌝ }
+    ensures { λ _. ⌜ AcceptedAt (carriedItems (now (s .entry)) number packet kind count items) distance
+        (lent base counts (now (t .entry)) (now (o .entry)) (now (g .entry)))
+        (lent base counts (now (t .exit)) (now (o .exit)) (now (g .exit))) ⌝ }
 {
     keeping::keep(t, o, number, Session::RECEIVED, s, packet);
     let spares = spares_of(kind, count);
@@ -77,7 +79,7 @@ fn accept(
     let n = covered_of(kind);
     let m = messages_of(kind, count);
     keeping::hold(base, t, g, s, distance, n, items, m);
-    repairing::mend(base, counts, t, o, g);
+    repairing::mend(base, t, o, g);
 }
 
 // A refusal, made of its number.
@@ -105,7 +107,9 @@ fn offer_read(
     requires { ⌜ InRanges (lent base counts (now t) (now o) (now g)) ⌝ }
     requires { ⌜ Inside (now s) packet kind count items ⌝ }
     requires { ⌜ count ≤ length items ⌝ }
-    ensures { λ r. ⌜ OffersRead (carriedOf (now (s .entry)) number packet kind count items) (lent base counts (now (t .entry)) (now (o .entry)) (now (g .entry))) (lent base counts (now (t .exit)) (now (o .exit)) (now (g .exit))) r ⌝ }
+    ensures { λ r. ⌜ OffersRead (carriedItems (now (s .entry)) number packet kind count items)
+        (lent base counts (now (t .entry)) (now (o .entry)) (now (g .entry)))
+        (lent base counts (now (t .exit)) (now (o .exit)) (now (g .exit))) r ⌝ }
 {
     let distance = std::num::wrapping_sub_u16(number, base);
     if Session::AHEAD <= distance {
@@ -145,7 +149,8 @@ pub fn offer_core(
     s: &[u8],
 ) -> Offered
     requires { ⌜ InRanges (lent base counts (now t) (now o) (now g)) ⌝ }
-    ensures { λ r. ⌜ Offers (now (s .entry)) (lent base counts (now (t .entry)) (now (o .entry)) (now (g .entry))) (lent base counts (now (t .exit)) (now (o .exit)) (now (g .exit))) r ⌝ }
+    ensures { λ r. ⌜ Offers (now (s .entry)) (lent base counts (now (t .entry)) (now (o .entry)) (now (g .entry)))
+        (lent base counts (now (t .exit)) (now (o .exit)) (now (g .exit))) r ⌝ }
 {
     let read = datagram_reader::read(s);
     let reading = read.reading;

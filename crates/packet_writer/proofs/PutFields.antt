@@ -11,9 +11,8 @@ use native.Mathlib.Omega.{arith}
 use borrow.Rule.Slice.PartMut.{putMid}
 use borrow.Author.Tests.{leb-true}
 use Rattle.datagrams.specs.Sizes.{packetLimit}
-use Rattle.datagrams.specs.Inner.Put.{Put}
-use Rattle.datagrams.proofs.PutLaws.{put-none, put-next, put-long, room-left}
-use Rattle.datagrams.proofs.WriteLaws.{both}
+use Rattle.lengths.specs.Promise.{Put}
+use Rattle.lengths.proofs.Laws.{put-none, put-next, put-long, room-left, both}
 use Rattle.packets.specs.Packet.{typesLimit, every}
 use Rattle.packets.specs.Write.{sum}
 use Rattle.packets.specs.Inner.Octets.{fieldOctets, fieldsOctets}

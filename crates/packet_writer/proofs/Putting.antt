@@ -7,11 +7,11 @@ use native.Mathlib.Nat.{mod-eq-of-lt}
 use native.Mathlib.Omega.{arith}
 use borrow.Rule.Slice.PartMut.{putMid}
 use borrow.Author.Tests.{lt-ltb, le-ltb}
-use Rattle.datagrams.specs.Inner.Put.{Put}
-use Rattle.datagrams.proofs.PutLaws.{put-none, put-one, put-next}
 use Rattle.packets.specs.Inner.Octets.{fieldOctets}
 use Rattle.packets.specs.Inner.Items.{FullFits, FieldFits}
 use Rattle.packets.proofs.Laws.{rest, field-length, field-bare, field-full}
+use Rattle.lengths.specs.Promise.{Put}
+use Rattle.lengths.proofs.Laws.{put-none, put-one, put-next}
 
 -- ---- one field
 pub bare-put : (k : ℕ) {old : List ℕ} → 1 ≤ length old → Put (fieldOctets k []) old (set old 0 (k * 16)) 1

@@ -13,12 +13,11 @@ use Rattle.lengths.specs.Refusals.{noRoom}
 use Rattle.lengths.specs.Answers.{Answer, done, refused, writtenOutcome, sizeOf}
 use Rattle.lengths.specs.Tables.{unless}
 use Rattle.lengths.specs.Length.{lengthOctets, lengthToWrite, lengthLimit}
-use Rattle.lengths.specs.Promise.{RefusalMade, Puts}
+use Rattle.lengths.specs.Promise.{RefusalMade, Puts, Put}
 use Rattle.lengths.specs.declared.Refusal.{Refusal}
 use Rattle.lengths.specs.declared.Written.{Written}
 use Rattle.lengths.specs.declared.Written.the-variants as written
-use Rattle.datagrams.specs.Inner.Put.{Put}
-use Rattle.datagrams.proofs.PutLaws.{put-none, put-one, put-next, put-long, put-puts, full-puts, room-left}
+use Rattle.lengths.proofs.Laws.{put-none, put-one, put-next, put-long, put-puts, full-puts, room-left}
 use Rattle.packets.specs.Write.{packetToWrite}
 use Rattle.packets.specs.Inner.Octets.{firstOctet, fieldsOctets, laidOctets}
 use Rattle.packets.specs.Inner.Items.{FieldsFit, CountedFit, countedOctets, PacketFits, Measured}

@@ -11,11 +11,10 @@ ghost use Prim.Native.Nat.{_≤_, _<_};
 ghost use mathlib.Core.List.{[]};
 ghost use lib.ListN.{length};
 ghost use lib.Dec.{leb};
-ghost use Rattle.lengths.specs.Promise.{Puts};
+ghost use Rattle.lengths.specs.Promise.{Puts, Put};
 ghost use Rattle.packets.specs.Packet.{fieldsLimit, typesLimit, every};
 ghost use Rattle.packets.specs.Write.{sum, total, oneEach, allAssigned, rightTypes, allRight, inSizes, packetToWrite};
 ghost use Rattle.packets.specs.Inner.Octets.{ofFlag, ofKind, firstOctet, fieldOctets, fieldsOctets, laidOctets};
-ghost use Rattle.datagrams.specs.Inner.Put.{Put};
 ghost use Rattle.packets.specs.Inner.Items.{Wide, Sized, FieldsSized, packetSize, Measured, FullFits, FieldFits, FieldsFit, CountedFit, countedOctets, Mark, PacketFits};
 ghost use Rattle.datagrams.specs.Sizes.{packetLimit};
 

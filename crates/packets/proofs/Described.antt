@@ -9,11 +9,11 @@ use lib.Dec.{leb, ltb}
 use native.Mathlib.Omega.{arith}
 use borrow.Author.Tests.{lt-ltb, le-leb, lt-leb, ltb-true, leb-true}
 use Rattle.lengths.specs.Refusals.{outsideSizes, notAssigned, wrongData}
+use Rattle.lengths.proofs.Laws.{both}
 use Rattle.formats.specs.Format.{known}
 use Rattle.formats.proofs.Laws.{Lawful, lawful-known, lawful-item, lawful-guarded, lawful-demand, lawful-then, lawful-made, lawful-either}
 use Rattle.formats.proofs.Laws.{lawful-sequence-of, lawful-flag, lawful-bits, lawful-align, lawful-here, lawful-octets, lawful-two-octets}
 use Rattle.formats.proofs.Laws.{lawful-length-rule}
-use Rattle.datagrams.proofs.WriteLaws.{both}
 use Rattle.packets.specs.Edition.{Enumerated, Edition, values}
 use Rattle.packets.specs.Packet.{root, addition, enumerated, chosen, isData, typeOfMsg, rightFields, start, count, fieldsLimit, Header, header, size, Content, fieldData, field, dataField, packet}
 

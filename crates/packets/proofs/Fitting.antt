@@ -8,11 +8,11 @@ use lib.Dec.{leb, ltb}
 use native.Mathlib.Omega.{arith}
 use borrow.Author.Tests.{lt-ltb, le-leb, ltb-true, ltb-false, leb-true, leb-false}
 use Rattle.lengths.specs.Length.{lengthOctets}
+use Rattle.lengths.proofs.Laws.{both}
 use Rattle.formats.specs.Spelling.{wide}
 use Rattle.formats.specs.Format.{flag, known, sequenceFits}
 use Rattle.formats.proofs.Laws.{wide-whole}
 use Rattle.datagrams.specs.Sizes.{packetLimit}
-use Rattle.datagrams.proofs.WriteLaws.{both}
 use Rattle.packets.specs.Edition.{Enumerated, values, edition98}
 use Rattle.packets.specs.Packet.{assigned, typesLimit, fieldsLimit, rightFields, rightData, every, root, addition, enumerated, typeOfMsg, start, count, header, size, Content, fieldData, field, dataField, packet}
 use Rattle.packets.specs.Write.{withData, rightTypes}

@@ -11,8 +11,7 @@ use native.Mathlib.Omega.{arith}
 use borrow.Author.Tests.{leb-true, leb-false}
 use Rattle.lengths.specs.Answers.{done, LengthAnswer}
 use Rattle.lengths.specs.Length.{lengthAt, ofTwo}
-use Rattle.lengths.proofs.Laws.{Form, one, two, form, lengthAt-one, lengthAt-two}
-use Rattle.datagrams.proofs.WriteLaws.{both}
+use Rattle.lengths.proofs.Laws.{Form, one, two, form, lengthAt-one, lengthAt-two, both}
 use Rattle.packets.specs.Packet.{First, every, PacketAnswer, readPacket}
 use Rattle.packets.specs.Inner.Octets.{Place, firstAt, Count, countAt, headerAt, sizeAt, FieldAnswer, fieldAt, FieldsAnswer, fieldsAt}
 use Rattle.packets.specs.Claims.{PartsWithin, ZerosFollow, ZerosAlike}

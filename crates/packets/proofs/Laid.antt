@@ -8,11 +8,11 @@ use lib.Dec.{leb, ltb}
 use native.Mathlib.Omega.{arith}
 use borrow.Author.Tests.{lt-leb, leb-true}
 use Rattle.lengths.specs.Length.{lengthOctets}
+use Rattle.lengths.proofs.Laws.{both}
 use Rattle.formats.specs.Spelling.{Letter, spelt, whole, wide, packed, gap}
 use Rattle.formats.proofs.Laws.{wide-append, wide-whole, packed-whole}
 use Rattle.formats.specs.Format.{known, sequenceSpelt}
 use Rattle.packets.specs.Edition.{edition98}
-use Rattle.datagrams.proofs.WriteLaws.{both}
 use Rattle.packets.specs.Write.{contentsOf, packetOctets}
 use Rattle.packets.specs.Packet.{assigned, typesLimit, every, Content, root, enumerated, typeOfMsg, start, count, header, size, fieldData, field, dataField, packet}
 use Rattle.packets.specs.Inner.Octets.{firstOctet, headerBits, sizeOctets, fieldOctets, fieldsOctets, laidOctets}

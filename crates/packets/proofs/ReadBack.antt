@@ -12,13 +12,13 @@ use borrow.Author.Tests.{le-leb, ltb-true, ltb-false, leb-true, leb-false, eqb-t
 use Rattle.lengths.specs.Refusals.{outsideSizes, leftOver}
 use Rattle.lengths.specs.Answers.{done}
 use Rattle.lengths.specs.Claims.{Octets}
+use Rattle.lengths.proofs.Laws.{both}
 use Rattle.formats.specs.Spelling.{wide, inOctets}
 use Rattle.formats.specs.Reading.{Finding, found, stopped, andThen}
 use Rattle.formats.specs.Reading as reading
 use Rattle.formats.specs.Format.{known, sequenceFits}
 use Rattle.formats.proofs.Laws.{found-written}
 use Rattle.datagrams.specs.Sizes.{packetLimit}
-use Rattle.datagrams.proofs.WriteLaws.{both}
 use Rattle.packets.specs.Edition.{values, edition98}
 use Rattle.packets.specs.Packet.{assigned, typesLimit, fieldsLimit, rightFields, rightData, every, enumerated, root, addition, First, chosen, isData, typeOfMsg, start, count, header, size, Content, fieldData, field, dataField, IfpPacket, packet, wholePacket, fieldOf, PacketAnswer, answerOf, readPacket, allData}
 use Rattle.packets.specs.Write.{withData, contentsOf, packetOctets, sum, total, rightTypes, packetToWrite}

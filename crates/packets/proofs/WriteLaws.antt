@@ -10,12 +10,11 @@ use lib.Dec.{leb, ltb, eqb}
 use native.Mathlib.Omega.{arith}
 use borrow.Author.Tests.{lt-ltb, le-ltb, eq-eqb, eqb-true, not-false, le-leb, ltb-true, ltb-false, leb-true}
 use Rattle.lengths.specs.Length.{lengthOctets}
-use Rattle.lengths.proofs.Tables.{unless-past, unless-done}
-use Rattle.lengths.proofs.Laws.{lengthOctets-one}
+use Rattle.lengths.proofs.Laws.{lengthOctets-one, both}
 use Rattle.lengths.specs.Answers.{done}
 use Rattle.lengths.specs.Tables.{unless}
+use Rattle.lengths.proofs.Laws.{unless-past, unless-done}
 use Rattle.datagrams.specs.Sizes.{packetLimit}
-use Rattle.datagrams.proofs.WriteLaws.{both}
 use Rattle.packets.specs.Packet.{fieldsLimit, typesLimit, assigned, rightFields, every}
 use Rattle.packets.specs.Write.{withData, packetOctets, sum, total, oneEach, allAssigned, rightTypes, allRight, inSizes, packetToWrite}
 use Rattle.packets.specs.Inner.Octets.{headerBits, firstOctet, fieldOctets, fieldsOctets, laidOctets}

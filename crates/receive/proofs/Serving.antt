@@ -12,8 +12,7 @@ use Rattle.held.specs.Table.{Lent}
 use Rattle.lines.specs.Feed.{goingIn, PartWay}
 use Rattle.lines.specs.Promise.{stepLimit}
 use Rattle.lines.specs.FeedPromise.{Feedable, Feeds}
-use Rattle.lines.proofs.Laws.{feeds-on, feeds-some}
-use Rattle.lines.proofs.InTurn.{in-turn}
+use Rattle.lines.proofs.Laws.{feeds-on, feeds-some, in-turn}
 use Rattle.receive.specs.Promise.{counted, Onward, Passes}
 
 -- so many more are counted
@@ -30,7 +29,8 @@ counted-on a b {sum} {n} before same on =
     ∙ ap (λ (x : ℕ). x % 2 ^ 64) (sym (length-append a b))
 
 -- the program may go on, no lent buffer has changed its length, the front of the block is taken in and its text handed over
-pub record Serving (first : Lent) (l₀ : List ℕ) (begun₀ : ℕ) (out₀ s : List ℕ) (handed : ℕ) (session : Lent) (l : List ℕ) (begun : ℕ) (out : List ℕ) (from sum : ℕ)
+pub record Serving (first : Lent) (l₀ : List ℕ) (begun₀ : ℕ) (out₀ s : List ℕ) (handed : ℕ) (session : Lent) (l : List ℕ) (begun : ℕ)
+    (out : List ℕ) (from sum : ℕ)
     : Type 0 where
   pub feedable : Feedable stepLimit session l begun out 0
   pub line-long : length l ≡ length l₀
@@ -63,7 +63,8 @@ left-of s from = take-all (length s - from) (drop from s) (omega (arith, length-
 left-long : (s : List ℕ) (from : ℕ) → length (take (length s - from) (drop from s)) ≡ length s - from
 left-long s from = ap length (left-of s from) ∙ length-drop from s
 
-module _ {first : Lent} {l₀ : List ℕ} {begun₀ : ℕ} {out₀ : List ℕ} (s : List ℕ) {handed : ℕ} {session : Lent} {l : List ℕ} {begun : ℕ} {out : List ℕ} {from sum : ℕ}
+module _ {first : Lent} {l₀ : List ℕ} {begun₀ : ℕ} {out₀ : List ℕ}
+    (s : List ℕ) {handed : ℕ} {session : Lent} {l : List ℕ} {begun : ℕ} {out : List ℕ} {from sum : ℕ}
     (v : Serving first l₀ begun₀ out₀ s handed session l begun out from sum) where
   -- all of it is taken in
   pub served : length s ≤ from → Passes first l₀ begun₀ s handed session l begun out sum true

@@ -15,8 +15,8 @@ use Rattle.lines.specs.Lines.{program}
 use Rattle.lines.specs.Feed.{Going, fed, lineDone, atEnd, goingIn, PartWay}
 use Rattle.lines.specs.Promise.{stepLimit}
 use Rattle.lines.specs.FeedPromise.{LineIn, Feedable, Ends}
-use Rattle.lines.proofs.InTurn.{in-turn}
-use Rattle.receive.specs.Promise.{counted, Passes, Complete, Serves}
+use Rattle.lines.proofs.Laws.{in-turn}
+use Rattle.receive.specs.Promise.{bufferSize, counted, Passes, Complete, Serves}
 use Rattle.receive.proofs.Serving.{counted-on}
 
 -- all that was read and handed over so far
@@ -30,13 +30,13 @@ pub record SoFar (session : Lent) (l : List ℕ) (begun taken handed : ℕ) : Ty
 -- beside what the calls ask for, the lengths of the buffers
 pub record Turning (session : Lent) (l block : List ℕ) (begun : ℕ) (out : List ℕ) (taken handed : ℕ) : Type 0 where
   pub feedable : Feedable stepLimit session l begun out 0
-  pub block-long : 65536 ≡ length block
-  pub out-long : 65536 ≡ length out
+  pub block-long : bufferSize ≡ length block
+  pub out-long : bufferSize ≡ length out
   pub so-far : SoFar session l begun taken handed
 
 -- before the first block
 pub turning-start : {session : Lent} {l block out : List ℕ} → InRanges session → viewIn session ≡ freshView → LineIn l 0
-    → 65536 ≡ length block → 65536 ≡ length out → Turning session l block 0 out 0 0
+    → bufferSize ≡ length block → bufferSize ≡ length out → Turning session l block 0 out 0 0
 unfolding fed
 turning-start within fresh line read room =
     record {

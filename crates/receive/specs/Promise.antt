@@ -11,6 +11,10 @@ use Rattle.lines.specs.Feed.{atStart, fed, atEnd, PartWay}
 use Rattle.lines.specs.Promise.{stepLimit}
 use Rattle.lines.specs.FeedPromise.{Feedable}
 
+-- a block of the input, and what is handed over at once, have at most so many octets: the toolchain's large buffer
+abbrev pub bufferSize : ℕ
+bufferSize = 65536
+
 -- how many octets, as a counter of 64 bits shows it
 abbrev pub counted : List ℕ → ℕ
 counted octets = length octets % 2 ^ 64
@@ -23,7 +27,8 @@ pub record Onward (input text : List ℕ) (session : Lent) (line : List ℕ) (be
 
 -- the program may go on; a front of the block is taken in and its text handed over, whatever was taken in and handed over before
 -- it; where all was written that front is the whole block
-pub record Passes (before : Lent) (line : List ℕ) (begun : ℕ) (block : List ℕ) (handed : ℕ) (after : Lent) (new : List ℕ) (kept : ℕ) (out : List ℕ) (sum : ℕ) (written : Bool)
+pub record Passes (before : Lent) (line : List ℕ) (begun : ℕ) (block : List ℕ) (handed : ℕ) (after : Lent) (new : List ℕ) (kept : ℕ)
+    (out : List ℕ) (sum : ℕ) (written : Bool)
     : Type 0 where
   pub feedable : Feedable stepLimit after new kept out 0
   pub front : ℕ

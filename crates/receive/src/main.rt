@@ -60,7 +60,9 @@ fn pass(
     handed: &mut usize,
 ) -> Passed
     requires { ⌜ Feedable stepLimit (lent base counts (now t) (now o) (now g)) (now line) begun (now out) 0 ⌝ }
-    ensures { λ r. ⌜ Passes (lent base counts (now (t .entry)) (now (o .entry)) (now (g .entry))) (now (line .entry)) begun (now (block .entry)) (now (handed .entry)) (lent (r .base) (r .counts) (now (t .exit)) (now (o .exit)) (now (g .exit))) (now (line .exit)) (r .begun) (now (out .exit)) (now (handed .exit)) (r .written) ⌝ }
+    ensures { λ r. ⌜ Passes (lent base counts (now (t .entry)) (now (o .entry)) (now (g .entry))) (now (line .entry)) begun
+        (now (block .entry)) (now (handed .entry)) (lent (r .base) (r .counts) (now (t .exit)) (now (o .exit)) (now (g .exit)))
+        (now (line .exit)) (r .begun) (now (out .exit)) (now (handed .exit)) (r .written) ⌝ }
 {
     let mut after = base;
     let mut moves = counts;
@@ -122,7 +124,8 @@ fn serve(
 ) -> Served
     requires { ⌜ InRanges (lent base counts (now t) (now o) (now g)) ⌝ }
     requires { ⌜ viewIn (lent base counts (now t) (now o) (now g)) ≡ freshView ⌝ }
-    ensures { λ r. ⌜ Serves (lent (r .base) (r .counts) (now (t .exit)) (now (o .exit)) (now (g .exit))) (r .taken) (r .handed) (r .whole) ⌝ }
+    ensures { λ r. ⌜ Serves (lent (r .base) (r .counts) (now (t .exit)) (now (o .exit)) (now (g .exit))) (r .taken) (r .handed)
+        (r .whole) ⌝ }
 {
     let mut line = [0u8; Line::KEPT];
     let mut block = io::large_buffer();

@@ -16,8 +16,8 @@ use Rattle.views.specs.View.{numbers}
 use Rattle.held.specs.Slots.{numberAt, heardSlotAt, slotsHeard, messageOctets}
 use Rattle.held.specs.Table.{nIn, mIn, messageSizeIn, cellsOf}
 use Rattle.repairing.specs.Back.{findBack}
-use Rattle.repairing.specs.Promise.{Searchable, nAt, mAt, sizeAt, messageHeld, missingOf, LowestFound, Seeable, LowestSeen}
-use Rattle.repairing.specs.declared.Lowest.the-variants as lowest
+use Rattle.repairing.specs.Promise.{Searchable, nAt, mAt, messageSizeAt, messageHeld, missingOf, LowestFound, Seeable, LowestSeen}
+use Rattle.repairing.specs.declared.searching.Lowest.the-variants as lowest
 use Rattle.repairing.proofs.Search.{missingAt, usable-is, target-is, messages-are, first-none, first-some}
 
 -- ---- the loop over a number's messages: none below i is usable
@@ -45,7 +45,7 @@ module _ {t : List ℕ} {at slot n m i index place size first unknown : ℕ} (s 
   first-is : first ≡ numberAt base (keptBefore + d + i)
   first-is = omega arith
 
-  size-is : size ≡ sizeAt base t d i
+  size-is : size ≡ messageSizeAt base t d i
   size-is = e-size ∙ ap (messageSizeIn t) (e-place ∙ ap₂ (λ (j k : ℕ). j * messagesLimit + k) slot-is e-index)
 
   low : i < mAt base t d

@@ -18,9 +18,10 @@ use Rattle.held.specs.Table.{Lent, lent, countsOf, stateNumbered, cellsOf, held
 use Rattle.held.specs.Laid.{InRanges}
 use Rattle.held.specs.declared.Counts.{Counts}
 use Rattle.held.proofs.Laws.{beyond, placed-cells, placed-ranges, length-cells, slot-small}
-use Rattle.repairing.specs.Promise.{Searchable, sizeAt, messageHeld, Points, UsableFound, UsableAnswer, UsablePoints, MendedOctets, SameBeside, Fills, Mends}
-use Rattle.repairing.specs.declared.Usable.{Usable}
-use Rattle.repairing.specs.declared.Usable.the-variants as usables
+use Rattle.repairing.specs.Promise.{Searchable, messageSizeAt, messageHeld, Points, UsableFound, UsableAnswer, UsablePoints}
+use Rattle.repairing.specs.Promise.{MendedOctets, SameBeside, MayMend, FilledNow, Fills, MendedNow, Mends}
+use Rattle.repairing.specs.declared.searching.Usable.{Usable}
+use Rattle.repairing.specs.declared.searching.Usable.the-variants as usables
 use Rattle.repairing.proofs.Beside.{same-beside, beside-twice, held-beside}
 use Rattle.repairing.proofs.Search.{searchable, m-near, size-near, octets-long}
 
@@ -53,13 +54,13 @@ module _ {l : Lent} (w : InRanges l) {d i slot : ℕ} (at : Points (l .base) (l 
   pub index-fits : i < messagesLimit
   index-fits = omega (arith, at .low, m-near (searchable w) (l .base) d)
 
-  pub size-fits : {size : ℕ} → size ≡ sizeAt (l .base) (l .table) d i → size ≤ packetLimit
+  pub size-fits : {size : ℕ} → size ≡ messageSizeAt (l .base) (l .table) d i → size ≤ packetLimit
   size-fits e = rw e (size-near (searchable w) (l .base) d i (at .low))
 
   pub filled : {sum newT newO : List ℕ} {size octets : ℕ} → MendedOctets (l .base) (l .table) (l .octets) (l .messages) d i sum
-      → size ≡ sizeAt (l .base) (l .table) d i → newO ≡ pasted (l .octets) slot (take size sum) → octets ≡ size
+      → size ≡ messageSizeAt (l .base) (l .table) d i → newO ≡ pasted (l .octets) slot (take size sum) → octets ≡ size
       → newT ≡ keptSet (l .table) slot repairedNumber octets
-      → Fills l d i (lent (l .base) (l .counts) newT newO (l .messages))
+      → FilledNow l d i (lent (l .base) (l .counts) newT newO (l .messages))
   unfolding p cells message fill stateNumbered
   filled {sum} {newT} {newO} {size} {octets} m e-size e-o e-octets e-t =
       let b = mended cells message in
@@ -80,16 +81,17 @@ module _ {l : Lent} (w : InRanges l) {d i slot : ℕ} (at : Points (l .base) (l 
         beside = record { stays = beyond (l .table) slot repairedNumber (length b) slot-fits };
       })
 
--- ---- the loop
-pub record Mending (base : ℕ) (counts : Counts) (g t₀ o₀ t o : List ℕ) (left : ℕ) : Type 0 where
+-- ---- the loop, with some counts
+pub record MendingWith (base : ℕ) (counts : Counts) (g t₀ o₀ t o : List ℕ) (left : ℕ) : Type 0 where
   pub within : InRanges (lent base counts t o g)
   pub beside : SameBeside t₀ t
-  pub steps : repairF left (cellsOf base t o) (heldMessages (heldOf base t₀ g)) ≡ repair (cellsOf base t₀ o₀) (heldMessages (heldOf base t₀ g))
+  pub steps : repairF left (cellsOf base t o) (heldMessages (heldOf base t₀ g))
+      ≡ repair (cellsOf base t₀ o₀) (heldMessages (heldOf base t₀ g))
 
-pub mending-start : {base : ℕ} {counts : Counts} {t o g : List ℕ} → InRanges (lent base counts t o g)
-    → Mending base counts g t o t o keptNumbers
+start-with : {base : ℕ} {counts : Counts} {t o g : List ℕ} → InRanges (lent base counts t o g)
+    → MendingWith base counts g t o t o keptNumbers
 unfolding repair
-mending-start {base} {counts} {t} {o} {g} w =
+start-with {base} {counts} {t} {o} {g} w =
     record {
       within = w;
       beside = same-beside t;
@@ -97,11 +99,11 @@ mending-start {base} {counts} {t} {o} {g} w =
     }
 
 -- nothing is left to mend
-mends : {base : ℕ} {counts : Counts} {g t₀ o₀ t o : List ℕ} {left : ℕ} → Mending base counts g t₀ o₀ t o left
+mended-now : {base : ℕ} {counts : Counts} {g t₀ o₀ t o : List ℕ} {left : ℕ} → MendingWith base counts g t₀ o₀ t o left
     → cellsOf base t o ≡ repair (cellsOf base t₀ o₀) (heldMessages (heldOf base t₀ g))
-    → Mends (lent base counts t₀ o₀ g) (lent base counts t o g)
+    → MendedNow (lent base counts t₀ o₀ g) (lent base counts t o g)
 unfolding viewIn
-mends {base} {counts} {g} m e =
+mended-now {base} {counts} {g} m e =
     record {
       state =
           ap₂ (λ (c : List Cell) (h : List Held). record { base = base; counts = countsOf counts; cells = c; held = h }) e
@@ -110,7 +112,14 @@ mends {base} {counts} {g} m e =
       beside = m .beside;
     }
 
-module _ {base : ℕ} {counts : Counts} {g t₀ o₀ t o : List ℕ} {left : ℕ} (m : Mending base counts g t₀ o₀ t o left) {found : Usable}
+end-with : {base : ℕ} {counts : Counts} {g t₀ o₀ t o : List ℕ} {left : ℕ} → MendingWith base counts g t₀ o₀ t o left → left ≤ 0
+    → MendedNow (lent base counts t₀ o₀ g) (lent base counts t o g)
+unfolding repairF
+end-with {left = left} m all =
+    let none-left : left ≡ 0 = omega arith in
+    mended-now m (rw none-left at (m .steps))
+
+module _ {base : ℕ} {counts : Counts} {g t₀ o₀ t o : List ℕ} {left : ℕ} (m : MendingWith base counts g t₀ o₀ t o left) {found : Usable}
     (f : UsableFound base t found) where
   -- the first usable message of what is there now, in the words of the whole
   found-now : firstUsable (cellsOf base t o) (heldMessages (heldOf base t₀ g)) ≡ UsableAnswer base t found g
@@ -118,25 +127,23 @@ module _ {base : ℕ} {counts : Counts} {g t₀ o₀ t o : List ℕ} {left : ℕ
       ap (λ (h : List Held). firstUsable (cellsOf base t o) (heldMessages h)) (sym (held-beside (m .beside) g base))
       ∙ f .answer o g (m .within .laid .messages)
 
-  pub mending-stop : found ≡ usables.Nothing → Mends (lent base counts t₀ o₀ g) (lent base counts t o g)
-  mending-stop e =
-      mends m
-      (sym (repairF-done left (cellsOf base t o) (heldMessages (heldOf base t₀ g)) (found-now ∙ ap (λ (x : Usable). UsableAnswer base t x g) e))
+  stop-with : found ≡ usables.Nothing → MendedNow (lent base counts t₀ o₀ g) (lent base counts t o g)
+  stop-with e =
+      mended-now m
+      (sym (repairF-done left (cellsOf base t o) (heldMessages (heldOf base t₀ g))
+      (found-now ∙ ap (λ (x : Usable). UsableAnswer base t x g) e))
       ∙ m .steps)
 
   module _ {d i slot : ℕ} (e : found ≡ usables.Message d i slot) where
     some-now : firstUsable (cellsOf base t o) (heldMessages (heldOf base t₀ g)) ≡ some (messageHeld base t g d i)
     some-now = found-now ∙ ap (λ (x : Usable). UsableAnswer base t x g) e
 
-    pub mending-usable : usable (cellsOf base t o) (messageHeld base t g d i) ≡ true
-    mending-usable = found-usable (cellsOf base t o) (heldMessages (heldOf base t₀ g)) (messageHeld base t g d i) some-now .1
+    usable-with : usable (cellsOf base t o) (messageHeld base t g d i) ≡ true
+    usable-with = found-usable (cellsOf base t o) (heldMessages (heldOf base t₀ g)) (messageHeld base t g d i) some-now .1
 
-    pub mending-points : Points base t d i slot
-    mending-points = subst (λ (x : Usable). UsablePoints base t x) e (f .points)
-
-    pub mending-turn : {newT newO : List ℕ} → 0 < left → Fills (lent base counts t o g) d i (lent base counts newT newO g)
-        → Mending base counts g t₀ o₀ newT newO (left - 1)
-    mending-turn {newT} {newO} more x =
+    turn-with : {newT newO : List ℕ} → 0 < left → FilledNow (lent base counts t o g) d i (lent base counts newT newO g)
+        → MendingWith base counts g t₀ o₀ newT newO (left - 1)
+    turn-with {newT} {newO} more x =
         let one : left ≡ suc (left - 1) = omega arith in
         let whole : repairF (suc (left - 1)) (cellsOf base t o) (heldMessages (heldOf base t₀ g))
         ≡ repair (cellsOf base t₀ o₀) (heldMessages (heldOf base t₀ g)) = rw one at (m .steps) in
@@ -149,13 +156,43 @@ module _ {base : ℕ} {counts : Counts} {g t₀ o₀ t o : List ℕ} {left : ℕ
               ∙ whole;
         }
 
-pub mending-end : {base : ℕ} {counts : Counts} {g t₀ o₀ t o : List ℕ} {left : ℕ} → Mending base counts g t₀ o₀ t o left → left ≤ 0
-    → Mends (lent base counts t₀ o₀ g) (lent base counts t o g)
-unfolding repairF
-mending-end {base} {counts} {g} {t₀} {o₀} {t} {o} {left} m all =
-    let none-left : left ≡ 0 = omega arith in
-    mends m (rw none-left at (m .steps))
+-- ---- the loop: with every counts with which it began within the ranges, and there are some
+pub record Mending (base : ℕ) (g t₀ o₀ t o : List ℕ) (left : ℕ) : Type 0 where
+  pub may : MayMend base t₀ o₀ g
+  pub each : (c : Counts) → InRanges (lent base c t₀ o₀ g) → MendingWith base c g t₀ o₀ t o left
 
--- what the loop hands on
-pub searchable-now : {base : ℕ} {counts : Counts} {g t₀ o₀ t o : List ℕ} {left : ℕ} → Mending base counts g t₀ o₀ t o left → Searchable t
-searchable-now m = searchable (m .within)
+pub mending-start : {base : ℕ} {t o g : List ℕ} → MayMend base t o g → Mending base g t o t o keptNumbers
+mending-start m = record { may = m; each = λ c w. start-with w }
+
+module _ {base : ℕ} {g t₀ o₀ t o : List ℕ} {left : ℕ} (m : Mending base g t₀ o₀ t o left) where
+  some-counts : MendingWith base (m .may .counts) g t₀ o₀ t o left
+  some-counts = m .each (m .may .counts) (m .may .within)
+
+  -- what the loop hands on
+  pub searchable-now : Searchable t
+  searchable-now = searchable (some-counts .within)
+
+  pub mending-may : MayMend base t o g
+  mending-may = record { counts = m .may .counts; within = some-counts .within }
+
+  pub mending-end : left ≤ 0 → Mends base t₀ o₀ g t o
+  mending-end all = record { mends = λ c w. end-with (m .each c w) all }
+
+  module _ {found : Usable} (f : UsableFound base t found) where
+    pub mending-stop : found ≡ usables.Nothing → Mends base t₀ o₀ g t o
+    mending-stop e = record { mends = λ c w. stop-with (m .each c w) f e }
+
+    module _ {d i slot : ℕ} (e : found ≡ usables.Message d i slot) where
+      pub mending-usable : usable (cellsOf base t o) (messageHeld base t g d i) ≡ true
+      mending-usable = usable-with some-counts f e
+
+      pub mending-points : Points base t d i slot
+      mending-points = subst (λ (x : Usable). UsablePoints base t x) e (f .points)
+
+      pub mending-turn : {newT newO : List ℕ} → 0 < left → Fills base t o g d i newT newO
+          → Mending base g t₀ o₀ newT newO (left - 1)
+      mending-turn more x =
+          record {
+            may = m .may;
+            each = λ c w. let so = m .each c w in turn-with so f e more (x .fills c (so .within));
+          }

@@ -15,11 +15,11 @@ use Rattle.views.specs.View.{numbers}
 use Rattle.held.specs.Slots.{heardSlotAt, slotsHeard, messageOctets}
 use Rattle.held.specs.Table.{mIn, heldIn, cellsOf, heldOf}
 use Rattle.held.proofs.Laws.{length-held, held-at}
-use Rattle.repairing.specs.Back.{sumTo, Count, countAll}
+use Rattle.repairing.specs.Back.{sumTo, MessageCount, countAll}
 use Rattle.repairing.specs.Promise.{mAt, messageHeld, LowestFound, LowestSeen, UsableFound}
-use Rattle.repairing.specs.declared.Lowest.{Lowest}
-use Rattle.repairing.specs.declared.Lowest.the-variants as lowest
-use Rattle.repairing.specs.declared.Usable.the-variants as usables
+use Rattle.repairing.specs.declared.searching.Lowest.{Lowest}
+use Rattle.repairing.specs.declared.searching.Lowest.the-variants as lowest
+use Rattle.repairing.specs.declared.searching.Usable.the-variants as usables
 use Rattle.repairing.proofs.Below.{lowest-empty}
 use Rattle.repairing.proofs.Totals.{sum-more, some-left, none-left}
 
@@ -105,12 +105,13 @@ module _ {base : ℕ} {t : List ℕ} {total seen d : ℕ} (s : Seen base t seen 
   pub more-left : seen < total → d < keptAhead
   more-left more = some-left base t d (s .searched .few) (omega (arith, more, e-total, s .same))
 
-  pub seen-hit : {at : ℕ} {r : Lowest} {i slot : ℕ} → seen < total → at ≡ (base + d) % numbers → LowestSeen t at r → r ≡ lowest.Message i slot
+  pub seen-hit : {at : ℕ} {r : Lowest} {i slot : ℕ} → seen < total → at ≡ (base + d) % numbers → LowestSeen t at r
+      → r ≡ lowest.Message i slot
       → UsableFound base t (usables.Message d i slot)
   seen-hit more = searched-hit (s .searched) (more-left more)
 
   pub seen-turn : {at place m : ℕ} {r : Lowest} → seen < total → at ≡ (base + d) % numbers → LowestSeen t at r → r ≡ lowest.Nothing
-      → place ≡ at % slotsHeard → Count t place m → Seen base t (seen + m) (d + 1)
+      → place ≡ at % slotsHeard → MessageCount t place m → Seen base t (seen + m) (d + 1)
   seen-turn {at} {place} {m} more e-at low e e-place c =
       let here : place ≡ heardSlotAt base d = omega arith in
       record {

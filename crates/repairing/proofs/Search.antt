@@ -24,8 +24,8 @@ use Rattle.held.specs.Table.{Lent, messageIn, heldIn, cellsOf}
 use Rattle.held.specs.Laid.{InRanges}
 use Rattle.held.proofs.Laws.{n-small, heard-small, message-small, has-message-slot}
 use Rattle.repairing.specs.Back.{countBack, findBack}
-use Rattle.repairing.specs.Promise.{Searchable, nAt, mAt, sizeAt, messageHeld, missingOf, Seeable}
-use Rattle.repairing.specs.declared.Lowest.the-variants as lowest
+use Rattle.repairing.specs.Promise.{Searchable, nAt, mAt, messageSizeAt, messageHeld, missingOf, Seeable}
+use Rattle.repairing.specs.declared.searching.Lowest.the-variants as lowest
 use Rattle.repairing.proofs.Members.{counted, found-slot}
 
 -- within the ranges the table can be searched
@@ -43,11 +43,11 @@ module _ {t : List ℕ} (s : Searchable t) (base d : ℕ) where
   pub reach-near : nAt base t d * mAt base t d ≤ keptBefore
   reach-near = reach-kept n-near m-near
 
-  pub size-near : (i : ℕ) → i < mAt base t d → sizeAt base t d i ≤ packetLimit
+  pub size-near : (i : ℕ) → i < mAt base t d → messageSizeAt base t d i ≤ packetLimit
   size-near i low = s .part (heardSlotAt base d) i (heard-small base d) (omega (arith, m-near))
 
   pub octets-long : (g : List ℕ) → length g ≡ messageOctets → (i : ℕ) → i < mAt base t d
-      → length ((messageHeld base t g d i) .octets) ≡ sizeAt base t d i
+      → length ((messageHeld base t g d i) .octets) ≡ messageSizeAt base t d i
   unfolding messageHeld messageIn
   octets-long g long i low =
       length-part g (messageSlot (heardSlotAt base d) i) _
@@ -80,7 +80,7 @@ abbrev pub counts : ℕ → List ℕ → ℕ → ℕ → ℕ
 counts base t d i = countBack t (numberAt base (keptBefore + d + i)) (nAt base t d) (mAt base t d)
 
 abbrev pub missingAt : ℕ → List ℕ → ℕ → ℕ → ℕ
-missingAt base t d i = missingOf (sizeAt base t d i) t (numberAt base (keptBefore + d + i)) (nAt base t d) (mAt base t d)
+missingAt base t d i = missingOf (messageSizeAt base t d i) t (numberAt base (keptBefore + d + i)) (nAt base t d) (mAt base t d)
 
 module _ {t : List ℕ} (s : Searchable t) (base d : ℕ) (near : d < keptAhead) (i : ℕ) (low : i < mAt base t d) where
   -- the count of the code is document 01's
@@ -95,7 +95,7 @@ module _ {t : List ℕ} (s : Searchable t) (base d : ℕ) (near : d < keptAhead)
       ≡ eqb (missingAt base t d i) 1
   unfolding usable
   usable-is o g long =
-      rw (octets-long s base d g long i low, ← unknown-count o g) (both-tests (sizeAt base t d i) (counts base t d i))
+      rw (octets-long s base d g long i low, ← unknown-count o g) (both-tests (messageSizeAt base t d i) (counts base t d i))
 
   -- the slot that the code finds is that of the first unknown member
   pub target-is : (o g : List ℕ) → missingAt base t d i ≡ 1
@@ -103,7 +103,7 @@ module _ {t : List ℕ} (s : Searchable t) (base d : ℕ) (near : d < keptAhead)
       ≡ slotAt base (getD (unknownMembers (cellsOf base t o) (messageHeld base t g d i)) 0 0)
   unfolding messageHeld membersOf
   target-is o g hit =
-      let one : counts base t d i ≡ 1 = counted-one (sizeAt base t d i) (counts base t d i) hit in
+      let one : counts base t d i ≡ 1 = counted-one (messageSizeAt base t d i) (counts base t d i) hit in
       found-slot base t o (nAt base t d) (keptBefore + d + i) (mAt base t d) (omega (arith, reach-near s base d)) (omega arith)
       (omega (arith, m-near s base d)) (omega (arith, one, unknown-count o g))
 

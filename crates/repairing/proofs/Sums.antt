@@ -20,7 +20,7 @@ use Rattle.held.specs.Slots.{numberAt, heardSlotAt, messageSlot, slotsHeard}
 use Rattle.held.specs.Table.{Lent, nIn, mIn, messageSizeIn, messageIn, cellsOf}
 use Rattle.held.specs.Laid.{InRanges}
 use Rattle.repairing.specs.Back.{slotOf, xorBack, Summed}
-use Rattle.repairing.specs.Promise.{nAt, mAt, sizeAt, messageHeld, MendedOctets}
+use Rattle.repairing.specs.Promise.{nAt, mAt, messageSizeAt, messageHeld, MendedOctets}
 use Rattle.repairing.proofs.Members.{summed}
 use Rattle.repairing.proofs.Search.{searchable, m-near, reach-near, size-near, octets-long}
 
@@ -74,7 +74,7 @@ summing-done {o} {start} {sum} {x} {n} {m} {at} {k} s all =
 
 -- ---- the size that the code reads
 pub size-read : (base : ℕ) (t : List ℕ) (d i : ℕ) {at slot size : ℕ} → at ≡ (base + d) % numbers → slot ≡ at % slotsHeard
-    → size ≡ messageSizeIn t (slot * messagesLimit + i) → size ≡ sizeAt base t d i
+    → size ≡ messageSizeIn t (slot * messagesLimit + i) → size ≡ messageSizeAt base t d i
 size-read base t d i {at} {slot} {size} e-at e-slot e-size =
     let slot-is : slot ≡ heardSlotAt base d = omega arith in
     e-size ∙ ap (λ (j : ℕ). messageSizeIn t (j * messagesLimit + i)) slot-is

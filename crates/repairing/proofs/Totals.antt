@@ -12,7 +12,7 @@ use Rattle.datagrams.specs.Sizes.{messagesLimit}
 use Rattle.views.specs.Cells.{keptAhead}
 use Rattle.held.specs.Slots.{slotsHeard}
 use Rattle.held.specs.Table.{mIn}
-use Rattle.repairing.specs.Back.{sumTo, Count, countAll}
+use Rattle.repairing.specs.Back.{sumTo, MessageCount, countAll}
 use Rattle.repairing.specs.Promise.{Searchable, mAt}
 
 -- ---- sums
@@ -88,7 +88,8 @@ pub totalling-start : (t : List ℕ) → Totalling t 0 0
 unfolding sumTo
 totalling-start t = record { same = refl; small = omega arith; few = omega arith }
 
-pub totalling-turn : {t : List ℕ} {total j m : ℕ} → Totalling t total j → j < slotsHeard → Count t j m → Totalling t (total + m) (j + 1)
+pub totalling-turn : {t : List ℕ} {total j m : ℕ} → Totalling t total j → j < slotsHeard → MessageCount t j m
+    → Totalling t (total + m) (j + 1)
 totalling-turn {t} {total} {j} {m} s more c =
     record {
       same = ap₂ (λ (a b : ℕ). a + b) (s .same) (c .same) ∙ sym (sum-more j (mIn t));
@@ -101,6 +102,6 @@ totalling-done {t} {total} {j} s all =
     let whole : j ≡ slotsHeard = omega (arith, s .few) in
     s .same ∙ ap (λ (n : ℕ). sumTo n (mIn t)) whole
 
-pub count-read : {t : List ℕ} {slot m n : ℕ} → Searchable t → slot < slotsHeard → m ≡ mIn t slot → n ≡ m → Count t slot n
+pub count-read : {t : List ℕ} {slot m n : ℕ} → Searchable t → slot < slotsHeard → m ≡ mIn t slot → n ≡ m → MessageCount t slot n
 count-read {t} {slot} {m} {n} s small e-m e-n =
     record { same = e-n ∙ e-m; small = omega (arith, s .few slot small) }

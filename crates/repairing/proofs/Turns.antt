@@ -10,15 +10,15 @@ use Rattle.views.specs.View.{distance}
 use Rattle.held.specs.Slots.{slotsKept}
 use Rattle.held.specs.Table.{stateIn}
 use Rattle.held.proofs.Laws.{unknown-number}
-use Rattle.repairing.specs.Back.{unknownOne, One, slotOf, countBack, findBack}
+use Rattle.repairing.specs.Back.{unknownOne, OneUnknown, slotOf, countBack, findBack}
 
 -- ---- one for an unknown number
-pub one-unknown : (t : List ℕ) (slot : ℕ) {state : ℕ} → state ≡ stateIn t slot → state ≡ 0 → One t slot 1
+pub one-unknown : (t : List ℕ) (slot : ℕ) {state : ℕ} → state ≡ stateIn t slot → state ≡ 0 → OneUnknown t slot 1
 one-unknown t slot {state} e empty =
     let seen = sym (eq-eqb (stateIn t slot) 0 (sym e ∙ empty)) ∙ unknown-number (stateIn t slot) in
     record { same = ap (λ (b : Bool). cond b 1 0) seen; small = omega arith }
 
-pub one-known : (t : List ℕ) (slot : ℕ) {state : ℕ} → state ≡ stateIn t slot → (state ≡ 0 → ⊥) → One t slot 0
+pub one-known : (t : List ℕ) (slot : ℕ) {state : ℕ} → state ≡ stateIn t slot → (state ≡ 0 → ⊥) → OneUnknown t slot 0
 one-known t slot {state} e some =
     let seen = sym (ne-eqb (stateIn t slot) 0 (λ empty. some (e ∙ empty))) ∙ unknown-number (stateIn t slot) in
     record { same = ap (λ (b : Bool). cond b 1 0) seen; small = omega arith }
@@ -31,7 +31,11 @@ pub record Counting (t : List ℕ) (x n m at count k : ℕ) : Type 0 where
 
 pub counting-start : (t : List ℕ) (x n m : ℕ) → Counting t x n m x 0 0
 counting-start t x n m =
-    record { left = zero-add _ ∙ ap (λ (k : ℕ). countBack t x k m) {x = n - 0} {y = n} (omega arith); few = omega arith; small = omega arith }
+    record {
+      left = zero-add _ ∙ ap (λ (k : ℕ). countBack t x k m) {x = n - 0} {y = n} (omega arith);
+      few = omega arith;
+      small = omega arith;
+    }
 
 one-left : (n k : ℕ) → k < n → n - k ≡ suc (n - (k + 1))
 one-left n k more = omega arith
@@ -42,7 +46,7 @@ unfolding countBack
 countBack-step t x n m k more = rw (one-left n k more)
 
 pub counting-turn : {t : List ℕ} {x n m at count k member slot one : ℕ} → Counting t x n m at count k → k < n
-    → member ≡ distance m at → slot ≡ slotOf member → One t slot one
+    → member ≡ distance m at → slot ≡ slotOf member → OneUnknown t slot one
     → Counting t x n m member (count + one) (k + 1)
 counting-turn {t} {x} {n} {m} {at} {count} {k} {member} {slot} {one} c more e f g =
     record {
@@ -69,7 +73,7 @@ pub finding-start : (t : List ℕ) (x n m : ℕ) → Finding t x n m x 0
 finding-start t x n m = record { left = ap (λ (k : ℕ). findBack t x k m) {x = n - 0} {y = n} (omega arith); few = omega arith }
 
 module _ {t : List ℕ} {x n m at k member slot one : ℕ} (c : Finding t x n m at k) (more : k < n)
-    (e : member ≡ distance m at) (f : slot ≡ slotOf member) (g : One t slot one) where
+    (e : member ≡ distance m at) (f : slot ≡ slotOf member) (g : OneUnknown t slot one) where
   here : unknownOne t (slotOf (distance m at)) ≡ one
   here = sym (g .same ∙ ap (λ (i : ℕ). unknownOne t i) (f ∙ ap slotOf e))
 

@@ -17,7 +17,7 @@ use Rattle.held.specs.Table.{stateIn, mIn, stateNumbered}
 abbrev pub unknownOne : List ℕ → ℕ → ℕ
 unknownOne t slot = cond (isUnknown (stateNumbered (stateIn t slot))) 1 0
 
-pub record One (t : List ℕ) (slot r : ℕ) : Type 0 where
+pub record OneUnknown (t : List ℕ) (slot r : ℕ) : Type 0 where
   pub same : r ≡ unknownOne t slot
   pub small : r ≤ 1
 
@@ -57,6 +57,6 @@ abbrev pub countAll : List ℕ → ℕ
 countAll t = sumTo slotsHeard (mIn t)
 
 -- how many of one number
-pub record Count (t : List ℕ) (slot r : ℕ) : Type 0 where
+pub record MessageCount (t : List ℕ) (slot r : ℕ) : Type 0 where
   pub same : r ≡ mIn t slot
   pub small : r ≤ messagesLimit

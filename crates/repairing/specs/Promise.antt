@@ -14,13 +14,14 @@ use Rattle.views.specs.Repair.{Message, unknownMembers, firstUsable, mended, fi
 use Rattle.views.specs.Held.{messagesOf, heldMessages}
 use Rattle.views.specs.View.{View, numbers}
 use Rattle.held.specs.Slots.{slotAt, heardSlotAt, messageSlot, slotsKept, slotsHeard, messageOctets}
-use Rattle.held.specs.Table.{Lent, places, nIn, mIn, messageSizeIn, messageIn, heldIn, cellsOf, heldOf, viewIn}
+use Rattle.held.specs.Table.{Lent, lent, places, nIn, mIn, messageSizeIn, messageIn, heldIn, cellsOf, heldOf, viewIn}
 use Rattle.held.specs.Laid.{InRanges}
+use Rattle.held.specs.declared.Counts.{Counts}
 use Rattle.repairing.specs.Back.{countBack}
-use Rattle.repairing.specs.declared.Usable.{Usable}
-use Rattle.repairing.specs.declared.Usable.the-variants as usables
-use Rattle.repairing.specs.declared.Lowest.{Lowest}
-use Rattle.repairing.specs.declared.Lowest.the-variants as lowest
+use Rattle.repairing.specs.declared.searching.Usable.{Usable}
+use Rattle.repairing.specs.declared.searching.Usable.the-variants as usables
+use Rattle.repairing.specs.declared.searching.Lowest.{Lowest}
+use Rattle.repairing.specs.declared.searching.Lowest.the-variants as lowest
 
 -- what the searches ask of the table: n, m and the sizes of messages are within the sizes
 pub record Searchable (t : List ℕ) : Type 0 where
@@ -36,8 +37,8 @@ nAt base t d = nIn t (heardSlotAt base d)
 abbrev pub mAt : ℕ → List ℕ → ℕ → ℕ
 mAt base t d = mIn t (heardSlotAt base d)
 
-abbrev pub sizeAt : ℕ → List ℕ → ℕ → ℕ → ℕ
-sizeAt base t d i = messageSizeIn t (messageSlot (heardSlotAt base d) i)
+abbrev pub messageSizeAt : ℕ → List ℕ → ℕ → ℕ → ℕ
+messageSizeAt base t d i = messageSizeIn t (messageSlot (heardSlotAt base d) i)
 
 unfoldable pub messageHeld : ℕ → List ℕ → List ℕ → ℕ → ℕ → Message
 messageHeld base t g d i =
@@ -104,19 +105,32 @@ pub record MendedOctets (base : ℕ) (t o g : List ℕ) (d i : ℕ) (r : List �
 pub record SameBeside (before after : List ℕ) : Type 0 where
   pub stays : (k : ℕ) → slotsKept + slotsKept ≤ k → getD after k 0 ≡ getD before k 0
 
+-- what mend sees is within the ranges: there are counts with which it is so
+pub record MayMend (base : ℕ) (t o g : List ℕ) : Type 0 where
+  pub counts : Counts
+  pub within : InRanges (lent base counts t o g)
+
 -- one message used
-pub record Fills (before : Lent) (d i : ℕ) (after : Lent) : Type 0 where
+pub record FilledNow (before : Lent) (d i : ℕ) (after : Lent) : Type 0 where
   pub cells : cellsOf (after .base) (after .table) (after .octets)
       ≡ fill (cellsOf (before .base) (before .table) (before .octets)) (messageHeld (before .base) (before .table) (before .messages) d i)
   pub within : InRanges after
   pub beside : SameBeside (before .table) (after .table)
 
+-- what fill owes: so it is with every counts with which it was within the ranges
+pub record Fills (base : ℕ) (t o g : List ℕ) (d i : ℕ) (newT newO : List ℕ) : Type 0 where
+  pub fills : (c : Counts) → InRanges (lent base c t o g) → FilledNow (lent base c t o g) d i (lent base c newT newO g)
+
 -- "Then repair": what is held stays, and the kept numbers are repaired
 abbrev pub repairedView : View → View
 repairedView v = record { base = v .base; counts = v .counts; cells = repair (v .cells) (heldMessages (v .held)); held = v .held }
 
--- what mend owes: all that can be mended is
-pub record Mends (before after : Lent) : Type 0 where
+-- all that can be mended is
+pub record MendedNow (before after : Lent) : Type 0 where
   pub state : viewIn after ≡ repairedView (viewIn before)
   pub within : InRanges after
   pub beside : SameBeside (before .table) (after .table)
+
+-- what mend owes, likewise with every counts
+pub record Mends (base : ℕ) (t o g newT newO : List ℕ) : Type 0 where
+  pub mends : (c : Counts) → InRanges (lent base c t o g) → MendedNow (lent base c t o g) (lent base c newT newO g)

@@ -3,12 +3,12 @@ use mathlib.Core.Path.{refl}
 use Rattle.lengths.specs.Tables.{unless}
 use Rattle.sending.specs.Sending.{freshSending}
 use Rattle.sending.specs.Send.{datagramToSend}
-use Rattle.sending.specs.Ranges.{inRanges}
+use Rattle.sending.specs.Ranges.{historyInRanges}
 use Rattle.sending.specs.Promise.{toSend}
 use Rattle.sending.specs.Cases.{RefusalCases}
 
 pub refusal-cases : RefusalCases
-unfolding toSend inRanges datagramToSend freshSending unless
+unfolding toSend historyInRanges datagramToSend freshSending unless
 refusal-cases =
     record {
       ranges-first = refl;

@@ -15,7 +15,7 @@ use Rattle.datagrams.specs.Carried.{Extra, Carried}
 use Rattle.datagrams.specs.Write.{datagramOctets}
 use Rattle.lengths.specs.declared.Written.the-variants as written
 use Rattle.views.specs.View.{numbers}
-use Rattle.sending.specs.Sending.{Sending, historyKept, freshSending, sentOn}
+use Rattle.sending.specs.Sending.{Sending, historyKept, newestPlace, freshSending, sentOn}
 use Rattle.sending.specs.Carries.{settingsInside, carriedFrom}
 use Rattle.sending.specs.Send.{packetOf, packetInside, carriedNext}
 use Rattle.sending.specs.Sender.{sendingOf}
@@ -47,11 +47,11 @@ module _ (row : List (List ℕ)) (x : List ℕ) where
       ≡ tab historyKept (λ p. packetAt (row ++ (x ∷ [])) (length row + 1 + p))
   history-after =
       sym
-      (tab-shift 31 (λ p. packetAt (row ++ (x ∷ [])) (length row + 1 + p)) (λ p. packetAt row (length row + p)) x
+      (tab-shift newestPlace (λ p. packetAt (row ++ (x ∷ [])) (length row + 1 + p)) (λ p. packetAt row (length row + p)) x
       (λ p low.
       let same : length row + 1 + p ≡ length row + suc p = omega arith in
       ap (packetAt (row ++ (x ∷ []))) same ∙ packetAt-old row x (length row + suc p) (omega arith))
-      (let last : length row + 1 + 31 ≡ historyKept + length row = omega arith in
+      (let last : length row + 1 + newestPlace ≡ historyKept + length row = omega arith in
       ap (packetAt (row ++ (x ∷ []))) last ∙ packetAt-new row x))
 
   on-after : sentOn x (sendingAfter row) ≡ sendingAfter (row ++ (x ∷ []))

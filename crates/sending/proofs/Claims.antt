@@ -59,7 +59,8 @@ chains =
     }
 
 pub cases : Cases
-unfolding datagramToSend unless freshSending sentOn sparesFrom messagesFrom membersOf tab xorAt exclusiveOr longest lengthOctets numberOctets itemOctets itemsOctets countedOctets datagramOctets
+unfolding datagramToSend unless freshSending sentOn sparesFrom messagesFrom membersOf tab xorAt exclusiveOr longest lengthOctets
+    numberOctets itemOctets itemsOctets countedOctets datagramOctets
 cases = record { first-parity = refl; number-0-again = refl; first-spares = refl }
 
 pub claims : Claims

@@ -10,7 +10,7 @@ use native.Mathlib.Omega.{arith}
 use Rattle.datagrams.specs.Sizes.{packetLimit}
 use Rattle.sending.specs.Sending.{Sending, historyKept}
 use Rattle.sending.specs.Send.{packetOf}
-use Rattle.sending.specs.Sender.{slotAt, sizeIn, packetIn, historyIn, historyOctets, sendingOf}
+use Rattle.sending.specs.Sender.{historySlot, lengthIn, packetIn, historyIn, historyOctets, sendingOf}
 use Rattle.sending.specs.Inner.Held.{Arrays, Within, Stored}
 use Rattle.sending.specs.Promise.{Proper}
 use Rattle.sending.specs.declared.Sender.{Sender}
@@ -29,7 +29,7 @@ module _ (sent : ℕ) {sizes o sizes′ o′ : List ℕ} (a : Stored sizes o) (b
       ∙ ap (λ (h : List (List ℕ)). packetOf h p) same
       ∙ history-at sent sizes′ o′ p (place-small sent i))
 
-  size-same : (i : ℕ) → i < historyKept → sizeIn sizes i ≡ sizeIn sizes′ i
+  size-same : (i : ℕ) → i < historyKept → lengthIn sizes i ≡ lengthIn sizes′ i
   size-same i small = sym (length-packet a i small) ∙ ap length (slot-same i small) ∙ length-packet b i small
 
   octet-same : (i k : ℕ) → i < historyKept → k < packetLimit → getD o (i * packetLimit + k) 0 ≡ getD o′ (i * packetLimit + k) 0

@@ -10,8 +10,8 @@ use Rattle.octets.proofs.Laws.{tab-ext, tab-same, allBelow-of}
 use Rattle.stores.specs.Store.{zeros, part}
 use Rattle.stores.proofs.Laws.{length-zeros, zeros-at, zerosPast-zeros}
 use Rattle.sending.specs.Sending.{historyKept, freshSending}
-use Rattle.sending.specs.Sender.{slotAt, packetIn, historyIn, historyOctets}
-use Rattle.sending.specs.Ranges.{sizeInRange, placeInRange, inRanges}
+use Rattle.sending.specs.Sender.{historySlot, packetIn, historyIn, historyOctets}
+use Rattle.sending.specs.Ranges.{sizeInRange, placeInRange, historyInRanges}
 use Rattle.sending.specs.Inner.Held.{Arrays}
 use Rattle.sending.specs.Promise.{FreshMade}
 
@@ -19,17 +19,17 @@ module _ (sizes o : List ℕ) (arrays : Arrays sizes o) (none : (i : ℕ) → ge
   history-none : historyIn 0 sizes o ≡ replicate historyKept []
   unfolding historyIn part
   history-none =
-      tab-ext historyKept (λ p. packetIn sizes o (slotAt 0 p)) (λ p. [])
-      (λ p small. ap (λ (n : ℕ). part o (slotAt 0 p) n) (none (slotAt 0 p)))
+      tab-ext historyKept (λ p. packetIn sizes o (historySlot 0 p)) (λ p. [])
+      (λ p small. ap (λ (n : ℕ). part o (historySlot 0 p) n) (none (historySlot 0 p)))
       ∙ tab-same historyKept []
 
   place-none : (p : ℕ) → p < historyKept → placeInRange 0 sizes o p ≡ true
   unfolding placeInRange sizeInRange
   place-none p small =
-      rw (lt-ltb (0 + p) historyKept (omega arith), none (slotAt 0 p)) (zerosPast-zeros o (slotAt 0 p) 0 clean)
+      rw (lt-ltb (0 + p) historyKept (omega arith), none (historySlot 0 p)) (zerosPast-zeros o (historySlot 0 p) 0 clean)
 
-  ranges-none : inRanges 0 sizes o ≡ true
-  unfolding inRanges
+  ranges-none : historyInRanges 0 sizes o ≡ true
+  unfolding historyInRanges
   ranges-none = allBelow-of historyKept (placeInRange 0 sizes o) place-none
 
   fresh-of : FreshMade (record { sent = 0; sizes = sizes; octets = o })

@@ -11,10 +11,10 @@ use native.Mathlib.Omega.{arith}
 use borrow.Author.Tests.{leb-true}
 use Rattle.octets.specs.Place.{tab}
 use Rattle.octets.proofs.Laws.{tab-ext, map-tab}
-use Rattle.datagrams.specs.Sizes.{sparesLimit, coveredLimit, messagesLimit}
+use Rattle.datagrams.specs.Sizes.{sparesLimit, coveredLimit, messagesLimit, coveredLeast, messagesLeast}
 use Rattle.datagrams.specs.Carried.{Extra, spares, parity, Carried}
-use Rattle.datagrams.specs.Write.{within}
-use Rattle.datagrams.proofs.WriteLaws.{both, within-true}
+use Rattle.lengths.specs.Length.{within}
+use Rattle.lengths.proofs.Laws.{both, within-true}
 use Rattle.views.specs.Members.{membersOf}
 use Rattle.views.specs.Honest.{messageOver}
 use Rattle.sending.specs.Sending.{historyKept}
@@ -33,7 +33,8 @@ module _ (rowA : ℕ → List ℕ) (A : ℕ) (rowB : ℕ → List ℕ) (B : ℕ)
     (alike : Alike rowA A rowB B) where
   spares-same : (count : ℕ) → count ≤ sparesLimit → sparesFrom count rowA A ≡ sparesFrom count rowB B
   unfolding sparesFrom
-  spares-same count few = tab-ext count (λ j. rowA (A - suc j)) (λ j. rowB (B - suc j)) (λ j below. alike (suc j) (omega arith) (omega arith))
+  spares-same count few = tab-ext count (λ j. rowA (A - suc j)) (λ j. rowB (B - suc j))
+      (λ j below. alike (suc j) (omega arith) (omega arith))
 
   -- a member of message i is so many places back
   member-same : (n m i t : ℕ) → n ≤ coveredLimit → m ≤ messagesLimit → i < m → t < n
@@ -65,8 +66,9 @@ module _ (rowA : ℕ → List ℕ) (A : ℕ) (rowB : ℕ → List ℕ) (B : ℕ)
       let few = leb-true k sparesLimit inside in
       ap spares (spares-same (min k sent) (omega arith))
   extra-same (settings.Parity n m) sent inside =
-      let t = both (within 1 coveredLimit n) (within 1 messagesLimit m) inside in
-      ap (parity n) (messages-same n m (within-true 1 coveredLimit n (t .0) .1) (within-true 1 messagesLimit m (t .1) .1))
+      let t = both (within coveredLeast coveredLimit n) (within messagesLeast messagesLimit m) inside in
+      ap (parity n) (messages-same n m (within-true coveredLeast coveredLimit n (t .0) .1)
+      (within-true messagesLeast messagesLimit m (t .1) .1))
 
 -- ---- the row by places
 pub before-length : length (replicate {A = List ℕ} historyKept []) ≡ historyKept
@@ -104,7 +106,8 @@ module _ (row : List (List ℕ)) (x : List ℕ) where
   row-new = getD-append-seam row x [] []
 
   -- a packet more changes no datagram before it
-  pub carriedAt-old : (s : Settings) (S : ℕ) → settingsInside s ≡ true → S < length row → carriedAt s (row ++ (x ∷ [])) S ≡ carriedAt s row S
+  pub carriedAt-old : (s : Settings) (S : ℕ) → settingsInside s ≡ true → S < length row
+      → carriedAt s (row ++ (x ∷ [])) S ≡ carriedAt s row S
   carriedAt-old s S inside before =
       rw (
         row-old S before,

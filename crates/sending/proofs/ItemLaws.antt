@@ -18,8 +18,8 @@ use Rattle.sending.specs.Carries.{settingsInside, sparesFrom, messagesFr
 use Rattle.sending.specs.Send.{packetOf}
 use Rattle.sending.specs.Sender.{historyIn}
 use Rattle.sending.specs.Inner.Held.{Stored}
-use Rattle.sending.specs.Inner.Items.{membersIn, messageIn, spareIn, itemsIn, itemIn}
-use Rattle.sending.specs.Inner.Next.{kindOf, countOf}
+use Rattle.sending.specs.Inner.Items.{membersIn, parityIn, spareIn, itemsIn, itemIn}
+use Rattle.sending.specs.Inner.Next.{kindAsked, countOf}
 use Rattle.sending.specs.declared.Settings.{Settings}
 use Rattle.sending.specs.declared.Settings.the-variants as settings
 use Rattle.sending.proofs.History.{packet-short}
@@ -32,13 +32,13 @@ item-spare k count number sizes o j e below =
     rw e (tab-at count (λ i. packetOf (historyIn number sizes o) (historyKept - suc i)) j [] below)
 
 pub item-message : (k : Kind) {n : ℕ} (count number : ℕ) (sizes o : List ℕ) (j : ℕ) → k ≡ kind.Parity n → j < count
-    → itemIn k count number sizes o j ≡ messageIn number sizes o n count j
+    → itemIn k count number sizes o j ≡ parityIn number sizes o n count j
 unfolding messagesFrom
 item-message k {n} count number sizes o j e below =
-    rw e (tab-at count (λ i. messageIn number sizes o n count i) j [] below)
+    rw e (tab-at count (λ i. parityIn number sizes o n count i) j [] below)
 
 -- settings inside the sizes give a count inside the sizes
-pub count-inside : (s : Settings) (sent : ℕ) → settingsInside s ≡ true → countInside (kindOf s) (countOf s sent) ≡ true
+pub count-inside : (s : Settings) (sent : ℕ) → settingsInside s ≡ true → countInside (kindAsked s) (countOf s sent) ≡ true
 count-inside (settings.Spares k) sent inside =
     let few = leb-true k sparesLimit inside in
     le-leb (min k sent) sparesLimit (omega arith)
@@ -48,7 +48,7 @@ count-inside (settings.Parity n m) sent inside = inside
 pub items-count : (k : Kind) (count number : ℕ) (sizes o : List ℕ) → length (itemsIn k count number sizes o) ≡ count
 unfolding sparesFrom messagesFrom
 items-count kind.Spares count number sizes o = length-tab count (λ j. packetOf (historyIn number sizes o) (historyKept - suc j))
-items-count (kind.Parity n) count number sizes o = length-tab count (λ i. messageIn number sizes o n count i)
+items-count (kind.Parity n) count number sizes o = length-tab count (λ i. parityIn number sizes o n count i)
 
 -- no message is longer than a packet
 pub members-short : {sizes o : List ℕ} → Stored sizes o → (number n m i : ℕ) → longest (membersIn number sizes o n m i) ≤ packetLimit
@@ -56,5 +56,6 @@ members-short {sizes} {o} stored number n m i =
     longest-least packetLimit (membersIn number sizes o n m i)
     (λ l among. each l (Memᴰ·of-map (packetOf (historyIn number sizes o)) (membersOf historyKept n m i) among))
   where
-    each : (l : List ℕ) → (p : ℕ) × Among p (membersOf historyKept n m i) × (packetOf (historyIn number sizes o) p ≡ l) → length l ≤ packetLimit
+    each : (l : List ℕ) → (p : ℕ) × Among p (membersOf historyKept n m i) × (packetOf (historyIn number sizes o) p ≡ l)
+        → length l ≤ packetLimit
     each l t = rw t.2 at (packet-short stored number t.0)

@@ -1,13 +1,14 @@
-pub mod Slots
-pub mod History
-pub mod ItemLaws
-pub mod Kept
-pub mod Accepted
+mod Slots
+mod History
+mod ItemLaws
+mod Kept
+mod Accepted
 mod FreshSteps
-pub mod HonestLaws
-pub mod Outcome
-pub mod Chain
-pub mod Faithful
-pub mod Back
-pub mod About
+mod HonestLaws
+mod Outcome
+mod Chain
+mod Faithful
+mod Back
+mod About
+pub mod Laws
 pub mod Claims

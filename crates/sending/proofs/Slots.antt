@@ -10,7 +10,7 @@ use Rattle.datagrams.specs.Sizes.{packetLimit, coveredLimit, messagesLimit, rea
 use Rattle.stores.specs.Store.{HasSlot}
 use Rattle.views.specs.View.{numbers}
 use Rattle.sending.specs.Sending.{historyKept}
-use Rattle.sending.specs.Sender.{slotAt, historyOctets}
+use Rattle.sending.specs.Sender.{historySlot, historyOctets}
 
 -- the history has all that a message may cover: "a reach n·m of at most 32", "the last 32 packets"
 pub reach-kept : reachLimit ≤ historyKept
@@ -19,17 +19,17 @@ reach-kept = omega arith
 pub covered-kept : {n m : ℕ} → n ≤ coveredLimit → m ≤ messagesLimit → n * m ≤ historyKept
 covered-kept covered messages = le-trans (mul-le-mul covered messages) reach-kept
 
-pub slot-small : (sent p : ℕ) → slotAt sent p < historyKept
+pub slot-small : (sent p : ℕ) → historySlot sent p < historyKept
 slot-small sent p = omega arith
 
-pub slot-apart : (sent p q : ℕ) → p < historyKept → q < historyKept → slotAt sent p ≡ slotAt sent q → p ≡ q
+pub slot-apart : (sent p q : ℕ) → p < historyKept → q < historyKept → historySlot sent p ≡ historySlot sent q → p ≡ q
 slot-apart sent p q small low same = omega arith
 
 -- the place of a slot
 abbrev pub placeOf : ℕ → ℕ → ℕ
 placeOf sent i = (i + (historyKept - sent % historyKept)) % historyKept
 
-pub place-slot : (sent i : ℕ) → i < historyKept → slotAt sent (placeOf sent i) ≡ i
+pub place-slot : (sent i : ℕ) → i < historyKept → historySlot sent (placeOf sent i) ≡ i
 place-slot sent i small =
     let whole = div-add-mod' sent historyKept in
     let low : sent % historyKept < historyKept = omega arith in
@@ -42,5 +42,5 @@ pub has-slot : (o : List ℕ) (i : ℕ) → length o ≡ historyOctets → i < h
 has-slot o i long small = omega arith
 
 -- the number goes modulo 65,536, the slot modulo 32
-pub slot-number : (sent p : ℕ) → slotAt (sent % numbers) p ≡ slotAt sent p
+pub slot-number : (sent p : ℕ) → historySlot (sent % numbers) p ≡ historySlot sent p
 slot-number sent p = let whole = div-add-mod' sent numbers in omega arith

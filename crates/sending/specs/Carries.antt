@@ -9,9 +9,9 @@ use mathlib.Core.Bool.{Bool, _&&_}
 use mathlib.Core.List.{List, map}
 use lib.Dec.{leb}
 use Rattle.octets.specs.Place.{tab}
-use Rattle.datagrams.specs.Sizes.{sparesLimit, coveredLimit, messagesLimit}
+use Rattle.datagrams.specs.Sizes.{sparesLimit, coveredLeast, coveredLimit, messagesLeast, messagesLimit}
 use Rattle.datagrams.specs.Carried.{Extra, spares, parity, Carried}
-use Rattle.datagrams.specs.Write.{within}
+use Rattle.lengths.specs.Length.{within}
 use Rattle.views.specs.Members.{membersOf}
 use Rattle.views.specs.Honest.{messageOver}
 use Rattle.views.specs.View.{numbers}
@@ -21,7 +21,7 @@ use Rattle.sending.specs.declared.Settings.the-variants as settings
 -- settings inside the sizes: "Spare copies 0 to 8. Parity messages m from 1 to 4, each over n packets, n from 1 to 8"
 abbrev pub settingsInside : Settings → Bool
 settingsInside (settings.Spares k) = leb k sparesLimit
-settingsInside (settings.Parity n m) = within 1 coveredLimit n && within 1 messagesLimit m
+settingsInside (settings.Parity n m) = within coveredLeast coveredLimit n && within messagesLeast messagesLimit m
 
 -- so many spares of the datagram at place S
 unfoldable pub sparesFrom : ℕ → (ℕ → List ℕ) → ℕ → List (List ℕ)

@@ -14,8 +14,8 @@ use Rattle.sending.specs.declared.Sender.{Sender}
 use Rattle.sending.specs.declared.Settings.the-variants as settings
 
 -- a session that has sent 1,000,000 packets
-abbrev pub atLimit : Sending
-atLimit = record { sent = sessionLimit; history = replicate historyKept (0x02 ∷ []) }
+abbrev pub allSent : Sending
+allSent = record { sent = sessionLimit; history = replicate historyKept (0x02 ∷ []) }
 
 -- one that has sent more, which is outside its ranges
 abbrev pub pastLimit : Sender
@@ -23,7 +23,7 @@ pastLimit = record { sent = 1000001; sizes = []; octets = [] }
 
 pub record RefusalCases : Type 0 where
   pub ranges-first : toSend pastLimit (settings.Spares 9) [] ≡ refuse outsideRanges
-  pub passed-first : datagramToSend (settings.Spares 9) (0x06 ∷ []) atLimit ≡ refuse allPassed
+  pub passed-first : datagramToSend (settings.Spares 9) (0x06 ∷ []) allSent ≡ refuse allPassed
   pub settings-then-size : datagramToSend (settings.Spares 9) [] freshSending ≡ refuse wrongSettings
   -- n = 0 and m = 0 are settings outside the sizes
   pub n-0 : datagramToSend (settings.Parity 0 1) (0x06 ∷ []) freshSending ≡ refuse wrongSettings

@@ -13,7 +13,7 @@ use Rattle.sending.specs.Sending.{historyKept, freshSending}
 use Rattle.sending.specs.Send.{carriedNext, datagramToSend}
 use Rattle.sending.specs.Sender.{sendingOf}
 use Rattle.sending.specs.Inner.Held.{Arrays}
-use Rattle.sending.specs.Inner.Next.{kindOf, itemsNext}
+use Rattle.sending.specs.Inner.Next.{kindAsked, itemsNext}
 use Rattle.sending.specs.Promise.{Proper, FreshMade, RangesTold, Sends}
 use Rattle.sending.specs.Honest.{HonestSender}
 use Rattle.sending.specs.Run.{Run}
@@ -30,7 +30,7 @@ pub record WrittenRight : Type 0 where
   -- messages
   pub writer : {s : Sender} {settings : Settings} {packet old new : List ℕ} {r : Sent} {n : ℕ} → Arrays (s .sizes) (s .octets)
       → Sends s settings packet old new r → r .answer ≡ written.Octets n
-      → datagramToWrite (s .sent % numbers) packet (kindOf settings) (map length (itemsNext settings (sendingOf s)))
+      → datagramToWrite (s .sent % numbers) packet (kindAsked settings) (map length (itemsNext settings (sendingOf s)))
       (flatten (itemsNext settings (sendingOf s)))
       ≡ done (take n new)
   -- and it reads back as a datagram that carries them

@@ -1,16 +1,16 @@
--- Document 01, 'The sending session': "The sending session's ranges: numbers sent at most 1,000,000; history lengths 1 to 160, or 0 exactly for
--- numbers before the first; octets past a length zero." Definitions only.
+-- Document 01, 'The sending session': "The sending session's ranges: numbers sent at most 1,000,000; history lengths 1 to 160, or 0
+-- exactly for numbers before the first; octets past a length zero." Definitions only.
 use Prim.Native.Nat.{ℕ, _+_}
 use mathlib.Core.Bool.{Bool, cond, _&&_}
 use mathlib.Core.List.{List}
 use lib.Dec.{leb, ltb, eqb}
 use Rattle.octets.specs.Place.{allBelow}
 use Rattle.datagrams.specs.Sizes.{packetLeast, packetLimit}
-use Rattle.datagrams.specs.Write.{within}
+use Rattle.lengths.specs.Length.{within}
 use Rattle.stores.specs.Store.{zerosPast}
 use Rattle.views.specs.View.{sessionLimit}
 use Rattle.sending.specs.Sending.{historyKept}
-use Rattle.sending.specs.Sender.{slotAt, sizeIn}
+use Rattle.sending.specs.Sender.{historySlot, lengthIn}
 use Rattle.sending.specs.declared.Sender.{Sender}
 
 -- "history lengths 1 to 160, or 0 exactly for numbers before the first": of the number at − historyKept
@@ -20,12 +20,12 @@ sizeInRange at size = cond (ltb at historyKept) (eqb size 0) (within packetLeast
 -- the packet at place p, of the number sent − historyKept + p, and "octets past a length zero"
 unfoldable pub placeInRange : ℕ → List ℕ → List ℕ → ℕ → Bool
 placeInRange sent sizes o p =
-    sizeInRange (sent + p) (sizeIn sizes (slotAt sent p)) && zerosPast o (slotAt sent p) (sizeIn sizes (slotAt sent p))
+    sizeInRange (sent + p) (lengthIn sizes (historySlot sent p)) && zerosPast o (historySlot sent p) (lengthIn sizes (historySlot sent p))
 
 -- the whole sentence
-unfoldable pub inRanges : ℕ → List ℕ → List ℕ → Bool
-inRanges sent sizes o = leb sent sessionLimit && allBelow historyKept (placeInRange sent sizes o)
+unfoldable pub historyInRanges : ℕ → List ℕ → List ℕ → Bool
+historyInRanges sent sizes o = leb sent sessionLimit && allBelow historyKept (placeInRange sent sizes o)
 
 -- of a session
 abbrev pub senderInRanges : Sender → Bool
-senderInRanges s = inRanges (s .sent) (s .sizes) (s .octets)
+senderInRanges s = historyInRanges (s .sent) (s .sizes) (s .octets)

@@ -10,9 +10,10 @@ use lib.Dec.{leb}
 use Rattle.lengths.specs.Refusals.{outsideSizes, wrongSettings, allPassed}
 use Rattle.lengths.specs.Answers.{Answer}
 use Rattle.lengths.specs.Tables.{when, unless}
+use Rattle.lengths.specs.Length.{within}
 use Rattle.datagrams.specs.Sizes.{packetLeast, packetLimit}
 use Rattle.datagrams.specs.Carried.{Carried}
-use Rattle.datagrams.specs.Write.{within, datagramOctets}
+use Rattle.datagrams.specs.Write.{datagramOctets}
 use Rattle.views.specs.View.{sessionLimit}
 use Rattle.sending.specs.Sending.{Sending, historyKept}
 use Rattle.sending.specs.Carries.{settingsInside, carriedFrom}

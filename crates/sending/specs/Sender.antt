@@ -14,20 +14,20 @@ abbrev pub historyOctets : ℕ
 historyOctets = historyKept * packetLimit
 
 -- the slot of the number at place p of the history: that number is sent − historyKept + p, and slots go by number modulo 32
-abbrev pub slotAt : ℕ → ℕ → ℕ
-slotAt sent p = (sent + p) % historyKept
+abbrev pub historySlot : ℕ → ℕ → ℕ
+historySlot sent p = (sent + p) % historyKept
 
 -- how many octets the packet in slot i has
-abbrev pub sizeIn : List ℕ → ℕ → ℕ
-sizeIn sizes i = getD sizes i 0
+abbrev pub lengthIn : List ℕ → ℕ → ℕ
+lengthIn sizes i = getD sizes i 0
 
 -- the packet in slot i
 abbrev pub packetIn : List ℕ → List ℕ → ℕ → List ℕ
-packetIn sizes o i = part o i (sizeIn sizes i)
+packetIn sizes o i = part o i (lengthIn sizes i)
 
 -- the history, where `sent` packets were sent
 unfoldable pub historyIn : ℕ → List ℕ → List ℕ → List (List ℕ)
-historyIn sent sizes o = tab historyKept (λ p. packetIn sizes o (slotAt sent p))
+historyIn sent sizes o = tab historyKept (λ p. packetIn sizes o (historySlot sent p))
 
 -- the session as document 01 sees it
 abbrev pub sendingIn : ℕ → List ℕ → List ℕ → Sending

@@ -6,30 +6,28 @@ use mathlib.Core.Bool.{Bool, true, false}
 use mathlib.Core.List.{List}
 use lib.ListN.{length}
 use Rattle.lengths.specs.Refusals.{outsideRanges}
-use Rattle.lengths.specs.Answers.{Answer, done, refused}
+use Rattle.lengths.specs.Answers.{Answer, done, refused, afterwards}
 use Rattle.lengths.specs.Promise.{RefusalMade}
 use Rattle.lengths.specs.declared.Refusal.{Refusal}
 use Rattle.views.specs.View.{View}
 use Rattle.views.specs.Offer as offers
 use Rattle.views.specs.Release as release
-use Rattle.views.specs.Release.{Release, Loss}
+use Rattle.views.specs.Release.{Release, Loss, viewAfterNext, viewAfterLoss}
 use Rattle.held.specs.Table.{Lent, lent, lentBy, viewOf}
 use Rattle.held.specs.Laid.{sessionInRanges, InRanges}
 use Rattle.held.specs.Promise.{Sized}
 use Rattle.held.specs.declared.Counts.{Counts}
 use Rattle.held.specs.declared.Session.{Session}
 use Rattle.held.proofs.Laws.{session-in-ranges}
-use Rattle.leaving.specs.Outcome.{afterNext, afterGiveUp}
 use Rattle.leaving.specs.Promise.{Releases, GivesUp}
 use Rattle.leaving.specs.declared.Released.{Released}
 use Rattle.leaving.specs.declared.Released.the-variants as released
 use Rattle.leaving.specs.declared.Lost.{Lost}
 use Rattle.leaving.specs.declared.Lost.the-variants as lost
-use Rattle.offering.specs.Outcome.{afterOffer}
 use Rattle.offering.specs.Promise.{Offers}
 use Rattle.offering.specs.declared.Offered.{Offered}
 use Rattle.offering.specs.declared.Offered.the-variants as offered
-use Rattle.sessions.specs.Receiver.{SeenAs, After, offerOf, OfferOwes, nextOf, viewAfterNext, NextOwes, giveUpOf, viewAfterLoss, GiveUpOwes}
+use Rattle.sessions.specs.Receiver.{SeenAs, After, offerOf, OfferOwes, nextOf, NextOwes, giveUpOf, GiveUpOwes}
 
 -- the session put together again
 abbrev pub sessionOf : ℕ → Counts → List ℕ → List ℕ → List ℕ → Session
@@ -45,7 +43,8 @@ stands : {A : Type 0} (a : Answer A) (seen : A → View) (viewed : Answer View) 
     → ((x : A) → a ≡ done x → viewed ≡ done (seen x)) → ((x : Refusal) → a ≡ refused x → viewed ≡ refused x)
     → After viewed s r
 stands (done x) seen viewed s r did stay is-done is-refused = subst (λ (v : Answer View). After v s r) (sym (is-done x refl)) (did x refl)
-stands (refused x) seen viewed s r did stay is-done is-refused = subst (λ (v : Answer View). After v s r) (sym (is-refused x refl)) (stay x refl)
+stands (refused x) seen viewed s r did stay is-done is-refused =
+    subst (λ (v : Answer View). After v s r) (sym (is-refused x refl)) (stay x refl)
 
 -- ---- offer
 module _ {s : Session} {octets : List ℕ} {ok : Bool} (e : ok ≡ sessionInRanges s) where
@@ -67,7 +66,7 @@ module _ {s : Session} {octets : List ℕ} {ok : Bool} (e : ok ≡ sessionInRang
         state =
             rw inside
             (stands (offers.offer octets (viewOf s)) (λ v. v) _ s (sessionOf b c t o g)
-            (λ v is. record { within = m .within; view = m .state ∙ ap (λ (x : Answer View). afterOffer x (viewOf s)) is })
+            (λ v is. record { within = m .within; view = m .state ∙ ap (λ (x : Answer View). afterwards x (viewOf s)) is })
             (λ x is. same-session (m .stays x is))
             (λ v is. is)
             (λ x is. is));
@@ -98,7 +97,11 @@ module _ {s : Session} {old : List ℕ} {ok : Bool} (e : ok ≡ sessionInRanges 
         state =
             rw inside
             (stands (release.next (length old) (viewOf s)) (λ a. a .after) _ s (sessionOf b c t o g)
-            (λ a is. record { within = m .within; view = m .state ∙ ap (λ (x : Answer Release). afterNext x (viewOf s)) is })
+            (λ a is.
+            record {
+              within = m .within;
+              view = m .state ∙ ap (λ (x : Answer Release). afterwards (viewAfterNext x) (viewOf s)) is;
+            })
             (λ x is. same-session (m .stays x is))
             (λ a is. ap viewAfterNext is)
             (λ x is. ap viewAfterNext is));
@@ -123,7 +126,7 @@ module _ {s : Session} {ok : Bool} (e : ok ≡ sessionInRanges s) where
         state =
             rw inside
             (stands (release.giveUp (viewOf s)) (λ a. a .after) _ s (sessionOf b c t o g)
-            (λ a is. record { within = m .within; view = m .state ∙ ap (λ (x : Answer Loss). afterGiveUp x (viewOf s)) is })
+            (λ a is. record { within = m .within; view = m .state ∙ ap (λ (x : Answer Loss). afterwards (viewAfterLoss x) (viewOf s)) is })
             (λ x is. same-session (m .stays x is))
             (λ a is. ap viewAfterLoss is)
             (λ x is. ap viewAfterLoss is));

@@ -20,13 +20,14 @@ use Rattle.views.specs.Reached.{Known}
 use Rattle.views.proofs.Laws.{repair-known}
 use Rattle.views.specs.View.{View, distance}
 use Rattle.views.specs.Offer as offers
+use Rattle.views.specs.Release.{viewAfterNext, viewAfterLoss}
 use Rattle.held.specs.Laid.{sessionInRanges}
 use Rattle.held.specs.declared.Session.{Session}
 use Rattle.held.proofs.Laws.{in-ranges-true, fresh-same}
-use Rattle.leaving.specs.Outcome.{octetsOf}
+use Rattle.leaving.specs.Outcome.{octetsHanded}
 use Rattle.leaving.proofs.Laws.{released-told, lost-told}
 use Rattle.offering.proofs.Laws.{offered-told}
-use Rattle.sessions.specs.Receiver.{After, offerOf, nextOf, viewAfterNext, giveUpOf, viewAfterLoss}
+use Rattle.sessions.specs.Receiver.{After, offerOf, nextOf, giveUpOf}
 use Rattle.sessions.specs.Claims.{RefusedStays, OneOutcome, AcceptedOffer, Claims}
 use Rattle.sessions.proofs.Outcomes.{after-same, after-refused}
 
@@ -37,7 +38,7 @@ refused-stays =
       next =
           λ {s} {old} {new} {r} x o is. (
             after-refused (viewAfterNext (nextOf (length old) s)) x (o .state) (ap viewAfterNext is),
-            o .lent ∙ ap (λ (a : Answer (List ℕ)). over a old) (ap octetsOf is),
+            o .lent ∙ ap (λ (a : Answer (List ℕ)). over a old) (ap octetsHanded is),
           );
       giveUp = λ {s} {r} x o is. after-refused (viewAfterLoss (giveUpOf s)) x (o .state) (ap viewAfterLoss is);
     }
@@ -64,7 +65,8 @@ one-outcome =
 
 -- ---- an accepted offer
 -- what the tests say of an offer that is not refused
-both-tests : (b c d : Bool) (after v : View) → cond b (cond c (refuse repeated) (done v)) (cond d (refuse tooFar) (refuse late)) ≡ done after
+both-tests : (b c d : Bool) (after v : View)
+    → cond b (cond c (refuse repeated) (done v)) (cond d (refuse tooFar) (refuse late)) ≡ done after
     → (b ≡ true) × (after ≡ v)
 both-tests true true d after v e = let z : _≡_ {A = ℕ} 0 1 = cc in absurd (omega arith)
 both-tests true false d after v e = (refl, cc)
@@ -105,7 +107,8 @@ unfolding offers.keepSpares
 spares-known q [] cells p known = refl
 spares-known q (b ∷ more) cells p known =
     let one = keep-known spare (q - 1) b cells p known in
-    spares-known (q - 1) more (offers.keep spare (q - 1) b cells) p (still-known cells (offers.keep spare (q - 1) b cells) p one known) ∙ one
+    spares-known (q - 1) more (offers.keep spare (q - 1) b cells) p (still-known cells (offers.keep spare (q - 1) b cells) p one known)
+    ∙ one
 
 extra-known : (q : ℕ) (x : Extra) (cells : List Cell) (p : ℕ) → Known cells p → cellAt (offers.keepExtra q x cells) p ≡ cellAt cells p
 extra-known q (spares copies) cells p known = spares-known q copies cells p known
@@ -121,14 +124,14 @@ accept-known d c view p known =
     let two = extra-known (keptBefore + d) (c .extra) first p kept in
     repair-known _ _ p (still-known first (offers.keepExtra (keptBefore + d) (c .extra) first) p two kept) ∙ two ∙ one
 
-held-accepted : (x : Extra) → (offers.heldOf x) .accepted ≡ true
+held-accepted : (x : Extra) → (offers.heldBy x) .accepted ≡ true
 held-accepted (spares copies) = refl
 held-accepted (parity n messages) = refl
 
 accept-marked : (d : ℕ) (c : Carried) (view : View) → d < length (view .held) → offers.acceptedAt (offers.accept d c view) d ≡ true
 unfolding offers.accept
 accept-marked d c view inside =
-    ap (λ (x : Held). x .accepted) (getD-set-same (view .held) d (offers.heldOf (c .extra)) nothingHeld inside) ∙ held-accepted (c .extra)
+    ap (λ (x : Held). x .accepted) (getD-set-same (view .held) d (offers.heldBy (c .extra)) nothingHeld inside) ∙ held-accepted (c .extra)
 
 number-carried : (octets : List ℕ) (parts : DatagramParts) → (carriedBy octets parts) .number ≡ parts .number
 unfolding carriedBy

@@ -11,11 +11,11 @@ use Rattle.lengths.specs.Answers.{Answer, done, refused, refuse, over}
 use Rattle.views.specs.View.{View}
 use Rattle.views.specs.Offer as offers
 use Rattle.views.specs.Release as release
-use Rattle.views.specs.Release.{Release, Loss}
+use Rattle.views.specs.Release.{Release, Loss, viewAfterNext, viewAfterLoss}
 use Rattle.held.specs.Table.{lentBy, viewOf}
 use Rattle.held.specs.Laid.{sessionInRanges, InRanges}
 use Rattle.held.specs.declared.Session.{Session}
-use Rattle.leaving.specs.Outcome.{releasedOutcome, lostOutcome, handedOf, octetsOf, numberOf}
+use Rattle.leaving.specs.Outcome.{releasedOutcome, lostOutcome, handedOf, octetsHanded, numberLost}
 use Rattle.offering.specs.Outcome.{offeredOutcome, acceptedOf}
 use Rattle.sessions.specs.declared.receiver.AfterOffer.{AfterOffer}
 use Rattle.sessions.specs.declared.receiver.AfterNext.{AfterNext}
@@ -47,23 +47,15 @@ pub record OfferOwes (s : Session) (octets : List ℕ) (r : AfterOffer) : Type 0
 unfoldable pub nextOf : ℕ → Session → Answer Release
 nextOf room s = inRangesThen (release.next room) s
 
-abbrev pub viewAfterNext : Answer Release → Answer View
-viewAfterNext (done a) = done (a .after)
-viewAfterNext (refused why) = refused why
-
 pub record NextOwes (s : Session) (old new : List ℕ) (r : AfterNext) : Type 0 where
   pub answer : releasedOutcome (r .answer) ≡ handedOf (nextOf (length old) s)
-  pub lent : new ≡ over (octetsOf (nextOf (length old) s)) old
+  pub lent : new ≡ over (octetsHanded (nextOf (length old) s)) old
   pub state : After (viewAfterNext (nextOf (length old) s)) s (r .session)
 
 -- ---- give up
 unfoldable pub giveUpOf : Session → Answer Loss
 giveUpOf s = inRangesThen release.giveUp s
 
-abbrev pub viewAfterLoss : Answer Loss → Answer View
-viewAfterLoss (done a) = done (a .after)
-viewAfterLoss (refused why) = refused why
-
 pub record GiveUpOwes (s : Session) (r : AfterGiveUp) : Type 0 where
-  pub answer : lostOutcome (r .answer) ≡ numberOf (giveUpOf s)
+  pub answer : lostOutcome (r .answer) ≡ numberLost (giveUpOf s)
   pub state : After (viewAfterLoss (giveUpOf s)) s (r .session)

@@ -5,7 +5,8 @@ use mathlib.Core.Path.{_≡_, refl, sym, ap, ap₂, _∙_}
 use mathlib.Core.Bool.{Bool, true, _&&_, _||_}
 use mathlib.Core.List.{List, _++_, append-nil}
 use mathlib.Core.Logic.{⊎-elim}
-use lib.ListN.{length, getD, set, take, drop, replicate, length-replicate, getD-replicate, length-append, length-set, List·getD-append, drop-of-length-le}
+use lib.ListN.{length, getD, set, take, drop, replicate, length-replicate, getD-replicate, length-append, length-set, List·getD-append}
+use lib.ListN.{drop-of-length-le}
 use lib.Seq.{paste, paste-zero, paste-suc, getD-append-add, getD-drop, length-take-le, take-length}
 use lib.Bits.{bitAnd, bitXor, and-zero-r, and-mask}
 use lib.Dec.{ltb, eqb}
@@ -81,7 +82,8 @@ pub zero-turn : {o : List ℕ} {slot : ℕ} {ok : Bool} {j : ℕ} → Checked o 
 zero-turn {o} {slot} {ok} {j} c more =
     record {
       so =
-          ap₂ (λ (a b : Bool). a && b) (c .so) (ap (λ (b : Bool). b || eqb (getD o (slot * packetLimit + j) 0) 0) (sym (le-ltb j 0 (omega arith))))
+          ap₂ (λ (a b : Bool). a && b) (c .so) (ap (λ (b : Bool). b || eqb (getD o (slot * packetLimit + j) 0) 0)
+          (sym (le-ltb j 0 (omega arith))))
           ∙ sym (allBelow-more j (right o slot 0));
       few = omega arith;
     }
@@ -160,13 +162,15 @@ pub table-inside : {table : List ℕ} (n j : ℕ) → table ≡ mask → n ≤ p
 table-inside n j e fits more = rw (e, length-mask) (omega arith)
 
 -- ---- copying the part of a slot to the front of a buffer: the loop that lays the part's octets from place 0 on
-pub copying-turn : (o : List ℕ) (slot n : ℕ) {start out : List ℕ} {j : ℕ} → Laying start (part o slot n) 0 out j → HasSlot slot o → n ≤ packetLimit
+pub copying-turn : (o : List ℕ) (slot n : ℕ) {start out : List ℕ} {j : ℕ} → Laying start (part o slot n) 0 out j → HasSlot slot o
+    → n ≤ packetLimit
     → n ≤ length start → j < n → Laying start (part o slot n) 0 (set out j (getD o (slot * packetLimit + j) 0)) (j + 1)
 copying-turn o slot n {start} {out} {j} l has fits room more =
     rw (part-at o slot n j more, zero-add j) at
     (laying-turn l (rw (length-part o slot n has fits) (omega arith)) (rw (length-part o slot n has fits) more))
 
-pub copying-done : (o : List ℕ) (slot n : ℕ) {start out : List ℕ} {j : ℕ} → Laying start (part o slot n) 0 out j → HasSlot slot o → n ≤ packetLimit
+pub copying-done : (o : List ℕ) (slot n : ℕ) {start out : List ℕ} {j : ℕ} → Laying start (part o slot n) 0 out j → HasSlot slot o
+    → n ≤ packetLimit
     → n ≤ j → out ≡ part o slot n ++ drop n start
 copying-done o slot n {start} {out} {j} l has fits done =
     let long = length-part o slot n has fits in

@@ -72,7 +72,8 @@ module _ (row : ℕ → List ℕ) (cells : List Cell) (messages : List Message) 
 
   others-known : (q : ℕ) → Among q (message .members) → (q ≡ p → ⊥) → Known cells q
   others-known q at other =
-      ⊎-elim (λ u. absurd (far u (members-apart S (held .n) (length (held .messages)) (c .i) (honest .reach) (c .low) (c .member) at other)))
+      ⊎-elim (λ u. absurd (far u (members-apart S (held .n) (length (held .messages)) (c .i) (honest .reach) (c .low)
+      (c .member) at other)))
       (λ k. k)
       (true-or-false (unknownAt cells q))
     where
@@ -85,7 +86,8 @@ module _ (row : ℕ → List ℕ) (cells : List Cell) (messages : List Message) 
   unfolding messagesOf
   never =
       false≢true
-      (sym (none-usable cells messages done message (among message (tab-among (length (held .messages)) (messageAt S held) (c .i) (c .low))))
+      (sym (none-usable cells messages done message
+      (among message (tab-among (length (held .messages)) (messageAt S held) (c .i) (c .low))))
       ∙ usable-of cells message p (members-distinct S (held .n) (length (held .messages)) (c .i) (honest .reach) (c .low))
       (omega (arith, sent p before unknown-p, honest-long row S held (c .i) p honest (c .low) (c .member)))
       (c .member)

@@ -2,11 +2,11 @@
 use mathlib.Core.Path.{refl}
 use Rattle.octets.specs.Place.{tab}
 use Rattle.octets.specs.ExclusiveOr.{xorAt, exclusiveOr}
-use Rattle.lengths.specs.Length.{lengthAt}
-use Rattle.datagrams.specs.Read.{allowed, sizedAt, itemAt, numberOf, readDatagram}
+use Rattle.lengths.specs.Length.{lengthAt, allowed, lengthWithin}
+use Rattle.datagrams.specs.Read.{itemAt, numberOf, readDatagram}
 use Rattle.views.specs.Members.{membersOf}
 use Rattle.views.specs.Repair.{passing, usable, firstUsable, mended, fill, repairF, repair}
-use Rattle.views.specs.Held.{messagesOf, messagesFrom, heldMessages}
+use Rattle.views.specs.Held.{messagesOf, messagesInRow, heldMessages}
 use Rattle.views.specs.View.{freshView, goneOn}
 use Rattle.views.specs.Offer.{keep, keepSpares, accept, offered, offer}
 use Rattle.views.specs.Release.{next, giveUp}
@@ -14,7 +14,7 @@ use Rattle.views.specs.Cases.{OfferCases, ReleaseCases}
 
 pub offer-cases : OfferCases
 unfolding offer offered accept keep keepSpares freshView repair repairF firstUsable usable passing mended fill
-    messagesOf messagesFrom heldMessages membersOf tab xorAt exclusiveOr readDatagram numberOf itemAt sizedAt allowed lengthAt
+    messagesOf messagesInRow heldMessages membersOf tab xorAt exclusiveOr readDatagram numberOf itemAt lengthWithin allowed lengthAt
 offer-cases =
     record {
       spare-kept = refl;
@@ -25,11 +25,12 @@ offer-cases =
       two-missing = refl;
       across-65535 = refl;
       at-limit = refl;
+      ahead-31 = refl;
+      far-32767 = refl;
+      late-32768 = refl;
       read-first = refl;
       far-first = refl;
       late-first = refl;
-      far-32767 = refl;
-      late-32768 = refl;
       again = refl;
     }
 

@@ -12,7 +12,8 @@ use native.Mathlib.Omega.{arith}
 use borrow.Author.Tests.{le-leb}
 use Rattle.octets.proofs.Laws.{same-or-not, and-left, and-right, and-both}
 use Rattle.datagrams.specs.Sizes.{packetLeast, packetLimit}
-use Rattle.views.specs.Cells.{State, unknown, received, spare, repaired, blank, isUnknown, Cell, blankCell, cellAt, unknownAt, keptBefore, keptAhead, keptNumbers}
+use Rattle.views.specs.Cells.{State, unknown, received, spare, repaired, blank, isUnknown, Cell, blankCell, cellAt, unknownAt}
+use Rattle.views.specs.Cells.{keptBefore, keptAhead, keptNumbers}
 use Rattle.views.specs.Held.{Held, heldAt}
 use Rattle.views.proofs.Fill.{unknown-inside}
 use Rattle.views.specs.View.{View, sum}

@@ -10,11 +10,18 @@ use native.Mathlib.Omega.{arith}
 use borrow.Author.Tests.{lt-ltb, le-ltb, le-leb, eq-eqb, eqb-true}
 use Rattle.octets.specs.Place.{allBelow}
 use Rattle.octets.proofs.Laws.{same-or-not, below-or-not, and-left, and-both}
-use Rattle.views.specs.Cells.{Cell, blankCell, unknownCell, cellAt, isUnknown, keptBefore}
+use Rattle.views.specs.Cells.{Cell, blankCell, unknownCell, cellAt, isUnknown, keptBefore, keptAhead, keptNumbers}
 use Rattle.views.specs.Held.{Held, nothingHeld, heldAt}
 use Rattle.views.specs.Ranges.{blankAt, sumRight, sizeRight, cellRight, markRight, heldRight, knownAt, Sound}
 use Rattle.views.specs.View as views
 use Rattle.views.specs.View.{View, sum, numbers, sessionLimit, following, goneOn}
+
+-- the last place of the view, where a number comes into view, and the last distance from the base
+abbrev pub lastPlace : ℕ
+lastPlace = keptNumbers - 1
+
+abbrev pub lastAhead : ℕ
+lastAhead = keptAhead - 1
 
 -- the base goes on by one: place p of the view is place p + 1 of the one before, and the sum is one more
 pub blank-further : (total p : ℕ) → blankAt (total + 1) p ≡ blankAt total (suc p)
@@ -67,48 +74,49 @@ module _ {A : Type 0} where
 
 -- ---- the ranges, on the view alone
 module _ {v : View} (counts : views.Counts) (s : Sound v) (more : sum counts ≡ sum (v .counts) + 1) (fits : sum counts ≤ sessionLimit) where
-  cell-next : (p : ℕ) → p < 63 → cellAt ((goneOn counts v) .cells) p ≡ cellAt (v .cells) (suc p)
+  cell-next : (p : ℕ) → p < lastPlace → cellAt ((goneOn counts v) .cells) p ≡ cellAt (v .cells) (suc p)
   unfolding goneOn
-  cell-next p low = further (v .cells) unknownCell blankCell 63 p (s .kept) low
+  cell-next p low = further (v .cells) unknownCell blankCell lastPlace p (s .kept) low
 
-  cell-last : cellAt ((goneOn counts v) .cells) 63 ≡ unknownCell
+  cell-last : cellAt ((goneOn counts v) .cells) lastPlace ≡ unknownCell
   unfolding goneOn
-  cell-last = at-end (v .cells) unknownCell blankCell 63 (s .kept)
+  cell-last = at-end (v .cells) unknownCell blankCell lastPlace (s .kept)
 
-  held-next : (d : ℕ) → d < 31 → heldAt ((goneOn counts v) .held) d ≡ heldAt (v .held) (suc d)
+  held-next : (d : ℕ) → d < lastAhead → heldAt ((goneOn counts v) .held) d ≡ heldAt (v .held) (suc d)
   unfolding goneOn
-  held-next d low = further (v .held) nothingHeld nothingHeld 31 d (s .ahead) low
+  held-next d low = further (v .held) nothingHeld nothingHeld lastAhead d (s .ahead) low
 
-  held-last : heldAt ((goneOn counts v) .held) 31 ≡ nothingHeld
+  held-last : heldAt ((goneOn counts v) .held) lastAhead ≡ nothingHeld
   unfolding goneOn
-  held-last = at-end (v .held) nothingHeld nothingHeld 31 (s .ahead)
+  held-last = at-end (v .held) nothingHeld nothingHeld lastAhead (s .ahead)
 
   total-next : sumRight (goneOn counts v) ≡ true
   unfolding sumRight goneOn
   total-next =
       let S = sum (v .counts) in
-      let same : v .base ≡ S % numbers = eqb-true (v .base) (S % numbers) (and-left (eqb (v .base) (S % numbers)) (leb S sessionLimit) (s .total)) in
+      let same : v .base ≡ S % numbers =
+      eqb-true (v .base) (S % numbers) (and-left (eqb (v .base) (S % numbers)) (leb S sessionLimit) (s .total)) in
       and-both (eq-eqb (following (v .base)) (sum counts % numbers) (rw more (omega arith))) (le-leb (sum counts) sessionLimit fits)
 
-  cell-right : (p : ℕ) → p < 63 → cellRight (cellAt ((goneOn counts v) .cells) p) (blankAt (sum counts) p) ≡ true
+  cell-right : (p : ℕ) → p < lastPlace → cellRight (cellAt ((goneOn counts v) .cells) p) (blankAt (sum counts) p) ≡ true
   cell-right p low =
       ap₂ (λ (c : Cell) (b : Bool). cellRight c b) (cell-next p low) (ap (λ (n : ℕ). blankAt n p) more ∙ blank-further (sum (v .counts)) p)
       ∙ s .cell (suc p) (omega arith)
 
-  last-right : cellRight (cellAt ((goneOn counts v) .cells) 63) (blankAt (sum counts) 63) ≡ true
+  last-right : cellRight (cellAt ((goneOn counts v) .cells) lastPlace) (blankAt (sum counts) lastPlace) ≡ true
   unfolding sizeRight
-  last-right = ap (λ (c : Cell). cellRight c (blankAt (sum counts) 63)) cell-last
+  last-right = ap (λ (c : Cell). cellRight c (blankAt (sum counts) lastPlace)) cell-last
 
-  held-right : (d : ℕ) → d < 31 → heldRight (heldAt ((goneOn counts v) .held) d) (knownAt (goneOn counts v) (keptBefore + d)) ≡ true
+  held-right : (d : ℕ) → d < lastAhead → heldRight (heldAt ((goneOn counts v) .held) d) (knownAt (goneOn counts v) (keptBefore + d)) ≡ true
   held-right d low =
       let e : suc (keptBefore + d) ≡ keptBefore + suc d = omega arith in
       ap₂ (λ (h : Held) (c : Cell). heldRight h (not (isUnknown (c .state)))) (held-next d low)
       (cell-next (keptBefore + d) (omega arith) ∙ ap (λ (k : ℕ). cellAt (v .cells) k) e)
       ∙ s .held (suc d) (omega arith)
 
-  gone-right : heldRight (heldAt ((goneOn counts v) .held) 31) (knownAt (goneOn counts v) (keptBefore + 31)) ≡ true
+  gone-right : heldRight (heldAt ((goneOn counts v) .held) lastAhead) (knownAt (goneOn counts v) (keptBefore + lastAhead)) ≡ true
   unfolding heldRight markRight allBelow
-  gone-right = ap (λ (h : Held). heldRight h (knownAt (goneOn counts v) (keptBefore + 31))) held-last
+  gone-right = ap (λ (h : Held). heldRight h (knownAt (goneOn counts v) (keptBefore + lastAhead))) held-last
 
   pub sound-goes-on : Sound (goneOn counts v)
   unfolding goneOn
@@ -116,10 +124,10 @@ module _ {v : View} (counts : views.Counts) (s : Sound v) (more : sum counts ≡
       record {
         small = omega arith;
         total = total-next;
-        kept = as-long (v .cells) unknownCell 63 (s .kept);
-        ahead = as-long (v .held) nothingHeld 31 (s .ahead);
+        kept = as-long (v .cells) unknownCell lastPlace (s .kept);
+        ahead = as-long (v .held) nothingHeld lastAhead (s .ahead);
         cell = λ p below.
-            ⊎-elim (λ (e : p ≡ 63). rw e last-right) (λ other. cell-right p (omega arith)) (same-or-not p 63);
+            ⊎-elim (λ (e : p ≡ lastPlace). rw e last-right) (λ other. cell-right p (omega arith)) (same-or-not p lastPlace);
         held = λ d below.
-            ⊎-elim (λ (e : d ≡ 31). rw e gone-right) (λ other. held-right d (omega arith)) (same-or-not d 31);
+            ⊎-elim (λ (e : d ≡ lastAhead). rw e gone-right) (λ other. held-right d (omega arith)) (same-or-not d lastAhead);
       }

@@ -11,7 +11,7 @@ use native.Mathlib.Omega.{arith}
 use Rattle.octets.proofs.Laws.{among-tab}
 use Rattle.views.specs.Cells.{keptBefore, keptAhead, keptNumbers}
 use Rattle.views.specs.Repair.{Message}
-use Rattle.views.specs.Held.{Held, heldAt, messageAt, messagesOf, messagesFrom, heldMessages}
+use Rattle.views.specs.Held.{Held, heldAt, messageAt, messagesOf, messagesInRow, heldMessages}
 use Rattle.views.specs.Reached.{Distinct, DistinctMembers}
 use Rattle.views.specs.Honest.{HonestHeld, HonestMessage, HonestMessages}
 use Rattle.views.proofs.Members.{members-distinct, member-in-reach}
@@ -53,8 +53,8 @@ later-held S held more message t =
     }
 
 -- every held message stands at a place
-pub held-at : (S : ℕ) (held : List Held) (message : Message) → Among message (messagesFrom S held) → HeldAt S held message
-unfolding messagesFrom
+pub held-at : (S : ℕ) (held : List Held) (message : Message) → Among message (messagesInRow S held) → HeldAt S held message
+unfolding messagesInRow
 held-at S [] message m = absurd (List·Memᴰ·not-nil m)
 held-at S (held ∷ more) message m =
     ⊎-elim (messagesOf-held S held more message) (λ rest. later-held S held more message (held-at (suc S) more message rest))
@@ -62,11 +62,11 @@ held-at S (held ∷ more) message m =
 
 -- the messages of each datagram are held
 pub messagesOf-among : (S : ℕ) (held : List Held) (j : ℕ) (message : Message) → j < length held
-    → Among message (messagesOf (S + j) (heldAt held j)) → Among message (messagesFrom S held)
-unfolding messagesFrom
+    → Among message (messagesOf (S + j) (heldAt held j)) → Among message (messagesInRow S held)
+unfolding messagesInRow
 messagesOf-among S [] j message inside m = absurd (not-suc-le-zero inside)
 messagesOf-among S (held ∷ more) zero message inside m =
-    Memᴰ·append-left (messagesFrom (suc S) more) (rw add-zero at m)
+    Memᴰ·append-left (messagesInRow (suc S) more) (rw add-zero at m)
 messagesOf-among S (held ∷ more) (suc j) message inside m =
     Memᴰ·append-right (messagesOf S held)
     (messagesOf-among (suc S) more j message (le-of-suc-le-suc inside)

@@ -31,4 +31,4 @@ pub use Rattle.views.proofs.Filled.{filledAt, filled-sound}
 -- ---- the ranges: a datagram is held
 pub use Rattle.views.proofs.Holding.{heldThere, held-none, accepted-right, held-sound}
 -- ---- the ranges: the base goes on
-pub use Rattle.views.proofs.GoesOn.{sound-goes-on}
+pub use Rattle.views.proofs.GoesOn.{lastPlace, lastAhead, sound-goes-on}

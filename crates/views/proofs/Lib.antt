@@ -1,5 +1,6 @@
 pub mod RepairCases
 pub mod Cases
+pub mod RangesCases
 pub mod Passing
 pub mod Fill
 pub mod Search

@@ -4,11 +4,11 @@ use Rattle.octets.specs.Place.{tab}
 use Rattle.octets.specs.ExclusiveOr.{xorAt, exclusiveOr, longest}
 use Rattle.views.specs.Members.{membersOf}
 use Rattle.views.specs.Repair.{passing, usable, firstUsable, mended, fill, repairF, repair}
-use Rattle.views.specs.Held.{messagesOf, messagesFrom}
+use Rattle.views.specs.Held.{messagesOf, messagesInRow}
 use Rattle.views.specs.RepairCases.{RepairCases}
 
 pub repair-cases : RepairCases
-unfolding repair repairF firstUsable usable passing mended fill messagesOf messagesFrom membersOf tab xorAt exclusiveOr longest
+unfolding repair repairF firstUsable usable passing mended fill messagesOf messagesInRow membersOf tab xorAt exclusiveOr longest
 repair-cases =
     record {
       zeros-stay = refl;

@@ -9,7 +9,7 @@ use native.Mathlib.Nat.{mul-le-mul, le-trans}
 use native.Mathlib.Omega.{arith}
 use borrow.Author.Tests.{leb-true, eqb-true}
 use Rattle.octets.proofs.Laws.{and-left, and-right}
-use Rattle.datagrams.specs.Sizes.{coveredLimit, messagesLimit, reachLimit}
+use Rattle.datagrams.specs.Sizes.{coveredLimit, messagesLimit, reachLimit, coveredLeast}
 use Rattle.views.specs.Cells.{State, unknown, received, spare, repaired, blank, isUnknown, keptBefore}
 use Rattle.views.specs.Held.{Held}
 use Rattle.views.specs.Ranges.{sizeRight, markRight, heldRight}
@@ -25,14 +25,17 @@ unknown-size repaired size b u e = absurd (false≢true u)
 unknown-size blank size b u e = absurd (false≢true u)
 
 -- ---- what is held
-settings-sizes : (b : Bool) (n m : ℕ) → eqb m 0 ≡ b → cond b (eqb n 0) ((leb 1 n && leb n coveredLimit) && leb m messagesLimit) ≡ true
+settings-sizes : (b : Bool) (n m : ℕ) → eqb m 0 ≡ b → cond b (eqb n 0) ((leb coveredLeast n && leb n coveredLimit) && leb m messagesLimit) ≡ true
     → (n ≤ coveredLimit) × (m ≤ messagesLimit)
 settings-sizes true n m e t =
     let none : m ≡ 0 = eqb-true m 0 e in
     let no : n ≡ 0 = eqb-true n 0 t in
     (omega arith, omega arith)
-settings-sizes false n m e t =
-    (leb-true n coveredLimit (and-right (leb 1 n) _ (and-left _ (leb m messagesLimit) t)), leb-true m messagesLimit (and-right (leb 1 n && leb n coveredLimit) _ t))
+settings-sizes false n m e t = (
+  leb-true n coveredLimit (and-right (leb coveredLeast n) _ (and-left _ (leb m messagesLimit) t)),
+  leb-true m messagesLimit
+      (and-right (leb coveredLeast n && leb n coveredLimit) _ t),
+)
 
 pub mark-sizes : (accepted known : Bool) (n m : ℕ) → markRight accepted known n m ≡ true → (n ≤ coveredLimit) × (m ≤ messagesLimit)
 unfolding markRight

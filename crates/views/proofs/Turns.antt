@@ -16,14 +16,14 @@ use Rattle.octets.proofs.Laws.{length-tab, tab-at, tab-ext, tab-snoc, exclusive
 use Rattle.views.specs.Cells.{Cell, cellAt, unknownAt, keptBefore}
 use Rattle.views.specs.Members.{memberAt, membersOf}
 use Rattle.views.specs.Repair.{Message, passing, unknownMembers, otherMembers, mended}
-use Rattle.views.specs.Held.{Held, nothingHeld, heldAt, messageAt, messagesOf, messagesFrom, heldMessages}
+use Rattle.views.specs.Held.{Held, nothingHeld, heldAt, messageAt, messagesOf, messagesInRow, heldMessages}
 use Rattle.views.specs.Reached.{Unknown}
 use Rattle.views.proofs.Passing.{passing-yes, passing-no, passing-among, passing-append, xorAt-parted}
 
 -- ---- along the numbers from the base on
 -- the messages held from distance d on
 abbrev pub heldFrom : List Held → ℕ → List Message
-heldFrom held d = messagesFrom (keptBefore + d) (drop d held)
+heldFrom held d = messagesInRow (keptBefore + d) (drop d held)
 
 pub heldFrom-start : (held : List Held) → heldFrom held 0 ≡ heldMessages held
 unfolding heldMessages
@@ -31,15 +31,15 @@ heldFrom-start held = refl
 
 pub heldFrom-turn : (held : List Held) (d : ℕ) → d < length held
     → heldFrom held d ≡ messagesOf (keptBefore + d) (heldAt held d) ++ heldFrom held (suc d)
-unfolding messagesFrom
+unfolding messagesInRow
 heldFrom-turn held d inside =
-    ap (messagesFrom (keptBefore + d)) (drop-cons held d nothingHeld inside)
-    ∙ ap (λ (at : ℕ). messagesOf (keptBefore + d) (heldAt held d) ++ messagesFrom at (drop (suc d) held))
+    ap (messagesInRow (keptBefore + d)) (drop-cons held d nothingHeld inside)
+    ∙ ap (λ (at : ℕ). messagesOf (keptBefore + d) (heldAt held d) ++ messagesInRow at (drop (suc d) held))
     (sym (add-suc keptBefore d))
 
 pub heldFrom-end : (held : List Held) (d : ℕ) → length held ≤ d → heldFrom held d ≡ []
-unfolding messagesFrom
-heldFrom-end held d past = ap (messagesFrom (keptBefore + d)) (drop-of-length-le held past)
+unfolding messagesInRow
+heldFrom-end held d past = ap (messagesInRow (keptBefore + d)) (drop-of-length-le held past)
 
 -- ---- along the messages of one number
 -- those from message i on

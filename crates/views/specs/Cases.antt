@@ -98,12 +98,15 @@ pub record OfferCases : Type 0 where
       ≡ done (later 65535 65535 (unknownCell ∷ arrived ∷ []) (nothingHeld ∷ marked ∷ []))
   -- an offer is never refused by 16
   pub at-limit : offered (alone 0x4240) (atLimit [] []) ≡ done (atLimit (arrived ∷ []) (marked ∷ []))
+  -- "d up to 31 may be accepted, 32 to 32,767 is refusal 8, more is 9"
+  pub ahead-31 : offered (alone 31) freshView
+      ≡ done (started (replicate 31 unknownCell ++ (arrived ∷ [])) (replicate 31 nothingHeld ++ (marked ∷ [])))
+  pub far-32767 : offered (alone 32767) freshView ≡ refuse tooFar
+  pub late-32768 : offered (alone 32768) freshView ≡ refuse late
   -- "reading order, then 8 or 9, then 7": a number that has left is late, not repeated
   pub read-first : offer (0x01 ∷ 0x00 ∷ []) freshView ≡ refuse endsEarly
   pub far-first : offered (alone 32) (started (arrived ∷ []) (marked ∷ [])) ≡ refuse tooFar
   pub late-first : offered (alone 0) (later 1 1 (arrived ∷ []) []) ≡ refuse late
-  pub far-32767 : offered (alone 32767) freshView ≡ refuse tooFar
-  pub late-32768 : offered (alone 32768) freshView ≡ refuse late
   pub again : offered (alone 0) (started (arrived ∷ []) (marked ∷ [])) ≡ refuse repeated
 
 -- ---- next and give up: "Next 17, 16, 10, 13. Give up 17, 16, 11."

@@ -33,10 +33,10 @@ unfoldable pub messagesOf : ℕ → Held → List Message
 messagesOf S held = tab (length (held .messages)) (messageAt S held)
 
 -- those of several places in a row, from S on
-unfoldable pub messagesFrom : ℕ → List Held → List Message
-messagesFrom S [] = []
-messagesFrom S (held ∷ more) = messagesOf S held ++ messagesFrom (suc S) more
+unfoldable pub messagesInRow : ℕ → List Held → List Message
+messagesInRow S [] = []
+messagesInRow S (held ∷ more) = messagesOf S held ++ messagesInRow (suc S) more
 
 -- all held messages, "counted from the base on"
 unfoldable pub heldMessages : List Held → List Message
-heldMessages held = messagesFrom keptBefore held
+heldMessages held = messagesInRow keptBefore held

@@ -11,3 +11,4 @@ pub mod Release
 pub mod Claims
 pub mod RepairCases
 pub mod Cases
+pub mod RangesCases

@@ -35,16 +35,16 @@ keepExtra p (spares copies) cells = keepSpares p copies cells
 keepExtra p (parity n messages) cells = cells
 
 -- what is held of an accepted datagram: its mark, and its parity messages
-abbrev pub heldOf : Extra → Held
-heldOf (spares copies) = record { accepted = true; n = 0; messages = [] }
-heldOf (parity n messages) = record { accepted = true; n = n; messages = messages }
+abbrev pub heldBy : Extra → Held
+heldBy (spares copies) = record { accepted = true; n = 0; messages = [] }
+heldBy (parity n messages) = record { accepted = true; n = n; messages = messages }
 
 -- an accepted datagram, at distance d
 unfoldable pub accept : ℕ → Carried → View → View
 accept d datagram view =
     let place = keptBefore + d in
     let filled = keepExtra place (datagram .extra) (keep received place (datagram .packet) (view .cells)) in
-    let held = set (view .held) d (heldOf (datagram .extra)) in
+    let held = set (view .held) d (heldBy (datagram .extra)) in
     record {
       base = view .base;
       counts = view .counts;

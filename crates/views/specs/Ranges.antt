@@ -10,8 +10,9 @@ use mathlib.Core.List.{List, []}
 use lib.ListN.{length, getD}
 use lib.Dec.{leb, ltb, eqb}
 use Rattle.octets.specs.Place.{allBelow}
-use Rattle.datagrams.specs.Sizes.{packetLeast, packetLimit, messageLimit, coveredLimit, messagesLimit}
-use Rattle.views.specs.Cells.{State, unknown, received, spare, repaired, blank, Cell, cellAt, unknownAt, keptBefore, keptAhead, keptNumbers}
+use Rattle.datagrams.specs.Sizes.{packetLeast, packetLimit, messageLimit, coveredLeast, coveredLimit, messagesLimit}
+use Rattle.views.specs.Cells.{State, unknown, received, spare, repaired, blank, Cell, cellAt, unknownAt, keptBefore, keptAhead}
+use Rattle.views.specs.Cells.{keptNumbers}
 use Rattle.views.specs.Held.{Held, heldAt}
 use Rattle.views.specs.View.{View, sum, numbers, sessionLimit}
 
@@ -48,7 +49,7 @@ cellRight c mustBeBlank = sizeRight (c .state) (length (c .octets)) mustBeBlank
 unfoldable pub markRight : Bool → Bool → ℕ → ℕ → Bool
 markRight accepted known n m =
     cond accepted known (eqb m 0)
-    && cond (eqb m 0) (eqb n 0) ((leb 1 n && leb n coveredLimit) && leb m messagesLimit)
+    && cond (eqb m 0) (eqb n 0) ((leb coveredLeast n && leb n coveredLimit) && leb m messagesLimit)
 
 -- ".. and message lengths are within the sizes"
 unfoldable pub heldRight : Held → Bool → Bool

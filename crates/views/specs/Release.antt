@@ -7,25 +7,25 @@ use mathlib.Core.List.{List}
 use lib.ListN.{length}
 use lib.Dec.{leb, ltb}
 use Rattle.lengths.specs.Refusals.{baseUnknown, baseKnown, noRoom, allPassed}
-use Rattle.lengths.specs.Answers.{Answer, done, refuse}
+use Rattle.lengths.specs.Answers.{Answer, done, refuse, mapped}
 use Rattle.views.specs.Cells.{State, unknown, received, spare, repaired, blank, Cell, cellAt, unknownAt, keptBefore}
 use Rattle.views.specs.View.{View, Counts, sum, sessionLimit, goneOn}
 
--- one more released of its kind; an unknown or blank number is never released
-abbrev pub released : State → Counts → Counts
-released unknown c = c
-released received c = record { received = c .received + 1; spare = c .spare; repaired = c .repaired; lost = c .lost }
-released spare c = record { received = c .received; spare = c .spare + 1; repaired = c .repaired; lost = c .lost }
-released repaired c = record { received = c .received; spare = c .spare; repaired = c .repaired + 1; lost = c .lost }
-released blank c = c
-
--- one more lost
-abbrev pub booked : Counts → Counts
-booked c = record { received = c .received; spare = c .spare; repaired = c .repaired; lost = c .lost + 1 }
+-- one more of its kind: "received, spare, repaired (each released) and lost", which is an unknown one; a blank one never leaves
+abbrev pub counted : State → Counts → Counts
+counted unknown c = record { received = c .received; spare = c .spare; repaired = c .repaired; lost = c .lost + 1 }
+counted received c = record { received = c .received + 1; spare = c .spare; repaired = c .repaired; lost = c .lost }
+counted spare c = record { received = c .received; spare = c .spare + 1; repaired = c .repaired; lost = c .lost }
+counted repaired c = record { received = c .received; spare = c .spare; repaired = c .repaired + 1; lost = c .lost }
+counted blank c = c
 
 -- the number at the base
 abbrev pub atBase : View → Cell
 atBase view = cellAt (view .cells) keptBefore
+
+-- how next and give up move on: the number at the base is counted and leaves
+abbrev pub movedOn : View → View
+movedOn view = goneOn (counted ((atBase view) .state) (view .counts)) view
 
 -- what next hands out, and the session after
 pub record Release : Type 0 where
@@ -46,7 +46,7 @@ next room view =
       kind = cell .state;
       number = view .base;
       octets = cell .octets;
-      after = goneOn (released (cell .state) (view .counts)) view;
+      after = movedOn view;
     }))))
 
 -- the number that give up gives, and the session after
@@ -57,5 +57,12 @@ pub record Loss : Type 0 where
 unfoldable pub giveUp : View → Answer Loss
 giveUp view =
     cond (leb sessionLimit (sum (view .counts))) (refuse allPassed)
-    (cond (unknownAt (view .cells) keptBefore) (done (record { number = view .base; after = goneOn (booked (view .counts)) view }))
+    (cond (unknownAt (view .cells) keptBefore) (done (record { number = view .base; after = movedOn view }))
     (refuse baseKnown))
+
+-- the session after each of them
+abbrev pub viewAfterNext : Answer Release → Answer View
+viewAfterNext answer = mapped (λ (r : Release). r .after) answer
+
+abbrev pub viewAfterLoss : Answer Loss → Answer View
+viewAfterLoss answer = mapped (λ (l : Loss). l .after) answer

@@ -38,7 +38,8 @@ send-held-requires c κs =
     let inside = c .before .before .before in
     let start = inside .before .before .before .before .before .before .before .before .before in
     let arrays : Arrays (start .args .s .sizes) (start .args .s .octets) = search needs in
-    let within = within-told (start .args .s .sent) (start .args .s .sizes) (start .args .s .octets) arrays (inside .before .in-ranges .ensures)
+    let within = within-told (start .args .s .sent) (start .args .s .sizes) (start .args .s .octets) arrays
+    (inside .before .in-ranges .ensures)
     (inside .if1 .left) in
     within
 
@@ -47,7 +48,8 @@ add-next c =
     let inside = c .before .before .before .before .before .before .before .before .before in
     let start = inside .before .before .before .before .before .before .before .before .before in
     let arrays : Arrays (start .args .s .sizes) (start .args .s .octets) = search needs in
-    let within = within-told (start .args .s .sent) (start .args .s .sizes) (start .args .s .octets) arrays (inside .before .in-ranges .ensures)
+    let within = within-told (start .args .s .sent) (start .args .s .sizes) (start .args .s .octets) arrays
+    (inside .before .in-ranges .ensures)
     (inside .if1 .left) in
     let few = sent-few (start .args .s .sent) (start .args .s .sizes) (start .args .s .octets) within in
     omega arith
@@ -69,9 +71,11 @@ returns-2 c =
     let inside = c .before .before .before .before .before .before .before .before .before .before .before .before in
     let start = inside .before .before .before .before .before .before .before .before .before in
     let arrays : Arrays (start .args .s .sizes) (start .args .s .octets) = search needs in
-    let within = within-told (start .args .s .sent) (start .args .s .sizes) (start .args .s .octets) arrays (inside .before .in-ranges .ensures)
+    let within = within-told (start .args .s .sent) (start .args .s .sizes) (start .args .s .octets) arrays
+    (inside .before .in-ranges .ensures)
     (inside .if1 .left) in
-    sends-kept (start .args .s) (start .args .settings) (start .args .packet .now) (start .args .out .now) within (c .before .before .before .before .before .before .before .before .send-held .ensures)
+    sends-kept (start .args .s) (start .args .settings) (start .args .packet .now) (start .args .out .now) within
+    (c .before .before .before .before .before .before .before .before .send-held .ensures)
     (search needs)
 
 same-length-2 : tie.Need-same-length-2
@@ -82,7 +86,8 @@ returns-3 c =
     let inside = c .before .before .before .before .before .before .before .before .before .before .before .before .before in
     let start = inside .before .before .before .before .before .before .before .before .before in
     let arrays : Arrays (start .args .s .sizes) (start .args .s .octets) = search needs in
-    let within = within-told (start .args .s .sent) (start .args .s .sizes) (start .args .s .octets) arrays (inside .before .in-ranges .ensures)
+    let within = within-told (start .args .s .sent) (start .args .s .sizes) (start .args .s .octets) arrays
+    (inside .before .in-ranges .ensures)
     (inside .if1 .left) in
     sends-refused (start .args .s) (start .args .settings) (start .args .packet .now) (start .args .out .now) within
     (c .before .before .before .before .before .before .before .before .before .send-held .ensures) (c .unchanged2 .ensures) (search needs)

@@ -1,7 +1,6 @@
 -- `leaving::give_up_core` meets its contract. Assumes nothing.
 use borrow.Author.Needs.{needs}
-use Rattle.leaving.proofs.Base.{goes-on}
-use Rattle.leaving.proofs.GiveUp.{give-up-16, give-up-11, give-up-lost, one-booked}
+use Rattle.leaving.proofs.GiveUp.{give-up-16, give-up-11, give-up-lost, may-give-up}
 use Rattle.leaving.proofs.give_up_core.Statement.{statement}
 use Rattle.leaving.proofs.give_up_core.Tie as tie
 
@@ -22,26 +21,27 @@ kept-slot-requires c κs = search needs
 state-at-requires : tie.Need-state-at-requires
 state-at-requires c κs = search needs
 
-one-lost-requires : tie.Need-one-lost-requires
-one-lost-requires c κs =
-    let at = c .before .before .before .before in
-    goes-on (at .before .before .all-passed .ensures) (at .before .if1 .left)
-
-go-on-requires : tie.Need-go-on-requires
-go-on-requires c κs =
-    let booked = c .before .before .before in
-    let at = booked .before .before .before .before .before in
-    let passed = at .before .before in
-    (passed .before .pre, one-booked (passed .all-passed .ensures) (at .before .if1 .left) (booked .one-lost .ensures))
+move-on-requires : tie.Need-move-on-requires
+move-on-requires c κs =
+    let then = c .before .before .before in
+    let read = then .before in
+    let at = read .before .before .before in
+    let passed = at .before .before in (
+      passed .before .pre,
+      may-give-up (passed .before .pre) (passed .all-passed .ensures) (at .before .if1 .left) (at .kept-slot .ensures)
+          (read .state-at .ensures) (then .if2 .taken),
+    )
 
 returns-2 : tie.Need-returns-2
 returns-2 c =
-    let booked = c .before .before .before .before in
-    let read = booked .before .before in
+    let moved = c .before in
+    let then = moved .before .before .before .before in
+    let read = then .before in
     let at = read .before .before .before in
     let passed = at .before .before in
-    give-up-lost (passed .before .pre) (passed .all-passed .ensures) (at .before .if1 .left) (at .kept-slot .ensures) (read .state-at .ensures)
-    (booked .before .if2 .taken) (booked .one-lost .ensures) (c .go-on .ensures)
+    give-up-lost (passed .before .pre) (passed .all-passed .ensures) (at .before .if1 .left) (at .kept-slot .ensures)
+    (read .state-at .ensures)
+    (then .if2 .taken) (moved .move-on .ensures)
 
 give-up-refused-requires-2 : tie.Need-give-up-refused-requires-2
 give-up-refused-requires-2 c κs = search needs
@@ -51,7 +51,8 @@ returns-3 c =
     let read = c .before .before in
     let at = read .before .before .before in
     let passed = at .before .before in
-    give-up-11 (passed .before .pre) (passed .all-passed .ensures) (at .before .if1 .left) (at .kept-slot .ensures) (read .state-at .ensures)
+    give-up-11 (passed .before .pre) (passed .all-passed .ensures) (at .before .if1 .left) (at .kept-slot .ensures)
+    (read .state-at .ensures)
     (c .before .if2 .left) (c .give-up-refused2 .ensures)
 
 pub give-up-core-spec : {M : Type 1} → statement M
@@ -63,8 +64,7 @@ give-up-core-spec =
     returns
     kept-slot-requires
     state-at-requires
-    one-lost-requires
-    go-on-requires
+    move-on-requires
     returns-2
     give-up-refused-requires-2
     returns-3)

@@ -1,7 +1,7 @@
 -- `leaving::next_core` meets its contract. Assumes nothing.
 use borrow.Author.Needs.{needs}
-use Rattle.leaving.proofs.Base.{goes-on, base-there}
-use Rattle.leaving.proofs.Next.{next-16, next-10, next-13, next-released, one-released, size-fits}
+use Rattle.leaving.proofs.Base.{base-there}
+use Rattle.leaving.proofs.Next.{next-16, next-10, next-13, next-released, may-release, size-fits}
 use Rattle.leaving.proofs.next_core.Statement.{statement}
 use Rattle.leaving.proofs.next_core.Tie as tie
 
@@ -62,28 +62,18 @@ copy-out-requires c κs =
 state-of-requires : tie.Need-state-of-requires
 state-of-requires c κs = search needs
 
-counted-requires : tie.Need-counted-requires
-counted-requires c κs =
-    let copied = c .before .before .before in
-    let room = copied .before .before .before .before in
-    let read = room .before .before .before .before .before in
-    let at = read .before .before .before in
-    goes-on (at .before .before .all-passed .ensures) (at .before .if1 .left)
-
-go-on-requires : tie.Need-go-on-requires
-go-on-requires c κs =
-    let counted = c .before .before .before in
-    let state = counted .before in
+move-on-requires : tie.Need-move-on-requires
+move-on-requires c κs =
+    let state = c .before .before .before in
     let copied = state .before .before .before in
     let room = copied .before .before .before .before in
-    let other = room .before .before .before .before in
-    let read = other .before in
+    let read = room .before .before .before .before .before in
     let at = read .before .before .before in
     let passed = at .before .before in
     let start = passed .before .before in (
       start .pre,
-      one-released (start .pre) (passed .all-passed .ensures) (at .before .if1 .left) (at .kept-slot .ensures) (read .state-at .ensures)
-          (other .if2 .left) (state .state-of .ensures) (counted .counted .ensures),
+      may-release (start .pre) (passed .all-passed .ensures) (at .before .if1 .left) (at .kept-slot .ensures) (read .state-at .ensures)
+          (state .state-of .ensures),
     )
 
 same-length : tie.Need-same-length
@@ -91,8 +81,8 @@ same-length c = search needs
 
 returns-4 : tie.Need-returns-4
 returns-4 c =
-    let counted = c .before .before .before .before in
-    let state = counted .before in
+    let moved = c .before in
+    let state = moved .before .before .before .before in
     let copied = state .before .before .before in
     let room = copied .before .before .before .before in
     let sized = room .before in
@@ -102,7 +92,7 @@ returns-4 c =
     let passed = at .before .before in
     next-released (passed .before .before .pre) (passed .all-passed .ensures) (at .before .if1 .left) (at .kept-slot .ensures)
     (read .state-at .ensures) (other .if2 .left) (sized .size-at .ensures) (room .if3 .left) (copied .copy-out .ensures)
-    (state .state-of .ensures) (counted .counted .ensures) (c .go-on .ensures)
+    (state .state-of .ensures) (moved .move-on .ensures)
 
 pub next-core-spec : {M : Type 1} → statement M
 next-core-spec =
@@ -120,7 +110,6 @@ next-core-spec =
     returns-3
     copy-out-requires
     state-of-requires
-    counted-requires
-    go-on-requires
+    move-on-requires
     same-length
     returns-4)

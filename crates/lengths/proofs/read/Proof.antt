@@ -3,10 +3,6 @@ use borrow.Author.Needs.{needs}
 use Rattle.lengths.proofs.Steps.{readings}
 use Rattle.lengths.proofs.read.Statement.{statement}
 use Rattle.lengths.proofs.read.Tie as tie
-use Rattle.lengths.proofs.read.Reads as reads
-use Rattle.lengths.proofs.read.Lts as lts
-use Rattle.lengths.proofs.Refusal.new.Reads as new-reads
-use Rattle.lengths.proofs.wide.Reads as wide-reads
 
 new-requires : tie.Need-new-requires
 new-requires c κs = search needs

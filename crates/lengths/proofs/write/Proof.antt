@@ -3,9 +3,6 @@ use borrow.Author.Needs.{needs}
 use Rattle.lengths.proofs.Steps.{writings}
 use Rattle.lengths.proofs.write.Statement.{statement}
 use Rattle.lengths.proofs.write.Tie as tie
-use Rattle.lengths.proofs.write.Reads as reads
-use Rattle.lengths.proofs.write.Lts as lts
-use Rattle.lengths.proofs.Refusal.new.Reads as new-reads
 
 new-requires : tie.Need-new-requires
 new-requires c κs = search needs

@@ -1,6 +1,7 @@
 -- `offering::accept` meets its contract: packet, spares, mark and messages, repair, one after the other. Assumes nothing.
 use borrow.Author.Needs.{needs}
-use Rattle.offering.proofs.Accepting.{received-fills, carries-spares, carries, may-keep, within-first, may-spare, may-hold, within-third, accepted}
+use Rattle.offering.proofs.Accepting.{received-fills, carries-spares, carries, may-keep, within-first, may-spare, may-hold}
+use Rattle.offering.proofs.Accepting.{may-mend, accepted}
 use Rattle.offering.proofs.accept.Statement.{statement}
 use Rattle.offering.proofs.accept.Tie as tie
 
@@ -52,7 +53,7 @@ mend-requires c κs =
     let spares = kept .before .before .before in
     let keep = spares .before in
     let start = keep .before .before .before .before in
-    within-third (start .pre .0) (start .pre .1) (keep .keep .ensures) (spares .spares-of .ensures) (kept .keep-spares .ensures)
+    may-mend (start .pre .0) (start .pre .1) (keep .keep .ensures) (spares .spares-of .ensures) (kept .keep-spares .ensures)
     (n .covered-of .ensures) (m .messages-of .ensures) (hold .hold .ensures)
 
 returns : tie.Need-returns

@@ -6,10 +6,6 @@ use borrow.Author.Needs.{needs}
 use Rattle.receive.proofs.Serving.{more-counted}
 use Rattle.receive.proofs.hand_over.Statement.{statement}
 use Rattle.receive.proofs.hand_over.Tie as tie
-use Rattle.receive.proofs.hand_over.Reads as reads
-use Rattle.receive.proofs.hand_over.Lts as lts
-use Rattle.io.proofs.write_all.Reads as write-all-reads
-use Rattle.std.proofs.num.wrapping_add_usize.Reads as wrapping-add-usize-reads
 
 slice-aggregate-front : tie.Need-slice-aggregate-front
 slice-aggregate-front c = sym (length-take-le _ _ (c .before .before .pre))

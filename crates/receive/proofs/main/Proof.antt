@@ -3,10 +3,6 @@ use Rattle.held.proofs.Laws.{session-in-ranges}
 use borrow.Author.Needs.{needs}
 use Rattle.receive.proofs.main.Statement.{statement}
 use Rattle.receive.proofs.main.Tie as tie
-use Rattle.receive.proofs.main.Reads as reads
-use Rattle.receive.proofs.main.Lts as lts
-use Rattle.held.proofs.Session.fresh.Reads as fresh-reads
-use Rattle.receive.proofs.serve.Reads as serve-reads
 
 fresh-requires : tie.Need-fresh-requires
 fresh-requires c κs = search needs

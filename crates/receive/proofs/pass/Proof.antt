@@ -10,10 +10,6 @@ use Rattle.lines.proofs.Laws.{feedable-block}
 use Rattle.receive.proofs.Serving.{Serving, serving-start, served, stopped, part-some, part-inside, part-fits, part-done}
 use Rattle.receive.proofs.pass.Statement.{statement}
 use Rattle.receive.proofs.pass.Tie as tie
-use Rattle.receive.proofs.pass.Reads as reads
-use Rattle.receive.proofs.pass.Lts as lts
-use Rattle.line_blocks.proofs.take_block.Reads as take-block-reads
-use Rattle.receive.proofs.hand_over.Reads as hand-over-reads
 
 abbrev Inv-loop : tie.InvT-loop
 Inv-loop base t₀ o₀ g₀ line₀ begun block out₀ handed₀ after₀ moves₀ kept₀ from₀ t o g line out handed after moves kept from =

@@ -5,17 +5,11 @@ use lib.Seq.{length-take-le}
 use native.Mathlib.Omega.{arith}
 use borrow.Author.Needs.{needs}
 use Rattle.held.specs.Table.{lent}
+use Rattle.lines.specs.Feed.{keptLimit}
 use Rattle.lines.proofs.Laws.{line-fresh}
 use Rattle.receive.proofs.Turning.{Turning, turning-start, turning-none, written-all, turning-on, complete, serves, serves-not}
 use Rattle.receive.proofs.serve.Statement.{statement}
 use Rattle.receive.proofs.serve.Tie as tie
-use Rattle.receive.proofs.serve.Reads as reads
-use Rattle.receive.proofs.serve.Lts as lts
-use Rattle.io.proofs.large_buffer.Reads as large-buffer-reads
-use Rattle.line_blocks.proofs.finish.Reads as finish-reads
-use Rattle.receive.proofs.hand_over.Reads as hand-over-reads
-use Rattle.receive.proofs.pass.Reads as pass-reads
-use Rattle.receive.proofs.read_on.Reads as read-on-reads
 
 abbrev Inv-loop : tie.InvT-loop
 Inv-loop _ _ _ _ _ _ _ _ _ _ _ _ _ t o g line block out after moves begun taken handed turns =
@@ -33,7 +27,7 @@ large-buffer-requires-2 c κs = search needs
 loop-holds : tie.Need-loop-holds Inv-loop μ-loop
 loop-holds c =
     let start = c .before .before in
-    turning-start (start .pre .0) (start .pre .1) (line-fresh 3001 refl) (c .before .large-buffer .ensures) (c .large-buffer2 .ensures)
+    turning-start (start .pre .0) (start .pre .1) (line-fresh keptLimit refl) (c .before .large-buffer .ensures) (c .large-buffer2 .ensures)
 
 sub-turns : tie.Need-sub-turns Inv-loop μ-loop
 sub-turns c = search needs

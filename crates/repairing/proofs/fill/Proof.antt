@@ -9,26 +9,26 @@ use Rattle.repairing.proofs.fill.Tie as tie
 mended-requires : tie.Need-mended-requires
 mended-requires c κs =
     let start = c .before .before .before .before .before in
-    (start .pre .0, (start .pre .1 .0 .near, (index-fits (start .pre .0) (start .pre .1 .0) (start .pre .1 .1), start .pre .1 .0 .low)))
+    (start .pre .0, (start .pre .1 .0 .near, (index-fits (start .pre .0 .within) (start .pre .1 .0) (start .pre .1 .1), start .pre .1 .0 .low)))
 
 size-of-requires : tie.Need-size-of-requires
 size-of-requires c κs =
     let start = c .before .before .before .before .before .before .before in
-    (start .pre .0 .laid .long, index-fits (start .pre .0) (start .pre .1 .0) (start .pre .1 .1))
+    (start .pre .0 .within .laid .long, index-fits (start .pre .0 .within) (start .pre .1 .0) (start .pre .1 .1))
 
 array-share-prefix-sum : tie.Need-array-share-prefix-sum
 array-share-prefix-sum c =
     let size = c .before in
     let sum = size .before .before in
     let start = sum .before .before .before .before .before .before in
-    omega (arith, size-fits (start .pre .0) (start .pre .1 .0) (start .pre .1 .1) (size .size-of .ensures), sum .mended .ensures .long)
+    omega (arith, size-fits (start .pre .0 .within) (start .pre .1 .0) (start .pre .1 .1) (size .size-of .ensures), sum .mended .ensures .long)
 
 slice-aggregate-put : tie.Need-slice-aggregate-put
 slice-aggregate-put c =
     let size = c .before .before in
     let sum = size .before .before in
     let start = sum .before .before .before .before .before .before in
-    let fits = size-fits (start .pre .0) (start .pre .1 .0) (start .pre .1 .1) (size .size-of .ensures) in
+    let fits = size-fits (start .pre .0 .within) (start .pre .1 .0) (start .pre .1 .1) (size .size-of .ensures) in
     omega (arith, fits, length-take (size .size-of .result) (sum .mended .result), sum .mended .ensures .long)
 
 put-requires : tie.Need-put-requires
@@ -36,8 +36,8 @@ put-requires c κs =
     let size = c .before .before in
     let sum = size .before .before in
     let start = sum .before .before .before .before .before .before in
-    let fits = size-fits (start .pre .0) (start .pre .1 .0) (start .pre .1 .1) (size .size-of .ensures) in (
-      omega (arith, slot-fits (start .pre .0) (start .pre .1 .0) (start .pre .1 .1), start .pre .0 .laid .octets),
+    let fits = size-fits (start .pre .0 .within) (start .pre .1 .0) (start .pre .1 .1) (size .size-of .ensures) in (
+      omega (arith, slot-fits (start .pre .0 .within) (start .pre .1 .0) (start .pre .1 .1), start .pre .0 .within .laid .octets),
       omega (arith, fits, length-take (size .size-of .result) (sum .mended .result)),
     )
 
@@ -45,13 +45,13 @@ narrow-requires : tie.Need-narrow-requires
 narrow-requires c κs =
     let size = c .before .before .before .before .before in
     let start = size .before .before .before .before .before .before .before .before in
-    size-fits (start .pre .0) (start .pre .1 .0) (start .pre .1 .1) (size .size-of .ensures)
+    size-fits (start .pre .0 .within) (start .pre .1 .0) (start .pre .1 .1) (size .size-of .ensures)
 
 set-kept-requires : tie.Need-set-kept-requires
 set-kept-requires c κs =
     let size = c .before .before .before .before .before .before .before in
     let start = size .before .before .before .before .before .before .before .before in
-    (start .pre .0 .laid .long, slot-fits (start .pre .0) (start .pre .1 .0) (start .pre .1 .1))
+    (start .pre .0 .within .laid .long, slot-fits (start .pre .0 .within) (start .pre .1 .0) (start .pre .1 .1))
 
 same-length : tie.Need-same-length
 same-length c = search needs
@@ -67,8 +67,12 @@ returns c =
     let size = put .before .before .before in
     let sum = size .before .before in
     let start = sum .before .before .before .before .before .before in
-    filled (start .pre .0) (start .pre .1 .0) (start .pre .1 .1) (sum .mended .ensures) (size .size-of .ensures) (put .put .ensures)
-    (octets .narrow .ensures) (kept .set-kept .ensures)
+    record {
+      fills =
+          λ counts w.
+          filled w (start .pre .1 .0) (start .pre .1 .1) (sum .mended .ensures) (size .size-of .ensures) (put .put .ensures)
+          (octets .narrow .ensures) (kept .set-kept .ensures);
+    }
 
 pub fill-spec : {M : Type 1} → statement M
 fill-spec =

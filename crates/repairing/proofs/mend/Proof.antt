@@ -1,14 +1,15 @@
 -- `repairing::mend` meets its contract: what is left of the steps, done to what is there now, gives the whole. Assumes nothing.
-use Rattle.repairing.proofs.Fills.{Mending, mending-start, mending-stop, mending-usable, mending-points, mending-turn, mending-end, searchable-now}
+use Rattle.repairing.proofs.Fills.{Mending, mending-start, mending-stop, mending-usable, mending-points, mending-may, mending-turn}
+use Rattle.repairing.proofs.Fills.{mending-end, searchable-now}
 use borrow.Author.Needs.{needs}
 use Rattle.repairing.proofs.mend.Statement.{statement}
 use Rattle.repairing.proofs.mend.Tie as tie
 
 abbrev Inv-loop : tie.InvT-loop
-Inv-loop base counts t₀ o₀ g left₀ t o left = Mending base counts g t₀ o₀ t o left
+Inv-loop base t₀ o₀ g left₀ t o left = Mending base g t₀ o₀ t o left
 
 abbrev μ-loop : tie.MeasureT-loop
-μ-loop base counts t₀ o₀ g left₀ t o left = left
+μ-loop base t₀ o₀ g left₀ t o left = left
 
 loop-holds : tie.Need-loop-holds Inv-loop μ-loop
 loop-holds c = search mending-start
@@ -32,7 +33,7 @@ fill-requires c κs =
     let so = first .before .before .before .before .loop .inv in
     let f = first .first-usable .ensures in
     let e = known .found .given .1 in
-    (so .within, (mending-points so f e, mending-usable so f e))
+    (mending-may so, (mending-points so f e, mending-usable so f e))
 
 sub-left : tie.Need-sub-left Inv-loop μ-loop
 sub-left c = search needs

@@ -26,7 +26,7 @@ narrow-requires : tie.Need-narrow-requires
 narrow-requires c κs =
     let place = c .before .before in
     let start = place .before .before .before .before .before in
-    small-count (searchable (start .pre .0)) (omega (arith, place .heard-slot .ensures)) (c .m-at .ensures)
+    small-count (searchable (start .pre .0 .within)) (omega (arith, place .heard-slot .ensures)) (c .m-at .ensures)
 
 mul-place : tie.Need-mul-place
 mul-place c = search needs
@@ -45,9 +45,9 @@ copy-out-requires c κs =
     let place = c .before .before .before .before .before in
     let start = place .before .before .before .before .before in
     let small =
-    size-small (start .pre .0) (start .args .distance) (start .args .index) (start .pre .1 .1 .1) (place .before .wrapping-add-u16 .ensures)
+    size-small (start .pre .0 .within) (start .args .distance) (start .args .index) (start .pre .1 .1 .1) (place .before .wrapping-add-u16 .ensures)
     (place .heard-slot .ensures) (c .before .message-size-at .ensures) in
-    (omega (arith, start .pre .0 .laid .messages, start .pre .1 .1 .0, place .heard-slot .ensures), (small, small))
+    (omega (arith, start .pre .0 .within .laid .messages, start .pre .1 .1 .0, place .heard-slot .ensures), (small, small))
 
 narrow-requires-2 : tie.Need-narrow-requires-2
 narrow-requires-2 c κs = search needs
@@ -70,8 +70,9 @@ returns c =
     let few = size .before in
     let place = few .before .before .before in
     let start = place .before .before .before .before .before in
-    mended-front (start .pre .0) (start .args .distance) (start .args .index) (start .pre .1 .0) (start .pre .1 .1 .1) (zeros packetLimit)
-    (place .before .wrapping-add-u16 .ensures) (place .heard-slot .ensures) (few .before .before .n-at .ensures) (few .before .m-at .ensures)
+    mended-front (start .pre .0 .within) (start .args .distance) (start .args .index) (start .pre .1 .0) (start .pre .1 .1 .1) (zeros packetLimit)
+    (place .before .wrapping-add-u16 .ensures) (place .heard-slot .ensures) (few .before .before .n-at .ensures)
+    (few .before .m-at .ensures)
     (few .narrow .ensures) refl (size .message-size-at .ensures) (copy .copy-out .ensures) (first .before .narrow2 .ensures)
     (first .wrapping-add-u162 .ensures) (c .before .add-members .ensures)
 

@@ -7,8 +7,8 @@ use lib.ListN.{length, set}
 use Rattle.datagrams.specs.Sizes.{packetLimit}
 use Rattle.stores.specs.Store.{pasted, zeros, zerosPast}
 use Rattle.sending.specs.Sending.{historyKept}
-use Rattle.sending.specs.Sender.{historyOctets, sizeIn}
-use Rattle.sending.specs.Ranges.{inRanges}
+use Rattle.sending.specs.Sender.{historyOctets, lengthIn}
+use Rattle.sending.specs.Ranges.{historyInRanges}
 
 -- the lengths that the arrays have
 pub record Arrays (sizes o : List ℕ) : Type 0 where
@@ -18,18 +18,18 @@ pub record Arrays (sizes o : List ℕ) : Type 0 where
 -- a session within its ranges, as the calls inside require and keep it
 pub record Within (sent : ℕ) (sizes o : List ℕ) : Type 0 where
   pub arrays : Arrays sizes o
-  pub ranges : inRanges sent sizes o ≡ true
+  pub ranges : historyInRanges sent sizes o ≡ true
 
 -- the sizes within the ranges: each is a packet's, or 0
 pub record Sizes (sizes : List ℕ) : Type 0 where
   pub slots : length sizes ≡ historyKept
-  pub small : (i : ℕ) → i < historyKept → sizeIn sizes i ≤ packetLimit
+  pub small : (i : ℕ) → i < historyKept → lengthIn sizes i ≤ packetLimit
 
 -- and the store: past its length each slot has zeros
 pub record Stored (sizes o : List ℕ) : Type 0 where
   pub lengths : Sizes sizes
   pub octets : length o ≡ historyOctets
-  pub clean : (i : ℕ) → i < historyKept → zerosPast o i (sizeIn sizes i) ≡ true
+  pub clean : (i : ℕ) → i < historyKept → zerosPast o i (lengthIn sizes i) ≡ true
 
 -- the sizes and the store once a packet has joined: its slot is that of its number, and was cleared first
 abbrev pub sizesKept : ℕ → List ℕ → List ℕ → List ℕ
@@ -38,6 +38,6 @@ sizesKept number packet sizes = set sizes (number % historyKept) (length packet)
 abbrev pub octetsKept : ℕ → List ℕ → List ℕ → List ℕ
 octetsKept number packet o = pasted (pasted o (number % historyKept) (zeros packetLimit)) (number % historyKept) packet
 
-pub record Keeps (number : ℕ) (packet sizes o sizes′ o′ : List ℕ) : Type 0 where
+pub record Joins (number : ℕ) (packet sizes o sizes′ o′ : List ℕ) : Type 0 where
   pub size : sizes′ ≡ sizesKept number packet sizes
   pub octets : o′ ≡ octetsKept number packet o

@@ -8,7 +8,7 @@ use lib.ListN.{length, getD}
 use Rattle.octets.specs.ExclusiveOr.{exclusiveOr, longest}
 use Rattle.datagrams.specs.Sizes.{packetLimit, sparesLimit, coveredLimit, messagesLimit}
 use Rattle.datagrams.specs.Write.{countInside, itemsOctets}
-use Rattle.datagrams.specs.Inner.Put.{itemSize}
+use Rattle.datagrams.specs.Inner.Heads.{itemSize}
 use Rattle.datagrams.specs.declared.kind.Kind.{Kind}
 use Rattle.datagrams.specs.declared.kind.Kind.the-variants as kind
 use Rattle.views.specs.Members.{membersOf}
@@ -16,7 +16,7 @@ use Rattle.views.specs.Honest.{messageOver}
 use Rattle.sending.specs.Sending.{historyKept}
 use Rattle.sending.specs.Carries.{sparesFrom, messagesFrom}
 use Rattle.sending.specs.Send.{packetOf}
-use Rattle.sending.specs.Sender.{slotAt, sizeIn, historyIn}
+use Rattle.sending.specs.Sender.{historySlot, lengthIn, historyIn}
 use Rattle.sending.specs.Inner.Held.{Stored}
 
 -- ---- messages
@@ -31,8 +31,8 @@ pub record Reach (n m i : ℕ) : Type 0 where
 abbrev pub membersIn : ℕ → List ℕ → List ℕ → ℕ → ℕ → ℕ → List (List ℕ)
 membersIn number sizes o n m i = map (packetOf (historyIn number sizes o)) (membersOf historyKept n m i)
 
-abbrev pub messageIn : ℕ → List ℕ → List ℕ → ℕ → ℕ → ℕ → List ℕ
-messageIn number sizes o n m i = messageOver (membersIn number sizes o n m i)
+abbrev pub parityIn : ℕ → List ℕ → List ℕ → ℕ → ℕ → ℕ → List ℕ
+parityIn number sizes o n m i = messageOver (membersIn number sizes o n m i)
 
 pub record MessageSize (number : ℕ) (sizes : List ℕ) (n m i size : ℕ) : Type 0 where
   pub small : size ≤ packetLimit
@@ -47,7 +47,7 @@ pub record MessageSum (number : ℕ) (o : List ℕ) (n m i : ℕ) (sum : List �
 pub record MessageAsked (number : ℕ) (sizes o : List ℕ) (n m i : ℕ) (out : List ℕ) : Type 0 where
   pub reach : Reach n m i
   pub stored : Stored sizes o
-  pub room : itemSize (length (messageIn number sizes o n m i)) ≤ length out
+  pub room : itemSize (length (parityIn number sizes o n m i)) ≤ length out
 
 -- ---- spares
 
@@ -57,7 +57,7 @@ spareIn number sizes o j = packetOf (historyIn number sizes o) (historyKept - su
 
 pub record SpareSize (number : ℕ) (sizes : List ℕ) (j size : ℕ) : Type 0 where
   pub small : size ≤ packetLimit
-  pub answer : size ≡ sizeIn sizes (slotAt number (historyKept - suc j))
+  pub answer : size ≡ lengthIn sizes (historySlot number (historyKept - suc j))
 
 pub record SpareAsked (number : ℕ) (sizes o : List ℕ) (j : ℕ) (out : List ℕ) : Type 0 where
   pub near : j < historyKept

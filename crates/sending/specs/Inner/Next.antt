@@ -17,9 +17,9 @@ use Rattle.sending.specs.declared.Settings.{Settings}
 use Rattle.sending.specs.declared.Settings.the-variants as settings
 
 -- settings as the kind of what a datagram carries, and how many of it: "Fewer than k packets sent: that many spares."
-abbrev pub kindOf : Settings → Kind
-kindOf (settings.Spares k) = kind.Spares
-kindOf (settings.Parity n m) = kind.Parity n
+abbrev pub kindAsked : Settings → Kind
+kindAsked (settings.Spares k) = kind.Spares
+kindAsked (settings.Parity n m) = kind.Parity n
 
 abbrev pub countOf : Settings → ℕ → ℕ
 countOf (settings.Spares k) sent = min k sent
@@ -27,7 +27,7 @@ countOf (settings.Parity n m) sent = m
 
 -- the spares or messages of the next datagram
 abbrev pub itemsNext : Settings → Sending → List (List ℕ)
-itemsNext settings s = itemsFrom (kindOf settings) (countOf settings (s .sent)) (packetOf (s .history)) historyKept
+itemsNext settings s = itemsFrom (kindAsked settings) (countOf settings (s .sent)) (packetOf (s .history)) historyKept
 
 -- what the datagram with this number carries
 abbrev pub carriedIn : ℕ → List ℕ → List ℕ → List ℕ → Kind → ℕ → Carried

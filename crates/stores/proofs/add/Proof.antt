@@ -7,8 +7,6 @@ use Rattle.stores.specs.Store.{added}
 use Rattle.stores.proofs.Turns.{Laying, laying-start, adding-turn, adding-done}
 use Rattle.stores.proofs.add.Statement.{statement}
 use Rattle.stores.proofs.add.Tie as tie
-use Rattle.stores.proofs.add.Reads as reads
-use Rattle.stores.proofs.add.Lts as lts
 
 abbrev Inv-loop : tie.InvT-loop
 Inv-loop o slot sum₀ at j₀ sum j = Laying sum₀ (added sum₀ o slot) 0 sum j

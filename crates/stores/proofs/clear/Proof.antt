@@ -8,8 +8,6 @@ use Rattle.stores.proofs.Turns.{Laying, laying-start, clearing-turn, cl
 use borrow.Author.Needs.{needs}
 use Rattle.stores.proofs.clear.Statement.{statement}
 use Rattle.stores.proofs.clear.Tie as tie
-use Rattle.stores.proofs.clear.Reads as reads
-use Rattle.stores.proofs.clear.Lts as lts
 
 abbrev Inv-loop : tie.InvT-loop
 Inv-loop o₀ slot at j₀ o j = Laying o₀ (zeros packetLimit) at o j

@@ -8,8 +8,6 @@ use Rattle.stores.proofs.Turns.{Laying, laying-start, copying-turn, cop
 use borrow.Author.Needs.{needs}
 use Rattle.stores.proofs.copy_out.Statement.{statement}
 use Rattle.stores.proofs.copy_out.Tie as tie
-use Rattle.stores.proofs.copy_out.Reads as reads
-use Rattle.stores.proofs.copy_out.Lts as lts
 
 abbrev Inv-loop : tie.InvT-loop
 Inv-loop o slot n out₀ at j₀ out j = Laying out₀ (part o slot n) 0 out j

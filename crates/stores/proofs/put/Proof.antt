@@ -8,8 +8,6 @@ use Rattle.stores.proofs.Turns.{Laying, laying-start, putting-turn, lay
 use borrow.Author.Needs.{needs}
 use Rattle.stores.proofs.put.Statement.{statement}
 use Rattle.stores.proofs.put.Tie as tie
-use Rattle.stores.proofs.put.Reads as reads
-use Rattle.stores.proofs.put.Lts as lts
 
 abbrev Inv-loop : tie.InvT-loop
 Inv-loop o₀ slot src at j₀ o j = Laying o₀ src at o j

@@ -8,8 +8,6 @@ use Rattle.stores.proofs.Turns.{Checked, checked-start, checked-turn, c
 use borrow.Author.Needs.{needs}
 use Rattle.stores.proofs.zeros_past.Statement.{statement}
 use Rattle.stores.proofs.zeros_past.Tie as tie
-use Rattle.stores.proofs.zeros_past.Reads as reads
-use Rattle.stores.proofs.zeros_past.Lts as lts
 
 abbrev Inv-loop : tie.InvT-loop
 Inv-loop o slot n table at from ok₀ j₀ ok j = Checked o slot n ok j

@@ -35,7 +35,8 @@ part-item-start : tie.Need-part-item-start Inv-loop μ-loop
 part-item-start c = search needs
 
 part-item-end : tie.Need-part-item-end Inv-loop μ-loop
-part-item-end c = let t = turning (c .before .before .before .loop .inv) (c .before .before .loop-test .taken) (c .wide .ensures) in omega arith
+part-item-end c = let t = turning (c .before .before .before .loop .inv) (c .before .before .loop-test .taken)
+    (c .wide .ensures) in omega arith
 
 sub-put-item : tie.Need-sub-put-item Inv-loop μ-loop
 sub-put-item c = search needs

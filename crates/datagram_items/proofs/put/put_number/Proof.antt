@@ -2,7 +2,7 @@
 use native.Mathlib.Omega.{arith}
 use borrow.Author.Needs.{needs}
 use Rattle.datagram_items.proofs.PutSteps.{puts}
-use Rattle.datagrams.proofs.PutLaws.{number-length}
+use Rattle.datagrams.proofs.Laws.{number-length}
 use Rattle.datagram_items.proofs.put.put_number.Statement.{statement}
 use Rattle.datagram_items.proofs.put.put_number.Tie as tie
 

@@ -1,13 +1,13 @@
 -- `datagram_reader::item_at` meets its contract: its length's answer, then the octets that are left, give each answer. Assumes nothing.
-use Rattle.datagram_reader.proofs.ReadSteps.{sized-ends}
+use Rattle.datagram_reader.proofs.ReadSteps.{length-ends}
 use native.Mathlib.Omega.{arith}
 use borrow.Author.Needs.{needs}
 use Rattle.datagram_reader.proofs.ReadSteps.{itemings}
 use Rattle.datagram_reader.proofs.reader.item_at.Statement.{statement}
 use Rattle.datagram_reader.proofs.reader.item_at.Tie as tie
 
-sized-at-requires : tie.Need-sized-at-requires
-sized-at-requires c κs = search needs
+length-at-requires : tie.Need-length-at-requires
+length-at-requires c κs = search needs
 
 enum-known-found : tie.Need-enum-known-found
 enum-known-found c = search needs
@@ -15,17 +15,17 @@ enum-known-found c = search needs
 enum-told : tie.Need-enum-told
 enum-told c = search needs
 
-refusal-of-requires : tie.Need-refusal-of-requires
-refusal-of-requires c κs = search needs
+refusal-requires : tie.Need-refusal-requires
+refusal-requires c κs = search needs
 
 returns : tie.Need-returns
 returns c = search itemings
 
 add-start : tie.Need-add-start
-add-start c = omega (arith, sized-ends (c .before .before .before .sized-at .ensures) (c .before .found .given .1) (search needs))
+add-start c = omega (arith, length-ends (c .before .before .before .length-at .ensures) (c .before .found .given .1) (search needs))
 
 sub-if1 : tie.Need-sub-if1
-sub-if1 c = sized-ends (c .before .before .before .sized-at .ensures) (c .before .found .given .1) (search needs)
+sub-if1 c = length-ends (c .before .before .before .length-at .ensures) (c .before .found .given .1) (search needs)
 
 new-requires : tie.Need-new-requires
 new-requires c κs = search needs
@@ -40,10 +40,10 @@ pub item-at-spec : {M : Type 1} → statement M
 item-at-spec =
     tie.close
     (tie.spec
-    sized-at-requires
+    length-at-requires
     enum-known-found
     enum-told
-    refusal-of-requires
+    refusal-requires
     returns
     add-start
     sub-if1

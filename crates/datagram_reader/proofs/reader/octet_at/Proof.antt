@@ -16,20 +16,17 @@ shared-slice-read-wide c = search needs
 wide-requires : tie.Need-wide-requires
 wide-requires c κs = search needs
 
-new-requires-2 : tie.Need-new-requires-2
-new-requires-2 c κs = search needs
+within-requires : tie.Need-within-requires
+within-requires c κs = search needs
 
 returns-2 : tie.Need-returns-2
 returns-2 c = search octets
 
-new-requires-3 : tie.Need-new-requires-3
-new-requires-3 c κs = search needs
+new-requires-2 : tie.Need-new-requires-2
+new-requires-2 c κs = search needs
 
 returns-3 : tie.Need-returns-3
 returns-3 c = search octets
-
-returns-4 : tie.Need-returns-4
-returns-4 c = search octets
 
 pub octet-at-spec : {M : Type 1} → statement M
 octet-at-spec =
@@ -39,8 +36,7 @@ octet-at-spec =
     returns
     shared-slice-read-wide
     wide-requires
-    new-requires-2
+    within-requires
     returns-2
-    new-requires-3
-    returns-3
-    returns-4)
+    new-requires-2
+    returns-3)

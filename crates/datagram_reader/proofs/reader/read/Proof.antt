@@ -46,7 +46,10 @@ enum-known-packet : tie.Need-enum-known-packet
 enum-known-packet c = search needs
 
 add-at : tie.Need-add-at
-add-at c = omega (arith, item-ends (c .before .before .before .before .item-at .ensures) (c .before .before .packet .given .1) (search needs))
+add-at c = omega (
+  arith,
+  item-ends (c .before .before .before .before .item-at .ensures) (c .before .before .packet .given .1) (search needs),
+)
 
 extra-at-requires : tie.Need-extra-at-requires
 extra-at-requires c κs = search needs

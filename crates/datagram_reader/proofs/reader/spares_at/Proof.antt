@@ -1,13 +1,13 @@
 -- `datagram_reader::spares_at` meets its contract: the count's answer gives each answer. Assumes nothing.
-use Rattle.datagram_reader.proofs.ReadSteps.{sized-ends}
+use Rattle.datagram_reader.proofs.ReadSteps.{length-ends}
 use native.Mathlib.Omega.{arith}
 use borrow.Author.Needs.{needs}
 use Rattle.datagram_reader.proofs.ReadSteps.{sparings}
 use Rattle.datagram_reader.proofs.reader.spares_at.Statement.{statement}
 use Rattle.datagram_reader.proofs.reader.spares_at.Tie as tie
 
-sized-at-requires : tie.Need-sized-at-requires
-sized-at-requires c κs = search needs
+length-at-requires : tie.Need-length-at-requires
+length-at-requires c κs = search needs
 
 enum-known-found : tie.Need-enum-known-found
 enum-known-found c = search needs
@@ -15,14 +15,14 @@ enum-known-found c = search needs
 enum-told : tie.Need-enum-told
 enum-told c = search needs
 
-refusal-of-requires : tie.Need-refusal-of-requires
-refusal-of-requires c κs = search needs
+refusal-requires : tie.Need-refusal-requires
+refusal-requires c κs = search needs
 
 returns : tie.Need-returns
 returns c = search sparings
 
 add-first : tie.Need-add-first
-add-first c = omega (arith, sized-ends (c .before .before .before .sized-at .ensures) (c .before .found .given .1) (search needs))
+add-first c = omega (arith, length-ends (c .before .before .before .length-at .ensures) (c .before .found .given .1) (search needs))
 
 returns-2 : tie.Need-returns-2
 returns-2 c = search sparings
@@ -31,10 +31,10 @@ pub spares-at-spec : {M : Type 1} → statement M
 spares-at-spec =
     tie.close
     (tie.spec
-    sized-at-requires
+    length-at-requires
     enum-known-found
     enum-told
-    refusal-of-requires
+    refusal-requires
     returns
     add-first
     returns-2)

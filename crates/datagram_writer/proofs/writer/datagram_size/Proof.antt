@@ -19,21 +19,24 @@ add-head : tie.Need-add-head
 add-head c =
     let given = c .before .before .before .before .before .args in
     let all =
-    datagram-bound _ (given .kind) (length (given .lengths .now)) _ (c .before .before .item-size .ensures) (c .before .kind-size .ensures) (c .items-size .ensures) in
+    datagram-bound _ (given .kind) (length (given .lengths .now)) _ (c .before .before .item-size .ensures)
+    (c .before .kind-size .ensures) (c .items-size .ensures) in
     omega arith
 
 add-all : tie.Need-add-all
 add-all c =
     let given = c .before .before .before .before .before .args in
     let all =
-    datagram-bound _ (given .kind) (length (given .lengths .now)) _ (c .before .before .item-size .ensures) (c .before .kind-size .ensures) (c .items-size .ensures) in
+    datagram-bound _ (given .kind) (length (given .lengths .now)) _ (c .before .before .item-size .ensures)
+    (c .before .kind-size .ensures) (c .items-size .ensures) in
     omega arith
 
 add-result : tie.Need-add-result
 add-result c =
     let given = c .before .before .before .before .before .args in
     let all =
-    datagram-bound _ (given .kind) (length (given .lengths .now)) _ (c .before .before .item-size .ensures) (c .before .kind-size .ensures) (c .items-size .ensures) in
+    datagram-bound _ (given .kind) (length (given .lengths .now)) _ (c .before .before .item-size .ensures)
+    (c .before .kind-size .ensures) (c .items-size .ensures) in
     omega arith
 
 returns : tie.Need-returns

@@ -5,9 +5,6 @@ use borrow.Author.Needs.{needs}
 use Rattle.hexadecimal.proofs.HexSteps.{Told, told-start, told-turn, told-done}
 use Rattle.hexadecimal.proofs.hex.all_digits.Statement.{statement}
 use Rattle.hexadecimal.proofs.hex.all_digits.Tie as tie
-use Rattle.hexadecimal.proofs.hex.all_digits.Reads as reads
-use Rattle.hexadecimal.proofs.hex.all_digits.Lts as lts
-use Rattle.hexadecimal.proofs.hex.is_digit.Reads as is-digit-reads
 
 abbrev Inv-loop : tie.InvT-loop
 Inv-loop line all₀ i₀ all i = Told line all i

@@ -3,8 +3,6 @@ use Rattle.hexadecimal.proofs.Digits.{digitFor-low, digitFor-high}
 use borrow.Author.Needs.{needs}
 use Rattle.hexadecimal.proofs.hex.digit_for.Statement.{statement}
 use Rattle.hexadecimal.proofs.hex.digit_for.Tie as tie
-use Rattle.hexadecimal.proofs.hex.digit_for.Reads as reads
-use Rattle.hexadecimal.proofs.hex.digit_for.Lts as lts
 
 add-result : tie.Need-add-result
 add-result c = search needs

@@ -4,11 +4,6 @@ use borrow.Author.Tests.{not-true, not-false}
 use borrow.Author.Needs.{needs}
 use Rattle.hexadecimal.proofs.hex.hex_to_octets.Statement.{statement}
 use Rattle.hexadecimal.proofs.hex.hex_to_octets.Tie as tie
-use Rattle.hexadecimal.proofs.hex.hex_to_octets.Reads as reads
-use Rattle.hexadecimal.proofs.hex.hex_to_octets.Lts as lts
-use Rattle.lengths.proofs.Refusal.new.Reads as new-reads
-use Rattle.hexadecimal.proofs.hex.all_digits.Reads as all-digits-reads
-use Rattle.hexadecimal.proofs.hex.pair_up.Reads as pair-up-reads
 
 new-requires : tie.Need-new-requires
 new-requires c κs = search needs

@@ -3,9 +3,6 @@ use Rattle.hexadecimal.proofs.Digits.{digit-told}
 use borrow.Author.Needs.{needs}
 use Rattle.hexadecimal.proofs.hex.is_digit.Statement.{statement}
 use Rattle.hexadecimal.proofs.hex.is_digit.Tie as tie
-use Rattle.hexadecimal.proofs.hex.is_digit.Reads as reads
-use Rattle.hexadecimal.proofs.hex.is_digit.Lts as lts
-use Rattle.std.proofs.num.wrapping_sub_u8.Reads as wrapping-sub-u8-reads
 
 wrapping-sub-u8-requires : tie.Need-wrapping-sub-u8-requires
 wrapping-sub-u8-requires c κs = search needs

@@ -7,9 +7,6 @@ use Rattle.hexadecimal.proofs.HexSteps.{digit-small}
 use Rattle.hexadecimal.proofs.NearSteps.{Nearing, nearing-start, nearing-turn, nearing-done}
 use Rattle.hexadecimal.proofs.hex.near.Statement.{statement}
 use Rattle.hexadecimal.proofs.hex.near.Tie as tie
-use Rattle.hexadecimal.proofs.hex.near.Reads as reads
-use Rattle.hexadecimal.proofs.hex.near.Lts as lts
-use Rattle.hexadecimal.proofs.hex.value.Reads as value-reads
 
 abbrev Inv-loop : tie.InvT-loop
 Inv-loop line from chunk₀ j₀ chunk j = Nearing line from chunk j

@@ -5,9 +5,6 @@ use borrow.Author.Needs.{needs}
 use Rattle.hexadecimal.proofs.HexSteps.{Paired, paired-start, paired-turn, paired-done, digit-small}
 use Rattle.hexadecimal.proofs.hex.pair_few.Statement.{statement}
 use Rattle.hexadecimal.proofs.hex.pair_few.Tie as tie
-use Rattle.hexadecimal.proofs.hex.pair_few.Reads as reads
-use Rattle.hexadecimal.proofs.hex.pair_few.Lts as lts
-use Rattle.hexadecimal.proofs.hex.value.Reads as value-reads
 
 abbrev Inv-loop : tie.InvT-loop
 Inv-loop line out₀ n i₀ out i = Paired line out₀ out i

@@ -6,11 +6,6 @@ use borrow.Author.Needs.{needs}
 use Rattle.hexadecimal.proofs.NearSteps.{Pairing, pairings, pairing-turn, pairing-done}
 use Rattle.hexadecimal.proofs.hex.pair_up.Statement.{statement}
 use Rattle.hexadecimal.proofs.hex.pair_up.Tie as tie
-use Rattle.hexadecimal.proofs.hex.pair_up.Reads as reads
-use Rattle.hexadecimal.proofs.hex.pair_up.Lts as lts
-use Rattle.hexadecimal.proofs.hex.near.Reads as near-reads
-use Rattle.hexadecimal.proofs.hex.pair_few.Reads as pair-few-reads
-use Rattle.hexadecimal.proofs.hex.put_near.Reads as put-near-reads
 
 abbrev Inv-loop : tie.InvT-loop
 Inv-loop line out₀ n last i₀ out i = Pairing line out₀ out i

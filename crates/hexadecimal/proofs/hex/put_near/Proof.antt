@@ -5,8 +5,6 @@ use Rattle.hexadecimal.specs.Near.{together}
 use Rattle.hexadecimal.proofs.NearSteps.{Putting, putting-start, putting-turn, putting-done}
 use Rattle.hexadecimal.proofs.hex.put_near.Statement.{statement}
 use Rattle.hexadecimal.proofs.hex.put_near.Tie as tie
-use Rattle.hexadecimal.proofs.hex.put_near.Reads as reads
-use Rattle.hexadecimal.proofs.hex.put_near.Lts as lts
 
 abbrev Inv-loop : tie.InvT-loop
 Inv-loop out₀ from chunk j₀ out j = Putting chunk from out₀ out j

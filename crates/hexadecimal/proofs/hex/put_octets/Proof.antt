@@ -7,9 +7,6 @@ use native.Mathlib.Omega.{arith}
 use Rattle.hexadecimal.proofs.HexSteps.{Hexed, hexed-start, hexed-turn, hexed-done}
 use Rattle.hexadecimal.proofs.hex.put_octets.Statement.{statement}
 use Rattle.hexadecimal.proofs.hex.put_octets.Tie as tie
-use Rattle.hexadecimal.proofs.hex.put_octets.Reads as reads
-use Rattle.hexadecimal.proofs.hex.put_octets.Lts as lts
-use Rattle.hexadecimal.proofs.hex.digit_for.Reads as digit-for-reads
 
 abbrev Inv-loop : tie.InvT-loop
 Inv-loop octets out₀ at i₀ out i = Hexed octets out₀ at out i

@@ -3,8 +3,6 @@ use Rattle.hexadecimal.proofs.Digits.{digit-value}
 use borrow.Author.Needs.{needs}
 use Rattle.hexadecimal.proofs.hex.value.Statement.{statement}
 use Rattle.hexadecimal.proofs.hex.value.Tie as tie
-use Rattle.hexadecimal.proofs.hex.value.Reads as reads
-use Rattle.hexadecimal.proofs.hex.value.Lts as lts
 
 mul-result : tie.Need-mul-result
 mul-result c = search needs

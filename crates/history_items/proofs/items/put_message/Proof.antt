@@ -17,7 +17,8 @@ slice-aggregate-put-item : tie.Need-slice-aggregate-put-item
 slice-aggregate-put-item c = search onePuts
 
 put-item-requires : tie.Need-put-item-requires
-put-item-requires c κs = message-asked (c .before .before .before .before .before .before .before .pre) (c .before .before .before .message-size .ensures) (c .before .before .message-sum .ensures)
+put-item-requires c κs = message-asked (c .before .before .before .before .before .before .before .pre)
+    (c .before .before .before .message-size .ensures) (c .before .before .message-sum .ensures)
 
 same-length : tie.Need-same-length
 same-length c = search needs

@@ -26,7 +26,8 @@ part-put-item-end : tie.Need-part-put-item-end
 part-put-item-end c = search needs
 
 put-item-requires : tie.Need-put-item-requires
-put-item-requires c κs = spare-asked (c .before .before .before .before .before .before .before .pre) _ (c .before .before .before .spare-slot .ensures) (c .before .before .spare-size .ensures)
+put-item-requires c κs = spare-asked (c .before .before .before .before .before .before .before .pre) _
+    (c .before .before .before .spare-slot .ensures) (c .before .before .spare-size .ensures)
 
 same-length : tie.Need-same-length
 same-length c = search needs

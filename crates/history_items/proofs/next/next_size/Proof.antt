@@ -1,7 +1,7 @@
 -- `history_items::next_size` meets its contract. Assumes nothing.
 use native.Mathlib.Omega.{arith}
 use borrow.Author.Needs.{needs}
-use Rattle.sending.proofs.Kept.{packet-fits}
+use Rattle.sending.proofs.Laws.{packet-fits}
 use Rattle.history_items.proofs.NextSteps.{nexts, next-few}
 use Rattle.history_items.proofs.next.next_size.Statement.{statement}
 use Rattle.history_items.proofs.next.next_size.Tie as tie
@@ -16,13 +16,16 @@ items-size-requires : tie.Need-items-size-requires
 items-size-requires c κs = search needs
 
 add-head : tie.Need-add-head
-add-head c = let few = next-few (c .before .before .before .before .before .pre) (c .before .before .item-size .ensures) (c .before .kind-size .ensures) (c .items-size .ensures) in omega arith
+add-head c = let few = next-few (c .before .before .before .before .before .pre) (c .before .before .item-size .ensures)
+    (c .before .kind-size .ensures) (c .items-size .ensures) in omega arith
 
 add-front : tie.Need-add-front
-add-front c = let few = next-few (c .before .before .before .before .before .pre) (c .before .before .item-size .ensures) (c .before .kind-size .ensures) (c .items-size .ensures) in omega arith
+add-front c = let few = next-few (c .before .before .before .before .before .pre) (c .before .before .item-size .ensures)
+    (c .before .kind-size .ensures) (c .items-size .ensures) in omega arith
 
 add-result : tie.Need-add-result
-add-result c = let few = next-few (c .before .before .before .before .before .pre) (c .before .before .item-size .ensures) (c .before .kind-size .ensures) (c .items-size .ensures) in omega arith
+add-result c = let few = next-few (c .before .before .before .before .before .pre) (c .before .before .item-size .ensures)
+    (c .before .kind-size .ensures) (c .items-size .ensures) in omega arith
 
 returns : tie.Need-returns
 returns c = search nexts

@@ -1,26 +1,11 @@
 -- `history_items::put_next` meets its contract. Assumes nothing.
 use borrow.Author.Needs.{needs}
-use Rattle.history_items.proofs.NextSteps.{nexts, head-asked, kind-asked, items-asked}
+use Rattle.history_items.proofs.NextSteps.{nexts, front-asked, items-asked}
 use Rattle.history_items.proofs.next.put_next.Statement.{statement}
 use Rattle.history_items.proofs.next.put_next.Tie as tie
 
-put-head-requires : tie.Need-put-head-requires
-put-head-requires c κs = head-asked (c .before .before .before .before .before .pre)
-
-sub-put-kind : tie.Need-sub-put-kind
-sub-put-kind c = search needs
-
-part-put-kind-start : tie.Need-part-put-kind-start
-part-put-kind-start c = search needs
-
-part-put-kind-end : tie.Need-part-put-kind-end
-part-put-kind-end c = search needs
-
-put-kind-requires : tie.Need-put-kind-requires
-put-kind-requires c κs = kind-asked (c .before .before .before .before .before .before .before .before .before .pre) (c .before .before .before .put-head .ensures)
-
-add-at : tie.Need-add-at
-add-at c = search needs
+put-front-requires : tie.Need-put-front-requires
+put-front-requires c κs = search nexts
 
 sub-put-items : tie.Need-sub-put-items
 sub-put-items c = search needs
@@ -32,7 +17,7 @@ part-put-items-end : tie.Need-part-put-items-end
 part-put-items-end c = search needs
 
 put-items-requires : tie.Need-put-items-requires
-put-items-requires c κs = items-asked (c .before .before .before .before .before .before .before .before .before .before .before .before .before .pre) (c .before .before .before .before .before .before .before .put-head .ensures) (c .before .before .before .put-kind .ensures)
+put-items-requires c κs = search nexts
 
 add-result : tie.Need-add-result
 add-result c = search needs
@@ -47,12 +32,7 @@ pub put-next-spec : {M : Type 1} → statement M
 put-next-spec =
     tie.close
     (tie.spec
-    put-head-requires
-    sub-put-kind
-    part-put-kind-start
-    part-put-kind-end
-    put-kind-requires
-    add-at
+    put-front-requires
     sub-put-items
     part-put-items-start
     part-put-items-end

@@ -6,7 +6,7 @@ use lib.ListN.{length}
 use native.Mathlib.Omega.{arith}
 use Rattle.held.specs.Table.{lent}
 use Rattle.lines.specs.Feed.{goingIn}
-use Rattle.line_blocks.proofs.FeedTurn.{Fed, left-some, left-inside, fed-start, fed-ready, fed-turn, fed-full, fed-whole}
+use Rattle.line_blocks.proofs.FeedLoop.{Fed, left-some, left-inside, fed-start, fed-ready, fed-turn, fed-full, fed-whole}
 use Rattle.line_blocks.proofs.feed.take_block.Statement.{statement}
 use Rattle.line_blocks.proofs.feed.take_block.Tie as tie
 

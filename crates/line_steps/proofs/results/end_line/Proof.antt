@@ -3,8 +3,6 @@ use Rattle.line_steps.proofs.ResultSteps.{appends-single}
 use borrow.Author.Needs.{needs}
 use Rattle.line_steps.proofs.results.end_line.Statement.{statement}
 use Rattle.line_steps.proofs.results.end_line.Tie as tie
-use Rattle.line_steps.proofs.results.end_line.Reads as reads
-use Rattle.line_steps.proofs.results.end_line.Lts as lts
 
 slice-write-out : tie.Need-slice-write-out
 slice-write-out c = search needs

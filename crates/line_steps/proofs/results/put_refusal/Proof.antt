@@ -4,10 +4,6 @@ use native.Mathlib.Omega.{arith}
 use borrow.Author.Needs.{needs}
 use Rattle.line_steps.proofs.results.put_refusal.Statement.{statement}
 use Rattle.line_steps.proofs.results.put_refusal.Tie as tie
-use Rattle.line_steps.proofs.results.put_refusal.Reads as reads
-use Rattle.line_steps.proofs.results.put_refusal.Lts as lts
-use Rattle.hexadecimal.proofs.put_octets.Reads as put-octets-reads
-use Rattle.line_steps.proofs.results.end_line.Reads as end-line-reads
 
 slice-aggregate-put-octets : tie.Need-slice-aggregate-put-octets
 slice-aggregate-put-octets c = search needs

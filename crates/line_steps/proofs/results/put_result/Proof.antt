@@ -4,10 +4,6 @@ use native.Mathlib.Omega.{arith}
 use borrow.Author.Needs.{needs}
 use Rattle.line_steps.proofs.results.put_result.Statement.{statement}
 use Rattle.line_steps.proofs.results.put_result.Tie as tie
-use Rattle.line_steps.proofs.results.put_result.Reads as reads
-use Rattle.line_steps.proofs.results.put_result.Lts as lts
-use Rattle.hexadecimal.proofs.put_octets.Reads as put-octets-reads
-use Rattle.line_steps.proofs.results.end_line.Reads as end-line-reads
 
 cast-high : tie.Need-cast-high
 cast-high c = search needs

@@ -1,0 +1,144 @@
+-- Offer, next and give up refuse exactly what their tables say, and a refusal changes nothing. Assumes nothing.
+use Prim.Native.Nat.{ℕ, _+_, _-_, _*_, _≤_, _<_}
+use mathlib.Core.Path.{_≡_, refl, sym, ap, _∙_}
+use mathlib.Core.Logic.{_⊎_, ⊎-elim}
+use mathlib.Core.Bool.{Bool, true, false, not, cond, _&&_}
+use mathlib.Core.List.{List, [], _∷_}
+use mathlib.Core.Option.{some}
+use lib.ListN.{length, getD}
+use lib.Dec.{leb, ltb}
+use native.Mathlib.Omega.{arith}
+use borrow.Author.Tests.{lt-ltb, le-ltb, le-leb, lt-leb, ltb-true, ltb-false}
+use Rattle.octets.proofs.Laws.{below-or-not}
+use Rattle.lengths.specs.Refusals.{repeated, tooFar, late, baseUnknown, baseKnown, noRoom}
+use Rattle.lengths.specs.Refusals.{allPassed, outsideRanges}
+use Rattle.lengths.specs.Answers.{Answer, done, refused, refuse}
+use Rattle.lengths.specs.Answers as answers
+use Rattle.lengths.specs.Tables.{when, first, refusalIn}
+use Rattle.lengths.proofs.Laws.{row, row-met, row-step, no-row}
+use Rattle.datagrams.specs.Carried.{Carried}
+use Rattle.datagrams.specs.Read.{DatagramParts, readDatagram, carriedBy}
+use Rattle.datagrams.proofs.Laws.{read-done}
+use Rattle.views.specs.Cells.{unknownAt, keptBefore, keptAhead}
+use Rattle.views.specs.View.{View, sum, distance, sessionLimit}
+use Rattle.views.specs.Offer as offers
+use Rattle.views.specs.Offer.{lateFrom, acceptedAt, offered, accept}
+use Rattle.views.specs.Release as releases
+use Rattle.views.specs.Release.{Release, Loss, atBase, viewAfterNext, viewAfterLoss}
+use Rattle.held.specs.Table.{viewOf}
+use Rattle.held.specs.Laid.{sessionInRanges}
+use Rattle.held.specs.declared.Session.{Session}
+use Rattle.leaving.specs.Outcome.{handedOf, numberLost}
+use Rattle.leaving.specs.Outcome as outcome
+use Rattle.offering.specs.Outcome.{acceptedOf}
+use Rattle.sessions.specs.Receiver.{After, offerOf, nextOf, giveUpOf}
+use Rattle.demands.specs.Refusals.{distanceTo, offerRows, nextRows, giveUpRows}
+use Rattle.demands.specs.Demand1.{Receiving}
+
+-- ---- offer
+-- 8 or 9, then 7
+three-ways : (b c : Bool) (far later : Bool) (again : Bool) {A : Type 0} (x : A) → (b ≡ true → (far ≡ false) × (later ≡ false))
+    → (b ≡ false → (far ≡ c) × (later ≡ not c))
+    → refusalIn {A = A} (cond b (cond again (refuse repeated) (done x)) (cond c (refuse tooFar) (refuse late)))
+    ≡ first (when far tooFar ∷ when later late ∷ when again repeated ∷ [])
+unfolding first
+three-ways true c far later true x near away = rw (near refl .0, near refl .1)
+three-ways true c far later false x near away = rw (near refl .0, near refl .1)
+three-ways false true far later again x near away = rw (away refl .0)
+three-ways false false far later again x near away = rw (away refl .0, away refl .1)
+
+far-rows : (d : ℕ) → ltb d keptAhead ≡ false
+    → (leb keptAhead d && ltb d lateFrom ≡ ltb d lateFrom) × (leb lateFrom d ≡ not (ltb d lateFrom))
+far-rows d e =
+    let past : keptAhead ≤ d = ltb-false d keptAhead e in (
+      rw (le-leb keptAhead d past),
+      ⊎-elim (λ low. rw (lt-ltb d lateFrom low) (lt-leb lateFrom d low)) (λ high. rw (le-ltb d lateFrom high) (le-leb lateFrom d high))
+          (below-or-not d lateFrom),
+    )
+
+near-rows : (d : ℕ) → ltb d keptAhead ≡ true → (leb keptAhead d && ltb d lateFrom ≡ false) × (leb lateFrom d ≡ false)
+near-rows d e =
+    let low : d < keptAhead = ltb-true d keptAhead e in
+    (rw (lt-leb keptAhead d low), lt-leb lateFrom d (omega arith))
+
+offered-rows : (datagram : Carried) (view : View) (d : ℕ) → distance (view .base) (datagram .number) ≡ d
+    → refusalIn (offered datagram view)
+    ≡ first (when (leb keptAhead d && ltb d lateFrom) tooFar ∷ when (leb lateFrom d) late ∷ when (acceptedAt view d) repeated ∷ [])
+unfolding offered
+offered-rows datagram view d e =
+    rw e
+    (three-ways (ltb d keptAhead) (ltb d lateFrom) (leb keptAhead d && ltb d lateFrom) (leb lateFrom d) (acceptedAt view d)
+    (accept d datagram view) (near-rows d) (far-rows d))
+
+number-read : (octets : List ℕ) (parts : DatagramParts) → readDatagram octets ≡ done parts
+    → (carriedBy octets parts) .number ≡ getD octets 0 0 * 256 + getD octets 1 0
+unfolding carriedBy
+number-read octets parts is = read-done octets parts is .number
+
+offer-rows : (octets : List ℕ) (s : Session) → refusalIn (offerOf octets s) ≡ first (offerRows octets s)
+unfolding offerOf offerRows offers.offer
+offer-rows octets s =
+    row-met (sessionInRanges s) outsideRanges (offers.offer octets (viewOf s)) _
+    (row-step (readDatagram octets) (λ parts. offered (carriedBy octets parts) (viewOf s)) _
+    (λ parts is. offered-rows (carriedBy octets parts) (viewOf s) (distanceTo octets s)
+    (ap (distance ((viewOf s) .base)) (number-read octets parts is))))
+
+accepted-refusal : (a : Answer View) → refusalIn (acceptedOf a) ≡ refusalIn a
+accepted-refusal (done v) = refl
+accepted-refusal (refused why) = refl
+
+after-refused : (a : Answer View) (s t : Session) (n : ℕ) → refusalIn a ≡ some n → After a s t → t ≡ s
+after-refused (done v) s t n e state = let z : _≡_ {A = ℕ} 0 1 = cc in absurd (omega arith)
+after-refused (refused why) s t n e state = state
+
+-- ---- next
+next-rows : (old : List ℕ) (s : Session) → refusalIn (nextOf (length old) s) ≡ first (nextRows old s)
+unfolding nextOf nextRows releases.next
+next-rows old s =
+    row-met (sessionInRanges s) outsideRanges (releases.next (length old) (viewOf s)) _
+    (row (leb sessionLimit (sum ((viewOf s) .counts))) allPassed _ _
+    (row (unknownAt ((viewOf s) .cells) keptBefore) baseUnknown _ _
+    (row (ltb (length old) (length ((atBase (viewOf s)) .octets))) noRoom _ _ no-row)))
+
+handed-refusal : (a : Answer Release) → refusalIn (handedOf a) ≡ refusalIn a
+handed-refusal (done v) = refl
+handed-refusal (refused why) = refl
+
+next-refused : (a : Answer Release) (s t : Session) (old : List ℕ) (n : ℕ) → refusalIn a ≡ some n → After (viewAfterNext a) s t
+    → (t ≡ s) × (answers.over (outcome.octetsHanded a) old ≡ old)
+next-refused (done v) s t old n e state = let z : _≡_ {A = ℕ} 0 1 = cc in absurd (omega arith)
+next-refused (refused why) s t old n e state = (state, refl)
+
+-- ---- give up
+give-up-rows : (s : Session) → refusalIn (giveUpOf s) ≡ first (giveUpRows s)
+unfolding giveUpOf giveUpRows releases.giveUp
+give-up-rows s =
+    row-met (sessionInRanges s) outsideRanges (releases.giveUp (viewOf s)) _
+    (row (leb sessionLimit (sum ((viewOf s) .counts))) allPassed _ _
+    (row-met (unknownAt ((viewOf s) .cells) keptBefore) baseKnown _ _ no-row))
+
+lost-refusal : (a : Answer Loss) → refusalIn (numberLost a) ≡ refusalIn a
+lost-refusal (done v) = refl
+lost-refusal (refused why) = refl
+
+give-up-refused : (a : Answer Loss) (s t : Session) (n : ℕ) → refusalIn a ≡ some n → After (viewAfterLoss a) s t → t ≡ s
+give-up-refused (done v) s t n e state = let z : _≡_ {A = ℕ} 0 1 = cc in absurd (omega arith)
+give-up-refused (refused why) s t n e state = state
+
+pub receiving : Receiving
+receiving =
+    record {
+      offer = λ {s} {octets} p. ap refusalIn (p .answer) ∙ accepted-refusal (offerOf octets s) ∙ offer-rows octets s;
+      offerUnchanged = λ {s} {octets} {r} {n} p e.
+          after-refused (offerOf octets s) s (r .session) n (sym (ap refusalIn (p .answer) ∙ accepted-refusal (offerOf octets s)) ∙ e)
+          (p .state);
+      next = λ {s} {old} p. ap refusalIn (p .answer) ∙ handed-refusal (nextOf (length old) s) ∙ next-rows old s;
+      nextUnchanged = λ {s} {old} {new} {r} {n} p e.
+          let stays =
+          next-refused (nextOf (length old) s) s (r .session) old n
+          (sym (ap refusalIn (p .answer) ∙ handed-refusal (nextOf (length old) s)) ∙ e) (p .state) in
+          (stays .0, p .lent ∙ stays .1);
+      giveUp = λ {s} p. ap refusalIn (p .answer) ∙ lost-refusal (giveUpOf s) ∙ give-up-rows s;
+      giveUpUnchanged = λ {s} {r} {n} p e.
+          give-up-refused (giveUpOf s) s (r .session) n (sym (ap refusalIn (p .answer) ∙ lost-refusal (giveUpOf s)) ∙ e) (p .state);
+    }

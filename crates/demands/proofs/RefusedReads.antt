@@ -1,0 +1,132 @@
+-- The readers refuse exactly what their tables and items say. Assumes nothing.
+use Prim.Native.Nat.{ℕ, _+_, _-_}
+use mathlib.Core.Path.{_≡_, refl, sym, ap, _∙_}
+use mathlib.Core.Logic.{_↔_, _⊎_, ⊎-elim}
+use mathlib.Core.Bool.{Bool, true, false, not, cond, _&&_}
+use mathlib.Core.List.{List, [], _∷_, map}
+use mathlib.Core.Option.{Option, none}
+use lib.ListN.{length, getD, replicate, length-append, length-replicate}
+use lib.Dec.{leb, ltb}
+use native.Mathlib.Omega.{arith}
+use borrow.Author.Tests.{lt-ltb, le-ltb, le-leb, lt-leb, ltb-true}
+use Rattle.octets.proofs.Laws.{below-or-not}
+use Rattle.lengths.specs.Refusals.{endsEarly, badForm}
+use Rattle.lengths.specs.Answers.{done, refuse}
+use Rattle.lengths.specs.Tables.{when, first, refusalIn}
+use Rattle.lengths.specs.Length.{lengthAt, ofTwo}
+use Rattle.lengths.proofs.Laws.{done-none}
+use Rattle.lengths.specs.Claims.{Octets}
+use Rattle.datagrams.specs.Read.{octetsOf, readDatagram}
+use Rattle.datagrams.specs.Claims.{lengthsOf, runOf}
+use Rattle.datagrams.proofs.Claims as datagrams
+use Rattle.packets.specs.Packet.{allData, readPacket}
+use Rattle.packets.specs.declared.types.Ending.the-variants.{Whole, Repaired}
+use Rattle.packets.proofs.Laws.{packet-form}
+use Rattle.packets.proofs.Laws.{read-at}
+use Rattle.packets.proofs.Claims as packet-claims
+use Rattle.demands.specs.Refusals.{lengthRows}
+use Rattle.demands.specs.Demand1.{IsDatagram, IsPacket, IsRepaired, Readers}
+use Rattle.demands.proofs.Front.{repaired-front}
+use Rattle.demands.proofs.PacketRefusals.{packet-refusals}
+use Rattle.demands.proofs.DatagramRefusals.{datagram-refusals}
+
+-- ---- lengths
+-- the five tests of the definition, and the four rows of the table
+length-tests : (b₁ b₂ b₃ b₄ b₅ : Bool) {A : Type 0} (x y : A) → (b₂ ≡ true → b₃ ≡ false)
+    → refusalIn {A = A}
+    (cond b₁ (refuse endsEarly) (cond b₂ (done x)
+    (cond b₃ (refuse badForm) (cond b₄ (refuse endsEarly) (cond b₅ (refuse badForm) (done y))))))
+    ≡ first (when b₁ endsEarly ∷ when b₃ badForm ∷ when (not b₂ && b₄) endsEarly ∷ when (not b₂ && b₅) badForm ∷ [])
+unfolding first
+length-tests true b₂ b₃ b₄ b₅ x y low = refl
+length-tests false true true b₄ b₅ x y low = let z : _≡_ {A = ℕ} 0 1 = cc (low refl) in absurd (omega arith)
+length-tests false true false b₄ b₅ x y low = refl
+length-tests false false true b₄ b₅ x y low = refl
+length-tests false false false true b₅ x y low = refl
+length-tests false false false false true x y low = refl
+length-tests false false false false false x y low = refl
+
+not-low : (n : ℕ) → leb 0x80 n ≡ not (ltb n 0x80)
+not-low n =
+    ⊎-elim (λ low. rw (lt-ltb n 0x80 low) (lt-leb 0x80 n low)) (λ high. rw (le-ltb n 0x80 high) (le-leb 0x80 n high)) (below-or-not n 0x80)
+
+length-rows : (s : List ℕ) → refusalIn (lengthAt s) ≡ first (lengthRows s)
+unfolding lengthAt lengthRows
+length-rows s =
+    rw (not-low (getD s 0 0))
+    (length-tests (ltb (length s) 1) (ltb (getD s 0 0) 0x80) (leb 0xC0 (getD s 0 0)) (ltb (length s) 2)
+    (ltb (ofTwo (getD s 0 0) (getD s 1 0)) 0x80) _ _
+    (λ low. lt-leb 0xC0 (getD s 0 0) (omega (arith, ltb-true (getD s 0 0) 0x80 low))))
+
+-- ---- readers
+is-datagram : (s : List ℕ) → Octets s → (refusalIn (readDatagram s) ≡ none) ↔ IsDatagram s
+is-datagram s octets = (
+  λ e.
+      let d = done-none (readDatagram s) e in
+      record {
+        number = d .0 .number;
+        packet = octetsOf s (d .0 .packet);
+        kind = d .0 .kind;
+        lengths = lengthsOf (d .0);
+        run = runOf s (d .0);
+        written = datagrams.claims .readWrites s (d .0) octets (d .1);
+      },
+  λ is. ap refusalIn (datagrams.claims .writtenReads (is .number) (is .packet) (is .kind) (is .lengths) (is .run) s (is .written) .read),
+)
+
+is-packet : (s : List ℕ) → Octets s → (refusalIn (readPacket Whole s) ≡ none) ↔ IsPacket s
+is-packet s octets = (
+  λ e.
+      let p = done-none (readPacket Whole s) e in
+      record {
+        kind = p .0 .kind;
+        value = p .0 .value;
+        types = map (λ f. f .kind) (p .0 .fields);
+        lengths = map (λ f. f .size) (p .0 .fields);
+        octets = allData s (p .0 .fields);
+        written = packet-claims.claims .readWrites s (p .0) octets (p .1);
+      },
+  λ is.
+      ap refusalIn
+      (packet-claims.claims .writtenReads (is .kind) (is .value) (is .types) (is .lengths) (is .octets) s (is .written) .reads),
+)
+
+is-repaired : (s : List ℕ) → Octets s → (refusalIn (readPacket Repaired s) ≡ none) ↔ IsRepaired s
+is-repaired s octets = (
+  λ e.
+      let p = done-none (readPacket Repaired s) e in
+      let f = repaired-front s (p .0) (p .1) in
+      record {
+        packet = f .front;
+        zeros = f .zeros;
+        is = f .is;
+        fits = packet-form Repaired s (p .0) (sym (read-at Repaired s) ∙ p .1) .fits;
+        written = is-packet (f .front) (f .octets octets) .0 (ap refusalIn (f .reads));
+      },
+  λ is.
+      let w = is .written in
+      let long : length s ≡ length (is .packet) + is .zeros
+      = ap length (is .is) ∙ length-append (is .packet) (replicate (is .zeros) 0)
+      ∙ ap (λ (n : ℕ). length (is .packet) + n) (length-replicate {A = ℕ} (is .zeros) 0) in
+      let reads =
+      packet-claims.claims .repairedReads (w .kind) (w .value) (w .types) (w .lengths) (w .octets) (is .packet) (is .zeros) (w .written)
+      (omega (arith, is .fits)) .reads in
+      ap (λ (l : List ℕ). refusalIn (readPacket Repaired l)) (is .is) ∙ ap refusalIn reads,
+)
+
+-- the same of a call with that refusal
+of-call : {told said : Option ℕ} {P : Type 0} → told ≡ said → (said ≡ none) ↔ P → (told ≡ none) ↔ P
+of-call same t = (λ e. t .0 (sym same ∙ e), λ p. same ∙ t .1 p)
+
+pub readers : Readers
+readers =
+    record {
+      length = λ {s} {r} p. ap refusalIn (p .answer) ∙ length-rows s;
+      datagram = λ p. ap refusalIn (p .answer);
+      packet = λ p. ap refusalIn (p .answer);
+      isDatagram = λ {s} octets p. of-call (ap refusalIn (p .answer)) (is-datagram s octets);
+      isPacket = λ {s} octets p. of-call (ap refusalIn (p .answer)) (is-packet s octets);
+      isRepaired = λ {s} octets p. of-call (ap refusalIn (p .answer)) (is-repaired s octets);
+      packetRefusals = packet-refusals;
+      datagramRefusals = datagram-refusals;
+    }

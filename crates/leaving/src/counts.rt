@@ -1,0 +1,71 @@
+// The four counts of a session: one more of a kind, and whether all numbers have passed.
+use held::Counts;
+use held::Session;
+use held::State;
+use held::total;
+ghost use mathlib.Core.Path.{_≡_};
+ghost use Prim.Native.Nat.{_<_};
+ghost use Rattle.views.specs.Cells.{unknown, received, spare, repaired};
+ghost use Rattle.views.specs.View.{sum, sessionLimit};
+ghost use Rattle.views.specs.Release.{counted};
+ghost use Rattle.held.specs.Table.{countsOf, stateOf};
+ghost use Rattle.leaving.specs.Steps.{Passed};
+
+// Whether 1,000,000 numbers have passed.
+pub fn all_passed(c: Counts) -> bool
+    ensures { λ r. ⌜ Passed c r ⌝ }
+{
+    Session::LIMIT <= total(c)
+}
+
+// One more received, spare or repaired number released, and one more lost.
+fn one_received(c: Counts) -> Counts
+    requires { ⌜ sum (countsOf c) < sessionLimit ⌝ }
+    ensures { λ r. ⌜ countsOf r ≡ counted received (countsOf c) ⌝ }
+{
+    let mut r = c;
+    r.received = c.received + 1;
+    r
+}
+
+fn one_spare(c: Counts) -> Counts
+    requires { ⌜ sum (countsOf c) < sessionLimit ⌝ }
+    ensures { λ r. ⌜ countsOf r ≡ counted spare (countsOf c) ⌝ }
+{
+    let mut r = c;
+    r.spare = c.spare + 1;
+    r
+}
+
+fn one_repaired(c: Counts) -> Counts
+    requires { ⌜ sum (countsOf c) < sessionLimit ⌝ }
+    ensures { λ r. ⌜ countsOf r ≡ counted repaired (countsOf c) ⌝ }
+{
+    let mut r = c;
+    r.repaired = c.repaired + 1;
+    r
+}
+
+fn one_lost(c: Counts) -> Counts
+    requires { ⌜ sum (countsOf c) < sessionLimit ⌝ }
+    ensures { λ r. ⌜ countsOf r ≡ counted unknown (countsOf c) ⌝ }
+{
+    let mut r = c;
+    r.lost = c.lost + 1;
+    r
+}
+
+// One more of the kind of the number that leaves: a count is of releases and losses, never of arrivals. An unknown number is lost,
+// a blank one never leaves.
+pub fn count_one(kind: State, c: Counts) -> Counts
+    requires { ⌜ sum (countsOf c) < sessionLimit ⌝ }
+    ensures { λ r. ⌜ countsOf r ≡ counted (stateOf kind) (countsOf c) ⌝ }
+{
+    match kind {
+        State::Unknown => one_lost(c),
+        State::Received => one_received(c),
+        State::Spare => one_spare(c),
+        State::Repaired => one_repaired(c),
+        State::Blank => c,
+    }
+}

@@ -1,0 +1,13 @@
+-- What the crates above use of this one's laws. Assumes nothing.
+
+-- ---- the history, a slot for each number
+pub use Rattle.sending.proofs.Slots.{slot-small, has-slot, covered-kept}
+pub use Rattle.sending.proofs.History.{history-at, history-number, packet-octet, packet-short, length-packet}
+-- ---- spares and messages of the next datagram
+pub use Rattle.sending.proofs.ItemLaws.{items-count, item-spare, item-message, members-short, count-inside}
+-- ---- a packet kept, and the ranges after it
+pub use Rattle.sending.proofs.Kept.{packet-fits, sent-limit, size-limit, arrays-kept, stored-of, history-kept, ranges-kept}
+-- ---- what a send that is no refusal says
+pub use Rattle.sending.proofs.Accepted.{accepted, size-done, size-refused}
+-- ---- honest senders
+pub use Rattle.sending.proofs.HonestLaws.{before-length, extra-same}

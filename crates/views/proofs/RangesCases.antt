@@ -1,0 +1,35 @@
+-- The cases of 'Ranges of a session', each computed. Assumes nothing.
+use mathlib.Core.Path.{refl}
+use Rattle.octets.specs.Place.{allBelow}
+use Rattle.views.specs.View.{freshView}
+use Rattle.views.specs.Ranges.{sumRight, sizeRight, markRight, heldRight, cellsRight, allHeldRight, inRanges}
+use Rattle.views.specs.RangesCases.{RangesCases}
+
+pub ranges-cases : RangesCases
+unfolding inRanges sumRight sizeRight markRight heldRight cellsRight allHeldRight allBelow freshView
+ranges-cases =
+    record {
+      at-start = refl;
+      after-65535 = refl;
+      base-apart = refl;
+      sum-at-limit = refl;
+      sum-past-limit = refl;
+      before-first = refl;
+      first-left = refl;
+      base-not-blank = refl;
+      blank-elsewhere = refl;
+      not-blank = refl;
+      unknown-with-octets = refl;
+      received-empty = refl;
+      spare-160 = refl;
+      spare-161 = refl;
+      repaired-empty = refl;
+      accepted-unknown = refl;
+      bare-messages = refl;
+      n-without-messages = refl;
+      n-0 = refl;
+      most = refl;
+      n-9 = refl;
+      m-5 = refl;
+      message-161 = refl;
+    }
