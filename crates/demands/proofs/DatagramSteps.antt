@@ -14,7 +14,8 @@ use Rattle.octets.proofs.Laws.{below-or-not}
 use Rattle.lengths.specs.Refusals.{endsEarly, spareBit, leftOver}
 use Rattle.lengths.specs.Answers.{Answer, done, refused, refuse, _>>=_, LengthAnswer}
 use Rattle.lengths.specs.Claims.{Octets}
-use Rattle.datagrams.specs.Sizes.{packetLeast, packetLimit, datagramLimit, sparesLeast, sparesLimit, coveredLeast, coveredLimit, messagesLeast, messagesLimit}
+use Rattle.datagrams.specs.Sizes.{packetLeast, packetLimit, datagramLimit, sparesLeast, sparesLimit, coveredLeast, coveredLimit}
+use Rattle.datagrams.specs.Sizes.{messagesLeast, messagesLimit}
 use Rattle.datagrams.specs.Read.{ExtraHead, after, octetAt, itemAt, itemsAt, endOf}
 use Rattle.datagrams.specs.Read.{sparesAt, parityAt, extraAt, leastOf, mostOf, numberOf, wholeOf, readDatagram}
 use Rattle.datagrams.specs.declared.reader.Part.{Part}

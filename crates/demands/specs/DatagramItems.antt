@@ -9,7 +9,8 @@ use mathlib.Core.List.{List, [], _∷_, _++_}
 use lib.ListN.{length, replicate}
 use lib.Dec.{eqb}
 use Rattle.lengths.specs.Length.{lengthOctets}
-use Rattle.datagrams.specs.Sizes.{packetLeast, packetLimit, messageLeast, messageLimit, sparesLeast, sparesLimit, coveredLeast, coveredLimit, messagesLeast, messagesLimit}
+use Rattle.datagrams.specs.Sizes.{packetLeast, packetLimit, messageLeast, messageLimit, sparesLeast, sparesLimit, coveredLeast}
+use Rattle.datagrams.specs.Sizes.{coveredLimit, messagesLeast, messagesLimit}
 
 -- ---- the items
 pub data Item : Type 0 where

@@ -17,8 +17,10 @@ use Rattle.lengths.proofs.Laws.{written-reads, read-writes, value-read, sizes-r
 use Rattle.formats.specs.Spelling.{bit, spelt, whole, wide, gap}
 use Rattle.formats.specs.Reading.{Finding, found, stopped}
 use Rattle.formats.specs.Reading as reading
-use Rattle.formats.specs.Format.{flagBit, flag, bits, align, here, octetwise, octetsFront, octets, twoFront, twoOctets, lengthFound, lengthRule}
-use Rattle.formats.proofs.Standing.{Stands, Reads, Spells, stepped, passed, reads-bind, reads-made, reads-bit, reads-spelt, bit-form, bits-form, pow-some, wide-spelt, spells-none, spells-join}
+use Rattle.formats.specs.Format.{flagBit, flag, bits, align, here, octetwise, octetsFront, octets, twoFront, twoOctets}
+use Rattle.formats.specs.Format.{lengthFound, lengthRule}
+use Rattle.formats.proofs.Standing.{Stands, Reads, Spells, stepped, passed, reads-bind, reads-made, reads-bit, reads-spelt}
+use Rattle.formats.proofs.Standing.{bit-form, bits-form, pow-some, wide-spelt, spells-none, spells-join}
 use Rattle.formats.proofs.Lawful.{Formed, formed-append, formed-none, formed-spelt, formed-whole, Lawful, back-same}
 
 -- ---- bits

@@ -5,7 +5,8 @@ use mathlib.Core.Bool.{Bool, true, false, cond}
 use mathlib.Core.List.{List, [], _∷_, _++_}
 use lib.ListN.{length, getD}
 use lib.Dec.{ltb}
-use native.Mathlib.Nat.{pow-suc, one-le-pow, mul-assoc, mul-comm, add-mul, one-mul, mul-le-mul-right, mod-lt, mul-add-mod-self-right, mul-add-div-right, div-eq-of-lt, mod-one, mod-eq-of-lt, div-add-mod'}
+use native.Mathlib.Nat.{pow-suc, one-le-pow, mul-assoc, mul-comm, add-mul, one-mul, mul-le-mul-right, mod-lt, mul-add-mod-self-right}
+use native.Mathlib.Nat.{mul-add-div-right, div-eq-of-lt, mod-one, mod-eq-of-lt, div-add-mod'}
 use native.Mathlib.Omega.{arith}
 use borrow.Author.Tests.{lt-ltb, ltb-true}
 use Rattle.lengths.specs.Refusals.{endsEarly}

@@ -6,7 +6,8 @@ use mathlib.Core.Bool.{Bool}
 use mathlib.Core.List.{List, []}
 use Rattle.lengths.specs.Answers.{Answer, done, refused}
 use Rattle.packets.specs.Packet.{First}
-use Rattle.packets.specs.Inner.Octets.{Place, firstAt, Count, countAt, HeaderAnswer, headerAt, sizeAt, FieldAnswer, fieldAt, FieldsAnswer, fieldsAt}
+use Rattle.packets.specs.Inner.Octets.{Place, firstAt, Count, countAt, HeaderAnswer, headerAt, sizeAt, FieldAnswer, fieldAt}
+use Rattle.packets.specs.Inner.Octets.{FieldsAnswer, fieldsAt}
 use Rattle.packets.specs.Promise.{padded}
 use Rattle.packet_reader.specs.declared.reader.FirstRead.{FirstRead}
 use Rattle.packet_reader.specs.declared.reader.FirstRead.the-variants as first

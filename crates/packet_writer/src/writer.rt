@@ -15,7 +15,8 @@ ghost use Rattle.lengths.specs.Promise.{Puts, Put};
 ghost use Rattle.packets.specs.Packet.{fieldsLimit, typesLimit, every};
 ghost use Rattle.packets.specs.Write.{sum, total, oneEach, allAssigned, rightTypes, allRight, inSizes, packetToWrite};
 ghost use Rattle.packets.specs.Inner.Octets.{ofFlag, ofKind, firstOctet, fieldOctets, fieldsOctets, laidOctets};
-ghost use Rattle.packets.specs.Inner.Items.{Wide, Sized, FieldsSized, packetSize, Measured, FullFits, FieldFits, FieldsFit, CountedFit, countedOctets, Mark, PacketFits};
+ghost use Rattle.packets.specs.Inner.Items.{Wide, Sized, FieldsSized, packetSize, Measured, FullFits, FieldFits, FieldsFit, CountedFit};
+ghost use Rattle.packets.specs.Inner.Items.{countedOctets, Mark, PacketFits};
 ghost use Rattle.datagrams.specs.Sizes.{packetLimit};
 
 // A length as a size.

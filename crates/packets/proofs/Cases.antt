@@ -5,7 +5,8 @@ use Rattle.lengths.specs.Length.{lengthAt, lengthOctets}
 use Rattle.formats.specs.Spelling.{spelt, whole, wide, packed}
 use Rattle.formats.specs.Reading as reading
 use Rattle.formats.specs.Format.{octetsFront, twoFront, sequenceSpelt}
-use Rattle.packets.specs.Packet.{every, root, addition, enumerated, typeOfMsg, start, count, header, size, fieldData, field, dataField, packet, readPacket}
+use Rattle.packets.specs.Packet.{every, root, addition, enumerated, typeOfMsg, start, count, header, size, fieldData, field}
+use Rattle.packets.specs.Packet.{dataField, packet, readPacket}
 use Rattle.packets.specs.Packet as description
 use Rattle.packets.specs.Write.{contentsOf, packetOctets, total, oneEach, allAssigned, rightTypes, allRight, inSizes, packetToWrite}
 use Rattle.packets.specs.Cases.{ReadCases, WriteCases}

@@ -15,7 +15,8 @@ use Rattle.formats.proofs.Laws.{Lawful, lawful-known, lawful-item, lawful-guard
 use Rattle.formats.proofs.Laws.{lawful-sequence-of, lawful-flag, lawful-bits, lawful-align, lawful-here, lawful-octets, lawful-two-octets}
 use Rattle.formats.proofs.Laws.{lawful-length-rule}
 use Rattle.packets.specs.Edition.{Enumerated, Edition, values}
-use Rattle.packets.specs.Packet.{root, addition, enumerated, chosen, isData, typeOfMsg, rightFields, start, count, fieldsLimit, Header, header, size, Content, fieldData, field, dataField, packet}
+use Rattle.packets.specs.Packet.{root, addition, enumerated, chosen, isData, typeOfMsg, rightFields, start, count, fieldsLimit}
+use Rattle.packets.specs.Packet.{Header, header, size, Content, fieldData, field, dataField, packet}
 
 -- ---- a value of an ENUMERATED type
 module _ (e : Enumerated) where

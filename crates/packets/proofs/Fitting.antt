@@ -14,7 +14,8 @@ use Rattle.formats.specs.Format.{flag, known, sequenceFits}
 use Rattle.formats.proofs.Laws.{wide-whole}
 use Rattle.datagrams.specs.Sizes.{packetLimit}
 use Rattle.packets.specs.Edition.{Enumerated, values, edition98}
-use Rattle.packets.specs.Packet.{assigned, typesLimit, fieldsLimit, rightFields, rightData, every, root, addition, enumerated, typeOfMsg, start, count, header, size, Content, fieldData, field, dataField, packet}
+use Rattle.packets.specs.Packet.{assigned, typesLimit, fieldsLimit, rightFields, rightData, every, root, addition, enumerated}
+use Rattle.packets.specs.Packet.{typeOfMsg, start, count, header, size, Content, fieldData, field, dataField, packet}
 use Rattle.packets.specs.Write.{withData, rightTypes}
 use Rattle.packets.specs.declared.types.Kind.{Kind}
 use Rattle.packets.specs.declared.types.Kind.the-variants.{Indicator, Data}

@@ -17,7 +17,9 @@ use Rattle.packets.specs.Inner.Octets.{Place, firstAt, Count, countAt, h
 use Rattle.packets.specs.Claims.{PartsWithin, ZerosFollow, ZerosAlike}
 use Rattle.packets.specs.declared.types.Ending.{Ending}
 use Rattle.packets.specs.declared.types.Ending.the-variants.{Repaired}
-use Rattle.packets.proofs.ReadLaws.{stepped, first-form, first-of, count-form, count-of, header-form, header-of, size-form, size-of, FieldForm, bare, full, field-form, bare-of, full-of, PacketForm, packet-form, packet-of}
+use Rattle.packets.proofs.ReadLaws.{stepped, first-form, first-of, count-form, count-of, header-form, header-of, size-form}
+use Rattle.packets.proofs.ReadLaws.{size-of, FieldForm, bare, full, field-form, bare-of, full-of, PacketForm, packet-form}
+use Rattle.packets.proofs.ReadLaws.{packet-of}
 use Rattle.packets.proofs.ReadEnds.{count-within, fields-inside, FieldsInside}
 use Rattle.packets.proofs.ReadAt.{read-at}
 use Rattle.packets.proofs.RoundTrips.{zeros-all}

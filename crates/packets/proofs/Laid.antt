@@ -14,7 +14,8 @@ use Rattle.formats.proofs.Laws.{wide-append, wide-whole, packed-whole}
 use Rattle.formats.specs.Format.{known, sequenceSpelt}
 use Rattle.packets.specs.Edition.{edition98}
 use Rattle.packets.specs.Write.{contentsOf, packetOctets}
-use Rattle.packets.specs.Packet.{assigned, typesLimit, every, Content, root, enumerated, typeOfMsg, start, count, header, size, fieldData, field, dataField, packet}
+use Rattle.packets.specs.Packet.{assigned, typesLimit, every, Content, root, enumerated, typeOfMsg, start, count, header, size}
+use Rattle.packets.specs.Packet.{fieldData, field, dataField, packet}
 use Rattle.packets.specs.Inner.Octets.{firstOctet, headerBits, sizeOctets, fieldOctets, fieldsOctets, laidOctets}
 use Rattle.packets.specs.declared.types.Kind.{Kind}
 use Rattle.packets.specs.declared.types.Kind.the-variants.{Indicator, Data}

@@ -13,8 +13,10 @@ use Rattle.formats.specs.Reading.{Finding, found, andThen}
 use Rattle.formats.specs.Reading as reading
 use Rattle.datagrams.specs.Sizes.{packetLimit}
 use Rattle.packets.specs.Edition.{edition98}
-use Rattle.packets.specs.Packet.{First, Content, field, dataField, IfpPacket, packet, fieldOf, PacketAnswer, answerOf, noField, dataOf, allData, mayFollow, wholePacket, readPacket}
-use Rattle.packets.specs.Inner.Octets.{firstAt, Count, countAt, HeaderAnswer, headerAt, sizeAt, FieldAnswer, afterHeader, fieldAt, FieldsAnswer, fieldsAt, endAt, packetByOctets}
+use Rattle.packets.specs.Packet.{First, Content, field, dataField, IfpPacket, packet, fieldOf, PacketAnswer, answerOf, noField}
+use Rattle.packets.specs.Packet.{dataOf, allData, mayFollow, wholePacket, readPacket}
+use Rattle.packets.specs.Inner.Octets.{firstAt, Count, countAt, HeaderAnswer, headerAt, sizeAt, FieldAnswer, afterHeader, fieldAt}
+use Rattle.packets.specs.Inner.Octets.{FieldsAnswer, fieldsAt, endAt, packetByOctets}
 use Rattle.packets.specs.declared.types.Field.{Field}
 use Rattle.packets.specs.declared.types.Ending.{Ending}
 use Rattle.packets.proofs.AtFirst.{onward, start-at}

@@ -20,7 +20,9 @@ use Rattle.formats.specs.Format.{known, sequenceFits}
 use Rattle.formats.proofs.Laws.{found-written}
 use Rattle.datagrams.specs.Sizes.{packetLimit}
 use Rattle.packets.specs.Edition.{values, edition98}
-use Rattle.packets.specs.Packet.{assigned, typesLimit, fieldsLimit, rightFields, rightData, every, enumerated, root, addition, First, chosen, isData, typeOfMsg, start, count, header, size, Content, fieldData, field, dataField, IfpPacket, packet, wholePacket, fieldOf, PacketAnswer, answerOf, readPacket, allData}
+use Rattle.packets.specs.Packet.{assigned, typesLimit, fieldsLimit, rightFields, rightData, every, enumerated, root, addition}
+use Rattle.packets.specs.Packet.{First, chosen, isData, typeOfMsg, start, count, header, size, Content, fieldData, field}
+use Rattle.packets.specs.Packet.{dataField, IfpPacket, packet, wholePacket, fieldOf, PacketAnswer, answerOf, readPacket, allData}
 use Rattle.packets.specs.Write.{withData, contentsOf, packetOctets, sum, total, rightTypes, packetToWrite}
 use Rattle.packets.specs.Claims.{ReadWrites}
 use Rattle.packets.specs.Inner.Octets.{laidOctets}

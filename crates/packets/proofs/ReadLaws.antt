@@ -14,7 +14,8 @@ use Rattle.lengths.specs.Answers.{Answer, done, refused, refuse, _>>=_, LengthA
 use Rattle.lengths.specs.Length.{lengthAt}
 use Rattle.datagrams.specs.Sizes.{packetLimit}
 use Rattle.packets.specs.Packet.{First, Header, PacketAnswer, assigned, rightFields, rightData, fieldsLimit, mayFollow}
-use Rattle.packets.specs.Inner.Octets.{Place, firstOf, headerOf, isSet, firstAt, Count, countIn, countAt, HeaderAnswer, headerAt, sizeAt, FieldAnswer, afterHeader, fieldAt, FieldsAnswer, fieldsAt, endAt, packetByOctets}
+use Rattle.packets.specs.Inner.Octets.{Place, firstOf, headerOf, isSet, firstAt, Count, countIn, countAt, HeaderAnswer, headerAt}
+use Rattle.packets.specs.Inner.Octets.{sizeAt, FieldAnswer, afterHeader, fieldAt, FieldsAnswer, fieldsAt, endAt, packetByOctets}
 use Rattle.packets.specs.declared.types.Ending.{Ending}
 
 -- ---- steps

@@ -15,7 +15,8 @@ use Rattle.formats.specs.Format.{known, sequenceSpelt}
 use Rattle.formats.proofs.Laws.{written-found}
 use Rattle.datagrams.specs.Sizes.{packetLimit}
 use Rattle.packets.specs.Edition.{edition98}
-use Rattle.packets.specs.Packet.{every, Content, start, count, header, fieldData, field, dataField, IfpPacket, packet, wholePacket, mayFollow, fieldOf, readPacket}
+use Rattle.packets.specs.Packet.{every, Content, start, count, header, fieldData, field, dataField, IfpPacket, packet}
+use Rattle.packets.specs.Packet.{wholePacket, mayFollow, fieldOf, readPacket}
 use Rattle.packets.specs.Write.{contentsOf, packetOctets, sum, total}
 use Rattle.packets.specs.Claims.{ReadsAs, WrittenReads, RepairedReads}
 use Rattle.packets.specs.declared.types.Kind.{Kind}

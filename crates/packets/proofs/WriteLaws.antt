@@ -16,7 +16,8 @@ use Rattle.lengths.specs.Tables.{unless}
 use Rattle.lengths.proofs.Laws.{unless-past, unless-done}
 use Rattle.datagrams.specs.Sizes.{packetLimit}
 use Rattle.packets.specs.Packet.{fieldsLimit, typesLimit, assigned, rightFields, every}
-use Rattle.packets.specs.Write.{withData, packetOctets, sum, total, oneEach, allAssigned, rightTypes, allRight, inSizes, packetToWrite}
+use Rattle.packets.specs.Write.{withData, packetOctets, sum, total, oneEach, allAssigned, rightTypes, allRight, inSizes}
+use Rattle.packets.specs.Write.{packetToWrite}
 use Rattle.packets.specs.Inner.Octets.{headerBits, firstOctet, fieldOctets, fieldsOctets, laidOctets}
 use Rattle.packets.specs.Inner.Items.{fieldSize, packetSize, countedOctets}
 use Rattle.packets.specs.declared.types.Kind.{Kind}

@@ -11,7 +11,8 @@ use Rattle.lengths.specs.Refusals.{outsideSizes, leftOver, notAssigned, wrongDa
 use Rattle.lengths.specs.Answers.{Answer, done, refused, refuse}
 use Rattle.formats.specs.Reading.{Finding, found, stopped, Reader, _>>=_, give, check}
 use Rattle.formats.specs.Reading as reading
-use Rattle.formats.specs.Format.{Format, flag, bits, align, here, octets, twoOctets, lengthRule, known, item, guarded, demand, _⊳_, made, sequenceOf}
+use Rattle.formats.specs.Format.{Format, flag, bits, align, here, octets, twoOctets, lengthRule, known, item, guarded, demand, _⊳_}
+use Rattle.formats.specs.Format.{made, sequenceOf}
 use Rattle.datagrams.specs.Sizes.{packetLimit}
 use Rattle.packets.specs.Edition.{Enumerated, Edition, allows, values, edition98}
 use Rattle.packets.specs.declared.types.Kind.{Kind}
