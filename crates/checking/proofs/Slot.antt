@@ -107,7 +107,8 @@ module _ (mark : ℕ) (known : Bool) (n m : ℕ) where
   unfolding markedRight markRight
   mark-messages marked some = rw (marked, ne-eqb m 0 some)
 
-  bare : (empty : Bool) → (empty && eqb n 0) ≡ (empty && cond empty (eqb n 0) ((leb coveredLeast n && leb n coveredLimit) && leb m messagesLimit))
+  bare : (empty : Bool)
+      → (empty && eqb n 0) ≡ (empty && cond empty (eqb n 0) ((leb coveredLeast n && leb n coveredLimit) && leb m messagesLimit))
   bare true = refl
   bare false = refl
 

@@ -164,7 +164,8 @@ module _ (s : List ℕ) (octets : Octets s) where
       spares-walk : (at : ℕ) → Leads s (spares ∷ later) at (_>>=_ (sparesAt s at) g)
       unfolding sparesAt formOf brings
       spares-walk at =
-          rw (then-then (lengthWithin sparesLeast sparesLimit (drop at s)) _ g) (sized-walk spares later at sparesLeast sparesLimit _ refl (λ v n. of-spares v (at + n)))
+          rw (then-then (lengthWithin sparesLeast sparesLimit (drop at s)) _ g)
+          (sized-walk spares later at sparesLeast sparesLimit _ refl (λ v n. of-spares v (at + n)))
 
       parity-walk : (at : ℕ) → Leads s (octet01 ∷ octetN ∷ countM ∷ later) at (_>>=_ (parityAt s at) g)
       unfolding parityAt formOf brings

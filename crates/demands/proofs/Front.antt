@@ -187,6 +187,7 @@ repaired-front s p e =
       is = sym whole ∙ ap (λ (l : List ℕ). w ++ l) (zeros-only more (f .follows));
       octets = λ octets. octets-front w more (subst Octets (sym whole) octets);
       reads =
-          read-at Whole w ∙ packet-of Whole w (f .first) (f .count) (f .all) (omega (arith, f .fits)) first count all (ap (λ (k : ℕ). eqb k 0) nothing)
+          read-at Whole w ∙ packet-of Whole w (f .first) (f .count) (f .all) (omega (arith, f .fits)) first count all
+          (ap (λ (k : ℕ). eqb k 0) nothing)
           ∙ ap (λ (x : PacketAnswer). done x) (sym (f .is));
     }

@@ -79,7 +79,8 @@ held-inside : (k : Kind) (items : List (List ℕ)) → countInside k (length ite
 held-inside kind.Spares items e = record { covered = omega arith; messages = omega arith }
 held-inside (kind.Parity n) items e =
     record {
-      covered = within-true coveredLeast coveredLimit n (and-left (within coveredLeast coveredLimit n) (within messagesLeast messagesLimit (length items)) e) .1;
+      covered = within-true coveredLeast coveredLimit n
+          (and-left (within coveredLeast coveredLimit n) (within messagesLeast messagesLimit (length items)) e) .1;
       messages =
           within-true messagesLeast messagesLimit (length items)
           (and-right (within coveredLeast coveredLimit n) (within messagesLeast messagesLimit (length items)) e) .1;

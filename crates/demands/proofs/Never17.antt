@@ -169,7 +169,8 @@ says-lower view (next old new r) says = not-17 (subst Lower (sym (says .0)) (low
 says-lower view (giveUp r) says = not-17 (subst Lower (sym says) (lower-lost (lower-give-up view)))
 
 -- ---- chains
-last-says : {view held : View} {calls : Calls} {call : Call} → GoesOn view (calls then call) held → callRefusal call ≡ some outsideRanges → ⊥
+last-says : {view held : View} {calls : Calls} {call : Call} → GoesOn view (calls then call) held → callRefusal call ≡ some outsideRanges
+    → ⊥
 last-says (by {call = call} {held = held} on says) = says-lower held call says
 
 pub never-17 : {s t : Session} {calls : Calls} {call : Call} → Begins s → Called s (calls then call) t

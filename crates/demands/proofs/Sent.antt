@@ -206,8 +206,10 @@ unfolding messagesFrom
 honest-from (settings.Spares k) before sent S inside far =
     record { reach = omega arith; sums = λ i none. absurd (omega arith) }
 honest-from (settings.Parity n m) before sent S inside far =
-    let few = within-true coveredLeast coveredLimit n (and-left (within coveredLeast coveredLimit n) (within messagesLeast messagesLimit m) inside) in
-    let less = within-true messagesLeast messagesLimit m (and-right (within coveredLeast coveredLimit n) (within messagesLeast messagesLimit m) inside) in
+    let few = within-true coveredLeast coveredLimit n
+    (and-left (within coveredLeast coveredLimit n) (within messagesLeast messagesLimit m) inside) in
+    let less = within-true messagesLeast messagesLimit m
+    (and-right (within coveredLeast coveredLimit n) (within messagesLeast messagesLimit m) inside) in
     let long = length-tab m (λ i. messageOver (map sent (membersOf S n m i))) in
     record {
       reach = rw long (let reach = reach-kept (few .1) (less .1) in omega arith);

@@ -74,7 +74,8 @@ packed-stands pre more p v k (octet x ∷ letters) at few form edge =
     let tail = packed 0 0 letters ++ more in
     let s = pre ++ (x ∷ (packed 0 0 letters ++ more)) in
     let there : (pre ++ (x ∷ [])) ++ tail ≡ s = append-snoc pre x tail in
-    let rest = packed-stands (pre ++ (x ∷ [])) more (8 + p) 0 0 letters (omega (arith, length-append pre (x ∷ []))) (omega arith) (form .1) (omega arith) in (
+    let rest = packed-stands (pre ++ (x ∷ [])) more (8 + p) 0 0 letters (omega (arith, length-append pre (x ∷ []))) (omega arith)
+    (form .1) (omega arith) in (
       on,
       omega (arith, length-append pre (x ∷ tail)),
       rw place (getD-at pre x tail 0 (length pre) refl),
@@ -114,7 +115,8 @@ packed-stands pre more p v k (bit b ∷ letters) at few form edge =
           let some : 0 < length x = omega arith in
           let place : p / 8 ≡ length pre + 0 = omega arith in
           let low : p % 8 ≡ k = omega arith in
-          let head : getD (pre ++ (x ++ more)) (length pre + 0) 0 ≡ getD x 0 0 = getD-append-add pre (x ++ more) 0 0 ∙ List·getD-append x more 0 0 some in
+          let head : getD (pre ++ (x ++ more)) (length pre + 0) 0 ≡ getD x 0 0 = getD-append-add pre (x ++ more) 0 0
+          ∙ List·getD-append x more 0 0 some in
           let n : 8 - (1 + k) ≡ 7 - k = omega arith in
           let y : getD x 0 0 / 2 ^ (7 - k) ≡ v * 2 + b
           = rw n at (packed-head (1 + p) (v * 2 + b) (1 + k) letters (omega arith) (omega arith) (form .1) (omega arith)) in (
@@ -192,5 +194,8 @@ module _ {A : Type 0} {f : Format A} (law : Lawful f) where
       → (f .fits a 0) × (inOctets (f .spelling a 0) ≡ s)
   found-written s i a small e =
       let x = law .back s i 0 a (8 * length s) small e in
-      let next = x .spells .next in
-      (x .fits, packed-back s 0 0 0 0 (f .spelling a 0) small refl (omega arith) (x .spells .stands) (omega arith) (sym (div-eq-of-lt (small 0))))
+      let next = x .spells .next in (
+        x .fits,
+        packed-back s 0 0 0 0 (f .spelling a 0) small refl (omega arith) (x .spells .stands) (omega arith)
+            (sym (div-eq-of-lt (small 0))),
+      )

@@ -152,7 +152,8 @@ module _ {A : Type 0} where
             let second = stepped (front (drop (first .at / 8) s)) _ a q (first .gave) in
             let is : second .value ≡ a = cc in
             let next : 8 * second .at + first .at ≡ q = cc in
-            let at-front = f .back (drop (first .at / 8) s) (second .value) (second .at) (octets-rest (first .at / 8) s small) (second .was) in
+            let at-front = f .back (drop (first .at / 8) s) (second .value) (second .at) (octets-rest (first .at / 8) s small)
+            (second .was) in
             let place = edge p in
             let on : first .at % 8 ≡ 0 = rw (pad .spells .next) place in
             let some = at-front .2 in
@@ -161,7 +162,8 @@ module _ {A : Type 0} where
               fits = at-front .0;
               spells =
                   spells-join (pad .spells)
-                  (whole-spells (second .at) s (first .at) (octets (second .value)) on (omega (arith, length-drop (first .at / 8) s)) (at-front .1));
+                  (whole-spells (second .at) s (first .at) (octets (second .value)) on (omega (arith, length-drop (first .at / 8) s))
+                  (at-front .1));
             })
             is
             next;

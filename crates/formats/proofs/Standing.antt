@@ -150,7 +150,8 @@ reads-low zero v = rw (mod-one v) reads-give
 reads-low (suc n) v {p} =
     let both : Reads (reading.bits (suc n)) p (v / 2 ^ n % 2 * 2 ^ n + v % 2 ^ n) (spelt (suc n) v)
     = reads-bind _ reads-bit (reads-made (λ w. v / 2 ^ n % 2 * 2 ^ n + w) (reads-low n v)) in
-    let is : v / 2 ^ n % 2 * 2 ^ n + v % 2 ^ n ≡ v % 2 ^ suc n = low-bits v (2 ^ n) (pow-some n) ∙ ap (λ (m : ℕ). v % m) (sym (pow-suc 2 n)) in
+    let is : v / 2 ^ n % 2 * 2 ^ n + v % 2 ^ n ≡ v % 2 ^ suc n = low-bits v (2 ^ n) (pow-some n)
+    ∙ ap (λ (m : ℕ). v % m) (sym (pow-suc 2 n)) in
     subst (λ (w : ℕ). Reads (reading.bits (suc n)) p w (spelt (suc n) v)) is both
 
 pub reads-spelt : (n : ℕ) {p v : ℕ} → v < 2 ^ n → Reads (reading.bits n) p v (spelt n v)

@@ -47,7 +47,8 @@ number-lost : (x : Answer Loss) (view : View) {number : ℕ} {old : List ℕ} {a
 number-lost (done l) view {number} e a = let same : number ≡ l .number = cc in rw same at a
 number-lost (refused r) view e a = let z : _≡_ {A = ℕ} 0 1 = cc in absurd (omega arith)
 
-number-refused : (x : Answer Loss) (view : View) {why : Refusal} {old : List ℕ} {at : ℕ} {new : List ℕ} {end : ℕ} → refused why ≡ numberLost x
+number-refused : (x : Answer Loss) (view : View) {why : Refusal} {old : List ℕ} {at : ℕ} {new : List ℕ} {end : ℕ}
+    → refused why ≡ numberLost x
     → Appends (refusalLine why) old at new end → Appends ((giveUpMade x view) .text) old at new end
 number-refused (done l) view e a = let z : _≡_ {A = ℕ} 0 1 = cc in absurd (omega arith)
 number-refused (refused r) view {why} e a = let same : why ≡ r = cc in rw same at a

@@ -27,7 +27,8 @@ after-none (done a) = refl
 after-none (refused r) = refl
 
 after-after : (pre more : List Field) (x : Answer FieldsAnswer) → after pre (after more x) ≡ after (pre ++ more) x
-after-after pre more (done a) = ap (λ (l : List Field). done (record { fields = l; next = a .next })) (sym (append-assoc pre more (a .fields)))
+after-after pre more (done a) = ap (λ (l : List Field). done (record { fields = l; next = a .next }))
+    (sym (append-assoc pre more (a .fields)))
 after-after pre more (refused r) = refl
 
 -- one field more, and those that follow it

@@ -68,8 +68,15 @@ module _ {s : List ℕ} where
       let w : rightFields (kindOf (getD s 0 0)) (ltb 0 (getD s 0 0 / 128 % 2)) ≡ false = rw (fields, kind) at wrong in
       record {
         answer =
-            rw
-            (made .answer, le-ltb (length s) 1 some, le-ltb 0 (getD s 0 0 / 32 % 2) plain, lt-leb _ _ h, le-ltb 0 (getD s 0 0 % 2) spare, w);
+            rw (
+              made .answer,
+              le-ltb (length s) 1 some,
+              le-ltb 0 (getD s 0 0 / 32 % 2) plain,
+              lt-leb _ _ h,
+              le-ltb 0
+                  (getD s 0 0 % 2) spare,
+              w,
+            );
       }
 
   pub first-read : {k : Kind} {n : ℕ} {b : Bool} → 1 ≤ length s → getD s 0 0 / 32 % 2 ≤ 0

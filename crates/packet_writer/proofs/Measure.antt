@@ -63,7 +63,8 @@ pub record RightLeft (ts ns : List ℕ) (i : ℕ) : Type 0 where
   pub so : rightTypes ts ns ≡ rightTypes (drop i ts) (drop i ns)
 
 right-next : (ts ns : List ℕ) (i : ℕ) → i < length ts → length ts ≡ length ns
-    → rightTypes (drop i ts) (drop i ns) ≡ (rightData (getD ts i 0) (withData (getD ns i 0)) && rightTypes (drop (i + 1) ts) (drop (i + 1) ns))
+    → rightTypes (drop i ts) (drop i ns) ≡
+    (rightData (getD ts i 0) (withData (getD ns i 0)) && rightTypes (drop (i + 1) ts) (drop (i + 1) ns))
 unfolding rightTypes
 right-next ts ns i h same = ap₂ rightTypes (drop-next ts i h) (drop-next ns i (omega arith))
 
@@ -183,10 +184,14 @@ module _ {k : Kind} {v : ℕ} {ts ns d : List ℕ} where
                   rw (le-ltb fieldsLimit (length ts) few, ← isEach, so, ← isKnown, soKnown, ← isRight, not-so, made .answer);
             }
 
-        module _ {size : ℕ} {fits : Bool} (soRight : not right ≡ false) (isSize : size ≡ packetSize ns) (isFits : fits ≡ inSizes ns size) where
+        module _ {size : ℕ} {fits : Bool} (soRight : not right ≡ false) (isSize : size ≡ packetSize ns)
+            (isFits : fits ≡ inSizes ns size) where
           pub measured-sizes : {x : Refusal} → not fits ≡ true → RefusalMade outsideSizes x → Measured k v ts ns d (written.Refused x)
           unfolding unless
-          measured-sizes not-so made = record { answer = rw (passed k v ts ns d few isEach so isKnown soKnown isRight soRight isSize isFits, not-so, made .answer) }
+          measured-sizes not-so made = record {
+            answer = rw
+                (passed k v ts ns d few isEach so isKnown soKnown isRight soRight isSize isFits, not-so, made .answer);
+          }
 
           pub measured-size : not fits ≡ false → Measured k v ts ns d (written.Octets size)
           unfolding unless

@@ -42,7 +42,15 @@ pub record Filling (ts ns d old out : List ℕ) (i from at : ℕ) : Type 0 where
   pub whole : front ++ fieldsOctets (drop i ts) (drop i ns) (drop from d) ≡ fieldsOctets ts ns d
 
 pub fill-start : {ts ns d old : List ℕ} → FieldsFit ts ns d old → Filling ts ns d old old 0 0 0
-fill-start fits = record { inside = omega arith; long = refl; left = omega (arith, fits .right .all); front = []; put = put-none; whole = refl }
+fill-start fits = record {
+  inside = omega arith;
+  long = refl;
+  left = omega
+      (arith, fits .right .all);
+  front = [];
+  put = put-none;
+  whole = refl;
+}
 
 pub fill-at : {ts ns d old out : List ℕ} {i from at : ℕ} → Filling ts ns d old out i from at → at ≤ length out
 fill-at g = omega (arith, g .put .inside, g .put .answer, g .long)
@@ -103,7 +111,8 @@ module _ {ts ns d old out : List ℕ} {i from at n : ℕ} where
             omega (
               arith,
               length-take-le (from + n - from) (drop from d) within,
-              leb-true (getD ns i 0) packetLimit (every-at (λ k. leb k packetLimit) ns i (fits .right .short) (omega (arith, fits .right .same))),
+              leb-true (getD ns i 0) packetLimit
+                  (every-at (λ k. leb k packetLimit) ns i (fits .right .short) (omega (arith, fits .right .same))),
             );
         room = room-left out at (length (hereOf ts d i from n)) (omega (arith, s .room, g .long));
       }

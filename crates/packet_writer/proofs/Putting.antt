@@ -31,7 +31,8 @@ full-put {k} {d} {old} {part} {n} fits put =
     let room = fits .room in
     let low : (length d - 1) / 256 % 256 ≡ (length d - 1) / 256 = mod-eq-of-lt (omega (arith, fits .short)) in
     let head : Put (((8 + k) * 16) ∷ ((length d - 1) / 256 % 256) ∷ ((length d - 1) % 256) ∷ []) old (headed k d old) 3
-    = put-one ((length d - 1) % 256) (put-one ((length d - 1) / 256 % 256) (put-one ((8 + k) * 16) put-none (omega arith)) (omega arith)) (omega arith) in
+    = put-one ((length d - 1) % 256) (put-one ((length d - 1) / 256 % 256) (put-one ((8 + k) * 16) put-none (omega arith)) (omega arith))
+    (omega arith) in
     let is : ((8 + k) * 16) ∷ ((length d - 1) / 256 % 256) ∷ ((length d - 1) % 256) ∷ d ≡ fieldOctets k d
     = ap (λ (o : ℕ). ((8 + k) * 16) ∷ o ∷ ((length d - 1) % 256) ∷ d) low ∙ sym (field-full k d (fits .some)) in
     rw is at (put-next head put)
@@ -53,7 +54,8 @@ empty-is : (d : List ℕ) → length d < 1 → [] ≡ d
 empty-is [] h = refl
 empty-is (x ∷ d) h = absurd (omega arith)
 
-pub bare-same : (k : ℕ) {r : ℕ} {old new : List ℕ} (d : List ℕ) → length d < 1 → Put (fieldOctets k []) old new r → Put (fieldOctets k d) old new r
+pub bare-same : (k : ℕ) {r : ℕ} {old new : List ℕ} (d : List ℕ) → length d < 1 → Put (fieldOctets k []) old new r
+    → Put (fieldOctets k d) old new r
 bare-same k {r} {old} {new} d none put = subst (λ (l : List ℕ). Put (fieldOctets k l) old new r) (empty-is d none) put
 
 -- the laws of putting one field

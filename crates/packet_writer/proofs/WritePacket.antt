@@ -60,7 +60,14 @@ module _ {ts ns d old mid : List ℕ} {r : Written} (fits : CountedFit ts ns d o
           right = fits .right;
           room =
               room-left mid at (length (fieldsOctets ts ns d))
-              (omega (arith, fits .room, length-append (lengthOctets (length ts)) (fieldsOctets ts ns d), count-is .answer, put-long count-is));
+              (omega (
+                arith,
+                fits .room,
+                length-append (lengthOctets (length ts))
+                    (fieldsOctets ts ns d),
+                count-is .answer,
+                put-long count-is,
+              ));
         }
 
     module _ {part : List ℕ} {n : ℕ} (put : Put (fieldsOctets ts ns d) (rest at mid) part n) where
@@ -104,7 +111,8 @@ module _ {k : Kind} {v : ℕ} {ts ns d old : List ℕ} where
         }
 
     module _ {part : List ℕ} {n : ℕ} where
-      pub packet-next : PacketFits k v ts ns d old → not (ltb 0 (length ts)) ≡ false → Put (countedOctets ts ns d) (rest 1 (set old 0 r)) part n
+      pub packet-next : PacketFits k v ts ns d old → not (ltb 0 (length ts)) ≡ false
+          → Put (countedOctets ts ns d) (rest 1 (set old 0 r)) part n
           → 1 + n < 2 ^ 64
       packet-next fits some put =
           let short = write-form k v ts ns d _ (fits .allowed) .size in
@@ -126,14 +134,15 @@ pub ruleset packets = (packet-value, packet-some, packet-after, packet-first, pa
 -- what is measured is written
 write-is : {k : Kind} {v : ℕ} {ts ns d : List ℕ} {r : Written} {n : ℕ} → Measured k v ts ns d r → r ≡ written.Octets n
     → (packetToWrite k v ts ns d ≡ done (laidOctets k v ts ns d)) × (length (laidOctets k v ts ns d) ≡ n)
-write-is {k} {v} {ts} {ns} {d} {r} {n} measured is = by (packetToWrite k v ts ns d) refl (sym (measured .answer) ∙ ap writtenOutcome is) where
-  by : (a : Answer (List ℕ)) → packetToWrite k v ts ns d ≡ a → sizeOf a ≡ done n
-      → (packetToWrite k v ts ns d ≡ done (laidOctets k v ts ns d)) × (length (laidOctets k v ts ns d) ≡ n)
-  by (done w) e size =
-      let form = write-form k v ts ns d w e in
-      let long : length w ≡ n = cc in
-      (e ∙ ap (λ (l : List ℕ). done l) (form .is), ap length (sym (form .is)) ∙ long)
-  by (refused x) e size = let z : _≡_ {A = ℕ} 0 1 = cc in absurd (omega arith)
+write-is {k} {v} {ts} {ns} {d} {r} {n} measured is = by (packetToWrite k v ts ns d) refl
+    (sym (measured .answer) ∙ ap writtenOutcome is) where
+      by : (a : Answer (List ℕ)) → packetToWrite k v ts ns d ≡ a → sizeOf a ≡ done n
+          → (packetToWrite k v ts ns d ≡ done (laidOctets k v ts ns d)) × (length (laidOctets k v ts ns d) ≡ n)
+      by (done w) e size =
+          let form = write-form k v ts ns d w e in
+          let long : length w ≡ n = cc in
+          (e ∙ ap (λ (l : List ℕ). done l) (form .is), ap length (sym (form .is)) ∙ long)
+      by (refused x) e size = let z : _≡_ {A = ℕ} 0 1 = cc in absurd (omega arith)
 
 module _ {k : Kind} {v : ℕ} {ts ns d old : List ℕ} {r : Written} where
   pub write-refused : {x : Refusal} → Measured k v ts ns d r → r ≡ written.Refused x

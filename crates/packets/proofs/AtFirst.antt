@@ -48,7 +48,8 @@ module _ (s : List ℕ) (i : ℕ) (some : 1 ≤ length s) where
         ≡ cond b (stopped (refusal notAssigned))
         (cond (leb n (getD s 0 0 / 2 % 16)) (stopped (refusal notAssigned)) (found (getD s 0 0 / 2 % 16) 7))
     by true e = refl
-    by false e = rw (low (leb n (getD s 0 0 / 2 % 16)) refl) (each (cond (leb n (getD s 0 0 / 2 % 16)) (stopped (refusal notAssigned)) (found (getD s 0 0 / 2 % 16) 7)))
+    by false e = rw (low (leb n (getD s 0 0 / 2 % 16)) refl)
+        (each (cond (leb n (getD s 0 0 / 2 % 16)) (stopped (refusal notAssigned)) (found (getD s 0 0 / 2 % 16) 7)))
 
 pub start-at : (s : List ℕ) (i : ℕ) → start edition98 .read s i 0 ≡ onward (firstAt s) (λ f. found f 8)
 unfolding start typeOfMsg firstAt

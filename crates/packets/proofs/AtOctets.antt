@@ -28,14 +28,22 @@ unfolding count countAt
 count-at s i =
     rw (octetwise-edge (λ t. lengthFound (lengthAt t)) lengthOctets (λ n. n ≤ lengthLimit) s i 8 1 refl) (by (lengthAt (drop 1 s))) where
       sized : (a : LengthAnswer) (low high : Bool) → ltb (a .value) 1 ≡ low → ltb fieldsLimit (a .value) ≡ high
-          → reading._>>=_ (reading.check outsideSizes (leb 1 (a .value) && leb (a .value) fieldsLimit)) (λ _. reading.give (a .value)) s i (8 * a .size + 8)
+          → reading._>>=_ (reading.check outsideSizes (leb 1 (a .value) && leb (a .value) fieldsLimit)) (λ _. reading.give (a .value)) s i
+          (8 * a .size + 8)
           ≡ onward (countIn a) (λ c. found (c .value) (8 * c .next))
       sized a true high e h = rw (e, lt-leb 1 (a .value) (ltb-true (a .value) 1 e))
       sized a false true e h =
           rw (e, h, le-leb 1 (a .value) (ltb-false (a .value) 1 e), lt-leb (a .value) fieldsLimit (ltb-true fieldsLimit (a .value) h))
       sized a false false e h =
           let next : 8 * a .size + 8 ≡ 8 * (1 + a .size) = omega arith in
-          rw (e, h, le-leb 1 (a .value) (ltb-false (a .value) 1 e), le-leb (a .value) fieldsLimit (ltb-false fieldsLimit (a .value) h), next)
+          rw (
+            e,
+            h,
+            le-leb 1 (a .value) (ltb-false (a .value) 1 e),
+            le-leb (a .value) fieldsLimit
+                (ltb-false fieldsLimit (a .value) h),
+            next,
+          )
 
       by : (x : Answer LengthAnswer)
           → andThen (andThen (lengthFound x) (λ a n. found a (8 * n + 8)))
@@ -45,7 +53,8 @@ count-at s i =
       by (refused r) = refl
 
 -- ---- a field's header
-pub header-at : (s : List ℕ) (i at : ℕ) → header edition98 .read s i (8 * at) ≡ onward (headerAt s at) (λ h. found (h .header) (8 * h .next))
+pub header-at : (s : List ℕ) (i at : ℕ)
+    → header edition98 .read s i (8 * at) ≡ onward (headerAt s at) (λ h. found (h .header) (8 * h .next))
 unfolding header enumerated root headerAt
 header-at s i at = by (leb (length s) at) refl where
   top : getD s at 0 / 2 ^ (7 - 0) ≡ getD s at 0 / 16 / 2 ^ 3
@@ -87,7 +96,8 @@ header-at s i at = by (leb (length s) at) refl where
         re,
       )
 
-  by : (b : Bool) → leb (length s) at ≡ b → header edition98 .read s i (8 * at) ≡ onward (headerAt s at) (λ h. found (h .header) (8 * h .next))
+  by : (b : Bool) → leb (length s) at ≡ b
+      → header edition98 .read s i (8 * at) ≡ onward (headerAt s at) (λ h. found (h .header) (8 * h .next))
   by true e = rw (e, flag-cut s i (8 * at) at 0 (omega arith) (leb-true (length s) at e))
   by false e = told (leb-false (length s) at e) _ _ refl refl
 
@@ -95,7 +105,8 @@ header-at s i at = by (leb (length s) at) refl where
 two-at : (s : List ℕ) (i at : ℕ) → twoOctets .read s i (8 * at) ≡ andThen (twoFront (drop at s)) (λ v n. found v (8 * n + 8 * at))
 two-at s i at = octetwise-edge twoFront (λ v. (v / 256) ∷ (v % 256) ∷ []) (λ v. Unit {0}) s i (8 * at) at refl
 
-octets-at : (n : ℕ) (s : List ℕ) (i p at : ℕ) → p ≡ 8 * at → octets n .read s i p ≡ andThen (octetsFront n (drop at s)) (λ l k. found l (8 * k + p))
+octets-at : (n : ℕ) (s : List ℕ) (i p at : ℕ) → p ≡ 8 * at
+    → octets n .read s i p ≡ andThen (octetsFront n (drop at s)) (λ l k. found l (8 * k + p))
 octets-at n s i p at is = octetwise-edge (octetsFront n) (λ l. l) (λ l. length l ≡ n) s i p at is
 
 pub data-at : (s : List ℕ) (i at : ℕ)

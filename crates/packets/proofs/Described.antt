@@ -86,7 +86,8 @@ module _ (edition : Edition) where
   lawful-first : Lawful (typeOfMsg edition)
   unfolding typeOfMsg
   lawful-first =
-      lawful-made (λ x. record { kind = chosen (x .1 .0); value = x .1 .1; present = x .0 }) (λ f. (f .present, (isData (f .kind), f .value)))
+      lawful-made (λ x. record { kind = chosen (x .1 .0); value = x .1 .1; present = x .0 })
+      (λ f. (f .present, (isData (f .kind), f .value)))
       (λ x p fits. back (x .0) (x .1 .0) (x .1 .1))
       (lawful-then _ lawful-flag (λ _. lawful-then _ lawful-flag (λ choice. lawful-enumerated (values edition (chosen choice))))) where
         back : (present choice : Bool) (v : ℕ)
@@ -127,7 +128,8 @@ module _ (edition : Edition) where
   lawful-data-field : Lawful (dataField edition)
   unfolding dataField
   lawful-data-field =
-      lawful-made _ _ (λ x p fits. ap (λ (n : ℕ). (n, x .1)) (fits .1 .1)) (lawful-then _ lawful-count (λ n. lawful-sequence-of n lawful-field))
+      lawful-made _ _ (λ x p fits. ap (λ (n : ℕ). (n, x .1)) (fits .1 .1))
+      (lawful-then _ lawful-count (λ n. lawful-sequence-of n lawful-field))
 
   fields-some : (present : Bool) (contents : List Content) (p : ℕ) → (cond present (dataField edition) (known [])) .fits contents p
       → ltb 0 (length contents) ≡ present

@@ -69,7 +69,8 @@ sound-values Data = record { wide = omega arith; few = omega arith; marked = λ 
 abbrev pub placedAt : ℕ → List ℕ → ℕ → Content
 placedAt kind octets p = record { kind = kind; start = cond (withData (length octets)) ((16 + (8 + p)) / 8) 0; octets = octets }
 
-data-fits : (l : List ℕ) (p q : ℕ) → q ≡ 8 + p → p % 8 ≡ 0 → 0 < length l → length l ≤ packetLimit → fieldData .fits ((16 + (8 + p)) / 8, l) q
+data-fits : (l : List ℕ) (p q : ℕ) → q ≡ 8 + p → p % 8 ≡ 0 → 0 < length l → length l ≤ packetLimit
+    → fieldData .fits ((16 + (8 + p)) / 8, l) q
 unfolding fieldData size
 data-fits l p q is edge some few =
     let two : wide (size .spelling (length l) q) ≡ 16 = size-wide (length l) q (omega arith) in
@@ -99,7 +100,8 @@ field-fits t l p edge known' right few =
 unfoldable pub placed : List ℕ → List ℕ → List ℕ → ℕ → List Content
 placed [] ns d p = []
 placed (t ∷ ts) [] d p = []
-placed (t ∷ ts) (n ∷ ns) d p = placedAt t (take n d) p ∷ placed ts ns (drop n d) (wide (field edition98 .spelling (placedAt t (take n d) p) p) + p)
+placed (t ∷ ts) (n ∷ ns) d p = placedAt t (take n d) p ∷ placed ts ns (drop n d)
+    (wide (field edition98 .spelling (placedAt t (take n d) p) p) + p)
 
 pub placed-long : (ts ns d : List ℕ) (p : ℕ) → length ts ≡ length ns → length (placed ts ns d p) ≡ length ts
 unfolding placed
@@ -117,7 +119,8 @@ unfoldable pub Cut : List ℕ → List ℕ → Type 0
 Cut [] d = Unit {0}
 Cut (n ∷ ns) d = (length (take n d) ≡ n) × Cut ns (drop n d)
 
-fields-fit : (ts ns d : List ℕ) (p : ℕ) → p % 8 ≡ 0 → Cut ns d → every (λ t. leb t typesLimit) ts ≡ true → every (λ n. leb n packetLimit) ns ≡ true
+fields-fit : (ts ns d : List ℕ) (p : ℕ) → p % 8 ≡ 0 → Cut ns d → every (λ t. leb t typesLimit) ts ≡ true
+    → every (λ n. leb n packetLimit) ns ≡ true
     → rightTypes ts ns ≡ true → sequenceFits (field edition98) (placed ts ns d p) p
 unfolding placed sequenceFits every rightTypes Cut
 fields-fit [] ns d p edge cut types short right = tt
@@ -136,7 +139,8 @@ fields-fit (t ∷ ts) (n ∷ ns) d p edge cut types short right =
 -- ---- the packet
 first-fits : (k : Kind) (v : ℕ) (b : Bool) → v < assigned k → typeOfMsg edition98 .fits (record { kind = k; value = v; present = b }) 0
 unfolding typeOfMsg
-first-fits Indicator v b known' = ((tt, (tt, enumerated-fits (values edition98 Indicator) v (sound-values Indicator) (omega arith) _)), refl)
+first-fits Indicator v b known' =
+    ((tt, (tt, enumerated-fits (values edition98 Indicator) v (sound-values Indicator) (omega arith) _)), refl)
 first-fits Data v b known' = ((tt, (tt, enumerated-fits (values edition98 Data) v (sound-values Data) (omega arith) _)), refl)
 
 count-fits : (n p : ℕ) → 1 ≤ n → n ≤ fieldsLimit → count .fits n p
@@ -181,7 +185,8 @@ module _ (ts ns d : List ℕ) (same : length ts ≡ length ns) where
       let contents = placed ts ns d (fieldsFrom (length ts) 8) in
       let b = ltb 0 (length ts) in
       let long : b ≡ ltb 0 (length contents) = ap (ltb 0) (sym (placed-long ts ns d (fieldsFrom (length ts) 8) same)) in
-      let eight : 8 ≡ wide (start edition98 .spelling (record { kind = k; value = v; present = b }) 0) + 0 = omega (arith, start-wide k v b known') in (
+      let eight : 8 ≡ wide (start edition98 .spelling (record { kind = k; value = v; present = b }) 0) + 0 = omega
+      (arith, start-wide k v b known') in (
         subst
             (λ (x : Bool).
             (start edition98 .fits (record { kind = k; value = v; present = x }) 0)

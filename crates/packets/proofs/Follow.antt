@@ -68,7 +68,8 @@ count-more s more true c some e =
     let f = count-form s c e in
     let reads : lengthAt (drop 1 (s ++ more)) ≡ done (f .length)
     = ap lengthAt (drop-more s more 1 some) ∙ length-more (drop 1 s) more (f .length) (form (drop 1 s) (f .length) (f .reads)) in
-    count-of (s ++ more) (f .length) reads (omega (arith, f .some, f .value)) (omega (arith, f .few, f .value)) ∙ answer (f .value) (f .next) where
+    count-of (s ++ more) (f .length) reads (omega (arith, f .some, f .value)) (omega (arith, f .few, f .value))
+    ∙ answer (f .value) (f .next) where
       answer : {v n : ℕ} → c .value ≡ v → c .next ≡ n → done (record { value = v; next = n }) ≡ done c
       answer v n = rw (← v, ← n)
 count-more s more false c some e = e
@@ -113,7 +114,8 @@ fields-more (suc n) s more at a e =
 inside-packet : {e : Ending} {s : List ℕ} {p : PacketAnswer} (f : PacketForm e s p) → FieldsInside (f .count .value) s (f .all)
 inside-packet {e} {s} f =
     let some = first-form s (f .first) (f .firstWas) .some in
-    fields-inside (f .count .value) s (f .count .next) (f .all) (count-within s (f .first .present) (f .count) some (f .countWas)) (f .allWas)
+    fields-inside (f .count .value) s (f .count .next) (f .all) (count-within s (f .first .present) (f .count) some (f .countWas))
+    (f .allWas)
 
 pub parts-within : PartsWithin
 parts-within e s p reads i =

@@ -36,10 +36,13 @@ start-packed : (k : Kind) (v : ℕ) (b : Bool) (more : List Letter) → v < assi
     → packed 0 0 (start edition98 .spelling (record { kind = k; value = v; present = b }) 0 ++ more)
     ≡ firstOctet (record { kind = k; value = v; present = b }) ∷ packed 0 0 more
 unfolding start typeOfMsg enumerated root spelt wide packed firstOctet
-start-packed Indicator v true more known = rw (lt-leb 16 v known) (ap (λ (o : ℕ). o ∷ packed 0 0 more) (omega (arith, four-bits v (omega arith))))
-start-packed Indicator v false more known = rw (lt-leb 16 v known) (ap (λ (o : ℕ). o ∷ packed 0 0 more) (omega (arith, four-bits v (omega arith))))
+start-packed Indicator v true more known = rw (lt-leb 16 v known)
+    (ap (λ (o : ℕ). o ∷ packed 0 0 more) (omega (arith, four-bits v (omega arith))))
+start-packed Indicator v false more known = rw (lt-leb 16 v known)
+    (ap (λ (o : ℕ). o ∷ packed 0 0 more) (omega (arith, four-bits v (omega arith))))
 start-packed Data v true more known = rw (lt-leb 9 v known) (ap (λ (o : ℕ). o ∷ packed 0 0 more) (omega (arith, four-bits v (omega arith))))
-start-packed Data v false more known = rw (lt-leb 9 v known) (ap (λ (o : ℕ). o ∷ packed 0 0 more) (omega (arith, four-bits v (omega arith))))
+start-packed Data v false more known = rw (lt-leb 9 v known)
+    (ap (λ (o : ℕ). o ∷ packed 0 0 more) (omega (arith, four-bits v (omega arith))))
 
 -- ---- a field
 module _ (p : ℕ) (edge : p % 8 ≡ 0) where
@@ -79,7 +82,8 @@ data-cells start l p edge =
     ap₂ (λ (a b : List Letter). a ++ b) (edge-whole p edge w) (edge-whole (0 + (wide (spelt (gap p) 0 ++ whole w) + p)) (omega arith) l)
 
 rest-packed : (start : ℕ) (l : List ℕ) (p : ℕ) (b : Bool) (more : List Letter) → p % 8 ≡ 0
-    → packed 0 0 ((cond b fieldData (known (0, []))) .spelling (start, l) p ++ more) ≡ cond b (sizeOctets (length l) ++ l) [] ++ packed 0 0 more
+    → packed 0 0 ((cond b fieldData (known (0, []))) .spelling (start, l) p ++ more) ≡ cond b
+    (sizeOctets (length l) ++ l) [] ++ packed 0 0 more
 rest-packed start l p true more edge =
     let w = sizeOctets (length l) in
     ap (λ (c : List Letter). packed 0 0 (c ++ more)) (data-cells start l p edge)
@@ -98,7 +102,8 @@ rest-edge start l p true edge =
 rest-edge start l p false edge = omega arith
 
 module _ (c : Content) (p : ℕ) (edge : p % 8 ≡ 0) (known' : c .kind ≤ typesLimit) where
-  field-packed : (more : List Letter) → packed 0 0 (field edition98 .spelling c p ++ more) ≡ fieldOctets (c .kind) (c .octets) ++ packed 0 0 more
+  field-packed : (more : List Letter)
+      → packed 0 0 (field edition98 .spelling c p ++ more) ≡ fieldOctets (c .kind) (c .octets) ++ packed 0 0 more
   unfolding field fieldOctets
   field-packed more =
       let b = ltb 0 (length (c .octets)) in
@@ -125,7 +130,8 @@ contents-long [] ns d same = refl
 contents-long (t ∷ ts) [] d same = absurd (omega arith)
 contents-long (t ∷ ts) (n ∷ ns) d same = ap suc (contents-long ts ns (drop n d) (omega arith))
 
-pub type-known : (t : ℕ) (ts : List ℕ) → every (λ k. leb k typesLimit) (t ∷ ts) ≡ true → (t ≤ typesLimit) × (every (λ k. leb k typesLimit) ts ≡ true)
+pub type-known : (t : ℕ) (ts : List ℕ) → every (λ k. leb k typesLimit) (t ∷ ts) ≡ true → (t ≤ typesLimit)
+    × (every (λ k. leb k typesLimit) ts ≡ true)
 unfolding every
 type-known t ts all =
     let parts = both (leb t typesLimit) (every (λ k. leb k typesLimit) ts) all in
@@ -143,7 +149,8 @@ fields-packed (t ∷ ts) (n ∷ ns) d p more all edge =
     let rest = sequenceSpelt (field edition98) (contentsOf ts ns (drop n d)) (wide letters + p) in
     let octets = fieldOctets t (take n d) in
     ap (packed 0 0) (append-assoc letters rest more) ∙ field-packed c p edge (known' .0) (rest ++ more)
-    ∙ ap (λ (l : List ℕ). octets ++ l) (fields-packed ts ns (drop n d) (wide letters + p) more (known' .1) (field-edge c p edge (known' .0)))
+    ∙ ap (λ (l : List ℕ). octets ++ l)
+    (fields-packed ts ns (drop n d) (wide letters + p) more (known' .1) (field-edge c p edge (known' .0)))
     ∙ sym (append-assoc octets (fieldsOctets ts ns (drop n d)) (packed 0 0 more))
 
 fields-edge : (ts ns d : List ℕ) (p : ℕ) → every (λ t. leb t typesLimit) ts ≡ true → p % 8 ≡ 0
@@ -163,7 +170,8 @@ fields-edge (t ∷ ts) (n ∷ ns) d p all edge =
     )
 
 -- ---- the packet
-pub start-wide : (k : Kind) (v : ℕ) (b : Bool) → v < assigned k → wide (start edition98 .spelling (record { kind = k; value = v; present = b }) 0) ≡ 8
+pub start-wide : (k : Kind) (v : ℕ) (b : Bool) → v < assigned k
+    → wide (start edition98 .spelling (record { kind = k; value = v; present = b }) 0) ≡ 8
 unfolding start typeOfMsg enumerated root spelt wide
 start-wide Indicator v b known' = rw (lt-leb 16 v known')
 start-wide Data v b known' = rw (lt-leb 9 v known')
@@ -171,7 +179,8 @@ start-wide Data v b known' = rw (lt-leb 9 v known')
 module _ (ts ns d : List ℕ) (all : every (λ t. leb t typesLimit) ts ≡ true) (same : length ts ≡ length ns) where
   -- the count and the fields, from an edge on
   data-cells-are : (p : ℕ) → p % 8 ≡ 0 → dataField edition98 .spelling (contentsOf ts ns d) p
-      ≡ whole (lengthOctets (length ts)) ++ sequenceSpelt (field edition98) (contentsOf ts ns d) (wide (whole (lengthOctets (length ts))) + p)
+      ≡ whole (lengthOctets (length ts)) ++ sequenceSpelt (field edition98) (contentsOf ts ns d)
+      (wide (whole (lengthOctets (length ts))) + p)
   unfolding dataField count
   data-cells-are p edge =
       rw (contents-long ts ns d same, edge-whole p edge (lengthOctets (length ts)))
@@ -186,10 +195,12 @@ module _ (ts ns d : List ℕ) (all : every (λ t. leb t typesLimit) ts ≡ true)
       let on : (wide (whole w) + p) % 8 ≡ 0 = omega (arith, wide-whole w) in
       ap (packed 0 0) (data-cells-are p edge) ∙ packed-whole w letters
       ∙ ap (λ (l : List ℕ). w ++ l)
-      (ap (packed 0 0) (sym (append-nil letters)) ∙ fields-packed ts ns d (wide (whole w) + p) [] all on ∙ append-nil (fieldsOctets ts ns d))
+      (ap (packed 0 0) (sym (append-nil letters)) ∙ fields-packed ts ns d (wide (whole w) + p) [] all on
+      ∙ append-nil (fieldsOctets ts ns d))
   after-start false p none edge = refl
 
-  after-edge : (b : Bool) (p : ℕ) → p % 8 ≡ 0 → (wide ((cond b (dataField edition98) (known [])) .spelling (contentsOf ts ns d) p) + p) % 8 ≡ 0
+  after-edge : (b : Bool) (p : ℕ) → p % 8 ≡ 0
+      → (wide ((cond b (dataField edition98) (known [])) .spelling (contentsOf ts ns d) p) + p) % 8 ≡ 0
   unfolding wide
   after-edge true p edge =
       let w = lengthOctets (length ts) in
@@ -208,7 +219,8 @@ module _ (ts ns d : List ℕ) (all : every (λ t. leb t typesLimit) ts ≡ true)
         let eight = start-wide k v b known' in
         rw (contents-long ts ns d same)
         (start-packed k v b ((cond b (dataField edition98) (known [])) .spelling (contentsOf ts ns d) (wide letters + 0)) known'
-        ∙ ap (λ (l : List ℕ). firstOctet (record { kind = k; value = v; present = b }) ∷ l) (after-start b (wide letters + 0) refl (omega arith)))
+        ∙ ap (λ (l : List ℕ). firstOctet (record { kind = k; value = v; present = b }) ∷ l)
+        (after-start b (wide letters + 0) refl (omega arith)))
 
     pub packet-edge : wide (packet edition98 .spelling (record { kind = k; value = v; contents = contentsOf ts ns d }) 0) % 8 ≡ 0
     unfolding packet

@@ -28,7 +28,8 @@ use Rattle.packets.proofs.ReadEnds.{count-within, fields-inside}
 abbrev pub contentIn : List ℕ → Field → Content
 contentIn s f = record { kind = f .kind; start = f .start; octets = dataOf s f }
 
-field-at : (s : List ℕ) (i at : ℕ) → field edition98 .read s i (8 * at) ≡ onward (fieldAt s at) (λ f. found (contentIn s (f .field)) (8 * f .next))
+field-at : (s : List ℕ) (i at : ℕ)
+    → field edition98 .read s i (8 * at) ≡ onward (fieldAt s at) (λ f. found (contentIn s (f .field)) (8 * f .next))
 unfolding field fieldAt afterHeader
 field-at s i at = by (headerAt s at) refl where
   told : (h : HeaderAnswer) (p : Bool) (x : Answer ℕ) → headerAt s at ≡ done h → h .header .present ≡ p → sizeAt (drop (h .next) s) ≡ x
@@ -43,7 +44,8 @@ field-at s i at = by (headerAt s at) refl where
   by (refused r) e = rw (header-at s (8 * at / 8) at, e)
 
 fields-at : (n : ℕ) (s : List ℕ) (i at : ℕ)
-    → reading.sequenceOf n (field edition98 .read) s i (8 * at) ≡ onward (fieldsAt n s at) (λ a. found (map (contentIn s) (a .fields)) (8 * a .next))
+    → reading.sequenceOf n (field edition98 .read) s i (8 * at) ≡ onward (fieldsAt n s at)
+    (λ a. found (map (contentIn s) (a .fields)) (8 * a .next))
 unfolding reading.sequenceOf fieldsAt
 fields-at zero s i at = refl
 fields-at (suc n) s i at = rw (field-at s i at) (by (fieldAt s at) (λ k. fields-at n s i k)) where
@@ -56,7 +58,8 @@ fields-at (suc n) s i at = rw (field-at s i at) (by (fieldAt s at) (λ k. fields
 
   by : (x : Answer FieldAnswer)
       → ((k : ℕ)
-      → reading.sequenceOf n (field edition98 .read) s i (8 * k) ≡ onward (fieldsAt n s k) (λ a. found (map (contentIn s) (a .fields)) (8 * a .next)))
+      → reading.sequenceOf n (field edition98 .read) s i (8 * k) ≡ onward (fieldsAt n s k)
+      (λ a. found (map (contentIn s) (a .fields)) (8 * a .next)))
       → andThen (onward x (λ f. found (contentIn s (f .field)) (8 * f .next)))
       (λ c q. andThen (reading.sequenceOf n (field edition98 .read) s i q) (λ l r. found (c ∷ l) r))
       ≡ onward {A = FieldsAnswer}
@@ -72,7 +75,8 @@ data-field-at : (s : List ℕ) (i : ℕ)
 unfolding dataField
 data-field-at s i = rw (count-at s i) (by (countAt s true)) where
   after : (n : ℕ) (x : Answer FieldsAnswer)
-      → andThen (andThen {B = ℕ × List Content} (onward x (λ a. found (map (contentIn s) (a .fields)) (8 * a .next))) (λ l q. found (n, l) q)) (λ a q. found (a .1) q)
+      → andThen (andThen {B = ℕ × List Content} (onward x (λ a. found (map (contentIn s) (a .fields)) (8 * a .next)))
+      (λ l q. found (n, l) q)) (λ a q. found (a .1) q)
       ≡ onward x (λ a. found (map (contentIn s) (a .fields)) (8 * a .next))
   after n (done a) = refl
   after n (refused r) = refl
@@ -111,7 +115,8 @@ pub packet-at : (s : List ℕ) (i : ℕ) → packet edition98 .read s i 0 ≡ pa
 unfolding packet countAt fieldsAt
 packet-at s i = by (firstAt s) refl where
   fields : (f : First) (x : Answer FieldsAnswer)
-      → andThen (andThen {B = First × List Content} (onward x (λ a. found (map (contentIn s) (a .fields)) (8 * a .next))) (λ l q. found (f, l) q))
+      → andThen (andThen {B = First × List Content} (onward x (λ a. found (map (contentIn s) (a .fields)) (8 * a .next)))
+      (λ l q. found (f, l) q))
       (λ x q. found (record { kind = x .0 .kind; value = x .0 .value; contents = x .1 }) q)
       ≡ onward x (λ a. found (packetIn s f a) (8 * a .next))
   fields f (done a) = refl
@@ -132,7 +137,8 @@ packet-at s i = by (firstAt s) refl where
   none f = refl
 
   told : (f : First) (p : Bool) → firstAt s ≡ done f → f .present ≡ p → packet edition98 .read s i 0 ≡ packetFound s
-  told f true e present = rw (start-at s i, e, present, data-field-at s i) (count (record { kind = f .kind; value = f .value; present = true }) (countAt s true))
+  told f true e present = rw (start-at s i, e, present, data-field-at s i)
+      (count (record { kind = f .kind; value = f .value; present = true }) (countAt s true))
   told f false e present = rw (start-at s i, e, present) (none f)
 
   by : (x : Answer First) → firstAt s ≡ x → packet edition98 .read s i 0 ≡ packetFound s
@@ -141,9 +147,11 @@ packet-at s i = by (firstAt s) refl where
 
 -- what follows it, and the answer
 module _ (e : Ending) (s : List ℕ) where
-  ended : (f : First) (a : FieldsAnswer) (b : Bool) → mayFollow e (drop (a .next) s) ≡ b → map fieldOf (map (contentIn s) (a .fields)) ≡ a .fields
+  ended : (f : First) (a : FieldsAnswer) (b : Bool) → mayFollow e (drop (a .next) s) ≡ b
+      → map fieldOf (map (contentIn s) (a .fields)) ≡ a .fields
       → answerOf
-      (andThen (reading.check leftOver (mayFollow e (drop (8 * a .next / 8) s)) s (8 * a .next / 8) (8 * a .next)) (λ _ q. found (packetIn s f a) q))
+      (andThen (reading.check leftOver (mayFollow e (drop (8 * a .next / 8) s)) s (8 * a .next / 8) (8 * a .next))
+      (λ _ q. found (packetIn s f a) q))
       ≡ cond (mayFollow e (drop (a .next) s)) (done (record { kind = f .kind; value = f .value; fields = a .fields })) (refuse leftOver)
   ended f a true so same =
       let at : 8 * a .next / 8 ≡ a .next = omega arith in

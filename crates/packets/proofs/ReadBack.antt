@@ -37,7 +37,8 @@ use Rattle.packets.proofs.ReadAt.{allOctets, packet-in}
 use Rattle.packets.proofs.RoundTrips.{bare, packet-bare, kinds, sizes}
 
 -- ---- what fits passes the tests
-low-value : (k : Kind) (v p : ℕ) (b : Bool) → leb (assigned k) v ≡ b → (cond b (addition (values edition98 k)) (root (values edition98 k))) .fits v p
+low-value : (k : Kind) (v p : ℕ) (b : Bool) → leb (assigned k) v ≡ b
+    → (cond b (addition (values edition98 k)) (root (values edition98 k))) .fits v p
     → v < assigned k
 unfolding addition
 low-value Indicator v p true e fits = let none = ltb-true 0 0 (fits .0 .0) in absurd (omega arith)
@@ -105,7 +106,8 @@ first-known f fits = by (f .kind) refl (fits .0 .1 .1) where
   by Indicator is e = rw is (value-known Indicator (f .value) 2 e)
   by Data is e = rw is (value-known Data (f .value) 2 e)
 
-after-right : (b : Bool) (cs : List Content) (p : ℕ) → (cond b (dataField edition98) (known [])) .fits cs p → (length cs ≤ fieldsLimit) × FieldsRight cs
+after-right : (b : Bool) (cs : List Content) (p : ℕ) → (cond b (dataField edition98) (known [])) .fits cs p → (length cs ≤ fieldsLimit)
+    × FieldsRight cs
 unfolding dataField count sequenceFits
 after-right true cs p fits = (
   leb-true (length cs) fieldsLimit (both (leb 1 (length cs)) (leb (length cs) fieldsLimit) (fits .0 .0 .1) .1),
@@ -135,7 +137,8 @@ received s p e =
     by (packet edition98 .read s 0 0) refl (ltb-false packetLimit (length s) (short .0)) (short .1) where
       ended : (x : IfpPacket) (q : ℕ) (b : Bool) → packet edition98 .read s 0 0 ≡ found x q → length s ≤ packetLimit
           → eqb (length (drop (q / 8) s)) 0 ≡ b
-          → answerOf (andThen (reading.check leftOver (eqb (length (drop (q / 8) s)) 0) s (q / 8) q) (λ _ r. found x r)) ≡ done p → Received s p
+          → answerOf (andThen (reading.check leftOver (eqb (length (drop (q / 8) s)) 0) s (q / 8) q) (λ _ r. found x r)) ≡ done p
+          → Received s p
       ended x q true was few end e =
           let i = packet-in s 0 x q was in
           let is : record { kind = x .kind; value = x .value; fields = map fieldOf (x .contents) } ≡ p = cc (rw end at e) in
@@ -146,7 +149,8 @@ received s p e =
       ended x q false was few end e = let z : _≡_ {A = ℕ} 0 1 = cc (rw end at e) in absurd (omega arith)
 
       by : (y : Finding IfpPacket) → packet edition98 .read s 0 0 ≡ y → length s ≤ packetLimit
-          → answerOf (andThen y (λ x q. andThen (reading.check leftOver (eqb (length (drop (q / 8) s)) 0) s (q / 8) q) (λ _ r. found x r))) ≡ done p
+          → answerOf (andThen y
+          (λ x q. andThen (reading.check leftOver (eqb (length (drop (q / 8) s)) 0) s (q / 8) q) (λ _ r. found x r))) ≡ done p
           → Received s p
       by (found x q) was few e = ended x q (eqb (length (drop (q / 8) s)) 0) was few refl e
       by (stopped r) was few e = let z : _≡_ {A = ℕ} 0 1 = cc in absurd (omega arith)
@@ -168,7 +172,8 @@ writes-of s x octets fits reads =
     let same : length ts ≡ length ns = many ∙ sym (length-map (map fieldOf cs) (λ f. f .size) ∙ length-map cs fieldOf) in
     let laid = packet-laid ts ns (allOctets cs) (fields .types) same k v (right .known) in
     let is : laidOctets k v ts ns (allOctets cs) ≡ s
-    = sym laid ∙ ap (λ (l : List Content). inOctets (packet edition98 .spelling (record { kind = k; value = v; contents = l }) 0)) (fields .contents)
+    = sym laid ∙ ap (λ (l : List Content). inOctets (packet edition98 .spelling (record { kind = k; value = v; contents = l }) 0))
+    (fields .contents)
     ∙ ap inOctets (sym (packet-bare k v cs)) ∙ back .1 in
     ap (packetToWrite k v ts ns) data'
     ∙ write-of k v ts ns (allOctets cs)

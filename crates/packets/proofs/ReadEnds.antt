@@ -55,7 +55,12 @@ fields-inside (suc n) s at a inside e =
     let is : a ≡ record { fields = f .value .field ∷ more .value .fields; next = more .value .next } = cc (more .gave) in
     let here = field-inside s at (f .value) (f .was) in
     let all = fields-inside n s (f .value .next) (more .value) (here .next) (more .was) in
-    rw is (record { many = ap suc (all .many); next = all .next; parts = parts-cons s (f .value .field) (more .value .fields) (here .part) (all .parts) })
+    rw is (record {
+      many = ap suc (all .many);
+      next = all .next;
+      parts = parts-cons s (f .value .field) (more .value .fields) (here .part)
+          (all .parts);
+    })
 
 -- a count that reads: at most as many as a packet may have, and the place after it lies inside the octets
 pub count-limit : (s : List ℕ) (p : Bool) (c : Count) → countAt s p ≡ done c → c .value ≤ fieldsLimit
@@ -78,5 +83,6 @@ count-within s false c some e =
 pub read-outcome : (x : Answer PacketAnswer) → packetOutcome (packetRead x) ≡ x
 unfolding padded
 read-outcome (done p) =
-    ap (λ (l : List Field). done (record { kind = p .kind; value = p .value; fields = l })) (take-at (p .fields) _ (length (p .fields)) refl)
+    ap (λ (l : List Field). done (record { kind = p .kind; value = p .value; fields = l }))
+    (take-at (p .fields) _ (length (p .fields)) refl)
 read-outcome (refused r) = refl

@@ -203,7 +203,8 @@ field-form s at f e =
     let form = header-form s at (h .value) (h .was) in
     let k = h .value .header .kind in
     let p = h .value .header .present in
-    let is : h .value ≡ record { header = record { kind = k; present = p }; next = at + 1 } = ap (λ (n : ℕ). record { header = h .value .header; next = n }) (form .next) in
+    let is : h .value ≡ record { header = record { kind = k; present = p }; next = at + 1 } = ap
+    (λ (n : ℕ). record { header = h .value .header; next = n }) (form .next) in
     after-form s at k p f (h .was ∙ ap (λ (x : HeaderAnswer). done x) is) (ap (λ (x : HeaderAnswer). afterHeader s x) (sym is) ∙ h .gave)
 
 -- ---- the packet

@@ -34,9 +34,11 @@ field-same : (c : Content) (start p : ℕ) → field edition98 .spelling c p
 unfolding field fieldData
 field-same c start p = by (ltb 0 (length (c .octets))) where
   by : (b : Bool) → header edition98 .spelling (record { kind = c .kind; present = b }) p
-      ++ (cond b fieldData (known (0, []))) .spelling (c .start, c .octets) (wide (header edition98 .spelling (record { kind = c .kind; present = b }) p) + p)
+      ++ (cond b fieldData (known (0, []))) .spelling (c .start, c .octets)
+      (wide (header edition98 .spelling (record { kind = c .kind; present = b }) p) + p)
       ≡ header edition98 .spelling (record { kind = c .kind; present = b }) p
-      ++ (cond b fieldData (known (0, []))) .spelling (start, c .octets) (wide (header edition98 .spelling (record { kind = c .kind; present = b }) p) + p)
+      ++ (cond b fieldData (known (0, []))) .spelling (start, c .octets)
+      (wide (header edition98 .spelling (record { kind = c .kind; present = b }) p) + p)
   by true = refl
   by false = refl
 
@@ -111,14 +113,18 @@ packet-back e k v ts ns d w more form follows room =
     let x : IfpPacket = record { kind = k; value = v; contents = cs } in
     let same = placed-same ts ns d (fieldsFrom (length ts) 8) (form .same) (form .all) in
     let fits =
-    packet-fits ts ns d (form .same) k v (form .known) (form .few) (cut-of ns d (form .all)) (form .types) (form .short) (form .right) (form .fields) in
-    let spelt : packet edition98 .spelling x 0 ≡ packet edition98 .spelling (record { kind = k; value = v; contents = contentsOf ts ns d }) 0
-    = packet-bare k v cs ∙ ap (λ (l : List Content). packet edition98 .spelling (record { kind = k; value = v; contents = l }) 0) (same .contents) in
+    packet-fits ts ns d (form .same) k v (form .known) (form .few) (cut-of ns d (form .all)) (form .types) (form .short) (form .right)
+    (form .fields) in
+    let spelt : packet edition98 .spelling x 0 ≡ packet edition98 .spelling
+    (record { kind = k; value = v; contents = contentsOf ts ns d }) 0
+    = packet-bare k v cs ∙ ap (λ (l : List Content). packet edition98 .spelling (record { kind = k; value = v; contents = l }) 0)
+    (same .contents) in
     let is : inOctets (packet edition98 .spelling x 0) ≡ w
     = ap inOctets spelt ∙ packet-laid ts ns d (form .types) (form .same) k v (form .known) ∙ sym (form .is) in
     let edge : wide (packet edition98 .spelling x 0) % 8 ≡ 0
     = ap (λ (l : List Letter). wide l % 8) spelt ∙ packet-edge ts ns d (form .types) (form .same) k v (form .known) in
-    let reads : packet edition98 .read (w ++ more) 0 0 ≡ found x (8 * length w) = rw is at (written-found (lawful-packet edition98) x 0 more fits edge) in
+    let reads : packet edition98 .read (w ++ more) 0 0 ≡ found x (8 * length w) = rw is at
+    (written-found (lawful-packet edition98) x 0 more fits edge) in
     let at : 8 * length w / 8 ≡ length w = omega arith in
     record {
       packet = record { kind = k; value = v; fields = map fieldOf cs };

@@ -90,12 +90,14 @@ field-full k d some = rw (lt-ltb 0 (length d) some)
 pub packet-bare : (k : Kind) (v : ℕ) (ts ns d : List ℕ) → ltb 0 (length ts) ≡ false
     → laidOctets k v ts ns d ≡ firstOctet (record { kind = k; value = v; present = ltb 0 (length ts) }) ∷ []
 unfolding laidOctets
-packet-bare k v ts ns d none = ap (λ (b : Bool). firstOctet (record { kind = k; value = v; present = ltb 0 (length ts) }) ∷ cond b (countedOctets ts ns d) []) none
+packet-bare k v ts ns d none = ap
+    (λ (b : Bool). firstOctet (record { kind = k; value = v; present = ltb 0 (length ts) }) ∷ cond b (countedOctets ts ns d) []) none
 
 pub packet-full : (k : Kind) (v : ℕ) (ts ns d : List ℕ) → ltb 0 (length ts) ≡ true
     → laidOctets k v ts ns d ≡ firstOctet (record { kind = k; value = v; present = ltb 0 (length ts) }) ∷ countedOctets ts ns d
 unfolding laidOctets
-packet-full k v ts ns d some = ap (λ (b : Bool). firstOctet (record { kind = k; value = v; present = ltb 0 (length ts) }) ∷ cond b (countedOctets ts ns d) []) some
+packet-full k v ts ns d some = ap
+    (λ (b : Bool). firstOctet (record { kind = k; value = v; present = ltb 0 (length ts) }) ∷ cond b (countedOctets ts ns d) []) some
 
 -- ---- a packet that is written
 pub record WriteForm (k : Kind) (v : ℕ) (ts ns d w : List ℕ) : Type 0 where

@@ -25,7 +25,8 @@ unknown-size repaired size b u e = absurd (false≢true u)
 unknown-size blank size b u e = absurd (false≢true u)
 
 -- ---- what is held
-settings-sizes : (b : Bool) (n m : ℕ) → eqb m 0 ≡ b → cond b (eqb n 0) ((leb coveredLeast n && leb n coveredLimit) && leb m messagesLimit) ≡ true
+settings-sizes : (b : Bool) (n m : ℕ) → eqb m 0 ≡ b
+    → cond b (eqb n 0) ((leb coveredLeast n && leb n coveredLimit) && leb m messagesLimit) ≡ true
     → (n ≤ coveredLimit) × (m ≤ messagesLimit)
 settings-sizes true n m e t =
     let none : m ≡ 0 = eqb-true m 0 e in

@@ -8,8 +8,13 @@ use Rattle.repairing.proofs.fill.Tie as tie
 
 mended-requires : tie.Need-mended-requires
 mended-requires c κs =
-    let start = c .before .before .before .before .before in
-    (start .pre .0, (start .pre .1 .0 .near, (index-fits (start .pre .0 .within) (start .pre .1 .0) (start .pre .1 .1), start .pre .1 .0 .low)))
+    let start = c .before .before .before .before .before in (
+      start .pre .0,
+      (
+        start .pre .1 .0 .near,
+        (index-fits (start .pre .0 .within) (start .pre .1 .0) (start .pre .1 .1), start .pre .1 .0 .low),
+      ),
+    )
 
 size-of-requires : tie.Need-size-of-requires
 size-of-requires c κs =
@@ -21,7 +26,12 @@ array-share-prefix-sum c =
     let size = c .before in
     let sum = size .before .before in
     let start = sum .before .before .before .before .before .before in
-    omega (arith, size-fits (start .pre .0 .within) (start .pre .1 .0) (start .pre .1 .1) (size .size-of .ensures), sum .mended .ensures .long)
+    omega (
+      arith,
+      size-fits (start .pre .0 .within) (start .pre .1 .0) (start .pre .1 .1)
+          (size .size-of .ensures),
+      sum .mended .ensures .long,
+    )
 
 slice-aggregate-put : tie.Need-slice-aggregate-put
 slice-aggregate-put c =

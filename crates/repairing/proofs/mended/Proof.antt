@@ -45,7 +45,8 @@ copy-out-requires c κs =
     let place = c .before .before .before .before .before in
     let start = place .before .before .before .before .before in
     let small =
-    size-small (start .pre .0 .within) (start .args .distance) (start .args .index) (start .pre .1 .1 .1) (place .before .wrapping-add-u16 .ensures)
+    size-small (start .pre .0 .within) (start .args .distance) (start .args .index) (start .pre .1 .1 .1)
+    (place .before .wrapping-add-u16 .ensures)
     (place .heard-slot .ensures) (c .before .message-size-at .ensures) in
     (omega (arith, start .pre .0 .within .laid .messages, start .pre .1 .1 .0, place .heard-slot .ensures), (small, small))
 
@@ -70,7 +71,8 @@ returns c =
     let few = size .before in
     let place = few .before .before .before in
     let start = place .before .before .before .before .before in
-    mended-front (start .pre .0 .within) (start .args .distance) (start .args .index) (start .pre .1 .0) (start .pre .1 .1 .1) (zeros packetLimit)
+    mended-front (start .pre .0 .within) (start .args .distance) (start .args .index) (start .pre .1 .0) (start .pre .1 .1 .1)
+    (zeros packetLimit)
     (place .before .wrapping-add-u16 .ensures) (place .heard-slot .ensures) (few .before .before .n-at .ensures)
     (few .before .m-at .ensures)
     (few .narrow .ensures) refl (size .message-size-at .ensures) (copy .copy-out .ensures) (first .before .narrow2 .ensures)

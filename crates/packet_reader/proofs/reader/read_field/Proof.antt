@@ -40,14 +40,16 @@ add-start : tie.Need-add-start
 add-start c =
     let header = c .before .before .before .before .before .before .before in
     let size = c .before in
-    let all = end-inside (header .before .before .read-header .ensures) (header .kind .given .1) (size .before .before .read-size .ensures) (size .size .given .1) in
+    let all = end-inside (header .before .before .read-header .ensures) (header .kind .given .1)
+    (size .before .before .read-size .ensures) (size .size .given .1) in
     omega arith
 
 add-end : tie.Need-add-end
 add-end c =
     let header = c .before .before .before .before .before .before .before in
     let size = c .before in
-    let all = end-inside (header .before .before .read-header .ensures) (header .kind .given .1) (size .before .before .read-size .ensures) (size .size .given .1) in
+    let all = end-inside (header .before .before .read-header .ensures) (header .kind .given .1)
+    (size .before .before .read-size .ensures) (size .size .given .1) in
     omega arith
 
 returns-2 : tie.Need-returns-2

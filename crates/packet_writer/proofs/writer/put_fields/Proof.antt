@@ -30,7 +30,8 @@ wide-requires c κs = search needs
 add-to : tie.Need-add-to Inv-loop μ-loop
 add-to c =
     let test = c .before .before in
-    let inside = fill-data (test .before .before .before .before .before .before .pre) (test .before .loop .inv) (test .loop-test .taken) (c .wide .ensures) in
+    let inside = fill-data (test .before .before .before .before .before .before .pre) (test .before .loop .inv) (test .loop-test .taken)
+    (c .wide .ensures) in
     omega arith
 
 shared-slice-read-put-field : tie.Need-shared-slice-read-put-field Inv-loop μ-loop
@@ -62,7 +63,8 @@ add-at c =
     let wide = c .before .before .before .before .before .before in
     let test = wide .before .before in
     let inside =
-    fill-next (test .before .before .before .before .before .before .pre) (test .before .loop .inv) (test .loop-test .taken) (wide .wide .ensures)
+    fill-next (test .before .before .before .before .before .before .pre) (test .before .loop .inv) (test .loop-test .taken)
+    (wide .wide .ensures)
     (c .before .before .put-field .ensures) in
     omega arith
 
