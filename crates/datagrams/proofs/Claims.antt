@@ -1,7 +1,6 @@
 -- The claims of this crate, each proved by a law. Assumes nothing.
 use mathlib.Core.Path.{refl, sym, _∙_}
 use Rattle.lengths.specs.Length.{lengthAt, allowed, lengthWithin}
-use Rattle.lengths.proofs.Claims as lengths
 use Rattle.datagrams.specs.Read.{octetAt, itemAt, itemsAt, endOf, sparesAt, parityAt, extraAt, numberOf, wholeOf, readDatagram}
 use Rattle.datagrams.specs.Claims.{OneOutcome, Cases, Claims}
 use Rattle.datagrams.proofs.ReadLaws.{accepted-inside}
@@ -10,15 +9,12 @@ use Rattle.datagrams.proofs.WriteBack.{read-back}
 
 one-outcome : OneOutcome
 one-outcome =
-    record { read = λ p q. p .whole ∙ sym (q .whole); written = λ p q. lengths.one-outcome .written p q }
+    record { read = λ p q. p .whole ∙ sym (q .whole) }
 
 cases : Cases
 unfolding readDatagram numberOf wholeOf extraAt sparesAt parityAt itemsAt itemAt lengthWithin octetAt allowed endOf lengthAt
 cases =
     record {
-      one-is-octet = refl;
-      not-one = refl;
-      empty-spare = refl;
       last-c0 = refl;
       last-80 = refl;
       low-bits = refl;

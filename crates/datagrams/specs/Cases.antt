@@ -1,5 +1,5 @@
--- Small datagrams, read and written, at which another reading of document 01's 'The datagram' was possible: each case says one
--- answer. Definitions only.
+-- Small datagrams, read and written, at a limit or where document 01's 'The datagram' may be read in two ways: each case says one
+-- answer.
 use Prim.Native.Nat.{ℕ}
 use mathlib.Core.Path.{_≡_}
 use mathlib.Core.List.{List, [], _∷_, _++_}

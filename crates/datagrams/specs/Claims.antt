@@ -1,14 +1,12 @@
--- The claims of this crate: statements alone. Definitions only.
+-- The claims of this crate, and the words that they are said in.
 use Prim.Native.Nat.{ℕ, _+_, _≤_, _<_}
 use mathlib.Core.Path.{_≡_}
 use mathlib.Core.Bool.{true}
 use mathlib.Core.List.{List, [], _∷_, map, flatten}
 use lib.ListN.{length, getD}
-use Rattle.lengths.specs.Refusals.{endsEarly, badForm, outsideSizes, spareBit, leftOver}
-use Rattle.lengths.specs.Answers.{Answer, done, refuse}
+use Rattle.lengths.specs.Refusals.{endsEarly, badForm, spareBit, leftOver}
+use Rattle.lengths.specs.Answers.{done, refuse}
 use Rattle.lengths.specs.Claims.{Octets}
-use Rattle.lengths.specs.Promise.{Puts}
-use Rattle.lengths.specs.declared.Written.{Written}
 use Rattle.datagrams.specs.Sizes.{packetLeast, packetLimit}
 use Rattle.datagrams.specs.Carried.{Carried}
 use Rattle.datagrams.specs.Write.{countInside, carriedOf, datagramToWrite}
@@ -67,17 +65,10 @@ AcceptedInside = (s : List ℕ) (r : DatagramRead) (number : ℕ) (packet : Part
 -- two outcomes that a promise allows are equal
 pub record OneOutcome : Type 0 where
   pub read : {s : List ℕ} {r q : DatagramRead} → DatagramReads s r → DatagramReads s q → r ≡ q
-  pub written : {w : Answer (List ℕ)} {old new other : List ℕ} {r q : Written}
-      → Puts w old new r → Puts w old other q → (r ≡ q) × (new ≡ other)
 
 -- ---- cases in which another reading of document 01 was possible
 
 pub record Cases : Type 0 where
-  -- octet 01 and octet n are plain octets: 4 at once, before what follows is missed
-  pub one-is-octet : readDatagram (0x00 ∷ 0x00 ∷ 0x01 ∷ 0x06 ∷ 0x80 ∷ 0xC0 ∷ []) ≡ refuse outsideSizes
-  pub not-one : readDatagram (0x00 ∷ 0x00 ∷ 0x01 ∷ 0x06 ∷ 0x80 ∷ 0x02 ∷ []) ≡ refuse outsideSizes
-  -- a spare is a packet: never empty
-  pub empty-spare : readDatagram (0x00 ∷ 0x00 ∷ 0x01 ∷ 0x06 ∷ 0x00 ∷ 0x01 ∷ 0x00 ∷ []) ≡ refuse outsideSizes
   -- C0 or more as the last octet is 3, not 1
   pub last-c0 : readDatagram (0x00 ∷ 0x00 ∷ 0xC0 ∷ []) ≡ refuse badForm
   pub last-80 : readDatagram (0x00 ∷ 0x00 ∷ 0x80 ∷ []) ≡ refuse endsEarly

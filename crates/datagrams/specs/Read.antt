@@ -52,7 +52,7 @@ itemsAt least most s at (suc left) = do
   ps ← itemsAt least most s (after p) left
   done (p ∷ ps)
 
--- the place where they end, of which the first begins at the given one
+-- the place where parts end that begin at a place, one after the other
 unfoldable pub endOf : ℕ → List Part → ℕ
 endOf at [] = at
 endOf at (p ∷ ps) = endOf (after p) ps

@@ -1,5 +1,4 @@
--- Small lengths, read and written, at which another reading of document 01 was possible: each case says one answer. Definitions
--- only.
+-- Small lengths, read and written, at a limit or where document 01 may be read in two ways: each case says one answer.
 use mathlib.Core.Path.{_≡_}
 use mathlib.Core.List.{[], _∷_}
 use Rattle.lengths.specs.Refusals.{endsEarly, badForm, outsideSizes, noRoom}

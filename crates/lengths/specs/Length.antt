@@ -54,9 +54,10 @@ lengthWithin least most s = do
 unfoldable pub lengthOctets : ℕ → List ℕ
 lengthOctets n = cond (ltb n twoFrom) (n ∷ []) ((n / 256 + 0x80) ∷ n % 256 ∷ [])
 
--- what the length writer writes: a length over 16,383 is outside the sizes
+-- what the length writer refuses: a length over 16,383 is outside the sizes
 abbrev pub lengthWriterRows : ℕ → List (Option ℕ)
 lengthWriterRows n = when (ltb lengthLimit n) outsideSizes ∷ []
 
+-- and what it writes where that row is not given
 unfoldable pub lengthToWrite : ℕ → Answer (List ℕ)
 lengthToWrite n = unless (lengthWriterRows n) (lengthOctets n)

@@ -20,7 +20,7 @@ first [] = none
 first (some number ∷ rows) = some number
 first (none ∷ rows) = first rows
 
--- a call with such a table, which else answers a
+-- a call that answers a unless a row of its table is given
 unfoldable pub unless : {A : Type 0} → List (Option ℕ) → A → Answer A
 unless [] a = done a
 unless (some number ∷ rows) a = refuse number

@@ -1,5 +1,4 @@
--- Small inputs at which another reading of document 01's 'The program' was possible: each case says what is written. Definitions
--- only.
+-- Small inputs, at a limit or where document 01's 'The program' may be read in two ways: each case says what is written.
 use mathlib.Core.Path.{_≡_}
 use mathlib.Core.List.{[]}
 use lib.ListN.{replicate}

@@ -1,7 +1,6 @@
 -- The claims of this crate, each proved by a law. Two outcomes are equal because the promise gives the whole answer.
 -- Assumes nothing.
 use mathlib.Core.Path.{sym, _∙_}
-use Rattle.lengths.proofs.Claims as lengths
 use Rattle.packets.specs.Claims.{Claims, OneOutcome}
 use Rattle.packets.proofs.RoundTrips.{packet-written-reads, packet-repaired-reads}
 use Rattle.packets.proofs.ReadBack.{packet-read-writes}
@@ -10,7 +9,7 @@ use Rattle.packets.proofs.Cases.{read-cases, write-cases}
 
 pub one-outcome : OneOutcome
 one-outcome =
-    record { read = λ p t. p .whole ∙ sym (t .whole); written = λ p t. lengths.one-outcome .written p t }
+    record { read = λ p t. p .whole ∙ sym (t .whole) }
 
 pub claims : Claims
 claims =

@@ -1,5 +1,4 @@
--- Small packets, read and written, at which another reading of document 01's 'The packet' was possible: each says one answer.
--- Definitions only.
+-- Small packets, read and written, at a limit or where document 01's 'The packet' may be read in two ways: each says one answer.
 use Prim.Native.Nat.{ℕ}
 use mathlib.Core.Path.{_≡_}
 use mathlib.Core.List.{List, [], _∷_}

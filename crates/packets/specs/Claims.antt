@@ -1,12 +1,10 @@
--- The claims of this crate: statements alone. Definitions only.
+-- The claims of this crate, and the words that they are said in.
 use Prim.Native.Nat.{ℕ, _+_, _≤_}
 use mathlib.Core.Path.{_≡_}
 use mathlib.Core.List.{List, _++_, map}
 use lib.ListN.{length, getD, replicate}
-use Rattle.lengths.specs.Answers.{Answer, done}
-use Rattle.lengths.specs.Promise.{Puts}
+use Rattle.lengths.specs.Answers.{done}
 use Rattle.lengths.specs.Claims.{Octets}
-use Rattle.lengths.specs.declared.Written.{Written}
 use Rattle.datagrams.specs.Sizes.{packetLimit}
 use Rattle.packets.specs.Packet.{noField, allData, readPacket, PacketAnswer}
 use Rattle.packets.specs.Write.{packetToWrite}
@@ -72,8 +70,6 @@ ZerosAlike = (s : List ℕ) (p q : PacketAnswer) (n m : ℕ)
 -- two outcomes that a promise allows are equal
 pub record OneOutcome : Type 0 where
   pub read : {ending : Ending} {s : List ℕ} {r q : PacketRead} → PacketTold ending s r → PacketTold ending s q → r ≡ q
-  pub written : {w : Answer (List ℕ)} {old new other : List ℕ} {r q : Written}
-      → Puts w old new r → Puts w old other q → (r ≡ q) × (new ≡ other)
 
 pub record Claims : Type 0 where
   pub writtenReads : WrittenReads

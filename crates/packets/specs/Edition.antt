@@ -20,7 +20,7 @@ pub data Rule : Type 0 where
   always : Rule
   may : Rule
 
--- whether a rule lets a field be so, with data or without
+-- whether a rule allows a field with data, or one without
 abbrev pub allows : Rule → Bool → Bool
 allows never present = not present
 allows always present = present

@@ -34,12 +34,12 @@ typesLimit = edition98 .types .assigned - 1
 abbrev pub assigned : Kind → ℕ
 assigned kind = values edition98 kind .assigned
 
--- "An indicator never has a data field": whether a packet of this kind may be so, with or without
+-- "An indicator never has a data field": whether a packet of this kind may have one, or have none
 abbrev pub rightFields : Kind → Bool → Bool
 rightFields Indicator present = not present
 rightFields Data present = true
 
--- whether a field of this type may be so, with data or without
+-- whether a field of this type may have data, or have none
 abbrev pub rightData : ℕ → Bool → Bool
 rightData kind present = allows (edition98 .rule kind) present
 

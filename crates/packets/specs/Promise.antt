@@ -29,7 +29,7 @@ abbrev pub packetRead : Answer PacketAnswer → PacketRead
 packetRead (done p) = record { reading = reading.Packet (p .kind) (p .value) (length (p .fields)); fields = padded (p .fields) }
 packetRead (refused r) = record { reading = reading.Refused r; fields = padded [] }
 
--- what `packet_reader::read` owes of the octets s: its outcome, and no other answer for it
+-- what `packet_reader::read` owes of the octets s: its outcome, and the whole of what it hands back
 pub record PacketTold (ending : Ending) (s : List ℕ) (r : PacketRead) : Type 0 where
   pub answer : packetOutcome r ≡ readPacket ending s
   pub whole : r ≡ packetRead (readPacket ending s)

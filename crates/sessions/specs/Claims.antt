@@ -1,4 +1,4 @@
--- The claims of the receiving session: statements alone. Definitions only.
+-- The claims of the receiving session: statements alone.
 use Prim.Native.Nat.{ℕ, _<_}
 use mathlib.Core.Path.{_≡_}
 use mathlib.Core.Bool.{true}
@@ -19,7 +19,7 @@ use Rattle.sessions.specs.declared.receiver.AfterOffer.{AfterOffer}
 use Rattle.sessions.specs.declared.receiver.AfterNext.{AfterNext}
 use Rattle.sessions.specs.declared.receiver.AfterGiveUp.{AfterGiveUp}
 
--- "A refusal .. changes nothing": a refused call hands the very session back and leaves the lent buffer
+-- "A refusal .. changes nothing": a refused call returns the session unchanged and does not touch the lent buffer
 pub record RefusedStays : Type 0 where
   pub offer : {s : Session} {octets : List ℕ} {r : AfterOffer} (x : Refusal) → OfferOwes s octets r → offerOf octets s ≡ refused x
       → r .session ≡ s

@@ -1,6 +1,6 @@
 // The sessions' public calls: each checks the session's ranges once (refusal 17) and then calls the core, which requires them.
-// A session goes in by value and comes back by value with the answer; a refusal hands the very session back and leaves a lent
-// buffer as it is.
+// A session goes in by value and comes back by value with the answer; a refusal returns the session unchanged and does not touch
+// a lent buffer.
 mod receiver;
 
 pub use held::Counts;

@@ -1,5 +1,4 @@
--- Small sessions at which another reading of document 01's 'The receiving session' was possible: each case says one answer.
--- Definitions only.
+-- Small sessions, at a limit or where document 01's 'The receiving session' may be read in two ways: each case says one answer.
 use Prim.Native.Nat.{ℕ, _-_}
 use mathlib.Core.Path.{_≡_}
 use mathlib.Core.List.{List, [], _∷_, _++_}

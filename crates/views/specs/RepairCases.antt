@@ -1,5 +1,4 @@
--- Small rows of numbers at which another reading of document 01's repair was possible: each case says one answer. Definitions
--- only.
+-- Small rows of numbers, at a limit or where document 01's repair may be read in two ways: each case says one answer.
 use Prim.Native.Nat.{ℕ}
 use mathlib.Core.Path.{_≡_}
 use mathlib.Core.Bool.{true}
