@@ -43,6 +43,7 @@ by-datagrams =
 by-packets : ToldByPackets
 by-packets =
     record {
+      fieldsLeast = told-one;
       fieldsLimit = told-one;
       typesLimit = told-one;
       assigned = λ kind. told-one;

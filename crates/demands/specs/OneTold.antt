@@ -64,8 +64,9 @@ pub record ToldByDatagrams : Type 0 where
   pub lengthSize : (n : ℕ) → One (LengthSize n)
   pub wide : (n : ℕ) → One (λ (r : ℕ). r ≡ n)
 
--- `packets`: `limit` and `types_limit` of `Field`, `assigned`, `right_fields`, `right_data`
+-- `packets`: `least`, `limit` and `types_limit` of `Field`, `assigned`, `right_fields`, `right_data`
 pub record ToldByPackets : Type 0 where
+  pub fieldsLeast : One (λ (r : ℕ). r ≡ packet.fieldsLeast)
   pub fieldsLimit : One (λ (r : ℕ). r ≡ packet.fieldsLimit)
   pub typesLimit : One (λ (r : ℕ). r ≡ packet.typesLimit)
   pub assigned : (kind : packets.Kind) → One (λ (r : ℕ). r ≡ packet.assigned kind)

@@ -121,7 +121,7 @@ fn read_count(s: &[u8], present: bool) -> CountRead
         };
         return CountRead::Refused(refusal);
     };
-    if value < 1 {
+    if value < Field::LEAST {
         return CountRead::Refused(Refusal::new(Refusal::OUTSIDE_SIZES));
     }
     if Field::LIMIT < value {

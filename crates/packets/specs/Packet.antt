@@ -9,6 +9,7 @@ use lib.ListN.{length, take, drop}
 use lib.Dec.{leb, ltb, eqb}
 use Rattle.lengths.specs.Refusals.{outsideSizes, leftOver, notAssigned, wrongData}
 use Rattle.lengths.specs.Answers.{Answer, done, refused, refuse}
+use Rattle.lengths.specs.Length.{within}
 use Rattle.formats.specs.Reading.{Finding, found, stopped, Reader, _>>=_, give, check}
 use Rattle.formats.specs.Reading as reading
 use Rattle.formats.specs.Format.{Format, flag, bits, align, here, octets, twoOctets, lengthRule, known, item, guarded, demand, _⊳_}
@@ -22,7 +23,10 @@ use Rattle.packets.specs.declared.types.Ending.the-variants.{Whole, Repa
 use Rattle.packets.specs.declared.types.Field.{Field}
 
 -- ---- what a packet may hold
--- "Fields in a packet 0 to 16"
+-- "Fields in a packet 0 to 16", and where there is a count of them, "1 to 16"
+abbrev pub fieldsLeast : ℕ
+fieldsLeast = 1
+
 abbrev pub fieldsLimit : ℕ
 fieldsLimit = 16
 
@@ -94,7 +98,7 @@ start edition =
 -- ---- Data-Field ::= SEQUENCE OF SEQUENCE { field-type ENUMERATED, field-data OCTET STRING (SIZE (1..65535)) OPTIONAL }
 -- "a count of fields follows, 1 to 16 (else refusal 4)"
 unfoldable pub count : Format ℕ
-count = guarded outsideSizes (λ n. leb 1 n && leb n fieldsLimit) lengthRule
+count = guarded outsideSizes (within fieldsLeast fieldsLimit) lengthRule
 
 pub record Header : Type 0 where
   pub kind : ℕ

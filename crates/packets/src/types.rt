@@ -1,7 +1,7 @@
 // Document 01, 'The packet': what a packet is to those who read and write it.
 use lengths::Refusal;
 ghost use mathlib.Core.Path.{_≡_};
-ghost use Rattle.packets.specs.Packet.{fieldsLimit, typesLimit};
+ghost use Rattle.packets.specs.Packet.{fieldsLeast, fieldsLimit, typesLimit};
 
 // A packet is an indicator or data.
 pub enum Kind {
@@ -23,10 +23,18 @@ pub struct Field {
 }
 
 impl Field {
+    pub const LEAST: usize = 1;
+
     pub const LIMIT: usize = 16;
 
     // The highest field type.
     pub const TYPES: u8 = 7;
+
+    pub fn least() -> usize
+        ensures { λ r. ⌜ r ≡ fieldsLeast ⌝ }
+    {
+        Field::LEAST
+    }
 
     pub fn limit() -> usize
         ensures { λ r. ⌜ r ≡ fieldsLimit ⌝ }

@@ -10,7 +10,8 @@ use Rattle.lengths.specs.Refusals.{endsEarly, outsideSizes, spareBit, leftOver,
 use Rattle.lengths.specs.Answers.{Answer, done, refuse, _>>=_, LengthAnswer}
 use Rattle.lengths.specs.Length.{lengthAt, lengthOctets}
 use Rattle.datagrams.specs.Sizes.{packetLimit}
-use Rattle.packets.specs.Packet.{First, Header, PacketAnswer, assigned, rightFields, rightData, fieldsLimit, mayFollow}
+use Rattle.packets.specs.Packet.{First, Header, PacketAnswer, assigned, rightFields, rightData, fieldsLeast, fieldsLimit}
+use Rattle.packets.specs.Packet.{mayFollow}
 use Rattle.packets.specs.Write.{withData}
 use Rattle.packets.specs.declared.types.Kind.{Kind}
 use Rattle.packets.specs.declared.types.Kind.the-variants.{Indicator, Data}
@@ -71,7 +72,7 @@ pub record Count : Type 0 where
 -- "a count of fields follows, 1 to 16 (else refusal 4)"
 abbrev pub countIn : LengthAnswer → Answer Count
 countIn n =
-    cond (ltb (n .value) 1) (refuse outsideSizes)
+    cond (ltb (n .value) fieldsLeast) (refuse outsideSizes)
     (cond (ltb fieldsLimit (n .value)) (refuse outsideSizes)
     (done (record { value = n .value; next = 1 + n .size })))
 
