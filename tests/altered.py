@@ -5,6 +5,9 @@ altered.py calls CALL AT         the hexadecimal digit at this place of each ans
 altered.py program KIND AT       the same of each result of this kind
 altered.py calls spares          spares are handed out and counted as repaired; likewise: program spares
 altered.py calls repeated        a repeated datagram is answered as done
+altered.py calls bad             good frames are handed out as bad ones
+altered.py calls none            frames are not handed out
+altered.py calls deaf            a lost number is not told to the joiner
 """
 
 import sys
@@ -44,6 +47,24 @@ def repeated_done(call, answer):
     return b'00' if call == b'11' and answer == b'FF07' else answer
 
 
+def frames_bad(call, answer):
+    """31 hands out a good frame as a bad one."""
+    return b'0002' + answer[4:] if call == b'31' and answer.startswith(b'0001') else answer
+
+
+def frames_none(call, answer):
+    """31 hands out nothing, and leaves the buffer."""
+    return b'00000000' + b'A5' * (len(answer) // 2 - 4) if call == b'31' and answer.startswith((b'0001', b'0002')) else answer
+
+
+class Deaf(Calls):
+    """32 is answered, and the joiner not told."""
+
+    def lost(self, arguments):
+        arguments.end()
+        return b'\x00'
+
+
 def main():
     """Answers standard input line by line, with the alteration."""
     out, stream = sys.stdout.buffer, sys.stdin.buffer
@@ -51,12 +72,13 @@ def main():
     if at:
         alter = digit_changed(how.encode(), int(at[0]))
     else:
-        alter = {'calls spares': spares_called, 'calls repeated': repeated_done, 'program spares': spares_released}[program + ' ' + how]
+        alter = {'calls spares': spares_called, 'calls repeated': repeated_done, 'calls bad': frames_bad, 'calls none': frames_none,
+                 'calls deaf': lambda call, answer: answer, 'program spares': spares_released}[program + ' ' + how]
     if program == 'program':
         session = Program()
         out.writelines(alter(result[:2], result) + b'\n' for line in lines_of(stream) for result in session.results(line))
     else:
-        calls = Calls()
+        calls = Deaf() if how == 'deaf' else Calls()
         out.writelines(alter(line[:2], calls.answer(line)) + b'\n' for line in lines_of(stream) if line)
 
 

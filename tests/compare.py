@@ -9,7 +9,7 @@ import sys
 
 import running
 from failing import Cases, altered, independent
-from generate import make_script
+from generate import FRAMES, make_script
 from making.lines import across_the_wrap, at_the_limit, program_lines
 from running import (around, call_of_answer, described, difference, expected_answers, expected_results, left_out, line_at, run,
                      text_of)
@@ -17,6 +17,7 @@ from running import (around, call_of_answer, described, difference, expected_ans
 HERE = pathlib.Path(__file__).resolve().parent
 CASES = HERE / 'cases'
 CALL_SEEDS, CALLS_EACH = 5, 4000
+FRAME_SEEDS, FRAMES_EACH = 3, 1500
 PROGRAM_SEEDS, LINES_EACH = 4, 1000
 
 
@@ -62,6 +63,8 @@ def comparisons(arguments):
         yield 'stored ' + name, arguments.program, compare_program, lambda g=given, e=expected: (g, e)
     for seed in seeds[:CALL_SEEDS]:
         yield 'calls of seed ' + seed, arguments.calls, compare_calls, lambda s=seed: made_calls(s)
+    for seed in seeds[:FRAME_SEEDS]:
+        yield 'calls on the joiner of seed ' + seed, arguments.calls, compare_calls, lambda s=seed: made_frames(s)
     for seed in seeds[:PROGRAM_SEEDS]:
         yield 'program lines of seed ' + seed, arguments.program, compare_program, lambda s=seed: made_lines(s)
     yield 'program across the wrap', arguments.program, compare_program, lambda: across_the_wrap(seeds[0], LINES_EACH)
@@ -71,7 +74,16 @@ def comparisons(arguments):
 
 def made_calls(seed):
     """A script of calls from a seed, and its answers."""
-    script = make_script(seed, CALLS_EACH)
+    return with_answers(make_script(seed, CALLS_EACH))
+
+
+def made_frames(seed):
+    """The same of calls on the joiner alone."""
+    return with_answers(make_script(seed, FRAMES_EACH, FRAMES))
+
+
+def with_answers(script):
+    """A script as a program reads it, and its answers."""
     return text_of(script.lines), text_of(answer for answer in script.answers if answer)
 
 

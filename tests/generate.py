@@ -5,7 +5,7 @@ import argparse
 import collections
 import sys
 
-from making import conversations, outside, single
+from making import conversations, frames, outside, single
 from making.lines import program_lines
 from making.script import Full, Script
 
@@ -15,15 +15,17 @@ SESSIONS = (conversations.honest, conversations.dishonest, conversations.sparse_
             conversations.contested, conversations.blanks, conversations.damaged_offers, conversations.at_the_limit,
             conversations.sending, outside.receiving_outside, outside.receiving_outside, outside.overwritten_inside,
             outside.odd_overwrites, outside.sending_outside, outside.sending_outside)
-SCENES = 2 * SINGLE + SESSIONS
+FRAMES = (frames.honest_row, frames.any_fields, frames.near_the_limit, frames.tainted, frames.outside, frames.overwritten_inside,
+          frames.odd_overwrites)
+SCENES = 2 * SINGLE + SESSIONS + FRAMES
 
 
-def make_script(seed, count):
+def make_script(seed, count, scenes=SCENES):
     """A script of so many lines; the scenes come in rounds, each round in another order."""
     script = Script(seed, count)
     try:
         while True:
-            for scene in script.random.sample(SCENES, len(SCENES)):
+            for scene in script.random.sample(scenes, len(scenes)):
                 scene(script)
     except Full:
         return script

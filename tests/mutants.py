@@ -12,8 +12,10 @@ import shutil
 import sys
 import tempfile
 
-from compare import CALL_SEEDS, PROGRAM_SEEDS, Failed, compare_calls, compare_program, made_calls, made_lines, stored
+from compare import (CALL_SEEDS, FRAME_SEEDS, PROGRAM_SEEDS, Failed, compare_calls, compare_program, made_calls, made_frames,
+                     made_lines, stored)
 from failing import Cases
+from joiner_mutants import JOINER_MUTANTS
 
 HERE = pathlib.Path(__file__).resolve().parent
 MUTANTS = (
@@ -118,9 +120,9 @@ MUTANTS = (
     ('not blank unchecked', 'receiving', '(place.state == BLANK) != (-j > total)', 'place.state == BLANK and not -j > total'),
     ('unknown length unchecked', 'receiving', '(0, 0) if place.state in', '(0, PACKET_LIMIT) if place.state in'),
     ('known length 0 unchecked', 'receiving', 'else (1, PACKET_LIMIT)\n            if', 'else (0, PACKET_LIMIT)\n            if'),
-    ('octets unchecked', 'stored', ' and self.octets.count(0, self.length) == PACKET_LIMIT - self.length', ''),
+    ('octets unchecked', 'stored', ' and self.octets.count(0, self.length) == len(self.octets) - self.length', ''),
     ('last octet unchecked', 'stored',
-     'self.octets.count(0, self.length) == PACKET_LIMIT - self.length',
+     'self.octets.count(0, self.length) == len(self.octets) - self.length',
      '(self.length == 160 or self.octets.count(0, self.length, 159) == 159 - self.length)'),
     ('accepted unknown unchecked', 'receiving', 'self.accepted and state == UNKNOWN or self.m', 'self.m'),
     ('unaccepted messages unchecked', 'receiving', ' or self.m and not self.accepted', ''),
@@ -130,8 +132,8 @@ MUTANTS = (
     ('m of 5 unchecked', 'receiving', ' and self.m <= M_LIMIT', ''),
     ('message past m unchecked', 'receiving', 'MESSAGE_LIMIT if i < self.m else 0', 'MESSAGE_LIMIT'),
     ('length over 160 unchecked', 'stored',
-     'least <= self.length <= most and self.octets.count(0, self.length) == PACKET_LIMIT - self.length',
-     'least <= min(self.length, 160) <= most and self.octets.count(0, self.length) == max(0, PACKET_LIMIT - '
+     'least <= self.length <= most and self.octets.count(0, self.length) == len(self.octets) - self.length',
+     'least <= min(self.length, 160) <= most and self.octets.count(0, self.length) == max(0, len(self.octets) - '
      'self.length)'),
     ('numbers before the first by size', 'sending', 'range(1, min(k, self.sent) + 1)', 'range(1, min(k, self.sent % 65536) + 1)'),
     ('settings after size', 'sending',
@@ -211,21 +213,24 @@ def make_mutant(directory, module, old, new):
 
 
 @functools.lru_cache(None)
-def input_at(compare, number):
+def input_at(kind, number):
     """The inputs that mutants are tried with, one after the other: a name, what is given, what is expected; None past the last."""
-    if compare is compare_calls:
+    if kind == 'joiner':
+        return ('joiner script %d' % number, *made_frames(str(number))) if number < FRAME_SEEDS else None
+    if kind == 'calls':
         return ('script %d' % number, *made_calls(str(number))) if number < CALL_SEEDS else None
     if number < PROGRAM_SEEDS:
         return ('lines %d' % number, *made_lines(str(number)))
     return dict(enumerate(stored('.lines', '.results'), PROGRAM_SEEDS)).get(number)
 
 
-def found_by(directory, argument, compare):
+def found_by(directory, kind):
     """The name of the first input that tells the mutant apart, or None."""
     program, errors = (shlex.quote(str(directory / name)) for name in ('independent.py', 'errors'))
+    argument, compare = ('program', compare_program) if kind == 'program' else ('', compare_calls)
     command = '%s %s %s 2> %s' % (shlex.quote(sys.executable), program, argument, errors)
     for number in itertools.count():
-        made = input_at(compare, number)
+        made = input_at(kind, number)
         if made is None:
             return None
         name, given, expected = made
@@ -235,19 +240,19 @@ def found_by(directory, argument, compare):
             return name
 
 
-def tried(argument, compare, module, old, new):
+def tried(kind, module, old, new):
     """One wrong program: what found it, or None."""
     with tempfile.TemporaryDirectory() as directory:
         make_mutant(pathlib.Path(directory), module, old, new)
-        return found_by(pathlib.Path(directory), argument, compare)
+        return found_by(pathlib.Path(directory), kind)
 
 
-def try_all(mutants, program_mutants):
+def try_all(mutants, program_mutants, joiner_mutants=()):
     """Tries wrong programs, as many at a time as there are processors; prints which input found each; status 1 if one was not found."""
     missed = 0
     with concurrent.futures.ThreadPoolExecutor(os.cpu_count()) as pool:
-        begun = [(name, pool.submit(tried, argument, compare, *edit)) for rows, argument, compare in
-                 ((mutants, '', compare_calls), (program_mutants, 'program', compare_program)) for name, *edit in rows]
+        begun = [(name, pool.submit(tried, kind, *edit)) for rows, kind in
+                 ((mutants, 'calls'), (joiner_mutants, 'joiner'), (program_mutants, 'program')) for name, *edit in rows]
         for name, trying in begun:
             try:
                 found = trying.result()
@@ -269,6 +274,8 @@ def self_test():
                MUTANTS[:1] + (('same', 'lengths', 'first >= 0xC0', 'first > 0xBF'),), ())
     test.fails('an edit of the program that changes no result', 'NOT FOUND: same\n0 passed, 1 failed\nSystemExit: 1', try_all,
                (), (('same', 'program', 'LINE_LIMIT = 3000', 'LINE_LIMIT = 2999 + 1'),))
+    test.fails('an edit of the joiner that changes no answer', 'NOT FOUND: same\n1 passed, 1 failed\nSystemExit: 1', try_all,
+               (), (), JOINER_MUTANTS[:1] + (('same', 'joining', 'len(whole) > FRAME_LIMIT', 'len(whole) >= FRAME_LIMIT + 1'),))
     test.fails('an edit of a text that is not there', 'lengths: the text to edit occurs 0 times', try_all,
                (('nowhere', 'lengths', 'no such text', ''),), ())
     test.fails('an edit that makes it no program', 'lengths: with the edit it is no program', try_all,
@@ -283,7 +290,7 @@ def main():
     if parser.parse_args().self_test:
         self_test()
     else:
-        try_all(MUTANTS, PROGRAM_MUTANTS)
+        try_all(MUTANTS, PROGRAM_MUTANTS, JOINER_MUTANTS)
 
 
 if __name__ == '__main__':

@@ -1,5 +1,7 @@
 #!/usr/bin/env python3
-"""Makes each check of running.py, cutting.py, run, prove, long, speed/ and ../test fail, and looks for what it must say."""
+"""Makes each check of running.py, cutting.py, run, prove, long, speed/ and ../test fail, and looks for what it must say.
+
+Also looks whether the scripts for the joiner meet every answer that there is."""
 
 import argparse
 import importlib.machinery
@@ -14,6 +16,7 @@ import running
 from compare import made_calls, made_lines
 from cutting import cut_calls, cut_lines
 from failing import HERE, Cases, altered, independent
+from generate import FRAMES, make_script
 from running import difference, left_out, lines_of, run, text_of
 
 LONG, RUN = (str(HERE / name) for name in ('long', 'run'))
@@ -52,6 +55,20 @@ def of_cutting(test):
     test.says('a wrong give-up', "[b'']", str(cut_lines(altered('program 03 5'), lines)))
     script = [b'10', b'14', b'11000001060000', b'120002', b'11000101070000', b'15', b'11000101080000']
     test.says('FF07 as 00', "[b'11000101070000', b'11000101080000']", str(cut_calls(altered('calls repeated'), text_of(script))))
+
+
+def of_generate(test):
+    """The scripts for the joiner meet every answer: each frame, each refusal, a line that is no call; a short one does not."""
+    every = '3000 310000 310001 310002 31FF0C 31FF0D 31FF0E 31FF11 31FF12 3200 32FF11 330000 330001 3400 34EE'
+    test.says('every answer', every, answers_met(1500))
+    test.fails('a short script', 'NOT CAUGHT by inner: one: ' + every, Cases('inner').says, 'one', every, answers_met(20))
+
+
+def answers_met(count):
+    """Each call on the joiner with the start of its answers: done and what was handed out or shown, or the refusal."""
+    script = make_script('0', count, FRAMES)
+    return ' '.join(sorted({(line[:2] + answer[:4 if line[:2] in (b'31', b'33') or answer[:1] == b'F' else 2]).decode()
+                            for line, answer in zip(script.lines, script.answers)}))
 
 
 def of_run(test):
@@ -234,9 +251,9 @@ def main():
     """All cases."""
     argparse.ArgumentParser(description=__doc__).parse_args()
     test = Cases('')
-    for test.of_what, cases in (('failing.py', of_failing), ('running.py', of_running), ('cutting.py', of_cutting), ('run', of_run),
-                                ('long', of_long), ('speed/measure', of_measure), ('speed/calls, parts', of_calls),
-                                ('../test', of_test), ('prove', of_prove)):
+    for test.of_what, cases in (('failing.py', of_failing), ('running.py', of_running), ('cutting.py', of_cutting),
+                                ('generate.py', of_generate), ('run', of_run), ('long', of_long), ('speed/measure', of_measure),
+                                ('speed/calls, parts', of_calls), ('../test', of_test), ('prove', of_prove)):
         cases(test)
     test.end()
 

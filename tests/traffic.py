@@ -4,66 +4,23 @@
 What was sent must come back, and every answer must be the one that the independent program gives."""
 
 import argparse
-import pathlib
 import random
-import re
 import sys
 
+import joined
 from failing import Cases, altered, independent
 from making.lines import Recording
 from making.script import Script
+from real import UNLIMITED, Wrong, as_expected, conversation, corpus, must, octets_of, settings_text, written_by
 from rules.arguments import shown, sized
 from rules.datagrams import PARITY, SPARES, read_datagram
 from rules.packets import read_packet
-from rules.receiving import AFTER, UNKNOWN
-from running import around, described, difference, left_out, lines_of, run, text_of
+from running import left_out
 
-CORPUS = pathlib.Path(__file__).resolve().parent / 'corpus'
 CALLS = ('tt_v17_ecm_v0.a2b', 'tt_v17_ecm_v0.b2a', 'tt_v29_ecm_v0.a2b', 'gt_v17_nonecm_v0.a2b')
 DATAGRAMS = {'tt_v17_ecm_v0.a2b.k3': (SPARES, 3, 0), 'tt_v17_ecm_v0.a2b.n3m2': (PARITY, 3, 2)}
 SETTINGS = ((SPARES, 0, 0), (SPARES, 3, 0), (SPARES, 8, 0), (PARITY, 3, 2), (PARITY, 1, 1), (PARITY, 8, 4))
-UNLIMITED = 10 ** 9
 RECEIVED, SPARE, REPAIRED, LOST = range(4)
-
-
-class Wrong(Exception):
-    """Something that was not as it was sent; its text says what."""
-
-
-def corpus(name):
-    """The packets or datagrams of a file."""
-    return [bytes.fromhex(line) for line in (CORPUS / (name + '.hex')).read_text().split()]
-
-
-def must(condition, text, *values):
-    """Something is wrong unless the condition holds."""
-    if not condition:
-        raise Wrong(text % values)
-
-
-def written_by(command, lines, expected):
-    """What the program under test writes for these lines: it ends well, with as many lines of hexadecimal as are expected."""
-    written, remark = run(command, text_of(lines))
-    must(not remark, 'it does not end well: %s', remark)
-    answers = lines_of(written)
-    must(len(answers) == len(expected), '%d answers in place of %d', len(answers), len(expected))
-    must(written == text_of(answers), 'the last answer has no line feed')
-    for at, answer in enumerate(answers):
-        must(re.fullmatch(b'([0-9A-Fa-f]{2})+', answer), 'answer %d is not of hexadecimal: %s', at + 1, around(answer, 0))
-    return answers
-
-
-def as_expected(expected, answers):
-    """Every answer is the expected one, to the last character."""
-    ours, theirs = text_of(expected), text_of(answers)
-    at = difference(ours, theirs)
-    if at is not None:
-        raise Wrong('\n'.join(['answer %d is not the expected one' % (at + 1)] + described(ours, theirs, at)))
-
-
-def octets_of(answers):
-    """Answers as octets."""
-    return [bytes.fromhex(answer.decode()) for answer in answers]
 
 
 def written_back(script, command, originals):
@@ -116,39 +73,6 @@ def sent_as_recorded(command, name):
     for number, (octets, answer) in enumerate(zip(datagrams, octets_of(answers))):
         must(answer == b'\x00' + sized(octets), 'datagram %d is sent as %s', number, answer.hex())
     as_expected(script.answers, answers)
-
-
-def conversation(seed, packets, settings, loss):
-    """A script in which all packets are sent, heard through a bad line, and released or given up."""
-    script = Script(seed, UNLIMITED)
-    on_the_way = []
-    for packet in packets:
-        _, octets = script.send(packet, *settings)
-        for _ in range(1 + (script.random.random() < 0.1)):
-            if script.random.random() >= loss:
-                on_the_way.append((script.sending.sent + script.random.choice((0, 0, 0, 1, 3, 9)), octets))
-        on_the_way.sort()
-        while on_the_way and on_the_way[0][0] <= script.sending.sent:
-            script.offer(on_the_way.pop(0)[1])
-        release(script, patience=20)
-    for _, octets in on_the_way:
-        script.offer(octets)
-    release(script, patience=0)
-    script.call(0x14)
-    return script
-
-
-def release(script, patience):
-    """Next while the base is known; a give-up once the sender is so far ahead of the base."""
-    session = script.receiving
-    while True:
-        known = session.place(session.base).state != UNKNOWN
-        if not known and script.sending.sent - session.total() <= min(patience, AFTER - 1):
-            return
-        if known:
-            script.next(160)
-        else:
-            script.give_up()
 
 
 def check_conversation(command, script, packets):
@@ -230,6 +154,7 @@ def checks(arguments):
                 name = CALLS[at % len(CALLS)]
                 label = '%s with %s, %d %% lost' % (name, settings_text(settings), 100 * loss)
                 yield label, lambda n=name, s=settings, l=loss: heard(arguments.calls, n, s, l)
+        yield from joined.checks(arguments.calls)
     if arguments.program:
         for name in DATAGRAMS:
             for loss in (0, 0.1, 0.4):
@@ -240,11 +165,6 @@ def checks(arguments):
 def counts_text(counts):
     """Counts in words."""
     return 'received %d, spare %d, repaired %d, lost %d' % tuple(counts)
-
-
-def settings_text(settings):
-    """Settings in words."""
-    return '%d spares' % settings[1] if settings[0] == SPARES else 'n = %d, m = %d' % settings[1:]
 
 
 def heard(command, name, settings, loss):
@@ -297,6 +217,7 @@ def self_test():
         test.fails('program, ' + name, words, through_the_program, altered(how), spares, 0.4)
     test.fails('program, a packet never released', '0 of 1 numbers released', check_results, [], packets[:1])
     test.fails('program, one too many', 'number 0 is released, and 0 were sent', check_results, [b'00000006'], [])
+    joined.self_test(test)
     test.ends('a wrong program', 1, '1 passed, 1 failed', [sys.executable, __file__, '--program', altered('program 01 0')])
     test.ends('no command', 2, 'a command is needed', [sys.executable, __file__])
     test.end()

@@ -4,6 +4,7 @@ import random
 
 from rules.arguments import shown, sized
 from rules.calls import Calls
+from rules.joining import FRAME_LIMIT
 
 
 class Full(Exception):
@@ -11,7 +12,7 @@ class Full(Exception):
 
 
 class Script:
-    """The lines so far, their answers, and the sessions as they now stand."""
+    """The lines so far, their answers, and the sessions and the joiner as they now stand."""
 
     def __init__(self, seed, count):
         self.random = random.Random(seed)
@@ -29,6 +30,11 @@ class Script:
     def sending(self):
         """The sending session that the script has led to."""
         return self.calls.sending
+
+    @property
+    def joiner(self):
+        """The joiner that the script has led to."""
+        return self.calls.joiner
 
     def line(self, text):
         """Adds a line as it stands; its answer."""
@@ -68,6 +74,23 @@ class Script:
     def overwrite_sending(self, field, number=0, octet=0, value=0):
         """23."""
         return self.call(0x23, shown(field, 1), shown(number % 65536, 2), shown(octet, 2), shown(value, 4))
+
+    def field(self, field_type, data=b'', cap=FRAME_LIMIT):
+        """31."""
+        return self.call(0x31, shown(field_type, 1), sized(data), shown(cap, 2))
+
+    def lost(self):
+        """32."""
+        return self.call(0x32)
+
+    def look_at_joiner(self, chance=1.0):
+        """33, with this chance."""
+        if self.random.random() < chance:
+            self.call(0x33)
+
+    def overwrite_joiner(self, field, octet=0, value=0):
+        """34."""
+        return self.call(0x34, shown(field, 1), shown(octet, 2), shown(value, 2))
 
     def look(self, chance=1.0):
         """Shows the counts and the view, with this chance."""

@@ -4,8 +4,9 @@ import binascii
 
 from .arguments import Arguments, NoCall, shown, sized
 from .datagrams import M_LIMIT, PARITY, SPARES, read_datagram, write_datagram
+from .joining import Joiner
 from .lengths import read_length, write_length
-from .overwriting import overwrite_receiving, overwrite_sending
+from .overwriting import overwrite_joiner, overwrite_receiving, overwrite_sending
 from .packets import DATA_PACKET, INDICATOR, read_packet, write_packet
 from .receiving import AFTER, BEFORE, Receiving
 from .refusals import Refusal
@@ -25,22 +26,24 @@ def lent(cap, call, size_width=2):
 
 
 def stored(item):
-    """A stored packet or message: its length as it stands, and its octets as far as there are any."""
+    """A stored packet, message or frame: its length as it stands, and its octets as far as there are any."""
     return shown(item.length, 2) + item.bytes()
 
 
 class Calls:
-    """The two sessions that the program holds, and the calls on them; each gives its answer."""
+    """The two sessions and the joiner that the program holds, and the calls on them; each gives its answer."""
 
     def __init__(self):
         self.receiving = Receiving()
         self.sending = Sending()
+        self.joiner = Joiner()
         self.by_first_octet = {
             0x01: self.read_length, 0x02: self.write_length, 0x03: self.read_datagram, 0x04: self.write_datagram,
             0x05: self.read_packet, 0x06: self.write_packet, 0x10: self.fresh_receiving, 0x11: self.offer,
             0x12: self.next, 0x13: self.give_up, 0x14: self.counts, 0x15: self.view, 0x16: self.many_given_up,
             0x17: self.overwrite_receiving, 0x20: self.fresh_sending, 0x21: self.send, 0x22: self.many_sent,
-            0x23: self.overwrite_sending}
+            0x23: self.overwrite_sending, 0x30: self.fresh_joiner, 0x31: self.field, 0x32: self.lost, 0x33: self.show_joiner,
+            0x34: self.overwrite_joiner}
 
     def answer(self, line):
         """The answer to a line that is not empty, without its line feed."""
@@ -186,8 +189,40 @@ class Calls:
         overwrite_sending(self.sending, arguments)
         return b'\x00'
 
+    def fresh_joiner(self, arguments):
+        """30."""
+        arguments.end()
+        self.joiner = Joiner()
+        return b'\x00'
+
+    def field(self, arguments):
+        """31."""
+        field_type, data = arguments.number(1), arguments.sized()
+        cap = arguments.last_cap()
+
+        def call():
+            what, octets = self.joiner.field(field_type, data, cap)
+            return shown(what, 1), octets
+        return lent(cap, call)
+
+    def lost(self, arguments):
+        """32."""
+        arguments.end()
+        self.joiner.lost()
+        return b'\x00'
+
+    def show_joiner(self, arguments):
+        """33."""
+        arguments.end()
+        return b'\x00' + shown(self.joiner.tainted, 1) + stored(self.joiner.frame)
+
+    def overwrite_joiner(self, arguments):
+        """34."""
+        overwrite_joiner(self.joiner, arguments)
+        return b'\x00'
+
 
 def answer_all(lines, calls=None):
-    """The answers to lines, the empty ones skipped, by one pair of sessions."""
+    """The answers to lines, the empty ones skipped, by one pair of sessions and one joiner."""
     calls = calls or Calls()
     return [calls.answer(line) for line in lines if line]

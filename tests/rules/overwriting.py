@@ -1,8 +1,7 @@
-"""Calls 17 and 23: one field of a held session is overwritten, as a caller could."""
+"""Calls 17, 23 and 34: one field of a held session or joiner is overwritten, as a caller could."""
 
 from .arguments import call_if
 from .datagrams import M_LIMIT
-from .packets import PACKET_LIMIT
 from .receiving import AFTER, BEFORE, BLANK, LOST, RECEIVED, REPAIRED, SPARE
 from .sending import HISTORY
 
@@ -11,8 +10,8 @@ COUNT_FIELDS = {1: RECEIVED, 2: SPARE, 3: REPAIRED, 4: LOST}
 
 
 def put_octet(item, place, value):
-    """Overwrites one octet of a stored packet or message."""
-    call_if(place < PACKET_LIMIT and value <= OCTET)
+    """Overwrites one octet of a stored packet, message or frame."""
+    call_if(place < len(item.octets) and value <= OCTET)
     item.octets[place] = value
 
 
@@ -75,3 +74,16 @@ def overwrite_sending(session, arguments):
         put_attribute(item, 'length', value, TWO_OCTETS)
     else:
         put_octet(item, octet, value)
+
+
+def overwrite_joiner(joiner, arguments):
+    """34: field, octet, value."""
+    field, octet, value = arguments.number(1), arguments.number(2), arguments.number(2)
+    arguments.end()
+    if field == 0x00:
+        put_attribute(joiner, 'tainted', value, 1)
+    elif field == 0x01:
+        put_attribute(joiner.frame, 'length', value, TWO_OCTETS)
+    else:
+        call_if(field == 0x02)
+        put_octet(joiner.frame, octet, value)

@@ -16,11 +16,12 @@ NO_ROOM = 13        # the result is longer than the lent buffer
 DATA = 14           # data where none may be, or none where it must
 SETTINGS = 15       # settings, given lengths, or a line's digits
 LIMIT = 16          # 1,000,000 numbers have passed
-RANGES = 17         # session outside its ranges
+RANGES = 17         # session or joiner outside its ranges
+FRAME = 18          # the frame would pass 300 octets
 
 
 class Refusal(Exception):
-    """A refused call; it has its number only, and nothing was changed."""
+    """A refused call; it has its number only, and nothing was changed, but by 18."""
 
     def __init__(self, number):
         super().__init__(number)

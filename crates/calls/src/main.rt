@@ -1,10 +1,11 @@
 // The calls program: every call of document 01 on one line of hexadecimal, one answer a line, so that any other
-// program can be compared with it call by call. It holds one receiving and one sending session, both fresh at the start.
+// program can be compared with it call by call. It holds one receiving and one sending session and one joiner, all fresh at the start.
 mod answers;
 mod arguments;
 mod fields;
 mod input;
 mod items;
+mod joiner;
 mod receiver;
 mod sender;
 mod session;
@@ -15,6 +16,7 @@ use answers::say_no_call;
 use arguments::number;
 use arguments::octet;
 use arguments::part;
+use frames::Joiner;
 use input::BLOCK;
 use input::KEPT;
 use input::octets_of;
@@ -22,10 +24,11 @@ use input::read_line;
 use sending::Sender;
 use sessions::Session;
 
-// Both sessions.
+// Both sessions, and the joiner.
 struct Held {
     receiver: Session,
     sender: Sender,
+    joiner: Joiner,
 }
 
 // Of a line: how many octets of arguments it has beside its cap, and how many its cap has, which is its last argument.
@@ -41,12 +44,13 @@ fn shape_of(call: u8) -> Shape {
     match call {
         0x01 | 0x03 | 0x05 | 0x11 => Shape(ANY, 0),
         0x02 => Shape(2, 2),
-        0x04 | 0x06 | 0x21 => Shape(ANY, 2),
-        0x10 | 0x13 | 0x14 | 0x15 | 0x20 => Shape(0, 0),
+        0x04 | 0x06 | 0x21 | 0x31 => Shape(ANY, 2),
+        0x10 | 0x13 | 0x14 | 0x15 | 0x20 | 0x30 | 0x32 | 0x33 => Shape(0, 0),
         0x12 => Shape(0, 2),
         0x16 | 0x22 => Shape(4, 0),
         0x17 => Shape(10, 0),
         0x23 => Shape(9, 0),
+        0x34 => Shape(5, 0),
         _ => Shape(NONE, 0),
     }
 }
@@ -80,6 +84,7 @@ fn cap_of(octets: &[u8], size: usize) -> usize {
 fn called(held: Held, call: u8, s: &[u8], lent: &mut [u8]) -> Held {
     let receiver = held.receiver;
     let sender = held.sender;
+    let joiner = held.joiner;
     if call < 0x10 {
         items::answer(call, s, lent);
         return held;
@@ -89,12 +94,22 @@ fn called(held: Held, call: u8, s: &[u8], lent: &mut [u8]) -> Held {
         return Held {
             receiver: after,
             sender,
+            joiner,
         };
     }
-    let after = sender::answer(sender, call, s, lent);
+    if call < 0x30 {
+        let after = sender::answer(sender, call, s, lent);
+        return Held {
+            receiver,
+            sender: after,
+            joiner,
+        };
+    }
+    let after = joiner::answer(joiner, call, s, lent);
     Held {
         receiver,
-        sender: after,
+        sender,
+        joiner: after,
     }
 }
 
@@ -133,7 +148,12 @@ fn turn(held: Held, block: &mut [u8; BLOCK], at: &mut usize, end: &mut usize) ->
 fn main() {
     let receiver = Session::fresh();
     let sender = Sender::fresh();
-    let mut held = Held { receiver, sender };
+    let joiner = Joiner::fresh();
+    let mut held = Held {
+        receiver,
+        sender,
+        joiner,
+    };
     let mut block = [0u8; BLOCK];
     let mut at = 0;
     let mut end = 0;

@@ -1,5 +1,7 @@
 -- The demands, each proved in its file. Assumes nothing.
 use Rattle.sending.proofs.Claims as sending
+use Rattle.frames.proofs.Claims as frames
+use Rattle.frame_feed.proofs.Claims as frameFeed
 use Rattle.demands.specs.Claims.{Claims}
 use Rattle.demands.proofs.Demand1.{demand-1}
 use Rattle.demands.proofs.Demand2.{demand-2}
@@ -24,4 +26,6 @@ claims =
       oneOutcome = one-outcome;
       twelveCases = twelve-cases;
       program = program-claims;
+      wholeFrames = frames.claims;
+      framesFromSession = frameFeed.claims;
     }

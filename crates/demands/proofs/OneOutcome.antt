@@ -11,6 +11,8 @@ use Rattle.packets.proofs.Claims as packets
 use Rattle.sessions.proofs.Claims as sessions
 use Rattle.sending.proofs.Claims as sending
 use Rattle.lines.proofs.Claims as lines
+use Rattle.frames.proofs.Claims as frames
+use Rattle.frame_feed.proofs.Claims as frameFeed
 use Rattle.demands.specs.OneOutcome.{OneWrite, OneOutcome}
 use Rattle.demands.proofs.OneTold.{one-told}
 use Rattle.demands.proofs.OneInside.{one-inside}
@@ -33,6 +35,8 @@ one-outcome =
       receiver = sessions.claims .oneOutcome;
       sender = sending.claims .oneOutcome;
       program = lines.claims .oneOutcome;
+      joiner = frames.claims .oneOutcome;
+      frameFeed = frameFeed.claims .oneOutcome;
       told = one-told;
       inside = one-inside;
     }

@@ -1,8 +1,8 @@
 -- Two answers of a call that only tells something are one: its promise is an equation with a function of what was given. Assumes
 -- nothing.
 use mathlib.Core.Path.{_≡_, sym, _∙_}
-use Rattle.demands.specs.OneTold.{ToldByLengths, ToldByDatagrams, ToldByPackets, ToldByStores, ToldByHeld, ToldBySending, ToldByLines}
-use Rattle.demands.specs.OneTold.{OneTold}
+use Rattle.demands.specs.OneTold.{ToldByLengths, ToldByDatagrams, ToldByPackets, ToldByStores, ToldByHeld, ToldBySending}
+use Rattle.demands.specs.OneTold.{ToldByLines, ToldByFrames, OneTold}
 
 -- both are what is told
 pub told-one : {A : Type 0} {told : A} (r q : A) → r ≡ told → q ≡ told → r ≡ q
@@ -81,6 +81,9 @@ by-lines =
       kindOctet = λ kind. told-one;
     }
 
+by-frames : ToldByFrames
+by-frames = record { frameLimit = told-one }
+
 pub one-told : OneTold
 one-told =
     record {
@@ -91,4 +94,5 @@ one-told =
       byHeld = by-held;
       bySending = by-sending;
       byLines = by-lines;
+      byFrames = by-frames;
     }

@@ -1,5 +1,7 @@
 -- The demands on the whole, each under its name: what the library is proved to do. Definitions only.
 use Rattle.sending.specs.Claims as sending
+use Rattle.frames.specs.Claims as frames
+use Rattle.frame_feed.specs.Claims as frameFeed
 use Rattle.demands.specs.Demand1.{Demand1}
 use Rattle.demands.specs.Demand2.{Demand2}
 use Rattle.demands.specs.Demand3.{Demand3}
@@ -25,3 +27,6 @@ pub record Claims : Type 0 where
   pub twelveCases : TwelveCases
   -- the program: document 01's whole case, and what it writes of any input, however it is cut
   pub program : Program
+  -- document 02, request 1, whole frames: the honest line, never 17; and what left a session, fed to a joiner
+  pub wholeFrames : frames.Claims
+  pub framesFromSession : frameFeed.Claims

@@ -17,6 +17,8 @@ use Rattle.packets.specs.Claims as packets
 use Rattle.sending.specs.Claims as sending
 use Rattle.sessions.specs.Claims as sessions
 use Rattle.lines.specs.Claims as lines
+use Rattle.frames.specs.Claims as frames
+use Rattle.frame_feed.specs.Claims as frameFeed
 use Rattle.demands.specs.OneTold.{OneTold}
 use Rattle.demands.specs.OneInside.{OneInside}
 
@@ -33,8 +35,9 @@ pub record Writers : Type 0 where
       → OneWrite (packetToWrite kind value types lengths octets)
 
 -- all public calls of the library: `read`, `read_within` and `write` of `lengths`, `read` and `write` of `datagram_reader` and
--- `datagram_writer`, of `packet_reader` and `packet_writer`; `Session::fresh`, `offer`, `next` and `give_up`; `Sender::fresh`, `in_ranges` and `send`; the program's
--- `hex_to_octets`, `step`, `take_block` and `finish`; those that only tell; and those that serve callers inside this repository
+-- `datagram_writer`, of `packet_reader` and `packet_writer`; `Session::fresh`, `offer`, `next` and `give_up`; `Sender::fresh`,
+-- `in_ranges` and `send`; the program's `hex_to_octets`, `step`, `take_block` and `finish`; `Joiner::fresh`, `field` and `lost` of
+-- `frame_joiner`, `turns` and `feed` of `frame_feed`; those that only tell; and those that serve callers inside this repository
 pub record OneOutcome : Type 0 where
   pub lengths : lengths.OneOutcome
   pub datagrams : datagrams.OneOutcome
@@ -43,5 +46,7 @@ pub record OneOutcome : Type 0 where
   pub receiver : sessions.OneOutcome
   pub sender : sending.OneOutcome
   pub program : lines.OneOutcome
+  pub joiner : frames.OneOutcome
+  pub frameFeed : frameFeed.OneOutcome
   pub told : OneTold
   pub inside : OneInside

@@ -22,6 +22,7 @@ use Rattle.held.specs.declared.Counts.{Counts}
 use Rattle.held.specs.declared.State.{State}
 use Rattle.sending.specs.Sending as history
 use Rattle.sending.specs.Sender as sender
+use Rattle.frames.specs.Frame as frames
 use Rattle.lines.specs.Hex as hex
 use Rattle.lines.specs.Feed as feed
 use Rattle.lines.specs.Lines as lines
@@ -106,6 +107,10 @@ pub record ToldByLines : Type 0 where
   pub allDigits : (line : List ℕ) → One (λ (r : Bool). r ≡ hex.allDigits line)
   pub kindOctet : (kind : State) → One (λ (r : ℕ). r ≡ lines.kindOctet (table.stateOf kind))
 
+-- `frames`: `limit` of `Joiner`
+pub record ToldByFrames : Type 0 where
+  pub frameLimit : One (λ (r : ℕ). r ≡ frames.frameLimit)
+
 pub record OneTold : Type 0 where
   pub byLengths : ToldByLengths
   pub byDatagrams : ToldByDatagrams
@@ -114,3 +119,4 @@ pub record OneTold : Type 0 where
   pub byHeld : ToldByHeld
   pub bySending : ToldBySending
   pub byLines : ToldByLines
+  pub byFrames : ToldByFrames

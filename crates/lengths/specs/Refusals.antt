@@ -66,9 +66,13 @@ wrongSettings = 15
 abbrev pub allPassed : ℕ
 allPassed = 16
 
--- session outside its ranges
+-- session outside its ranges; a joiner outside its own
 abbrev pub outsideRanges : ℕ
 outsideRanges = 17
+
+-- document 02, request 1: "18, the frame would pass 300"
+abbrev pub frameTooLong : ℕ
+frameTooLong = 18
 
 -- "A refusal returns its number only"
 abbrev pub refusal : ℕ → Refusal

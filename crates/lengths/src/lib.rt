@@ -46,6 +46,9 @@ impl Refusal {
 
     pub const OUTSIDE_RANGES: u8 = 17;
 
+    // Document 02, request 1.
+    pub const FRAME_TOO_LONG: u8 = 18;
+
     pub fn new(number: u8) -> Refusal
         ensures { λ r. ⌜ RefusalMade number r ⌝ }
     {

@@ -1,0 +1,47 @@
+-- The claims of this crate. Assumes nothing.
+use mathlib.Core.Path.{_≡_, refl, sym, ap, _∙_}
+use mathlib.Core.List.{List}
+use lib.ListN.{getElem?}
+use mathlib.Core.Option.{Option, none, some}
+use Prim.Native.Nat.{ℕ}
+use Rattle.lengths.specs.Length.{lengthAt}
+use Rattle.formats.specs.Reading as reading
+use Rattle.formats.specs.Format.{octetsFront, twoFront}
+use Rattle.packets.specs.Packet.{every, root, addition, enumerated, typeOfMsg, start, count, header, size, fieldData, field, dataField, packet}
+use Rattle.packets.specs.Packet as description
+use Rattle.frames.specs.Frame.{Joining, freshJoining, withAdded, goodFrame, onOpen, fieldStep}
+use Rattle.frames.specs.Joiner.{heldAs, joiningOf}
+use Rattle.frames.specs.Line.{Event, aField, aLoss, eventStep, handedBy}
+use Rattle.frames.specs.Claims.{HandedOut}
+use Rattle.frames.specs.declared.Joiner.{Joiner}
+use Rattle.frames.specs.declared.Joined.{Joined}
+use Rattle.frames.proofs.Laws.{held-joining}
+use Rattle.frames.proofs.Claims as joiner
+use Rattle.frame_feed.specs.Feed.{Heard, eventsOf, eventsFrom, framesFrom, released}
+use Rattle.frame_feed.specs.Promise.{EventOwes}
+use Rattle.frame_feed.specs.Claims.{Claims, exampleHeard}
+
+one-event : (event : Option Event) (j : Joiner) (old new other : List ℕ) (r q : Joined) → EventOwes event j old new r
+    → EventOwes event j old other q → (r ≡ q) × (new ≡ other)
+one-event (some (aField f)) j old new other r q m n = joiner.claims .oneOutcome .field m n
+one-event (some aLoss) j old new other r q m n = (joiner.claims .oneOutcome .lost (m .owes) (n .owes), m .lent ∙ sym (n .lent))
+one-event none j old new other r q m n = (m .answer ∙ sym (n .answer), m .lent ∙ sym (n .lent))
+
+pub claims : Claims
+unfolding framesFrom eventsFrom eventsOf handedBy eventStep fieldStep onOpen withAdded goodFrame description.readPacket
+    description.wholePacket packet start typeOfMsg enumerated root addition dataField count field header fieldData size reading.bit reading.bits
+    reading.flag reading.align reading.octetwise reading.sequenceOf octetsFront twoFront every lengthAt
+claims =
+    record {
+      oneOutcome =
+          record {
+            turns = λ m n. m .answer ∙ sym (n .answer);
+            feed = λ {j} {kind} {packet} {turn} {old} {new} {other} {r} {q} m n.
+                one-event (getElem? (eventsOf (released kind packet)) turn) j old new other r q (m .owes) (n .owes);
+          };
+      frames =
+          λ heard {j} {frames} fresh fed.
+          joiner.claims .anyEvents .handed (HandedOut.fresh fresh) fed
+          ∙ ap (λ (v : Joining). handedBy v (eventsFrom heard)) (ap joiningOf (fresh .state) ∙ held-joining freshJoining);
+      example = refl;
+    }

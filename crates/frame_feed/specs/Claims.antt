@@ -1,0 +1,40 @@
+-- The claims of this crate: statements alone. Definitions only.
+use Prim.Native.Nat.{ℕ}
+use mathlib.Core.Path.{_≡_}
+use mathlib.Core.List.{List, [], _∷_}
+use Rattle.views.specs.Cells.{State, received, spare, repaired}
+use Rattle.frames.specs.Frame.{Frame, good}
+use Rattle.frames.specs.Promise.{FreshMade}
+use Rattle.frames.specs.Claims.{HandsOut}
+use Rattle.frames.specs.declared.Joiner.{Joiner}
+use Rattle.frames.specs.declared.Joined.{Joined}
+use Rattle.frame_feed.specs.Feed.{Heard, released, lost, eventsFrom, framesFrom}
+use Rattle.frame_feed.specs.Promise.{TurnsTold, FeedOwes}
+
+-- two outcomes that a promise allows are equal
+pub record OneOutcome : Type 0 where
+  pub turns : {kind : State} {packet : List ℕ} {r q : ℕ} → TurnsTold kind packet r → TurnsTold kind packet q → r ≡ q
+  pub feed : {j : Joiner} {kind : State} {packet : List ℕ} {turn : ℕ} {old new other : List ℕ} {r q : Joined}
+      → FeedOwes j kind packet turn old new r → FeedOwes j kind packet turn old other q
+      → (r ≡ q) × (new ≡ other)
+
+-- a frame in one packet; one whose beginning is lost; one of a repaired packet, whose zeros at the end are no field; an indicator; and a
+-- packet that is refused, so that the frame after it is dropped
+abbrev pub exampleHeard : List Heard
+exampleHeard =
+    released received (0xC0 ∷ 0x02 ∷ 0x80 ∷ 0x00 ∷ 0x02 ∷ 0xFF ∷ 0x13 ∷ 0x80 ∷ 0x40 ∷ [])
+    ∷ lost
+    ∷ released spare (0xC0 ∷ 0x01 ∷ 0x80 ∷ 0x00 ∷ 0x00 ∷ 0x55 ∷ [])
+    ∷ released received (0xC0 ∷ 0x01 ∷ 0x20 ∷ [])
+    ∷ released repaired (0xC0 ∷ 0x02 ∷ 0x80 ∷ 0x00 ∷ 0x00 ∷ 0xAA ∷ 0x40 ∷ 0x00 ∷ [])
+    ∷ released received (0x06 ∷ [])
+    ∷ released received (0x01 ∷ [])
+    ∷ released received (0xC0 ∷ 0x02 ∷ 0x80 ∷ 0x00 ∷ 0x00 ∷ 0xBB ∷ 0x40 ∷ [])
+    ∷ []
+
+pub record Claims : Type 0 where
+  pub oneOutcome : OneOutcome
+  -- whatever left a session, fed to a fresh joiner with room for any frame, hands out the frames of the definition
+  pub frames : (heard : List Heard) {j : Joiner} {frames : List Frame} → FreshMade j → HandsOut j (eventsFrom heard) frames
+      → frames ≡ framesFrom heard
+  pub example : framesFrom exampleHeard ≡ good (0xFF ∷ 0x13 ∷ 0x80 ∷ []) ∷ good (0xAA ∷ []) ∷ []

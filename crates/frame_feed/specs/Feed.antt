@@ -1,0 +1,63 @@
+-- Document 02, request 1, over the receiving session: what next released and give up booked lost, as a joiner is fed with it. A packet
+-- is read by its kind, as received or as repaired, and its fields are fed one by one; a packet that is refused counts as a loss, since
+-- nothing in it can be trusted. Definitions only.
+use Prim.Native.Nat.{ℕ}
+use mathlib.Core.List.{List, [], _∷_, _++_, map}
+use lib.ListN.{take}
+use Rattle.lengths.specs.Answers.{Answer, done, refused}
+use Rattle.packets.specs.Packet.{PacketAnswer, readPacket, dataOf}
+use Rattle.packets.specs.declared.types.Ending.{Ending}
+use Rattle.packets.specs.declared.types.Ending.the-variants.{Whole, Repaired}
+use Rattle.packets.specs.declared.types.Field as packets
+use Rattle.views.specs.Cells.{State, unknown, received, spare, repaired, blank}
+use Rattle.held.specs.Table.{stateOf}
+use Rattle.leaving.specs.declared.Released.{Released}
+use Rattle.leaving.specs.declared.Released.the-variants as answer
+use Rattle.leaving.specs.declared.Lost.{Lost}
+use Rattle.leaving.specs.declared.Lost.the-variants as loss
+use Rattle.frames.specs.Frame.{Frame, freshJoining}
+use Rattle.frames.specs.Line.{Field, Event, aField, aLoss, handedBy}
+
+-- a number that left a session: its packet, with its kind, or lost
+pub data Heard : Type 0 where
+  released : State → List ℕ → Heard
+  lost : Heard
+
+-- what an answer of next hands out, at the front of the lent buffer, and what an answer of give up books; a refusal is neither
+abbrev pub heardNext : Released → List ℕ → List Heard
+heardNext (answer.Packet kind number size) buffer = released (stateOf kind) (take size buffer) ∷ []
+heardNext (answer.Refused why) buffer = []
+
+abbrev pub heardLost : Lost → List Heard
+heardLost (loss.Number number) = lost ∷ []
+heardLost (loss.Refused why) = []
+
+-- "A received or spare packet ends at its last field. A repaired one may go on with zeros only"
+abbrev pub endingOf : State → Ending
+endingOf unknown = Whole
+endingOf received = Whole
+endingOf spare = Whole
+endingOf repaired = Repaired
+endingOf blank = Whole
+
+-- a field of a packet's octets
+abbrev pub fieldIn : List ℕ → packets.Field → Field
+fieldIn s f = record { type = f .kind; octets = dataOf s f }
+
+-- what a packet is that reads so
+abbrev pub eventsRead : List ℕ → Answer PacketAnswer → List Event
+eventsRead s (done p) = map (λ f. aField (fieldIn s f)) (p .fields)
+eventsRead s (refused why) = aLoss ∷ []
+
+unfoldable pub eventsOf : Heard → List Event
+eventsOf (released kind octets) = eventsRead octets (readPacket (endingOf kind) octets)
+eventsOf lost = aLoss ∷ []
+
+-- all that left, in order
+unfoldable pub eventsFrom : List Heard → List Event
+eventsFrom [] = []
+eventsFrom (h ∷ heard) = eventsOf h ++ eventsFrom heard
+
+-- the frames that it makes, from a fresh joiner on
+unfoldable pub framesFrom : List Heard → List Frame
+framesFrom heard = handedBy freshJoining (eventsFrom heard)

@@ -1,0 +1,4 @@
+pub mod Feed
+pub mod Promise
+pub mod Inner
+pub mod Claims

@@ -1,0 +1,35 @@
+-- What each call of this crate owes. Definitions only.
+use Prim.Native.Nat.{ℕ}
+use mathlib.Core.Path.{_≡_}
+use mathlib.Core.List.{List}
+use mathlib.Core.Option.{Option, none, some}
+use lib.ListN.{length, getElem?}
+use Rattle.views.specs.Cells.{State}
+use Rattle.frames.specs.Promise.{FieldOwes, LossOwes}
+use Rattle.frames.specs.Line.{Event, aField, aLoss}
+use Rattle.frames.specs.declared.Joiner.{Joiner}
+use Rattle.frames.specs.declared.Joined.{Joined}
+use Rattle.frames.specs.declared.Handed.the-variants as handed
+use Rattle.frame_feed.specs.Feed.{released, eventsOf}
+
+-- what `turns` owes: a turn for each event
+pub record TurnsTold (kind : State) (packet : List ℕ) (r : ℕ) : Type 0 where
+  pub answer : r ≡ length (eventsOf (released kind packet))
+
+-- a lost number is lent a buffer that it leaves; past the last event nothing is done
+pub record LossFed (j : Joiner) (old new : List ℕ) (r : Joined) : Type 0 where
+  pub owes : LossOwes j r
+  pub lent : new ≡ old
+
+pub record NothingFed (j : Joiner) (old new : List ℕ) (r : Joined) : Type 0 where
+  pub answer : r ≡ record { joiner = j; answer = handed.Nothing }
+  pub lent : new ≡ old
+
+abbrev pub EventOwes : Option Event → Joiner → List ℕ → List ℕ → Joined → Type 0
+EventOwes (some (aField f)) j old new r = FieldOwes j (f .type) (f .octets) old new r
+EventOwes (some aLoss) j old new r = LossFed j old new r
+EventOwes none j old new r = NothingFed j old new r
+
+-- what `feed` owes: the event of that turn, fed to the joiner
+pub record FeedOwes (j : Joiner) (kind : State) (packet : List ℕ) (turn : ℕ) (old new : List ℕ) (r : Joined) : Type 0 where
+  pub owes : EventOwes (getElem? (eventsOf (released kind packet)) turn) j old new r

@@ -1,0 +1,39 @@
+// From a receiving session to frames: document 02, request 1, over what next released. A packet that reads is fed to the joiner field
+// by field, one that does not read is fed to it as one lost number. A number that give up booked lost is fed by `frame_joiner::lost`.
+mod turn;
+
+use frame_joiner::field;
+use frame_joiner::lost;
+use frames::Handed;
+use frames::Joined;
+use frames::Joiner;
+use held::State;
+use turn::Turn;
+use turn::turn_of;
+ghost use mathlib.Core.Path.{_≡_};
+ghost use lib.ListN.{length};
+ghost use Rattle.held.specs.Table.{stateOf};
+ghost use Rattle.frame_feed.specs.Feed.{eventsOf, released};
+ghost use Rattle.frame_feed.specs.Promise.{FeedOwes};
+pub use turn::turns;
+
+// The turn-th thing that a released packet of this kind is to the joiner, from 0: one of its fields, or a loss. Past the last one
+// nothing is done. A frame that ends is written to the front of out.
+pub fn feed(joiner: Joiner, kind: State, packet: &[u8], turn: usize, out: &mut [u8]) -> Joined
+    ensures { λ r. ⌜ FeedOwes joiner (stateOf kind) (now (packet .entry)) turn (now (out .entry)) (now (out .exit)) r ⌝ }
+{
+    let event = turn_of(kind, packet, turn);
+    match event {
+        Turn::Field(f) => {
+            let number = f.kind;
+            let from = f.start;
+            let to = from + f.size;
+            field(joiner, number, &packet[from..to], out)
+        }
+        Turn::Loss => lost(joiner),
+        Turn::Over => Joined {
+            joiner,
+            answer: Handed::Nothing,
+        },
+    }
+}

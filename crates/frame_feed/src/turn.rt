@@ -1,0 +1,77 @@
+// What a released packet is to the joiner, turn by turn.
+use held::State;
+use packets::Ending;
+use packets::Field;
+use packets::Reading;
+ghost use mathlib.Core.Path.{_≡_};
+ghost use lib.ListN.{length};
+ghost use Rattle.held.specs.Table.{stateOf};
+ghost use Rattle.frame_feed.specs.Feed.{endingOf};
+ghost use Rattle.frame_feed.specs.Promise.{TurnsTold};
+ghost use Rattle.frame_feed.specs.Inner.{TurnTold};
+
+// One turn: a field of the packet, a lost number, or nothing more.
+pub enum Turn {
+    Field(Field),
+    Loss,
+    Over,
+}
+
+// "packets read as received or as repaired by their kind".
+fn ending_of(kind: State) -> Ending
+    ensures { λ r. ⌜ r ≡ endingOf (stateOf kind) ⌝ }
+{
+    match kind {
+        State::Unknown => Ending::Whole,
+        State::Received => Ending::Whole,
+        State::Spare => Ending::Whole,
+        State::Repaired => Ending::Repaired,
+        State::Blank => Ending::Whole,
+    }
+}
+
+// How many turns a released packet of this kind takes.
+pub fn turns(kind: State, packet: &[u8]) -> usize
+    ensures { λ r. ⌜ TurnsTold (stateOf kind) (now (packet .entry)) r ⌝ }
+{
+    let ending = ending_of(kind);
+    let read = packet_reader::read(packet, ending);
+    let reading = read.reading;
+    match reading {
+        Reading::Packet {
+            kind: _,
+            value: _,
+            count,
+        } => count,
+        Reading::Refused(_) => 1,
+    }
+}
+
+// One of them.
+pub fn turn_of(kind: State, packet: &[u8], turn: usize) -> Turn
+    ensures { λ r. ⌜ TurnTold (stateOf kind) (now (packet .entry)) turn r ⌝ }
+{
+    let ending = ending_of(kind);
+    let read = packet_reader::read(packet, ending);
+    let reading = read.reading;
+    match reading {
+        Reading::Packet {
+            kind: _,
+            value: _,
+            count,
+        } => {
+            if turn < count {
+                let fields = read.fields;
+                let f = fields[turn];
+                return Turn::Field(f);
+            }
+            Turn::Over
+        }
+        Reading::Refused(_) => {
+            if turn == 0 {
+                return Turn::Loss;
+            }
+            Turn::Over
+        }
+    }
+}

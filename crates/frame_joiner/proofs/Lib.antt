@@ -1,0 +1,4 @@
+mod Storage
+mod Owing
+mod Calls
+mod Feeding

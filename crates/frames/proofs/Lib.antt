@@ -1,0 +1,7 @@
+pub mod Laws
+mod Outcome
+mod Fed
+mod HandedOut
+mod Stretch
+mod Line
+pub mod Claims

@@ -1,0 +1,67 @@
+-- Fields and lost numbers at which another reading of document 02's request 1 was possible, or a mistake would look right: each case
+-- says one answer, or the joiner after it. Definitions only.
+use Prim.Native.Nat.{ℕ}
+use mathlib.Core.Path.{_≡_}
+use mathlib.Core.Bool.{true, false}
+use mathlib.Core.List.{List, [], _∷_}
+use mathlib.Core.Option.{none, some}
+use lib.ListN.{replicate}
+use Rattle.lengths.specs.Refusals.{notAssigned, noRoom, wrongData, outsideRanges, frameTooLong}
+use Rattle.lengths.specs.Answers.{done, refuse}
+use Rattle.frames.specs.Frame.{tainted, opened, good, bad}
+use Rattle.frames.specs.Joiner.{heldAs}
+use Rattle.frames.specs.Promise.{fieldAnswer, joinerAfter, lossAnswer, joinerAfterLoss}
+use Rattle.frames.specs.declared.Joiner.{Joiner}
+
+-- a joiner with this frame open; one at the limit; and joiners outside their ranges
+abbrev pub with : List ℕ → Joiner
+with frame = heldAs (opened frame)
+
+abbrev pub fullFrame : List ℕ
+fullFrame = replicate 300 0x55
+
+abbrev pub saved301 : Joiner
+saved301 = record { tainted = false; size = 301; frame = replicate 300 0x55 }
+
+abbrev pub savedTainted : Joiner
+savedTainted = record { tainted = true; size = 1; frame = replicate 300 0 }
+
+abbrev pub savedPast : Joiner
+savedPast = record { tainted = false; size = 299; frame = replicate 300 0x55 }
+
+pub record Cases : Type 0 where
+  -- "2 and 4 hand out a good frame; 3 and 5 a bad one", and no frame is open after it
+  pub good-out : fieldAnswer 2 2 [] (with (0xFF ∷ 0x13 ∷ [])) ≡ done (some (good (0xFF ∷ 0x13 ∷ [])))
+  pub bad-out : fieldAnswer 2 5 [] (with (0xFF ∷ 0x13 ∷ [])) ≡ done (some (bad (0xFF ∷ 0x13 ∷ [])))
+  pub out-after : joinerAfter 2 2 [] (with (0xFF ∷ 0x13 ∷ [])) ≡ with []
+  -- "A good frame of no octets is dropped"; a bad one is handed out
+  pub good-empty : fieldAnswer 0 2 [] (with []) ≡ done none
+  pub bad-empty : fieldAnswer 0 3 [] (with []) ≡ done (some (bad []))
+  -- "1, 6 or 7 drop what is open"
+  pub drop-1 : joinerAfter 0 1 [] (with (0xFF ∷ [])) ≡ with []
+  pub drop-6 : joinerAfter 0 6 (0x11 ∷ []) (with (0xFF ∷ [])) ≡ with []
+  pub drop-7 : joinerAfter 0 7 [] (with (0xFF ∷ [])) ≡ with []
+  -- "A loss taints everything up to and including the next field of types 1 to 5, whose frame is dropped"
+  pub loss-taints : joinerAfterLoss (with (0xFF ∷ [])) ≡ heldAs tainted
+  pub tainted-quiet : fieldAnswer 300 2 [] (heldAs tainted) ≡ done none
+  pub tainted-ends : joinerAfter 300 2 [] (heldAs tainted) ≡ with []
+  pub tainted-goes-on : joinerAfter 0 6 (0x11 ∷ []) (heldAs tainted) ≡ heldAs tainted
+  -- "While tainted nothing is kept and 18 isn't given"; 12 and 14 are, and end nothing
+  pub tainted-adds : fieldAnswer 0 0 (0x11 ∷ fullFrame) (heldAs tainted) ≡ done none
+  pub tainted-14 : fieldAnswer 0 0 [] (heldAs tainted) ≡ refuse wrongData
+  pub tainted-12 : joinerAfter 0 8 [] (heldAs tainted) ≡ heldAs tainted
+  -- "18, the frame would pass 300; it is then tainted in the same way"; data over the packet limit may come
+  pub adds-161 : joinerAfter 0 0 (replicate 161 0x55) (with []) ≡ with (replicate 161 0x55)
+  pub adds-300 : fieldAnswer 0 0 fullFrame (with []) ≡ done none
+  pub adds-301 : fieldAnswer 0 0 (0x11 ∷ []) (with fullFrame) ≡ refuse frameTooLong
+  pub too-long-taints : joinerAfter 0 0 (0x11 ∷ []) (with fullFrame) ≡ heldAs tainted
+  -- "13 last", and the frame stays open
+  pub no-room : fieldAnswer 1 2 [] (with (0xFF ∷ 0x13 ∷ [])) ≡ refuse noRoom
+  pub no-room-stays : joinerAfter 1 2 [] (with (0xFF ∷ 0x13 ∷ [])) ≡ with (0xFF ∷ 0x13 ∷ [])
+  -- "17, a saved joiner with over 300 octets, any while tainted, or octets not zero past its length", to a lost number too, and first
+  pub octets-301 : lossAnswer saved301 ≡ refuse outsideRanges
+  pub octets-tainted : lossAnswer savedTainted ≡ refuse outsideRanges
+  pub octets-past : lossAnswer savedPast ≡ refuse outsideRanges
+  pub ranges-first : fieldAnswer 0 8 [] savedPast ≡ refuse outsideRanges
+  -- 12
+  pub type-8 : fieldAnswer 0 8 [] (with []) ≡ refuse notAssigned

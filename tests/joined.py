@@ -1,0 +1,193 @@
+"""Frames of real calls: the fields of recorded packets through the joiner, all of them, and over a bad line.
+
+The joiner must hand out the frames that the fax machine sent, each with a right frame check. SpanDSP leaves the two octets of the
+check out of its packets, so they are put behind each frame here, as a sender that leaves them in does."""
+
+import binascii
+
+from failing import altered, independent
+from making.frames import frame, packets_of
+from making.script import Script
+from real import UNLIMITED, as_expected, conversation, corpus, must, octets_of, settings_text, written_by
+from rules.datagrams import PARITY, SPARES
+from rules.joining import ADDING, ENDING_A_TAINT, FRAME_LIMIT, GOOD, HANDED_OUT
+from rules.packets import Packet, read_packet, written_packet
+
+RECORDED = ('tt_v17_ecm_v0.a2b', 'tt_v17_ecm_v0.b2a')  # calls whose frames were recorded where the fax machine sent them
+WHOLE = RECORDED + ('gt_v17_nonecm_v0.a2b',)
+CUT_OFF = ('tt_v29_ecm_v0.a2b',)  # begins in the middle of a frame: what came before is lost
+LINES = (('tt_v17_ecm_v0.a2b', (SPARES, 0, 0), 0.05), ('tt_v17_ecm_v0.a2b', (SPARES, 1, 0), 0.3),
+         ('tt_v17_ecm_v0.a2b', (PARITY, 3, 2), 0.3), ('tt_v17_ecm_v0.b2a', (SPARES, 1, 0), 0.2),
+         ('gt_v17_nonecm_v0.a2b', (SPARES, 2, 0), 0.4))
+ROWS, FRAMES_EACH = 20, 12
+REPAIRED = 2
+
+
+def frame_check(octets):
+    """The two octets of a frame's check (CRC-16/X.25), the bits of each octet in the order that packets have."""
+    return (binascii.crc_hqx(octets, 0xFFFF) ^ 0xFFFF).to_bytes(2, 'big')
+
+
+def other_order(octets):
+    """Octets with their bits in the other order, as the fax machine has them."""
+    return bytes(int('{:08b}'.format(octet)[::-1], 2) for octet in octets)
+
+
+def with_checks(packets):
+    """Packets of a call with the frame's check, as a field of its own, before each end of a good frame."""
+    octets, changed = b'', []
+    for packet in packets:
+        given = []
+        for field_type, data in packet.fields:
+            if HANDED_OUT.get(field_type) == GOOD and octets:
+                given.append((ADDING, frame_check(octets)))
+            given.append((field_type, data))
+            octets = octets + data if field_type == ADDING else b''
+        changed.append(Packet(packet.kind, packet.value, tuple(given)))
+    return changed
+
+
+def frames_left(rows, lost):
+    """The frames in rows of fields, one row a packet, that are still the sender's when these packets are lost.
+
+    A frame is, if no packet is lost from the one with the end before it up to the one with its own, and it never passed 300 octets."""
+    frames, since, octets, too_long = [], 0, b'', False
+    for at, fields in enumerate(rows):
+        for field_type, data in fields:
+            octets = octets + data if field_type == ADDING else octets if field_type in ENDING_A_TAINT else b''
+            too_long = too_long or len(octets) > FRAME_LIMIT
+            if field_type in ENDING_A_TAINT:
+                what = HANDED_OUT.get(field_type)
+                if (octets if what == GOOD else what) and not too_long and lost.isdisjoint(range(since, at + 1)):
+                    frames.append((what, octets))
+                since, octets, too_long = at, b'', False
+    return frames
+
+
+def feed(script, rows, lost):
+    """All fields of rows, or for a packet that is lost its number alone."""
+    for at, fields in enumerate(rows):
+        if at in lost:
+            script.lost()
+        else:
+            for field_type, data in fields:
+                script.field(field_type, data)
+
+
+def script_of(seed, rows, lost):
+    """A script that feeds rows to a fresh joiner, and the frames that must come of it."""
+    script = Script(seed, UNLIMITED)
+    feed(script, rows, lost)
+    return script, frames_left(rows, lost)
+
+
+def frames_in(lines, answers):
+    """The frames that the answers to 31 hand out."""
+    done = [answer for line, answer in zip(lines, answers) if line[:2] == b'31' and answer[0] == 0 and answer[1] != 0]
+    return [(answer[1], answer[4:4 + int.from_bytes(answer[2:4], 'big')]) for answer in done]
+
+
+def check_frames(command, script, sent, checked):
+    """What the program under test hands out are the frames that were sent, in order; with checks, each good one has a right one."""
+    answers = written_by(command, script.lines, script.answers)
+    frames = frames_in(script.lines, octets_of(answers))
+    for number, (what, octets) in enumerate(frames, 1):
+        if checked and what == GOOD:
+            must(frame_check(octets[:-2]) == octets[-2:], 'frame %d has a wrong frame check: %s', number, octets.hex())
+    for number, (ours, theirs) in enumerate(zip(sent, frames), 1):
+        must(ours == theirs, 'frame %d was sent as %d %s and is handed out as %d %s', number, ours[0], ours[1].hex(), theirs[0],
+             theirs[1].hex())
+    must(len(frames) == len(sent), '%d frames are handed out in place of %d', len(frames), len(sent))
+    as_expected(script.answers, answers)
+    return '%d frames' % len(frames)
+
+
+def as_recorded(name, sent):
+    """The frames in the packets are those that were recorded where the fax machine sent them."""
+    frames = [(GOOD, other_order(octets)) for octets in corpus(name + '.frames')]
+    must(sent == frames, '%s: the packets have %d frames, and not the %d that were recorded', name, len(sent), len(frames))
+
+
+def clean_call(command, name, checked):
+    """A call of which nothing is lost: its frames are those that were recorded, if any were."""
+    packets = [read_packet(octets, False) for octets in corpus(name)]
+    rows = [packet.fields for packet in (with_checks(packets) if checked else packets)]
+    lost = set()
+    if name in CUT_OFF:
+        rows, lost = [()] + rows, {0}
+    script, sent = script_of(name, rows, lost)
+    if name in RECORDED and not checked:
+        as_recorded(name, sent)
+    return check_frames(command, script, sent, checked)
+
+
+def bad_line(command, name, settings, loss):
+    """A call with frame checks through both sessions; what is released is read and joined, and what is given up is a lost number."""
+    packets = with_checks([read_packet(octets, False) for octets in corpus(name)])
+    lost, released = set(), []
+
+    def taken(script, answer):
+        """Reads a released packet, as repaired if it was, and feeds its fields; or feeds the lost number."""
+        if len(answer) == 3:
+            lost.add(len(released))
+            script.lost()
+        else:
+            repaired = answer[1] == REPAIRED
+            octets = answer[6:6 + int.from_bytes(answer[4:6], 'big')]
+            script.call(0x05, bytes([repaired]), octets)
+            feed(script, [read_packet(octets, repaired).fields], ())
+        released.append(answer)
+
+    script = conversation(name, [written_packet(packet) for packet in packets], settings, loss, taken)
+    said = check_frames(command, script, frames_left([packet.fields for packet in packets], lost), True)
+    return '%s, %d numbers lost' % (said, len(lost))
+
+
+def made_rows(command, seed):
+    """Rows of fields of any kind, cut into packets in any way, some packets lost; each row begins with a fresh joiner."""
+    script, sent = Script(seed, UNLIMITED), []
+    r = script.random
+    for loss in ROWS * (0, 0.05, 0.2):
+        script.call(0x30)
+        rows = packets_of(r, [field for _ in range(FRAMES_EACH) for field in frame(r, r.choice((1.0, 0.5)))])
+        lost = {at for at in range(len(rows)) if r.random() < loss}
+        feed(script, rows, lost)
+        sent += frames_left(rows, lost)
+    return check_frames(command, script, sent, False)
+
+
+def checks(command):
+    """All checks: a name, and what does it."""
+    for name in WHOLE + CUT_OFF:
+        yield 'frames of a call: ' + name, lambda n=name: clean_call(command, n, False)
+        yield 'frames with their checks: ' + name, lambda n=name: clean_call(command, n, True)
+    for name, settings, loss in LINES:
+        label = 'frames with their checks: %s with %s, %d %% lost' % (name, settings_text(settings), 100 * loss)
+        yield label, lambda n=name, s=settings, l=loss: bad_line(command, n, s, l)
+    yield 'frames of made rows of fields, some lost', lambda: made_rows(command, 'rows')
+
+
+def self_test(test):
+    """Wrong programs and wrong frames, and what is said of each."""
+    right, call, line = independent(), RECORDED[1], LINES[1]
+    test.says('the check of 123456789', '906e', other_order(frame_check(other_order(b'123456789')))[::-1].hex())
+    for name, check in (('a call', lambda c: clean_call(c, call, True)), ('a bad line', lambda c: bad_line(c, *line)),
+                        ('made rows', lambda c: made_rows(c, 'short'))):
+        test.passes('frames of ' + name, check, right)
+    for name, check, how, words in (
+            ('an octet of a frame', lambda c: clean_call(c, call, True), 'calls 31 8', 'frame 1 has a wrong frame check: '),
+            ('an octet, without checks', lambda c: clean_call(c, call, False), 'calls 31 8', 'frame 1 was sent as 1 '),
+            ('good as bad', lambda c: clean_call(c, call, False), 'calls bad', ' and is handed out as 2 '),
+            ('good as nothing', lambda c: clean_call(c, call, False), 'calls 31 3', 'frame 1 was sent as 1 '),
+            ('no frame at all', lambda c: clean_call(c, call, False), 'calls none', '0 frames are handed out in place of 4'),
+            ('the rest of the lent buffer', lambda c: clean_call(c, call, False), 'calls 31 -1', 'answer 1 is not the expected one'),
+            ('losses not heard', lambda c: bad_line(c, *line), 'calls deaf', 'has a wrong frame check: '),
+            ('losses not heard, made rows', lambda c: made_rows(c, 'short'), 'calls deaf', ' was sent as ')):
+        test.fails('frames, ' + name, words, check, altered(how))
+    script, sent = script_of('one frame', [((ADDING, b'\x01\x02' + frame_check(b'\x01\x02')), (2, b''))], set())
+    test.passes('frames, one with its check', check_frames, right, script, sent, True)
+    test.fails('frames, one less', '1 frames are handed out in place of 2', check_frames, right, script, 2 * sent, True)
+    test.fails('frames, one more', '1 frames are handed out in place of 0', check_frames, right, script, [], True)
+    script, sent = script_of('one octet altered on the way', [((ADDING, b'\x01\x03' + frame_check(b'\x01\x02')), (2, b''))], set())
+    test.fails('frames, an octet altered on the way', 'frame 1 has a wrong frame check: 0103', check_frames, right, script, sent, True)
+    test.fails('frames, others than recorded', 'the packets have 1 frames, and not the 4 that were recorded', as_recorded, call, sent)
