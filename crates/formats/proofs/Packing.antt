@@ -19,7 +19,7 @@ use Rattle.formats.proofs.Lawful.{Formed, Lawful}
 below-seven : (k : ℕ) → k < 8 → (k ≡ 7 → ⊥) → k < 7
 below-seven k few differ = omega arith
 
--- how sequenceOf octets there are
+-- how many octets there are
 pub packed-long : (p v k : ℕ) (letters : List Letter) → p % 8 ≡ k → Formed p letters → (wide letters + p) % 8 ≡ 0
     → 8 * length (packed v k letters) ≡ wide letters + k
 unfolding packed wide Formed

@@ -50,7 +50,7 @@ module _ {A : Type 0} where
     fits = λ a p. right a;
   }
 
--- so sequenceOf octets
+-- so many octets
 unfoldable pub octetsFront : ℕ → List ℕ → Finding (List ℕ)
 octetsFront n s = cond (ltb (length s) n) (stopped (refusal endsEarly)) (found (take n s) n)
 
@@ -119,7 +119,7 @@ module _ {A B : Type 0} where
     fits = λ b p. (f .fits (from b) p) × (to (from b) ≡ b);
   }
 
--- so sequenceOf of the same
+-- so many of the same
 module _ {A : Type 0} where
   unfoldable pub sequenceSpelt : Format A → List A → ℕ → List Letter
   sequenceSpelt f [] p = []

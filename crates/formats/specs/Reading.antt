@@ -46,7 +46,7 @@ bitAt s p = getD s (p / 8) 0 / 2 ^ (7 - p % 8) % 2
 unfoldable pub bit : Reader ℕ
 bit s i p = cond (ltb p (8 * length s)) (found (bitAt s p) (1 + p)) (stop endsEarly s i p)
 
--- so sequenceOf bits as a number, the highest first
+-- so many bits as a number, the highest first
 unfoldable pub bits : ℕ → Reader ℕ
 bits zero = give 0
 bits (suc n) = do
@@ -64,11 +64,11 @@ flag = do
 unfoldable pub align : Reader (Unit {0})
 align s i p = item (do v ← bits (gap p); check spareBit (eqb v 0)) s i p
 
--- what stands in whole octets, of which `front` says what they are and how sequenceOf it takes: an item that begins at an octet edge
+-- what stands in whole octets, of which `front` says what they are and how many it takes: an item that begins at an octet edge
 unfoldable pub octetwise : {A : Type 0} → (List ℕ → Finding A) → Reader A
 octetwise front s i p = andThen (front (drop (p / 8) s)) (λ a n. found a (8 * n + p))
 
--- so sequenceOf of the same
+-- so many of the same
 unfoldable pub sequenceOf : {A : Type 0} → ℕ → Reader A → Reader (List A)
 sequenceOf zero r = give []
 sequenceOf (suc n) r = do

@@ -19,13 +19,13 @@ unfoldable pub whole : List ℕ → List Letter
 whole [] = []
 whole (x ∷ s) = octet x ∷ whole s
 
--- how sequenceOf bits it takes
+-- how many bits it takes
 unfoldable pub wide : List Letter → ℕ
 wide [] = 0
 wide (bit b ∷ letters) = 1 + wide letters
 wide (octet x ∷ letters) = 8 + wide letters
 
--- how sequenceOf bits there are from a place to the next octet edge
+-- how many bits there are from a place to the next octet edge
 abbrev pub gap : ℕ → ℕ
 gap p = (8 - p % 8) % 8
 

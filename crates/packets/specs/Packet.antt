@@ -34,7 +34,7 @@ fieldsLimit = 16
 abbrev pub typesLimit : ℕ
 typesLimit = edition98 .types .assigned - 1
 
--- how sequenceOf values a kind has, from 0 on
+-- how many values a kind has, from 0 on
 abbrev pub assigned : Kind → ℕ
 assigned kind = values edition98 kind .assigned
 
