@@ -43,6 +43,7 @@ release-cases =
       unknown-then-room = refl;
       no-room = refl;
       passed-then-known = refl;
+      known-base = refl;
       spare-leaves = refl;
       stays-unknown = refl;
     }

@@ -3,7 +3,7 @@ use Prim.Native.Nat.{ℕ, _-_}
 use mathlib.Core.Path.{_≡_}
 use mathlib.Core.List.{List, [], _∷_, _++_}
 use lib.ListN.{length, replicate}
-use Rattle.lengths.specs.Refusals.{endsEarly, repeated, tooFar, late, baseUnknown, noRoom, allPassed}
+use Rattle.lengths.specs.Refusals.{endsEarly, repeated, tooFar, late, baseUnknown, baseKnown, noRoom, allPassed}
 use Rattle.lengths.specs.Answers.{done, refuse}
 use Rattle.datagrams.specs.Carried.{Carried, spares, parity}
 use Rattle.views.specs.Cells.{spare, Cell, blankCell, unknownCell, keptBefore, keptAhead}
@@ -115,6 +115,7 @@ pub record ReleaseCases : Type 0 where
   pub unknown-then-room : next 0 freshView ≡ refuse baseUnknown
   pub no-room : next 0 (started (copy ∷ []) []) ≡ refuse noRoom
   pub passed-then-known : giveUp (atLimit (arrived ∷ []) []) ≡ refuse allPassed
+  pub known-base : giveUp (started (arrived ∷ []) []) ≡ refuse baseKnown
   -- a spare is counted as it leaves, and after 65,535 comes 0
   pub spare-leaves : next 1 (later 65535 65535 (copy ∷ []) (marked ∷ []))
       ≡ done (record {
