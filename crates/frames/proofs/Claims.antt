@@ -1,47 +1,70 @@
 -- The claims of this crate, each from its law. Assumes nothing.
-use mathlib.Core.Path.{refl}
+use Prim.Native.Nat.{ℕ, _≤_}
+use mathlib.Core.Path.{_≡_, refl}
+use mathlib.Core.Bool.{true, false}
+use mathlib.Core.List.{List, [], _∷_}
+use lib.ListN.{length}
+use native.Mathlib.Omega.{arith}
+use Rattle.lengths.specs.Refusals.{outsideRanges}
+use Rattle.lengths.specs.Answers.{refuse}
 use Rattle.lengths.specs.Tables.{unless}
 use Rattle.octets.specs.Place.{allBelow}
-use Rattle.frames.specs.Frame.{withAdded, goodFrame, onOpen, fieldStep, wouldPass}
-use Rattle.frames.specs.Joiner.{inStorage, joiningOf, zerosAfter, rangesOf}
+use Rattle.frames.specs.Frame.{frameLimit, tainted, opened, withAdded, goodFrame, onOpen, fieldStep, wouldPass}
+use Rattle.frames.specs.Joiner.{inStorage, heldAs, joiningOf, zerosAfter, rangesOf, joinerInRanges}
 use Rattle.frames.specs.Promise.{fieldAnswer, joinerAfter, lossAnswer, joinerAfterLoss}
-use Rattle.frames.specs.Cases.{Cases}
+use Rattle.frames.specs.Cases.{fullFrame, saved301, savedTainted, savedPast, Cases}
 use Rattle.frames.specs.Claims.{Claims}
+use Rattle.frames.proofs.Laws.{held-ranges}
 use Rattle.frames.proofs.Outcome.{one-outcome}
 use Rattle.frames.proofs.HandedOut.{never-17, any-events}
 use Rattle.frames.proofs.Line.{honest-line}
 
+-- ---- the cases: what the calls keep is within its ranges, by the law; the ranges themselves are computed
+past-301 : lossAnswer saved301 ≡ refuse outsideRanges
+unfolding lossAnswer rangesOf unless
+past-301 = refl
+
+past-tainted : lossAnswer savedTainted ≡ refuse outsideRanges
+unfolding lossAnswer rangesOf unless
+past-tainted = refl
+
+not-zero : joinerInRanges savedPast ≡ false
+unfolding rangesOf zerosAfter allBelow
+not-zero = refl
+
+fits : (frame : List ℕ) → length frame ≤ frameLimit → joinerInRanges (heldAs (opened frame)) ≡ true
+fits frame small = held-ranges (opened frame) small
+
 cases : Cases
-unfolding withAdded goodFrame onOpen fieldStep wouldPass inStorage joiningOf zerosAfter rangesOf fieldAnswer
-    joinerAfter lossAnswer joinerAfterLoss unless allBelow
+unfolding withAdded goodFrame onOpen fieldStep wouldPass inStorage joiningOf fieldAnswer joinerAfter lossAnswer joinerAfterLoss unless
 cases =
     record {
-      good-out = refl;
-      bad-out = refl;
-      out-after = refl;
-      good-empty = refl;
-      bad-empty = refl;
-      drop-1 = refl;
-      drop-6 = refl;
-      drop-7 = refl;
-      loss-taints = refl;
-      tainted-quiet = refl;
-      tainted-ends = refl;
-      tainted-goes-on = refl;
-      tainted-adds = refl;
-      tainted-14 = refl;
-      tainted-12 = refl;
-      adds-161 = refl;
-      adds-300 = refl;
-      adds-301 = refl;
-      too-long-taints = refl;
-      no-room = refl;
-      no-room-stays = refl;
-      octets-301 = refl;
-      octets-tainted = refl;
-      octets-past = refl;
-      ranges-first = refl;
-      type-8 = refl;
+      good-out = rw (fits (0xFF ∷ 0x13 ∷ []) (omega arith));
+      bad-out = rw (fits (0xFF ∷ 0x13 ∷ []) (omega arith));
+      out-after = rw (fits (0xFF ∷ 0x13 ∷ []) (omega arith));
+      good-empty = rw (fits [] (omega arith));
+      bad-empty = rw (fits [] (omega arith));
+      drop-1 = rw (fits (0xFF ∷ []) (omega arith));
+      drop-6 = rw (fits (0xFF ∷ []) (omega arith));
+      drop-7 = rw (fits (0xFF ∷ []) (omega arith));
+      loss-taints = rw (fits (0xFF ∷ []) (omega arith));
+      tainted-quiet = rw (held-ranges tainted 0);
+      tainted-ends = rw (held-ranges tainted 0);
+      tainted-goes-on = rw (held-ranges tainted 0);
+      tainted-adds = rw (held-ranges tainted 0);
+      tainted-14 = rw (held-ranges tainted 0);
+      tainted-12 = rw (held-ranges tainted 0);
+      adds-161 = rw (fits [] (omega arith));
+      adds-300 = rw (fits [] (omega arith));
+      adds-301 = rw (fits fullFrame (omega arith));
+      too-long-taints = rw (fits fullFrame (omega arith));
+      no-room = rw (fits (0xFF ∷ 0x13 ∷ []) (omega arith));
+      no-room-stays = rw (fits (0xFF ∷ 0x13 ∷ []) (omega arith));
+      octets-301 = past-301;
+      octets-tainted = past-tainted;
+      octets-past = rw not-zero;
+      ranges-first = rw not-zero;
+      type-8 = rw (fits [] (omega arith));
     }
 
 pub claims : Claims
