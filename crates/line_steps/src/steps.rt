@@ -1,15 +1,13 @@
 // One line of the program: its answer, then all releases. Base and counts go by value, all else of the session and the buffers are
 // lent: no range is checked and nothing copied for each line. These functions require the session's ranges and keep them.
-use crate::results::kind_octet;
+use crate::releasing::releases;
 use crate::results::put_refusal;
 use crate::results::put_result;
 use datagrams::Datagram;
-use datagrams::Packet;
 use held::Counts;
 use held::Session;
 use hexadecimal::hex_to_octets;
 use leaving::Lost;
-use leaving::Released;
 use lengths::Written;
 use lines::Line;
 use lines::Stepped;
@@ -20,103 +18,8 @@ ghost use Rattle.views.specs.Offer.{offer};
 ghost use Rattle.views.specs.Release.{giveUp};
 ghost use Rattle.held.specs.Table.{lent, viewIn};
 ghost use Rattle.held.specs.Laid.{InRanges};
-ghost use Rattle.lines.specs.Lines.{giveUpMade, offerMade, offerLine, answerLine, releases as allReleases, step as wholeStep};
-ghost use Rattle.lines.specs.Promise.{Does, Able, ReleasesOne, resultLimit, releasesLimit, stepLimit};
-
-// A release, and whether there was something to release.
-struct Turn {
-    base: u16,
-    counts: Counts,
-    end: usize,
-    more: bool,
-}
-
-// One release: the packet at the base.
-fn release(
-    base: u16,
-    counts: Counts,
-    t: &mut [u16; Session::PLACES],
-    o: &mut [u8; Session::PACKET_OCTETS],
-    g: &mut [u8; Session::MESSAGE_OCTETS],
-    out: &mut [u8],
-    at: usize,
-) -> Turn
-    requires { ⌜ Able resultLimit (lent base counts (now t) (now o) (now g)) (now out) at ⌝ }
-    ensures { λ r. ⌜ ReleasesOne (viewIn (lent base counts (now (t .entry)) (now (o .entry)) (now (g .entry)))) (now (out .entry)) at
-        (lent (r .base) (r .counts) (now (t .exit)) (now (o .exit)) (now (g .exit))) (r .end) (r .more) (now (out .exit)) ⌝ }
-{
-    let mut packet = [0u8; Packet::LIMIT];
-    let done = leaving::next_core(base, counts, t, o, g, &mut packet);
-    let after = done.base;
-    let moved = done.counts;
-    let answer = done.answer;
-    match answer {
-        Released::Refused(_) => Turn {
-            base: after,
-            counts: moved,
-            end: at,
-            more: false,
-        },
-        Released::Packet { kind, number, size } => {
-            let octet = kind_octet(kind);
-            let end = put_result(octet, number, &packet[..size], out, at);
-            Turn {
-                base: after,
-                counts: moved,
-                end,
-                more: true,
-            }
-        }
-    }
-}
-
-// "releases all it can": after as many releases as there are numbers from the base on, the base is unknown.
-fn releases(
-    base: u16,
-    counts: Counts,
-    t: &mut [u16; Session::PLACES],
-    o: &mut [u8; Session::PACKET_OCTETS],
-    g: &mut [u8; Session::MESSAGE_OCTETS],
-    out: &mut [u8],
-    at: usize,
-) -> Stepped
-    requires { ⌜ Able releasesLimit (lent base counts (now t) (now o) (now g)) (now out) at ⌝ }
-    ensures { λ r. ⌜ Does (allReleases (viewIn (lent base counts (now (t .entry)) (now (o .entry)) (now (g .entry)))))
-        (now (out .entry)) at (lent (r .base) (r .counts) (now (t .exit)) (now (o .exit)) (now (g .exit))) (r .end) (now (out .exit)) ⌝ }
-{
-    let mut now = base;
-    let mut moves = counts;
-    let mut end = at;
-    let mut left = Session::HEARD;
-    while left > 0 {
-        let slot = held::kept_slot(now);
-        if !held::is_known(t, slot) {
-            return Stepped {
-                base: now,
-                counts: moves,
-                end,
-            };
-        }
-        let turn = release(now, moves, t, o, g, out, end);
-        now = turn.base;
-        let moved = turn.counts;
-        moves = moved;
-        end = turn.end;
-        if !turn.more {
-            return Stepped {
-                base: now,
-                counts: moves,
-                end,
-            };
-        }
-        left -= 1;
-    }
-    Stepped {
-        base: now,
-        counts: moves,
-        end,
-    }
-}
+ghost use Rattle.lines.specs.Lines.{giveUpMade, offerMade, offerLine, answerLine, step as wholeStep};
+ghost use Rattle.lines.specs.Promise.{Does, Able, resultLimit, stepLimit};
 
 // "An empty line is one give-up".
 fn give_up_line(

@@ -3,8 +3,8 @@ use mathlib.Core.Path.{refl}
 use native.Mathlib.Omega.{arith}
 use Rattle.line_steps.proofs.Stepping.{packet-inside, packet-length, packet-room, released-one, released-none}
 use borrow.Author.Needs.{needs}
-use Rattle.line_steps.proofs.steps.release.Statement.{statement}
-use Rattle.line_steps.proofs.steps.release.Tie as tie
+use Rattle.line_steps.proofs.releasing.release.Statement.{statement}
+use Rattle.line_steps.proofs.releasing.release.Tie as tie
 
 slice-aggregate-next-core : tie.Need-slice-aggregate-next-core
 slice-aggregate-next-core c = search needs

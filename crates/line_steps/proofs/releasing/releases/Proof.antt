@@ -3,8 +3,8 @@ use borrow.Author.Needs.{needs}
 use borrow.Author.Tests.{not-true, not-false}
 use Rattle.held.specs.Table.{lent, viewIn}
 use Rattle.line_steps.proofs.ReleaseLoop.{Left, left-start, left-ready, left-done, left-unknown, left-turn, left-stop}
-use Rattle.line_steps.proofs.steps.releases.Statement.{statement}
-use Rattle.line_steps.proofs.steps.releases.Tie as tie
+use Rattle.line_steps.proofs.releasing.releases.Statement.{statement}
+use Rattle.line_steps.proofs.releasing.releases.Tie as tie
 
 abbrev Inv-loop : tie.InvT-loop
 Inv-loop base t₀ o₀ g₀ out₀ at now₀ moves₀ end₀ left₀ t o g out now moves end left =
