@@ -13,7 +13,7 @@ use Rattle.lengths.specs.Length.{lengthAt, lengthOctets, allowed, lengthWithin}
 use Rattle.datagrams.specs.Carried.{spares, parity, Carried}
 use Rattle.datagrams.specs.Read.{octetAt, itemAt, itemsAt, endOf, sparesAt, parityAt, extraAt, numberOf, wholeOf, readDatagram, carriedBy}
 use Rattle.datagrams.specs.Write.{numberOctets, itemOctets, itemsOctets, countedOctets, datagramOctets}
-use Rattle.views.specs.Cells.{repaired, cellAt, keptBefore}
+use Rattle.views.specs.Cells.{repaired, filledCell, cellAt, keptBefore}
 use Rattle.views.specs.Members.{membersOf, InReach}
 use Rattle.views.specs.Repair.{passing, usable, firstUsable, mended, fill, repairF, repair}
 use Rattle.views.specs.Held.{Held, heldAt, messagesOf, messagesInRow, heldMessages}
@@ -112,8 +112,8 @@ record Cells : Type 0 where
   known3 : Known (with03 .cells) (keptBefore + 3)
   still0 : Known (with034 .cells) keptBefore
   still3 : Known (with034 .cells) (keptBefore + 3)
-  back1 : cellAt (with034 .cells) (keptBefore + 1) ≡ record { state = repaired; octets = packet1 }
-  back2 : cellAt (with034 .cells) (keptBefore + 2) ≡ record { state = repaired; octets = packet2 }
+  back1 : cellAt (with034 .cells) (keptBefore + 1) ≡ filledCell repaired packet1
+  back2 : cellAt (with034 .cells) (keptBefore + 2) ≡ filledCell repaired packet2
 
 cells : Cells
 unfolding freshView accept keep keepSpares tab xorAt exclusiveOr membersOf passing usable firstUsable mended fill repairF repair messagesOf

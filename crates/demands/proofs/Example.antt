@@ -15,7 +15,7 @@ use Rattle.lengths.specs.Length.{lengthAt, lengthOctets, allowed, lengthWithin}
 use Rattle.datagrams.specs.Carried.{spares, parity, Carried}
 use Rattle.datagrams.specs.Read.{octetAt, itemAt, itemsAt, endOf, sparesAt, parityAt, extraAt, numberOf, wholeOf, readDatagram, carriedBy}
 use Rattle.datagrams.specs.Write.{numberOctets, itemOctets, itemsOctets, countedOctets, datagramOctets}
-use Rattle.views.specs.Cells.{repaired, cellAt, keptBefore}
+use Rattle.views.specs.Cells.{repaired, filledCell, cellAt, keptBefore}
 use Rattle.views.specs.Members.{membersOf, InReach}
 use Rattle.views.specs.Repair.{passing, usable, firstUsable, mended, fill, repairF, repair}
 use Rattle.views.specs.Held.{Held, heldAt, messagesOf, messagesInRow, heldMessages}
@@ -118,7 +118,7 @@ unfolding freshView accept keep keepSpares tab xorAt exclusiveOr membersOf passi
     messagesInRow heldMessages
 missing = refl
 
-back : cellAt (with12 .cells) keptBefore ≡ record { state = repaired; octets = 0x06 ∷ 0 ∷ 0 ∷ 0 ∷ 0 ∷ 0 ∷ [] }
+back : cellAt (with12 .cells) keptBefore ≡ filledCell repaired (0x06 ∷ 0 ∷ 0 ∷ 0 ∷ 0 ∷ 0 ∷ [])
 unfolding freshView accept keep keepSpares tab xorAt exclusiveOr membersOf passing usable firstUsable mended fill repairF repair messagesOf
     messagesInRow heldMessages
 back = refl

@@ -10,10 +10,10 @@ use lib.Seq.{getD-set-same, getD-set-other}
 use native.Mathlib.Omega.{arith}
 use Rattle.octets.proofs.Laws.{true-or-false, same-or-not}
 use Rattle.datagrams.specs.Carried.{Extra, spares, parity}
-use Rattle.views.specs.Cells.{State, received, spare, repaired, Cell, cellAt, unknownAt, isUnknown}
+use Rattle.views.specs.Cells.{State, received, spare, repaired, Cell, filledCell, cellAt, unknownAt, isUnknown}
 use Rattle.views.specs.Repair.{Message, repair}
 use Rattle.views.specs.Reached.{Known, Unknown}
-use Rattle.views.proofs.Laws.{unknown-inside, known-not-unknown, same-unknown, length-repair, repair-known, repair-state}
+use Rattle.views.proofs.Laws.{unknown-inside, known-not-unknown, same-unknown, length-repair, repair-known, repair-made}
 use Rattle.views.specs.Offer.{keep, keepSpares, keepExtra}
 
 -- the states that a number is filled with
@@ -64,7 +64,7 @@ unfolding keep
 keep-known state p octets cells k = rw k
 
 pub keep-unknown : (state : State) (p : ℕ) (octets : List ℕ) (cells : List Cell) → Unknown cells p
-    → keep state p octets cells ≡ set cells p (record { state = state; octets = octets })
+    → keep state p octets cells ≡ set cells p (filledCell state octets)
 unfolding keep
 keep-unknown state p octets cells u = rw u
 
@@ -87,7 +87,7 @@ grown-set cells p cell u fills =
 
 pub grown-keep : {state : State} (p : ℕ) (octets : List ℕ) (cells : List Cell) → Fills state → Grown cells (keep state p octets cells)
 grown-keep {state} p octets cells fills =
-    ⊎-elim (λ u. rw (keep-unknown state p octets cells u) (grown-set cells p (record { state = state; octets = octets }) u fills))
+    ⊎-elim (λ u. rw (keep-unknown state p octets cells u) (grown-set cells p (filledCell state octets) u fills))
     (λ k. rw (keep-known state p octets cells k) (grown-same cells))
     (true-or-false (unknownAt cells p))
 
@@ -102,16 +102,16 @@ grown-extra p (spares copies) cells = grown-spares p copies cells
 grown-extra p (parity n messages) cells = grown-same cells
 
 -- ---- repair
-pub grown-repair : (cells : List Cell) (messages : List Message) → Grown cells (repair cells messages)
+pub grown-repair : (cells : List Cell) (messages : List Message) → Grown cells (repair (filledCell repaired) cells messages)
 grown-repair cells messages =
     record {
-      long = length-repair cells messages;
+      long = length-repair (filledCell repaired) cells messages;
       each = λ q.
           ⊎-elim
           (λ u.
-          ⊎-elim (λ same. inl same) (λ mended. inr (u, subst Fills (sym mended) asRepaired))
-          (repair-state cells messages q))
-          (λ k. inl (repair-known cells messages q k))
+          ⊎-elim (λ same. inl same) (λ new. inr (u, subst (λ (c : Cell). Fills (c .state)) (sym (new .1)) asRepaired))
+          (repair-made (filledCell repaired) cells messages q))
+          (λ k. inl (repair-known (filledCell repaired) cells messages q k))
           (true-or-false (unknownAt cells q));
     }
 
@@ -122,7 +122,7 @@ known-kept {state} p octets cells inside fills =
     ⊎-elim
     (λ u.
     rw (keep-unknown state p octets cells u)
-    (ap (λ (c : Cell). isUnknown (c .state)) (getD-set-same cells p (record { state = state; octets = octets }) _ inside)
+    (ap (λ (c : Cell). isUnknown (c .state)) (getD-set-same cells p (filledCell state octets) _ inside)
     ∙ fills-known fills))
     (λ k. rw (keep-known state p octets cells k) k)
     (true-or-false (unknownAt cells p))
@@ -136,7 +136,7 @@ kept-known state p octets cells q k =
     ⊎-elim
     (λ u.
     inl
-    (sym (ap (λ (c : Cell). isUnknown (c .state)) (getD-set-other cells p q (record { state = state; octets = octets }) _ other))
+    (sym (ap (λ (c : Cell). isUnknown (c .state)) (getD-set-other cells p q (filledCell state octets) _ other))
     ∙ (rw (keep-unknown state p octets cells u) at k)))
     (λ was. inl (rw (keep-known state p octets cells was) at k))
     (true-or-false (unknownAt cells p)))

@@ -8,11 +8,11 @@ use lib.ListN.{length}
 use native.Mathlib.Omega.{arith}
 use Rattle.octets.proofs.Laws.{below-or-not}
 use Rattle.datagrams.specs.Carried.{Extra, spares, parity, Carried}
-use Rattle.views.specs.Cells.{Cell, received, isUnknown, keptBefore, keptAhead, keptNumbers}
+use Rattle.views.specs.Cells.{Cell, received, repaired, filledCell, isUnknown, keptBefore, keptAhead, keptNumbers}
 use Rattle.views.specs.Held.{heldMessages}
 use Rattle.views.specs.Repair.{repair}
 use Rattle.views.specs.Reached.{Known, Reached, DistinctMembers}
-use Rattle.views.proofs.Laws.{known-reached, reached-known}
+use Rattle.views.proofs.Laws.{makes-repaired, known-reached, reached-known}
 use Rattle.views.specs.View.{View, Counts, freshView, goneOn}
 use Rattle.views.specs.Offer.{keep, keepExtra, accept}
 use Rattle.demands.specs.ReachedBy.{sparesIn}
@@ -74,7 +74,8 @@ module _ (datagram : Carried) (d : ℕ) (view : View) (long : length (view .cell
 
 -- ---- an accepted offer
 pub accept-cells : (d : ℕ) (datagram : Carried) (view : View)
-    → (accept d datagram view) .cells ≡ repair (filled d datagram view) (heldMessages ((accept d datagram view) .held))
+    → (accept d datagram view) .cells
+    ≡ repair (filledCell repaired) (filled d datagram view) (heldMessages ((accept d datagram view) .held))
 unfolding accept
 accept-cells d datagram view = refl
 
@@ -83,10 +84,12 @@ pub accept-known : (d : ℕ) (datagram : Carried) (view : View) → DistinctMemb
     → Known ((accept d datagram view) .cells) p
     ↔ Reached (filled d datagram view) (heldMessages ((accept d datagram view) .held)) p
 accept-known d datagram view distinct p = (
-  λ k. known-reached (filled d datagram view) (heldMessages ((accept d datagram view) .held)) p (rw (accept-cells d datagram view) at k),
+  λ k.
+      known-reached (filledCell repaired) (filled d datagram view) (heldMessages ((accept d datagram view) .held)) p
+      (rw (accept-cells d datagram view) at k),
   λ t.
       rw (accept-cells d datagram view)
-      (reached-known (filled d datagram view) (heldMessages ((accept d datagram view) .held)) distinct p t),
+      (reached-known makes-repaired (filled d datagram view) (heldMessages ((accept d datagram view) .held)) distinct p t),
 )
 
 -- ---- from the start

@@ -10,7 +10,7 @@ use lib.ListN.{length}
 use native.Mathlib.Omega.{arith}
 use Rattle.octets.proofs.Laws.{tab-among, true-or-false, same-or-not}
 use Rattle.datagrams.specs.Carried.{Carried}
-use Rattle.views.specs.Cells.{keptBefore, keptAhead}
+use Rattle.views.specs.Cells.{repaired, filledCell, keptBefore, keptAhead}
 use Rattle.views.specs.Repair.{Message}
 use Rattle.views.specs.Held.{Held, nothingHeld, heldAt, messageAt, messagesOf, heldMessages}
 use Rattle.views.specs.Reached.{Known}
@@ -135,7 +135,7 @@ module _ {row datagrams : List (List ℕ)} {view : View} (s : Sound row datagram
 
     within-two : (p : ℕ) → Known (mid .cells) p → Known (two .cells) p
     within-two p k =
-        known-within (Known (two .cells)) (filled d c view) (heldMessages (mid .held)) start
+        known-within (filledCell repaired) (Known (two .cells)) (filled d c view) (heldMessages (mid .held)) start
         (λ message q among. t .closed message q (messages-among mid-sound t mid-place mark-both message among))
         p
         (rw (accept-cells d c view) at k)

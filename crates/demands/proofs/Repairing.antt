@@ -15,7 +15,7 @@ use Rattle.views.specs.Members.{membersOf}
 use Rattle.views.specs.Held.{Held, heldAt, messageAt, messagesOf, heldMessages}
 use Rattle.views.specs.Repair.{Message}
 use Rattle.views.specs.Reached.{Known, Closed, known, DistinctMembers}
-use Rattle.views.proofs.Laws.{member-in-reach, held-at, messagesOf-among, reached-within, known-closed, reach-kept}
+use Rattle.views.proofs.Laws.{member-in-reach, held-at, messagesOf-among, reached-within, makes-repaired, known-closed, reach-kept}
 use Rattle.views.specs.View.{View, sum}
 use Rattle.views.specs.Offer.{heldBy, accept}
 use Rattle.demands.specs.Calls.{Call, Calls, _then_}
@@ -38,7 +38,7 @@ module _ {calls : Calls} {call : Call} {g d : ℕ} {c : Carried} {view : View} (
   mid-closed : Closed (heldMessages (mid .held)) (Known (mid .cells))
   mid-closed =
       subst (λ (cells : List Cell). Closed (heldMessages (mid .held)) (Known cells)) (sym (accept-cells d c view))
-      (known-closed (filled d c view) (heldMessages (mid .held)) distinct)
+      (known-closed makes-repaired (filled d c view) (heldMessages (mid .held)) distinct)
 
   -- ---- what is known is reached
   brings-reached : (p : ℕ) → Brings c d p → ReachedBy (calls then call) (g + p)

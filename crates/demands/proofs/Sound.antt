@@ -14,7 +14,7 @@ use Rattle.views.specs.Repair.{Message}
 use Rattle.views.specs.Held.{Held, nothingHeld, heldAt, heldMessages}
 use Rattle.views.specs.Reached.{Known, Closed}
 use Rattle.views.specs.Honest.{UpToZeros, TrueCells, HonestHeld}
-use Rattle.views.proofs.Laws.{known-closed, held-at, held-honest, repair-right, up-to-zeros-same}
+use Rattle.views.proofs.Laws.{makes-repaired, known-closed, held-at, held-honest, repair-right, up-to-zeros-same}
 use Rattle.views.specs.View.{View, freshView}
 use Rattle.views.specs.Offer.{heldBy, accept}
 use Rattle.sending.specs.Honest.{packetAt}
@@ -137,7 +137,7 @@ module _ {row datagrams : List (List ℕ)} {view : View} (s : Sound row datagram
   unfolding accept
   mid-right =
       let long = grown-filled d c view .long ∙ s .ranges .kept in
-      repair-right sent-here (filled d c view) (heldMessages (mid .held))
+      repair-right makes-repaired sent-here (filled d c view) (heldMessages (mid .held))
       (rw long
       (held-honest sent-here (mid .held) (rw (mid-ranges .heard) (omega arith))
       (λ e small. mid-honest e (rw (mid-ranges .heard) at small))))
@@ -188,5 +188,5 @@ module _ {row datagrams : List (List ℕ)} {view : View} (s : Sound row datagram
             (λ other. held-beside d c view e other ∙ s .unmarked e small (sym (beside-mark e other) ∙ is))
             (same-or-not e d);
         blanks = λ p first. known-grown (grown-accept d c view) p (s .blanks p first);
-        closed = known-closed (filled d c view) (heldMessages (mid .held)) (distinct-held mid mid-ranges);
+        closed = known-closed makes-repaired (filled d c view) (heldMessages (mid .held)) (distinct-held mid mid-ranges);
       }

@@ -10,7 +10,7 @@ use native.Mathlib.Omega.{arith}
 use Rattle.octets.specs.Place.{tab}
 use Rattle.octets.proofs.Laws.{true-or-false, same-or-not}
 use Rattle.datagrams.specs.Carried.{Extra, Carried}
-use Rattle.views.specs.Cells.{State, received, spare, Cell, cellAt, unknownAt, keptBefore}
+use Rattle.views.specs.Cells.{State, received, spare, Cell, filledCell, cellAt, unknownAt, keptBefore}
 use Rattle.views.specs.Honest.{UpToZeros, TrueCells}
 use Rattle.views.proofs.Laws.{unknown-inside, same-unknown, up-to-zeros-same}
 use Rattle.views.specs.View.{View}
@@ -43,7 +43,7 @@ right-keep sent state p octets cells is right =
     ⊎-elim
     (λ u.
     rw (keep-unknown state p octets cells u)
-    (right-set sent cells p (record { state = state; octets = octets }) (unknown-inside cells p u) is right))
+    (right-set sent cells p (filledCell state octets) (unknown-inside cells p u) is right))
     (λ k. rw (keep-known state p octets cells k) right)
     (true-or-false (unknownAt cells p))
 

@@ -9,7 +9,7 @@ use Rattle.packets.specs.Packet.{dataOf, readPacket}
 use Rattle.packets.specs.declared.types.Kind.the-variants.{Indicator, Data}
 use Rattle.packets.specs.declared.types.Ending.the-variants.{Whole, Repaired}
 use Rattle.views.specs.Members.{membersOf}
-use Rattle.views.specs.Cells.{repaired, cellAt, keptBefore}
+use Rattle.views.specs.Cells.{repaired, filledCell, cellAt, keptBefore}
 use Rattle.views.specs.View.{View, freshView}
 use Rattle.views.specs.Offer.{offer}
 use Rattle.sending.specs.Sending.{Sending, freshSending, sentOn}
@@ -48,7 +48,7 @@ pub record Losing0 : Type 0 where
   pub first : offer datagram1 freshView ≡ done with1
   pub second : offer datagram2 with1 ≡ done after
   -- number 0, which the base still is at
-  pub cell : cellAt (after .cells) keptBefore ≡ record { state = repaired; octets = 0x06 ∷ 0 ∷ 0 ∷ 0 ∷ 0 ∷ 0 ∷ [] }
+  pub cell : cellAt (after .cells) keptBefore ≡ filledCell repaired (0x06 ∷ 0 ∷ 0 ∷ 0 ∷ 0 ∷ 0 ∷ [])
   pub reads : readPacket Repaired ((cellAt (after .cells) keptBefore) .octets) ≡ done (record { kind = Indicator; value = 3; fields = [] })
 
 pub record TwelveCases : Type 0 where

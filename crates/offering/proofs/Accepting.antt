@@ -17,7 +17,7 @@ use Rattle.datagrams.specs.declared.reader.Part.{Part}
 use Rattle.datagrams.specs.declared.kind.Kind.{Kind}
 use Rattle.datagrams.specs.declared.kind.Kind.the-variants as kind
 use Rattle.datagrams.proofs.Laws.{count-few}
-use Rattle.views.specs.Cells.{received, Cell, unknownAt, keptBefore, keptAhead, keptNumbers}
+use Rattle.views.specs.Cells.{received, repaired, Cell, filledCell, unknownAt, keptBefore, keptAhead, keptNumbers}
 use Rattle.views.specs.Held.{Held, heldAt, heldMessages}
 use Rattle.views.specs.Reached.{Known}
 use Rattle.views.specs.Repair.{repair}
@@ -192,6 +192,8 @@ module _ {base : ℕ} {c : Counts} {t o g s : List ℕ} {number d : ℕ} {packet
               state =
                   mended .state
                   ∙ ap₂ (λ (x : List Cell) (y : List Held).
-                  record { base = base; counts = countsOf c; cells = repair x (heldMessages y); held = y }) cells-third held-third;
+                  record { base = base; counts = countsOf c; cells = repair (filledCell repaired) x (heldMessages y); held = y })
+                  cells-third
+                  held-third;
               within = mended .within;
             }

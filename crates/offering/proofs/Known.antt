@@ -7,7 +7,7 @@ use mathlib.Core.Logic.{⊎-elim}
 use lib.ListN.{length, set}
 use lib.Seq.{getD-set-same, getD-set-other}
 use Rattle.octets.proofs.Laws.{true-or-false}
-use Rattle.views.specs.Cells.{State, spare, Cell, isUnknown, unknownAt}
+use Rattle.views.specs.Cells.{State, spare, Cell, filledCell, isUnknown, unknownAt}
 use Rattle.views.specs.Reached.{Known, Unknown}
 use Rattle.views.specs.Offer.{keep, keepSpares}
 
@@ -18,7 +18,7 @@ pub keep-here : (state : State) (p : ℕ) (b : List ℕ) (cells : List Cell) →
     → Known (keep state p b cells) p
 unfolding keep
 keep-here state p b cells known inside =
-    ⊎-elim (λ t. rw t (set-here cells p (record { state = state; octets = b }) inside known)) (λ f. rw f f)
+    ⊎-elim (λ t. rw t (set-here cells p (filledCell state b) inside known)) (λ f. rw f f)
     (true-or-false (unknownAt cells p))
 
 set-stays : (cells : List Cell) (q : ℕ) (c : Cell) (p : ℕ) → isUnknown (c .state) ≡ false → Unknown cells q → Known cells p
@@ -32,7 +32,7 @@ keep-stays : (state : State) (q : ℕ) (b : List ℕ) (cells : List Cell) (p : �
     → Known (keep state q b cells) p
 unfolding keep
 keep-stays state q b cells p known e =
-    ⊎-elim (λ t. rw t (set-stays cells q (record { state = state; octets = b }) p known t e)) (λ f. rw f e)
+    ⊎-elim (λ t. rw t (set-stays cells q (filledCell state b) p known t e)) (λ f. rw f e)
     (true-or-false (unknownAt cells q))
 
 pub spares-stay : (q : ℕ) (copies : List (List ℕ)) (cells : List Cell) (p : ℕ) → Known cells p → Known (keepSpares q copies cells) p

@@ -8,7 +8,7 @@ use mathlib.Core.Option.{some}
 use lib.ListN.{length, take}
 use native.Mathlib.Omega.{arith}
 use Rattle.datagrams.specs.Sizes.{packetLeast, packetLimit, messagesLimit}
-use Rattle.views.specs.Cells.{Cell, keptNumbers}
+use Rattle.views.specs.Cells.{repaired, Cell, filledCell, keptNumbers}
 use Rattle.views.specs.Repair.{Message, usable, firstUsable, mended, fill, repairF, repair}
 use Rattle.views.specs.Held.{Held, heldMessages}
 use Rattle.views.proofs.Laws.{missing, usable-says, length-mended, found-usable, repairF-done, repairF-fill}
@@ -85,8 +85,8 @@ module _ {l : Lent} (w : InRanges l) {d i slot : ℕ} (at : Points (l .base) (l 
 pub record MendingWith (base : ℕ) (counts : Counts) (g t₀ o₀ t o : List ℕ) (left : ℕ) : Type 0 where
   pub within : InRanges (lent base counts t o g)
   pub beside : SameBeside t₀ t
-  pub steps : repairF left (cellsOf base t o) (heldMessages (heldOf base t₀ g))
-      ≡ repair (cellsOf base t₀ o₀) (heldMessages (heldOf base t₀ g))
+  pub steps : repairF (filledCell repaired) left (cellsOf base t o) (heldMessages (heldOf base t₀ g))
+      ≡ repair (filledCell repaired) (cellsOf base t₀ o₀) (heldMessages (heldOf base t₀ g))
 
 start-with : {base : ℕ} {counts : Counts} {t o g : List ℕ} → InRanges (lent base counts t o g)
     → MendingWith base counts g t o t o keptNumbers
@@ -95,12 +95,14 @@ start-with {base} {counts} {t} {o} {g} w =
     record {
       within = w;
       beside = same-beside t;
-      steps = ap (λ (n : ℕ). repairF n (cellsOf base t o) (heldMessages (heldOf base t g))) (sym (length-cells base t o));
+      steps =
+          ap (λ (n : ℕ). repairF (filledCell repaired) n (cellsOf base t o) (heldMessages (heldOf base t g)))
+          (sym (length-cells base t o));
     }
 
 -- nothing is left to mend
 mended-now : {base : ℕ} {counts : Counts} {g t₀ o₀ t o : List ℕ} {left : ℕ} → MendingWith base counts g t₀ o₀ t o left
-    → cellsOf base t o ≡ repair (cellsOf base t₀ o₀) (heldMessages (heldOf base t₀ g))
+    → cellsOf base t o ≡ repair (filledCell repaired) (cellsOf base t₀ o₀) (heldMessages (heldOf base t₀ g))
     → MendedNow (lent base counts t₀ o₀ g) (lent base counts t o g)
 unfolding viewIn
 mended-now {base} {counts} {g} m e =
@@ -130,7 +132,7 @@ module _ {base : ℕ} {counts : Counts} {g t₀ o₀ t o : List ℕ} {left : ℕ
   stop-with : found ≡ usables.Nothing → MendedNow (lent base counts t₀ o₀ g) (lent base counts t o g)
   stop-with e =
       mended-now m
-      (sym (repairF-done left (cellsOf base t o) (heldMessages (heldOf base t₀ g))
+      (sym (repairF-done (filledCell repaired) left (cellsOf base t o) (heldMessages (heldOf base t₀ g))
       (found-now ∙ ap (λ (x : Usable). UsableAnswer base t x g) e))
       ∙ m .steps)
 
@@ -145,14 +147,17 @@ module _ {base : ℕ} {counts : Counts} {g t₀ o₀ t o : List ℕ} {left : ℕ
         → MendingWith base counts g t₀ o₀ newT newO (left - 1)
     turn-with {newT} {newO} more x =
         let one : left ≡ suc (left - 1) = omega arith in
-        let whole : repairF (suc (left - 1)) (cellsOf base t o) (heldMessages (heldOf base t₀ g))
-        ≡ repair (cellsOf base t₀ o₀) (heldMessages (heldOf base t₀ g)) = rw one at (m .steps) in
+        let whole : repairF (filledCell repaired) (suc (left - 1)) (cellsOf base t o) (heldMessages (heldOf base t₀ g))
+        ≡ repair (filledCell repaired) (cellsOf base t₀ o₀) (heldMessages (heldOf base t₀ g)) = rw one at (m .steps) in
         record {
           within = x .within;
           beside = beside-twice (m .beside) (x .beside);
           steps =
-              ap (λ (c : List Cell). repairF (left - 1) c (heldMessages (heldOf base t₀ g))) (x .cells)
-              ∙ sym (repairF-fill (left - 1) (cellsOf base t o) (heldMessages (heldOf base t₀ g)) (messageHeld base t g d i) some-now)
+              ap (λ (c : List Cell). repairF (filledCell repaired) (left - 1) c (heldMessages (heldOf base t₀ g))) (x .cells)
+              ∙ sym
+              (repairF-fill (filledCell repaired) (left - 1) (cellsOf base t o) (heldMessages (heldOf base t₀ g))
+              (messageHeld base t g d i)
+              some-now)
               ∙ whole;
         }
 

@@ -8,7 +8,7 @@ use mathlib.Core.Option.{Option, none, some}
 use lib.ListN.{length, getD, take}
 use lib.Dec.{eqb}
 use Rattle.datagrams.specs.Sizes.{packetLimit, coveredLimit, messagesLimit}
-use Rattle.views.specs.Cells.{keptBefore, keptAhead}
+use Rattle.views.specs.Cells.{repaired, filledCell, keptBefore, keptAhead}
 use Rattle.views.specs.Members.{membersOf}
 use Rattle.views.specs.Repair.{Message, unknownMembers, firstUsable, mended, fill, repair}
 use Rattle.views.specs.Held.{messagesOf, heldMessages}
@@ -113,7 +113,8 @@ pub record MayMend (base : ℕ) (t o g : List ℕ) : Type 0 where
 -- one message used
 pub record FilledNow (before : Lent) (d i : ℕ) (after : Lent) : Type 0 where
   pub cells : cellsOf (after .base) (after .table) (after .octets)
-      ≡ fill (cellsOf (before .base) (before .table) (before .octets)) (messageHeld (before .base) (before .table) (before .messages) d i)
+      ≡ fill (filledCell repaired) (cellsOf (before .base) (before .table) (before .octets))
+      (messageHeld (before .base) (before .table) (before .messages) d i)
   pub within : InRanges after
   pub beside : SameBeside (before .table) (after .table)
 
@@ -123,7 +124,13 @@ pub record Fills (base : ℕ) (t o g : List ℕ) (d i : ℕ) (newT newO : List �
 
 -- "Then repair": what is held stays, and the kept numbers are repaired
 abbrev pub repairedView : View → View
-repairedView v = record { base = v .base; counts = v .counts; cells = repair (v .cells) (heldMessages (v .held)); held = v .held }
+repairedView v =
+    record {
+      base = v .base;
+      counts = v .counts;
+      cells = repair (filledCell repaired) (v .cells) (heldMessages (v .held));
+      held = v .held;
+    }
 
 -- all that can be mended is
 pub record MendedNow (before after : Lent) : Type 0 where

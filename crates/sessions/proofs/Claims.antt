@@ -122,7 +122,7 @@ accept-known d c view p known =
     let first = offers.keep received (keptBefore + d) (c .packet) (view .cells) in
     let kept = still-known (view .cells) first p one known in
     let two = extra-known (keptBefore + d) (c .extra) first p kept in
-    repair-known _ _ p (still-known first (offers.keepExtra (keptBefore + d) (c .extra) first) p two kept) ∙ two ∙ one
+    repair-known _ _ _ p (still-known first (offers.keepExtra (keptBefore + d) (c .extra) first) p two kept) ∙ two ∙ one
 
 held-accepted : (x : Extra) → (offers.heldBy x) .accepted ≡ true
 held-accepted (spares copies) = refl

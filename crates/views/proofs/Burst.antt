@@ -107,15 +107,15 @@ burst-mended row cells messages S held a honest done among sent burst p inside =
 -- after repair no message is usable, and what was known before still is
 pub burst-repaired : BurstRepaired
 unfolding heldMessages
-burst-repaired row cells held d a inside honest sent burst =
-    burst-mended row (repair cells (heldMessages held)) (heldMessages held) (keptBefore + d) (heldAt held d) a honest
-    (repair-closed cells (heldMessages held))
+burst-repaired made makes row cells held d a inside honest sent burst =
+    burst-mended row (repair made cells (heldMessages held)) (heldMessages held) (keptBefore + d) (heldAt held d) a honest
+    (repair-closed makes cells (heldMessages held))
     (λ message. messagesOf-among keptBefore held d message inside)
     (λ p before u. sent p before (unknown-before p u))
     (λ p at u. burst p at (unknown-before p u))
   where
-    unknown-before : (p : ℕ) → Unknown (repair cells (heldMessages held)) p → Unknown cells p
+    unknown-before : (p : ℕ) → Unknown (repair made cells (heldMessages held)) p → Unknown cells p
     unknown-before p u =
         ⊎-elim (λ was. was)
-        (λ k. absurd (known-not-unknown (repair cells (heldMessages held)) p (known-repair cells (heldMessages held) p k) u))
+        (λ k. absurd (known-not-unknown (repair made cells (heldMessages held)) p (known-repair made cells (heldMessages held) p k) u))
         (true-or-false (unknownAt cells p))

@@ -15,12 +15,15 @@ claims =
       heldDistinct = held-distinct;
       knownKept = repair-known;
       lengthKept = length-repair;
-      noneLeft = repair-closed;
+      noneLeft = λ made. repair-closed;
       nothingMore = known-within;
-      knownReached = λ cells messages distinct p. (known-reached cells messages p, reached-known cells messages distinct p);
-      anyOrder = known-any-order;
-      noLess = known-more;
-      staysTrue = repair-right;
+      knownReached = λ made makes cells messages distinct p. (
+        known-reached made cells messages p,
+        reached-known makes cells messages distinct p,
+      );
+      anyOrder = λ made. known-any-order;
+      noLess = λ made. known-more;
+      staysTrue = λ made. repair-right;
       burstMended = burst-mended;
       burstRepaired = burst-repaired;
     }

@@ -1,4 +1,4 @@
--- What a usable message says, and what its fill does: the one unknown member, which is in the view, becomes repaired, and
+-- What a usable message says, and what its fill does: the one unknown member, which is in the view, is filled, and
 -- every other number stays as it is. Assumes nothing.
 use Prim.Native.Nat.{ℕ, _≤_, _<_}
 use mathlib.Core.Path.{_≡_, refl, sym, ap, _∙_, subst}
@@ -13,7 +13,7 @@ use borrow.Author.Tests.{leb-true, eqb-true, le-leb, eq-eqb}
 use native.Mathlib.Omega.{arith}
 use Rattle.octets.proofs.Laws.{below-or-not, same-or-not, true-or-false, and-left, and-right, and-both, length-exclusiveOr}
 use Rattle.octets.proofs.Laws.{exclusiveOr-octet}
-use Rattle.views.specs.Cells.{Cell, blankCell, cellAt, unknownAt, isUnknown, repaired}
+use Rattle.views.specs.Cells.{Cell, blankCell, filledCell, Makes, cellAt, unknownAt, isUnknown, repaired}
 use Rattle.views.specs.Repair.{Message, unknownMembers, otherMembers, usable, mended, fill}
 use Rattle.views.specs.Reached.{Known, Unknown, Distinct}
 use Rattle.views.proofs.Passing.{passing-among, among-passing, passing-one, list-of-one}
@@ -83,39 +83,44 @@ usable-of cells message p d some m u others =
     and-both (le-leb 1 (length (message .octets)) some)
     (eq-eqb (length (unknownMembers cells message)) 1 (ap length (passing-one (unknownAt cells) (message .members) p d m u others)))
 
--- ---- fill
-pub length-fill : (cells : List Cell) (message : Message) → length (fill cells message) ≡ length cells
-unfolding fill
-length-fill cells message = length-set cells _ _
+-- ---- fill, however it is made
+module _ (made : List ℕ → Cell) where
+  pub length-fill : (cells : List Cell) (message : Message) → length (fill made cells message) ≡ length cells
+  unfolding fill
+  length-fill cells message = length-set cells _ _
 
--- the missing member becomes repaired
-pub fill-missing : (cells : List Cell) (message : Message) → usable cells message ≡ true
-    → cellAt (fill cells message) (missing cells message) ≡ record { state = repaired; octets = mended cells message }
-unfolding fill
-fill-missing cells message e =
-    getD-set-same cells (missing cells message) (record { state = repaired; octets = mended cells message }) blankCell
-    (usable-says cells message e .inside)
+  -- the missing member becomes what is made of the octets that mend
+  pub fill-missing : (cells : List Cell) (message : Message) → usable cells message ≡ true
+      → cellAt (fill made cells message) (missing cells message) ≡ made (mended cells message)
+  unfolding fill
+  fill-missing cells message e =
+      getD-set-same cells (missing cells message) (made (mended cells message)) blankCell
+      (usable-says cells message e .inside)
 
--- every other number stays
-pub fill-other : (cells : List Cell) (message : Message) (q : ℕ) → (q ≡ missing cells message → ⊥)
-    → cellAt (fill cells message) q ≡ cellAt cells q
-unfolding fill
-fill-other cells message q other = getD-set-other cells (missing cells message) q _ blankCell other
+  -- every other number stays
+  pub fill-other : (cells : List Cell) (message : Message) (q : ℕ) → (q ≡ missing cells message → ⊥)
+      → cellAt (fill made cells message) q ≡ cellAt cells q
+  unfolding fill
+  fill-other cells message q other = getD-set-other cells (missing cells message) q _ blankCell other
 
--- "What is known is never written over."
-pub fill-known : (cells : List Cell) (message : Message) (q : ℕ) → usable cells message ≡ true → Known cells q
-    → cellAt (fill cells message) q ≡ cellAt cells q
-fill-known cells message q e k =
-    fill-other cells message q
-    (λ same. known-not-unknown cells q k (ap (unknownAt cells) same ∙ usable-says cells message e .unknown))
+  -- "What is known is never written over."
+  pub fill-known : (cells : List Cell) (message : Message) (q : ℕ) → usable cells message ≡ true → Known cells q
+      → cellAt (fill made cells message) q ≡ cellAt cells q
+  fill-known cells message q e k =
+      fill-other cells message q
+      (λ same. known-not-unknown cells q k (ap (unknownAt cells) same ∙ usable-says cells message e .unknown))
 
--- known after a fill: known before, or the missing member
-pub known-fill : (cells : List Cell) (message : Message) (q : ℕ) → Known (fill cells message) q
-    → Known cells q ⊎ (q ≡ missing cells message)
-known-fill cells message q k =
-    ⊎-elim (λ same. inr same)
-    (λ other. inl (sym (same-unknown cells (fill cells message) q (fill-other cells message q other)) ∙ k))
-    (same-or-not q (missing cells message))
+  -- known after a fill: known before, or the missing member
+  pub known-fill : (cells : List Cell) (message : Message) (q : ℕ) → Known (fill made cells message) q
+      → Known cells q ⊎ (q ≡ missing cells message)
+  known-fill cells message q k =
+      ⊎-elim (λ same. inr same)
+      (λ other. inl (sym (same-unknown cells (fill made cells message) q (fill-other cells message q other)) ∙ k))
+      (same-or-not q (missing cells message))
+
+-- repair as document 01 has it: a fill is a repaired number
+pub makes-repaired : Makes (filledCell repaired)
+makes-repaired = record { known = λ octets. refl; same = λ octets. refl }
 
 -- the fill's octets are as many as the message's
 pub length-mended : (cells : List Cell) (message : Message) → length (mended cells message) ≡ length (message .octets)

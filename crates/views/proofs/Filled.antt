@@ -12,8 +12,8 @@ use native.Mathlib.Omega.{arith}
 use borrow.Author.Tests.{le-leb}
 use Rattle.octets.proofs.Laws.{same-or-not, and-left, and-right, and-both}
 use Rattle.datagrams.specs.Sizes.{packetLeast, packetLimit}
-use Rattle.views.specs.Cells.{State, unknown, received, spare, repaired, blank, isUnknown, Cell, blankCell, cellAt, unknownAt}
-use Rattle.views.specs.Cells.{keptBefore, keptAhead, keptNumbers}
+use Rattle.views.specs.Cells.{State, unknown, received, spare, repaired, blank, isUnknown, Cell, blankCell, filledCell, cellAt}
+use Rattle.views.specs.Cells.{unknownAt, keptBefore, keptAhead, keptNumbers}
 use Rattle.views.specs.Held.{Held, heldAt}
 use Rattle.views.proofs.Fill.{unknown-inside}
 use Rattle.views.specs.View.{View, sum}
@@ -26,7 +26,7 @@ filledAt v p state octets =
     record {
       base = v .base;
       counts = v .counts;
-      cells = set (v .cells) p (record { state = state; octets = octets });
+      cells = set (v .cells) p (filledCell state octets);
       held = v .held;
     }
 
@@ -63,7 +63,7 @@ held-known h known e =
 module _ {v : View} (s : Sound v) (p : ℕ) (free : unknownAt (v .cells) p ≡ true) (state : State) (fills : isFill state ≡ true)
     (b : List ℕ) (least : packetLeast ≤ length b) (most : length b ≤ packetLimit) where
   filled : Cell
-  filled = record { state = state; octets = b }
+  filled = filledCell state b
 
   inside : p < length (v .cells)
   inside = unknown-inside (v .cells) p free
@@ -108,7 +108,7 @@ module _ {v : View} (s : Sound v) (p : ℕ) (free : unknownAt (v .cells) p ≡ t
       record {
         small = s .small;
         total = s .total;
-        kept = length-set (v .cells) p (record { state = state; octets = b }) ∙ s .kept;
+        kept = length-set (v .cells) p (filledCell state b) ∙ s .kept;
         ahead = s .ahead;
         cell = cell-each;
         held = held-each;

@@ -13,7 +13,7 @@ use borrow.Author.Tests.{not-true}
 use Rattle.octets.specs.ExclusiveOr.{xorAt, longest}
 use Rattle.octets.proofs.Laws.{below-or-not, same-or-not, xor-cancel-right, xorAt-same, longest-reaches, exclusiveOr-at}
 use Rattle.octets.proofs.Laws.{exclusiveOr-longest, exclusiveOr-past, length-exclusiveOr}
-use Rattle.views.specs.Cells.{Cell, cellAt, unknownAt}
+use Rattle.views.specs.Cells.{Cell, Makes, cellAt, unknownAt}
 use Rattle.views.specs.Repair.{Message, otherMembers, usable, mended, fill, repair}
 use Rattle.views.specs.Honest.{HonestMessage, HonestMessages, UpToZeros, TrueCells}
 use Rattle.views.proofs.Passing.{passing-among, xorAt-parted}
@@ -72,27 +72,30 @@ module _ (row : ℕ → List ℕ) (cells : List Cell) (message : Message) (can :
   pub mended-right : UpToZeros (mended cells message) (row filled)
   mended-right = record { long = omega (arith, long-enough, length-mended cells message); same = mended-at }
 
-  pub fill-right : TrueCells row (fill cells message)
-  fill-right p inside k =
-      ⊎-elim
-      (λ same.
-      subst (λ (q : ℕ). UpToZeros ((cellAt (fill cells message) q) .octets) (row q)) (sym same)
-      (subst (λ (c : Cell). UpToZeros (c .octets) (row filled)) (sym (fill-missing cells message can)) mended-right))
-      (λ other.
-      subst (λ (c : Cell). UpToZeros (c .octets) (row p)) (sym (fill-other cells message p other))
-      (right p (omega (arith, length-fill cells message))
-      (sym (same-unknown cells (fill cells message) p (fill-other cells message p other)) ∙ k)))
-      (same-or-not p filled)
+  module _ {made : List ℕ → Cell} (makes : Makes made) where
+    pub fill-right : TrueCells row (fill made cells message)
+    fill-right p inside k =
+        ⊎-elim
+        (λ same.
+        subst (λ (q : ℕ). UpToZeros ((cellAt (fill made cells message) q) .octets) (row q)) (sym same)
+        (subst (λ (octets : List ℕ). UpToZeros octets (row filled))
+        (sym (ap (λ (c : Cell). c .octets) (fill-missing made cells message can) ∙ makes .same (mended cells message)))
+        mended-right))
+        (λ other.
+        subst (λ (c : Cell). UpToZeros (c .octets) (row p)) (sym (fill-other made cells message p other))
+        (right p (omega (arith, length-fill made cells message))
+        (sym (same-unknown cells (fill made cells message) p (fill-other made cells message p other)) ∙ k)))
+        (same-or-not p filled)
 
 -- ---- repair
-pub repair-right : (row : ℕ → List ℕ) (cells : List Cell) (messages : List Message) → HonestMessages row (length cells) messages
-    → TrueCells row cells → TrueCells row (repair cells messages)
-repair-right row cells messages honest right =
-    repair-keeps (λ now. (length now ≡ length cells) × TrueCells row now) messages
+pub repair-right : {made : List ℕ → Cell} → Makes made → (row : ℕ → List ℕ) (cells : List Cell) (messages : List Message)
+    → HonestMessages row (length cells) messages → TrueCells row cells → TrueCells row (repair made cells messages)
+repair-right {made} makes row cells messages honest right =
+    repair-keeps made (λ now. (length now ≡ length cells) × TrueCells row now) messages
     (λ now found e kept.
     let got = found-usable now messages found e in (
-      length-fill now found ∙ kept .0,
-      fill-right row now found (got .1) (rw (kept .0) (honest found (got .0))) (kept .1),
+      length-fill made now found ∙ kept .0,
+      fill-right row now found (got .1) (rw (kept .0) (honest found (got .0))) (kept .1) makes,
     ))
     cells
     (refl, right)

@@ -4,12 +4,13 @@
 pub use Rattle.views.proofs.Passing.{passing-yes, passing-no}
 -- ---- known and unknown, usable messages, fills
 pub use Rattle.views.proofs.Fill.{missing, unknown-inside, known-not-unknown, same-unknown, usable-says, length-mended}
+pub use Rattle.views.proofs.Fill.{makes-repaired}
 -- ---- the first usable message
 pub use Rattle.views.proofs.Search.{firstUsable-front, firstUsable-rest, found-usable}
 -- ---- the messages from a number on, as a search goes
 pub use Rattle.views.proofs.Turns.{heldFrom, heldFrom-start, heldFrom-turn, heldFrom-end}
 -- ---- what repair keeps
-pub use Rattle.views.proofs.Grows.{repairF-done, repairF-fill, found-or-none, length-repair, repair-known, repair-state}
+pub use Rattle.views.proofs.Grows.{repairF-done, repairF-fill, found-or-none, length-repair, repair-known, repair-made}
 -- ---- known exactly if reached
 pub use Rattle.views.proofs.Least.{reached-within, known-within, known-closed, known-reached, reached-known}
 -- ---- members and reach

@@ -8,7 +8,7 @@ use mathlib.Core.Bool.{false≢true}
 use mathlib.Core.List.{List, List·Memᴰ as Among}
 use mathlib.Core.Option.{none}
 use Rattle.octets.proofs.Laws.{true-or-false}
-use Rattle.views.specs.Cells.{Cell, unknownAt}
+use Rattle.views.specs.Cells.{Cell, Makes, unknownAt}
 use Rattle.views.specs.Repair.{Message, firstUsable, repair}
 use Rattle.views.specs.Reached.{Known, Closed, Reached, known, byMessage, DistinctMembers}
 use Rattle.views.proofs.Fill.{missing, usable-says, usable-of, known-fill}
@@ -32,24 +32,8 @@ reached-more cells wider messages more start held =
     reached-within (Reached wider more) cells messages (λ p k. known (start p k))
     (λ message p m long at others. byMessage message (held message m) long at others)
 
--- ---- after repair
--- every known place lies within every closed set that holds those known before
-pub known-within : (K : ℕ → Type 0) (cells : List Cell) (messages : List Message) → ((p : ℕ) → Known cells p → K p)
-    → Closed messages K → (p : ℕ) → Known (repair cells messages) p → K p
-known-within K cells messages start closed =
-    repair-keeps (λ now. (p : ℕ) → Known now p → K p) messages
-    (λ now found e within p k.
-    let got = found-usable now messages found e in
-    let says = usable-says now found (got .1) in
-    ⊎-elim (within p)
-    (λ same.
-    subst K (sym same)
-    (closed found (missing now found) (got .0) (says .length-one) (says .member) (λ q m other. within q (says .others q m other))))
-    (known-fill now found p k))
-    cells
-    start
-
--- where no message is usable, the known places are closed
+-- ---- where no message is usable
+-- the known places are closed
 pub none-closed : (cells : List Cell) (messages : List Message) → DistinctMembers messages → firstUsable cells messages ≡ none
     → Closed messages (Known cells)
 none-closed cells messages distinct e message p m long at others =
@@ -61,37 +45,60 @@ none-closed cells messages distinct e message p m long at others =
     (λ k. k)
     (true-or-false (unknownAt cells p))
 
-pub known-closed : (cells : List Cell) (messages : List Message) → DistinctMembers messages
-    → Closed messages (Known (repair cells messages))
-known-closed cells messages distinct =
-    none-closed (repair cells messages) messages distinct (repair-closed cells messages)
+-- ---- after repair, however a fill is made
+module _ (made : List ℕ → Cell) where
+  -- every known place lies within every closed set that holds those known before
+  pub known-within : (K : ℕ → Type 0) (cells : List Cell) (messages : List Message) → ((p : ℕ) → Known cells p → K p)
+      → Closed messages K → (p : ℕ) → Known (repair made cells messages) p → K p
+  known-within K cells messages start closed =
+      repair-keeps made (λ now. (p : ℕ) → Known now p → K p) messages
+      (λ now found e within p k.
+      let got = found-usable now messages found e in
+      let says = usable-says now found (got .1) in
+      ⊎-elim (within p)
+      (λ same.
+      subst K (sym same)
+      (closed found (missing now found) (got .0) (says .length-one) (says .member) (λ q m other. within q (says .others q m other))))
+      (known-fill made now found p k))
+      cells
+      start
 
--- known after repair, exactly if reached
-pub known-reached : (cells : List Cell) (messages : List Message) (p : ℕ) → Known (repair cells messages) p → Reached cells messages p
-known-reached cells messages =
-    known-within (Reached cells messages) cells messages (λ p k. known k)
-    (λ message p m long at others. byMessage message m long at others)
+  -- known after repair, only if reached
+  pub known-reached : (cells : List Cell) (messages : List Message) (p : ℕ)
+      → Known (repair made cells messages) p → Reached cells messages p
+  known-reached cells messages =
+      known-within (Reached cells messages) cells messages (λ p k. known k)
+      (λ message p m long at others. byMessage message m long at others)
 
-pub reached-known : (cells : List Cell) (messages : List Message) → DistinctMembers messages
-    → (p : ℕ) → Reached cells messages p → Known (repair cells messages) p
-reached-known cells messages distinct p =
-    reached-within (Known (repair cells messages)) cells messages (known-repair cells messages) (known-closed cells messages distinct)
+-- ---- and where a fill is known
+module _ {made : List ℕ → Cell} (makes : Makes made) where
+  pub known-closed : (cells : List Cell) (messages : List Message) → DistinctMembers messages
+      → Closed messages (Known (repair made cells messages))
+  known-closed cells messages distinct =
+      none-closed (repair made cells messages) messages distinct (repair-closed makes cells messages)
 
--- ---- what follows
--- more known before, more messages: more known after
-pub known-more : (cells wider : List Cell) (messages more : List Message) → DistinctMembers more
-    → ((p : ℕ) → Known cells p → Known wider p) → ((message : Message) → Among message messages → Among message more)
-    → (p : ℕ) → Known (repair cells messages) p → Known (repair wider more) p
-known-more cells wider messages more distinct start held p k =
-    reached-known wider more distinct p (reached-more cells wider messages more start held (known-reached cells messages p k))
+  -- known after repair, if reached
+  pub reached-known : (cells : List Cell) (messages : List Message) → DistinctMembers messages
+      → (p : ℕ) → Reached cells messages p → Known (repair made cells messages) p
+  reached-known cells messages distinct p =
+      reached-within (Known (repair made cells messages)) cells messages (known-repair made cells messages)
+      (known-closed cells messages distinct)
 
--- the order of the messages, and how often each is held, does not matter
-pub known-any-order : (cells : List Cell) (messages others : List Message) → DistinctMembers messages
-    → ((message : Message) → Among message messages ↔ Among message others)
-    → (p : ℕ) → Known (repair cells messages) p ↔ Known (repair cells others) p
-known-any-order cells messages others distinct same p = (
-  known-more cells cells messages others (λ message m. distinct message (same message .1 m)) (λ q k. k)
-      (λ message m. same message .0 m)
-      p,
-  known-more cells cells others messages distinct (λ q k. k) (λ message m. same message .1 m) p,
-)
+  -- ---- what follows
+  -- more known before, more messages: more known after
+  pub known-more : (cells wider : List Cell) (messages more : List Message) → DistinctMembers more
+      → ((p : ℕ) → Known cells p → Known wider p) → ((message : Message) → Among message messages → Among message more)
+      → (p : ℕ) → Known (repair made cells messages) p → Known (repair made wider more) p
+  known-more cells wider messages more distinct start held p k =
+      reached-known wider more distinct p (reached-more cells wider messages more start held (known-reached made cells messages p k))
+
+  -- the order of the messages, and how often each is held, does not matter
+  pub known-any-order : (cells : List Cell) (messages others : List Message) → DistinctMembers messages
+      → ((message : Message) → Among message messages ↔ Among message others)
+      → (p : ℕ) → Known (repair made cells messages) p ↔ Known (repair made cells others) p
+  known-any-order cells messages others distinct same p = (
+    known-more cells cells messages others (λ message m. distinct message (same message .1 m)) (λ q k. k)
+        (λ message m. same message .0 m)
+        p,
+    known-more cells cells others messages distinct (λ q k. k) (λ message m. same message .1 m) p,
+  )

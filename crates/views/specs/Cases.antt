@@ -6,7 +6,7 @@ use lib.ListN.{length, replicate}
 use Rattle.lengths.specs.Refusals.{endsEarly, repeated, tooFar, late, baseUnknown, baseKnown, noRoom, allPassed}
 use Rattle.lengths.specs.Answers.{done, refuse}
 use Rattle.datagrams.specs.Carried.{Carried, spares, parity}
-use Rattle.views.specs.Cells.{spare, Cell, blankCell, unknownCell, keptBefore, keptAhead}
+use Rattle.views.specs.Cells.{spare, Cell, blankCell, unknownCell, filledCell, keptBefore, keptAhead}
 use Rattle.views.specs.Held.{Held, nothingHeld}
 use Rattle.views.specs.RepairCases.{came, filled, holding}
 use Rattle.views.specs.View.{View, Counts, sessionLimit, freshView}
@@ -19,7 +19,7 @@ abbrev pub arrived : Cell
 arrived = came (0x06 ∷ [])
 
 abbrev pub copy : Cell
-copy = record { state = spare; octets = 0x02 ∷ [] }
+copy = filledCell spare (0x02 ∷ [])
 
 -- the message `C6 01` over two packets, one of which is `C0 01`; the other is then `06` and a zero
 abbrev pub message : List ℕ

@@ -1,6 +1,7 @@
 -- Document 01, 'The receiving session': "It keeps 64 numbers .., each unknown, received, spare, repaired or blank, with its
 -- octets." Definitions only.
 use Prim.Native.Nat.{ℕ, _+_}
+use mathlib.Core.Path.{_≡_}
 use mathlib.Core.Bool.{Bool, true, false}
 use mathlib.Core.List.{List, []}
 use lib.ListN.{getD}
@@ -27,6 +28,7 @@ pub record Cell : Type 0 where
   pub state : State
   pub octets : List ℕ
 
+-- ---- how a number is made: blank, unknown or filled
 -- "Numbers before the first are blank: known, empty, never released."
 abbrev pub blankCell : Cell
 blankCell = record { state = blank; octets = [] }
@@ -34,12 +36,21 @@ blankCell = record { state = blank; octets = [] }
 abbrev pub unknownCell : Cell
 unknownCell = record { state = unknown; octets = [] }
 
+-- filled with a packet, as received, spare or repaired
+abbrev pub filledCell : State → List ℕ → Cell
+filledCell state octets = record { state = state; octets = octets }
+
 abbrev pub isUnknown : State → Bool
 isUnknown unknown = true
 isUnknown received = false
 isUnknown spare = false
 isUnknown repaired = false
 isUnknown blank = false
+
+-- a way to make filled numbers: each is known, and has the octets that it was made of
+pub record Makes (made : List ℕ → Cell) : Type 0 where
+  pub known : (octets : List ℕ) → isUnknown ((made octets) .state) ≡ false
+  pub same : (octets : List ℕ) → (made octets) .octets ≡ octets
 
 -- the number at a place of the view; a place outside the view is never asked for, and counts as known
 abbrev pub cellAt : List Cell → ℕ → Cell

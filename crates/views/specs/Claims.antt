@@ -6,7 +6,7 @@ use mathlib.Core.List.{List, List·Memᴰ as Among}
 use mathlib.Core.Option.{none}
 use lib.ListN.{length}
 use Rattle.views.specs.Members.{membersOf, InReach}
-use Rattle.views.specs.Cells.{Cell, cellAt, keptBefore}
+use Rattle.views.specs.Cells.{Cell, Makes, cellAt, keptBefore}
 use Rattle.views.specs.Repair.{Message, firstUsable, repair}
 use Rattle.views.specs.Held.{Held, heldAt, messagesOf, heldMessages}
 use Rattle.views.specs.Reached.{Known, Unknown, Closed, Reached, Distinct, DistinctMembers}
@@ -27,48 +27,49 @@ HeldDistinct = (held : List Held)
     → ((d : ℕ) → d < length held → (heldAt held d) .n * length ((heldAt held d) .messages) ≤ keptBefore)
     → DistinctMembers (heldMessages held)
 
--- ---- repair
+-- ---- repair, however a fill is made
 -- "What is known is never written over."
 abbrev pub KnownKept : Type 0
-KnownKept = (cells : List Cell) (messages : List Message) (p : ℕ) → Known cells p
-    → cellAt (repair cells messages) p ≡ cellAt cells p
+KnownKept = (made : List ℕ → Cell) (cells : List Cell) (messages : List Message) (p : ℕ) → Known cells p
+    → cellAt (repair made cells messages) p ≡ cellAt cells p
 
 -- the view keeps its length
 abbrev pub LengthKept : Type 0
-LengthKept = (cells : List Cell) (messages : List Message) → length (repair cells messages) ≡ length cells
+LengthKept = (made : List ℕ → Cell) (cells : List Cell) (messages : List Message) → length (repair made cells messages) ≡ length cells
 
 -- "stop when no such message is left": afterwards no message is usable
 abbrev pub NoneLeft : Type 0
-NoneLeft = (cells : List Cell) (messages : List Message) → firstUsable (repair cells messages) messages ≡ none
+NoneLeft = (made : List ℕ → Cell) → Makes made → (cells : List Cell) (messages : List Message)
+    → firstUsable (repair made cells messages) messages ≡ none
 
 -- nothing is filled but what must be: each set of places that holds the known ones, and to which no message adds another,
 -- holds all that are known afterwards
 abbrev pub NothingMore : Type 1
-NothingMore = (K : ℕ → Type 0) (cells : List Cell) (messages : List Message) → ((p : ℕ) → Known cells p → K p)
-    → Closed messages K → (p : ℕ) → Known (repair cells messages) p → K p
+NothingMore = (made : List ℕ → Cell) (K : ℕ → Type 0) (cells : List Cell) (messages : List Message) → ((p : ℕ) → Known cells p → K p)
+    → Closed messages K → (p : ℕ) → Known (repair made cells messages) p → K p
 
 -- known afterwards are exactly the places that the messages reach
 abbrev pub KnownReached : Type 0
-KnownReached = (cells : List Cell) (messages : List Message) → DistinctMembers messages
-    → (p : ℕ) → Known (repair cells messages) p ↔ Reached cells messages p
+KnownReached = (made : List ℕ → Cell) → Makes made → (cells : List Cell) (messages : List Message) → DistinctMembers messages
+    → (p : ℕ) → Known (repair made cells messages) p ↔ Reached cells messages p
 
 -- which numbers are known afterwards does not depend on the order of the messages
 abbrev pub AnyOrder : Type 0
-AnyOrder = (cells : List Cell) (messages others : List Message) → DistinctMembers messages
+AnyOrder = (made : List ℕ → Cell) → Makes made → (cells : List Cell) (messages others : List Message) → DistinctMembers messages
     → ((message : Message) → Among message messages ↔ Among message others)
-    → (p : ℕ) → Known (repair cells messages) p ↔ Known (repair cells others) p
+    → (p : ℕ) → Known (repair made cells messages) p ↔ Known (repair made cells others) p
 
 -- with more known before and more messages, no less is known afterwards
 abbrev pub NoLess : Type 0
-NoLess = (cells wider : List Cell) (messages more : List Message) → DistinctMembers more
+NoLess = (made : List ℕ → Cell) → Makes made → (cells wider : List Cell) (messages more : List Message) → DistinctMembers more
     → ((p : ℕ) → Known cells p → Known wider p) → ((message : Message) → Among message messages → Among message more)
-    → (p : ℕ) → Known (repair cells messages) p → Known (repair wider more) p
+    → (p : ℕ) → Known (repair made cells messages) p → Known (repair made wider more) p
 
 -- ---- an honest sender
 -- where all known numbers have the sender's packets up to zeros at the end, so have those that repair fills
 abbrev pub StaysTrue : Type 0
-StaysTrue = (row : ℕ → List ℕ) (cells : List Cell) (messages : List Message) → HonestMessages row (length cells) messages
-    → TrueCells row cells → TrueCells row (repair cells messages)
+StaysTrue = (made : List ℕ → Cell) → Makes made → (row : ℕ → List ℕ) (cells : List Cell) (messages : List Message)
+    → HonestMessages row (length cells) messages → TrueCells row cells → TrueCells row (repair made cells messages)
 
 -- of the reach of S at most m numbers in a row are unknown, those from a on
 abbrev pub BurstAt : List Cell → ℕ → ℕ → ℕ → ℕ → Type 0
@@ -92,13 +93,13 @@ BurstMended = (row : ℕ → List ℕ) (cells : List Cell) (messages : List Mess
 -- the same of what a session holds, before and after repair: at distance d from the base an honest datagram is held, and of
 -- its reach at most m numbers in a row are unknown; after repair all of it is known
 abbrev pub BurstRepaired : Type 0
-BurstRepaired = (row : ℕ → List ℕ) (cells : List Cell) (held : List Held) (d a : ℕ)
+BurstRepaired = (made : List ℕ → Cell) → Makes made → (row : ℕ → List ℕ) (cells : List Cell) (held : List Held) (d a : ℕ)
     → d < length held
     → HonestHeld row (keptBefore + d) (heldAt held d)
     → SentBefore row cells (keptBefore + d)
     → BurstAt cells (keptBefore + d) ((heldAt held d) .n) (length ((heldAt held d) .messages)) a
     → (p : ℕ) → InReach (keptBefore + d) ((heldAt held d) .n) (length ((heldAt held d) .messages)) p
-    → Known (repair cells (heldMessages held)) p
+    → Known (repair made cells (heldMessages held)) p
 
 pub record Claims : Type 1 where
   pub membersExact : MembersExact

@@ -11,7 +11,7 @@ use Rattle.lengths.specs.Refusals.{repeated, tooFar, late}
 use Rattle.lengths.specs.Answers.{Answer, done, refuse, _>>=_}
 use Rattle.datagrams.specs.Carried.{Carried, Extra, spares, parity}
 use Rattle.datagrams.specs.Read.{readDatagram, carriedBy}
-use Rattle.views.specs.Cells.{State, received, spare, Cell, unknownAt, keptBefore, keptAhead}
+use Rattle.views.specs.Cells.{State, received, spare, repaired, Cell, filledCell, unknownAt, keptBefore, keptAhead}
 use Rattle.views.specs.Held.{Held, nothingHeld, heldMessages}
 use Rattle.views.specs.Repair.{repair}
 use Rattle.views.specs.View.{View, distance}
@@ -22,7 +22,7 @@ lateFrom = 32768
 
 -- "fill only numbers still unknown"
 unfoldable pub keep : State → ℕ → List ℕ → List Cell → List Cell
-keep state p octets cells = cond (unknownAt cells p) (set cells p (record { state = state; octets = octets })) cells
+keep state p octets cells = cond (unknownAt cells p) (set cells p (filledCell state octets)) cells
 
 -- "the j-th spare of datagram S is packet S−j": the first of the given spares stands before place p
 unfoldable pub keepSpares : ℕ → List (List ℕ) → List Cell → List Cell
@@ -48,7 +48,7 @@ accept d datagram view =
     record {
       base = view .base;
       counts = view .counts;
-      cells = repair filled (heldMessages held);
+      cells = repair (filledCell repaired) filled (heldMessages held);
       held = held;
     }
 

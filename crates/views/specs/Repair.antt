@@ -9,7 +9,7 @@ use mathlib.Core.Option.{Option, none, some}
 use lib.ListN.{length, getD, set}
 use lib.Dec.{leb, eqb}
 use Rattle.octets.specs.ExclusiveOr.{exclusiveOr}
-use Rattle.views.specs.Cells.{Cell, repaired, cellAt, unknownAt}
+use Rattle.views.specs.Cells.{Cell, cellAt, unknownAt}
 
 -- a held message: the places of its members in the view, and its octets
 pub record Message : Type 0 where
@@ -42,17 +42,17 @@ unfoldable pub mended : List Cell → Message → List ℕ
 mended cells message =
     exclusiveOr (length (message .octets)) (message .octets ∷ map (λ p. (cellAt cells p) .octets) (otherMembers cells message))
 
--- "fill that": the unknown member becomes repaired
-unfoldable pub fill : List Cell → Message → List Cell
-fill cells message =
-    set cells (getD (unknownMembers cells message) 0 0) (record { state = repaired; octets = mended cells message })
+-- "fill that": the unknown member becomes what is made of these octets
+unfoldable pub fill : (List ℕ → Cell) → List Cell → Message → List Cell
+fill made cells message = set cells (getD (unknownMembers cells message) 0 0) (made (mended cells message))
 
 -- "begin again; stop when no such message is left". Each fill makes one unknown number known, so that as many steps as
 -- there are numbers are enough (proofs/Enough.antt).
-unfoldable pub repairF : ℕ → List Cell → List Message → List Cell
-repairF zero cells messages = cells
-repairF (suc k) cells messages =
-    elim (firstUsable cells messages) [ none ↦ cells | some message ↦ repairF k (fill cells message) messages ]
+unfoldable pub repairF : (List ℕ → Cell) → ℕ → List Cell → List Message → List Cell
+repairF made zero cells messages = cells
+repairF made (suc k) cells messages =
+    elim (firstUsable cells messages) [ none ↦ cells | some message ↦ repairF made k (fill made cells message) messages ]
 
-unfoldable pub repair : List Cell → List Message → List Cell
-repair cells messages = repairF (length cells) cells messages
+-- how a fill is made is the caller's to say
+unfoldable pub repair : (List ℕ → Cell) → List Cell → List Message → List Cell
+repair made cells messages = repairF made (length cells) cells messages
