@@ -28,7 +28,9 @@ in-stores : InStores
 in-stores =
     record {
       put = λ old slot src. told-one;
+      clearRun = λ old. told-one;
       clear = λ old slot. told-one;
+      zerosInRun = λ run n. told-one;
       zerosPast = λ o slot n. told-one;
       allZero = λ o slot. told-one;
       copyOut = λ o slot n old. told-one;

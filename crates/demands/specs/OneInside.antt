@@ -1,5 +1,5 @@
--- One outcome of the calls that serve callers inside this repository, each of which has a `requires`: a record for each crate, with
--- a field for each call, under its name and with its promise. Where a field has a hypothesis more, the call
+-- One outcome of the calls that serve callers inside this repository, each of which but `clear_run` has a `requires`: a record for
+-- each crate, with a field for each call, under its name and with its promise. Where a field has a hypothesis more, the call
 -- requires it. Statements alone.
 use Prim.Native.Nat.{ℕ, _/_}
 use mathlib.Core.Path.{_≡_}
@@ -44,10 +44,12 @@ use Rattle.lines.specs.Lines.{resultLine, refusalLine}
 use Rattle.lines.specs.Promise.{Appends}
 use Rattle.demands.specs.OneTold.{One, OneLent}
 
--- `stores`: `put`, `clear`, `zeros_past`, `all_zero`, `copy_out`, `add`
+-- `stores`: `put`, `clear_run`, `clear`, `zeros_in_run`, `zeros_past`, `all_zero`, `copy_out`, `add`
 pub record InStores : Type 0 where
   pub put : (old : List ℕ) (slot : ℕ) (src : List ℕ) → One (λ (new : List ℕ). new ≡ store.pasted old slot src)
+  pub clearRun : (old : List ℕ) → One (λ (new : List ℕ). new ≡ store.zeros (length old))
   pub clear : (old : List ℕ) (slot : ℕ) → One (λ (new : List ℕ). new ≡ store.pasted old slot (store.zeros packetLimit))
+  pub zerosInRun : (run : List ℕ) (n : ℕ) → One (λ (r : Bool). r ≡ store.zerosFrom run n)
   pub zerosPast : (o : List ℕ) (slot n : ℕ) → One (λ (r : Bool). r ≡ store.zerosPast o slot n)
   pub allZero : (o : List ℕ) (slot : ℕ) → One (λ (r : Bool). r ≡ store.zerosPast o slot 0)
   pub copyOut : (o : List ℕ) (slot n : ℕ) (old : List ℕ) → One (λ (new : List ℕ). new ≡ store.part o slot n ++ drop n old)

@@ -11,7 +11,8 @@ ghost use mathlib.Core.Bool.{false};
 ghost use mathlib.Core.List.{[]};
 ghost use lib.ListN.{length};
 ghost use Rattle.frames.specs.Frame.{frameLimit, endsFrame, handsGood, handsBad};
-ghost use Rattle.frames.specs.Joiner.{inStorage, zerosAfter, rangesOf};
+ghost use Rattle.stores.specs.Store.{maskOver};
+ghost use Rattle.frames.specs.Joiner.{inStorage, rangesOf};
 ghost use Rattle.frame_joiner.specs.Inner.{LaidOut, Adds, Gives, Drops, Admitted, FieldFed, Taints, unchanged, waited};
 
 // What is left of a joiner beside its storage, and what is answered.
@@ -21,18 +22,13 @@ pub struct Kept {
     pub answer: Handed,
 }
 
-// "octets not zero past its length": whether there are none.
-fn zeros_past(frame: &[u8], size: usize) -> bool
-    requires { ⌜ length (now frame) ≡ frameLimit ⌝ }
-    ensures { λ r. ⌜ r ≡ zerosAfter (now (frame .entry)) size ⌝ }
+// The mask of the storage, as a slot has one.
+fn passing() -> [u8; Joiner::LIMIT + Joiner::LIMIT]
+    ensures { λ r. ⌜ r ≡ maskOver frameLimit ⌝ }
 {
-    let mut ok = true;
-    let mut k = 0;
-    while k < Joiner::LIMIT {
-        ok = ok & ((k < size) | (frame[k] == 0));
-        k += 1;
-    }
-    ok
+    let mut table = [255; Joiner::LIMIT + Joiner::LIMIT];
+    stores::clear_run(&mut table[..Joiner::LIMIT]);
+    table
 }
 
 // "17, a saved joiner with over 300 octets, any while tainted, or octets not zero past its length".
@@ -40,10 +36,13 @@ fn in_ranges(tainted: bool, size: usize, frame: &[u8]) -> bool
     requires { ⌜ length (now frame) ≡ frameLimit ⌝ }
     ensures { λ r. ⌜ r ≡ rangesOf tainted size (now (frame .entry)) ⌝ }
 {
-    let few = size <= Joiner::LIMIT;
+    if Joiner::LIMIT < size {
+        return false;
+    }
     let bare = !tainted | (size == 0);
-    let clean = zeros_past(frame, size);
-    (few & bare) & clean
+    let table = passing();
+    let clean = stores::zeros_in_run(frame, size, &table);
+    bare & clean
 }
 
 // Zeros in place of the open frame.
@@ -51,11 +50,7 @@ fn clear(frame: &mut [u8], size: usize)
     requires { ⌜ LaidOut size (now frame) ⌝ }
     ensures { λ _. ⌜ now (frame .exit) ≡ inStorage [] ⌝ }
 {
-    let mut i = 0;
-    while i < size {
-        frame[i] = 0;
-        i += 1;
-    }
+    stores::clear_run(&mut frame[..size]);
 }
 
 // "2 and 4 hand out a good frame; 3 and 5 a bad one".
@@ -153,7 +148,8 @@ fn drop_open(size: usize, frame: &mut [u8], tainted: bool) -> Kept
 // A field of an open frame.
 fn join(size: usize, frame: &mut [u8], kind: u8, octets: &[u8], out: &mut [u8]) -> Kept
     requires { ⌜ Admitted size kind (now octets) (now frame) ⌝ }
-    ensures { λ r. ⌜ FieldFed false size kind (now (octets .entry)) (now (frame .entry)) (now (frame .exit)) (now (out .entry)) (now (out .exit)) r ⌝ }
+    ensures { λ r. ⌜ FieldFed false size kind (now (octets .entry)) (now (frame .entry)) (now (frame .exit)) (now (out .entry))
+        (now (out .exit)) r ⌝ }
 {
     if kind == 0 {
         return add(size, frame, octets);
@@ -176,7 +172,8 @@ pub fn feed(
     octets: &[u8],
     out: &mut [u8],
 ) -> Kept
-    ensures { λ r. ⌜ FieldFed tainted size kind (now (octets .entry)) (now (frame .entry)) (now (frame .exit)) (now (out .entry)) (now (out .exit)) r ⌝ }
+    ensures { λ r. ⌜ FieldFed tainted size kind (now (octets .entry)) (now (frame .entry)) (now (frame .exit)) (now (out .entry))
+        (now (out .exit)) r ⌝ }
 {
     let n = size as usize;
     if !in_ranges(tainted, n, frame) {

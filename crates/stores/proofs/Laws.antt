@@ -1,20 +1,20 @@
 -- Laws of stores, for the layers that keep one: what stands in a slot after octets were laid there, and that every other
 -- slot is as it was. Assumes nothing.
 use Prim.Native.Nat.{ℕ, _+_, _-_, _*_, _≤_, _<_}
-use mathlib.Core.Path.{_≡_, sym, ap, _∙_}
+use mathlib.Core.Path.{_≡_, sym, ap, ap₂, _∙_}
 use mathlib.Core.Bool.{true, _||_}
 use mathlib.Core.List.{List, _++_}
 use mathlib.Core.Logic.{⊎-elim}
 use lib.ListN.{length, getD, take, drop, replicate, length-replicate, getD-replicate, length-drop, List·getD-append, List·getD-eq-default}
-use lib.Seq.{length-paste, length-paste-head, getD-append-add, getD-take, getD-drop, length-take-le, ext-getD}
+use lib.ListN.{length-append, replicate-append-replicate}
+use lib.Seq.{drop-at, length-paste, length-paste-head, getD-append-add, getD-take, getD-drop, length-take-le, ext-getD}
 use lib.Bits.{bitXor}
 use lib.Dec.{ltb, eqb}
 use native.Mathlib.Omega.{arith}
 use borrow.Author.Tests.{lt-ltb, le-ltb, eqb-true}
-use Rattle.octets.specs.Place.{allBelow}
 use Rattle.octets.proofs.Laws.{length-tab, tab-at, allBelow-at, allBelow-of, allBelow-ext, below-or-not, or-true}
 use Rattle.datagrams.specs.Sizes.{packetLimit}
-use Rattle.stores.specs.Store.{pasted, zeros, zerosPast, part, added, HasSlot}
+use Rattle.stores.specs.Store.{pasted, zeros, zerosPast, maskOver, part, added, HasSlot}
 
 -- ---- zeros
 pub length-zeros : (n : ℕ) → length (zeros n) ≡ n
@@ -31,6 +31,33 @@ zeros-at n k =
 -- a slot full of zeros fits a slot
 pub zeros-fit : length (zeros packetLimit) ≤ packetLimit
 zeros-fit = omega (arith, length-zeros packetLimit)
+
+-- ---- the mask
+pub length-mask : (limit : ℕ) → length (maskOver limit) ≡ limit + limit
+unfolding maskOver
+length-mask limit =
+    length-append (zeros limit) (replicate limit 255)
+    ∙ ap₂ (λ (a b : ℕ). a + b) (length-zeros limit) (length-replicate {A = ℕ} limit 255)
+
+pub mask-low : (limit k : ℕ) → k < limit → getD (maskOver limit) k 0 ≡ 0
+unfolding maskOver
+mask-low limit k below =
+    List·getD-append (zeros limit) (replicate limit 255) 0 k (rw (length-zeros limit) below) ∙ zeros-at limit k
+
+pub mask-high : (limit k : ℕ) → k < limit → getD (maskOver limit) (limit + k) 0 ≡ 255
+unfolding maskOver
+mask-high limit k below =
+    ap (λ (n : ℕ). getD (zeros limit ++ replicate limit 255) (n + k) 0) (sym (length-zeros limit))
+    ∙ getD-append-add (zeros limit) (replicate limit 255) k 0
+    ∙ getD-replicate limit k 255 0 below
+
+-- how it is made: zeros over the first half
+pub mask-made : (limit : ℕ) {run : List ℕ} → run ≡ zeros limit → run ++ drop limit (replicate (limit + limit) 255) ≡ maskOver limit
+unfolding maskOver
+mask-made limit {run} e =
+    ap₂ (λ (a b : List ℕ). a ++ b) e
+    (ap (drop limit) (sym (replicate-append-replicate limit limit 255))
+    ∙ drop-at (replicate limit 255) (replicate limit 255) limit (length-replicate {A = ℕ} limit 255))
 
 -- ---- the part of a slot
 pub length-part : (o : List ℕ) (slot n : ℕ) → HasSlot slot o → n ≤ packetLimit → length (part o slot n) ≡ n

@@ -1,5 +1,5 @@
 -- A store: a run of octets cut into slots of packetLimit octets each. Definitions only.
-use Prim.Native.Nat.{ℕ, suc, _+_, _*_, _≤_}
+use Prim.Native.Nat.{ℕ, _+_, _*_, _≤_}
 use mathlib.Core.Bool.{Bool, _||_}
 use mathlib.Core.List.{List, _++_}
 use lib.ListN.{length, getD, take, drop, replicate}
@@ -25,13 +25,21 @@ pasted o i b = paste o (i * packetLimit) b (length b)
 unfoldable pub zeros : ℕ → List ℕ
 zeros n = replicate n 0
 
+-- the octets of a run past the first n are zero
+unfoldable pub zerosFrom : List ℕ → ℕ → Bool
+zerosFrom run n = allBelow (length run) (λ j. ltb j n || eqb (getD run j 0) 0)
+
 -- the octets of slot i past the first n are zero
 unfoldable pub zerosPast : List ℕ → ℕ → ℕ → Bool
 zerosPast o i n = allBelow packetLimit (λ j. ltb j n || eqb (getD o (i * packetLimit + j) 0) 0)
 
--- what lets every octet pass, then what lets zero alone pass: an octet passes if it has no bit in common with the mask
+-- what lets every octet of a run of n pass, then what lets zero alone pass: an octet passes if it has no bit in common with the mask
+unfoldable pub maskOver : ℕ → List ℕ
+maskOver n = zeros n ++ replicate n 255
+
+-- that of a slot
 unfoldable pub mask : List ℕ
-mask = zeros packetLimit ++ replicate packetLimit 255
+mask = maskOver packetLimit
 
 -- packetLimit octets, to which those of slot i are added by exclusive or
 unfoldable pub added : List ℕ → List ℕ → ℕ → List ℕ

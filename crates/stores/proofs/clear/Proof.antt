@@ -1,59 +1,42 @@
 -- `stores::clear` meets its contract. Assumes nothing.
-use Prim.Native.Nat.{_-_}
-use lib.ListN.{length}
-use native.Mathlib.Omega.{arith}
-use Rattle.datagrams.specs.Sizes.{packetLimit}
-use Rattle.stores.specs.Store.{zeros, part}
-use Rattle.stores.proofs.Turns.{Laying, laying-start, clearing-turn, clearing-done}
+use Rattle.stores.proofs.Turns.{slot-cleared}
 use borrow.Author.Needs.{needs}
 use Rattle.stores.proofs.clear.Statement.{statement}
 use Rattle.stores.proofs.clear.Tie as tie
 
-abbrev Inv-loop : tie.InvT-loop
-Inv-loop o₀ slot at j₀ o j = Laying o₀ (zeros packetLimit) at o j
-
-abbrev μ-loop : tie.MeasureT-loop
-μ-loop o₀ slot at j₀ o j = packetLimit - j
-
-mul-at : tie.Need-mul-at Inv-loop μ-loop
+mul-at : tie.Need-mul-at
 mul-at c = search needs
 
-loop-holds : tie.Need-loop-holds Inv-loop μ-loop
-loop-holds c = search laying-start
+add-end : tie.Need-add-end
+add-end c = search needs
 
-add-o : tie.Need-add-o Inv-loop μ-loop
-add-o c = search needs
+sub-clear-run : tie.Need-sub-clear-run
+sub-clear-run c = search needs
 
-slice-write-o : tie.Need-slice-write-o Inv-loop μ-loop
-slice-write-o c = search needs
+part-clear-run-start : tie.Need-part-clear-run-start
+part-clear-run-start c = search needs
 
-add-j : tie.Need-add-j Inv-loop μ-loop
-add-j c = search needs
+part-clear-run-end : tie.Need-part-clear-run-end
+part-clear-run-end c = search needs
 
-loop-less : tie.Need-loop-less Inv-loop μ-loop
-loop-less c = search needs
+clear-run-requires : tie.Need-clear-run-requires
+clear-run-requires c κs = search needs
 
-loop-again : tie.Need-loop-again Inv-loop μ-loop
-loop-again c = search (clearing-turn, arith)
-
-same-length : tie.Need-same-length Inv-loop μ-loop
+same-length : tie.Need-same-length
 same-length c = search needs
 
-returns : tie.Need-returns Inv-loop μ-loop
-returns c = search clearing-done
+returns : tie.Need-returns
+returns c = search slot-cleared
 
 pub clear-spec : {M : Type 1} → statement M
 clear-spec =
     tie.close
     (tie.spec
-    Inv-loop
-    μ-loop
     mul-at
-    loop-holds
-    add-o
-    slice-write-o
-    add-j
-    loop-less
-    loop-again
+    add-end
+    sub-clear-run
+    part-clear-run-start
+    part-clear-run-end
+    clear-run-requires
     same-length
     returns)

@@ -1,9 +1,7 @@
 -- `stores::copy_out` meets its contract. Assumes nothing.
 use Prim.Native.Nat.{_-_}
-use lib.ListN.{length}
 use native.Mathlib.Omega.{arith}
-use Rattle.datagrams.specs.Sizes.{packetLimit}
-use Rattle.stores.specs.Store.{zeros, part}
+use Rattle.stores.specs.Store.{part}
 use Rattle.stores.proofs.Turns.{Laying, laying-start, copying-turn, copying-done}
 use borrow.Author.Needs.{needs}
 use Rattle.stores.proofs.copy_out.Statement.{statement}

@@ -1,37 +1,24 @@
--- `stores::passing` meets its contract. The loop's invariant: the first j octets let all pass, the rest zero alone. The measure is
--- the octets left to lay. Assumes nothing.
-use Prim.Native.Nat.{_-_}
+-- `stores::passing` meets its contract. Assumes nothing.
+use Rattle.stores.specs.Store.{mask}
+use Rattle.stores.proofs.Laws.{mask-made}
 use borrow.Author.Needs.{needs}
-use Rattle.datagrams.specs.Sizes.{packetLimit}
-use Rattle.stores.proofs.Turns.{Filled, fillings}
 use Rattle.stores.proofs.passing.Statement.{statement}
 use Rattle.stores.proofs.passing.Tie as tie
 
-abbrev Inv-loop : tie.InvT-loop
-Inv-loop table₀ j₀ table j = Filled table j
+array-borrow-prefix-table : tie.Need-array-borrow-prefix-table
+array-borrow-prefix-table c = search needs
 
-abbrev μ-loop : tie.MeasureT-loop
-μ-loop table₀ j₀ table j = packetLimit - j
+slice-aggregate-clear-run : tie.Need-slice-aggregate-clear-run
+slice-aggregate-clear-run c = search needs
 
-loop-holds : tie.Need-loop-holds Inv-loop μ-loop
-loop-holds c = search fillings
+clear-run-requires : tie.Need-clear-run-requires
+clear-run-requires c κs = search needs
 
-array-write-table : tie.Need-array-write-table Inv-loop μ-loop
-array-write-table c = search needs
-
-add-j : tie.Need-add-j Inv-loop μ-loop
-add-j c = search needs
-
-loop-less : tie.Need-loop-less Inv-loop μ-loop
-loop-less c = search needs
-
-loop-again : tie.Need-loop-again Inv-loop μ-loop
-loop-again c = search fillings
-
-returns : tie.Need-returns Inv-loop μ-loop
-returns c = search fillings
+returns : tie.Need-returns
+unfolding mask
+returns c = search mask-made
 
 pub passing-spec : {M : Type 1} → statement M
 passing-spec =
     tie.close
-    (tie.spec Inv-loop μ-loop loop-holds array-write-table add-j loop-less loop-again returns)
+    (tie.spec array-borrow-prefix-table slice-aggregate-clear-run clear-run-requires returns)

@@ -2,8 +2,6 @@
 use Prim.Native.Nat.{_-_}
 use lib.ListN.{length}
 use native.Mathlib.Omega.{arith}
-use Rattle.datagrams.specs.Sizes.{packetLimit}
-use Rattle.stores.specs.Store.{zeros, part}
 use Rattle.stores.proofs.Turns.{Laying, laying-start, putting-turn, laying-done}
 use borrow.Author.Needs.{needs}
 use Rattle.stores.proofs.put.Statement.{statement}
