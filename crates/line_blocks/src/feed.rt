@@ -95,10 +95,9 @@ fn clear_line(line: &mut [u8], begun: usize)
     }
 }
 
-// The next line of s, or what there is of it. The line that has begun is kept in the front of line.
+// The next line of s, or what there is of it, from where the last one ended. The line that has begun is kept in the front of line.
 fn take_line(
-    base: u16,
-    counts: Counts,
+    from: Stepped,
     t: &mut [u16; Session::PLACES],
     o: &mut [u8; Session::PACKET_OCTETS],
     g: &mut [u8; Session::MESSAGE_OCTETS],
@@ -106,15 +105,17 @@ fn take_line(
     begun: usize,
     s: &[u8],
     out: &mut [u8],
-    at: usize,
 ) -> Fed
-    requires { ⌜ Feedable stepLimit (lent base counts (now t) (now o) (now g)) (now line) begun (now out) at ⌝ }
+    requires { ⌜ Feedable stepLimit (lent (from .base) (from .counts) (now t) (now o) (now g)) (now line) begun (now out) (from .end) ⌝ }
     requires { ⌜ 1 ≤ length (now s) ⌝ }
-    ensures { λ r. ⌜ TakesLine (goingIn (lent base counts (now (t .entry)) (now (o .entry)) (now (g .entry))) (now (line .entry)) begun
-        (now (out .entry)) at) (now (s .entry)) (now (out .entry)) at
+    ensures { λ r. ⌜ TakesLine (goingIn (lent (from .base) (from .counts) (now (t .entry)) (now (o .entry)) (now (g .entry)))
+        (now (line .entry)) begun (now (out .entry)) (from .end)) (now (s .entry)) (now (out .entry)) (from .end)
         (lent (r .base) (r .counts) (now (t .exit)) (now (o .exit)) (now (g .exit))) (now (line .exit)) (r .begun) (r .taken)
         (now (out .exit)) (r .end) ⌝ }
 {
+    let base = from.base;
+    let counts = from.counts;
+    let at = from.end;
     let stop = find_feed(s);
     if s.len() <= stop {
         let kept = keep_line(line, begun, s);
@@ -155,7 +156,8 @@ fn take_line(
     }
 }
 
-// A block of the input: its lines one after the other, as long as out is sure to have room for the next.
+// A block of the input: its lines one after the other, their text from the front of out on, as long as that is sure to have room
+// for the next.
 pub fn take_block(
     base: u16,
     counts: Counts,
@@ -166,11 +168,10 @@ pub fn take_block(
     begun: usize,
     block: &[u8],
     out: &mut [u8],
-    at: usize,
 ) -> Fed
-    requires { ⌜ Feedable 0 (lent base counts (now t) (now o) (now g)) (now line) begun (now out) at ⌝ }
+    requires { ⌜ Feedable 0 (lent base counts (now t) (now o) (now g)) (now line) begun (now out) 0 ⌝ }
     ensures { λ r. ⌜ Feeds (goingIn (lent base counts (now (t .entry)) (now (o .entry)) (now (g .entry))) (now (line .entry)) begun
-        (now (out .entry)) at) (now (block .entry)) (now (out .entry))
+        (now (out .entry)) 0) (now (block .entry)) (now (out .entry))
         (lent (r .base) (r .counts) (now (t .exit)) (now (o .exit)) (now (g .exit))) (now (line .exit)) (r .begun) (r .taken)
         (now (out .exit)) (r .end) ⌝ }
 {
@@ -178,7 +179,7 @@ pub fn take_block(
     let mut moves = counts;
     let mut kept = begun;
     let mut taken = 0;
-    let mut end = at;
+    let mut end = 0;
     while taken < block.len() {
         if out.len() - end < Line::STEP {
             return Fed {
@@ -189,7 +190,12 @@ pub fn take_block(
                 end,
             };
         }
-        let part = take_line(after, moves, t, o, g, line, kept, &block[taken..], out, end);
+        let from = Stepped {
+            base: after,
+            counts: moves,
+            end,
+        };
+        let part = take_line(from, t, o, g, line, kept, &block[taken..], out);
         after = part.base;
         let moved = part.counts;
         moves = moved;

@@ -13,18 +13,18 @@ use Rattle.lines.specs.Feed.{goingIn, PartWay}
 use Rattle.lines.specs.Promise.{stepLimit}
 use Rattle.lines.specs.FeedPromise.{Feedable, Feeds}
 use Rattle.lines.proofs.Laws.{feeds-on, feeds-some, in-turn}
-use Rattle.receive.specs.Promise.{counted, Onward, Passes}
+use Rattle.receive.specs.Promise.{tallied, Onward, Passes}
 
--- so many more are counted
-pub more-counted : (sum : ℕ) {m n new : ℕ} → m ≡ n → new ≡ (sum + m) % 2 ^ 64 → new ≡ (sum + n) % 2 ^ 64
-more-counted sum same on = on ∙ ap (λ (x : ℕ). (sum + x) % 2 ^ 64) same
+-- so many more are tallied
+pub more-tallied : (sum : ℕ) {m n new : ℕ} → m ≡ n → new ≡ (sum + m) % 2 ^ 64 → new ≡ (sum + n) % 2 ^ 64
+more-tallied sum same on = on ∙ ap (λ (x : ℕ). (sum + x) % 2 ^ 64) same
 
--- more octets are counted
-pub counted-on : (a b : List ℕ) {sum n new : ℕ} → sum ≡ counted a → n ≡ length b → new ≡ (sum + n) % 2 ^ 64 → new ≡ counted (a ++ b)
-counted-on a b {sum} {n} before same on =
+-- more octets are tallied
+pub tallied-on : (a b : List ℕ) {sum n new : ℕ} → sum ≡ tallied a → n ≡ length b → new ≡ (sum + n) % 2 ^ 64 → new ≡ tallied (a ++ b)
+tallied-on a b {sum} {n} before same on =
     on
     ∙ ap (λ (x : ℕ). (x + n) % 2 ^ 64) before
-    ∙ ap (λ (x : ℕ). (counted a + x) % 2 ^ 64) same
+    ∙ ap (λ (x : ℕ). (tallied a + x) % 2 ^ 64) same
     ∙ mod-add-mod (length a) (2 ^ 64) (length b)
     ∙ ap (λ (x : ℕ). x % 2 ^ 64) (sym (length-append a b))
 
@@ -36,7 +36,7 @@ pub record Serving (first : Lent) (l₀ : List ℕ) (begun₀ : ℕ) (out₀ s :
   pub line-long : length l ≡ length l₀
   pub out-long : length out ≡ length out₀
   pub inside : from ≤ length s
-  pub way : (input text : List ℕ) → PartWay input text first l₀ begun₀ → handed ≡ counted text
+  pub way : (input text : List ℕ) → PartWay input text first l₀ begun₀ → handed ≡ tallied text
       → Onward (input ++ take from s) text session l begun sum
 
 pub serving-start : {session : Lent} {l : List ℕ} {begun : ℕ} {out : List ℕ} (s : List ℕ) (handed : ℕ)
@@ -107,7 +107,7 @@ module _ {first : Lent} {l₀ : List ℕ} {begun₀ : ℕ} {out₀ : List ℕ}
                 more = before .more ++ take end new;
                 way = rw (front, joined) at (in-turn .block (before .way) t);
                 count =
-                    counted-on (text ++ before .more) (take end new) (before .count) (sym (length-take-le end new part-fits)) on
-                    ∙ ap counted joined;
+                    tallied-on (text ++ before .more) (take end new) (before .count) (sym (length-take-le end new part-fits)) on
+                    ∙ ap tallied joined;
               };
         }

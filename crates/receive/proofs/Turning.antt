@@ -16,16 +16,16 @@ use Rattle.lines.specs.Feed.{Going, fed, lineDone, atEnd, goingIn, PartWay}
 use Rattle.lines.specs.Promise.{stepLimit}
 use Rattle.lines.specs.FeedPromise.{LineIn, Feedable, Ends}
 use Rattle.lines.proofs.Laws.{in-turn}
-use Rattle.receive.specs.Promise.{bufferSize, counted, Passes, Complete, Serves}
-use Rattle.receive.proofs.Serving.{counted-on}
+use Rattle.receive.specs.Promise.{bufferSize, tallied, Passes, Complete, Serves}
+use Rattle.receive.proofs.Serving.{tallied-on}
 
 -- all that was read and handed over so far
 pub record SoFar (session : Lent) (l : List ℕ) (begun taken handed : ℕ) : Type 0 where
   pub input : List ℕ
   pub text : List ℕ
   pub way : PartWay input text session l begun
-  pub read : taken ≡ counted input
-  pub wrote : handed ≡ counted text
+  pub read : taken ≡ tallied input
+  pub wrote : handed ≡ tallied text
 
 -- beside what the calls ask for, the lengths of the buffers
 pub record Turning (session : Lent) (l block : List ℕ) (begun : ℕ) (out : List ℕ) (taken handed : ℕ) : Type 0 where
@@ -67,7 +67,7 @@ turning-none t none on same =
         input = far .input;
         text = far .text;
         way = far .way;
-        read = counted-on (far .input) [] (far .read) none on ∙ ap counted (append-nil (far .input));
+        read = tallied-on (far .input) [] (far .read) none on ∙ ap tallied (append-nil (far .input));
         wrote = far .wrote;
       };
     }
@@ -94,7 +94,7 @@ turning-on t {new} n long s all on same lent =
         input = far .input ++ take n new;
         text = far .text ++ next .more;
         way = rw (s .whole all) at (next .way);
-        read = counted-on (far .input) (take n new) (far .read) (sym (length-take-le n new long)) on;
+        read = tallied-on (far .input) (take n new) (far .read) (sym (length-take-le n new long)) on;
         wrote = next .count;
       };
     }
@@ -121,8 +121,8 @@ complete {session} {l} {begun} {out} far {new = new} {end} e on =
       input = far .input;
       read = far .read;
       wrote =
-          counted-on (far .text) (take end new) (far .wrote) (sym (length-take-le end new (omega (arith, e .fits, e .long)))) on
-          ∙ ap counted (sym (in-turn .finish (far .way) e));
+          tallied-on (far .text) (take end new) (far .wrote) (sym (length-take-le end new (omega (arith, e .fits, e .long)))) on
+          ∙ ap tallied (sym (in-turn .finish (far .way) e));
       state =
           ap (λ (now : Going). now .view) (e .state)
           ∙ view-at-end (take 0 out) (far .text) (viewIn session) (take begun l)

@@ -16,14 +16,14 @@ abbrev pub bufferSize : ℕ
 bufferSize = 65536
 
 -- how many octets, as a counter of 64 bits shows it
-abbrev pub counted : List ℕ → ℕ
-counted octets = length octets % 2 ^ 64
+abbrev pub tallied : List ℕ → ℕ
+tallied octets = length octets % 2 ^ 64
 
 -- the program part way, with more text handed over; all that was handed over so far is counted
 pub record Onward (input text : List ℕ) (session : Lent) (line : List ℕ) (begun handed : ℕ) : Type 0 where
   pub more : List ℕ
   pub way : PartWay input (text ++ more) session line begun
-  pub count : handed ≡ counted (text ++ more)
+  pub count : handed ≡ tallied (text ++ more)
 
 -- the program may go on; a front of the block is taken in and its text handed over, whatever was taken in and handed over before
 -- it; where all was written that front is the whole block
@@ -32,7 +32,7 @@ pub record Passes (before : Lent) (line : List ℕ) (begun : ℕ) (block : List 
     : Type 0 where
   pub feedable : Feedable stepLimit after new kept out 0
   pub front : ℕ
-  pub way : (input text : List ℕ) → PartWay input text before line begun → handed ≡ counted text
+  pub way : (input text : List ℕ) → PartWay input text before line begun → handed ≡ tallied text
       → Onward (input ++ take front block) text after new kept sum
   pub whole : written ≡ true → take front block ≡ block
 
@@ -40,8 +40,8 @@ pub record Passes (before : Lent) (line : List ℕ) (begun : ℕ) (block : List 
 -- the one that the program ends it with
 pub record Complete (session : Lent) (taken handed : ℕ) : Type 0 where
   pub input : List ℕ
-  pub read : taken ≡ counted input
-  pub wrote : handed ≡ counted (program input)
+  pub read : taken ≡ tallied input
+  pub wrote : handed ≡ tallied (program input)
   pub state : viewIn session ≡ (atEnd (fed input atStart)) .view
 
 -- the run: either a write failed, or it is complete

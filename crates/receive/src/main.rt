@@ -46,41 +46,30 @@ struct Passed {
     written: bool,
 }
 
-// A block of the input is taken in, and what it comes to is handed over, part by part up to the first that fails.
+// From where the last block was passed a block of the input is taken in, and what it comes to is handed over, part by part up to the
+// first that fails.
 fn pass(
-    base: u16,
-    counts: Counts,
+    last: Passed,
     t: &mut [u16; Session::PLACES],
     o: &mut [u8; Session::PACKET_OCTETS],
     g: &mut [u8; Session::MESSAGE_OCTETS],
     line: &mut [u8],
-    begun: usize,
     block: &[u8],
     out: &mut [u8],
     handed: &mut usize,
 ) -> Passed
-    requires { ⌜ Feedable stepLimit (lent base counts (now t) (now o) (now g)) (now line) begun (now out) 0 ⌝ }
-    ensures { λ r. ⌜ Passes (lent base counts (now (t .entry)) (now (o .entry)) (now (g .entry))) (now (line .entry)) begun
-        (now (block .entry)) (now (handed .entry)) (lent (r .base) (r .counts) (now (t .exit)) (now (o .exit)) (now (g .exit)))
+    requires { ⌜ Feedable stepLimit (lent (last .base) (last .counts) (now t) (now o) (now g)) (now line) (last .begun) (now out) 0 ⌝ }
+    ensures { λ r. ⌜ Passes (lent (last .base) (last .counts) (now (t .entry)) (now (o .entry)) (now (g .entry))) (now (line .entry))
+        (last .begun) (now (block .entry)) (now (handed .entry))
+        (lent (r .base) (r .counts) (now (t .exit)) (now (o .exit)) (now (g .exit)))
         (now (line .exit)) (r .begun) (now (out .exit)) (now (handed .exit)) (r .written) ⌝ }
 {
-    let mut after = base;
-    let mut moves = counts;
-    let mut kept = begun;
+    let mut after = last.base;
+    let mut moves = last.counts;
+    let mut kept = last.begun;
     let mut from = 0;
     while from < block.len() {
-        let part = line_blocks::take_block(
-            after,
-            moves,
-            t,
-            o,
-            g,
-            line,
-            kept,
-            &block[from..],
-            out,
-            0,
-        );
+        let part = line_blocks::take_block(after, moves, t, o, g, line, kept, &block[from..], out);
         after = part.base;
         let moved = part.counts;
         moves = moved;
@@ -142,18 +131,13 @@ fn serve(
         if n == 0 {
             turns = 0;
         } else {
-            let passed = pass(
-                after,
-                moves,
-                t,
-                o,
-                g,
-                &mut line,
+            let last = Passed {
+                base: after,
+                counts: moves,
                 begun,
-                &block[..n],
-                &mut out,
-                &mut handed,
-            );
+                written: true,
+            };
+            let passed = pass(last, t, o, g, &mut line, &block[..n], &mut out, &mut handed);
             after = passed.base;
             let moved = passed.counts;
             moves = moved;
@@ -169,10 +153,10 @@ fn serve(
             }
         }
     }
-    let last = line_blocks::finish(after, moves, t, o, g, &line, begun, &mut out, 0);
-    let last_base = last.base;
-    let last_counts = last.counts;
-    let end = last.end;
+    let ended = line_blocks::finish(after, moves, t, o, g, &line, begun, &mut out, 0);
+    let last_base = ended.base;
+    let last_counts = ended.counts;
+    let end = ended.end;
     let whole = hand_over(&out, end, &mut handed);
     Served {
         base: last_base,

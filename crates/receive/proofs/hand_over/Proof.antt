@@ -3,7 +3,7 @@ use mathlib.Core.Path.{sym}
 use lib.Seq.{length-take-le}
 use denote.Ref.{now}
 use borrow.Author.Needs.{needs}
-use Rattle.receive.proofs.Serving.{more-counted}
+use Rattle.receive.proofs.Serving.{more-tallied}
 use Rattle.receive.proofs.hand_over.Statement.{statement}
 use Rattle.receive.proofs.hand_over.Tie as tie
 
@@ -19,7 +19,7 @@ write-all-requires c κs = search needs
 returns : tie.Need-returns
 returns c =
     let start = c .before .before .before .before .before in
-    more-counted (now (start .args .handed)) (length-take-le _ _ (start .pre)) (c .before .wrapping-add-usize .ensures)
+    more-tallied (now (start .args .handed)) (length-take-le _ _ (start .pre)) (c .before .wrapping-add-usize .ensures)
 
 pub hand-over-spec : {M : Type 1} → statement M
 hand-over-spec =

@@ -12,15 +12,15 @@ use Rattle.receive.proofs.pass.Statement.{statement}
 use Rattle.receive.proofs.pass.Tie as tie
 
 abbrev Inv-loop : tie.InvT-loop
-Inv-loop base t₀ o₀ g₀ line₀ begun block out₀ handed₀ after₀ moves₀ kept₀ from₀ t o g line out handed after moves kept from =
-    Serving (lent after₀ moves₀ t₀ o₀ g₀) line₀ begun out₀ block handed₀ (lent after moves t o g) line kept out from handed
+Inv-loop t₀ o₀ g₀ line₀ block out₀ handed₀ after₀ moves₀ kept₀ from₀ t o g line out handed after moves kept from =
+    Serving (lent after₀ moves₀ t₀ o₀ g₀) line₀ kept₀ out₀ block handed₀ (lent after moves t o g) line kept out from handed
 
 abbrev μ-loop : tie.MeasureT-loop
-μ-loop base t₀ o₀ g₀ line₀ begun block out₀ handed₀ after₀ moves₀ kept₀ from₀ t o g line out handed after moves kept from =
+μ-loop t₀ o₀ g₀ line₀ block out₀ handed₀ after₀ moves₀ kept₀ from₀ t o g line out handed after moves kept from =
     length block - from
 
 loop-holds : tie.Need-loop-holds Inv-loop μ-loop
-loop-holds c = serving-start _ _ (c .before .before .before .pre)
+loop-holds c = serving-start _ _ (c .before .before .before .before .pre)
 
 sub-take-block : tie.Need-sub-take-block Inv-loop μ-loop
 sub-take-block c = search needs
@@ -41,16 +41,16 @@ add-from c =
     let made = c .before .before .before .before .before .before in
     let inside = made .before .before .before .before .before .before .before in
     let loop = inside .before in
-    let start = loop .before .before .before .before in
+    let start = loop .before .before .before .before .before in
     let within = part-inside (start .args .block .now) (loop .loop .inv) (inside .loop-test .taken) (made .take-block .ensures) in
-    record { fits = omega (arith, start .good .1 .1 .1 .1 .1 .1 .1 .0, within) }
+    record { fits = omega (arith, start .good .1 .1 .1 .1 .1 .0, within) }
 
 hand-over-requires : tie.Need-hand-over-requires Inv-loop μ-loop
 hand-over-requires c κs =
     let made = c .before .before .before .before .before .before .before .before in
     let inside = made .before .before .before .before .before .before .before in
     let loop = inside .before in
-    let start = loop .before .before .before .before in
+    let start = loop .before .before .before .before .before in
     part-fits (start .args .block .now) (loop .loop .inv) (inside .loop-test .taken) (made .take-block .ensures)
 
 same-length : tie.Need-same-length Inv-loop μ-loop
@@ -70,7 +70,7 @@ returns c =
     let made = c .before .before .before .before .before .before .before .before .before .before in
     let inside = made .before .before .before .before .before .before .before in
     let loop = inside .before in
-    let start = loop .before .before .before .before in
+    let start = loop .before .before .before .before .before in
     stopped (start .args .block .now)
     (part-done (start .args .block .now) (loop .loop .inv) (inside .loop-test .taken) (made .take-block .ensures)
     (made .take-block .kept .1 .1 .1 .1 .1 .0) (c .before .hand-over .ensures))
@@ -80,7 +80,7 @@ loop-less c =
     let made = c .before .before .before .before .before .before .before .before .before .before in
     let inside = made .before .before .before .before .before .before .before in
     let loop = inside .before in
-    let start = loop .before .before .before .before in
+    let start = loop .before .before .before .before .before in
     let some = part-some (start .args .block .now) (loop .loop .inv) (inside .loop-test .taken) (made .take-block .ensures) in
     omega (arith, inside .loop-test .taken, some)
 
@@ -89,7 +89,7 @@ loop-again c =
     let made = c .before .before .before .before .before .before .before .before .before .before in
     let inside = made .before .before .before .before .before .before .before in
     let loop = inside .before in
-    let start = loop .before .before .before .before in
+    let start = loop .before .before .before .before .before in
     part-done (start .args .block .now) (loop .loop .inv) (inside .loop-test .taken) (made .take-block .ensures)
     (made .take-block .kept .1 .1 .1 .1 .1 .0) (c .before .hand-over .ensures)
 

@@ -11,11 +11,11 @@ use Rattle.line_blocks.proofs.feed.take_block.Statement.{statement}
 use Rattle.line_blocks.proofs.feed.take_block.Tie as tie
 
 abbrev Inv-loop : tie.InvT-loop
-Inv-loop base t₀ o₀ g₀ line₀ begun block out₀ at after₀ moves₀ kept₀ taken₀ end₀ t o g line out after moves kept taken end =
-    Fed (goingIn (lent after₀ moves₀ t₀ o₀ g₀) line₀ begun out₀ at) block out₀ line₀ (lent after moves t o g) line kept taken out end
+Inv-loop base t₀ o₀ g₀ line₀ begun block out₀ after₀ moves₀ kept₀ taken₀ end₀ t o g line out after moves kept taken end =
+    Fed (goingIn (lent after₀ moves₀ t₀ o₀ g₀) line₀ begun out₀ 0) block out₀ line₀ (lent after moves t o g) line kept taken out end
 
 abbrev μ-loop : tie.MeasureT-loop
-μ-loop base t₀ o₀ g₀ line₀ begun block out₀ at after₀ moves₀ kept₀ taken₀ end₀ t o g line out after moves kept taken end =
+μ-loop base t₀ o₀ g₀ line₀ begun block out₀ after₀ moves₀ kept₀ taken₀ end₀ t o g line out after moves kept taken end =
     length block - taken
 
 loop-holds : tie.Need-loop-holds Inv-loop μ-loop

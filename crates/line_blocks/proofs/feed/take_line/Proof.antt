@@ -21,7 +21,7 @@ returns c =
     let keep = c .before .before in
     let past = keep .before .before in
     let find = past .before in
-    let start = find .before .before .before .before in
+    let start = find .before .before .before .before .before in
     takes-part (start .pre .0) (start .pre .1) (find .find-feed .ensures) (past .if1 .taken) (keep .keep-line .ensures)
 
 add-taken : tie.Need-add-taken
@@ -30,7 +30,7 @@ add-taken c = search needs
 slice-aggregate-step : tie.Need-slice-aggregate-step
 slice-aggregate-step c =
     let find = c .before .before .before .before .before .before in
-    let start = find .before .before .before .before in
+    let start = find .before .before .before .before .before in
     sym (length-take-le (find .find-feed .result) (start .args .s .now) (find .find-feed .ensures .begun .inside))
 
 step-requires : tie.Need-step-requires
@@ -44,7 +44,7 @@ returns-2 c =
     let made = c .before .before .before in
     let none = made .before .before .before .before .before .before in
     let find = none .before .before in
-    let start = find .before .before .before .before in
+    let start = find .before .before .before .before .before in
     takes-line (start .pre .0) (start .pre .1) _ _ (find .find-feed .ensures) (none .before .if1 .left)
     (at-once _ (start .args .s .now) (find .find-feed .result) _ (none .if2 .taken)) (made .step .ensures)
     (none-begun (none .if2 .taken) (start .pre .0 .line))
@@ -52,7 +52,7 @@ returns-2 c =
 slice-aggregate-keep-line : tie.Need-slice-aggregate-keep-line
 slice-aggregate-keep-line c =
     let find = c .before .before .before .before in
-    let start = find .before .before .before .before in
+    let start = find .before .before .before .before .before in
     sym (length-take-le (find .find-feed .result) (start .args .s .now) (find .find-feed .ensures .begun .inside))
 
 keep-line-requires-2 : tie.Need-keep-line-requires-2
@@ -85,7 +85,7 @@ returns-3 c =
     let keep = made .before .before .before .before .before .before .before .before in
     let begun = keep .before .before .before .before in
     let find = begun .before in
-    let start = find .before .before .before .before in
+    let start = find .before .before .before .before .before in
     takes-line (start .pre .0) (start .pre .1) _ _ (find .find-feed .ensures) (begun .if1 .left) (kept-before _ (keep .keep-line2 .ensures))
     (made .step2 .ensures) (clear .clear-line .ensures)
 
