@@ -13,8 +13,8 @@ use Rattle.packets.specs.Inner.Octets.{FieldAnswer, fieldAt, FieldsAnswer, fiel
 use Rattle.packets.specs.Promise.{padded}
 use Rattle.packet_reader.specs.Items.{FieldTold, FieldsTold, fieldOutcome}
 use Rattle.packets.specs.declared.types.Field.{Field}
-use Rattle.packet_reader.specs.declared.reader.FieldRead.{FieldRead}
-use Rattle.packet_reader.specs.declared.reader.FieldRead.the-variants as field
+use Rattle.packet_reader.specs.declared.items.FieldRead.{FieldRead}
+use Rattle.packet_reader.specs.declared.items.FieldRead.the-variants as field
 use Rattle.packet_reader.specs.declared.reader.FieldsEnd.the-variants as end
 
 -- ---- fields before those that follow

@@ -22,13 +22,13 @@ use Rattle.packets.specs.Packet.{fieldsLimit, assigned, rightFields, rightData}
 use Rattle.packets.specs.Inner.Octets.{kindOf, firstAt, countAt, headerAt, sizeAt, afterHeader, fieldAt}
 use Rattle.packet_reader.specs.Items.{FirstTold, CountTold, HeaderTold, SizeTold, FieldTold, headerOutcome, sizeOutcome}
 use Rattle.packets.specs.declared.types.Kind.{Kind}
-use Rattle.packet_reader.specs.declared.reader.HeaderRead.{HeaderRead}
-use Rattle.packet_reader.specs.declared.reader.SizeRead.{SizeRead}
-use Rattle.packet_reader.specs.declared.reader.FirstRead.the-variants as first
-use Rattle.packet_reader.specs.declared.reader.CountRead.the-variants as count
-use Rattle.packet_reader.specs.declared.reader.HeaderRead.the-variants as header
-use Rattle.packet_reader.specs.declared.reader.SizeRead.the-variants as size
-use Rattle.packet_reader.specs.declared.reader.FieldRead.the-variants as field
+use Rattle.packet_reader.specs.declared.items.HeaderRead.{HeaderRead}
+use Rattle.packet_reader.specs.declared.items.SizeRead.{SizeRead}
+use Rattle.packet_reader.specs.declared.items.FirstRead.the-variants as first
+use Rattle.packet_reader.specs.declared.items.CountRead.the-variants as count
+use Rattle.packet_reader.specs.declared.items.HeaderRead.the-variants as header
+use Rattle.packet_reader.specs.declared.items.SizeRead.the-variants as size
+use Rattle.packet_reader.specs.declared.items.FieldRead.the-variants as field
 
 -- ---- the first octet
 module _ {s : List ℕ} where

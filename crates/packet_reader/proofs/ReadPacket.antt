@@ -20,12 +20,12 @@ use Rattle.packets.specs.declared.types.Field.{Field}
 use Rattle.packets.specs.declared.types.Kind.{Kind}
 use Rattle.packets.specs.declared.types.Ending.{Ending}
 use Rattle.packets.specs.declared.types.PacketRead.{PacketRead}
-use Rattle.packet_reader.specs.declared.reader.FirstRead.{FirstRead}
-use Rattle.packet_reader.specs.declared.reader.CountRead.{CountRead}
+use Rattle.packet_reader.specs.declared.items.FirstRead.{FirstRead}
+use Rattle.packet_reader.specs.declared.items.CountRead.{CountRead}
 use Rattle.packet_reader.specs.declared.reader.FieldsRead.{FieldsRead}
 use Rattle.packets.specs.declared.types.Reading.the-variants as reading
-use Rattle.packet_reader.specs.declared.reader.FirstRead.the-variants as first
-use Rattle.packet_reader.specs.declared.reader.CountRead.the-variants as count
+use Rattle.packet_reader.specs.declared.items.FirstRead.the-variants as first
+use Rattle.packet_reader.specs.declared.items.CountRead.the-variants as count
 use Rattle.packet_reader.specs.declared.reader.FieldsEnd.the-variants as end
 use Rattle.packets.proofs.Laws.{first-form, read-at, rest, rest-is, read-outcome, fields-inside, count-limit, count-within}
 

@@ -9,16 +9,16 @@ use Rattle.packets.specs.Packet.{First}
 use Rattle.packets.specs.Inner.Octets.{Place, firstAt, Count, countAt, HeaderAnswer, headerAt, sizeAt, FieldAnswer, fieldAt}
 use Rattle.packets.specs.Inner.Octets.{FieldsAnswer, fieldsAt}
 use Rattle.packets.specs.Promise.{padded}
-use Rattle.packet_reader.specs.declared.reader.FirstRead.{FirstRead}
-use Rattle.packet_reader.specs.declared.reader.FirstRead.the-variants as first
-use Rattle.packet_reader.specs.declared.reader.CountRead.{CountRead}
-use Rattle.packet_reader.specs.declared.reader.CountRead.the-variants as count
-use Rattle.packet_reader.specs.declared.reader.HeaderRead.{HeaderRead}
-use Rattle.packet_reader.specs.declared.reader.HeaderRead.the-variants as header
-use Rattle.packet_reader.specs.declared.reader.SizeRead.{SizeRead}
-use Rattle.packet_reader.specs.declared.reader.SizeRead.the-variants as size
-use Rattle.packet_reader.specs.declared.reader.FieldRead.{FieldRead}
-use Rattle.packet_reader.specs.declared.reader.FieldRead.the-variants as field
+use Rattle.packet_reader.specs.declared.items.FirstRead.{FirstRead}
+use Rattle.packet_reader.specs.declared.items.FirstRead.the-variants as first
+use Rattle.packet_reader.specs.declared.items.CountRead.{CountRead}
+use Rattle.packet_reader.specs.declared.items.CountRead.the-variants as count
+use Rattle.packet_reader.specs.declared.items.HeaderRead.{HeaderRead}
+use Rattle.packet_reader.specs.declared.items.HeaderRead.the-variants as header
+use Rattle.packet_reader.specs.declared.items.SizeRead.{SizeRead}
+use Rattle.packet_reader.specs.declared.items.SizeRead.the-variants as size
+use Rattle.packet_reader.specs.declared.items.FieldRead.{FieldRead}
+use Rattle.packet_reader.specs.declared.items.FieldRead.the-variants as field
 use Rattle.packet_reader.specs.declared.reader.FieldsEnd.the-variants as end
 use Rattle.packet_reader.specs.declared.reader.FieldsRead.{FieldsRead}
 

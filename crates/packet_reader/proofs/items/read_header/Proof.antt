@@ -1,0 +1,51 @@
+-- `packet_reader::read_header` meets its contract. Each answer is a law of `ReadItems`: the tests that led there are
+-- those of `headerAt`, in its order. Assumes nothing.
+use borrow.Author.Needs.{needs}
+use Rattle.packet_reader.proofs.ReadItems.{headers}
+use Rattle.packet_reader.proofs.items.read_header.Statement.{statement}
+use Rattle.packet_reader.proofs.items.read_header.Tie as tie
+
+new-requires : tie.Need-new-requires
+new-requires c κs = search needs
+
+returns : tie.Need-returns
+returns c = search headers
+
+shared-slice-read-octet : tie.Need-shared-slice-read-octet
+shared-slice-read-octet c = search needs
+
+new-requires-2 : tie.Need-new-requires-2
+new-requires-2 c κs = search needs
+
+returns-2 : tie.Need-returns-2
+returns-2 c = search headers
+
+add-next : tie.Need-add-next
+add-next c = search needs
+
+right-data-requires : tie.Need-right-data-requires
+right-data-requires c κs = search needs
+
+returns-3 : tie.Need-returns-3
+returns-3 c = search headers
+
+new-requires-3 : tie.Need-new-requires-3
+new-requires-3 c κs = search needs
+
+returns-4 : tie.Need-returns-4
+returns-4 c = search headers
+
+pub read-header-spec : {M : Type 1} → statement M
+read-header-spec =
+    tie.close
+    (tie.spec
+    new-requires
+    returns
+    shared-slice-read-octet
+    new-requires-2
+    returns-2
+    add-next
+    right-data-requires
+    returns-3
+    new-requires-3
+    returns-4)

@@ -1,0 +1,65 @@
+-- `packet_writer::right_types` meets its contract. The loop's invariant: what is left of types and lengths decides.
+-- The measure is how many are left. Assumes nothing.
+use Prim.Native.Nat.{_-_}
+use lib.ListN.{length}
+use borrow.Author.Needs.{needs}
+use Rattle.packet_writer.proofs.Measure.{RightLeft, decided}
+use Rattle.packet_writer.proofs.sizes.right_types.Statement.{statement}
+use Rattle.packet_writer.proofs.sizes.right_types.Tie as tie
+
+abbrev Inv-loop : tie.InvT-loop
+Inv-loop types lengths i₀ i = RightLeft types lengths i
+
+abbrev μ-loop : tie.MeasureT-loop
+μ-loop types lengths i₀ i = length types - i
+
+loop-holds : tie.Need-loop-holds Inv-loop μ-loop
+loop-holds c = search decided
+
+mul-wide : tie.Need-mul-wide Inv-loop μ-loop
+mul-wide c = search needs
+
+shared-slice-read-wide : tie.Need-shared-slice-read-wide Inv-loop μ-loop
+shared-slice-read-wide c = search needs
+
+wide-requires : tie.Need-wide-requires Inv-loop μ-loop
+wide-requires c κs = search needs
+
+shared-slice-read-right-data : tie.Need-shared-slice-read-right-data Inv-loop μ-loop
+shared-slice-read-right-data c = search needs
+
+right-data-requires : tie.Need-right-data-requires Inv-loop μ-loop
+right-data-requires c κs = search needs
+
+returns : tie.Need-returns Inv-loop μ-loop
+returns c = search decided
+
+add-i : tie.Need-add-i Inv-loop μ-loop
+add-i c = search needs
+
+loop-less : tie.Need-loop-less Inv-loop μ-loop
+loop-less c = search needs
+
+loop-again : tie.Need-loop-again Inv-loop μ-loop
+loop-again c = search decided
+
+returns-2 : tie.Need-returns-2 Inv-loop μ-loop
+returns-2 c = search decided
+
+pub right-types-spec : {M : Type 1} → statement M
+right-types-spec =
+    tie.close
+    (tie.spec
+    Inv-loop
+    μ-loop
+    loop-holds
+    mul-wide
+    shared-slice-read-wide
+    wide-requires
+    shared-slice-read-right-data
+    right-data-requires
+    returns
+    add-i
+    loop-less
+    loop-again
+    returns-2)
