@@ -9,15 +9,17 @@ import sys
 
 import running
 from failing import Cases, altered, independent
-from generate import FRAMES, make_script
+from generate import FRAMES, PACKETS, make_script
 from making.lines import across_the_wrap, at_the_limit, program_lines
-from running import (around, call_of_answer, described, difference, expected_answers, expected_results, left_out, line_at, run,
-                     text_of)
+from rules.arguments import Arguments
+from running import (around, call_of_answer, described, difference, expected_answers, expected_results, left_out, line_at, lines_of,
+                     run, text_of)
 
 HERE = pathlib.Path(__file__).resolve().parent
 CASES = HERE / 'cases'
 CALL_SEEDS, CALLS_EACH = 5, 4000
 FRAME_SEEDS, FRAMES_EACH = 3, 1500
+PACKET_SEEDS, PACKETS_EACH = 3, 1500
 PROGRAM_SEEDS, LINES_EACH = 4, 1000
 
 
@@ -36,6 +38,18 @@ def compare_calls(name, command, script, expected):
                                + described(expected, written, at)))
     if remark:
         raise Failed('differs %s: all answers are right, but %s' % (name, remark))
+    never_longer(name, [line for line in lines_of(script) if line], lines_of(written))
+
+
+def never_longer(name, calls, answers):
+    """No packet written (06) is longer than it was while each header had an octet of its own (02, request 2)."""
+    for call, answer in zip(calls, answers):
+        if call.startswith(b'06') and answer.startswith(b'00'):
+            arguments = Arguments(bytes.fromhex(call.decode())[3:])
+            types, lengths = arguments.numbers(1), arguments.numbers(2)
+            before = 1 + (types != []) + sum(1 + (2 + length if length else 0) for length in lengths)
+            if int(answer[2:6], 16) > before:
+                raise Failed('longer %s: %s, written before in %d octets, now as %s' % (name, around(call, 0), before, around(answer, 0)))
 
 
 def compare_program(name, command, given, expected):
@@ -65,6 +79,8 @@ def comparisons(arguments):
         yield 'calls of seed ' + seed, arguments.calls, compare_calls, lambda s=seed: made_calls(s)
     for seed in seeds[:FRAME_SEEDS]:
         yield 'calls on the joiner of seed ' + seed, arguments.calls, compare_calls, lambda s=seed: made_frames(s)
+    for seed in seeds[:PACKET_SEEDS]:
+        yield 'calls on packets of seed ' + seed, arguments.calls, compare_calls, lambda s=seed: made_packets(s)
     for seed in seeds[:PROGRAM_SEEDS]:
         yield 'program lines of seed ' + seed, arguments.program, compare_program, lambda s=seed: made_lines(s)
     yield 'program across the wrap', arguments.program, compare_program, lambda: across_the_wrap(seeds[0], LINES_EACH)
@@ -80,6 +96,11 @@ def made_calls(seed):
 def made_frames(seed):
     """The same of calls on the joiner alone."""
     return with_answers(make_script(seed, FRAMES_EACH, FRAMES))
+
+
+def made_packets(seed):
+    """The same of packets, read, written and carried."""
+    return with_answers(make_script(seed, PACKETS_EACH, PACKETS))
 
 
 def with_answers(script):
@@ -152,6 +173,9 @@ def self_test():
         running.PATIENCE = patience
     test.fails('a stored answer altered', 'the independent program differs from stored one: answer 2',
                check_stored, 'one', b'00\n01\n', b'00\n02\n')
+    bare = b'06010002020202000000000000000A'
+    test.passes('a packet as long as before', never_longer, 'one', [bare], [b'000004C0022020'])
+    test.fails('a packet longer than before', 'longer one: 0601', never_longer, 'one', [b'10', bare], [b'00', b'000005C002202000'])
     test.ends('a wrong program', 1, '1 passed, 1 failed', [sys.executable, __file__, '--calls', altered('calls 03 -1')])
     test.ends('no command', 2, 'a command is needed', [sys.executable, __file__])
     test.end()

@@ -5,19 +5,21 @@ import argparse
 import collections
 import sys
 
-from making import conversations, frames, outside, single
+from making import conversations, edges, frames, outside, packed, single
 from making.lines import program_lines
 from making.script import Full, Script
 
 SINGLE = (single.lengths, single.datagrams_read, single.datagrams_written, single.packets_read, single.packets_written,
           single.packets_written, single.many_fields, single.round_trips, single.no_calls)
 SESSIONS = (conversations.honest, conversations.dishonest, conversations.sparse_parity, conversations.contested,
-            conversations.contested, conversations.blanks, conversations.damaged_offers, conversations.at_the_limit,
-            conversations.sending, outside.receiving_outside, outside.receiving_outside, outside.overwritten_inside,
-            outside.odd_overwrites, outside.sending_outside, outside.sending_outside)
+            conversations.contested, edges.blanks, edges.damaged_offers, edges.at_the_limit, edges.sending,
+            outside.receiving_outside, outside.receiving_outside, outside.overwritten_inside, outside.odd_overwrites,
+            outside.sending_outside, outside.sending_outside)
 FRAMES = (frames.honest_row, frames.any_fields, frames.near_the_limit, frames.tainted, frames.outside, frames.overwritten_inside,
           frames.odd_overwrites)
-SCENES = 2 * SINGLE + SESSIONS + FRAMES
+PACKETS = (packed.runs_read, packed.runs_written, packed.padding_damaged, packed.counts_off, packed.near_the_limit, packed.carried,
+           single.packets_read, single.packets_written, single.many_fields)
+SCENES = 2 * SINGLE + SESSIONS + FRAMES + PACKETS[:6]
 
 
 def make_script(seed, count, scenes=SCENES):

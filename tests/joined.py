@@ -11,7 +11,7 @@ from making.script import Script
 from real import UNLIMITED, as_expected, conversation, corpus, must, octets_of, settings_text, written_by
 from rules.datagrams import PARITY, SPARES
 from rules.joining import ADDING, ENDING_A_TAINT, FRAME_LIMIT, GOOD, HANDED_OUT
-from rules.packets import Packet, read_packet, written_packet
+from rules.packets import FIELDS_LIMIT, PACKET_LIMIT, Packet, read_packet, written_packet
 
 RECORDED = ('tt_v17_ecm_v0.a2b', 'tt_v17_ecm_v0.b2a')  # calls whose frames were recorded where the fax machine sent them
 WHOLE = RECORDED + ('gt_v17_nonecm_v0.a2b',)
@@ -19,6 +19,7 @@ CUT_OFF = ('tt_v29_ecm_v0.a2b',)  # begins in the middle of a frame: what came b
 LINES = (('tt_v17_ecm_v0.a2b', (SPARES, 0, 0), 0.05), ('tt_v17_ecm_v0.a2b', (SPARES, 1, 0), 0.3),
          ('tt_v17_ecm_v0.a2b', (PARITY, 3, 2), 0.3), ('tt_v17_ecm_v0.b2a', (SPARES, 1, 0), 0.2),
          ('gt_v17_nonecm_v0.a2b', (SPARES, 2, 0), 0.4))
+TOGETHER = (('tt_v17_ecm_v0.a2b', (SPARES, 1, 0), 0.3), ('tt_v17_ecm_v0.b2a', (PARITY, 2, 1), 0.2))
 ROWS, FRAMES_EACH = 20, 12
 REPAIRED = 2
 
@@ -44,6 +45,21 @@ def with_checks(packets):
             given.append((field_type, data))
             octets = octets + data if field_type == ADDING else b''
         changed.append(Packet(packet.kind, packet.value, tuple(given)))
+    return changed
+
+
+def put_together(packets):
+    """Packets of a call, the fields of neighbours with the same value put into one packet as long as it holds them.
+
+    No recorded packet has two fields; so there are some in which a header begins within an octet."""
+    changed = []
+    for packet in packets:
+        if changed and packet.fields and changed[-1].fields and packet.value == changed[-1].value:
+            both = packet._replace(fields=changed[-1].fields + packet.fields)
+            if len(both.fields) <= FIELDS_LIMIT and len(written_packet(both)) <= PACKET_LIMIT:
+                changed[-1] = both
+                continue
+        changed.append(packet)
     return changed
 
 
@@ -121,9 +137,9 @@ def clean_call(command, name, checked):
     return check_frames(command, script, sent, checked)
 
 
-def bad_line(command, name, settings, loss):
+def bad_line(command, name, settings, loss, packed=lambda packets: packets):
     """A call with frame checks through both sessions; what is released is read and joined, and what is given up is a lost number."""
-    packets = with_checks([read_packet(octets, False) for octets in corpus(name)])
+    packets = packed(with_checks([read_packet(octets, False) for octets in corpus(name)]))
     lost, released = set(), []
 
     def taken(script, answer):
@@ -164,6 +180,9 @@ def checks(command):
     for name, settings, loss in LINES:
         label = 'frames with their checks: %s with %s, %d %% lost' % (name, settings_text(settings), 100 * loss)
         yield label, lambda n=name, s=settings, l=loss: bad_line(command, n, s, l)
+    for name, settings, loss in TOGETHER:
+        label = 'frames put together in packets: %s with %s, %d %% lost' % (name, settings_text(settings), 100 * loss)
+        yield label, lambda n=name, s=settings, l=loss: bad_line(command, n, s, l, put_together)
     yield 'frames of made rows of fields, some lost', lambda: made_rows(command, 'rows')
 
 
@@ -172,6 +191,7 @@ def self_test(test):
     right, call, line = independent(), RECORDED[1], LINES[1]
     test.says('the check of 123456789', '906e', other_order(frame_check(other_order(b'123456789')))[::-1].hex())
     for name, check in (('a call', lambda c: clean_call(c, call, True)), ('a bad line', lambda c: bad_line(c, *line)),
+                        ('packets put together', lambda c: bad_line(c, *TOGETHER[1], put_together)),
                         ('made rows', lambda c: made_rows(c, 'short'))):
         test.passes('frames of ' + name, check, right)
     for name, check, how, words in (
@@ -182,6 +202,7 @@ def self_test(test):
             ('no frame at all', lambda c: clean_call(c, call, False), 'calls none', '0 frames are handed out in place of 4'),
             ('the rest of the lent buffer', lambda c: clean_call(c, call, False), 'calls 31 -1', 'answer 1 is not the expected one'),
             ('losses not heard', lambda c: bad_line(c, *line), 'calls deaf', 'has a wrong frame check: '),
+            ('put together, read otherwise', lambda c: bad_line(c, *TOGETHER[1], put_together), 'calls 05 -1', 'not the expected one'),
             ('losses not heard, made rows', lambda c: made_rows(c, 'short'), 'calls deaf', ' was sent as ')):
         test.fails('frames, ' + name, words, check, altered(how))
     script, sent = script_of('one frame', [((ADDING, b'\x01\x02' + frame_check(b'\x01\x02')), (2, b''))], set())

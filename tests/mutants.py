@@ -12,148 +12,14 @@ import shutil
 import sys
 import tempfile
 
-from compare import (CALL_SEEDS, FRAME_SEEDS, PROGRAM_SEEDS, Failed, compare_calls, compare_program, made_calls, made_frames,
-                     made_lines, stored)
+from compare import (CALL_SEEDS, FRAME_SEEDS, PACKET_SEEDS, PROGRAM_SEEDS, Failed, compare_calls, compare_program, made_calls,
+                     made_frames, made_lines, made_packets, stored)
 from failing import Cases
+from format_mutants import DATAGRAM_MUTANTS, PACKET_MUTANTS
 from joiner_mutants import JOINER_MUTANTS
+from session_mutants import SESSION_MUTANTS
 
 HERE = pathlib.Path(__file__).resolve().parent
-MUTANTS = (
-    ('C0 is a length', 'lengths', 'first >= 0xC0', 'first > 0xC0'),
-    ('two octets for 127', 'lengths', 'value < 128, FORM', 'value < 127, FORM'),
-    ('length 16,384 written', 'lengths', 'GREATEST_LENGTH = 16383', 'GREATEST_LENGTH = 16384'),
-    ('datagram of 1,501', 'datagrams', 'DATAGRAM_LIMIT = 1500', 'DATAGRAM_LIMIT = 1501'),
-    ('nine spares', 'datagrams', 'SPARES_LIMIT = 8', 'SPARES_LIMIT = 9'),
-    ('n of 9', 'datagrams', 'N_LIMIT = 8', 'N_LIMIT = 9'),
-    ('empty spare read', 'datagrams', '        least = 1\n', '        least = 0\n'),
-    ('spare bits not seen', 'datagrams', 'kind & 0x7F, SPARE_BIT', 'kind & 0x3F, SPARE_BIT'),
-    ('octets left over', 'datagrams', 'refuse_if(items.left_over(), LEFT_OVER)', 'pass'),
-    ('sums wrap', 'datagrams', 'sum(lengths) != len(data)', 'sum(lengths) % 65536 != len(data)'),
-    ('size before sum', 'datagrams',
-     '    refuse_if(sum(lengths) != len(data), SETTINGS)\n',
-     '    refuse_if(not packet, SIZE)\n    refuse_if(sum(lengths) != len(data), SETTINGS)\n'),
-    ('members as in Annex C', 'datagrams', 'number + i - step * m', 'number - 1 - i - (step - 1) * m'),
-    ('one member too few', 'datagrams', 'range(1, n + 1)', 'range(1, max(2, n))'),
-    ('packet of 161', 'packets', 'PACKET_LIMIT = 160', 'PACKET_LIMIT = 161'),
-    ('seventeen fields', 'packets', 'FIELDS_LIMIT = 16', 'FIELDS_LIMIT = 17'),
-    ('data kind 9', 'packets', 'DATA_PACKET: 8', 'DATA_PACKET: 9'),
-    ('spare bit before value', 'packets',
-     '    refuse_if(extension, NOT_ASSIGNED)\n',
-     '    refuse_if(first & 1, SPARE_BIT)\n    refuse_if(extension, NOT_ASSIGNED)\n'),
-    ('14 before 5 in a header', 'packets',
-     '    refuse_if(header & 0x0F, SPARE_BIT)\n    has_data',
-     '    refuse_if(header < 16 and header, DATA)\n    refuse_if(header & 0x0F, SPARE_BIT)\n    has_data'),
-    ('type 7 must have data', 'packets', 'WITH_DATA = (0, 6)', 'WITH_DATA = (0, 6, 7)'),
-    ('type 5 may have data', 'packets', 'WITHOUT_DATA = (1, 2, 3, 4, 5)', 'WITHOUT_DATA = (1, 2, 3, 4)'),
-    ('length, not length minus one', 'packets', "'big') + 1", "'big')"),
-    ('zeros after a received packet', 'packets', 'any(left) if repaired else left', 'any(left)'),
-    ('lengths before types', 'packets', 'len(types) > FIELDS_LIMIT', 'max(len(types), len(lengths)) > FIELDS_LIMIT'),
-    ('whole packet over 160 written', 'packets', 'refuse_if(len(octets) > PACKET_LIMIT, SIZE)\n    return', 'return'),
-    ('14 before 12 in the writer', 'packets',
-     '    refuse_if(value > LAST_VALUE[kind] or',
-     '    refuse_if(kind == INDICATOR and types, DATA)\n    refuse_if(value > LAST_VALUE[kind] or'),
-    ('distance 32 accepted', 'receiving', 'AFTER <= distance <= 32767', 'AFTER < distance <= 32767'),
-    ('32,768 is ahead', 'receiving', '<= distance <= 32767, AHEAD', '<= distance <= 32768, AHEAD'),
-    ('late before damaged', 'receiving',
-     '        datagram = read_datagram(octets)\n',
-     "        refuse_if(len(octets) > 2 and (int.from_bytes(octets[:2], 'big') - self.base) % 65536 > 32767, "
-     'LATE)\n'
-     '        datagram = read_datagram(octets)\n'),
-    ('repeated while known', 'receiving',
-     'refuse_if(self.mark(datagram.number).accepted, REPEATED)',
-     'refuse_if(self.place(datagram.number).state != UNKNOWN, REPEATED)'),
-    ('spares before the base dropped', 'receiving',
-     'self.fill(datagram.number - j, SPARE, spare)',
-     'self.fill(datagram.number - j, SPARE, spare) if (datagram.number - j - self.base) % 65536 < 32 else None'),
-    ('spares written over', 'receiving',
-     'if self.place(number).state == UNKNOWN:\n            self.places',
-     'if self.place(number).state in (UNKNOWN, SPARE):\n            self.places'),
-    ('one repair an offer', 'receiving', 'while self.repair_once():\n            pass', 'self.repair_once()'),
-    ('no repair before the base', 'receiving',
-     'if len(unknown) == 1:',
-     'if len(unknown) == 1 and (unknown[0] - self.base) % 65536 < 32:'),
-    ('empty message repairs', 'receiving', 'if not message.length:', 'if False:'),
-    ('repair trims zeros', 'receiving',
-     'exclusive_or([message.bytes()] + known, message.length))',
-     "exclusive_or([message.bytes()] + known, message.length).rstrip(b'\\0') or b'\\0')"),
-    ('repair as long as the longest', 'receiving',
-     'known, message.length))',
-     'known, max(map(len, [message.bytes()] + known))))'),
-    ('last message first', 'receiving', 'for i in range(mark.m):', 'for i in reversed(range(mark.m)):'),
-    ('farthest number first', 'receiving',
-     'for number in range(self.base, self.base + AFTER):',
-     'for number in reversed(range(self.base, self.base + AFTER)):'),
-    ('mark stays', 'receiving', '        self.marks[self.base % AFTER] = Mark()\n', ''),
-    ('old packet stays', 'receiving', '        self.places[(self.base + AFTER) % (BEFORE + AFTER)] = Place()\n', ''),
-    ('10 before 16', 'receiving',
-     '        refuse_if(self.total() == NUMBERS_LIMIT, LIMIT)\n'
-     '        number, place = self.base, self.place(self.base)\n'
-     '        refuse_if(place.state == UNKNOWN, BASE_UNKNOWN)\n',
-     '        number, place = self.base, self.place(self.base)\n'
-     '        refuse_if(place.state == UNKNOWN, BASE_UNKNOWN)\n'
-     '        refuse_if(self.total() == NUMBERS_LIMIT, LIMIT)\n'),
-    ('13 before 10', 'receiving',
-     '        refuse_if(place.state == UNKNOWN, BASE_UNKNOWN)\n',
-     '        refuse_if(room == 0, NO_ROOM)\n        refuse_if(place.state == UNKNOWN, BASE_UNKNOWN)\n'),
-    ('11 before 16', 'receiving',
-     '        refuse_if(self.total() == NUMBERS_LIMIT, LIMIT)\n'
-     '        number = self.base\n'
-     '        refuse_if(self.place(number).state != UNKNOWN, BASE_KNOWN)\n',
-     '        number = self.base\n'
-     '        refuse_if(self.place(number).state != UNKNOWN, BASE_KNOWN)\n'
-     '        refuse_if(self.total() == NUMBERS_LIMIT, LIMIT)\n'),
-    ('a known base is given up', 'receiving', '        refuse_if(self.place(number).state != UNKNOWN, BASE_KNOWN)\n', ''),
-    ('a packet without room leaves', 'receiving',
-     '        refuse_if(place.length > room, NO_ROOM)\n        self.advance(place.state)\n',
-     '        self.advance(place.state)\n        refuse_if(place.length > room, NO_ROOM)\n'),
-    ('one number more', 'receiving', 'NUMBERS_LIMIT = 1000000', 'NUMBERS_LIMIT = 1000001'),
-    ('offer stops at the limit', 'receiving',
-     '        datagram = read_datagram(octets)\n',
-     '        refuse_if(self.total() == NUMBERS_LIMIT, LIMIT)\n        datagram = read_datagram(octets)\n'),
-    ('base unchecked', 'receiving', 'total > NUMBERS_LIMIT or self.base != total % 65536', 'total > NUMBERS_LIMIT'),
-    ('sum unchecked', 'receiving', 'total > NUMBERS_LIMIT or self.base', 'self.base'),
-    ('sum wraps', 'receiving', 'total = self.total()\n        if', 'total = self.total() % (1 << 32)\n        if'),
-    ('blank unchecked', 'receiving', '(place.state == BLANK) != (-j > total)', 'False'),
-    ('blank ahead unchecked', 'receiving',
-     '(place.state == BLANK) != (-j > total)',
-     '(place.state == BLANK) != (-j > total) and j < 0'),
-    ('not blank unchecked', 'receiving', '(place.state == BLANK) != (-j > total)', 'place.state == BLANK and not -j > total'),
-    ('unknown length unchecked', 'receiving', '(0, 0) if place.state in', '(0, PACKET_LIMIT) if place.state in'),
-    ('known length 0 unchecked', 'receiving', 'else (1, PACKET_LIMIT)\n            if', 'else (0, PACKET_LIMIT)\n            if'),
-    ('octets unchecked', 'stored', ' and self.octets.count(0, self.length) == len(self.octets) - self.length', ''),
-    ('last octet unchecked', 'stored',
-     'self.octets.count(0, self.length) == len(self.octets) - self.length',
-     '(self.length == 160 or self.octets.count(0, self.length, 159) == 159 - self.length)'),
-    ('accepted unknown unchecked', 'receiving', 'self.accepted and state == UNKNOWN or self.m', 'self.m'),
-    ('unaccepted messages unchecked', 'receiving', ' or self.m and not self.accepted', ''),
-    ('n without m unchecked', 'receiving', 'self.n == 0 if self.m == 0', 'True if self.m == 0'),
-    ('n of 0 unchecked', 'receiving', '1 <= self.n <= N_LIMIT', 'self.n <= N_LIMIT'),
-    ('n of 9 unchecked', 'receiving', '1 <= self.n <= N_LIMIT', '1 <= self.n'),
-    ('m of 5 unchecked', 'receiving', ' and self.m <= M_LIMIT', ''),
-    ('message past m unchecked', 'receiving', 'MESSAGE_LIMIT if i < self.m else 0', 'MESSAGE_LIMIT'),
-    ('length over 160 unchecked', 'stored',
-     'least <= self.length <= most and self.octets.count(0, self.length) == len(self.octets) - self.length',
-     'least <= min(self.length, 160) <= most and self.octets.count(0, self.length) == max(0, len(self.octets) - '
-     'self.length)'),
-    ('numbers before the first by size', 'sending', 'range(1, min(k, self.sent) + 1)', 'range(1, min(k, self.sent % 65536) + 1)'),
-    ('settings after size', 'sending',
-     '        refuse_if(a > SPARES_LIMIT',
-     '        refuse_if(not 1 <= len(packet) <= PACKET_LIMIT, SIZE)\n        refuse_if(a > SPARES_LIMIT'),
-    ('15 before 16', 'sending',
-     '        refuse_if(self.sent == NUMBERS_LIMIT, LIMIT)\n',
-     '        refuse_if(kind == SPARES and a > 8, SETTINGS)\n        refuse_if(self.sent == NUMBERS_LIMIT, LIMIT)\n'),
-    ('sent unchecked', 'sending', 'self.sent <= NUMBERS_LIMIT and all(', 'all('),
-    ('history before the first unchecked', 'sending',
-     'if j <= self.sent else (0, 0)',
-     'if j <= self.sent else (0, PACKET_LIMIT)'),
-    ('history length 0 unchecked', 'sending', '(1, PACKET_LIMIT) if j <= self.sent', '(0, PACKET_LIMIT) if j <= self.sent'),
-    ('a refused send is kept', 'sending',
-     '        octets = must_fit(written_datagram(datagram), room)\n'
-     '        self.history[self.sent % HISTORY] = Stored(packet)\n',
-     '        self.history[self.sent % HISTORY] = Stored(packet)\n'
-     '        octets = must_fit(written_datagram(datagram), room)\n'),
-    ('32 spares back lost', 'sending', 'HISTORY = 32', 'HISTORY = 16'),
-)
 PROGRAM_MUTANTS = (
     ('lower case written', 'program', 'octets.hex().upper().encode()', 'octets.hex().encode()'),
     ('an empty line ignored', 'program', "return [bytes([LOST_LINE]) + self.session.give_up().to_bytes(2, 'big')]", 'return []'),
@@ -195,6 +61,7 @@ PROGRAM_MUTANTS = (
      "    for line in stream:\n        yield line[:-1] if line.endswith(b'\\n') else line\n",
      "    yield from stream.read().split(b'\\n')\n"),
 )
+MUTANTS = {'calls': DATAGRAM_MUTANTS + SESSION_MUTANTS, 'packets': PACKET_MUTANTS, 'joiner': JOINER_MUTANTS, 'program': PROGRAM_MUTANTS}
 
 
 def make_mutant(directory, module, old, new):
@@ -212,23 +79,26 @@ def make_mutant(directory, module, old, new):
     path.write_text(text.replace(old, new))
 
 
+def command_of(directory, argument=''):
+    """The shell command of a mutant; what it says as it breaks off goes into a file."""
+    program, errors = (shlex.quote(str(directory / name)) for name in ('independent.py', 'errors'))
+    return '%s %s %s 2> %s' % (shlex.quote(sys.executable), program, argument, errors)
+
+
 @functools.lru_cache(None)
 def input_at(kind, number):
     """The inputs that mutants are tried with, one after the other: a name, what is given, what is expected; None past the last."""
-    if kind == 'joiner':
-        return ('joiner script %d' % number, *made_frames(str(number))) if number < FRAME_SEEDS else None
-    if kind == 'calls':
-        return ('script %d' % number, *made_calls(str(number))) if number < CALL_SEEDS else None
-    if number < PROGRAM_SEEDS:
-        return ('lines %d' % number, *made_lines(str(number)))
-    return dict(enumerate(stored('.lines', '.results'), PROGRAM_SEEDS)).get(number)
+    name, seeds, made = {'calls': ('script', CALL_SEEDS, made_calls), 'packets': ('packet script', PACKET_SEEDS, made_packets),
+                         'joiner': ('joiner script', FRAME_SEEDS, made_frames), 'program': ('lines', PROGRAM_SEEDS, made_lines)}[kind]
+    if number < seeds:
+        return ('%s %d' % (name, number), *made(str(number)))
+    return dict(enumerate(stored('.lines', '.results'), seeds)).get(number) if kind == 'program' else None
 
 
 def found_by(directory, kind):
     """The name of the first input that tells the mutant apart, or None."""
-    program, errors = (shlex.quote(str(directory / name)) for name in ('independent.py', 'errors'))
     argument, compare = ('program', compare_program) if kind == 'program' else ('', compare_calls)
-    command = '%s %s %s 2> %s' % (shlex.quote(sys.executable), program, argument, errors)
+    command = command_of(directory, argument)
     for number in itertools.count():
         made = input_at(kind, number)
         if made is None:
@@ -247,12 +117,13 @@ def tried(kind, module, old, new):
         return found_by(pathlib.Path(directory), kind)
 
 
-def try_all(mutants, program_mutants, joiner_mutants=()):
-    """Tries wrong programs, as many at a time as there are processors; prints which input found each; status 1 if one was not found."""
+def try_all(mutants):
+    """Tries wrong programs, tables of them by the kind of input; as many at a time as there are processors.
+
+    Prints which input found each; status 1 if one was not found."""
     missed = 0
     with concurrent.futures.ThreadPoolExecutor(os.cpu_count()) as pool:
-        begun = [(name, pool.submit(tried, kind, *edit)) for rows, kind in
-                 ((mutants, 'calls'), (joiner_mutants, 'joiner'), (program_mutants, 'program')) for name, *edit in rows]
+        begun = [(name, pool.submit(tried, kind, *edit)) for kind, rows in mutants.items() for name, *edit in rows]
         for name, trying in begun:
             try:
                 found = trying.result()
@@ -269,17 +140,18 @@ def try_all(mutants, program_mutants, joiner_mutants=()):
 def self_test():
     """An edit that changes no answer is not found, and one of a text that is not there is not tried."""
     test = Cases('mutants.py')
-    test.passes('a wrong program', try_all, MUTANTS[:1], ())
-    test.fails('an edit of the calls that changes no answer', 'NOT FOUND: same\n1 passed, 1 failed\nSystemExit: 1', try_all,
-               MUTANTS[:1] + (('same', 'lengths', 'first >= 0xC0', 'first > 0xBF'),), ())
+    test.passes('a wrong program', try_all, {'calls': DATAGRAM_MUTANTS[:1]})
+    for kind, name, old, new in (('calls', 'lengths', 'first >= 0xC0', 'first > 0xBF'),
+                                 ('packets', 'packets', 'items.bits(count) for count in (1, 3)', 'items.bits(1 + 2 * at) for at in (0, 1)'),
+                                 ('joiner', 'joining', 'len(whole) > FRAME_LIMIT', 'len(whole) >= FRAME_LIMIT + 1')):
+        test.fails('an edit of %s that changes no answer' % name, 'NOT FOUND: same\n1 passed, 1 failed\nSystemExit: 1', try_all,
+                   {kind: MUTANTS[kind][:1] + (('same', name, old, new),)})
     test.fails('an edit of the program that changes no result', 'NOT FOUND: same\n0 passed, 1 failed\nSystemExit: 1', try_all,
-               (), (('same', 'program', 'LINE_LIMIT = 3000', 'LINE_LIMIT = 2999 + 1'),))
-    test.fails('an edit of the joiner that changes no answer', 'NOT FOUND: same\n1 passed, 1 failed\nSystemExit: 1', try_all,
-               (), (), JOINER_MUTANTS[:1] + (('same', 'joining', 'len(whole) > FRAME_LIMIT', 'len(whole) >= FRAME_LIMIT + 1'),))
+               {'program': (('same', 'program', 'LINE_LIMIT = 3000', 'LINE_LIMIT = 2999 + 1'),)})
     test.fails('an edit of a text that is not there', 'lengths: the text to edit occurs 0 times', try_all,
-               (('nowhere', 'lengths', 'no such text', ''),), ())
+               {'calls': (('nowhere', 'lengths', 'no such text', ''),)})
     test.fails('an edit that makes it no program', 'lengths: with the edit it is no program', try_all,
-               (('no program', 'lengths', 'first >= 0xC0', 'first >='),), ())
+               {'calls': (('no program', 'lengths', 'first >= 0xC0', 'first >='),)})
     test.end()
 
 
@@ -290,7 +162,7 @@ def main():
     if parser.parse_args().self_test:
         self_test()
     else:
-        try_all(MUTANTS, PROGRAM_MUTANTS, JOINER_MUTANTS)
+        try_all(MUTANTS)
 
 
 if __name__ == '__main__':

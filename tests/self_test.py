@@ -1,14 +1,13 @@
 #!/usr/bin/env python3
 """Makes each check of running.py, cutting.py, run, prove, long, speed/ and ../test fail, and looks for what it must say.
 
-Also looks whether the scripts for the joiner meet every answer that there is."""
+Also looks whether the scripts for the joiner and for packets meet every answer that there is."""
 
 import argparse
 import importlib.machinery
 import importlib.util
 import os
 import pathlib
-import shutil
 import sys
 import tempfile
 
@@ -16,8 +15,9 @@ import running
 from compare import made_calls, made_lines
 from cutting import cut_calls, cut_lines
 from failing import HERE, Cases, altered, independent
-from generate import FRAMES, make_script
+from generate import FRAMES, PACKETS, make_script
 from running import difference, left_out, lines_of, run, text_of
+from stubbed import of_prove, of_test
 
 LONG, RUN = (str(HERE / name) for name in ('long', 'run'))
 
@@ -58,15 +58,18 @@ def of_cutting(test):
 
 
 def of_generate(test):
-    """The scripts for the joiner meet every answer: each frame, each refusal, a line that is no call; a short one does not."""
-    every = '3000 310000 310001 310002 31FF0C 31FF0D 31FF0E 31FF11 31FF12 3200 32FF11 330000 330001 3400 34EE'
-    test.says('every answer', every, answers_met(1500))
-    test.fails('a short script', 'NOT CAUGHT by inner: one: ' + every, Cases('inner').says, 'one', every, answers_met(20))
+    """The scripts for the joiner and for packets meet every answer that there is; a short one does not."""
+    for name, scenes, short, every in (
+            ('the joiner', FRAMES, 20, '3000 310000 310001 310002 31FF0C 31FF0D 31FF0E 31FF11 31FF12 3200 32FF11 330000 330001 3400 34EE'),
+            ('packets', PACKETS, 60, '0500 05FF01 05FF03 05FF04 05FF05 05FF06 05FF0C 05FF0E 0600 06FF04 06FF0C 06FF0D 06FF0E 06FF0F')):
+        test.says('every answer on ' + name, every, answers_met(scenes, 1500))
+        test.fails('a short script on ' + name, 'NOT CAUGHT by inner: one: ' + every, Cases('inner').says, 'one', every,
+                   answers_met(scenes, short))
 
 
-def answers_met(count):
-    """Each call on the joiner with the start of its answers: done and what was handed out or shown, or the refusal."""
-    script = make_script('0', count, FRAMES)
+def answers_met(scenes, count):
+    """Each call with the start of its answers: done and what was handed out or shown, or the refusal."""
+    script = make_script('0', count, scenes)
     return ' '.join(sorted({(line[:2] + answer[:4 if line[:2] in (b'31', b'33') or answer[:1] == b'F' else 2]).decode()
                             for line, answer in zip(script.lines, script.answers)}))
 
@@ -154,97 +157,6 @@ def of_calls(test):
     os.environ['PATH'], path = '', os.environ['PATH']
     test.fails('no valgrind', 'valgrind is not here', calls.counting.watched, '', 'calls', b'')
     os.environ['PATH'] = path
-
-
-RT = '''#!/bin/sh
-case $1 in
-version) echo "${RT_VERSION:-stub}" ;;
-fmt) exit "${RT_FMT:-0}" ;;
-ci) printf "${RT_SAYS:-7 passed, 0 failed\\n}"; exit "${RT_CI:-0}" ;;
-check) sleep "${RT_SLEEPS:-0}"; printf "$RT_SAYS"; exit "${RT_CHECK:-0}" ;;
-esac
-'''
-PYTHON = '''#!/bin/sh
-[ "$*" = "$WRONG" ] || { echo 'ok one'; echo '2 passed, 0 failed'; exit 0; }
-printf "$SAYS"; exit "$STATUS"
-'''
-RUN_STUB = '''#!/bin/sh
-echo "$1 ran"
-'''
-
-
-def with_stubs(directory):
-    """The scripts at the top in a folder of their own, with stubs in place of rt, python3 and tests/run; what to run them with."""
-    for name, text in (('bin/rt', RT), ('bin/python3', PYTHON), ('tests/run', RUN_STUB), ('toolchain', 'stub\n'), ('crates/one/src', ''),
-                       ('crates.txt', 'one:\nreceive: io one\n')):
-        path = directory / name
-        path.parent.mkdir(parents=True, exist_ok=True)
-        path.write_text(text)
-        path.chmod(0o755)
-    for name in ('test', 'receive', 'tests/prove', 'tests/toolchain'):
-        shutil.copy(HERE.parent / name, directory / name)
-    return {**os.environ, 'PATH': '%s:%s' % (directory / 'bin', os.environ['PATH'])}
-
-
-def of_test(test):
-    """Every step of ../test that fails ends it with a status that is not 0 and a last line that says so."""
-    with tempfile.TemporaryDirectory() as directory:
-        environment = with_stubs(pathlib.Path(directory))
-
-        def ends(name, status, words, **settings):
-            """../test with these programs in place of the real ones: its status, and its last two lines."""
-            command = './test >out 2>&1; status=$?; tail -n 2 out; echo end; exit $status'
-            test.ends(name, status, words + 'end\n', ['sh', '-c', command], cwd=directory, env={**environment, **settings})
-
-        text = (HERE.parent / 'test').read_text().replace('\\\n', '')
-        steps = [line for line in text.splitlines() if line.startswith('compared ')]
-        ends('all right', 0, '%d passed, 0 failed\n' % (7 + 2 * len(steps)))
-        ends('another toolchain', 1, 'than the one named in the file toolchain\n0 passed, 1 failed\n', RT_VERSION='other')
-        ends('the layout', 1, 'rt fmt --check: a file is not in the layout\n0 passed, 1 failed\n', RT_FMT='1')
-        for status in ('1', '2', '3'):
-            ends('rt ci, status ' + status, 1, 'a program\n0 passed, 1 failed\n', RT_CI=status)
-        no_last = "its last line does not say 'N passed, 0 failed'"
-        for wrong, says in (('nothing said', '\\n'), ('a failure', '7 passed, 1 failed\\n'),
-                            ('another last line', '7 passed, 0 failed\\nmore\\n')):
-            ends('rt ci, ' + wrong, 1, no_last + '\n0 passed, 1 failed\n', RT_SAYS=says)
-        for at, line in enumerate(steps):
-            arguments = line.split(' python3 ')[1].replace("'", '')
-            for wrong, status, says, words in (('status 3', '3', '2 passed, 0 failed\\n', ''), ('nothing said', '0', '', no_last),
-                                               ('a failure', '0', '2 passed, 1 failed\\n', no_last),
-                                               ('another last line', '0', '2 passed, 0 failed\\nmore\\n', no_last)):
-                ends('%s of %s' % (wrong, arguments), 1, '%s\n%d passed, 1 failed\n' % (words, 7 + 2 * at),
-                     WRONG=arguments, SAYS=says, STATUS=status)
-
-
-def of_prove(test):
-    """../receive runs what is proved alone, says on standard error that it proves, and nothing if there is nothing to say."""
-    with tempfile.TemporaryDirectory() as directory:
-        environment = with_stubs(pathlib.Path(directory))
-
-        def ends(name, status, output, errors, arguments='', **settings):
-            """../receive with these programs in place of the real ones: its status, what it writes and what it says."""
-            command = './receive %s >out 2>errors; status=$?; echo [; cat out; echo ,; cat errors; echo ]; exit $status' % arguments
-            written = '[\n%s,\n%s]\n' % (output, errors)
-            test.ends(name, status, written, ['sh', '-c', command], cwd=directory, env={**environment, **settings})
-
-        same = 'rt: one proved (unchanged since it was last proved)\\nrt: receive proved (unchanged since it was last proved)\\n'
-        begun = 'receive: proving what it needs, 2 crates, some minutes the first time ..\n'
-        usage = 'usage: ./' + (HERE.parent / 'receive').read_text().splitlines()[1][2:] + '\n'
-        ends('all proved', 0, 'receive ran\n', '', RT_SAYS=same)
-        ends('one proved anew', 0, 'receive ran\n', begun + 'receive: 2 of 2 proved: receive\n',
-             RT_SAYS='rt: one proved (unchanged since it was last proved)\\nmore\\nrt: receive proved (19 s)\\n')
-        ends('all proved anew', 0, 'receive ran\n', begun + 'receive: 1 of 2 proved: one\nreceive: 2 of 2 proved: receive\n',
-             RT_SAYS='rt: one proved (4 s)\\nrt: receive proved (19 s)\\nrt: ok, 2 crates proved\\n')
-        ends('a crate that takes long', 0, 'receive ran\n', begun, RT_SLEEPS='5', RT_SAYS=same)
-        failed = 'rt: one NOT PROVED (exit 1, 3 s)\n'
-        for status in (1, 2, 3):
-            ends('not proved, status %d' % status, status, '',
-                 failed + 'receive: NOT PROVED, so it is not run: rt check receive ended with status %d\n' % status,
-                 RT_SAYS=failed.replace('\n', '\\n'), RT_CHECK=str(status))
-        ends('another toolchain', 0, 'receive ran\n', 'receive: this library was proved with stub, this machine has other\n',
-             RT_SAYS=same, RT_VERSION='other')
-        ends('help', 0, usage, '', '--help')
-        ends('an argument that is none', 2, '', usage, 'TRACE')
 
 
 def main():

@@ -4,23 +4,21 @@
 What was sent must come back, and every answer must be the one that the independent program gives."""
 
 import argparse
-import random
 import sys
 
 import joined
 from failing import Cases, altered, independent
-from making.lines import Recording
 from making.script import Script
 from real import UNLIMITED, Wrong, as_expected, conversation, corpus, must, octets_of, settings_text, written_by
+from released import check_conversation, check_results, heard, through_the_program
 from rules.arguments import shown, sized
 from rules.datagrams import PARITY, SPARES, read_datagram
-from rules.packets import read_packet
+from rules.packets import read_packet, written_packet
 from running import left_out
 
 CALLS = ('tt_v17_ecm_v0.a2b', 'tt_v17_ecm_v0.b2a', 'tt_v29_ecm_v0.a2b', 'gt_v17_nonecm_v0.a2b')
 DATAGRAMS = {'tt_v17_ecm_v0.a2b.k3': (SPARES, 3, 0), 'tt_v17_ecm_v0.a2b.n3m2': (PARITY, 3, 2)}
 SETTINGS = ((SPARES, 0, 0), (SPARES, 3, 0), (SPARES, 8, 0), (PARITY, 3, 2), (PARITY, 1, 1), (PARITY, 8, 4))
-RECEIVED, SPARE, REPAIRED, LOST = range(4)
 
 
 def written_back(script, command, originals):
@@ -57,10 +55,22 @@ def datagrams_back(command, name):
 
 def packets_back(command, name):
     """Each real packet is read and written back as the same octets."""
+    all_back(command, name, corpus(name))
+
+
+def put_together_back(command, name):
+    """The same of real packets put together, as many fields in each as it holds."""
+    packets = joined.put_together([read_packet(octets, False) for octets in corpus(name)])
+    all_back(command, name, [written_packet(packet) for packet in packets])
+    return '%d packets in place of %d' % (len(packets), len(corpus(name)))
+
+
+def all_back(command, name, packets):
+    """Packets are read and written back as the same octets."""
     script = Script(name, UNLIMITED)
-    for octets in corpus(name):
+    for octets in packets:
         packet_back(script, octets)
-    written_back(script, command, corpus(name))
+    written_back(script, command, packets)
 
 
 def sent_as_recorded(command, name):
@@ -75,72 +85,6 @@ def sent_as_recorded(command, name):
     as_expected(script.answers, answers)
 
 
-def check_conversation(command, script, packets):
-    """What the program under test released is what was sent, each number once, and the counts are of that; every answer is as expected."""
-    counts = [0, 0, 0, 0]
-    number = 0
-    answers = written_by(command, script.lines, script.answers)
-    for line, theirs in zip(script.lines, octets_of(answers)):
-        call = line[:2]
-        if call == b'12' and theirs[0] == 0:
-            kind, at, size = (int.from_bytes(part, 'big') for part in (theirs[1:2], theirs[2:4], theirs[4:6]))
-            check_released(kind, number, at, theirs[6:6 + size], packets)
-        elif call == b'13' and theirs[0] == 0:
-            kind = LOST
-            must(int.from_bytes(theirs[1:3], 'big') == number, 'given up: %s in place of %d', theirs.hex(), number)
-        else:
-            must(call not in (b'12', b'13'), 'not released: %s at number %d', theirs.hex(), number)
-            continue
-        counts[kind] += 1
-        number += 1
-    must(number == len(packets), '%d of %d numbers released', number, len(packets))
-    must(theirs == b'\x00' + b''.join(shown(count, 4) for count in counts), 'the counts are %s', theirs.hex())
-    as_expected(script.answers, answers)
-    return counts
-
-
-def check_released(kind, number, released_number, octets, packets):
-    """A released packet has a kind and its number, and is the one sent; a repaired one may go on with zeros."""
-    must(kind < LOST, 'number %d is released with kind %d', number, kind)
-    must(number < len(packets), 'number %d is released, and %d were sent', number, len(packets))
-    must(released_number == number, 'released: %d in place of %d', released_number, number)
-    sent = packets[number]
-    whole = octets.startswith(sent) and not any(octets[len(sent):]) if kind == REPAIRED else octets == sent
-    must(whole, 'number %d was sent as %s and released as %s', number, sent.hex(), octets.hex())
-
-
-def through_the_program(command, name, loss):
-    """Recorded datagrams through the program, some lost; an empty line for each number that nothing has brought back."""
-    packets = corpus(name.rsplit('.', 1)[0])
-    r = random.Random(name + str(loss))
-    recording = Recording(name)
-    for number, octets in enumerate(corpus(name)):
-        if r.random() >= loss:
-            recording.add_datagram(octets)
-        while number - recording.base() > 20:
-            recording.add(b'')
-    while recording.base() < len(packets):
-        recording.add(b'')
-    answers = written_by(command, recording.lines, recording.results)
-    counts = check_results(answers, packets)
-    as_expected(recording.results, answers)
-    return counts_text(counts)
-
-
-def check_results(results, packets):
-    """The program's results are the packets that were sent, each number once, or its loss; how many of each kind there are."""
-    counts = [0, 0, 0, 0]
-    for number, octets in enumerate(octets_of(results)):
-        must(octets[0] <= LOST, 'result %s at number %d', octets.hex(), number)
-        if octets[0] == LOST:
-            must(octets[1:] == shown(number, 2), 'given up: %s in place of %d', octets.hex(), number)
-        else:
-            check_released(octets[0], number, int.from_bytes(octets[1:3], 'big'), octets[3:], packets)
-        counts[octets[0]] += 1
-    must(sum(counts) == len(packets), '%d of %d numbers released', sum(counts), len(packets))
-    return counts
-
-
 def checks(arguments):
     """All checks: a name, and what does it."""
     if arguments.calls:
@@ -149,6 +93,7 @@ def checks(arguments):
             yield 'packets sent as recorded: ' + name, lambda n=name: sent_as_recorded(arguments.calls, n)
         for name in CALLS:
             yield 'packets read and written back: ' + name, lambda n=name: packets_back(arguments.calls, n)
+            yield 'packets put together, read and written back: ' + name, lambda n=name: put_together_back(arguments.calls, n)
         for at, settings in enumerate(SETTINGS):
             for loss in (0.05, 0.3):
                 name = CALLS[at % len(CALLS)]
@@ -160,18 +105,6 @@ def checks(arguments):
             for loss in (0, 0.1, 0.4):
                 label = 'through the program: %s, %d %% lost' % (name, 100 * loss)
                 yield label, lambda n=name, l=loss: through_the_program(arguments.program, n, l)
-
-
-def counts_text(counts):
-    """Counts in words."""
-    return 'received %d, spare %d, repaired %d, lost %d' % tuple(counts)
-
-
-def heard(command, name, settings, loss):
-    """One conversation; what came of it."""
-    packets = corpus(name)
-    script = conversation(name + settings_text(settings), packets, settings, loss)
-    return counts_text(check_conversation(command, script, packets))
 
 
 def self_test():
@@ -189,6 +122,7 @@ def self_test():
             ('a datagram written otherwise', lambda c: datagrams_back(c, spares), 'calls 04 -1', 'line 2: written back as '),
             ('a packet read otherwise', lambda c: packets_back(c, call), 'calls 05 -1', 'answer 1 is not the expected one'),
             ('a packet written otherwise', lambda c: packets_back(c, call), 'calls 06 -1', 'line 2: written back as '),
+            ('packets put together written otherwise', lambda c: put_together_back(c, call), 'calls 06 -1', 'line 2: written back as '),
             ('a datagram sent otherwise', lambda c: sent_as_recorded(c, parity), 'calls 21 -1', 'datagram 0 is sent as ')):
         test.fails(name, words, check, altered(how))
     for name, how, loss, words in (

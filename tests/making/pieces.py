@@ -2,7 +2,7 @@
 
 from rules.datagrams import PARITY, SPARES, Datagram
 from rules.lengths import written_length
-from rules.packets import DATA_PACKET, INDICATOR, WITH_DATA, WITHOUT_DATA, Packet, written_packet
+from rules.packets import DATA_PACKET, INDICATOR, PACKET_LIMIT, WITH_DATA, Packet, written_packet
 
 EDGES = (1, 2, 3, 126, 127, 128, 129, 158, 159, 160)
 LENGTH_FORMS = tuple(bytes.fromhex(text) for text in (
@@ -33,18 +33,22 @@ def packet(r):
     """A packet within its rules."""
     if r.random() < 0.25:
         return Packet(INDICATOR, r.randrange(16), ())
-    fields, room = [], 158
+    given = Packet(DATA_PACKET, r.randrange(9), ())
     for _ in range(r.choice((0, 1, 1, 1, 2, 2, 3, 4, 8, 15, 16))):
         kind = r.randrange(8)
         has_data = kind in WITH_DATA or kind == 7 and r.random() < 0.5
-        room -= 4 if has_data else 1
+        room = PACKET_LIMIT - len(written_packet(with_field(given, kind, bytes(has_data))))
         if room < 0:
             break
-        most = min(room, r.choice((2, 8, 160))) if has_data else 0
+        most = min(room, r.choice((2, 8, 160)))
         size = r.choice((0, most, r.randrange(most + 1)))
-        room -= size
-        fields.append((kind, octets(r, size + 1) if has_data else b''))
-    return Packet(DATA_PACKET, r.randrange(9), tuple(fields))
+        given = with_field(given, kind, octets(r, size + 1) if has_data else b'')
+    return given
+
+
+def with_field(given, kind, data):
+    """A packet with a field more."""
+    return given._replace(fields=given.fields + ((kind, data),))
 
 
 def fax_packet(r):
@@ -67,41 +71,66 @@ def message(r, small=0.6):
 
 
 def datagram_items(given):
-    """A datagram as a row of pairs: what an item is, and its octets."""
-    row = [('number', given.number.to_bytes(2, 'big'))] + sized_items(given.packet) + [('kind', bytes([given.kind]))]
+    """A datagram as a row of pairs: what an item is, and its hexadecimal digits."""
+    row = [('number', b'%04X' % given.number)] + sized_items(given.packet) + [('kind', b'%02X' % given.kind)]
     if given.kind == PARITY:
-        row += [('one', b'\x01'), ('n', bytes([given.n]))]
-    row.append(('length', written_length(len(given.items))))
+        row += [('one', b'01'), ('n', b'%02X' % given.n)]
+    row.append(('length', digits(written_length(len(given.items)))))
     return row + [item for piece in given.items for item in sized_items(piece)]
 
 
 def sized_items(piece):
     """A length and the octets that it promises."""
-    return [('length', written_length(len(piece))), ('octets', piece)]
+    return [('length', digits(written_length(len(piece)))), ('octets', digits(piece))]
 
 
 def packet_items(given):
-    """A packet as a row of pairs, likewise."""
-    row = [('first', written_packet(given)[:1])]
+    """A packet as a row of pairs, likewise; a header is one digit, and padding, which goes to an octet's edge, another."""
+    row = [('first', digits(written_packet(given)[:1]))]
     if given.fields:
-        row.append(('length', written_length(len(given.fields))))
+        row.append(('count', digits(written_length(len(given.fields)))))
     for kind, data in given.fields:
-        row.append(('header', bytes([(data != b'') << 7 | kind << 4])))
+        row.append(('header', b'%X' % (8 * (data != b'') + kind)))
         if data:
-            row += [('size', (len(data) - 1).to_bytes(2, 'big')), ('octets', data)]
-    return row
+            row = to_edge(row) + [('size', b'%04X' % (len(data) - 1)), ('octets', digits(data))]
+    return to_edge(row)
+
+
+def to_edge(row):
+    """A row with padding, if it ends within an octet."""
+    return row + [('padding', b'0')] * (len(joined(row)) % 2)
+
+
+def digits(given):
+    """Octets as hexadecimal digits."""
+    return given.hex().upper().encode()
+
+
+def joined(row):
+    """The digits of a row."""
+    return b''.join(item for _, item in row)
 
 
 def changed(r, role, item):
-    """An item with something changed, mostly so that it meets an edge of its own rule."""
+    """An item's digits with something changed, mostly so that it meets an edge of its own rule."""
+    if role == 'header':
+        header = b'%X' % (int(item, 16) ^ r.choice((8, 8, 8, 7, 1, 2, 6, 9, 15)))
+        return r.choice((header, header, header, item + b'0', b''))
+    if role == 'padding':
+        return r.choice((b'1', b'2', b'4', b'8', b'F', b'%X' % r.randrange(1, 16), b'', b'000'))
+    return digits(changed_octets(r, role, bytes.fromhex(item.decode())))
+
+
+def changed_octets(r, role, item):
+    """The same of an item that is of whole octets."""
     if role == 'length':
         return r.choice(LENGTH_FORMS)
+    if role == 'count':
+        return r.choice(LENGTH_FORMS + (bytes([item[0] + 1]), bytes([item[0] - 1])) * 12)
     if role == 'kind':
         return bytes([r.choice((0x00, 0x80, 0x01, 0x40, 0x7F, 0x81, 0xC0, 0xFF))])
     if role in ('one', 'n'):
         return bytes([r.choice((0, 1, 2, 8, 9, 0x7F, 0x80, 0xC0, 0xFF))])
-    if role == 'header':
-        return bytes([item[0] ^ r.choice((0x80, 0x80, 0x70, 0x10, 0x20, 0x60, 0x01, 0x08, 0x0F, 0x81, 0x88, 0x8F, 0x81))])
     if role == 'size':
         return r.choice((b'\xFF\xFF', b'\x00\xA0', b'\x00\x9F', b'\x01\x00', b'\x00\x00', item[:1],
                          bytes([item[0], (item[1] + 1) % 256]), bytes([item[0], (item[1] - 1) % 256])))
@@ -118,7 +147,7 @@ def damaged(r, row):
         row[at] = row[at][0], changed(r, *row[at])
         if r.random() < 0.2:
             row = row[:at + 1]
-    whole = b''.join(item for _, item in row)
+    whole = bytes.fromhex((joined(row) + r.choice((b'0', b'0', b'%X' % r.randrange(16))) * (len(joined(row)) % 2)).decode())
     ending = r.random()
     if ending < 0.15:
         return whole[:r.randrange(len(whole) + 1)]

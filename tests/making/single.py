@@ -1,7 +1,7 @@
 """Scenes for the calls without a session: lengths, datagrams, packets, and lines that are no calls."""
 
 from rules.arguments import shown, sized
-from rules.datagrams import PARITY, SPARES, write_datagram, written_datagram
+from rules.datagrams import PARITY, write_datagram, written_datagram
 from rules.packets import DATA_PACKET, INDICATOR, write_packet, written_packet
 from rules.refusals import Refusal
 

@@ -1,16 +1,32 @@
 """Lengths and counts: one rule for packets, spares, messages and counts. Also the reader of items in order."""
 
-from .refusals import ENDS, FORM, SIZE, must_fit, refuse_if
+from .refusals import ENDS, FORM, SIZE, SPARE_BIT, must_fit, refuse_if
 
 GREATEST_LENGTH = 16383
 
 
 class Items:
-    """Octets from which items are read in order."""
+    """Octets from which items are read in order; most are whole octets, some are bits."""
 
     def __init__(self, octets):
         self.all = octets
-        self.at = 0
+        self.bit = 0  # how many bits have been read
+
+    @property
+    def at(self):
+        """How many octets have been read, the last one wholly or in part."""
+        return -(-self.bit // 8)
+
+    def bits(self, count):
+        """The next so many bits as a number; they must come."""
+        first = self.bit // 8
+        refuse_if(self.bit + count > 8 * len(self.all), ENDS)
+        self.bit += count
+        return int.from_bytes(self.all[first:self.at], 'big') >> -self.bit % 8 & (1 << count) - 1
+
+    def to_edge(self):
+        """The bits up to the next octet, which must be zero; there are none at an octet's edge."""
+        refuse_if(self.bits(-self.bit % 8), SPARE_BIT)
 
     def octet(self):
         """The next octet, which must come."""
@@ -19,7 +35,7 @@ class Items:
     def octets(self, count):
         """The next so many octets, which must come."""
         refuse_if(self.at + count > len(self.all), ENDS)
-        self.at += count
+        self.bit += 8 * count
         return bytes(self.all[self.at - count:self.at])
 
     def length(self):

@@ -1,9 +1,12 @@
-"""The packet: first octet, then fields, each beginning on an octet of its own."""
+"""The packet: first octet, then fields, their headers of four bits (02, request 2).
+
+After a field without data the next header begins in the same octet; the count of fields, a field's length and the packet's end
+go to an octet's edge, by zero bits."""
 
 from typing import NamedTuple, Tuple
 
 from .lengths import Items, cut, written_length
-from .refusals import (DATA, LEFT_OVER, NOT_ASSIGNED, SETTINGS, SIZE, SPARE_BIT, must_fit, refuse_if)
+from .refusals import DATA, LEFT_OVER, NOT_ASSIGNED, SETTINGS, SIZE, must_fit, refuse_if
 
 PACKET_LIMIT = 160
 FIELDS_LIMIT = 16
@@ -31,17 +34,17 @@ def read_packet(octets, repaired):
     """The packet that the octets are; a repaired one may go on with zeros."""
     refuse_if(len(octets) > PACKET_LIMIT, SIZE)
     items = Items(octets)
-    first = items.octet()
-    present, kind, extension, value = first >> 7, first >> 6 & 1, first >> 5 & 1, first >> 1 & 15
+    present, kind, extension, value = (items.bits(count) for count in (1, 1, 1, 4))
     refuse_if(extension, NOT_ASSIGNED)
     refuse_if(value > LAST_VALUE[kind], NOT_ASSIGNED)
-    refuse_if(first & 1, SPARE_BIT)
+    items.to_edge()
     refuse_if(present and kind == INDICATOR, DATA)
     fields = ()
     if present:
         count = items.length()
         refuse_if(not 1 <= count <= FIELDS_LIMIT, SIZE)
         fields = tuple(read_field(items) for _ in range(count))
+        items.to_edge()
     left = items.left_over()
     refuse_if(any(left) if repaired else left, LEFT_OVER)
     return Packet(kind, value, fields)
@@ -49,12 +52,11 @@ def read_packet(octets, repaired):
 
 def read_field(items):
     """A field: its type and its data."""
-    header = items.octet()
-    refuse_if(header & 0x0F, SPARE_BIT)
-    has_data, field_type = header >> 7, header >> 4 & 7
+    has_data, field_type = (items.bits(count) for count in (1, 3))
     refuse_if(data_misplaced(field_type, has_data), DATA)
     if not has_data:
         return field_type, b''
+    items.to_edge()
     length = int.from_bytes(items.octets(2), 'big') + 1
     refuse_if(length > PACKET_LIMIT, SIZE)
     return field_type, items.octets(length)
@@ -75,13 +77,22 @@ def write_packet(kind, value, types, lengths, data, room):
 
 def written_packet(packet):
     """The octets of a packet; a data packet with no field has the top bit clear."""
-    first = bytes([(packet.fields != ()) << 7 | packet.kind << 6 | packet.value << 1])
-    count = written_length(len(packet.fields)) if packet.fields else b''
-    return first + count + b''.join(written_field(*field) for field in packet.fields)
+    bits = to_edge('{:b}{:b}0{:04b}'.format(packet.fields != (), packet.kind, packet.value))
+    if packet.fields:
+        bits += in_bits(written_length(len(packet.fields)))
+    for field_type, data in packet.fields:
+        bits += '{:b}{:03b}'.format(data != b'', field_type)
+        if data:
+            bits = to_edge(bits) + in_bits((len(data) - 1).to_bytes(2, 'big') + data)
+    bits = to_edge(bits)
+    return int(bits, 2).to_bytes(len(bits) // 8, 'big')
 
 
-def written_field(field_type, data):
-    """The octets of a field."""
-    if not data:
-        return bytes([field_type << 4])
-    return bytes([0x80 | field_type << 4]) + (len(data) - 1).to_bytes(2, 'big') + data
+def in_bits(octets):
+    """Octets as a text of their bits."""
+    return ''.join(map('{:08b}'.format, octets))
+
+
+def to_edge(bits):
+    """A text of bits with zeros up to the next octet."""
+    return bits + '0' * (-len(bits) % 8)

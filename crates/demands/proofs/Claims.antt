@@ -10,7 +10,7 @@ use Rattle.demands.proofs.Example as example
 use Rattle.demands.proofs.Burst as burst
 use Rattle.demands.proofs.NotInside.{not-inside}
 use Rattle.demands.proofs.OneOutcome.{one-outcome}
-use Rattle.demands.proofs.Sheet.{twelve-cases}
+use Rattle.demands.proofs.Sheet.{twelve-cases, mended-example}
 use Rattle.demands.proofs.Program.{program-claims}
 
 pub claims : Claims
@@ -25,6 +25,7 @@ claims =
       notInside = not-inside;
       oneOutcome = one-outcome;
       twelveCases = twelve-cases;
+      mendedExample = mended-example;
       program = program-claims;
       wholeFrames = frames.claims;
       framesFromSession = frameFeed.claims;

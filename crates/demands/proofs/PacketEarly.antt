@@ -1,124 +1,128 @@
--- Octets that end early: wherever an item is due, a packet can be finished from there, with fields of type 1 and data of zeros. So
--- octets that end before an item or inside it are a front of a packet, unless the item is a length that is outside the sizes
--- already. Assumes nothing.
-use Prim.Native.Nat.{ℕ, zero, suc, _-_, _≤_, _<_}
-use mathlib.Core.Path.{_≡_, refl, sym, subst}
+-- Octets that end early: they are a front of a packet, since one can be finished wherever an item is missing or cut, unless the item
+-- is a length that is outside the sizes already. And every proper front of a packet ends early. Assumes nothing.
+use Prim.Native.Nat.{ℕ, _+_, _-_, _*_, _/_, _%_, _≤_, _<_}
+use mathlib.Core.Path.{_≡_, refl, ap, subst, _∙_}
 use mathlib.Core.Logic.{_⊎_, inl, inr}
-use mathlib.Core.List.{List, [], _∷_, _++_, append-assoc, append-nil}
+use mathlib.Core.List.{List, [], _∷_, _++_}
 use mathlib.Core.Option.{some}
-use lib.ListN.{length, replicate, length-append, length-replicate}
+use lib.ListN.{length, getD, replicate, length-append, length-replicate, length-drop}
 use native.Mathlib.Omega.{arith}
-use borrow.Author.Tests.{le-leb, lt-leb}
+use borrow.Author.Tests.{le-ltb, lt-ltb, le-leb, lt-leb}
+use Rattle.octets.proofs.Laws.{below-or-not}
 use Rattle.lengths.specs.Refusals.{endsEarly}
-use Rattle.packets.specs.declared.types.Ending.{Ending}
 use Rattle.lengths.specs.Tables.{first}
+use Rattle.formats.specs.Places.{Place}
+use Rattle.packets.specs.declared.types.Ending.{Ending}
 use Rattle.demands.specs.Refusals.{lengthRows}
-use Rattle.demands.specs.PacketItems.{Item, firstOctet, countOfFields, header, dataLength, fieldData, end, fields}
-use Rattle.demands.specs.PacketItems.{rows, RightFirst, RightHeader, Packet}
-use Rattle.demands.specs.PacketItems.{Right, alone, counted, bare, sized, carried, Due, goesOn}
+use Rattle.demands.specs.PacketItems.{Item, countOfFields, header, dataLength, fieldData, end}
+use Rattle.demands.specs.PacketItems.{octetsFrom, octetHere, Due}
 use Rattle.demands.specs.PacketRefusals.{FirstWrong, EndsEarly, front, inCount, inLength}
-use Rattle.demands.proofs.PacketRows.{first-missing, header-missing, CountCut, count-missing, size-missing, data-missing, end-left}
-use Rattle.demands.proofs.PacketFronts.{fronts}
-
--- ---- a packet can be finished wherever an item is due
--- indicator 0, and a field of type 1
-zero-octet : RightFirst 0
-zero-octet = record { plain = refl; known = omega arith; zero = refl; fits = refl }
-
-type-1 : RightHeader 0x10
-type-1 = record { zeros = refl; fits = refl }
-
-record Finished (s : List ℕ) : Type 0 where
-  more : List ℕ
-  whole : Packet (s ++ more)
-
--- some octets, and then the finish
-and-then : (s octets : List ℕ) → Finished (s ++ octets) → Finished s
-and-then s octets f = record { more = octets ++ f .more; whole = subst Packet (append-assoc s octets (f .more)) (f .whole) }
-
-finish-fields : (n : ℕ) (s : List ℕ) → Due s (fields n) → Finished s
-finish-fields zero s due = record { more = []; whole = subst Packet (sym (append-nil s)) due }
-finish-fields (suc n) s due = and-then s (0x10 ∷ []) (finish-fields n (s ++ 0x10 ∷ []) (goesOn due (bare type-1 refl)))
-
-zeros-are : (size left : ℕ) → Right (fieldData size left) (replicate size 0) (fields left)
-zeros-are size left =
-    subst (λ (k : ℕ). Right (fieldData k left) (replicate size 0) (fields left)) (length-replicate {A = ℕ} size 0) carried
-
-finish : (item : Item) (s : List ℕ) → Due s item → Finished s
-finish firstOctet s due = and-then s (0 ∷ []) (finish-fields 0 (s ++ 0 ∷ []) (goesOn due (alone zero-octet refl)))
-finish countOfFields s due =
-    and-then s (1 ∷ []) (finish-fields 1 (s ++ 1 ∷ []) (goesOn due (counted (omega arith) (omega arith))))
-finish (header left) s due = finish-fields (suc left) s due
-finish (dataLength left) s due =
-    and-then s (0 ∷ 0 ∷ [])
-    (and-then (s ++ 0 ∷ 0 ∷ []) (0 ∷ [])
-    (finish-fields left ((s ++ 0 ∷ 0 ∷ []) ++ 0 ∷ []) (goesOn (goesOn due (sized (omega arith))) (zeros-are 1 left))))
-finish (fieldData size left) s due =
-    and-then s (replicate size 0) (finish-fields left (s ++ replicate size 0) (goesOn due (zeros-are size left)))
-finish end s due = finish-fields 0 s due
+use Rattle.demands.proofs.PacketPlaces.{stands, due-count, due-header, due-length, due-data, due-inside, countRows, count-rows}
+use Rattle.demands.proofs.PacketFronts.{from-front, due-more, cut-given, in-front}
+use Rattle.demands.proofs.PacketFinish.{lacking, finish-data, finish-sized, finish-length, finish-header, finish-fields}
+use Rattle.demands.proofs.PacketFinish.{finish-count, finish-first}
 
 -- ---- the item that is missing or cut
--- where the rest of an item would be as it must be, the octets are a front of a packet
-front-by : (before rest octets : List ℕ) {item : Item} (next : Item) → Due before item
-    → Right item (rest ++ octets) next → 1 ≤ length octets → EndsEarly (before ++ rest)
-unfolding and-then
-front-by before rest octets next due right least =
-    let there = subst (λ (l : List ℕ). Due l next) (sym (append-assoc before rest octets)) (goesOn due right) in
-    let f = finish next ((before ++ rest) ++ octets) there in
-    let whole = and-then (before ++ rest) octets f .whole in
-    front (octets ++ f .more) (omega (arith, length-append octets (f .more))) whole
+-- it is due at the end
+at-the-end : {s : List ℕ} {p : Place} {item : Item} → Due s p item → p ≡ 8 * length s → Due s (8 * length s) item
+at-the-end {s} {item = item} due is = subst (λ (q : Place). Due s q item) is due
 
--- a count that is there is cut after the first of its two octets
-count-at : (before : List ℕ) (a : ℕ) (rest : List ℕ) → Due before countOfFields → (length (a ∷ rest) < 1) ⊎ CountCut (a ∷ rest)
-    → EndsEarly (before ++ a ∷ rest)
-count-at before a rest due (inl none-there) = absurd (omega arith)
-count-at before a [] due (inr cut) = inCount a (record { before = before; is = refl; due = due }) (cut .high) (omega (arith, cut .low))
-count-at before a (b ∷ rest) due (inr cut) = absurd (omega (arith, cut .one))
+pub early-first : (s : List ℕ) → length s < 1 → EndsEarly s
+early-first [] short = lacking [] (0 ∷ []) (omega arith) finish-first
+early-first (a ∷ s) short = absurd (omega arith)
 
-early-at : (ending : Ending) (before : List ℕ) (item : Item) (rest : List ℕ) → Due before item
-    → first (rows ending item rest) ≡ some endsEarly → EndsEarly (before ++ rest)
-early-at ending before firstOctet [] due e = front-by before [] (0 ∷ []) end due (alone zero-octet refl) (omega arith)
-early-at ending before firstOctet (o ∷ rest) due e =
-    absurd (omega (arith, first-missing ending (o ∷ rest) endsEarly (omega arith) (omega arith) (omega arith) e .0))
-early-at ending before countOfFields [] due e =
-    front-by before [] (1 ∷ []) (fields 1) due (counted (omega arith) (omega arith)) (omega arith)
-early-at ending before countOfFields (a ∷ rest) due e =
-    count-at before a rest due (count-missing ending (a ∷ rest) endsEarly (omega arith) (omega arith) e .1)
-early-at ending before (header left) [] due e = front-by before [] (0x10 ∷ []) (fields left) due (bare type-1 refl) (omega arith)
-early-at ending before (header left) (o ∷ rest) due e =
-    absurd (omega (arith, header-missing ending left (o ∷ rest) endsEarly (omega arith) (omega arith) e .0))
-early-at ending before (dataLength left) [] due e =
-    front-by before [] (0 ∷ 0 ∷ []) (fieldData 1 left) due (sized (omega arith)) (omega arith)
-early-at ending before (dataLength left) (zero ∷ []) due e =
-    front-by before (0 ∷ []) (0 ∷ []) (fieldData 1 left) due (sized (omega arith)) (omega arith)
-early-at ending before (dataLength left) (suc a ∷ []) due e =
-    inLength (suc a) left (record { before = before; is = refl; due = due }) (omega arith)
-early-at ending before (dataLength left) (a ∷ b ∷ rest) due e =
-    absurd (omega (arith, size-missing ending left (a ∷ b ∷ rest) endsEarly (omega arith) e .0))
-early-at ending before (fieldData size left) rest due e =
-    let short = data-missing ending size left rest endsEarly e .0 in
-    let lack : List ℕ = replicate (size - length rest) 0 in
-    let long = length-append rest (replicate (size - length rest) 0) in
-    let zeros = length-replicate {A = ℕ} (size - length rest) 0 in
-    let all : length (rest ++ replicate (size - length rest) 0) ≡ size = omega arith in
-    front-by before rest lack (fields left) due
-    (subst (λ (k : ℕ). Right (fieldData k left) (rest ++ lack) (fields left)) all carried) (omega arith)
-early-at ending before end rest due e = absurd (omega (arith, end-left ending rest endsEarly e .1))
+-- a count is missing, or cut after the first of its two octets
+pub early-count : (s : List ℕ) (p : Place) → Due s p countOfFields → length (octetsFrom s p) < 1 → EndsEarly s
+early-count s p due none-there =
+    let here = due-count due in
+    let inside = due-inside due in
+    lacking s (1 ∷ []) (omega arith) (finish-count s (at-the-end due (omega (arith, length-drop (p / 8) s))))
 
--- ---- 1 exactly if the octets end early
-pub early-of : (ending : Ending) (s : List ℕ) → FirstWrong ending s endsEarly → EndsEarly s
-early-of ending s w =
-    let at = w .dueHere in
-    subst EndsEarly (sym (at .is)) (early-at ending (at .before) (w .item) (w .rest) (at .due) (w .wrong))
+some-there : (rest : List ℕ) → 0x80 ≤ getD rest 0 0 → 1 ≤ length rest
+some-there [] high = absurd (omega arith)
+some-there (a ∷ rest) high = omega arith
+
+pub cut-count : (s : List ℕ) (p : Place) → Due s p countOfFields → 0x80 ≤ octetHere s p → octetHere s p < 0xC0
+    → length (octetsFrom s p) < 2 → EndsEarly s
+cut-count s p due high low one =
+    let here = due-count due in
+    let some = some-there (octetsFrom s p) high in
+    inCount p due (omega (arith, length-drop (p / 8) s)) high low
+
+pub early-header : (left : ℕ) (s : List ℕ) (p : Place) → Due s p (header left) → 8 * length s < p + 4 → EndsEarly s
+early-header left s p due cut =
+    let half = due-header left due in
+    let inside = due-inside due in
+    lacking s (0x80 ∷ []) (omega arith) (finish-header left s (finish-fields left) (at-the-end due (omega arith)))
+
+pub early-data : (size left : ℕ) (s : List ℕ) (p : Place) → Due s p (fieldData size left) → 8 * length s < p + 8 * size → EndsEarly s
+early-data size left s p due cut =
+    let edge = due-data size left due in
+    let inside = due-inside due in
+    let lack = size - (length s - p / 8) in
+    lacking s (replicate lack 0) (omega (arith, length-replicate {A = ℕ} lack 0))
+    (finish-data size left s p lack (finish-fields left) due (omega arith))
+
+one-left : (rest : List ℕ) → length rest ≡ 1 → rest ≡ getD rest 0 0 ∷ []
+one-left [] e = absurd (omega arith)
+one-left (a ∷ []) e = refl
+one-left (a ∷ b ∷ rest) e = absurd (omega arith)
+
+-- a data length is missing, or its second octet is: then it is outside the sizes, or its first octet is zero
+pub early-size : (left : ℕ) (s : List ℕ) (p : Place) → Due s p (dataLength left) → 8 * length s < p + 16 → EndsEarly s
+early-size left s p due cut = by (below-or-not p (8 * length s)) (below-or-not 0 (octetHere s p)) where
+  edge : p % 8 ≡ 0
+  edge = due-length left due
+
+  inside : p ≤ 8 * length s
+  inside = due-inside due
+
+  by : (p < 8 * length s) ⊎ (8 * length s ≤ p) → (0 < octetHere s p) ⊎ (octetHere s p ≤ 0) → EndsEarly s
+  by (inr missing) first-octet =
+      lacking s (0 ∷ 0 ∷ []) (omega arith) (finish-length left s (finish-fields left) (at-the-end due (omega (arith, inside))))
+  by (inl begun) (inl large) = inLength p left due (omega (arith, edge)) large
+  by (inl begun) (inr nothing) =
+      let zero-there : octetHere s p ≡ 0 = omega arith in
+      let zeros : octetsFrom (s ++ 0 ∷ []) p ≡ 0 ∷ 0 ∷ [] =
+      from-front s (0 ∷ []) p inside
+      ∙ ap (λ (l : List ℕ). l ++ 0 ∷ [])
+      (one-left (octetsFrom s p) (omega (arith, edge, length-drop (p / 8) s)) ∙ ap (λ (a : ℕ). a ∷ []) zero-there) in
+      lacking s (0 ∷ []) (omega arith)
+      (finish-sized left (s ++ 0 ∷ []) p (finish-fields left) (due-more due (0 ∷ [])) (omega (arith, edge, length-append s (0 ∷ []))) zeros)
+
+-- ---- octets that end early are refused with 1
+count-wrong : (rest : List ℕ) → length rest ≡ 1 → 0x80 ≤ getD rest 0 0 → getD rest 0 0 < 0xC0
+    → first (countRows rest) ≡ some endsEarly
+unfolding countRows lengthRows first
+count-wrong rest one high low =
+    rw (
+      le-ltb (length rest) 1 (omega arith),
+      lt-leb 0xC0 (getD rest 0 0) low,
+      le-leb 0x80 (getD rest 0 0) high,
+      lt-ltb (length rest) 2 (omega arith),
+    )
+
+proper : (ending : Ending) (s more : List ℕ) → 1 ≤ length more
+    → Due s (8 * length (s ++ more)) end ⊎ ((8 * length s < 8 * length (s ++ more)) × FirstWrong ending s endsEarly)
+    → FirstWrong ending s endsEarly
+proper ending s more least (inl due) = absurd (omega (arith, due-inside due, length-append s more))
+proper ending s more least (inr cut) = cut .1
 
 pub of-early : (ending : Ending) (s : List ℕ) → EndsEarly s → FirstWrong ending s endsEarly
-unfolding rows lengthRows first
-of-early ending s (front more least whole) = fronts ending whole s more refl least
-of-early ending s (inCount a at high low) =
+of-early ending s (front more least whole) = proper ending s more least (in-front ending s more whole)
+of-early ending s (inCount p due there high low) =
     record {
       item = countOfFields;
-      rest = a ∷ [];
-      dueHere = at;
-      wrong = rw (lt-leb 0xC0 a low, le-leb 0x80 a high);
+      place = p;
+      due = due;
+      wrong =
+          ap first (count-rows ending s p)
+          ∙ count-wrong (octetsFrom s p) (omega (arith, length-drop (p / 8) s, due-count due)) high low;
     }
-of-early ending s (inLength a left at some-bits) = record { item = dataLength left; rest = a ∷ []; dueHere = at; wrong = refl }
+of-early ending s (inLength p left due there some-bits) =
+    record {
+      item = dataLength left;
+      place = p;
+      due = due;
+      wrong = cut-given ending (dataLength left) s p (stands due) (due-inside due) (omega arith);
+    }

@@ -1,125 +1,91 @@
 -- What the packet reader refuses, of the public call's answer: reading stops at the first wrong item, and each sentence is what that
 -- item's table says. Assumes nothing.
-use Prim.Native.Nat.{ℕ, _≤_, _<_}
+use Prim.Native.Nat.{ℕ, zero, suc, _*_, _/_, _≤_, _<_}
 use mathlib.Core.Path.{_≡_, refl, sym, ap, subst, _∙_}
 use mathlib.Core.Logic.{_↔_, _⊎_, inl, inr, ⊎-elim, _≢_}
-use mathlib.Core.Bool.{Bool, true, false, not}
-use mathlib.Core.List.{List, [], _∷_, _++_, append-assoc, append-nil}
-use mathlib.Core.Option.{Option, none, some}
-use lib.ListN.{length, length-append}
+use mathlib.Core.Bool.{Bool, true, false}
+use mathlib.Core.List.{List, [], _++_}
+use mathlib.Core.Option.{none, some}
+use lib.ListN.{length, length-append, length-drop}
 use native.Mathlib.Omega.{arith}
-use borrow.Author.Tests.{lt-ltb, ltb-true, ltb-false, not-true, not-false}
+use borrow.Author.Tests.{eq-eqb, ne-eqb, eqb-true, eqb-false}
 use Rattle.octets.proofs.Laws.{below-or-not}
 use Rattle.lengths.specs.Refusals.{endsEarly, badForm, outsideSizes, spareBit, notAssigned, wrongData}
 use Rattle.lengths.specs.Refusals as number
+use Rattle.formats.specs.Places.{Place}
 use Rattle.datagrams.specs.Sizes.{packetLimit}
-use Rattle.packets.specs.Packet.{readPacket}
+use Rattle.packets.specs.Packet.{mayFollow}
 use Rattle.packets.specs.Promise.{PacketTold, packetOutcome}
 use Rattle.packets.specs.declared.types.Ending.{Ending}
 use Rattle.packets.specs.declared.types.Ending.the-variants.{Whole, Repaired}
 use Rattle.packets.specs.declared.types.PacketRead.{PacketRead}
 use Rattle.lengths.specs.Tables.{first, refusalIn}
-use Rattle.demands.specs.PacketItems.{Item, firstOctet, end, leftAfter, rows, Packet}
-use Rattle.demands.specs.PacketRefusals.{DueIn, FirstWrong, PacketThen, EndsEarly, NotAssigned, BadForm}
-use Rattle.demands.specs.PacketRefusals.{OutsideSizes, SpareBit, WrongData, PacketRefusals}
-use Rattle.demands.proofs.PacketWalk.{from, packet-walk}
-use Rattle.demands.proofs.PacketRows.{none-given, not-given, no-rows, end-left, only-end}
-use Rattle.demands.proofs.PacketStops.{wrong-first, first-wrong, whole-first, first-whole}
-use Rattle.demands.proofs.PacketFronts.{rows-stay, rows-alike}
-use Rattle.demands.proofs.PacketEarly.{early-of, of-early}
-use Rattle.demands.proofs.PacketPlain.{unassigned-of, of-unassigned, bad-count-of, of-bad-count}
-use Rattle.demands.proofs.PacketExact.{spare-of, of-spare, data-of, of-data, sizes-of, of-sizes}
+use Rattle.demands.specs.PacketItems.{Item, end, rows}
+use Rattle.demands.specs.PacketItems.{octetsFrom, Due, Packet}
+use Rattle.demands.specs.PacketRefusals.{FirstWrong, PacketThen}
+use Rattle.demands.specs.PacketRefusals.{PacketRefusals}
+use Rattle.demands.proofs.PacketRows.{not-both, end-wrong, wrong-end, rows-alike}
+use Rattle.demands.proofs.PacketStops.{refused-wrong, passed-ended}
+use Rattle.demands.proofs.PacketStops as stops
+use Rattle.demands.proofs.PacketPlaces.{due-end, due-inside}
+use Rattle.demands.proofs.PacketMore.{wrong-more}
+use Rattle.demands.proofs.PacketEarly.{of-early}
+use Rattle.demands.proofs.PacketCases.{Case, case-of}
+use Rattle.demands.proofs.PacketExact.{of-spare, of-data, of-unassigned, of-bad-count, of-sizes}
 
 -- ---- the call's answer
 module _ {ending : Ending} {s : List ℕ} {r : PacketRead} (told : PacketTold ending s r) where
   over-limit : packetLimit < length s → refusalIn (packetOutcome r) ≡ some outsideSizes
-  unfolding readPacket
-  over-limit over = ap refusalIn (told .answer) ∙ rw (lt-ltb packetLimit (length s) over)
-
-  walked : length s ≤ packetLimit → refusalIn (packetOutcome r) ≡ from ending firstOctet s
-  walked fits = ap refusalIn (told .answer) ∙ packet-walk ending s fits
+  over-limit over = ap refusalIn (told .answer) ∙ stops.over-limit ending s over
 
   wrong-item : (n : ℕ) → length s ≤ packetLimit → (refusalIn (packetOutcome r) ≡ some n) ↔ FirstWrong ending s n
-  wrong-item n fits = (λ e. first-wrong ending s n (sym (walked fits) ∙ e), λ w. walked fits ∙ wrong-first ending s n w)
+  wrong-item n fits =
+      let same = ap refusalIn (told .answer) in
+      let t = refused-wrong ending s fits n in
+      (λ e. t .0 (sym same ∙ e), λ w. same ∙ t .1 w)
 
-  cut-short : length s ≤ packetLimit → (refusalIn (packetOutcome r) ≡ some endsEarly) ↔ EndsEarly s
-  cut-short fits =
-      (λ e. early-of ending s (wrong-item endsEarly fits .0 e), λ early. wrong-item endsEarly fits .1 (of-early ending s early))
-
-  unassigned : length s ≤ packetLimit → (refusalIn (packetOutcome r) ≡ some notAssigned) ↔ NotAssigned s
-  unassigned fits =
-      (λ e. unassigned-of ending s (wrong-item notAssigned fits .0 e), λ u. wrong-item notAssigned fits .1 (of-unassigned ending s u))
-
-  bad-count : length s ≤ packetLimit → (refusalIn (packetOutcome r) ≡ some badForm) ↔ BadForm s
-  bad-count fits =
-      (λ e. bad-count-of ending s (wrong-item badForm fits .0 e), λ b. wrong-item badForm fits .1 (of-bad-count ending s b))
-
-  outside-sizes : length s ≤ packetLimit → (refusalIn (packetOutcome r) ≡ some outsideSizes) ↔ OutsideSizes s
-  outside-sizes fits =
-      (λ e. sizes-of ending s (wrong-item outsideSizes fits .0 e), λ o. wrong-item outsideSizes fits .1 (of-sizes ending s o))
-
-  spare-set : length s ≤ packetLimit → (refusalIn (packetOutcome r) ≡ some spareBit) ↔ SpareBit s
-  spare-set fits = (λ e. spare-of ending s (wrong-item spareBit fits .0 e), λ p. wrong-item spareBit fits .1 (of-spare ending s p))
-
-  data-wrong : length s ≤ packetLimit → (refusalIn (packetOutcome r) ≡ some wrongData) ↔ WrongData s
-  data-wrong fits = (λ e. data-of ending s (wrong-item wrongData fits .0 e), λ d. wrong-item wrongData fits .1 (of-data ending s d))
+  -- refused with a number exactly in its case, where the case is refused with it
+  exactly : (n : ℕ) → (Case ending s n → FirstWrong ending s n) → length s ≤ packetLimit
+      → (refusalIn (packetOutcome r) ≡ some n) ↔ Case ending s n
+  exactly n back fits = (λ e. case-of ending s n (wrong-item n fits .0 e), λ c. wrong-item n fits .1 (back c))
 
   -- not refused, or refused with 6: a packet, and what follows it
   followed : Bool → Type 0
-  followed left = (rest : List ℕ) × PacketThen s rest × (leftAfter ending rest ≡ left)
+  followed may = (rest : List ℕ) × PacketThen s rest × (mayFollow ending rest ≡ may)
 
-  not-refused : length s ≤ packetLimit → (refusalIn (packetOutcome r) ≡ none) ↔ followed false
-  unfolding rows followed
-  not-refused fits = (
-    λ e.
-        let w = first-whole ending s (sym (walked fits) ∙ e) in
-        (w .rest, w .packet, none-given (leftAfter ending (w .rest)) number.leftOver _ (w .ends) .0),
-    λ w.
-        walked fits
-        ∙ whole-first ending s
-        (record { rest = w .0; packet = w .1; ends = not-given (leftAfter ending (w .0)) number.leftOver [] (w .2) no-rows }),
-  )
+  there : (rest : List ℕ) (t : PacketThen s rest) (may : Bool) → mayFollow ending rest ≡ may
+      → mayFollow ending (octetsFrom s (t .place)) ≡ may
+  there rest t may e = ap (λ (l : List ℕ). mayFollow ending l) (sym (t .is)) ∙ e
 
-  left-over : length s ≤ packetLimit → (refusalIn (packetOutcome r) ≡ some number.leftOver) ↔ followed true
-  unfolding rows followed first
+  not-refused : length s ≤ packetLimit → (refusalIn (packetOutcome r) ≡ none) ↔ followed true
+  unfolding followed
+  not-refused fits =
+      let same = ap refusalIn (told .answer) in
+      let t = passed-ended ending s fits in (
+        λ e.
+            let w = t .0 (sym same ∙ e) in
+            (octetsFrom s (w .place), record { place = w .place; due = w .due; is = refl }, w .follows),
+        λ w. same ∙ t .1 (record { place = w .1 .place; due = w .1 .due; follows = there (w .0) (w .1) true (w .2) }),
+      )
+
+  left-over : length s ≤ packetLimit → (refusalIn (packetOutcome r) ≡ some number.leftOver) ↔ followed false
+  unfolding followed
   left-over fits = (
-    λ e. at-end (wrong-item number.leftOver fits .0 e),
+    λ e.
+        let l = case-of ending s number.leftOver (wrong-item number.leftOver fits .0 e) in
+        (octetsFrom s (l .place), record { place = l .place; due = l .due; is = refl }, l .left),
     λ w.
+        let p = w .1 .place in
         wrong-item number.leftOver fits .1
-        (record { item = end; rest = w .0; dueHere = w .1; wrong = rw (w .2) }),
-  ) where
-    at-end : FirstWrong ending s number.leftOver → followed true
-    at-end w =
-        let is-end = only-end ending (w .item) (w .rest) (w .wrong) in
-        let left : first (rows ending end (w .rest)) ≡ some number.leftOver
-        = ap (λ (i : Item). first (rows ending i (w .rest))) (sym is-end) ∙ w .wrong in (
-          w .rest,
-          subst (λ (i : Item). DueIn s i (w .rest)) is-end (w .dueHere),
-          end-left ending (w .rest) number.leftOver left .0,
-        )
+        (record { item = end; place = p; due = w .1 .due; wrong = wrong-end ending s p (there (w .0) (w .1) false (w .2)) }),
+  )
 
 -- ---- two calls
 stays : {ending : Ending} {s : List ℕ} (more : List ℕ) {r t : PacketRead} {n : ℕ} → PacketTold ending s r → PacketTold ending (s ++ more) t
     → length (s ++ more) ≤ packetLimit → refusalIn (packetOutcome r) ≡ some n → n ≢ endsEarly → refusalIn (packetOutcome t) ≡ some n
 stays {ending} {s} more {r} {t} {n} told longer fits e apart =
     let long = length-append s more in
-    let w = wrong-item told n (omega arith) .0 e in
-    let at = w .dueHere in
-    wrong-item longer n fits .1
-    (record {
-      item = w .item;
-      rest = w .rest ++ more;
-      dueHere =
-          record {
-            before = at .before;
-            is = ap (λ (l : List ℕ). l ++ more) (at .is) ∙ append-assoc (at .before) (w .rest) more;
-            due = at .due;
-          };
-      wrong = rows-stay ending (w .item) (w .rest) more n (λ same. apart (sym same)) (w .wrong);
-    })
-
-not-both : {n : ℕ} {o : Option ℕ} → o ≡ none → o ≡ some n → ⊥
-not-both p q = let z : _≡_ {A = ℕ} 0 1 = cc in omega arith
+    wrong-item longer n fits .1 (wrong-more ending s more n apart (wrong-item told n (omega arith) .0 e))
 
 never : {ending : Ending} {s : List ℕ} (more : List ℕ) {r t : PacketRead} {n : ℕ} → PacketTold ending s r → PacketTold ending (s ++ more) t
     → refusalIn (packetOutcome r) ≡ some n → n ≢ endsEarly → refusalIn (packetOutcome t) ≡ none → ⊥
@@ -131,6 +97,13 @@ never {s = s} more told longer e apart reads =
 other-way : (one other : Ending) {s : List ℕ} {r t : PacketRead} {n : ℕ} → PacketTold one s r → PacketTold other s t → n ≢ number.leftOver
     → refusalIn (packetOutcome r) ≡ some n → refusalIn (packetOutcome t) ≡ some n
 other-way one other {s} {r} {t} {n} told again apart e = by (below-or-not packetLimit (length s)) where
+  same : (w : FirstWrong one s n) → (w .item ≡ end) ⊎ (rows one (w .item) s (w .place) ≡ rows other (w .item) s (w .place))
+      → first (rows other (w .item) s (w .place)) ≡ some n
+  same w (inl is-end) =
+      let at-end = ap (λ (i : Item). first (rows one i s (w .place))) (sym is-end) ∙ w .wrong in
+      absurd (apart (sym (end-wrong one s (w .place) n at-end .1)))
+  same w (inr alike) = ap first (sym alike) ∙ w .wrong
+
   by : (packetLimit < length s) ⊎ (length s ≤ packetLimit) → refusalIn (packetOutcome t) ≡ some n
   by (inl over) = over-limit again over ∙ sym (over-limit told over) ∙ e
   by (inr fits) =
@@ -138,22 +111,34 @@ other-way one other {s} {r} {t} {n} told again apart e = by (below-or-not packet
       wrong-item again n fits .1
       (record {
         item = w .item;
-        rest = w .rest;
-        dueHere = w .dueHere;
-        wrong = rows-alike one other (w .item) (w .rest) n (λ same. apart (sym same)) (w .wrong);
+        place = w .place;
+        due = w .due;
+        wrong = same w (rows-alike one other (w .item) s (w .place));
       })
 
 -- ---- as received, nothing follows
-none-left : (s rest : List ℕ) → PacketThen s rest → length rest ≤ 0 → Packet s
-none-left s [] p e = subst Packet (sym (p .is ∙ append-nil (p .before))) (p .due)
-none-left s (x ∷ rest) p e = absurd (omega arith)
+nothing-left : (s : List ℕ) (p : Place) → Due s p end → length (octetsFrom s p) ≡ 0 → Packet s
+nothing-left s p due none-there =
+    let inside = due-inside due in
+    let edge = due-end due in
+    subst (λ (q : Place). Due s q end) (omega (arith, length-drop (p / 8) s)) due
 
 received : {s : List ℕ} {r : PacketRead} → PacketTold Whole s r → length s ≤ packetLimit → (refusalIn (packetOutcome r) ≡ none) ↔ Packet s
 unfolding followed
 received {s} told fits = (
-  λ e. let w = not-refused told fits .0 e in none-left s (w .0) (w .1) (ltb-false 0 (length (w .0)) (w .2)),
-  λ whole. not-refused told fits .1 ([], record { before = s; is = sym (append-nil s); due = whole }, refl),
+  λ e.
+      let w = not-refused told fits .0 e in
+      let p = w .1 .place in
+      nothing-left s p (w .1 .due) (sym (ap length (w .1 .is)) ∙ eqb-true (length (w .0)) 0 (w .2)),
+  λ whole.
+      let nothing : length (octetsFrom s (8 * length s)) ≡ 0 = omega (arith, length-drop (8 * length s / 8) s) in
+      not-refused told fits .1
+      (octetsFrom s (8 * length s), record { place = 8 * length s; due = whole; is = refl }, eq-eqb _ 0 nothing),
 )
+
+positive : (n : ℕ) → (n ≡ 0 → ⊥) → 1 ≤ n
+positive zero apart = absurd (apart refl)
+positive (suc n) apart = omega arith
 
 pub packet-refusals : PacketRefusals
 unfolding followed
@@ -162,24 +147,20 @@ packet-refusals =
       overLimit = over-limit;
       firstWrong = λ n told fits. wrong-item told n fits;
       received = received;
-      repaired = λ told fits. (
-        λ e. let w = not-refused told fits .0 e in (w .0, w .1, not-false _ (w .2)),
-        λ w. not-refused told fits .1 (w .0, w .1, ap not (w .2)),
-      );
+      repaired = λ told fits. not-refused told fits;
       leftOver = λ told fits. (
-        λ e. let w = left-over told fits .0 e in (w .0, w .1, ltb-true 0 (length (w .0)) (w .2)),
-        λ w. left-over told fits .1 (w .0, w .1, lt-ltb 0 (length (w .0)) (w .2)),
+        λ e.
+            let w = left-over told fits .0 e in
+            (w .0, w .1, positive (length (w .0)) (eqb-false (length (w .0)) 0 (w .2))),
+        λ w. left-over told fits .1 (w .0, w .1, ne-eqb (length (w .0)) 0 (λ same. omega (arith, w .2))),
       );
-      leftOverRepaired = λ told fits. (
-        λ e. let w = left-over told fits .0 e in (w .0, w .1, not-true _ (w .2)),
-        λ w. left-over told fits .1 (w .0, w .1, ap not (w .2)),
-      );
-      endsEarly = λ ending s r told. cut-short told;
-      badForm = λ ending s r told. bad-count told;
-      outsideSizes = λ ending s r told. outside-sizes told;
-      spareBit = λ ending s r told. spare-set told;
-      notAssigned = λ ending s r told. unassigned told;
-      wrongData = λ ending s r told. data-wrong told;
+      leftOverRepaired = λ told fits. left-over told fits;
+      endsEarly = λ ending s r told. exactly told endsEarly (of-early ending s);
+      badForm = λ ending s r told. exactly told badForm (of-bad-count ending s);
+      outsideSizes = λ ending s r told. exactly told outsideSizes (of-sizes ending s);
+      spareBit = λ ending s r told. exactly told spareBit (of-spare ending s);
+      notAssigned = λ ending s r told. exactly told notAssigned (of-unassigned ending s);
+      wrongData = λ ending s r told. exactly told wrongData (of-data ending s);
       never = never;
       stays = stays;
       eitherWay = λ told again apart. (other-way Whole Repaired told again apart, other-way Repaired Whole again told apart);

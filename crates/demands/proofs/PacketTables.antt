@@ -1,26 +1,27 @@
 -- Each item's reader of a packet is its table: it refuses with the first row that is given, or is done. Assumes nothing.
-use Prim.Native.Nat.{ℕ, zero, suc, _+_, _-_, _/_, _%_, _≤_, _<_}
+use Prim.Native.Nat.{ℕ, _+_, _-_, _*_, _/_, _%_, _<_}
 use mathlib.Core.Path.{_≡_, refl, sym, ap, _∙_}
 use mathlib.Core.Bool.{Bool, true, false, not, cond, _&&_}
 use mathlib.Core.List.{List, [], _∷_}
 use mathlib.Core.Option.{Option, none, some}
 use lib.ListN.{length, getD, drop, length-drop}
-use lib.Seq.{getD-drop}
 use lib.Dec.{leb, ltb}
 use native.Mathlib.Omega.{arith}
-use borrow.Author.Tests.{lt-ltb, le-ltb, le-leb, lt-leb, ltb-true, ltb-false, leb-true, leb-false, ne-eqb}
+use borrow.Author.Tests.{lt-ltb, le-leb, lt-leb, ltb-true, ltb-false}
 use Rattle.lengths.specs.Refusals.{endsEarly, badForm, outsideSizes, spareBit, leftOver, notAssigned, wrongData}
-use Rattle.lengths.specs.Answers.{Answer, done, refuse, _>>=_, LengthAnswer}
-use Rattle.lengths.specs.Length.{lengthAt, ofTwo}
-use Rattle.datagrams.specs.Sizes.{packetLimit}
-use Rattle.packets.specs.Packet.{every, fieldsLimit, assigned, rightFields, rightData, allZero, mayFollow}
-use Rattle.packets.specs.Inner.Octets.{Place, isSet, firstOf, headerOf, firstAt, Count, countIn, HeaderAnswer, headerAt, sizeAt, endAt}
-use Rattle.packets.specs.declared.types.Ending.{Ending}
-use Rattle.packets.specs.declared.types.Ending.the-variants.{Whole, Repaired}
+use Rattle.lengths.specs.Answers.{Answer, done, refused, refuse, _>>=_, LengthAnswer}
+use Rattle.lengths.specs.Length.{lengthAt, lengthWithin, allowed, within, ofTwo}
 use Rattle.lengths.specs.Tables.{when, first}
+use Rattle.formats.specs.Spelling.{gap}
+use Rattle.formats.specs.Places.{Place, bitsAt, edge, edgeAt}
+use Rattle.datagrams.specs.Sizes.{packetLimit}
+use Rattle.packets.specs.Packet.{fieldsLeast, fieldsLimit, assigned, rightFields, mayFollow}
+use Rattle.packets.specs.Inner.Octets.{isSet, firstOf, headerWidth, firstAt, Count, countAt, HeaderAnswer, headerAt, sizeAt}
+use Rattle.packets.specs.declared.types.Ending.{Ending}
 use Rattle.demands.specs.Refusals.{lengthRows}
-use Rattle.demands.specs.PacketItems.{firstOctet, countOfFields, header, dataLength, fieldData, end}
-use Rattle.demands.specs.PacketItems.{lets, may, dataRule, dataFits, dataSize, leftAfter, rows}
+use Rattle.demands.specs.PacketItems.{Item, firstOctet, countOfFields, header, padding, dataLength, fieldData, end, rows}
+use Rattle.demands.specs.PacketItems.{octetHere, headerIn, dataFits, dataSize}
+use Rattle.demands.proofs.PacketBits.{padding-bits}
 
 -- ---- a table as an answer
 -- refused with the number that a table gives, or done
@@ -28,10 +29,10 @@ abbrev pub answered : {A : Type 0} → Option ℕ → A → Answer A
 answered (some n) x = refuse n
 answered none x = done x
 
--- the first number of two
-abbrev pub onward : Option ℕ → Option ℕ → Option ℕ
-onward (some n) next = some n
-onward none next = next
+pub bind-assoc : {A B C : Type 0} (m : Answer A) (f : A → Answer B) (g : B → Answer C)
+    → _>>=_ (_>>=_ m f) g ≡ _>>=_ m (λ a. _>>=_ (f a) g)
+bind-assoc (done a) f g = refl
+bind-assoc (refused r) f g = refl
 
 module _ {A : Type 0} where
   -- a test that refuses, and one that must be met
@@ -41,141 +42,148 @@ module _ {A : Type 0} where
   refuses true n m table x e = refl
   refuses false n m table x e = e
 
+  refuses-last : (b : Bool) (n : ℕ) (x : A) → cond b (refuse n) (done x) ≡ answered (first (when b n ∷ [])) x
+  unfolding first
+  refuses-last true n x = refl
+  refuses-last false n x = refl
+
   must : (b : Bool) (n : ℕ) (x : A) → cond b (done x) (refuse n) ≡ answered (first (when (not b) n ∷ [])) x
   unfolding first
   must true n x = refl
   must false n x = refl
 
+then-if : {A B : Type 0} (b : Bool) (n : ℕ) (x : A) (next : A → Answer B)
+    → _>>=_ (cond b (done x) (refuse n)) next ≡ cond b (next x) (refuse n)
+then-if true n x next = refl
+then-if false n x next = refl
+
+-- two tests that say the same
+same-test : (a b c d : ℕ) → (a < b → c < d) → (c < d → a < b) → ltb a b ≡ ltb c d
+same-test a b c d there back = by (ltb c d) refl where
+  by : (t : Bool) → ltb c d ≡ t → ltb a b ≡ t
+  by true e = lt-ltb a b (back (ltb-true c d e))
+  by false e = over (ltb a b) refl where
+    over : (t : Bool) → ltb a b ≡ t → ltb a b ≡ false
+    over true f = let low = there (ltb-true a b f) in absurd (omega (arith, ltb-false c d e))
+    over false f = f
+
 -- ---- each item's reader is its table
-pub first-table : (ending : Ending) (s : List ℕ) → firstAt s ≡ answered (first (rows ending firstOctet s)) (firstOf (getD s 0 0))
+pub first-table : (ending : Ending) (s : List ℕ) → firstAt s ≡ answered (first (rows ending firstOctet s 0)) (firstOf (getD s 0 0))
 unfolding firstAt rows
 first-table ending s =
     let o = getD s 0 0 in
     let f = firstOf (getD s 0 0) in
-    refuses (ltb (length s) 1) endsEarly _ _ f
+    let short : ltb (8 * length s) 8 ≡ ltb (length s) 1 = same-test (8 * length s) 8 (length s) 1 (λ l. omega arith) (λ l. omega arith) in
+    rw short
+    (refuses (ltb (length s) 1) endsEarly _ _ f
     (refuses (isSet 5 o) notAssigned _ _ f
     (refuses (leb (assigned (f .kind)) (f .value)) notAssigned _ _ f
     (refuses (ltb 0 (o % 2)) spareBit _ _ f
-    (must (rightFields (f .kind) (f .present)) wrongData f))))
+    (must (rightFields (f .kind) (f .present)) wrongData f)))))
 
--- "Types 1 to 5 carry no data, 0 and 6 always do, 7 may"
-data-rule : (kind : ℕ) (present : Bool) → kind < 8 → rightData kind present ≡ lets (getD dataRule kind may) present
-data-rule zero present low = refl
-data-rule (suc zero) present low = refl
-data-rule (suc (suc zero)) present low = refl
-data-rule (suc (suc (suc zero))) present low = refl
-data-rule (suc (suc (suc (suc zero)))) present low = refl
-data-rule (suc (suc (suc (suc (suc zero))))) present low = refl
-data-rule (suc (suc (suc (suc (suc (suc zero)))))) present low = refl
-data-rule (suc (suc (suc (suc (suc (suc (suc zero))))))) present low = refl
-data-rule (suc (suc (suc (suc (suc (suc (suc (suc k)))))))) present low = absurd (omega arith)
-
-pub spare-before-data : (ending : Ending) (left : ℕ) (s : List ℕ) (at : Place)
-    → headerAt s at
-    ≡ answered (first (rows ending (header left) (drop at s))) (record { header = headerOf (getD s at 0 / 16); next = at + 1 })
+pub header-table : (ending : Ending) (left : ℕ) (s : List ℕ) (p : Place)
+    → headerAt s p ≡ answered (first (rows ending (header left) s p)) (record { header = headerIn s p; next = p + headerWidth })
 unfolding headerAt rows
-spare-before-data ending left s at =
-    let here : getD (drop at s) 0 0 ≡ getD s at 0 = getD-drop at s 0 0 ∙ ap (λ (i : ℕ). getD s i 0) (nothing at) in
-    let low : getD s at 0 / 16 % 8 < 8 = omega arith in
-    let h = headerOf (getD s at 0 / 16) in
-    let told : HeaderAnswer = record { header = headerOf (getD s at 0 / 16); next = at + 1 } in
-    rw (here, short s at)
-    (refuses (leb (length s) at) endsEarly _ _ told
-    (refuses (ltb 0 (getD s at 0 % 16)) spareBit _ _ told
-    (ap (λ (b : Bool). cond b (done told) (refuse wrongData)) (data-rule (h .kind) (h .present) low)
-    ∙ must (dataFits (getD s at 0)) wrongData told))) where
-      nothing : (i : ℕ) → i + 0 ≡ i
-      nothing i = omega arith
+header-table ending left s p =
+    let read : HeaderAnswer = record { header = headerIn s p; next = p + headerWidth } in
+    refuses (ltb (8 * length s) (p + headerWidth)) endsEarly _ _ read (must (dataFits s p) wrongData read)
 
-      short : (l : List ℕ) (i : ℕ) → ltb (length (drop i l)) 1 ≡ leb (length l) i
-      short l i = by (leb (length l) i) refl where
-        by : (b : Bool) → leb (length l) i ≡ b → ltb (length (drop i l)) 1 ≡ b
-        by true e = lt-ltb (length (drop i l)) 1 (omega (arith, leb-true (length l) i e, length-drop i l))
-        by false e = le-ltb (length (drop i l)) 1 (omega (arith, leb-false (length l) i e, length-drop i l))
+pub padding-table : (ending : Ending) (next : Item) (s : List ℕ) (p : Place)
+    → edgeAt s p ≡ answered (first (rows ending (padding next) s p)) (edge p)
+unfolding edgeAt rows
+padding-table ending next s p =
+    ap (λ (b : ℕ). cond (ltb 0 b) (refuse spareBit) (done (edge p))) (sym (padding-bits s p))
+    ∙ refuses-last (ltb 0 (bitsAt (gap p) s p)) spareBit (edge p)
 
 -- the count: in one octet its value is that octet; in two it is over its limit, and so is its first octet
-count-tests : (b₁ b₂ b₃ b₄ b₅ c₁ c₂ d : Bool) (x y : LengthAnswer) (z : Count) → (b₂ ≡ true → (b₃ ≡ false) × (d ≡ false))
-    → (b₂ ≡ false → d ≡ true) → countIn x ≡ cond c₁ (refuse outsideSizes) (cond c₂ (refuse outsideSizes) (done z))
-    → (b₂ ≡ false → b₅ ≡ false → (countIn y ≡ refuse outsideSizes) × (c₁ ≡ false) × (c₂ ≡ true))
+count-tests : (b₁ b₂ b₃ b₄ b₅ c d : Bool) (x y : LengthAnswer) (z : Count) (next : LengthAnswer → Answer Count)
+    → (b₂ ≡ true → (b₃ ≡ false) × (d ≡ false)) → (b₂ ≡ false → d ≡ true) → next x ≡ cond c (done z) (refuse outsideSizes)
+    → (b₂ ≡ false → b₅ ≡ false → (next y ≡ refuse outsideSizes) × (c ≡ false))
     → _>>=_
     (cond b₁ (refuse endsEarly)
     (cond b₂ (done x) (cond b₃ (refuse badForm) (cond b₄ (refuse endsEarly) (cond b₅ (refuse badForm) (done y))))))
-    countIn
+    next
     ≡ answered
     (first
-    (when b₁ endsEarly ∷ when b₃ badForm ∷ when (d && b₄) endsEarly ∷ when (d && b₅) badForm
-    ∷ when c₁ outsideSizes ∷ when c₂ outsideSizes ∷ []))
+    (when b₁ endsEarly ∷ when b₃ badForm ∷ when (d && b₄) endsEarly ∷ when (d && b₅) badForm ∷ when (not c) outsideSizes ∷ []))
     z
 unfolding first
-count-tests true b₂ b₃ b₄ b₅ c₁ c₂ d x y z low high one two = refl
-count-tests false true b₃ b₄ b₅ true c₂ d x y z low high one two = one ∙ rw (low refl .0, low refl .1)
-count-tests false true b₃ b₄ b₅ false true d x y z low high one two = one ∙ rw (low refl .0, low refl .1)
-count-tests false true b₃ b₄ b₅ false false d x y z low high one two = one ∙ rw (low refl .0, low refl .1)
-count-tests false false true b₄ b₅ c₁ c₂ d x y z low high one two = refl
-count-tests false false false true b₅ c₁ c₂ d x y z low high one two = rw (high refl)
-count-tests false false false false true c₁ c₂ d x y z low high one two = rw (high refl)
-count-tests false false false false false c₁ c₂ d x y z low high one two =
+count-tests true b₂ b₃ b₄ b₅ c d x y z next low high one two = refl
+count-tests false true b₃ b₄ b₅ true d x y z next low high one two = one ∙ rw (low refl .0, low refl .1)
+count-tests false true b₃ b₄ b₅ false d x y z next low high one two = one ∙ rw (low refl .0, low refl .1)
+count-tests false false true b₄ b₅ c d x y z next low high one two = refl
+count-tests false false false true b₅ c d x y z next low high one two = rw (high refl)
+count-tests false false false false true c d x y z next low high one two = rw (high refl)
+count-tests false false false false false c d x y z next low high one two =
     let over = two refl refl in
-    over .0 ∙ rw (high refl, over .1, over .2)
+    over .0 ∙ rw (high refl, over .1)
 
-over-limit : (v n : ℕ) → 0x80 ≤ v → countIn (record { value = v; size = n }) ≡ refuse outsideSizes
-over-limit v n large = rw (le-ltb v 1 (omega arith), lt-ltb fieldsLimit v (omega arith))
+-- what is made of a length: a count, if it is 1 to 16
+counted : LengthAnswer → Answer Count
+counted l = _>>=_ (allowed fieldsLeast fieldsLimit l) (λ n. done (record { value = n .value; next = 8 * (1 + n .size) }))
 
-pub count-table : (ending : Ending) (rest : List ℕ)
-    → _>>=_ (lengthAt rest) countIn
-    ≡ answered (first (rows ending countOfFields rest)) (record { value = getD rest 0 0; next = 2 })
-unfolding lengthAt rows lengthRows
-count-table ending rest =
-    let o = getD rest 0 0 in
-    let v = ofTwo (getD rest 0 0) (getD rest 1 0) in
-    count-tests (ltb (length rest) 1) (ltb o 0x80) (leb 0xC0 o) (ltb (length rest) 2) (ltb v 0x80) (ltb o 1) (ltb fieldsLimit o)
-    (leb 0x80 o) (record { value = o; size = 1 }) (record { value = v; size = 2 }) (record { value = o; next = 2 })
+count-made : (v n : ℕ)
+    → counted (record { value = v; size = n })
+    ≡ cond (within fieldsLeast fieldsLimit v) (done (record { value = v; next = 8 * (1 + n) })) (refuse outsideSizes)
+unfolding counted allowed
+count-made v n =
+    let l : LengthAnswer = record { value = v; size = n } in
+    then-if (within fieldsLeast fieldsLimit v) outsideSizes l (λ n. done (record { value = n .value; next = 8 * (1 + n .size) }))
+
+over-limit : (v : ℕ) → fieldsLimit < v → within fieldsLeast fieldsLimit v ≡ false
+over-limit v large = rw (lt-leb v fieldsLimit large, le-leb fieldsLeast v (omega arith))
+
+pub count-table : (ending : Ending) (s : List ℕ)
+    → countAt s true ≡ answered (first (rows ending countOfFields s 8)) (record { value = octetHere s 8; next = 16 })
+unfolding countAt lengthWithin lengthAt rows lengthRows counted
+count-table ending s =
+    let rest = drop 1 s in
+    let o = getD (drop 1 s) 0 0 in
+    let v = ofTwo (getD (drop 1 s) 0 0) (getD (drop 1 s) 1 0) in
+    bind-assoc (lengthAt rest) (allowed fieldsLeast fieldsLimit) _
+    ∙ count-tests (ltb (length rest) 1) (ltb o 0x80) (leb 0xC0 o) (ltb (length rest) 2) (ltb v 0x80) (within fieldsLeast fieldsLimit o)
+    (leb 0x80 o) (record { value = o; size = 1 }) (record { value = v; size = 2 }) (record { value = o; next = 16 }) counted
     (λ e. let small = ltb-true o 0x80 e in (lt-leb 0xC0 o (omega arith), lt-leb 0x80 o (omega arith)))
     (λ e. le-leb 0x80 o (ltb-false o 0x80 e))
-    refl
+    (count-made o 1)
     (λ e large.
-    let big = ltb-false o 0x80 e in (
-      over-limit v 2 (ltb-false v 0x80 large),
-      le-ltb o 1 (omega arith),
-      lt-ltb fieldsLimit o (omega arith),
-    ))
+    let big = ltb-false o 0x80 e in
+    let over = ltb-false v 0x80 large in
+    (count-made v 2 ∙ rw (over-limit v (omega arith)), over-limit o (omega arith)))
 
 -- a data length, then the data
-size-tests : (b₁ b₂ b₃ : Bool) (n : ℕ)
+size-tests : (b₁ b₂ b₃ : Bool) (n : ℕ) (missing : ℕ → Option ℕ) → first (when b₃ endsEarly ∷ []) ≡ missing n
     → cond b₁ (refuse endsEarly) (cond b₂ (refuse outsideSizes) (cond b₃ (refuse endsEarly) (done n)))
-    ≡ answered (onward (first (when b₁ endsEarly ∷ when b₂ outsideSizes ∷ [])) (first (when b₃ endsEarly ∷ []))) n
+    ≡ _>>=_ (answered (first (when b₁ endsEarly ∷ when b₂ outsideSizes ∷ [])) n) (λ n. answered (missing n) n)
 unfolding first
-size-tests true b₂ b₃ n = refl
-size-tests false true b₃ n = refl
-size-tests false false true n = refl
-size-tests false false false n = refl
+size-tests true b₂ b₃ n missing e = refl
+size-tests false true b₃ n missing e = refl
+size-tests false false true n missing e = ap (λ (o : Option ℕ). answered o n) e
+size-tests false false false n missing e = ap (λ (o : Option ℕ). answered o n) e
 
-pub size-table : (ending : Ending) (left : ℕ) (rest : List ℕ)
-    → sizeAt rest
-    ≡ answered (onward (first (rows ending (dataLength left) rest)) (first (rows ending (fieldData (dataSize rest) left) (drop 2 rest))))
-    (dataSize rest)
+pub size-table : (ending : Ending) (left : ℕ) (s : List ℕ) (at : ℕ)
+    → sizeAt (drop at s)
+    ≡ _>>=_ (answered (first (rows ending (dataLength left) s (8 * at))) (dataSize s (8 * at)))
+    (λ n. answered (first (rows ending (fieldData n left) s (8 * at + 16))) n)
 unfolding sizeAt rows
-size-table ending left rest =
-    rw (length-drop 2 rest)
-    (size-tests (ltb (length rest) 2) (ltb packetLimit (dataSize rest)) (ltb (length rest - 2) (dataSize rest)) (dataSize rest))
+size-table ending left s at =
+    let edge-at : 8 * at / 8 ≡ at = omega arith in
+    let rest = drop at s in
+    let n = getD (drop at s) 0 0 * 256 + getD (drop at s) 1 0 + 1 in
+    let long = length-drop at s in
+    let two : ltb (8 * length s) (8 * at + 16) ≡ ltb (length rest) 2 =
+    same-test (8 * length s) (8 * at + 16) (length rest) 2 (λ l. omega arith) (λ l. omega arith) in
+    let all : ltb (length rest - 2) n ≡ ltb (8 * length s) (8 * at + 16 + 8 * n) =
+    same-test (length rest - 2) n (8 * length s) (8 * at + 16 + 8 * n) (λ l. omega arith) (λ l. omega arith) in
+    rw (edge-at, two)
+    (size-tests (ltb (length rest) 2) (ltb packetLimit n) (ltb (length rest - 2) n) n
+    (λ n. first (rows ending (fieldData n left) s (8 * at + 16)))
+    (ap (λ (b : Bool). first (when b endsEarly ∷ [])) all))
 
 -- what may follow the last field
-not-not : (b : Bool) → b ≡ not (not b)
-not-not true = refl
-not-not false = refl
-
-what-follows : (ending : Ending) (rest : List ℕ) → mayFollow ending rest ≡ not (leftAfter ending rest)
-unfolding every
-what-follows Whole [] = refl
-what-follows Whole (x ∷ rest) =
-    ne-eqb (suc (length rest)) 0 (λ e. omega arith) ∙ ap not (sym (lt-ltb 0 (suc (length rest)) (omega arith)))
-what-follows Repaired rest = not-not (allZero rest)
-
-pub end-table : {A : Type 0} (ending : Ending) (s : List ℕ) (at : Place) (a : A)
-    → endAt ending s at a ≡ answered (first (rows ending end (drop at s))) a
-unfolding endAt rows
+pub end-table : {A : Type 0} (ending : Ending) (s : List ℕ) (at : ℕ) (a : A)
+    → cond (mayFollow ending (drop at s)) (done a) (refuse leftOver) ≡ answered (first (rows ending end s (8 * at))) a
+unfolding rows
 end-table ending s at a =
-    let rest = drop at s in
-    ap (λ (b : Bool). cond b (done a) (refuse leftOver)) (what-follows ending rest)
-    ∙ must (not (leftAfter ending rest)) leftOver a
-    ∙ ap (λ (b : Bool). answered (first (when b leftOver ∷ [])) a) (sym (not-not (leftAfter ending rest)))
+    let edge-at : 8 * at / 8 ≡ at = omega arith in
+    rw edge-at (must (mayFollow ending (drop at s)) leftOver a)

@@ -21,8 +21,6 @@ use Rattle.datagrams.specs.Claims.{lengthsOf, runOf}
 use Rattle.datagrams.proofs.Claims as datagrams
 use Rattle.packets.specs.Packet.{allData, readPacket}
 use Rattle.packets.specs.declared.types.Ending.the-variants.{Whole, Repaired}
-use Rattle.packets.proofs.Laws.{packet-form}
-use Rattle.packets.proofs.Laws.{read-at}
 use Rattle.packets.proofs.Claims as packet-claims
 use Rattle.demands.specs.Refusals.{lengthRows}
 use Rattle.demands.specs.Demand1.{IsDatagram, IsPacket, IsRepaired, Readers}
@@ -94,14 +92,13 @@ is-packet s octets = (
 is-repaired : (s : List ℕ) → Octets s → (refusalIn (readPacket Repaired s) ≡ none) ↔ IsRepaired s
 is-repaired s octets = (
   λ e.
-      let p = done-none (readPacket Repaired s) e in
-      let f = repaired-front s (p .0) (p .1) in
+      let f = repaired-front s e in
       record {
         packet = f .front;
         zeros = f .zeros;
         is = f .is;
-        fits = packet-form Repaired s (p .0) (sym (read-at Repaired s) ∙ p .1) .fits;
-        written = is-packet (f .front) (f .octets octets) .0 (ap refusalIn (f .reads));
+        fits = f .fits;
+        written = is-packet (f .front) (f .octets octets) .0 (f .reads);
       },
   λ is.
       let w = is .written in

@@ -9,7 +9,7 @@ use Rattle.demands.specs.Example.{Example}
 use Rattle.demands.specs.Burst.{Burst}
 use Rattle.demands.specs.NotInside.{NotInside}
 use Rattle.demands.specs.OneOutcome.{OneOutcome}
-use Rattle.demands.specs.Sheet.{TwelveCases}
+use Rattle.demands.specs.Sheet.{TwelveCases, MendedExample}
 use Rattle.demands.specs.Program.{Program}
 
 pub record Claims : Type 0 where
@@ -25,6 +25,8 @@ pub record Claims : Type 0 where
   pub notInside : NotInside
   pub oneOutcome : OneOutcome
   pub twelveCases : TwelveCases
+  -- document 02, request 2, headers packed
+  pub mendedExample : MendedExample
   -- the program: document 01's whole case, and what it writes of any input, however it is cut
   pub program : Program
   -- document 02, request 1, whole frames: the honest line, never 17; and what left a session, fed to a joiner

@@ -5,14 +5,17 @@ use Prim.Native.Nat.{ℕ, _+_, _*_, _%_, _≤_, _<_}
 use mathlib.Core.Path.{_≡_}
 use mathlib.Core.Logic.{_↔_, _≢_}
 use mathlib.Core.Bool.{true, false, _||_}
-use mathlib.Core.List.{List, [], _∷_, _++_}
+use mathlib.Core.List.{List, _++_}
 use mathlib.Core.Option.{none, some}
 use lib.ListN.{length}
 use lib.Dec.{leb}
 use Rattle.lengths.specs.Refusals as number
+use Rattle.lengths.specs.Length.{within}
+use Rattle.formats.specs.Spelling.{gap}
+use Rattle.formats.specs.Places.{Place, bitsAt}
 use Rattle.datagrams.specs.Sizes.{packetLimit}
-use Rattle.packets.specs.Packet.{fieldsLimit, assigned, allZero}
-use Rattle.packets.specs.Inner.Octets.{kindOf}
+use Rattle.packets.specs.Packet.{fieldsLeast, fieldsLimit, assigned, allZero}
+use Rattle.packets.specs.Inner.Octets.{kindOf, headerWidth}
 use Rattle.packets.specs.Promise.{PacketTold, packetOutcome}
 use Rattle.packets.specs.declared.types.Kind.the-variants.{Indicator}
 use Rattle.packets.specs.declared.types.Ending.{Ending}
@@ -20,25 +23,21 @@ use Rattle.packets.specs.declared.types.Ending.the-variants.{Whole, Repaired}
 use Rattle.packets.specs.declared.types.PacketRead.{PacketRead}
 use Rattle.lengths.specs.Tables.{first, refusalIn}
 use Rattle.demands.specs.Refusals.{lengthRows}
-use Rattle.demands.specs.PacketItems.{Item, countOfFields, header, dataLength, end, Due, Packet, rows}
-use Rattle.demands.specs.PacketItems.{octetOf, hasFields, extension, valueIn, RightFirst, dataFits}
-
--- all items before this one are as they must be, and from it on these octets are left
-pub record DueIn (s : List ℕ) (item : Item) (rest : List ℕ) : Type 0 where
-  pub before : List ℕ
-  pub is : s ≡ before ++ rest
-  pub due : Due before item
+use Rattle.demands.specs.PacketItems.{Item, countOfFields, header, padding, dataLength, end, Due, Packet, rows}
+use Rattle.demands.specs.PacketItems.{octetsFrom, octetHere, hasFields, extension, valueIn, dataFits, dataSize}
 
 -- the first wrong item: the table of an item that is due gives this number
 pub record FirstWrong (ending : Ending) (s : List ℕ) (n : ℕ) : Type 0 where
   pub item : Item
-  pub rest : List ℕ
-  pub dueHere : DueIn s item rest
-  pub wrong : first (rows ending item rest) ≡ some n
+  pub place : Place
+  pub due : Due s place item
+  pub wrong : first (rows ending item s place) ≡ some n
 
 -- a whole packet stands at the front, and this follows it
-abbrev pub PacketThen : List ℕ → List ℕ → Type 0
-PacketThen s rest = DueIn s end rest
+pub record PacketThen (s rest : List ℕ) : Type 0 where
+  pub place : Place
+  pub due : Due s place end
+  pub is : rest ≡ octetsFrom s place
 
 -- the octets end early
 pub data EndsEarly (s : List ℕ) : Type 0 where
@@ -46,42 +45,36 @@ pub data EndsEarly (s : List ℕ) : Type 0 where
   front : (more : List ℕ) → 1 ≤ length more → Packet (s ++ more) → EndsEarly s
   -- or they end inside a length that is outside the sizes whatever follows: a count of fields after the first of its two octets,
   -- or a data length after its first, if that is not zero
-  inCount : (octet : ℕ) → DueIn s countOfFields (octet ∷ []) → 0x80 ≤ octet → octet < 0xC0 → EndsEarly s
-  inLength : (octet left : ℕ) → DueIn s (dataLength left) (octet ∷ []) → 1 ≤ octet → EndsEarly s
+  inCount : (p : Place) → Due s p countOfFields → p + 8 ≡ 8 * length s → 0x80 ≤ octetHere s p → octetHere s p < 0xC0 → EndsEarly s
+  inLength : (p : Place) (left : ℕ) → Due s p (dataLength left) → p + 8 ≡ 8 * length s → 1 ≤ octetHere s p → EndsEarly s
 
 -- the first octet has the extension bit set, or a value that is not assigned
 pub record NotAssigned (s : List ℕ) : Type 0 where
   pub some : 1 ≤ length s
-  pub is : (extension (octetOf s) || leb (assigned (kindOf (octetOf s))) (valueIn (octetOf s))) ≡ true
+  pub is : (extension (octetHere s 0) || leb (assigned (kindOf (octetHere s 0))) (valueIn (octetHere s 0))) ≡ true
 
 -- the first octet is as it must be, with fields, and the count after it is in a form not allowed
 pub record BadForm (s : List ℕ) : Type 0 where
-  pub octet : ℕ
-  pub rest : List ℕ
-  pub is : s ≡ octet ∷ rest
-  pub right : RightFirst octet
-  pub present : hasFields octet ≡ true
-  pub form : first (lengthRows rest) ≡ some number.badForm
+  pub due : Due s 8 countOfFields
+  pub form : first (lengthRows (octetsFrom s 8)) ≡ some number.badForm
 
 -- a count of fields is in its form and not 1 to 16, or a data length is over the packet limit
 pub data OutsideSizes (s : List ℕ) : Type 0 where
-  noFields : (rest : List ℕ) → DueIn s countOfFields (0 ∷ rest) → OutsideSizes s
-  manyFields : (octet : ℕ) (rest : List ℕ) → DueIn s countOfFields (octet ∷ rest) → first (lengthRows (octet ∷ rest)) ≡ none
-      → fieldsLimit < octet → OutsideSizes s
-  longData : (high low left : ℕ) (rest : List ℕ) → DueIn s (dataLength left) (high ∷ low ∷ rest) → packetLimit < high * 256 + low + 1
-      → OutsideSizes s
+  count : (p : Place) → Due s p countOfFields → first (lengthRows (octetsFrom s p)) ≡ none
+      → within fieldsLeast fieldsLimit (octetHere s p) ≡ false → OutsideSizes s
+  longData : (p : Place) (left : ℕ) → Due s p (dataLength left) → p + 16 ≤ 8 * length s → packetLimit < dataSize s p → OutsideSizes s
 
--- a spare bit is set: the first octet's lowest, or one of a field header's last four
+-- a spare bit is set: the first octet's lowest, or one of a padding
 pub data SpareBit (s : List ℕ) : Type 0 where
-  lowest : (octet : ℕ) (rest : List ℕ) → s ≡ octet ∷ rest → extension octet ≡ false → valueIn octet < assigned (kindOf octet)
-      → octet % 2 ≡ 1 → SpareBit s
-  lastFour : (octet left : ℕ) (rest : List ℕ) → DueIn s (header left) (octet ∷ rest) → 1 ≤ octet % 16 → SpareBit s
+  lowest : 1 ≤ length s → extension (octetHere s 0) ≡ false → valueIn (octetHere s 0) < assigned (kindOf (octetHere s 0))
+      → octetHere s 0 % 2 ≡ 1 → SpareBit s
+  padded : (p : Place) (next : Item) → Due s p (padding next) → 1 ≤ bitsAt (gap p) s p → SpareBit s
 
 -- data where none may be, or none where it must: an indicator with fields, or a field with data, or without, against its type
 pub data WrongData (s : List ℕ) : Type 0 where
-  indicator : (octet : ℕ) (rest : List ℕ) → s ≡ octet ∷ rest → extension octet ≡ false → octet % 2 ≡ 0 → kindOf octet ≡ Indicator
-      → hasFields octet ≡ true → WrongData s
-  field : (octet left : ℕ) (rest : List ℕ) → DueIn s (header left) (octet ∷ rest) → octet % 16 ≡ 0 → dataFits octet ≡ false → WrongData s
+  indicator : 1 ≤ length s → extension (octetHere s 0) ≡ false → octetHere s 0 % 2 ≡ 0 → kindOf (octetHere s 0) ≡ Indicator
+      → hasFields (octetHere s 0) ≡ true → WrongData s
+  field : (p : Place) (left : ℕ) → Due s p (header left) → p + headerWidth ≤ 8 * length s → dataFits s p ≡ false → WrongData s
 
 -- whatever the call answered, of at most the packet limit: it refused with this number exactly in this case
 abbrev pub Exactly : ℕ → (List ℕ → Type 0) → Type 0

@@ -1,4 +1,5 @@
--- Document 01, 'Sheets to check by': the twelve ★ cases, as a single table of the definitions. Definitions only.
+-- Document 01, 'Sheets to check by': the twelve ★ cases, as a single table of the definitions; and beside them the packet of document
+-- 02, request 2, that the mended rule is for. Definitions only.
 use Prim.Native.Nat.{ℕ}
 use mathlib.Core.Path.{_≡_}
 use mathlib.Core.List.{List, [], _∷_}
@@ -6,6 +7,8 @@ use Rattle.lengths.specs.Refusals.{badForm, spareBit, notAssigned, wrongData}
 use Rattle.lengths.specs.Answers.{done, refuse}
 use Rattle.lengths.specs.Length.{lengthAt, lengthToWrite}
 use Rattle.packets.specs.Packet.{dataOf, readPacket}
+use Rattle.packets.specs.Write.{packetToWrite}
+use Rattle.packets.specs.Cases.{mendedPacket}
 use Rattle.packets.specs.declared.types.Kind.the-variants.{Indicator, Data}
 use Rattle.packets.specs.declared.types.Ending.the-variants.{Whole, Repaired}
 use Rattle.views.specs.Members.{membersOf}
@@ -83,3 +86,15 @@ pub record TwelveCases : Type 0 where
   pub case-11 : Losing0
   -- ★ n=2, m=2, datagram 4: members 2, 0 and 3, 1
   pub case-12 : (membersOf 4 2 2 0 ≡ 2 ∷ 0 ∷ []) × (membersOf 4 2 2 1 ≡ 3 ∷ 1 ∷ [])
+
+-- "So `C0 04 80 00 00 AA 20 80 00 00 BB 40` should be `C0 04 80 00 00 AA 28 00 00 BB 40`"
+abbrev pub mendedOctets : List ℕ
+mendedOctets = 0xC0 ∷ 0x04 ∷ 0x80 ∷ 0x00 ∷ 0x00 ∷ 0xAA ∷ 0x28 ∷ 0x00 ∷ 0x00 ∷ 0xBB ∷ 0x40 ∷ []
+
+pub record MendedExample : Type 0 where
+  -- it reads as two frames, each of one octet, and these are written so
+  pub reads : readPacket Whole mendedOctets ≡ done mendedPacket
+  pub writes : packetToWrite Data 0 (0 ∷ 2 ∷ 0 ∷ 4 ∷ []) (1 ∷ 0 ∷ 1 ∷ 0 ∷ []) (0xAA ∷ 0xBB ∷ []) ≡ done mendedOctets
+  -- the other is 14: in the low half of its `20` stands a header of type 0 without data
+  pub other : readPacket Whole (0xC0 ∷ 0x04 ∷ 0x80 ∷ 0x00 ∷ 0x00 ∷ 0xAA ∷ 0x20 ∷ 0x80 ∷ 0x00 ∷ 0x00 ∷ 0xBB ∷ 0x40 ∷ [])
+      ≡ refuse wrongData

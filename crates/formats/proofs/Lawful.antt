@@ -10,7 +10,7 @@ use Rattle.lengths.specs.Claims.{Octets}
 use Rattle.formats.specs.Spelling.{Letter, bit, octet, spelt, whole, wide}
 use Rattle.formats.specs.Reading.{found, check}
 use Rattle.formats.specs.Reading as reading
-use Rattle.formats.specs.Format.{Format, octets, known, item, guarded, demand, _⊳_, made, sequenceSpelt, sequenceFits, sequenceOf}
+use Rattle.formats.specs.Format.{Format, known, item, guarded, demand, _⊳_, made, sequenceSpelt, sequenceFits, sequenceOf}
 use Rattle.formats.proofs.Standing.{Reads, Spells, stepped, passed, reads-bind, reads-made, reads-give, spells-none, spells-join}
 
 -- ---- what may be packed into octets

@@ -1,8 +1,7 @@
 -- The laws of formats that others use; each is proved in the file that it is passed on from. Assumes nothing.
 
 -- ---- how wide what is spelt is
-pub use Rattle.formats.proofs.Standing.{wide-append}
-pub use Rattle.formats.proofs.Parts.{wide-whole}
+pub use Rattle.formats.proofs.Standing.{wide-append, wide-whole, wide-spelt, gap-past}
 -- ---- the laws of a format, for each way to put parts together
 pub use Rattle.formats.proofs.Lawful.{Lawful, lawful-known, lawful-item, lawful-guarded, lawful-demand, lawful-then, lawful-made}
 pub use Rattle.formats.proofs.Lawful.{lawful-either, lawful-sequence-of}
@@ -11,5 +10,9 @@ pub use Rattle.formats.proofs.Parts.{lawful-flag, lawful-bits, lawful-a
 pub use Rattle.formats.proofs.Parts.{lawful-length-rule}
 -- ---- into octets, and back
 pub use Rattle.formats.proofs.Packing.{packed-whole, written-found, found-written}
--- ---- what a part reads in one octet, and at an octet edge
-pub use Rattle.formats.proofs.Edges.{flag-in, flag-cut, bits-in, align-zero, align-set, octetwise-edge}
+-- ---- what a part reads at a place, told by the octets there
+pub use Rattle.formats.proofs.Edges.{onward, flag-some, flag-cut, bits-in, bits-at, bits-more, bits-cut, parted, edge-at}
+pub use Rattle.formats.proofs.Edges.{octetwise-at, octetwise-edge}
+-- ---- bits that wait for the rest of their octet
+pub use Rattle.formats.proofs.Filling.{none-waits, joined-small, waits-left, left-at, fullOctets-long, closed-long, spelt-join}
+pub use Rattle.formats.proofs.Filling.{packed-spelt, packed-closed}

@@ -3,4 +3,5 @@ mod Lawful
 mod Parts
 mod Packing
 mod Edges
+mod Filling
 pub mod Laws

@@ -6,7 +6,7 @@ use mathlib.Core.List.{List, [], _∷_, _++_}
 use lib.ListN.{length, getD, take, drop, length-append, length-drop}
 use lib.Seq.{drop-cons, getD-drop, length-take-le, take-at}
 use lib.Dec.{ltb, eqb}
-use native.Mathlib.Nat.{mod-lt, mod-eq-of-lt}
+use lib.Pow.{pow-pos}
 use native.Mathlib.Omega.{arith}
 use borrow.Author.Tests.{ltb-true, ltb-false, eqb-true, le-ltb}
 use Rattle.lengths.specs.Refusals.{endsEarly, spareBit, refusal}
@@ -20,7 +20,7 @@ use Rattle.formats.specs.Reading as reading
 use Rattle.formats.specs.Format.{flagBit, flag, bits, align, here, octetwise, octetsFront, octets, twoFront, twoOctets}
 use Rattle.formats.specs.Format.{lengthFound, lengthRule}
 use Rattle.formats.proofs.Standing.{Stands, Reads, Spells, stepped, passed, reads-bind, reads-made, reads-bit, reads-spelt}
-use Rattle.formats.proofs.Standing.{bit-form, bits-form, pow-some, wide-spelt, spells-none, spells-join}
+use Rattle.formats.proofs.Standing.{bit-form, bits-form, wide-spelt, wide-whole, gap-past, spells-none, spells-join}
 use Rattle.formats.proofs.Lawful.{Formed, formed-append, formed-none, formed-spelt, formed-whole, Lawful, back-same}
 
 -- ---- bits
@@ -71,7 +71,7 @@ lawful-align =
     record {
       reads =
           λ u p fits.
-          record { reads = λ s i st. rw (reads-spelt (gap p) {p = p} {v = 0} (pow-some (gap p)) .reads s (p / 8) st) };
+          record { reads = λ s i st. rw (reads-spelt (gap p) {p = p} {v = 0} (pow-pos (gap p)) .reads s (p / 8) st) };
       formed = λ u p fits. formed-spelt (gap p) 0 p;
       back =
           λ s i p u q small e.
@@ -96,19 +96,6 @@ lawful-here =
     }
 
 -- ---- whole octets
-pub gap-edge : (p : ℕ) → (gap p + p) % 8 ≡ 0
-gap-edge p = by (p % 8) refl (mod-lt p {m = 8} (omega arith)) where
-  by : (r : ℕ) → p % 8 ≡ r → r < 8 → ((8 - p % 8) % 8 + p) % 8 ≡ 0
-  by zero e h = rw e (omega arith)
-  by (suc r) e h =
-      let small : (8 - suc r) % 8 ≡ 8 - suc r = mod-eq-of-lt (omega arith) in
-      rw (e, small) (omega arith)
-
-pub wide-whole : (l : List ℕ) → wide (whole l) ≡ 8 * length l
-unfolding wide whole
-wide-whole [] = refl
-wide-whole (x ∷ l) = omega (arith, wide-whole l)
-
 -- octets that stand at an edge are the next ones
 stands-whole : (s : List ℕ) (p : ℕ) (l : List ℕ) → p % 8 ≡ 0 → Stands s p (whole l) → drop (p / 8) s ≡ l ++ drop (p / 8 + length l) s
 unfolding Stands whole
@@ -169,7 +156,7 @@ module _ {A : Type 0} where
             next;
       } where
         edge : (p : ℕ) → (wide (spelt (gap p) 0) + p) % 8 ≡ 0
-        edge p = rw (wide-spelt (gap p) 0) (gap-edge p)
+        edge p = omega (arith, wide-spelt (gap p) 0, gap-past p)
 
         at-edge : (a : A) (p : ℕ) → right a → p % 8 ≡ 0 → Reads (reading.item (reading.octetwise front)) p a (whole (octets a))
         at-edge a p fits on =

@@ -5,14 +5,16 @@ use mathlib.Core.Bool.{Bool, true, false, cond}
 use mathlib.Core.List.{List, [], _∷_, _++_}
 use lib.ListN.{length, getD}
 use lib.Dec.{ltb}
-use native.Mathlib.Nat.{pow-suc, one-le-pow, mul-assoc, mul-comm, add-mul, one-mul, mul-le-mul-right, mod-lt, mul-add-mod-self-right}
-use native.Mathlib.Nat.{mul-add-div-right, div-eq-of-lt, mod-one, mod-eq-of-lt, div-add-mod'}
+use lib.Arith.{digits-lt}
+use lib.Pow.{pow-pos, high, mod-pow-add}
+use native.Mathlib.Nat.{pow-suc, mul-assoc, mul-comm, mod-lt, mul-add-mod-self-right, mul-add-div-right, mod-one, mod-eq-of-lt}
 use native.Mathlib.Omega.{arith}
 use borrow.Author.Tests.{lt-ltb, ltb-true}
 use Rattle.lengths.specs.Refusals.{endsEarly}
-use Rattle.formats.specs.Spelling.{Letter, bit, octet, spelt, wide}
+use Rattle.formats.specs.Spelling.{Letter, bit, octet, spelt, whole, wide, gap}
 use Rattle.formats.specs.Reading.{Finding, found, stopped, andThen, Reader, _>>=_, give, stop, check, bitAt}
 use Rattle.formats.specs.Reading as reading
+use Rattle.formats.specs.Places.{edge}
 
 -- ---- what stands where
 -- some octets, from a place on, begin with these letters
@@ -26,6 +28,11 @@ unfolding wide
 wide-append [] b = omega arith
 wide-append (bit x ∷ a) b = omega (arith, wide-append a b)
 wide-append (octet x ∷ a) b = omega (arith, wide-append a b)
+
+pub wide-whole : (l : List ℕ) → wide (whole l) ≡ 8 * length l
+unfolding wide whole
+wide-whole [] = refl
+wide-whole (x ∷ l) = omega (arith, wide-whole l)
 
 pub stands-join : (s : List ℕ) (p : ℕ) (a b : List Letter) → Stands s p a → Stands s (wide a + p) b → Stands s p (a ++ b)
 unfolding Stands wide
@@ -97,51 +104,35 @@ unfolding reading.bit Stands wide
 reads-bit {p} {b} = record { reads = λ s i st. rw (lt-ltb p (8 * length s) (st .0), st .1) }
 
 -- ---- numbers and their bits
+pub gap-past : (p : ℕ) → gap p + p ≡ 8 * edge p
+gap-past p = by (p % 8) refl (mod-lt p {m = 8} (omega arith)) where
+  by : (r : ℕ) → p % 8 ≡ r → r < 8 → (8 - p % 8) % 8 + p ≡ 8 * edge p
+  by zero e h = rw e (omega arith)
+  by (suc r) e h =
+      let small : (8 - suc r) % 8 ≡ 8 - suc r = mod-eq-of-lt (omega arith) in
+      rw (e, small) (omega arith)
+
 pub wide-spelt : (n v : ℕ) → wide (spelt n v) ≡ n
 unfolding spelt wide
 wide-spelt zero v = refl
 wide-spelt (suc n) v = let e = wide-spelt n v in omega arith
 
-pub pow-some : (n : ℕ) → 0 < 2 ^ n
-pow-some n = one-le-pow n 2 (omega arith)
-
-half-block : (h b m r : ℕ) → (h * 2 + b) * m + r ≡ h * (m * 2) + (b * m + r)
-half-block h b m r =
-    let e : h * 2 * m ≡ h * (m * 2) = mul-assoc h 2 m ∙ ap (λ (x : ℕ). h * x) (mul-comm 2 m) in
-    let d : (h * 2 + b) * m ≡ h * 2 * m + b * m = add-mul (h * 2) b m in
-    omega arith
-
-block-small : (b m r : ℕ) → b < 2 → r < m → b * m + r < m * 2
-block-small b m r small h =
-    let most : b * m ≤ 1 * m = mul-le-mul-right m (omega arith) in
-    let one : 1 * m ≡ m = one-mul m in
-    omega arith
-
 -- the lowest bits of a number, by its lowest bits but one and that one
-pub low-bits : (v m : ℕ) → 0 < m → v / m % 2 * m + v % m ≡ v % (m * 2)
-low-bits v m some =
-    let h = v / m / 2 in
-    let b = v / m % 2 in
-    let r = v % m in
-    let low : b < 2 = mod-lt (v / m) (omega arith) in
-    let small : b * m + r < m * 2 = block-small b m r low (mod-lt v some) in
-    let whole : v ≡ h * (m * 2) + (b * m + r)
-    = sym (div-add-mod' v m) ∙ ap (λ (q : ℕ). q * m + v % m) (sym (div-add-mod' (v / m) 2)) ∙ half-block h b m r in
-    sym (ap (λ (x : ℕ). x % (m * 2)) whole ∙ mul-add-mod-self-right h (m * 2) (b * m + r) ∙ mod-eq-of-lt small)
+pub low-bits : (v n : ℕ) → v / 2 ^ n % 2 * 2 ^ n + v % 2 ^ n ≡ v % 2 ^ suc n
+low-bits v n = let e : 1 + n ≡ suc n = omega arith in sym (mod-pow-add v 1 n) ∙ ap (λ (k : ℕ). v % 2 ^ k) e
 
--- what is above the bits that are spelt does not count
-spelt-above : (n a v : ℕ) → spelt n (a * 2 ^ n + v) ≡ spelt n v
+-- twice as many of half the size
+twice : (a n : ℕ) → a * 2 ^ suc n ≡ a * 2 * 2 ^ n
+twice a n = ap (λ (x : ℕ). a * x) (pow-suc 2 n ∙ mul-comm (2 ^ n) 2) ∙ sym (mul-assoc a 2 (2 ^ n))
+
+-- what is above a bit does not count
+pub bit-above : (n a v : ℕ) → (a * 2 ^ suc n + v) / 2 ^ n % 2 ≡ v / 2 ^ n % 2
+bit-above n a v = rw (twice a n, mul-add-div-right (pow-pos n) (a * 2) v) (mul-add-mod-self-right a 2 (v / 2 ^ n))
+
+pub spelt-above : (n a v : ℕ) → spelt n (a * 2 ^ n + v) ≡ spelt n v
 unfolding spelt
 spelt-above zero a v = refl
-spelt-above (suc n) a v =
-    let e : a * 2 ^ suc n + v ≡ a * 2 * 2 ^ n + v
-    = ap (λ (x : ℕ). x + v) (ap (λ (x : ℕ). a * x) (pow-suc 2 n ∙ mul-comm (2 ^ n) 2) ∙ sym (mul-assoc a 2 (2 ^ n))) in
-    let high : (a * 2 * 2 ^ n + v) / 2 ^ n % 2 ≡ v / 2 ^ n % 2
-    = ap (λ (x : ℕ). x % 2) (mul-add-div-right (pow-some n) (a * 2) v) ∙ mul-add-mod-self-right a 2 (v / 2 ^ n) in
-    rw (e, high, spelt-above n (a * 2) v)
-
-bit-of : (b : ℕ) → b < 2 → (b + 0) % 2 ≡ b
-bit-of b h = omega arith
+spelt-above (suc n) a v = rw (bit-above n a v, twice a n, spelt-above n (a * 2) v)
 
 -- the lowest bits of a number, spelt, read as that number
 reads-low : (n v : ℕ) {p : ℕ} → Reads (reading.bits n) p (v % 2 ^ n) (spelt n v)
@@ -150,9 +141,7 @@ reads-low zero v = rw (mod-one v) reads-give
 reads-low (suc n) v {p} =
     let both : Reads (reading.bits (suc n)) p (v / 2 ^ n % 2 * 2 ^ n + v % 2 ^ n) (spelt (suc n) v)
     = reads-bind _ reads-bit (reads-made (λ w. v / 2 ^ n % 2 * 2 ^ n + w) (reads-low n v)) in
-    let is : v / 2 ^ n % 2 * 2 ^ n + v % 2 ^ n ≡ v % 2 ^ suc n = low-bits v (2 ^ n) (pow-some n)
-    ∙ ap (λ (m : ℕ). v % m) (sym (pow-suc 2 n)) in
-    subst (λ (w : ℕ). Reads (reading.bits (suc n)) p w (spelt (suc n) v)) is both
+    subst (λ (w : ℕ). Reads (reading.bits (suc n)) p w (spelt (suc n) v)) (low-bits v n) both
 
 pub reads-spelt : (n : ℕ) {p v : ℕ} → v < 2 ^ n → Reads (reading.bits n) p v (spelt n v)
 reads-spelt n {p} {v} small = rw (mod-eq-of-lt small) at (reads-low n v {p = p})
@@ -215,15 +204,16 @@ pub record BitsForm (s : List ℕ) (n p v q : ℕ) : Type 0 where
   pub spells : Spells s p q (spelt n v)
   pub small : v < 2 ^ n
 
+-- the highest of so many bits
+pub high-bit : (n b w : ℕ) → b < 2 → w < 2 ^ n → (b * 2 ^ n + w) / 2 ^ n % 2 ≡ b
+high-bit n b w one rest = ap (λ (x : ℕ). x % 2) (high b n rest) ∙ mod-eq-of-lt one
+
 bits-next : (n : ℕ) {s : List ℕ} {p b m w q : ℕ} → BitForm s p b m → BitsForm s n m w q → BitsForm s (suc n) p (b * 2 ^ n + w) q
 unfolding spelt
 bits-next n {s} {p} {b} {m} {w} {q} one rest =
-    let high : (b * 2 ^ n + w) / 2 ^ n % 2 ≡ b
-    = ap (λ (x : ℕ). x % 2) (mul-add-div-right (pow-some n) b w ∙ ap (λ (x : ℕ). b + x) (div-eq-of-lt (rest .small)))
-    ∙ bit-of b (one .small) in
     record {
-      spells = rw (high, spelt-above n b w) (spells-join (one .spells) (rest .spells));
-      small = rw (pow-suc 2 n) (block-small b (2 ^ n) w (one .small) (rest .small));
+      spells = rw (high-bit n b w (one .small) (rest .small), spelt-above n b w) (spells-join (one .spells) (rest .spells));
+      small = rw (pow-suc 2 n, mul-comm (2 ^ n) 2) (digits-lt (one .small) (rest .small));
     }
 
 bits-same : {s : List ℕ} {n p v w q r : ℕ} → BitsForm s n p v q → v ≡ w → q ≡ r → BitsForm s n p w r

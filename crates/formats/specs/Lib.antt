@@ -1,3 +1,5 @@
 pub mod Spelling
 pub mod Reading
 pub mod Format
+pub mod Places
+pub mod Waiting

@@ -1,3 +1,5 @@
+mod ReadPlaces
 mod ReadItems
+mod ReadFields
 mod FieldsTurn
 mod ReadPacket

@@ -4,31 +4,29 @@ use Prim.Native.Nat.{ℕ, _+_, _-_, _*_, _/_, _%_, _≤_, _<_, _^_}
 use mathlib.Core.Path.{_≡_, sym, ap, _∙_}
 use mathlib.Core.Bool.{Bool, true, false, not}
 use mathlib.Core.List.{List}
-use lib.ListN.{length, getD, drop, length-drop}
+use lib.ListN.{length, getD}
 use lib.Dec.{ltb}
 use native.Mathlib.Omega.{arith}
 use borrow.Author.Tests.{lt-ltb, le-ltb, le-leb, lt-leb, not-true, not-false}
-use Rattle.packets.proofs.Laws.{rest, rest-is, header-form, size-form}
+use Rattle.packets.proofs.Laws.{rest, rest-is}
 use Rattle.lengths.specs.Refusals.{endsEarly, outsideSizes, spareBit, notAssigned, wrongData}
-use Rattle.lengths.specs.Answers.{done, refused, lengthOutcome}
-use Rattle.lengths.specs.Length.{lengthAt}
-use Rattle.lengths.specs.Promise.{Octet, RefusalMade, LengthRead}
-use Rattle.lengths.proofs.Laws.{sizes-read}
+use Rattle.lengths.specs.Answers.{done, lengthOutcome}
+use Rattle.lengths.specs.Length.{lengthWithin}
+use Rattle.lengths.specs.Promise.{Octet, RefusalMade, RefusalTold, WithinRead}
+use Rattle.lengths.proofs.Laws.{within-done}
 use Rattle.lengths.specs.declared.Length.{Length}
 use Rattle.lengths.specs.declared.Refusal.{Refusal}
 use Rattle.lengths.specs.declared.Length.the-variants as length
 use Rattle.datagrams.specs.Sizes.{packetLimit}
-use Rattle.packets.specs.Packet.{fieldsLimit, assigned, rightFields, rightData}
-use Rattle.packets.specs.Inner.Octets.{kindOf, firstAt, countAt, headerAt, sizeAt, afterHeader, fieldAt}
-use Rattle.packet_reader.specs.Items.{FirstTold, CountTold, HeaderTold, SizeTold, FieldTold, headerOutcome, sizeOutcome}
+use Rattle.formats.specs.Places.{Place}
+use Rattle.packets.specs.Packet.{fieldsLeast, fieldsLimit, assigned, rightFields, rightData}
+use Rattle.packets.specs.Inner.Octets.{kindOf, firstAt, countAt, headerWidth, headerAt, sizeAt}
+use Rattle.packet_reader.specs.Items.{BitsTold, FirstTold, CountTold, HeaderTold, SizeTold}
 use Rattle.packets.specs.declared.types.Kind.{Kind}
-use Rattle.packet_reader.specs.declared.items.HeaderRead.{HeaderRead}
-use Rattle.packet_reader.specs.declared.items.SizeRead.{SizeRead}
 use Rattle.packet_reader.specs.declared.items.FirstRead.the-variants as first
 use Rattle.packet_reader.specs.declared.items.CountRead.the-variants as count
 use Rattle.packet_reader.specs.declared.items.HeaderRead.the-variants as header
 use Rattle.packet_reader.specs.declared.items.SizeRead.the-variants as size
-use Rattle.packet_reader.specs.declared.items.FieldRead.the-variants as field
 
 -- ---- the first octet
 module _ {s : List ℕ} where
@@ -96,73 +94,58 @@ module _ {s : List ℕ} where
 pub ruleset firsts = (first-empty, first-extended, first-value, first-spare, first-wrong, first-read)
 
 -- ---- the count of fields
--- what `&s[n..]` lends
+-- a count that reads, from the answer and its case
+within-is : {s : List ℕ} {r : Length} {n k : ℕ} → WithinRead fieldsLeast fieldsLimit s r → r ≡ length.Value n k
+    → lengthWithin fieldsLeast fieldsLimit s ≡ done (record { value = n; size = k })
+within-is read is = sym (read .answer) ∙ ap lengthOutcome is
 
--- a length that reads, from the answer and its case
-length-is : {s : List ℕ} {r : Length} {n k : ℕ} → LengthRead s r → r ≡ length.Value n k → lengthAt s ≡ done (record { value = n; size = k })
-length-is read is = sym (read .answer) ∙ ap lengthOutcome is
+module _ {s : List ℕ} {r : Length} {n k : ℕ} (read : WithinRead fieldsLeast fieldsLimit s r) (is : r ≡ length.Value n k) where
+  -- it takes an octet or two, so that the sums fit
+  count-fits : k ≤ 2
+  count-fits = within-done fieldsLeast fieldsLimit s _ (within-is read is) .sizes .few
 
-length-refused : {s : List ℕ} {r : Length} {x : Refusal} → LengthRead s r → r ≡ length.Refused x → lengthAt s ≡ refused x
-length-refused read is = sym (read .answer) ∙ ap lengthOutcome is
+  pub octets-fit : 1 + k < 2 ^ 64
+  octets-fit = omega (arith, count-fits)
 
-pub next-fits : {s : List ℕ} {r : Length} {n k : ℕ} → LengthRead s r → r ≡ length.Value n k → 1 + k < 2 ^ 64
-next-fits {s} read is = omega (arith, sizes-read s _ (length-is read is) .few)
+  pub place-fits : 8 * (1 + k) < 2 ^ 64
+  place-fits = omega (arith, count-fits)
 
-module _ {s : List ℕ} {p : Bool} where
-  pub count-none : not p ≡ true → CountTold s p (count.Count 0 1)
+module _ {s : List ℕ} {b : Bool} where
+  pub count-none : not b ≡ true → CountTold s b (count.Count 0 8)
   unfolding countAt
-  count-none absent = record { answer = rw (not-true p absent) }
+  count-none absent = record { answer = rw (not-true b absent) }
 
-  pub count-refused : {r : Length} {x y : Refusal} → not p ≡ false → LengthRead (rest 1 s) r → r ≡ length.Refused y
-      → length.Refused y ≡ length.Refused x → CountTold s p (count.Refused x)
+  pub count-refused : {r : Length} {why x : Refusal} → not b ≡ false → WithinRead fieldsLeast fieldsLimit (rest 1 s) r
+      → r ≡ length.Refused why → RefusalTold r x → CountTold s b (count.Refused x)
   unfolding countAt
-  count-refused present read is same =
-      record { answer = rw (not-false p present, ← rest-is 1 s, length-refused read (is ∙ same)) }
+  count-refused present read is told =
+      record { answer = rw (told .answer, is, not-false b present, ← rest-is 1 s, sym (read .answer) ∙ ap lengthOutcome is) }
 
-  pub count-low : {r : Length} {n k : ℕ} {x : Refusal} → not p ≡ false → LengthRead (rest 1 s) r → r ≡ length.Value n k
-      → n < 1 → RefusalMade outsideSizes x → CountTold s p (count.Refused x)
+  pub count-read : {r : Length} {n k : ℕ} → not b ≡ false → WithinRead fieldsLeast fieldsLimit (rest 1 s) r
+      → r ≡ length.Value n k → CountTold s b (count.Count n (8 * (1 + k)))
   unfolding countAt
-  count-low {n = n} present read is low made =
-      record { answer = rw (not-false p present, ← rest-is 1 s, length-is read is, lt-ltb n 1 low, made .answer) }
+  count-read present read is = record { answer = rw (not-false b present, ← rest-is 1 s, within-is read is) }
 
-  pub count-high : {r : Length} {n k : ℕ} {x : Refusal} → not p ≡ false → LengthRead (rest 1 s) r → r ≡ length.Value n k
-      → 1 ≤ n → fieldsLimit < n → RefusalMade outsideSizes x → CountTold s p (count.Refused x)
-  unfolding countAt
-  count-high {n = n} present read is some high made =
-      record { answer = rw (not-false p present, ← rest-is 1 s, length-is read is, le-ltb n 1 some, lt-ltb fieldsLimit n high, made .answer) }
-
-  pub count-read : {r : Length} {n k : ℕ} → not p ≡ false → LengthRead (rest 1 s) r → r ≡ length.Value n k
-      → 1 ≤ n → n ≤ fieldsLimit → CountTold s p (count.Count n (1 + k))
-  unfolding countAt
-  count-read {n = n} present read is some few =
-      record { answer = rw (not-false p present, ← rest-is 1 s, length-is read is, le-ltb n 1 some, le-ltb fieldsLimit n few) }
-
-pub ruleset counts = (next-fits, count-none, count-refused, count-low, count-high, count-read)
+pub ruleset counts = (octets-fit, place-fits, count-none, count-refused, count-read)
 
 -- ---- a field's header
-module _ {s : List ℕ} {at : ℕ} where
-  pub header-empty : {r : Refusal} → RefusalMade endsEarly r → length s ≤ at → HeaderTold s at (header.Refused r)
+module _ {s : List ℕ} {p : Place} where
+  pub header-short : {r : Refusal} → RefusalMade endsEarly r → 8 * length s < p + headerWidth → HeaderTold s p (header.Refused r)
   unfolding headerAt
-  header-empty made short = record { answer = rw (made .answer, le-leb (length s) at short) }
+  header-short made short = record { answer = rw (made .answer, lt-ltb (8 * length s) (p + headerWidth) short) }
 
-  pub header-spare : {r : Refusal} → RefusalMade spareBit r → at < length s → 0 < getD s at 0 % 16 → HeaderTold s at (header.Refused r)
-  unfolding headerAt
-  header-spare made some set = record { answer = rw (made .answer, lt-leb (length s) at some, lt-ltb 0 (getD s at 0 % 16) set) }
+  module _ {bits : ℕ} {b : Bool} (inside : p + headerWidth ≤ 8 * length s) (is : BitsTold headerWidth s p bits)
+      (test : b ≡ rightData (bits % 8) (ltb 0 (bits / 8 % 2))) where
+    pub header-wrong : {r : Refusal} → RefusalMade wrongData r → b ≡ false → HeaderTold s p (header.Refused r)
+    unfolding headerAt
+    header-wrong made wrong =
+        record { answer = rw (made .answer, le-ltb (8 * length s) (p + headerWidth) inside, ← is .answer, ← test, wrong) }
 
-  pub header-wrong : {r : Refusal} {b : Bool} → RefusalMade wrongData r → at < length s → getD s at 0 % 16 ≤ 0
-      → b ≡ rightData (getD s at 0 / 16 % 8) (ltb 0 (getD s at 0 / 16 / 8 % 2)) → b ≡ false → HeaderTold s at (header.Refused r)
-  unfolding headerAt
-  header-wrong made some plain is wrong =
-      record { answer = rw (made .answer, lt-leb (length s) at some, le-ltb 0 (getD s at 0 % 16) plain, ← is, wrong) }
+    pub header-read : b ≡ true → HeaderTold s p (header.Header (bits % 8) (ltb 0 (bits / 8 % 2)) (p + headerWidth))
+    unfolding headerAt
+    header-read right = record { answer = rw (le-ltb (8 * length s) (p + headerWidth) inside, ← is .answer, ← test, right) }
 
-  pub header-read : {b : Bool} → at < length s → getD s at 0 % 16 ≤ 0
-      → b ≡ rightData (getD s at 0 / 16 % 8) (ltb 0 (getD s at 0 / 16 / 8 % 2)) → b ≡ true
-      → HeaderTold s at (header.Header (getD s at 0 / 16 % 8) (ltb 0 (getD s at 0 / 16 / 8 % 2)) (at + 1))
-  unfolding headerAt
-  header-read some plain is right =
-      record { answer = rw (lt-leb (length s) at some, le-ltb 0 (getD s at 0 % 16) plain, ← is, right) }
-
-pub ruleset headers = (header-empty, header-spare, header-wrong, header-read)
+pub ruleset headers = (header-short, header-wrong, header-read)
 
 -- ---- the length of its data
 module _ {s : List ℕ} where
@@ -194,45 +177,3 @@ module _ {s : List ℕ} where
       record { answer = rw (high .same, low .same, le-ltb (length s) 2 two, le-ltb packetLimit _ h, le-ltb (length s - 2) _ k) }
 
 pub ruleset sizes = (size-empty, size-over, size-cut, size-read)
-
--- ---- a field
-size-is : (s : List ℕ) (n : ℕ) {r : SizeRead} {m : ℕ} → SizeTold (rest n s) r → r ≡ size.Size m → sizeAt (drop n s) ≡ done m
-size-is s n told is = rw (← rest-is n s) (sym (told .answer) ∙ ap sizeOutcome is)
-
-module _ {s : List ℕ} {at : ℕ} where
-  header-is : {r : HeaderRead} {k : ℕ} {p : Bool} {n : ℕ} → HeaderTold s at r → r ≡ header.Header k p n
-      → headerAt s at ≡ done (record { header = record { kind = k; present = p }; next = n })
-  header-is told is = sym (told .answer) ∙ ap headerOutcome is
-
-  pub header-inside : {r : HeaderRead} {k : ℕ} {p : Bool} {n : ℕ} → HeaderTold s at r → r ≡ header.Header k p n → n ≤ length s
-  header-inside told is = let f = header-form s at _ (header-is told is) in omega (arith, f .some, f .next)
-
-  pub end-inside : {r : HeaderRead} {k : ℕ} {p : Bool} {q : SizeRead} {n m : ℕ} → HeaderTold s at r → r ≡ header.Header k p n
-      → SizeTold (rest n s) q → q ≡ size.Size m → n + 2 + m ≤ length s
-  end-inside {n = n} {m = m} told is sized sizeIs =
-      let f = size-form (drop n s) m (size-is s n sized sizeIs) in
-      omega (arith, f .inside, length-drop n s, header-inside told is)
-
-  pub field-refused : {r : HeaderRead} {x : Refusal} → HeaderTold s at r → r ≡ header.Refused x → FieldTold s at (field.Refused x)
-  unfolding fieldAt
-  field-refused told is = record { answer = rw (sym (told .answer) ∙ ap headerOutcome is) }
-
-  pub field-bare : {r : HeaderRead} {k : ℕ} {p : Bool} {n : ℕ} → HeaderTold s at r → r ≡ header.Header k p n → not p ≡ true
-      → FieldTold s at (field.Field (record { kind = k; start = 0; size = 0 }) n)
-  unfolding fieldAt afterHeader
-  field-bare {p = p} told is absent = record { answer = rw (header-is told is, not-true p absent) }
-
-  pub field-cut : {r : HeaderRead} {k : ℕ} {p : Bool} {n : ℕ} {q : SizeRead} {x : Refusal} → HeaderTold s at r → r ≡ header.Header k p n
-      → not p ≡ false → SizeTold (rest n s) q → q ≡ size.Refused x → FieldTold s at (field.Refused x)
-  unfolding fieldAt afterHeader
-  field-cut {p = p} {n = n} told is present sized sizeIs =
-      record { answer = rw (header-is told is, not-false p present, ← rest-is n s, sym (sized .answer) ∙ ap sizeOutcome sizeIs) }
-
-  pub field-read : {r : HeaderRead} {k : ℕ} {p : Bool} {n m : ℕ} {q : SizeRead} → HeaderTold s at r → r ≡ header.Header k p n
-      → not p ≡ false → SizeTold (rest n s) q → q ≡ size.Size m
-      → FieldTold s at (field.Field (record { kind = k; start = n + 2; size = m }) (n + 2 + m))
-  unfolding fieldAt afterHeader
-  field-read {p = p} {n = n} told is present sized sizeIs =
-      record { answer = rw (header-is told is, not-false p present, size-is s n sized sizeIs) }
-
-pub ruleset fields = (header-inside, field-refused, field-bare, field-cut, field-read)

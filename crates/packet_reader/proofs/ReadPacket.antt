@@ -2,31 +2,38 @@
 -- nothing.
 use Prim.Native.Nat.{ℕ, _≤_, _<_}
 use mathlib.Core.Path.{_≡_, refl, sym, ap, ap₂, _∙_}
-use mathlib.Core.Bool.{Bool, true, false}
+use mathlib.Core.Bool.{Bool, true, false, cond}
 use mathlib.Core.List.{List}
-use lib.ListN.{length}
+use lib.ListN.{length, drop}
 use native.Mathlib.Omega.{arith}
 use borrow.Author.Tests.{lt-ltb, le-ltb}
 use Rattle.lengths.specs.Refusals.{outsideSizes, leftOver}
-use Rattle.lengths.specs.Answers.{Answer, done, refused}
+use Rattle.lengths.specs.Answers.{Answer, done, refused, refuse, _>>=_, mapped}
 use Rattle.lengths.specs.Promise.{RefusalMade}
 use Rattle.lengths.specs.declared.Refusal.{Refusal}
 use Rattle.datagrams.specs.Sizes.{packetLimit}
 use Rattle.packets.specs.Packet.{fieldsLimit, PacketAnswer, mayFollow}
+use Rattle.formats.specs.Places.{Place, edgeAt}
 use Rattle.packets.specs.Inner.Octets.{firstAt, countAt, FieldsAnswer, fieldsAt, endAt, packetByOctets}
 use Rattle.packets.specs.Promise.{PacketTold, packetOutcome, packetRead, padded}
-use Rattle.packet_reader.specs.Items.{FirstTold, CountTold, FieldsTold, firstOutcome, countOutcome, fieldsRead}
+use Rattle.packet_reader.specs.Items.{Inside, EdgeTold, edgeOutcome, FirstTold, CountTold, FieldsTold, EndTold, firstOutcome}
+use Rattle.packet_reader.specs.Items.{countOutcome, fieldsRead, endOutcome}
 use Rattle.packets.specs.declared.types.Field.{Field}
 use Rattle.packets.specs.declared.types.Kind.{Kind}
 use Rattle.packets.specs.declared.types.Ending.{Ending}
 use Rattle.packets.specs.declared.types.PacketRead.{PacketRead}
+use Rattle.packet_reader.specs.declared.places.EdgeRead.{EdgeRead}
 use Rattle.packet_reader.specs.declared.items.FirstRead.{FirstRead}
 use Rattle.packet_reader.specs.declared.items.CountRead.{CountRead}
 use Rattle.packet_reader.specs.declared.reader.FieldsRead.{FieldsRead}
+use Rattle.packet_reader.specs.declared.reader.EndRead.{EndRead}
 use Rattle.packets.specs.declared.types.Reading.the-variants as reading
+use Rattle.packet_reader.specs.declared.places.EdgeRead.the-variants as edge
 use Rattle.packet_reader.specs.declared.items.FirstRead.the-variants as first
 use Rattle.packet_reader.specs.declared.items.CountRead.the-variants as count
 use Rattle.packet_reader.specs.declared.reader.FieldsEnd.the-variants as end
+use Rattle.packet_reader.specs.declared.reader.EndRead.the-variants as ends
+use Rattle.packet_reader.proofs.ReadPlaces.{edge-is, edge-within}
 use Rattle.packets.proofs.Laws.{first-form, read-at, rest, rest-is, read-outcome, fields-inside, count-limit, count-within}
 
 -- ---- from the items' answers to the definitions
@@ -45,8 +52,10 @@ module _ {s : List ℕ} where
     pub count-few : {c : CountRead} {n at : ℕ} → CountTold s p c → c ≡ count.Count n at → n ≤ fieldsLimit
     count-few told is = count-limit s p _ (count-is told is)
 
-    count-inside : {c : CountRead} {n at : ℕ} → 1 ≤ length s → CountTold s p c → c ≡ count.Count n at → at ≤ length s
-    count-inside some told is = count-within s p _ some (count-is told is)
+    pub count-inside : {f : FirstRead} {k : Kind} {v : ℕ} {c : CountRead} {n from : ℕ} → length s ≤ packetLimit → FirstTold s f
+        → f ≡ first.First k v p → CountTold s p c → c ≡ count.Count n from → Inside s from
+    count-inside fits told is counted countIs =
+        record { few = fits; here = count-within s p _ (first-some told is) (count-is counted countIs) }
 
 -- fields that were read, from the answer and its end
 record AllRead (n : ℕ) (s : List ℕ) (at m : ℕ) (r : FieldsRead) : Type 0 where
@@ -85,12 +94,44 @@ told-of e s r x is image =
 abbrev answered : Kind → ℕ → ℕ → List Field → PacketRead
 answered k v n fields = record { reading = reading.Packet k v n; fields = fields }
 
-pub packet-inside : {s : List ℕ} {f : FirstRead} {k : Kind} {v : ℕ} {p : Bool} {c : CountRead} {n at m : ℕ} {all : FieldsRead}
-    → FirstTold s f → f ≡ first.First k v p → CountTold s p c → c ≡ count.Count n at → FieldsTold n s at all → all .end ≡ end.Next m
-    → m ≤ length s
-packet-inside {s = s} {n = n} {at = at} {m = m} {all = all} told is counted countIs read ends =
-    let a = all-read n s at m all read ends in
-    fields-inside n s at _ (count-inside (first-some told is) counted countIs) (a .was) .next
+-- fields that read end inside the octets
+pub packet-inside : {s : List ℕ} {n from m : ℕ} {all : FieldsRead} → Inside s from → FieldsTold n s from all → all .end ≡ end.Next m
+    → Inside s m
+packet-inside {s} {n} {from} {m} {all} inside read ends =
+    let a = all-read n s from m all read ends in
+    record { few = inside .few; here = fields-inside n s from _ (inside .here) (a .was) .next }
+
+-- ---- the end
+module _ {s : List ℕ} {p : Place} {r : EdgeRead} (told : EdgeTold s p r) where
+  pub end-spare : {e : Ending} {x : Refusal} → r ≡ edge.Refused x → EndTold e s p (ends.Refused x)
+  unfolding endAt
+  end-spare is = record { answer = rw (sym (told .answer) ∙ ap edgeOutcome is) }
+
+  module _ {at : ℕ} {e : Ending} {b : Bool} (is : r ≡ edge.Edge at) (follows : b ≡ mayFollow e (rest at s)) where
+    pub end-left : {x : Refusal} → b ≡ false → RefusalMade leftOver x → EndTold e s p (ends.Refused x)
+    unfolding endAt
+    end-left not-so made = record { answer = rw (edge-is told is, ← rest-is at s, ← follows, not-so, made .answer) }
+
+    pub end-met : b ≡ true → EndTold e s p (ends.Ends)
+    unfolding endAt
+    end-met so = record { answer = rw (edge-is told is, ← rest-is at s, ← follows, so) }
+
+pub ruleset ending = (edge-within, end-spare, end-left, end-met)
+
+-- the end says nothing of the packet's values
+end-same : {A : Type 0} (e : Ending) (s : List ℕ) (p : Place) (a : A) → endAt e s p a ≡ mapped (λ (u : Unit {0}). a) (endAt e s p tt)
+unfolding endAt
+end-same e s p a = by (edgeAt s p) where
+  tested : {A : Type 0} (b : Bool) (a : A)
+      → cond b (done a) (refuse leftOver) ≡ mapped (λ (u : Unit {0}). a) (cond b (done tt) (refuse leftOver))
+  tested true a = refl
+  tested false a = refl
+
+  by : (x : Answer ℕ)
+      → _>>=_ x (λ (at : ℕ). cond (mayFollow e (drop at s)) (done a) (refuse leftOver))
+      ≡ mapped (λ (u : Unit {0}). a) (_>>=_ x (λ (at : ℕ). cond (mayFollow e (drop at s)) (done tt) (refuse leftOver)))
+  by (done at) = tested (mayFollow e (drop at s)) a
+  by (refused r) = refl
 
 module _ {e : Ending} {s : List ℕ} where
   pub packet-over : {x : Refusal} {r : PacketRead} → packetLimit < length s → RefusalMade outsideSizes x → r ≡ packetRead (refused x)
@@ -121,26 +162,25 @@ module _ {e : Ending} {s : List ℕ} where
             (le-ltb packetLimit (length s) fits, first-is told is, count-is counted countIs, fields-refused n s at x all read ends))
             image
 
-        module _ {m : ℕ} {b : Bool} (ends : all .end ≡ end.Next m) (follows : b ≡ mayFollow e (rest m s)) where
-          pub packet-left : {x : Refusal} {r : PacketRead} → b ≡ false → RefusalMade leftOver x → r ≡ packetRead (refused x)
-              → PacketTold e s r
-          unfolding packetByOctets endAt
-          packet-left {x} {r} not-so made image =
-              let a = all-read n s at m all read ends in
+        module _ {m : ℕ} {d : EndRead} (next : all .end ≡ end.Next m) (ended : EndTold e s m d) where
+          pub packet-left : {x : Refusal} {r : PacketRead} → d ≡ ends.Refused x → r ≡ packetRead (refused x) → PacketTold e s r
+          unfolding packetByOctets
+          packet-left {x} {r} endIs image =
+              let a = all-read n s at m all read next in
               told-of e s r (refused x)
-              (rw
-              (le-ltb packetLimit (length s) fits, first-is told is, count-is counted countIs, a .was, ← rest-is m s, ← follows, not-so, made .answer))
+              (rw (le-ltb packetLimit (length s) fits, first-is told is, count-is counted countIs, a .was)
+              (end-same e s m _ ∙ ap (mapped _) (sym (ended .answer) ∙ ap endOutcome endIs)))
               image
 
-          pub packet-read : b ≡ true → PacketTold e s (record { reading = reading.Packet k v n; fields = all .fields })
-          unfolding packetByOctets endAt
-          packet-read so =
-              let a = all-read n s at m all read ends in
-              let inside = fields-inside n s at _ (count-inside (first-some told is) counted countIs) (a .was) in
+          pub packet-read : d ≡ ends.Ends → PacketTold e s (record { reading = reading.Packet k v n; fields = all .fields })
+          unfolding packetByOctets
+          packet-read endIs =
+              let a = all-read n s at m all read next in
+              let inside = fields-inside n s at _ (count-inside fits told is counted countIs .here) (a .was) in
               told-of e s _ (done (record { kind = k; value = v; fields = a .fields }))
-              (rw
-              (le-ltb packetLimit (length s) fits, first-is told is, count-is counted countIs, a .was, ← rest-is m s, ← follows, so))
+              (rw (le-ltb packetLimit (length s) fits, first-is told is, count-is counted countIs, a .was)
+              (end-same e s m _ ∙ ap (mapped _) (sym (ended .answer) ∙ ap endOutcome endIs)))
               (ap₂ (answered k v) (sym (inside .many)) (a .here))
 
 pub ruleset packets =
-    (first-some, count-few, packet-inside, packet-over, packet-first, packet-count, packet-fields, packet-left, packet-read)
+    (first-some, count-few, count-inside, packet-inside, packet-over, packet-first, packet-count, packet-fields, packet-left, packet-read)

@@ -1,17 +1,20 @@
 // Document 01, 'The packet', item by item: the first octet, the count of fields, a field. Each item has a function of its own, which
 // answers with the item or with the refusal that is the whole packet's.
 
+use crate::places::EdgeRead;
+use crate::places::bits;
+use crate::places::read_edge;
 use datagrams::Packet;
 use lengths::Length;
 use lengths::Refusal;
+use lengths::wide;
 use packets::Field;
 use packets::Kind;
 ghost use mathlib.Core.Path.{_≡_};
 ghost use Prim.Native.Nat.{_≤_};
 ghost use lib.ListN.{length};
-ghost use Rattle.lengths.specs.Promise.{Octet};
 ghost use Rattle.packets.specs.Inner.Octets.{kindOf};
-ghost use Rattle.packet_reader.specs.Items.{FirstTold, CountTold, HeaderTold, SizeTold, FieldTold};
+ghost use Rattle.packet_reader.specs.Items.{Inside, FirstTold, CountTold, HeaderTold, SizeTold, DataTold, FieldTold};
 
 // What the first octet says.
 pub enum FirstRead {
@@ -43,12 +46,8 @@ pub enum FieldRead {
     Refused(Refusal),
 }
 
-// An octet as a size.
-fn wide(octet: u8) -> usize
-    ensures { λ r. ⌜ Octet octet r ⌝ }
-{
-    octet as usize
-}
+// How many bits a field header takes.
+const HEADER_WIDTH: usize = 4;
 
 // The kind that a first octet says.
 fn kind_of(octet: u8) -> Kind
@@ -92,41 +91,30 @@ pub fn read_count(s: &[u8], present: bool) -> CountRead
     ensures { λ r. ⌜ CountTold (now (s .entry)) present r ⌝ }
 {
     if !present {
-        return CountRead::Count(0, 1);
+        return CountRead::Count(0, 8);
     }
-    let got = lengths::read(&s[1..]);
-    let Length::Value(value, size) = got else {
-        // an answer that is no value is a refusal, so this is never reached
-        let Length::Refused(refusal) = got else {
-            return CountRead::Count(0, 1);
-        };
-        return CountRead::Refused(refusal);
+    let found = lengths::read_within(&s[1..], Field::LEAST, Field::LIMIT);
+    let Length::Value(value, size) = found else {
+        return CountRead::Refused(found.refusal());
     };
-    if value < Field::LEAST {
-        return CountRead::Refused(Refusal::new(Refusal::OUTSIDE_SIZES));
-    }
-    if Field::LIMIT < value {
-        return CountRead::Refused(Refusal::new(Refusal::OUTSIDE_SIZES));
-    }
-    let next = 1 + size;
+    let octets = 1 + size;
+    let next = 8 * octets;
     CountRead::Count(value, next)
 }
 
 // The field header at a place.
-fn read_header(s: &[u8], at: usize) -> HeaderRead
-    ensures { λ r. ⌜ HeaderTold (now (s .entry)) at r ⌝ }
+fn read_header(s: &[u8], p: usize) -> HeaderRead
+    requires { ⌜ Inside (now s) p ⌝ }
+    ensures { λ r. ⌜ HeaderTold (now (s .entry)) p r ⌝ }
 {
-    if s.len() <= at {
+    let all = 8 * s.len();
+    let next = p + HEADER_WIDTH;
+    if all < next {
         return HeaderRead::Refused(Refusal::new(Refusal::ENDS_EARLY));
     }
-    let octet = s[at];
-    if 0 < octet % 16 {
-        return HeaderRead::Refused(Refusal::new(Refusal::SPARE_BIT));
-    }
-    let bits = octet / 16;
-    let kind = bits % 8;
-    let present = 0 < bits / 8 % 2;
-    let next = at + 1;
+    let header = bits(s, HEADER_WIDTH, p);
+    let kind = (header % 8) as u8;
+    let present = 0 < header / 8 % 2;
     if packets::right_data(kind, present) {
         return HeaderRead::Header(kind, present, next);
     }
@@ -152,31 +140,44 @@ fn read_size(s: &[u8]) -> SizeRead
     SizeRead::Size(size)
 }
 
-// The field at a place: its header, and with data the length and the data.
-pub fn read_field(s: &[u8], at: usize) -> FieldRead
-    ensures { λ r. ⌜ FieldTold (now (s .entry)) at r ⌝ }
+// What follows a header with data: an octet edge, the data's length and the data.
+fn read_data(s: &[u8], kind: u8, p: usize) -> FieldRead
+    requires { ⌜ Inside (now s) p ⌝ }
+    ensures { λ r. ⌜ DataTold (now (s .entry)) kind p r ⌝ }
 {
-    match read_header(s, at) {
+    match read_edge(s, p) {
+        EdgeRead::Refused(refusal) => FieldRead::Refused(refusal),
+        EdgeRead::Edge(at) => match read_size(&s[at..]) {
+            SizeRead::Refused(refusal) => FieldRead::Refused(refusal),
+            SizeRead::Size(size) => {
+                let start = at + 2;
+                let end = start + size;
+                let next = 8 * end;
+                FieldRead::Field(Field { kind, start, size }, next)
+            }
+        },
+    }
+}
+
+// The field at a place: its header, and what follows it.
+pub fn read_field(s: &[u8], p: usize) -> FieldRead
+    requires { ⌜ Inside (now s) p ⌝ }
+    ensures { λ r. ⌜ FieldTold (now (s .entry)) p r ⌝ }
+{
+    match read_header(s, p) {
         HeaderRead::Refused(refusal) => FieldRead::Refused(refusal),
         HeaderRead::Header(kind, present, next) => {
-            if !present {
-                return FieldRead::Field(
-                    Field {
-                        kind,
-                        start: 0,
-                        size: 0,
-                    },
-                    next,
-                );
+            if present {
+                return read_data(s, kind, next);
             }
-            match read_size(&s[next..]) {
-                SizeRead::Refused(refusal) => FieldRead::Refused(refusal),
-                SizeRead::Size(size) => {
-                    let start = next + 2;
-                    let end = start + size;
-                    FieldRead::Field(Field { kind, start, size }, end)
-                }
-            }
+            FieldRead::Field(
+                Field {
+                    kind,
+                    start: 0,
+                    size: 0,
+                },
+                next,
+            )
         }
     }
 }

@@ -6,6 +6,8 @@ use crate::items::FirstRead;
 use crate::items::read_count;
 use crate::items::read_field;
 use crate::items::read_first;
+use crate::places::EdgeRead;
+use crate::places::read_edge;
 use datagrams::Packet;
 use lengths::Refusal;
 use packets::Ending;
@@ -16,7 +18,7 @@ ghost use mathlib.Core.Path.{_≡_};
 ghost use Prim.Native.Nat.{_≤_};
 ghost use mathlib.Core.List.{[]};
 ghost use Rattle.packets.specs.Packet.{fieldsLimit, allZero, mayFollow};
-ghost use Rattle.packet_reader.specs.Items.{FieldsTold};
+ghost use Rattle.packet_reader.specs.Items.{Inside, FieldsTold, EndTold};
 ghost use Rattle.packets.specs.Promise.{PacketTold, packetRead, padded};
 ghost use Rattle.lengths.specs.Answers as answers;
 
@@ -30,6 +32,12 @@ enum FieldsEnd {
 struct FieldsRead {
     end: FieldsEnd,
     fields: [Field; Field::LIMIT],
+}
+
+// Whether a packet ends as it must.
+enum EndRead {
+    Ends,
+    Refused(Refusal),
 }
 
 // As many places as a packet may have fields, all zero.
@@ -46,13 +54,14 @@ fn no_fields() -> [Field; Field::LIMIT]
 // So many fields, the first of which begins at `from`.
 fn read_fields(s: &[u8], count: usize, from: usize) -> FieldsRead
     requires { ⌜ count ≤ fieldsLimit ⌝ }
+    requires { ⌜ Inside (now s) from ⌝ }
     ensures { λ r. ⌜ FieldsTold count (now (s .entry)) from r ⌝ }
 {
     let mut fields = no_fields();
-    let mut at = from;
+    let mut p = from;
     let mut i: usize = 0;
     while i < count {
-        match read_field(s, at) {
+        match read_field(s, p) {
             FieldRead::Refused(refusal) => {
                 let none = no_fields();
                 return FieldsRead {
@@ -62,13 +71,13 @@ fn read_fields(s: &[u8], count: usize, from: usize) -> FieldsRead
             }
             FieldRead::Field(field, next) => {
                 fields[i] = field;
-                at = next;
+                p = next;
                 i += 1;
             }
         }
     }
     FieldsRead {
-        end: FieldsEnd::Next(at),
+        end: FieldsEnd::Next(p),
         fields,
     }
 }
@@ -97,6 +106,22 @@ fn may_follow(left: &[u8], ending: Ending) -> bool
     }
 }
 
+// The end of a packet: an octet edge, and after it only what may follow.
+fn read_end(s: &[u8], p: usize, ending: Ending) -> EndRead
+    requires { ⌜ Inside (now s) p ⌝ }
+    ensures { λ r. ⌜ EndTold ending (now (s .entry)) p r ⌝ }
+{
+    match read_edge(s, p) {
+        EdgeRead::Refused(refusal) => EndRead::Refused(refusal),
+        EdgeRead::Edge(at) => {
+            if may_follow(&s[at..], ending) {
+                return EndRead::Ends;
+            }
+            EndRead::Refused(Refusal::new(Refusal::LEFT_OVER))
+        }
+    }
+}
+
 // The answer of a refused packet.
 fn refused(refusal: Refusal) -> PacketRead
     ensures { λ r. ⌜ r ≡ packetRead (answers.refused refusal) ⌝ }
@@ -119,21 +144,21 @@ pub fn read(s: &[u8], ending: Ending) -> PacketRead
         FirstRead::Refused(refusal) => refused(refusal),
         FirstRead::First(kind, value, present) => match read_count(s, present) {
             CountRead::Refused(refusal) => refused(refusal),
-            CountRead::Count(count, at) => {
-                let all = read_fields(s, count, at);
+            CountRead::Count(count, from) => {
+                let all = read_fields(s, count, from);
                 let end = all.end;
                 match end {
                     FieldsEnd::Refused(refusal) => refused(refusal),
-                    FieldsEnd::Next(next) => {
-                        if may_follow(&s[next..], ending) {
+                    FieldsEnd::Next(next) => match read_end(s, next, ending) {
+                        EndRead::Refused(refusal) => refused(refusal),
+                        EndRead::Ends => {
                             let fields = all.fields;
-                            return PacketRead {
+                            PacketRead {
                                 reading: Reading::Packet { kind, value, count },
                                 fields,
-                            };
+                            }
                         }
-                        refused(Refusal::new(Refusal::LEFT_OVER))
-                    }
+                    },
                 }
             }
         },

@@ -1,6 +1,6 @@
 -- What the writer decides before it writes: one law for each answer, in the words of the code; and the size of what is
 -- to be written. Assumes nothing.
-use Prim.Native.Nat.{ℕ, _+_, _≤_, _<_}
+use Prim.Native.Nat.{ℕ, _+_, _/_, _≤_, _<_}
 use mathlib.Core.Path.{_≡_, refl, sym, ap, ap₂, _∙_}
 use mathlib.Core.Bool.{Bool, true, false, not, _&&_}
 use mathlib.Core.List.{List, [], _∷_}
@@ -16,7 +16,8 @@ use Rattle.lengths.specs.declared.Written.the-variants as written
 use Rattle.datagrams.specs.Sizes.{packetLimit}
 use Rattle.packets.specs.Packet.{fieldsLimit, typesLimit, assigned, rightFields, rightData, every}
 use Rattle.packets.specs.Write.{withData, packetOctets, sum, oneEach, allAssigned, rightTypes, allRight, inSizes, packetToWrite}
-use Rattle.packets.specs.Inner.Items.{Wide, FieldsSized, packetSize, Measured}
+use Rattle.packets.specs.Inner.Laid.{packetSize}
+use Rattle.packets.specs.Inner.Items.{Wide, FieldsPast, Measured}
 use Rattle.packets.specs.declared.types.Kind.{Kind}
 use Rattle.packets.proofs.Laws.{drop-next, each-length, packet-size}
 
@@ -109,8 +110,8 @@ module _ (ns : List ℕ) (size : ℕ) where
   unfolding inSizes
   sizes-is {b} is right = both-right (every (λ n. leb n packetLimit) ns) _ _ (sym is ∙ right) refl
 
-pub size-some : {ns : List ℕ} {n : ℕ} → FieldsSized ns n → 0 < length ns → 2 + n ≡ packetSize ns
-size-some {ns} sized some = rw (lt-ltb 0 (length ns) some, sized .answer)
+pub size-some : {ns : List ℕ} {n : ℕ} → FieldsPast 16 ns n → 0 < length ns → (n + 7) / 8 ≡ packetSize ns
+size-some {ns} past some = rw (lt-ltb 0 (length ns) some, past .answer)
 
 pub size-none : (ns : List ℕ) → length ns ≤ 0 → 1 ≡ packetSize ns
 size-none ns none = rw (le-ltb 0 (length ns) none)

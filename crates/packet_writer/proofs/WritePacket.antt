@@ -19,7 +19,8 @@ use Rattle.lengths.specs.declared.Written.{Written}
 use Rattle.lengths.specs.declared.Written.the-variants as written
 use Rattle.lengths.proofs.Laws.{put-none, put-one, put-next, put-long, put-puts, full-puts, room-left}
 use Rattle.packets.specs.Write.{packetToWrite}
-use Rattle.packets.specs.Inner.Octets.{firstOctet, fieldsOctets, laidOctets}
+use Rattle.formats.specs.Waiting.{noneWait}
+use Rattle.packets.specs.Inner.Laid.{firstOctet, fieldsOctets, laidOctets}
 use Rattle.packets.specs.Inner.Items.{FieldsFit, CountedFit, countedOctets, PacketFits, Measured}
 use Rattle.packets.specs.declared.types.Kind.{Kind}
 use Rattle.packets.proofs.Laws.{rest, write-form, assigned-few, packet-bare, packet-full}
@@ -34,7 +35,7 @@ module _ {ts ns d old mid : List ℕ} {r : Written} (fits : CountedFit ts ns d o
       let w = lengthOctets (length ts) in
       let small : ltb lengthLimit (length ts) ≡ false = le-ltb lengthLimit (length ts) (omega (arith, fits .few)) in
       let room : leb (length w) (length old) ≡ true
-      = le-leb (length w) (length old) (omega (arith, fits .room, length-append w (fieldsOctets ts ns d))) in
+      = le-leb (length w) (length old) (omega (arith, fits .room, length-append w (fieldsOctets noneWait ts ns d))) in
       (rw (small, room) at (puts .answer), rw (small, room) at (puts .lent))
 
   pub count-never : {x : Refusal} → r ≡ written.Refused x → Put (countedOctets ts ns d) old mid 0
@@ -46,7 +47,7 @@ module _ {ts ns d old mid : List ℕ} {r : Written} (fits : CountedFit ts ns d o
     count-is : Put (lengthOctets (length ts)) old mid at
     count-is =
         record {
-          inside = omega (arith, fits .room, length-append (lengthOctets (length ts)) (fieldsOctets ts ns d));
+          inside = omega (arith, fits .room, length-append (lengthOctets (length ts)) (fieldsOctets noneWait ts ns d));
           answer = cc (count-written .0, ap writtenOutcome is);
           lent = count-written .1;
         }
@@ -59,18 +60,18 @@ module _ {ts ns d old mid : List ℕ} {r : Written} (fits : CountedFit ts ns d o
         record {
           right = fits .right;
           room =
-              room-left mid at (length (fieldsOctets ts ns d))
+              room-left mid at (length (fieldsOctets noneWait ts ns d))
               (omega (
                 arith,
                 fits .room,
                 length-append (lengthOctets (length ts))
-                    (fieldsOctets ts ns d),
+                    (fieldsOctets noneWait ts ns d),
                 count-is .answer,
                 put-long count-is,
               ));
         }
 
-    module _ {part : List ℕ} {n : ℕ} (put : Put (fieldsOctets ts ns d) (rest at mid) part n) where
+    module _ {part : List ℕ} {n : ℕ} (put : Put (fieldsOctets noneWait ts ns d) (rest at mid) part n) where
       pub count-put : Put (countedOctets ts ns d) old (putMid at (length mid - at) mid part) (at + n)
       count-put = put-next count-is put
 

@@ -6,12 +6,13 @@ use lengths::Written;
 use packets::Field;
 use packets::Kind;
 ghost use mathlib.Core.Path.{_≡_};
-ghost use Prim.Native.Nat.{_≤_, _<_};
+ghost use Prim.Native.Nat.{_^_, _≤_, _<_};
 ghost use lib.ListN.{length};
 ghost use lib.Dec.{leb};
 ghost use Rattle.packets.specs.Packet.{fieldsLimit, typesLimit, every};
 ghost use Rattle.packets.specs.Write.{sum, oneEach, allAssigned, rightTypes, allRight, inSizes};
-ghost use Rattle.packets.specs.Inner.Items.{Wide, Sized, FieldsSized, packetSize, Measured};
+ghost use Rattle.packets.specs.Inner.Laid.{packetSize};
+ghost use Rattle.packets.specs.Inner.Items.{Wide, FieldPast, FieldsPast, Measured};
 ghost use Rattle.datagrams.specs.Sizes.{packetLimit};
 
 // A length as a size.
@@ -36,31 +37,34 @@ fn sum_of(lengths: &[u16]) -> usize
     sum
 }
 
-// The octets that a field takes whose data has this length.
-fn field_size(size: usize) -> usize
-    requires { ⌜ size < 65536 ⌝ }
-    ensures { λ r. ⌜ Sized size r ⌝ }
+// The place after a field at a place, whose data has this length: its header, and with data an octet edge, two octets and the data.
+fn past_field(place: usize, size: usize) -> usize
+    requires { ⌜ (place < 2 ^ 24) × (size < 65536) ⌝ }
+    ensures { λ r. ⌜ FieldPast place size r ⌝ }
 {
+    let next = place + 4;
     if 0 < size {
-        return 3 + size;
+        let edge = (next + 7) / 8;
+        let octets = edge + 2 + size;
+        return 8 * octets;
     }
-    1
+    next
 }
 
-// The octets that at most 16 fields take.
-fn fields_size(lengths: &[u16]) -> usize
+// The place after at most 16 fields, the first of which is at the third octet.
+fn past_fields(lengths: &[u16]) -> usize
     requires { ⌜ length (now lengths) ≤ fieldsLimit ⌝ }
-    ensures { λ r. ⌜ FieldsSized (now (lengths .entry)) r ⌝ }
+    ensures { λ r. ⌜ FieldsPast 16 (now (lengths .entry)) r ⌝ }
 {
-    let mut sum: usize = 0;
+    let mut place: usize = 16;
     let mut i: usize = 0;
     while i < lengths.len() {
         let size = wide(lengths[i]);
-        let octets = field_size(size);
-        sum += octets;
+        let next = past_field(place, size);
+        place = next;
         i += 1;
     }
-    sum
+    place
 }
 
 // Whether each type is one of 0 to 7.
@@ -158,8 +162,8 @@ fn packet_size(lengths: &[u16]) -> usize
     ensures { λ r. ⌜ r ≡ packetSize (now (lengths .entry)) ⌝ }
 {
     if 0 < lengths.len() {
-        let octets = fields_size(lengths);
-        return 2 + octets;
+        let end = past_fields(lengths);
+        return (end + 7) / 8;
     }
     1
 }

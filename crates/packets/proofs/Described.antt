@@ -107,8 +107,8 @@ module _ (edition : Edition) where
   unfolding header
   lawful-header =
       lawful-guarded wrongData _
-      (lawful-made (λ x. record { kind = x .1 .0; present = x .0 }) (λ h. (h .present, (h .kind, tt))) (λ x p fits. refl)
-      (lawful-then _ lawful-flag (λ _. lawful-then _ (lawful-enumerated (edition .types)) (λ _. lawful-align))))
+      (lawful-made (λ x. record { kind = x .1; present = x .0 }) (λ h. (h .present, h .kind)) (λ x p fits. refl)
+      (lawful-then _ lawful-flag (λ _. lawful-enumerated (edition .types))))
 
   pub lawful-field : Lawful (field edition)
   unfolding field
@@ -142,9 +142,10 @@ module _ (edition : Edition) where
   pub lawful-packet : Lawful (packet edition)
   unfolding packet
   lawful-packet =
-      lawful-made (λ x. record { kind = x .0 .kind; value = x .0 .value; contents = x .1 })
-      (λ p. (record { kind = p .kind; value = p .value; present = ltb 0 (length (p .contents)) }, p .contents))
+      lawful-made (λ x. record { kind = x .0 .kind; value = x .0 .value; contents = x .1 .0 })
+      (λ p. (record { kind = p .kind; value = p .value; present = ltb 0 (length (p .contents)) }, (p .contents, tt)))
       (λ x p fits.
       ap (λ (b : Bool). (record { kind = x .0 .kind; value = x .0 .value; present = b }, x .1))
-      (fields-some (x .0 .present) (x .1) _ (fits .1)))
-      (lawful-then _ lawful-start (λ f. lawful-either (f .present) lawful-data-field (lawful-known [])))
+      (fields-some (x .0 .present) (x .1 .0) _ (fits .1 .0)))
+      (lawful-then _ lawful-start
+      (λ f. lawful-then _ (lawful-either (f .present) lawful-data-field (lawful-known [])) (λ _. lawful-align)))

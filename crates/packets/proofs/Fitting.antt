@@ -1,5 +1,5 @@
 -- What passes the writer's tests fits the description, each field's data at its place; and what fits passes the tests. Assumes nothing.
-use Prim.Native.Nat.{ℕ, suc, _+_, _-_, _*_, _/_, _%_, _^_, _≤_, _<_}
+use Prim.Native.Nat.{ℕ, suc, _+_, _-_, _/_, _^_, _≤_, _<_}
 use mathlib.Core.Path.{_≡_, refl, sym, ap, subst, _∙_}
 use mathlib.Core.Bool.{Bool, true, false, cond}
 use mathlib.Core.List.{List, [], _∷_}
@@ -7,19 +7,21 @@ use lib.ListN.{length, take, drop}
 use lib.Dec.{leb, ltb}
 use native.Mathlib.Omega.{arith}
 use borrow.Author.Tests.{lt-ltb, le-leb, ltb-true, ltb-false, leb-true, leb-false}
-use Rattle.lengths.specs.Length.{lengthOctets}
 use Rattle.lengths.proofs.Laws.{both}
 use Rattle.formats.specs.Spelling.{wide}
+use Rattle.formats.specs.Places.{edge}
 use Rattle.formats.specs.Format.{flag, known, sequenceFits}
-use Rattle.formats.proofs.Laws.{wide-whole}
 use Rattle.datagrams.specs.Sizes.{packetLimit}
 use Rattle.packets.specs.Edition.{Enumerated, values, edition98}
 use Rattle.packets.specs.Packet.{assigned, typesLimit, fieldsLimit, rightFields, rightData, every, root, addition, enumerated}
 use Rattle.packets.specs.Packet.{typeOfMsg, start, count, header, size, Content, fieldData, field, dataField, packet}
 use Rattle.packets.specs.Write.{withData, rightTypes}
+use Rattle.packets.specs.Inner.Octets.{headerWidth}
+use Rattle.packets.specs.Inner.Laid.{sizeOctets}
 use Rattle.packets.specs.declared.types.Kind.{Kind}
 use Rattle.packets.specs.declared.types.Kind.the-variants.{Indicator, Data}
-use Rattle.packets.proofs.Laid.{edge-whole, header-wide, size-wide, field-edge, start-wide, type-known}
+use Rattle.packets.proofs.FieldLaid.{start-wide, header-wide, edge-wide}
+use Rattle.packets.proofs.Laid.{type-known}
 
 -- ---- a value of an ENUMERATED type
 -- its bits hold its values, and values were added only after an extension mark
@@ -67,31 +69,31 @@ sound-values Data = record { wide = omega arith; few = omega arith; marked = λ 
 -- ---- a field
 -- the field whose header begins at p, with its data where it comes to stand
 abbrev pub placedAt : ℕ → List ℕ → ℕ → Content
-placedAt kind octets p = record { kind = kind; start = cond (withData (length octets)) ((16 + (8 + p)) / 8) 0; octets = octets }
+placedAt kind octets p = record { kind = kind; start = cond (withData (length octets)) (edge (p + headerWidth) + 2) 0; octets = octets }
 
-data-fits : (l : List ℕ) (p q : ℕ) → q ≡ 8 + p → p % 8 ≡ 0 → 0 < length l → length l ≤ packetLimit
-    → fieldData .fits ((16 + (8 + p)) / 8, l) q
+data-fits : (l : List ℕ) (p : ℕ) → 0 < length l → length l ≤ packetLimit → fieldData .fits (edge p + 2, l) p
 unfolding fieldData size
-data-fits l p q is edge some few =
-    let two : wide (size .spelling (length l) q) ≡ 16 = size-wide (length l) q (omega arith) in
-    let at : (16 + (8 + p)) / 8 ≡ (wide (size .spelling (length l) q) + q) / 8 = ap (λ (n : ℕ). n / 8) (omega arith) in
+data-fits l p some few =
+    let at : edge p + 2 ≡ (wide (size .spelling (length l) p) + p) / 8 = omega (arith, edge-wide p (sizeOctets (length l))) in
     ((((tt, omega arith), le-leb (length l) packetLimit few), (at, refl)), refl)
 
-rest-fits : (l : List ℕ) (p q : ℕ) (b : Bool) → ltb 0 (length l) ≡ b → q ≡ 8 + p → p % 8 ≡ 0 → length l ≤ packetLimit
-    → (cond b fieldData (known (0, []))) .fits (cond b ((16 + (8 + p)) / 8) 0, l) q
-rest-fits l p q true e is edge few = data-fits l p q is edge (ltb-true 0 (length l) e) few
-rest-fits [] p q false e is edge few = refl
-rest-fits (x ∷ l) p q false e is edge few = absurd (omega (arith, ltb-false 0 (length (x ∷ l)) e))
+rest-fits : (l : List ℕ) (p : ℕ) (b : Bool) → ltb 0 (length l) ≡ b → length l ≤ packetLimit
+    → (cond b fieldData (known (0, []))) .fits (cond b (edge p + 2) 0, l) p
+rest-fits l p true e few = data-fits l p (ltb-true 0 (length l) e) few
+rest-fits [] p false e few = refl
+rest-fits (x ∷ l) p false e few = absurd (omega (arith, ltb-false 0 (length (x ∷ l)) e))
 
-field-fits : (t : ℕ) (l : List ℕ) (p : ℕ) → p % 8 ≡ 0 → t ≤ typesLimit → rightData t (withData (length l)) ≡ true → length l ≤ packetLimit
+field-fits : (t : ℕ) (l : List ℕ) (p : ℕ) → t ≤ typesLimit → rightData t (withData (length l)) ≡ true → length l ≤ packetLimit
     → field edition98 .fits (placedAt t l p) p
 unfolding field header
-field-fits t l p edge known' right few =
+field-fits t l p known' right few =
     let b = ltb 0 (length l) in
-    let eight = header-wide p edge t b known' in (
+    let next : p + headerWidth ≡ wide (header edition98 .spelling (record { kind = t; present = b }) p) + p
+    = omega (arith, header-wide t b p known') in (
       (
-        (((tt, (enumerated-fits (edition98 .types) t sound-types (omega arith) _, tt)), refl), right),
-        rest-fits l p _ b refl (omega arith) edge few,
+        (((tt, enumerated-fits (edition98 .types) t sound-types (omega arith) _), refl), right),
+        subst (λ (q : ℕ). (cond b fieldData (known (0, []))) .fits (cond b (edge (p + headerWidth) + 2) 0, l) q) next
+            (rest-fits l (p + headerWidth) b refl few),
       ),
       refl,
     )
@@ -119,21 +121,20 @@ unfoldable pub Cut : List ℕ → List ℕ → Type 0
 Cut [] d = Unit {0}
 Cut (n ∷ ns) d = (length (take n d) ≡ n) × Cut ns (drop n d)
 
-fields-fit : (ts ns d : List ℕ) (p : ℕ) → p % 8 ≡ 0 → Cut ns d → every (λ t. leb t typesLimit) ts ≡ true
+fields-fit : (ts ns d : List ℕ) (p : ℕ) → Cut ns d → every (λ t. leb t typesLimit) ts ≡ true
     → every (λ n. leb n packetLimit) ns ≡ true
     → rightTypes ts ns ≡ true → sequenceFits (field edition98) (placed ts ns d p) p
 unfolding placed sequenceFits every rightTypes Cut
-fields-fit [] ns d p edge cut types short right = tt
-fields-fit (t ∷ ts) [] d p edge cut types short right = tt
-fields-fit (t ∷ ts) (n ∷ ns) d p edge cut types short right =
+fields-fit [] ns d p cut types short right = tt
+fields-fit (t ∷ ts) [] d p cut types short right = tt
+fields-fit (t ∷ ts) (n ∷ ns) d p cut types short right =
     let known' = type-known t ts types in
     let few = both (leb n packetLimit) (every (λ k. leb k packetLimit) ns) short in
     let so = both (rightData t (withData n)) (rightTypes ts ns) right in
-    let long = cut .0 in
-    let c = placedAt t (take n d) p in (
-      field-fits t (take n d) p edge (known' .0) (ap (λ (k : ℕ). rightData t (withData k)) long ∙ so .0)
+    let long = cut .0 in (
+      field-fits t (take n d) p (known' .0) (ap (λ (k : ℕ). rightData t (withData k)) long ∙ so .0)
           (omega (arith, leb-true n packetLimit (few .0))),
-      fields-fit ts ns (drop n d) _ (field-edge c p edge (known' .0)) (cut .1) (known' .1) (few .1) (so .1),
+      fields-fit ts ns (drop n d) _ (cut .1) (known' .1) (few .1) (so .1),
     )
 
 -- ---- the packet
@@ -147,34 +148,29 @@ count-fits : (n p : ℕ) → 1 ≤ n → n ≤ fieldsLimit → count .fits n p
 unfolding count
 count-fits n p some few = (omega arith, rw (le-leb 1 n some, le-leb n fieldsLimit few))
 
-count-wide : (n p : ℕ) → p % 8 ≡ 0 → wide (count .spelling n p) ≡ 8 * length (lengthOctets n)
-unfolding count
-count-wide n p edge = ap wide (edge-whole p edge (lengthOctets n)) ∙ wide-whole (lengthOctets n)
-
 -- where the first field begins: after the count, from a place on
 abbrev pub fieldsFrom : ℕ → ℕ → ℕ
 fieldsFrom n p = wide (count .spelling n p) + p
 
 module _ (ts ns d : List ℕ) (same : length ts ≡ length ns) where
-  after-fits : (b : Bool) (p : ℕ) → ltb 0 (length ts) ≡ b → p % 8 ≡ 0 → length ts ≤ fieldsLimit → Cut ns d
+  after-fits : (b : Bool) (p : ℕ) → ltb 0 (length ts) ≡ b → length ts ≤ fieldsLimit → Cut ns d
       → every (λ t. leb t typesLimit) ts ≡ true
       → every (λ n. leb n packetLimit) ns ≡ true → rightTypes ts ns ≡ true
       → (cond b (dataField edition98) (known [])) .fits (placed ts ns d (fieldsFrom (length ts) p)) p
   unfolding dataField
-  after-fits true p e edge few cut types short right =
-      let long = placed-long ts ns d (fieldsFrom (length ts) p) same in
-      let on : fieldsFrom (length ts) p % 8 ≡ 0 = omega (arith, count-wide (length ts) p edge) in (
+  after-fits true p e few cut types short right =
+      let long = placed-long ts ns d (fieldsFrom (length ts) p) same in (
         (
           subst (λ (n : ℕ). count .fits n p) (sym long) (count-fits (length ts) p (ltb-true 0 (length ts) e) few),
           (
             subst (λ (n : ℕ). sequenceFits (field edition98) (placed ts ns d (fieldsFrom (length ts) p)) (fieldsFrom n p)) (sym long)
-                (fields-fit ts ns d (fieldsFrom (length ts) p) on cut types short right),
+                (fields-fit ts ns d (fieldsFrom (length ts) p) cut types short right),
             refl,
           ),
         ),
         refl,
       )
-  after-fits false p e edge few cut types short right = placed-none ts ns d (fieldsFrom (length ts) p) e
+  after-fits false p e few cut types short right = placed-none ts ns d (fieldsFrom (length ts) p) e
 
   -- what passes the writer's tests fits
   pub packet-fits : (k : Kind) (v : ℕ) → v < assigned k → length ts ≤ fieldsLimit → Cut ns d → every (λ t. leb t typesLimit) ts ≡ true
@@ -190,12 +186,15 @@ module _ (ts ns d : List ℕ) (same : length ts ≡ length ns) where
         subst
             (λ (x : Bool).
             (start edition98 .fits (record { kind = k; value = v; present = x }) 0)
-            × ((cond x (dataField edition98) (known [])) .fits (placed ts ns d (fieldsFrom (length ts) 8))
-            (wide (start edition98 .spelling (record { kind = k; value = v; present = x }) 0) + 0)))
+            × (((cond x (dataField edition98) (known [])) .fits (placed ts ns d (fieldsFrom (length ts) 8))
+            (wide (start edition98 .spelling (record { kind = k; value = v; present = x }) 0) + 0)) × Unit {0}))
             long (
               ((first-fits k v b known', (tt, fields)), refl),
-              subst (λ (q : ℕ). (cond b (dataField edition98) (known [])) .fits (placed ts ns d (fieldsFrom (length ts) 8)) q) eight
-                  (after-fits b 8 refl refl few cut types short right),
+              (
+                subst (λ (q : ℕ). (cond b (dataField edition98) (known [])) .fits (placed ts ns d (fieldsFrom (length ts) 8)) q) eight
+                    (after-fits b 8 refl few cut types short right),
+                tt,
+              ),
             ),
         refl,
       )

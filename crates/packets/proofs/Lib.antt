@@ -8,6 +8,7 @@ mod Described
 mod AtFirst
 mod AtOctets
 mod ReadAt
+mod FieldLaid
 mod Laid
 mod WriteLaws
 mod Fitting

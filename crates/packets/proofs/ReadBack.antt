@@ -12,7 +12,7 @@ use borrow.Author.Tests.{le-leb, ltb-true, ltb-false, leb-true, leb-false, eqb-t
 use Rattle.lengths.specs.Refusals.{outsideSizes, leftOver}
 use Rattle.lengths.specs.Answers.{done}
 use Rattle.lengths.specs.Claims.{Octets}
-use Rattle.lengths.proofs.Laws.{both}
+use Rattle.lengths.proofs.Laws.{both, cond-done}
 use Rattle.formats.specs.Spelling.{wide, inOctets}
 use Rattle.formats.specs.Reading.{Finding, found, stopped, andThen}
 use Rattle.formats.specs.Reading as reading
@@ -25,14 +25,13 @@ use Rattle.packets.specs.Packet.{First, chosen, isData, typeOfMsg, start
 use Rattle.packets.specs.Packet.{dataField, IfpPacket, packet, wholePacket, fieldOf, PacketAnswer, answerOf, readPacket, allData}
 use Rattle.packets.specs.Write.{withData, contentsOf, packetOctets, sum, total, rightTypes, packetToWrite}
 use Rattle.packets.specs.Claims.{ReadWrites}
-use Rattle.packets.specs.Inner.Octets.{laidOctets}
+use Rattle.packets.specs.Inner.Laid.{laidOctets}
 use Rattle.packets.specs.declared.types.Kind.{Kind}
 use Rattle.packets.specs.declared.types.Kind.the-variants.{Indicator, Data}
 use Rattle.packets.specs.declared.types.Ending.the-variants.{Whole}
 use Rattle.packets.proofs.Described.{lawful-packet}
 use Rattle.packets.proofs.Laid.{packet-laid}
 use Rattle.packets.proofs.WriteLaws.{write-of}
-use Rattle.packets.proofs.ReadLaws.{past}
 use Rattle.packets.proofs.ReadAt.{allOctets, packet-in}
 use Rattle.packets.proofs.RoundTrips.{bare, packet-bare, kinds, sizes}
 
@@ -63,7 +62,7 @@ field-right : (c : Content) (p : ℕ) → field edition98 .fits c p → FieldRig
 unfolding field header enumerated
 field-right c p fits =
     record {
-      type = let low : c .kind < 8 = leb-false 8 (c .kind) (fits .0 .0 .0 .0 .1 .0 .0 .0) in omega arith;
+      type = let low : c .kind < 8 = leb-false 8 (c .kind) (fits .0 .0 .0 .0 .1 .0 .0) in omega arith;
       right = fits .0 .0 .1;
       short = rest-short (ltb 0 (length (c .octets))) (c .start) (c .octets) _ (fits .0 .1);
     }
@@ -120,7 +119,7 @@ after-right false cs p fits =
 packet-right : (x : IfpPacket) → packet edition98 .fits x 0 → PacketRight x
 unfolding packet start
 packet-right x fits =
-    let after = after-right (ltb 0 (length (x .contents))) (x .contents) _ (fits .0 .1) in
+    let after = after-right (ltb 0 (length (x .contents))) (x .contents) _ (fits .0 .1 .0) in
     record { known = first-known _ (fits .0 .0 .0 .0); few = after .0; fields = fits .0 .0 .0 .1 .1; right = after .1 }
 
 -- what was read as received: a packet up to the last octet
@@ -133,7 +132,7 @@ record Received (s : List ℕ) (p : PacketAnswer) : Type 0 where
 received : (s : List ℕ) (p : PacketAnswer) → readPacket Whole s ≡ done p → Received s p
 unfolding readPacket wholePacket
 received s p e =
-    let short = past (ltb packetLimit (length s)) outsideSizes _ p e in
+    let short = cond-done (ltb packetLimit (length s)) outsideSizes _ p e in
     by (packet edition98 .read s 0 0) refl (ltb-false packetLimit (length s) (short .0)) (short .1) where
       ended : (x : IfpPacket) (q : ℕ) (b : Bool) → packet edition98 .read s 0 0 ≡ found x q → length s ≤ packetLimit
           → eqb (length (drop (q / 8) s)) 0 ≡ b

@@ -1,35 +1,28 @@
 -- Laws of the reader's definitions, for this crate and those above: what it says of the octets that an item of a packet
 -- reads, each test of its definition that was passed and the answer; and that octets which pass the tests read. Assumes
 -- nothing.
-use Prim.Native.Nat.{ℕ, _+_, _-_, _*_, _/_, _%_, _≤_, _<_}
+use Prim.Native.Nat.{ℕ, _+_, _-_, _*_, _/_, _%_, _^_, _≤_, _<_}
 use mathlib.Core.Path.{_≡_, refl, sym, ap, _∙_}
-use mathlib.Core.Bool.{Bool, true, false, cond}
+use mathlib.Core.Bool.{Bool, true, false}
 use mathlib.Core.List.{List}
 use lib.ListN.{length, getD, drop}
 use lib.Dec.{leb, ltb}
 use native.Mathlib.Omega.{arith}
 use borrow.Author.Tests.{ltb-false, leb-false, lt-leb, le-ltb}
 use Rattle.lengths.specs.Refusals.{endsEarly, outsideSizes, spareBit, leftOver, notAssigned, wrongData}
-use Rattle.lengths.specs.Answers.{Answer, done, refused, refuse, _>>=_, LengthAnswer}
-use Rattle.lengths.specs.Length.{lengthAt}
+use Rattle.lengths.specs.Answers.{Answer, done, refused, _>>=_, LengthAnswer}
+use Rattle.lengths.specs.Length.{lengthWithin}
+use Rattle.lengths.proofs.Laws.{cond-done, cond-met}
+use Rattle.formats.specs.Spelling.{gap}
+use Rattle.formats.specs.Places.{Place, bitsAt, edge, edgeAt}
 use Rattle.datagrams.specs.Sizes.{packetLimit}
-use Rattle.packets.specs.Packet.{First, Header, PacketAnswer, assigned, rightFields, rightData, fieldsLimit, mayFollow}
-use Rattle.packets.specs.Inner.Octets.{Place, firstOf, headerOf, isSet, firstAt, Count, countIn, countAt, HeaderAnswer, headerAt}
+use Rattle.packets.specs.Packet.{First, Header, PacketAnswer, assigned, rightFields, rightData, fieldsLeast, fieldsLimit}
+use Rattle.packets.specs.Packet.{mayFollow}
+use Rattle.packets.specs.Inner.Octets.{firstOf, headerOf, isSet, firstAt, Count, countAt, headerWidth, HeaderAnswer, headerAt}
 use Rattle.packets.specs.Inner.Octets.{sizeAt, FieldAnswer, afterHeader, fieldAt, FieldsAnswer, fieldsAt, endAt, packetByOctets}
 use Rattle.packets.specs.declared.types.Ending.{Ending}
 
 -- ---- steps
-module _ {A : Type 0} where
-  -- a test that refuses was not met
-  pub past : (b : Bool) (n : ℕ) (on : Answer A) (a : A) → cond b (refuse n) on ≡ done a → (b ≡ false) × (on ≡ done a)
-  past true n on a e = let z : _≡_ {A = ℕ} 0 1 = cc in absurd (omega arith)
-  past false n on a e = (refl, e)
-
-  -- a test that must hold was met
-  pub kept : (b : Bool) (n : ℕ) (x a : A) → cond b (done x) (refuse n) ≡ done a → (b ≡ true) × (a ≡ x)
-  kept true n x a e = (refl, cc)
-  kept false n x a e = let z : _≡_ {A = ℕ} 0 1 = cc in absurd (omega arith)
-
 module _ {A B : Type 0} where
   -- the step that came first was done, and the next one with its value
   pub record Stepped (first : Answer A) (next : A → Answer B) (b : B) : Type 0 where
@@ -55,66 +48,63 @@ unfolding firstAt
 first-form s f e =
     let octet = getD s 0 0 in
     let o = firstOf (getD s 0 0) in
-    let some = past (ltb (length s) 1) endsEarly _ f e in
-    let plain = past (isSet 5 octet) notAssigned _ f (some .1) in
-    let known = past (leb (assigned (o .kind)) (o .value)) notAssigned _ f (plain .1) in
-    let spare = past (ltb 0 (octet % 2)) spareBit _ f (known .1) in
-    let right = kept (rightFields (o .kind) (o .present)) wrongData o f (spare .1) in
+    let some = cond-done (ltb (length s) 1) endsEarly _ f e in
+    let plain = cond-done (isSet 5 octet) notAssigned _ f (some .1) in
+    let known = cond-done (leb (assigned (o .kind)) (o .value)) notAssigned _ f (plain .1) in
+    let spare = cond-done (ltb 0 (octet % 2)) spareBit _ f (known .1) in
+    let right = cond-met (rightFields (o .kind) (o .present)) wrongData (done o) f (spare .1) in
+    let is : f ≡ o = cc (right .1) in
     record {
       some = ltb-false _ _ (some .0);
       plain = plain .0;
-      known = rw (right .1) (leb-false _ _ (known .0));
+      known = rw is (leb-false _ _ (known .0));
       spare = spare .0;
-      right = rw (right .1) (right .0);
-      is = right .1;
+      right = rw is (right .0);
+      is = is;
     }
+
+-- ---- an octet edge
+pub record EdgeForm (s : List ℕ) (p : Place) (at : ℕ) : Type 0 where
+  pub zeros : getD s (p / 8) 0 % 2 ^ gap p ≤ 0
+  pub is : at ≡ edge p
+
+pub edge-form : (s : List ℕ) (p : Place) (at : ℕ) → edgeAt s p ≡ done at → EdgeForm s p at
+unfolding edgeAt
+edge-form s p at e =
+    let zeros = cond-done (ltb 0 (getD s (p / 8) 0 % 2 ^ gap p)) spareBit _ at e in
+    record { zeros = ltb-false _ _ (zeros .0); is = cc (zeros .1) }
 
 -- ---- the count of fields
 pub record CountForm (s : List ℕ) (c : Count) : Type 0 where
   pub length : LengthAnswer
-  pub reads : lengthAt (drop 1 s) ≡ done length
-  pub some : 1 ≤ c .value
-  pub few : c .value ≤ fieldsLimit
-  pub value : c .value ≡ length .value
-  pub next : c .next ≡ 1 + length .size
+  pub reads : lengthWithin fieldsLeast fieldsLimit (drop 1 s) ≡ done length
+  pub is : c ≡ record { value = length .value; next = 8 * (1 + length .size) }
 
 pub count-form : (s : List ℕ) (c : Count) → countAt s true ≡ done c → CountForm s c
 unfolding countAt
 count-form s c e =
-    let n = stepped (lengthAt (drop 1 s)) countIn c e in
-    let low = past (ltb (n .value .value) 1) outsideSizes _ c (n .gave) in
-    let high = past (ltb fieldsLimit (n .value .value)) outsideSizes _ c (low .1) in
-    let is : c ≡ record { value = n .value .value; next = 1 + n .value .size } = cc (high .1) in
-    record {
-      length = n .value;
-      reads = n .was;
-      some = rw is (ltb-false _ _ (low .0));
-      few = rw is (ltb-false _ _ (high .0));
-      value = ap (λ (x : Count). x .value) is;
-      next = ap (λ (x : Count). x .next) is;
-    }
+    let n = stepped (lengthWithin fieldsLeast fieldsLimit (drop 1 s)) _ c e in
+    record { length = n .value; reads = n .was; is = cc (n .gave) }
 
 -- ---- a field
-pub record HeaderForm (s : List ℕ) (at : Place) (h : HeaderAnswer) : Type 0 where
-  pub some : at < length s
-  pub spare : getD s at 0 % 16 ≤ 0
+pub record HeaderForm (s : List ℕ) (p : Place) (h : HeaderAnswer) : Type 0 where
+  pub inside : p + headerWidth ≤ 8 * length s
   pub right : rightData (h .header .kind) (h .header .present) ≡ true
-  pub header : h .header ≡ headerOf (getD s at 0 / 16)
-  pub next : h .next ≡ at + 1
+  pub header : h .header ≡ headerOf (bitsAt headerWidth s p)
+  pub next : h .next ≡ p + headerWidth
 
-pub header-form : (s : List ℕ) (at : Place) (h : HeaderAnswer) → headerAt s at ≡ done h → HeaderForm s at h
+pub header-form : (s : List ℕ) (p : Place) (h : HeaderAnswer) → headerAt s p ≡ done h → HeaderForm s p h
 unfolding headerAt
-header-form s at h e =
-    let o = headerOf (getD s at 0 / 16) in
-    let some = past (leb (length s) at) endsEarly _ h e in
-    let spare = past (ltb 0 (getD s at 0 % 16)) spareBit _ h (some .1) in
-    let right = kept (rightData (o .kind) (o .present)) wrongData (record { header = o; next = at + 1 }) h (spare .1) in
+header-form s p h e =
+    let o = headerOf (bitsAt headerWidth s p) in
+    let inside = cond-done (ltb (8 * length s) (p + headerWidth)) endsEarly _ h e in
+    let right = cond-met (rightData (o .kind) (o .present)) wrongData _ h (inside .1) in
+    let is : h ≡ record { header = o; next = p + headerWidth } = cc (right .1) in
     record {
-      some = leb-false _ _ (some .0);
-      spare = ltb-false _ _ (spare .0);
-      right = rw (right .1) (right .0);
-      header = ap (λ (x : HeaderAnswer). x .header) (right .1);
-      next = ap (λ (x : HeaderAnswer). x .next) (right .1);
+      inside = ltb-false _ _ (inside .0);
+      right = rw is (right .0);
+      header = ap (λ (x : HeaderAnswer). x .header) is;
+      next = ap (λ (x : HeaderAnswer). x .next) is;
     }
 
 pub record SizeForm (s : List ℕ) (n : ℕ) : Type 0 where
@@ -126,9 +116,9 @@ pub size-form : (s : List ℕ) (n : ℕ) → sizeAt s ≡ done n → SizeForm s 
 unfolding sizeAt
 size-form s n e =
     let size = getD s 0 0 * 256 + getD s 1 0 + 1 in
-    let two = past (ltb (length s) 2) endsEarly _ n e in
-    let few = past (ltb packetLimit size) outsideSizes _ n (two .1) in
-    let all = past (ltb (length s - 2) size) endsEarly _ n (few .1) in
+    let two = cond-done (ltb (length s) 2) endsEarly _ n e in
+    let few = cond-done (ltb packetLimit size) outsideSizes _ n (two .1) in
+    let all = cond-done (ltb (length s - 2) size) endsEarly _ n (few .1) in
     let is : n ≡ size = cc (all .1) in
     let h = ltb-false (length s) 2 (two .0) in
     let k = ltb-false packetLimit size (few .0) in
@@ -144,20 +134,24 @@ first-of s f form =
     let right : rightFields (o .kind) (o .present) ≡ true = rw (form .is) at (form .right) in
     rw (le-ltb (length s) 1 (form .some), form .plain, lt-leb (assigned (o .kind)) (o .value) known, form .spare, right, form .is)
 
-pub count-of : (s : List ℕ) (a : LengthAnswer) → lengthAt (drop 1 s) ≡ done a → 1 ≤ a .value → a .value ≤ fieldsLimit
-    → countAt s true ≡ done (record { value = a .value; next = 1 + a .size })
-unfolding countAt
-count-of s a reads some few = rw (reads, le-ltb (a .value) 1 some, le-ltb fieldsLimit (a .value) few)
+pub edge-of : (s : List ℕ) (p : Place) → getD s (p / 8) 0 % 2 ^ gap p ≤ 0 → edgeAt s p ≡ done (edge p)
+unfolding edgeAt
+edge-of s p zeros = rw (le-ltb 0 (getD s (p / 8) 0 % 2 ^ gap p) zeros)
 
-pub header-of : (s : List ℕ) (at : Place) (k : ℕ) (p : Bool) → at < length s → getD s at 0 % 16 ≤ 0
-    → headerOf (getD s at 0 / 16) ≡ record { kind = k; present = p } → rightData k p ≡ true
-    → headerAt s at ≡ done (record { header = record { kind = k; present = p }; next = at + 1 })
+pub count-of : (s : List ℕ) (a : LengthAnswer) → lengthWithin fieldsLeast fieldsLimit (drop 1 s) ≡ done a
+    → countAt s true ≡ done (record { value = a .value; next = 8 * (1 + a .size) })
+unfolding countAt
+count-of s a reads = rw reads
+
+pub header-of : (s : List ℕ) (p : Place) (k : ℕ) (b : Bool) → p + headerWidth ≤ 8 * length s
+    → headerOf (bitsAt headerWidth s p) ≡ record { kind = k; present = b } → rightData k b ≡ true
+    → headerAt s p ≡ done (record { header = record { kind = k; present = b }; next = p + headerWidth })
 unfolding headerAt
-header-of s at k p some spare is right =
-    let o = headerOf (getD s at 0 / 16) in
+header-of s p k b inside is right =
+    let o = headerOf (bitsAt headerWidth s p) in
     let fine : rightData (o .kind) (o .present) ≡ true = ap (λ (h : Header). rightData (h .kind) (h .present)) is ∙ right in
-    rw (lt-leb (length s) at some, le-ltb 0 (getD s at 0 % 16) spare, fine)
-    (ap (λ (h : Header). done (record { header = h; next = at + 1 })) is)
+    rw (le-ltb (8 * length s) (p + headerWidth) inside, fine)
+    (ap (λ (h : Header). done (record { header = h; next = p + headerWidth })) is)
 
 pub size-of : (s : List ℕ) (n : ℕ) → n + 2 ≤ length s → n ≤ packetLimit → n ≡ getD s 0 0 * 256 + getD s 1 0 + 1 → sizeAt s ≡ done n
 unfolding sizeAt
@@ -167,45 +161,47 @@ size-of s n inside few is =
     (ap (λ (k : ℕ). done k) (sym is))
 
 -- a field without data, and one with it
-pub bare-of : (s : List ℕ) (at : Place) (k : ℕ)
-    → headerAt s at ≡ done (record { header = record { kind = k; present = false }; next = at + 1 })
-    → fieldAt s at ≡ done (record { field = record { kind = k; start = 0; size = 0 }; next = at + 1 })
+pub bare-of : (s : List ℕ) (p : Place) (k : ℕ)
+    → headerAt s p ≡ done (record { header = record { kind = k; present = false }; next = p + headerWidth })
+    → fieldAt s p ≡ done (record { field = record { kind = k; start = 0; size = 0 }; next = p + headerWidth })
 unfolding fieldAt afterHeader
-bare-of s at k e = rw e
+bare-of s p k e = rw e
 
-pub full-of : (s : List ℕ) (at : Place) (k n : ℕ)
-    → headerAt s at ≡ done (record { header = record { kind = k; present = true }; next = at + 1 }) → sizeAt (drop (at + 1) s) ≡ done n
-    → fieldAt s at ≡ done (record { field = record { kind = k; start = at + 1 + 2; size = n }; next = at + 1 + 2 + n })
+pub full-of : (s : List ℕ) (p : Place) (k at n : ℕ)
+    → headerAt s p ≡ done (record { header = record { kind = k; present = true }; next = p + headerWidth })
+    → edgeAt s (p + headerWidth) ≡ done at → sizeAt (drop at s) ≡ done n
+    → fieldAt s p ≡ done (record { field = record { kind = k; start = at + 2; size = n }; next = 8 * (at + 2 + n) })
 unfolding fieldAt afterHeader
-full-of s at k n e size = rw (e, size)
+full-of s p k at n e edges size = rw (e, edges, size)
 
 -- what a field that reads is: one of these two
-pub data FieldForm (s : List ℕ) (at : Place) (f : FieldAnswer) : Type 0 where
-  bare : (k : ℕ) → headerAt s at ≡ done (record { header = record { kind = k; present = false }; next = at + 1 })
-      → f ≡ record { field = record { kind = k; start = 0; size = 0 }; next = at + 1 } → FieldForm s at f
-  full : (k n : ℕ) → headerAt s at ≡ done (record { header = record { kind = k; present = true }; next = at + 1 })
-      → sizeAt (drop (at + 1) s) ≡ done n
-      → f ≡ record { field = record { kind = k; start = at + 1 + 2; size = n }; next = at + 1 + 2 + n } → FieldForm s at f
+pub data FieldForm (s : List ℕ) (p : Place) (f : FieldAnswer) : Type 0 where
+  bare : (k : ℕ) → headerAt s p ≡ done (record { header = record { kind = k; present = false }; next = p + headerWidth })
+      → f ≡ record { field = record { kind = k; start = 0; size = 0 }; next = p + headerWidth } → FieldForm s p f
+  full : (k at n : ℕ) → headerAt s p ≡ done (record { header = record { kind = k; present = true }; next = p + headerWidth })
+      → edgeAt s (p + headerWidth) ≡ done at → sizeAt (drop at s) ≡ done n
+      → f ≡ record { field = record { kind = k; start = at + 2; size = n }; next = 8 * (at + 2 + n) } → FieldForm s p f
 
-after-form : (s : List ℕ) (at : Place) (k : ℕ) (p : Bool) (f : FieldAnswer)
-    → headerAt s at ≡ done (record { header = record { kind = k; present = p }; next = at + 1 })
-    → afterHeader s (record { header = record { kind = k; present = p }; next = at + 1 }) ≡ done f → FieldForm s at f
+after-form : (s : List ℕ) (p : Place) (k : ℕ) (b : Bool) (f : FieldAnswer)
+    → headerAt s p ≡ done (record { header = record { kind = k; present = b }; next = p + headerWidth })
+    → afterHeader s (record { header = record { kind = k; present = b }; next = p + headerWidth }) ≡ done f → FieldForm s p f
 unfolding afterHeader
-after-form s at k true f head e =
-    let n = stepped (sizeAt (drop (at + 1) s)) _ f e in
-    full k (n .value) head (n .was) (cc (n .gave))
-after-form s at k false f head e = bare k head (cc)
+after-form s p k true f head e =
+    let at = stepped (edgeAt s (p + headerWidth)) _ f e in
+    let n = stepped (sizeAt (drop (at .value) s)) _ f (at .gave) in
+    full k (at .value) (n .value) head (at .was) (n .was) (cc (n .gave))
+after-form s p k false f head e = bare k head (cc)
 
-pub field-form : (s : List ℕ) (at : Place) (f : FieldAnswer) → fieldAt s at ≡ done f → FieldForm s at f
+pub field-form : (s : List ℕ) (p : Place) (f : FieldAnswer) → fieldAt s p ≡ done f → FieldForm s p f
 unfolding fieldAt
-field-form s at f e =
-    let h = stepped (headerAt s at) (afterHeader s) f e in
-    let form = header-form s at (h .value) (h .was) in
+field-form s p f e =
+    let h = stepped (headerAt s p) (afterHeader s) f e in
+    let form = header-form s p (h .value) (h .was) in
     let k = h .value .header .kind in
-    let p = h .value .header .present in
-    let is : h .value ≡ record { header = record { kind = k; present = p }; next = at + 1 } = ap
+    let b = h .value .header .present in
+    let is : h .value ≡ record { header = record { kind = k; present = b }; next = p + headerWidth } = ap
     (λ (n : ℕ). record { header = h .value .header; next = n }) (form .next) in
-    after-form s at k p f (h .was ∙ ap (λ (x : HeaderAnswer). done x) is) (ap (λ (x : HeaderAnswer). afterHeader s x) (sym is) ∙ h .gave)
+    after-form s p k b f (h .was ∙ ap (λ (x : HeaderAnswer). done x) is) (ap (λ (x : HeaderAnswer). afterHeader s x) (sym is) ∙ h .gave)
 
 -- ---- the packet
 pub record PacketForm (ending : Ending) (s : List ℕ) (p : PacketAnswer) : Type 0 where
@@ -216,17 +212,20 @@ pub record PacketForm (ending : Ending) (s : List ℕ) (p : PacketAnswer) : Type
   pub countWas : countAt s (first .present) ≡ done count
   pub all : FieldsAnswer
   pub allWas : fieldsAt (count .value) s (count .next) ≡ done all
-  pub follows : mayFollow ending (drop (all .next) s) ≡ true
+  pub end : ℕ
+  pub endWas : edgeAt s (all .next) ≡ done end
+  pub follows : mayFollow ending (drop end s) ≡ true
   pub is : p ≡ record { kind = first .kind; value = first .value; fields = all .fields }
 
 pub packet-form : (ending : Ending) (s : List ℕ) (p : PacketAnswer) → packetByOctets ending s ≡ done p → PacketForm ending s p
 unfolding packetByOctets endAt
 packet-form ending s p e =
-    let fits = past (ltb packetLimit (length s)) outsideSizes _ p e in
+    let fits = cond-done (ltb packetLimit (length s)) outsideSizes _ p e in
     let f = stepped (firstAt s) _ p (fits .1) in
     let c = stepped (countAt s (f .value .present)) _ p (f .gave) in
     let a = stepped (fieldsAt (c .value .value) s (c .value .next)) _ p (c .gave) in
-    let end = kept (mayFollow ending (drop (a .value .next) s)) leftOver _ p (a .gave) in
+    let at = stepped (edgeAt s (a .value .next)) _ p (a .gave) in
+    let end = cond-met (mayFollow ending (drop (at .value) s)) leftOver _ p (at .gave) in
     record {
       fits = ltb-false _ _ (fits .0);
       first = f .value;
@@ -235,12 +234,16 @@ packet-form ending s p e =
       countWas = c .was;
       all = a .value;
       allWas = a .was;
+      end = at .value;
+      endWas = at .was;
       follows = end .0;
-      is = end .1;
+      is = cc (end .1);
     }
 
-pub packet-of : (ending : Ending) (s : List ℕ) (f : First) (c : Count) (a : FieldsAnswer) → length s ≤ packetLimit → firstAt s ≡ done f
-    → countAt s (f .present) ≡ done c → fieldsAt (c .value) s (c .next) ≡ done a → mayFollow ending (drop (a .next) s) ≡ true
+pub packet-of : (ending : Ending) (s : List ℕ) (f : First) (c : Count) (a : FieldsAnswer) (at : ℕ) → length s ≤ packetLimit
+    → firstAt s ≡ done f → countAt s (f .present) ≡ done c → fieldsAt (c .value) s (c .next) ≡ done a → edgeAt s (a .next) ≡ done at
+    → mayFollow ending (drop at s) ≡ true
     → packetByOctets ending s ≡ done (record { kind = f .kind; value = f .value; fields = a .fields })
 unfolding packetByOctets endAt
-packet-of ending s f c a fits first count all follows = rw (le-ltb packetLimit (length s) fits, first, count, all, follows)
+packet-of ending s f c a at fits first count all ends follows =
+    rw (le-ltb packetLimit (length s) fits, first, count, all, ends, follows)

@@ -1,6 +1,6 @@
 -- Both round trips of a packet, from the laws of its description: what is written reads back, received and repaired, and what reads as
 -- received writes back to the same octets. Assumes nothing.
-use Prim.Native.Nat.{ℕ, zero, suc, _+_, _*_, _/_, _%_, _≤_}
+use Prim.Native.Nat.{ℕ, zero, suc, _+_, _*_, _/_, _≤_}
 use mathlib.Core.Path.{_≡_, refl, sym, ap, ap₂, _∙_}
 use mathlib.Core.Bool.{Bool, true, false, cond}
 use mathlib.Core.List.{List, [], _∷_, _++_, map, append-nil}
@@ -9,7 +9,7 @@ use lib.Seq.{length-take-le, drop-at}
 use lib.Dec.{ltb, eqb}
 use native.Mathlib.Omega.{arith}
 use borrow.Author.Tests.{le-ltb}
-use Rattle.formats.specs.Spelling.{Letter, wide, inOctets}
+use Rattle.formats.specs.Spelling.{Letter, spelt, wide, gap, inOctets}
 use Rattle.formats.specs.Reading.{found}
 use Rattle.formats.specs.Format.{known, sequenceSpelt}
 use Rattle.formats.proofs.Laws.{written-found}
@@ -59,7 +59,8 @@ pub packet-bare : (k : Kind) (v : ℕ) (cs : List Content)
 unfolding packet dataField
 packet-bare k v cs =
     let first = start edition98 .spelling (record { kind = k; value = v; present = ltb 0 (length cs) }) 0 in
-    rw (length-map cs bare) (ap (λ (l : List Letter). first ++ l) (by (ltb 0 (length cs)) (wide first + 0))) where
+    rw (length-map cs bare)
+    (ap (λ (l : List Letter). first ++ (l ++ spelt (gap (wide l + (wide first + 0))) 0)) (by (ltb 0 (length cs)) (wide first + 0))) where
       by : (b : Bool) (p : ℕ)
           → (cond b (dataField edition98) (known [])) .spelling cs p ≡ (cond b (dataField edition98) (known [])) .spelling (map bare cs) p
       by true p =
@@ -115,16 +116,14 @@ packet-back e k v ts ns d w more form follows room =
     let fits =
     packet-fits ts ns d (form .same) k v (form .known) (form .few) (cut-of ns d (form .all)) (form .types) (form .short) (form .right)
     (form .fields) in
-    let spelt : packet edition98 .spelling x 0 ≡ packet edition98 .spelling
+    let same-spelt : packet edition98 .spelling x 0 ≡ packet edition98 .spelling
     (record { kind = k; value = v; contents = contentsOf ts ns d }) 0
     = packet-bare k v cs ∙ ap (λ (l : List Content). packet edition98 .spelling (record { kind = k; value = v; contents = l }) 0)
     (same .contents) in
     let is : inOctets (packet edition98 .spelling x 0) ≡ w
-    = ap inOctets spelt ∙ packet-laid ts ns d (form .types) (form .same) k v (form .known) ∙ sym (form .is) in
-    let edge : wide (packet edition98 .spelling x 0) % 8 ≡ 0
-    = ap (λ (l : List Letter). wide l % 8) spelt ∙ packet-edge ts ns d (form .types) (form .same) k v (form .known) in
+    = ap inOctets same-spelt ∙ packet-laid ts ns d (form .types) (form .same) k v (form .known) ∙ sym (form .is) in
     let reads : packet edition98 .read (w ++ more) 0 0 ≡ found x (8 * length w) = rw is at
-    (written-found (lawful-packet edition98) x 0 more fits edge) in
+    (written-found (lawful-packet edition98) x 0 more fits (packet-edge x)) in
     let at : 8 * length w / 8 ≡ length w = omega arith in
     record {
       packet = record { kind = k; value = v; fields = map fieldOf cs };

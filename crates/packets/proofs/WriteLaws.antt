@@ -1,9 +1,9 @@
 -- Laws of the writer's definitions, for this crate and those above: the octets of a field and of a packet, how many
 -- they are, and what it says of kind, value, types, lengths and data that a packet is written. Assumes nothing.
-use Prim.Native.Nat.{ℕ, suc, _+_, _-_, _/_, _%_, _≤_, _<_, _*_}
-use mathlib.Core.Path.{_≡_, refl, ap, ap₂, _∙_}
+use Prim.Native.Nat.{ℕ, suc, _+_, _-_, _*_, _/_, _%_, _≤_, _<_}
+use mathlib.Core.Path.{_≡_, refl, sym, ap, _∙_}
 use mathlib.Core.Bool.{Bool, true, false, not, cond, _&&_}
-use mathlib.Core.List.{List, [], _∷_, _++_}
+use mathlib.Core.List.{List, [], _∷_, _++_, append-nil}
 use lib.ListN.{length, take, drop, length-append, length-drop}
 use lib.Seq.{length-take-le}
 use lib.Dec.{leb, ltb, eqb}
@@ -14,15 +14,21 @@ use Rattle.lengths.proofs.Laws.{lengthOctets-one, both}
 use Rattle.lengths.specs.Answers.{done}
 use Rattle.lengths.specs.Tables.{unless}
 use Rattle.lengths.proofs.Laws.{unless-past, unless-done}
+use Rattle.formats.specs.Places.{edge}
+use Rattle.formats.specs.Waiting.{Waiting, noneWait, Waits, fullOctets, left, closed}
+use Rattle.formats.proofs.Laws.{none-waits, closed-long}
 use Rattle.datagrams.specs.Sizes.{packetLimit}
 use Rattle.packets.specs.Packet.{fieldsLimit, typesLimit, assigned, rightFields, every}
 use Rattle.packets.specs.Write.{withData, packetOctets, sum, total, oneEach, allAssigned, rightTypes, allRight, inSizes}
 use Rattle.packets.specs.Write.{packetToWrite}
-use Rattle.packets.specs.Inner.Octets.{headerBits, firstOctet, fieldOctets, fieldsOctets, laidOctets}
-use Rattle.packets.specs.Inner.Items.{fieldSize, packetSize, countedOctets}
+use Rattle.packets.specs.Claims.{ownSize, NeverLonger}
+use Rattle.packets.specs.Inner.Laid.{firstOctet, sizeOctets, withHeader, fieldOctets, afterField, fieldsOctets, laidOctets}
+use Rattle.packets.specs.Inner.Laid.{pastField, pastFields, packetSize}
+use Rattle.packets.specs.Inner.Items.{countedOctets}
 use Rattle.packets.specs.declared.types.Kind.{Kind}
 use Rattle.packets.specs.declared.types.Kind.the-variants.{Indicator, Data}
-use Rattle.packets.proofs.Laid.{packet-laid}
+use Rattle.packets.proofs.FieldLaid.{after-waits, after-at, field-long}
+use Rattle.packets.proofs.Laid.{type-known, packet-laid}
 
 -- ---- one length for each type, and all of them the data's
 module _ (ts ns d : List ℕ) where
@@ -35,36 +41,40 @@ module _ (ts ns d : List ℕ) where
   each-length is = eqb-true _ _ (both _ (eqb (sum ns) (length d)) is .0)
 
 -- ---- the size
-pub field-length : (k : ℕ) (d : List ℕ) → length (fieldOctets k d) ≡ fieldSize (length d)
-unfolding fieldOctets
-field-length k d = by (withData (length d)) where
-  by : (b : Bool) → suc (length (cond b (((length d - 1) / 256) ∷ ((length d - 1) % 256) ∷ d) [])) ≡ cond b (3 + length d) 1
-  by true = omega arith
-  by false = refl
+-- the fields, from a place on, end at the octet edge next to the place after them
+fields-length : (ts ns d : List ℕ) (w : Waiting) (p : ℕ) → every (λ t. leb t typesLimit) ts ≡ true → length ts ≡ length ns
+    → sum ns ≡ length d → Waits w → p % 8 ≡ w .width
+    → p / 8 + length (fieldsOctets w ts ns d) ≡ edge (pastFields p ns)
+unfolding fieldsOctets pastFields total
+fields-length [] [] d w p known same all waits at = closed-long w waits p at
+fields-length [] (n ∷ ns) d w p known same all waits at = absurd (omega arith)
+fields-length (t ∷ ts) [] d w p known same all waits at = absurd (omega arith)
+fields-length (t ∷ ts) (n ∷ ns) d w p known same all waits at =
+    let here = take n d in
+    let next = afterField w t (take n d) in
+    let known' = type-known t ts known in
+    let long : pastField p (length (take n d)) ≡ pastField p n = ap (pastField p) (length-take-le n d (omega arith)) in
+    let on : pastField p n % 8 ≡ next .width = ap (λ (q : ℕ). q % 8) (sym long) ∙ after-at w waits p at t here in
+    omega (
+      arith,
+      length-append (fieldOctets w t here) (fieldsOctets next ts ns (drop n d)),
+      field-long w waits p at t here (known' .0),
+      ap (λ (q : ℕ). q / 8) long,
+      fields-length ts ns (drop n d) next (pastField p n) (known' .1) (omega arith) (omega (arith, length-drop n d))
+          (after-waits w waits t here (known' .0)) on,
+    )
 
-pub fields-length : (ts ns d : List ℕ) → length ts ≡ length ns → sum ns ≡ length d → length (fieldsOctets ts ns d) ≡ total fieldSize ns
-unfolding fieldsOctets total
-fields-length [] [] d same all = refl
-fields-length [] (n ∷ ns) d same all = absurd (omega arith)
-fields-length (t ∷ ts) [] d same all = absurd (omega arith)
-fields-length (t ∷ ts) (n ∷ ns) d same all =
-    let more = fields-length ts ns (drop n d) (omega arith) (omega (arith, length-drop n d)) in
-    let here = field-length t (take n d) in
-    let part : fieldSize (length (take n d)) ≡ fieldSize n = ap fieldSize (length-take-le n d (omega arith)) in
-    length-append (fieldOctets t (take n d)) (fieldsOctets ts ns (drop n d)) ∙ ap₂ (λ (x y : ℕ). x + y) (here ∙ part) more
-
-pub packet-length : (k : Kind) (v : ℕ) (ts ns d : List ℕ) → length ts ≤ fieldsLimit → oneEach ts ns d ≡ true
+packet-length : (k : Kind) (v : ℕ) (ts ns d : List ℕ) → length ts ≤ fieldsLimit → length ts ≡ length ns → sum ns ≡ length d
+    → every (λ t. leb t typesLimit) ts ≡ true
     → length (laidOctets k v ts ns d) ≡ packetSize ns
 unfolding laidOctets
-packet-length k v ts ns d few each = rw (← same) (by (ltb 0 (length ts))) where
-  same : length ts ≡ length ns
-  same = each-length ts ns d each
-
-  by : (b : Bool) → suc (length (cond b (lengthOctets (length ts) ++ fieldsOctets ts ns d) [])) ≡ cond b (2 + total fieldSize ns) 1
+packet-length k v ts ns d few same all known = rw (← same) (by (ltb 0 (length ts))) where
+  by : (b : Bool)
+      → suc (length (cond b (lengthOctets (length ts) ++ fieldsOctets noneWait ts ns d) [])) ≡ cond b (edge (pastFields 16 ns)) 1
   by true =
-      let fields = fields-length ts ns d same (each-sum ts ns d each) in
+      let fields = fields-length ts ns d noneWait 16 known same all none-waits refl in
       let count : length (lengthOctets (length ts)) ≡ 1 = ap length (lengthOctets-one (length ts) (omega arith)) in
-      omega (arith, length-append (lengthOctets (length ts)) (fieldsOctets ts ns d))
+      omega (arith, length-append (lengthOctets (length ts)) (fieldsOctets noneWait ts ns d))
   by false = refl
 
 -- the octets that the description spells are as many
@@ -74,17 +84,27 @@ unfolding allAssigned
 packet-size k v ts ns d few each known =
     let parts = both (ltb v (assigned k)) (every (λ t. leb t typesLimit) ts) known in
     ap length (packet-laid ts ns d (parts .1) (each-length ts ns d each) k v (ltb-true v (assigned k) (parts .0)))
-    ∙ packet-length k v ts ns d few each
+    ∙ packet-length k v ts ns d few (each-length ts ns d each) (each-sum ts ns d each) (parts .1)
 
--- ---- the octets of a field, without data and with it
-pub field-bare : (k : ℕ) → fieldOctets k [] ≡ (k * 16) ∷ []
-unfolding fieldOctets headerBits
-field-bare k = ap (λ (n : ℕ). (n * 16) ∷ []) (omega arith)
+-- ---- the octets of a field and what waits after it, without data and with it
+module _ (w : Waiting) (k : ℕ) (d : List ℕ) where
+  pub field-bare : length d < 1 → fieldOctets w k d ≡ fullOctets (withHeader w k false)
+  unfolding fieldOctets
+  field-bare none = rw (le-ltb 0 (length d) (omega arith)) (append-nil (fullOctets (withHeader w k false)))
 
-pub field-full : (k : ℕ) (d : List ℕ) → 1 ≤ length d
-    → fieldOctets k d ≡ ((8 + k) * 16) ∷ ((length d - 1) / 256) ∷ ((length d - 1) % 256) ∷ d
-unfolding fieldOctets headerBits
-field-full k d some = rw (lt-ltb 0 (length d) some)
+  pub after-bare : length d < 1 → afterField w k d ≡ left (withHeader w k false)
+  unfolding afterField
+  after-bare none = rw (le-ltb 0 (length d) (omega arith))
+
+  pub field-full : 1 ≤ length d
+      → fieldOctets w k d
+      ≡ fullOctets (withHeader w k true) ++ (closed (left (withHeader w k true)) ++ (sizeOctets (length d) ++ d))
+  unfolding fieldOctets
+  field-full some = rw (lt-ltb 0 (length d) some)
+
+  pub after-full : 1 ≤ length d → afterField w k d ≡ noneWait
+  unfolding afterField
+  after-full some = rw (lt-ltb 0 (length d) some)
 
 -- ---- the octets of a packet, without fields and with them
 pub packet-bare : (k : Kind) (v : ℕ) (ts ns d : List ℕ) → ltb 0 (length ts) ≡ false
@@ -163,3 +183,25 @@ write-of k v ts ns d form =
       form .short,
       le-leb (length (laidOctets k v ts ns d)) packetLimit (form .size),
     )
+
+-- ---- no packet is longer than with a header on an octet of its own
+past-shorter : (ns : List ℕ) (p : ℕ) → p % 4 ≡ 0 → pastFields p ns ≤ p + 8 * total ownSize ns
+unfolding pastFields total
+past-shorter [] p half = omega arith
+past-shorter (n ∷ ns) p half =
+    let one = by (withData n) in
+    omega (arith, one .0, past-shorter ns (pastField p n) (one .1)) where
+      by : (b : Bool) → (cond b (8 * (edge (p + 4) + 2 + n)) (p + 4) ≤ p + 8 * cond b (3 + n) 1)
+          × (cond b (8 * (edge (p + 4) + 2 + n)) (p + 4) % 4 ≡ 0)
+      by true = (omega arith, omega arith)
+      by false = (omega arith, omega arith)
+
+pub never-longer : NeverLonger
+never-longer k v ts ns d w e =
+    let form = write-form k v ts ns d w e in
+    let size : length w ≡ packetSize ns
+    = ap length (form .is) ∙ packet-length k v ts ns d (form .few) (form .same) (form .all) (form .types) in
+    rw size (by (ltb 0 (length ns)) (past-shorter ns 16 refl)) where
+      by : (b : Bool) → pastFields 16 ns ≤ 16 + 8 * total ownSize ns → cond b (edge (pastFields 16 ns)) 1 ≤ cond b (2 + total ownSize ns) 1
+      by true short = omega arith
+      by false short = omega arith

@@ -5,10 +5,23 @@ use mathlib.Core.List.{List, [], _∷_}
 use lib.ListN.{replicate}
 use Rattle.lengths.specs.Refusals.{endsEarly, badForm, outsideSizes, spareBit, leftOver, notAssigned, wrongData, wrongSettings}
 use Rattle.lengths.specs.Answers.{done, refuse}
-use Rattle.packets.specs.Packet.{readPacket}
+use Rattle.packets.specs.Packet.{PacketAnswer, readPacket}
 use Rattle.packets.specs.Write.{packetToWrite}
 use Rattle.packets.specs.declared.types.Kind.the-variants.{Indicator, Data}
 use Rattle.packets.specs.declared.types.Ending.the-variants.{Whole, Repaired}
+
+-- "Two frames in one packet": the packet of document 02's request 2
+abbrev pub mendedPacket : PacketAnswer
+mendedPacket = record {
+  kind = Data;
+  value = 0;
+  fields =
+      record { kind = 0; start = 5; size = 1 }
+      ∷ record { kind = 2; start = 0; size = 0 }
+      ∷ record { kind = 0; start = 9; size = 1 }
+      ∷ record { kind = 4; start = 0; size = 0 }
+      ∷ [];
+}
 
 pub record ReadCases : Type 0 where
   -- "over 160 octets 4"
@@ -20,9 +33,17 @@ pub record ReadCases : Type 0 where
   pub count-0 : readPacket Whole (0xC0 ∷ 0x00 ∷ []) ≡ refuse outsideSizes
   pub count-17 : readPacket Whole (0xC0 ∷ 0x11 ∷ []) ≡ refuse outsideSizes
   pub count-form : readPacket Whole (0xC0 ∷ 0x80 ∷ 0x01 ∷ []) ≡ refuse badForm
-  -- "three bits field type, four zero bits"; types "0 and 6 always do" carry data; "in a field header 5 before 14"
-  pub header-bit-first : readPacket Whole (0xC0 ∷ 0x01 ∷ 0x01 ∷ []) ≡ refuse spareBit
+  -- "a spare bit set is still 5, met after its header, so for a field 14 now comes first"; types "0 and 6 always do" carry data
+  pub data-first : readPacket Whole (0xC0 ∷ 0x01 ∷ 0x01 ∷ []) ≡ refuse wrongData
   pub header-bit : readPacket Whole (0xC0 ∷ 0x01 ∷ 0x18 ∷ []) ≡ refuse spareBit
+  -- the padding belongs to the packet, so a bit set there is 5 in a repaired packet too, and before a missing length
+  pub bit-repaired : readPacket Repaired (0xC0 ∷ 0x01 ∷ 0x11 ∷ []) ≡ refuse spareBit
+  pub bit-before-length : readPacket Whole (0xC0 ∷ 0x01 ∷ 0x81 ∷ []) ≡ refuse spareBit
+  -- "after a field with no data the next header begins in the same octet"; one more in the count reads padding as a header
+  pub mended : readPacket Whole (0xC0 ∷ 0x04 ∷ 0x80 ∷ 0x00 ∷ 0x00 ∷ 0xAA ∷ 0x28 ∷ 0x00 ∷ 0x00 ∷ 0xBB ∷ 0x40 ∷ []) ≡ done mendedPacket
+  pub on-its-own : readPacket Whole (0xC0 ∷ 0x04 ∷ 0x80 ∷ 0x00 ∷ 0x00 ∷ 0xAA ∷ 0x20 ∷ 0x80 ∷ 0x00 ∷ 0x00 ∷ 0xBB ∷ 0x40 ∷ [])
+      ≡ refuse wrongData
+  pub one-too-many : readPacket Whole (0xC0 ∷ 0x02 ∷ 0x10 ∷ []) ≡ refuse wrongData
   pub bare-0 : readPacket Whole (0xC0 ∷ 0x01 ∷ 0x00 ∷ []) ≡ refuse wrongData
   -- "two octets hold its length minus one, then the data": no form to refuse; "then 4, then 1 for missing octets"
   pub data-1 : readPacket Whole (0xC0 ∷ 0x01 ∷ 0x80 ∷ 0x00 ∷ 0x00 ∷ 0x55 ∷ [])
@@ -52,3 +73,6 @@ pub record WriteCases : Type 0 where
   pub indicator-field : packetToWrite Indicator 0 (1 ∷ []) (0 ∷ []) [] ≡ refuse wrongData
   -- each field within the packet limit, and the whole over it by one
   pub whole-161 : packetToWrite Data 0 (0 ∷ []) (156 ∷ []) (replicate 156 0) ≡ refuse outsideSizes
+  -- "Two frames in one packet", written
+  pub mended : packetToWrite Data 0 (0 ∷ 2 ∷ 0 ∷ 4 ∷ []) (1 ∷ 0 ∷ 1 ∷ 0 ∷ []) (0xAA ∷ 0xBB ∷ [])
+      ≡ done (0xC0 ∷ 0x04 ∷ 0x80 ∷ 0x00 ∷ 0x00 ∷ 0xAA ∷ 0x28 ∷ 0x00 ∷ 0x00 ∷ 0xBB ∷ 0x40 ∷ [])

@@ -1,13 +1,15 @@
 -- The claims of this crate, and the words that they are said in.
 use Prim.Native.Nat.{ℕ, _+_, _≤_}
 use mathlib.Core.Path.{_≡_}
+use mathlib.Core.Bool.{cond}
 use mathlib.Core.List.{List, _++_, map}
 use lib.ListN.{length, getD, replicate}
+use lib.Dec.{ltb}
 use Rattle.lengths.specs.Answers.{done}
 use Rattle.lengths.specs.Claims.{Octets}
 use Rattle.datagrams.specs.Sizes.{packetLimit}
 use Rattle.packets.specs.Packet.{noField, allData, readPacket, PacketAnswer}
-use Rattle.packets.specs.Write.{packetToWrite}
+use Rattle.packets.specs.Write.{withData, total, packetToWrite}
 use Rattle.packets.specs.Promise.{PacketTold}
 use Rattle.packets.specs.Cases.{ReadCases, WriteCases}
 use Rattle.packets.specs.declared.types.Kind.{Kind}
@@ -38,6 +40,15 @@ RepairedReads = (kind : Kind) (value : ℕ) (types lengths octets w : List ℕ) 
     → packetToWrite kind value types lengths octets ≡ done w
     → length w + n ≤ packetLimit
     → ReadsAs Repaired (w ++ replicate n 0) kind value types lengths octets
+
+-- no packet is longer than by document 01's first rule, "Each field begins on an octet of its own": how many octets a field took
+abbrev pub ownSize : ℕ → ℕ
+ownSize size = cond (withData size) (3 + size) 1
+
+abbrev pub NeverLonger : Type 0
+NeverLonger = (kind : Kind) (value : ℕ) (types lengths octets w : List ℕ)
+    → packetToWrite kind value types lengths octets ≡ done w
+    → length w ≤ cond (ltb 0 (length lengths)) (2 + total ownSize lengths) 1
 
 -- what reads as received writes back to the same octets
 abbrev pub ReadWrites : Type 0
@@ -74,6 +85,7 @@ pub record OneOutcome : Type 0 where
 pub record Claims : Type 0 where
   pub writtenReads : WrittenReads
   pub repairedReads : RepairedReads
+  pub neverLonger : NeverLonger
   pub readWrites : ReadWrites
   pub partsWithin : PartsWithin
   pub zerosFollow : ZerosFollow

@@ -1,7 +1,8 @@
 -- Document 01, 'The packet', by the ASN.1 of an edition: one description, production by production, from which both reading and
 -- writing follow. "First octet, from the top: data-field present; 0 indicator or 1 data; extension; four bits of value; one zero. ..
--- Each field begins on an octet of its own: top bit data present, three bits field type, four zero bits. With data, two octets hold
--- its length minus one, then the data." And what a packet reads as. Definitions only.
+-- With data, two octets hold its length minus one, then the data." And document 02, request 2: "a field header isn't padded: without
+-- an extension it takes four bits, and after a field with no data the next header begins in the same octet. Only the count of
+-- fields, data lengths and the packet's end go to an octet edge, by zero bits." And what a packet reads as. Definitions only.
 use Prim.Native.Nat.{ℕ, _+_, _-_, _/_}
 use mathlib.Core.Bool.{Bool, true, false, not, cond, _&&_}
 use mathlib.Core.List.{List, [], _∷_, _++_, map}
@@ -104,14 +105,14 @@ pub record Header : Type 0 where
   pub kind : ℕ
   pub present : Bool
 
--- the bit for field-data OPTIONAL, the field type, and zero bits to an octet edge; "in a field header 5 before 14"
+-- the bit for field-data OPTIONAL and the field type, in whatever bit the item before ended; "a spare bit set is still 5, met after
+-- its header, so for a field 14 now comes first"
 unfoldable pub header : Edition → Format Header
 header edition =
     guarded wrongData (λ h. allows (edition .rule (h .kind)) (h .present))
-    (made (λ x. record { kind = x .1 .0; present = x .0 }) (λ h. (h .present, (h .kind, tt)))
+    (made (λ x. record { kind = x .1; present = x .0 }) (λ h. (h .present, h .kind))
     (flag
-    ⊳ λ present. enumerated (edition .types)
-    ⊳ λ _. align))
+    ⊳ λ present. enumerated (edition .types)))
 
 -- "two octets hold its length minus one"; "the data of each at most the packet limit"
 unfoldable pub size : Format ℕ
@@ -150,13 +151,14 @@ pub record IfpPacket : Type 0 where
   pub value : ℕ
   pub contents : List Content
 
--- "If present, a count of fields follows"; "A data packet with no field has the top bit clear"
+-- "If present, a count of fields follows"; "A data packet with no field has the top bit clear"; its end is at an octet edge
 unfoldable pub packet : Edition → Format IfpPacket
 packet edition =
-    made (λ x. record { kind = x .0 .kind; value = x .0 .value; contents = x .1 })
-    (λ p. (record { kind = p .kind; value = p .value; present = ltb 0 (length (p .contents)) }, p .contents))
+    made (λ x. record { kind = x .0 .kind; value = x .0 .value; contents = x .1 .0 })
+    (λ p. (record { kind = p .kind; value = p .value; present = ltb 0 (length (p .contents)) }, (p .contents, tt)))
     (start edition
-    ⊳ λ f. cond (f .present) (dataField edition) (known []))
+    ⊳ λ f. cond (f .present) (dataField edition) (known [])
+    ⊳ λ _. align)
 
 -- ---- what a packet reads as
 -- whether a test holds of every element of a list

@@ -5,47 +5,47 @@ use Rattle.packet_reader.proofs.ReadItems.{headers}
 use Rattle.packet_reader.proofs.items.read_header.Statement.{statement}
 use Rattle.packet_reader.proofs.items.read_header.Tie as tie
 
+mul-all : tie.Need-mul-all
+mul-all c = search needs
+
+add-next : tie.Need-add-next
+add-next c = search needs
+
 new-requires : tie.Need-new-requires
 new-requires c κs = search needs
 
 returns : tie.Need-returns
 returns c = search headers
 
-shared-slice-read-octet : tie.Need-shared-slice-read-octet
-shared-slice-read-octet c = search needs
+bits-requires : tie.Need-bits-requires
+bits-requires c κs = search needs
 
-new-requires-2 : tie.Need-new-requires-2
-new-requires-2 c κs = search needs
-
-returns-2 : tie.Need-returns-2
-returns-2 c = search headers
-
-add-next : tie.Need-add-next
-add-next c = search needs
+cast-kind : tie.Need-cast-kind
+cast-kind c = search needs
 
 right-data-requires : tie.Need-right-data-requires
 right-data-requires c κs = search needs
 
+returns-2 : tie.Need-returns-2
+returns-2 c = search headers
+
+new-requires-2 : tie.Need-new-requires-2
+new-requires-2 c κs = search needs
+
 returns-3 : tie.Need-returns-3
 returns-3 c = search headers
-
-new-requires-3 : tie.Need-new-requires-3
-new-requires-3 c κs = search needs
-
-returns-4 : tie.Need-returns-4
-returns-4 c = search headers
 
 pub read-header-spec : {M : Type 1} → statement M
 read-header-spec =
     tie.close
     (tie.spec
+    mul-all
+    add-next
     new-requires
     returns
-    shared-slice-read-octet
-    new-requires-2
-    returns-2
-    add-next
+    bits-requires
+    cast-kind
     right-data-requires
-    returns-3
-    new-requires-3
-    returns-4)
+    returns-2
+    new-requires-2
+    returns-3)

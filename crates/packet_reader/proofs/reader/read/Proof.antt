@@ -1,5 +1,5 @@
--- `packet_reader::read` meets its contract. Each answer is a law of `ReadPacket`: what the items' readers ensure
--- gives the promise. Assumes nothing.
+-- `packet_reader::read` meets its contract. Each answer is a law of `ReadPacket`, from the answers of the items' readers.
+-- Assumes nothing.
 use borrow.Author.Needs.{needs}
 use Rattle.packet_reader.proofs.ReadPacket.{packets}
 use Rattle.packet_reader.proofs.reader.read.Statement.{statement}
@@ -50,26 +50,20 @@ refused-requires-4 c κs = search needs
 enum-known-end-2 : tie.Need-enum-known-end-2
 enum-known-end-2 c = search needs
 
-sub-may-follow : tie.Need-sub-may-follow
-sub-may-follow c = search packets
+read-end-requires : tie.Need-read-end-requires
+read-end-requires c κs = search packets
 
-part-may-follow-start : tie.Need-part-may-follow-start
-part-may-follow-start c = search packets
-
-part-may-follow-end : tie.Need-part-may-follow-end
-part-may-follow-end c = search needs
-
-may-follow-requires : tie.Need-may-follow-requires
-may-follow-requires c κs = search needs
-
-returns-2 : tie.Need-returns-2
-returns-2 c = search packets
-
-new-requires-2 : tie.Need-new-requires-2
-new-requires-2 c κs = search needs
+enum-known-refusal-3 : tie.Need-enum-known-refusal-3
+enum-known-refusal-3 c = search needs
 
 refused-requires-5 : tie.Need-refused-requires-5
 refused-requires-5 c κs = search needs
+
+enum-told : tie.Need-enum-told
+enum-told c = search packets
+
+returns-2 : tie.Need-returns-2
+returns-2 c = search packets
 
 returns-3 : tie.Need-returns-3
 returns-3 c = search packets
@@ -102,13 +96,11 @@ read-spec =
     enum-known-end
     refused-requires-4
     enum-known-end-2
-    sub-may-follow
-    part-may-follow-start
-    part-may-follow-end
-    may-follow-requires
-    returns-2
-    new-requires-2
+    read-end-requires
+    enum-known-refusal-3
     refused-requires-5
+    enum-told
+    returns-2
     returns-3
     returns-4
     returns-5

@@ -4,8 +4,8 @@ use Rattle.packet_writer.proofs.Measure.{decided}
 use Rattle.packet_writer.proofs.sizes.packet_size.Statement.{statement}
 use Rattle.packet_writer.proofs.sizes.packet_size.Tie as tie
 
-fields-size-requires : tie.Need-fields-size-requires
-fields-size-requires c κs = search needs
+past-fields-requires : tie.Need-past-fields-requires
+past-fields-requires c κs = search needs
 
 add-result : tie.Need-add-result
 add-result c = search needs
@@ -17,4 +17,4 @@ returns-2 : tie.Need-returns-2
 returns-2 c = search decided
 
 pub packet-size-spec : {M : Type 1} → statement M
-packet-size-spec = tie.close (tie.spec fields-size-requires add-result returns returns-2)
+packet-size-spec = tie.close (tie.spec past-fields-requires add-result returns returns-2)

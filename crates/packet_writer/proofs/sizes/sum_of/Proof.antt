@@ -8,7 +8,7 @@ use Rattle.packet_writer.proofs.sizes.sum_of.Statement.{statement}
 use Rattle.packet_writer.proofs.sizes.sum_of.Tie as tie
 
 abbrev Inv-loop : tie.InvT-loop
-Inv-loop lengths sum₀ i₀ sum i = Summing (λ x. x) lengths i sum
+Inv-loop lengths sum₀ i₀ sum i = Summing lengths i sum
 
 abbrev μ-loop : tie.MeasureT-loop
 μ-loop lengths sum₀ i₀ sum i = length lengths - i

@@ -1,7 +1,7 @@
 -- `packet_writer::first_octet` meets its contract. The bits at their weights sum to the octet. Assumes nothing.
 use native.Mathlib.Omega.{arith}
 use borrow.Author.Needs.{needs}
-use Rattle.packets.specs.Inner.Octets.{firstOctet}
+use Rattle.packets.specs.Inner.Laid.{firstOctet}
 use Rattle.packet_writer.proofs.writer.first_octet.Statement.{statement}
 use Rattle.packet_writer.proofs.writer.first_octet.Tie as tie
 

@@ -1,19 +1,19 @@
--- `packet_writer::put_fields` meets its contract. The loop's invariant: what is left to put, put after what is there
--- now, gives the whole. The measure is how many are left. The sums fit because the fields end inside data and buffer.
+-- `packet_writer::put_fields` meets its contract. The loop's invariant: what is left to put, put after what is there now and what
+-- waits, gives the whole. The measure is how many are left. The sums fit because the fields end inside data and buffer.
 -- Assumes nothing.
 use Prim.Native.Nat.{_-_}
 use lib.ListN.{length}
-use native.Mathlib.Omega.{arith}
 use borrow.Author.Needs.{needs}
-use Rattle.packet_writer.proofs.PutFields.{Filling, fills, fill-data, fill-next}
+use Rattle.packet_writer.proofs.PutFields.{Filling, fills}
 use Rattle.packet_writer.proofs.writer.put_fields.Statement.{statement}
 use Rattle.packet_writer.proofs.writer.put_fields.Tie as tie
 
 abbrev Inv-loop : tie.InvT-loop
-Inv-loop types lengths «data» out₀ i₀ from₀ at₀ out i from at = Filling types lengths «data» out₀ out i from at
+Inv-loop types lengths «data» out₀ i₀ from₀ at₀ width₀ value₀ out i from at width value =
+    Filling types lengths «data» out₀ out i from at width value
 
 abbrev μ-loop : tie.MeasureT-loop
-μ-loop types lengths «data» out₀ i₀ from₀ at₀ out i from at = length types - i
+μ-loop types lengths «data» out₀ i₀ from₀ at₀ width₀ value₀ out i from at width value = length types - i
 
 loop-holds : tie.Need-loop-holds Inv-loop μ-loop
 loop-holds c = search fills
@@ -28,11 +28,7 @@ wide-requires : tie.Need-wide-requires Inv-loop μ-loop
 wide-requires c κs = search needs
 
 add-to : tie.Need-add-to Inv-loop μ-loop
-add-to c =
-    let test = c .before .before in
-    let inside = fill-data (test .before .before .before .before .before .before .pre) (test .before .loop .inv) (test .loop-test .taken)
-    (c .wide .ensures) in
-    omega arith
+add-to c = search needs
 
 shared-slice-read-put-field : tie.Need-shared-slice-read-put-field Inv-loop μ-loop
 shared-slice-read-put-field c = search needs
@@ -59,14 +55,7 @@ put-field-requires : tie.Need-put-field-requires Inv-loop μ-loop
 put-field-requires c κs = search fills
 
 add-at : tie.Need-add-at Inv-loop μ-loop
-add-at c =
-    let wide = c .before .before .before .before .before .before in
-    let test = wide .before .before in
-    let inside =
-    fill-next (test .before .before .before .before .before .before .pre) (test .before .loop .inv) (test .loop-test .taken)
-    (wide .wide .ensures)
-    (c .before .before .put-field .ensures) in
-    omega arith
+add-at c = search needs
 
 add-i : tie.Need-add-i Inv-loop μ-loop
 add-i c = search needs
@@ -76,6 +65,21 @@ loop-less c = search needs
 
 loop-again : tie.Need-loop-again Inv-loop μ-loop
 loop-again c = search fills
+
+sub-put-edge : tie.Need-sub-put-edge Inv-loop μ-loop
+sub-put-edge c = search fills
+
+part-put-edge-start : tie.Need-part-put-edge-start Inv-loop μ-loop
+part-put-edge-start c = search fills
+
+part-put-edge-end : tie.Need-part-put-edge-end Inv-loop μ-loop
+part-put-edge-end c = search needs
+
+put-edge-requires : tie.Need-put-edge-requires Inv-loop μ-loop
+put-edge-requires c κs = search fills
+
+add-result : tie.Need-add-result Inv-loop μ-loop
+add-result c = search needs
 
 same-length : tie.Need-same-length Inv-loop μ-loop
 same-length c = search needs
@@ -106,5 +110,10 @@ put-fields-spec =
     add-i
     loop-less
     loop-again
+    sub-put-edge
+    part-put-edge-start
+    part-put-edge-end
+    put-edge-requires
+    add-result
     same-length
     returns)

@@ -1,35 +1,26 @@
--- `packet_writer::put_full` meets its contract. The three octets and then the data are the field's. Assumes nothing.
+-- `packet_writer::put_data` meets its contract. The two octets and then the data are what is to be put. Assumes nothing.
 use mathlib.Core.Path.{_∙_}
 use lib.ListN.{length-set, length-take, length-drop}
 use native.Mathlib.Omega.{arith}
 use borrow.Author.Needs.{needs}
 use Rattle.packet_writer.proofs.Putting.{puts}
-use Rattle.packet_writer.proofs.writer.put_full.Statement.{statement}
-use Rattle.packet_writer.proofs.writer.put_full.Tie as tie
-
-add-bits : tie.Need-add-bits
-add-bits c = search needs
+use Rattle.packet_writer.proofs.writer.put_data.Statement.{statement}
+use Rattle.packet_writer.proofs.writer.put_data.Tie as tie
 
 sub-less : tie.Need-sub-less
 sub-less c = search needs
 
-mul-out : tie.Need-mul-out
-mul-out c = search needs
+cast-out : tie.Need-cast-out
+cast-out c = search needs
 
 slice-write-out : tie.Need-slice-write-out
 slice-write-out c = search needs
 
-cast-out : tie.Need-cast-out
-cast-out c = search needs
-
-slice-write-out-2 : tie.Need-slice-write-out-2
-slice-write-out-2 c = simp length-set (omega arith)
-
 cast-out-2 : tie.Need-cast-out-2
 cast-out-2 c = search needs
 
-slice-write-out-3 : tie.Need-slice-write-out-3
-slice-write-out-3 c = simp length-set (omega arith)
+slice-write-out-2 : tie.Need-slice-write-out-2
+slice-write-out-2 c = simp length-set (omega arith)
 
 sub-put-octets : tie.Need-sub-put-octets
 sub-put-octets c = simp length-set (omega arith)
@@ -52,18 +43,15 @@ same-length c = c .before .out .given .1 ∙ simp length-set
 returns : tie.Need-returns
 returns c = search puts
 
-pub put-full-spec : {M : Type 1} → statement M
-put-full-spec =
+pub put-data-spec : {M : Type 1} → statement M
+put-data-spec =
     tie.close
     (tie.spec
-    add-bits
     sub-less
-    mul-out
-    slice-write-out
     cast-out
-    slice-write-out-2
+    slice-write-out
     cast-out-2
-    slice-write-out-3
+    slice-write-out-2
     sub-put-octets
     part-put-octets-start
     part-put-octets-end

@@ -1,0 +1,64 @@
+-- A wrong item stays wrong: refused with another number than 1, octets are refused with the same number whatever follows. Assumes
+-- nothing.
+use Prim.Native.Nat.{ℕ, suc, _*_, _≤_}
+use mathlib.Core.Path.{_≡_, refl, sym, ap, _∙_}
+use mathlib.Core.Logic.{_⊎_, inl, inr, _≢_}
+use mathlib.Core.Bool.{Bool, true, false, _&&_}
+use mathlib.Core.List.{List, [], _∷_, _++_}
+use mathlib.Core.Option.{some}
+use lib.ListN.{length}
+use lib.Dec.{eqb}
+use native.Mathlib.Omega.{arith}
+use borrow.Author.Tests.{ne-eqb}
+use Rattle.lengths.specs.Refusals.{endsEarly}
+use Rattle.lengths.specs.Tables.{first}
+use Rattle.formats.specs.Places.{Place}
+use Rattle.packets.specs.Packet.{every, allZero, mayFollow}
+use Rattle.packets.specs.declared.types.Ending.{Ending}
+use Rattle.packets.specs.declared.types.Ending.the-variants.{Whole, Repaired}
+use Rattle.demands.specs.PacketItems.{Item, end, octetsFrom, rows}
+use Rattle.demands.specs.PacketRefusals.{FirstWrong}
+use Rattle.demands.proofs.PacketRows.{same-number, end-wrong, wrong-end}
+use Rattle.demands.proofs.PacketPlaces.{stands, due-inside}
+use Rattle.demands.proofs.PacketFronts.{from-front, same-first, due-more}
+
+-- ---- what is left over
+zeros-fewer : (rest more : List ℕ) → allZero rest ≡ false → allZero (rest ++ more) ≡ false
+unfolding every
+zeros-fewer [] more e = let z : _≡_ {A = ℕ} 0 1 = cc in absurd (omega arith)
+zeros-fewer (x ∷ rest) more e =
+    by (eqb x 0) (every (λ y. eqb y 0) rest) (every (λ y. eqb y 0) (rest ++ more)) (zeros-fewer rest more) e where
+      by : (b c d : Bool) → (c ≡ false → d ≡ false) → (b && c) ≡ false → (b && d) ≡ false
+      by true c d f e = f e
+      by false c d f e = refl
+
+left-more : (ending : Ending) (rest more : List ℕ) → mayFollow ending rest ≡ false → mayFollow ending (rest ++ more) ≡ false
+left-more Whole [] more e = let z : _≡_ {A = ℕ} 0 1 = cc in absurd (omega arith)
+left-more Whole (x ∷ rest) more e = ne-eqb (suc (length (rest ++ more))) 0 (λ same. omega arith)
+left-more Repaired rest more e = zeros-fewer rest more e
+
+end-stays : (ending : Ending) (w more : List ℕ) (p : Place) (n : ℕ) → p ≤ 8 * length w → first (rows ending end w p) ≡ some n
+    → first (rows ending end (w ++ more) p) ≡ some n
+end-stays ending w more p n inside e =
+    let left = end-wrong ending w p n e in
+    wrong-end ending (w ++ more) p
+    (ap (λ (l : List ℕ). mayFollow ending l) (from-front w more p inside) ∙ left-more ending (octetsFrom w p) more (left .0))
+    ∙ ap (λ (k : ℕ). some k) (left .1)
+
+-- ---- the first wrong item
+pub wrong-more : (ending : Ending) (w more : List ℕ) (n : ℕ) → n ≢ endsEarly → FirstWrong ending w n → FirstWrong ending (w ++ more) n
+wrong-more ending w more n apart f =
+    record {
+      item = f .item;
+      place = f .place;
+      due = due-more (f .due) more;
+      wrong = by (same-first ending (f .item) w more (f .place)
+          (stands (f .due)) (due-inside (f .due)) (λ cut. apart (same-number (sym (f .wrong) ∙ cut))));
+    } where
+      by : (f .item ≡ end) ⊎ (first (rows ending (f .item) (w ++ more) (f .place)) ≡ first (rows ending (f .item) w (f .place)))
+          → first (rows ending (f .item) (w ++ more) (f .place)) ≡ some n
+      by (inl is-end) =
+          ap (λ (i : Item). first (rows ending i (w ++ more) (f .place))) is-end
+          ∙ end-stays ending w more (f .place) n (due-inside (f .due))
+          (ap (λ (i : Item). first (rows ending i w (f .place))) (sym is-end) ∙ f .wrong)
+      by (inr same) = same ∙ f .wrong

@@ -1,0 +1,57 @@
+-- `packet_writer::past_fields` meets its contract. The loop's invariant: the place after what is left, from the place so far, is the
+-- place after all. The measure is how many are left. Assumes nothing.
+use Prim.Native.Nat.{_-_}
+use lib.ListN.{length}
+use borrow.Author.Needs.{needs}
+use Rattle.packets.proofs.Laws.{Passing, passes}
+use Rattle.packet_writer.proofs.sizes.past_fields.Statement.{statement}
+use Rattle.packet_writer.proofs.sizes.past_fields.Tie as tie
+
+abbrev Inv-loop : tie.InvT-loop
+Inv-loop lengths place₀ i₀ place i = Passing 16 lengths i place
+
+abbrev μ-loop : tie.MeasureT-loop
+μ-loop lengths place₀ i₀ place i = length lengths - i
+
+loop-holds : tie.Need-loop-holds Inv-loop μ-loop
+loop-holds c = search passes
+
+mul-wide : tie.Need-mul-wide Inv-loop μ-loop
+mul-wide c = search needs
+
+shared-slice-read-wide : tie.Need-shared-slice-read-wide Inv-loop μ-loop
+shared-slice-read-wide c = search needs
+
+wide-requires : tie.Need-wide-requires Inv-loop μ-loop
+wide-requires c κs = search needs
+
+past-field-requires : tie.Need-past-field-requires Inv-loop μ-loop
+past-field-requires c κs = search needs
+
+add-i : tie.Need-add-i Inv-loop μ-loop
+add-i c = search needs
+
+loop-less : tie.Need-loop-less Inv-loop μ-loop
+loop-less c = search needs
+
+loop-again : tie.Need-loop-again Inv-loop μ-loop
+loop-again c = search passes
+
+returns : tie.Need-returns Inv-loop μ-loop
+returns c = search passes
+
+pub past-fields-spec : {M : Type 1} → statement M
+past-fields-spec =
+    tie.close
+    (tie.spec
+    Inv-loop
+    μ-loop
+    loop-holds
+    mul-wide
+    shared-slice-read-wide
+    wide-requires
+    past-field-requires
+    add-i
+    loop-less
+    loop-again
+    returns)

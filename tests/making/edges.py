@@ -1,0 +1,76 @@
+"""Scenes at a session's edges: numbers before the first, the wrap, the limit, datagrams that are refused; a sending session alone."""
+
+from rules.arguments import shown
+from rules.datagrams import PARITY, SPARES, written_datagram
+from rules.receiving import NUMBERS_LIMIT
+
+from . import pieces
+from .conversations import Style, send_one, start
+
+
+def damaged_offers(script):
+    """Datagrams that the reader refuses, offered; the session stays as it was."""
+    r = script.random
+    start(script)
+    for _ in range(20):
+        number = (script.receiving.base + r.randrange(32)) % 65536
+        script.offer(pieces.damaged_datagram(r, number))
+        script.look(0.1)
+    script.offer(bytes(r.choice((1500, 1501, 1600))))
+    for distance in (31, 32, 32767, 32768, 65535):
+        script.offer(written_datagram(pieces.datagram(r, (script.receiving.base + distance) % 65536, 0.95)))
+    script.next(160)
+
+
+def blanks(script):
+    """A fresh session, with spares and parity that reach before the first number."""
+    r = script.random
+    script.call(0x10)
+    for _ in range(r.randrange(3)):
+        script.give_up()
+    numbers = list(range(8))
+    r.shuffle(numbers)
+    for number in numbers:
+        script.offer(written_datagram(pieces.datagram(r, number, 0.95)))
+        if script.chance(0.2):
+            script.next(160)
+    script.look()
+    for _ in range(12):
+        if script.next(160)[0] == 0xFF:
+            script.give_up()
+    script.look()
+
+
+def at_the_limit(script):
+    """The last numbers before 1,000,000: next and give up stop there, offer goes on."""
+    r = script.random
+    left = r.randrange(4)
+    script.call(0x16, shown(r.choice((NUMBERS_LIMIT - left, NUMBERS_LIMIT + r.randrange(3), 0xFFFFFFFF)), 4))
+    for distance in r.sample(range(32), 6) + [0, 1]:
+        script.offer(written_datagram(pieces.datagram(r, (script.receiving.base + distance) % 65536, 0.95)))
+    for _ in range(6):
+        script.next(r.choice((0, 160)))
+        if script.chance(0.5):
+            script.give_up()
+    script.look()
+    script.call(0x22, shown(r.choice((NUMBERS_LIMIT - left, NUMBERS_LIMIT + 1, 0xFFFFFFFF)), 4))
+    for _ in range(5):
+        settings = r.choice(((SPARES, 8, 0), (SPARES, 9, 0), (PARITY, 2, 2), (PARITY, 8, 4)))
+        script.send(pieces.opaque(r), *settings, r.choice((3, 1500, 1500)))
+
+
+def sending(script):
+    """A sending session alone: the start with every setting, the wrap, buffers near the result."""
+    r = script.random
+    if script.chance(0.5):
+        script.call(0x20)
+    else:
+        script.call(0x22, shown(r.choice((1, 5, 31, 32, 33, 65530, 65536, 65540, 131070, 999990)), 4))
+    style = Style(r)
+    for _ in range(30):
+        send_one(script, style, [])
+    script.call(0x22, shown(65536 * r.randrange(1, 15) + r.randrange(8), 4))
+    for _ in range(3):
+        script.send(pieces.opaque(r, 1.0), SPARES, r.choice((1, 4, 8, 8)), 0)
+    wrong = r.choice(((SPARES, 9, 0), (PARITY, 0, 1), (PARITY, 1, 5), (SPARES, 8, 0)))
+    script.send(pieces.octets(r, r.choice((0, 161, 161))), *wrong, r.choice((0, 1500)))

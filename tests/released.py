@@ -1,0 +1,87 @@
+"""Real packets over a bad line: what is released must be what was sent, each number once. A part of traffic.py."""
+
+import random
+
+from making.lines import Recording
+from real import as_expected, conversation, corpus, must, octets_of, settings_text, written_by
+from rules.arguments import shown
+
+RECEIVED, SPARE, REPAIRED, LOST = range(4)
+
+
+def check_conversation(command, script, packets):
+    """What the program under test released is what was sent, each number once, and the counts are of that; every answer is as expected."""
+    counts = [0, 0, 0, 0]
+    number = 0
+    answers = written_by(command, script.lines, script.answers)
+    for line, theirs in zip(script.lines, octets_of(answers)):
+        call = line[:2]
+        if call == b'12' and theirs[0] == 0:
+            kind, at, size = (int.from_bytes(part, 'big') for part in (theirs[1:2], theirs[2:4], theirs[4:6]))
+            check_released(kind, number, at, theirs[6:6 + size], packets)
+        elif call == b'13' and theirs[0] == 0:
+            kind = LOST
+            must(int.from_bytes(theirs[1:3], 'big') == number, 'given up: %s in place of %d', theirs.hex(), number)
+        else:
+            must(call not in (b'12', b'13'), 'not released: %s at number %d', theirs.hex(), number)
+            continue
+        counts[kind] += 1
+        number += 1
+    must(number == len(packets), '%d of %d numbers released', number, len(packets))
+    must(theirs == b'\x00' + b''.join(shown(count, 4) for count in counts), 'the counts are %s', theirs.hex())
+    as_expected(script.answers, answers)
+    return counts
+
+
+def check_released(kind, number, released_number, octets, packets):
+    """A released packet has a kind and its number, and is the one sent; a repaired one may go on with zeros."""
+    must(kind < LOST, 'number %d is released with kind %d', number, kind)
+    must(number < len(packets), 'number %d is released, and %d were sent', number, len(packets))
+    must(released_number == number, 'released: %d in place of %d', released_number, number)
+    sent = packets[number]
+    whole = octets.startswith(sent) and not any(octets[len(sent):]) if kind == REPAIRED else octets == sent
+    must(whole, 'number %d was sent as %s and released as %s', number, sent.hex(), octets.hex())
+
+
+def through_the_program(command, name, loss):
+    """Recorded datagrams through the program, some lost; an empty line for each number that nothing has brought back."""
+    packets = corpus(name.rsplit('.', 1)[0])
+    r = random.Random(name + str(loss))
+    recording = Recording(name)
+    for number, octets in enumerate(corpus(name)):
+        if r.random() >= loss:
+            recording.add_datagram(octets)
+        while number - recording.base() > 20:
+            recording.add(b'')
+    while recording.base() < len(packets):
+        recording.add(b'')
+    answers = written_by(command, recording.lines, recording.results)
+    counts = check_results(answers, packets)
+    as_expected(recording.results, answers)
+    return counts_text(counts)
+
+
+def check_results(results, packets):
+    """The program's results are the packets that were sent, each number once, or its loss; how many of each kind there are."""
+    counts = [0, 0, 0, 0]
+    for number, octets in enumerate(octets_of(results)):
+        must(octets[0] <= LOST, 'result %s at number %d', octets.hex(), number)
+        if octets[0] == LOST:
+            must(octets[1:] == shown(number, 2), 'given up: %s in place of %d', octets.hex(), number)
+        else:
+            check_released(octets[0], number, int.from_bytes(octets[1:3], 'big'), octets[3:], packets)
+        counts[octets[0]] += 1
+    must(sum(counts) == len(packets), '%d of %d numbers released', sum(counts), len(packets))
+    return counts
+
+
+def heard(command, name, settings, loss):
+    """One conversation; what came of it."""
+    packets = corpus(name)
+    script = conversation(name + settings_text(settings), packets, settings, loss)
+    return counts_text(check_conversation(command, script, packets))
+
+
+def counts_text(counts):
+    """Counts in words."""
+    return 'received %d, spare %d, repaired %d, lost %d' % tuple(counts)
