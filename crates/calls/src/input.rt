@@ -1,5 +1,5 @@
 // Standard input, line by line, and the octets of a line.
-use crate::arguments::part;
+use call_lines::part;
 
 // The characters that are read at a time.
 pub const BLOCK: usize = 65536;

@@ -1,13 +1,13 @@
 // Lines 30 to 34, on the joiner.
-use crate::answers::say;
-use crate::answers::say_all;
-use crate::answers::say_done;
-use crate::answers::say_no_call;
-use crate::answers::say_refused;
-use crate::arguments::number;
-use crate::arguments::octet;
-use crate::arguments::part;
-use crate::arguments::sized;
+use call_lines::number;
+use call_lines::octet;
+use call_lines::part;
+use call_lines::say;
+use call_lines::say_all;
+use call_lines::say_done;
+use call_lines::say_no_call;
+use call_lines::say_refused;
+use call_lines::sized;
 use frames::Handed;
 use frames::Joiner;
 

@@ -1,21 +1,17 @@
 // The calls program: every call of document 01 on one line of hexadecimal, one answer a line, so that any other
 // program can be compared with it call by call. It holds one receiving and one sending session and one joiner, all fresh at the start.
-mod answers;
-mod arguments;
-mod fields;
 mod input;
-mod items;
 mod joiner;
 mod receiver;
 mod sender;
 mod session;
 
-use answers::CAP;
-use answers::FILLING;
-use answers::say_no_call;
-use arguments::number;
-use arguments::octet;
-use arguments::part;
+use call_lines::CAP;
+use call_lines::FILLING;
+use call_lines::number;
+use call_lines::octet;
+use call_lines::part;
+use call_lines::say_no_call;
 use frames::Joiner;
 use input::BLOCK;
 use input::KEPT;
@@ -86,7 +82,7 @@ fn called(held: Held, call: u8, s: &[u8], lent: &mut [u8]) -> Held {
     let sender = held.sender;
     let joiner = held.joiner;
     if call < 0x10 {
-        items::answer(call, s, lent);
+        call_lines::answer(call, s, lent);
         return held;
     }
     if call < 0x20 {

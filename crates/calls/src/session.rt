@@ -1,9 +1,9 @@
 // What the receiving session holds, read and overwritten field by field: lines 14, 15 and 17. Nothing else in this program
 // knows how a session is held.
-use crate::answers::say;
-use crate::answers::say_done;
-use crate::answers::say_sized;
-use crate::fields::Target;
+use call_lines::Target;
+use call_lines::say;
+use call_lines::say_done;
+use call_lines::say_sized;
 use datagrams::Packet;
 use datagrams::Parity;
 use sessions::Counts;

@@ -1,4 +1,5 @@
--- `calls::session::say_view` is safe and ends. The numbers left are the measure of each loop, and nothing has to hold from turn to turn. Assumes nothing.
+-- `calls::session::say_view` is safe and ends. The numbers left are the measure of each loop, and nothing has to hold from
+-- turn to turn. Assumes nothing.
 use borrow.Author.Needs.{needs}
 use Rattle.calls.proofs.session.say_view.Statement.{statement}
 use Rattle.calls.proofs.session.say_view.Tie as tie

@@ -1,7 +1,7 @@
--- `calls::arguments::number` is safe and ends. The octets left are the measure, and nothing has to hold from turn to turn. Assumes nothing.
+-- `call_lines::arguments::number` is safe and ends. The octets left are the measure, and nothing has to hold from turn to turn. Assumes nothing.
 use borrow.Author.Needs.{needs}
-use Rattle.calls.proofs.arguments.number.Statement.{statement}
-use Rattle.calls.proofs.arguments.number.Tie as tie
+use Rattle.call_lines.proofs.arguments.number.Statement.{statement}
+use Rattle.call_lines.proofs.arguments.number.Tie as tie
 
 abbrev Inv-loop : tie.InvT-loop
 Inv-loop s at₀ width n₀ left₀ at n left = Unit {0}

@@ -1,8 +1,8 @@
--- `calls::items::say_items` is safe and ends. The places left are the measure, and nothing has to hold from turn to turn. Assumes nothing.
+-- `call_lines::items::say_items` is safe and ends. The places left are the measure, and nothing has to hold from turn to turn. Assumes nothing.
 use Prim.Native.Nat.{_-_}
 use borrow.Author.Needs.{needs}
-use Rattle.calls.proofs.items.say_items.Statement.{statement}
-use Rattle.calls.proofs.items.say_items.Tie as tie
+use Rattle.call_lines.proofs.items.say_items.Statement.{statement}
+use Rattle.call_lines.proofs.items.say_items.Tie as tie
 
 abbrev Inv-loop : tie.InvT-loop
 Inv-loop s count items i₀ i = Unit {0}

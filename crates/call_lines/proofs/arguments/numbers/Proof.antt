@@ -1,8 +1,9 @@
--- `calls::arguments::numbers` is safe and ends. The numbers left are the measure, and nothing has to hold from turn to turn. Assumes nothing.
+-- `call_lines::arguments::numbers` is safe and ends. The numbers left are the measure, and nothing has to hold from turn to turn.
+-- Assumes nothing.
 use Prim.Native.Nat.{_-_}
 use borrow.Author.Needs.{needs}
-use Rattle.calls.proofs.arguments.numbers.Statement.{statement}
-use Rattle.calls.proofs.arguments.numbers.Tie as tie
+use Rattle.call_lines.proofs.arguments.numbers.Statement.{statement}
+use Rattle.call_lines.proofs.arguments.numbers.Tie as tie
 
 abbrev Inv-loop : tie.InvT-loop
 Inv-loop s at₀ out₀ count i₀ at out i = Unit {0}
