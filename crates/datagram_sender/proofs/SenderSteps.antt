@@ -17,7 +17,7 @@ use Rattle.sending.specs.Send.{datagramToSend}
 use Rattle.sending.specs.Sender.{sendingOf}
 use Rattle.sending.specs.Ranges.{historyInRanges, senderInRanges}
 use Rattle.sending.specs.Inner.Held.{Arrays, Within, Joins}
-use Rattle.datagram_sender.specs.Inner.{SendsHeld, Unchanged}
+use Rattle.datagram_sender.specs.Inner.{SendsHeld, RefusedSend}
 use Rattle.sending.specs.Promise.{toSend, SentOn, Sends}
 use Rattle.sending.specs.declared.Sender.{Sender}
 use Rattle.sending.specs.declared.Sent.{Sent}
@@ -34,7 +34,7 @@ sent-few sent sizes o within = leb-true sent sessionLimit (sent-limit within)
 module _ (s : Sender) (settings : Settings) (packet old : List ℕ) where
   pub sends-outside : {b : Bool} {why : Refusal} {r : Sent} → RefusalMade outsideRanges why
       → b ≡ historyInRanges (s .sent) (s .sizes) (s .octets)
-      → not b ≡ true → Unchanged s why r → Sends s settings packet old old r
+      → not b ≡ true → RefusedSend s why r → Sends s settings packet old old r
   unfolding toSend unless
   sends-outside {b} made found out same =
       let e : senderInRanges s ≡ false = sym found ∙ not-true b out in
@@ -46,7 +46,7 @@ module _ (s : Sender) (settings : Settings) (packet old : List ℕ) where
 
   module _ {sizes o new : List ℕ} {answer : Written} (within : Within (s .sent) (s .sizes) (s .octets))
       (sends : SendsHeld (s .sent) settings packet (s .sizes) (s .octets) old sizes o new answer) where
-    pub sends-refused : {why : Refusal} {r : Sent} → Unchanged s why r → answer ≡ written.Refused why → Sends s settings packet old new r
+    pub sends-refused : {why : Refusal} {r : Sent} → RefusedSend s why r → answer ≡ written.Refused why → Sends s settings packet old new r
     sends-refused {why} {r} same e =
         let puts = rw e at (sends .puts) in
         let none = size-refused (fitted (datagramToSend settings packet (sendingOf s)) old) (puts .answer) in

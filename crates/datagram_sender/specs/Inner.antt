@@ -24,5 +24,5 @@ pub record SendsHeld (sent : ℕ) (settings : Settings) (packet sizes o old size
   pub history : HistoryAfter r (sent % numbers) packet sizes o sizes′ o′
 
 -- a refused send, as it is handed back
-pub record Unchanged (s : Sender) (why : Refusal) (r : Sent) : Type 0 where
+pub record RefusedSend (s : Sender) (why : Refusal) (r : Sent) : Type 0 where
   pub whole : r ≡ record { sender = s; answer = written.Refused why }

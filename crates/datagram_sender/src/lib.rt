@@ -7,7 +7,7 @@ use sending::Sender;
 use sending::Sent;
 use sending::Settings;
 ghost use Rattle.sending.specs.Promise.{RangesTold, Sends};
-ghost use Rattle.datagram_sender.specs.Inner.{Unchanged};
+ghost use Rattle.datagram_sender.specs.Inner.{RefusedSend};
 
 // Whether a session is within its ranges.
 pub fn in_ranges(s: Sender) -> bool
@@ -21,7 +21,7 @@ pub fn in_ranges(s: Sender) -> bool
 
 // "A refusal .. changes nothing."
 fn unchanged(s: Sender, why: Refusal) -> Sent
-    ensures { λ r. ⌜ Unchanged s why r ⌝ }
+    ensures { λ r. ⌜ RefusedSend s why r ⌝ }
 {
     Sent {
         sender: s,

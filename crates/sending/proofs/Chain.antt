@@ -19,7 +19,7 @@ use Rattle.sending.specs.Sending.{Sending, historyKept, newestPlace, fre
 use Rattle.sending.specs.Carries.{settingsInside, carriedFrom}
 use Rattle.sending.specs.Send.{packetOf, packetInside, carriedNext}
 use Rattle.sending.specs.Sender.{sendingOf}
-use Rattle.sending.specs.Promise.{Proper, FreshMade, Sends}
+use Rattle.sending.specs.Promise.{Proper, SenderMade, Sends}
 use Rattle.sending.specs.Honest.{packetAt, carriedAt, HonestAt, HonestSender}
 use Rattle.sending.specs.Run.{Run, fresh, sent, refused}
 use Rattle.sending.specs.declared.Sender.{Sender}

@@ -13,7 +13,7 @@ use Rattle.sending.specs.Sending.{historyKept, freshSending}
 use Rattle.sending.specs.Sender.{historySlot, packetIn, historyIn, historyOctets}
 use Rattle.sending.specs.Ranges.{sizeInRange, placeInRange, historyInRanges}
 use Rattle.sending.specs.Inner.Held.{Arrays}
-use Rattle.sending.specs.Promise.{FreshMade}
+use Rattle.sending.specs.Promise.{SenderMade}
 
 module _ (sizes o : List ℕ) (arrays : Arrays sizes o) (none : (i : ℕ) → getD sizes i 0 ≡ 0) (clean : (k : ℕ) → getD o k 0 ≡ 0) where
   history-none : historyIn 0 sizes o ≡ replicate historyKept []
@@ -32,7 +32,7 @@ module _ (sizes o : List ℕ) (arrays : Arrays sizes o) (none : (i : ℕ) → ge
   unfolding historyInRanges
   ranges-none = allBelow-of historyKept (placeInRange 0 sizes o) place-none
 
-  fresh-of : FreshMade (record { sent = 0; sizes = sizes; octets = o })
+  fresh-of : SenderMade (record { sent = 0; sizes = sizes; octets = o })
   unfolding freshSending
   fresh-of =
       record {
@@ -40,7 +40,7 @@ module _ (sizes o : List ℕ) (arrays : Arrays sizes o) (none : (i : ℕ) → ge
         proper = record { arrays = arrays; ranges = ranges-none };
       }
 
-pub fresh-made : FreshMade (record { sent = 0; sizes = replicate historyKept 0; octets = replicate historyOctets 0 })
+pub fresh-made : SenderMade (record { sent = 0; sizes = replicate historyKept 0; octets = replicate historyOctets 0 })
 unfolding zeros
 fresh-made =
     fresh-of (replicate historyKept 0) (replicate historyOctets 0)

@@ -14,7 +14,7 @@ use Rattle.sending.specs.Send.{carriedNext, datagramToSend}
 use Rattle.sending.specs.Sender.{sendingOf}
 use Rattle.sending.specs.Inner.Held.{Arrays}
 use Rattle.sending.specs.Inner.Next.{kindAsked, itemsNext}
-use Rattle.sending.specs.Promise.{Proper, FreshMade, RangesTold, Sends}
+use Rattle.sending.specs.Promise.{Proper, SenderMade, RangesTold, Sends}
 use Rattle.sending.specs.Honest.{HonestSender}
 use Rattle.sending.specs.Run.{Run}
 use Rattle.sending.specs.declared.Sender.{Sender}
@@ -52,7 +52,7 @@ pub record Chains : Type 0 where
 pub record OneOutcome : Type 0 where
   -- within the ranges the abstraction loses nothing
   pub faithful : {s t : Sender} → Proper s → Proper t → sendingOf s ≡ sendingOf t → s ≡ t
-  pub fresh : {s t : Sender} → FreshMade s → FreshMade t → s ≡ t
+  pub fresh : {s t : Sender} → SenderMade s → SenderMade t → s ≡ t
   pub ranges : {s : Sender} {r q : Bool} → RangesTold s r → RangesTold s q → r ≡ q
   pub sent : {s : Sender} {settings : Settings} {packet old new other : List ℕ} {r q : Sent} → Sends s settings packet old new r
       → Sends s settings packet old other q → (r ≡ q) × (new ≡ other)

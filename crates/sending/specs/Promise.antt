@@ -24,7 +24,7 @@ pub record Proper (s : Sender) : Type 0 where
   pub ranges : senderInRanges s ≡ true
 
 -- what `Sender::fresh` owes
-pub record FreshMade (s : Sender) : Type 0 where
+pub record SenderMade (s : Sender) : Type 0 where
   pub state : sendingOf s ≡ freshSending
   pub proper : Proper s
 

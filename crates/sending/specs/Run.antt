@@ -6,14 +6,14 @@ use mathlib.Core.List.{List, [], _∷_, _++_}
 use lib.ListN.{take}
 use Rattle.lengths.specs.declared.Refusal.{Refusal}
 use Rattle.lengths.specs.declared.Written.the-variants as written
-use Rattle.sending.specs.Promise.{FreshMade, Sends}
+use Rattle.sending.specs.Promise.{SenderMade, Sends}
 use Rattle.sending.specs.declared.Sender.{Sender}
 use Rattle.sending.specs.declared.Sent.{Sent}
 use Rattle.sending.specs.declared.Settings.{Settings}
 
 -- the session after a chain, the packets that were accepted, and the datagrams that stood at the front of the lent buffers
 pub data Run : Sender → List (List ℕ) → List (List ℕ) → Type 0 where
-  fresh : {s : Sender} → FreshMade s → Run s [] []
+  fresh : {s : Sender} → SenderMade s → Run s [] []
   sent : {s : Sender} {row datagrams : List (List ℕ)} {settings : Settings} {packet old new : List ℕ} {r : Sent} {n : ℕ}
       → Run s row datagrams → Sends s settings packet old new r → r .answer ≡ written.Octets n
       → Run (r .sender) (row ++ (packet ∷ [])) (datagrams ++ (take n new ∷ []))

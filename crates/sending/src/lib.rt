@@ -6,7 +6,7 @@ ghost use mathlib.Core.Path.{_≡_};
 ghost use Rattle.views.specs.View.{sessionLimit};
 ghost use Rattle.sending.specs.Sending.{historyKept};
 ghost use Rattle.sending.specs.Sender.{historyOctets};
-ghost use Rattle.sending.specs.Promise.{FreshMade};
+ghost use Rattle.sending.specs.Promise.{SenderMade};
 
 // Beside its packet a datagram carries k spares, or m messages, each over n packets.
 pub enum Settings {
@@ -56,7 +56,7 @@ impl Sender {
 
     // A session that has sent nothing.
     pub fn fresh() -> Sender
-        ensures { λ r. ⌜ FreshMade r ⌝ }
+        ensures { λ r. ⌜ SenderMade r ⌝ }
     {
         Sender {
             sent: 0,
