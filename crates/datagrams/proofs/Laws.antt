@@ -11,5 +11,6 @@ pub use Rattle.datagrams.proofs.PieceLaws.{octet-done, within-ends, ite
 pub use Rattle.datagrams.proofs.ReadLaws.{Datagram, read-done, read-inside, number-small, whole-reads, outcome-whole}
 pub use Rattle.datagrams.proofs.ReadLaws.{refused-read, accepted-read, accepted-count, accepted-inside}
 -- ---- what is written reads back
-pub use Rattle.datagrams.proofs.ReadBack.{rest-after, first-left, some-left, ItemBack, item-back, item-sizes, most-fits, ExtraBack, extra-back}
+pub use Rattle.datagrams.proofs.ReadBack.{rest-after, first-left, some-left, ItemBack, item-back, item-sizes, most-fits}
+pub use Rattle.datagrams.proofs.ReadBack.{ExtraBack, extra-back}
 pub use Rattle.datagrams.proofs.ReadBack.{cut-flatten, Fit, fit-allowed, datagram-back}

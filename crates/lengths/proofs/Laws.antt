@@ -11,7 +11,8 @@ pub use Rattle.lengths.proofs.LengthRule.{lengthOctets-one, lengthOctet
 pub use Rattle.lengths.proofs.LengthRule.{Form, one, two, form, Sizes, sizes-form, sizes-read, value-read, written-reads}
 pub use Rattle.lengths.proofs.LengthRule.{read-writes}
 -- ---- octets at the front of a lent buffer, one writer after another
-pub use Rattle.lengths.proofs.Fronts.{put-none, put-one, put-turn, put-all, put-then, rest-of, rest-put, put-next, room-left, put-long}
+pub use Rattle.lengths.proofs.Fronts.{put-none, put-one, put-turn, put-all, put-then, put-next, put-long}
+pub use Rattle.lengths.proofs.Fronts.{rest-of, rest-put, room-left}
 pub use Rattle.lengths.proofs.Fronts.{put-puts, full-puts}
 -- ---- tables of refusals
 pub use Rattle.lengths.proofs.Tables.{row, row-met, row-step, no-row, unless-first, unless-done, unless-past}
