@@ -17,6 +17,8 @@ unfolding readPacket description.wholePacket packet start typeOfMsg enumerated r
 read-cases =
     record {
       octets-161 = refl;
+      octets-160 = refl;
+      extended = refl;
       value-first = refl;
       bit-first = refl;
       count-0 = refl;

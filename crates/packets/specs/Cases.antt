@@ -26,7 +26,11 @@ mendedPacket = record {
 pub record ReadCases : Type 0 where
   -- "over 160 octets 4"
   pub octets-161 : readPacket Whole (0xC0 ∷ 0x01 ∷ 0x80 ∷ 0x00 ∷ 0x9B ∷ replicate 156 0x55) ≡ refuse outsideSizes
-  -- "in the first octet .. value 12, spare bit 5, indicator with data 14"
+  pub octets-160 : readPacket Whole (0xC0 ∷ 0x01 ∷ 0x80 ∷ 0x00 ∷ 0x9A ∷ replicate 155 0x55)
+      ≡ done (record { kind = Data; value = 0; fields = record { kind = 0; start = 5; size = 155 } ∷ [] })
+  -- "in the first octet extension 12"
+  pub extended : readPacket Whole (0x20 ∷ 0x00 ∷ []) ≡ refuse notAssigned
+  -- ".. value 12, spare bit 5, indicator with data 14"
   pub value-first : readPacket Whole (0xD3 ∷ []) ≡ refuse notAssigned
   pub bit-first : readPacket Whole (0x81 ∷ []) ≡ refuse spareBit
   -- "a count of fields follows, 1 to 16 (else refusal 4)", by the length rule
