@@ -135,7 +135,7 @@ def of_measure(test):
 
 def of_calls(test):
     """Counts go to the functions that they belong to, the goals are held, and what cannot be counted is said."""
-    calls, parts = of_speed('calls'), of_speed('parts')
+    calls, parts, sums = of_speed('calls'), of_speed('parts'), of_speed('sums')
     run = calls.counting.Run.__new__(calls.counting.Run)
     run.costs, run.outside = {1: 3, 2: 2, 3: 10}, 4
     run.calls = [(1, None, 5), (2, 'b::g', 20), (3, None, 10)]
@@ -148,6 +148,8 @@ def of_calls(test):
             ('by parts', "Counter({'glue of offer and line': 15, 'clearing': 10, 'copies (memcpy)': 5})", parts.parts_of(run))):
         test.says('counts, ' + name, words, str(found))
     test.fails('a function that is not there', 'no function a::h ran', run.within, 'a::h')
+    test.says('an exclusive or', '11', str(sums.some(8, 11)))
+    test.fails('no exclusive or', 'no exclusive or of 8 octets ran', sums.some, 8, 0)
     test.says('goals met', '[]', str(list(calls.missed('offer', 7000, 2.9))))
     test.says('a range check over its goal', 'offer: the range check takes 7001 instructions', str(list(calls.missed('offer', 7001, 2))))
     test.says('copies over their goal', 'offer: a call copies 3.0 sessions', str(list(calls.missed('offer', 7000, 3))))
@@ -165,7 +167,7 @@ def main():
     test = Cases('')
     for test.of_what, cases in (('failing.py', of_failing), ('running.py', of_running), ('cutting.py', of_cutting),
                                 ('generate.py', of_generate), ('run', of_run), ('long', of_long), ('speed/measure', of_measure),
-                                ('speed/calls, parts', of_calls), ('../test', of_test), ('prove', of_prove)):
+                                ('speed/calls, parts, sums', of_calls), ('../test', of_test), ('prove', of_prove)):
         cases(test)
     test.end()
 

@@ -13,6 +13,8 @@ import sys
 
 TOP = pathlib.Path(__file__).resolve().parents[2]
 TARGET = 'x86_64-unknown-linux-gnu'
+# for a processor without vectors; gcc and clang take the same words
+WITHOUT_VECTORS = ('-mno-sse', '-mno-sse2', '-mno-mmx')
 
 
 def kit():
@@ -82,8 +84,8 @@ def placed(text):
     return '\n'.join(out + notes) + '\n'
 
 
-def built(crate, room):
-    """The path of the program."""
+def built(crate, room, more=()):
+    """The path of the program, compiled with these options more."""
     if platform.machine() not in ('x86_64', 'AMD64'):
         sys.exit('functions are counted on x86-64 alone')
     own = kit() / 'on' / 'x86_64'
@@ -101,7 +103,7 @@ def built(crate, room):
     subprocess.run([clang, '--target=' + TARGET, '-x', 'ir', '-S', '-emit-llvm', '-Xclang', '-disable-llvm-passes', str(room / 'module.bc'),
                     '-o', str(room / 'module.ll')], check=True)
     (room / 'placed.ll').write_text(placed((room / 'module.ll').read_text()))
-    subprocess.run([clang, *options, '-c', str(room / 'placed.ll'), '-o', str(room / 'module.o')], check=True)
+    subprocess.run([clang, *options, *more, '-c', str(room / 'placed.ll'), '-o', str(room / 'module.o')], check=True)
     linked = [str(own / 'bin' / 'rattle-link'), '--target', TARGET, '--toolchain', str(tools), '-o', str(program), str(room / 'module.o')]
     if 'os' in libraries(crate):
         linked.append(str(kit() / 'lib' / 'libos_c.a'))

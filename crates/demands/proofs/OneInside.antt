@@ -20,9 +20,12 @@ use Rattle.datagram_sender.specs.Inner.{HistoryAfter, SendsHeld}
 use Rattle.sending.specs.declared.Settings.{Settings}
 use Rattle.lines.specs.Promise.{Appends}
 use Rattle.demands.specs.OneTold.{OneLent}
-use Rattle.demands.specs.OneInside.{Alike, InStores, InDatagrams, InSending, InLines, OneInside}
+use Rattle.demands.specs.OneInside.{Alike, InWords, InStores, InDatagrams, InSending, InLines, OneInside}
 use Rattle.demands.proofs.OneTold.{told-one}
 use Rattle.demands.proofs.OneReceiving.{in-held, in-receiving}
+
+in-words : InWords
+in-words = record { add = λ src old. told-one }
 
 in-stores : InStores
 in-stores =
@@ -116,6 +119,7 @@ in-sending =
 pub one-inside : OneInside
 one-inside =
     record {
+      inWords = in-words;
       inStores = in-stores;
       inDatagrams = in-datagrams;
       inHeld = in-held;

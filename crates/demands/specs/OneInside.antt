@@ -18,6 +18,7 @@ use Rattle.datagrams.specs.Inner.Heads as sizes
 use Rattle.datagrams.specs.Inner.Heads.{frontOctets}
 use Rattle.datagrams.specs.declared.kind.Kind.{Kind}
 use Rattle.datagrams.specs.declared.reader.Part.{Part}
+use Rattle.words.specs.Words as words
 use Rattle.stores.specs.Store as store
 use Rattle.views.specs.Cells.{isUnknown}
 use Rattle.held.specs.Table as table
@@ -43,6 +44,10 @@ use Rattle.lines.specs.Hex.{hexOf, octetsIn}
 use Rattle.lines.specs.Lines.{resultLine, refusalLine}
 use Rattle.lines.specs.Promise.{Appends}
 use Rattle.demands.specs.OneTold.{One, OneLent}
+
+-- `words`: `add`
+pub record InWords : Type 0 where
+  pub add : (src old : List ℕ) → One (λ (new : List ℕ). new ≡ words.both src old)
 
 -- `stores`: `put`, `clear_run`, `clear`, `zeros_in_run`, `zeros_past`, `all_zero`, `copy_out`, `add`
 pub record InStores : Type 0 where
@@ -130,6 +135,7 @@ pub record InLines : Type 0 where
   pub putRefusal : (why : Refusal) (old : List ℕ) (at : ℕ) → OneLent (Appends (refusalLine why) old at)
 
 pub record OneInside : Type 0 where
+  pub inWords : InWords
   pub inStores : InStores
   pub inDatagrams : InDatagrams
   pub inHeld : InHeld

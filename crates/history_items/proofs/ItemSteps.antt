@@ -5,10 +5,10 @@ use mathlib.Core.Path.{_≡_, sym, ap, _∙_}
 use mathlib.Core.Bool.{true}
 use mathlib.Core.List.{List}
 use lib.ListN.{length, take, drop}
-use lib.Seq.{length-take-le, getD-take, ext-getD}
+use lib.Seq.{length-take-le}
 use native.Mathlib.Omega.{arith}
 use Rattle.octets.specs.ExclusiveOr.{exclusiveOr, longest}
-use Rattle.octets.proofs.Laws.{length-exclusiveOr, exclusiveOr-at}
+use Rattle.octets.proofs.Laws.{length-exclusiveOr}
 use Rattle.lengths.specs.Length.{lengthLimit, within}
 use Rattle.lengths.proofs.Laws.{both, within-true}
 use Rattle.lengths.specs.Promise.{Put}
@@ -24,7 +24,7 @@ use Rattle.sending.specs.Sender.{historySlot, lengthIn}
 use Rattle.sending.specs.Inner.Held.{Sizes}
 use Rattle.sending.specs.Inner.Items.{Reach, membersIn, parityIn, MessageSize, MessageSum, MessageAsked, spareIn, SpareSize, SpareAsked}
 use Rattle.sending.specs.Inner.Items.{itemIn, ItemOf, ItemSize, ItemAsked}
-use Rattle.sending.proofs.Laws.{slot-small, history-at, length-packet, packet-short, members-short, item-spare, item-message}
+use Rattle.sending.proofs.Laws.{slot-small, history-at, length-packet, packet-short, item-spare, item-message}
 
 -- ---- a spare
 pub spare-told : (number j slot : ℕ) (sizes : List ℕ) {size : ℕ} → Sizes sizes → slot ≡ historySlot number (historyKept - suc j)
@@ -57,30 +57,17 @@ module _ {number : ℕ} {sizes o : List ℕ} {j : ℕ} {out : List ℕ} (asked :
   spare-put p = rw spare-part at p
 
 -- ---- a message
--- cut to the longest, the sum is the message
-exclusiveOr-cut : (limit n : ℕ) (ls : List (List ℕ)) → n ≤ limit → take n (exclusiveOr limit ls) ≡ exclusiveOr n ls
-exclusiveOr-cut limit n ls few =
-    let long : length (take n (exclusiveOr limit ls)) ≡ n =
-    length-take-le n (exclusiveOr limit ls) (rw (length-exclusiveOr limit ls) few) in
-    ext-getD 0 (take n (exclusiveOr limit ls)) (exclusiveOr n ls) (long ∙ sym (length-exclusiveOr n ls))
-    (λ k below.
-    let low : k < n = rw long at below in
-    getD-take n (exclusiveOr limit ls) k 0 low
-    ∙ exclusiveOr-at limit ls k (omega arith)
-    ∙ sym (exclusiveOr-at n ls k low))
-
 pub message-count : (number : ℕ) (sizes o : List ℕ) (n m i : ℕ) {size : ℕ} {sum : List ℕ} → MessageSize number sizes n m i size
-    → MessageSum number o n m i sum → size ≡ length (take size sum)
+    → MessageSum number o n m i size sum → size ≡ length (take size sum)
 message-count number sizes o n m i {size} {sum} told summed =
     sym (length-take-le size sum (rw (summed .long) (told .small)))
 
 module _ {number : ℕ} {sizes o : List ℕ} {n m i : ℕ} {out : List ℕ} (asked : MessageAsked number sizes o n m i out) {size : ℕ}
-    {sum : List ℕ} (told : MessageSize number sizes n m i size) (summed : MessageSum number o n m i sum) where
+    {sum : List ℕ} (told : MessageSize number sizes n m i size) (summed : MessageSum number o n m i size sum) where
   message-made : take size sum ≡ parityIn number sizes o n m i
   message-made =
-      rw (summed .answer sizes (asked .stored), told .answer o (asked .stored))
-      (exclusiveOr-cut packetLimit (longest (membersIn number sizes o n m i)) (membersIn number sizes o n m i)
-      (members-short (asked .stored) number n m i))
+      summed .answer sizes (asked .stored)
+      ∙ ap (λ (k : ℕ). exclusiveOr k (membersIn number sizes o n m i)) (told .answer o (asked .stored))
 
   pub message-asked : (length (take size sum) ≤ lengthLimit) × (itemSize (length (take size sum)) ≤ length out)
   message-asked =

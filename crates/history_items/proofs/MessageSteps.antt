@@ -1,20 +1,22 @@
 -- Messages, in the words of the code: the loop that finds the size, and the loop that adds the members up. Each says: what
 -- the members so far give. Assumes nothing.
-use Prim.Native.Nat.{ℕ, zero, suc, _+_, _-_, _*_, _%_, _≤_, _<_, max}
+use Prim.Native.Nat.{ℕ, suc, _+_, _-_, _*_, _%_, _≤_, _<_, max}
 use mathlib.Core.Path.{_≡_, refl, sym, ap, ap₂, _∙_}
-use mathlib.Core.List.{List, [], _∷_, _++_, map}
-use lib.ListN.{length, getD, take, replicate, length-replicate}
+use mathlib.Core.List.{List, [], _∷_, _++_}
+use lib.ListN.{length, getD, take, drop, replicate, length-append, length-drop, length-replicate, replicate-append-replicate}
+use lib.Seq.{take-at}
 use lib.Bits.{bitXor}
 use native.Mathlib.Omega.{arith}
 use Rattle.octets.specs.Place.{tab}
 use Rattle.octets.specs.ExclusiveOr.{exclusiveOr, longest}
-use Rattle.octets.proofs.Laws.{tab-ext, longest-more, exclusiveOr-none, exclusiveOr-more}
+use Rattle.octets.proofs.Laws.{tab-ext, longest-more, length-exclusiveOr, exclusiveOr-none, exclusiveOr-more}
 use Rattle.datagrams.specs.Sizes.{packetLimit}
-use Rattle.stores.specs.Store.{added, HasSlot}
+use Rattle.stores.specs.Store.{added}
+use Rattle.stores.proofs.Laws.{length-added}
 use Rattle.views.specs.Members.{membersOf}
 use Rattle.views.specs.View.{numbers}
 use Rattle.sending.specs.Sending.{historyKept}
-use Rattle.sending.specs.Sender.{historySlot, lengthIn, packetIn, historyOctets}
+use Rattle.sending.specs.Sender.{historySlot, lengthIn, packetIn}
 use Rattle.sending.specs.Inner.Held.{Sizes, Stored}
 use Rattle.sending.specs.Inner.Items.{Reach, membersIn, MessageSize, MessageSum}
 use Rattle.sending.proofs.Laws.{length-packet, packet-octet}
@@ -63,58 +65,73 @@ module _ {number : ℕ} {sizes : List ℕ} {n m i at size t : ℕ} (v : Sizing n
 pub ruleset sizings = (sizing-start, sizing-turn, sizing-done)
 
 -- ---- message_sum
-pub record Summing (number : ℕ) (o : List ℕ) (n m i at : ℕ) (sum : List ℕ) (t : ℕ) : Type 0 where
+pub record Summing (number : ℕ) (o : List ℕ) (n m i size at : ℕ) (sum : List ℕ) (t : ℕ) : Type 0 where
   pub standing : Standing number m i at t
   pub bound : t ≤ n
   pub long : length sum ≡ packetLimit
-  pub so : (sizes : List ℕ) → Stored sizes o → sum ≡ exclusiveOr packetLimit (membersIn number sizes o t m i)
+  pub front : length (take size sum) ≡ size
+  pub so : (sizes : List ℕ) → Stored sizes o → take size sum ≡ exclusiveOr size (membersIn number sizes o t m i)
 
-pub summing-start : (number : ℕ) (o : List ℕ) (n m i at : ℕ) → at ≡ (number + i) % numbers
-    → Summing number o n m i at (replicate packetLimit 0) 0
+-- zeros, cut
+take-zeros : (size limit : ℕ) → size ≤ limit → take {A = ℕ} size (replicate limit 0) ≡ replicate size 0
+take-zeros size limit few =
+    let e : limit ≡ size + (limit - size) = omega arith in
+    ap (λ (k : ℕ). take {A = ℕ} size (replicate k 0)) e
+    ∙ ap (take {A = ℕ} size) (sym (replicate-append-replicate size (limit - size) 0))
+    ∙ take-at (replicate size 0) (replicate (limit - size) 0) size (length-replicate {A = ℕ} size 0)
+
+pub summing-start : (number : ℕ) (o : List ℕ) (n m i size at : ℕ) → size ≤ packetLimit → at ≡ (number + i) % numbers
+    → Summing number o n m i size at (replicate packetLimit 0) 0
 unfolding membersOf tab
-summing-start number o n m i at e =
+summing-start number o n m i size at few e =
     record {
       standing = standing-start number m i at e;
       bound = omega arith;
       long = length-replicate {A = ℕ} packetLimit 0;
-      so = λ sizes stored. exclusiveOr-none packetLimit;
+      front = ap (λ (l : List ℕ). length l) (take-zeros size packetLimit few) ∙ length-replicate {A = ℕ} size 0;
+      so = λ sizes stored. take-zeros size packetLimit few ∙ exclusiveOr-none size;
     }
 
 -- a slot added is its packet added
-added-packet : {sizes o : List ℕ} → Stored sizes o → (ls : List (List ℕ)) (i : ℕ) → i < historyKept
-    → added (exclusiveOr packetLimit ls) o i ≡ exclusiveOr packetLimit (ls ++ (packetIn sizes o i ∷ []))
+added-packet : {sizes o : List ℕ} → Stored sizes o → (size : ℕ) → size ≤ packetLimit → (ls : List (List ℕ)) (i : ℕ) → i < historyKept
+    → added (exclusiveOr size ls) o i ≡ exclusiveOr size (ls ++ (packetIn sizes o i ∷ []))
 unfolding added
-added-packet {sizes} {o} stored ls i small =
-    tab-ext packetLimit (λ j. bitXor (getD (exclusiveOr packetLimit ls) j 0) (getD o (i * packetLimit + j) 0))
-    (λ k. bitXor (getD (exclusiveOr packetLimit ls) k 0) (getD (packetIn sizes o i) k 0))
-    (λ k low. ap (bitXor (getD (exclusiveOr packetLimit ls) k 0)) (sym (packet-octet stored i small k low)))
-    ∙ sym (exclusiveOr-more packetLimit ls (packetIn sizes o i))
+added-packet {sizes} {o} stored size few ls i small =
+    ap (λ (n : ℕ). tab n (λ j. bitXor (getD (exclusiveOr size ls) j 0) (getD o (i * packetLimit + j) 0))) (length-exclusiveOr size ls)
+    ∙ tab-ext size (λ j. bitXor (getD (exclusiveOr size ls) j 0) (getD o (i * packetLimit + j) 0))
+    (λ k. bitXor (getD (exclusiveOr size ls) k 0) (getD (packetIn sizes o i) k 0))
+    (λ k low. ap (bitXor (getD (exclusiveOr size ls) k 0)) (sym (packet-octet stored i small k (omega arith))))
+    ∙ sym (exclusiveOr-more size ls (packetIn sizes o i))
 
-module _ {number : ℕ} {o : List ℕ} {n m i at : ℕ} {sum : List ℕ} {t : ℕ} (v : Summing number o n m i at sum t) where
-  pub summing-turn : {r slot : ℕ} {more-sum : List ℕ} → Reach n m i → t < n → (r + m) % numbers ≡ at → slot ≡ r % historyKept
-      → more-sum ≡ added sum o slot → length more-sum ≡ packetLimit → Summing number o n m i r more-sum (t + 1)
-  summing-turn {r} {slot} {more-sum} reach more back found plus long =
+module _ {number : ℕ} {o : List ℕ} {n m i size at : ℕ} {sum : List ℕ} {t : ℕ} (v : Summing number o n m i size at sum t) where
+  pub summing-turn : {r slot : ℕ} {front : List ℕ} → size ≤ packetLimit → Reach n m i → t < n → (r + m) % numbers ≡ at
+      → slot ≡ r % historyKept → front ≡ added (take size sum) o slot → Summing number o n m i size r (front ++ drop size sum) (t + 1)
+  summing-turn {r} {slot} {front} few reach more back found plus =
       let inside = place-inside reach number t more in
       let same : slot ≡ historySlot number ((historyKept + i) - suc t * m) = found
       ∙ standing-slot reach number t more (v .standing) r back in
+      let long : length front ≡ size = ap (λ (l : List ℕ). length l) plus ∙ length-added (take size sum) o slot ∙ v .front in
+      let cut : take size (front ++ drop size sum) ≡ front = take-at front (drop size sum) size long in
       record {
         standing = standing-turn reach number t more (v .standing) r back;
         bound = omega arith;
-        long = long;
+        long = length-append front (drop size sum) ∙ omega (arith, long, length-drop size sum, v .long);
+        front = ap (λ (l : List ℕ). length l) cut ∙ long;
         so = λ sizes stored.
-            plus
+            cut ∙ plus
             ∙ ap₂ (λ (l : List ℕ) (k : ℕ). added l o k) (v .so sizes stored) same
-            ∙ added-packet stored (membersIn number sizes o t m i) (historySlot number ((historyKept + i) - suc t * m)) (omega arith)
-            ∙ sym (ap (exclusiveOr packetLimit) (members-more number sizes o t m i inside));
+            ∙ added-packet stored size few (membersIn number sizes o t m i) (historySlot number ((historyKept + i) - suc t * m))
+            (omega arith)
+            ∙ sym (ap (exclusiveOr size) (members-more number sizes o t m i inside));
       }
 
-  pub summing-done : n ≤ t → MessageSum number o n m i sum
+  pub summing-done : n ≤ t → MessageSum number o n m i size sum
   summing-done end =
       let all : t ≡ n = (let few = v .bound in omega arith) in
       record {
         long = v .long;
         answer = λ sizes stored. v .so sizes stored
-            ∙ ap (λ (k : ℕ). exclusiveOr packetLimit (membersIn number sizes o k m i)) all;
+            ∙ ap (λ (k : ℕ). exclusiveOr size (membersIn number sizes o k m i)) all;
       }
 
-pub ruleset summings = (summing-start, summing-turn, summing-done)
+pub ruleset summings = (summing-start, summing-done)

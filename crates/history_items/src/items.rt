@@ -6,9 +6,10 @@ use history::size_in;
 use history::slot_of;
 ghost use mathlib.Core.Path.{_≡_};
 ghost use mathlib.Core.Bool.{true};
-ghost use Prim.Native.Nat.{suc, _-_, _<_, max};
+ghost use Prim.Native.Nat.{suc, _-_, _≤_, _<_, max};
 ghost use lib.ListN.{length};
 ghost use Rattle.lengths.specs.Promise.{Put};
+ghost use Rattle.datagrams.specs.Sizes.{packetLimit};
 ghost use Rattle.datagrams.specs.Write.{countInside, itemOctets, itemsOctets};
 ghost use Rattle.sending.specs.Sending.{historyKept};
 ghost use Rattle.sending.specs.Sender.{historyOctets, historySlot};
@@ -42,17 +43,25 @@ fn message_size(number: u16, sizes: &[u16], n: usize, m: usize, i: usize) -> usi
     size
 }
 
-// Octets past a length are zero, so every member is added over its whole slot.
-fn message_sum(number: u16, o: &[u8], n: usize, m: usize, i: usize) -> [u8; Packet::LIMIT]
+// The members, added up over a size; the sum stands at the front.
+fn message_sum(
+    number: u16,
+    o: &[u8],
+    n: usize,
+    m: usize,
+    i: usize,
+    size: usize,
+) -> [u8; Packet::LIMIT]
     requires { ⌜ (length (now o) ≡ historyOctets) × (Reach n m i) ⌝ }
-    ensures { λ r. ⌜ MessageSum number (now (o .entry)) n m i r ⌝ }
+    requires { ⌜ size ≤ packetLimit ⌝ }
+    ensures { λ r. ⌜ MessageSum number (now (o .entry)) n m i size r ⌝ }
 {
     let mut member = std::num::wrapping_add_u16(number, i as u16);
     let mut sum = [0; Packet::LIMIT];
     let mut t = 0;
     while t < n {
         member = std::num::wrapping_sub_u16(member, m as u16);
-        stores::add(o, slot_of(member), &mut sum);
+        stores::add(o, slot_of(member), &mut sum[..size]);
         t += 1;
     }
     sum
@@ -72,7 +81,7 @@ fn put_message(
         (now (out .exit)) r ⌝ }
 {
     let size = message_size(number, sizes, n, m, i);
-    let sum = message_sum(number, o, n, m, i);
+    let sum = message_sum(number, o, n, m, i, size);
     datagram_items::put_item(&sum[..size], out)
 }
 

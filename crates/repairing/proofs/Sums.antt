@@ -1,10 +1,10 @@
 -- The sum of a message and its members, on plain values: what the loop over the members keeps true, and that the front of the
 -- sum is what document 01 fills with. Assumes nothing.
 use Prim.Native.Nat.{ℕ, suc, _+_, _-_, _*_, _%_, _≤_, _<_}
-use mathlib.Core.Path.{_≡_, sym, ap, ap₂, _∙_}
+use mathlib.Core.Path.{_≡_, refl, sym, ap, ap₂, _∙_}
 use mathlib.Core.List.{List, _++_}
-use lib.ListN.{length, getD, take, drop, List·getD-append}
-use lib.Seq.{length-take-le, getD-take, ext-getD}
+use lib.ListN.{length, getD, take, drop, length-append, length-drop}
+use lib.Seq.{take-at, ext-getD}
 use lib.Bits.{bitXor, xor-zero-r}
 use native.Mathlib.Omega.{arith}
 use Rattle.octets.proofs.Laws.{xor-assoc, xorAt-cons, exclusiveOr-at}
@@ -26,15 +26,15 @@ use Rattle.repairing.proofs.Search.{searchable, m-near, reach-near, siz
 
 -- ---- the loop over the members: what is summed, with what is left to sum, is the whole
 pub record Summing (o : List ℕ) (x n m : ℕ) (start : List ℕ) (at : ℕ) (sum : List ℕ) (k : ℕ) : Type 0 where
-  pub long : length sum ≡ packetLimit
+  pub long : length sum ≡ length start
   pub few : k ≤ n
-  pub left : (j : ℕ) → j < packetLimit
+  pub left : (j : ℕ) → j < length start
       → bitXor (getD sum j 0) (xorBack o at (n - k) m j) ≡ bitXor (getD start j 0) (xorBack o x n m j)
 
-pub summing-start : (o : List ℕ) (x n m : ℕ) (sum : List ℕ) → length sum ≡ packetLimit → Summing o x n m sum x sum 0
-summing-start o x n m sum long =
+pub summing-start : (o : List ℕ) (x n m : ℕ) (sum : List ℕ) → Summing o x n m sum x sum 0
+summing-start o x n m sum =
     record {
-      long = long;
+      long = refl;
       few = omega arith;
       left = λ j low. ap (λ (k : ℕ). bitXor (getD sum j 0) (xorBack o x k m j)) {x = n - 0} {y = n} (omega arith);
     }
@@ -50,11 +50,11 @@ pub summing-turn : {o start sum after : List ℕ} {x n m at k member slot : ℕ}
     → member ≡ distance m at → slot ≡ slotOf member → after ≡ added sum o slot → Summing o x n m start member after (k + 1)
 summing-turn {o} {start} {sum} {after} {x} {n} {m} {at} {k} {member} {slot} s more e f laid =
     record {
-      long = ap (λ (l : List ℕ). length l) laid ∙ length-added sum o slot;
+      long = ap (λ (l : List ℕ). length l) laid ∙ length-added sum o slot ∙ s .long;
       few = omega arith;
       left =
           λ j low.
-          rw (laid, f, e, added-at sum o (slotOf (distance m at)) j low)
+          rw (laid, f, e, added-at sum o (slotOf (distance m at)) j (omega (arith, s .long)))
           (xor-assoc (getD sum j 0) _ _
           ∙ ap (bitXor (getD sum j 0)) (sym (xorBack-step o at n m k j more))
           ∙ s .left j low);
@@ -86,11 +86,11 @@ size-small {l} w d i low e-at e-slot e-size =
 
 -- ---- the front of the sum
 module _ {l : Lent} (w : InRanges l) (d i : ℕ) (near : d < keptAhead) (low : i < mAt (l .base) (l .table) d)
-    {at slot n count m place size first index : ℕ} (start : List ℕ) {copied r : List ℕ}
+    {at slot n count m place size first index : ℕ} (start : List ℕ) (whole : length start ≡ packetLimit) {copied front : List ℕ}
     (e-at : at ≡ (l .base + d) % numbers) (e-slot : slot ≡ at % slotsHeard) (e-n : n ≡ nIn (l .table) slot)
     (e-count : count ≡ mIn (l .table) slot) (e-m : m ≡ count) (e-place : place ≡ slot * messagesLimit + i)
     (e-size : size ≡ messageSizeIn (l .table) place) (e-copied : copied ≡ part (l .messages) place size ++ drop size start)
-    (e-index : index ≡ i) (e-first : first ≡ (at + index) % numbers) (s : Summed (l .octets) first n m copied r) where
+    (e-index : index ≡ i) (e-first : first ≡ (at + index) % numbers) (s : Summed (l .octets) first n m (take size copied) front) where
   message : Message
   message = messageHeld (l .base) (l .table) (l .messages) d i
 
@@ -122,16 +122,28 @@ module _ {l : Lent} (w : InRanges l) (d i : ℕ) (near : d < keptAhead) (low : i
   small : size ≤ packetLimit
   small = rw (e-size, place-is) (size-near (searchable w) (l .base) d i low)
 
-  octet-is : (j : ℕ) → j < size → getD r j 0 ≡ getD (mended (cellsOf (l .base) (l .table) (l .octets)) message) j 0
+  part-long : length (part (l .messages) place size) ≡ size
+  part-long = ap (λ (x : List ℕ). length x) part-is ∙ sym size-is
+
+  copied-long : length copied ≡ packetLimit
+  copied-long =
+      ap (λ (x : List ℕ). length x) e-copied ∙ length-append (part (l .messages) place size) (drop size start)
+      ∙ omega (arith, part-long, length-drop size start, small, whole)
+
+  -- what is summed up to is the message
+  taken : take size copied ≡ message .octets
+  taken = ap (take size) e-copied ∙ take-at (part (l .messages) place size) (drop size start) size part-long ∙ part-is
+
+  front-long : length front ≡ size
+  front-long = s .long ∙ ap (λ (x : List ℕ). length x) taken ∙ sym size-is
+
+  octet-is : (j : ℕ) → j < size → getD front j 0 ≡ getD (mended (cellsOf (l .base) (l .table) (l .octets)) message) j 0
   unfolding mended message messageHeld membersOf
   octet-is j below =
       let N = nAt (l .base) (l .table) d in
       let M = mAt (l .base) (l .table) d in
-      s .each j (omega (arith, small))
-      ∙ ap₂ bitXor
-      (ap (λ (x : List ℕ). getD x j 0) e-copied
-      ∙ List·getD-append (part (l .messages) place size) (drop size start) 0 j (rw (ap (λ (x : List ℕ). length x) part-is, ← size-is) below)
-      ∙ ap (λ (x : List ℕ). getD x j 0) part-is)
+      s .each j (rw (taken, ← size-is) below)
+      ∙ ap₂ bitXor (ap (λ (x : List ℕ). getD x j 0) taken)
       (ap₂ (λ (x k : ℕ). xorBack (l .octets) x k m j) first-is n-is
       ∙ ap (λ (k : ℕ). xorBack (l .octets) (numberAt (l .base) (keptBefore + d + i)) N k j) m-is
       ∙ summed w N (keptBefore + d + i) M j (omega (arith, reach-near (searchable w) (l .base) d)) (omega arith)
@@ -139,17 +151,14 @@ module _ {l : Lent} (w : InRanges l) (d i : ℕ) (near : d < keptAhead) (low : i
       ∙ sym (xorAt-cons _ _ j)
       ∙ sym (exclusiveOr-at (length (message .octets)) _ j (rw (← size-is) below))
 
-  pub mended-front : MendedOctets (l .base) (l .table) (l .octets) (l .messages) d i r
+  pub mended-front : MendedOctets (l .base) (l .table) (l .octets) (l .messages) d i (front ++ drop size copied)
   unfolding message
   mended-front =
-      let cut = length-take-le size r (omega (arith, small, s .long)) in
       record {
-        long = s .long;
+        long = length-append front (drop size copied) ∙ omega (arith, front-long, length-drop size copied, small, copied-long);
         front =
-            rw (← size-is)
-            (ext-getD 0 (take size r) (mended (cellsOf (l .base) (l .table) (l .octets)) message)
-            (cut ∙ size-is ∙ sym (length-mended (cellsOf (l .base) (l .table) (l .octets)) message))
-            (λ j below.
-            let under : j < size = rw cut at below in
-            getD-take size r j 0 under ∙ octet-is j under));
+            rw (← size-is, take-at front (drop size copied) size front-long)
+            (ext-getD 0 front (mended (cellsOf (l .base) (l .table) (l .octets)) message)
+            (front-long ∙ size-is ∙ sym (length-mended (cellsOf (l .base) (l .table) (l .octets)) message))
+            (λ j below. octet-is j (rw front-long at below)));
       }

@@ -42,10 +42,10 @@ xorBack o x zero m j = 0
 xorBack o x (suc n) m j =
     bitXor (getD o (slotOf (distance m x) * packetLimit + j) 0) (xorBack o (distance m x) n m j)
 
--- packetLimit octets, to which the n numbers' slots were added
+-- octets, to which the n numbers' slots were added
 pub record Summed (o : List ℕ) (x n m : ℕ) (before after : List ℕ) : Type 0 where
-  pub long : length after ≡ packetLimit
-  pub each : (j : ℕ) → j < packetLimit → getD after j 0 ≡ bitXor (getD before j 0) (xorBack o x n m j)
+  pub long : length after ≡ length before
+  pub each : (j : ℕ) → j < length before → getD after j 0 ≡ bitXor (getD before j 0) (xorBack o x n m j)
 
 -- the sum of f 0, f 1, .. of n numbers
 unfoldable pub sumTo : ℕ → (ℕ → ℕ) → ℕ

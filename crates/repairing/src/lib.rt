@@ -11,7 +11,7 @@ use searching::first_usable;
 use searching::narrow;
 ghost use mathlib.Core.Path.{_≡_};
 ghost use mathlib.Core.Bool.{true};
-ghost use Prim.Native.Nat.{_<_};
+ghost use Prim.Native.Nat.{_≤_, _<_};
 ghost use lib.ListN.{length};
 ghost use Rattle.datagrams.specs.Sizes.{packetLimit, messagesLimit};
 ghost use Rattle.views.specs.Cells.{keptAhead};
@@ -21,10 +21,10 @@ ghost use Rattle.held.specs.Table.{places, cellsOf};
 ghost use Rattle.repairing.specs.Back.{Summed};
 ghost use Rattle.repairing.specs.Promise.{MendedOctets, Points, MayMend, Fills, Mends, messageHeld, mAt, messageSizeAt};
 
-// The octets of the n numbers x - m, x - 2m, .., added to sum.
+// The octets of the n numbers x - m, x - 2m, .., added to sum: as many of each as sum has.
 fn add_members(o: &[u8], x: u16, n: usize, m: u16, sum: &mut [u8])
     requires { ⌜ length (now o) ≡ packetOctets ⌝ }
-    requires { ⌜ length (now sum) ≡ packetLimit ⌝ }
+    requires { ⌜ length (now sum) ≤ packetLimit ⌝ }
     ensures { λ _. ⌜ Summed (now (o .entry)) x n m (now (sum .entry)) (now (sum .exit)) ⌝ }
 {
     let mut at = x;
@@ -74,7 +74,7 @@ fn mended(
     let mut sum = [0u8; Packet::LIMIT];
     stores::copy_out(g, place, size, &mut sum);
     let first = std::num::wrapping_add_u16(at, narrow(index));
-    add_members(o, first, n, m, &mut sum);
+    add_members(o, first, n, m, &mut sum[..size]);
     sum
 }
 

@@ -201,11 +201,11 @@ module _ (o : List ℕ) (i : ℕ) (has : HasSlot i o) where
       (or-true (ltb j n)))
 
 -- ---- adding a slot
-pub length-added : (sum o : List ℕ) (slot : ℕ) → length (added sum o slot) ≡ packetLimit
+pub length-added : (sum o : List ℕ) (slot : ℕ) → length (added sum o slot) ≡ length sum
 unfolding added
-length-added sum o slot = length-tab packetLimit _
+length-added sum o slot = length-tab (length sum) _
 
-pub added-at : (sum o : List ℕ) (slot j : ℕ) → j < packetLimit
+pub added-at : (sum o : List ℕ) (slot j : ℕ) → j < length sum
     → getD (added sum o slot) j 0 ≡ bitXor (getD sum j 0) (getD o (slot * packetLimit + j) 0)
 unfolding added
-added-at sum o slot j below = tab-at packetLimit _ j 0 below
+added-at sum o slot j below = tab-at (length sum) _ j 0 below

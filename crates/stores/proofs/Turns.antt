@@ -7,20 +7,21 @@ use mathlib.Core.List.{List, _++_, append-nil, append-assoc}
 use mathlib.Core.Logic.{⊎-elim}
 use lib.ListN.{length, getD, set, take, drop, replicate, length-set}
 use lib.ListN.{length-drop, drop-of-length-le}
-use lib.Seq.{paste, paste-zero, paste-suc, getD-append-add, getD-drop, getD-take, drop-drop, length-take-le, take-length}
+use lib.Seq.{paste, paste-zero, paste-suc, getD-drop, getD-take, drop-drop, length-take-le, take-length}
 use lib.Bits.{bitAnd, bitXor, and-zero-r, and-mask}
 use lib.Dec.{ltb, eqb}
-use native.Mathlib.Nat.{zero-add, add-zero, le-refl}
+use native.Mathlib.Nat.{zero-add, le-refl}
 use native.Mathlib.Numerals.{add-one}
 use native.Mathlib.Omega.{arith}
 use borrow.Author.Fill.{fill-none, fill-more}
 use borrow.Author.Tests.{lt-ltb, le-ltb}
 use borrow.Rule.Slice.PartMut.{midOf, putMid}
 use Rattle.octets.specs.Place.{allBelow}
-use Rattle.octets.proofs.Laws.{allBelow-more, allBelow-ext, below-or-not}
+use Rattle.octets.proofs.Laws.{allBelow-more, allBelow-ext, tab-ext, below-or-not}
+use Rattle.words.specs.Words.{both}
 use Rattle.datagrams.specs.Sizes.{packetLimit}
 use Rattle.stores.specs.Store.{pasted, zeros, zerosFrom, zerosPast, maskOver, mask, part, added, HasSlot}
-use Rattle.stores.proofs.Laws.{length-zeros, length-mask, mask-low, mask-high, length-part, part-at, length-added, added-at}
+use Rattle.stores.proofs.Laws.{length-zeros, length-mask, mask-low, mask-high, length-part, part-at}
 
 -- ---- laying octets b into o from place `at` on: j of them are laid
 pub record Laying (start b : List ℕ) (at : ℕ) (o : List ℕ) (j : ℕ) : Type 0 where
@@ -187,31 +188,14 @@ copying-done o slot n {start} {out} {j} l has fits done =
     ∙ ap (λ (k : ℕ). paste start 0 (part o slot n) k) all
     ∙ ap₂ (λ (a : List ℕ) (k : ℕ). a ++ drop k start) (take-length (part o slot n)) (zero-add (length (part o slot n)) ∙ long)
 
--- ---- adding a slot: the loop that lays the sums from place 0 on
--- what is not laid yet is as it was
-not-yet : {start b o : List ℕ} {j : ℕ} → Laying start b 0 o j → getD o j 0 ≡ getD start j 0
-not-yet {start} {b} {o} {j} l =
-    let long : length (take j b) ≡ j = length-take-le j b (l .few) in
-    ap (λ (x : List ℕ). getD x j 0) (l .laid)
-    ∙ ap₂ (λ (k d : ℕ). getD (take j b ++ drop d start) k 0) (sym (add-zero j) ∙ ap (λ (k : ℕ). k + 0) (sym long)) (zero-add j)
-    ∙ getD-append-add (take j b) (drop j start) 0 0
-    ∙ getD-drop j start 0 0
-    ∙ ap (λ (k : ℕ). getD start k 0) (add-zero j)
-
-pub adding-turn : (start o : List ℕ) (slot : ℕ) {sum : List ℕ} {j : ℕ} → Laying start (added start o slot) 0 sum j
-    → length start ≡ packetLimit → j < packetLimit
-    → Laying start (added start o slot) 0 (set sum j (bitXor (getD sum j 0) (getD o (slot * packetLimit + j) 0))) (j + 1)
-adding-turn start o slot {sum} {j} l long more =
-    rw (not-yet l, ← (added-at start o slot j more))
-    (rw (zero-add j) at
-    (laying-turn l (omega (arith, length-added start o slot)) (rw (length-added start o slot) more)))
-
-pub adding-done : (start o : List ℕ) (slot : ℕ) {sum : List ℕ} {j : ℕ} → Laying start (added start o slot) 0 sum j
-    → length start ≡ packetLimit → packetLimit ≤ j → sum ≡ added start o slot
-adding-done start o slot {sum} {j} l long done =
-    let all : j ≡ length (added start o slot) = omega (arith, l .few, length-added start o slot) in
-    let past : length start ≤ 0 + length (added start o slot) = omega (arith, length-added start o slot) in
-    l .laid
-    ∙ ap (λ (k : ℕ). paste start 0 (added start o slot) k) all
-    ∙ ap₂ (λ (a b : List ℕ). a ++ b) (take-length (added start o slot)) (drop-of-length-le start past)
-    ∙ append-nil (added start o slot)
+-- ---- adding a slot: as many of its octets as the sum has
+pub slot-added : (o : List ℕ) (slot : ℕ) (sum : List ℕ) {new : List ℕ}
+    → new ≡ both (midOf (slot * packetLimit) (slot * packetLimit + length sum - slot * packetLimit) o) sum → new ≡ added sum o slot
+unfolding both added
+slot-added o slot sum told =
+    told
+    ∙ tab-ext (length sum) _ _
+    (λ j below.
+    ap (bitXor (getD sum j 0))
+    (getD-take (slot * packetLimit + length sum - slot * packetLimit) (drop (slot * packetLimit) o) j 0 (omega arith)
+    ∙ getD-drop (slot * packetLimit) o j 0))

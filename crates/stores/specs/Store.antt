@@ -41,6 +41,6 @@ maskOver n = zeros n ++ replicate n 255
 unfoldable pub mask : List ℕ
 mask = maskOver packetLimit
 
--- packetLimit octets, to which those of slot i are added by exclusive or
+-- octets, to which those of slot i are added by exclusive or
 unfoldable pub added : List ℕ → List ℕ → ℕ → List ℕ
-added sum o i = tab packetLimit (λ j. bitXor (getD sum j 0) (getD o (i * packetLimit + j) 0))
+added sum o i = tab (length sum) (λ j. bitXor (getD sum j 0) (getD o (i * packetLimit + j) 0))

@@ -128,16 +128,13 @@ pub fn copy_out(o: &[u8], slot: usize, n: usize, out: &mut [u8])
     }
 }
 
-// The octets of a slot, added to sum by exclusive or.
+// The octets of a slot, added to sum by exclusive or: as many as sum has.
 pub fn add(o: &[u8], slot: usize, sum: &mut [u8])
     requires { ⌜ HasSlot slot (now o) ⌝ }
-    requires { ⌜ length (now sum) ≡ packetLimit ⌝ }
+    requires { ⌜ length (now sum) ≤ packetLimit ⌝ }
     ensures { λ _. ⌜ now (sum .exit) ≡ added (now (sum .entry)) (now (o .entry)) slot ⌝ }
 {
     let at = slot * Packet::LIMIT;
-    let mut j = 0;
-    while j < Packet::LIMIT {
-        sum[j] = sum[j] ^ o[at + j];
-        j += 1;
-    }
+    let end = at + sum.len();
+    words::add(&o[at..end], sum);
 }

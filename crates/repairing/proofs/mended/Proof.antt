@@ -1,8 +1,10 @@
 -- `repairing::mended` meets its contract. Assumes nothing.
+use lib.ListN.{length-take}
 use native.Mathlib.Omega.{arith}
 use mathlib.Core.Path.{refl}
 use Rattle.datagrams.specs.Sizes.{packetLimit}
 use Rattle.stores.specs.Store.{zeros}
+use Rattle.stores.proofs.Laws.{length-zeros}
 use Rattle.repairing.proofs.Search.{searchable}
 use Rattle.repairing.proofs.Below.{small-count}
 use Rattle.repairing.proofs.Sums.{size-small, mended-front}
@@ -56,11 +58,36 @@ narrow-requires-2 c κs = search needs
 wrapping-add-u16-requires-2 : tie.Need-wrapping-add-u16-requires-2
 wrapping-add-u16-requires-2 c κs = search needs
 
+array-borrow-prefix-sum : tie.Need-array-borrow-prefix-sum
+array-borrow-prefix-sum c =
+    let size = c .before .before .before .before .before in
+    let place = size .before .before .before .before in
+    let start = place .before .before .before .before .before in
+    let small =
+    size-small (start .pre .0 .within) (start .args .distance) (start .args .index) (start .pre .1 .1 .1)
+    (place .before .wrapping-add-u16 .ensures)
+    (place .heard-slot .ensures) (size .message-size-at .ensures) in
+    omega (arith, small)
+
 slice-aggregate-add-members : tie.Need-slice-aggregate-add-members
-slice-aggregate-add-members c = search needs
+slice-aggregate-add-members c =
+    let size = c .before .before .before .before .before .before in
+    let place = size .before .before .before .before in
+    let start = place .before .before .before .before .before in
+    let small =
+    size-small (start .pre .0 .within) (start .args .distance) (start .args .index) (start .pre .1 .1 .1)
+    (place .before .wrapping-add-u16 .ensures)
+    (place .heard-slot .ensures) (size .message-size-at .ensures) in
+    omega (arith, small, length-take (size .message-size-at .result) (c .before .before .before .before .copy-out .last .1 .1 .1 .0))
 
 add-members-requires : tie.Need-add-members-requires
-add-members-requires c κs = search needs
+add-members-requires c κs =
+    let copy = c .before .before .before .before in
+    let size = copy .before .before in
+    let start = size .before .before .before .before .before .before .before .before .before in (
+      start .pre .0 .within .laid .octets,
+      omega (arith, length-take (size .message-size-at .result) (copy .copy-out .last .1 .1 .1 .0)),
+    )
 
 returns : tie.Need-returns
 unfolding zeros
@@ -72,7 +99,7 @@ returns c =
     let place = few .before .before .before in
     let start = place .before .before .before .before .before in
     mended-front (start .pre .0 .within) (start .args .distance) (start .args .index) (start .pre .1 .0) (start .pre .1 .1 .1)
-    (zeros packetLimit)
+    (zeros packetLimit) (length-zeros packetLimit)
     (place .before .wrapping-add-u16 .ensures) (place .heard-slot .ensures) (few .before .before .n-at .ensures)
     (few .before .m-at .ensures)
     (few .narrow .ensures) refl (size .message-size-at .ensures) (copy .copy-out .ensures) (first .before .narrow2 .ensures)
@@ -94,6 +121,7 @@ mended-spec =
     copy-out-requires
     narrow-requires-2
     wrapping-add-u16-requires-2
+    array-borrow-prefix-sum
     slice-aggregate-add-members
     add-members-requires
     returns)

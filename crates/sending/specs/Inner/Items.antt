@@ -4,7 +4,7 @@ use Prim.Native.Nat.{ℕ, suc, _+_, _-_, _*_, _≤_, _<_}
 use mathlib.Core.Path.{_≡_}
 use mathlib.Core.Bool.{true}
 use mathlib.Core.List.{List, [], map}
-use lib.ListN.{length, getD}
+use lib.ListN.{length, getD, take}
 use Rattle.octets.specs.ExclusiveOr.{exclusiveOr, longest}
 use Rattle.datagrams.specs.Sizes.{packetLimit, sparesLimit, coveredLimit, messagesLimit}
 use Rattle.datagrams.specs.Write.{countInside, itemsOctets}
@@ -38,10 +38,10 @@ pub record MessageSize (number : ℕ) (sizes : List ℕ) (n m i size : ℕ) : Ty
   pub small : size ≤ packetLimit
   pub answer : (o : List ℕ) → Stored sizes o → size ≡ longest (membersIn number sizes o n m i)
 
--- the exclusive or of the members, padded to the longest packet that there may be
-pub record MessageSum (number : ℕ) (o : List ℕ) (n m i : ℕ) (sum : List ℕ) : Type 0 where
+-- the exclusive or of the members over a size: it stands at the front
+pub record MessageSum (number : ℕ) (o : List ℕ) (n m i size : ℕ) (sum : List ℕ) : Type 0 where
   pub long : length sum ≡ packetLimit
-  pub answer : (sizes : List ℕ) → Stored sizes o → sum ≡ exclusiveOr packetLimit (membersIn number sizes o n m i)
+  pub answer : (sizes : List ℕ) → Stored sizes o → take size sum ≡ exclusiveOr size (membersIn number sizes o n m i)
 
 -- the message is one of those that there are, and there is room for it
 pub record MessageAsked (number : ℕ) (sizes o : List ℕ) (n m i : ℕ) (out : List ℕ) : Type 0 where

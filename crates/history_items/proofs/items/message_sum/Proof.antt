@@ -1,15 +1,15 @@
 -- `history_items::message_sum` meets its contract. Assumes nothing.
 use Prim.Native.Nat.{_-_}
 use borrow.Author.Needs.{needs}
-use Rattle.history_items.proofs.MessageSteps.{Summing, summings}
+use Rattle.history_items.proofs.MessageSteps.{Summing, summing-turn, summings}
 use Rattle.history_items.proofs.items.message_sum.Statement.{statement}
 use Rattle.history_items.proofs.items.message_sum.Tie as tie
 
 abbrev Inv-loop : tie.InvT-loop
-Inv-loop number o n m i member₀ sum₀ t₀ member sum t = Summing number o n m i member sum t
+Inv-loop number o n m i size member₀ sum₀ t₀ member sum t = Summing number o n m i size member sum t
 
 abbrev μ-loop : tie.MeasureT-loop
-μ-loop number o n m i member₀ sum₀ t₀ member sum t = n - t
+μ-loop number o n m i size member₀ sum₀ t₀ member sum t = n - t
 
 cast-wrapping-add-u16 : tie.Need-cast-wrapping-add-u16 Inv-loop μ-loop
 cast-wrapping-add-u16 c = search needs
@@ -29,6 +29,9 @@ wrapping-sub-u16-requires c κs = search needs
 slot-of-requires : tie.Need-slot-of-requires Inv-loop μ-loop
 slot-of-requires c κs = search needs
 
+array-borrow-prefix-sum : tie.Need-array-borrow-prefix-sum Inv-loop μ-loop
+array-borrow-prefix-sum c = search needs
+
 slice-aggregate-add : tie.Need-slice-aggregate-add Inv-loop μ-loop
 slice-aggregate-add c = search needs
 
@@ -42,7 +45,13 @@ loop-less : tie.Need-loop-less Inv-loop μ-loop
 loop-less c = search needs
 
 loop-again : tie.Need-loop-again Inv-loop μ-loop
-loop-again c = search summings
+loop-again c =
+    let found = c .before .before .before in
+    let back = found .before in
+    let turn = back .before .before in
+    let start = turn .before .before .before in
+    summing-turn (turn .loop .inv) (start .pre .1) (start .pre .0 .1) (back .before .loop-test .taken) (back .wrapping-sub-u16 .ensures)
+    (found .slot-of .ensures) (c .before .add .ensures)
 
 returns : tie.Need-returns Inv-loop μ-loop
 returns c = search summings
@@ -59,6 +68,7 @@ message-sum-spec =
     cast-wrapping-sub-u16
     wrapping-sub-u16-requires
     slot-of-requires
+    array-borrow-prefix-sum
     slice-aggregate-add
     add-requires
     add-t

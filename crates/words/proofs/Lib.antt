@@ -1,0 +1,3 @@
+mod Numbers
+mod Turns
+pub mod Laws
