@@ -1,5 +1,5 @@
 #!/usr/bin/env python3
-"""Packets decoded by an ASN.1 compiler: each must be accepted, refused and read as the compiler's decoder says.
+"""Packets decoded by an ASN.1 compiler: each must be accepted, refused and read as the compiler's decoder says, by both readers.
 
 What is read must be written back as the same octets. The lines stand in corpus/asn1-98.txt, and corpus/README.md has their form."""
 
@@ -12,6 +12,7 @@ from typing import NamedTuple, Optional
 from failing import Cases, altered, independent
 from format_mutants import PACKET_MUTANTS
 from mutants import command_of, make_mutant
+from pencil_mutants import PENCIL_MUTANTS
 from real import CORPUS, Wrong, as_expected, must, written_by
 from rules.arguments import shown, sized
 from rules.calls import answer_all
@@ -19,6 +20,7 @@ from rules.packets import DATA_PACKET, INDICATOR, Packet, data_misplaced
 from running import around
 
 LINES = 400
+READERS = 5, 7
 KINDS = {'ind': INDICATOR, 'dat': DATA_PACKET}
 NOT_DECODED = (b'FF01', b'FF03', b'FF04', b'FF05', b'FF0C', b'FF0E')
 LEFT_OVER, OTHER_OCTETS, NO_COUNT, UNLAWFUL = (b'FF06',), (b'FF05',), (b'FF03', b'FF04'), (b'FF0E',)
@@ -64,19 +66,19 @@ def refusals(given):
 
 
 def read_as(octets, ending, *answers):
-    """A packet read (05), and what the answer may begin with."""
-    return (bytes([5, ending]) + octets).hex().upper().encode(), answers
+    """A packet read by both readers (05, 07), and what the answers may begin with."""
+    return [((bytes([reader, ending]) + octets).hex().upper().encode(), answers) for reader in READERS]
 
 
 def read_and_written(octets, said):
-    """A packet read (05), of either ending, and written (06): three calls with the answers that there must be."""
+    """A packet read by both readers, of either ending, and written (06): five calls with the answers that there must be."""
     data = [data for _, data in said.fields]
     reading = bytes([0, said.kind, said.value, len(data)]) + b''.join(shown(kind, 1) + sized(one) for kind, one in said.fields)
     writing = bytes([6, said.kind, said.value, len(data)] + [kind for kind, _ in said.fields] + [len(data)])
     writing += b''.join(shown(len(one), 2) for one in data) + sized(b''.join(data)) + shown(len(octets), 2)
     reading = reading.hex().upper().encode() + b'\n'
-    return [read_as(octets, 0, reading), read_as(octets, 1, reading),
-            (writing.hex().upper().encode(), ((b'\x00' + sized(octets)).hex().upper().encode() + b'\n',))]
+    return read_as(octets, 0, reading) + read_as(octets, 1, reading) + [
+        (writing.hex().upper().encode(), ((b'\x00' + sized(octets)).hex().upper().encode() + b'\n',))]
 
 
 def calls_of(line):
@@ -84,10 +86,17 @@ def calls_of(line):
     given = decoded(line)
     if given.accepted:
         return read_and_written(given.octets, given.said)
-    calls = [read_as(given.octets, 0, *refusals(given)), read_as(given.octets, 1, b'')]
+    calls = read_as(given.octets, 0, *refusals(given)) + read_as(given.octets, 1, b'')
     if given.others and given.said is not None and lawful(given.said):
         calls += read_and_written(given.others, given.said)
     return calls
+
+
+def read_alike(script, answers):
+    """What the second reader (07) answers is what the first (05) answers, whose call stands before."""
+    for call, first, second in zip(script[1:], answers, answers[1:]):
+        must(not call.startswith(b'07') or second == first, '%s is answered %s, and by 05 %s', around(call, 0), around(second, 0),
+             around(first, 0))
 
 
 def check(command, lines):
@@ -99,6 +108,7 @@ def check(command, lines):
     for (number, call, allowed), answer in zip(calls, answers):
         must((answer + b'\n').startswith(allowed), 'line %d: %s is answered %s, and not %s', number, around(call, 0), around(answer, 0),
              around(b' or '.join(allowed).replace(b'\n', b''), 0) or 'refused')
+    read_alike(script, answers)
     as_expected(expected, answers)
     must(len(lines) == LINES, '%d lines in place of %d', len(lines), LINES)
     accepted = sum(decoded(line).accepted for line in lines)
@@ -110,11 +120,14 @@ def self_test(lines):
     test, right = Cases('asn1.py'), independent()
     test.passes('the lines as they stand', check, right, lines)
     test.fails('a packet read otherwise', 'is answered 0001040', check, altered('calls 05 -1'), lines)
+    test.fails('a packet read otherwise by 07', ': 0700', check, altered('calls 07 -1'), lines)
+    test.fails('two readers that differ', '070048 is answered 00010400, and by 05 FF01', read_alike, [b'050048', b'070048'],
+               [b'FF01', b'00010400'])
     test.fails('a packet written otherwise', 'line 2: 060104', check, altered('calls 06 -1'), lines)
     test.fails('status 3', 'it does not end well: status 3', check, right + '; exit 3', lines)
     for name in ('a header read on an octet of its own', 'a header written on an octet of its own', 'padding at the end not checked',
-                 'a low half lost after a field with data'):
-        edit = next(row[1:] for row in PACKET_MUTANTS if row[0] == name)
+                 'a low half lost after a field with data', '07: align skips an octet at an edge', '07: 6 for 5 in padding'):
+        edit = next(row[1:] for row in PACKET_MUTANTS + PENCIL_MUTANTS if row[0] == name)
         with tempfile.TemporaryDirectory() as directory:
             make_mutant(pathlib.Path(directory), *edit)
             test.fails(name, ' is answered ', check, command_of(pathlib.Path(directory)), lines)

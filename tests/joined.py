@@ -150,7 +150,7 @@ def bad_line(command, name, settings, loss, packed=lambda packets: packets):
         else:
             repaired = answer[1] == REPAIRED
             octets = answer[6:6 + int.from_bytes(answer[4:6], 'big')]
-            script.call(0x05, bytes([repaired]), octets)
+            script.read(octets, repaired)
             feed(script, [read_packet(octets, repaired).fields], ())
         released.append(answer)
 

@@ -17,6 +17,7 @@ from compare import (CALL_SEEDS, FRAME_SEEDS, PACKET_SEEDS, PROGRAM_SEEDS, Faile
 from failing import Cases
 from format_mutants import DATAGRAM_MUTANTS, PACKET_MUTANTS
 from joiner_mutants import JOINER_MUTANTS
+from pencil_mutants import PENCIL_MUTANTS
 from session_mutants import SESSION_MUTANTS
 
 HERE = pathlib.Path(__file__).resolve().parent
@@ -61,7 +62,8 @@ PROGRAM_MUTANTS = (
      "    for line in stream:\n        yield line[:-1] if line.endswith(b'\\n') else line\n",
      "    yield from stream.read().split(b'\\n')\n"),
 )
-MUTANTS = {'calls': DATAGRAM_MUTANTS + SESSION_MUTANTS, 'packets': PACKET_MUTANTS, 'joiner': JOINER_MUTANTS, 'program': PROGRAM_MUTANTS}
+MUTANTS = {'calls': DATAGRAM_MUTANTS + SESSION_MUTANTS, 'packets': PACKET_MUTANTS + PENCIL_MUTANTS, 'joiner': JOINER_MUTANTS,
+           'program': PROGRAM_MUTANTS}
 
 
 def make_mutant(directory, module, old, new):
@@ -143,6 +145,7 @@ def self_test():
     test.passes('a wrong program', try_all, {'calls': DATAGRAM_MUTANTS[:1]})
     for kind, name, old, new in (('calls', 'lengths', 'first >= 0xC0', 'first > 0xBF'),
                                  ('packets', 'packets', 'items.bits(count) for count in (1, 3)', 'items.bits(1 + 2 * at) for at in (0, 1)'),
+                                 ('packets', 'pencil', 'self.place >= len(self.row)', 'self.place == len(self.row)'),
                                  ('joiner', 'joining', 'len(whole) > FRAME_LIMIT', 'len(whole) >= FRAME_LIMIT + 1')):
         test.fails('an edit of %s that changes no answer' % name, 'NOT FOUND: same\n1 passed, 1 failed\nSystemExit: 1', try_all,
                    {kind: MUTANTS[kind][:1] + (('same', name, old, new),)})

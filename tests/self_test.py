@@ -16,6 +16,7 @@ from compare import made_calls, made_lines
 from cutting import cut_calls, cut_lines
 from failing import HERE, Cases, altered, independent
 from generate import FRAMES, PACKETS, make_script
+from making.script import Script
 from running import difference, left_out, lines_of, run, text_of
 from stubbed import of_prove, of_test
 
@@ -58,13 +59,17 @@ def of_cutting(test):
 
 
 def of_generate(test):
-    """The scripts for the joiner and for packets meet every answer that there is; a short one does not."""
+    """The scripts for the joiner and for packets meet every answer that there is; a short one does not; both readers answer alike."""
     for name, scenes, short, every in (
             ('the joiner', FRAMES, 20, '3000 310000 310001 310002 31FF0C 31FF0D 31FF0E 31FF11 31FF12 3200 32FF11 330000 330001 3400 34EE'),
-            ('packets', PACKETS, 60, '0500 05FF01 05FF03 05FF04 05FF05 05FF06 05FF0C 05FF0E 0600 06FF04 06FF0C 06FF0D 06FF0E 06FF0F')):
+            ('packets', PACKETS, 60, '0500 05FF01 05FF03 05FF04 05FF05 05FF06 05FF0C 05FF0E 0600 06FF04 06FF0C 06FF0D 06FF0E 06FF0F '
+             '0700 07FF01 07FF03 07FF04 07FF05 07FF06 07FF0C 07FF0E')):
         test.says('every answer on ' + name, every, answers_met(scenes, 1500))
         test.fails('a short script on ' + name, 'NOT CAUGHT by inner: one: ' + every, Cases('inner').says, 'one', every,
                    answers_met(scenes, short))
+    script = Script('0', 2)
+    script.calls.by_first_octet[0x07] = lambda arguments: b'\xFF\x05'
+    test.fails('two readers that differ', "b'050006' is read as b'00000300', by 07 as b'FF05'", script.read, b'\x06', 0)
 
 
 def answers_met(scenes, count):

@@ -21,6 +21,7 @@ printf "$SAYS"; exit "$STATUS"
 '''
 RUN_STUB = '''#!/bin/sh
 echo "$1 ran"
+[ "$1" = receive ] || cat
 '''
 
 
@@ -32,7 +33,7 @@ def with_stubs(directory):
         path.parent.mkdir(parents=True, exist_ok=True)
         path.write_text(text)
         path.chmod(0o755)
-    for name in ('test', 'receive', 'tests/prove', 'tests/toolchain'):
+    for name in ('test', 'receive', 'explain', 'tests/prove', 'tests/toolchain'):
         shutil.copy(HERE.parent / name, directory / name)
     return {**os.environ, 'PATH': '%s:%s' % (directory / 'bin', os.environ['PATH'])}
 
@@ -96,3 +97,7 @@ def of_prove(test):
              RT_SAYS=same, RT_VERSION='other')
         ends('help', 0, usage, '', '--help')
         ends('an argument that is none', 2, '', usage, 'TRACE')
+        for name, command in (('packets on standard input', 'echo repaired 06 00 | ./explain'),
+                              ('a packet as arguments', './explain repaired 06 00')):
+            test.ends(name, 0, 'explain ran\nrepaired 06 00\n', ['sh', '-c', command], cwd=directory, env={**environment, 'RT_SAYS': same})
+        test.ends('help of explain', 0, 'usage: ./explain < PACKETS', ['./explain', '--help'], cwd=directory, env=environment)

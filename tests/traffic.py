@@ -8,6 +8,7 @@ import sys
 
 import joined
 from failing import Cases, altered, independent
+from making.pieces import damaged, packet_items
 from making.script import Script
 from real import UNLIMITED, Wrong, as_expected, conversation, corpus, must, octets_of, settings_text, written_by
 from released import check_conversation, check_results, heard, through_the_program
@@ -22,10 +23,10 @@ SETTINGS = ((SPARES, 0, 0), (SPARES, 3, 0), (SPARES, 8, 0), (PARITY, 3, 2), (PAR
 
 
 def written_back(script, command, originals):
-    """Each original was read by one call and written by the next; what was written is the original."""
-    answers = written_by(command, script.lines, script.answers)
-    for at, written in enumerate(octets_of(answers[1::2])):
-        must(written == b'\x00' + sized(originals[at]), 'line %d: written back as %s', 2 * at + 2, written.hex())
+    """Each original was read, and written by the last of its calls; what was written is the original."""
+    answers, each = written_by(command, script.lines, script.answers), len(script.lines) // len(originals)
+    for at, written in enumerate(octets_of(answers[each - 1::each])):
+        must(written == b'\x00' + sized(originals[at]), 'line %d: written back as %s', each * (at + 1), written.hex())
     as_expected(script.answers, answers)
 
 
@@ -38,9 +39,9 @@ def datagram_back(script, octets):
 
 
 def packet_back(script, octets):
-    """A packet is read (05) and written again (06)."""
+    """A packet is read by both readers (05, 07) and written again (06)."""
     kind, value, fields = read_packet(octets, False)
-    script.call(0x05, b'\x00', octets)
+    script.read(octets, 0)
     script.call(0x06, bytes([kind, value, len(fields)] + [field_type for field_type, _ in fields] + [len(fields)]),
                 b''.join(shown(len(data), 2) for _, data in fields), sized(b''.join(data for _, data in fields)), shown(len(octets), 2))
 
@@ -63,6 +64,17 @@ def put_together_back(command, name):
     packets = joined.put_together([read_packet(octets, False) for octets in corpus(name)])
     all_back(command, name, [written_packet(packet) for packet in packets])
     return '%d packets in place of %d' % (len(packets), len(corpus(name)))
+
+
+def damaged_read(command, name):
+    """Real packets put together and then damaged, read by both readers as received and as repaired; how many of them still read."""
+    script = Script(name, UNLIMITED)
+    for packet in joined.put_together([read_packet(octets, False) for octets in corpus(name)]):
+        octets = damaged(script.random, packet_items(packet))
+        script.read(octets, 0)
+        script.read(octets, 1)
+    as_expected(script.answers, written_by(command, script.lines, script.answers))
+    return '%d of %d calls refused' % (sum(answer.startswith(b'FF') for answer in script.answers), len(script.answers))
 
 
 def all_back(command, name, packets):
@@ -94,6 +106,7 @@ def checks(arguments):
         for name in CALLS:
             yield 'packets read and written back: ' + name, lambda n=name: packets_back(arguments.calls, n)
             yield 'packets put together, read and written back: ' + name, lambda n=name: put_together_back(arguments.calls, n)
+            yield 'packets damaged, read by both readers: ' + name, lambda n=name: damaged_read(arguments.calls, n)
         for at, settings in enumerate(SETTINGS):
             for loss in (0.05, 0.3):
                 name = CALLS[at % len(CALLS)]
@@ -121,8 +134,10 @@ def self_test():
             ('a datagram read otherwise', lambda c: datagrams_back(c, spares), 'calls 03 -1', 'answer 1 is not the expected one'),
             ('a datagram written otherwise', lambda c: datagrams_back(c, spares), 'calls 04 -1', 'line 2: written back as '),
             ('a packet read otherwise', lambda c: packets_back(c, call), 'calls 05 -1', 'answer 1 is not the expected one'),
-            ('a packet written otherwise', lambda c: packets_back(c, call), 'calls 06 -1', 'line 2: written back as '),
-            ('packets put together written otherwise', lambda c: put_together_back(c, call), 'calls 06 -1', 'line 2: written back as '),
+            ('a packet read otherwise by 07', lambda c: packets_back(c, call), 'calls 07 -1', 'answer 2 is not the expected one'),
+            ('a packet written otherwise', lambda c: packets_back(c, call), 'calls 06 -1', 'line 3: written back as '),
+            ('packets put together written otherwise', lambda c: put_together_back(c, call), 'calls 06 -1', 'line 3: written back as '),
+            ('packets damaged read otherwise by 07', lambda c: damaged_read(c, call), 'calls 07 -1', 'is not the expected one'),
             ('a datagram sent otherwise', lambda c: sent_as_recorded(c, parity), 'calls 21 -1', 'datagram 0 is sent as ')):
         test.fails(name, words, check, altered(how))
     for name, how, loss, words in (

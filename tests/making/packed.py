@@ -35,8 +35,8 @@ def packet_of_size(r, size):
 
 
 def read(script, given, ending=None):
-    """05, of either ending."""
-    return script.call(0x05, bytes([script.random.randrange(2) if ending is None else ending]), given)
+    """A packet read by both readers, of either ending."""
+    return script.read(given, script.random.randrange(2) if ending is None else ending)
 
 
 def write(script, given, cap):

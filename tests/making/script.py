@@ -50,6 +50,14 @@ class Script:
         text = text if self.random.random() < 0.05 else text.upper()
         return bytes.fromhex(self.line(text.encode()).decode())
 
+    def read(self, octets, ending):
+        """05, and 07 with the rest of the line the same, which must be answered alike; the answer."""
+        answer = self.call(0x05, bytes([ending]), octets)
+        line, first = self.lines[-1], self.answers[-1]
+        second = self.line(b'07' + line[2:])
+        assert second == first, '%s is read as %s, by 07 as %s' % (line, first, second)
+        return answer
+
     def offer(self, octets):
         """11."""
         return self.call(0x11, octets)

@@ -76,18 +76,18 @@ def datagrams_written(script):
 
 
 def packets_read(script):
-    """Packets read, received and repaired, whole and damaged."""
+    """Packets read by both readers, received and repaired, whole and damaged."""
     r = script.random
     for _ in range(10):
         zeros = bytes(r.choice((0, 0, 0, 1, 5)))
-        script.call(0x05, bytes([r.choice((0, 0, 1, 1, 1)) if zeros else r.randrange(2)]), pieces.fax_packet(r) + zeros)
+        script.read(pieces.fax_packet(r) + zeros, r.choice((0, 0, 1, 1, 1)) if zeros else r.randrange(2))
     for _ in range(14):
-        script.call(0x05, bytes([r.randrange(2)]), pieces.damaged(r, pieces.packet_items(pieces.packet(r))))
+        script.read(pieces.damaged(r, pieces.packet_items(pieces.packet(r))), r.randrange(2))
     whole = pieces.fax_packet(r).ljust(r.choice((159, 160, 161, 162, 400)), b'\0')
-    script.call(0x05, b'\x01', whole)
+    script.read(whole, 1)
     for _ in range(3):
-        script.call(0x05, bytes([r.randrange(2), r.randrange(256)]), pieces.octets(r, r.choice((0, 1, 2))))
-        script.call(0x05, bytes([r.randrange(2), 0xC0]), r.choice(pieces.LENGTH_FORMS), pieces.octets(r, r.choice((0, 1, 16))))
+        script.read(bytes([r.randrange(256)]) + pieces.octets(r, r.choice((0, 1, 2))), r.randrange(2))
+        script.read(b'\xC0' + r.choice(pieces.LENGTH_FORMS) + pieces.octets(r, r.choice((0, 1, 16))), r.randrange(2))
 
 
 def packets_written(script):
@@ -143,7 +143,7 @@ def round_trips(script):
                     b''.join(shown(len(i), 2) for i in given.items), sized(b''.join(given.items)), shown(1500, 2))
     for _ in range(3):
         kind, value, fields = given = pieces.packet(r)
-        script.call(0x05, b'\x00', written_packet(given))
+        script.read(written_packet(given), 0)
         script.call(0x06, bytes([kind, value, len(fields)] + [t for t, _ in fields] + [len(fields)]),
                     b''.join(shown(len(d), 2) for _, d in fields), sized(b''.join(d for _, d in fields)), shown(160, 2))
 
@@ -151,15 +151,15 @@ def round_trips(script):
 def no_calls(script):
     """Lines that are no calls, empty lines, and lines near the greatest length."""
     r = script.random
-    odd = [b'0', b'00', b'07', b'18', b'FF', b'EE', b'G0', b'0x', b'1 0', b' 10', b'10 ', b'10\r', b'1000', b'02', b'0200', b'0200000A29',
-           b'02000100', b'0200010001', b'12', b'1200', b'120A29', b'120A28', b'12000000', b'1300', b'1400', b'1500', b'16000000',
-           b'1600000000FF', b'170000000000000000', b'1700000000000000000000', b'2000', b'21', b'210001068001', b'2100010600000100FF',
-           b'21000106010000FFFF', b'210001060000000A29', b'220000', b'2300000000000000', b'05', b'0502', b'0602000000000000',
-           b'0600000000000000', b'04000000010600010000000100', b'0400000001060000000000000A29', b'04000000010640000000000100',
-           b'3', b'3000', b'31', b'3100', b'310000', b'31000000', b'3100000100', b'310000010000', b'31000001FF0A29', b'310200000A28',
-           b'31020000000000', b'3102FFFF0000', b'3200', b'3300', b'34', b'3400000000', b'34000000000000', b'340000000002', b'3402012C00',
-           b'3402012C0000', b'35', b'3F', b'\xE9\xE9', b'\x00\x00', b'10\x00', b'', b'', b'03' + b'0' * 15998,
-            b'03' + b'0' * 16000, b'0500' + b'F' * 15997]
+    odd = [b'0', b'00', b'08', b'18', b'FF', b'EE', b'G0', b'0x', b'1 0', b' 10', b'10 ', b'10\r', b'1000', b'02', b'0200',
+           b'0200000A29', b'02000100', b'0200010001', b'12', b'1200', b'120A29', b'120A28', b'12000000', b'1300', b'1400', b'1500',
+           b'16000000', b'1600000000FF', b'170000000000000000', b'1700000000000000000000', b'2000', b'21', b'210001068001',
+           b'2100010600000100FF', b'21000106010000FFFF', b'210001060000000A29', b'220000', b'2300000000000000', b'05', b'0502', b'07',
+           b'0702', b'0602000000000000', b'0600000000000000', b'04000000010600010000000100', b'0400000001060000000000000A29',
+           b'04000000010640000000000100', b'3', b'3000', b'31', b'3100', b'310000', b'31000000', b'3100000100', b'310000010000',
+           b'31000001FF0A29', b'310200000A28', b'31020000000000', b'3102FFFF0000', b'3200', b'3300', b'34', b'3400000000',
+           b'34000000000000', b'340000000002', b'3402012C00', b'3402012C0000', b'35', b'3F', b'\xE9\xE9', b'\x00\x00', b'10\x00', b'',
+           b'', b'03' + b'0' * 15998, b'03' + b'0' * 16000, b'0500' + b'F' * 15997, b'0701' + b'0' * 15996, b'0701' + b'0' * 15998]
     for line in r.sample(odd, 12):
         script.line(line)
     for _ in range(2):

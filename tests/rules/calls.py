@@ -8,6 +8,7 @@ from .joining import Joiner
 from .lengths import read_length, write_length
 from .overwriting import overwrite_joiner, overwrite_receiving, overwrite_sending
 from .packets import DATA_PACKET, INDICATOR, read_packet, write_packet
+from .pencil import read_by_bits
 from .receiving import AFTER, BEFORE, Receiving
 from .refusals import Refusal
 from .sending import Sending
@@ -30,6 +31,14 @@ def stored(item):
     return shown(item.length, 2) + item.bytes()
 
 
+def packet_read(reader, arguments):
+    """The answer of a reader of packets."""
+    repaired = arguments.one_of(0, 1)
+    packet = reader(arguments.rest(), repaired)
+    return (bytes([0, packet.kind, packet.value, len(packet.fields)])
+            + b''.join(shown(field_type, 1) + sized(data) for field_type, data in packet.fields))
+
+
 class Calls:
     """The two sessions and the joiner that the program holds, and the calls on them; each gives its answer."""
 
@@ -39,8 +48,8 @@ class Calls:
         self.joiner = Joiner()
         self.by_first_octet = {
             0x01: self.read_length, 0x02: self.write_length, 0x03: self.read_datagram, 0x04: self.write_datagram,
-            0x05: self.read_packet, 0x06: self.write_packet, 0x10: self.fresh_receiving, 0x11: self.offer,
-            0x12: self.next, 0x13: self.give_up, 0x14: self.counts, 0x15: self.view, 0x16: self.many_given_up,
+            0x05: self.read_packet, 0x06: self.write_packet, 0x07: self.read_by_bits, 0x10: self.fresh_receiving,
+            0x11: self.offer, 0x12: self.next, 0x13: self.give_up, 0x14: self.counts, 0x15: self.view, 0x16: self.many_given_up,
             0x17: self.overwrite_receiving, 0x20: self.fresh_sending, 0x21: self.send, 0x22: self.many_sent,
             0x23: self.overwrite_sending, 0x30: self.fresh_joiner, 0x31: self.field, 0x32: self.lost, 0x33: self.show_joiner,
             0x34: self.overwrite_joiner}
@@ -96,10 +105,11 @@ class Calls:
 
     def read_packet(self, arguments):
         """05."""
-        repaired = arguments.one_of(0, 1)
-        packet = read_packet(arguments.rest(), repaired)
-        return (bytes([0, packet.kind, packet.value, len(packet.fields)])
-                + b''.join(shown(field_type, 1) + sized(data) for field_type, data in packet.fields))
+        return packet_read(read_packet, arguments)
+
+    def read_by_bits(self, arguments):
+        """07."""
+        return packet_read(read_by_bits, arguments)
 
     def write_packet(self, arguments):
         """06."""

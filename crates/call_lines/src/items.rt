@@ -1,4 +1,4 @@
-// Lines 01 to 06, which need no session: lengths, datagrams and packets, read and written.
+// Lines 01 to 07, which need no session: lengths, datagrams and packets, read and written.
 use crate::answers::say;
 use crate::answers::say_done;
 use crate::answers::say_no_call;
@@ -17,6 +17,7 @@ use datagrams::Spares;
 use lengths::Length;
 use packets::Ending;
 use packets::Field;
+use packets::PacketRead;
 
 // The octets that name what a datagram carries beside its packet.
 pub const SPARES: u8 = 0;
@@ -131,8 +132,16 @@ fn kind_octet(kind: packets::Kind) -> usize {
     }
 }
 
-fn say_packet(s: &[u8], ending: Ending) {
-    let found = packet_reader::read(s, ending);
+// What a reader finds in a packet: the quick one for line 05, the second one for 07.
+fn packet_found(call: u8, s: &[u8], ending: Ending) -> PacketRead {
+    if call == 0x05 {
+        return packet_reader::read(s, ending);
+    }
+    pencil_reader::read(s, ending)
+}
+
+fn say_packet(call: u8, s: &[u8], ending: Ending) {
+    let found = packet_found(call, s, ending);
     let fields = found.fields;
     let reading = found.reading;
     match reading {
@@ -145,8 +154,8 @@ fn say_packet(s: &[u8], ending: Ending) {
     }
 }
 
-// 05: a packet, as it was received or repaired.
-fn read_packet(s: &[u8]) {
+// 05 and 07: a packet, as it was received or repaired.
+fn read_packet(call: u8, s: &[u8]) {
     let mut at = 0;
     let ending = octet(s, &mut at);
     if s.len() < at {
@@ -154,8 +163,8 @@ fn read_packet(s: &[u8]) {
     }
     let packet = part(s, at, s.len() - at);
     match ending {
-        0 => say_packet(packet, Ending::Whole),
-        1 => say_packet(packet, Ending::Repaired),
+        0 => say_packet(call, packet, Ending::Whole),
+        1 => say_packet(call, packet, Ending::Repaired),
         _ => say_no_call(),
     }
 }
@@ -190,7 +199,7 @@ pub fn answer(call: u8, s: &[u8], lent: &mut [u8]) {
         0x02 => write_length(s, lent),
         0x03 => read_datagram(s),
         0x04 => write_datagram(s, lent),
-        0x05 => read_packet(s),
+        0x05 | 0x07 => read_packet(call, s),
         _ => write_packet(s, lent),
     }
 }

@@ -12,6 +12,7 @@ use Rattle.demands.proofs.NotInside.{not-inside}
 use Rattle.demands.proofs.OneOutcome.{one-outcome}
 use Rattle.demands.proofs.Sheet.{twelve-cases, mended-example}
 use Rattle.demands.proofs.Program.{program-claims}
+use Rattle.demands.proofs.SecondReader.{second-reader}
 
 pub claims : Claims
 claims =
@@ -29,4 +30,5 @@ claims =
       program = program-claims;
       wholeFrames = frames.claims;
       framesFromSession = frameFeed.claims;
+      secondReader = second-reader;
     }

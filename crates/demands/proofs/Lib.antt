@@ -63,4 +63,5 @@ pub mod OfferedTo
 pub mod Example
 pub mod Burst
 pub mod Program
+pub mod SecondReader
 pub mod Claims

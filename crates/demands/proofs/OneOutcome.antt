@@ -26,6 +26,7 @@ one-outcome =
       lengths = lengths.claims .oneOutcome;
       datagrams = datagrams.claims .oneOutcome;
       packets = packets.claims .oneOutcome;
+      secondReader = λ ending s r q a b. packets.claims .oneOutcome .read a b;
       writers =
           record {
             length = λ n. one-write (lengthToWrite n);

@@ -1,8 +1,8 @@
 -- Two answers of a call that only tells something are one: its promise is an equation with a function of what was given. Assumes
 -- nothing.
 use mathlib.Core.Path.{_≡_, sym, _∙_}
-use Rattle.demands.specs.OneTold.{ToldByLengths, ToldByDatagrams, ToldByPackets, ToldByStores, ToldByHeld, ToldBySending}
-use Rattle.demands.specs.OneTold.{ToldByLines, ToldByFrames, OneTold}
+use Rattle.demands.specs.OneTold.{ToldByLengths, ToldByDatagrams, ToldByPackets, ToldByPacketReader, ToldByStores, ToldByHeld}
+use Rattle.demands.specs.OneTold.{ToldBySending, ToldByLines, ToldByFrames, OneTold}
 
 -- both are what is told
 pub told-one : {A : Type 0} {told : A} (r q : A) → r ≡ told → q ≡ told → r ≡ q
@@ -51,6 +51,10 @@ by-packets =
       rightData = λ kind present. told-one;
     }
 
+by-packet-reader : ToldByPacketReader
+by-packet-reader =
+    record { mayFollow = λ ending left. told-one; noFields = told-one; refused = λ why. told-one }
+
 by-stores : ToldByStores
 by-stores = record { wide = λ n. told-one; passing = told-one }
 
@@ -90,6 +94,7 @@ one-told =
       byLengths = by-lengths;
       byDatagrams = by-datagrams;
       byPackets = by-packets;
+      byPacketReader = by-packet-reader;
       byStores = by-stores;
       byHeld = by-held;
       bySending = by-sending;

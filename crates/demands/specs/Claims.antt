@@ -11,6 +11,7 @@ use Rattle.demands.specs.NotInside.{NotInside}
 use Rattle.demands.specs.OneOutcome.{OneOutcome}
 use Rattle.demands.specs.Sheet.{TwelveCases, MendedExample}
 use Rattle.demands.specs.Program.{Program}
+use Rattle.demands.specs.SecondReader.{SecondReader}
 
 pub record Claims : Type 0 where
   pub demand1 : Demand1
@@ -32,3 +33,5 @@ pub record Claims : Type 0 where
   -- document 02, request 1, whole frames: the honest line, never 17; and what left a session, fed to a joiner
   pub wholeFrames : frames.Claims
   pub framesFromSession : frameFeed.Claims
+  -- document 02, request 4: the second reader of packets agrees with the quick one
+  pub secondReader : SecondReader

@@ -22,4 +22,5 @@ pub mod Demand3
 pub mod Example
 pub mod Burst
 pub mod Program
+pub mod SecondReader
 pub mod Claims

@@ -10,7 +10,9 @@ use Rattle.lengths.specs.declared.Written.{Written}
 use Rattle.datagrams.specs.Write.{datagramToWrite}
 use Rattle.datagrams.specs.declared.kind.Kind.{Kind}
 use Rattle.packets.specs.Write.{packetToWrite}
+use Rattle.packets.specs.Promise.{PacketTold}
 use Rattle.packets.specs.declared.types.Kind as packetKinds
+use Rattle.packets.specs.declared.types.Ending.{Ending}
 use Rattle.lengths.specs.Claims as lengths
 use Rattle.datagrams.specs.Claims as datagrams
 use Rattle.packets.specs.Claims as packets
@@ -19,7 +21,7 @@ use Rattle.sessions.specs.Claims as sessions
 use Rattle.lines.specs.Claims as lines
 use Rattle.frames.specs.Claims as frames
 use Rattle.frame_feed.specs.Claims as frameFeed
-use Rattle.demands.specs.OneTold.{OneTold}
+use Rattle.demands.specs.OneTold.{One, OneTold}
 use Rattle.demands.specs.OneInside.{OneInside}
 
 -- two outcomes of a call that writes w to the front of a lent buffer
@@ -35,13 +37,14 @@ pub record Writers : Type 0 where
       → OneWrite (packetToWrite kind value types lengths octets)
 
 -- all public calls of the library: `read`, `read_within` and `write` of `lengths`, `read` and `write` of `datagram_reader` and
--- `datagram_writer`, of `packet_reader` and `packet_writer`; `Session::fresh`, `offer`, `next` and `give_up`; `Sender::fresh`,
+-- `datagram_writer`, of `packet_reader` and `packet_writer`, `read` of `pencil_reader`; `Session::fresh`, `offer`, `next` and `give_up`; `Sender::fresh`,
 -- `in_ranges` and `send`; the program's `hex_to_octets`, `step`, `take_block` and `finish`; `Joiner::fresh`, `field` and `lost` of
 -- `frame_joiner`, `turns` and `feed` of `frame_feed`; those that only tell; and those that serve callers inside this repository
 pub record OneOutcome : Type 0 where
   pub lengths : lengths.OneOutcome
   pub datagrams : datagrams.OneOutcome
   pub packets : packets.OneOutcome
+  pub secondReader : (ending : Ending) (s : List ℕ) → One (PacketTold ending s)
   pub writers : Writers
   pub receiver : sessions.OneOutcome
   pub sender : sending.OneOutcome

@@ -3,17 +3,23 @@
 use Prim.Native.Nat.{ℕ, _%_}
 use mathlib.Core.Path.{_≡_}
 use mathlib.Core.Bool.{Bool}
-use mathlib.Core.List.{List}
+use mathlib.Core.List.{List, []}
 use lib.ListN.{length}
 use Rattle.lengths.specs.Length as lengths
 use Rattle.lengths.specs.Promise.{Octet, RefusalMade, RefusalTold}
+use Rattle.lengths.specs.Answers as answers
 use Rattle.lengths.specs.declared.Length.{Length}
+use Rattle.lengths.specs.declared.Refusal.{Refusal}
 use Rattle.datagrams.specs.Sizes as sizes
 use Rattle.datagrams.specs.Write as write
 use Rattle.datagrams.specs.Inner.Heads.{LengthSize, kindHead}
 use Rattle.datagrams.specs.declared.kind.Kind.{Kind}
 use Rattle.packets.specs.Packet as packet
+use Rattle.packets.specs.Promise.{padded, packetRead}
 use Rattle.packets.specs.declared.types.Kind as packets
+use Rattle.packets.specs.declared.types.Ending as endings
+use Rattle.packets.specs.declared.types.Field.{Field}
+use Rattle.packets.specs.declared.types.PacketRead.{PacketRead}
 use Rattle.stores.specs.Store as store
 use Rattle.views.specs.View as views
 use Rattle.held.specs.Slots as slots
@@ -74,6 +80,12 @@ pub record ToldByPackets : Type 0 where
   pub rightFields : (kind : packets.Kind) (present : Bool) → One (λ (r : Bool). r ≡ packet.rightFields kind present)
   pub rightData : (kind : ℕ) (present : Bool) → One (λ (r : Bool). r ≡ packet.rightData kind present)
 
+-- `packet_reader`: what its `read` and the second reader share, `may_follow`, `no_fields` and `refused`
+pub record ToldByPacketReader : Type 0 where
+  pub mayFollow : (ending : endings.Ending) (left : List ℕ) → One (λ (r : Bool). r ≡ packet.mayFollow ending left)
+  pub noFields : One (λ (r : List Field). r ≡ padded [])
+  pub refused : (why : Refusal) → One (λ (r : PacketRead). r ≡ packetRead (answers.refused why))
+
 -- `stores`: `wide`, `passing`
 pub record ToldByStores : Type 0 where
   pub wide : (n : ℕ) → One (λ (r : ℕ). r ≡ n)
@@ -115,6 +127,7 @@ pub record OneTold : Type 0 where
   pub byLengths : ToldByLengths
   pub byDatagrams : ToldByDatagrams
   pub byPackets : ToldByPackets
+  pub byPacketReader : ToldByPacketReader
   pub byStores : ToldByStores
   pub byHeld : ToldByHeld
   pub bySending : ToldBySending

@@ -3,3 +3,4 @@ mod ReadItems
 mod ReadFields
 mod FieldsTurn
 mod ReadPacket
+pub mod Laws

@@ -3,4 +3,8 @@ mod items;
 mod places;
 mod reader;
 
+// What may follow the last field, the places with no field and the answer of a refused packet are the second reader's too.
+pub use reader::may_follow;
+pub use reader::no_fields;
 pub use reader::read;
+pub use reader::refused;

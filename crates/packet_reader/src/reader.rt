@@ -41,7 +41,7 @@ enum EndRead {
 }
 
 // As many places as a packet may have fields, all zero.
-fn no_fields() -> [Field; Field::LIMIT]
+pub fn no_fields() -> [Field; Field::LIMIT]
     ensures { λ r. ⌜ r ≡ padded [] ⌝ }
 {
     [Field {
@@ -97,7 +97,7 @@ fn all_zero(s: &[u8]) -> bool
 }
 
 // Whether what is left after the last field may be there.
-fn may_follow(left: &[u8], ending: Ending) -> bool
+pub fn may_follow(left: &[u8], ending: Ending) -> bool
     ensures { λ r. ⌜ r ≡ mayFollow ending (now (left .entry)) ⌝ }
 {
     match ending {
@@ -123,7 +123,7 @@ fn read_end(s: &[u8], p: usize, ending: Ending) -> EndRead
 }
 
 // The answer of a refused packet.
-fn refused(refusal: Refusal) -> PacketRead
+pub fn refused(refusal: Refusal) -> PacketRead
     ensures { λ r. ⌜ r ≡ packetRead (answers.refused refusal) ⌝ }
 {
     let none = no_fields();

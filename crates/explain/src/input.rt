@@ -1,0 +1,44 @@
+// Standard input, line by line.
+
+// What is kept of a line: more than a line of hexadecimal has.
+pub const KEPT: usize = 3016;
+
+// The next character of the input, and whether there is none.
+fn character(ended: &mut bool) -> u8 {
+    let mut one = [0u8; 1];
+    let got = libc::read(0, &mut one);
+    *ended = io::count(got, &one) == 0;
+    one[0]
+}
+
+fn is_blank(c: u8) -> bool {
+    (c == b' ') | (c == b'\t') | (c == b'\r')
+}
+
+// One line without its blanks, to the front of line: how many characters it has, of one that is too long as many as are kept.
+pub fn read_line(line: &mut [u8; KEPT], ended: &mut bool) -> usize {
+    let mut size = 0;
+    let mut turns = u64::MAX;
+    while turns > 0 {
+        turns -= 1;
+        let next = character(ended);
+        if *ended | (next == b'\n') {
+            return size;
+        }
+        let blank = is_blank(next);
+        if size < KEPT {
+            if !blank {
+                line[size] = next;
+                size += 1;
+            }
+        }
+    }
+    size
+}
+
+// Whether a line begins with the word repaired.
+pub fn is_repaired(line: &[u8; KEPT]) -> bool {
+    let front = (line[0] == b'r') & (line[1] == b'e') & (line[2] == b'p') & (line[3] == b'a');
+    let back = (line[4] == b'i') & (line[5] == b'r') & (line[6] == b'e') & (line[7] == b'd');
+    front & back
+}

@@ -1,0 +1,92 @@
+// The program for the support desk: a packet in hexadecimal a line; it is told item by item, in the names of Annex A. Where each item
+// ends, what it holds and why it is refused is what the functions of `pencil_reader` answer, and the last line is its `read`.
+mod fields;
+mod input;
+mod last;
+mod names;
+mod start;
+mod text;
+
+use datagrams::Packet;
+use input::KEPT;
+use input::is_repaired;
+use input::read_line;
+use lengths::Written;
+use packets::Ending;
+use text::part;
+use text::row_of_octets;
+use text::say;
+use text::say_number;
+use text::say_octets;
+
+// The octets that a line holds at most.
+const OCTETS: usize = 1500;
+
+// More octets than a packet has.
+fn too_long(size: usize) {
+    row_of_octets(0, b"IFPPacket");
+    say_octets(size);
+    say(b", at most ");
+    say_number(Packet::LIMIT);
+    say(b"\n");
+}
+
+// A packet: its items, then what it reads as.
+fn explain(s: &[u8], ending: Ending) {
+    if s.len() <= Packet::LIMIT {
+        start::packet(s, ending);
+    } else {
+        too_long(s.len());
+    }
+    last::told(pencil_reader::read(s, ending));
+}
+
+// The packet in some digits.
+fn packet(digits: &[u8], ending: Ending) {
+    let mut octets = [0u8; OCTETS];
+    match hexadecimal::hex_to_octets(digits, &mut octets) {
+        Written::Refused(_) => say(
+            b"no packet in hexadecimal: two digits an octet, at most 3,000; the word repaired may stand first\n",
+        ),
+        Written::Octets(count) => explain(part(&octets, 0, count), ending),
+    }
+}
+
+// A line of so many characters.
+fn explain_line(line: &[u8; KEPT], size: usize) {
+    if is_repaired(line) {
+        return packet(
+            part(line, 8, std::num::wrapping_sub_usize(size, 8)),
+            Ending::Repaired,
+        );
+    }
+    packet(part(line, 0, size), Ending::Whole)
+}
+
+// One line of the input; an empty line stands before all but the first, and empty lines of the input are passed over.
+fn turn(first: bool, ended: &mut bool) -> bool {
+    let mut line = [0u8; KEPT];
+    let size = read_line(&mut line, ended);
+    if size == 0 {
+        return first;
+    }
+    if !first {
+        say(b"\n");
+    }
+    explain_line(&line, size);
+    false
+}
+
+fn main() {
+    let mut first = true;
+    let mut ended = false;
+    // Nothing says that the input ends, so the turns are counted down from a number that no run uses up.
+    let mut turns = u64::MAX;
+    while turns > 0 {
+        turns -= 1;
+        first = turn(first, &mut ended);
+        if ended {
+            return;
+        }
+    }
+}

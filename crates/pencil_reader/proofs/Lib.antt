@@ -1,0 +1,9 @@
+mod OneBit
+mod Taking
+mod ReadValues
+mod ReadSizes
+mod ReadData
+mod ReadField
+mod FieldsTurn
+mod ReadStart
+mod ReadPacket

@@ -1,0 +1,59 @@
+-- One law for each answer of the functions that take a bit, a flag or an octet edge, in the words of the code. Assumes nothing.
+use Prim.Native.Nat.{ℕ, _+_, _-_, _*_, _/_, _%_, _^_, _≤_, _<_}
+use mathlib.Core.Path.{_≡_, refl}
+use mathlib.Core.Logic.{_≢_}
+use mathlib.Core.List.{List}
+use lib.ListN.{length, getD}
+use lib.Dec.{ltb}
+use native.Mathlib.Omega.{arith}
+use borrow.Author.Tests.{lt-ltb, le-ltb, eq-eqb, ne-eqb}
+use Rattle.lengths.specs.Refusals.{endsEarly, spareBit}
+use Rattle.lengths.specs.Promise.{Octet, RefusalMade}
+use Rattle.lengths.specs.declared.Refusal.{Refusal}
+use Rattle.formats.specs.Reading as reading
+use Rattle.formats.specs.Places.{Place}
+use Rattle.formats.proofs.Laws.{gap-past}
+use Rattle.pencil_reader.specs.Bits.{BitTaken, BitsTaken, FlagTaken, EdgeTaken}
+use Rattle.pencil_reader.specs.declared.bits.Number.{Number}
+use Rattle.pencil_reader.specs.declared.bits.Number.the-variants as number
+use Rattle.pencil_reader.specs.declared.bits.Marked.the-variants as flag
+use Rattle.pencil_reader.specs.declared.bits.Edge.the-variants as edge
+
+module _ {s : List ℕ} {p : Place} where
+  -- ---- a bit
+  pub bit-cut : {r : Refusal} → RefusalMade endsEarly r → length s ≤ p / 8 → BitTaken s p (number.Refused r)
+  unfolding reading.bit
+  bit-cut made none = record { answer = λ i. rw (le-ltb p (8 * length s) (omega arith), made .answer); past = tt }
+
+  pub bit-found : {w : ℕ} → p / 8 < length s → Octet (getD s (p / 8) 0) w → BitTaken s p (number.Found (w / 2 ^ (7 - p % 8) % 2) (p + 1))
+  unfolding reading.bit
+  bit-found some octet =
+      let next : 1 + p ≡ p + 1 = omega arith in
+      record { answer = λ i. rw (lt-ltb p (8 * length s) (omega arith), octet .same, next); past = refl }
+
+  -- ---- a flag
+  pub flag-refused : {n : Number} {r : Refusal} → BitTaken s p n → n ≡ number.Refused r → FlagTaken s p (flag.Refused r)
+  unfolding reading.flag
+  flag-refused bit is = record { answer = λ i. rw (bit .answer i, is) }
+
+  pub flag-found : {n : Number} {b q : ℕ} → BitTaken s p n → n ≡ number.Found b q → FlagTaken s p (flag.Found (ltb 0 b) q)
+  unfolding reading.flag
+  flag-found bit is = record { answer = λ i. rw (bit .answer i, is) }
+
+  -- ---- an octet edge
+  pub edge-refused : {n : Number} {r : Refusal} → BitsTaken ((8 - p % 8) % 8) s p n → n ≡ number.Refused r → EdgeTaken s p (edge.Refused r)
+  unfolding reading.align
+  edge-refused bits is = record { answer = λ i. rw (bits .answer (p / 8), is); on = tt }
+
+  pub edge-found : {n : Number} {v q : ℕ} → BitsTaken ((8 - p % 8) % 8) s p n → n ≡ number.Found v q → v ≡ 0 → EdgeTaken s p (edge.Found q)
+  unfolding reading.align
+  edge-found {n} {v} {q} bits is zeros =
+      let past : q ≡ p + (8 - p % 8) % 8 = rw is at (bits .past) in
+      record { answer = λ i. rw (bits .answer (p / 8), is, eq-eqb v 0 zeros); on = omega (arith, gap-past p) }
+
+  pub edge-set : {n : Number} {v q : ℕ} {r : Refusal} → BitsTaken ((8 - p % 8) % 8) s p n → n ≡ number.Found v q → v ≢ 0
+      → RefusalMade spareBit r → EdgeTaken s p (edge.Refused r)
+  unfolding reading.align
+  edge-set {v = v} bits is set made = record { answer = λ i. rw (bits .answer (p / 8), is, ne-eqb v 0 set, made .answer); on = tt }
+
+pub ruleset ones = (bit-cut, bit-found, flag-refused, flag-found, edge-refused, edge-found, edge-set)

@@ -1,0 +1,108 @@
+-- One law for each answer of the functions that take a count, a length or data in whole octets, in the words of the code. Assumes nothing.
+use Prim.Native.Nat.{ℕ, _+_, _-_, _*_, _/_, _^_, _≤_, _<_}
+use mathlib.Core.Path.{_≡_, refl, sym, ap, _∙_}
+use mathlib.Core.Bool.{Bool, true, false, cond}
+use mathlib.Core.List.{List}
+use lib.ListN.{length, take, drop, length-drop, drop-of-length-le}
+use native.Mathlib.Omega.{arith}
+use Rattle.lengths.specs.Refusals.{outsideSizes, refusal}
+use Rattle.lengths.specs.Answers.{Answer, done, refused, _>>=_, LengthAnswer, lengthOutcome}
+use Rattle.lengths.specs.Length.{lengthAt, lengthWithin, allowed, within}
+use Rattle.lengths.specs.Promise.{WithinRead}
+use Rattle.lengths.specs.declared.Refusal.{Refusal}
+use Rattle.lengths.specs.declared.Length.{Length}
+use Rattle.lengths.specs.declared.Length.the-variants as length
+use Rattle.lengths.proofs.Laws.{LengthInside, within-done}
+use Rattle.datagrams.specs.Sizes.{packetLimit}
+use Rattle.formats.specs.Reading.{Finding, found, stopped, andThen, check}
+use Rattle.formats.specs.Reading as reading
+use Rattle.formats.specs.Places.{Place}
+use Rattle.formats.specs.Format.{lengthFound}
+use Rattle.packets.specs.Packet.{fieldsLeast, fieldsLimit}
+use Rattle.packets.specs.Packet as description
+use Rattle.packets.proofs.Laws.{rest, rest-is}
+use Rattle.pencil_reader.specs.Bits.{EdgeTaken}
+use Rattle.pencil_reader.specs.Items.{OctetTaken, CountTaken}
+use Rattle.pencil_reader.specs.declared.bits.Number.the-variants as number
+use Rattle.pencil_reader.specs.declared.bits.Edge.{Edge}
+use Rattle.pencil_reader.specs.declared.bits.Edge.the-variants as edge
+
+-- ---- the octet at a place
+module _ {s : List ℕ} {p : Place} where
+  pub octet-past : length s < p / 8 → OctetTaken s p (length s)
+  octet-past past =
+      record {
+        inside = omega arith;
+        rest = drop-of-length-le s {i = length s} (omega arith) ∙ sym (drop-of-length-le s {i = p / 8} (omega arith));
+      }
+
+  pub octet-here : p / 8 ≤ length s → OctetTaken s p (p / 8)
+  octet-here inside = record { inside = inside; rest = refl }
+
+  -- where octets are left, it is that octet
+  pub octet-is : {from : ℕ} → OctetTaken s p from → from < length s → from ≡ p / 8
+  octet-is {from} octet some = omega (arith, ap length (octet .rest), length-drop from s, length-drop (p / 8) s)
+
+pub ruleset octets = (octet-past, octet-here)
+
+-- ---- the count of fields
+-- a length that was read from an octet edge on
+abbrev lengthFrom : Place → Answer LengthAnswer → Finding ℕ
+lengthFrom q (done l) = found (l .value) (8 * l .size + q)
+lengthFrom q (refused r) = stopped r
+
+counted : (s : List ℕ) (i q : ℕ) (x : Answer LengthAnswer)
+    → andThen (andThen (lengthFound x) (λ a n. found a (8 * n + q)))
+    (λ a z. andThen (check outsideSizes (within fieldsLeast fieldsLimit a) s i z) (λ u k. found a k))
+    ≡ lengthFrom q (_>>=_ x (λ l. allowed fieldsLeast fieldsLimit l))
+unfolding allowed
+counted s i q (done l) = by (within fieldsLeast fieldsLimit (l .value)) where
+  by : (t : Bool) → andThen (check outsideSizes t s i (8 * l .size + q)) (λ u k. found (l .value) k)
+      ≡ lengthFrom q (cond t (done l) (refused (refusal outsideSizes)))
+  by true = refl
+  by false = refl
+counted s i q (refused r) = refl
+
+module _ {s : List ℕ} {p : Place} {e : Edge} (told : EdgeTaken s p e) where
+  pub count-edge : {r : Refusal} → e ≡ edge.Refused r → CountTaken s p (number.Refused r)
+  unfolding description.count
+  count-edge is = record { answer = λ i. rw (told .answer i, is); small = tt }
+
+  module _ {q from : ℕ} {r : Length} (is : e ≡ edge.Found q) (octet : OctetTaken s q from)
+      (read : WithinRead fieldsLeast fieldsLimit (rest from s) r) where
+    count-is : (i : ℕ) → description.count .read s i p ≡ lengthFrom q (lengthOutcome r)
+    unfolding description.count reading.octetwise lengthWithin
+    count-is i =
+        let same : drop (q / 8) s ≡ rest from s = sym (octet .rest) ∙ sym (rest-is from s) in
+        rw (told .answer i, is)
+        (counted s i q (lengthAt (drop (q / 8) s))
+        ∙ ap (λ (l : List ℕ). lengthFrom q (lengthWithin fieldsLeast fieldsLimit l)) same ∙ ap (lengthFrom q) (sym (read .answer)))
+
+    pub count-refused : {x : Refusal} → r ≡ length.Refused x → CountTaken s p (number.Refused x)
+    count-refused why = record { answer = λ i. count-is i ∙ ap (λ (l : Length). lengthFrom q (lengthOutcome l)) why; small = tt }
+
+    module _ {n k : ℕ} (value : r ≡ length.Value n k) where
+      count-inside : LengthInside fieldsLeast fieldsLimit (rest from s) (record { value = n; size = k })
+      count-inside = within-done fieldsLeast fieldsLimit (rest from s) _ (sym (read .answer) ∙ ap lengthOutcome value)
+
+      pub count-found : CountTaken s p (number.Found n (q + 8 * k))
+      count-found =
+          let next : 8 * k + q ≡ q + 8 * k = omega arith in
+          record {
+            answer =
+                λ i.
+                count-is i ∙ ap (λ (l : Length). lengthFrom q (lengthOutcome l)) value ∙ ap (λ (z : ℕ). found n z) next;
+            small = omega (arith, count-inside .high);
+          }
+
+      -- it takes an octet or two of those that are there, so that the sums fit
+      pub count-size : 8 * k < 2 ^ 64
+      count-size = omega (arith, count-inside .sizes .few)
+
+      pub count-fits : length s ≤ packetLimit → q + 8 * k < 2 ^ 64
+      count-fits few =
+          let left : length (rest from s) ≡ length s - from = ap length (rest-is from s) ∙ length-drop from s in
+          let some : from < length s = omega (arith, count-inside .sizes .some, count-inside .sizes .inside, left) in
+          omega (arith, octet-is octet some, count-inside .sizes .few, some, few)
+
+pub ruleset counts = (count-edge, count-refused, count-found, count-size, count-fits)

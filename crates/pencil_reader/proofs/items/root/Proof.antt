@@ -1,0 +1,38 @@
+-- `pencil_reader::items::root` meets its contract. Each answer is a law of `ReadValues`. Assumes nothing.
+use borrow.Author.Needs.{needs}
+use Rattle.pencil_reader.proofs.ReadValues.{values}
+use Rattle.pencil_reader.proofs.items.root.Statement.{statement}
+use Rattle.pencil_reader.proofs.items.root.Tie as tie
+
+bits-requires : tie.Need-bits-requires
+bits-requires c κs = search needs
+
+enum-known-refusal : tie.Need-enum-known-refusal
+enum-known-refusal c = search needs
+
+enum-known-value : tie.Need-enum-known-value
+enum-known-value c = search needs
+
+returns : tie.Need-returns
+returns c = search values
+
+new-requires : tie.Need-new-requires
+new-requires c κs = search needs
+
+returns-2 : tie.Need-returns-2
+returns-2 c = search values
+
+returns-3 : tie.Need-returns-3
+returns-3 c = search values
+
+pub root-spec : {M : Type 1} → statement M
+root-spec =
+    tie.close
+    (tie.spec
+    bits-requires
+    enum-known-refusal
+    enum-known-value
+    returns
+    new-requires
+    returns-2
+    returns-3)

@@ -1,0 +1,53 @@
+-- What the readers of a field and of all fields owe: what the description finds there. Definitions only.
+use Prim.Native.Nat.{ℕ}
+use mathlib.Core.Path.{_≡_}
+use mathlib.Core.List.{List, [], map}
+use lib.ListN.{length}
+use Rattle.formats.specs.Reading.{Finding, found, stopped}
+use Rattle.formats.specs.Reading as reading
+use Rattle.formats.specs.Places.{Place}
+use Rattle.packets.specs.Edition.{edition98}
+use Rattle.packets.specs.Packet.{fieldOf}
+use Rattle.packets.specs.Packet as description
+use Rattle.packets.specs.Promise.{padded}
+use Rattle.packets.specs.declared.types.Field.{Field}
+use Rattle.pencil_reader.specs.Bits.{foundAs}
+use Rattle.pencil_reader.specs.declared.fields.HeaderRead.{HeaderRead}
+use Rattle.pencil_reader.specs.declared.fields.HeaderRead.the-variants as header
+use Rattle.pencil_reader.specs.declared.fields.One.{One}
+use Rattle.pencil_reader.specs.declared.fields.One.the-variants as one
+use Rattle.pencil_reader.specs.declared.fields.All.the-variants as all
+use Rattle.pencil_reader.specs.declared.fields.Fields.{Fields}
+
+abbrev pub headerFound : HeaderRead → Finding description.Header
+headerFound (header.Found k b p) = found (record { kind = k; present = b }) p
+headerFound (header.Refused r) = stopped r
+
+pub record HeaderTaken (s : List ℕ) (p : Place) (r : HeaderRead) : Type 0 where
+  pub answer : (i : ℕ) → description.header edition98 .read s i p ≡ headerFound r
+
+-- a field, told by where its data begins and how long it is
+abbrev pub oneFound : One → Finding Field
+oneFound (one.Found f p) = found f p
+oneFound (one.Refused r) = stopped r
+
+abbrev pub fieldFound : List ℕ → ℕ → Place → Finding Field
+fieldFound s i p = foundAs fieldOf (description.field edition98 .read s i p)
+
+pub record FieldTaken (s : List ℕ) (p : Place) (r : One) : Type 0 where
+  pub answer : (i : ℕ) → fieldFound s i p ≡ oneFound r
+
+-- so many fields
+abbrev pub fieldsFound : ℕ → List ℕ → ℕ → Place → Finding (List Field)
+fieldsFound n s i p = foundAs (map fieldOf) (reading.sequenceOf n (description.field edition98 .read) s i p)
+
+-- fields that were found stand in the places that there are, one after the other; those of a refused packet are all zero
+abbrev pub fieldsTaken : Finding (List Field) → Fields
+fieldsTaken (found fields p) = record { all = all.Found (length fields) p; fields = padded fields }
+fieldsTaken (stopped r) = record { all = all.Refused r; fields = padded [] }
+
+pub record SequenceTaken (n : ℕ) (s : List ℕ) (p : Place) (r : Fields) : Type 0 where
+  pub answer : (i : ℕ) → r ≡ fieldsTaken (fieldsFound n s i p)
+
+pub record FieldsTaken (s : List ℕ) (p : Place) (r : Fields) : Type 0 where
+  pub answer : (i : ℕ) → r ≡ fieldsTaken (foundAs (map fieldOf) (description.dataField edition98 .read s i p))

@@ -1,0 +1,4 @@
+pub mod Bits
+pub mod Items
+pub mod Fields
+pub mod Packet

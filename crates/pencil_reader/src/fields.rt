@@ -1,0 +1,136 @@
+// Data-Field ::= SEQUENCE OF SEQUENCE { field-type, field-data OPTIONAL }
+use crate::bits::Marked;
+use crate::bits::Number;
+use crate::bits::flag;
+use crate::items::Part;
+use crate::items::count;
+use crate::items::field_data;
+use crate::items::field_type;
+use lengths::Refusal;
+use packet_reader::no_fields;
+use packets::Field;
+ghost use mathlib.Core.Path.{_≡_};
+ghost use Prim.Native.Nat.{_≤_};
+ghost use lib.ListN.{length};
+ghost use Rattle.datagrams.specs.Sizes.{packetLimit};
+ghost use Rattle.formats.specs.Reading.{stopped};
+ghost use Rattle.packets.specs.Packet.{fieldsLimit};
+ghost use Rattle.pencil_reader.specs.Fields.{HeaderTaken, FieldTaken, fieldsTaken, SequenceTaken, FieldsTaken};
+
+// A field's type, whether it has data, and the place after both.
+pub enum HeaderRead {
+    Found(u8, bool, usize),
+    Refused(Refusal),
+}
+
+// A field, and the place after it.
+pub enum One {
+    Found(Field, usize),
+    Refused(Refusal),
+}
+
+// How many fields there are, and the place after them.
+pub enum All {
+    Found(usize, usize),
+    Refused(Refusal),
+}
+
+// The fields that were read, those of a refused packet all zero.
+pub struct Fields {
+    pub all: All,
+    pub fields: [Field; Field::LIMIT],
+}
+
+// The bit for field-data OPTIONAL, and the field type.
+pub fn header(s: &[u8], at: usize) -> HeaderRead
+    requires { ⌜ length (now s) ≤ packetLimit ⌝ }
+    ensures { λ r. ⌜ HeaderTaken (now (s .entry)) at r ⌝ }
+{
+    match flag(s, at) {
+        Marked::Refused(refusal) => HeaderRead::Refused(refusal),
+        Marked::Found(present, next) => match field_type(s, next) {
+            Number::Refused(refusal) => HeaderRead::Refused(refusal),
+            Number::Found(kind, end) => {
+                let small = (kind % 256) as u8;
+                if packets::right_data(small, present) {
+                    return HeaderRead::Found(small, present, end);
+                }
+                HeaderRead::Refused(Refusal::new(Refusal::WRONG_DATA))
+            }
+        },
+    }
+}
+
+// SEQUENCE { field-type, field-data OPTIONAL }
+pub fn field(s: &[u8], at: usize) -> One
+    requires { ⌜ length (now s) ≤ packetLimit ⌝ }
+    ensures { λ r. ⌜ FieldTaken (now (s .entry)) at r ⌝ }
+{
+    match header(s, at) {
+        HeaderRead::Refused(refusal) => One::Refused(refusal),
+        HeaderRead::Found(kind, present, next) => {
+            if !present {
+                return One::Found(
+                    Field {
+                        kind,
+                        start: 0,
+                        size: 0,
+                    },
+                    next,
+                );
+            }
+            match field_data(s, next) {
+                Part::Refused(refusal) => One::Refused(refusal),
+                Part::Found(start, size, end) => One::Found(Field { kind, start, size }, end),
+            }
+        }
+    }
+}
+
+// No fields, for this refusal.
+fn refused(refusal: Refusal) -> Fields
+    ensures { λ r. ⌜ r ≡ fieldsTaken (stopped refusal) ⌝ }
+{
+    let fields = no_fields();
+    Fields {
+        all: All::Refused(refusal),
+        fields,
+    }
+}
+
+// SEQUENCE OF: so many fields, one after the other.
+fn sequence(s: &[u8], from: usize, count: usize) -> Fields
+    requires { ⌜ (length (now s) ≤ packetLimit) × (count ≤ fieldsLimit) ⌝ }
+    ensures { λ r. ⌜ SequenceTaken count (now (s .entry)) from r ⌝ }
+{
+    let mut fields = no_fields();
+    let mut at = from;
+    let mut i: usize = 0;
+    while i < count {
+        match field(s, at) {
+            One::Refused(refusal) => {
+                return refused(refusal);
+            }
+            One::Found(one, next) => {
+                fields[i] = one;
+                at = next;
+                i += 1;
+            }
+        }
+    }
+    Fields {
+        all: All::Found(count, at),
+        fields,
+    }
+}
+
+// Data-Field: the count of fields, and the fields.
+pub fn data_field(s: &[u8], at: usize) -> Fields
+    requires { ⌜ length (now s) ≤ packetLimit ⌝ }
+    ensures { λ r. ⌜ FieldsTaken (now (s .entry)) at r ⌝ }
+{
+    match count(s, at) {
+        Number::Refused(refusal) => refused(refusal),
+        Number::Found(n, next) => sequence(s, next, n),
+    }
+}

@@ -1,0 +1,185 @@
+#!/usr/bin/env python3
+"""The program explain: for each packet a block of lines, an item each, and a last line with what it reads as, or its refusal.
+
+The last line must say what the independent program answers. The items must follow on one another, each with the packet's own bits."""
+
+import argparse
+import re
+import sys
+
+from compare import stored
+from failing import Cases
+from generate import PACKETS, make_script
+from joined import put_together
+from making.pieces import damaged, packet_items
+from making.script import Script
+from real import UNLIMITED, Wrong, corpus, must
+from rules.packets import read_packet, written_packet
+from rules.refusals import Refusal
+from running import around, lines_of, run, text_of
+
+# All that is known of the program's words: the last line of a block, refused or read, with its fields; an item; bits past the end.
+REFUSED = re.compile(rb'refused with (?P<number>[0-9]+)\b.*')
+READS = re.compile(rb'reads as (?P<kind>indicator|data) (?P<value>[0-9]+)\b[^,]*, (?P<count>[0-9]+) fields?(?P<fields>(;.*)?)')
+FIELD = re.compile(rb'; type ([0-9]+)\b[^,]*, ([0-9]+) octets?')
+ITEM = re.compile(rb'octet (?P<octet>[0-9]+) +bit (?P<bit>[0-7]) +(?P<bits>[01]+-*|-+|octets) +\S.*')
+KINDS, REPAIRED, WHOLE, PAST = (b'indicator', b'data'), b'repaired ', b'octets', b'-'
+
+REAL, MADE = 'tt_v17_ecm_v0.a2b', 1000
+
+
+def packets():
+    """Pairs of octets and whether they were repaired: those of the stored cases, made ones, and real ones put together, also damaged."""
+    script = Script('explain', UNLIMITED)
+    for packet in put_together([read_packet(octets, False) for octets in corpus(REAL)]):
+        script.read(written_packet(packet), 0)
+        script.read(damaged(script.random, packet_items(packet)), script.random.randrange(2))
+    lines = [line for _, given, _ in stored('.calls', '.answers') for line in lines_of(given)] + script.lines
+    lines += make_script('explain', MADE, PACKETS).lines
+    matches = (re.fullmatch(b'07(00|01)(([0-9A-Fa-f]{2})+)', line) for line in lines)
+    return list(dict.fromkeys((bytes.fromhex(match[2].decode()), match[1] == b'01') for match in matches if match))
+
+
+def line_of(octets, repaired):
+    """The line that asks for a packet."""
+    return (REPAIRED if repaired else b'') + octets.hex().upper().encode()
+
+
+def meant(octets, repaired):
+    """What the independent program answers: a refusal's number, or kind, value, and type and length of each field."""
+    try:
+        packet = read_packet(octets, repaired)
+    except Refusal as refusal:
+        return refusal.number
+    return packet.kind, packet.value, [(field_type, len(data)) for field_type, data in packet.fields]
+
+
+def said(last):
+    """The same as a block's last line says it."""
+    refused, reads = REFUSED.fullmatch(last), READS.fullmatch(last)
+    if refused:
+        return int(refused['number'])
+    must(reads, 'neither read nor refused: %s', around(last, 0))
+    fields = [(int(field_type), int(length)) for field_type, length in FIELD.findall(reads['fields'])]
+    must(len(fields) == int(reads['count']), '%d fields are told: %s', len(fields), around(last, 0))
+    return KINDS.index(reads['kind']), int(reads['value']), fields
+
+
+def check_items(octets, items, refused):
+    """Each item begins where the last ended and has the packet's bits; the refused one, the last, may begin before. All is covered."""
+    row = b''.join(b'%d' % (octet >> place & 1) for octet in octets for place in range(7, -1, -1))
+    place, last_whole = 0, False
+    for left, item in zip(range(len(items) - 1, -1, -1), items):
+        form = ITEM.fullmatch(item)
+        must(form, 'no item: %s', around(item, 0))
+        begins, bits = 8 * int(form['octet']) + int(form['bit']), form['bits']
+        follows = begins > place and begins % 8 == 0 if last_whole else begins == place
+        must(follows or refused and not left and begins < place, 'does not follow on the item before: %s', around(item, 0))
+        last_whole = bits == WHOLE
+        must(last_whole or row.ljust(begins + len(bits), PAST)[begins:].startswith(bits), 'other bits than the packet: %s', around(item, 0))
+        place = begins if last_whole else begins + len(bits)
+    must(refused or last_whole or place == len(row), 'ends at bit %d of %d: %s', place, len(row), around(b''.join(items[-1:]), 0))
+
+
+def judged(written, given):
+    """What the program has written, block by block."""
+    must(written.endswith(b'\n'), 'the last line has no line feed')
+    blocks = written[:-1].split(b'\n\n')
+    for number, (packet, block) in enumerate(zip(given, blocks), 1):
+        *items, last = block.split(b'\n')
+        try:
+            ours, theirs = meant(*packet), said(last)
+            must(ours == theirs, 'expected %s, told %s', ours, theirs)
+            must(items, 'no item')
+            check_items(packet[0], items, isinstance(ours, int))
+        except Wrong as wrong:
+            raise Wrong('block %d, %s: %s' % (number, around(line_of(*packet), 0), wrong))
+    must(len(blocks) == len(given), '%d blocks in place of %d', len(blocks), len(given))
+
+
+def check(command, given):
+    """All packets by one program; how many are read and refused."""
+    written, remark = run(command, text_of(line_of(*packet) for packet in given))
+    must(not remark, 'it does not end well: %s', remark)
+    judged(written, given)
+    refused = sum(isinstance(meant(*packet), int) for packet in given)
+    return '%d packets read, %d refused' % (len(given) - refused, refused)
+
+
+def self_test():
+    """Wrong explanations, and what is said of each; the right ones pass."""
+    test = Cases('explained.py')
+    given = [(b'\x06', False), (b'\xC0\x80\x01', False), (b'\x06\0\0', True), (b'\xC0\x01\x80\0\0\xAA', True)]
+    right = b'''octet 0   bit 0  0000011           all but the last
+octet 0   bit 7  0                 the last
+reads as indicator 3 (one), 0 fields
+
+octet 0   bit 0  11000000          all
+octet 1   bit 0  1000000000000001  a count
+octet 0   bit 0  octets            all of it
+refused with 3: words
+
+octet 0   bit 0  00000110          all
+octet 1   bit 0  octets            the rest
+reads as indicator 3, 0 fields
+
+octet 0   bit 0  11000000          all
+octet 1   bit 0  octets            count, header, length and data
+octet 5   bit 0  10101010          data
+reads as data 0 (another), 1 field; type 0 (one), 1 octet
+'''
+    test.passes('as it should be', judged, right, given)
+    for name, old, new, words in (
+            ('another refusal', b'refused with 3', b'refused with 4', 'block 2, C08001: expected 3, told 4'),
+            ('refused, not read', b'reads as indicator 3, 0', b'refused with 6: 0', 'repaired 060000: expected (0, 3, []), told 6'),
+            ('read, not refused', b'refused with 3: words', b'reads as data 0, 0 fields', 'block 2, C08001: expected 3, told (1, 0, [])'),
+            ('another kind', b'reads as indicator 3,', b'reads as data 3,', 'told (1, 3, [])'),
+            ('another value', b'reads as indicator 3,', b'reads as indicator 4,', 'told (0, 4, [])'),
+            ('another count', b'1 field;', b'2 fields;', '1 fields are told: reads as data 0'),
+            ('another type', b'type 0 (one)', b'type 6 (one)', 'told (1, 0, [(6, 1)])'),
+            ('another length', b'1 octet\n', b'2 octets\n', 'told (1, 0, [(0, 2)])'),
+            ('no last line', b'\nrefused with 3: words', b'', 'block 2, C08001: neither read nor refused: octet 0   bit 0  octets'),
+            ('no empty line', b'words\n\n', b'words\n', 'block 2, C08001: expected 3, told (0, 3, [])'),
+            ('an empty line more', b'words\n\n', b'words\n\n\n', 'block 3, repaired 060000: no item: '),
+            ('a block less', right.split(b'\n\n')[2] + b'\n\n', b'', 'repaired 060000: expected (0, 3, []), told (1, 0, [(0, 1)])'),
+            ('no item', b'octet 0   bit 0  00000110          all\noctet 1   bit 0  octets            the rest\n', b'', 'no item'),
+            ('an item of another form', b'octet 0   bit 7', b'octet 0   bit 8', 'block 1, 06: no item: octet 0   bit 8'),
+            ('an item without words', b'  the last\n', b'\n', 'block 1, 06: no item: octet 0   bit 7'),
+            ('an item left out', b'octet 1   bit 0  1000000000000001  a count\n', b'octet 1   bit 7  1  a bit\n', 'does not follow on'),
+            ('an item further on', b'octet 1   bit 0  octets            the rest', b'octet 2   bit 0  octets  rest', 'does not follow on'),
+            ('an item within an octet', b'octet 5   bit 0  10101010', b'octet 5   bit 1  0101010', 'does not follow on'),
+            ('another bit', b'1000000000000001', b'1000000000000000', 'block 2, C08001: other bits than the packet: octet 1   bit 0'),
+            ('a bit past the end', b'  10101010  ', b'  101010100  ', 'block 4, repaired C001800000AA: other bits than the packet'),
+            ('the end left out', b'  10101010  ', b'  1010101  ', 'ends at bit 47 of 48: octet 5   bit 0')):
+        assert right.count(old) == 1, name
+        test.fails(name, words, judged, right.replace(old, new), given)
+    test.fails('a block more', '4 blocks in place of 3', judged, right, given[:3])
+    test.fails('no last line feed', 'the last line has no line feed', judged, right[:-1], given)
+    test.fails('status 3', 'it does not end well: status 3', check, 'exit 3', given)
+    test.ends('a wrong program', 1, '0 passed, 1 failed', [sys.executable, __file__, '--explain', 'echo refused with 1'])
+    test.ends('no command', 2, 'a command is needed', [sys.executable, __file__])
+    test.end()
+
+
+def main():
+    """Checks the program; ends with status 1 if it is wrong."""
+    parser = argparse.ArgumentParser(description=__doc__)
+    parser.add_argument('--explain', help='shell command of the program explain')
+    parser.add_argument('--self-test', action='store_true', help='check that wrong explanations are reported')
+    arguments = parser.parse_args()
+    if arguments.self_test:
+        self_test()
+        return
+    if not arguments.explain:
+        parser.error('a command is needed: --explain')
+    try:
+        print('ok explain; %s' % check(arguments.explain, packets()))
+    except Wrong as wrong:
+        print('wrong explain: %s' % wrong)
+        print('0 passed, 1 failed')
+        sys.exit(1)
+    print('1 passed, 0 failed')
+
+
+if __name__ == '__main__':
+    main()
