@@ -17,7 +17,7 @@ use Rattle.stores.specs.Store.{zerosPast}
 use Rattle.views.specs.View.{sum, numbers, sessionLimit}
 use Rattle.views.specs.Ranges.{sumRight, blankAt, sizeRight, cellRight, markRight, heldRight, knownAt, Sound}
 use Rattle.views.proofs.Laws.{base-small, size-fits, mark-sizes}
-use Rattle.held.specs.Slots.{slotsKept, slotsHeard, slotAt, heardSlotAt, packetOctets, messageOctets}
+use Rattle.held.specs.Slots.{slotsKept, slotsHeard, slotAt, heardSlotAt, keptOctets, messageOctets}
 use Rattle.held.specs.Table.{Lent, lent, countsOf, places, lastState, stateIn, sizeIn, markIn, nIn, mIn, stateNumbered}
 use Rattle.held.specs.Table.{cellIn, messageIn, heldIn, cellsOf, heldOf, viewIn}
 use Rattle.held.specs.Laid.{messageLaid, lentInRanges, Laid, InRanges}
@@ -111,7 +111,7 @@ abbrev heardAll : Lent → Bool
 heardAll l = allBelow keptAhead (heardTest (l .base) (l .table) (l .messages))
 
 -- from the tests to the ranges
-module _ (l : Lent) (long : length (l .table) ≡ places) (octets : length (l .octets) ≡ packetOctets)
+module _ (l : Lent) (long : length (l .table) ≡ places) (octets : length (l .octets) ≡ keptOctets)
     (messages : length (l .messages) ≡ messageOctets) (summed : sumRight (viewIn l) ≡ true) (kept : keptAll l ≡ true)
     (heard : heardAll l ≡ true) where
   kept-in : (i : ℕ) → i < slotsKept → KeptSeen (l .table) (l .octets) i (blankAt (total l) (placeIn (l .base) i))
@@ -225,7 +225,7 @@ sum-told : (l : Lent) → sumRight (viewIn l) ≡ (eqb (l .base) (total l % numb
 unfolding viewIn sumRight
 sum-told l = refl
 
-all-told : (l : Lent) → length (l .table) ≡ places → length (l .octets) ≡ packetOctets → length (l .messages) ≡ messageOctets
+all-told : (l : Lent) → length (l .table) ≡ places → length (l .octets) ≡ keptOctets → length (l .messages) ≡ messageOctets
     → ((sumRight (viewIn l) && keptAll l) && heardAll l) ≡ lentInRanges l
 all-told l long octets messages =
     both-ways ((sumRight (viewIn l) && keptAll l) && heardAll l) (lentInRanges l)
@@ -239,7 +239,7 @@ all-told l long octets messages =
     and-both (and-both (w .sound .total) (tests-kept w)) (tests-heard w))
 
 pub whole-right : (base : ℕ) (counts : Counts) (t o g : List ℕ) {whole : ℕ} {summed kept heard : Bool} → length t ≡ places
-    → length o ≡ packetOctets → length g ≡ messageOctets → whole ≡ sum (countsOf counts)
+    → length o ≡ keptOctets → length g ≡ messageOctets → whole ≡ sum (countsOf counts)
     → summed ≡ (eqb base (whole % numbers) && leb whole sessionLimit) → kept ≡ allKept base whole t o
     → heard ≡ allBelow keptAhead (heardTest base t g) → ((summed && kept) && heard) ≡ lentInRanges (lent base counts t o g)
 whole-right base counts t o g long octets messages whole-is summed-is kept-is heard-is =

@@ -19,7 +19,7 @@ ghost use Rattle.octets.specs.Place.{allBelow};
 ghost use Rattle.views.specs.Cells.{keptAhead};
 ghost use Rattle.stores.specs.Store.{mask};
 ghost use Rattle.views.specs.View.{numbers, sessionLimit};
-ghost use Rattle.held.specs.Slots.{slotsKept, packetOctets, messageOctets};
+ghost use Rattle.held.specs.Slots.{slotsKept, keptOctets, messageOctets};
 ghost use Rattle.held.specs.Table.{places, lent};
 ghost use Rattle.held.specs.Laid.{lentInRanges};
 ghost use Rattle.checking.specs.Pieces.{passedOf, SizesFit, stateTest, packetTest, allKept, heardTest};
@@ -78,7 +78,7 @@ fn all_states_right(base: u16, whole: u64, t: &[u16]) -> bool
 fn all_packets_laid(t: &[u16], o: &[u8], passes: &[u8]) -> bool
     requires { ⌜ length (now t) ≡ places ⌝ }
     requires { ⌜ SizesFit (now t) ⌝ }
-    requires { ⌜ length (now o) ≡ packetOctets ⌝ }
+    requires { ⌜ length (now o) ≡ keptOctets ⌝ }
     requires { ⌜ now passes ≡ mask ⌝ }
     ensures { λ r. ⌜ r ≡ allBelow slotsKept (packetTest (now (t .entry)) (now (o .entry))) ⌝ }
 {
@@ -96,7 +96,7 @@ fn all_packets_laid(t: &[u16], o: &[u8], passes: &[u8]) -> bool
 // All kept numbers.
 fn all_kept_right(base: u16, whole: u64, t: &[u16], o: &[u8], passes: &[u8]) -> bool
     requires { ⌜ length (now t) ≡ places ⌝ }
-    requires { ⌜ length (now o) ≡ packetOctets ⌝ }
+    requires { ⌜ length (now o) ≡ keptOctets ⌝ }
     requires { ⌜ now passes ≡ mask ⌝ }
     ensures { λ r. ⌜ r ≡ allKept base whole (now (t .entry)) (now (o .entry)) ⌝ }
 {
@@ -130,7 +130,7 @@ fn all_heard_right(base: u16, t: &[u16], g: &[u8], passes: &[u8]) -> bool
 // Document 01, 'Ranges of a session': the whole paragraph.
 pub fn in_ranges(base: u16, counts: Counts, t: &[u16], o: &[u8], g: &[u8]) -> bool
     requires { ⌜ length (now t) ≡ places ⌝ }
-    requires { ⌜ length (now o) ≡ packetOctets ⌝ }
+    requires { ⌜ length (now o) ≡ keptOctets ⌝ }
     requires { ⌜ length (now g) ≡ messageOctets ⌝ }
     ensures { λ r. ⌜ r ≡ lentInRanges (lent base counts (now (t .entry)) (now (o .entry)) (now (g .entry))) ⌝ }
 {

@@ -84,7 +84,7 @@ send-refused : (a : Answer (List ℕ)) (s t : Sender) (packet : List ℕ) (n : �
 send-refused (done x) s t packet n e state = let z : _≡_ {A = ℕ} 0 1 = cc in absurd (omega arith)
 send-refused (refused why) s t packet n e state = state
 
-sending : demand.Sending
+sending : demand.SendingCalls
 sending =
     record {
       send = λ {s} {settings} {packet} {old} p.

@@ -23,7 +23,7 @@ use Rattle.demands.specs.History as moves
 use Rattle.demands.specs.History.{Move, Left, released, lost, afterMove}
 use Rattle.demands.specs.Calls.{Call, Calls, Called, leftIn, leftBy}
 use Rattle.demands.specs.GoesOn.{moveOf, GoesOn, from, by}
-use Rattle.demands.specs.Demand2.{Keeps}
+use Rattle.demands.specs.Demand2.{StaysKnown}
 use Rattle.demands.proofs.Ranges.{ViewInRanges}
 use Rattle.demands.proofs.Growing.{grown-known}
 use Rattle.demands.proofs.Shifted.{cell-on}
@@ -58,20 +58,20 @@ does moves.giveUp view = pick (releases.giveUp view) refl where
 
 -- ---- one number, from call to call
 module _ {view : View} {p : ℕ} (small : p < keptNumbers) (known : Known (view .cells) p) where
-  keeps-none : Keeps view [] view p
+  keeps-none : StaysKnown view [] view p
   keeps-none =
       record {
         stays = λ low. let same : p - 0 ≡ p = omega arith in ap (cellAt (view .cells)) same;
         leaves = λ past low. absurd (omega arith);
       }
 
-  module _ {left : List Left} {held : View} (k : Keeps view left held p) where
+  module _ {left : List Left} {held : View} (k : StaysKnown view left held p) where
     still : length left ≤ p → Known (held .cells) (p - length left)
     still low = ap (λ (c : Cell). isUnknown (c .state)) (k .stays low) ∙ known
 
     -- nothing left
     keeps-stays : {last : View} → ((q : ℕ) → Known (held .cells) q → cellAt (last .cells) q ≡ cellAt (held .cells) q)
-        → Keeps view left last p
+        → StaysKnown view left last p
     keeps-stays same = record { stays = λ low. same (p - length left) (still low) ∙ k .stays low; leaves = k .leaves }
 
     -- the number at the base left; if it is this one, it was released as it was known
@@ -99,7 +99,7 @@ module _ {view : View} {p : ℕ} (small : p < keptNumbers) (known : Known (view 
           is (subst (Known (held .cells)) here (still (omega arith)))
           ∙ ap₂ (λ (c : Cell) (n : ℕ). released (c .state) n (c .octets)) cell turn
 
-      keeps-left : (counts : Counts) → Keeps view (left ++ (x ∷ [])) (goneOn counts held) p
+      keeps-left : (counts : Counts) → StaysKnown view (left ++ (x ∷ [])) (goneOn counts held) p
       keeps-left counts =
           record {
             stays = goes-on counts;
@@ -113,21 +113,21 @@ module _ {view : View} {p : ℕ} (small : p < keptNumbers) (known : Known (view 
           }
 
   -- one call more
-  keeps-by : {left more : List Left} {held last : View} → Keeps view left held p → ViewInRanges held
-      → held .base ≡ (view .base + length left) % numbers → Does held more last → Keeps view (left ++ more) last p
+  keeps-by : {left more : List Left} {held last : View} → StaysKnown view left held p → ViewInRanges held
+      → held .base ≡ (view .base + length left) % numbers → Does held more last → StaysKnown view (left ++ more) last p
   keeps-by {left} k r base (stays same) = rw (append-nil left) (keeps-stays k same)
   keeps-by k r base (hands counts) = keeps-left k r _ (λ now. refl) base counts
   keeps-by k r base (loses counts unknown) = keeps-left k r _ (λ now. absurd (true≢false (sym unknown ∙ now))) base counts
 
   -- ---- chains
-  pub keeps : {calls : Calls} {held : View} → ViewInRanges view → GoesOn view calls held → Keeps view (leftBy calls) held p
+  pub keeps : {calls : Calls} {held : View} → ViewInRanges view → GoesOn view calls held → StaysKnown view (leftBy calls) held p
   unfolding leftBy
   keeps r from = keeps-none
   keeps r (by {calls = calls} {call = call} {held = held} on says) =
       rw (left-is held call says) (keeps-by (keeps r on) (on-ranges r on) (went r on .reached) (does (moveOf call) held))
 
 pub called-keeps : {s t u : Session} {calls more : Calls} {view : View} → SeenAs view s → Called s calls t → Called t more u
-    → (p : ℕ) → p < keptNumbers → Known ((viewOf t) .cells) p → Keeps (viewOf t) (leftBy more) (viewOf u) p
+    → (p : ℕ) → p < keptNumbers → Known ((viewOf t) .cells) p → StaysKnown (viewOf t) (leftBy more) (viewOf u) p
 called-keeps {t = t} seen called more p small known =
     let w = called-went seen called in
     let here : SeenAs (viewOf t) t = record { within = w .seen .within; view = refl } in

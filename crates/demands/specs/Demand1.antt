@@ -132,7 +132,7 @@ pub record Receiving : Type 0 where
       → r .session ≡ s
 
 -- ---- the sending session
-pub record Sending : Type 0 where
+pub record SendingCalls : Type 0 where
   pub send : {s : Sender} {settings : Settings} {packet old new : List ℕ} {r : Sent} → Sends s settings packet old new r
       → refusalIn (writtenOutcome (r .answer))
       ≡ first (senderRows s settings packet ++ roomRow (datagramOctets (carriedNext settings packet (sendingOf s))) old)
@@ -147,4 +147,4 @@ pub record Demand1 : Type 0 where
   pub offerReads : {s : Session} {octets : List ℕ} {r : AfterOffer} {q : DatagramRead} {n : ℕ} → OfferOwes s octets r
       → DatagramReads octets q → sessionInRanges s ≡ true → refusalIn (readOutcome q) ≡ some n
       → refusalIn (offeredOutcome (r .answer)) ≡ some n
-  pub sending : Sending
+  pub sending : SendingCalls

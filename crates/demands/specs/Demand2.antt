@@ -84,7 +84,7 @@ pub record SavedLeaves (before : View) (left : List Left) (after : View) : Type 
 -- ---- "What is known is never written over."
 
 -- a number that is known at place p in view, and what became of it by calls that made these numbers leave
-pub record Keeps (before : View) (left : List Left) (after : View) (p : ℕ) : Type 0 where
+pub record StaysKnown (before : View) (left : List Left) (after : View) (p : ℕ) : Type 0 where
   -- as long as it is in view it keeps its kind and its octets
   pub stays : length left ≤ p → cellAt (after .cells) (p - length left) ≡ cellAt (before .cells) p
   -- from the base on it leaves in its turn, released with that kind and those octets
@@ -107,7 +107,7 @@ pub record Demand2 : Type 0 where
   -- "What is known is never written over": not by any calls that come after
   pub keeps : {s t u : Session} {calls more : Calls} → Begins s → Called s calls t → Called t more u
       → (p : ℕ) → p < keptNumbers → Known ((viewOf t) .cells) p
-      → Keeps (viewOf t) (leftBy more) (viewOf u) p
+      → StaysKnown (viewOf t) (leftBy more) (viewOf u) p
   -- "One saved within its ranges goes on from what it holds, each call as 01 says": one fresh at its start too, so that kind and
   -- octets of all that is released are settled
   pub goesOn : {s t : Session} {calls : Calls} → Begins s → Called s calls t → GoesOn (viewOf s) calls (viewOf t)

@@ -97,7 +97,7 @@ pub record ToldByHeld : Type 0 where
   pub sessionLimit : One (λ (r : ℕ). r ≡ views.sessionLimit)
   pub kept : One (λ (r : ℕ). r ≡ slots.slotsKept)
   pub heard : One (λ (r : ℕ). r ≡ slots.slotsHeard)
-  pub packetOctets : One (λ (r : ℕ). r ≡ slots.packetOctets)
+  pub keptOctets : One (λ (r : ℕ). r ≡ slots.keptOctets)
   pub messageOctets : One (λ (r : ℕ). r ≡ slots.messageOctets)
   pub places : One (λ (r : ℕ). r ≡ table.places)
   pub keptSlot : (number : ℕ) → One (λ (r : ℕ). r ≡ number % slots.slotsKept)

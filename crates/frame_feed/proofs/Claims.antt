@@ -7,7 +7,8 @@ use Prim.Native.Nat.{ℕ}
 use Rattle.lengths.specs.Length.{lengthAt}
 use Rattle.formats.specs.Reading as reading
 use Rattle.formats.specs.Format.{octetsFront, twoFront}
-use Rattle.packets.specs.Packet.{every, root, addition, enumerated, typeOfMsg, start, count, header, size, fieldData, field, dataField, packet}
+use Rattle.packets.specs.Packet.{every, root, addition, enumerated, typeOfMsg, start, count, header, size, fieldData, field}
+use Rattle.packets.specs.Packet.{dataField, packet}
 use Rattle.packets.specs.Packet as description
 use Rattle.frames.specs.Frame.{Joining, freshJoining, withAdded, goodFrame, onOpen, fieldStep}
 use Rattle.frames.specs.Joiner.{heldAs, joiningOf}
@@ -29,8 +30,8 @@ one-event none j old new other r q m n = (m .answer ∙ sym (n .answer), m .lent
 
 pub claims : Claims
 unfolding framesFrom eventsFrom eventsOf handedBy eventStep fieldStep onOpen withAdded goodFrame description.readPacket
-    description.wholePacket packet start typeOfMsg enumerated root addition dataField count field header fieldData size reading.bit reading.bits
-    reading.flag reading.align reading.octetwise reading.sequenceOf octetsFront twoFront every lengthAt
+    description.wholePacket packet start typeOfMsg enumerated root addition dataField count field header fieldData size reading.bit
+    reading.bits reading.flag reading.align reading.octetwise reading.sequenceOf octetsFront twoFront every lengthAt
 claims =
     record {
       oneOutcome =

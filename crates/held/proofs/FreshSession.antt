@@ -20,7 +20,7 @@ use Rattle.stores.specs.Store.{part}
 use Rattle.stores.proofs.Laws.{zerosPast-zeros}
 use Rattle.views.specs.View.{freshView}
 use Rattle.views.specs.Ranges.{sumRight, sizeRight, markRight, heldRight, cellsRight, allHeldRight, inRanges}
-use Rattle.held.specs.Slots.{slotsKept, slotAt, heardSlotAt, messageSlot, packetOctets, messageOctets}
+use Rattle.held.specs.Slots.{slotsKept, slotAt, heardSlotAt, messageSlot, keptOctets, messageOctets}
 use Rattle.held.specs.Table.{Lent, lentBy, places, lastState, markPlace, nPlace, mPlace, messagePlace, stateIn, sizeIn, nIn, mIn}
 use Rattle.held.specs.Table.{stateNumbered, cellIn, messageIn, heldIn, cellsOf, heldOf, viewIn}
 use Rattle.held.specs.Laid.{lentInRanges, Laid}
@@ -136,7 +136,7 @@ pub record FreshParts (l : Lent) : Type 0 where
   pub table : l .table ≡ freshTable
   pub octets : (k : ℕ) → getD (l .octets) k 0 ≡ 0
   pub messages : (k : ℕ) → getD (l .messages) k 0 ≡ 0
-  pub packetsLong : length (l .octets) ≡ packetOctets
+  pub packetsLong : length (l .octets) ≡ keptOctets
   pub messagesLong : length (l .messages) ≡ messageOctets
 
 module _ {l : Lent} (f : FreshParts l) where

@@ -17,7 +17,7 @@ use Rattle.views.specs.Cells.{Cell, cellAt, keptAhead, keptNumbers}
 use Rattle.views.specs.Held.{Held, heldAt}
 use Rattle.views.specs.View as views
 use Rattle.views.specs.View.{View}
-use Rattle.held.specs.Slots.{slotsKept, slotsHeard, slotsMessages, packetOctets, messageOctets, slotAt, heardSlotAt, messageSlot}
+use Rattle.held.specs.Slots.{slotsKept, slotsHeard, slotsMessages, keptOctets, messageOctets, slotAt, heardSlotAt, messageSlot}
 use Rattle.held.specs.Table.{Lent, lentBy, countsOf, places, lastState, sizePlace, markPlace, nPlace, mPlace, messagePlace, stateIn}
 use Rattle.held.specs.Table.{sizeIn, markIn, nIn, mIn, messageSizeIn, stateNumbered, cellIn, heldIn, cellsOf, heldOf, viewIn, viewOf}
 use Rattle.held.specs.Laid.{InRanges}
@@ -193,7 +193,7 @@ module _ {l k : Lent} (w : InRanges l) (v : InRanges k) (same : viewIn l ≡ vie
   octets-same =
       ext-getD 0 (l .octets) (k .octets) (w .laid .octets ∙ sym (v .laid .octets))
       (λ x inside.
-      let small : x < packetOctets = rw (w .laid .octets) at inside in
+      let small : x < keptOctets = rw (w .laid .octets) at inside in
       let slot : x / packetLimit < slotsKept = omega arith in
       let few : x % packetLimit < packetLimit = omega arith in
       let place : x ≡ x / packetLimit * packetLimit + x % packetLimit = omega arith in

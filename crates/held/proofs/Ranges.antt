@@ -16,7 +16,7 @@ use Rattle.views.specs.Cells.{keptAhead, keptNumbers}
 use Rattle.stores.specs.Store.{zerosPast}
 use Rattle.views.specs.Ranges.{inRanges}
 use Rattle.views.proofs.Laws.{sound-of, inRanges-of}
-use Rattle.held.specs.Slots.{slotsKept, slotsHeard, messageSlot, packetOctets, messageOctets}
+use Rattle.held.specs.Slots.{slotsKept, slotsHeard, messageSlot, keptOctets, messageOctets}
 use Rattle.held.specs.Table.{Lent, lentBy, viewIn, places, lastState, stateIn, sizeIn, markIn, mIn, messageSizeIn}
 use Rattle.held.specs.Laid.{keptLaid, messageLaid, heardLaid, laid, lentInRanges, sessionInRanges, Laid, InRanges}
 use Rattle.held.specs.Promise.{Sized}
@@ -80,7 +80,7 @@ module _ (t g : List ℕ) (j : ℕ) (e : heardLaid t g j ≡ true) where
       allBelow-at messagesLimit (messageLaid t g j (mIn t j)) (and-right (leb (markIn t j) 1 && leb (mIn t j) messagesLimit) _ e)
 
 -- ---- the layout: what passes the test, with the lengths that the arrays have, is laid so
-pub laid-of : (l : Lent) → laid l ≡ true → length (l .table) ≡ places → length (l .octets) ≡ packetOctets
+pub laid-of : (l : Lent) → laid l ≡ true → length (l .table) ≡ places → length (l .octets) ≡ keptOctets
     → length (l .messages) ≡ messageOctets → Laid (l .table) (l .octets) (l .messages)
 unfolding laid
 laid-of l e long octets messages =
@@ -146,7 +146,7 @@ held-long : (l : Lent) → length ((viewIn l) .held) ≡ keptAhead
 unfolding viewIn
 held-long l = length-held (l .base) (l .table) (l .messages)
 
-pub in-ranges-of : (l : Lent) → lentInRanges l ≡ true → length (l .table) ≡ places → length (l .octets) ≡ packetOctets
+pub in-ranges-of : (l : Lent) → lentInRanges l ≡ true → length (l .table) ≡ places → length (l .octets) ≡ keptOctets
     → length (l .messages) ≡ messageOctets → InRanges l
 unfolding lentInRanges
 in-ranges-of l e long octets messages =

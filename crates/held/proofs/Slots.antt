@@ -11,7 +11,7 @@ use Rattle.datagrams.specs.Sizes.{packetLimit, messagesLimit}
 use Rattle.views.specs.Cells.{keptAhead, keptNumbers}
 use Rattle.stores.specs.Store.{HasSlot}
 use Rattle.views.specs.View.{numbers, following}
-use Rattle.held.specs.Slots.{slotAt, heardSlotAt, messageSlot, Apart, slotsKept, slotsHeard, slotsMessages, packetOctets}
+use Rattle.held.specs.Slots.{slotAt, heardSlotAt, messageSlot, Apart, slotsKept, slotsHeard, slotsMessages, keptOctets}
 use Rattle.held.specs.Slots.{messageOctets}
 
 pub slot-small : (base p : ℕ) → slotAt base p < slotsKept
@@ -39,7 +39,7 @@ apart-before j i k apart e below = apart e (omega arith)
 pub apart-here : (j i k : ℕ) → Apart j (i + 1) k → k ≡ messageSlot j i → ⊥
 apart-here j i k apart = apart i (omega arith)
 
-pub has-packet-slot : (o : List ℕ) (i : ℕ) → length o ≡ packetOctets → i < slotsKept → HasSlot i o
+pub has-packet-slot : (o : List ℕ) (i : ℕ) → length o ≡ keptOctets → i < slotsKept → HasSlot i o
 has-packet-slot o i long small = omega arith
 
 pub has-message-slot : (g : List ℕ) (k : ℕ) → length g ≡ messageOctets → k < slotsMessages → HasSlot k g

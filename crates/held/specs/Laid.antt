@@ -10,7 +10,7 @@ use Rattle.octets.specs.Place.{allBelow}
 use Rattle.datagrams.specs.Sizes.{packetLimit, messageLimit, messagesLimit}
 use Rattle.stores.specs.Store.{zerosPast}
 use Rattle.views.specs.Ranges.{inRanges, Sound}
-use Rattle.held.specs.Slots.{slotsKept, slotsHeard, messageSlot, packetOctets, messageOctets}
+use Rattle.held.specs.Slots.{slotsKept, slotsHeard, messageSlot, keptOctets, messageOctets}
 use Rattle.held.specs.Table.{Lent, lentBy, viewIn, places, lastState, stateIn, sizeIn, markIn, mIn, messageSizeIn}
 use Rattle.held.specs.declared.Session.{Session}
 
@@ -42,7 +42,7 @@ sessionInRanges s = lentInRanges (lentBy s)
 -- the same as the calls inside the session require and keep it: slot by slot
 pub record Laid (t o g : List ℕ) : Type 0 where
   pub long : length t ≡ places
-  pub octets : length o ≡ packetOctets
+  pub octets : length o ≡ keptOctets
   pub messages : length g ≡ messageOctets
   pub state : (i : ℕ) → i < slotsKept → stateIn t i ≤ lastState
   pub size : (i : ℕ) → i < slotsKept → sizeIn t i ≤ packetLimit

@@ -6,7 +6,7 @@ use mathlib.Core.List.{List, _++_}
 use lib.ListN.{length, replicate}
 use Rattle.views.specs.Cells.{keptBefore, keptAhead}
 use Rattle.views.specs.View.{freshView}
-use Rattle.held.specs.Slots.{slotsKept, packetOctets, messageOctets}
+use Rattle.held.specs.Slots.{slotsKept, keptOctets, messageOctets}
 use Rattle.held.specs.Table.{places, lastState, viewOf}
 use Rattle.held.specs.Laid.{sessionInRanges}
 use Rattle.held.specs.declared.Session.{Session}
@@ -14,7 +14,7 @@ use Rattle.held.specs.declared.Session.{Session}
 -- the lengths that the arrays of every session have
 pub record Sized (s : Session) : Type 0 where
   pub table : length (s .table) ≡ places
-  pub octets : length (s .octets) ≡ packetOctets
+  pub octets : length (s .octets) ≡ keptOctets
   pub messages : length (s .messages) ≡ messageOctets
 
 -- the table of a fresh session: at base 0 those from the base on have the first slots, those before the first, blank, the rest

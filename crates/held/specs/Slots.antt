@@ -15,8 +15,8 @@ slotsHeard = keptAhead
 abbrev pub slotsMessages : ℕ
 slotsMessages = slotsHeard * messagesLimit
 
-abbrev pub packetOctets : ℕ
-packetOctets = slotsKept * packetLimit
+abbrev pub keptOctets : ℕ
+keptOctets = slotsKept * packetLimit
 
 abbrev pub messageOctets : ℕ
 messageOctets = slotsMessages * packetLimit

@@ -23,7 +23,7 @@ pub use table::state_at;
 pub use table::total;
 ghost use mathlib.Core.Path.{_≡_};
 ghost use Rattle.views.specs.View.{sessionLimit};
-ghost use Rattle.held.specs.Slots.{slotsKept, slotsHeard, packetOctets, messageOctets};
+ghost use Rattle.held.specs.Slots.{slotsKept, slotsHeard, keptOctets, messageOctets};
 ghost use Rattle.held.specs.Table.{places};
 
 // The state of a kept number, as the answers name it. In the table it is a number.
@@ -113,7 +113,7 @@ impl Session {
     }
 
     pub fn packet_octets() -> usize
-        ensures { λ r. ⌜ r ≡ packetOctets ⌝ }
+        ensures { λ r. ⌜ r ≡ keptOctets ⌝ }
     {
         Session::PACKET_OCTETS
     }

@@ -14,7 +14,7 @@ use Rattle.datagrams.specs.declared.reader.Part.{Part}
 use Rattle.views.specs.Cells.{Cell, spare, keptNumbers}
 use Rattle.views.specs.View.{numbers}
 use Rattle.views.specs.Offer as offers
-use Rattle.held.specs.Slots.{numberAt, packetOctets}
+use Rattle.held.specs.Slots.{numberAt, keptOctets}
 use Rattle.held.specs.Table.{lent, places, cellsOf, heldOf}
 use Rattle.held.specs.Laid.{InRanges}
 use Rattle.held.specs.declared.Counts.{Counts}
@@ -56,11 +56,11 @@ pub record SparesNow (s : List ℕ) (items : List Part) (count base : ℕ) (c : 
 pub record Sparing (number : ℕ) (s : List ℕ) (items : List Part) (count : ℕ) (t o new store : List ℕ) (at j : ℕ) : Type 0 where
   pub few : j ≤ count
   pub long : length new ≡ places
-  pub octets : length store ≡ packetOctets
+  pub octets : length store ≡ keptOctets
   pub now : (base : ℕ) (c : Counts) (g : List ℕ) (p : ℕ) → InRanges (lent base c t o g) → p < keptNumbers → count ≤ p
       → number ≡ numberAt base p → SparesNow s items count base c g p t o new store at j
 
-pub sparing-start : (number : ℕ) (s : List ℕ) (items : List Part) (count : ℕ) (t o : List ℕ) → length t ≡ places → length o ≡ packetOctets
+pub sparing-start : (number : ℕ) (s : List ℕ) (items : List Part) (count : ℕ) (t o : List ℕ) → length t ≡ places → length o ≡ keptOctets
     → Sparing number s items count t o t o number 0
 sparing-start number s items count t o long octets =
     record {
@@ -77,7 +77,7 @@ module _ {number : ℕ} {s : List ℕ} {items : List Part} {count : ℕ} {t o ne
   pub sparing-long : length new ≡ places
   sparing-long = l .long
 
-  pub sparing-octets : length store ≡ packetOctets
+  pub sparing-octets : length store ≡ keptOctets
   sparing-octets = l .octets
 
   pub sparing-part : CarriesSpares s items count → j < count → PartInside packetLeast packetLimit s (partAt items j)

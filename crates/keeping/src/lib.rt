@@ -15,7 +15,7 @@ ghost use Rattle.datagrams.specs.Claims.{PartInside};
 ghost use Rattle.datagrams.specs.Read.{octetsOf};
 ghost use Rattle.stores.specs.Store.{HasSlot};
 ghost use Rattle.views.specs.Ranges.{isFill};
-ghost use Rattle.held.specs.Slots.{slotsHeard, packetOctets, messageOctets};
+ghost use Rattle.held.specs.Slots.{slotsHeard, keptOctets, messageOctets};
 ghost use Rattle.held.specs.Table.{places, stateNumbered};
 ghost use Rattle.keeping.specs.Steps.{PartPut, Fit, ItemsLaid};
 ghost use Rattle.keeping.specs.Promise.{MayKeep, CarriesSpares, Keeps, KeepsSpares, CarriesMessages, MayHold, Holds};
@@ -36,7 +36,7 @@ fn put_part(o: &mut [u8], slot: usize, s: &[u8], part: Part) -> u16
 // A packet, which is a part of the datagram s, kept at its number as received or spare, if that number is still unknown.
 pub fn keep(t: &mut [u16], o: &mut [u8], number: u16, state: u16, s: &[u8], part: Part)
     requires { ⌜ length (now t) ≡ places ⌝ }
-    requires { ⌜ length (now o) ≡ packetOctets ⌝ }
+    requires { ⌜ length (now o) ≡ keptOctets ⌝ }
     requires { ⌜ MayKeep number 0 (now t) (now o) ⌝ }
     requires { ⌜ isFill (stateNumbered state) ≡ true ⌝ }
     requires { ⌜ PartInside packetLeast packetLimit (now s) part ⌝ }
@@ -61,7 +61,7 @@ pub fn keep_spares(
     count: usize,
 )
     requires { ⌜ length (now t) ≡ places ⌝ }
-    requires { ⌜ length (now o) ≡ packetOctets ⌝ }
+    requires { ⌜ length (now o) ≡ keptOctets ⌝ }
     requires { ⌜ MayKeep number count (now t) (now o) ⌝ }
     requires { ⌜ CarriesSpares (now s) items count ⌝ }
     ensures { λ _. ⌜ KeepsSpares number (now (s .entry)) items count (now (t .entry)) (now (o .entry)) (now (t .exit)) (now (o .exit)) ⌝ }

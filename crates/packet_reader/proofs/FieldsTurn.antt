@@ -13,7 +13,7 @@ use Rattle.packets.specs.Packet.{fieldsLimit, noField}
 use Rattle.packets.specs.Inner.Octets.{FieldAnswer, fieldAt, FieldsAnswer, fieldsAt}
 use Rattle.packets.specs.Promise.{padded}
 use Rattle.packets.proofs.Laws.{field-inside}
-use Rattle.packet_reader.specs.Items.{Inside, FieldTold, FieldsTold, fieldOutcome}
+use Rattle.packet_reader.specs.Items.{InPacket, FieldTold, FieldsTold, fieldOutcome}
 use Rattle.packets.specs.declared.types.Field.{Field}
 use Rattle.packet_reader.specs.declared.items.FieldRead.{FieldRead}
 use Rattle.packet_reader.specs.declared.items.FieldRead.the-variants as field
@@ -57,14 +57,14 @@ set-padded pre f i has few =
 -- ---- the loop over the fields
 pub record Going (s : List ℕ) (count from : ℕ) (fields : List Field) (p i : ℕ) : Type 0 where
   pub few : i ≤ count
-  pub inside : Inside s p
+  pub inside : InPacket s p
   pub pre : List Field
   pub has : length pre ≡ i
   pub here : fields ≡ padded pre
   pub whole : fieldsAt count s from ≡ after pre (fieldsAt (count - i) s p)
 
 module _ {s : List ℕ} {count from : ℕ} where
-  pub going-start : {fields : List Field} → Inside s from → fields ≡ padded [] → Going s count from fields from 0
+  pub going-start : {fields : List Field} → InPacket s from → fields ≡ padded [] → Going s count from fields from 0
   going-start inside here =
       record {
         few = omega arith;

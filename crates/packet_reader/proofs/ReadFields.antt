@@ -12,7 +12,7 @@ use Rattle.lengths.specs.declared.Refusal.{Refusal}
 use Rattle.formats.specs.Places.{Place}
 use Rattle.datagrams.specs.Sizes.{packetLimit}
 use Rattle.packets.specs.Inner.Octets.{headerAt, sizeAt, afterHeader, fieldAt}
-use Rattle.packet_reader.specs.Items.{Inside, EdgeTold, edgeOutcome, HeaderTold, headerOutcome, SizeTold, sizeOutcome, DataTold}
+use Rattle.packet_reader.specs.Items.{InPacket, EdgeTold, edgeOutcome, HeaderTold, headerOutcome, SizeTold, sizeOutcome, DataTold}
 use Rattle.packet_reader.specs.Items.{FieldTold}
 use Rattle.packet_reader.proofs.ReadPlaces.{edge-is, edge-within}
 use Rattle.packet_reader.specs.declared.places.EdgeRead.{EdgeRead}
@@ -44,18 +44,18 @@ module _ {s : List ℕ} {p : Place} {e : EdgeRead} (told : EdgeTold s p e) where
       data-read = record { answer = rw (edge-is told is, size-is s at sized sizeIs) }
 
       -- it ends inside the octets, so that the sums fit
-      data-ends : Inside s p → at + 2 + m ≤ packetLimit
+      data-ends : InPacket s p → at + 2 + m ≤ packetLimit
       data-ends inside =
           let f = size-form (drop at s) m (size-is s at sized sizeIs) in
           omega (arith, f .inside, length-drop at s, edge-within told is inside, inside .few)
 
-      pub start-fits : Inside s p → at + 2 < 2 ^ 64
+      pub start-fits : InPacket s p → at + 2 < 2 ^ 64
       start-fits inside = omega (arith, data-ends inside)
 
-      pub end-fits : Inside s p → at + 2 + m < 2 ^ 64
+      pub end-fits : InPacket s p → at + 2 + m < 2 ^ 64
       end-fits inside = omega (arith, data-ends inside)
 
-      pub next-fits : Inside s p → 8 * (at + 2 + m) < 2 ^ 64
+      pub next-fits : InPacket s p → 8 * (at + 2 + m) < 2 ^ 64
       next-fits inside = omega (arith, data-ends inside)
 
 pub ruleset datas = (edge-within, data-spare, data-cut, data-read, start-fits, end-fits, next-fits)
@@ -70,7 +70,7 @@ module _ {s : List ℕ} {p : Place} {r : HeaderRead} (told : HeaderTold s p r) w
     header-is : headerAt s p ≡ done (record { header = record { kind = k; present = b }; next = n })
     header-is = sym (told .answer) ∙ ap headerOutcome is
 
-    pub header-inside : Inside s p → Inside s n
+    pub header-inside : InPacket s p → InPacket s n
     header-inside inside =
         let f = header-form s p _ header-is in
         record { few = inside .few; here = omega (arith, f .inside, f .next) }

@@ -16,7 +16,7 @@ use Rattle.packets.specs.Packet.{fieldsLimit, PacketAnswer, mayFollow}
 use Rattle.formats.specs.Places.{Place, edgeAt}
 use Rattle.packets.specs.Inner.Octets.{firstAt, countAt, FieldsAnswer, fieldsAt, endAt, packetByOctets}
 use Rattle.packets.specs.Promise.{PacketTold, packetOutcome, packetRead, padded}
-use Rattle.packet_reader.specs.Items.{Inside, EdgeTold, edgeOutcome, FirstTold, CountTold, FieldsTold, EndTold, firstOutcome}
+use Rattle.packet_reader.specs.Items.{InPacket, EdgeTold, edgeOutcome, FirstTold, CountTold, FieldsTold, EndTold, firstOutcome}
 use Rattle.packet_reader.specs.Items.{countOutcome, fieldsRead, endOutcome}
 use Rattle.packets.specs.declared.types.Field.{Field}
 use Rattle.packets.specs.declared.types.Kind.{Kind}
@@ -53,7 +53,7 @@ module _ {s : List ℕ} where
     count-few told is = count-limit s p _ (count-is told is)
 
     pub count-inside : {f : FirstRead} {k : Kind} {v : ℕ} {c : CountRead} {n from : ℕ} → length s ≤ packetLimit → FirstTold s f
-        → f ≡ first.First k v p → CountTold s p c → c ≡ count.Count n from → Inside s from
+        → f ≡ first.First k v p → CountTold s p c → c ≡ count.Count n from → InPacket s from
     count-inside fits told is counted countIs =
         record { few = fits; here = count-within s p _ (first-some told is) (count-is counted countIs) }
 
@@ -95,8 +95,8 @@ abbrev answered : Kind → ℕ → ℕ → List Field → PacketRead
 answered k v n fields = record { reading = reading.Packet k v n; fields = fields }
 
 -- fields that read end inside the octets
-pub packet-inside : {s : List ℕ} {n from m : ℕ} {all : FieldsRead} → Inside s from → FieldsTold n s from all → all .end ≡ end.Next m
-    → Inside s m
+pub packet-inside : {s : List ℕ} {n from m : ℕ} {all : FieldsRead} → InPacket s from → FieldsTold n s from all → all .end ≡ end.Next m
+    → InPacket s m
 packet-inside {s} {n} {from} {m} {all} inside read ends =
     let a = all-read n s from m all read ends in
     record { few = inside .few; here = fields-inside n s from _ (inside .here) (a .was) .next }

@@ -13,7 +13,7 @@ use Rattle.lengths.specs.Promise.{Octet, RefusalMade}
 use Rattle.lengths.specs.declared.Refusal.{Refusal}
 use Rattle.packets.proofs.Laws.{edge-inside}
 use Rattle.formats.specs.Places.{Place, edgeAt}
-use Rattle.packet_reader.specs.Items.{Inside, Power, OctetAt, BitsTold, EdgeTold, edgeOutcome}
+use Rattle.packet_reader.specs.Items.{InPacket, Power, OctetAt, BitsTold, EdgeTold, edgeOutcome}
 use Rattle.packet_reader.specs.declared.places.EdgeRead.{EdgeRead}
 use Rattle.packet_reader.specs.declared.places.EdgeRead.the-variants as edge
 
@@ -53,7 +53,7 @@ module _ {s : List ℕ} {p : Place} {r : EdgeRead} {at : ℕ} (told : EdgeTold s
   pub edge-is : edgeAt s p ≡ done at
   edge-is = sym (told .answer) ∙ ap edgeOutcome is
 
-  pub edge-within : Inside s p → at ≤ length s
+  pub edge-within : InPacket s p → at ≤ length s
   edge-within inside = edge-inside s p at (inside .here) edge-is
 
 pub ruleset places = (power-told, octet-some, octet-none, bits-told, edge-set, edge-told)

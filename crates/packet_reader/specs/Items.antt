@@ -32,7 +32,7 @@ use Rattle.packet_reader.specs.declared.reader.EndRead.the-variants as e
 
 -- ---- places
 -- a place inside the octets of a packet, or at their end
-pub record Inside (s : List ℕ) (p : Place) : Type 0 where
+pub record InPacket (s : List ℕ) (p : Place) : Type 0 where
   pub few : length s ≤ packetLimit
   pub here : p ≤ 8 * length s
 

@@ -14,7 +14,7 @@ ghost use mathlib.Core.Path.{_≡_};
 ghost use Prim.Native.Nat.{_≤_};
 ghost use lib.ListN.{length};
 ghost use Rattle.packets.specs.Inner.Octets.{kindOf};
-ghost use Rattle.packet_reader.specs.Items.{Inside, FirstTold, CountTold, HeaderTold, SizeTold, DataTold, FieldTold};
+ghost use Rattle.packet_reader.specs.Items.{InPacket, FirstTold, CountTold, HeaderTold, SizeTold, DataTold, FieldTold};
 
 // What the first octet says.
 pub enum FirstRead {
@@ -104,7 +104,7 @@ pub fn read_count(s: &[u8], present: bool) -> CountRead
 
 // The field header at a place.
 fn read_header(s: &[u8], p: usize) -> HeaderRead
-    requires { ⌜ Inside (now s) p ⌝ }
+    requires { ⌜ InPacket (now s) p ⌝ }
     ensures { λ r. ⌜ HeaderTold (now (s .entry)) p r ⌝ }
 {
     let all = 8 * s.len();
@@ -142,7 +142,7 @@ fn read_size(s: &[u8]) -> SizeRead
 
 // What follows a header with data: an octet edge, the data's length and the data.
 fn read_data(s: &[u8], kind: u8, p: usize) -> FieldRead
-    requires { ⌜ Inside (now s) p ⌝ }
+    requires { ⌜ InPacket (now s) p ⌝ }
     ensures { λ r. ⌜ DataTold (now (s .entry)) kind p r ⌝ }
 {
     match read_edge(s, p) {
@@ -161,7 +161,7 @@ fn read_data(s: &[u8], kind: u8, p: usize) -> FieldRead
 
 // The field at a place: its header, and what follows it.
 pub fn read_field(s: &[u8], p: usize) -> FieldRead
-    requires { ⌜ Inside (now s) p ⌝ }
+    requires { ⌜ InPacket (now s) p ⌝ }
     ensures { λ r. ⌜ FieldTold (now (s .entry)) p r ⌝ }
 {
     match read_header(s, p) {

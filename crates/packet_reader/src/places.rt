@@ -4,7 +4,7 @@
 use lengths::Refusal;
 use lengths::wide;
 ghost use Prim.Native.Nat.{_≤_};
-ghost use Rattle.packet_reader.specs.Items.{Inside, Power, OctetAt, BitsTold, EdgeTold};
+ghost use Rattle.packet_reader.specs.Items.{InPacket, Power, OctetAt, BitsTold, EdgeTold};
 
 // How many octets there are up to an octet edge.
 pub enum EdgeRead {
@@ -48,7 +48,7 @@ pub fn bits(s: &[u8], n: usize, p: usize) -> usize
 
 // To an octet edge, by zero bits.
 pub fn read_edge(s: &[u8], p: usize) -> EdgeRead
-    requires { ⌜ Inside (now s) p ⌝ }
+    requires { ⌜ InPacket (now s) p ⌝ }
     ensures { λ r. ⌜ EdgeTold (now (s .entry)) p r ⌝ }
 {
     let octet = octet_at(s, p / 8);

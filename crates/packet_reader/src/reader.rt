@@ -18,7 +18,7 @@ ghost use mathlib.Core.Path.{_≡_};
 ghost use Prim.Native.Nat.{_≤_};
 ghost use mathlib.Core.List.{[]};
 ghost use Rattle.packets.specs.Packet.{fieldsLimit, allZero, mayFollow};
-ghost use Rattle.packet_reader.specs.Items.{Inside, FieldsTold, EndTold};
+ghost use Rattle.packet_reader.specs.Items.{InPacket, FieldsTold, EndTold};
 ghost use Rattle.packets.specs.Promise.{PacketTold, packetRead, padded};
 ghost use Rattle.lengths.specs.Answers as answers;
 
@@ -54,7 +54,7 @@ pub fn no_fields() -> [Field; Field::LIMIT]
 // So many fields, the first of which begins at `from`.
 fn read_fields(s: &[u8], count: usize, from: usize) -> FieldsRead
     requires { ⌜ count ≤ fieldsLimit ⌝ }
-    requires { ⌜ Inside (now s) from ⌝ }
+    requires { ⌜ InPacket (now s) from ⌝ }
     ensures { λ r. ⌜ FieldsTold count (now (s .entry)) from r ⌝ }
 {
     let mut fields = no_fields();
@@ -108,7 +108,7 @@ pub fn may_follow(left: &[u8], ending: Ending) -> bool
 
 // The end of a packet: an octet edge, and after it only what may follow.
 fn read_end(s: &[u8], p: usize, ending: Ending) -> EndRead
-    requires { ⌜ Inside (now s) p ⌝ }
+    requires { ⌜ InPacket (now s) p ⌝ }
     ensures { λ r. ⌜ EndTold ending (now (s .entry)) p r ⌝ }
 {
     match read_edge(s, p) {

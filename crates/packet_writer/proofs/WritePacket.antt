@@ -21,7 +21,7 @@ use Rattle.lengths.proofs.Laws.{put-none, put-one, put-next, put-long, put-puts
 use Rattle.packets.specs.Write.{packetToWrite}
 use Rattle.formats.specs.Waiting.{noneWait}
 use Rattle.packets.specs.Inner.Laid.{firstOctet, fieldsOctets, laidOctets}
-use Rattle.packets.specs.Inner.Items.{FieldsFit, CountedFit, countedOctets, PacketFits, Measured}
+use Rattle.packets.specs.Inner.Items.{FieldsFit, CountedFit, countedFields, PacketFits, Measured}
 use Rattle.packets.specs.declared.types.Kind.{Kind}
 use Rattle.packets.proofs.Laws.{rest, write-form, assigned-few, packet-bare, packet-full}
 
@@ -38,7 +38,7 @@ module _ {ts ns d old mid : List ℕ} {r : Written} (fits : CountedFit ts ns d o
       = le-leb (length w) (length old) (omega (arith, fits .room, length-append w (fieldsOctets noneWait ts ns d))) in
       (rw (small, room) at (puts .answer), rw (small, room) at (puts .lent))
 
-  pub count-never : {x : Refusal} → r ≡ written.Refused x → Put (countedOctets ts ns d) old mid 0
+  pub count-never : {x : Refusal} → r ≡ written.Refused x → Put (countedFields ts ns d) old mid 0
   count-never is =
       let z : _≡_ {A = ℕ} 0 1 = cc (count-written .0, ap writtenOutcome is) in
       absurd (omega arith)
@@ -72,7 +72,7 @@ module _ {ts ns d old mid : List ℕ} {r : Written} (fits : CountedFit ts ns d o
         }
 
     module _ {part : List ℕ} {n : ℕ} (put : Put (fieldsOctets noneWait ts ns d) (rest at mid) part n) where
-      pub count-put : Put (countedOctets ts ns d) old (putMid at (length mid - at) mid part) (at + n)
+      pub count-put : Put (countedFields ts ns d) old (putMid at (length mid - at) mid part) (at + n)
       count-put = put-next count-is put
 
 pub ruleset counteds = (count-never, count-inside, count-fits, count-put)
@@ -107,13 +107,13 @@ module _ {k : Kind} {v : ℕ} {ts ns d old : List ℕ} where
           few = form .few;
           right = record { same = form .same; all = form .all; known = form .types; short = form .short };
           room =
-              room-left (set old 0 r) 1 (length (countedOctets ts ns d))
+              room-left (set old 0 r) 1 (length (countedFields ts ns d))
               (omega (arith, length-set old 0 r, fits .room, ap length (packet-full k v ts ns d (not-false _ some))));
         }
 
     module _ {part : List ℕ} {n : ℕ} where
       pub packet-next : PacketFits k v ts ns d old → not (ltb 0 (length ts)) ≡ false
-          → Put (countedOctets ts ns d) (rest 1 (set old 0 r)) part n
+          → Put (countedFields ts ns d) (rest 1 (set old 0 r)) part n
           → 1 + n < 2 ^ 64
       packet-next fits some put =
           let short = write-form k v ts ns d _ (fits .allowed) .size in
@@ -121,11 +121,11 @@ module _ {k : Kind} {v : ℕ} {ts ns d old : List ℕ} where
 
       pub packet-put : PacketFits k v ts ns d old
           → r ≡ firstOctet (record { kind = k; value = v; present = ltb 0 (length ts) })
-          → not (ltb 0 (length ts)) ≡ false → Put (countedOctets ts ns d) (rest 1 (set old 0 r)) part n
+          → not (ltb 0 (length ts)) ≡ false → Put (countedFields ts ns d) (rest 1 (set old 0 r)) part n
           → Put (laidOctets k v ts ns d) old (putMid 1 (length (set old 0 r) - 1) (set old 0 r) part) (1 + n)
       packet-put fits is some put =
-          let same : r ∷ countedOctets ts ns d ≡ laidOctets k v ts ns d
-          = ap (λ (a : ℕ). a ∷ countedOctets ts ns d) is ∙ sym (packet-full k v ts ns d (not-false _ some)) in
+          let same : r ∷ countedFields ts ns d ≡ laidOctets k v ts ns d
+          = ap (λ (a : ℕ). a ∷ countedFields ts ns d) is ∙ sym (packet-full k v ts ns d (not-false _ some)) in
           subst (λ (l : List ℕ). Put l old (putMid 1 (length (set old 0 r) - 1) (set old 0 r) part) (1 + n)) same
           (put-next (first-put fits) put)
 

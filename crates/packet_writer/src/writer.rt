@@ -16,7 +16,7 @@ ghost use Rattle.packets.specs.Packet.{typesLimit};
 ghost use Rattle.packets.specs.Write.{packetToWrite};
 ghost use Rattle.packets.specs.Inner.Laid.{ofFlag, ofKind, firstOctet, headerBits, sizeOctets, fieldsOctets, laidOctets};
 ghost use Rattle.packets.specs.Inner.Items.{BitsFit, BitsPut, EdgeFits, DataFits, FieldFits, FieldPut, FieldsFit, CountedFit};
-ghost use Rattle.packets.specs.Inner.Items.{countedOctets, Mark, PacketFits};
+ghost use Rattle.packets.specs.Inner.Items.{countedFields, Mark, PacketFits};
 
 // How many octets were filled, and what waits then.
 struct Filled {
@@ -100,7 +100,8 @@ fn header_bits(kind: u8, present: bool) -> usize
 // A field after the bits that wait.
 fn put_field(kind: u8, data: &[u8], width: usize, value: usize, out: &mut [u8]) -> Filled
     requires { ⌜ FieldFits (waiting width value) kind (now «data») (now out) ⌝ }
-    ensures { λ r. ⌜ FieldPut (waiting width value) kind (now («data» .entry)) (now (out .entry)) (now (out .exit)) (r .octets) (r .width) (r .value) ⌝ }
+    ensures { λ r. ⌜ FieldPut (waiting width value) kind (now («data» .entry)) (now (out .entry)) (now (out .exit)) (r .octets)
+        (r .width) (r .value) ⌝ }
 {
     if data.len() < 1 {
         return put_bits(width, value, 4, header_bits(kind, false), out);
@@ -119,7 +120,8 @@ fn put_field(kind: u8, data: &[u8], width: usize, value: usize, out: &mut [u8]) 
 // As many fields as there are types at the front of out, the data of each the next part of data, and how many octets they took.
 fn put_fields(types: &[u8], lengths: &[u16], data: &[u8], out: &mut [u8]) -> usize
     requires { ⌜ FieldsFit (now types) (now lengths) (now «data») (now out) ⌝ }
-    ensures { λ r. ⌜ Put (fieldsOctets noneWait (now (types .entry)) (now (lengths .entry)) (now («data» .entry))) (now (out .entry)) (now (out .exit)) r ⌝ }
+    ensures { λ r. ⌜ Put (fieldsOctets noneWait (now (types .entry)) (now (lengths .entry)) (now («data» .entry)))
+        (now (out .entry)) (now (out .exit)) r ⌝ }
 {
     let mut i: usize = 0;
     let mut from: usize = 0;
@@ -143,7 +145,8 @@ fn put_fields(types: &[u8], lengths: &[u16], data: &[u8], out: &mut [u8]) -> usi
 // The count of fields and the fields at the front of out, and how many octets they took.
 fn put_counted(types: &[u8], lengths: &[u16], data: &[u8], out: &mut [u8]) -> usize
     requires { ⌜ CountedFit (now types) (now lengths) (now «data») (now out) ⌝ }
-    ensures { λ r. ⌜ Put (countedOctets (now (types .entry)) (now (lengths .entry)) (now («data» .entry))) (now (out .entry)) (now (out .exit)) r ⌝ }
+    ensures { λ r. ⌜ Put (countedFields (now (types .entry)) (now (lengths .entry)) (now («data» .entry)))
+        (now (out .entry)) (now (out .exit)) r ⌝ }
 {
     let count = lengths::write(types.len(), &mut *out);
     // at most 16 fields, and room for their count: it is never refused
@@ -194,7 +197,8 @@ fn put_packet(
     out: &mut [u8],
 ) -> usize
     requires { ⌜ PacketFits kind value (now types) (now lengths) (now «data») (now out) ⌝ }
-    ensures { λ r. ⌜ Put (laidOctets kind value (now (types .entry)) (now (lengths .entry)) (now («data» .entry))) (now (out .entry)) (now (out .exit)) r ⌝ }
+    ensures { λ r. ⌜ Put (laidOctets kind value (now (types .entry)) (now (lengths .entry)) (now («data» .entry)))
+        (now (out .entry)) (now (out .exit)) r ⌝ }
 {
     let present = 0 < types.len();
     out[0] = first_octet(kind, value, present);
@@ -213,7 +217,8 @@ pub fn write(
     data: &[u8],
     out: &mut [u8],
 ) -> Written
-    ensures { λ r. ⌜ Puts (packetToWrite kind value (now (types .entry)) (now (lengths .entry)) (now («data» .entry))) (now (out .entry)) (now (out .exit)) r ⌝ }
+    ensures { λ r. ⌜ Puts (packetToWrite kind value (now (types .entry)) (now (lengths .entry)) (now («data» .entry)))
+        (now (out .entry)) (now (out .exit)) r ⌝ }
 {
     match measure(kind, value, types, lengths, data) {
         Written::Refused(refusal) => Written::Refused(refusal),

@@ -24,7 +24,7 @@ use Rattle.packets.specs.Write.{packetToWrite}
 use Rattle.packets.specs.Claims.{ownSize, NeverLonger}
 use Rattle.packets.specs.Inner.Laid.{firstOctet, sizeOctets, withHeader, fieldOctets, afterField, fieldsOctets, laidOctets}
 use Rattle.packets.specs.Inner.Laid.{pastField, pastFields, packetSize}
-use Rattle.packets.specs.Inner.Items.{countedOctets}
+use Rattle.packets.specs.Inner.Items.{countedFields}
 use Rattle.packets.specs.declared.types.Kind.{Kind}
 use Rattle.packets.specs.declared.types.Kind.the-variants.{Indicator, Data}
 use Rattle.packets.proofs.FieldLaid.{after-waits, after-at, field-long}
@@ -111,13 +111,13 @@ pub packet-bare : (k : Kind) (v : ℕ) (ts ns d : List ℕ) → ltb 0 (length ts
     → laidOctets k v ts ns d ≡ firstOctet (record { kind = k; value = v; present = ltb 0 (length ts) }) ∷ []
 unfolding laidOctets
 packet-bare k v ts ns d none = ap
-    (λ (b : Bool). firstOctet (record { kind = k; value = v; present = ltb 0 (length ts) }) ∷ cond b (countedOctets ts ns d) []) none
+    (λ (b : Bool). firstOctet (record { kind = k; value = v; present = ltb 0 (length ts) }) ∷ cond b (countedFields ts ns d) []) none
 
 pub packet-full : (k : Kind) (v : ℕ) (ts ns d : List ℕ) → ltb 0 (length ts) ≡ true
-    → laidOctets k v ts ns d ≡ firstOctet (record { kind = k; value = v; present = ltb 0 (length ts) }) ∷ countedOctets ts ns d
+    → laidOctets k v ts ns d ≡ firstOctet (record { kind = k; value = v; present = ltb 0 (length ts) }) ∷ countedFields ts ns d
 unfolding laidOctets
 packet-full k v ts ns d some = ap
-    (λ (b : Bool). firstOctet (record { kind = k; value = v; present = ltb 0 (length ts) }) ∷ cond b (countedOctets ts ns d) []) some
+    (λ (b : Bool). firstOctet (record { kind = k; value = v; present = ltb 0 (length ts) }) ∷ cond b (countedFields ts ns d) []) some
 
 -- ---- a packet that is written
 pub record WriteForm (k : Kind) (v : ℕ) (ts ns d w : List ℕ) : Type 0 where

@@ -16,14 +16,14 @@ ghost use lib.ListN.{length};
 ghost use Rattle.datagrams.specs.Sizes.{packetLimit, messagesLimit};
 ghost use Rattle.views.specs.Cells.{keptAhead};
 ghost use Rattle.views.specs.Repair.{usable};
-ghost use Rattle.held.specs.Slots.{packetOctets};
+ghost use Rattle.held.specs.Slots.{keptOctets};
 ghost use Rattle.held.specs.Table.{places, cellsOf};
 ghost use Rattle.repairing.specs.Back.{Summed};
 ghost use Rattle.repairing.specs.Promise.{MendedOctets, Points, MayMend, Fills, Mends, messageHeld, mAt, messageSizeAt};
 
 // The octets of the n numbers x - m, x - 2m, .., added to sum: as many of each as sum has.
 fn add_members(o: &[u8], x: u16, n: usize, m: u16, sum: &mut [u8])
-    requires { ⌜ length (now o) ≡ packetOctets ⌝ }
+    requires { ⌜ length (now o) ≡ keptOctets ⌝ }
     requires { ⌜ length (now sum) ≤ packetLimit ⌝ }
     ensures { λ _. ⌜ Summed (now (o .entry)) x n m (now (sum .entry)) (now (sum .exit)) ⌝ }
 {

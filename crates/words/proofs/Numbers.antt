@@ -8,7 +8,7 @@ use lib.Bits.{bitXor, xor-block}
 use native.Mathlib.Nat.{zero-add, add-zero, suc-add, one-mul, mul-assoc, pow-succ'}
 use native.Mathlib.Omega.{arith}
 use Rattle.octets.proofs.Laws.{same-or-not}
-use Rattle.words.specs.Words.{wordOf, Octets}
+use Rattle.words.specs.Words.{wordOf, OctetsAt}
 
 -- ---- a word made of two: the low one, then the high one
 spread : (g a b : ℕ) → g + 256 * (a + b) ≡ g + 256 * a + 256 * b
@@ -43,7 +43,7 @@ word-same (suc n) s t at same =
 digits : (x y v w : ℕ) → x < 256 → y < 256 → x + 256 * v ≡ y + 256 * w → (x ≡ y) × (v ≡ w)
 digits x y v w hx hy e = (omega arith, omega arith)
 
-pub octets-same : (n : ℕ) (s t : List ℕ) (at : ℕ) → Octets n s at → Octets n t at → wordOf n s at ≡ wordOf n t at → (j : ℕ) → at ≤ j
+pub octets-same : (n : ℕ) (s t : List ℕ) (at : ℕ) → OctetsAt n s at → OctetsAt n t at → wordOf n s at ≡ wordOf n t at → (j : ℕ) → at ≤ j
     → j < at + n → getD s j 0 ≡ getD t j 0
 unfolding wordOf
 octets-same zero s t at os ot e j from to = absurd (omega arith)
@@ -64,7 +64,7 @@ xor-octets x y v w hx hy =
     turned : (a b : ℕ) → a + 256 * b ≡ b * 256 + a
     turned a b = omega arith
 
-pub word-xor : (n : ℕ) (s t r : List ℕ) (at : ℕ) → Octets n s at → Octets n t at
+pub word-xor : (n : ℕ) (s t r : List ℕ) (at : ℕ) → OctetsAt n s at → OctetsAt n t at
     → ((j : ℕ) → at ≤ j → j < at + n → getD r j 0 ≡ bitXor (getD s j 0) (getD t j 0))
     → wordOf n r at ≡ bitXor (wordOf n s at) (wordOf n t at)
 unfolding wordOf

@@ -10,7 +10,7 @@ use lib.Bits.{bitXor, xor-lt}
 use native.Mathlib.Nat.{add-comm, mul-comm}
 use native.Mathlib.Omega.{arith}
 use Rattle.octets.proofs.Laws.{below-or-not, same-or-not}
-use Rattle.words.specs.Words.{wordOf, Octets, Reads, Spells, both, Adds}
+use Rattle.words.specs.Words.{wordOf, OctetsAt, Reads, Spells, both, AddsTo}
 use Rattle.words.proofs.Numbers.{word-more, word-same, octets-same, word-xor}
 use Rattle.words.proofs.Laws.{length-both, both-at}
 
@@ -97,8 +97,8 @@ module _ {old mid new : List ℕ} {at : ℕ} (w : ℕ) where
 
 -- ---- what is added so far
 -- a word more
-adds-word : {src start sum new : List ℕ} {at a b : ℕ} → Adds src start sum at → at + 8 ≤ length sum → Reads 8 sum at a → Reads 8 src at b
-    → Spells 8 (bitXor a b) sum at new → Adds src start new (at + 8)
+adds-word : {src start sum new : List ℕ} {at a b : ℕ} → AddsTo src start sum at → at + 8 ≤ length sum → Reads 8 sum at a → Reads 8 src at b
+    → Spells 8 (bitXor a b) sum at new → AddsTo src start new (at + 8)
 adds-word {src} {start} {sum} {new} {at} {a} {b} s room ra rb w =
     record {
       added =
@@ -114,7 +114,7 @@ adds-word {src} {start} {sum} {new} {at} {a} {b} s room ra rb w =
     each : (j : ℕ) → at ≤ j → j < at + 8 → getD (both src sum) j 0 ≡ bitXor (getD sum j 0) (getD src j 0)
     each j from to = both-at src sum j (omega arith)
 
-    octets : Octets 8 (both src sum) at
+    octets : OctetsAt 8 (both src sum) at
     octets j from to = rw (each j from to) (xor-lt 8 (getD sum j 0) (getD src j 0) (ra .octets j from to) (rb .octets j from to))
 
     word : (j : ℕ) → at ≤ j → j < at + 8 → getD new j 0 ≡ bitXor (getD sum j 0) (getD src j 0)
@@ -125,8 +125,8 @@ adds-word {src} {start} {sum} {new} {at} {a} {b} s room ra rb w =
         ∙ each j from to
 
 -- an octet more
-adds-octet : {src start sum : List ℕ} {at : ℕ} → Adds src start sum at → at < length sum
-    → Adds src start (set sum at (bitXor (getD sum at 0) (getD src at 0))) (at + 1)
+adds-octet : {src start sum : List ℕ} {at : ℕ} → AddsTo src start sum at → at < length sum
+    → AddsTo src start (set sum at (bitXor (getD sum at 0) (getD src at 0))) (at + 1)
 adds-octet {src} {start} {sum} {at} s inside =
     record {
       added =
@@ -142,7 +142,7 @@ adds-octet {src} {start} {sum} {at} s inside =
       long = length-set sum at _ ∙ s .long;
     }
 
-adds-all : {src start sum : List ℕ} {k : ℕ} → Adds src start sum k → length start ≤ k → sum ≡ both src start
+adds-all : {src start sum : List ℕ} {k : ℕ} → AddsTo src start sum k → length start ≤ k → sum ≡ both src start
 adds-all {src} {start} {sum} {k} s all =
     ext-getD 0 sum (both src start) (s .long ∙ sym (length-both src start))
     (λ j below.
@@ -151,7 +151,7 @@ adds-all {src} {start} {sum} {k} s all =
 
 -- ---- the loop over words
 pub record Wording (src start sum : List ℕ) (k : ℕ) : Type 0 where
-  pub adds : Adds src start sum (k * 8)
+  pub adds : AddsTo src start sum (k * 8)
   pub few : k ≤ length src / 8
   pub long : length sum ≡ length src
 
@@ -173,14 +173,15 @@ wording-turn {src} {start} {sum} {new} {k} s more ra rb w =
       long = w .long ∙ s .long;
     }
 
-pub wording-done : {src start sum : List ℕ} {k : ℕ} → Wording src start sum k → length src / 8 ≤ k → Adds src start sum (length src / 8 * 8)
+pub wording-done : {src start sum : List ℕ} {k : ℕ} → Wording src start sum k → length src / 8 ≤ k
+    → AddsTo src start sum (length src / 8 * 8)
 wording-done {src} {start} {sum} {k} s done =
     let all : k ≡ length src / 8 = omega (arith, s .few) in
     rw all at (s .adds)
 
 -- ---- the loop over the tail: what the words left goes on
 pub record Finishing (src words sum : List ℕ) (from tail t : ℕ) : Type 0 where
-  pub adds : (start : List ℕ) → Adds src start words from → Adds src start sum (from + t)
+  pub adds : (start : List ℕ) → AddsTo src start words from → AddsTo src start sum (from + t)
   pub few : t ≤ tail
   pub long : length sum ≡ length words
   pub room : from + tail ≤ length words
@@ -202,7 +203,7 @@ finishing-turn {src} {words} {sum} {from} {tail} {t} s more =
     }
 
 pub finishing-done : {src start words sum : List ℕ} {t : ℕ} → Finishing src words sum (length src - length src % 8) (length src % 8) t
-    → length src % 8 ≤ t → Adds src start words (length src / 8 * 8) → length src ≡ length start → sum ≡ both src start
+    → length src % 8 ≤ t → AddsTo src start words (length src / 8 * 8) → length src ≡ length start → sum ≡ both src start
 finishing-done {src} {start} s done w same =
     let e : length src / 8 * 8 ≡ length src - length src % 8 = omega arith in
     adds-all (s .adds start (rw e at w)) (omega (arith, s .few))

@@ -4,7 +4,7 @@
 ghost use mathlib.Core.Path.{_≡_};
 ghost use Prim.Native.Nat.{_+_, _*_, _/_, _≤_, _<_};
 ghost use lib.ListN.{length};
-ghost use Rattle.words.specs.Words.{Reads, Spells, Adds, both};
+ghost use Rattle.words.specs.Words.{Reads, Spells, AddsTo, both};
 
 // ---- one octet, two, four or eight from a place on, as one number: the first is the lowest
 
@@ -84,7 +84,7 @@ fn put_eight(s: &mut [u8], at: usize, w: u64)
 // As far as whole words go.
 fn add_words(src: &[u8], sum: &mut [u8])
     requires { ⌜ length (now src) ≡ length (now sum) ⌝ }
-    ensures { λ _. ⌜ Adds (now (src .entry)) (now (sum .entry)) (now (sum .exit)) (length (now (src .entry)) / 8 * 8) ⌝ }
+    ensures { λ _. ⌜ AddsTo (now (src .entry)) (now (sum .entry)) (now (sum .exit)) (length (now (src .entry)) / 8 * 8) ⌝ }
 {
     let whole = src.len() / 8;
     let mut k = 0;

@@ -83,13 +83,13 @@ pub record FieldsFit (types lengths octets old : List ℕ) : Type 0 where
   pub room : length (fieldsOctets noneWait types lengths octets) ≤ length old
 
 -- the count of fields, then the fields
-abbrev pub countedOctets : List ℕ → List ℕ → List ℕ → List ℕ
-countedOctets types lengths octets = lengthOctets (length types) ++ fieldsOctets noneWait types lengths octets
+abbrev pub countedFields : List ℕ → List ℕ → List ℕ → List ℕ
+countedFields types lengths octets = lengthOctets (length types) ++ fieldsOctets noneWait types lengths octets
 
 pub record CountedFit (types lengths octets old : List ℕ) : Type 0 where
   pub few : length types ≤ fieldsLimit
   pub right : FieldsRight types lengths octets
-  pub room : length (countedOctets types lengths octets) ≤ length old
+  pub room : length (countedFields types lengths octets) ≤ length old
 
 -- a bit of the first octet, at its weight
 pub record Mark (mark limit r : ℕ) : Type 0 where

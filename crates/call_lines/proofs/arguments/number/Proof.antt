@@ -1,4 +1,5 @@
--- `call_lines::arguments::number` is safe and ends. The octets left are the measure, and nothing has to hold from turn to turn. Assumes nothing.
+-- `call_lines::arguments::number` is safe and ends. The octets left are the measure, and nothing has to hold from turn to turn. Assumes
+-- nothing.
 use borrow.Author.Needs.{needs}
 use Rattle.call_lines.proofs.arguments.number.Statement.{statement}
 use Rattle.call_lines.proofs.arguments.number.Tie as tie

@@ -1,4 +1,5 @@
--- `call_lines::items::say_items` is safe and ends. The places left are the measure, and nothing has to hold from turn to turn. Assumes nothing.
+-- `call_lines::items::say_items` is safe and ends. The places left are the measure, and nothing has to hold from turn to turn. Assumes
+-- nothing.
 use Prim.Native.Nat.{_-_}
 use borrow.Author.Needs.{needs}
 use Rattle.call_lines.proofs.items.say_items.Statement.{statement}

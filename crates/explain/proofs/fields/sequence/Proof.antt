@@ -1,4 +1,5 @@
--- `explain::fields::sequence` is safe and ends. The fields left are the measure, and nothing has to hold from turn to turn. Assumes nothing.
+-- `explain::fields::sequence` is safe and ends. The fields left are the measure, and nothing has to hold from turn to turn. Assumes
+-- nothing.
 use Prim.Native.Nat.{_-_}
 use borrow.Author.Needs.{needs}
 use Rattle.explain.proofs.fields.sequence.Statement.{statement}

@@ -1,4 +1,5 @@
--- `explain::last::all_fields` is safe and ends. The places left are the measure, and nothing has to hold from turn to turn. Assumes nothing.
+-- `explain::last::all_fields` is safe and ends. The places left are the measure, and nothing has to hold from turn to turn. Assumes
+-- nothing.
 use Prim.Native.Nat.{_-_}
 use borrow.Author.Needs.{needs}
 use Rattle.explain.proofs.last.all_fields.Statement.{statement}

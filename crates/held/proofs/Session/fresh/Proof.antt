@@ -3,7 +3,7 @@ use Prim.Native.Nat.{ℕ}
 use mathlib.Core.Path.{refl}
 use lib.ListN.{length-replicate}
 use borrow.Author.Needs.{needs}
-use Rattle.held.specs.Slots.{packetOctets, messageOctets}
+use Rattle.held.specs.Slots.{keptOctets, messageOctets}
 use Rattle.held.proofs.FreshSession.{fresh-made, replicate-at}
 use Rattle.held.proofs.Session.fresh.Statement.{statement}
 use Rattle.held.proofs.Session.fresh.Tie as tie
@@ -18,9 +18,9 @@ returns c =
       base = refl;
       counts = refl;
       table = c .fresh-table .ensures;
-      octets = λ k. replicate-at packetOctets 0 k;
+      octets = λ k. replicate-at keptOctets 0 k;
       messages = λ k. replicate-at messageOctets 0 k;
-      packetsLong = length-replicate {A = ℕ} packetOctets 0;
+      packetsLong = length-replicate {A = ℕ} keptOctets 0;
       messagesLong = length-replicate {A = ℕ} messageOctets 0;
     })
 
