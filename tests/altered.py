@@ -44,7 +44,7 @@ def spares_released(kind, result):
 
 def repeated_done(call, answer):
     """11 does not refuse with 7."""
-    return b'00' if call == b'11' and answer == b'FF07' else answer
+    return b'00' if call == b'11' and answer == b'FF070000' else answer
 
 
 def frames_bad(call, answer):

@@ -23,7 +23,7 @@ LINES = 400
 READERS = 5, 7
 KINDS = {'ind': INDICATOR, 'dat': DATA_PACKET}
 NOT_DECODED = (b'FF01', b'FF03', b'FF04', b'FF05', b'FF0C', b'FF0E')
-LEFT_OVER, OTHER_OCTETS, NO_COUNT, UNLAWFUL = (b'FF06',), (b'FF05',), (b'FF03', b'FF04'), (b'FF0E',)
+OTHER_OCTETS, NO_COUNT, UNLAWFUL = (b'FF05',), (b'FF03', b'FF04'), (b'FF0E',)
 
 
 class Decoded(NamedTuple):
@@ -57,12 +57,13 @@ def lawful(said):
 
 
 def refusals(given):
-    """The refusals that a line leaves open; a verdict that leaves none is that of a packet to be accepted."""
+    """The refusals that a line leaves open, 6 with its place; a verdict that leaves none is that of a packet to be accepted."""
     if given.verdict == 'ER':
         return NOT_DECODED
     if given.said is None:
         return NO_COUNT
-    return {'OK': (), 'TR': LEFT_OVER, 'NC': OTHER_OCTETS}[given.verdict] if lawful(given.said) else UNLAWFUL
+    left_over = (b'FF06%04X' % len(given.others),)
+    return {'OK': (), 'TR': left_over, 'NC': OTHER_OCTETS}[given.verdict] if lawful(given.said) else UNLAWFUL
 
 
 def read_as(octets, ending, *answers):
@@ -121,8 +122,8 @@ def self_test(lines):
     test.passes('the lines as they stand', check, right, lines)
     test.fails('a packet read otherwise', 'is answered 0001040', check, altered('calls 05 -1'), lines)
     test.fails('a packet read otherwise by 07', ': 0700', check, altered('calls 07 -1'), lines)
-    test.fails('two readers that differ', '070048 is answered 00010400, and by 05 FF01', read_alike, [b'050048', b'070048'],
-               [b'FF01', b'00010400'])
+    test.fails('two readers that differ', '070048 is answered 00010400, and by 05 FF010001', read_alike, [b'050048', b'070048'],
+               [b'FF010001', b'00010400'])
     test.fails('a packet written otherwise', 'line 2: 060104', check, altered('calls 06 -1'), lines)
     test.fails('status 3', 'it does not end well: status 3', check, right + '; exit 3', lines)
     for name in ('a header read on an octet of its own', 'a header written on an octet of its own', 'padding at the end not checked',
@@ -132,9 +133,9 @@ def self_test(lines):
             make_mutant(pathlib.Path(directory), *edit)
             test.fails(name, ' is answered ', check, command_of(pathlib.Path(directory)), lines)
     for name, line, words in (
-            ('one to be accepted', 'C8 A OK dat 4', 'line 1: 0500C8 is answered FF01, and not 00010400'),
+            ('one to be accepted', 'C8 A OK dat 4', 'line 1: 0500C8 is answered FF010001, and not 00010400'),
             ('one to be refused', '48 R OK dat 4', 'line 1: 050048 is answered 00010400, and not refused'),
-            ('one with octets left over', 'C60223 R TR 1 dat 3 2', 'line 1: 0500C60223 is answered 00010302020000030000, and not FF06'),
+            ('one with octets left over', 'C60223 R TR 1 dat 3 2', 'line 1: 0500C60223 is answered 00010302020000030000, and not FF060002'),
             ('other fields', 'C60223 A OK dat 3 2,4', 'line 1: 0500C60223 is answered 00010302020000030000, and not 00010302020000040000'),
             ('another value', '0E A OK ind 8', 'line 1: 05000E is answered 00000700, and not 00000800')):
         test.fails('a line that says otherwise, ' + name, words, check, right, [line] + lines[1:])

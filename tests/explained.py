@@ -14,12 +14,12 @@ from joined import put_together
 from making.pieces import damaged, packet_items
 from making.script import Script
 from real import UNLIMITED, Wrong, corpus, must
-from rules.packets import read_packet, written_packet
+from rules.packets import PACKET_LIMIT, read_packet, written_packet
 from rules.refusals import Refusal
 from running import around, lines_of, run, text_of
 
 # All that is known of the program's words: the last line of a block, refused or read, with its fields; an item; bits past the end.
-REFUSED = re.compile(rb'refused with (?P<number>[0-9]+)\b.*')
+REFUSED = re.compile(rb'refused with (?P<number>[0-9]+)( at octet (?P<place>[0-9]+))?: \S.*')
 READS = re.compile(rb'reads as (?P<kind>indicator|data) (?P<value>[0-9]+)\b[^,]*, (?P<count>[0-9]+) fields?(?P<fields>(;.*)?)')
 FIELD = re.compile(rb'; type ([0-9]+)\b[^,]*, ([0-9]+) octets?')
 ITEM = re.compile(rb'octet (?P<octet>[0-9]+) +bit (?P<bit>[0-7]) +(?P<bits>[01]+-*|-+|octets) +\S.*')
@@ -46,11 +46,13 @@ def line_of(octets, repaired):
 
 
 def meant(octets, repaired):
-    """What the independent program answers: a refusal's number, or kind, value, and type and length of each field."""
+    """What the independent program answers: kind, value, and type and length of each field, or a refusal's number and place.
+
+    A refusal that is not met in reading order, over the packet limit, has none."""
     try:
         packet = read_packet(octets, repaired)
     except Refusal as refusal:
-        return refusal.number
+        return refusal.number, None if len(octets) > PACKET_LIMIT else refusal.place
     return packet.kind, packet.value, [(field_type, len(data)) for field_type, data in packet.fields]
 
 
@@ -58,11 +60,16 @@ def said(last):
     """The same as a block's last line says it."""
     refused, reads = REFUSED.fullmatch(last), READS.fullmatch(last)
     if refused:
-        return int(refused['number'])
+        return int(refused['number']), refused['place'] and int(refused['place'])
     must(reads, 'neither read nor refused: %s', around(last, 0))
     fields = [(int(field_type), int(length)) for field_type, length in FIELD.findall(reads['fields'])]
     must(len(fields) == int(reads['count']), '%d fields are told: %s', len(fields), around(last, 0))
     return KINDS.index(reads['kind']), int(reads['value']), fields
+
+
+def is_refusal(told):
+    """Whether a packet is refused: a number and a place, and not a kind, a value and fields."""
+    return len(told) == 2
 
 
 def check_items(octets, items, refused):
@@ -91,7 +98,7 @@ def judged(written, given):
             ours, theirs = meant(*packet), said(last)
             must(ours == theirs, 'expected %s, told %s', ours, theirs)
             must(items, 'no item')
-            check_items(packet[0], items, isinstance(ours, int))
+            check_items(packet[0], items, is_refusal(ours))
         except Wrong as wrong:
             raise Wrong('block %d, %s: %s' % (number, around(line_of(*packet), 0), wrong))
     must(len(blocks) == len(given), '%d blocks in place of %d', len(blocks), len(given))
@@ -102,14 +109,15 @@ def check(command, given):
     written, remark = run(command, text_of(line_of(*packet) for packet in given))
     must(not remark, 'it does not end well: %s', remark)
     judged(written, given)
-    refused = sum(isinstance(meant(*packet), int) for packet in given)
+    refused = sum(is_refusal(meant(*packet)) for packet in given)
     return '%d packets read, %d refused' % (len(given) - refused, refused)
 
 
 def self_test():
     """Wrong explanations, and what is said of each; the right ones pass."""
     test = Cases('explained.py')
-    given = [(b'\x06', False), (b'\xC0\x80\x01', False), (b'\x06\0\0', True), (b'\xC0\x01\x80\0\0\xAA', True)]
+    given = [(b'\x06', False), (b'\xC0\x80\x01', False), (b'\x06\0\0', True), (b'\xC0\x01\x80\0\0\xAA', True),
+             (b'\x06' * 161, False)]
     right = b'''octet 0   bit 0  0000011           all but the last
 octet 0   bit 7  0                 the last
 reads as indicator 3 (one), 0 fields
@@ -117,7 +125,7 @@ reads as indicator 3 (one), 0 fields
 octet 0   bit 0  11000000          all
 octet 1   bit 0  1000000000000001  a count
 octet 0   bit 0  octets            all of it
-refused with 3: words
+refused with 3 at octet 1: words
 
 octet 0   bit 0  00000110          all
 octet 1   bit 0  octets            the rest
@@ -127,19 +135,29 @@ octet 0   bit 0  11000000          all
 octet 1   bit 0  octets            count, header, length and data
 octet 5   bit 0  10101010          data
 reads as data 0 (another), 1 field; type 0 (one), 1 octet
+
+octet 0   bit 0  octets            the packet
+refused with 4: others
 '''
     test.passes('as it should be', judged, right, given)
     for name, old, new, words in (
-            ('another refusal', b'refused with 3', b'refused with 4', 'block 2, C08001: expected 3, told 4'),
-            ('refused, not read', b'reads as indicator 3, 0', b'refused with 6: 0', 'repaired 060000: expected (0, 3, []), told 6'),
-            ('read, not refused', b'refused with 3: words', b'reads as data 0, 0 fields', 'block 2, C08001: expected 3, told (1, 0, [])'),
+            ('another refusal', b'refused with 3', b'refused with 4', 'block 2, C08001: expected (3, 1), told (4, 1)'),
+            ('another place', b'3 at octet 1', b'3 at octet 2', 'block 2, C08001: expected (3, 1), told (3, 2)'),
+            ('no place', b'3 at octet 1', b'3', 'block 2, C08001: expected (3, 1), told (3, None)'),
+            ('a place for over 160 octets', b'with 4:', b'with 4 at octet 0:', ': expected (4, None), told (4, 0)'),
+            ('a refusal without words', b'with 4: others', b'with 4', ': neither read nor refused: refused with 4'),
+            ('refused, not read', b'reads as indicator 3, 0', b'refused with 6 at octet 1: 0',
+             'repaired 060000: expected (0, 3, []), told (6, 1)'),
+            ('read, not refused', b'refused with 3 at octet 1: words', b'reads as data 0, 0 fields',
+             'block 2, C08001: expected (3, 1), told (1, 0, [])'),
             ('another kind', b'reads as indicator 3,', b'reads as data 3,', 'told (1, 3, [])'),
             ('another value', b'reads as indicator 3,', b'reads as indicator 4,', 'told (0, 4, [])'),
             ('another count', b'1 field;', b'2 fields;', '1 fields are told: reads as data 0'),
             ('another type', b'type 0 (one)', b'type 6 (one)', 'told (1, 0, [(6, 1)])'),
             ('another length', b'1 octet\n', b'2 octets\n', 'told (1, 0, [(0, 2)])'),
-            ('no last line', b'\nrefused with 3: words', b'', 'block 2, C08001: neither read nor refused: octet 0   bit 0  octets'),
-            ('no empty line', b'words\n\n', b'words\n', 'block 2, C08001: expected 3, told (0, 3, [])'),
+            ('no last line', b'\nrefused with 3 at octet 1: words', b'',
+             'block 2, C08001: neither read nor refused: octet 0   bit 0  octets'),
+            ('no empty line', b'words\n\n', b'words\n', 'block 2, C08001: expected (3, 1), told (0, 3, [])'),
             ('an empty line more', b'words\n\n', b'words\n\n\n', 'block 3, repaired 060000: no item: '),
             ('a block less', right.split(b'\n\n')[2] + b'\n\n', b'', 'repaired 060000: expected (0, 3, []), told (1, 0, [(0, 1)])'),
             ('no item', b'octet 0   bit 0  00000110          all\noctet 1   bit 0  octets            the rest\n', b'', 'no item'),
@@ -153,7 +171,7 @@ reads as data 0 (another), 1 field; type 0 (one), 1 octet
             ('the end left out', b'  10101010  ', b'  1010101  ', 'ends at bit 47 of 48: octet 5   bit 0')):
         assert right.count(old) == 1, name
         test.fails(name, words, judged, right.replace(old, new), given)
-    test.fails('a block more', '4 blocks in place of 3', judged, right, given[:3])
+    test.fails('a block more', '5 blocks in place of 4', judged, right, given[:4])
     test.fails('no last line feed', 'the last line has no line feed', judged, right[:-1], given)
     test.fails('status 3', 'it does not end well: status 3', check, 'exit 3', given)
     test.ends('a wrong program', 1, '0 passed, 1 failed', [sys.executable, __file__, '--explain', 'echo refused with 1'])

@@ -5,7 +5,7 @@ import argparse
 import collections
 import sys
 
-from making import conversations, edges, frames, outside, packed, single
+from making import conversations, edges, frames, outside, packed, placed, single
 from making.lines import program_lines
 from making.script import Full, Script
 
@@ -18,8 +18,8 @@ SESSIONS = (conversations.honest, conversations.dishonest, conversations.sparse_
 FRAMES = (frames.honest_row, frames.any_fields, frames.near_the_limit, frames.tainted, frames.outside, frames.overwritten_inside,
           frames.odd_overwrites)
 PACKETS = (packed.runs_read, packed.runs_written, packed.padding_damaged, packed.counts_off, packed.near_the_limit, packed.carried,
-           single.packets_read, single.packets_written, single.many_fields)
-SCENES = 2 * SINGLE + SESSIONS + FRAMES + PACKETS[:6]
+           placed.packets, single.packets_read, single.packets_written, single.many_fields)
+SCENES = 2 * SINGLE + (placed.datagrams,) + SESSIONS + FRAMES + PACKETS[:7]
 
 
 def make_script(seed, count, scenes=SCENES):

@@ -18,6 +18,7 @@ from failing import Cases
 from format_mutants import DATAGRAM_MUTANTS, PACKET_MUTANTS
 from joiner_mutants import JOINER_MUTANTS
 from pencil_mutants import PENCIL_MUTANTS
+from place_mutants import PLACE_MUTANTS
 from session_mutants import SESSION_MUTANTS
 
 HERE = pathlib.Path(__file__).resolve().parent
@@ -35,8 +36,8 @@ PROGRAM_MUTANTS = (
      "number.to_bytes(2, 'big') + octets)\n            return lines\n"),
     ('the end of releasing is a line', 'program',
      '                return lines\n',
-     '                return lines + [bytes([0xFF, refusal.number])]\n'),
-    ('a refusal without its line', 'program', 'lines = [bytes([0xFF, refusal.number])]', 'lines = []'),
+     '                return lines + [refusal.octets()]\n'),
+    ('a refusal without its line', 'program', 'lines = [refusal.octets()]', 'lines = []'),
     ('kinds by their states', 'program', 'bytes([state - RECEIVED])', 'bytes([state])'),
     ('15 before 2', 'program',
      '        refuse_if(len(line) > LINE_LIMIT, OVERLONG)\n'
@@ -62,8 +63,9 @@ PROGRAM_MUTANTS = (
      "    for line in stream:\n        yield line[:-1] if line.endswith(b'\\n') else line\n",
      "    yield from stream.read().split(b'\\n')\n"),
 )
-MUTANTS = {'calls': DATAGRAM_MUTANTS + SESSION_MUTANTS, 'packets': PACKET_MUTANTS + PENCIL_MUTANTS, 'joiner': JOINER_MUTANTS,
-           'program': PROGRAM_MUTANTS}
+MUTANTS = {kind: rows + PLACE_MUTANTS.get(kind, ()) for kind, rows in (
+    ('calls', DATAGRAM_MUTANTS + SESSION_MUTANTS), ('packets', PACKET_MUTANTS + PENCIL_MUTANTS), ('joiner', JOINER_MUTANTS),
+    ('program', PROGRAM_MUTANTS))}
 
 
 def make_mutant(directory, module, old, new):

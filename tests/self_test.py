@@ -1,7 +1,7 @@
 #!/usr/bin/env python3
 """Makes each check of running.py, cutting.py, run, prove, long, speed/ and ../test fail, and looks for what it must say.
 
-Also looks whether the scripts for the joiner and for packets meet every answer that there is."""
+Also looks whether the scripts for the joiner, datagrams and packets meet every answer that there is."""
 
 import argparse
 import importlib.machinery
@@ -16,7 +16,9 @@ from compare import made_calls, made_lines
 from cutting import cut_calls, cut_lines
 from failing import HERE, Cases, altered, independent
 from generate import FRAMES, PACKETS, make_script
+from making import placed, single
 from making.script import Script
+from rules.refusals import ENDS, SPARE_BIT, Refusal
 from running import difference, left_out, lines_of, run, text_of
 from stubbed import of_prove, of_test
 
@@ -59,23 +61,31 @@ def of_cutting(test):
 
 
 def of_generate(test):
-    """The scripts for the joiner and for packets meet every answer that there is; a short one does not; both readers answer alike."""
+    """The scripts for the joiner, datagrams and packets meet every answer, at its start and further on; a short one does not.
+
+    Both readers answer alike, and each refusal is the one that the items tell."""
     for name, scenes, short, every in (
             ('the joiner', FRAMES, 20, '3000 310000 310001 310002 31FF0C 31FF0D 31FF0E 31FF11 31FF12 3200 32FF11 330000 330001 3400 34EE'),
-            ('packets', PACKETS, 60, '0500 05FF01 05FF03 05FF04 05FF05 05FF06 05FF0C 05FF0E 0600 06FF04 06FF0C 06FF0D 06FF0E 06FF0F '
-             '0700 07FF01 07FF03 07FF04 07FF05 07FF06 07FF0C 07FF0E')):
+            ('datagrams', (single.datagrams_read, placed.datagrams), 40,
+             '0300 03FF01 03FF01+ 03FF02 03FF03+ 03FF04+ 03FF05+ 03FF06+ 1000 11FF01 11FF01+ 11FF03+ 11FF04+ 11FF05+ 11FF06+'),
+            ('packets', PACKETS, 60, '0500 05FF01 05FF01+ 05FF03+ 05FF04 05FF04+ 05FF05 05FF05+ 05FF06+ 05FF0C 05FF0E 05FF0E+ '
+             '0600 06FF04 06FF0C 06FF0D 06FF0E 06FF0F '
+             '0700 07FF01 07FF01+ 07FF03+ 07FF04 07FF04+ 07FF05 07FF05+ 07FF06+ 07FF0C 07FF0E 07FF0E+')):
         test.says('every answer on ' + name, every, answers_met(scenes, 1500))
         test.fails('a short script on ' + name, 'NOT CAUGHT by inner: one: ' + every, Cases('inner').says, 'one', every,
                    answers_met(scenes, short))
     script = Script('0', 2)
-    script.calls.by_first_octet[0x07] = lambda arguments: b'\xFF\x05'
-    test.fails('two readers that differ', "b'050006' is read as b'00000300', by 07 as b'FF05'", script.read, b'\x06', 0)
+    script.calls.by_first_octet[0x07] = lambda arguments: Refusal(SPARE_BIT).octets()
+    test.fails('two readers that differ', "b'050006' is read as b'00000300', by 07 as b'FF050000'", script.read, b'\x06', 0)
+    test.fails('a refusal at another place', 'answered ff010003, and the items tell ff010002', placed.met,
+               Refusal(ENDS, 3).octets(), Refusal(ENDS, 2))
 
 
 def answers_met(scenes, count):
-    """Each call with the start of its answers: done and what was handed out or shown, or the refusal."""
+    """Each call with the start of its answers: done and what was handed out or shown, or the refusal, with a mark if it has a place."""
     script = make_script('0', count, scenes)
-    return ' '.join(sorted({(line[:2] + answer[:4 if line[:2] in (b'31', b'33') or answer[:1] == b'F' else 2]).decode()
+    return ' '.join(sorted({(line[:2] + answer[:4 if line[:2] in (b'31', b'33') or answer[:1] == b'F' else 2]
+                             + b'+' * (answer[:1] == b'F' and answer[4:8] != b'0000')).decode()
                             for line, answer in zip(script.lines, script.answers)}))
 
 

@@ -142,7 +142,7 @@ def self_test():
         test.fails(name, words, check, altered(how))
     for name, how, loss, words in (
             ('spares as repaired', 'calls spares', 0.3, '  expected 0001'),
-            ('FF07 as 00', 'calls repeated', 0.3, '  expected FF07\n  answered 00'),
+            ('FF07 as 00', 'calls repeated', 0.3, '  expected FF070000\n  answered 00'),
             ('offers', 'calls 11 1', 0.3, '  expected 00\n  answered 01'),
             ('datagrams', 'calls 21 -1', 0.3, 'is not the expected one'),
             ('the rest of the lent buffer', 'calls 12 -1', 0.3, 'A5A4'),

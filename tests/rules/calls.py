@@ -22,7 +22,7 @@ def lent(cap, call, size_width=2):
     try:
         before, octets = call()
     except Refusal as refusal:
-        return bytes([0xFF, refusal.number]) + FILLING * cap
+        return refusal.octets() + FILLING * cap
     return b'\x00' + before + shown(len(octets), size_width) + octets.ljust(cap, FILLING)
 
 
@@ -74,7 +74,7 @@ class Calls:
         try:
             return call(arguments)
         except Refusal as refusal:
-            return bytes([0xFF, refusal.number])
+            return refusal.octets()
 
     def read_length(self, arguments):
         """01: a length at the front of the octets."""

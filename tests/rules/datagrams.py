@@ -31,20 +31,20 @@ def read_datagram(octets):
     number = int.from_bytes(items.octets(2), 'big')
     packet = items.sized_octets(1, PACKET_LIMIT)
     kind = items.octet()
-    refuse_if(kind & 0x7F, SPARE_BIT)
+    items.refuse_if(kind & 0x7F, SPARE_BIT)
     if kind == SPARES:
         n, count = 0, items.length()
-        refuse_if(count > SPARES_LIMIT, SIZE)
+        items.refuse_if(count > SPARES_LIMIT, SIZE)
         least = 1
     else:
-        refuse_if(items.octet() != 1, SIZE)
+        items.refuse_if(items.octet() != 1, SIZE)
         n = items.octet()
-        refuse_if(not 1 <= n <= N_LIMIT, SIZE)
+        items.refuse_if(not 1 <= n <= N_LIMIT, SIZE)
         count = items.length()
-        refuse_if(not 1 <= count <= M_LIMIT, SIZE)
+        items.refuse_if(not 1 <= count <= M_LIMIT, SIZE)
         least = 0
     pieces = tuple(items.sized_octets(least, MESSAGE_LIMIT) for _ in range(count))
-    refuse_if(items.left_over(), LEFT_OVER)
+    items.refuse_if(items.left_over(), LEFT_OVER)
     return Datagram(number, packet, kind, n, pieces)
 
 

@@ -35,30 +35,31 @@ def read_packet(octets, repaired):
     refuse_if(len(octets) > PACKET_LIMIT, SIZE)
     items = Items(octets)
     present, kind, extension, value = (items.bits(count) for count in (1, 1, 1, 4))
-    refuse_if(extension, NOT_ASSIGNED)
-    refuse_if(value > LAST_VALUE[kind], NOT_ASSIGNED)
+    items.refuse_if(extension, NOT_ASSIGNED)
+    items.refuse_if(value > LAST_VALUE[kind], NOT_ASSIGNED)
     items.to_edge()
-    refuse_if(present and kind == INDICATOR, DATA)
+    items.refuse_if(present and kind == INDICATOR, DATA)
     fields = ()
     if present:
         count = items.length()
-        refuse_if(not 1 <= count <= FIELDS_LIMIT, SIZE)
+        items.refuse_if(not 1 <= count <= FIELDS_LIMIT, SIZE)
         fields = tuple(read_field(items) for _ in range(count))
         items.to_edge()
     left = items.left_over()
-    refuse_if(any(left) if repaired else left, LEFT_OVER)
+    items.refuse_if(any(left) if repaired else left, LEFT_OVER)
     return Packet(kind, value, fields)
 
 
 def read_field(items):
     """A field: its type and its data."""
+    items.begin()
     has_data, field_type = (items.bits(count) for count in (1, 3))
-    refuse_if(data_misplaced(field_type, has_data), DATA)
+    items.refuse_if(data_misplaced(field_type, has_data), DATA)
     if not has_data:
         return field_type, b''
     items.to_edge()
     length = int.from_bytes(items.octets(2), 'big') + 1
-    refuse_if(length > PACKET_LIMIT, SIZE)
+    items.refuse_if(length > PACKET_LIMIT, SIZE)
     return field_type, items.octets(length)
 
 

@@ -3,20 +3,28 @@
 Of the first reader it has the sizes, the values assigned, and where data must and may be; it reads no octet as a whole."""
 
 from .packets import FIELDS_LIMIT, INDICATOR, LAST_VALUE, PACKET_LIMIT, Packet, data_misplaced
-from .refusals import DATA, ENDS, FORM, LEFT_OVER, NOT_ASSIGNED, SIZE, SPARE_BIT, Refusal, refuse_if
+from .refusals import DATA, ENDS, FORM, LEFT_OVER, NOT_ASSIGNED, SIZE, SPARE_BIT, refuse_if
 
 
 class Bits:
-    """Octets as a row of bits, the high bit of each octet first, and the place of the bit that comes next."""
+    """Octets as a row of bits, the high bit of each octet first, the place of the bit that comes next, and that of the item's first."""
 
     def __init__(self, octets):
         self.row = [octet >> place & 1 for octet in octets for place in (7, 6, 5, 4, 3, 2, 1, 0)]
         self.place = 0
+        self.first = 0
+
+    def item(self):
+        """An item begins with the bit that comes next; refused, it is refused at the octet of that bit (02, request 5)."""
+        self.first = self.place
+
+    def refuse_if(self, condition, number):
+        """Refuses the item, if the condition holds."""
+        refuse_if(condition, number, self.first // 8)
 
     def bit(self):
         """The next bit, which must come; the place goes on by one."""
-        if self.place >= len(self.row):
-            raise Refusal(ENDS)
+        self.refuse_if(self.place >= len(self.row), ENDS)
         self.place += 1
         return self.row[self.place - 1]
 
@@ -28,9 +36,10 @@ class Bits:
         return value
 
     def align(self):
-        """On to an octet's edge; each bit on the way must be zero, and at an edge there is none."""
+        """An item: on to an octet's edge; each bit on the way must be zero, and at an edge there is none."""
+        self.item()
         while self.place % 8:
-            refuse_if(self.bit(), SPARE_BIT)
+            self.refuse_if(self.bit(), SPARE_BIT)
 
 
 def read_by_bits(octets, repaired):
@@ -40,51 +49,56 @@ def read_by_bits(octets, repaired):
     present = bits.bit()
     kind, value = type_of_msg(bits)
     bits.align()
-    refuse_if(present and kind == INDICATOR, DATA)
+    bits.refuse_if(present and kind == INDICATOR, DATA)
     fields = data_field(bits) if present else ()
     bits.align()
+    bits.item()
     while bits.place < len(bits.row):
-        refuse_if(bits.bit() or not repaired, LEFT_OVER)
+        bits.refuse_if(bits.bit() or not repaired, LEFT_OVER)
     return Packet(kind, value, fields)
 
 
 def type_of_msg(bits):
     """Type-of-msg: a bit that chooses t30-indicator or t30-data, then an extension bit and the value in four."""
     kind = bits.bit()
-    refuse_if(bits.bit(), NOT_ASSIGNED)
+    bits.refuse_if(bits.bit(), NOT_ASSIGNED)
     value = bits.bits(4)
-    refuse_if(value > LAST_VALUE[kind], NOT_ASSIGNED)
+    bits.refuse_if(value > LAST_VALUE[kind], NOT_ASSIGNED)
     return kind, value
 
 
 def data_field(bits):
     """Data-Field: a count at an octet's edge, then that many fields."""
     count = count_of_fields(bits)
-    refuse_if(not 1 <= count <= FIELDS_LIMIT, SIZE)
+    bits.refuse_if(not 1 <= count <= FIELDS_LIMIT, SIZE)
     return tuple(field(bits) for _ in range(count))
 
 
 def count_of_fields(bits):
     """A count: a zero bit and seven bits, or one, zero and fourteen bits for 128 and more."""
+    bits.item()
     if not bits.bit():
         return bits.bits(7)
-    refuse_if(bits.bit(), FORM)
+    bits.refuse_if(bits.bit(), FORM)
     value = bits.bits(14)
-    refuse_if(value < 128, FORM)
+    bits.refuse_if(value < 128, FORM)
     return value
 
 
 def field(bits):
-    """A field: a bit that tells whether field-data is there, field-type in three bits, field-data."""
+    """A field: a header, which is a bit that tells whether field-data is there and field-type in three bits; then field-data."""
+    bits.item()
     present = bits.bit()
     field_type = bits.bits(3)
-    refuse_if(data_misplaced(field_type, present), DATA)
+    bits.refuse_if(data_misplaced(field_type, present), DATA)
     return field_type, field_data(bits) if present else b''
 
 
 def field_data(bits):
     """field-data: at an octet's edge its length minus one in sixteen bits, then its octets."""
     bits.align()
+    bits.item()
     length = bits.bits(16) + 1
-    refuse_if(length > PACKET_LIMIT, SIZE)
+    bits.refuse_if(length > PACKET_LIMIT, SIZE)
+    bits.item()
     return bytes(bits.bits(8) for _ in range(length))

@@ -21,7 +21,7 @@ class Program:
         try:
             lines = self.take(line)
         except Refusal as refusal:
-            lines = [bytes([0xFF, refusal.number])]
+            lines = [refusal.octets()]
         return [octets.hex().upper().encode() for octets in lines + self.released()]
 
     def take(self, line):

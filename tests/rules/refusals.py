@@ -21,17 +21,24 @@ FRAME = 18          # the frame would pass 300 octets
 
 
 class Refusal(Exception):
-    """A refused call; it has its number only, and nothing was changed, but by 18."""
+    """A refused call: its number, and the octet at which the refused item begins, 0 if it is not met in reading order (02, request 5).
 
-    def __init__(self, number):
-        super().__init__(number)
+    Nothing was changed, but by 18."""
+
+    def __init__(self, number, place=0):
+        super().__init__(number, place)
         self.number = number
+        self.place = place
+
+    def octets(self):
+        """As it is answered: FF, the number, and the place in two octets."""
+        return bytes([0xFF, self.number]) + self.place.to_bytes(2, 'big')
 
 
-def refuse_if(condition, number):
-    """Refuses with the number if the condition holds."""
+def refuse_if(condition, number, place=0):
+    """Refuses with the number, at the place, if the condition holds."""
     if condition:
-        raise Refusal(number)
+        raise Refusal(number, place)
 
 
 def must_fit(result, room):

@@ -1,5 +1,5 @@
 /* The program of the scope page (01) in plain C, for counting instructions beside it: lines of hexadecimal in, result lines out.
-   Written from 01 alone. A session here is never outside its ranges, so they are not checked. */
+   Written from 01 and 02 (request 5) alone. A session here is never outside its ranges, so they are not checked. */
 
 #include <stdint.h>
 #include <stdio.h>
@@ -26,11 +26,12 @@ struct session {
     struct mark marks[AFTER];     /* by number modulo 32 */
 };
 
-/* Octets that are read from the front. */
-struct input { const uint8_t *at, *end; };
+/* Octets that are read from the front, and where the item begins that is read now, or was read last. */
+struct input { const uint8_t *at, *end, *item; };
 
 static int read_length(struct input *in, unsigned *value)
 {
+    in->item = in->at;
     if (in->at == in->end) return ENDS;
     unsigned first = *in->at++;
     *value = first;
@@ -47,41 +48,62 @@ static int read_piece(struct input *in, unsigned least, struct piece *piece)
     int refusal = read_length(in, &piece->length);
     if (refusal) return refusal;
     if (piece->length < least || piece->length > PACKET_LIMIT) return SIZE;
+    in->item = in->at;
     if ((size_t)(in->end - in->at) < piece->length) return ENDS;
     piece->octets = in->at;
     in->at += piece->length;
     return 0;
 }
 
-static int read_datagram(const uint8_t *octets, size_t length, struct datagram *d)
+static int read_octet(struct input *in, unsigned *value)
 {
-    struct input in = { octets, octets + length };
-    if (length > DATAGRAM_LIMIT) return OVERLONG;
-    if (length < 2) return ENDS;
-    d->number = (unsigned)octets[0] << 8 | octets[1];
-    in.at += 2;
-    int refusal = read_piece(&in, 1, &d->packet);
+    in->item = in->at;
+    if (in->at == in->end) return ENDS;
+    *value = *in->at++;
+    return 0;
+}
+
+/* The items in order; at a refusal the input says where the refused one begins. */
+static int read_items(struct input *in, struct datagram *d)
+{
+    unsigned kind, one;
+    if (in->end - in->at < 2) return ENDS;
+    d->number = (unsigned)in->at[0] << 8 | in->at[1];
+    in->at += 2;
+    int refusal = read_piece(in, 1, &d->packet);
     if (refusal) return refusal;
-    if (in.at == in.end) return ENDS;
-    unsigned kind = *in.at++;
+    refusal = read_octet(in, &kind);
+    if (refusal) return refusal;
     if (kind & 0x7F) return SPARE_BIT;
     d->parity = kind != 0;
     d->n = 0;
     if (d->parity) {
-        if (in.at == in.end) return ENDS;
-        if (*in.at++ != 1) return SIZE;
-        if (in.at == in.end) return ENDS;
-        d->n = *in.at++;
+        refusal = read_octet(in, &one);
+        if (refusal) return refusal;
+        if (one != 1) return SIZE;
+        refusal = read_octet(in, &d->n);
+        if (refusal) return refusal;
         if (d->n < 1 || d->n > N_LIMIT) return SIZE;
     }
-    refusal = read_length(&in, &d->count);
+    refusal = read_length(in, &d->count);
     if (refusal) return refusal;
     if (d->parity ? d->count < 1 || d->count > M_LIMIT : d->count > SPARES_LIMIT) return SIZE;
     for (unsigned i = 0; i < d->count; i++) {
-        refusal = read_piece(&in, d->parity ? 0 : 1, &d->items[i]);
+        refusal = read_piece(in, d->parity ? 0 : 1, &d->items[i]);
         if (refusal) return refusal;
     }
-    return in.at == in.end ? 0 : LEFT_OVER;
+    in->item = in->at;
+    return in->at == in->end ? 0 : LEFT_OVER;
+}
+
+/* A refusal met in reading order gives its place; the place stays as it was otherwise. */
+static int read_datagram(const uint8_t *octets, size_t length, struct datagram *d, unsigned *place)
+{
+    struct input in = { octets, octets + length, octets };
+    if (length > DATAGRAM_LIMIT) return OVERLONG;
+    int refusal = read_items(&in, d);
+    if (refusal) *place = (unsigned)(in.item - octets);
+    return refusal;
 }
 
 static struct place *place_of(struct session *s, uint32_t number) { return &s->places[number % VIEW]; }
@@ -132,10 +154,10 @@ static int repair_once(struct session *s)
     return 0;
 }
 
-static int offer(struct session *s, const uint8_t *octets, size_t length)
+static int offer(struct session *s, const uint8_t *octets, size_t length, unsigned *place)
 {
     struct datagram d;
-    int refusal = read_datagram(octets, length, &d);
+    int refusal = read_datagram(octets, length, &d, place);
     if (refusal) return refusal;
     unsigned distance = (d.number - s->base) & 0xFFFF;
     if (distance > 32767) return LATE;
@@ -201,10 +223,10 @@ static void put_line(unsigned first, int has_number, unsigned number, const uint
     out[out_used++] = '\n';
 }
 
-static void put_refusal(int number)
+static void put_refusal(int number, unsigned place)
 {
-    uint8_t octet = (uint8_t)number;
-    put_line(0xFF, 0, 0, &octet, 1);
+    const uint8_t octets[] = { (uint8_t)number, (uint8_t)(place >> 8), (uint8_t)place };
+    put_line(0xFF, 0, 0, octets, sizeof octets);
 }
 
 static void release(struct session *s)
@@ -217,7 +239,7 @@ static void release(struct session *s)
     }
 }
 
-static int take_datagram(struct session *s, const char *line, size_t length)
+static int take_datagram(struct session *s, const char *line, size_t length, unsigned *place)
 {
     uint8_t octets[LINE_LIMIT / 2];
     if (length > LINE_LIMIT) return OVERLONG;
@@ -227,16 +249,17 @@ static int take_datagram(struct session *s, const char *line, size_t length)
         if ((high | low) > 15) return NO_DIGITS;
         octets[o] = (uint8_t)(high << 4 | low);
     }
-    return offer(s, octets, length / 2);
+    return offer(s, octets, length / 2, place);
 }
 
 static void take_line(struct session *s, const char *line, size_t length)
 {
     if (length) {
-        int refusal = take_datagram(s, line, length);
-        if (refusal) put_refusal(refusal);
+        unsigned place = 0;   /* where the refusal is not met in reading order */
+        int refusal = take_datagram(s, line, length, &place);
+        if (refusal) put_refusal(refusal, place);
     } else if (s->base == NUMBERS_LIMIT) {
-        put_refusal(LIMIT);
+        put_refusal(LIMIT, 0);
     } else {
         put_line(3, 1, s->base, NULL, 0);
         advance(s);

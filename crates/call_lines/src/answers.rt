@@ -39,6 +39,7 @@ pub fn say_done(n: usize, width: usize) {
 pub fn say_refused(why: Refusal) {
     say(0xFF, 1);
     say(why.number as u32, 1);
+    say((why.place % 65536) as u32, 2);
 }
 
 // The line is no call.

@@ -8,16 +8,16 @@ use lib.ListN.{length, getD, take, drop, length-drop}
 use lib.Seq.{take-all}
 use native.Mathlib.Omega.{arith}
 use borrow.Author.Tests.{lt-ltb, le-ltb, le-leb, lt-leb, eq-eqb, ne-eqb}
-use Rattle.lengths.specs.Refusals.{endsEarly, outsideSizes, spareBit}
-use Rattle.lengths.specs.Answers.{done, refused, refusalOf}
+use Rattle.lengths.specs.Refusals.{further, endsEarly, outsideSizes, spareBit}
+use Rattle.lengths.specs.Answers.{done, refused, readFrom, lengthOutcome, refusalOf}
 use Rattle.lengths.specs.Length.{within, lengthWithin}
-use Rattle.lengths.specs.Promise.{WithinRead, Octet, RefusalMade, RefusalTold}
+use Rattle.lengths.specs.Promise.{WithinRead, Octet, RefusalPlaced, RefusalTold}
 use Rattle.lengths.specs.declared.Refusal.{Refusal}
 use Rattle.lengths.specs.declared.Length.{Length}
 use Rattle.lengths.specs.declared.Length.the-variants as length
-use Rattle.lengths.proofs.Laws.{allowed-met, allowed-not}
+use Rattle.lengths.proofs.Laws.{from-front, allowed-met, allowed-not, within-front}
 use Rattle.datagrams.specs.Sizes.{sparesLeast, sparesLimit, coveredLeast, coveredLimit, messagesLeast, messagesLimit}
-use Rattle.datagrams.specs.Read.{octetAt, itemAt, sparesAt, parityAt, extraAt}
+use Rattle.datagrams.specs.Read.{lengthFrom, octetAt, itemAt, sparesAt, parityAt, extraAt}
 use Rattle.datagram_reader.specs.Pieces.{OctetRead, LengthTold, ItemRead, SparesRead, ParityRead, ExtraRead}
 use Rattle.datagrams.specs.declared.reader.Part.{Part}
 use Rattle.datagram_reader.specs.declared.reader.Item.{Item}
@@ -34,9 +34,9 @@ told-whole : {found : Length} {why r : Refusal} → found ≡ length.Refused why
 told-whole is told = told .answer ∙ ap refusalOf is
 
 module _ {least most : ℕ} {s : List ℕ} {at : ℕ} where
-  pub octet-missing : {r : Refusal} → RefusalMade endsEarly r → length s ≤ at → OctetRead least most s at (length.Refused r)
+  pub octet-missing : {r : Refusal} → RefusalPlaced endsEarly at r → length s ≤ at → OctetRead least most s at (length.Refused r)
   unfolding octetAt
-  octet-missing made short = record { answer = rw (made .answer, le-leb (length s) at short) }
+  octet-missing made short = record { answer = rw (made .answer, le-leb (length s) at short) (sym (from-front at endsEarly)) }
 
   module _ {v : ℕ} {b : Bool} (octet : Octet (getD s at 0) v) (some : at < length s) (test : b ≡ within least most v) where
     pub octet-read : b ≡ true → OctetRead least most s at (length.Value v 1)
@@ -45,28 +45,42 @@ module _ {least most : ℕ} {s : List ℕ} {at : ℕ} where
         let e = allowed-met least most (record { value = v; size = 1 }) (sym test ∙ met) in
         record { answer = rw (lt-leb (length s) at some, ← octet .same, e) }
 
-    pub octet-outside : {r : Refusal} → b ≡ false → RefusalMade outsideSizes r → OctetRead least most s at (length.Refused r)
+    pub octet-outside : {r : Refusal} → b ≡ false → RefusalPlaced outsideSizes at r → OctetRead least most s at (length.Refused r)
     unfolding octetAt
     octet-outside out made =
         let e = allowed-not least most (record { value = v; size = 1 }) (sym test ∙ out) in
-        record { answer = rw (made .answer, lt-leb (length s) at some, ← octet .same, e) }
+        record { answer = rw (made .answer, lt-leb (length s) at some, ← octet .same, e) (sym (from-front at outsideSizes)) }
 
 pub ruleset octets = (octet-missing, octet-read, octet-outside)
 
--- what the length reader is lent is the rest from a place on
-pub length-read : {least most : ℕ} {s : List ℕ} {at : ℕ} {r : Length} → WithinRead least most (take (length s - at) (drop at s)) r
-    → LengthTold least most s at r
-length-read {least} {most} {s} {at} read =
-    let rest : take (length s - at) (drop at s) ≡ drop at s = take-all (length s - at) (drop at s) (omega (arith, length-drop at s)) in
-    record { answer = read .answer ∙ ap (lengthWithin least most) rest }
+-- the length reader's refusals are at the front of what it is lent
+pub read-front : {least most : ℕ} {s : List ℕ} {found : Length} {why : Refusal} → WithinRead least most s found
+    → found ≡ length.Refused why → why .place ≡ 0
+read-front {least} {most} {s} {why = why} read is = within-front least most s .front why (sym (read .answer) ∙ ap lengthOutcome is)
 
-pub ruleset rests = (length-read)
+-- and that is the rest from a place on
+left-read : {least most : ℕ} (s : List ℕ) (at : ℕ) {found : Length} → WithinRead least most (take (length s - at) (drop at s)) found
+    → lengthOutcome found ≡ lengthWithin least most (drop at s)
+left-read {least} {most} s at read =
+    let rest : take (length s - at) (drop at s) ≡ drop at s = take-all (length s - at) (drop at s) (omega (arith, length-drop at s)) in
+    read .answer ∙ ap (lengthWithin least most) rest
+
+module _ {least most : ℕ} {s : List ℕ} {at : ℕ} {found : Length} (read : WithinRead least most (take (length s - at) (drop at s)) found)
+  where
+    pub length-read : {v n : ℕ} → found ≡ length.Value v n → LengthTold least most s at (length.Value v n)
+    length-read is = record { answer = ap (readFrom at) (sym (ap lengthOutcome is) ∙ left-read s at read) }
+
+    pub length-placed : {why r : Refusal} → found ≡ length.Refused why → r ≡ further at why → LengthTold least most s at (length.Refused r)
+    length-placed is passed =
+        record { answer = ap (λ (r : Refusal). refused r) passed ∙ ap (readFrom at) (sym (ap lengthOutcome is) ∙ left-read s at read) }
+
+pub ruleset rests = (length-read, length-placed)
 
 module _ {least most : ℕ} {s : List ℕ} {at : ℕ} {found : Length} (read : LengthTold least most s at found) where
-  length-refused : {why : Refusal} → found ≡ length.Refused why → refused why ≡ lengthWithin least most (drop at s)
+  length-refused : {why : Refusal} → found ≡ length.Refused why → refused why ≡ lengthFrom least most s at
   length-refused is = rw is at (read .answer)
 
-  length-found : {v n : ℕ} → found ≡ length.Value v n → done (record { value = v; size = n }) ≡ lengthWithin least most (drop at s)
+  length-found : {v n : ℕ} → found ≡ length.Value v n → done (record { value = v; size = n }) ≡ lengthFrom least most s at
   length-found is = rw is at (read .answer)
 
   -- one that was found ends within the octets
@@ -83,7 +97,7 @@ module _ {least most : ℕ} {s : List ℕ} {at : ℕ} {found : Length} where
       let e = length-refused read is in
       record { answer = rw (told-whole is passed, ← e) }
 
-  pub item-cut : {v n : ℕ} {r : Refusal} → RefusalMade endsEarly r → LengthTold least most s at found → found ≡ length.Value v n
+  pub item-cut : {v n : ℕ} {r : Refusal} → RefusalPlaced endsEarly (at + n) r → LengthTold least most s at found → found ≡ length.Value v n
       → length s - (at + n) < v → ItemRead least most s at (item.Refused r)
   unfolding itemAt
   item-cut {v} {n} made read is short =
@@ -173,12 +187,12 @@ octet-ends {least} {most} {s} {at} {v} {n} read is =
     octet-done least most s at (record { value = v; size = n }) (sym e) .inside
 
 module _ {s : List ℕ} {at : ℕ} where
-  pub extra-missing : {r : Refusal} → RefusalMade endsEarly r → length s ≤ at → ExtraRead s at (extra.Refused r)
+  pub extra-missing : {r : Refusal} → RefusalPlaced endsEarly at r → length s ≤ at → ExtraRead s at (extra.Refused r)
   unfolding extraAt
   extra-missing made short = record { answer = rw (made .answer, le-leb (length s) at short) }
 
   module _ {choice : ℕ} (octet : Octet (getD s at 0) choice) (some : at < length s) where
-    pub extra-bit : {r : Refusal} → RefusalMade spareBit r → (choice % 128 ≡ 0 → ⊥) → ExtraRead s at (extra.Refused r)
+    pub extra-bit : {r : Refusal} → RefusalPlaced spareBit at r → (choice % 128 ≡ 0 → ⊥) → ExtraRead s at (extra.Refused r)
     unfolding extraAt
     extra-bit made bit =
         record { answer = rw (made .answer, lt-leb (length s) at some, ← octet .same, ne-eqb (choice % 128) 0 bit) }

@@ -8,7 +8,7 @@ use lib.Dec.{ltb}
 use borrow.Author.Tests.{lt-ltb, le-ltb}
 use Rattle.lengths.specs.Refusals.{endsEarly, tooLong, leftOver}
 use Rattle.lengths.specs.Answers.{done, refused}
-use Rattle.lengths.specs.Promise.{RefusalMade}
+use Rattle.lengths.specs.Promise.{RefusalMade, RefusalPlaced}
 use Rattle.lengths.specs.declared.Refusal.{Refusal}
 use Rattle.datagrams.specs.Sizes.{packetLeast, packetLimit, datagramLimit, sparesLimit}
 use Rattle.datagrams.specs.Read.{after, itemAt, itemsAt, endOf, extraAt, leastOf, mostOf, numberOf, wholeOf, readDatagram}
@@ -42,13 +42,13 @@ module _ {least most : ℕ} {s : List ℕ} {number : ℕ} {packet : Part} {k : K
       let stop : itemsAt (leastOf k) (mostOf k) s first count ≡ refused why = rw (low, high) at (turn-refused so more read is) in
       record { whole = gives .whole ∙ rw stop }
 
-  pub whole-left : {why : Refusal} {r : DatagramRead} → count ≤ i → at < length s → RefusalMade leftOver why → Refuses why r
+  pub whole-left : {why : Refusal} {r : DatagramRead} → count ≤ i → at < length s → RefusalPlaced leftOver at why → Refuses why r
       → WholeRead s number packet k count first r
   unfolding wholeOf
   whole-left all more made gives =
       let read : itemsAt (leastOf k) (mostOf k) s first count ≡ done (so .got) = rw (low, high) at (turn-done so all) in
       let over : ltb (endOf first (so .got)) (length s) ≡ true = rw (so .ends) (lt-ltb at (length s) more) in
-      record { whole = gives .whole ∙ rw (made .answer, read, over) }
+      record { whole = gives .whole ∙ rw (made .answer, read, over, so .ends) }
 
   pub whole-read : count ≤ i → length s ≤ at
       → WholeRead s number packet k count first (record { reading = reading.Datagram number packet k count; items = items })

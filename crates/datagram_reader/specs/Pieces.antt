@@ -2,13 +2,12 @@
 use Prim.Native.Nat.{ℕ, _≤_}
 use mathlib.Core.Path.{_≡_}
 use mathlib.Core.List.{List}
-use lib.ListN.{length, drop}
+use lib.ListN.{length}
 use Rattle.lengths.specs.Answers.{Answer, done, refused, lengthOutcome}
-use Rattle.lengths.specs.Length.{lengthWithin}
 use Rattle.lengths.specs.declared.Refusal.{Refusal}
 use Rattle.lengths.specs.declared.Length.{Length}
 use Rattle.datagrams.specs.Sizes.{sparesLimit}
-use Rattle.datagrams.specs.Read.{ExtraHead, octetAt, itemAt, sparesAt, parityAt, extraAt, wholeOf}
+use Rattle.datagrams.specs.Read.{ExtraHead, lengthFrom, octetAt, itemAt, sparesAt, parityAt, extraAt, wholeOf}
 use Rattle.datagrams.specs.declared.reader.Part.{Part}
 use Rattle.datagrams.specs.declared.reader.DatagramRead.{DatagramRead}
 use Rattle.datagram_reader.specs.declared.reader.Item.{Item}
@@ -23,7 +22,7 @@ pub record OctetRead (least most : ℕ) (s : List ℕ) (at : ℕ) (r : Length) :
 
 -- a length or count at its place
 pub record LengthTold (least most : ℕ) (s : List ℕ) (at : ℕ) (r : Length) : Type 0 where
-  pub answer : lengthOutcome r ≡ lengthWithin least most (drop at s)
+  pub answer : lengthOutcome r ≡ lengthFrom least most s at
 
 abbrev pub itemOutcome : Item → Answer Part
 itemOutcome (item.Found p) = done p

@@ -48,13 +48,13 @@ fn octet_at(s: &[u8], at: usize, least: usize, most: usize) -> Length
     ensures { λ r. ⌜ OctetRead least most (now (s .entry)) at r ⌝ }
 {
     if s.len() <= at {
-        return Length::Refused(Refusal::new(Refusal::ENDS_EARLY));
+        return Length::Refused(Refusal::at(Refusal::ENDS_EARLY, at));
     }
     let value = wide(s[at]);
     if lengths::within(least, most, value) {
         return Length::Value(value, 1);
     }
-    Length::Refused(Refusal::new(Refusal::OUTSIDE_SIZES))
+    Length::Refused(Refusal::at(Refusal::OUTSIDE_SIZES, at))
 }
 
 // A length or count from least to most.
@@ -62,7 +62,10 @@ fn length_at(s: &[u8], at: usize, least: usize, most: usize) -> Length
     requires { ⌜ at ≤ length (now s) ⌝ }
     ensures { λ r. ⌜ LengthTold least most (now (s .entry)) at r ⌝ }
 {
-    lengths::read_within(&s[at..], least, most)
+    match lengths::read_within(&s[at..], least, most) {
+        Length::Value(value, size) => Length::Value(value, size),
+        Length::Refused(why) => Length::Refused(why.further(at)),
+    }
 }
 
 // A packet, spare or message: its length, then its octets.
@@ -76,7 +79,7 @@ fn item_at(s: &[u8], at: usize, least: usize, most: usize) -> Item
     };
     let start = at + took;
     if s.len() - start < size {
-        return Item::Refused(Refusal::new(Refusal::ENDS_EARLY));
+        return Item::Refused(Refusal::at(Refusal::ENDS_EARLY, start));
     }
     Item::Found(Part { start, size })
 }
@@ -130,12 +133,12 @@ fn extra_at(s: &[u8], at: usize) -> Extra
     ensures { λ r. ⌜ ExtraRead (now (s .entry)) at r ⌝ }
 {
     if s.len() <= at {
-        return Extra::Refused(Refusal::new(Refusal::ENDS_EARLY));
+        return Extra::Refused(Refusal::at(Refusal::ENDS_EARLY, at));
     }
     let choice = wide(s[at]);
     let low = choice % 128;
     if low != 0 {
-        return Extra::Refused(Refusal::new(Refusal::SPARE_BIT));
+        return Extra::Refused(Refusal::at(Refusal::SPARE_BIT, at));
     }
     let next = at + 1;
     if choice < 128 {
@@ -206,7 +209,7 @@ fn whole_of(
         i += 1;
     }
     if at < s.len() {
-        return refused(Refusal::new(Refusal::LEFT_OVER));
+        return refused(Refusal::at(Refusal::LEFT_OVER, at));
     }
     DatagramRead {
         reading: Reading::Datagram {

@@ -6,7 +6,7 @@ use Rattle.datagrams.specs.Read.{octetAt, itemAt, itemsAt, endOf, spares
 use Rattle.datagrams.specs.Read.{numberOf, wholeOf, readDatagram}
 use Rattle.datagrams.specs.Write.{numberOctets, itemOctets, itemsOctets, countedOctets, datagramOctets, cut}
 use Rattle.datagrams.specs.Write.{sumOf, itemsInside, datagramToWrite}
-use Rattle.datagrams.specs.Cases.{ReadCases, WriteCases}
+use Rattle.datagrams.specs.Cases.{ReadCases, PlaceCases, WriteCases}
 
 pub read-cases : ReadCases
 unfolding readDatagram numberOf wholeOf extraAt sparesAt parityAt itemsAt itemAt lengthWithin octetAt allowed endOf lengthAt
@@ -27,6 +27,25 @@ read-cases =
       m-0 = refl;
       m-5 = refl;
       message-0 = refl;
+    }
+
+pub place-cases : PlaceCases
+unfolding readDatagram numberOf wholeOf extraAt sparesAt parityAt itemsAt itemAt lengthWithin octetAt allowed endOf lengthAt
+place-cases =
+    record {
+      nothing = refl;
+      half-number = refl;
+      no-length = refl;
+      half-packet = refl;
+      packet-128 = refl;
+      no-kind = refl;
+      no-count = refl;
+      no-octet-01 = refl;
+      no-n = refl;
+      no-m = refl;
+      second-spare = refl;
+      half-message = refl;
+      left-over = refl;
     }
 
 pub write-cases : WriteCases

@@ -8,11 +8,12 @@ use lib.Dec.{leb, ltb, eqb}
 use native.Mathlib.Omega.{arith}
 use borrow.Author.Tests.{ltb-false, leb-false, le-leb}
 use Rattle.lengths.specs.Answers.{done, LengthAnswer}
-use Rattle.lengths.specs.Length.{lengthAt, within, lengthWithin}
-use Rattle.lengths.proofs.Laws.{bind-done, cond-done, cond-met, done-same, true-within, within-done, allowed-done}
+use Rattle.lengths.specs.Length.{lengthAt, lengthWithin}
+use Rattle.lengths.proofs.Laws.{from-done, bind-done, cond-past, cond-done, cond-kept, done-same, true-within, LengthInside, within-done}
+use Rattle.lengths.proofs.Laws.{allowed-done}
 use Rattle.datagrams.specs.Sizes.{sparesLeast, sparesLimit, coveredLeast, coveredLimit, messagesLeast, messagesLimit}
 use Rattle.datagrams.specs.Write.{countInside}
-use Rattle.datagrams.specs.Read.{ExtraHead, after, octetAt, itemAt, itemsAt, endOf, sparesAt, parityAt, extraAt}
+use Rattle.datagrams.specs.Read.{ExtraHead, after, lengthFrom, octetAt, itemAt, itemsAt, endOf, sparesAt, parityAt, extraAt}
 use Rattle.datagrams.specs.Promise.{nowhere}
 use Rattle.datagrams.specs.Claims.{PartInside}
 use Rattle.datagrams.specs.declared.reader.Part.{Part}
@@ -30,7 +31,7 @@ pub record Octet (least most : ℕ) (s : List ℕ) (at : ℕ) (l : LengthAnswer)
 pub octet-done : (least most : ℕ) (s : List ℕ) (at : ℕ) (l : LengthAnswer) → octetAt least most s at ≡ done l → Octet least most s at l
 unfolding octetAt
 octet-done least most s at l e =
-    let some = cond-done (leb (length s) at) 1 _ l e in
+    let some = cond-done (leb (length s) at) 1 _ l (from-done at _ l e) in
     let fits = allowed-done least most (record { value = getD s at 0; size = 1 }) l (some .1) in
     record {
       inside = leb-false (length s) at (some .0);
@@ -40,10 +41,14 @@ octet-done least most s at l e =
       high = fits .2;
     }
 
--- a length or count that reads ends within the octets
-pub within-ends : (least most : ℕ) (s : List ℕ) (at : ℕ) (l : LengthAnswer) → lengthWithin least most (drop at s) ≡ done l
+-- a length or count that reads, and ends within the octets
+pub length-done : (least most : ℕ) (s : List ℕ) (at : ℕ) (l : LengthAnswer) → lengthFrom least most s at ≡ done l
+    → LengthInside least most (drop at s) l
+length-done least most s at l e = within-done least most (drop at s) l (from-done at (lengthWithin least most (drop at s)) l e)
+
+pub within-ends : (least most : ℕ) (s : List ℕ) (at : ℕ) (l : LengthAnswer) → lengthFrom least most s at ≡ done l
     → at ≤ length s → at + l .size ≤ length s
-within-ends least most s at l e room = omega (arith, within-done least most (drop at s) l e .sizes .inside, length-drop at s)
+within-ends least most s at l e room = omega (arith, length-done least most s at l e .sizes .inside, length-drop at s)
 
 -- a packet, spare or message that reads
 pub record Item (least most : ℕ) (s : List ℕ) (at : ℕ) (p : Part) : Type 0 where
@@ -58,10 +63,10 @@ pub record Item (least most : ℕ) (s : List ℕ) (at : ℕ) (p : Part) : Type 0
 pub item-done : (least most : ℕ) (s : List ℕ) (at : ℕ) (p : Part) → itemAt least most s at ≡ done p → Item least most s at p
 unfolding itemAt
 item-done least most s at p e =
-    let found = bind-done (lengthWithin least most (drop at s)) _ p e in
+    let found = bind-done (lengthFrom least most s at) _ p e in
     let l = found .0 in
-    let fits = within-done least most (drop at s) (found .0) (found .1) in
-    let some = cond-done (ltb (length s - (at + found .0 .size)) (found .0 .value)) 1 _ p (found .2) in
+    let fits = length-done least most s at (found .0) (found .1) in
+    let some = cond-past (ltb (length s - (at + found .0 .size)) (found .0 .value)) _ _ p (found .2) in
     let room = ltb-false (length s - (at + found .0 .size)) (found .0 .value) (some .0) in
     let same : _≡_ {A = Part} (record { start = at + found .0 .size; size = found .0 .value }) p = done-same (some .1) in
     let start = ap (λ (q : Part). q .start) same in
@@ -125,8 +130,8 @@ pub record Extra (s : List ℕ) (h : ExtraHead) : Type 0 where
 spares-done : (s : List ℕ) (at : ℕ) (h : ExtraHead) → at ≤ length s → sparesAt s at ≡ done h → Extra s h
 unfolding sparesAt
 spares-done s at h room e =
-    let found = bind-done (lengthWithin sparesLeast sparesLimit (drop at s)) _ h e in
-    let fits = within-done sparesLeast sparesLimit (drop at s) (found .0) (found .1) in
+    let found = bind-done (lengthFrom sparesLeast sparesLimit s at) _ h e in
+    let fits = length-done sparesLeast sparesLimit s at (found .0) (found .1) in
     rw (← done-same (found .2))
     (record {
       inside = within-ends sparesLeast sparesLimit s at (found .0) (found .1) room;
@@ -138,10 +143,10 @@ unfolding parityAt
 parity-done s at h room e =
     let one = bind-done (octetAt 1 1 s at) _ h e in
     let n = bind-done (octetAt coveredLeast coveredLimit s (at + 1)) _ h (one .2) in
-    let m = bind-done (lengthWithin messagesLeast messagesLimit (drop (at + 2) s)) _ h (n .2) in
+    let m = bind-done (lengthFrom messagesLeast messagesLimit s (at + 2)) _ h (n .2) in
     let next = octet-done coveredLeast coveredLimit s (at + 1) (n .0) (n .1) in
     let some = next .inside in
-    let fits = within-done messagesLeast messagesLimit (drop (at + 2) s) (m .0) (m .1) in
+    let fits = length-done messagesLeast messagesLimit s (at + 2) (m .0) (m .1) in
     rw (← done-same (m .2))
     (record {
       inside = within-ends messagesLeast messagesLimit s (at + 2) (m .0) (m .1) (omega arith);
@@ -155,8 +160,8 @@ parity-done s at h room e =
 pub extra-done : (s : List ℕ) (at : ℕ) (h : ExtraHead) → extraAt s at ≡ done h → Extra s h
 unfolding extraAt
 extra-done s at h e =
-    let some = cond-done (leb (length s) at) 1 _ h e in
-    let clear = cond-met (eqb (getD s at 0 % 128) 0) 5 _ h (some .1) in
+    let some = cond-past (leb (length s) at) _ _ h e in
+    let clear = cond-kept (eqb (getD s at 0 % 128) 0) _ _ h (some .1) in
     let room : at + 1 ≤ length s = omega (arith, leb-false (length s) at (some .0)) in
     pick (ltb (getD s at 0) 128) room (clear .1) where
       pick : (t : Bool) → at + 1 ≤ length s → cond t (sparesAt s (at + 1)) (parityAt s (at + 1)) ≡ done h → Extra s h

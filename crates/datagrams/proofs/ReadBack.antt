@@ -9,13 +9,13 @@ use lib.Seq.{length-take-le, drop-drop, drop-append-seam, take-append-seam, getD
 use native.Mathlib.Omega.{arith}
 use borrow.Author.Tests.{le-ltb, lt-leb}
 use Rattle.lengths.specs.Answers.{done}
-use Rattle.lengths.specs.Length.{lengthOctets, lengthLimit, within, lengthWithin}
+use Rattle.lengths.specs.Length.{lengthOctets, lengthLimit, within}
 use Rattle.lengths.proofs.Laws.{both, within-true, allowed-sizes, within-written}
 use Rattle.datagrams.specs.Sizes.{packetLeast, packetLimit, datagramLimit, sparesLeast, sparesLimit, coveredLeast, coveredLimit}
 use Rattle.datagrams.specs.Sizes.{messagesLeast, messagesLimit}
 use Rattle.datagrams.specs.Write.{numberOctets, itemOctets, itemsOctets, countedOctets, extraOctets, extraOf, datagramOctets}
 use Rattle.datagrams.specs.Write.{countInside, itemInside, itemsInside, cut, sumOf}
-use Rattle.datagrams.specs.Read.{after, octetsOf, octetAt, itemAt, itemsAt, endOf, sparesAt, parityAt, extraAt, leastOf, mostOf}
+use Rattle.datagrams.specs.Read.{after, octetsOf, lengthFrom, octetAt, itemAt, itemsAt, endOf, sparesAt, parityAt, extraAt, leastOf, mostOf}
 use Rattle.datagrams.specs.Read.{numberOf, readDatagram, carriedBy}
 use Rattle.datagrams.specs.Claims.{ReadsAs, WrittenReads}
 use Rattle.datagrams.specs.declared.reader.Part.{Part}
@@ -45,12 +45,15 @@ pub octet-is : (least most : ℕ) (s : List ℕ) (at v : ℕ) (t : List ℕ) →
     → octetAt least most s at ≡ done (record { value = v; size = 1 })
 unfolding octetAt
 octet-is least most s at v t e low high =
-    rw (lt-leb (length s) at (some-left s at v t e), first-left s at v t e)
-    (allowed-sizes least most (record { value = v; size = 1 }) low high)
+    rw (
+      lt-leb (length s) at (some-left s at v t e),
+      first-left s at v t e,
+      allowed-sizes least most (record { value = v; size = 1 }) low high,
+    )
 
 pub length-is : (least most : ℕ) (s : List ℕ) (at n : ℕ) (t : List ℕ) → drop at s ≡ lengthOctets n ++ t → least ≤ n → n ≤ most
-    → n ≤ lengthLimit → lengthWithin least most (drop at s) ≡ done (record { value = n; size = length (lengthOctets n) })
-length-is least most s at n t e low high fits = rw e (within-written least most n t low high fits)
+    → n ≤ lengthLimit → lengthFrom least most s at ≡ done (record { value = n; size = length (lengthOctets n) })
+length-is least most s at n t e low high fits = rw (e, within-written least most n t low high fits)
 
 -- a packet, spare or message that was written reads back
 pub record ItemBack (least most : ℕ) (s : List ℕ) (at : ℕ) (x rest : List ℕ) : Type 0 where

@@ -8,12 +8,12 @@ use lib.Seq.{getD-take, take-append-seam}
 use lib.Dec.{ltb}
 use native.Mathlib.Omega.{arith}
 use borrow.Author.Tests.{ltb-false, le-ltb}
-use Rattle.lengths.specs.Refusals.{endsEarly, tooLong, leftOver}
+use Rattle.lengths.specs.Refusals.{endsEarly, tooLong}
 use Rattle.lengths.specs.Answers.{Answer, done, refused}
 use Rattle.lengths.specs.Length.{within}
 use Rattle.lengths.specs.Claims.{Octets}
 use Rattle.lengths.specs.declared.Refusal.{Refusal}
-use Rattle.lengths.proofs.Laws.{bind-done, cond-done, done-same}
+use Rattle.lengths.proofs.Laws.{bind-done, cond-past, cond-done, done-same}
 use Rattle.datagrams.specs.Sizes.{packetLeast, packetLimit, datagramLimit}
 use Rattle.datagrams.specs.Read.{DatagramParts, ExtraHead, after, itemAt, itemsAt, endOf, extraAt, leastOf, mostOf, numberOf}
 use Rattle.datagrams.specs.Read.{wholeOf, readDatagram}
@@ -37,7 +37,7 @@ whole-done : (s : List ℕ) (number : ℕ) (packet : Part) (h : ExtraHead) (d : 
 unfolding wholeOf
 whole-done s number packet h d e =
     let found = bind-done (itemsAt (leastOf (h .kind)) (mostOf (h .kind)) s (h .first) (h .count)) _ d e in
-    let none = cond-done (ltb (endOf (h .first) (found .0)) (length s)) leftOver _ d (found .2) in
+    let none = cond-past (ltb (endOf (h .first) (found .0)) (length s)) _ _ d (found .2) in
     record {
       parts = found .0;
       same = done-same (none .1);

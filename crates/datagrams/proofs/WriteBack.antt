@@ -10,24 +10,23 @@ use lib.Dec.{leb, ltb, eqb}
 use native.Mathlib.Numerals.{add-one}
 use native.Mathlib.Omega.{arith}
 use borrow.Author.Tests.{ltb-true, ltb-false, leb-false, eqb-true}
-use Rattle.lengths.specs.Refusals.{endsEarly, spareBit}
 use Rattle.lengths.specs.Answers.{done, LengthAnswer}
-use Rattle.lengths.specs.Length.{lengthAt, lengthOctets, lengthWithin}
+use Rattle.lengths.specs.Length.{lengthAt, lengthOctets}
 use Rattle.lengths.specs.Claims.{Octets}
-use Rattle.lengths.proofs.Laws.{read-writes, bind-done, cond-done, cond-met, done-same, true-within, within-done}
+use Rattle.lengths.proofs.Laws.{read-writes, bind-done, cond-past, cond-kept, done-same, true-within}
 use Rattle.datagrams.specs.Sizes.{packetLeast, packetLimit, sparesLeast, sparesLimit, coveredLeast, coveredLimit, messagesLeast}
 use Rattle.datagrams.specs.Sizes.{messagesLimit}
 use Rattle.datagrams.specs.Write.{numberOctets, itemOctets, itemsOctets, extraOctets, extraOf, datagramOctets, itemInside}
 use Rattle.datagrams.specs.Write.{itemsInside, cut, sumOf}
 use Rattle.datagrams.specs.Inner.Heads.{kindHead}
-use Rattle.datagrams.specs.Read.{DatagramParts, ExtraHead, after, octetsOf, octetAt, itemAt, itemsAt, endOf, sparesAt, parityAt}
-use Rattle.datagrams.specs.Read.{extraAt, leastOf, mostOf}
+use Rattle.datagrams.specs.Read.{DatagramParts, ExtraHead, after, octetsOf, lengthFrom, octetAt, itemAt, itemsAt, endOf}
+use Rattle.datagrams.specs.Read.{sparesAt, parityAt, extraAt, leastOf, mostOf}
 use Rattle.datagrams.specs.Claims.{ReadWrites, lengthsOf, runOf}
 use Rattle.datagrams.specs.declared.reader.Part.{Part}
 use Rattle.datagrams.specs.declared.kind.Kind.{Kind}
 use Rattle.datagrams.specs.declared.kind.Kind.the-variants as kind
 use Rattle.datagrams.proofs.WriteLaws.{extra-form, Allowed, allowed-written}
-use Rattle.datagrams.proofs.PieceLaws.{octet-done, item-done, items-done, extra-done}
+use Rattle.datagrams.proofs.PieceLaws.{octet-done, length-done, item-done, items-done, extra-done}
 use Rattle.datagrams.proofs.ReadLaws.{Datagram, read-done}
 use Rattle.datagrams.proofs.ReadBack.{cut-flatten, sum-flatten}
 
@@ -106,8 +105,8 @@ spares-forth : (s : List ℕ) (at : ℕ) (h : ExtraHead) → Octets s → at < l
     → ExtraForth s at h
 unfolding sparesAt
 spares-forth s at h octets some is e =
-    let found = bind-done (lengthWithin sparesLeast sparesLimit (drop (at + 1) s)) _ h e in
-    let fits = within-done sparesLeast sparesLimit (drop (at + 1) s) (found .0) (found .1) in
+    let found = bind-done (lengthFrom sparesLeast sparesLimit s (at + 1)) _ h e in
+    let fits = length-done sparesLeast sparesLimit s (at + 1) (found .0) (found .1) in
     rw (← done-same (found .2))
     (record {
       whole =
@@ -121,10 +120,10 @@ unfolding parityAt
 parity-forth s at h octets some is e =
     let one = bind-done (octetAt 1 1 s (at + 1)) _ h e in
     let n = bind-done (octetAt coveredLeast coveredLimit s (at + 1 + 1)) _ h (one .2) in
-    let m = bind-done (lengthWithin messagesLeast messagesLimit (drop (at + 1 + 2) s)) _ h (n .2) in
+    let m = bind-done (lengthFrom messagesLeast messagesLimit s (at + 1 + 2)) _ h (n .2) in
     let first = octet-done 1 1 s (at + 1) (one .0) (one .1) in
     let second = octet-done coveredLeast coveredLimit s (at + 1 + 1) (n .0) (n .1) in
-    let third = within-done messagesLeast messagesLimit (drop (at + 1 + 2) s) (m .0) (m .1) in
+    let third = length-done messagesLeast messagesLimit s (at + 1 + 2) (m .0) (m .1) in
     let is-one : getD s (at + 1) 0 ≡ 1 = omega (arith, first .value, first .low, first .high) in
     let on : at + 1 + 1 + 1 ≡ at + 1 + 2 = omega arith in
     rw (← done-same (m .2))
@@ -142,8 +141,8 @@ parity-forth s at h octets some is e =
 extra-forth : (s : List ℕ) (at : ℕ) (h : ExtraHead) → Octets s → extraAt s at ≡ done h → ExtraForth s at h
 unfolding extraAt
 extra-forth s at h octets e =
-    let some = cond-done (leb (length s) at) endsEarly _ h e in
-    let clear = cond-met (eqb (getD s at 0 % 128) 0) spareBit _ h (some .1) in
+    let some = cond-past (leb (length s) at) _ _ h e in
+    let clear = cond-kept (eqb (getD s at 0 % 128) 0) _ _ h (some .1) in
     pick (ltb (getD s at 0) 128) refl (leb-false (length s) at (some .0)) (eqb-true (getD s at 0 % 128) 0 (clear .0)) (clear .1) where
       pick : (t : Bool) → ltb (getD s at 0) 128 ≡ t → at < length s → getD s at 0 % 128 ≡ 0
           → cond t (sparesAt s (at + 1)) (parityAt s (at + 1)) ≡ done h → ExtraForth s at h

@@ -4,8 +4,8 @@ use Prim.Native.Nat.{ℕ}
 use mathlib.Core.Path.{_≡_}
 use mathlib.Core.List.{List, [], _∷_, _++_}
 use lib.ListN.{replicate}
-use Rattle.lengths.specs.Refusals.{endsEarly, tooLong, badForm, outsideSizes, spareBit, wrongSettings}
-use Rattle.lengths.specs.Answers.{Answer, done, refuse}
+use Rattle.lengths.specs.Refusals.{endsEarly, tooLong, outsideSizes, spareBit, leftOver, wrongSettings}
+use Rattle.lengths.specs.Answers.{Answer, done, refuse, refuseAt}
 use Rattle.datagrams.specs.Write.{datagramToWrite}
 use Rattle.datagrams.specs.Read.{DatagramParts, readDatagram}
 use Rattle.datagrams.specs.declared.kind.Kind.the-variants as kind
@@ -20,21 +20,21 @@ pub record ReadCases : Type 0 where
   pub number-256 : reads (0x00 ∷ 0x00 ∷ [])
       ≡ done (record { number = 256; packet = record { start = 3; size = 1 }; kind = kind.Spares; items = [] })
   -- "At a length: 3 or 1 in its form, then 4, then 1 for missing octets"
-  pub packet-161 : readDatagram (0x00 ∷ 0x00 ∷ 0x80 ∷ 0xA1 ∷ []) ≡ refuse outsideSizes
-  pub packet-0 : readDatagram (0x00 ∷ 0x00 ∷ 0x00 ∷ []) ≡ refuse outsideSizes
+  pub packet-161 : readDatagram (0x00 ∷ 0x00 ∷ 0x80 ∷ 0xA1 ∷ []) ≡ refuseAt 2 outsideSizes
+  pub packet-0 : readDatagram (0x00 ∷ 0x00 ∷ 0x00 ∷ []) ≡ refuseAt 2 outsideSizes
   -- "one octet, 00 for spares or 80 for parity; its low seven bits are zero"
-  pub bit-40 : reads (0x40 ∷ []) ≡ refuse spareBit
-  pub spares-9 : reads (0x00 ∷ 0x09 ∷ []) ≡ refuse outsideSizes
+  pub bit-40 : reads (0x40 ∷ []) ≡ refuseAt 4 spareBit
+  pub spares-9 : reads (0x00 ∷ 0x09 ∷ []) ≡ refuseAt 5 outsideSizes
   -- a spare is a packet: 1 to 160 octets
-  pub spare-0 : reads (0x00 ∷ 0x01 ∷ 0x00 ∷ []) ≡ refuse outsideSizes
-  pub spare-161 : reads (0x00 ∷ 0x01 ∷ 0x80 ∷ 0xA1 ∷ []) ≡ refuse outsideSizes
+  pub spare-0 : reads (0x00 ∷ 0x01 ∷ 0x00 ∷ []) ≡ refuseAt 6 outsideSizes
+  pub spare-161 : reads (0x00 ∷ 0x01 ∷ 0x80 ∷ 0xA1 ∷ []) ≡ refuseAt 6 outsideSizes
   -- "Parity: octet 01, octet n": plain octets, not by the length rule, and then "count m"
-  pub octet-c0 : reads (0x80 ∷ 0xC0 ∷ []) ≡ refuse outsideSizes
-  pub octet-02 : reads (0x80 ∷ 0x02 ∷ []) ≡ refuse outsideSizes
-  pub n-0 : reads (0x80 ∷ 0x01 ∷ 0x00 ∷ []) ≡ refuse outsideSizes
-  pub n-9 : reads (0x80 ∷ 0x01 ∷ 0x09 ∷ []) ≡ refuse outsideSizes
-  pub m-0 : reads (0x80 ∷ 0x01 ∷ 0x02 ∷ 0x00 ∷ []) ≡ refuse outsideSizes
-  pub m-5 : reads (0x80 ∷ 0x01 ∷ 0x02 ∷ 0x05 ∷ []) ≡ refuse outsideSizes
+  pub octet-c0 : reads (0x80 ∷ 0xC0 ∷ []) ≡ refuseAt 5 outsideSizes
+  pub octet-02 : reads (0x80 ∷ 0x02 ∷ []) ≡ refuseAt 5 outsideSizes
+  pub n-0 : reads (0x80 ∷ 0x01 ∷ 0x00 ∷ []) ≡ refuseAt 6 outsideSizes
+  pub n-9 : reads (0x80 ∷ 0x01 ∷ 0x09 ∷ []) ≡ refuseAt 6 outsideSizes
+  pub m-0 : reads (0x80 ∷ 0x01 ∷ 0x02 ∷ 0x00 ∷ []) ≡ refuseAt 7 outsideSizes
+  pub m-5 : reads (0x80 ∷ 0x01 ∷ 0x02 ∷ 0x05 ∷ []) ≡ refuseAt 7 outsideSizes
   -- a message may be empty
   pub message-0 : reads (0x80 ∷ 0x01 ∷ 0x02 ∷ 0x01 ∷ 0x00 ∷ [])
       ≡ done (record {
@@ -43,6 +43,27 @@ pub record ReadCases : Type 0 where
         kind = kind.Parity 2;
         items = record { start = 9; size = 0 } ∷ [];
       })
+
+-- document 02, request 5: the octet at which the refused item begins, where the datagram ends too early or goes on too long
+pub record PlaceCases : Type 0 where
+  -- the number is one item
+  pub nothing : readDatagram [] ≡ refuseAt 0 endsEarly
+  pub half-number : readDatagram (0x00 ∷ []) ≡ refuseAt 0 endsEarly
+  -- "A length .. and the octets a length promises are each one item"
+  pub no-length : readDatagram (0x00 ∷ 0x00 ∷ []) ≡ refuseAt 2 endsEarly
+  pub half-packet : readDatagram (0x00 ∷ 0x00 ∷ 0x02 ∷ 0x06 ∷ []) ≡ refuseAt 3 endsEarly
+  pub packet-128 : readDatagram (0x00 ∷ 0x00 ∷ 0x80 ∷ 0x80 ∷ []) ≡ refuseAt 4 endsEarly
+  pub no-kind : reads [] ≡ refuseAt 4 endsEarly
+  pub no-count : reads (0x00 ∷ []) ≡ refuseAt 5 endsEarly
+  -- and so are octet 01 and octet n
+  pub no-octet-01 : reads (0x80 ∷ []) ≡ refuseAt 5 endsEarly
+  pub no-n : reads (0x80 ∷ 0x01 ∷ []) ≡ refuseAt 6 endsEarly
+  pub no-m : reads (0x80 ∷ 0x01 ∷ 0x02 ∷ []) ≡ refuseAt 7 endsEarly
+  -- "from the start of the datagram": the second of two spares, and a message
+  pub second-spare : reads (0x00 ∷ 0x02 ∷ 0x01 ∷ 0xAA ∷ 0x02 ∷ 0xBB ∷ []) ≡ refuseAt 9 endsEarly
+  pub half-message : reads (0x80 ∷ 0x01 ∷ 0x02 ∷ 0x01 ∷ 0x02 ∷ 0xAA ∷ []) ≡ refuseAt 9 endsEarly
+  -- "for 6 it is the first octet left over"
+  pub left-over : reads (0x00 ∷ 0x00 ∷ 0xAA ∷ 0xBB ∷ []) ≡ refuseAt 6 leftOver
 
 pub record WriteCases : Type 0 where
   -- "n or a count outside the sizes 4, then 15, 4"

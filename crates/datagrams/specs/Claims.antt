@@ -5,7 +5,7 @@ use mathlib.Core.Bool.{true}
 use mathlib.Core.List.{List, [], _∷_, map, flatten}
 use lib.ListN.{length, getD}
 use Rattle.lengths.specs.Refusals.{endsEarly, badForm, spareBit, leftOver}
-use Rattle.lengths.specs.Answers.{done, refuse}
+use Rattle.lengths.specs.Answers.{done, refuseAt}
 use Rattle.lengths.specs.Claims.{Octets}
 use Rattle.datagrams.specs.Sizes.{packetLeast, packetLimit}
 use Rattle.datagrams.specs.Carried.{Carried}
@@ -70,10 +70,10 @@ pub record OneOutcome : Type 0 where
 
 pub record Cases : Type 0 where
   -- C0 or more as the last octet is 3, not 1
-  pub last-c0 : readDatagram (0x00 ∷ 0x00 ∷ 0xC0 ∷ []) ≡ refuse badForm
-  pub last-80 : readDatagram (0x00 ∷ 0x00 ∷ 0x80 ∷ []) ≡ refuse endsEarly
-  pub low-bits : readDatagram (0x00 ∷ 0x00 ∷ 0x01 ∷ 0x06 ∷ 0x81 ∷ []) ≡ refuse spareBit
-  pub left-over : readDatagram (0x00 ∷ 0x00 ∷ 0x01 ∷ 0x06 ∷ 0x00 ∷ 0x00 ∷ 0x00 ∷ []) ≡ refuse leftOver
+  pub last-c0 : readDatagram (0x00 ∷ 0x00 ∷ 0xC0 ∷ []) ≡ refuseAt 2 badForm
+  pub last-80 : readDatagram (0x00 ∷ 0x00 ∷ 0x80 ∷ []) ≡ refuseAt 2 endsEarly
+  pub low-bits : readDatagram (0x00 ∷ 0x00 ∷ 0x01 ∷ 0x06 ∷ 0x81 ∷ []) ≡ refuseAt 4 spareBit
+  pub left-over : readDatagram (0x00 ∷ 0x00 ∷ 0x01 ∷ 0x06 ∷ 0x00 ∷ 0x00 ∷ 0x00 ∷ []) ≡ refuseAt 6 leftOver
 
 pub record Claims : Type 0 where
   pub writtenReads : WrittenReads

@@ -1,14 +1,16 @@
 -- Document 01, 'The datagram', as it is read: "Number: two octets, high first. Then the newest packet: length, octets. Then
 -- one octet, 00 for spares or 80 for parity; its low seven bits are zero. Spares: a count, then each with its length ..
 -- Parity: octet 01, octet n, count m, then m messages, each with its length. Nothing follows." And of the order: "At a
--- length: 3 or 1 in its form, then 4, then 1 for missing octets", "Datagram reader: 2, then reading order". Definitions only.
+-- length: 3 or 1 in its form, then 4, then 1 for missing octets", "Datagram reader: 2, then reading order". Document 02, request 5, of
+-- the place: "Every refusal met in reading order shall give the octet at which the refused item begins .. A length .. and the octets a
+-- length promises are each one item; for 6 it is the first octet left over". Definitions only.
 use Prim.Native.Nat.{ℕ, zero, suc, _+_, _-_, _*_, _%_}
 use mathlib.Core.Bool.{cond}
 use mathlib.Core.List.{List, [], _∷_, map}
 use lib.ListN.{length, getD, take, drop}
 use lib.Dec.{leb, ltb, eqb}
 use Rattle.lengths.specs.Refusals.{endsEarly, tooLong, spareBit, leftOver}
-use Rattle.lengths.specs.Answers.{Answer, done, refuse, _>>=_, LengthAnswer}
+use Rattle.lengths.specs.Answers.{Answer, done, refuse, refuseAt, readFrom, _>>=_, LengthAnswer}
 use Rattle.lengths.specs.Length.{allowed, lengthWithin}
 use Rattle.datagrams.specs.Sizes.{packetLeast, packetLimit, messageLeast, messageLimit, datagramLimit, sparesLeast, sparesLimit}
 use Rattle.datagrams.specs.Sizes.{coveredLeast, coveredLimit, messagesLeast, messagesLimit}
@@ -31,17 +33,22 @@ pub record DatagramParts : Type 0 where
 abbrev pub after : Part → ℕ
 after p = p .start + p .size
 
+-- a length or count from least to most
+abbrev pub lengthFrom : ℕ → ℕ → List ℕ → ℕ → Answer LengthAnswer
+lengthFrom least most s at = readFrom at (lengthWithin least most (drop at s))
+
 -- a plain octet from least to most, that is no length
 unfoldable pub octetAt : ℕ → ℕ → List ℕ → ℕ → Answer LengthAnswer
 octetAt least most s at =
-    cond (leb (length s) at) (refuse endsEarly)
-    (allowed least most (record { value = getD s at 0; size = 1 }))
+    readFrom at
+    (cond (leb (length s) at) (refuse endsEarly)
+    (allowed least most (record { value = getD s at 0; size = 1 })))
 
 -- a packet, spare or message: length, octets
 unfoldable pub itemAt : ℕ → ℕ → List ℕ → ℕ → Answer Part
 itemAt least most s at = do
-  l ← lengthWithin least most (drop at s)
-  cond (ltb (length s - (at + l .size)) (l .value)) (refuse endsEarly)
+  l ← lengthFrom least most s at
+  cond (ltb (length s - (at + l .size)) (l .value)) (refuseAt (at + l .size) endsEarly)
       (done (record { start = at + l .size; size = l .value }))
 
 -- so many of them, one after the other
@@ -68,7 +75,7 @@ pub record ExtraHead : Type 0 where
 -- "Spares: a count"
 unfoldable pub sparesAt : List ℕ → ℕ → Answer ExtraHead
 sparesAt s at = do
-  k ← lengthWithin sparesLeast sparesLimit (drop at s)
+  k ← lengthFrom sparesLeast sparesLimit s at
   done (record { kind = kind.Spares; count = k .value; first = at + k .size })
 
 -- "Parity: octet 01, octet n, count m"
@@ -76,16 +83,16 @@ unfoldable pub parityAt : List ℕ → ℕ → Answer ExtraHead
 parityAt s at = do
   one ← octetAt 1 1 s at
   n ← octetAt coveredLeast coveredLimit s (at + 1)
-  m ← lengthWithin messagesLeast messagesLimit (drop (at + 2) s)
+  m ← lengthFrom messagesLeast messagesLimit s (at + 2)
   done (record { kind = kind.Parity (n .value); count = m .value; first = at + 2 + m .size })
 
 -- "Then one octet, 00 for spares or 80 for parity; its low seven bits are zero"
 unfoldable pub extraAt : List ℕ → ℕ → Answer ExtraHead
 extraAt s at =
-    cond (leb (length s) at) (refuse endsEarly)
+    cond (leb (length s) at) (refuseAt at endsEarly)
     (cond (eqb (getD s at 0 % 0x80) 0)
     (cond (ltb (getD s at 0) 0x80) (sparesAt s (at + 1)) (parityAt s (at + 1)))
-    (refuse spareBit))
+    (refuseAt at spareBit))
 
 -- a spare is a packet; a message may be empty
 abbrev pub leastOf : Kind → ℕ
@@ -106,7 +113,7 @@ numberOf s = cond (ltb (length s) 2) (refuse endsEarly) (done (getD s 0 0 * 256 
 unfoldable pub wholeOf : List ℕ → ℕ → Part → ExtraHead → Answer DatagramParts
 wholeOf s number packet extra = do
   items ← itemsAt (leastOf (extra .kind)) (mostOf (extra .kind)) s (extra .first) (extra .count)
-  cond (ltb (endOf (extra .first) items) (length s)) (refuse leftOver)
+  cond (ltb (endOf (extra .first) items) (length s)) (refuseAt (endOf (extra .first) items) leftOver)
       (done (record { number = number; packet = packet; kind = extra .kind; items = items }))
 
 -- the whole, in reading order

@@ -11,7 +11,10 @@ use lib.Seq.{getD-append-add}
 use native.Mathlib.Omega.{arith}
 use borrow.Author.Tests.{lt-ltb}
 use Rattle.octets.proofs.Laws.{below-or-not, same-or-not}
-use Rattle.lengths.specs.Refusals.{endsEarly, tooLong, leftOver}
+use Rattle.lengths.specs.Refusals.{refusal, refusalAt, endsEarly, tooLong, leftOver}
+use Rattle.lengths.specs.Answers.{Answer, done, refused}
+use Rattle.lengths.specs.declared.Refusal.{Refusal}
+use Rattle.lengths.proofs.Laws.{refused-same, refused-some, done-none}
 use Rattle.lengths.specs.Claims.{Octets}
 use Rattle.datagrams.specs.Sizes.{packetLeast, packetLimit, datagramLimit}
 use Rattle.datagrams.specs.Read.{readDatagram}
@@ -19,25 +22,38 @@ use Rattle.datagrams.specs.Promise.{DatagramReads, readOutcome}
 use Rattle.datagrams.specs.declared.reader.DatagramRead.{DatagramRead}
 use Rattle.lengths.specs.Tables.{refusalIn}
 use Rattle.demands.specs.DatagramItems.{packet, kind, formOf, brings, rightOctets, begins, passes, WholeDatagram}
-use Rattle.demands.specs.DatagramRefusals.{FirstWrong, Followed, Front, CutOver, RefusalOf, DatagramRefusals}
-use Rattle.demands.proofs.DatagramWalk.{Walk, ends, stops, one-walk, start, walk-from, walk-ends, Ended}
+use Rattle.demands.specs.DatagramRefusals.{FirstWrong, Followed, Front, CutOver, RefusalOf, PlacedIn, DatagramRefusals}
+use Rattle.demands.proofs.DatagramWalk.{whyIn, Walk, ends, stops, one-walk, start, walk-from, StopsAt, walk-ends, Ended}
 use Rattle.demands.proofs.DatagramSteps.{read-walk}
-use Rattle.demands.proofs.DatagramFronts.{cut-short, whole-short}
+use Rattle.demands.proofs.DatagramFronts.{all-come, cut-short, whole-short}
 use Rattle.demands.proofs.DatagramNumbers.{never-over, ends-early, followed-wrong, wrong-followed, wrong-longer}
 use Rattle.demands.proofs.DatagramCut.{completed, cut-wrong, front-wrong}
 
 -- ---- a datagram is not wrong
-whole-walks : {s : List ℕ} → WholeDatagram s → Walk start s none
-whole-walks {s} whole = subst (λ (l : List ℕ). Walk start l none) (append-nil s) (walk-from whole ends)
+whole-walks : {s : List ℕ} → WholeDatagram s → Walk 0 start s none
+whole-walks {s} whole = subst (λ (l : List ℕ). Walk 0 start l none) (append-nil s) (walk-from whole ends)
 
-wrong-walks : {s : List ℕ} {n : ℕ} → FirstWrong s n → Walk start s (some n)
-wrong-walks {s} {n} w = subst (λ (l : List ℕ). Walk start l (some n)) (sym (w .is)) (walk-from (w .due) (stops (w .wrong)))
+-- the refusal of octets of which this is the first wrong item
+abbrev whyWrong : {s : List ℕ} {n : ℕ} → FirstWrong s n → Refusal
+whyWrong {n = n} w = refusalAt (length (w .before)) n
 
-not-none : {n : ℕ} {o : Option ℕ} → o ≡ none → o ≡ some n → ⊥
+wrong-walks : {s : List ℕ} {n : ℕ} (w : FirstWrong s n) → Walk 0 start s (some (whyWrong w))
+wrong-walks {s} {n} w = subst (λ (l : List ℕ). Walk 0 start l (some (whyWrong w))) (sym (w .is)) (walk-from (w .due) (stops (w .wrong)))
+
+not-none : {A : Type 0} {a : A} {o : Option A} → o ≡ none → o ≡ some a → ⊥
 not-none p q = let z : _≡_ {A = ℕ} 0 1 = cc in omega arith
 
-some-same : {n k : ℕ} {o : Option ℕ} → o ≡ some n → o ≡ some k → n ≡ k
+some-same : {A : Type 0} {n k : A} {o : Option A} → o ≡ some n → o ≡ some k → n ≡ k
 some-same p q = cc
+
+-- the number of a refusal
+abbrev numberIn : Option Refusal → Option ℕ
+numberIn none = none
+numberIn (some why) = some (why .number)
+
+number-in : {A : Type 0} (m : Answer A) → refusalIn m ≡ numberIn (whyIn m)
+number-in (done a) = refl
+number-in (refused why) = refl
 
 whole-right : {s : List ℕ} {n : ℕ} → WholeDatagram s → FirstWrong s n → ⊥
 whole-right whole w = not-none refl (one-walk (whole-walks whole) (wrong-walks w))
@@ -56,16 +72,24 @@ module _ (s : List ℕ) (octets : Octets s) where
   within-limit e other = ⊎-elim (λ long. absurd (other (sym e ∙ is-over long))) (λ short. short) (below-or-not datagramLimit (length s))
 
   is-whole : WholeDatagram s → answer ≡ none
-  is-whole whole = one-walk (read-walk s octets (whole-short whole)) (whole-walks whole)
+  is-whole whole = number-in (readDatagram s) ∙ ap numberIn (one-walk (read-walk s octets (whole-short whole)) (whole-walks whole))
+
+  why-wrong : {n : ℕ} → length s ≤ datagramLimit → (w : FirstWrong s n) → whyIn (readDatagram s) ≡ some (whyWrong w)
+  why-wrong short w = one-walk (read-walk s octets short) (wrong-walks w)
 
   is-wrong : {n : ℕ} → length s ≤ datagramLimit → FirstWrong s n → answer ≡ some n
-  is-wrong short w = one-walk (read-walk s octets short) (wrong-walks w)
+  is-wrong short w = number-in (readDatagram s) ∙ ap numberIn (why-wrong short w)
 
   whole-is : answer ≡ none → WholeDatagram s
-  whole-is e = subst (Ended s) e (walk-ends begins (read-walk s octets (within-limit e (λ q. not-none refl q))))
+  whole-is e =
+      subst (Ended s) (ap whyIn (done-none (readDatagram s) e .1))
+      (walk-ends refl begins (read-walk s octets (within-limit e (λ q. not-none refl q))))
 
   wrong-is : (n : ℕ) → length s ≤ datagramLimit → answer ≡ some n → FirstWrong s n
-  wrong-is n short e = subst (Ended s) e (walk-ends begins (read-walk s octets short))
+  wrong-is n short e =
+      let got = refused-some (readDatagram s) n e in
+      let ended : StopsAt s (got .0) = subst (Ended s) (ap whyIn (got .1)) (walk-ends refl begins (read-walk s octets short)) in
+      subst (FirstWrong s) (some-same (ap refusalIn (got .1)) e) (ended .wrong)
 
   over-is : answer ≡ some tooLong → datagramLimit < length s
   over-is e =
@@ -107,6 +131,28 @@ module _ (s : List ℕ) (octets : Octets s) where
         followed = λ short. (λ e. wrong-followed (wrong-is leftOver short e), λ f. is-wrong short (followed-wrong f));
         cut = (cut-is, λ c. ⊎-elim is-front (λ cut. is-wrong (cut-short cut) (cut-wrong cut)) c);
       }
+
+  -- where
+  module _ {why : Refusal} (e : readDatagram s ≡ refused why) where
+    over-place : datagramLimit < length s → why .place ≡ 0
+    unfolding readDatagram
+    over-place long =
+        let same : refusal tooLong ≡ why = refused-same (rw (lt-ltb datagramLimit (length s) long) at e) in
+        ap (λ (r : Refusal). r .place) (sym same)
+
+    item-place : length s ≤ datagramLimit → (w : FirstWrong s (why .number)) → why .place ≡ length (w .before)
+    item-place short w = ap (λ (r : Refusal). r .place) (some-same (ap whyIn e) (why-wrong short w))
+
+    place-few : why .place ≤ datagramLimit
+    place-few =
+        ⊎-elim (λ long. omega (arith, over-place long))
+        (λ short.
+        let w = wrong-is (why .number) short (ap refusalIn e) in
+        omega (arith, item-place short w, ap length (w .is), length-append (w .before) (w .rest)))
+        (below-or-not datagramLimit (length s))
+
+    pub placed : PlacedIn s why
+    placed = record { over = over-place; item = item-place; few = place-few }
 
 octets-front : (s more : List ℕ) → Octets (s ++ more) → Octets s
 octets-front s more octets i =
@@ -156,6 +202,10 @@ pub datagram-refusals : DatagramRefusals
 datagram-refusals =
     record {
       refusal = reads-told;
+      placed = λ {s} octets p e. placed s octets (sym (p .answer) ∙ e);
+      begun = λ w.
+          let c = all-come (w .items) (w .before) (w .due) in
+          record { more = c .more; octets = c .octets; whole = c .due };
       front = λ s more first octets q reads p.
           reads-told (octets-front s (first ∷ more) octets) p .cut .1
           (inl (record {

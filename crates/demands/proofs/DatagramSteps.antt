@@ -1,5 +1,5 @@
--- The datagram reader goes from item to item: of octets within the limit it tells what the walk over their items tells. Each of its
--- pieces is a step of the walk or two, at a place of the octets; what is left from there on is what the walk meets. Assumes nothing.
+-- The datagram reader goes from item to item: of octets within the limit it tells what the walk over their items tells, place and all.
+-- Each of its pieces is a step of the walk or two, at a place of the octets; what is left from there on is what the walk meets. Assumes nothing.
 use Prim.Native.Nat.{ℕ, zero, suc, _+_, _-_, _*_, _%_, _≤_}
 use mathlib.Core.Path.{_≡_, refl, sym, ap, subst, _∙_}
 use mathlib.Core.Logic.{⊎-elim}
@@ -11,24 +11,25 @@ use lib.Dec.{leb, ltb, eqb}
 use native.Mathlib.Omega.{arith}
 use borrow.Author.Tests.{lt-ltb, le-ltb, le-leb, lt-leb}
 use Rattle.octets.proofs.Laws.{below-or-not}
-use Rattle.lengths.specs.Refusals.{endsEarly, spareBit, leftOver}
-use Rattle.lengths.specs.Answers.{Answer, done, refused, refuse, _>>=_, LengthAnswer}
+use Rattle.lengths.specs.Refusals.{refusal, refusalAt, endsEarly, spareBit, leftOver}
+use Rattle.lengths.specs.Answers.{Answer, done, refused, refuse, refuseAt, readFrom, _>>=_, LengthAnswer}
+use Rattle.lengths.specs.declared.Refusal.{Refusal}
+use Rattle.lengths.proofs.Laws.{from-front}
 use Rattle.lengths.specs.Claims.{Octets}
 use Rattle.datagrams.specs.Sizes.{packetLeast, packetLimit, datagramLimit, sparesLeast, sparesLimit, coveredLeast, coveredLimit}
 use Rattle.datagrams.specs.Sizes.{messagesLeast, messagesLimit}
-use Rattle.datagrams.specs.Read.{ExtraHead, after, octetAt, itemAt, itemsAt, endOf}
+use Rattle.datagrams.specs.Read.{ExtraHead, after, lengthFrom, octetAt, itemAt, itemsAt, endOf}
 use Rattle.datagrams.specs.Read.{sparesAt, parityAt, extraAt, leastOf, mostOf, numberOf, wholeOf, readDatagram}
 use Rattle.datagrams.specs.declared.reader.Part.{Part}
 use Rattle.datagrams.specs.declared.kind.Kind.the-variants as kinds
 use Rattle.datagrams.proofs.Laws.{rest-after}
-use Rattle.lengths.specs.Tables.{refusalIn}
 use Rattle.lengths.specs.Length.{allowed, lengthWithin}
 use Rattle.demands.specs.DatagramItems.{Item, number, packet, kind, spares, octet01, octetN, countM, message, inside, Form}
 use Rattle.demands.specs.DatagramItems.{many, sized, plain, flag, formOf, formDue, brings, Right, rightOctets, rightOctet}
 use Rattle.demands.specs.DatagramItems.{rightSpares, rightParity}
 use Rattle.demands.specs.DatagramRefusals.{Wrong, moreOctets}
 use Rattle.demands.proofs.DatagramForms.{formAt, found, Stands, right, wrong, octets-stand, octet-stands, size-stands, flag-stands}
-use Rattle.demands.proofs.DatagramWalk.{Walk, ends, stops, steps, start}
+use Rattle.demands.proofs.DatagramWalk.{whyIn, Walk, ends, stops, steps, start}
 
 -- ---- steps of the reader
 then-then : {A B C : Type 0} (m : Answer A) (f : A → Answer B) (g : B → Answer C)
@@ -36,26 +37,34 @@ then-then : {A B C : Type 0} (m : Answer A) (f : A → Answer B) (g : B → Answ
 then-then (done a) f g = refl
 then-then (refused why) f g = refl
 
-test-then : {A B : Type 0} (t : Bool) (n : ℕ) (a : A) (g : A → Answer B) → _>>=_ (cond t (refuse n) (done a)) g ≡ cond t (refuse n) (g a)
-test-then true n a g = refl
-test-then false n a g = refl
+test-then : {A B : Type 0} (t : Bool) (why : Refusal) (a : A) (g : A → Answer B)
+    → _>>=_ (cond t (refused why) (done a)) g ≡ cond t (refused why) (g a)
+test-then true why a g = refl
+test-then false why a g = refl
+
+-- and of one at the front of what is read from a place on
+test-from : {A B : Type 0} (t : Bool) (at n : ℕ) (a : A) (g : A → Answer B)
+    → _>>=_ (readFrom at (cond t (refuse n) (done a))) g ≡ cond t (refuseAt at n) (g a)
+test-from true at n a g = ap (λ (m : Answer _). _>>=_ m g) (from-front at n)
+test-from false at n a g = refl
 
 -- the octet at a place, if there is one
-one-at : (s : List ℕ) (at : ℕ) {A : Type 0} (test : ℕ → Answer A) (f : List ℕ → Answer A) → f [] ≡ refuse endsEarly
+one-at : (s : List ℕ) (at : ℕ) {A : Type 0} (m : Answer A) (test : ℕ → Answer A) (f : List ℕ → Answer A) → f [] ≡ m
     → ((first : ℕ) (rest : List ℕ) → f (first ∷ rest) ≡ test first)
-    → cond (leb (length s) at) (refuse endsEarly) (test (getD s at 0)) ≡ f (drop at s)
-one-at s at test f none-there there =
+    → cond (leb (length s) at) m (test (getD s at 0)) ≡ f (drop at s)
+one-at s at m test f none-there there =
     ⊎-elim
-    (λ low. ap (λ (b : Bool). cond b (refuse endsEarly) (test (getD s at 0))) (lt-leb (length s) at low)
+    (λ low. ap (λ (b : Bool). cond b m (test (getD s at 0))) (lt-leb (length s) at low)
     ∙ sym (there (getD s at 0) (drop (suc at) s)) ∙ ap f (sym (drop-cons s at 0 low)))
-    (λ past. ap (λ (b : Bool). cond b (refuse endsEarly) (test (getD s at 0))) (le-leb (length s) at past)
+    (λ past. ap (λ (b : Bool). cond b m (test (getD s at 0))) (le-leb (length s) at past)
     ∙ sym none-there ∙ ap f (sym (drop-of-length-le s past)))
     (below-or-not at (length s))
 
-flag-then : {A : Type 0} (g : ℕ → Answer A) (first : ℕ) (t : Bool)
-    → _>>=_ (cond t (found first 1) (refuse spareBit)) (λ (l : LengthAnswer). g (l .value)) ≡ cond t (g first) (refuse spareBit)
-flag-then g first true = refl
-flag-then g first false = refl
+flag-then : {A : Type 0} (at : ℕ) (g : ℕ → Answer A) (first : ℕ) (t : Bool)
+    → _>>=_ (readFrom at (cond t (found first 1) (refuse spareBit))) (λ (l : LengthAnswer). g (l .value))
+    ≡ cond t (g first) (refuseAt at spareBit)
+flag-then at g first true = refl
+flag-then at g first false = ap (λ (m : Answer LengthAnswer). _>>=_ m (λ (l : LengthAnswer). g (l .value))) (from-front at spareBit)
 
 many-right : {n v : ℕ} {x : List ℕ} → Right (many n) x v → (v ≡ 0) × (length x ≡ n)
 many-right (rightOctets is) = (refl, is)
@@ -73,7 +82,7 @@ none-off n = omega arith
 
 -- with these items due at this place, the walk tells what the reader's next steps tell
 abbrev Leads : {B : Type 0} → List ℕ → List Item → ℕ → Answer B → Type 0
-Leads s items at m = Walk items (drop at s) (refusalIn m)
+Leads s items at m = Walk at items (drop at s) (whyIn m)
 
 module _ (s : List ℕ) (octets : Octets s) where
   left-octets : (at : ℕ) → Octets (drop at s)
@@ -83,24 +92,27 @@ module _ (s : List ℕ) (octets : Octets s) where
       → formOf item ≡ f → Stands f (drop at s) a
       → ((x : List ℕ) (v n : ℕ) → Right f x v → length x ≡ n
       → Leads s (brings item v ++ later) (at + n) (g (record { value = v; size = n })))
-      → Leads s (item ∷ later) at (_>>=_ a g)
+      → Leads s (item ∷ later) at (_>>=_ (readFrom at a) g)
   unfolding formDue
   step {item = item} {later} at g is (right {x} {v} {n} t r e long) next =
       let left : drop (at + n) s ≡ t = ap (λ (k : ℕ). drop (at + k) s) (sym long) ∙ rest-after s x t at e in
       steps t (subst (λ (f : Form). Right f x v) (sym is) r) e
-      (subst (λ (l : List ℕ). Walk (brings item v ++ later) l (refusalIn (g (record { value = v; size = n })))) left (next x v n r long))
+      (subst (λ (l : List ℕ). Walk (at + length x) (brings item v ++ later) l (whyIn (g (record { value = v; size = n })))) left
+      (subst (λ (k : ℕ). Walk (at + k) (brings item v ++ later) (drop (at + n) s) (whyIn (g (record { value = v; size = n })))) (sym long)
+      (next x v n r long)))
   step {item = item} {later} at g is (wrong {n} w) next =
-      stops {items = item ∷ later} (subst (λ (f : Form). Wrong f (drop at s) n) (sym is) w)
+      subst (λ (m : Answer LengthAnswer). Leads s (item ∷ later) at (_>>=_ m g)) (sym (from-front at n))
+      (stops {items = item ∷ later} (subst (λ (f : Form). Wrong f (drop at s) n) (sym is) w))
 
   -- so many octets
   many-walk : {B : Type 0} (item : Item) (later : List Item) (at n : ℕ) (m : Answer B) → formOf item ≡ many n → brings item 0 ≡ []
       → Leads s later (at + n) m
-      → Leads s (item ∷ later) at (cond (ltb (length s - at) n) (refuse endsEarly) m)
+      → Leads s (item ∷ later) at (cond (ltb (length s - at) n) (refuseAt at endsEarly) m)
   unfolding formAt
   many-walk item later at n m is none-brought next =
       subst (λ (a : Answer _). Leads s (item ∷ later) at a)
-      (test-then (ltb (length (drop at s)) n) endsEarly (record { value = 0; size = n }) (λ (l : LengthAnswer). m)
-      ∙ ap (λ (k : ℕ). cond (ltb k n) (refuse endsEarly) m) (length-drop at s))
+      (test-from (ltb (length (drop at s)) n) at endsEarly (record { value = 0; size = n }) (λ (l : LengthAnswer). m)
+      ∙ ap (λ (k : ℕ). cond (ltb k n) (refuseAt at endsEarly) m) (length-drop at s))
       (step at (λ (l : LengthAnswer). m) is (octets-stand n (drop at s))
       (λ x v k r long.
       rw (many-right r .0, none-brought) (subst (λ (j : ℕ). Leads s later (at + j) m) (sym (many-right r .1) ∙ long) next)))
@@ -109,7 +121,7 @@ module _ (s : List ℕ) (octets : Octets s) where
   sized-walk : {B : Type 0} (item : Item) (later : List Item) (at least most : ℕ) (g : LengthAnswer → Answer B)
       → formOf item ≡ sized least most
       → ((v n : ℕ) → Leads s (brings item v ++ later) (at + n) (g (record { value = v; size = n })))
-      → Leads s (item ∷ later) at (_>>=_ (lengthWithin least most (drop at s)) g)
+      → Leads s (item ∷ later) at (_>>=_ (lengthFrom least most s at) g)
   unfolding formAt lengthWithin
   sized-walk item later at least most g is next =
       step at g is (size-stands least most (drop at s) (left-octets at)) (λ x v n r long. next v n)
@@ -122,7 +134,8 @@ module _ (s : List ℕ) (octets : Octets s) where
   unfolding formAt octetAt
   octet-walk item later at least most g is none-brought next =
       rw
-      (one-at s at (λ v. allowed least most (record { value = v; size = 1 })) (formAt (plain least most)) refl (λ first rest. refl))
+      (one-at s at (refuse endsEarly) (λ v. allowed least most (record { value = v; size = 1 })) (formAt (plain least most)) refl
+      (λ first rest. refl))
       (step at g is (octet-stands least most (drop at s))
       (λ x v n r long.
       rw (none-brought v)
@@ -134,11 +147,11 @@ module _ (s : List ℕ) (octets : Octets s) where
       → Leads s (item ∷ later) at (_>>=_ (itemAt least most s at) g)
   unfolding itemAt formOf brings
   item-walk item later at least most g is brought next =
-      rw (then-then (lengthWithin least most (drop at s)) _ g)
+      rw (then-then (lengthFrom least most s at) _ g)
       (sized-walk item later at least most _ is
       (λ v n.
       let part : Part = record { start = at + n; size = v } in
-      rw (brought v, test-then (ltb (length s - (at + n)) v) endsEarly part g)
+      rw (brought v, test-then (ltb (length s - (at + n)) v) (refusalAt (at + n) endsEarly) part g)
       (many-walk (inside v) later (at + n) v (g part) refl refl (next part))))
 
   -- so many of them
@@ -164,7 +177,7 @@ module _ (s : List ℕ) (octets : Octets s) where
       spares-walk : (at : ℕ) → Leads s (spares ∷ later) at (_>>=_ (sparesAt s at) g)
       unfolding sparesAt formOf brings
       spares-walk at =
-          rw (then-then (lengthWithin sparesLeast sparesLimit (drop at s)) _ g)
+          rw (then-then (lengthFrom sparesLeast sparesLimit s at) _ g)
           (sized-walk spares later at sparesLeast sparesLimit _ refl (λ v n. of-spares v (at + n)))
 
       parity-walk : (at : ℕ) → Leads s (octet01 ∷ octetN ∷ countM ∷ later) at (_>>=_ (parityAt s at) g)
@@ -174,17 +187,17 @@ module _ (s : List ℕ) (octets : Octets s) where
           (octet-walk octet01 (octetN ∷ countM ∷ later) at 1 1 _ refl (λ v. refl)
           (λ one. rw (then-then (octetAt coveredLeast coveredLimit s (at + 1)) _ g)
           (octet-walk octetN (countM ∷ later) (at + 1) coveredLeast coveredLimit _ refl (λ v. refl)
-          (λ n. rw (then-then (lengthWithin messagesLeast messagesLimit (drop (at + 2) s)) _ g, ← next-place at)
+          (λ n. rw (then-then (lengthFrom messagesLeast messagesLimit s (at + 2)) _ g, ← next-place at)
           (sized-walk countM later (at + 2) messagesLeast messagesLimit _ refl (λ m k. of-parity n m (at + 2 + k)))))))
 
       extra-walk : (at : ℕ) → Leads s (kind ∷ later) at (_>>=_ (extraAt s at) g)
       unfolding extraAt formAt formOf brings
       extra-walk at =
           rw (
-            one-at s at (λ first. cond (eqb (first % 0x80) 0) (kind-head first) (refuse spareBit))
-                (λ rest. _>>=_ (formAt flag rest) (λ (l : LengthAnswer). kind-head (l .value))) refl
-                (λ first rest. flag-then kind-head first (eqb (first % 0x80) 0)),
-            then-then (formAt flag (drop at s)) (λ (l : LengthAnswer). kind-head (l .value)) g,
+            one-at s at (refuseAt at endsEarly) (λ first. cond (eqb (first % 0x80) 0) (kind-head first) (refuseAt at spareBit))
+                (λ rest. _>>=_ (readFrom at (formAt flag rest)) (λ (l : LengthAnswer). kind-head (l .value))) (from-front at endsEarly)
+                (λ first rest. flag-then at kind-head first (eqb (first % 0x80) 0)),
+            then-then (readFrom at (formAt flag (drop at s))) (λ (l : LengthAnswer). kind-head (l .value)) g,
           )
           (step at _ refl (flag-stands (drop at s) (left-octets at)) pick) where
             kind-head : ℕ → Answer ExtraHead
@@ -199,7 +212,7 @@ module _ (s : List ℕ) (octets : Octets s) where
                 (parity-walk (at + 1))
 
   -- ---- the whole
-  end-walk : {B : Type 0} (at : ℕ) (b : B) → Leads s [] at (cond (ltb at (length s)) (refuse leftOver) (done b))
+  end-walk : {B : Type 0} (at : ℕ) (b : B) → Leads s [] at (cond (ltb at (length s)) (refuseAt at leftOver) (done b))
   unfolding formDue
   end-walk at b =
       ⊎-elim (λ more. rw (lt-ltb at (length s) more, drop-cons s at 0 more) (stops {items = []} moreOctets))
@@ -213,12 +226,12 @@ module _ (s : List ℕ) (octets : Octets s) where
   whole-walk h item place p is brought =
       items-walk item [] (leastOf (h .kind)) (mostOf (h .kind)) is brought (h .count) (h .first) _ (λ ps. end-walk (endOf (h .first) ps) _)
 
-  pub read-walk : length s ≤ datagramLimit → Walk start s (refusalIn (readDatagram s))
+  pub read-walk : length s ≤ datagramLimit → Walk 0 start s (whyIn (readDatagram s))
   unfolding readDatagram numberOf formOf brings
   read-walk short =
       rw (
         le-ltb datagramLimit (length s) short,
-        test-then (ltb (length s) 2) endsEarly (getD s 0 0 * 256 + getD s 1 0) _,
+        test-then (ltb (length s) 2) (refusal endsEarly) (getD s 0 0 * 256 + getD s 1 0) _,
         none-off (length s),
       )
       (many-walk number (packet ∷ kind ∷ []) 0 2 _ refl refl

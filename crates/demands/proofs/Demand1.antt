@@ -26,6 +26,7 @@ use Rattle.demands.specs.Demand1.{Unchanged, Writers, Demand1}
 use Rattle.demands.proofs.OfferReads.{offer-reads}
 use Rattle.demands.proofs.RefusedReads.{readers}
 use Rattle.demands.proofs.RefusedCalls.{receiving}
+use Rattle.demands.proofs.RefusalPlaces.{places}
 
 -- ---- writers: each follows from its table
 length-writer : (n : ℕ) (old : List ℕ)
@@ -98,4 +99,5 @@ sending =
     }
 
 pub demand-1 : Demand1
-demand-1 = record { readers = readers; writers = writers; receiving = receiving; offerReads = offer-reads; sending = sending }
+demand-1 =
+    record { readers = readers; writers = writers; receiving = receiving; offerReads = offer-reads; sending = sending; places = places }

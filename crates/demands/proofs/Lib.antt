@@ -48,6 +48,7 @@ pub mod Front
 pub mod OfferReads
 pub mod RefusedReads
 pub mod RefusedCalls
+pub mod RefusalPlaces
 pub mod Demand1
 pub mod Sent
 pub mod TrueKept

@@ -11,10 +11,10 @@ use native.Mathlib.Omega.{arith}
 use borrow.Author.Tests.{ltb-true}
 use Rattle.lengths.specs.Refusals.{endsEarly, tooLong, badForm, outsideSizes, spareBit, leftOver}
 use Rattle.lengths.specs.Refusals.{repeated, tooFar, late, baseUnknown, baseKnown, noRoom, allPassed, outsideRanges}
-use Rattle.lengths.specs.Answers.{Answer, done, refused, refuse, _>>=_, LengthAnswer}
+use Rattle.lengths.specs.Answers.{Answer, done, refused, refuse, refuseAt, readFrom, _>>=_, LengthAnswer}
 use Rattle.lengths.specs.Length.{ofTwo, lengthAt, within, allowed, lengthWithin}
 use Rattle.lengths.specs.declared.Refusal.{Refusal}
-use Rattle.datagrams.specs.Read.{ExtraHead, octetAt, itemAt, itemsAt, sparesAt, parityAt, extraAt, wholeOf, readDatagram}
+use Rattle.datagrams.specs.Read.{ExtraHead, lengthFrom, octetAt, itemAt, itemsAt, sparesAt, parityAt, extraAt, wholeOf, readDatagram}
 use Rattle.datagrams.specs.Sizes.{datagramLimit}
 use Rattle.datagrams.specs.Read.{carriedBy, after, endOf, leastOf, mostOf}
 use Rattle.datagrams.specs.Read as reading
@@ -40,7 +40,7 @@ data Lower {A : Type 0} : Answer A → Type 0 where
   value : (a : A) → Lower (done a)
   below : {why : Refusal} → why .number < outsideRanges → Lower (refused why)
 
-low : {A : Type 0} (n : ℕ) → ltb n outsideRanges ≡ true → Lower {A = A} (refuse n)
+low : {A : Type 0} {place : ℕ} (n : ℕ) → ltb n outsideRanges ≡ true → Lower {A = A} (refuseAt place n)
 low n e = below (ltb-true n outsideRanges e)
 
 lower-cond : {A : Type 0} (b : Bool) {x y : Answer A} → Lower x → Lower y → Lower (cond b x y)
@@ -50,6 +50,10 @@ lower-cond false first second = second
 lower-bind : {A B : Type 0} {a : Answer A} {f : A → Answer B} → Lower a → ((v : A) → Lower (f v)) → Lower (_>>=_ a f)
 lower-bind (value a) each = each a
 lower-bind (below low) each = below low
+
+lower-from : {A : Type 0} (start : ℕ) {a : Answer A} → Lower a → Lower (readFrom start a)
+lower-from start (value a) = value a
+lower-from start (below low) = below low
 
 not-17 : {A : Type 0} {a : Answer A} → Lower a → refusalIn a ≡ some outsideRanges → ⊥
 not-17 (value a) e = Option·none-ne-some outsideRanges e
@@ -71,11 +75,11 @@ lower-allowed least most l = lower-cond (within least most (l .value)) (value _)
 
 lower-octet : (least most : ℕ) (s : List ℕ) (at : ℕ) → Lower (octetAt least most s at)
 unfolding octetAt
-lower-octet least most s at = lower-cond (leb (length s) at) (low endsEarly refl) (lower-allowed least most _)
+lower-octet least most s at = lower-from at (lower-cond (leb (length s) at) (low endsEarly refl) (lower-allowed least most _))
 
-lower-sized : (least most : ℕ) (s : List ℕ) (at : ℕ) → Lower (lengthWithin least most (drop at s))
+lower-sized : (least most : ℕ) (s : List ℕ) (at : ℕ) → Lower (lengthFrom least most s at)
 unfolding lengthWithin
-lower-sized least most s at = lower-bind (lower-length (drop at s)) (lower-allowed least most)
+lower-sized least most s at = lower-from at (lower-bind (lower-length (drop at s)) (lower-allowed least most))
 
 lower-item : (least most : ℕ) (s : List ℕ) (at : ℕ) → Lower (itemAt least most s at)
 unfolding itemAt

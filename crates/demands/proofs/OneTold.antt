@@ -12,6 +12,8 @@ by-lengths : ToldByLengths
 by-lengths =
     record {
       refusal = λ number r q a b. a .answer ∙ sym (b .answer);
+      refusalAt = λ number place r q a b. a .answer ∙ sym (b .answer);
+      refusalFurther = λ start why. told-one;
       lengthTwoFrom = told-one;
       lengthLimit = told-one;
       lengthRefusal = λ found r q a b. a .answer ∙ sym (b .answer);

@@ -10,8 +10,11 @@ use lib.ListN.{length, length-append, length-drop}
 use native.Mathlib.Omega.{arith}
 use borrow.Author.Tests.{eq-eqb, ne-eqb, eqb-true, eqb-false}
 use Rattle.octets.proofs.Laws.{below-or-not}
-use Rattle.lengths.specs.Refusals.{endsEarly, badForm, outsideSizes, spareBit, notAssigned, wrongData}
+use Rattle.lengths.specs.Refusals.{refusalAt, endsEarly, badForm, outsideSizes, spareBit, notAssigned, wrongData}
 use Rattle.lengths.specs.Refusals as number
+use Rattle.lengths.specs.Answers.{refused, refuse}
+use Rattle.lengths.specs.declared.Refusal.{Refusal}
+use Rattle.lengths.proofs.Laws.{refused-same}
 use Rattle.formats.specs.Places.{Place}
 use Rattle.datagrams.specs.Sizes.{packetLimit}
 use Rattle.packets.specs.Packet.{mayFollow}
@@ -25,7 +28,8 @@ use Rattle.demands.specs.PacketItems.{octetsFrom, Due, Packet}
 use Rattle.demands.specs.PacketRefusals.{FirstWrong, PacketThen}
 use Rattle.demands.specs.PacketRefusals.{PacketRefusals}
 use Rattle.demands.proofs.PacketRows.{not-both, end-wrong, wrong-end, rows-alike}
-use Rattle.demands.proofs.PacketStops.{refused-wrong, passed-ended}
+use Rattle.demands.proofs.PacketWalk.{whyIn}
+use Rattle.demands.proofs.PacketStops.{wrong-refused, refused-wrong, passed-ended}
 use Rattle.demands.proofs.PacketStops as stops
 use Rattle.demands.proofs.PacketPlaces.{due-end, due-inside}
 use Rattle.demands.proofs.PacketMore.{wrong-more}
@@ -43,6 +47,19 @@ module _ {ending : Ending} {s : List ℕ} {r : PacketRead} (told : PacketTold en
       let same = ap refusalIn (told .answer) in
       let t = refused-wrong ending s fits n in
       (λ e. t .0 (sym same ∙ e), λ w. same ∙ t .1 w)
+
+  -- at the octet of the first wrong item, or at 0
+  placed : (n : ℕ) (why : Refusal) → length s ≤ packetLimit → packetOutcome r ≡ refused why → (w : FirstWrong ending s n)
+      → why ≡ refusalAt (w .place / 8) n
+  placed n why fits is w =
+      let same : some why ≡ some (refusalAt (w .place / 8) n) =
+      sym (ap whyIn (sym (told .answer) ∙ is)) ∙ wrong-refused ending s fits n w in
+      cc
+
+  over-placed : (why : Refusal) → packetLimit < length s → packetOutcome r ≡ refused why → why .place ≡ 0
+  over-placed why over is =
+      let same : refuse outsideSizes ≡ refused why = sym (stops.over-refused ending s over) ∙ sym (told .answer) ∙ is in
+      ap (λ (x : Refusal). x .place) (sym (refused-same same))
 
   -- refused with a number exactly in its case, where the case is refused with it
   exactly : (n : ℕ) → (Case ending s n → FirstWrong ending s n) → length s ≤ packetLimit
@@ -146,6 +163,8 @@ packet-refusals =
     record {
       overLimit = over-limit;
       firstWrong = λ n told fits. wrong-item told n fits;
+      place = λ {ending} {s} {r} {why} {n} told fits is w. placed told n why fits is w;
+      overPlace = λ {ending} {s} {r} {why} told over is. over-placed told why over is;
       received = received;
       repaired = λ told fits. not-refused told fits;
       leftOver = λ told fits. (

@@ -1,36 +1,39 @@
 -- Reading a packet stops at its first wrong item, or at its end: every item that is due is reached, and what is met from the first
--- octet on is met from there on. So the reader refuses with a number exactly if there is a first wrong item with it, and does not
--- refuse exactly if there is a packet after which nothing is left over. Assumes nothing.
-use Prim.Native.Nat.{ℕ, _≤_, _<_}
+-- octet on is met from there on. So the reader refuses with a number exactly if there is a first wrong item with it, at the octet at
+-- which that begins, and does not refuse exactly if there is a packet after which nothing is left over. Assumes nothing.
+use Prim.Native.Nat.{ℕ, _/_, _≤_, _<_}
 use mathlib.Core.Path.{_≡_, refl, sym, ap, subst, _∙_}
 use mathlib.Core.Logic.{_↔_, _⊎_, inl, inr}
 use mathlib.Core.Bool.{true}
 use mathlib.Core.List.{List}
 use mathlib.Core.Option.{Option, none, some}
 use lib.ListN.{length}
+use native.Mathlib.Omega.{arith}
 use borrow.Author.Tests.{lt-ltb}
-use Rattle.lengths.specs.Refusals.{outsideSizes}
+use Rattle.lengths.specs.Refusals.{refusalAt, outsideSizes}
+use Rattle.lengths.specs.Answers.{Answer, done, refused, refuse}
+use Rattle.lengths.specs.declared.Refusal.{Refusal}
 use Rattle.lengths.specs.Tables.{first, refusalIn}
 use Rattle.formats.specs.Places.{Place}
 use Rattle.datagrams.specs.Sizes.{packetLimit}
-use Rattle.packets.specs.Packet.{mayFollow, readPacket}
+use Rattle.packets.specs.Packet.{mayFollow, PacketAnswer, readPacket}
 use Rattle.packets.specs.declared.types.Ending.{Ending}
 use Rattle.packets.specs.declared.types.Ending.the-variants.{Whole}
 use Rattle.demands.specs.PacketItems.{Item, firstOctet, end, octetsFrom, rows, ends, dueAfter, Due, begins, goesOn}
 use Rattle.demands.specs.PacketRefusals.{FirstWrong}
-use Rattle.demands.proofs.PacketRows.{not-both, end-passed, end-passes, rows-alike}
-use Rattle.demands.proofs.PacketWalk.{Met, wrong, right, whole, packet-walk}
+use Rattle.demands.proofs.PacketRows.{same-number, not-both, end-passed, end-passes, rows-alike}
+use Rattle.demands.proofs.PacketWalk.{whyIn, Met, wrong, right, whole, packet-walk}
 
 module _ {ending : Ending} {s : List ℕ} where
   -- ---- every item that is due is reached
   -- behind an item whose table is passed
-  behind : {p : Place} {item : Item} {o : Option ℕ} → first (rows ending item s p) ≡ none → Met ending s p item o
+  behind : {p : Place} {item : Item} {o : Option Refusal} → first (rows ending item s p) ≡ none → Met ending s p item o
       → Met ending s (ends item p) (dueAfter item s p) o
   behind passed (wrong e) = absurd (not-both passed e)
   behind passed (right e on) = on
   behind passed (whole e) = whole e
 
-  past : {p : Place} {item : Item} {o : Option ℕ} → first (rows Whole item s p) ≡ none → Met ending s p item o
+  past : {p : Place} {item : Item} {o : Option Refusal} → first (rows Whole item s p) ≡ none → Met ending s p item o
       → Met ending s (ends item p) (dueAfter item s p) o
   past {p} {item} {o} passed met = by (rows-alike ending Whole item s p) where
     by : (item ≡ end) ⊎ (rows ending item s p ≡ rows Whole item s p) → Met ending s (ends item p) (dueAfter item s p) o
@@ -39,16 +42,18 @@ module _ {ending : Ending} {s : List ℕ} where
         (subst (λ (i : Item). Met ending s p i o) is-end met)
     by (inr same) = behind (ap first same ∙ passed) met
 
-  reaches : {p : Place} {item : Item} {o : Option ℕ} → Due s p item → Met ending s 0 firstOctet o → Met ending s p item o
+  reaches : {p : Place} {item : Item} {o : Option Refusal} → Due s p item → Met ending s 0 firstOctet o → Met ending s p item o
   reaches begins met = met
   reaches (goesOn due passed) met = past passed (reaches due met)
 
-  wrong-here : {p : Place} {item : Item} {n : ℕ} {o : Option ℕ} → first (rows ending item s p) ≡ some n → Met ending s p item o → o ≡ some n
-  wrong-here given (wrong e) = sym e ∙ given
+  wrong-here : {p : Place} {item : Item} {n : ℕ} {o : Option Refusal} → first (rows ending item s p) ≡ some n → Met ending s p item o
+      → o ≡ some (refusalAt (p / 8) n)
+  wrong-here {p} given (wrong e) = ap (λ (n : ℕ). some (refusalAt (p / 8) n)) (same-number (sym e ∙ given))
   wrong-here given (right e on) = absurd (not-both e given)
   wrong-here given (whole e) = absurd (not-both e given)
 
-  end-here : {p : Place} {item : Item} {o : Option ℕ} → item ≡ end → first (rows ending end s p) ≡ none → Met ending s p item o → o ≡ none
+  end-here : {p : Place} {item : Item} {o : Option Refusal} → item ≡ end → first (rows ending end s p) ≡ none → Met ending s p item o
+      → o ≡ none
   end-here {p} is-end passed (wrong {item = item} e) =
       absurd (not-both (ap (λ (i : Item). first (rows ending i s p)) is-end ∙ passed) e)
   end-here {p} is-end passed (right {item = item} e on) =
@@ -71,11 +76,11 @@ pub record Ended (ending : Ending) (s : List ℕ) : Type 0 where
   pub due : Due s place end
   pub follows : mayFollow ending (octetsFrom s place) ≡ true
 
-Outcome : Ending → List ℕ → Option ℕ → Type 0
-Outcome ending s (some n) = FirstWrong ending s n
+Outcome : Ending → List ℕ → Option Refusal → Type 0
+Outcome ending s (some why) = FirstWrong ending s (why .number)
 Outcome ending s none = Ended ending s
 
-stops : {ending : Ending} {s : List ℕ} {p : Place} {item : Item} {o : Option ℕ} → Due s p item → Met ending s p item o
+stops : {ending : Ending} {s : List ℕ} {p : Place} {item : Item} {o : Option Refusal} → Due s p item → Met ending s p item o
     → Outcome ending s o
 unfolding Outcome
 stops {p = p} {item} due (wrong e) = record { item = item; place = p; due = due; wrong = e }
@@ -83,21 +88,42 @@ stops {ending} due (right e on) = stops (due-on ending due e) on
 stops {ending} {s} {p} due (whole e) = record { place = p; due = due; follows = end-passed ending s p e }
 
 -- ---- what the reader refuses
-pub over-limit : (ending : Ending) (s : List ℕ) → packetLimit < length s → refusalIn (readPacket ending s) ≡ some outsideSizes
+pub over-refused : (ending : Ending) (s : List ℕ) → packetLimit < length s → readPacket ending s ≡ refuse outsideSizes
 unfolding readPacket
-over-limit ending s over = rw (lt-ltb packetLimit (length s) over)
+over-refused ending s over = rw (lt-ltb packetLimit (length s) over)
+
+pub over-limit : (ending : Ending) (s : List ℕ) → packetLimit < length s → refusalIn (readPacket ending s) ≡ some outsideSizes
+over-limit ending s over = ap refusalIn (over-refused ending s over)
 
 module _ (ending : Ending) (s : List ℕ) (fits : length s ≤ packetLimit) where
-  outcome : (o : Option ℕ) → refusalIn (readPacket ending s) ≡ o → Outcome ending s o
-  outcome o e = stops begins (subst (Met ending s 0 firstOctet) e (packet-walk ending s fits))
+  met : Met ending s 0 firstOctet (whyIn (readPacket ending s))
+  met = packet-walk ending s fits
+
+  -- where the first wrong item is, it is refused
+  pub wrong-refused : (n : ℕ) (w : FirstWrong ending s n) → whyIn (readPacket ending s) ≡ some (refusalAt (w .place / 8) n)
+  wrong-refused n w = wrong-here (w .wrong) (reaches (w .due) met)
 
   pub refused-wrong : (n : ℕ) → (refusalIn (readPacket ending s) ≡ some n) ↔ FirstWrong ending s n
   unfolding Outcome
-  refused-wrong n = (λ e. outcome (some n) e, λ w. wrong-here (w .wrong) (reaches (w .due) (packet-walk ending s fits)))
+  refused-wrong n = (λ e. by (readPacket ending s) e (stops begins met), λ w. back (readPacket ending s) (wrong-refused n w)) where
+    by : (m : Answer PacketAnswer) → refusalIn m ≡ some n → Outcome ending s (whyIn m) → FirstWrong ending s n
+    by (done a) e t = absurd (not-both refl e)
+    by (refused why) e t = subst (FirstWrong ending s) (same-number e) t
+
+    back : {why : Refusal} (m : Answer PacketAnswer) → whyIn m ≡ some why → refusalIn m ≡ some (why .number)
+    back (done a) e = let z : _≡_ {A = ℕ} 0 1 = cc in absurd (omega arith)
+    back {why} (refused r) e = let same : r ≡ why = cc in ap (λ (x : Refusal). some (x .number)) same
 
   pub passed-ended : (refusalIn (readPacket ending s) ≡ none) ↔ Ended ending s
   unfolding Outcome
   passed-ended = (
-    λ e. outcome none e,
-    λ t. end-here refl (end-passes ending s (t .place) (t .follows)) (reaches (t .due) (packet-walk ending s fits)),
-  )
+    λ e. by (readPacket ending s) e (stops begins met),
+    λ t. back (readPacket ending s) (end-here refl (end-passes ending s (t .place) (t .follows)) (reaches (t .due) met)),
+  ) where
+    by : (m : Answer PacketAnswer) → refusalIn m ≡ none → Outcome ending s (whyIn m) → Ended ending s
+    by (done a) e t = t
+    by (refused why) e t = absurd (not-both e refl)
+
+    back : (m : Answer PacketAnswer) → whyIn m ≡ none → refusalIn m ≡ none
+    back (done a) e = refl
+    back (refused r) e = let z : _≡_ {A = ℕ} 0 1 = cc in absurd (omega arith)

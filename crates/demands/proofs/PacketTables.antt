@@ -9,7 +9,7 @@ use lib.Dec.{leb, ltb}
 use native.Mathlib.Omega.{arith}
 use borrow.Author.Tests.{lt-ltb, le-leb, lt-leb, ltb-true, ltb-false}
 use Rattle.lengths.specs.Refusals.{endsEarly, badForm, outsideSizes, spareBit, leftOver, notAssigned, wrongData}
-use Rattle.lengths.specs.Answers.{Answer, done, refused, refuse, _>>=_, LengthAnswer}
+use Rattle.lengths.specs.Answers.{Answer, done, refused, refuse, refuseAt, readFrom, _>>=_, LengthAnswer}
 use Rattle.lengths.specs.Length.{lengthAt, lengthWithin, allowed, within, ofTwo}
 use Rattle.lengths.specs.Tables.{when, first}
 use Rattle.formats.specs.Spelling.{gap}
@@ -24,30 +24,30 @@ use Rattle.demands.specs.PacketItems.{octetHere, headerIn, dataFits, dat
 use Rattle.demands.proofs.PacketBits.{padding-bits}
 
 -- ---- a table as an answer
--- refused with the number that a table gives, or done
-abbrev pub answered : {A : Type 0} → Option ℕ → A → Answer A
-answered (some n) x = refuse n
-answered none x = done x
+-- refused with the number that the table of the item at a place gives, at the octet of that place, or done
+abbrev pub answered : {A : Type 0} → Place → Option ℕ → A → Answer A
+answered p (some n) x = refuseAt (p / 8) n
+answered p none x = done x
 
 pub bind-assoc : {A B C : Type 0} (m : Answer A) (f : A → Answer B) (g : B → Answer C)
     → _>>=_ (_>>=_ m f) g ≡ _>>=_ m (λ a. _>>=_ (f a) g)
 bind-assoc (done a) f g = refl
 bind-assoc (refused r) f g = refl
 
-module _ {A : Type 0} where
+module _ {A : Type 0} (p : Place) where
   -- a test that refuses, and one that must be met
-  refuses : (b : Bool) (n : ℕ) (m : Answer A) (table : List (Option ℕ)) (x : A) → m ≡ answered (first table) x
-      → cond b (refuse n) m ≡ answered (first (when b n ∷ table)) x
+  refuses : (b : Bool) (n : ℕ) (m : Answer A) (table : List (Option ℕ)) (x : A) → m ≡ answered p (first table) x
+      → cond b (refuseAt (p / 8) n) m ≡ answered p (first (when b n ∷ table)) x
   unfolding first
   refuses true n m table x e = refl
   refuses false n m table x e = e
 
-  refuses-last : (b : Bool) (n : ℕ) (x : A) → cond b (refuse n) (done x) ≡ answered (first (when b n ∷ [])) x
+  refuses-last : (b : Bool) (n : ℕ) (x : A) → cond b (refuseAt (p / 8) n) (done x) ≡ answered p (first (when b n ∷ [])) x
   unfolding first
   refuses-last true n x = refl
   refuses-last false n x = refl
 
-  must : (b : Bool) (n : ℕ) (x : A) → cond b (done x) (refuse n) ≡ answered (first (when (not b) n ∷ [])) x
+  must : (b : Bool) (n : ℕ) (x : A) → cond b (done x) (refuseAt (p / 8) n) ≡ answered p (first (when (not b) n ∷ [])) x
   unfolding first
   must true n x = refl
   must false n x = refl
@@ -68,32 +68,32 @@ same-test a b c d there back = by (ltb c d) refl where
     over false f = f
 
 -- ---- each item's reader is its table
-pub first-table : (ending : Ending) (s : List ℕ) → firstAt s ≡ answered (first (rows ending firstOctet s 0)) (firstOf (getD s 0 0))
+pub first-table : (ending : Ending) (s : List ℕ) → firstAt s ≡ answered 0 (first (rows ending firstOctet s 0)) (firstOf (getD s 0 0))
 unfolding firstAt rows
 first-table ending s =
     let o = getD s 0 0 in
     let f = firstOf (getD s 0 0) in
     let short : ltb (8 * length s) 8 ≡ ltb (length s) 1 = same-test (8 * length s) 8 (length s) 1 (λ l. omega arith) (λ l. omega arith) in
     rw short
-    (refuses (ltb (length s) 1) endsEarly _ _ f
-    (refuses (isSet 5 o) notAssigned _ _ f
-    (refuses (leb (assigned (f .kind)) (f .value)) notAssigned _ _ f
-    (refuses (ltb 0 (o % 2)) spareBit _ _ f
-    (must (rightFields (f .kind) (f .present)) wrongData f)))))
+    (refuses 0 (ltb (length s) 1) endsEarly _ _ f
+    (refuses 0 (isSet 5 o) notAssigned _ _ f
+    (refuses 0 (leb (assigned (f .kind)) (f .value)) notAssigned _ _ f
+    (refuses 0 (ltb 0 (o % 2)) spareBit _ _ f
+    (must 0 (rightFields (f .kind) (f .present)) wrongData f)))))
 
 pub header-table : (ending : Ending) (left : ℕ) (s : List ℕ) (p : Place)
-    → headerAt s p ≡ answered (first (rows ending (header left) s p)) (record { header = headerIn s p; next = p + headerWidth })
+    → headerAt s p ≡ answered p (first (rows ending (header left) s p)) (record { header = headerIn s p; next = p + headerWidth })
 unfolding headerAt rows
 header-table ending left s p =
     let read : HeaderAnswer = record { header = headerIn s p; next = p + headerWidth } in
-    refuses (ltb (8 * length s) (p + headerWidth)) endsEarly _ _ read (must (dataFits s p) wrongData read)
+    refuses p (ltb (8 * length s) (p + headerWidth)) endsEarly _ _ read (must p (dataFits s p) wrongData read)
 
 pub padding-table : (ending : Ending) (next : Item) (s : List ℕ) (p : Place)
-    → edgeAt s p ≡ answered (first (rows ending (padding next) s p)) (edge p)
+    → edgeAt s p ≡ answered p (first (rows ending (padding next) s p)) (edge p)
 unfolding edgeAt rows
 padding-table ending next s p =
-    ap (λ (b : ℕ). cond (ltb 0 b) (refuse spareBit) (done (edge p))) (sym (padding-bits s p))
-    ∙ refuses-last (ltb 0 (bitsAt (gap p) s p)) spareBit (edge p)
+    ap (λ (b : ℕ). cond (ltb 0 b) (refuseAt (p / 8) spareBit) (done (edge p))) (sym (padding-bits s p))
+    ∙ refuses-last p (ltb 0 (bitsAt (gap p) s p)) spareBit (edge p)
 
 -- the count: in one octet its value is that octet; in two it is over its limit, and so is its first octet
 count-tests : (b₁ b₂ b₃ b₄ b₅ c d : Bool) (x y : LengthAnswer) (z : Count) (next : LengthAnswer → Answer Count)
@@ -103,7 +103,7 @@ count-tests : (b₁ b₂ b₃ b₄ b₅ c d : Bool) (x y : LengthAnswer) (z : Co
     (cond b₁ (refuse endsEarly)
     (cond b₂ (done x) (cond b₃ (refuse badForm) (cond b₄ (refuse endsEarly) (cond b₅ (refuse badForm) (done y))))))
     next
-    ≡ answered
+    ≡ answered 0
     (first
     (when b₁ endsEarly ∷ when b₃ badForm ∷ when (d && b₄) endsEarly ∷ when (d && b₅) badForm ∷ when (not c) outsideSizes ∷ []))
     z
@@ -133,14 +133,27 @@ count-made v n =
 over-limit : (v : ℕ) → fieldsLimit < v → within fieldsLeast fieldsLimit v ≡ false
 over-limit v large = rw (lt-leb v fieldsLimit large, le-leb fieldsLeast v (omega arith))
 
+-- from an octet on: what comes after a length, and a table
+from-then : {A B : Type 0} (start : ℕ) (m : Answer A) (made : A → B)
+    → _>>=_ (readFrom start m) (λ a. done (made a)) ≡ readFrom start (_>>=_ m (λ a. done (made a)))
+from-then start (done a) made = refl
+from-then start (refused r) made = refl
+
+from-table : {A : Type 0} (o : Option ℕ) (x : A) → readFrom 1 (answered 0 o x) ≡ answered 8 o x
+from-table (some n) x = refl
+from-table none x = refl
+
 pub count-table : (ending : Ending) (s : List ℕ)
-    → countAt s true ≡ answered (first (rows ending countOfFields s 8)) (record { value = octetHere s 8; next = 16 })
+    → countAt s true ≡ answered 8 (first (rows ending countOfFields s 8)) (record { value = octetHere s 8; next = 16 })
 unfolding countAt lengthWithin lengthAt rows lengthRows counted
 count-table ending s =
     let rest = drop 1 s in
     let o = getD (drop 1 s) 0 0 in
     let v = ofTwo (getD (drop 1 s) 0 0) (getD (drop 1 s) 1 0) in
-    bind-assoc (lengthAt rest) (allowed fieldsLeast fieldsLimit) _
+    let made : LengthAnswer → Count = λ n. record { value = n .value; next = 8 * (1 + n .size) } in
+    from-then 1 (lengthWithin fieldsLeast fieldsLimit rest) made
+    ∙ ap (readFrom 1)
+    (bind-assoc (lengthAt rest) (allowed fieldsLeast fieldsLimit) (λ n. done (made n))
     ∙ count-tests (ltb (length rest) 1) (ltb o 0x80) (leb 0xC0 o) (ltb (length rest) 2) (ltb v 0x80) (within fieldsLeast fieldsLimit o)
     (leb 0x80 o) (record { value = o; size = 1 }) (record { value = v; size = 2 }) (record { value = o; next = 16 }) counted
     (λ e. let small = ltb-true o 0x80 e in (lt-leb 0xC0 o (omega arith), lt-leb 0x80 o (omega arith)))
@@ -149,22 +162,25 @@ count-table ending s =
     (λ e large.
     let big = ltb-false o 0x80 e in
     let over = ltb-false v 0x80 large in
-    (count-made v 2 ∙ rw (over-limit v (omega arith)), over-limit o (omega arith)))
+    (count-made v 2 ∙ rw (over-limit v (omega arith)), over-limit o (omega arith))))
+    ∙ from-table (first (rows ending countOfFields s 8)) (record { value = octetHere s 8; next = 16 })
 
 -- a data length, then the data
-size-tests : (b₁ b₂ b₃ : Bool) (n : ℕ) (missing : ℕ → Option ℕ) → first (when b₃ endsEarly ∷ []) ≡ missing n
-    → cond b₁ (refuse endsEarly) (cond b₂ (refuse outsideSizes) (cond b₃ (refuse endsEarly) (done n)))
-    ≡ _>>=_ (answered (first (when b₁ endsEarly ∷ when b₂ outsideSizes ∷ [])) n) (λ n. answered (missing n) n)
+size-tests : (at : ℕ) (b₁ b₂ b₃ : Bool) (n : ℕ) (missing : ℕ → Option ℕ) → first (when b₃ endsEarly ∷ []) ≡ missing n
+    → readFrom at (cond b₁ (refuse endsEarly) (cond b₂ (refuse outsideSizes) (cond b₃ (refuseAt 2 endsEarly) (done n))))
+    ≡ _>>=_ (answered (8 * at) (first (when b₁ endsEarly ∷ when b₂ outsideSizes ∷ [])) n) (λ n. answered (8 * at + 16) (missing n) n)
 unfolding first
-size-tests true b₂ b₃ n missing e = refl
-size-tests false true b₃ n missing e = refl
-size-tests false false true n missing e = ap (λ (o : Option ℕ). answered o n) e
-size-tests false false false n missing e = ap (λ (o : Option ℕ). answered o n) e
+size-tests at true b₂ b₃ n missing e = ap (λ (place : ℕ). refuseAt place endsEarly) (omega arith)
+size-tests at false true b₃ n missing e = ap (λ (place : ℕ). refuseAt place outsideSizes) (omega arith)
+size-tests at false false true n missing e =
+    let behind : at + 2 ≡ (8 * at + 16) / 8 = omega arith in
+    ap (λ (place : ℕ). refuseAt place endsEarly) behind ∙ ap (λ (o : Option ℕ). answered (8 * at + 16) o n) e
+size-tests at false false false n missing e = ap (λ (o : Option ℕ). answered (8 * at + 16) o n) e
 
 pub size-table : (ending : Ending) (left : ℕ) (s : List ℕ) (at : ℕ)
-    → sizeAt (drop at s)
-    ≡ _>>=_ (answered (first (rows ending (dataLength left) s (8 * at))) (dataSize s (8 * at)))
-    (λ n. answered (first (rows ending (fieldData n left) s (8 * at + 16))) n)
+    → readFrom at (sizeAt (drop at s))
+    ≡ _>>=_ (answered (8 * at) (first (rows ending (dataLength left) s (8 * at))) (dataSize s (8 * at)))
+    (λ n. answered (8 * at + 16) (first (rows ending (fieldData n left) s (8 * at + 16))) n)
 unfolding sizeAt rows
 size-table ending left s at =
     let edge-at : 8 * at / 8 ≡ at = omega arith in
@@ -176,14 +192,16 @@ size-table ending left s at =
     let all : ltb (length rest - 2) n ≡ ltb (8 * length s) (8 * at + 16 + 8 * n) =
     same-test (length rest - 2) n (8 * length s) (8 * at + 16 + 8 * n) (λ l. omega arith) (λ l. omega arith) in
     rw (edge-at, two)
-    (size-tests (ltb (length rest) 2) (ltb packetLimit n) (ltb (length rest - 2) n) n
+    (size-tests at (ltb (length rest) 2) (ltb packetLimit n) (ltb (length rest - 2) n) n
     (λ n. first (rows ending (fieldData n left) s (8 * at + 16)))
     (ap (λ (b : Bool). first (when b endsEarly ∷ [])) all))
 
 -- what may follow the last field
 pub end-table : {A : Type 0} (ending : Ending) (s : List ℕ) (at : ℕ) (a : A)
-    → cond (mayFollow ending (drop at s)) (done a) (refuse leftOver) ≡ answered (first (rows ending end s (8 * at))) a
+    → cond (mayFollow ending (drop at s)) (done a) (refuseAt at leftOver) ≡ answered (8 * at) (first (rows ending end s (8 * at))) a
 unfolding rows
 end-table ending s at a =
     let edge-at : 8 * at / 8 ≡ at = omega arith in
-    rw edge-at (must (mayFollow ending (drop at s)) leftOver a)
+    let may = mayFollow ending (drop at s) in
+    rw edge-at
+    (ap (λ (place : ℕ). cond may (done a) (refuseAt place leftOver)) (sym edge-at) ∙ must (8 * at) may leftOver a)

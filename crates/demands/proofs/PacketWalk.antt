@@ -1,7 +1,7 @@
--- The packet reader goes by the items' tables, one after the other: it refuses with the first wrong item's number, and where there is
--- none, a packet stands there and nothing is left over. What the reader comes to is met from the first octet on, and what is met from
--- an item on is settled by its table: the number that it gives, or what is met from the item after it. Assumes nothing.
-use Prim.Native.Nat.{ℕ, zero, suc, _+_, _*_, _≤_}
+-- The packet reader goes by the items' tables, one after the other: it refuses with the first wrong item's number, at its octet, and
+-- where there is none, a packet stands there and nothing is left over. What the reader comes to is met from the first octet on, and what
+-- is met from an item on is settled by its table: the number that it gives, or what is met from the item after it. Assumes nothing.
+use Prim.Native.Nat.{ℕ, zero, suc, _+_, _*_, _/_, _≤_}
 use mathlib.Core.Path.{_≡_, refl, sym, ap, subst, _∙_}
 use mathlib.Core.Bool.{Bool, true, false, cond}
 use mathlib.Core.List.{List, [], _∷_}
@@ -9,9 +9,10 @@ use mathlib.Core.Option.{Option, none, some}
 use lib.ListN.{length, getD, drop}
 use native.Mathlib.Omega.{arith}
 use borrow.Author.Tests.{le-ltb}
-use Rattle.lengths.specs.Refusals.{leftOver}
-use Rattle.lengths.specs.Answers.{Answer, done, refuse, _>>=_}
-use Rattle.lengths.specs.Tables.{first, refusalIn}
+use Rattle.lengths.specs.Refusals.{refusalAt, leftOver}
+use Rattle.lengths.specs.declared.Refusal.{Refusal}
+use Rattle.lengths.specs.Answers.{Answer, done, refused, refuseAt, readFrom, _>>=_}
+use Rattle.lengths.specs.Tables.{first}
 use Rattle.formats.specs.Places.{Place, edge, edgeAt}
 use Rattle.datagrams.specs.Sizes.{packetLimit}
 use Rattle.packets.specs.Packet.{readPacket, mayFollow}
@@ -24,28 +25,33 @@ use Rattle.demands.specs.PacketItems.{octetHere, headerIn, dataSize, end
 use Rattle.demands.proofs.PacketTables.{answered, bind-assoc, first-table, count-table, header-table, padding-table, size-table}
 use Rattle.demands.proofs.PacketTables.{end-table}
 
+-- the refusal that a call came to, or none
+abbrev pub whyIn : {A : Type 0} → Answer A → Option Refusal
+whyIn (done a) = none
+whyIn (refused why) = some why
+
 -- ---- what is met
 module _ (ending : Ending) (s : List ℕ) where
-  -- from an item on the first refusal is this one, or there is none
-  pub data Met : Place → Item → Option ℕ → Type 0 where
-    wrong : {p : Place} {item : Item} {n : ℕ} → first (rows ending item s p) ≡ some n → Met p item (some n)
-    right : {p : Place} {item : Item} {o : Option ℕ} → first (rows ending item s p) ≡ none → Met (ends item p) (dueAfter item s p) o
+  -- from an item on the first refusal is this one, at the octet of its item, or there is none
+  pub data Met : Place → Item → Option Refusal → Type 0 where
+    wrong : {p : Place} {item : Item} {n : ℕ} → first (rows ending item s p) ≡ some n → Met p item (some (refusalAt (p / 8) n))
+    right : {p : Place} {item : Item} {o : Option Refusal} → first (rows ending item s p) ≡ none → Met (ends item p) (dueAfter item s p) o
         → Met p item o
     whole : {p : Place} → first (rows ending end s p) ≡ none → Met p end none
 
 module _ {A B : Type 0} {ending : Ending} {s : List ℕ} where
   -- a reader that is an item's table, and what reads on
-  step : (p : Place) (item : Item) (m : Answer A) (x : A) (next : A → Answer B) → m ≡ answered (first (rows ending item s p)) x
-      → Met ending s (ends item p) (dueAfter item s p) (refusalIn (next x)) → Met ending s p item (refusalIn (_>>=_ m next))
+  step : (p : Place) (item : Item) (m : Answer A) (x : A) (next : A → Answer B) → m ≡ answered p (first (rows ending item s p)) x
+      → Met ending s (ends item p) (dueAfter item s p) (whyIn (next x)) → Met ending s p item (whyIn (_>>=_ m next))
   step p item m x next e on =
-      subst (λ (a : Answer A). Met ending s p item (refusalIn (_>>=_ a next))) (sym e) (by (first (rows ending item s p)) refl) where
-        by : (o : Option ℕ) → first (rows ending item s p) ≡ o → Met ending s p item (refusalIn (_>>=_ (answered o x) next))
+      subst (λ (a : Answer A). Met ending s p item (whyIn (_>>=_ a next))) (sym e) (by (first (rows ending item s p)) refl) where
+        by : (o : Option ℕ) → first (rows ending item s p) ≡ o → Met ending s p item (whyIn (_>>=_ (answered p o x) next))
         by (some n) e = wrong e
         by none e = right e on
 
   either : (b : Bool) (p : Place) (one other : Item) (x y : Answer A) (next : A → Answer B)
-      → Met ending s p one (refusalIn (_>>=_ x next)) → Met ending s p other (refusalIn (_>>=_ y next))
-      → Met ending s p (cond b one other) (refusalIn (_>>=_ (cond b x y) next))
+      → Met ending s p one (whyIn (_>>=_ x next)) → Met ending s p other (whyIn (_>>=_ y next))
+      → Met ending s p (cond b one other) (whyIn (_>>=_ (cond b x y) next))
   either true p one other x y next there other-there = there
   either false p one other x y next there other-there = other-there
 
@@ -53,15 +59,15 @@ module _ {A B : Type 0} {ending : Ending} {s : List ℕ} where
 module _ {B : Type 0} (ending : Ending) (s : List ℕ) where
   -- what reads on from a place comes to what is met from there on
   OnFrom : Item → Place → Answer B → Type 0
-  OnFrom item p m = Met ending s p item (refusalIn m)
+  OnFrom item p m = Met ending s p item (whyIn m)
 
   length-walk : (left at : ℕ) (next : ℕ → Answer B) → ((n : ℕ) → OnFrom (fields left) (8 * at + 16 + 8 * n) (next n))
-      → OnFrom (dataLength left) (8 * at) (_>>=_ (sizeAt (drop at s)) next)
+      → OnFrom (dataLength left) (8 * at) (_>>=_ (readFrom at (sizeAt (drop at s))) next)
   unfolding OnFrom
   length-walk left at next on =
       let n = dataSize s (8 * at) in
-      let size : Answer ℕ = answered (first (rows ending (dataLength left) s (8 * at))) (dataSize s (8 * at)) in
-      let octets : ℕ → Answer ℕ = λ n. answered (first (rows ending (fieldData n left) s (8 * at + 16))) n in
+      let size : Answer ℕ = answered (8 * at) (first (rows ending (dataLength left) s (8 * at))) (dataSize s (8 * at)) in
+      let octets : ℕ → Answer ℕ = λ n. answered (8 * at + 16) (first (rows ending (fieldData n left) s (8 * at + 16))) n in
       subst (λ (m : Answer B). OnFrom (dataLength left) (8 * at) m)
       (sym (ap (λ (m : Answer ℕ). _>>=_ m next) (size-table ending left s at) ∙ bind-assoc size octets next))
       (step (8 * at) (dataLength left) size n (λ n. _>>=_ (octets n) next) refl
@@ -71,14 +77,14 @@ module _ {B : Type 0} (ending : Ending) (s : List ℕ) where
   data-walk : (left : ℕ) (p : Place) (made : ℕ → ℕ → FieldAnswer) (next : FieldAnswer → Answer B)
       → ((at n : ℕ) → OnFrom (fields left) (8 * at + 16 + 8 * n) (next (made at n)))
       → OnFrom (padding (dataLength left)) p
-      (_>>=_ (_>>=_ (edgeAt s p) (λ at. _>>=_ (sizeAt (drop at s)) (λ n. done (made at n)))) next)
+      (_>>=_ (_>>=_ (edgeAt s p) (λ at. _>>=_ (readFrom at (sizeAt (drop at s))) (λ n. done (made at n)))) next)
   unfolding OnFrom
   data-walk left p made next on =
-      let sized : ℕ → Answer FieldAnswer = λ at. _>>=_ (sizeAt (drop at s)) (λ n. done (made at n)) in
+      let sized : ℕ → Answer FieldAnswer = λ at. _>>=_ (readFrom at (sizeAt (drop at s))) (λ n. done (made at n)) in
       subst (λ (m : Answer B). OnFrom (padding (dataLength left)) p m) (sym (bind-assoc (edgeAt s p) sized next))
       (step p (padding (dataLength left)) (edgeAt s p) (edge p) (λ at. _>>=_ (sized at) next) (padding-table ending (dataLength left) s p)
       (subst (λ (m : Answer B). OnFrom (dataLength left) (8 * edge p) m)
-      (sym (bind-assoc (sizeAt (drop (edge p) s)) (λ n. done (made (edge p) n)) next))
+      (sym (bind-assoc (readFrom (edge p) (sizeAt (drop (edge p) s))) (λ n. done (made (edge p) n)) next))
       (length-walk left (edge p) (λ n. next (made (edge p) n)) (on (edge p)))))
 
   field-walk : (left : ℕ) (p : Place) (next : FieldAnswer → Answer B) → ((f : FieldAnswer) → OnFrom (fields left) (f .next) (next f))
@@ -113,11 +119,11 @@ module _ {B : Type 0} (ending : Ending) (s : List ℕ) where
   end-walk : (p : Place) (a : B) → OnFrom (padding end) p (endAt ending s p a)
   unfolding OnFrom endAt
   end-walk p a =
-      step p (padding end) (edgeAt s p) (edge p) (λ at. cond (mayFollow ending (drop at s)) (done a) (refuse leftOver))
+      step p (padding end) (edgeAt s p) (edge p) (λ at. cond (mayFollow ending (drop at s)) (done a) (refuseAt at leftOver))
       (padding-table ending end s p)
       (subst (λ (m : Answer B). OnFrom end (8 * edge p) m) (sym (end-table ending s (edge p) a))
       (by (first (rows ending end s (8 * edge p))) refl)) where
-        by : (o : Option ℕ) → first (rows ending end s (8 * edge p)) ≡ o → OnFrom end (8 * edge p) (answered o a)
+        by : (o : Option ℕ) → first (rows ending end s (8 * edge p)) ≡ o → OnFrom end (8 * edge p) (answered (8 * edge p) o a)
         by (some n) e = wrong e
         by none e = whole e
 
@@ -135,7 +141,7 @@ module _ {B : Type 0} (ending : Ending) (s : List ℕ) where
   count-walk false made = fields-then 0 8 made
 
 -- what the reader comes to is met from the first octet on
-pub packet-walk : (ending : Ending) (s : List ℕ) → length s ≤ packetLimit → Met ending s 0 firstOctet (refusalIn (readPacket ending s))
+pub packet-walk : (ending : Ending) (s : List ℕ) → length s ≤ packetLimit → Met ending s 0 firstOctet (whyIn (readPacket ending s))
 unfolding packetByOctets OnFrom
 packet-walk ending s fits =
     let f = firstOf (getD s 0 0) in

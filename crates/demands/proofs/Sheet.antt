@@ -34,7 +34,7 @@ pub twelve-cases : TwelveCases
 unfolding readPacket packets.wholePacket packets.packet packets.start packets.typeOfMsg packets.enumerated packets.root packets.addition
     packets.dataField packets.count packets.field packets.header packets.fieldData packets.size
     reading.bit reading.bits reading.flag reading.align reading.octetwise reading.sequenceOf octetsFront twoFront every lengthAt
-    lengthToWrite lengthOctets unless
+    allowed lengthWithin lengthToWrite lengthOctets unless
     tab xorAt exclusiveOr longest membersOf freshSending sentOn carries.sparesFrom carries.messagesFrom datagramToSend
     numberOctets itemOctets itemsOctets countedOctets datagramOctets
 twelve-cases =

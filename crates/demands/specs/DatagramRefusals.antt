@@ -1,6 +1,6 @@
 -- Document 01, 'Refusals by number', of the datagram reader: what it refuses, and with which number, said without a reading
--- of the octets. They are right up to the first item that is wrong, and what is wrong with that item is the number. A datagram
--- of these items is what the datagram writer writes (Demand1, `isDatagram`). Statements alone.
+-- of the octets. They are right up to the first item that is wrong, what is wrong with that item is the number, and where it begins is
+-- the place. A datagram of these items is what the datagram writer writes (Demand1, `isDatagram`). Statements alone.
 use Prim.Native.Nat.{ℕ, _%_, _≤_, _<_}
 use mathlib.Core.Path.{_≡_}
 use mathlib.Core.Logic.{_↔_, _⊎_}
@@ -8,6 +8,8 @@ use mathlib.Core.List.{List, [], _∷_, _++_}
 use mathlib.Core.Option.{Option, none, some}
 use lib.ListN.{length}
 use Rattle.lengths.specs.Refusals.{endsEarly, tooLong, badForm, outsideSizes, spareBit, leftOver}
+use Rattle.lengths.specs.Answers.{refused}
+use Rattle.lengths.specs.declared.Refusal.{Refusal}
 use Rattle.lengths.specs.Length.{lengthOctets, lengthLimit, ofTwo}
 use Rattle.lengths.specs.Claims.{Octets}
 use Rattle.datagrams.specs.Sizes.{datagramLimit}
@@ -95,8 +97,27 @@ pub record RefusalOf (s : List ℕ) (answer : Option ℕ) : Type 0 where
   -- sizes
   pub cut : (answer ≡ some endsEarly) ↔ (Front s ⊎ CutOver s)
 
+-- where: document 02, request 5, "Every refusal met in reading order shall give the octet at which the refused item begins, from the
+-- start of the datagram"
+pub record PlacedIn (s : List ℕ) (why : Refusal) : Type 0 where
+  -- 2 is not met in reading order: "refusals not met while reading give 0"
+  pub over : datagramLimit < length s → why .place ≡ 0
+  -- so many octets stand before the first item that is wrong
+  pub item : length s ≤ datagramLimit → (w : FirstWrong s (why .number)) → why .place ≡ length (w .before)
+  -- four hexadecimal digits tell it
+  pub few : why .place ≤ datagramLimit
+
+-- octets as some datagram begins with them
+pub record Begun (s : List ℕ) : Type 0 where
+  pub more : List ℕ
+  pub octets : Octets more
+  pub whole : WholeDatagram (s ++ more)
+
 pub record DatagramRefusals : Type 0 where
   pub refusal : {s : List ℕ} {r : DatagramRead} → Octets s → DatagramReads s r → RefusalOf s (refusalIn (readOutcome r))
+  -- where the refused item begins, and what stands before it
+  pub placed : {s : List ℕ} {r : DatagramRead} {why : Refusal} → Octets s → DatagramReads s r → readOutcome r ≡ refused why → PlacedIn s why
+  pub begun : {s : List ℕ} {n : ℕ} (w : FirstWrong s n) → Begun (w .before)
   -- where octets are read, every front of them is refused with 1
   pub front : (s more : List ℕ) (first : ℕ) {r q : DatagramRead} → Octets (s ++ (first ∷ more))
       → DatagramReads (s ++ (first ∷ more)) q → refusalIn (readOutcome q) ≡ none

@@ -4,16 +4,17 @@
 -- that its refusal is the first row of its table that is given, and that it is not refused where none is; the field
 -- beside it (`offerUnchanged`, `nextUnchanged`, ..) says what a refusal leaves. Readers change nothing. The refusals
 -- of the datagram and the packet reader are those of their definitions, met in reading order; apart from that order is told what
--- they do not refuse (`isDatagram`, `isPacket`, `isRepaired`) and what they do (`datagramRefusals`, `packetRefusals`). Statements alone.
+-- they do not refuse (`isDatagram`, `isPacket`, `isRepaired`) and what they do (`datagramRefusals`, `packetRefusals`). The place that
+-- document 02, request 5, adds to a refusal stands there too, and for the other calls in `places`. Statements alone.
 use Prim.Native.Nat.{ℕ, _≤_}
 use mathlib.Core.Path.{_≡_}
 use mathlib.Core.Logic.{_↔_}
-use mathlib.Core.Bool.{true}
+use mathlib.Core.Bool.{true, cond}
 use mathlib.Core.List.{List, _++_}
 use mathlib.Core.Option.{none, some}
 use lib.ListN.{length, replicate}
 use Rattle.lengths.specs.Answers.{Answer, done, lengthOutcome, writtenOutcome}
-use Rattle.lengths.specs.Tables.{first, refusalIn, roomRow}
+use Rattle.lengths.specs.Tables.{first, refusalIn, placeIn, roomRow}
 use Rattle.lengths.specs.Length.{lengthOctets, lengthWriterRows, lengthToWrite}
 use Rattle.lengths.specs.Promise.{LengthRead, Puts}
 use Rattle.lengths.specs.Claims.{Octets}
@@ -46,6 +47,9 @@ use Rattle.sending.specs.Promise.{senderRows, Sends}
 use Rattle.sending.specs.declared.Sender.{Sender}
 use Rattle.sending.specs.declared.Sent.{Sent}
 use Rattle.sending.specs.declared.Settings.{Settings}
+use Rattle.frames.specs.Promise.{handedOutcome, FieldOwes, LossOwes}
+use Rattle.frames.specs.declared.Joiner.{Joiner}
+use Rattle.frames.specs.declared.Joined.{Joined}
 use Rattle.lines.specs.Hex.{octetsIn, lineRows, lineOctets}
 use Rattle.demands.specs.Refusals.{lengthRows, offerRows, nextRows, giveUpRows}
 use Rattle.demands.specs.PacketRefusals.{PacketRefusals}
@@ -139,6 +143,32 @@ pub record SendingCalls : Type 0 where
   pub sendUnchanged : {s : Sender} {settings : Settings} {packet old new : List ℕ} {r : Sent} {n : ℕ} → Sends s settings packet old new r
       → refusalIn (writtenOutcome (r .answer)) ≡ some n → (r .sender ≡ s) × (new ≡ old)
 
+-- ---- where: document 02, request 5
+-- a refused call that was to write w gives 0
+abbrev pub Unplaced : Answer (List ℕ) → Type 0
+Unplaced w = (old new : List ℕ) (r : Written) → Puts w old new r → placeIn (writtenOutcome r) ≡ 0
+
+pub record Places : Type 0 where
+  -- "The length reader must give it first": a length is read at the very front
+  pub length : {s : List ℕ} {r : Length} → LengthRead s r → placeIn (lengthOutcome r) ≡ 0
+  -- "and all who call it pass it on": offer gives the datagram reader's place; 17 before it, and 8, 9 and 7 after it, give 0
+  pub offer : {s : Session} {octets : List ℕ} {r : AfterOffer} {q : DatagramRead} → OfferOwes s octets r → DatagramReads octets q
+      → placeIn (offeredOutcome (r .answer)) ≡ cond (sessionInRanges s) (placeIn (readOutcome q)) 0
+  -- "refusals not met while reading give 0"
+  pub next : {s : Session} {old new : List ℕ} {r : AfterNext} → NextOwes s old new r → placeIn (releasedOutcome (r .answer)) ≡ 0
+  pub giveUp : {s : Session} {r : AfterGiveUp} → GiveUpOwes s r → placeIn (lostOutcome (r .answer)) ≡ 0
+  pub lengthWriter : (n : ℕ) → Unplaced (lengthToWrite n)
+  pub datagramWriter : (number : ℕ) (packet : List ℕ) (kind : Kind) (lengths run : List ℕ)
+      → Unplaced (datagramToWrite number packet kind lengths run)
+  pub packetWriter : (kind : packets.Kind) (value : ℕ) (types lengths octets : List ℕ)
+      → Unplaced (packetToWrite kind value types lengths octets)
+  pub line : (line : List ℕ) → Unplaced (lineOctets line)
+  pub send : {s : Sender} {settings : Settings} {packet old new : List ℕ} {r : Sent} → Sends s settings packet old new r
+      → placeIn (writtenOutcome (r .answer)) ≡ 0
+  pub joinerField : {j : Joiner} {type : ℕ} {octets old new : List ℕ} {r : Joined} → FieldOwes j type octets old new r
+      → placeIn (handedOutcome (r .answer)) ≡ 0
+  pub joinerLost : {j : Joiner} {r : Joined} → LossOwes j r → placeIn (handedOutcome (r .answer)) ≡ 0
+
 pub record Demand1 : Type 0 where
   pub readers : Readers
   pub writers : Writers
@@ -148,3 +178,4 @@ pub record Demand1 : Type 0 where
       → DatagramReads octets q → sessionInRanges s ≡ true → refusalIn (readOutcome q) ≡ some n
       → refusalIn (offeredOutcome (r .answer)) ≡ some n
   pub sending : SendingCalls
+  pub places : Places

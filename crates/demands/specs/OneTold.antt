@@ -6,7 +6,8 @@ use mathlib.Core.Bool.{Bool}
 use mathlib.Core.List.{List, []}
 use lib.ListN.{length}
 use Rattle.lengths.specs.Length as lengths
-use Rattle.lengths.specs.Promise.{Octet, RefusalMade, RefusalTold}
+use Rattle.lengths.specs.Promise.{Octet, RefusalMade, RefusalPlaced, RefusalTold}
+use Rattle.lengths.specs.Refusals as refusals
 use Rattle.lengths.specs.Answers as answers
 use Rattle.lengths.specs.declared.Length.{Length}
 use Rattle.lengths.specs.declared.Refusal.{Refusal}
@@ -42,9 +43,11 @@ One {A} promise = (r q : A) → promise r → promise q → r ≡ q
 abbrev pub OneLent : {A : Type 0} → (List ℕ → A → Type 0) → Type 0
 OneLent {A} promise = (new other : List ℕ) (r q : A) → promise new r → promise other q → (r ≡ q) × (new ≡ other)
 
--- `lengths`: `Refusal::new`, `two_from`, `limit` and `refusal` of `Length`, `wide`, `within`
+-- `lengths`: `new`, `at` and `further` of `Refusal`, `two_from`, `limit` and `refusal` of `Length`, `wide`, `within`
 pub record ToldByLengths : Type 0 where
   pub refusal : (number : ℕ) → One (RefusalMade number)
+  pub refusalAt : (number place : ℕ) → One (RefusalPlaced number place)
+  pub refusalFurther : (start : ℕ) (why : Refusal) → One (λ (r : Refusal). r ≡ refusals.further start why)
   pub lengthTwoFrom : One (λ (r : ℕ). r ≡ lengths.twoFrom)
   pub lengthLimit : One (λ (r : ℕ). r ≡ lengths.lengthLimit)
   pub lengthRefusal : (found : Length) → One (RefusalTold found)

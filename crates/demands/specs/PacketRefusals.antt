@@ -1,7 +1,7 @@
 -- What the packet reader refuses, and with which number, said of the public call's answer: as received (`Whole`) and as repaired.
 -- Octets are refused with the number of their first wrong item (`firstWrong`, over the tables of `PacketItems`); the other fields
--- say plainly what that comes to for each number. Statements alone.
-use Prim.Native.Nat.{ℕ, _+_, _*_, _%_, _≤_, _<_}
+-- say plainly what that comes to for each number. And where: document 02, request 5. Statements alone.
+use Prim.Native.Nat.{ℕ, _+_, _*_, _/_, _%_, _≤_, _<_}
 use mathlib.Core.Path.{_≡_}
 use mathlib.Core.Logic.{_↔_, _≢_}
 use mathlib.Core.Bool.{true, false, _||_}
@@ -10,6 +10,8 @@ use mathlib.Core.Option.{none, some}
 use lib.ListN.{length}
 use lib.Dec.{leb}
 use Rattle.lengths.specs.Refusals as number
+use Rattle.lengths.specs.Answers.{refused}
+use Rattle.lengths.specs.declared.Refusal.{Refusal}
 use Rattle.lengths.specs.Length.{within}
 use Rattle.formats.specs.Spelling.{gap}
 use Rattle.formats.specs.Places.{Place, bitsAt}
@@ -88,6 +90,12 @@ pub record PacketRefusals : Type 0 where
   -- "then reading order": refused exactly if there is a first wrong item, with its number
   pub firstWrong : {ending : Ending} {s : List ℕ} {r : PacketRead} (n : ℕ) → PacketTold ending s r → length s ≤ packetLimit
       → (refusalIn (packetOutcome r) ≡ some n) ↔ FirstWrong ending s n
+  -- "Every refusal met in reading order shall give the octet at which the refused item begins, from the start of the .. packet": the one
+  -- in which the first wrong item begins, of which there is no more than one; "refusals not met while reading give 0"
+  pub place : {ending : Ending} {s : List ℕ} {r : PacketRead} {why : Refusal} {n : ℕ} → PacketTold ending s r → length s ≤ packetLimit
+      → packetOutcome r ≡ refused why → (w : FirstWrong ending s n) → why ≡ number.refusalAt (w .place / 8) n
+  pub overPlace : {ending : Ending} {s : List ℕ} {r : PacketRead} {why : Refusal} → PacketTold ending s r → packetLimit < length s
+      → packetOutcome r ≡ refused why → why .place ≡ 0
   -- not refused exactly if it is a packet; as repaired, with zeros only after it. (`isPacket` and `isRepaired` of `Demand1` say that
   -- these are what the packet writer writes)
   pub received : {s : List ℕ} {r : PacketRead} → PacketTold Whole s r → length s ≤ packetLimit

@@ -4,7 +4,7 @@ use Prim.Native.Nat.{ℕ}
 use mathlib.Core.Path.{_≡_}
 use mathlib.Core.List.{List, [], _∷_}
 use Rattle.lengths.specs.Refusals.{badForm, spareBit, notAssigned, wrongData}
-use Rattle.lengths.specs.Answers.{done, refuse}
+use Rattle.lengths.specs.Answers.{done, refuse, refuseAt}
 use Rattle.lengths.specs.Length.{lengthAt, lengthToWrite}
 use Rattle.packets.specs.Packet.{dataOf, readPacket}
 use Rattle.packets.specs.Write.{packetToWrite}
@@ -95,6 +95,6 @@ pub record MendedExample : Type 0 where
   -- it reads as two frames, each of one octet, and these are written so
   pub reads : readPacket Whole mendedOctets ≡ done mendedPacket
   pub writes : packetToWrite Data 0 (0 ∷ 2 ∷ 0 ∷ 4 ∷ []) (1 ∷ 0 ∷ 1 ∷ 0 ∷ []) (0xAA ∷ 0xBB ∷ []) ≡ done mendedOctets
-  -- the other is 14: in the low half of its `20` stands a header of type 0 without data
+  -- the other is 14, at its `20`: in the low half of that stands a header of type 0 without data
   pub other : readPacket Whole (0xC0 ∷ 0x04 ∷ 0x80 ∷ 0x00 ∷ 0x00 ∷ 0xAA ∷ 0x20 ∷ 0x80 ∷ 0x00 ∷ 0x00 ∷ 0xBB ∷ 0x40 ∷ [])
-      ≡ refuse wrongData
+      ≡ refuseAt 6 wrongData

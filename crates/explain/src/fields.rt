@@ -105,12 +105,13 @@ fn optional(s: &[u8], at: usize) -> On
 fn field(s: &[u8], at: usize) -> On
     requires { ⌜ length (now s) ≤ packetLimit ⌝ }
 {
-    match flag(s, at) {
+    let item = at / 8;
+    match flag(s, item, at) {
         Marked::Refused(why) => stopped(s, at, 1, b"field-data present", why),
         Marked::Found(present, next) => {
             row(s, at, next, b"field-data present");
             say_flag(present);
-            match field_type(s, next) {
+            match field_type(s, item, next) {
                 Number::Refused(why) => stopped(s, next, 3, b"field-type", why),
                 Number::Found(kind, end) => {
                     row(s, next, end, b"field-type");
@@ -148,7 +149,7 @@ fn sequence(s: &[u8], from: usize, count: usize) -> On
 fn count_bits(s: &[u8], at: usize) -> usize
     requires { ⌜ length (now s) ≤ packetLimit ⌝ }
 {
-    match flag(s, at) {
+    match flag(s, at / 8, at) {
         Marked::Refused(_) => 8,
         Marked::Found(two, _) => {
             if two {

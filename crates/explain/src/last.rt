@@ -7,6 +7,7 @@ use crate::text::say_fields;
 use crate::text::say_number;
 use crate::text::say_octets;
 use crate::text::say_refused;
+use crate::text::say_refused_at;
 use packets::Field;
 use packets::Kind;
 use packets::PacketRead;
@@ -51,11 +52,17 @@ fn all_fields(fields: [Field; Field::LIMIT], count: usize) {
     }
 }
 
-pub fn told(found: PacketRead) {
+// A refusal that is met while reading is told with its octet, one of the whole packet without.
+pub fn told(found: PacketRead, met: bool) {
     let fields = found.fields;
     let reading = found.reading;
     match reading {
-        Reading::Refused(why) => say_refused(why),
+        Reading::Refused(why) => {
+            if met {
+                return say_refused_at(why);
+            }
+            say_refused(why)
+        }
         Reading::Packet { kind, value, count } => {
             say_kind(kind, value as usize);
             all_fields(fields, count);

@@ -33,12 +33,13 @@ fn too_long(size: usize) {
 
 // A packet: its items, then what it reads as.
 fn explain(s: &[u8], ending: Ending) {
-    if s.len() <= Packet::LIMIT {
+    let fits = s.len() <= Packet::LIMIT;
+    if fits {
         start::packet(s, ending);
     } else {
         too_long(s.len());
     }
-    last::told(pencil_reader::read(s, ending));
+    last::told(pencil_reader::read(s, ending), fits);
 }
 
 // The packet in some digits.

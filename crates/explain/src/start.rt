@@ -30,13 +30,16 @@ ghost use Prim.Native.Nat.{_≤_};
 ghost use lib.ListN.{length};
 ghost use Rattle.datagrams.specs.Sizes.{packetLimit};
 
+// The octet at which the first item begins.
+const FIRST: usize = 0;
+
 fn value_at(s: &[u8], at: usize, is_data: bool) -> Number
     requires { ⌜ length (now s) ≤ packetLimit ⌝ }
 {
     if is_data {
-        return t30_data(s, at);
+        return t30_data(s, FIRST, at);
     }
-    t30_indicator(s, at)
+    t30_indicator(s, FIRST, at)
 }
 
 fn say_value(is_data: bool, value: usize) {
@@ -72,7 +75,7 @@ fn refused_value(s: &[u8], at: usize, extended: bool, next: usize, name: &[u8], 
 fn enumerated(s: &[u8], at: usize, is_data: bool, name: &[u8]) -> On
     requires { ⌜ length (now s) ≤ packetLimit ⌝ }
 {
-    match flag(s, at) {
+    match flag(s, FIRST, at) {
         Marked::Refused(why) => stopped(s, at, 1, name, why),
         Marked::Found(extended, next) => match value_at(s, at, is_data) {
             Number::Refused(why) => refused_value(s, at, extended, next, name, why),
@@ -90,7 +93,7 @@ fn enumerated(s: &[u8], at: usize, is_data: bool, name: &[u8]) -> On
 fn type_of_msg(s: &[u8], at: usize) -> On
     requires { ⌜ length (now s) ≤ packetLimit ⌝ }
 {
-    match flag(s, at) {
+    match flag(s, FIRST, at) {
         Marked::Refused(why) => stopped(s, at, 1, b"Type-of-msg", why),
         Marked::Found(is_data, next) => {
             row(s, at, next, b"Type-of-msg");
@@ -108,7 +111,7 @@ fn type_of_msg(s: &[u8], at: usize) -> On
 fn first_octet(s: &[u8]) -> On
     requires { ⌜ length (now s) ≤ packetLimit ⌝ }
 {
-    match flag(s, 0) {
+    match flag(s, FIRST, 0) {
         Marked::Refused(why) => stopped(s, 0, 1, b"data-field present", why),
         Marked::Found(present, next) => {
             row(s, 0, next, b"data-field present");

@@ -68,13 +68,27 @@ pub fn say_flag(set: bool) {
     say(b"no\n")
 }
 
+// The end of a refusal's line: our words for it.
+fn say_why(why: Refusal) {
+    say(b": ");
+    say_words(why.number);
+    say(b"\n");
+}
+
 // A refusal: its number, and our words for it.
 pub fn say_refused(why: Refusal) {
     say(b"refused with ");
     say_number(why.number as usize);
-    say(b": ");
-    say_words(why.number);
-    say(b"\n");
+    say_why(why);
+}
+
+// The same with the octet at which the refused item begins.
+pub fn say_refused_at(why: Refusal) {
+    say(b"refused with ");
+    say_number(why.number as usize);
+    say(b" at octet ");
+    say_number(why.place);
+    say_why(why);
 }
 
 // A place, in octets and bits.
@@ -97,7 +111,7 @@ fn say_place(at: usize) {
 fn say_bit(s: &[u8], at: usize)
     requires { ⌜ length (now s) ≤ packetLimit ⌝ }
 {
-    match bit(s, at) {
+    match bit(s, at / 8, at) {
         Number::Refused(_) => say(b"-"),
         Number::Found(one, _) => {
             if one == 0 {

@@ -10,9 +10,10 @@ use native.Mathlib.Nat.{mul-assoc, mod-one, mod-lt, mod-eq-of-lt, div-add-mod'}
 use native.Mathlib.Omega.{arith}
 use borrow.Author.Tests.{lt-ltb, le-ltb, ltb-true, ltb-false, eq-eqb, ne-eqb}
 use Rattle.lengths.specs.Refusals.{endsEarly, spareBit}
-use Rattle.lengths.specs.Answers.{Answer, done, refused, refuse}
+use Rattle.lengths.specs.Answers.{Answer, done, refused, refuseAt}
 use Rattle.formats.specs.Spelling.{wide, gap}
-use Rattle.formats.specs.Reading.{Finding, found, stopped, andThen, stop, check, bitAt, bit, bits, flag, align, octetwise}
+use Rattle.formats.specs.Reading.{Finding, found, stopped, andThen, stop, check, bitAt, bit, bits, flag, align, foundFrom}
+use Rattle.formats.specs.Reading.{octetwise}
 use Rattle.formats.specs.Places.{bitsAt, edge, edgeAt}
 use Rattle.formats.specs.Format as format
 use Rattle.formats.proofs.Standing.{low-bits, bit-above, high-bit, stepped, bit-form, bits-form}
@@ -180,7 +181,7 @@ unfolding align edgeAt
 edge-at s i p inside = rw (padding s (p / 8) p inside) (by (ltb 0 (getD s (p / 8) 0 % 2 ^ gap p)) refl) where
   by : (t : Bool) → ltb 0 (getD s (p / 8) 0 % 2 ^ gap p) ≡ t
       → check spareBit (eqb (getD s (p / 8) 0 % 2 ^ gap p) 0) s (p / 8) (8 * edge p)
-      ≡ onward (cond t (refuse spareBit) (done (edge p))) (λ at. found tt (8 * at))
+      ≡ onward (cond t (refuseAt (p / 8) spareBit) (done (edge p))) (λ at. found tt (8 * at))
   by true e = let set = ltb-true 0 (getD s (p / 8) 0 % 2 ^ gap p) e in
       rw (ne-eqb (getD s (p / 8) 0 % 2 ^ gap p) 0 (λ (z : getD s (p / 8) 0 % 2 ^ gap p ≡ 0). omega arith))
   by false e = rw (eq-eqb (getD s (p / 8) 0 % 2 ^ gap p) 0 (omega (arith, ltb-false 0 (getD s (p / 8) 0 % 2 ^ gap p) e)))
@@ -188,11 +189,11 @@ edge-at s i p inside = rw (padding s (p / 8) p inside) (by (ltb 0 (getD s (p / 8
 module _ {A : Type 0} (front : List ℕ → Finding A) (octets : A → List ℕ) (right : A → Type 0) (s : List ℕ) (i : ℕ) where
   -- whole octets, from the edge at a place or after it on
   pub octetwise-at : (p : ℕ) → p ≤ 8 * length s → format.octetwise front octets right .read s i p
-      ≡ onward (edgeAt s p) (λ at. andThen (front (drop at s)) (λ a n. found a (8 * n + 8 * at)))
+      ≡ onward (edgeAt s p) (λ at. andThen (foundFrom at (front (drop at s))) (λ a n. found a (8 * n + 8 * at)))
   unfolding octetwise
   octetwise-at p inside = rw (edge-at s i p inside) (by (edgeAt s p)) where
     by : (x : Answer ℕ) → andThen {A = Unit {0}} (onward x (λ at. found tt (8 * at))) (λ _ q. octetwise front s (q / 8) q)
-        ≡ onward x (λ at. andThen (front (drop at s)) (λ a n. found a (8 * n + 8 * at)))
+        ≡ onward x (λ at. andThen (foundFrom at (front (drop at s))) (λ a n. found a (8 * n + 8 * at)))
     by (done at) =
         let octet : 8 * at / 8 ≡ at = omega arith in
         rw octet
@@ -200,7 +201,7 @@ module _ {A : Type 0} (front : List ℕ → Finding A) (octets : A → List ℕ)
 
   -- and at an edge
   pub octetwise-edge : (at : ℕ) → format.octetwise front octets right .read s i (8 * at)
-      ≡ andThen (front (drop at s)) (λ a n. found a (8 * n + 8 * at))
+      ≡ andThen (foundFrom at (front (drop at s))) (λ a n. found a (8 * n + 8 * at))
   unfolding align bits octetwise
   octetwise-edge at =
       let none : (8 - 8 * at % 8) % 8 ≡ 0 = omega arith in

@@ -5,15 +5,15 @@ use mathlib.Core.Bool.{Bool, true, false, cond}
 use mathlib.Core.List.{List, [], _∷_, _++_}
 use lib.ListN.{length, getD, take, drop, length-append, length-drop}
 use lib.Seq.{drop-cons, getD-drop, length-take-le, take-at}
-use lib.Dec.{ltb, eqb}
+use lib.Dec.{leb, ltb, eqb}
 use lib.Pow.{pow-pos}
 use native.Mathlib.Omega.{arith}
-use borrow.Author.Tests.{ltb-true, ltb-false, eqb-true, le-ltb}
-use Rattle.lengths.specs.Refusals.{endsEarly, spareBit, refusal}
+use borrow.Author.Tests.{ltb-true, ltb-false, leb-true, eqb-true, le-ltb, le-leb}
+use Rattle.lengths.specs.Refusals.{endsEarly, outsideSizes, spareBit, refusal}
 use Rattle.lengths.specs.Answers.{Answer, done, refused, LengthAnswer}
 use Rattle.lengths.specs.Claims.{Octets}
-use Rattle.lengths.specs.Length.{lengthAt, lengthOctets, lengthLimit}
-use Rattle.lengths.proofs.Laws.{written-reads, read-writes, value-read, sizes-read}
+use Rattle.lengths.specs.Length.{within, lengthWithin, lengthOctets, lengthLimit}
+use Rattle.lengths.proofs.Laws.{read-writes, value-read, within-true, true-within, within-done, within-written}
 use Rattle.formats.specs.Spelling.{bit, spelt, whole, wide, gap}
 use Rattle.formats.specs.Reading.{Finding, found, stopped}
 use Rattle.formats.specs.Reading as reading
@@ -121,6 +121,11 @@ octets-rest n s small i = rw (getD-drop n s i 0) (small (n + i))
 
 -- what is asked of octets and their front
 module _ {A : Type 0} where
+  -- what is found further on is found there
+  from-found : (start : ℕ) (x : Finding A) (a : A) (n : ℕ) → reading.foundFrom start x ≡ found a n → x ≡ found a n
+  from-found start (found b m) a n e = e
+  from-found start (stopped r) a n e = let z : _≡_ {A = ℕ} 0 1 = cc in absurd (omega arith)
+
   pub record Fronts (front : List ℕ → Finding A) (octets : A → List ℕ) (right : A → Type 0) : Type 0 where
     pub reads : (a : A) (rest : List ℕ) → right a → front (octets a ++ rest) ≡ found a (length (octets a))
     pub back : (s : List ℕ) (a : A) (n : ℕ) → Octets s → front s ≡ found a n → (right a) × (octets a ≡ take n s) × (n ≤ length s)
@@ -136,11 +141,12 @@ module _ {A : Type 0} where
             λ s i p a q small e.
             let first = stepped (reading.align s i p) _ a q e in
             let pad = lawful-align .back s i p (first .value) (first .at) small (first .was) in
-            let second = stepped (front (drop (first .at / 8) s)) _ a q (first .gave) in
+            let second = stepped (reading.foundFrom (first .at / 8) (front (drop (first .at / 8) s))) _ a q (first .gave) in
+            let was = from-found (first .at / 8) (front (drop (first .at / 8) s)) (second .value) (second .at) (second .was) in
             let is : second .value ≡ a = cc in
             let next : 8 * second .at + first .at ≡ q = cc in
             let at-front = f .back (drop (first .at / 8) s) (second .value) (second .at) (octets-rest (first .at / 8) s small)
-            (second .was) in
+            was in
             let place = edge p in
             let on : first .at % 8 ≡ 0 = rw (pad .spells .next) place in
             let some = at-front .2 in
@@ -199,47 +205,57 @@ take-two [] h = absurd (omega arith)
 take-two (x ∷ []) h = absurd (omega arith)
 take-two (x ∷ y ∷ s) h = refl
 
-two-fronts : Fronts twoFront (λ v. (v / 256) ∷ (v % 256) ∷ []) (λ v. Unit {0})
+two-fronts : (most : ℕ) → Fronts (twoFront most) (λ v. (v / 256) ∷ (v % 256) ∷ []) (λ v. v ≤ most)
 unfolding twoFront
-two-fronts =
+two-fronts most =
     record {
       reads =
           λ v rest fits.
-          rw (le-ltb (length ((v / 256) ∷ (v % 256) ∷ rest)) 2 (omega arith)) (ap (λ (n : ℕ). found n 2) (joined v));
-      back = λ s v m small e. by s v m (ltb (length s) 2) refl small e;
+          rw (le-ltb (length ((v / 256) ∷ (v % 256) ∷ rest)) 2 (omega arith), joined v, le-leb v most fits);
+      back = λ s v m small e. by s v m (ltb (length s) 2) (leb (getD s 0 0 * 256 + getD s 1 0) most) refl refl small e;
     } where
       joined : (v : ℕ) → v / 256 * 256 + v % 256 ≡ v
       joined v = omega arith
 
-      by : (s : List ℕ) (v m : ℕ) (b : Bool) → ltb (length s) 2 ≡ b → Octets s
-          → cond b (stopped (refusal endsEarly)) (found (getD s 0 0 * 256 + getD s 1 0) 2) ≡ found v m
-          → Unit {0} × ((v / 256) ∷ (v % 256) ∷ [] ≡ take m s) × (m ≤ length s)
-      by s v m true was small e = let z : _≡_ {A = ℕ} 0 1 = cc in absurd (omega arith)
-      by s v m false was small e =
+      by : (s : List ℕ) (v m : ℕ) (b c : Bool) → ltb (length s) 2 ≡ b → leb (getD s 0 0 * 256 + getD s 1 0) most ≡ c → Octets s
+          → cond b (stopped (refusal endsEarly)) (cond c (found (getD s 0 0 * 256 + getD s 1 0) 2) (stopped (refusal outsideSizes)))
+          ≡ found v m
+          → (v ≤ most) × ((v / 256) ∷ (v % 256) ∷ [] ≡ take m s) × (m ≤ length s)
+      by s v m true c was few small e = let z : _≡_ {A = ℕ} 0 1 = cc in absurd (omega arith)
+      by s v m false false was few small e = let z : _≡_ {A = ℕ} 0 1 = cc in absurd (omega arith)
+      by s v m false true was few small e =
           let is : getD s 0 0 * 256 + getD s 1 0 ≡ v = cc in
           let same : 2 ≡ m = cc in
           let inside = ltb-false (length s) 2 was in
           let low = small 1 in
           let first : v / 256 ≡ getD s 0 0 = omega arith in
           let second : v % 256 ≡ getD s 1 0 = omega arith in
-          (tt, rw (first, second, ← same, take-two s inside), omega arith)
+          (rw (← is) (leb-true _ most few), rw (first, second, ← same, take-two s inside), omega arith)
 
-pub lawful-two-octets : Lawful twoOctets
-lawful-two-octets = lawful-octetwise two-fronts
+pub lawful-two-octets : (most : ℕ) → Lawful (twoOctets most)
+lawful-two-octets most = lawful-octetwise (two-fronts most)
 
-length-fronts : Fronts (λ s. lengthFound (lengthAt s)) lengthOctets (λ n. n ≤ lengthLimit)
-length-fronts =
+length-fronts : (least most : ℕ)
+    → Fronts (λ s. lengthFound (lengthWithin least most s)) lengthOctets (λ n. (n ≤ lengthLimit) × (within least most n ≡ true))
+length-fronts least most =
     record {
-      reads = λ n rest fits. rw (written-reads n rest fits);
-      back = λ s n m small e. by s n m (lengthAt s) refl small e;
+      reads =
+          λ n rest fits.
+          let sizes = within-true least most n (fits .1) in
+          rw (within-written least most n rest (sizes .0) (sizes .1) (fits .0));
+      back = λ s n m small e. by s n m (lengthWithin least most s) refl small e;
     } where
-      by : (s : List ℕ) (n m : ℕ) (x : Answer LengthAnswer) → lengthAt s ≡ x → Octets s → lengthFound x ≡ found n m
-          → (n ≤ lengthLimit) × (lengthOctets n ≡ take m s) × (m ≤ length s)
+      by : (s : List ℕ) (n m : ℕ) (x : Answer LengthAnswer) → lengthWithin least most s ≡ x → Octets s → lengthFound x ≡ found n m
+          → ((n ≤ lengthLimit) × (within least most n ≡ true)) × (lengthOctets n ≡ take m s) × (m ≤ length s)
       by s n m (done a) was small e =
           let is : a .value ≡ n = cc in
           let same : a .size ≡ m = cc in
-          (rw (← is) (value-read s a small was), rw (← is, ← same) (read-writes s a small was), rw (← same) (sizes-read s a was .inside))
+          let inside = within-done least most s a was in (
+            rw (← is) (value-read s a small (inside .read), true-within least most (a .value) (inside .low) (inside .high)),
+            rw (← is, ← same) (read-writes s a small (inside .read)),
+            rw (← same) (inside .sizes .inside),
+          )
       by s n m (refused r) was small e = let z : _≡_ {A = ℕ} 0 1 = cc in absurd (omega arith)
 
-pub lawful-length-rule : Lawful lengthRule
-lawful-length-rule = lawful-octetwise length-fronts
+pub lawful-length-rule : (least most : ℕ) → Lawful (lengthRule least most)
+lawful-length-rule least most = lawful-octetwise (length-fronts least most)

@@ -5,10 +5,10 @@ use mathlib.Core.Path.{_≡_}
 use mathlib.Core.Bool.{Bool, true, cond}
 use mathlib.Core.List.{List, [], _∷_, _++_}
 use lib.ListN.{length, getD, take}
-use lib.Dec.{ltb}
-use Rattle.lengths.specs.Refusals.{refusal, endsEarly}
+use lib.Dec.{leb, ltb}
+use Rattle.lengths.specs.Refusals.{refusal, endsEarly, outsideSizes}
 use Rattle.lengths.specs.Answers.{Answer, done, refused, LengthAnswer}
-use Rattle.lengths.specs.Length.{lengthAt, lengthOctets, lengthLimit}
+use Rattle.lengths.specs.Length.{within, lengthWithin, lengthOctets, lengthLimit}
 use Rattle.formats.specs.Spelling.{Letter, bit, spelt, whole, wide, gap}
 use Rattle.formats.specs.Reading.{Finding, found, stopped, Reader, give, _>>=_, check}
 use Rattle.formats.specs.Reading as reading
@@ -57,20 +57,23 @@ octetsFront n s = cond (ltb (length s) n) (stopped (refusal endsEarly)) (found (
 abbrev pub octets : ℕ → Format (List ℕ)
 octets n = octetwise (octetsFront n) (λ l. l) (λ l. length l ≡ n)
 
--- a number in two octets, the high one first
-unfoldable pub twoFront : List ℕ → Finding ℕ
-twoFront s = cond (ltb (length s) 2) (stopped (refusal endsEarly)) (found (getD s 0 0 * 256 + getD s 1 0) 2)
+-- a number in two octets, the high one first, that is not over its size: the test is a part of its item
+unfoldable pub twoFront : ℕ → List ℕ → Finding ℕ
+twoFront most s =
+    let value = getD s 0 0 * 256 + getD s 1 0 in
+    cond (ltb (length s) 2) (stopped (refusal endsEarly)) (cond (leb value most) (found value 2) (stopped (refusal outsideSizes)))
 
-abbrev pub twoOctets : Format ℕ
-twoOctets = octetwise twoFront (λ v. (v / 256) ∷ (v % 256) ∷ []) (λ v. Unit {0})
+abbrev pub twoOctets : ℕ → Format ℕ
+twoOctets most = octetwise (twoFront most) (λ v. (v / 256) ∷ (v % 256) ∷ []) (λ v. v ≤ most)
 
--- a length or count by document 01's length rule
+-- a length or count by document 01's length rule, within its sizes
 abbrev pub lengthFound : Answer LengthAnswer → Finding ℕ
 lengthFound (done a) = found (a .value) (a .size)
 lengthFound (refused r) = stopped r
 
-abbrev pub lengthRule : Format ℕ
-lengthRule = octetwise (λ s. lengthFound (lengthAt s)) lengthOctets (λ n. n ≤ lengthLimit)
+abbrev pub lengthRule : ℕ → ℕ → Format ℕ
+lengthRule least most =
+    octetwise (λ s. lengthFound (lengthWithin least most s)) lengthOctets (λ n. (n ≤ lengthLimit) × (within least most n ≡ true))
 
 -- ---- together
 module _ {A : Type 0} where

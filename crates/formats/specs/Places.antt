@@ -6,7 +6,7 @@ use mathlib.Core.List.{List}
 use lib.ListN.{getD}
 use lib.Dec.{ltb}
 use Rattle.lengths.specs.Refusals.{spareBit}
-use Rattle.lengths.specs.Answers.{Answer, done, refuse}
+use Rattle.lengths.specs.Answers.{Answer, done, refuseAt}
 use Rattle.formats.specs.Spelling.{gap}
 
 -- so many bits after the first
@@ -21,6 +21,6 @@ bitsAt n s p = (getD s (p / 8) 0 * 256 + getD s (p / 8 + 1) 0 % 256) / 2 ^ (16 -
 abbrev pub edge : Place → ℕ
 edge p = (p + 7) / 8
 
--- to an octet edge, by zero bits: the octets up to it, or 5 for a bit that is set before it
+-- to an octet edge, by zero bits: the octets up to it, or 5 for a bit that is set before it, at the octet in which they are
 unfoldable pub edgeAt : List ℕ → Place → Answer ℕ
-edgeAt s p = cond (ltb 0 (getD s (p / 8) 0 % 2 ^ gap p)) (refuse spareBit) (done (edge p))
+edgeAt s p = cond (ltb 0 (getD s (p / 8) 0 % 2 ^ gap p)) (refuseAt (p / 8) spareBit) (done (edge p))

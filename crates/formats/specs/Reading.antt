@@ -4,7 +4,7 @@ use mathlib.Core.Bool.{Bool, cond}
 use mathlib.Core.List.{List, [], _∷_}
 use lib.ListN.{length, getD, drop}
 use lib.Dec.{ltb, eqb}
-use Rattle.lengths.specs.Refusals.{refusal, endsEarly, spareBit}
+use Rattle.lengths.specs.Refusals.{refusalAt, further, endsEarly, spareBit}
 use Rattle.lengths.specs.declared.Refusal.{Refusal}
 use Rattle.formats.specs.Spelling.{gap}
 
@@ -27,9 +27,9 @@ give a s i p = found a p
 abbrev pub _>>=_ : {A B : Type 0} → Reader A → (A → Reader B) → Reader B
 _>>=_ r next s i p = andThen (r s i p) (λ a q. next a s i q)
 
--- refused with the number n
+-- refused with the number n, at the octet at which the present item begins
 abbrev pub stop : {A : Type 0} → ℕ → Reader A
-stop n s i p = stopped (refusal n)
+stop n s i p = stopped (refusalAt i n)
 
 -- on, if a test holds; else the refusal n
 abbrev pub check : ℕ → Bool → Reader (Unit {0})
@@ -64,9 +64,14 @@ flag = do
 unfoldable pub align : Reader (Unit {0})
 align s i p = item (do v ← bits (gap p); check spareBit (eqb v 0)) s i p
 
+-- what is found in the octets from `start` on: a refusal gives its place from the first octet on
+abbrev pub foundFrom : {A : Type 0} → ℕ → Finding A → Finding A
+foundFrom start (found a n) = found a n
+foundFrom start (stopped why) = stopped (further start why)
+
 -- what stands in whole octets, of which `front` says what they are and how many it takes: an item that begins at an octet edge
 unfoldable pub octetwise : {A : Type 0} → (List ℕ → Finding A) → Reader A
-octetwise front s i p = andThen (front (drop (p / 8) s)) (λ a n. found a (8 * n + p))
+octetwise front s i p = andThen (foundFrom (p / 8) (front (drop (p / 8) s))) (λ a n. found a (8 * n + p))
 
 -- so many of the same
 unfoldable pub sequenceOf : {A : Type 0} → ℕ → Reader A → Reader (List A)

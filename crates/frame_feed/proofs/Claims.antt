@@ -4,7 +4,7 @@ use mathlib.Core.List.{List}
 use lib.ListN.{getElem?}
 use mathlib.Core.Option.{Option, none, some}
 use Prim.Native.Nat.{ℕ}
-use Rattle.lengths.specs.Length.{lengthAt}
+use Rattle.lengths.specs.Length.{lengthAt, allowed, lengthWithin}
 use Rattle.formats.specs.Reading as reading
 use Rattle.formats.specs.Format.{octetsFront, twoFront}
 use Rattle.packets.specs.Packet.{every, root, addition, enumerated, typeOfMsg, start, count, header, size, fieldData, field}
@@ -32,6 +32,7 @@ pub claims : Claims
 unfolding framesFrom eventsFrom eventsOf handedBy eventStep fieldStep onOpen withAdded goodFrame description.readPacket
     description.wholePacket packet start typeOfMsg enumerated root addition dataField count field header fieldData size reading.bit
     reading.bits reading.flag reading.align reading.octetwise reading.sequenceOf octetsFront twoFront every lengthAt
+    allowed lengthWithin
 claims =
     record {
       oneOutcome =

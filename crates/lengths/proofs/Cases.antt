@@ -10,6 +10,7 @@ cases =
     record {
       last-c0 = refl;
       last-80 = refl;
+      from-octet-2 = refl;
       written-16383 = refl;
       written-16384 = refl;
       two-into-one = refl;

@@ -1,7 +1,10 @@
 -- What the crates above use of this one's laws: callers need these and not the definitions' text. Assumes nothing.
 
 -- ---- answers: what one that is no refusal says of the steps and tests that made it
-pub use Rattle.lengths.proofs.Answers.{not-done, bind-done, cond-done, cond-met, done-same}
+pub use Rattle.lengths.proofs.Answers.{not-done, bind-done, cond-past, cond-done, cond-kept, cond-met, done-same, refused-same}
+-- ---- read from an octet on, and refused at the front
+pub use Rattle.lengths.proofs.Answers.{from-done, from-front, from-from, AtFront, refuse-front, done-front, cond-front, bind-front}
+pub use Rattle.lengths.proofs.Answers.{length-front, within-front}
 -- ---- within the sizes
 pub use Rattle.lengths.proofs.Answers.{both, within-true, true-within, allowed-done, allowed-sizes, allowed-met, allowed-not}
 pub use Rattle.lengths.proofs.Answers.{LengthInside, within-done, within-written}
@@ -17,3 +20,4 @@ pub use Rattle.lengths.proofs.Fronts.{put-puts, full-puts}
 -- ---- tables of refusals
 pub use Rattle.lengths.proofs.Tables.{row, row-met, row-step, no-row, unless-first, unless-done, unless-past}
 pub use Rattle.lengths.proofs.Tables.{fitted-first, size-refusal, puts-refusal, refused-some, done-none}
+pub use Rattle.lengths.proofs.Tables.{unless-front, fitted-front, front-place, mapped-place, puts-place}

@@ -8,11 +8,12 @@ use lib.ListN.{length}
 use lib.Dec.{leb}
 use native.Mathlib.Omega.{arith}
 use Rattle.lengths.specs.Refusals.{noRoom}
-use Rattle.lengths.specs.Answers.{Answer, done, refused, refuse, _>>=_, fitted, sizeOf, writtenOutcome}
+use Rattle.lengths.specs.Answers.{Answer, done, refused, refuse, _>>=_, mapped, fitted, sizeOf, writtenOutcome}
 use Rattle.lengths.specs.Promise.{Puts}
 use Rattle.lengths.specs.declared.Refusal.{Refusal}
 use Rattle.lengths.specs.declared.Written.{Written}
-use Rattle.lengths.specs.Tables.{when, first, unless, refusalIn, roomRow}
+use Rattle.lengths.specs.Tables.{when, first, unless, refusalIn, placeIn, roomRow}
+use Rattle.lengths.proofs.Answers.{AtFront, refuse-front, done-front, cond-front}
 
 -- a test that refuses, and one that must be met
 pub row : {A : Type 0} (b : Bool) (n : ℕ) (m : Answer A) (rows : List (Option ℕ)) → refusalIn m ≡ first rows
@@ -112,3 +113,26 @@ refused-some (refused why) n e = (why, refl)
 pub done-none : {A : Type 0} (m : Answer A) → refusalIn m ≡ none → (a : A) × (m ≡ done a)
 done-none (done a) e = (a, refl)
 done-none (refused why) e = let z : _≡_ {A = ℕ} 0 1 = cc in absurd (omega arith)
+
+-- ---- where: a table's refusals give no place
+pub unless-front : {A : Type 0} (rows : List (Option ℕ)) (a : A) → AtFront (unless rows a)
+unfolding unless
+unless-front [] a = done-front a
+unless-front (some number ∷ rows) a = refuse-front number
+unless-front (none ∷ rows) a = unless-front rows a
+
+pub fitted-front : (w : Answer (List ℕ)) (old : List ℕ) → AtFront w → AtFront (fitted w old)
+fitted-front (done octets) old front = cond-front (leb (length octets) (length old)) (done-front octets) (refuse-front noRoom)
+fitted-front (refused why) old front = front
+
+pub front-place : {A : Type 0} (m : Answer A) → AtFront m → placeIn m ≡ 0
+front-place (done a) front = refl
+front-place (refused why) front = front .front why refl
+
+pub mapped-place : {A B : Type 0} (f : A → B) (m : Answer A) → placeIn (mapped f m) ≡ placeIn m
+mapped-place f (done a) = refl
+mapped-place f (refused why) = refl
+
+pub puts-place : {w : Answer (List ℕ)} {old new : List ℕ} {r : Written} → AtFront w → Puts w old new r → placeIn (writtenOutcome r) ≡ 0
+puts-place {w} {old} front p =
+    ap placeIn (p .answer) ∙ mapped-place length (fitted w old) ∙ front-place (fitted w old) (fitted-front w old front)

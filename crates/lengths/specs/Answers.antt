@@ -5,7 +5,7 @@ use mathlib.Core.Bool.{cond}
 use mathlib.Core.List.{List, _++_}
 use lib.ListN.{length, drop}
 use lib.Dec.{leb}
-use Rattle.lengths.specs.Refusals.{refusal, endsEarly, noRoom}
+use Rattle.lengths.specs.Refusals.{refusal, refusalAt, further, endsEarly, noRoom}
 use Rattle.lengths.specs.declared.Refusal.{Refusal}
 use Rattle.lengths.specs.declared.Length.{Length}
 use Rattle.lengths.specs.declared.Length.the-variants as length
@@ -20,6 +20,15 @@ pub data Answer (A : Type 0) : Type 0 where
 -- the answer that is document 01's refusal n
 abbrev pub refuse : {A : Type 0} → ℕ → Answer A
 refuse n = refused (refusal n)
+
+-- the same of an item that begins at an octet
+abbrev pub refuseAt : {A : Type 0} → ℕ → ℕ → Answer A
+refuseAt place n = refused (refusalAt place n)
+
+-- what is read from the octet `start` on: its refusals give their places from the first octet on
+abbrev pub readFrom : {A : Type 0} → ℕ → Answer A → Answer A
+readFrom start (done a) = done a
+readFrom start (refused why) = refused (further start why)
 
 -- one step after the other: the first refusal is the whole's
 abbrev pub _>>=_ : {A B : Type 0} → Answer A → (A → Answer B) → Answer B

@@ -2,13 +2,16 @@
 use mathlib.Core.Path.{_≡_}
 use mathlib.Core.List.{[], _∷_}
 use Rattle.lengths.specs.Refusals.{endsEarly, badForm, outsideSizes, noRoom}
-use Rattle.lengths.specs.Answers.{done, refuse, fitted, over}
+use Rattle.lengths.specs.Answers.{done, refuse, refuseAt, readFrom, fitted, over}
 use Rattle.lengths.specs.Length.{lengthAt, lengthToWrite}
 
 pub record Cases : Type 0 where
   -- C0 or more is 3, as the last octet too; 80 as the last octet is 1
   pub last-c0 : lengthAt (0xC0 ∷ []) ≡ refuse badForm
   pub last-80 : lengthAt (0x80 ∷ []) ≡ refuse endsEarly
+  -- document 02, request 5: "The length reader must give it first, and all who call it pass it on": a length that is read from an octet
+  -- on is refused at that octet
+  pub from-octet-2 : readFrom 2 (lengthAt (0xC0 ∷ [])) ≡ refuseAt 2 badForm
   -- "From 128 to 16,383 it is two"
   pub written-16383 : lengthToWrite 16383 ≡ done (0xBF ∷ 0xFF ∷ [])
   pub written-16384 : lengthToWrite 16384 ≡ refuse outsideSizes

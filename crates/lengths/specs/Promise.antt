@@ -3,7 +3,7 @@ use Prim.Native.Nat.{ℕ, _≤_, _<_}
 use mathlib.Core.Path.{_≡_}
 use mathlib.Core.List.{List, _++_}
 use lib.ListN.{length, drop}
-use Rattle.lengths.specs.Refusals.{refusal}
+use Rattle.lengths.specs.Refusals.{refusal, refusalAt}
 use Rattle.lengths.specs.Answers.{Answer, lengthOutcome, refusalOf, writtenOutcome, fitted, sizeOf, over}
 use Rattle.lengths.specs.Length.{lengthAt, lengthWithin}
 use Rattle.lengths.specs.declared.Refusal.{Refusal}
@@ -18,6 +18,10 @@ pub record Octet (octet r : ℕ) : Type 0 where
 -- a refusal is made of document 01's number
 pub record RefusalMade (number : ℕ) (r : Refusal) : Type 0 where
   pub answer : r ≡ refusal number
+
+-- and of an item that begins at an octet
+pub record RefusalPlaced (number place : ℕ) (r : Refusal) : Type 0 where
+  pub answer : r ≡ refusalAt place number
 
 -- what `read` owes of the octets s
 pub record LengthRead (s : List ℕ) (r : Length) : Type 0 where

@@ -1,6 +1,6 @@
--- Document 01, 'Refusals by number': the names that the definitions use for the numbers, and the one definition that makes
--- a refusal. Definitions only.
-use Prim.Native.Nat.{ℕ}
+-- Document 01, 'Refusals by number': the names that the definitions use for the numbers, and how a refusal is made and passed on.
+-- Definitions only.
+use Prim.Native.Nat.{ℕ, _+_}
 use Rattle.lengths.specs.declared.Refusal.{Refusal}
 
 -- input ends inside an item or before one that must come; empty input
@@ -74,6 +74,15 @@ outsideRanges = 17
 abbrev pub frameTooLong : ℕ
 frameTooLong = 18
 
--- "A refusal returns its number only"
+-- document 02, request 5: "Every refusal met in reading order shall give the octet at which the refused item begins, from the start of
+-- the datagram or packet". A refusal with this number, of an item that begins at this octet
+abbrev pub refusalAt : ℕ → ℕ → Refusal
+refusalAt place n = record { number = n; place = place }
+
+-- "refusals not met while reading give 0"; and so does the refusal of an item at the very front
 abbrev pub refusal : ℕ → Refusal
-refusal n = record { number = n }
+refusal n = refusalAt 0 n
+
+-- "all who call it pass it on": the same refusal, where the octets that were read begin at the octet `start` of others
+abbrev pub further : ℕ → Refusal → Refusal
+further start why = refusalAt (start + why .place) (why .number)

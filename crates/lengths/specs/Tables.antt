@@ -31,6 +31,11 @@ abbrev pub refusalIn : {A : Type 0} → Answer A → Option ℕ
 refusalIn (done a) = none
 refusalIn (refused why) = some (why .number)
 
+-- and its place, which is 0 where there is none
+abbrev pub placeIn : {A : Type 0} → Answer A → ℕ
+placeIn (done a) = 0
+placeIn (refused why) = why .place
+
 -- 13, "the result is longer than the lent buffer": the last row of every call that writes these octets to the front of a lent one
 abbrev pub roomRow : List ℕ → List ℕ → List (Option ℕ)
 roomRow octets lent = when (not (leb (length octets) (length lent))) noRoom ∷ []

@@ -1,13 +1,17 @@
 // A length or count at the front of some octets, read and written: document 01, 'The datagram'. One rule serves packets,
 // spares, messages and counts. The project's refusal type lives here too, below every layer that gives one.
-ghost use Rattle.lengths.specs.Promise.{LengthRead, Octet, Puts, RefusalMade, RefusalTold, WithinRead};
+ghost use Rattle.lengths.specs.Promise.{LengthRead, Octet, Puts, RefusalMade, RefusalPlaced, RefusalTold, WithinRead};
 ghost use mathlib.Core.Path.{_≡_};
+ghost use Prim.Native.Nat.{_+_, _^_, _<_};
+ghost use Rattle.lengths.specs.Refusals.{further as isFurther};
 ghost use Rattle.lengths.specs.Length.{twoFrom, lengthLimit, lengthToWrite};
 ghost use Rattle.lengths.specs.Length.{within as isWithin};
 
-// Why a call was refused: document 01's number. It is made here alone and passed up whole.
+// Why a call was refused: document 01's number, and where: the octet at which the refused item begins, from the start of the octets
+// that were read, and 0 for a refusal that is not met while reading. It is made here alone and passed up whole, or further on.
 pub struct Refusal {
     pub number: u8,
+    pub place: usize,
 }
 
 impl Refusal {
@@ -52,7 +56,26 @@ impl Refusal {
     pub fn new(number: u8) -> Refusal
         ensures { λ r. ⌜ RefusalMade number r ⌝ }
     {
-        Refusal { number }
+        Refusal { number, place: 0 }
+    }
+
+    // Of an item that begins at this octet.
+    pub fn at(number: u8, place: usize) -> Refusal
+        ensures { λ r. ⌜ RefusalPlaced number place r ⌝ }
+    {
+        Refusal { number, place }
+    }
+
+    // The same, where the octets that were read begin at the octet `start` of others.
+    pub fn further(self, start: usize) -> Refusal
+        requires { ⌜ start + self .place < 2 ^ 64 ⌝ }
+        ensures { λ r. ⌜ r ≡ isFurther start self ⌝ }
+    {
+        let place = start + self.place;
+        Refusal {
+            number: self.number,
+            place,
+        }
     }
 }
 

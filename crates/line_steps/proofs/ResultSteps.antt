@@ -32,7 +32,8 @@ unfolding resultLine hexOf
 result-put kind number octets front packet feed = appends-then (appends-then front packet) feed
 
 pub refusal-put : (why : Refusal) {old one new : List ℕ} {at end r : ℕ}
-    → Appends (hexOf (255 ∷ why .number ∷ [])) old at one end → Appends (10 ∷ []) one end new r → Appends (refusalLine why) old at new r
+    → Appends (hexOf (255 ∷ why .number ∷ why .place / 256 % 256 ∷ why .place % 256 ∷ [])) old at one end → Appends (10 ∷ []) one end new r
+    → Appends (refusalLine why) old at new r
 unfolding refusalLine
 refusal-put why front feed = appends-then front feed
 
@@ -44,6 +45,6 @@ length-result kind number octets =
     ∙ ap (λ (k : ℕ). k + 1) (length-hexOf (kind ∷ number / 256 ∷ number % 256 ∷ octets))
     ∙ omega arith
 
-pub length-refusal : (why : Refusal) → length (refusalLine why) ≡ 5
+pub length-refusal : (why : Refusal) → length (refusalLine why) ≡ 9
 unfolding refusalLine hexOf
 length-refusal why = refl

@@ -1,5 +1,5 @@
-// Result lines: "kind (00 received, 01 spare, 02 repaired, 03 lost), number, octets; a refusal is FF and its number as two
-// hexadecimal digits", "each line ended by a line feed". Each is laid into out from place at on; the answer is the place after
+// Result lines: "kind (00 received, 01 spare, 02 repaired, 03 lost), number, octets", for a refusal "FF, number, then the place in
+// four hexadecimal digits", "each line ended by a line feed". Each is laid into out from place at on; the answer is the place after
 // it.
 use held::State;
 use hexadecimal::put_octets;
@@ -48,11 +48,14 @@ pub fn put_result(kind: u8, number: u16, octets: &[u8], out: &mut [u8], at: usiz
 }
 
 pub fn put_refusal(why: Refusal, out: &mut [u8], at: usize) -> usize
-    requires { ⌜ at + 5 ≤ length (now out) ⌝ }
+    requires { ⌜ at + 9 ≤ length (now out) ⌝ }
     ensures { λ r. ⌜ Appends (refusalLine why) (now (out .entry)) at (now (out .exit)) r ⌝ }
 {
     let number = why.number;
-    let octets = [255, number];
+    let place = why.place;
+    let high = (place / 256 % 256) as u8;
+    let low = (place % 256) as u8;
+    let octets = [255, number, high, low];
     let end = put_octets(&octets, out, at);
     end_line(out, end)
 }

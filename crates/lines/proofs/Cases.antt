@@ -23,6 +23,8 @@ program-cases =
     record {
       too-long-first = refl;
       carriage-return = refl;
+      placed = refl;
+      high-first = refl;
       last-line = refl;
       no-line = refl;
       at-limit = refl;

@@ -2,20 +2,23 @@
 use mathlib.Core.Path.{_≡_}
 use mathlib.Core.List.{[]}
 use lib.ListN.{replicate}
-use Rattle.lengths.specs.Refusals.{tooLong}
+use Rattle.lengths.specs.Refusals.{refusalAt, tooLong, leftOver}
 use Rattle.lengths.specs.Answers.{refuse}
 use Rattle.views.specs.Cases.{atLimit}
 use Rattle.lines.specs.Hex.{lineOctets}
-use Rattle.lines.specs.Lines.{step, program}
+use Rattle.lines.specs.Lines.{refusalLine, step, program}
 use Rattle.lines.specs.Text.{characters}
 
 pub record ProgramCases : Type 0 where
   -- "line over 3,000 characters (before 15)": 3,001 times `G`, which is no digit
   pub too-long-first : lineOctets (replicate 3001 0x47) ≡ refuse tooLong
   -- only a line feed ends a line: a carriage return is a character that is no digit
-  pub carriage-return : program (characters "\r\n") ≡ characters "FF0F\n"
+  pub carriage-return : program (characters "\r\n") ≡ characters "FF0F0000\n"
+  -- document 02, request 5: the place, from the start of the datagram, high first; a datagram that ends where a length must come
+  pub placed : program (characters "0000\n") ≡ characters "FF010002\n"
+  pub high-first : refusalLine (refusalAt 0x05DB leftOver) ≡ characters "FF0605DB\n"
   -- "A last line without a line feed counts unless it is empty"
   pub last-line : program (characters "000001060000") ≡ characters "00000006\n"
   pub no-line : program [] ≡ []
   -- only releasing is silent at 16: an empty line there is a refused give-up
-  pub at-limit : (step [] (atLimit [] [])) .text ≡ characters "FF10\n"
+  pub at-limit : (step [] (atLimit [] [])) .text ≡ characters "FF100000\n"

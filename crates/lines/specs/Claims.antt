@@ -24,11 +24,11 @@ use Rattle.lines.specs.Text.{characters}
 use Rattle.lines.specs.declared.steps.Stepped.{Stepped}
 use Rattle.lines.specs.declared.feed.Fed.{Fed}
 
--- document 01's whole case
+-- document 01's whole case, in which "01's last line becomes FF090000"
 abbrev pub WholeCase : Type 0
 WholeCase =
     program (characters "000001060000\n00020100000106C00180000055\n\n00020100000106C00180000055\n")
-    ≡ characters "00000006\n010001C00180000055\n00000200\n030003\nFF09\n"
+    ≡ characters "00000006\n010001C00180000055\n00000200\n030003\nFF090000\n"
 
 -- "Both cases are read", "a line not of paired hexadecimal digits"
 pub record Cases : Type 0 where

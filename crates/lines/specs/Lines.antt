@@ -1,8 +1,8 @@
 -- Document 01, 'The program': "Reads lines of hexadecimal, one datagram a line, and after each releases all it can. An empty
 -- line is one give-up, then releases. Releasing stops without a line at 10 or 16. Each result is a line: kind (00 received,
 -- 01 spare, 02 repaired, 03 lost), number, octets; a refusal is FF and its number as two hexadecimal digits. Both cases are
--- read; upper case is written, each line ended by a line feed. A last line without a line feed counts unless it is empty."
--- Definitions only.
+-- read; upper case is written, each line ended by a line feed. A last line without a line feed counts unless it is empty." And
+-- document 02, request 5: "The program writes FF, number, then the place in four hexadecimal digits". Definitions only.
 use Prim.Native.Nat.{ℕ, zero, suc, _/_, _%_}
 use mathlib.Core.Bool.{cond}
 use mathlib.Core.List.{List, [], _∷_, _++_}
@@ -41,9 +41,9 @@ lineOf octets = hexOf octets ++ (lineFeed ∷ [])
 unfoldable pub resultLine : ℕ → ℕ → List ℕ → List ℕ
 resultLine kind number octets = lineOf (kind ∷ number / 256 ∷ number % 256 ∷ octets)
 
--- "a refusal is FF and its number as two hexadecimal digits"
+-- "FF, number, then the place in four hexadecimal digits": no place is so large that these cut it (demands: DatagramRefusals, `placed`)
 unfoldable pub refusalLine : Refusal → List ℕ
-refusalLine r = lineOf (0xFF ∷ r .number ∷ [])
+refusalLine r = lineOf (0xFF ∷ r .number ∷ r .place / 256 % 256 ∷ r .place % 256 ∷ [])
 
 -- ---- steps of the program
 

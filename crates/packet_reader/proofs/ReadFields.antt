@@ -7,7 +7,8 @@ use mathlib.Core.List.{List}
 use lib.ListN.{drop, length-drop}
 use native.Mathlib.Omega.{arith}
 use Rattle.packets.proofs.Laws.{rest, rest-is, header-form, size-form}
-use Rattle.lengths.specs.Answers.{done}
+use Rattle.lengths.specs.Refusals.{further}
+use Rattle.lengths.specs.Answers.{done, refused}
 use Rattle.lengths.specs.declared.Refusal.{Refusal}
 use Rattle.formats.specs.Places.{Place}
 use Rattle.datagrams.specs.Sizes.{packetLimit}
@@ -15,6 +16,7 @@ use Rattle.packets.specs.Inner.Octets.{headerAt, sizeAt, afterHeader, fieldAt}
 use Rattle.packet_reader.specs.Items.{InPacket, EdgeTold, edgeOutcome, HeaderTold, headerOutcome, SizeTold, sizeOutcome, DataTold}
 use Rattle.packet_reader.specs.Items.{FieldTold}
 use Rattle.packet_reader.proofs.ReadPlaces.{edge-is, edge-within}
+use Rattle.packet_reader.proofs.ReadItems.{size-near}
 use Rattle.packet_reader.specs.declared.places.EdgeRead.{EdgeRead}
 use Rattle.packet_reader.specs.declared.items.HeaderRead.{HeaderRead}
 use Rattle.packet_reader.specs.declared.items.SizeRead.{SizeRead}
@@ -34,9 +36,16 @@ module _ {s : List ℕ} {p : Place} {e : EdgeRead} (told : EdgeTold s p e) where
   data-spare is = record { answer = rw (sym (told .answer) ∙ ap edgeOutcome is) }
 
   module _ {at : ℕ} {q : SizeRead} (is : e ≡ edge.Edge at) (sized : SizeTold (rest at s) q) where
-    pub data-cut : {k : ℕ} {x : Refusal} → q ≡ size.Refused x → DataTold s k p (field.Refused x)
-    unfolding afterHeader
-    data-cut sizeIs = record { answer = rw (edge-is told is, ← rest-is at s, sym (sized .answer) ∙ ap sizeOutcome sizeIs) }
+    module _ {x : Refusal} (sizeIs : q ≡ size.Refused x) where
+      size-refused : sizeAt (drop at s) ≡ refused x
+      size-refused = rw (← rest-is at s) (sym (sized .answer) ∙ ap sizeOutcome sizeIs)
+
+      pub data-place : InPacket s p → at + x .place < 2 ^ 64
+      data-place inside = omega (arith, size-near (drop at s) x size-refused, edge-within told is inside, inside .few)
+
+      pub data-cut : {k : ℕ} {y : Refusal} → y ≡ further at x → DataTold s k p (field.Refused y)
+      unfolding afterHeader
+      data-cut on = record { answer = rw (on, edge-is told is, size-refused) }
 
     module _ {m : ℕ} (sizeIs : q ≡ size.Size m) where
       pub data-read : {k : ℕ} → DataTold s k p (field.Field (record { kind = k; start = at + 2; size = m }) (8 * (at + 2 + m)))
@@ -58,7 +67,7 @@ module _ {s : List ℕ} {p : Place} {e : EdgeRead} (told : EdgeTold s p e) where
       pub next-fits : InPacket s p → 8 * (at + 2 + m) < 2 ^ 64
       next-fits inside = omega (arith, data-ends inside)
 
-pub ruleset datas = (edge-within, data-spare, data-cut, data-read, start-fits, end-fits, next-fits)
+pub ruleset datas = (edge-within, data-spare, data-place, data-cut, data-read, start-fits, end-fits, next-fits)
 
 -- ---- a field: its header, and what follows
 module _ {s : List ℕ} {p : Place} {r : HeaderRead} (told : HeaderTold s p r) where

@@ -2,18 +2,18 @@
 -- there give the promise. Assumes nothing.
 use Prim.Native.Nat.{ℕ, _+_, _-_, _*_, _/_, _%_, _≤_, _<_, _^_}
 use mathlib.Core.Path.{_≡_, sym, ap, _∙_}
-use mathlib.Core.Bool.{Bool, true, false, not}
+use mathlib.Core.Bool.{Bool, true, false, not, cond}
 use mathlib.Core.List.{List}
 use lib.ListN.{length, getD}
 use lib.Dec.{ltb}
 use native.Mathlib.Omega.{arith}
 use borrow.Author.Tests.{lt-ltb, le-ltb, le-leb, lt-leb, not-true, not-false}
 use Rattle.packets.proofs.Laws.{rest, rest-is}
-use Rattle.lengths.specs.Refusals.{endsEarly, outsideSizes, spareBit, notAssigned, wrongData}
-use Rattle.lengths.specs.Answers.{done, lengthOutcome}
+use Rattle.lengths.specs.Refusals.{further, endsEarly, outsideSizes, spareBit, notAssigned, wrongData}
+use Rattle.lengths.specs.Answers.{Answer, done, refused, refuse, refuseAt, lengthOutcome, refusalOf}
 use Rattle.lengths.specs.Length.{lengthWithin}
-use Rattle.lengths.specs.Promise.{Octet, RefusalMade, RefusalTold, WithinRead}
-use Rattle.lengths.proofs.Laws.{within-done}
+use Rattle.lengths.specs.Promise.{Octet, RefusalMade, RefusalPlaced, RefusalTold, WithinRead}
+use Rattle.lengths.proofs.Laws.{within-done, within-front, refused-same}
 use Rattle.lengths.specs.declared.Length.{Length}
 use Rattle.lengths.specs.declared.Refusal.{Refusal}
 use Rattle.lengths.specs.declared.Length.the-variants as length
@@ -110,33 +110,41 @@ module _ {s : List ℕ} {r : Length} {n k : ℕ} (read : WithinRead fieldsLeast 
   pub place-fits : 8 * (1 + k) < 2 ^ 64
   place-fits = omega (arith, count-fits)
 
+-- a count that is refused begins at the front, so that its place fits
+pub count-place : {s : List ℕ} {r : Length} {why x : Refusal} → WithinRead fieldsLeast fieldsLimit s r → r ≡ length.Refused why
+    → RefusalTold r x → 1 + x .place < 2 ^ 64
+count-place {s} {r} {why} {x} read is told =
+    let same : x ≡ why = told .answer ∙ ap refusalOf is in
+    let front = within-front fieldsLeast fieldsLimit s .front why (sym (read .answer) ∙ ap lengthOutcome is) in
+    omega (arith, ap (λ (y : Refusal). y .place) same)
+
 module _ {s : List ℕ} {b : Bool} where
   pub count-none : not b ≡ true → CountTold s b (count.Count 0 8)
   unfolding countAt
   count-none absent = record { answer = rw (not-true b absent) }
 
-  pub count-refused : {r : Length} {why x : Refusal} → not b ≡ false → WithinRead fieldsLeast fieldsLimit (rest 1 s) r
-      → r ≡ length.Refused why → RefusalTold r x → CountTold s b (count.Refused x)
+  pub count-refused : {r : Length} {why x y : Refusal} → not b ≡ false → WithinRead fieldsLeast fieldsLimit (rest 1 s) r
+      → r ≡ length.Refused why → RefusalTold r x → y ≡ further 1 x → CountTold s b (count.Refused y)
   unfolding countAt
-  count-refused present read is told =
-      record { answer = rw (told .answer, is, not-false b present, ← rest-is 1 s, sym (read .answer) ∙ ap lengthOutcome is) }
+  count-refused present read is told on =
+      record { answer = rw (on, told .answer, is, not-false b present, ← rest-is 1 s, sym (read .answer) ∙ ap lengthOutcome is) }
 
   pub count-read : {r : Length} {n k : ℕ} → not b ≡ false → WithinRead fieldsLeast fieldsLimit (rest 1 s) r
       → r ≡ length.Value n k → CountTold s b (count.Count n (8 * (1 + k)))
   unfolding countAt
   count-read present read is = record { answer = rw (not-false b present, ← rest-is 1 s, within-is read is) }
 
-pub ruleset counts = (octets-fit, place-fits, count-none, count-refused, count-read)
+pub ruleset counts = (octets-fit, place-fits, count-place, count-none, count-refused, count-read)
 
 -- ---- a field's header
 module _ {s : List ℕ} {p : Place} where
-  pub header-short : {r : Refusal} → RefusalMade endsEarly r → 8 * length s < p + headerWidth → HeaderTold s p (header.Refused r)
+  pub header-short : {r : Refusal} → RefusalPlaced endsEarly (p / 8) r → 8 * length s < p + headerWidth → HeaderTold s p (header.Refused r)
   unfolding headerAt
   header-short made short = record { answer = rw (made .answer, lt-ltb (8 * length s) (p + headerWidth) short) }
 
   module _ {bits : ℕ} {b : Bool} (inside : p + headerWidth ≤ 8 * length s) (is : BitsTold headerWidth s p bits)
       (test : b ≡ rightData (bits % 8) (ltb 0 (bits / 8 % 2))) where
-    pub header-wrong : {r : Refusal} → RefusalMade wrongData r → b ≡ false → HeaderTold s p (header.Refused r)
+    pub header-wrong : {r : Refusal} → RefusalPlaced wrongData (p / 8) r → b ≡ false → HeaderTold s p (header.Refused r)
     unfolding headerAt
     header-wrong made wrong =
         record { answer = rw (made .answer, le-ltb (8 * length s) (p + headerWidth) inside, ← is .answer, ← test, wrong) }
@@ -160,7 +168,7 @@ module _ {s : List ℕ} where
       let h : packetLimit < getD s 0 0 * 256 + getD s 1 0 + 1 = rw (high .same, low .same) at over in
       record { answer = rw (made .answer, le-ltb (length s) 2 two, lt-ltb packetLimit _ h) }
 
-  pub size-cut : {r : Refusal} {a b : ℕ} → RefusalMade endsEarly r → 2 ≤ length s → Octet (getD s 0 0) a → Octet (getD s 1 0) b
+  pub size-cut : {r : Refusal} {a b : ℕ} → RefusalPlaced endsEarly 2 r → 2 ≤ length s → Octet (getD s 0 0) a → Octet (getD s 1 0) b
       → a * 256 + b + 1 ≤ packetLimit → length s - 2 < a * 256 + b + 1 → SizeTold s (size.Refused r)
   unfolding sizeAt
   size-cut made two high low few short =
@@ -175,5 +183,21 @@ module _ {s : List ℕ} where
       let h : getD s 0 0 * 256 + getD s 1 0 + 1 ≤ packetLimit = rw (high .same, low .same) at few in
       let k : getD s 0 0 * 256 + getD s 1 0 + 1 ≤ length s - 2 = rw (high .same, low .same) at all in
       record { answer = rw (high .same, low .same, le-ltb (length s) 2 two, le-ltb packetLimit _ h, le-ltb (length s - 2) _ k) }
+
+-- a length that is refused is refused at its two octets, or behind them
+pub size-near : (s : List ℕ) (x : Refusal) → sizeAt s ≡ refused x → x .place ≤ 2
+unfolding sizeAt
+size-near s x e =
+    let n = getD s 0 0 * 256 + getD s 1 0 + 1 in
+    by n (ltb (length s) 2) (ltb packetLimit n) (ltb (length s - 2) n) e where
+      place-is : {A : Type 0} (p n : ℕ) → _≡_ {A = Answer A} (refuseAt p n) (refused x) → p ≡ x .place
+      place-is p n e = ap (λ (y : Refusal). y .place) (refused-same e)
+
+      by : (n : ℕ) (a b c : Bool)
+          → cond a (refuse endsEarly) (cond b (refuse outsideSizes) (cond c (refuseAt 2 endsEarly) (done n))) ≡ refused x → x .place ≤ 2
+      by n true b c e = omega (arith, place-is 0 endsEarly e)
+      by n false true c e = omega (arith, place-is 0 outsideSizes e)
+      by n false false true e = omega (arith, place-is 2 endsEarly e)
+      by n false false false e = let z : _≡_ {A = ℕ} 0 1 = cc in absurd (omega arith)
 
 pub ruleset sizes = (size-empty, size-over, size-cut, size-read)

@@ -8,8 +8,8 @@ use lib.ListN.{length, drop}
 use native.Mathlib.Omega.{arith}
 use borrow.Author.Tests.{lt-ltb, le-ltb}
 use Rattle.lengths.specs.Refusals.{outsideSizes, leftOver}
-use Rattle.lengths.specs.Answers.{Answer, done, refused, refuse, _>>=_, mapped}
-use Rattle.lengths.specs.Promise.{RefusalMade}
+use Rattle.lengths.specs.Answers.{Answer, done, refused, refuseAt, _>>=_, mapped}
+use Rattle.lengths.specs.Promise.{RefusalMade, RefusalPlaced}
 use Rattle.lengths.specs.declared.Refusal.{Refusal}
 use Rattle.datagrams.specs.Sizes.{packetLimit}
 use Rattle.packets.specs.Packet.{fieldsLimit, PacketAnswer, mayFollow}
@@ -108,7 +108,7 @@ module _ {s : List ℕ} {p : Place} {r : EdgeRead} (told : EdgeTold s p r) where
   end-spare is = record { answer = rw (sym (told .answer) ∙ ap edgeOutcome is) }
 
   module _ {at : ℕ} {e : Ending} {b : Bool} (is : r ≡ edge.Edge at) (follows : b ≡ mayFollow e (rest at s)) where
-    pub end-left : {x : Refusal} → b ≡ false → RefusalMade leftOver x → EndTold e s p (ends.Refused x)
+    pub end-left : {x : Refusal} → b ≡ false → RefusalPlaced leftOver at x → EndTold e s p (ends.Refused x)
     unfolding endAt
     end-left not-so made = record { answer = rw (edge-is told is, ← rest-is at s, ← follows, not-so, made .answer) }
 
@@ -122,15 +122,15 @@ pub ruleset ending = (edge-within, end-spare, end-left, end-met)
 end-same : {A : Type 0} (e : Ending) (s : List ℕ) (p : Place) (a : A) → endAt e s p a ≡ mapped (λ (u : Unit {0}). a) (endAt e s p tt)
 unfolding endAt
 end-same e s p a = by (edgeAt s p) where
-  tested : {A : Type 0} (b : Bool) (a : A)
-      → cond b (done a) (refuse leftOver) ≡ mapped (λ (u : Unit {0}). a) (cond b (done tt) (refuse leftOver))
-  tested true a = refl
-  tested false a = refl
+  tested : {A : Type 0} (b : Bool) (at : ℕ) (a : A)
+      → cond b (done a) (refuseAt at leftOver) ≡ mapped (λ (u : Unit {0}). a) (cond b (done tt) (refuseAt at leftOver))
+  tested true at a = refl
+  tested false at a = refl
 
   by : (x : Answer ℕ)
-      → _>>=_ x (λ (at : ℕ). cond (mayFollow e (drop at s)) (done a) (refuse leftOver))
-      ≡ mapped (λ (u : Unit {0}). a) (_>>=_ x (λ (at : ℕ). cond (mayFollow e (drop at s)) (done tt) (refuse leftOver)))
-  by (done at) = tested (mayFollow e (drop at s)) a
+      → _>>=_ x (λ (at : ℕ). cond (mayFollow e (drop at s)) (done a) (refuseAt at leftOver))
+      ≡ mapped (λ (u : Unit {0}). a) (_>>=_ x (λ (at : ℕ). cond (mayFollow e (drop at s)) (done tt) (refuseAt at leftOver)))
+  by (done at) = tested (mayFollow e (drop at s)) at a
   by (refused r) = refl
 
 module _ {e : Ending} {s : List ℕ} where

@@ -9,7 +9,7 @@ use native.Mathlib.Omega.{arith}
 use borrow.Author.Tests.{lt-ltb, le-ltb}
 use Rattle.lengths.specs.Refusals.{spareBit}
 use Rattle.lengths.specs.Answers.{done}
-use Rattle.lengths.specs.Promise.{Octet, RefusalMade}
+use Rattle.lengths.specs.Promise.{Octet, RefusalPlaced}
 use Rattle.lengths.specs.declared.Refusal.{Refusal}
 use Rattle.packets.proofs.Laws.{edge-inside}
 use Rattle.formats.specs.Places.{Place, edgeAt}
@@ -36,7 +36,7 @@ bits-told {s} {n} {p} {a} {b} first second values =
     record { answer = ap₂ (λ (x y : ℕ). x / 2 ^ (16 - (p % 8 + n)) % y) window (values .is) }
 
 module _ {s : List ℕ} {p a v : ℕ} (octet : OctetAt s (p / 8) a) (values : Power ((8 - p % 8) % 8) v) where
-  pub edge-set : {r : Refusal} → 0 < a % v → RefusalMade spareBit r → EdgeTold s p (edge.Refused r)
+  pub edge-set : {r : Refusal} → 0 < a % v → RefusalPlaced spareBit (p / 8) r → EdgeTold s p (edge.Refused r)
   unfolding edgeAt
   edge-set set made =
       let h : 0 < getD s (p / 8) 0 % 2 ^ ((8 - p % 8) % 8) = rw (octet .same, values .is) at set in

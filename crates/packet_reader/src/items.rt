@@ -1,5 +1,5 @@
 // Document 01, 'The packet', item by item: the first octet, the count of fields, a field. Each item has a function of its own, which
-// answers with the item or with the refusal that is the whole packet's.
+// answers with the item or with the refusal that is the whole packet's, at the octet at which the item begins.
 
 use crate::places::EdgeRead;
 use crate::places::bits;
@@ -95,7 +95,8 @@ pub fn read_count(s: &[u8], present: bool) -> CountRead
     }
     let found = lengths::read_within(&s[1..], Field::LEAST, Field::LIMIT);
     let Length::Value(value, size) = found else {
-        return CountRead::Refused(found.refusal());
+        let why = found.refusal();
+        return CountRead::Refused(why.further(1));
     };
     let octets = 1 + size;
     let next = 8 * octets;
@@ -110,7 +111,7 @@ fn read_header(s: &[u8], p: usize) -> HeaderRead
     let all = 8 * s.len();
     let next = p + HEADER_WIDTH;
     if all < next {
-        return HeaderRead::Refused(Refusal::new(Refusal::ENDS_EARLY));
+        return HeaderRead::Refused(Refusal::at(Refusal::ENDS_EARLY, p / 8));
     }
     let header = bits(s, HEADER_WIDTH, p);
     let kind = (header % 8) as u8;
@@ -118,7 +119,7 @@ fn read_header(s: &[u8], p: usize) -> HeaderRead
     if packets::right_data(kind, present) {
         return HeaderRead::Header(kind, present, next);
     }
-    HeaderRead::Refused(Refusal::new(Refusal::WRONG_DATA))
+    HeaderRead::Refused(Refusal::at(Refusal::WRONG_DATA, p / 8))
 }
 
 // The length of the data that begins after the two octets at the front of s.
@@ -135,7 +136,7 @@ fn read_size(s: &[u8]) -> SizeRead
     }
     let left = s.len() - 2;
     if left < size {
-        return SizeRead::Refused(Refusal::new(Refusal::ENDS_EARLY));
+        return SizeRead::Refused(Refusal::at(Refusal::ENDS_EARLY, 2));
     }
     SizeRead::Size(size)
 }
@@ -148,7 +149,7 @@ fn read_data(s: &[u8], kind: u8, p: usize) -> FieldRead
     match read_edge(s, p) {
         EdgeRead::Refused(refusal) => FieldRead::Refused(refusal),
         EdgeRead::Edge(at) => match read_size(&s[at..]) {
-            SizeRead::Refused(refusal) => FieldRead::Refused(refusal),
+            SizeRead::Refused(refusal) => FieldRead::Refused(refusal.further(at)),
             SizeRead::Size(size) => {
                 let start = at + 2;
                 let end = start + size;

@@ -55,7 +55,7 @@ pub fn read_edge(s: &[u8], p: usize) -> EdgeRead
     let gap = (8 - p % 8) % 8;
     let values = power(gap);
     if 0 < octet % values {
-        return EdgeRead::Refused(Refusal::new(Refusal::SPARE_BIT));
+        return EdgeRead::Refused(Refusal::at(Refusal::SPARE_BIT, p / 8));
     }
     let end = p + 7;
     EdgeRead::Edge(end / 8)

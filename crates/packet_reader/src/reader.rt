@@ -117,7 +117,7 @@ fn read_end(s: &[u8], p: usize, ending: Ending) -> EndRead
             if may_follow(&s[at..], ending) {
                 return EndRead::Ends;
             }
-            EndRead::Refused(Refusal::new(Refusal::LEFT_OVER))
+            EndRead::Refused(Refusal::at(Refusal::LEFT_OVER, at))
         }
     }
 }

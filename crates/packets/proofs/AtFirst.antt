@@ -7,7 +7,7 @@ use lib.ListN.{length, getD}
 use lib.Dec.{leb, ltb}
 use native.Mathlib.Omega.{arith}
 use borrow.Author.Tests.{lt-ltb, le-ltb, ltb-true, ltb-false, leb-true, leb-false}
-use Rattle.lengths.specs.Refusals.{refusal, notAssigned}
+use Rattle.lengths.specs.Refusals.{refusalAt, notAssigned}
 use Rattle.formats.specs.Reading.{Finding, found, stopped, andThen}
 use Rattle.formats.specs.Reading as reading
 use Rattle.formats.specs.Places.{edgeAt}
@@ -21,12 +21,12 @@ module _ (s : List ℕ) (i : ℕ) (some : 1 ≤ length s) where
   -- the bit for extension and the value
   value-at : (n : ℕ)
       → enumerated (record { extensible = true; width = 4; assigned = n; added = 0 }) .read s i 2
-      ≡ cond (isSet 5 (getD s 0 0)) (stopped (refusal notAssigned))
-      (cond (leb n (getD s 0 0 / 2 % 16)) (stopped (refusal notAssigned)) (found (getD s 0 0 / 2 % 16) 7))
+      ≡ cond (isSet 5 (getD s 0 0)) (stopped (refusalAt i notAssigned))
+      (cond (leb n (getD s 0 0 / 2 % 16)) (stopped (refusalAt i notAssigned)) (found (getD s 0 0 / 2 % 16) 7))
   unfolding enumerated root addition
   value-at n = rw (flag-some s i 2 (omega arith)) (by (isSet 5 (getD s 0 0)) refl) where
     low : (b : Bool) → leb n (getD s 0 0 / 2 % 16) ≡ b → root (record { extensible = true; width = 4; assigned = n; added = 0 }) .read s i 3
-        ≡ cond b (stopped (refusal notAssigned)) (found (getD s 0 0 / 2 % 16) 7)
+        ≡ cond b (stopped (refusalAt i notAssigned)) (found (getD s 0 0 / 2 % 16) 7)
     low true e = rw (bits-in 4 s i 3 (omega arith) (omega arith), le-ltb (getD s 0 0 / 2 % 16) n (leb-true n (getD s 0 0 / 2 % 16) e))
     low false e = rw (bits-in 4 s i 3 (omega arith) (omega arith), lt-ltb (getD s 0 0 / 2 % 16) n (leb-false n (getD s 0 0 / 2 % 16) e))
 
@@ -40,17 +40,17 @@ module _ (s : List ℕ) (i : ℕ) (some : 1 ≤ length s) where
         (root (record { extensible = true; width = 4; assigned = n; added = 0 }))) .read)
         (λ v. reading.give (b, v)) s i 3)
         (λ a q. reading.give (a .1) s i q)
-        ≡ cond b (stopped (refusal notAssigned))
-        (cond (leb n (getD s 0 0 / 2 % 16)) (stopped (refusal notAssigned)) (found (getD s 0 0 / 2 % 16) 7))
+        ≡ cond b (stopped (refusalAt i notAssigned))
+        (cond (leb n (getD s 0 0 / 2 % 16)) (stopped (refusalAt i notAssigned)) (found (getD s 0 0 / 2 % 16) 7))
     by true e = refl
     by false e = rw (low (leb n (getD s 0 0 / 2 % 16)) refl)
-        (each (cond (leb n (getD s 0 0 / 2 % 16)) (stopped (refusal notAssigned)) (found (getD s 0 0 / 2 % 16) 7)))
+        (each (cond (leb n (getD s 0 0 / 2 % 16)) (stopped (refusalAt i notAssigned)) (found (getD s 0 0 / 2 % 16) 7)))
 
   -- of either kind
   kind-value-at : (c : Bool)
       → enumerated (values edition98 (chosen c)) .read s i 2
-      ≡ cond (isSet 5 (getD s 0 0)) (stopped (refusal notAssigned))
-      (cond (leb (assigned (chosen c)) (getD s 0 0 / 2 % 16)) (stopped (refusal notAssigned)) (found (getD s 0 0 / 2 % 16) 7))
+      ≡ cond (isSet 5 (getD s 0 0)) (stopped (refusalAt i notAssigned))
+      (cond (leb (assigned (chosen c)) (getD s 0 0 / 2 % 16)) (stopped (refusalAt i notAssigned)) (found (getD s 0 0 / 2 % 16) 7))
   kind-value-at true = value-at 9
   kind-value-at false = value-at 16
 
@@ -75,7 +75,7 @@ start-at s i = by (ltb (length s) 1) refl where
         kind-value-at s 0 some c,
         ee,
         oe,
-        edge-at s i 7 (omega arith),
+        edge-at s 0 7 (omega arith),
         pe,
       )
   told some c false false false true ce ee oe pe re =
@@ -87,7 +87,7 @@ start-at s i = by (ltb (length s) 1) refl where
         kind-value-at s 0 some c,
         ee,
         oe,
-        edge-at s i 7 (omega arith),
+        edge-at s 0 7 (omega arith),
         pe,
         re,
       )
@@ -100,7 +100,7 @@ start-at s i = by (ltb (length s) 1) refl where
         kind-value-at s 0 some c,
         ee,
         oe,
-        edge-at s i 7 (omega arith),
+        edge-at s 0 7 (omega arith),
         pe,
         re,
       )

@@ -1,21 +1,20 @@
 -- What the description reads of the items after the first octet, each from its place on, is what stands there octet by octet.
 -- Assumes nothing.
 use Prim.Native.Nat.{ℕ, _+_, _-_, _*_, _/_, _%_, _≤_, _<_}
-use mathlib.Core.Path.{_≡_, refl}
+use mathlib.Core.Path.{_≡_, refl, ap}
 use mathlib.Core.Bool.{Bool, true, false, cond}
 use mathlib.Core.List.{List, [], _∷_}
 use lib.ListN.{length, getD, take, drop, length-drop}
-use lib.Dec.{ltb}
+use lib.Dec.{leb, ltb}
 use native.Mathlib.Nat.{mod-lt}
 use native.Mathlib.Omega.{arith}
 use borrow.Author.Tests.{lt-ltb, le-leb, lt-leb, ltb-true, ltb-false}
-use Rattle.lengths.specs.Refusals.{outsideSizes}
-use Rattle.lengths.specs.Answers.{Answer, done, refused, refuse, _>>=_, LengthAnswer}
-use Rattle.lengths.specs.Length.{lengthAt, lengthOctets, lengthLimit, within, allowed, lengthWithin}
+use Rattle.lengths.specs.Refusals.{refusalAt, endsEarly}
+use Rattle.lengths.specs.Answers.{Answer, done, refused, readFrom, _>>=_, LengthAnswer}
+use Rattle.lengths.specs.Length.{lengthOctets, lengthLimit, within, lengthWithin}
 use Rattle.formats.specs.Format.{lengthFound, twoFront, octetsFront, twoOctets, octets}
 use Rattle.datagrams.specs.Sizes.{packetLimit}
-use Rattle.formats.specs.Reading.{found, andThen}
-use Rattle.formats.specs.Reading as reading
+use Rattle.formats.specs.Reading.{Finding, found, stopped, andThen, foundFrom}
 use Rattle.formats.specs.Places.{Place, bitsAt, edgeAt}
 use Rattle.formats.proofs.Laws.{onward, flag-some, flag-cut, bits-at, bits-cut, parted, octetwise-at, octetwise-edge}
 use Rattle.packets.specs.Edition.{edition98}
@@ -24,73 +23,79 @@ use Rattle.packets.specs.Inner.Octets.{Count, countAt, headerWidth, head
 
 -- ---- the count of fields
 pub count-at : (s : List ℕ) (i : ℕ) → count .read s i 8 ≡ onward (countAt s true) (λ c. found (c .value) (c .next))
-unfolding count countAt lengthWithin allowed
-count-at s i = rw (octetwise-edge (λ t. lengthFound (lengthAt t)) lengthOctets (λ n. n ≤ lengthLimit) s i 1) (by (lengthAt (drop 1 s))) where
-  sized : (a : LengthAnswer) (b : Bool)
-      → reading._>>=_ (reading.check outsideSizes b) (λ _. reading.give (a .value)) s i (8 * a .size + 8)
-      ≡ onward {A = Count} (_>>=_ (cond b (done a) (refuse outsideSizes)) (λ n. done (record { value = n .value; next = 8 * (1 + n .size) })))
-      (λ c. found (c .value) (c .next))
-  sized a true = let next : 8 * a .size + 8 ≡ 8 * (1 + a .size) = omega arith in rw next
-  sized a false = refl
-
-  by : (x : Answer LengthAnswer)
-      → andThen (andThen (lengthFound x) (λ a n. found a (8 * n + 8)))
-      (λ a q. reading._>>=_ (reading.check outsideSizes (within fieldsLeast fieldsLimit a)) (λ _. reading.give a) s i q)
-      ≡ onward {A = Count}
-      (_>>=_ (_>>=_ x (allowed fieldsLeast fieldsLimit)) (λ n. done (record { value = n .value; next = 8 * (1 + n .size) })))
-      (λ c. found (c .value) (c .next))
-  by (done a) = sized a (within fieldsLeast fieldsLimit (a .value))
-  by (refused r) = refl
+unfolding count countAt
+count-at s i =
+    rw (octetwise-edge (λ t. lengthFound (lengthWithin fieldsLeast fieldsLimit t)) lengthOctets
+    (λ n. (n ≤ lengthLimit) × (within fieldsLeast fieldsLimit n ≡ true)) s i 1)
+    (by (lengthWithin fieldsLeast fieldsLimit (drop 1 s))) where
+      by : (x : Answer LengthAnswer)
+          → andThen (foundFrom 1 (lengthFound x)) (λ a n. found a (8 * n + 8))
+          ≡ onward {A = Count} (_>>=_ (readFrom 1 x) (λ n. done (record { value = n .value; next = 8 * (1 + n .size) })))
+          (λ c. found (c .value) (c .next))
+      by (done a) = let next : 8 * a .size + 8 ≡ 8 * (1 + a .size) = omega arith in rw next
+      by (refused r) = refl
 
 -- ---- a field's header
-pub header-at : (s : List ℕ) (i : ℕ) (p : Place) → header edition98 .read s i p ≡ onward (headerAt s p) (λ h. found (h .header) (h .next))
+-- inside the item that begins with it
+pub header-at : (s : List ℕ) (p : Place) → header edition98 .read s (p / 8) p ≡ onward (headerAt s p) (λ h. found (h .header) (h .next))
 unfolding header enumerated root headerAt
-header-at s i p = by (ltb (8 * length s) (p + headerWidth)) refl where
+header-at s p = by (ltb (8 * length s) (p + headerWidth)) refl where
   -- all its bits are there: the first is for data, the others are the type
   told : p + headerWidth ≤ 8 * length s → (r : Bool)
       → rightData (headerOf (bitsAt headerWidth s p) .kind) (headerOf (bitsAt headerWidth s p) .present) ≡ r
       → ltb (8 * length s) (p + headerWidth) ≡ false
-      → header edition98 .read s i p ≡ onward (headerAt s p) (λ h. found (h .header) (h .next))
+      → header edition98 .read s (p / 8) p ≡ onward (headerAt s p) (λ h. found (h .header) (h .next))
   told inside true right e =
-      let all = parted 3 s i p (bitsAt 4 s p) (4 + p) (bits-at 4 s i p (omega arith) (omega arith)) in
+      let all = parted 3 s (p / 8) p (bitsAt 4 s p) (4 + p) (bits-at 4 s (p / 8) p (omega arith) (omega arith)) in
       let next : 4 + p ≡ p + 4 = omega arith in
       rw (e, all .first, all .others, lt-ltb (bitsAt 4 s p % 8) 8 (mod-lt (bitsAt 4 s p) (omega arith)), right, next)
   told inside false wrong e =
-      let all = parted 3 s i p (bitsAt 4 s p) (4 + p) (bits-at 4 s i p (omega arith) (omega arith)) in
+      let all = parted 3 s (p / 8) p (bitsAt 4 s p) (4 + p) (bits-at 4 s (p / 8) p (omega arith) (omega arith)) in
       rw (e, all .first, all .others, lt-ltb (bitsAt 4 s p % 8) 8 (mod-lt (bitsAt 4 s p) (omega arith)), wrong)
 
   cut : 8 * length s < p + headerWidth → (b : Bool) → ltb p (8 * length s) ≡ b → ltb (8 * length s) (p + headerWidth) ≡ true
-      → header edition98 .read s i p ≡ onward (headerAt s p) (λ h. found (h .header) (h .next))
+      → header edition98 .read s (p / 8) p ≡ onward (headerAt s p) (λ h. found (h .header) (h .next))
   cut short true some e =
-      rw (e, flag-some s i p (ltb-true p (8 * length s) some), bits-cut 2 s i (1 + p) (omega arith))
-  cut short false none e = rw (e, flag-cut s i p (ltb-false p (8 * length s) none))
+      rw (e, flag-some s (p / 8) p (ltb-true p (8 * length s) some), bits-cut 2 s (p / 8) (1 + p) (omega arith))
+  cut short false none e = rw (e, flag-cut s (p / 8) p (ltb-false p (8 * length s) none))
 
   by : (b : Bool) → ltb (8 * length s) (p + headerWidth) ≡ b
-      → header edition98 .read s i p ≡ onward (headerAt s p) (λ h. found (h .header) (h .next))
+      → header edition98 .read s (p / 8) p ≡ onward (headerAt s p) (λ h. found (h .header) (h .next))
   by true e = cut (ltb-true (8 * length s) (p + headerWidth) e) (ltb p (8 * length s)) refl e
   by false e = told (ltb-false (8 * length s) (p + headerWidth) e) _ refl e
 
 -- ---- the data of a field
 two-at : (s : List ℕ) (i : ℕ) (p : Place) → p ≤ 8 * length s
-    → twoOctets .read s i p ≡ onward (edgeAt s p) (λ at. andThen (twoFront (drop at s)) (λ v n. found v (8 * n + 8 * at)))
-two-at s i p inside = octetwise-at twoFront (λ v. (v / 256) ∷ (v % 256) ∷ []) (λ v. Unit {0}) s i p inside
+    → twoOctets (packetLimit - 1) .read s i p
+    ≡ onward (edgeAt s p) (λ at. andThen (foundFrom at (twoFront (packetLimit - 1) (drop at s))) (λ v n. found v (8 * n + 8 * at)))
+two-at s i p inside =
+    octetwise-at (twoFront (packetLimit - 1)) (λ v. (v / 256) ∷ (v % 256) ∷ []) (λ v. v ≤ packetLimit - 1) s i p inside
 
 octets-at : (n : ℕ) (s : List ℕ) (i at : ℕ)
-    → octets n .read s i (8 * at) ≡ andThen (octetsFront n (drop at s)) (λ l k. found l (8 * k + 8 * at))
+    → octets n .read s i (8 * at) ≡ andThen (foundFrom at (octetsFront n (drop at s))) (λ l k. found l (8 * k + 8 * at))
 octets-at n s i at = octetwise-edge (octetsFront n) (λ l. l) (λ l. length l ≡ n) s i at
 
+-- a length is over the limit, or not, as the number before it is
+over : (v : ℕ) → ltb packetLimit (v + 1) ≡ true → leb v (packetLimit - 1) ≡ false
+over v e = lt-leb v (packetLimit - 1) (omega (arith, ltb-true packetLimit (v + 1) e))
+
+few : (v : ℕ) → ltb packetLimit (v + 1) ≡ false → leb v (packetLimit - 1) ≡ true
+few v e = le-leb v (packetLimit - 1) (omega (arith, ltb-false packetLimit (v + 1) e))
+
+-- the length and the data, from an octet edge on
+abbrev pub dataFrom : List ℕ → ℕ → Finding (ℕ × List ℕ)
+dataFrom s at = onward (readFrom at (sizeAt (drop at s))) (λ n. found (at + 2, take n (drop (at + 2) s)) (8 * (at + 2 + n)))
+
 pub data-at : (s : List ℕ) (i : ℕ) (p : Place) → p ≤ 8 * length s
-    → fieldData .read s i p
-    ≡ onward (edgeAt s p) (λ at. onward (sizeAt (drop at s)) (λ n. found (at + 2, take n (drop (at + 2) s)) (8 * (at + 2 + n))))
+    → fieldData .read s i p ≡ onward (edgeAt s p) (dataFrom s)
 unfolding fieldData size sizeAt twoFront octetsFront
 data-at s i p inside = by (edgeAt s p) refl where
   told : (at : ℕ) (a b c : Bool) → edgeAt s p ≡ done at → ltb (length (drop at s)) 2 ≡ a
       → ltb packetLimit (getD (drop at s) 0 0 * 256 + getD (drop at s) 1 0 + 1) ≡ b
       → ltb (length (drop at s) - 2) (getD (drop at s) 0 0 * 256 + getD (drop at s) 1 0 + 1) ≡ c
-      → fieldData .read s i p
-      ≡ onward (edgeAt s p) (λ at. onward (sizeAt (drop at s)) (λ n. found (at + 2, take n (drop (at + 2) s)) (8 * (at + 2 + n))))
+      → fieldData .read s i p ≡ onward (edgeAt s p) (dataFrom s)
   told at true b c e ae be ce = rw (two-at s i p inside, e, ae)
-  told at false true c e ae be ce = rw (two-at s i p inside, e, ae, be, lt-leb _ packetLimit (ltb-true packetLimit _ be))
+  told at false true c e ae be ce = rw (two-at s i p inside, e, ae, be, over (getD (drop at s) 0 0 * 256 + getD (drop at s) 1 0) be)
   told at false false true e ae be ce =
       let start : 8 * 2 + 8 * at ≡ 8 * (at + 2) = omega arith in
       let left : length (drop at s) - 2 ≡ length (drop (at + 2) s) = omega (arith, length-drop at s, length-drop (at + 2) s) in
@@ -99,13 +104,14 @@ data-at s i p inside = by (edgeAt s p) refl where
         e,
         ae,
         be,
-        le-leb _ packetLimit (ltb-false packetLimit _ be),
+        few (getD (drop at s) 0 0 * 256 + getD (drop at s) 1 0) be,
         start,
         octets-at (getD (drop at s) 0 0 * 256 + getD (drop at s) 1 0 + 1) s i (at + 2),
         ce,
         ← left,
         ce,
       )
+      (ap (λ (place : ℕ). stopped (refusalAt place endsEarly)) (omega arith))
   told at false false false e ae be ce =
       let n = getD (drop at s) 0 0 * 256 + getD (drop at s) 1 0 + 1 in
       let start : 8 * 2 + 8 * at ≡ 8 * (at + 2) = omega arith in
@@ -117,7 +123,7 @@ data-at s i p inside = by (edgeAt s p) refl where
         e,
         ae,
         be,
-        le-leb _ packetLimit (ltb-false packetLimit _ be),
+        few (getD (drop at s) 0 0 * 256 + getD (drop at s) 1 0) be,
         start,
         octets-at (getD (drop at s) 0 0 * 256 + getD (drop at s) 1 0 + 1) s i (at + 2),
         ce,
@@ -128,7 +134,6 @@ data-at s i p inside = by (edgeAt s p) refl where
       )
 
   by : (x : Answer ℕ) → edgeAt s p ≡ x
-      → fieldData .read s i p
-      ≡ onward (edgeAt s p) (λ at. onward (sizeAt (drop at s)) (λ n. found (at + 2, take n (drop (at + 2) s)) (8 * (at + 2 + n))))
+      → fieldData .read s i p ≡ onward (edgeAt s p) (dataFrom s)
   by (done at) e = told at _ _ _ e refl refl refl
   by (refused r) e = rw (two-at s i p inside, e)

@@ -1,7 +1,7 @@
 -- The cases of 'The packet', each computed. Assumes nothing.
 use mathlib.Core.Path.{refl}
 use Rattle.lengths.specs.Tables.{unless}
-use Rattle.lengths.specs.Length.{lengthAt, lengthOctets}
+use Rattle.lengths.specs.Length.{lengthAt, allowed, lengthWithin, lengthOctets}
 use Rattle.formats.specs.Spelling.{spelt, whole, wide, packed}
 use Rattle.formats.specs.Reading as reading
 use Rattle.formats.specs.Format.{octetsFront, twoFront, sequenceSpelt}
@@ -14,6 +14,7 @@ use Rattle.packets.specs.Cases.{ReadCases, WriteCases}
 pub read-cases : ReadCases
 unfolding readPacket description.wholePacket packet start typeOfMsg enumerated root addition dataField count field header fieldData size
     reading.bit reading.bits reading.flag reading.align reading.octetwise reading.sequenceOf octetsFront twoFront every lengthAt
+    allowed lengthWithin
 read-cases =
     record {
       octets-161 = refl;
@@ -38,6 +39,15 @@ read-cases =
       zero-after = refl;
       one-after-zero = refl;
       true-zero = refl;
+      empty = refl;
+      data-of-indicator = refl;
+      no-count = refl;
+      no-header = refl;
+      no-length = refl;
+      data-cut = refl;
+      second-padding = refl;
+      second-length = refl;
+      left-after-zero = refl;
     }
 
 pub write-cases : WriteCases

@@ -8,15 +8,16 @@ use lib.ListN.{length}
 use lib.Dec.{leb, ltb}
 use native.Mathlib.Omega.{arith}
 use borrow.Author.Tests.{lt-ltb, le-leb, lt-leb, ltb-true, leb-true}
-use Rattle.lengths.specs.Refusals.{outsideSizes, notAssigned, wrongData}
+use Rattle.lengths.specs.Refusals.{notAssigned, wrongData}
 use Rattle.lengths.proofs.Laws.{both}
 use Rattle.formats.specs.Format.{known}
 use Rattle.formats.proofs.Laws.{Lawful, lawful-known, lawful-item, lawful-guarded, lawful-demand, lawful-then, lawful-made, lawful-either}
 use Rattle.formats.proofs.Laws.{lawful-sequence-of, lawful-flag, lawful-bits, lawful-align, lawful-here, lawful-octets, lawful-two-octets}
 use Rattle.formats.proofs.Laws.{lawful-length-rule}
+use Rattle.datagrams.specs.Sizes.{packetLimit}
 use Rattle.packets.specs.Edition.{Enumerated, Edition, values}
-use Rattle.packets.specs.Packet.{root, addition, enumerated, chosen, isData, typeOfMsg, rightFields, start, count, fieldsLimit}
-use Rattle.packets.specs.Packet.{Header, header, size, Content, fieldData, field, dataField, packet}
+use Rattle.packets.specs.Packet.{root, addition, enumerated, chosen, isData, typeOfMsg, rightFields, start, count, fieldsLeast}
+use Rattle.packets.specs.Packet.{fieldsLimit, Header, header, size, Content, fieldData, field, dataField, packet}
 
 -- ---- a value of an ENUMERATED type
 module _ (e : Enumerated) where
@@ -58,15 +59,15 @@ module _ (e : Enumerated) where
 -- ---- lengths
 lawful-count : Lawful count
 unfolding count
-lawful-count = lawful-guarded outsideSizes _ lawful-length-rule
+lawful-count = lawful-length-rule fieldsLeast fieldsLimit
 
 lawful-size : Lawful size
 unfolding size
-lawful-size = lawful-guarded outsideSizes _ (lawful-made _ _ (λ n p fits. omega arith) lawful-two-octets)
+lawful-size = lawful-made _ _ (λ n p fits. omega arith) (lawful-two-octets (packetLimit - 1))
 
 pub size-some : (n p : ℕ) → size .fits n p → 1 ≤ n
 unfolding size
-size-some n p fits = omega (arith, fits .0 .1)
+size-some n p fits = omega (arith, fits .1)
 
 -- ---- the data of a field
 lawful-field-data : Lawful fieldData
@@ -99,8 +100,9 @@ module _ (edition : Edition) where
   unfolding start
   lawful-start =
       lawful-made _ _ (λ x p fits. refl)
-      (lawful-then _ (lawful-item lawful-first)
-      (λ f. lawful-then _ lawful-align (λ _. lawful-demand wrongData (rightFields (f .kind) (f .present)))))
+      (lawful-item
+      (lawful-then _ lawful-first
+      (λ f. lawful-then _ lawful-align (λ _. lawful-demand wrongData (rightFields (f .kind) (f .present))))))
 
   -- ---- a field
   lawful-header : Lawful (header edition)

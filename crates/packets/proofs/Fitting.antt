@@ -75,7 +75,7 @@ data-fits : (l : List ℕ) (p : ℕ) → 0 < length l → length l ≤ packetLim
 unfolding fieldData size
 data-fits l p some few =
     let at : edge p + 2 ≡ (wide (size .spelling (length l) p) + p) / 8 = omega (arith, edge-wide p (sizeOctets (length l))) in
-    ((((tt, omega arith), le-leb (length l) packetLimit few), (at, refl)), refl)
+    (((omega arith, omega arith), (at, refl)), refl)
 
 rest-fits : (l : List ℕ) (p : ℕ) (b : Bool) → ltb 0 (length l) ≡ b → length l ≤ packetLimit
     → (cond b fieldData (known (0, []))) .fits (cond b (edge p + 2) 0, l) p

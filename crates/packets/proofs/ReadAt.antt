@@ -8,7 +8,7 @@ use lib.Seq.{length-take-le}
 use lib.Dec.{ltb}
 use native.Mathlib.Omega.{arith}
 use Rattle.lengths.specs.Refusals.{outsideSizes, leftOver}
-use Rattle.lengths.specs.Answers.{Answer, done, refused, refuse, _>>=_}
+use Rattle.lengths.specs.Answers.{Answer, done, refused, refuse, refuseAt, _>>=_}
 use Rattle.lengths.specs.declared.Refusal.{Refusal}
 use Rattle.formats.specs.Reading.{Finding, found, stopped, andThen}
 use Rattle.formats.specs.Reading as reading
@@ -39,22 +39,22 @@ field-at s i p = by (headerAt s p) refl where
   sized : (h : HeaderAnswer) (at : ℕ) (x : Answer ℕ) → headerAt s p ≡ done h → h .header .present ≡ true → h .next ≤ 8 * length s
       → edgeAt s (h .next) ≡ done at → sizeAt (drop at s) ≡ x
       → field edition98 .read s i p ≡ onward (fieldAt s p) (λ f. found (contentIn s (f .field)) (f .next))
-  sized h at (done n) e present inside edges size = rw (header-at s (p / 8) p, e, present, data-at s i (h .next) inside, edges, size)
-  sized h at (refused r) e present inside edges size = rw (header-at s (p / 8) p, e, present, data-at s i (h .next) inside, edges, size)
+  sized h at (done n) e present inside edges size = rw (header-at s p, e, present, data-at s i (h .next) inside, edges, size)
+  sized h at (refused r) e present inside edges size = rw (header-at s p, e, present, data-at s i (h .next) inside, edges, size)
 
   told : (h : HeaderAnswer) (b : Bool) (x : Answer ℕ) → headerAt s p ≡ done h → h .header .present ≡ b → h .next ≤ 8 * length s
       → edgeAt s (h .next) ≡ x
       → field edition98 .read s i p ≡ onward (fieldAt s p) (λ f. found (contentIn s (f .field)) (f .next))
   told h true (done at) e present inside edges = sized h at (sizeAt (drop at s)) e present inside edges refl
-  told h true (refused r) e present inside edges = rw (header-at s (p / 8) p, e, present, data-at s i (h .next) inside, edges)
-  told h false x e present inside edges = rw (header-at s (p / 8) p, e, present)
+  told h true (refused r) e present inside edges = rw (header-at s p, e, present, data-at s i (h .next) inside, edges)
+  told h false x e present inside edges = rw (header-at s p, e, present)
 
   by : (x : Answer HeaderAnswer) → headerAt s p ≡ x
       → field edition98 .read s i p ≡ onward (fieldAt s p) (λ f. found (contentIn s (f .field)) (f .next))
   by (done h) e =
       let form = header-form s p h e in
       told h (h .header .present) (edgeAt s (h .next)) e refl (rw (form .next) (form .inside)) refl
-  by (refused r) e = rw (header-at s (p / 8) p, e)
+  by (refused r) e = rw (header-at s p, e)
 
 fields-at : (n : ℕ) (s : List ℕ) (i : ℕ) (p : Place)
     → reading.sequenceOf n (field edition98 .read) s i p ≡ onward (fieldsAt n s p) (λ a. found (map (contentIn s) (a .fields)) (a .next))
@@ -173,7 +173,7 @@ module _ (e : Ending) (s : List ℕ) where
       → map fieldOf (map (contentIn s) (a .fields)) ≡ a .fields
       → answerOf
       (andThen (reading.check leftOver (mayFollow e (drop (8 * at / 8) s)) s (8 * at / 8) (8 * at)) (λ _ q. found (packetIn s f a) q))
-      ≡ cond (mayFollow e (drop at s)) (done (record { kind = f .kind; value = f .value; fields = a .fields })) (refuse leftOver)
+      ≡ cond (mayFollow e (drop at s)) (done (record { kind = f .kind; value = f .value; fields = a .fields })) (refuseAt at leftOver)
   ended f a at true so same =
       let octet : 8 * at / 8 ≡ at = omega arith in
       rw (octet, so, same)

@@ -55,7 +55,7 @@ record FieldRight (c : Content) : Type 0 where
 
 rest-short : (b : Bool) (start : ℕ) (l : List ℕ) (p : ℕ) → (cond b fieldData (known (0, []))) .fits (start, l) p → length l ≤ packetLimit
 unfolding fieldData size
-rest-short true start l p fits = leb-true (length l) packetLimit (fits .0 .0 .1)
+rest-short true start l p fits = omega (arith, fits .0 .0 .0, fits .0 .0 .1)
 rest-short false start l p fits = omega (arith, ap (λ (x : ℕ × List ℕ). length (x .1)) fits)
 
 field-right : (c : Content) (p : ℕ) → field edition98 .fits c p → FieldRight c

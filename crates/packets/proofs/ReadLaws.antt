@@ -9,10 +9,10 @@ use lib.ListN.{length, getD, drop}
 use lib.Dec.{leb, ltb}
 use native.Mathlib.Omega.{arith}
 use borrow.Author.Tests.{ltb-false, leb-false, lt-leb, le-ltb}
-use Rattle.lengths.specs.Refusals.{endsEarly, outsideSizes, spareBit, leftOver, notAssigned, wrongData}
-use Rattle.lengths.specs.Answers.{Answer, done, refused, _>>=_, LengthAnswer}
+use Rattle.lengths.specs.Refusals.{refusalAt, endsEarly, outsideSizes, spareBit, leftOver, notAssigned, wrongData}
+use Rattle.lengths.specs.Answers.{Answer, done, refused, readFrom, _>>=_, LengthAnswer}
 use Rattle.lengths.specs.Length.{lengthWithin}
-use Rattle.lengths.proofs.Laws.{cond-done, cond-met}
+use Rattle.lengths.proofs.Laws.{cond-past, cond-done, cond-kept, cond-met, from-done}
 use Rattle.formats.specs.Spelling.{gap}
 use Rattle.formats.specs.Places.{Place, bitsAt, edge, edgeAt}
 use Rattle.datagrams.specs.Sizes.{packetLimit}
@@ -71,7 +71,7 @@ pub record EdgeForm (s : List ℕ) (p : Place) (at : ℕ) : Type 0 where
 pub edge-form : (s : List ℕ) (p : Place) (at : ℕ) → edgeAt s p ≡ done at → EdgeForm s p at
 unfolding edgeAt
 edge-form s p at e =
-    let zeros = cond-done (ltb 0 (getD s (p / 8) 0 % 2 ^ gap p)) spareBit _ at e in
+    let zeros = cond-past (ltb 0 (getD s (p / 8) 0 % 2 ^ gap p)) (refusalAt (p / 8) spareBit) _ at e in
     record { zeros = ltb-false _ _ (zeros .0); is = cc (zeros .1) }
 
 -- ---- the count of fields
@@ -83,8 +83,8 @@ pub record CountForm (s : List ℕ) (c : Count) : Type 0 where
 pub count-form : (s : List ℕ) (c : Count) → countAt s true ≡ done c → CountForm s c
 unfolding countAt
 count-form s c e =
-    let n = stepped (lengthWithin fieldsLeast fieldsLimit (drop 1 s)) _ c e in
-    record { length = n .value; reads = n .was; is = cc (n .gave) }
+    let n = stepped (readFrom 1 (lengthWithin fieldsLeast fieldsLimit (drop 1 s))) _ c e in
+    record { length = n .value; reads = from-done 1 _ _ (n .was); is = cc (n .gave) }
 
 -- ---- a field
 pub record HeaderForm (s : List ℕ) (p : Place) (h : HeaderAnswer) : Type 0 where
@@ -97,8 +97,8 @@ pub header-form : (s : List ℕ) (p : Place) (h : HeaderAnswer) → headerAt s p
 unfolding headerAt
 header-form s p h e =
     let o = headerOf (bitsAt headerWidth s p) in
-    let inside = cond-done (ltb (8 * length s) (p + headerWidth)) endsEarly _ h e in
-    let right = cond-met (rightData (o .kind) (o .present)) wrongData _ h (inside .1) in
+    let inside = cond-past (ltb (8 * length s) (p + headerWidth)) (refusalAt (p / 8) endsEarly) _ h e in
+    let right = cond-kept (rightData (o .kind) (o .present)) (refusalAt (p / 8) wrongData) _ h (inside .1) in
     let is : h ≡ record { header = o; next = p + headerWidth } = cc (right .1) in
     record {
       inside = ltb-false _ _ (inside .0);
@@ -118,7 +118,7 @@ size-form s n e =
     let size = getD s 0 0 * 256 + getD s 1 0 + 1 in
     let two = cond-done (ltb (length s) 2) endsEarly _ n e in
     let few = cond-done (ltb packetLimit size) outsideSizes _ n (two .1) in
-    let all = cond-done (ltb (length s - 2) size) endsEarly _ n (few .1) in
+    let all = cond-past (ltb (length s - 2) size) (refusalAt 2 endsEarly) _ n (few .1) in
     let is : n ≡ size = cc (all .1) in
     let h = ltb-false (length s) 2 (two .0) in
     let k = ltb-false packetLimit size (few .0) in
@@ -188,8 +188,8 @@ after-form : (s : List ℕ) (p : Place) (k : ℕ) (b : Bool) (f : FieldAnswer)
 unfolding afterHeader
 after-form s p k true f head e =
     let at = stepped (edgeAt s (p + headerWidth)) _ f e in
-    let n = stepped (sizeAt (drop (at .value) s)) _ f (at .gave) in
-    full k (at .value) (n .value) head (at .was) (n .was) (cc (n .gave))
+    let n = stepped (readFrom (at .value) (sizeAt (drop (at .value) s))) _ f (at .gave) in
+    full k (at .value) (n .value) head (at .was) (from-done (at .value) _ _ (n .was)) (cc (n .gave))
 after-form s p k false f head e = bare k head (cc)
 
 pub field-form : (s : List ℕ) (p : Place) (f : FieldAnswer) → fieldAt s p ≡ done f → FieldForm s p f
@@ -225,7 +225,7 @@ packet-form ending s p e =
     let c = stepped (countAt s (f .value .present)) _ p (f .gave) in
     let a = stepped (fieldsAt (c .value .value) s (c .value .next)) _ p (c .gave) in
     let at = stepped (edgeAt s (a .value .next)) _ p (a .gave) in
-    let end = cond-met (mayFollow ending (drop (at .value) s)) leftOver _ p (at .gave) in
+    let end = cond-kept (mayFollow ending (drop (at .value) s)) (refusalAt (at .value) leftOver) _ p (at .gave) in
     record {
       fits = ltb-false _ _ (fits .0);
       first = f .value;

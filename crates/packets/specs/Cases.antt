@@ -1,10 +1,11 @@
--- Small packets, read and written, at a limit or where document 01's 'The packet' may be read in two ways: each says one answer.
+-- Small packets, read and written, at a limit or where document 01's 'The packet' may be read in two ways: each says one answer, a refusal
+-- of an item with the octet at which the item begins.
 use Prim.Native.Nat.{ℕ}
 use mathlib.Core.Path.{_≡_}
 use mathlib.Core.List.{List, [], _∷_}
 use lib.ListN.{replicate}
 use Rattle.lengths.specs.Refusals.{endsEarly, badForm, outsideSizes, spareBit, leftOver, notAssigned, wrongData, wrongSettings}
-use Rattle.lengths.specs.Answers.{done, refuse}
+use Rattle.lengths.specs.Answers.{done, refuse, refuseAt}
 use Rattle.packets.specs.Packet.{PacketAnswer, readPacket}
 use Rattle.packets.specs.Write.{packetToWrite}
 use Rattle.packets.specs.declared.types.Kind.the-variants.{Indicator, Data}
@@ -34,32 +35,43 @@ pub record ReadCases : Type 0 where
   pub value-first : readPacket Whole (0xD3 ∷ []) ≡ refuse notAssigned
   pub bit-first : readPacket Whole (0x81 ∷ []) ≡ refuse spareBit
   -- "a count of fields follows, 1 to 16 (else refusal 4)", by the length rule
-  pub count-0 : readPacket Whole (0xC0 ∷ 0x00 ∷ []) ≡ refuse outsideSizes
-  pub count-17 : readPacket Whole (0xC0 ∷ 0x11 ∷ []) ≡ refuse outsideSizes
-  pub count-form : readPacket Whole (0xC0 ∷ 0x80 ∷ 0x01 ∷ []) ≡ refuse badForm
+  pub count-0 : readPacket Whole (0xC0 ∷ 0x00 ∷ []) ≡ refuseAt 1 outsideSizes
+  pub count-17 : readPacket Whole (0xC0 ∷ 0x11 ∷ []) ≡ refuseAt 1 outsideSizes
+  pub count-form : readPacket Whole (0xC0 ∷ 0x80 ∷ 0x01 ∷ []) ≡ refuseAt 1 badForm
   -- "a spare bit set is still 5, met after its header, so for a field 14 now comes first"; types "0 and 6 always do" carry data
-  pub data-first : readPacket Whole (0xC0 ∷ 0x01 ∷ 0x01 ∷ []) ≡ refuse wrongData
-  pub header-bit : readPacket Whole (0xC0 ∷ 0x01 ∷ 0x18 ∷ []) ≡ refuse spareBit
+  pub data-first : readPacket Whole (0xC0 ∷ 0x01 ∷ 0x01 ∷ []) ≡ refuseAt 2 wrongData
+  pub header-bit : readPacket Whole (0xC0 ∷ 0x01 ∷ 0x18 ∷ []) ≡ refuseAt 2 spareBit
   -- the padding belongs to the packet, so a bit set there is 5 in a repaired packet too, and before a missing length
-  pub bit-repaired : readPacket Repaired (0xC0 ∷ 0x01 ∷ 0x11 ∷ []) ≡ refuse spareBit
-  pub bit-before-length : readPacket Whole (0xC0 ∷ 0x01 ∷ 0x81 ∷ []) ≡ refuse spareBit
+  pub bit-repaired : readPacket Repaired (0xC0 ∷ 0x01 ∷ 0x11 ∷ []) ≡ refuseAt 2 spareBit
+  pub bit-before-length : readPacket Whole (0xC0 ∷ 0x01 ∷ 0x81 ∷ []) ≡ refuseAt 2 spareBit
   -- "after a field with no data the next header begins in the same octet"; one more in the count reads padding as a header
   pub mended : readPacket Whole (0xC0 ∷ 0x04 ∷ 0x80 ∷ 0x00 ∷ 0x00 ∷ 0xAA ∷ 0x28 ∷ 0x00 ∷ 0x00 ∷ 0xBB ∷ 0x40 ∷ []) ≡ done mendedPacket
   pub on-its-own : readPacket Whole (0xC0 ∷ 0x04 ∷ 0x80 ∷ 0x00 ∷ 0x00 ∷ 0xAA ∷ 0x20 ∷ 0x80 ∷ 0x00 ∷ 0x00 ∷ 0xBB ∷ 0x40 ∷ [])
-      ≡ refuse wrongData
-  pub one-too-many : readPacket Whole (0xC0 ∷ 0x02 ∷ 0x10 ∷ []) ≡ refuse wrongData
-  pub bare-0 : readPacket Whole (0xC0 ∷ 0x01 ∷ 0x00 ∷ []) ≡ refuse wrongData
+      ≡ refuseAt 6 wrongData
+  pub one-too-many : readPacket Whole (0xC0 ∷ 0x02 ∷ 0x10 ∷ []) ≡ refuseAt 2 wrongData
+  pub bare-0 : readPacket Whole (0xC0 ∷ 0x01 ∷ 0x00 ∷ []) ≡ refuseAt 2 wrongData
   -- "two octets hold its length minus one, then the data": no form to refuse; "then 4, then 1 for missing octets"
   pub data-1 : readPacket Whole (0xC0 ∷ 0x01 ∷ 0x80 ∷ 0x00 ∷ 0x00 ∷ 0x55 ∷ [])
       ≡ done (record { kind = Data; value = 0; fields = record { kind = 0; start = 5; size = 1 } ∷ [] })
-  pub length-cut : readPacket Whole (0xC0 ∷ 0x01 ∷ 0x80 ∷ 0xFF ∷ []) ≡ refuse endsEarly
-  pub data-161 : readPacket Whole (0xC0 ∷ 0x01 ∷ 0x80 ∷ 0x00 ∷ 0xA0 ∷ []) ≡ refuse outsideSizes
+  pub length-cut : readPacket Whole (0xC0 ∷ 0x01 ∷ 0x80 ∷ 0xFF ∷ []) ≡ refuseAt 3 endsEarly
+  pub data-161 : readPacket Whole (0xC0 ∷ 0x01 ∷ 0x80 ∷ 0x00 ∷ 0xA0 ∷ []) ≡ refuseAt 3 outsideSizes
   -- "A received or spare packet ends at its last field. A repaired one may go on with zeros only"
-  pub zero-after : readPacket Whole (0x06 ∷ 0x00 ∷ []) ≡ refuse leftOver
-  pub one-after-zero : readPacket Repaired (0x06 ∷ 0x00 ∷ 0x01 ∷ []) ≡ refuse leftOver
+  pub zero-after : readPacket Whole (0x06 ∷ 0x00 ∷ []) ≡ refuseAt 1 leftOver
+  pub one-after-zero : readPacket Repaired (0x06 ∷ 0x00 ∷ 0x01 ∷ []) ≡ refuseAt 1 leftOver
   -- "trimming zeros off a repaired packet, when a true last octet may be zero": its data is 55 00, whatever zeros follow
   pub true-zero : readPacket Repaired (0xC0 ∷ 0x01 ∷ 0x80 ∷ 0x00 ∷ 0x01 ∷ 0x55 ∷ 0x00 ∷ [])
       ≡ done (record { kind = Data; value = 0; fields = record { kind = 0; start = 5; size = 2 } ∷ [] })
+  -- document 02, request 5: "the octet at which the refused item begins, from the start of the .. packet. A length, a header, padding and
+  -- the octets a length promises are each one item; for 6 it is the first octet left over". An indicator with data is the first octet's
+  pub empty : readPacket Whole [] ≡ refuse endsEarly
+  pub data-of-indicator : readPacket Whole (0x80 ∷ []) ≡ refuse wrongData
+  pub no-count : readPacket Whole (0xC0 ∷ []) ≡ refuseAt 1 endsEarly
+  pub no-header : readPacket Whole (0xC0 ∷ 0x01 ∷ []) ≡ refuseAt 2 endsEarly
+  pub no-length : readPacket Whole (0xC0 ∷ 0x01 ∷ 0x80 ∷ []) ≡ refuseAt 3 endsEarly
+  pub data-cut : readPacket Whole (0xC0 ∷ 0x01 ∷ 0x80 ∷ 0x00 ∷ 0x01 ∷ 0xAA ∷ []) ≡ refuseAt 5 endsEarly
+  pub second-padding : readPacket Whole (0xC0 ∷ 0x02 ∷ 0x80 ∷ 0x00 ∷ 0x00 ∷ 0xAA ∷ 0x84 ∷ []) ≡ refuseAt 6 spareBit
+  pub second-length : readPacket Whole (0xC0 ∷ 0x02 ∷ 0x80 ∷ 0x00 ∷ 0x00 ∷ 0xAA ∷ 0x80 ∷ 0x00 ∷ []) ≡ refuseAt 7 endsEarly
+  pub left-after-zero : readPacket Repaired (0xC0 ∷ 0x01 ∷ 0x80 ∷ 0x00 ∷ 0x00 ∷ 0xAA ∷ 0x00 ∷ 0x01 ∷ []) ≡ refuseAt 6 leftOver
 
 pub record WriteCases : Type 0 where
   -- "over 16 fields 4, then 15, 12, 14, 4": it is the types that are counted

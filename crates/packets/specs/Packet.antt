@@ -2,7 +2,8 @@
 -- writing follow. "First octet, from the top: data-field present; 0 indicator or 1 data; extension; four bits of value; one zero. ..
 -- With data, two octets hold its length minus one, then the data." And document 02, request 2: "a field header isn't padded: without
 -- an extension it takes four bits, and after a field with no data the next header begins in the same octet. Only the count of
--- fields, data lengths and the packet's end go to an octet edge, by zero bits." And what a packet reads as. Definitions only.
+-- fields, data lengths and the packet's end go to an octet edge, by zero bits." And request 5: "A length, a header, padding and the octets
+-- a length promises are each one item; for 6 it is the first octet left over". And what a packet reads as. Definitions only.
 use Prim.Native.Nat.{ℕ, _+_, _-_, _/_}
 use mathlib.Core.Bool.{Bool, true, false, not, cond, _&&_}
 use mathlib.Core.List.{List, [], _∷_, _++_, map}
@@ -10,7 +11,6 @@ use lib.ListN.{length, take, drop}
 use lib.Dec.{leb, ltb, eqb}
 use Rattle.lengths.specs.Refusals.{outsideSizes, leftOver, notAssigned, wrongData}
 use Rattle.lengths.specs.Answers.{Answer, done, refused, refuse}
-use Rattle.lengths.specs.Length.{within}
 use Rattle.formats.specs.Reading.{Finding, found, stopped, Reader, _>>=_, give, check}
 use Rattle.formats.specs.Reading as reading
 use Rattle.formats.specs.Format.{Format, flag, bits, align, here, octets, twoOctets, lengthRule, known, item, guarded, demand, _⊳_}
@@ -88,18 +88,19 @@ typeOfMsg edition =
     ⊳ λ present. flag
     ⊳ λ choice. enumerated (values edition (chosen choice)))
 
--- "in the first octet extension 12, value 12, spare bit 5, indicator with data 14"
+-- "in the first octet extension 12, value 12, spare bit 5, indicator with data 14": one item, and in it the padding is another
 unfoldable pub start : Edition → Format First
 start edition =
     made (λ x. x .0) (λ f. (f, (tt, tt)))
-    (item (typeOfMsg edition)
+    (item
+    (typeOfMsg edition
     ⊳ λ f. align
-    ⊳ λ _. demand wrongData (rightFields (f .kind) (f .present)))
+    ⊳ λ _. demand wrongData (rightFields (f .kind) (f .present))))
 
 -- ---- Data-Field ::= SEQUENCE OF SEQUENCE { field-type ENUMERATED, field-data OCTET STRING (SIZE (1..65535)) OPTIONAL }
 -- "a count of fields follows, 1 to 16 (else refusal 4)"
 unfoldable pub count : Format ℕ
-count = guarded outsideSizes (within fieldsLeast fieldsLimit) lengthRule
+count = lengthRule fieldsLeast fieldsLimit
 
 pub record Header : Type 0 where
   pub kind : ℕ
@@ -116,7 +117,7 @@ header edition =
 
 -- "two octets hold its length minus one"; "the data of each at most the packet limit"
 unfoldable pub size : Format ℕ
-size = guarded outsideSizes (λ n. leb n packetLimit) (made (λ n. n + 1) (λ n. n - 1) twoOctets)
+size = made (λ n. n + 1) (λ n. n - 1) (twoOctets (packetLimit - 1))
 
 -- a field as it is read and written: its type, where its data begins, and the data. Without data both are nothing
 pub record Content : Type 0 where

@@ -8,7 +8,7 @@ use lib.Dec.{ltb}
 use native.Mathlib.Omega.{arith}
 use borrow.Author.Tests.{lt-ltb, le-ltb, eq-eqb, ne-eqb}
 use Rattle.lengths.specs.Refusals.{endsEarly, spareBit}
-use Rattle.lengths.specs.Promise.{Octet, RefusalMade}
+use Rattle.lengths.specs.Promise.{Octet, RefusalPlaced}
 use Rattle.lengths.specs.declared.Refusal.{Refusal}
 use Rattle.formats.specs.Reading as reading
 use Rattle.formats.specs.Places.{Place}
@@ -19,41 +19,42 @@ use Rattle.pencil_reader.specs.declared.bits.Number.the-variants as numb
 use Rattle.pencil_reader.specs.declared.bits.Marked.the-variants as flag
 use Rattle.pencil_reader.specs.declared.bits.Edge.the-variants as edge
 
-module _ {s : List ℕ} {p : Place} where
+module _ {s : List ℕ} {i : ℕ} {p : Place} where
   -- ---- a bit
-  pub bit-cut : {r : Refusal} → RefusalMade endsEarly r → length s ≤ p / 8 → BitTaken s p (number.Refused r)
+  pub bit-cut : {r : Refusal} → RefusalPlaced endsEarly i r → length s ≤ p / 8 → BitTaken s i p (number.Refused r)
   unfolding reading.bit
-  bit-cut made none = record { answer = λ i. rw (le-ltb p (8 * length s) (omega arith), made .answer); past = tt }
+  bit-cut made none = record { answer = rw (le-ltb p (8 * length s) (omega arith), made .answer); past = tt }
 
-  pub bit-found : {w : ℕ} → p / 8 < length s → Octet (getD s (p / 8) 0) w → BitTaken s p (number.Found (w / 2 ^ (7 - p % 8) % 2) (p + 1))
+  pub bit-found : {w : ℕ} → p / 8 < length s → Octet (getD s (p / 8) 0) w → BitTaken s i p (number.Found (w / 2 ^ (7 - p % 8) % 2) (p + 1))
   unfolding reading.bit
   bit-found some octet =
       let next : 1 + p ≡ p + 1 = omega arith in
-      record { answer = λ i. rw (lt-ltb p (8 * length s) (omega arith), octet .same, next); past = refl }
+      record { answer = rw (lt-ltb p (8 * length s) (omega arith), octet .same, next); past = refl }
 
   -- ---- a flag
-  pub flag-refused : {n : Number} {r : Refusal} → BitTaken s p n → n ≡ number.Refused r → FlagTaken s p (flag.Refused r)
+  pub flag-refused : {n : Number} {r : Refusal} → BitTaken s i p n → n ≡ number.Refused r → FlagTaken s i p (flag.Refused r)
   unfolding reading.flag
-  flag-refused bit is = record { answer = λ i. rw (bit .answer i, is) }
+  flag-refused bit is = record { answer = rw (bit .answer, is) }
 
-  pub flag-found : {n : Number} {b q : ℕ} → BitTaken s p n → n ≡ number.Found b q → FlagTaken s p (flag.Found (ltb 0 b) q)
+  pub flag-found : {n : Number} {b q : ℕ} → BitTaken s i p n → n ≡ number.Found b q → FlagTaken s i p (flag.Found (ltb 0 b) q)
   unfolding reading.flag
-  flag-found bit is = record { answer = λ i. rw (bit .answer i, is) }
+  flag-found bit is = record { answer = rw (bit .answer, is) }
 
-  -- ---- an octet edge
-  pub edge-refused : {n : Number} {r : Refusal} → BitsTaken ((8 - p % 8) % 8) s p n → n ≡ number.Refused r → EdgeTaken s p (edge.Refused r)
+-- ---- an octet edge
+module _ {s : List ℕ} {p : Place} {n : Number} (bits : BitsTaken ((8 - p % 8) % 8) s (p / 8) p n) where
+  pub edge-refused : {r : Refusal} → n ≡ number.Refused r → EdgeTaken s p (edge.Refused r)
   unfolding reading.align
-  edge-refused bits is = record { answer = λ i. rw (bits .answer (p / 8), is); on = tt }
+  edge-refused is = record { answer = λ i. rw (bits .answer, is); on = tt }
 
-  pub edge-found : {n : Number} {v q : ℕ} → BitsTaken ((8 - p % 8) % 8) s p n → n ≡ number.Found v q → v ≡ 0 → EdgeTaken s p (edge.Found q)
-  unfolding reading.align
-  edge-found {n} {v} {q} bits is zeros =
-      let past : q ≡ p + (8 - p % 8) % 8 = rw is at (bits .past) in
-      record { answer = λ i. rw (bits .answer (p / 8), is, eq-eqb v 0 zeros); on = omega (arith, gap-past p) }
+  module _ {v q : ℕ} (is : n ≡ number.Found v q) where
+    pub edge-found : v ≡ 0 → EdgeTaken s p (edge.Found q)
+    unfolding reading.align
+    edge-found zeros =
+        let past : q ≡ p + (8 - p % 8) % 8 = rw is at (bits .past) in
+        record { answer = λ i. rw (bits .answer, is, eq-eqb v 0 zeros); on = omega (arith, gap-past p) }
 
-  pub edge-set : {n : Number} {v q : ℕ} {r : Refusal} → BitsTaken ((8 - p % 8) % 8) s p n → n ≡ number.Found v q → v ≢ 0
-      → RefusalMade spareBit r → EdgeTaken s p (edge.Refused r)
-  unfolding reading.align
-  edge-set {v = v} bits is set made = record { answer = λ i. rw (bits .answer (p / 8), is, ne-eqb v 0 set, made .answer); on = tt }
+    pub edge-set : {r : Refusal} → v ≢ 0 → RefusalPlaced spareBit (p / 8) r → EdgeTaken s p (edge.Refused r)
+    unfolding reading.align
+    edge-set set made = record { answer = λ i. rw (bits .answer, is, ne-eqb v 0 set, made .answer); on = tt }
 
 pub ruleset ones = (bit-cut, bit-found, flag-refused, flag-found, edge-refused, edge-found, edge-set)

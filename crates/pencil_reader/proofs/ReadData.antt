@@ -1,16 +1,18 @@
 -- One law for each answer of the functions that take a field's data and its length, in the words of the code. Assumes nothing.
 use Prim.Native.Nat.{ℕ, _+_, _-_, _*_, _/_, _%_, _^_, _≤_, _<_}
 use mathlib.Core.Path.{_≡_, sym, ap, _∙_}
+use mathlib.Core.Bool.{cond}
 use mathlib.Core.List.{List}
 use lib.ListN.{length, getD, take, drop, length-drop}
 use lib.Seq.{getD-drop, length-take-le}
+use lib.Dec.{leb}
 use native.Mathlib.Omega.{arith}
 use borrow.Author.Tests.{lt-ltb, le-ltb, le-leb, lt-leb}
-use Rattle.lengths.specs.Refusals.{endsEarly, outsideSizes}
-use Rattle.lengths.specs.Promise.{Octet, RefusalMade}
+use Rattle.lengths.specs.Refusals.{refusal, refusalAt, further, endsEarly, outsideSizes}
+use Rattle.lengths.specs.Promise.{Octet, RefusalPlaced}
 use Rattle.lengths.specs.declared.Refusal.{Refusal}
 use Rattle.datagrams.specs.Sizes.{packetLimit}
-use Rattle.formats.specs.Reading.{found}
+use Rattle.formats.specs.Reading.{Finding, found, stopped}
 use Rattle.formats.specs.Reading as reading
 use Rattle.formats.specs.Places.{Place}
 use Rattle.formats.specs.Format.{twoFront, octetsFront}
@@ -24,6 +26,12 @@ use Rattle.pencil_reader.specs.declared.bits.Edge.the-variants as edge
 use Rattle.pencil_reader.specs.declared.items.Part.the-variants as part
 use Rattle.pencil_reader.proofs.ReadSizes.{octet-is}
 
+-- refused at the front of the octets from an octet on
+front-at : {A : Type 0} (at n : ℕ) {r : Refusal} → RefusalPlaced n at r → _≡_ {A = Finding A} (stopped (further at (refusal n))) (stopped r)
+front-at at n made =
+    let here : at + 0 ≡ at = omega arith in
+    ap (λ (k : ℕ). stopped (refusalAt k n)) here ∙ ap (λ (x : Refusal). stopped x) (sym (made .answer))
+
 -- ---- the length
 module _ {s : List ℕ} {p : Place} {e : Edge} (told : EdgeTaken s p e) where
   pub size-edge : {r : Refusal} → e ≡ edge.Refused r → SizeTaken s p (number.Refused r)
@@ -31,15 +39,16 @@ module _ {s : List ℕ} {p : Place} {e : Edge} (told : EdgeTaken s p e) where
   size-edge is = record { answer = λ i. rw (told .answer i, is); sized = tt }
 
   module _ {q from : ℕ} (is : e ≡ edge.Found q) (octet : OctetTaken s q from) where
-    pub size-short : {r : Refusal} → length s - from < 2 → RefusalMade endsEarly r → SizeTaken s p (number.Refused r)
+    pub size-short : {r : Refusal} → length s - from < 2 → RefusalPlaced endsEarly (q / 8) r → SizeTaken s p (number.Refused r)
     unfolding description.size reading.octetwise twoFront
     size-short short made =
         let few = lt-ltb (length (drop from s)) 2 (omega (arith, length-drop from s)) in
-        record { answer = λ i. rw (told .answer i, is, ← octet .rest, few, made .answer); sized = tt }
+        record { answer = λ i. rw (told .answer i, is, ← octet .rest, few) (front-at (q / 8) endsEarly made); sized = tt }
 
     module _ {a b : ℕ} (two : 2 ≤ length s - from) (high : Octet (getD s from 0) a) (low : Octet (getD s (from + 1) 0) b) where
       -- the two octets are there
-      size-two : twoFront (drop (q / 8) s) ≡ found (a * 256 + b) 2
+      size-two : twoFront (packetLimit - 1) (drop (q / 8) s)
+          ≡ cond (leb (a * 256 + b) (packetLimit - 1)) (found (a * 256 + b) 2) (stopped (refusal outsideSizes))
       unfolding twoFront
       size-two =
           let some = le-ltb (length (drop from s)) 2 (omega (arith, length-drop from s)) in
@@ -47,10 +56,12 @@ module _ {s : List ℕ} {p : Place} {e : Edge} (told : EdgeTaken s p e) where
           let second : getD (drop from s) 1 0 ≡ b = getD-drop from s 1 0 ∙ sym (low .same) in
           rw (← octet .rest, some, first, second)
 
-      pub size-over : {r : Refusal} → packetLimit < a * 256 + b + 1 → RefusalMade outsideSizes r → SizeTaken s p (number.Refused r)
+      pub size-over : {r : Refusal} → packetLimit < a * 256 + b + 1 → RefusalPlaced outsideSizes (q / 8) r
+          → SizeTaken s p (number.Refused r)
       unfolding description.size reading.octetwise
       size-over over made =
-          record { answer = λ i. rw (told .answer i, is, size-two, lt-leb _ _ over, made .answer); sized = tt }
+          let large = lt-leb (a * 256 + b) (packetLimit - 1) (omega arith) in
+          record { answer = λ i. rw (told .answer i, is, size-two, large) (front-at (q / 8) outsideSizes made); sized = tt }
 
       pub size-found : a * 256 + b + 1 ≤ packetLimit → SizeTaken s p (number.Found (a * 256 + b + 1) (q + 16))
       unfolding description.size reading.octetwise
@@ -58,7 +69,7 @@ module _ {s : List ℕ} {p : Place} {e : Edge} (told : EdgeTaken s p e) where
           let next : 8 * 2 + q ≡ q + 16 = omega arith in
           let on : q % 8 ≡ 0 = rw is at (told .on) in
           record {
-            answer = λ i. rw (told .answer i, is, size-two, le-leb _ _ few, next);
+            answer = λ i. rw (told .answer i, is, size-two, le-leb (a * 256 + b) (packetLimit - 1) (omega arith), next);
             sized = record { some = omega arith; few = few; on = omega arith };
           }
 
@@ -82,11 +93,15 @@ module _ {s : List ℕ} {p : Place} {r : Number} (told : SizeTaken s p r) where
     sized : DataLength n q
     sized = rw is at (told .sized)
 
-    pub data-cut : {x : Refusal} → length s - start < n → RefusalMade endsEarly x → PartTaken s p (part.Refused x)
+    pub data-cut : {x : Refusal} → length s - start < n → RefusalPlaced endsEarly (q / 8) x → PartTaken s p (part.Refused x)
     unfolding description.fieldData reading.octetwise octetsFront
     data-cut short made =
         let few = lt-ltb (length (drop start s)) n (omega (arith, length-drop start s)) in
-        record { answer = λ i. rw (told .answer i, is, align-edge s i q (sized .on), ← octet .rest, few, made .answer) }
+        record {
+          answer =
+              λ i.
+              rw (told .answer i, is, align-edge s i q (sized .on), ← octet .rest, few) (front-at (q / 8) endsEarly made);
+        }
 
     module _ (all : n ≤ length s - start) where
       data-start : start ≡ q / 8

@@ -6,7 +6,7 @@ use mathlib.Core.List.{List}
 use native.Mathlib.Omega.{arith}
 use borrow.Author.Tests.{not-true, not-false}
 use Rattle.lengths.specs.Refusals.{wrongData}
-use Rattle.lengths.specs.Promise.{RefusalMade}
+use Rattle.lengths.specs.Promise.{RefusalPlaced}
 use Rattle.lengths.specs.declared.Refusal.{Refusal}
 use Rattle.formats.specs.Reading.{Finding, found, stopped, andThen}
 use Rattle.formats.specs.Places.{Place}
@@ -28,15 +28,15 @@ use Rattle.pencil_reader.specs.declared.fields.HeaderRead.the-variants a
 use Rattle.pencil_reader.specs.declared.fields.One.the-variants as one
 
 -- ---- the header
-module _ {s : List ℕ} {p : Place} {m : Marked} (told : FlagTaken s p m) where
+module _ {s : List ℕ} {p : Place} {m : Marked} (told : FlagTaken s (p / 8) p m) where
   pub header-flag : {r : Refusal} → m ≡ flag.Refused r → HeaderTaken s p (header.Refused r)
   unfolding description.header
-  header-flag is = record { answer = λ i. rw (told .answer i, is) }
+  header-flag is = record { answer = rw (told .answer, is) }
 
-  module _ {b : Bool} {q : ℕ} {n : Number} (is : m ≡ flag.Found b q) (type : ValueTaken (edition98 .types) s q n) where
+  module _ {b : Bool} {q : ℕ} {n : Number} (is : m ≡ flag.Found b q) (type : ValueTaken (edition98 .types) s (p / 8) q n) where
     pub header-type : {r : Refusal} → n ≡ number.Refused r → HeaderTaken s p (header.Refused r)
     unfolding description.header
-    header-type why = record { answer = λ i. rw (told .answer i, is, type .answer i, why) }
+    header-type why = record { answer = rw (told .answer, is, type .answer, why) }
 
     module _ {k z : ℕ} {t : Bool} (kind : n ≡ number.Found k z) (test : t ≡ rightData (k % 256) b) where
       same : k % 256 ≡ k
@@ -45,13 +45,13 @@ module _ {s : List ℕ} {p : Place} {m : Marked} (told : FlagTaken s p m) where
       tested : rightData k b ≡ t
       tested = ap (λ (x : ℕ). rightData x b) (sym same) ∙ sym test
 
-      pub header-wrong : {r : Refusal} → t ≡ false → RefusalMade wrongData r → HeaderTaken s p (header.Refused r)
+      pub header-wrong : {r : Refusal} → t ≡ false → RefusalPlaced wrongData (p / 8) r → HeaderTaken s p (header.Refused r)
       unfolding description.header
-      header-wrong wrong made = record { answer = λ i. rw (told .answer i, is, type .answer i, kind, tested ∙ wrong, made .answer) }
+      header-wrong wrong made = record { answer = rw (told .answer, is, type .answer, kind, tested ∙ wrong, made .answer) }
 
       pub header-found : t ≡ true → HeaderTaken s p (header.Found (k % 256) b z)
       unfolding description.header
-      header-found right = record { answer = λ i. rw (same, told .answer i, is, type .answer i, kind, tested ∙ right) }
+      header-found right = record { answer = rw (same, told .answer, is, type .answer, kind, tested ∙ right) }
 
 pub ruleset headers = (header-flag, header-type, header-wrong, header-found)
 
@@ -71,18 +71,18 @@ with-data k (stopped r) = refl
 module _ {s : List ℕ} {p : Place} {h : HeaderRead} (told : HeaderTaken s p h) where
   pub field-header : {r : Refusal} → h ≡ header.Refused r → FieldTaken s p (one.Refused r)
   unfolding description.field
-  field-header is = record { answer = λ i. rw (told .answer (p / 8), is) }
+  field-header is = record { answer = λ i. rw (told .answer, is) }
 
   module _ {k q : ℕ} {b : Bool} (is : h ≡ header.Found k b q) where
     pub field-bare : not b ≡ true → FieldTaken s p (one.Found (record { kind = k; start = 0; size = 0 }) q)
     unfolding description.field
-    field-bare absent = record { answer = λ i. rw (told .answer (p / 8), is, not-true b absent) }
+    field-bare absent = record { answer = λ i. rw (told .answer, is, not-true b absent) }
 
     module _ {r : Part} (present : not b ≡ false) (read : PartTaken s q r) where
       field-is : (i : ℕ) → foundAs fieldOf (description.field edition98 .read s i p) ≡ foundAs (fieldFrom k) (partFound r)
       unfolding description.field
       field-is i =
-          rw (told .answer (p / 8), is, not-false b present)
+          rw (told .answer, is, not-false b present)
           (with-data k (description.fieldData .read s i q) ∙ ap (foundAs (fieldFrom k)) (read .answer i))
 
       pub field-refused : {x : Refusal} → r ≡ part.Refused x → FieldTaken s p (one.Refused x)

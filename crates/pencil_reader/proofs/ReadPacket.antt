@@ -9,7 +9,7 @@ use native.Mathlib.Omega.{arith}
 use borrow.Author.Tests.{lt-ltb, le-ltb}
 use Rattle.lengths.specs.Refusals.{outsideSizes, leftOver}
 use Rattle.lengths.specs.Answers.{Answer, done, refused}
-use Rattle.lengths.specs.Promise.{RefusalMade}
+use Rattle.lengths.specs.Promise.{RefusalMade, RefusalPlaced}
 use Rattle.lengths.specs.declared.Refusal.{Refusal}
 use Rattle.formats.specs.Reading.{Finding, found, stopped}
 use Rattle.formats.specs.Format.{known}
@@ -125,7 +125,7 @@ module _ {e : Ending} {s : List ℕ} where
 
         module _ {z from : ℕ} {t : Bool} (on : d ≡ edge.Found z) (octet : OctetTaken s z from)
             (test : t ≡ mayFollow e (rest from s)) where
-          pub packet-left : {x : Refusal} {r : PacketRead} → t ≡ false → RefusalMade leftOver x → r ≡ packetRead (refused x)
+          pub packet-left : {x : Refusal} {r : PacketRead} → t ≡ false → RefusalPlaced leftOver (z / 8) x → r ≡ packetRead (refused x)
               → PacketTold e s r
           unfolding readPacket description.wholePacket description.packet
           packet-left {x} not-so made =

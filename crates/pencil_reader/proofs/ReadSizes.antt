@@ -1,20 +1,19 @@
 -- One law for each answer of the functions that take a count, a length or data in whole octets, in the words of the code. Assumes nothing.
 use Prim.Native.Nat.{ℕ, _+_, _-_, _*_, _/_, _^_, _≤_, _<_}
 use mathlib.Core.Path.{_≡_, refl, sym, ap, _∙_}
-use mathlib.Core.Bool.{Bool, true, false, cond}
 use mathlib.Core.List.{List}
 use lib.ListN.{length, take, drop, length-drop, drop-of-length-le}
 use native.Mathlib.Omega.{arith}
-use Rattle.lengths.specs.Refusals.{outsideSizes, refusal}
-use Rattle.lengths.specs.Answers.{Answer, done, refused, _>>=_, LengthAnswer, lengthOutcome}
-use Rattle.lengths.specs.Length.{lengthAt, lengthWithin, allowed, within}
+use Rattle.lengths.specs.Refusals.{further}
+use Rattle.lengths.specs.Answers.{Answer, done, refused, LengthAnswer, lengthOutcome}
+use Rattle.lengths.specs.Length.{lengthWithin}
 use Rattle.lengths.specs.Promise.{WithinRead}
 use Rattle.lengths.specs.declared.Refusal.{Refusal}
 use Rattle.lengths.specs.declared.Length.{Length}
 use Rattle.lengths.specs.declared.Length.the-variants as length
-use Rattle.lengths.proofs.Laws.{LengthInside, within-done}
+use Rattle.lengths.proofs.Laws.{LengthInside, within-done, within-front}
 use Rattle.datagrams.specs.Sizes.{packetLimit}
-use Rattle.formats.specs.Reading.{Finding, found, stopped, andThen, check}
+use Rattle.formats.specs.Reading.{Finding, found, stopped, andThen, foundFrom}
 use Rattle.formats.specs.Reading as reading
 use Rattle.formats.specs.Places.{Place}
 use Rattle.formats.specs.Format.{lengthFound}
@@ -49,19 +48,12 @@ pub ruleset octets = (octet-past, octet-here)
 -- a length that was read from an octet edge on
 abbrev lengthFrom : Place → Answer LengthAnswer → Finding ℕ
 lengthFrom q (done l) = found (l .value) (8 * l .size + q)
-lengthFrom q (refused r) = stopped r
+lengthFrom q (refused r) = stopped (further (q / 8) r)
 
-counted : (s : List ℕ) (i q : ℕ) (x : Answer LengthAnswer)
-    → andThen (andThen (lengthFound x) (λ a n. found a (8 * n + q)))
-    (λ a z. andThen (check outsideSizes (within fieldsLeast fieldsLimit a) s i z) (λ u k. found a k))
-    ≡ lengthFrom q (_>>=_ x (λ l. allowed fieldsLeast fieldsLimit l))
-unfolding allowed
-counted s i q (done l) = by (within fieldsLeast fieldsLimit (l .value)) where
-  by : (t : Bool) → andThen (check outsideSizes t s i (8 * l .size + q)) (λ u k. found (l .value) k)
-      ≡ lengthFrom q (cond t (done l) (refused (refusal outsideSizes)))
-  by true = refl
-  by false = refl
-counted s i q (refused r) = refl
+counted : (q : ℕ) (x : Answer LengthAnswer)
+    → andThen (foundFrom (q / 8) (lengthFound x)) (λ a n. found a (8 * n + q)) ≡ lengthFrom q x
+counted q (done l) = refl
+counted q (refused r) = refl
 
 module _ {s : List ℕ} {p : Place} {e : Edge} (told : EdgeTaken s p e) where
   pub count-edge : {r : Refusal} → e ≡ edge.Refused r → CountTaken s p (number.Refused r)
@@ -71,15 +63,28 @@ module _ {s : List ℕ} {p : Place} {e : Edge} (told : EdgeTaken s p e) where
   module _ {q from : ℕ} {r : Length} (is : e ≡ edge.Found q) (octet : OctetTaken s q from)
       (read : WithinRead fieldsLeast fieldsLimit (rest from s) r) where
     count-is : (i : ℕ) → description.count .read s i p ≡ lengthFrom q (lengthOutcome r)
-    unfolding description.count reading.octetwise lengthWithin
+    unfolding description.count reading.octetwise
     count-is i =
         let same : drop (q / 8) s ≡ rest from s = sym (octet .rest) ∙ sym (rest-is from s) in
         rw (told .answer i, is)
-        (counted s i q (lengthAt (drop (q / 8) s))
+        (counted q (lengthWithin fieldsLeast fieldsLimit (drop (q / 8) s))
         ∙ ap (λ (l : List ℕ). lengthFrom q (lengthWithin fieldsLeast fieldsLimit l)) same ∙ ap (lengthFrom q) (sym (read .answer)))
 
-    pub count-refused : {x : Refusal} → r ≡ length.Refused x → CountTaken s p (number.Refused x)
-    count-refused why = record { answer = λ i. count-is i ∙ ap (λ (l : Length). lengthFrom q (lengthOutcome l)) why; small = tt }
+    module _ {x : Refusal} (why : r ≡ length.Refused x) where
+      -- it begins at the front, so that its place fits
+      pub count-place : q < 2 ^ 64 → q / 8 + x .place < 2 ^ 64
+      count-place fits =
+          let front = within-front fieldsLeast fieldsLimit (rest from s) .front x (sym (read .answer) ∙ ap lengthOutcome why) in
+          omega arith
+
+      pub count-refused : {y : Refusal} → y ≡ further (q / 8) x → CountTaken s p (number.Refused y)
+      count-refused on =
+          record {
+            answer =
+                λ i.
+                count-is i ∙ ap (λ (l : Length). lengthFrom q (lengthOutcome l)) why ∙ ap (λ (z : Refusal). stopped z) (sym on);
+            small = tt;
+          }
 
     module _ {n k : ℕ} (value : r ≡ length.Value n k) where
       count-inside : LengthInside fieldsLeast fieldsLimit (rest from s) (record { value = n; size = k })
@@ -105,4 +110,4 @@ module _ {s : List ℕ} {p : Place} {e : Edge} (told : EdgeTaken s p e) where
           let some : from < length s = omega (arith, count-inside .sizes .some, count-inside .sizes .inside, left) in
           omega (arith, octet-is octet some, count-inside .sizes .few, some, few)
 
-pub ruleset counts = (count-edge, count-refused, count-found, count-size, count-fits)
+pub ruleset counts = (count-edge, count-place, count-refused, count-found, count-size, count-fits)

@@ -5,7 +5,7 @@ use mathlib.Core.Bool.{Bool, true, false}
 use mathlib.Core.List.{List}
 use borrow.Author.Tests.{lt-ltb, le-ltb}
 use Rattle.lengths.specs.Refusals.{notAssigned}
-use Rattle.lengths.specs.Promise.{RefusalMade}
+use Rattle.lengths.specs.Promise.{RefusalPlaced}
 use Rattle.lengths.specs.declared.Refusal.{Refusal}
 use Rattle.formats.specs.Places.{Place}
 use Rattle.packets.specs.Packet as description
@@ -16,38 +16,38 @@ use Rattle.pencil_reader.specs.declared.bits.Number.the-variants as numb
 use Rattle.pencil_reader.specs.declared.bits.Marked.{Marked}
 use Rattle.pencil_reader.specs.declared.bits.Marked.the-variants as flag
 
-module _ {s : List ℕ} {p : Place} {width assigned : ℕ} where
+module _ {s : List ℕ} {i : ℕ} {p : Place} {width assigned : ℕ} where
   -- ---- before the extension mark
-  module _ {n : Number} (bits : BitsTaken width s p n) where
-    pub root-refused : {r : Refusal} → n ≡ number.Refused r → ValueTaken (enumeratedOf false width assigned) s p (number.Refused r)
+  module _ {n : Number} (bits : BitsTaken width s i p n) where
+    pub root-refused : {r : Refusal} → n ≡ number.Refused r → ValueTaken (enumeratedOf false width assigned) s i p (number.Refused r)
     unfolding description.enumerated description.root
-    root-refused is = record { answer = λ i. rw (bits .answer i, is); small = tt }
+    root-refused is = record { answer = rw (bits .answer, is); small = tt }
 
     module _ {v q : ℕ} (is : n ≡ number.Found v q) where
-      pub root-found : v < assigned → ValueTaken (enumeratedOf false width assigned) s p (number.Found v q)
+      pub root-found : v < assigned → ValueTaken (enumeratedOf false width assigned) s i p (number.Found v q)
       unfolding description.enumerated description.root
-      root-found low = record { answer = λ i. rw (bits .answer i, is, lt-ltb v assigned low); small = low }
+      root-found low = record { answer = rw (bits .answer, is, lt-ltb v assigned low); small = low }
 
-      pub root-not : {r : Refusal} → assigned ≤ v → RefusalMade notAssigned r
-          → ValueTaken (enumeratedOf false width assigned) s p (number.Refused r)
+      pub root-not : {r : Refusal} → assigned ≤ v → RefusalPlaced notAssigned i r
+          → ValueTaken (enumeratedOf false width assigned) s i p (number.Refused r)
       unfolding description.enumerated description.root
-      root-not high made = record { answer = λ i. rw (bits .answer i, is, le-ltb v assigned high, made .answer); small = tt }
+      root-not high made = record { answer = rw (bits .answer, is, le-ltb v assigned high, made .answer); small = tt }
 
   -- ---- with the bit for extension
-  module _ {m : Marked} (told : FlagTaken s p m) where
-    pub marked-refused : {r : Refusal} → m ≡ flag.Refused r → ValueTaken (enumeratedOf true width assigned) s p (number.Refused r)
+  module _ {m : Marked} (told : FlagTaken s i p m) where
+    pub marked-refused : {r : Refusal} → m ≡ flag.Refused r → ValueTaken (enumeratedOf true width assigned) s i p (number.Refused r)
     unfolding description.enumerated
-    marked-refused is = record { answer = λ i. rw (told .answer i, is); small = tt }
+    marked-refused is = record { answer = rw (told .answer, is); small = tt }
 
     module _ {b : Bool} {q : ℕ} (is : m ≡ flag.Found b q) where
-      pub marked-extended : {r : Refusal} → b ≡ true → RefusalMade notAssigned r
-          → ValueTaken (enumeratedOf true width assigned) s p (number.Refused r)
+      pub marked-extended : {r : Refusal} → b ≡ true → RefusalPlaced notAssigned i r
+          → ValueTaken (enumeratedOf true width assigned) s i p (number.Refused r)
       unfolding description.enumerated description.addition
-      marked-extended set made = record { answer = λ i. rw (told .answer i, is, set, made .answer); small = tt }
+      marked-extended set made = record { answer = rw (told .answer, is, set, made .answer); small = tt }
 
-      pub marked-root : {r : Number} → b ≡ false → ValueTaken (enumeratedOf false width assigned) s q r
-          → ValueTaken (enumeratedOf true width assigned) s p r
+      pub marked-root : {r : Number} → b ≡ false → ValueTaken (enumeratedOf false width assigned) s i q r
+          → ValueTaken (enumeratedOf true width assigned) s i p r
       unfolding description.enumerated description.root
-      marked-root clear value = record { answer = λ i. rw (told .answer i, is, clear) (value .answer i); small = value .small }
+      marked-root clear value = record { answer = rw (told .answer, is, clear) (value .answer); small = value .small }
 
 pub ruleset values = (root-refused, root-found, root-not, marked-refused, marked-extended, marked-root)

@@ -36,22 +36,23 @@ abbrev pub Past : ℕ → Place → Number → Type 0
 Past n p (number.Found v q) = q ≡ p + n
 Past n p (number.Refused r) = Unit {0}
 
--- inside whatever item
-pub record BitTaken (s : List ℕ) (p : Place) (r : Number) : Type 0 where
-  pub answer : (i : ℕ) → reading.bit s i p ≡ numberFound r
+-- inside the item that begins at the octet i
+pub record BitTaken (s : List ℕ) (i : ℕ) (p : Place) (r : Number) : Type 0 where
+  pub answer : reading.bit s i p ≡ numberFound r
   pub past : Past 1 p r
 
-pub record BitsTaken (n : ℕ) (s : List ℕ) (p : Place) (r : Number) : Type 0 where
-  pub answer : (i : ℕ) → reading.bits n s i p ≡ numberFound r
+pub record BitsTaken (n : ℕ) (s : List ℕ) (i : ℕ) (p : Place) (r : Number) : Type 0 where
+  pub answer : reading.bits n s i p ≡ numberFound r
   pub past : Past n p r
 
-pub record FlagTaken (s : List ℕ) (p : Place) (r : Marked) : Type 0 where
-  pub answer : (i : ℕ) → reading.flag s i p ≡ flagFound r
+pub record FlagTaken (s : List ℕ) (i : ℕ) (p : Place) (r : Marked) : Type 0 where
+  pub answer : reading.flag s i p ≡ flagFound r
 
 abbrev pub OnEdge : Edge → Type 0
 OnEdge (edge.Found q) = q % 8 ≡ 0
 OnEdge (edge.Refused r) = Unit {0}
 
+-- an item of its own, inside whatever item
 pub record EdgeTaken (s : List ℕ) (p : Place) (r : Edge) : Type 0 where
   pub answer : (i : ℕ) → reading.align s i p ≡ edgeFound r
   pub on : OnEdge r

@@ -1,5 +1,5 @@
 -- What the readers of a field and of all fields owe: what the description finds there. Definitions only.
-use Prim.Native.Nat.{ℕ}
+use Prim.Native.Nat.{ℕ, _/_}
 use mathlib.Core.Path.{_≡_}
 use mathlib.Core.List.{List, [], map}
 use lib.ListN.{length}
@@ -23,8 +23,9 @@ abbrev pub headerFound : HeaderRead → Finding description.Header
 headerFound (header.Found k b p) = found (record { kind = k; present = b }) p
 headerFound (header.Refused r) = stopped r
 
+-- the item that begins with it
 pub record HeaderTaken (s : List ℕ) (p : Place) (r : HeaderRead) : Type 0 where
-  pub answer : (i : ℕ) → description.header edition98 .read s i p ≡ headerFound r
+  pub answer : description.header edition98 .read s (p / 8) p ≡ headerFound r
 
 -- a field, told by where its data begins and how long it is
 abbrev pub oneFound : One → Finding Field

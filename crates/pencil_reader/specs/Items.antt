@@ -26,8 +26,8 @@ Below limit (number.Found v p) = v < limit
 Below limit (number.Refused r) = Unit {0}
 
 -- a value, which is one of those that are assigned
-pub record ValueTaken (e : Enumerated) (s : List ℕ) (p : Place) (r : Number) : Type 0 where
-  pub answer : (i : ℕ) → description.enumerated e .read s i p ≡ numberFound r
+pub record ValueTaken (e : Enumerated) (s : List ℕ) (i : ℕ) (p : Place) (r : Number) : Type 0 where
+  pub answer : description.enumerated e .read s i p ≡ numberFound r
   pub small : Below (e .assigned) r
 
 -- the octet at a place, past the end the end: what stands from there on is the same

@@ -24,12 +24,12 @@ firstFound (first.Refused r) = stopped r
 abbrev pub firstWith : Bool → Bool → ℕ → First
 firstWith present isData v = record { kind = chosen isData; value = v; present = present }
 
-pub record ChosenTaken (present isData : Bool) (s : List ℕ) (p : Place) (r : declared.First) : Type 0 where
-  pub answer : (i : ℕ) → foundAs (firstWith present isData) (description.enumerated (values edition98 (chosen isData)) .read s i p)
+pub record ChosenTaken (present isData : Bool) (s : List ℕ) (i : ℕ) (p : Place) (r : declared.First) : Type 0 where
+  pub answer : foundAs (firstWith present isData) (description.enumerated (values edition98 (chosen isData)) .read s i p)
       ≡ firstFound r
 
-pub record TypeTaken (s : List ℕ) (p : Place) (r : declared.First) : Type 0 where
-  pub answer : (i : ℕ) → description.typeOfMsg edition98 .read s i p ≡ firstFound r
+pub record TypeTaken (s : List ℕ) (i : ℕ) (p : Place) (r : declared.First) : Type 0 where
+  pub answer : description.typeOfMsg edition98 .read s i p ≡ firstFound r
 
 pub record StartTaken (s : List ℕ) (p : Place) (r : declared.First) : Type 0 where
   pub answer : (i : ℕ) → description.start edition98 .read s i p ≡ firstFound r

@@ -1,4 +1,5 @@
-// Bits, one at a time, the highest of an octet first, as X.691's aligned rules take them. A place is a number of bits.
+// Bits, one at a time, the highest of an octet first, as X.691's aligned rules take them. A place is a number of bits, and an item is the
+// octet at which the item begins that they belong to: a refusal is given there.
 use lengths::Refusal;
 use lengths::wide;
 ghost use Prim.Native.Nat.{_≤_};
@@ -25,12 +26,12 @@ pub enum Edge {
 }
 
 // The bit at a place.
-pub fn bit(s: &[u8], at: usize) -> Number
+pub fn bit(s: &[u8], item: usize, at: usize) -> Number
     requires { ⌜ length (now s) ≤ packetLimit ⌝ }
-    ensures { λ r. ⌜ BitTaken (now (s .entry)) at r ⌝ }
+    ensures { λ r. ⌜ BitTaken (now (s .entry)) item at r ⌝ }
 {
     if s.len() <= at / 8 {
-        return Number::Refused(Refusal::new(Refusal::ENDS_EARLY));
+        return Number::Refused(Refusal::at(Refusal::ENDS_EARLY, item));
     }
     let octet = wide(s[at / 8]);
     let from_top = octet >> (7 - at % 8);
@@ -40,15 +41,15 @@ pub fn bit(s: &[u8], at: usize) -> Number
 }
 
 // The number in so many bits from a place on.
-pub fn bits(s: &[u8], at: usize, n: usize) -> Number
+pub fn bits(s: &[u8], item: usize, at: usize, n: usize) -> Number
     requires { ⌜ (length (now s) ≤ packetLimit) × (n ≤ 16) ⌝ }
-    ensures { λ r. ⌜ BitsTaken n (now (s .entry)) at r ⌝ }
+    ensures { λ r. ⌜ BitsTaken n (now (s .entry)) item at r ⌝ }
 {
     let mut value: usize = 0;
     let mut next = at;
     let mut k: usize = 0;
     while k < n {
-        match bit(s, next) {
+        match bit(s, item, next) {
             Number::Refused(refusal) => {
                 return Number::Refused(refusal);
             }
@@ -63,11 +64,11 @@ pub fn bits(s: &[u8], at: usize, n: usize) -> Number
 }
 
 // One bit as a flag.
-pub fn flag(s: &[u8], at: usize) -> Marked
+pub fn flag(s: &[u8], item: usize, at: usize) -> Marked
     requires { ⌜ length (now s) ≤ packetLimit ⌝ }
-    ensures { λ r. ⌜ FlagTaken (now (s .entry)) at r ⌝ }
+    ensures { λ r. ⌜ FlagTaken (now (s .entry)) item at r ⌝ }
 {
-    match bit(s, at) {
+    match bit(s, item, at) {
         Number::Refused(refusal) => Marked::Refused(refusal),
         Number::Found(one, next) => {
             let set = 0 < one;
@@ -76,19 +77,20 @@ pub fn flag(s: &[u8], at: usize) -> Marked
     }
 }
 
-// To an octet edge, by zero bits.
+// To an octet edge, by zero bits, which are an item.
 pub fn align(s: &[u8], at: usize) -> Edge
     requires { ⌜ length (now s) ≤ packetLimit ⌝ }
     ensures { λ r. ⌜ EdgeTaken (now (s .entry)) at r ⌝ }
 {
     let gap = (8 - at % 8) % 8;
-    match bits(s, at, gap) {
+    let item = at / 8;
+    match bits(s, item, at, gap) {
         Number::Refused(refusal) => Edge::Refused(refusal),
         Number::Found(value, next) => {
             if value == 0 {
                 return Edge::Found(next);
             }
-            Edge::Refused(Refusal::new(Refusal::SPARE_BIT))
+            Edge::Refused(Refusal::at(Refusal::SPARE_BIT, item))
         }
     }
 }

@@ -41,21 +41,22 @@ pub struct Fields {
     pub fields: [Field; Field::LIMIT],
 }
 
-// The bit for field-data OPTIONAL, and the field type.
+// The bit for field-data OPTIONAL, and the field type: one item.
 pub fn header(s: &[u8], at: usize) -> HeaderRead
     requires { ⌜ length (now s) ≤ packetLimit ⌝ }
     ensures { λ r. ⌜ HeaderTaken (now (s .entry)) at r ⌝ }
 {
-    match flag(s, at) {
+    let item = at / 8;
+    match flag(s, item, at) {
         Marked::Refused(refusal) => HeaderRead::Refused(refusal),
-        Marked::Found(present, next) => match field_type(s, next) {
+        Marked::Found(present, next) => match field_type(s, item, next) {
             Number::Refused(refusal) => HeaderRead::Refused(refusal),
             Number::Found(kind, end) => {
                 let small = (kind % 256) as u8;
                 if packets::right_data(small, present) {
                     return HeaderRead::Found(small, present, end);
                 }
-                HeaderRead::Refused(Refusal::new(Refusal::WRONG_DATA))
+                HeaderRead::Refused(Refusal::at(Refusal::WRONG_DATA, item))
             }
         },
     }

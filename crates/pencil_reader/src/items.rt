@@ -24,59 +24,59 @@ pub enum Part {
 }
 
 // A value before the extension mark, in so many bits.
-fn root(s: &[u8], at: usize, width: usize, assigned: usize) -> Number
+fn root(s: &[u8], item: usize, at: usize, width: usize, assigned: usize) -> Number
     requires { ⌜ (length (now s) ≤ packetLimit) × (width ≤ 16) ⌝ }
-    ensures { λ r. ⌜ ValueTaken (enumeratedOf false width assigned) (now (s .entry)) at r ⌝ }
+    ensures { λ r. ⌜ ValueTaken (enumeratedOf false width assigned) (now (s .entry)) item at r ⌝ }
 {
-    match bits(s, at, width) {
+    match bits(s, item, at, width) {
         Number::Refused(refusal) => Number::Refused(refusal),
         Number::Found(value, next) => {
             if value < assigned {
                 return Number::Found(value, next);
             }
-            Number::Refused(Refusal::new(Refusal::NOT_ASSIGNED))
+            Number::Refused(Refusal::at(Refusal::NOT_ASSIGNED, item))
         }
     }
 }
 
 // A value with the bit for extension before it. In this edition none was added after the mark.
-fn marked(s: &[u8], at: usize, width: usize, assigned: usize) -> Number
+fn marked(s: &[u8], item: usize, at: usize, width: usize, assigned: usize) -> Number
     requires { ⌜ (length (now s) ≤ packetLimit) × (width ≤ 16) ⌝ }
-    ensures { λ r. ⌜ ValueTaken (enumeratedOf true width assigned) (now (s .entry)) at r ⌝ }
+    ensures { λ r. ⌜ ValueTaken (enumeratedOf true width assigned) (now (s .entry)) item at r ⌝ }
 {
-    match flag(s, at) {
+    match flag(s, item, at) {
         Marked::Refused(refusal) => Number::Refused(refusal),
         Marked::Found(extended, next) => {
             if extended {
-                return Number::Refused(Refusal::new(Refusal::NOT_ASSIGNED));
+                return Number::Refused(Refusal::at(Refusal::NOT_ASSIGNED, item));
             }
-            root(s, next, width, assigned)
+            root(s, item, next, width, assigned)
         }
     }
 }
 
 // T30-indicator ::= ENUMERATED { no-signal, .. v17-14400-long-training, ... }
-pub fn t30_indicator(s: &[u8], at: usize) -> Number
+pub fn t30_indicator(s: &[u8], item: usize, at: usize) -> Number
     requires { ⌜ length (now s) ≤ packetLimit ⌝ }
-    ensures { λ r. ⌜ ValueTaken (edition98 .indicators) (now (s .entry)) at r ⌝ }
+    ensures { λ r. ⌜ ValueTaken (edition98 .indicators) (now (s .entry)) item at r ⌝ }
 {
-    marked(s, at, 4, 16)
+    marked(s, item, at, 4, 16)
 }
 
 // T30-data ::= ENUMERATED { v21, .. v17-14400, ... }
-pub fn t30_data(s: &[u8], at: usize) -> Number
+pub fn t30_data(s: &[u8], item: usize, at: usize) -> Number
     requires { ⌜ length (now s) ≤ packetLimit ⌝ }
-    ensures { λ r. ⌜ ValueTaken (edition98 .kinds) (now (s .entry)) at r ⌝ }
+    ensures { λ r. ⌜ ValueTaken (edition98 .kinds) (now (s .entry)) item at r ⌝ }
 {
-    marked(s, at, 4, 9)
+    marked(s, item, at, 4, 9)
 }
 
 // field-type ENUMERATED { hdlc-data, .. t4-non-ecm-sig-end }
-pub fn field_type(s: &[u8], at: usize) -> Number
+pub fn field_type(s: &[u8], item: usize, at: usize) -> Number
     requires { ⌜ length (now s) ≤ packetLimit ⌝ }
-    ensures { λ r. ⌜ ValueTaken (edition98 .types) (now (s .entry)) at r ⌝ }
+    ensures { λ r. ⌜ ValueTaken (edition98 .types) (now (s .entry)) item at r ⌝ }
 {
-    root(s, at, 3, 8)
+    root(s, item, at, 3, 8)
 }
 
 // The octet at a place; past the end, the end.
@@ -100,7 +100,7 @@ pub fn count(s: &[u8], at: usize) -> Number
         Edge::Found(edge) => {
             let from = octet(s, edge);
             match lengths::read_within(&s[from..], Field::LEAST, Field::LIMIT) {
-                Length::Refused(refusal) => Number::Refused(refusal),
+                Length::Refused(refusal) => Number::Refused(refusal.further(edge / 8)),
                 Length::Value(value, size) => {
                     let next = edge + 8 * size;
                     Number::Found(value, next)
@@ -120,12 +120,12 @@ pub fn size(s: &[u8], at: usize) -> Number
         Edge::Found(edge) => {
             let from = octet(s, edge);
             if s.len() - from < 2 {
-                return Number::Refused(Refusal::new(Refusal::ENDS_EARLY));
+                return Number::Refused(Refusal::at(Refusal::ENDS_EARLY, edge / 8));
             }
             let high = wide(s[from]) * 256;
             let size = high + wide(s[from + 1]) + 1;
             if Packet::LIMIT < size {
-                return Number::Refused(Refusal::new(Refusal::OUTSIDE_SIZES));
+                return Number::Refused(Refusal::at(Refusal::OUTSIDE_SIZES, edge / 8));
             }
             let next = edge + 16;
             Number::Found(size, next)
@@ -143,7 +143,7 @@ pub fn field_data(s: &[u8], at: usize) -> Part
         Number::Found(size, begin) => {
             let start = octet(s, begin);
             if s.len() - start < size {
-                return Part::Refused(Refusal::new(Refusal::ENDS_EARLY));
+                return Part::Refused(Refusal::at(Refusal::ENDS_EARLY, begin / 8));
             }
             let next = begin + 8 * size;
             Part::Found(start, size, next)

@@ -31,12 +31,12 @@ pub enum First {
 }
 
 // CHOICE { t30-indicator T30-indicator, data T30-data }: the one that was chosen.
-fn chosen(s: &[u8], at: usize, present: bool, is_data: bool) -> First
+fn chosen(s: &[u8], item: usize, at: usize, present: bool, is_data: bool) -> First
     requires { ⌜ length (now s) ≤ packetLimit ⌝ }
-    ensures { λ r. ⌜ ChosenTaken present «is_data» (now (s .entry)) at r ⌝ }
+    ensures { λ r. ⌜ ChosenTaken present «is_data» (now (s .entry)) item at r ⌝ }
 {
     if is_data {
-        return match t30_data(s, at) {
+        return match t30_data(s, item, at) {
             Number::Refused(refusal) => First::Refused(refusal),
             Number::Found(value, next) => {
                 let small = (value % 256) as u8;
@@ -44,7 +44,7 @@ fn chosen(s: &[u8], at: usize, present: bool, is_data: bool) -> First
             }
         };
     }
-    match t30_indicator(s, at) {
+    match t30_indicator(s, item, at) {
         Number::Refused(refusal) => First::Refused(refusal),
         Number::Found(value, next) => {
             let small = (value % 256) as u8;
@@ -54,15 +54,15 @@ fn chosen(s: &[u8], at: usize, present: bool, is_data: bool) -> First
 }
 
 // The bit for data-field OPTIONAL, and the Type-of-msg.
-pub fn type_of_msg(s: &[u8], at: usize) -> First
+pub fn type_of_msg(s: &[u8], item: usize, at: usize) -> First
     requires { ⌜ length (now s) ≤ packetLimit ⌝ }
-    ensures { λ r. ⌜ TypeTaken (now (s .entry)) at r ⌝ }
+    ensures { λ r. ⌜ TypeTaken (now (s .entry)) item at r ⌝ }
 {
-    match flag(s, at) {
+    match flag(s, item, at) {
         Marked::Refused(refusal) => First::Refused(refusal),
-        Marked::Found(present, next) => match flag(s, next) {
+        Marked::Found(present, next) => match flag(s, item, next) {
             Marked::Refused(refusal) => First::Refused(refusal),
-            Marked::Found(is_data, value_at) => chosen(s, value_at, present, is_data),
+            Marked::Found(is_data, value_at) => chosen(s, item, value_at, present, is_data),
         },
     }
 }
@@ -72,7 +72,8 @@ pub fn start(s: &[u8], at: usize) -> First
     requires { ⌜ length (now s) ≤ packetLimit ⌝ }
     ensures { λ r. ⌜ StartTaken (now (s .entry)) at r ⌝ }
 {
-    match type_of_msg(s, at) {
+    let item = at / 8;
+    match type_of_msg(s, item, at) {
         First::Refused(refusal) => First::Refused(refusal),
         First::Found(kind, value, present, next) => match align(s, next) {
             Edge::Refused(refusal) => First::Refused(refusal),
@@ -80,7 +81,7 @@ pub fn start(s: &[u8], at: usize) -> First
                 if packets::right_fields(kind, present) {
                     return First::Found(kind, value, present, edge);
                 }
-                First::Refused(Refusal::new(Refusal::WRONG_DATA))
+                First::Refused(Refusal::at(Refusal::WRONG_DATA, item))
             }
         },
     }
@@ -126,7 +127,7 @@ pub fn read(s: &[u8], ending: Ending) -> PacketRead
                                 fields,
                             };
                         }
-                        packet_reader::refused(Refusal::new(Refusal::LEFT_OVER))
+                        packet_reader::refused(Refusal::at(Refusal::LEFT_OVER, edge / 8))
                     }
                 },
             }

@@ -4,7 +4,7 @@ use mathlib.Core.Path.{_≡_}
 use mathlib.Core.List.{List, [], _∷_, _++_}
 use lib.ListN.{length, replicate}
 use Rattle.lengths.specs.Refusals.{endsEarly, repeated, tooFar, late, baseUnknown, baseKnown, noRoom, allPassed}
-use Rattle.lengths.specs.Answers.{done, refuse}
+use Rattle.lengths.specs.Answers.{done, refuse, refuseAt}
 use Rattle.datagrams.specs.Carried.{Carried, spares, parity}
 use Rattle.views.specs.Cells.{spare, Cell, blankCell, unknownCell, filledCell, keptBefore, keptAhead}
 use Rattle.views.specs.Held.{Held, nothingHeld}
@@ -103,7 +103,7 @@ pub record OfferCases : Type 0 where
   pub far-32767 : offered (alone 32767) freshView ≡ refuse tooFar
   pub late-32768 : offered (alone 32768) freshView ≡ refuse late
   -- "reading order, then 8 or 9, then 7": a number that has left is late, not repeated
-  pub read-first : offer (0x01 ∷ 0x00 ∷ []) freshView ≡ refuse endsEarly
+  pub read-first : offer (0x01 ∷ 0x00 ∷ []) freshView ≡ refuseAt 2 endsEarly
   pub far-first : offered (alone 32) (started (arrived ∷ []) (marked ∷ [])) ≡ refuse tooFar
   pub late-first : offered (alone 0) (later 1 1 (arrived ∷ []) []) ≡ refuse late
   pub again : offered (alone 0) (started (arrived ∷ []) (marked ∷ [])) ≡ refuse repeated

@@ -7,7 +7,7 @@ use mathlib.Core.List.{List, [], _∷_}
 use lib.ListN.{length, getD, drop}
 use lib.Dec.{leb, ltb}
 use Rattle.lengths.specs.Refusals.{endsEarly, outsideSizes, spareBit, leftOver, notAssigned, wrongData}
-use Rattle.lengths.specs.Answers.{Answer, done, refuse, _>>=_}
+use Rattle.lengths.specs.Answers.{Answer, done, refuse, refuseAt, readFrom, _>>=_}
 use Rattle.lengths.specs.Length.{lengthWithin}
 use Rattle.formats.specs.Places.{Place, bitsAt, edgeAt}
 use Rattle.datagrams.specs.Sizes.{packetLimit}
@@ -56,7 +56,7 @@ unfoldable pub countAt : List ℕ → Bool → Answer Count
 countAt s present =
     cond present
     (do
-      n ← lengthWithin fieldsLeast fieldsLimit (drop 1 s)
+      n ← readFrom 1 (lengthWithin fieldsLeast fieldsLimit (drop 1 s))
       done (record { value = n .value; next = 8 * (1 + n .size) }))
     (done (record { value = 0; next = 8 }))
 
@@ -75,17 +75,17 @@ headerAt s p =
     let header = headerOf (bitsAt headerWidth s p) in
     let right = rightData (header .kind) (header .present) in
     let read : HeaderAnswer = record { header = header; next = p + headerWidth } in
-    cond (ltb (8 * length s) (p + headerWidth)) (refuse endsEarly)
-    (cond right (done read) (refuse wrongData))
+    cond (ltb (8 * length s) (p + headerWidth)) (refuseAt (p / 8) endsEarly)
+    (cond right (done read) (refuseAt (p / 8) wrongData))
 
 -- "two octets hold its length minus one, then the data": the data's length, at the front of octets that must hold it all. The
--- two octets have no form to refuse, so it is 1, then 4, then 1 for missing octets
+-- two octets have no form to refuse, so it is 1, then 4, then 1 for missing octets, which begin behind the two
 unfoldable pub sizeAt : List ℕ → Answer ℕ
 sizeAt s =
     let size = getD s 0 0 * 256 + getD s 1 0 + 1 in
     cond (ltb (length s) 2) (refuse endsEarly)
     (cond (ltb packetLimit size) (refuse outsideSizes)
-    (cond (ltb (length s - 2) size) (refuse endsEarly)
+    (cond (ltb (length s - 2) size) (refuseAt 2 endsEarly)
     (done size)))
 
 -- a field, and the place after it
@@ -99,7 +99,7 @@ afterHeader s h =
     cond (h .header .present)
     (do
       at ← edgeAt s (h .next)
-      size ← sizeAt (drop at s)
+      size ← readFrom at (sizeAt (drop at s))
       done (record { field = record { kind = h .header .kind; start = at + 2; size = size }; next = 8 * (at + 2 + size) }))
     (done (record { field = record { kind = h .header .kind; start = 0; size = 0 }; next = h .next }))
 
@@ -126,7 +126,7 @@ fieldsAt (suc n) s p = do
 unfoldable pub endAt : {A : Type 0} → Ending → List ℕ → Place → A → Answer A
 endAt ending s p a = do
   at ← edgeAt s p
-  cond (mayFollow ending (drop at s)) (done a) (refuse leftOver)
+  cond (mayFollow ending (drop at s)) (done a) (refuseAt at leftOver)
 
 unfoldable pub packetByOctets : Ending → List ℕ → Answer PacketAnswer
 packetByOctets ending s =

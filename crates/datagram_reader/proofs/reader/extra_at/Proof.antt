@@ -4,8 +4,8 @@ use Rattle.datagram_reader.proofs.ReadSteps.{choices}
 use Rattle.datagram_reader.proofs.reader.extra_at.Statement.{statement}
 use Rattle.datagram_reader.proofs.reader.extra_at.Tie as tie
 
-new-requires : tie.Need-new-requires
-new-requires c κs = search needs
+at-requires : tie.Need-at-requires
+at-requires c κs = search needs
 
 returns : tie.Need-returns
 returns c = search choices
@@ -16,8 +16,8 @@ shared-slice-read-wide c = search needs
 wide-requires : tie.Need-wide-requires
 wide-requires c κs = search needs
 
-new-requires-2 : tie.Need-new-requires-2
-new-requires-2 c κs = search needs
+at-requires-2 : tie.Need-at-requires-2
+at-requires-2 c κs = search needs
 
 returns-2 : tie.Need-returns-2
 returns-2 c = search choices
@@ -41,11 +41,11 @@ pub extra-at-spec : {M : Type 1} → statement M
 extra-at-spec =
     tie.close
     (tie.spec
-    new-requires
+    at-requires
     returns
     shared-slice-read-wide
     wide-requires
-    new-requires-2
+    at-requires-2
     returns-2
     add-next
     spares-at-requires

@@ -27,8 +27,8 @@ add-start c = omega (arith, length-ends (c .before .before .before .length-at .e
 sub-if1 : tie.Need-sub-if1
 sub-if1 c = length-ends (c .before .before .before .length-at .ensures) (c .before .found .given .1) (search needs)
 
-new-requires : tie.Need-new-requires
-new-requires c κs = search needs
+at-requires : tie.Need-at-requires
+at-requires c κs = search needs
 
 returns-2 : tie.Need-returns-2
 returns-2 c = search itemings
@@ -47,6 +47,6 @@ item-at-spec =
     returns
     add-start
     sub-if1
-    new-requires
+    at-requires
     returns-2
     returns-3)

@@ -4,8 +4,8 @@ use Rattle.datagram_reader.proofs.ReadSteps.{octets}
 use Rattle.datagram_reader.proofs.reader.octet_at.Statement.{statement}
 use Rattle.datagram_reader.proofs.reader.octet_at.Tie as tie
 
-new-requires : tie.Need-new-requires
-new-requires c κs = search needs
+at-requires : tie.Need-at-requires
+at-requires c κs = search needs
 
 returns : tie.Need-returns
 returns c = search octets
@@ -22,8 +22,8 @@ within-requires c κs = search needs
 returns-2 : tie.Need-returns-2
 returns-2 c = search octets
 
-new-requires-2 : tie.Need-new-requires-2
-new-requires-2 c κs = search needs
+at-requires-2 : tie.Need-at-requires-2
+at-requires-2 c κs = search needs
 
 returns-3 : tie.Need-returns-3
 returns-3 c = search octets
@@ -32,11 +32,11 @@ pub octet-at-spec : {M : Type 1} → statement M
 octet-at-spec =
     tie.close
     (tie.spec
-    new-requires
+    at-requires
     returns
     shared-slice-read-wide
     wide-requires
     within-requires
     returns-2
-    new-requires-2
+    at-requires-2
     returns-3)

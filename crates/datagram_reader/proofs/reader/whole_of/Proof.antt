@@ -57,8 +57,8 @@ loop-less c = search needs
 loop-again : tie.Need-loop-again Inv-loop μ-loop
 loop-again c = search turns
 
-new-requires : tie.Need-new-requires Inv-loop μ-loop
-new-requires c κs = search needs
+at-requires : tie.Need-at-requires Inv-loop μ-loop
+at-requires c κs = search needs
 
 refused-requires-2 : tie.Need-refused-requires-2 Inv-loop μ-loop
 refused-requires-2 c κs = search needs
@@ -89,7 +89,7 @@ whole-of-spec =
     add-i
     loop-less
     loop-again
-    new-requires
+    at-requires
     refused-requires-2
     returns-2
     returns-3)

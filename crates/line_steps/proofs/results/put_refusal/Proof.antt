@@ -5,6 +5,12 @@ use borrow.Author.Needs.{needs}
 use Rattle.line_steps.proofs.results.put_refusal.Statement.{statement}
 use Rattle.line_steps.proofs.results.put_refusal.Tie as tie
 
+cast-high : tie.Need-cast-high
+cast-high c = search needs
+
+cast-low : tie.Need-cast-low
+cast-low c = search needs
+
 slice-aggregate-put-octets : tie.Need-slice-aggregate-put-octets
 slice-aggregate-put-octets c = search needs
 
@@ -25,4 +31,4 @@ returns c =
 pub put-refusal-spec : {M : Type 1} → statement M
 put-refusal-spec =
     tie.close
-    (tie.spec slice-aggregate-put-octets put-octets-requires end-line-requires same-length returns)
+    (tie.spec cast-high cast-low slice-aggregate-put-octets put-octets-requires end-line-requires same-length returns)

@@ -28,6 +28,9 @@ enum-told c = search needs
 refusal-requires : tie.Need-refusal-requires
 refusal-requires c κs = search needs
 
+further-requires : tie.Need-further-requires
+further-requires c κs = search counts
+
 returns-2 : tie.Need-returns-2
 returns-2 c = search counts
 
@@ -52,6 +55,7 @@ read-count-spec =
     enum-known-found
     enum-told
     refusal-requires
+    further-requires
     returns-2
     add-octets
     mul-next

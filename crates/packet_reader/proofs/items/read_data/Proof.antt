@@ -29,6 +29,9 @@ read-size-requires c κs = search needs
 enum-known-refusal-2 : tie.Need-enum-known-refusal-2
 enum-known-refusal-2 c = search needs
 
+further-requires : tie.Need-further-requires
+further-requires c κs = search datas
+
 enum-known-size : tie.Need-enum-known-size
 enum-known-size c = search needs
 
@@ -62,6 +65,7 @@ read-data-spec =
     part-read-size-end
     read-size-requires
     enum-known-refusal-2
+    further-requires
     enum-known-size
     add-start
     add-end

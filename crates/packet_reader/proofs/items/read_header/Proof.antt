@@ -11,8 +11,8 @@ mul-all c = search needs
 add-next : tie.Need-add-next
 add-next c = search needs
 
-new-requires : tie.Need-new-requires
-new-requires c κs = search needs
+at-requires : tie.Need-at-requires
+at-requires c κs = search needs
 
 returns : tie.Need-returns
 returns c = search headers
@@ -29,8 +29,8 @@ right-data-requires c κs = search needs
 returns-2 : tie.Need-returns-2
 returns-2 c = search headers
 
-new-requires-2 : tie.Need-new-requires-2
-new-requires-2 c κs = search needs
+at-requires-2 : tie.Need-at-requires-2
+at-requires-2 c κs = search needs
 
 returns-3 : tie.Need-returns-3
 returns-3 c = search headers
@@ -41,11 +41,11 @@ read-header-spec =
     (tie.spec
     mul-all
     add-next
-    new-requires
+    at-requires
     returns
     bits-requires
     cast-kind
     right-data-requires
     returns-2
-    new-requires-2
+    at-requires-2
     returns-3)

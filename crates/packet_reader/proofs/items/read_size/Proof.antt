@@ -41,8 +41,8 @@ returns-2 c = search sizes
 sub-left : tie.Need-sub-left
 sub-left c = search needs
 
-new-requires-3 : tie.Need-new-requires-3
-new-requires-3 c κs = search needs
+at-requires : tie.Need-at-requires
+at-requires c κs = search needs
 
 returns-3 : tie.Need-returns-3
 returns-3 c = search sizes
@@ -66,6 +66,6 @@ read-size-spec =
     new-requires-2
     returns-2
     sub-left
-    new-requires-3
+    at-requires
     returns-3
     returns-4)

@@ -16,8 +16,8 @@ power-requires c κs = search needs
 rem-if1 : tie.Need-rem-if1
 rem-if1 c = search needs
 
-new-requires : tie.Need-new-requires
-new-requires c κs = search needs
+at-requires : tie.Need-at-requires
+at-requires c κs = search needs
 
 returns : tie.Need-returns
 returns c = search places
@@ -36,7 +36,7 @@ read-edge-spec =
     sub-gap
     power-requires
     rem-if1
-    new-requires
+    at-requires
     returns
     add-end
     returns-2)

@@ -28,8 +28,8 @@ may-follow-requires c κs = search needs
 returns : tie.Need-returns
 returns c = search ending
 
-new-requires : tie.Need-new-requires
-new-requires c κs = search needs
+at-requires : tie.Need-at-requires
+at-requires c κs = search needs
 
 returns-2 : tie.Need-returns-2
 returns-2 c = search ending
@@ -49,6 +49,6 @@ read-end-spec =
     part-may-follow-end
     may-follow-requires
     returns
-    new-requires
+    at-requires
     returns-2
     returns-3)

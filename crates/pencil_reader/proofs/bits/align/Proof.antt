@@ -19,8 +19,8 @@ enum-known-value c = search needs
 returns : tie.Need-returns
 returns c = search ones
 
-new-requires : tie.Need-new-requires
-new-requires c κs = search needs
+at-requires : tie.Need-at-requires
+at-requires c κs = search needs
 
 returns-2 : tie.Need-returns-2
 returns-2 c = search ones
@@ -37,6 +37,6 @@ align-spec =
     enum-known-refusal
     enum-known-value
     returns
-    new-requires
+    at-requires
     returns-2
     returns-3)

@@ -4,8 +4,8 @@ use Rattle.pencil_reader.proofs.OneBit.{ones}
 use Rattle.pencil_reader.proofs.bits.bit.Statement.{statement}
 use Rattle.pencil_reader.proofs.bits.bit.Tie as tie
 
-new-requires : tie.Need-new-requires
-new-requires c κs = search needs
+at-requires : tie.Need-at-requires
+at-requires c κs = search needs
 
 returns : tie.Need-returns
 returns c = search ones
@@ -32,7 +32,7 @@ pub bit-spec : {M : Type 1} → statement M
 bit-spec =
     tie.close
     (tie.spec
-    new-requires
+    at-requires
     returns
     shared-slice-read-wide
     wide-requires

@@ -7,10 +7,10 @@ use Rattle.pencil_reader.proofs.bits.bits.Statement.{statement}
 use Rattle.pencil_reader.proofs.bits.bits.Tie as tie
 
 abbrev Inv-loop : tie.InvT-loop
-Inv-loop s at n value₀ next₀ k₀ value next k = Taking n s at value next k
+Inv-loop s item at n value₀ next₀ k₀ value next k = Taking n s item at value next k
 
 abbrev μ-loop : tie.MeasureT-loop
-μ-loop s at n value₀ next₀ k₀ value next k = n - k
+μ-loop s item at n value₀ next₀ k₀ value next k = n - k
 
 loop-holds : tie.Need-loop-holds Inv-loop μ-loop
 loop-holds c = search takings

@@ -31,8 +31,8 @@ right-data-requires c κs = search needs
 returns : tie.Need-returns
 returns c = search headers
 
-new-requires : tie.Need-new-requires
-new-requires c κs = search needs
+at-requires : tie.Need-at-requires
+at-requires c κs = search needs
 
 returns-2 : tie.Need-returns-2
 returns-2 c = search headers
@@ -56,7 +56,7 @@ header-spec =
     cast-small
     right-data-requires
     returns
-    new-requires
+    at-requires
     returns-2
     returns-3
     returns-4)

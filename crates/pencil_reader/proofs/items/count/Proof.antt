@@ -32,6 +32,9 @@ read-within-requires c κs = search needs
 enum-known-refusal-2 : tie.Need-enum-known-refusal-2
 enum-known-refusal-2 c = search needs
 
+further-requires : tie.Need-further-requires
+further-requires c κs = search counts
+
 enum-known-value : tie.Need-enum-known-value
 enum-known-value c = search needs
 
@@ -63,6 +66,7 @@ count-spec =
     part-read-within-end
     read-within-requires
     enum-known-refusal-2
+    further-requires
     enum-known-value
     mul-next
     add-next

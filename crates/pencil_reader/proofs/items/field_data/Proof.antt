@@ -20,8 +20,8 @@ octet-requires c κs = search needs
 sub-if1 : tie.Need-sub-if1
 sub-if1 c = search needs
 
-new-requires : tie.Need-new-requires
-new-requires c κs = search needs
+at-requires : tie.Need-at-requires
+at-requires c κs = search needs
 
 returns : tie.Need-returns
 returns c = search parts
@@ -47,7 +47,7 @@ field-data-spec =
     enum-known-size
     octet-requires
     sub-if1
-    new-requires
+    at-requires
     returns
     mul-next
     add-next

@@ -13,8 +13,8 @@ enum-known-refusal c = search needs
 enum-known-extended : tie.Need-enum-known-extended
 enum-known-extended c = search needs
 
-new-requires : tie.Need-new-requires
-new-requires c κs = search needs
+at-requires : tie.Need-at-requires
+at-requires c κs = search needs
 
 returns : tie.Need-returns
 returns c = search values
@@ -35,7 +35,7 @@ marked-spec =
     flag-requires
     enum-known-refusal
     enum-known-extended
-    new-requires
+    at-requires
     returns
     root-requires
     returns-2

@@ -16,8 +16,8 @@ enum-known-value c = search needs
 returns : tie.Need-returns
 returns c = search values
 
-new-requires : tie.Need-new-requires
-new-requires c κs = search needs
+at-requires : tie.Need-at-requires
+at-requires c κs = search needs
 
 returns-2 : tie.Need-returns-2
 returns-2 c = search values
@@ -33,6 +33,6 @@ root-spec =
     enum-known-refusal
     enum-known-value
     returns
-    new-requires
+    at-requires
     returns-2
     returns-3)

@@ -20,8 +20,8 @@ octet-requires c κs = search needs
 sub-if1 : tie.Need-sub-if1
 sub-if1 c = search needs
 
-new-requires : tie.Need-new-requires
-new-requires c κs = search needs
+at-requires : tie.Need-at-requires
+at-requires c κs = search needs
 
 returns : tie.Need-returns
 returns c = search sizes
@@ -50,8 +50,8 @@ add-size c = search needs
 add-size-2 : tie.Need-add-size-2
 add-size-2 c = search needs
 
-new-requires-2 : tie.Need-new-requires-2
-new-requires-2 c κs = search needs
+at-requires-2 : tie.Need-at-requires-2
+at-requires-2 c κs = search needs
 
 returns-2 : tie.Need-returns-2
 returns-2 c = search sizes
@@ -74,7 +74,7 @@ size-spec =
     enum-known-edge
     octet-requires
     sub-if1
-    new-requires
+    at-requires
     returns
     shared-slice-read-wide
     wide-requires
@@ -84,7 +84,7 @@ size-spec =
     wide-requires-2
     add-size
     add-size-2
-    new-requires-2
+    at-requires-2
     returns-2
     add-next
     returns-3

@@ -68,8 +68,8 @@ may-follow-requires c κs = search needs
 returns-2 : tie.Need-returns-2
 returns-2 c = search packets
 
-new-requires-2 : tie.Need-new-requires-2
-new-requires-2 c κs = search needs
+at-requires : tie.Need-at-requires
+at-requires c κs = search needs
 
 refused-requires-5 : tie.Need-refused-requires-5
 refused-requires-5 c κs = search needs
@@ -111,7 +111,7 @@ read-spec =
     part-may-follow-end
     may-follow-requires
     returns-2
-    new-requires-2
+    at-requires
     refused-requires-5
     returns-3
     returns-4

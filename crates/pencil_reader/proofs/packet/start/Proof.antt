@@ -28,8 +28,8 @@ right-fields-requires c κs = search needs
 returns : tie.Need-returns
 returns c = search starts
 
-new-requires : tie.Need-new-requires
-new-requires c κs = search needs
+at-requires : tie.Need-at-requires
+at-requires c κs = search needs
 
 returns-2 : tie.Need-returns-2
 returns-2 c = search starts
@@ -52,7 +52,7 @@ start-spec =
     enum-known-edge
     right-fields-requires
     returns
-    new-requires
+    at-requires
     returns-2
     returns-3
     returns-4)

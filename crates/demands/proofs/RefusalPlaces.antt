@@ -1,0 +1,133 @@
+-- Where each call places its refusals: offer where the datagram reader does, all others but the readers at 0. Assumes nothing.
+use Prim.Native.Nat.{ℕ}
+use mathlib.Core.Path.{_≡_, refl, sym, ap, _∙_}
+use mathlib.Core.Bool.{Bool, true, false, cond}
+use mathlib.Core.List.{List}
+use lib.ListN.{length}
+use lib.Dec.{leb, ltb}
+use Rattle.lengths.specs.Refusals.{repeated, tooFar, late, baseUnknown, baseKnown, noRoom, allPassed, outsideRanges}
+use Rattle.lengths.specs.Answers.{Answer, done, refused, refuse, _>>=_, fitted}
+use Rattle.lengths.specs.Tables.{placeIn}
+use Rattle.lengths.specs.Length.{lengthAt, lengthToWrite}
+use Rattle.lengths.proofs.Laws.{AtFront, refuse-front, done-front, cond-front, length-front}
+use Rattle.lengths.proofs.Laws.{unless-front, fitted-front, front-place, mapped-place, puts-place}
+use Rattle.datagrams.specs.Carried.{Carried}
+use Rattle.datagrams.specs.Read.{readDatagram, carriedBy}
+use Rattle.datagrams.specs.Write.{datagramToWrite}
+use Rattle.datagrams.specs.declared.kind.Kind.{Kind}
+use Rattle.packets.specs.Write.{packetToWrite}
+use Rattle.packets.specs.declared.types.Kind as packets
+use Rattle.views.specs.Cells.{unknownAt, keptBefore, keptAhead}
+use Rattle.views.specs.View.{View, sum, distance, sessionLimit}
+use Rattle.views.specs.Offer as offers
+use Rattle.views.specs.Offer.{lateFrom, acceptedAt, offered}
+use Rattle.views.specs.Release.{atBase, next, giveUp}
+use Rattle.held.specs.Table.{viewOf}
+use Rattle.held.specs.Laid.{sessionInRanges}
+use Rattle.held.specs.declared.Session.{Session}
+use Rattle.sessions.specs.Receiver.{offerOf, nextOf, giveUpOf}
+use Rattle.sending.specs.Promise.{toSend}
+use Rattle.sending.specs.declared.Sender.{Sender}
+use Rattle.sending.specs.declared.Settings.{Settings}
+use Rattle.lines.specs.Hex.{lineOctets}
+use Rattle.frames.specs.Promise.{fieldAnswer, lossAnswer}
+use Rattle.frames.specs.declared.Joiner.{Joiner}
+use Rattle.demands.specs.Demand1.{Places}
+
+-- ---- offer
+offered-front : (datagram : Carried) (view : View) → AtFront (offered datagram view)
+unfolding offered
+offered-front datagram view =
+    let d = distance (view .base) (datagram .number) in
+    cond-front (ltb d keptAhead)
+    (cond-front (acceptedAt view d) (refuse-front repeated) (done-front _))
+    (cond-front (ltb d lateFrom) (refuse-front tooFar) (refuse-front late))
+
+-- of two steps, where the second gives 0, the place is the first's
+bind-place : {A B : Type 0} (m : Answer A) (f : A → Answer B) → ((a : A) → AtFront (f a)) → placeIn (_>>=_ m f) ≡ placeIn m
+bind-place (done a) f front = front-place (f a) (front a)
+bind-place (refused why) f front = refl
+
+ranged-place : {A : Type 0} (b : Bool) (m : Answer A) → placeIn (cond b m (refuse outsideRanges)) ≡ cond b (placeIn m) 0
+ranged-place true m = refl
+ranged-place false m = refl
+
+offer-place : (octets : List ℕ) (s : Session) → placeIn (offerOf octets s) ≡ cond (sessionInRanges s) (placeIn (readDatagram octets)) 0
+unfolding offerOf offers.offer
+offer-place octets s =
+    ranged-place (sessionInRanges s) (offers.offer octets (viewOf s))
+    ∙ ap (λ (k : ℕ). cond (sessionInRanges s) k 0)
+    (bind-place (readDatagram octets) _ (λ parts. offered-front (carriedBy octets parts) (viewOf s)))
+
+-- ---- next and give up
+next-front : (room : ℕ) (s : Session) → AtFront (nextOf room s)
+unfolding nextOf next
+next-front room s =
+    cond-front (sessionInRanges s)
+    (cond-front (leb sessionLimit (sum ((viewOf s) .counts))) (refuse-front allPassed)
+    (cond-front (unknownAt ((viewOf s) .cells) keptBefore) (refuse-front baseUnknown)
+    (cond-front (ltb room (length ((atBase (viewOf s)) .octets))) (refuse-front noRoom) (done-front _))))
+    (refuse-front outsideRanges)
+
+give-up-front : (s : Session) → AtFront (giveUpOf s)
+unfolding giveUpOf giveUp
+give-up-front s =
+    cond-front (sessionInRanges s)
+    (cond-front (leb sessionLimit (sum ((viewOf s) .counts))) (refuse-front allPassed)
+    (cond-front (unknownAt ((viewOf s) .cells) keptBefore) (done-front _) (refuse-front baseKnown)))
+    (refuse-front outsideRanges)
+
+-- ---- what follows from a table
+length-writer : (n : ℕ) → AtFront (lengthToWrite n)
+unfolding lengthToWrite
+length-writer n = unless-front _ _
+
+datagram-writer : (number : ℕ) (packet : List ℕ) (kind : Kind) (lengths run : List ℕ)
+    → AtFront (datagramToWrite number packet kind lengths run)
+unfolding datagramToWrite
+datagram-writer number packet kind lengths run = unless-front _ _
+
+packet-writer : (kind : packets.Kind) (value : ℕ) (types lengths octets : List ℕ)
+    → AtFront (packetToWrite kind value types lengths octets)
+unfolding packetToWrite
+packet-writer kind value types lengths octets = unless-front _ _
+
+line-front : (line : List ℕ) → AtFront (lineOctets line)
+unfolding lineOctets
+line-front line = unless-front _ _
+
+send-front : (s : Sender) (settings : Settings) (packet : List ℕ) → AtFront (toSend s settings packet)
+unfolding toSend
+send-front s settings packet = unless-front _ _
+
+field-front : (room type : ℕ) (octets : List ℕ) (j : Joiner) → AtFront (fieldAnswer room type octets j)
+unfolding fieldAnswer
+field-front room type octets j = unless-front _ _
+
+loss-front : (j : Joiner) → AtFront (lossAnswer j)
+unfolding lossAnswer
+loss-front j = unless-front _ _
+
+-- ---- the calls
+pub places : Places
+places =
+    record {
+      length = λ {s} p. ap placeIn (p .answer) ∙ front-place (lengthAt s) (length-front s);
+      offer = λ {s} {octets} p q.
+          ap placeIn (p .answer) ∙ mapped-place _ (offerOf octets s) ∙ offer-place octets s
+          ∙ ap (λ (k : ℕ). cond (sessionInRanges s) k 0) (sym (ap placeIn (q .answer)));
+      next = λ {s} {old} p.
+          ap placeIn (p .answer) ∙ mapped-place _ (nextOf (length old) s) ∙ front-place _ (next-front (length old) s);
+      giveUp = λ {s} p. ap placeIn (p .answer) ∙ mapped-place _ (giveUpOf s) ∙ front-place _ (give-up-front s);
+      lengthWriter = λ n old new r p. puts-place (length-writer n) p;
+      datagramWriter = λ number packet kind lengths run old new r p. puts-place (datagram-writer number packet kind lengths run) p;
+      packetWriter = λ kind value types lengths octets old new r p. puts-place (packet-writer kind value types lengths octets) p;
+      line = λ line old new r p. puts-place (line-front line) p;
+      send = λ {s} {settings} {packet} {old} p.
+          ap placeIn (p .answer) ∙ mapped-place _ (fitted (toSend s settings packet) old)
+          ∙ front-place _ (fitted-front (toSend s settings packet) old (send-front s settings packet));
+      joinerField = λ {j} {type} {octets} {old} p.
+          ap placeIn (p .answer) ∙ mapped-place _ (fieldAnswer (length old) type octets j)
+          ∙ front-place _ (field-front (length old) type octets j);
+      joinerLost = λ {j} p. ap placeIn (p .answer) ∙ mapped-place _ (lossAnswer j) ∙ front-place _ (loss-front j);
+    }

@@ -1,0 +1,4 @@
+mod Forgetting
+mod Datagram
+mod Packet
+pub mod Claims

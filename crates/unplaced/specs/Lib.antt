@@ -1,0 +1,4 @@
+pub mod Forgetting
+pub mod DatagramBefore
+pub mod PacketBefore
+pub mod Claims
