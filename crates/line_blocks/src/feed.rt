@@ -45,7 +45,7 @@ fn find_from(s: &[u8], from: usize) -> usize
 }
 
 // Where the first line feed is; the length if there is none.
-fn find_feed(s: &[u8]) -> usize
+pub fn find_feed(s: &[u8]) -> usize
     ensures { λ r. ⌜ Found (now (s .entry)) r ⌝ }
 {
     let mut at = 0;
