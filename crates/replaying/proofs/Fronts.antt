@@ -1,10 +1,10 @@
 -- A line's number in its front, and whether the line is dropped, on plain values. Assumes nothing.
 use Prim.Native.Nat.{ℕ, _+_, _*_, _≤_, _<_}
 use mathlib.Core.Path.{_≡_, refl, sym, ap, ap₂, _∙_}
-use mathlib.Core.Bool.{Bool, true, false}
-use mathlib.Core.List.{List}
-use lib.ListN.{length, getD, take}
-use lib.Seq.{length-take-le, getD-take}
+use mathlib.Core.Bool.{Bool, true, false, false≢true}
+use mathlib.Core.List.{List, _++_}
+use lib.ListN.{length, getD, take, List·getD-append}
+use lib.Seq.{length-take-le}
 use native.Mathlib.Omega.{arith}
 use Rattle.lengths.specs.Answers.{Answer, done, refused, _>>=_, writtenOutcome}
 use Rattle.lengths.specs.Promise.{Puts}
@@ -19,11 +19,11 @@ use Rattle.datagrams.specs.declared.reader.Part.{Part}
 use Rattle.datagrams.specs.declared.reader.Reading.the-variants as reading
 use Rattle.datagrams.specs.declared.reader.DatagramRead.{DatagramRead}
 use Rattle.datagrams.proofs.Laws.{refused-read, accepted-read}
-use Rattle.lines.specs.Hex.{lineOctets, octetsIn}
+use Rattle.lines.specs.Hex.{allDigits, lineOctets, octetsIn}
 use Rattle.lines.proofs.Laws.{length-octetsIn}
 use Rattle.line_steps.proofs.Laws.{line-fits, read-octets, read-refused}
 use Rattle.replays.specs.Replay.{numberIn, listed, listedAs, dropped}
-use Rattle.replays.proofs.Laws.{not-dropped, octets-done, fronted}
+use Rattle.replays.proofs.Laws.{not-dropped, fronted}
 use Rattle.replaying.specs.Inner.{isDone, FrontTold}
 use Rattle.replaying.specs.declared.dropping.Front.{Front}
 use Rattle.replaying.specs.declared.dropping.Front.the-variants as front
@@ -32,40 +32,28 @@ use Rattle.replaying.specs.declared.dropping.Front.the-variants as front
 pub front-short : (line : List ℕ) → length line < 4 → FrontTold line front.Nothing
 front-short line short = record { told = λ number e. absurd (omega (arith, (fronted line number e) .long)) }
 
+-- characters that are no digits tell none
+pub front-others : (line : List ℕ) {all : Bool} → all ≡ allDigits (take 4 line) → all ≡ false → FrontTold line front.Nothing
+front-others line told not = record { told = λ number e. absurd (false≢true (sym not ∙ told ∙ (fronted line number e) .digits)) }
+
 -- four digits are two octets
 two-octets : (line : List ℕ) → 4 ≤ length line → length (octetsIn (take 4 line)) ≡ 2
 two-octets line long = omega (arith, length-octetsIn (take 4 line), length-take-le 4 line long)
 
-module _ (line : List ℕ) {old new : List ℕ} {r : Written} (long : 4 ≤ length line) (room : 2 ≤ length old)
-    (p : Puts (lineOctets (take 4 line)) old new r) where
-  fits : (l : List ℕ) → lineOctets (take 4 line) ≡ done l → length l ≤ length old
-  fits l e = omega (arith, ap length (octets-done (take 4 line) l e), two-octets line long)
-
-  pub front-refused : {why : Refusal} → r ≡ written.Refused why → FrontTold line front.Nothing
-  front-refused {why} is =
-      let not = read-refused (lineOctets (take 4 line)) why old fits (sym (ap writtenOutcome is) ∙ p .answer) in
-      record {
-        told = λ number e.
-            let so = (fronted line number e) .read in
-            let z : _≡_ {A = ℕ} 0 1 = cc in
-            absurd (omega arith);
-      }
-
-  pub front-number : {size number : ℕ} → r ≡ written.Octets size → number ≡ getD new 0 0 * 256 + getD new 1 0
-      → FrontTold line (front.Number number)
-  front-number {size} {number} is made =
-      let so = read-octets (lineOctets (take 4 line)) size old new fits (sym (ap writtenOutcome is) ∙ p .answer) (p .lent) in
-      let octets : take size new ≡ octetsIn (take 4 line) = octets-done (take 4 line) (take size new) (so .0) in
-      let two : size ≡ 2 = omega (arith, ap length octets, two-octets line long, length-take-le size new (so .1)) in
-      let at : (k : ℕ) → k < 2 → getD new k 0 ≡ getD (octetsIn (take 4 line)) k 0 =
-      λ k below. sym (getD-take size new k 0 (omega arith)) ∙ ap (λ (l : List ℕ). getD l k 0) octets in
-      record {
-        told = λ other e.
-            ap (λ (n : ℕ). front.Number n)
-            (made
-            ∙ ap₂ (λ (a b : ℕ). a * 256 + b) (at 0 (omega arith)) (at 1 (omega arith))
-            ∙ sym ((fronted line other e) .high-first));
-      }
+pub front-number : (line rest : List ℕ) {new : List ℕ} {number : ℕ} → 4 ≤ length line → new ≡ octetsIn (take 4 line) ++ rest
+    → number ≡ getD new 0 0 * 256 + getD new 1 0
+    → FrontTold line (front.Number number)
+front-number line rest {new} long put made =
+    let at : (k : ℕ) → k < 2 → getD new k 0 ≡ getD (octetsIn (take 4 line)) k 0 =
+    λ k below.
+    ap (λ (l : List ℕ). getD l k 0) put ∙ List·getD-append (octetsIn (take 4 line)) rest 0 k (omega (arith, two-octets line long)) in
+    record {
+      told = λ other e.
+          ap (λ (n : ℕ). front.Number n)
+          (made
+          ∙ ap₂ (λ (a b : ℕ). a * 256 + b) (at 0 (omega arith)) (at 1 (omega arith))
+          ∙ sym ((fronted line other e) .high-first));
+    }
 
 -- ---- whether a line reads
 module _ {s : List ℕ} {r : DatagramRead} (reads : DatagramReads s r) where

@@ -2,7 +2,9 @@
 // with a listed number is read whole.
 use datagrams::Datagram;
 use datagrams::Reading;
+use hexadecimal::all_digits;
 use hexadecimal::hex_to_octets;
+use hexadecimal::pair_up;
 use lengths::Written;
 ghost use mathlib.Core.Path.{_≡_};
 ghost use Prim.Native.Nat.{_+_, _*_};
@@ -48,12 +50,12 @@ fn front_of(line: &[u8]) -> Front
     if line.len() < DIGITS {
         return Front::Nothing;
     }
-    let mut front = [0u8; OCTETS];
-    let read = hex_to_octets(&line[..DIGITS], &mut front);
-    match read {
-        Written::Refused(_) => Front::Nothing,
-        Written::Octets(_) => Front::Number(number_of(front[0], front[1])),
+    if !all_digits(&line[..DIGITS]) {
+        return Front::Nothing;
     }
+    let mut front = [0u8; OCTETS];
+    pair_up(&line[..DIGITS], &mut front);
+    Front::Number(number_of(front[0], front[1]))
 }
 
 fn is_datagram(octets: &[u8]) -> bool

@@ -8,7 +8,7 @@ use lib.ListN.{length, getD, take}
 use lib.Seq.{length-take-le, getD-take}
 use lib.Dec.{ltb, eqb}
 use native.Mathlib.Omega.{arith}
-use borrow.Author.Tests.{not-false, le-ltb, eq-eqb}
+use borrow.Author.Tests.{not-false}
 use Rattle.octets.specs.Place.{tab, allBelow}
 use Rattle.octets.proofs.Laws.{and-right, allBelow-at, allBelow-of, tab-at}
 use Rattle.lengths.specs.Refusals.{tooLong, wrongSettings}
@@ -51,18 +51,9 @@ digits-done line octets e =
     let even = unless-past (not (paired line)) wrongSettings [] (octetsIn line) octets (short .1) in
     and-right (eqb (length line % 2) 0) (allDigits line) (not-false (paired line) (even .0))
 
-pub octets-done : (line octets : List ℕ) → lineOctets line ≡ done octets → octets ≡ octetsIn line
+octets-done : (line octets : List ℕ) → lineOctets line ≡ done octets → octets ≡ octetsIn line
 unfolding lineOctets
 octets-done line octets e = unless-done (lineRows line) (octetsIn line) octets e
-
--- a line of an even number of digits has octets
-digits-read : (line : List ℕ) (n : ℕ) → length line ≡ 2 * n → 2 * n ≤ lineLimit → allDigits line ≡ true
-    → lineOctets line ≡ done (octetsIn line)
-unfolding lineOctets unless
-digits-read line n size short digits =
-    let long : ltb lineLimit (length line) ≡ false = le-ltb lineLimit (length line) (omega arith) in
-    let even : eqb (length line % 2) 0 ≡ true = eq-eqb (length line % 2) 0 (omega arith) in
-    rw (long, even, digits)
 
 module _ (line : List ℕ) (n : ℕ) (long : 2 * n ≤ length line) where
   front-digits : allDigits line ≡ true → allDigits (take (2 * n) line) ≡ true
@@ -88,7 +79,7 @@ module _ (line : List ℕ) (n : ℕ) (long : 2 * n ≤ length line) where
 -- ---- so the number stands in the first four digits
 pub record Fronted (line : List ℕ) (number : ℕ) : Type 0 where
   pub long : 4 ≤ length line
-  pub read : lineOctets (take 4 line) ≡ done (octetsIn (take 4 line))
+  pub digits : allDigits (take 4 line) ≡ true
   pub high-first : number ≡ getD (octetsIn (take 4 line)) 0 0 * 256 + getD (octetsIn (take 4 line)) 1 0
 
 pub fronted : (line : List ℕ) (number : ℕ) → numberIn line ≡ done number → Fronted line number
@@ -96,10 +87,9 @@ fronted line number e =
     let so = number-done line number e in
     let is : so .octets ≡ octetsIn line = octets-done line (so .octets) (so .line-read) in
     let long : 2 * 2 ≤ length line = omega (arith, so .two, ap length is, length-octetsIn line) in
-    let digits = front-digits line 2 long (digits-done line (so .octets) (so .line-read)) in
     record {
       long = long;
-      read = digits-read (take 4 line) 2 (length-take-le 4 line long) (omega arith) digits;
+      digits = front-digits line 2 long (digits-done line (so .octets) (so .line-read));
       high-first =
           so .high-first
           ∙ ap (λ (o : List ℕ). getD o 0 0 * 256 + getD o 1 0) is

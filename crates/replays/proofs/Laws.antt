@@ -5,6 +5,6 @@ pub use Rattle.replays.proofs.TraceLines.{lines-none, lines-first, line
 -- ---- whether a number is listed, and whether a line is dropped
 pub use Rattle.replays.proofs.Dropping.{listed-more, listed-none, not-dropped}
 -- ---- the number of a line's datagram, in its first four digits
-pub use Rattle.replays.proofs.Front.{octets-done, Fronted, fronted}
+pub use Rattle.replays.proofs.Front.{Fronted, fronted}
 -- ---- one line
 pub use Rattle.replays.proofs.Rest.{step-dropped, step-left}
