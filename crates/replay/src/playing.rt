@@ -1,15 +1,21 @@
-// The trace block by block: a line is kept until its line feed comes, then it is dropped or stepped. What it writes waits in a buffer,
-// until there may be no room for what the next one writes.
+// The trace block by block. A line that stands whole in a block is dropped or stepped where it stands; of one that goes on in the next
+// block the front is kept, as `line_blocks` keeps it. What a line writes waits in a buffer, until there may be no room for what the
+// next one writes.
 use held::Counts;
 use held::Session;
 use libc::STDOUT_FILENO;
+use line_blocks::clear_line;
+use line_blocks::find_feed;
+use line_blocks::keep_line;
 use lines::Line;
 use replaying::replay_line;
 ghost use Prim.Native.Nat.{_≤_};
 ghost use lib.ListN.{length};
 ghost use Rattle.held.specs.Table.{lent};
 ghost use Rattle.held.specs.Laid.{InRanges};
-ghost use Rattle.replay.specs.Promise.{Ready, Kept, Goes};
+ghost use Rattle.lines.specs.Promise.{Able, stepLimit};
+ghost use Rattle.lines.specs.FeedPromise.{Feedable};
+ghost use Rattle.replay.specs.Promise.{Writes, Goes};
 
 // Base and counts of the session, how much of a line has begun, how much text waits; and whether all went well.
 struct Going {
@@ -32,19 +38,7 @@ fn hand_over(out: &[u8], end: usize) -> bool
     io::write_all(STDOUT_FILENO, &out[..end])
 }
 
-// Another character of the line. Of one that is too long no more is kept than shows it.
-fn keep(line: &mut [u8], begun: usize, c: u8) -> usize
-    requires { ⌜ begun ≤ length (now line) ⌝ }
-    ensures { λ r. ⌜ Kept (now (line .entry)) (now (line .exit)) r ⌝ }
-{
-    if begun < line.len() {
-        line[begun] = c;
-        return begun + 1;
-    }
-    begun
-}
-
-// The line is done. Its text waits behind what waits already, or all of it goes out.
+// A whole line. Its text waits behind what waits already, or all of it goes out.
 fn end_line(
     from: Going,
     t: &mut [u16; Session::PLACES],
@@ -54,15 +48,14 @@ fn end_line(
     line: &[u8],
     out: &mut [u8],
 ) -> Going
-    requires { ⌜ Ready (lent (from .base) (from .counts) (now t) (now o) (now g)) (now line) (from .begun) (now out) (from .end) ⌝ }
-    ensures { λ r. ⌜ Goes (lent (r .base) (r .counts) (now (t .exit)) (now (o .exit)) (now (g .exit))) (now (line .entry))
-        (now (line .entry)) (r .begun) (now (out .entry)) (now (out .exit)) (r .end) ⌝ }
+    requires { ⌜ Able stepLimit (lent (from .base) (from .counts) (now t) (now o) (now g)) (now out) (from .end) ⌝ }
+    ensures { λ r. ⌜ Writes (lent (r .base) (r .counts) (now (t .exit)) (now (o .exit)) (now (g .exit))) (r .begun) (now (out .entry))
+        (now (out .exit)) (r .end) ⌝ }
 {
     let base = from.base;
     let counts = from.counts;
-    let begun = from.begun;
     let at = from.end;
-    let made = replay_line(base, counts, t, o, g, numbers, &line[..begun], out, at);
+    let made = replay_line(base, counts, t, o, g, numbers, line, out, at);
     let after = made.base;
     let moves = made.counts;
     let end = made.end;
@@ -85,7 +78,33 @@ fn end_line(
     }
 }
 
-// A block of the trace, character by character.
+// A line up to its line feed, of which the front may be kept.
+fn take_line(
+    from: Going,
+    t: &mut [u16; Session::PLACES],
+    o: &mut [u8; Session::PACKET_OCTETS],
+    g: &mut [u8; Session::MESSAGE_OCTETS],
+    numbers: &[u16],
+    line: &mut [u8],
+    more: &[u8],
+    out: &mut [u8],
+) -> Going
+    requires { ⌜ Feedable stepLimit (lent (from .base) (from .counts) (now t) (now o) (now g)) (now line) (from .begun) (now out)
+        (from .end) ⌝ }
+    ensures { λ r. ⌜ Goes (lent (r .base) (r .counts) (now (t .exit)) (now (o .exit)) (now (g .exit))) (now (line .exit)) (r .begun)
+        (now (out .entry)) (now (out .exit)) (r .end) ⌝ }
+{
+    let begun = from.begun;
+    if begun == 0 {
+        return end_line(from, t, o, g, numbers, more, out);
+    }
+    let kept = keep_line(line, begun, more);
+    let next = end_line(from, t, o, g, numbers, &line[..kept], out);
+    clear_line(line, kept);
+    next
+}
+
+// A block of the trace: its lines one after the other, and the front of the last one kept.
 fn take_block(
     from: Going,
     t: &mut [u16; Session::PLACES],
@@ -96,43 +115,51 @@ fn take_block(
     block: &[u8],
     out: &mut [u8],
 ) -> Going
-    requires { ⌜ Ready (lent (from .base) (from .counts) (now t) (now o) (now g)) (now line) (from .begun) (now out) (from .end) ⌝ }
-    ensures { λ r. ⌜ Goes (lent (r .base) (r .counts) (now (t .exit)) (now (o .exit)) (now (g .exit))) (now (line .entry))
-        (now (line .exit)) (r .begun) (now (out .entry)) (now (out .exit)) (r .end) ⌝ }
+    requires { ⌜ Feedable stepLimit (lent (from .base) (from .counts) (now t) (now o) (now g)) (now line) (from .begun) (now out)
+        (from .end) ⌝ }
+    ensures { λ r. ⌜ Goes (lent (r .base) (r .counts) (now (t .exit)) (now (o .exit)) (now (g .exit))) (now (line .exit)) (r .begun)
+        (now (out .entry)) (now (out .exit)) (r .end) ⌝ }
 {
     let mut base = from.base;
     let mut counts = from.counts;
     let mut begun = from.begun;
     let mut end = from.end;
-    let mut i = 0;
-    while i < block.len() {
-        let c = block[i];
-        i += 1;
-        if c == Line::FEED {
-            let at = Going {
+    let mut at = 0;
+    while at < block.len() {
+        let stop = find_feed(&block[at..]);
+        let feed = at + stop;
+        if block.len() <= feed {
+            let kept = keep_line(line, begun, &block[at..]);
+            return Going {
+                base,
+                counts,
+                begun: kept,
+                end,
+                well: true,
+            };
+        }
+        let here = Going {
+            base,
+            counts,
+            begun,
+            end,
+            well: true,
+        };
+        let next = take_line(here, t, o, g, numbers, line, &block[at..feed], out);
+        base = next.base;
+        let moved = next.counts;
+        counts = moved;
+        begun = next.begun;
+        end = next.end;
+        at = feed + 1;
+        if !next.well {
+            return Going {
                 base,
                 counts,
                 begun,
                 end,
-                well: true,
+                well: false,
             };
-            let next = end_line(at, t, o, g, numbers, line, out);
-            base = next.base;
-            let moved = next.counts;
-            counts = moved;
-            begun = next.begun;
-            end = next.end;
-            if !next.well {
-                return Going {
-                    base,
-                    counts,
-                    begun,
-                    end,
-                    well: false,
-                };
-            }
-        } else {
-            begun = keep(line, begun, c);
         }
     }
     Going {
@@ -154,15 +181,17 @@ fn finish(
     line: &[u8],
     out: &mut [u8],
 ) -> Told
-    requires { ⌜ Ready (lent (from .base) (from .counts) (now t) (now o) (now g)) (now line) (from .begun) (now out) (from .end) ⌝ }
+    requires { ⌜ Feedable stepLimit (lent (from .base) (from .counts) (now t) (now o) (now g)) (now line) (from .begun) (now out)
+        (from .end) ⌝ }
 {
-    if from.begun == 0 {
+    let begun = from.begun;
+    if begun == 0 {
         let counts = from.counts;
         let end = from.end;
         let well = hand_over(out, end);
         return Told { counts, well };
     }
-    let last = end_line(from, t, o, g, numbers, line, out);
+    let last = end_line(from, t, o, g, numbers, &line[..begun], out);
     let counts = last.counts;
     let end = last.end;
     if !last.well {
