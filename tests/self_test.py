@@ -170,11 +170,23 @@ def of_calls(test):
     test.says('a range check over its goal', 'offer: the range check takes 7001 instructions', str(list(calls.missed('offer', 7001, 2))))
     test.says('copies over their goal', 'offer: a call copies 3.0 sessions', str(list(calls.missed('offer', 7000, 3))))
     calls.counting.whole = lambda program, lines: 5000 + len(program)
-    test.passes('the same code', calls.same_code, 'others', b'')
-    test.fails('other code', 'takes 5012 instructions, the proved one 5005', calls.same_code, 'another code', b'')
+    test.passes('the same code', calls.counting.same_code, 'others', b'')
+    test.fails('other code', 'takes 5012 instructions, the proved one 5005', calls.counting.same_code, 'another code', b'')
     os.environ['PATH'], path = '', os.environ['PATH']
     test.fails('no valgrind', 'valgrind is not here', calls.counting.watched, '', 'calls', b'')
     os.environ['PATH'] = path
+
+
+def of_replay(test):
+    """A wrong replay is not counted, and the goal is held."""
+    replay = of_speed('replay')
+    test.says('the goal met', '[]', str(list(replay.missed('replay', 'k3', 1.3))))
+    test.says('the goal missed', 'replay over k3 takes 1.31 times the instructions', str(list(replay.missed('replay', 'k3', 1.31))))
+    test.says('start and end taken off', '3.0', str(replay.for_a_line(lambda trace: 7 + len(trace), b'00\n01\n')))
+    replay.counting.RUN, run_by = 'true', replay.counting.RUN
+    with tempfile.TemporaryDirectory() as made:
+        test.fails('a wrong replay', 'differs replay: result line 1', replay.played, b'00\n', (), pathlib.Path(made))
+    replay.counting.RUN = run_by
 
 
 def main():
@@ -183,7 +195,8 @@ def main():
     test = Cases('')
     for test.of_what, cases in (('failing.py', of_failing), ('running.py', of_running), ('cutting.py', of_cutting),
                                 ('generate.py', of_generate), ('run', of_run), ('long', of_long), ('speed/measure', of_measure),
-                                ('speed/calls, parts, sums', of_calls), ('../test', of_test), ('prove', of_prove)):
+                                ('speed/calls, parts, sums', of_calls), ('speed/replay', of_replay),
+                                ('../test', of_test), ('prove', of_prove)):
         cases(test)
     test.end()
 
