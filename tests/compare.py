@@ -9,7 +9,7 @@ import sys
 
 import running
 from failing import Cases, altered, independent
-from generate import FRAMES, PACKETS, make_script
+from generate import FRAMES, PACKETS, REPLAYS, make_script
 from making.lines import across_the_wrap, at_the_limit, program_lines
 from rules.arguments import Arguments
 from running import (around, call_of_answer, described, difference, expected_answers, expected_results, left_out, line_at, lines_of,
@@ -20,6 +20,7 @@ CASES = HERE / 'cases'
 CALL_SEEDS, CALLS_EACH = 5, 4000
 FRAME_SEEDS, FRAMES_EACH = 3, 1500
 PACKET_SEEDS, PACKETS_EACH = 3, 2000
+REPLAY_SEEDS, REPLAYS_EACH = 3, 400
 PROGRAM_SEEDS, LINES_EACH = 4, 1000
 
 
@@ -81,6 +82,8 @@ def comparisons(arguments):
         yield 'calls on the joiner of seed ' + seed, arguments.calls, compare_calls, lambda s=seed: made_frames(s)
     for seed in seeds[:PACKET_SEEDS]:
         yield 'calls on packets of seed ' + seed, arguments.calls, compare_calls, lambda s=seed: made_packets(s)
+    for seed in seeds[:REPLAY_SEEDS]:
+        yield 'replays of seed ' + seed, arguments.calls, compare_calls, lambda s=seed: made_replays(s)
     for seed in seeds[:PROGRAM_SEEDS]:
         yield 'program lines of seed ' + seed, arguments.program, compare_program, lambda s=seed: made_lines(s)
     yield 'program across the wrap', arguments.program, compare_program, lambda: across_the_wrap(seeds[0], LINES_EACH)
@@ -101,6 +104,11 @@ def made_frames(seed):
 def made_packets(seed):
     """The same of packets, read, written and carried."""
     return with_answers(make_script(seed, PACKETS_EACH, PACKETS))
+
+
+def made_replays(seed):
+    """The same of replays."""
+    return with_answers(make_script(seed, REPLAYS_EACH, REPLAYS))
 
 
 def with_answers(script):

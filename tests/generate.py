@@ -5,7 +5,7 @@ import argparse
 import collections
 import sys
 
-from making import conversations, edges, frames, outside, packed, placed, single
+from making import conversations, edges, frames, outside, packed, placed, replays, single
 from making.lines import program_lines
 from making.script import Full, Script
 
@@ -19,7 +19,8 @@ FRAMES = (frames.honest_row, frames.any_fields, frames.near_the_limit, frames.ta
           frames.odd_overwrites)
 PACKETS = (packed.runs_read, packed.runs_written, packed.padding_damaged, packed.counts_off, packed.near_the_limit, packed.carried,
            placed.packets, single.packets_read, single.packets_written, single.many_fields)
-SCENES = 2 * SINGLE + (placed.datagrams,) + SESSIONS + FRAMES + PACKETS[:7]
+REPLAYS = (replays.recorded, replays.crowded, replays.crowded, replays.edges, replays.no_calls)
+SCENES = 2 * SINGLE + (placed.datagrams,) + SESSIONS + FRAMES + PACKETS[:7] + REPLAYS[:1] + REPLAYS[2:]
 
 
 def make_script(seed, count, scenes=SCENES):

@@ -12,13 +12,14 @@ import shutil
 import sys
 import tempfile
 
-from compare import (CALL_SEEDS, FRAME_SEEDS, PACKET_SEEDS, PROGRAM_SEEDS, Failed, compare_calls, compare_program, made_calls,
-                     made_frames, made_lines, made_packets, stored)
+from compare import (CALL_SEEDS, FRAME_SEEDS, PACKET_SEEDS, PROGRAM_SEEDS, REPLAY_SEEDS, Failed, compare_calls, compare_program,
+                     made_calls, made_frames, made_lines, made_packets, made_replays, stored)
 from failing import Cases
 from format_mutants import DATAGRAM_MUTANTS, PACKET_MUTANTS
 from joiner_mutants import JOINER_MUTANTS
 from pencil_mutants import PENCIL_MUTANTS
 from place_mutants import PLACE_MUTANTS
+from replay_mutants import REPLAY_MUTANTS
 from session_mutants import SESSION_MUTANTS
 
 HERE = pathlib.Path(__file__).resolve().parent
@@ -40,16 +41,8 @@ PROGRAM_MUTANTS = (
     ('a refusal without its line', 'program', 'lines = [refusal.octets()]', 'lines = []'),
     ('kinds by their states', 'program', 'bytes([state - RECEIVED])', 'bytes([state])'),
     ('15 before 2', 'program',
-     '        refuse_if(len(line) > LINE_LIMIT, OVERLONG)\n'
-     '        try:\n'
-     '            octets = binascii.unhexlify(line)\n'
-     '        except binascii.Error:\n'
-     '            raise Refusal(SETTINGS)\n',
-     '        try:\n'
-     '            octets = binascii.unhexlify(line)\n'
-     '        except binascii.Error:\n'
-     '            raise Refusal(SETTINGS)\n'
-     '        refuse_if(len(line) > LINE_LIMIT, OVERLONG)\n'),
+     '    refuse_if(len(line) > LINE_LIMIT, OVERLONG)\n    try:\n        return binascii.unhexlify(line)\n',
+     '    try:\n        refuse_if(len(binascii.unhexlify(line)) > LINE_LIMIT // 2, OVERLONG)\n        return binascii.unhexlify(line)\n'),
     ('line of 3,001', 'program', 'LINE_LIMIT = 3000', 'LINE_LIMIT = 3001'),
     ('line of 2,999', 'program', 'LINE_LIMIT = 3000', 'LINE_LIMIT = 2999'),
     ('spaces around a line dropped', 'program', 'binascii.unhexlify(line)', 'binascii.unhexlify(line.strip())'),
@@ -65,7 +58,7 @@ PROGRAM_MUTANTS = (
 )
 MUTANTS = {kind: rows + PLACE_MUTANTS.get(kind, ()) for kind, rows in (
     ('calls', DATAGRAM_MUTANTS + SESSION_MUTANTS), ('packets', PACKET_MUTANTS + PENCIL_MUTANTS), ('joiner', JOINER_MUTANTS),
-    ('program', PROGRAM_MUTANTS))}
+    ('replays', REPLAY_MUTANTS), ('program', PROGRAM_MUTANTS))}
 
 
 def make_mutant(directory, module, old, new):
@@ -93,7 +86,8 @@ def command_of(directory, argument=''):
 def input_at(kind, number):
     """The inputs that mutants are tried with, one after the other: a name, what is given, what is expected; None past the last."""
     name, seeds, made = {'calls': ('script', CALL_SEEDS, made_calls), 'packets': ('packet script', PACKET_SEEDS, made_packets),
-                         'joiner': ('joiner script', FRAME_SEEDS, made_frames), 'program': ('lines', PROGRAM_SEEDS, made_lines)}[kind]
+                         'joiner': ('joiner script', FRAME_SEEDS, made_frames),
+                         'replays': ('replay script', REPLAY_SEEDS, made_replays), 'program': ('lines', PROGRAM_SEEDS, made_lines)}[kind]
     if number < seeds:
         return ('%s %d' % (name, number), *made(str(number)))
     return dict(enumerate(stored('.lines', '.results'), seeds)).get(number) if kind == 'program' else None
@@ -148,7 +142,8 @@ def self_test():
     for kind, name, old, new in (('calls', 'lengths', 'first >= 0xC0', 'first > 0xBF'),
                                  ('packets', 'packets', 'items.bits(count) for count in (1, 3)', 'items.bits(1 + 2 * at) for at in (0, 1)'),
                                  ('packets', 'pencil', 'self.place >= len(self.row)', 'self.place == len(self.row)'),
-                                 ('joiner', 'joining', 'len(whole) > FRAME_LIMIT', 'len(whole) >= FRAME_LIMIT + 1')):
+                                 ('joiner', 'joining', 'len(whole) > FRAME_LIMIT', 'len(whole) >= FRAME_LIMIT + 1'),
+                                 ('replays', 'replaying', 'number in numbers', 'number in set(numbers)')):
         test.fails('an edit of %s that changes no answer' % name, 'NOT FOUND: same\n1 passed, 1 failed\nSystemExit: 1', try_all,
                    {kind: MUTANTS[kind][:1] + (('same', name, old, new),)})
     test.fails('an edit of the program that changes no result', 'NOT FOUND: same\n0 passed, 1 failed\nSystemExit: 1', try_all,

@@ -61,7 +61,7 @@ PLACE_MUTANTS = {
         ("the packet writer's 12 at the octet after", 'packets', 'for t in types), NOT_ASSIGNED)', 'for t in types), NOT_ASSIGNED, 1)'),
         ('a place of one octet', 'refusals', "self.place.to_bytes(2, 'big')", "(self.place % 256).to_bytes(2, 'big')"),
         ('a place with its low octet first', 'refusals', "self.place.to_bytes(2, 'big')", "self.place.to_bytes(2, 'little')"),
-        ('no place where a buffer is lent', 'calls', 'refusal.octets() + FILLING * cap', 'refusal.octets()[:2] + FILLING * cap'),
+        ('no place where a buffer is lent', 'answers', 'refusal.octets() + FILLING * cap', 'refusal.octets()[:2] + FILLING * cap'),
     ),
     'packets': (
         ('a header in a low half at the octet after', 'lengths', 'self.begun = self.bit // 8', 'self.begun = self.at'),

@@ -2,9 +2,12 @@
 
 import random
 
+from making import replays
 from making.lines import Recording
-from real import as_expected, conversation, corpus, must, octets_of, settings_text, written_by
+from making.script import Script
+from real import UNLIMITED, as_expected, conversation, corpus, must, octets_of, settings_text, written_by
 from rules.arguments import shown
+from running import lines_of, text_of
 
 RECEIVED, SPARE, REPAIRED, LOST = range(4)
 
@@ -43,21 +46,52 @@ def check_released(kind, number, released_number, octets, packets):
     must(whole, 'number %d was sent as %s and released as %s', number, sent.hex(), octets.hex())
 
 
-def through_the_program(command, name, loss):
-    """Recorded datagrams through the program, some lost; an empty line for each number that nothing has brought back."""
-    packets = corpus(name.rsplit('.', 1)[0])
-    r = random.Random(name + str(loss))
-    recording = Recording(name)
-    for number, octets in enumerate(corpus(name)):
+def worse_line(name, loss):
+    """Recorded datagrams, some lost; an empty line for each number that nothing has brought back.
+
+    A recording of what is left, all lines with the lost ones among them, and the lost numbers."""
+    r, datagrams = random.Random(name + str(loss)), corpus(name)
+    recording, lines, lost = Recording(name), [], []
+    for number, octets in enumerate(datagrams):
         if r.random() >= loss:
             recording.add_datagram(octets)
-        while number - recording.base() > 20:
+            lines.append(recording.lines[-1])
+        else:
+            lost.append(number)
+            lines.append(octets.hex().encode())
+        while number - recording.base() > 20 or number + 1 == len(datagrams) > recording.base():
             recording.add(b'')
-    while recording.base() < len(packets):
-        recording.add(b'')
+            lines.append(b'')
+    return recording, lines, lost
+
+
+def packets_of(name):
+    """The packets that recorded datagrams carry."""
+    return corpus(name.rsplit('.', 1)[0])
+
+
+def through_the_program(command, name, loss):
+    """Recorded datagrams through the program, some lost."""
+    recording, _, _ = worse_line(name, loss)
     answers = written_by(command, recording.lines, recording.results)
-    counts = check_results(answers, packets)
+    counts = check_results(answers, packets_of(name))
     as_expected(recording.results, answers)
+    return counts_text(counts)
+
+
+def replayed(command, name, loss):
+    """Recorded datagrams as a trace, replayed (40) with the lost ones listed: what the program writes without them, and its counts."""
+    recording, lines, lost = worse_line(name, loss)
+    script = Script(name, UNLIMITED)
+    replays.call(script, lost, text_of(lines), len(text_of(recording.results)))
+    answers = written_by(command, script.lines, script.answers)
+    answer = octets_of(answers)[0]
+    must(answer[0] == 0, 'not replayed: %s', answer[:4].hex())
+    results = lines_of(answer[21:])
+    counts = check_results(results, packets_of(name))
+    must(answer[1:17] == b''.join(shown(count, 4) for count in counts), 'the counts are %s', answer[1:17].hex())
+    as_expected(recording.results, results)
+    as_expected(script.answers, answers)
     return counts_text(counts)
 
 

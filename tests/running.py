@@ -3,7 +3,7 @@
 import subprocess
 
 from rules.calls import answer_all
-from rules.program import results_of
+from rules.program import lines_of, results_of
 
 PATIENCE = 600  # seconds for one run
 SHOWN = 160     # characters of a line that are shown
@@ -21,12 +21,6 @@ def run(command, given):
 def text_of(lines):
     """Lines as a program reads them."""
     return b''.join(line + b'\n' for line in lines)
-
-
-def lines_of(text):
-    """The lines of what a program reads or has written; a last one without a line feed counts unless it is empty."""
-    lines = text.split(b'\n')
-    return lines if lines[-1] else lines[:-1]
 
 
 def expected_answers(script):

@@ -1,7 +1,7 @@
 #!/usr/bin/env python3
 """Makes each check of running.py, cutting.py, run, prove, long, speed/ and ../test fail, and looks for what it must say.
 
-Also looks whether the scripts for the joiner, datagrams and packets meet every answer that there is."""
+Also looks whether the scripts for the joiner, datagrams, packets and replays meet every answer that there is."""
 
 import argparse
 import importlib.machinery
@@ -15,7 +15,7 @@ import running
 from compare import made_calls, made_lines
 from cutting import cut_calls, cut_lines
 from failing import HERE, Cases, altered, independent
-from generate import FRAMES, PACKETS, make_script
+from generate import FRAMES, PACKETS, REPLAYS, make_script
 from making import placed, single
 from making.script import Script
 from rules.refusals import ENDS, SPARE_BIT, Refusal
@@ -61,7 +61,7 @@ def of_cutting(test):
 
 
 def of_generate(test):
-    """The scripts for the joiner, datagrams and packets meet every answer, at its start and further on; a short one does not.
+    """The scripts for the joiner, datagrams, packets and replays meet every answer, at its start and further on; a short one does not.
 
     Both readers answer alike, and each refusal is the one that the items tell."""
     for name, scenes, short, every in (
@@ -70,8 +70,9 @@ def of_generate(test):
              '0300 03FF01 03FF01+ 03FF02 03FF03+ 03FF04+ 03FF05+ 03FF06+ 1000 11FF01 11FF01+ 11FF03+ 11FF04+ 11FF05+ 11FF06+'),
             ('packets', PACKETS, 60, '0500 05FF01 05FF01+ 05FF03+ 05FF04 05FF04+ 05FF05 05FF05+ 05FF06+ 05FF0C 05FF0E 05FF0E+ '
              '0600 06FF04 06FF0C 06FF0D 06FF0E 06FF0F '
-             '0700 07FF01 07FF01+ 07FF03+ 07FF04 07FF04+ 07FF05 07FF05+ 07FF06+ 07FF0C 07FF0E 07FF0E+')):
-        test.says('every answer on ' + name, every, answers_met(scenes, 1500))
+             '0700 07FF01 07FF01+ 07FF03+ 07FF04 07FF04+ 07FF05 07FF05+ 07FF06+ 07FF0C 07FF0E 07FF0E+'),
+            ('replays', REPLAYS, 5, '4000 40EE 40FF0D')):
+        test.says('every answer on ' + name, every, answers_met(scenes, 300 if scenes is REPLAYS else 1500))
         test.fails('a short script on ' + name, 'NOT CAUGHT by inner: one: ' + every, Cases('inner').says, 'one', every,
                    answers_met(scenes, short))
     script = Script('0', 2)
@@ -169,11 +170,23 @@ def of_calls(test):
     test.says('a range check over its goal', 'offer: the range check takes 7001 instructions', str(list(calls.missed('offer', 7001, 2))))
     test.says('copies over their goal', 'offer: a call copies 3.0 sessions', str(list(calls.missed('offer', 7000, 3))))
     calls.counting.whole = lambda program, lines: 5000 + len(program)
-    test.passes('the same code', calls.same_code, 'others', b'')
-    test.fails('other code', 'takes 5012 instructions, the proved one 5005', calls.same_code, 'another code', b'')
+    test.passes('the same code', calls.counting.same_code, 'others', b'')
+    test.fails('other code', 'takes 5012 instructions, the proved one 5005', calls.counting.same_code, 'another code', b'')
     os.environ['PATH'], path = '', os.environ['PATH']
     test.fails('no valgrind', 'valgrind is not here', calls.counting.watched, '', 'calls', b'')
     os.environ['PATH'] = path
+
+
+def of_replay(test):
+    """A wrong replay is not counted, and the goal is held."""
+    replay = of_speed('replay')
+    test.says('the goal met', '[]', str(list(replay.missed('replay', 'k3', 1.3))))
+    test.says('the goal missed', 'replay over k3 takes 1.31 times the instructions', str(list(replay.missed('replay', 'k3', 1.31))))
+    test.says('start and end taken off', '3.0', str(replay.for_a_line(lambda trace: 7 + len(trace), b'00\n01\n')))
+    replay.counting.RUN, run_by = 'true', replay.counting.RUN
+    with tempfile.TemporaryDirectory() as made:
+        test.fails('a wrong replay', 'differs replay: result line 1', replay.played, b'00\n', (), pathlib.Path(made))
+    replay.counting.RUN = run_by
 
 
 def main():
@@ -182,7 +195,8 @@ def main():
     test = Cases('')
     for test.of_what, cases in (('failing.py', of_failing), ('running.py', of_running), ('cutting.py', of_cutting),
                                 ('generate.py', of_generate), ('run', of_run), ('long', of_long), ('speed/measure', of_measure),
-                                ('speed/calls, parts, sums', of_calls), ('../test', of_test), ('prove', of_prove)):
+                                ('speed/calls, parts, sums', of_calls), ('speed/replay', of_replay),
+                                ('../test', of_test), ('prove', of_prove)):
         cases(test)
     test.end()
 

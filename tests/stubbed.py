@@ -20,8 +20,8 @@ PYTHON = '''#!/bin/sh
 printf "$SAYS"; exit "$STATUS"
 '''
 RUN_STUB = '''#!/bin/sh
-echo "$1 ran"
-[ "$1" = receive ] || cat
+echo "$* ran"
+[ "$1" != explain ] || cat
 '''
 
 
@@ -33,7 +33,7 @@ def with_stubs(directory):
         path.parent.mkdir(parents=True, exist_ok=True)
         path.write_text(text)
         path.chmod(0o755)
-    for name in ('test', 'receive', 'explain', 'tests/prove', 'tests/toolchain'):
+    for name in ('test', 'receive', 'explain', 'replay', 'tests/prove', 'tests/toolchain'):
         shutil.copy(HERE.parent / name, directory / name)
     return {**os.environ, 'PATH': '%s:%s' % (directory / 'bin', os.environ['PATH'])}
 
@@ -101,3 +101,11 @@ def of_prove(test):
                               ('a packet as arguments', './explain repaired 06 00')):
             test.ends(name, 0, 'explain ran\nrepaired 06 00\n', ['sh', '-c', command], cwd=directory, env={**environment, 'RT_SAYS': same})
         test.ends('help of explain', 0, 'usage: ./explain < PACKETS', ['./explain', '--help'], cwd=directory, env=environment)
+        settled = {**environment, 'RT_SAYS': same}
+        (pathlib.Path(directory) / 'trace').write_text('\n')
+        test.ends('a trace and numbers', 0, 'replay %s/trace 2 0x5 ran\n' % directory, ['./replay', 'trace', '2', '0x5'], cwd=directory,
+                  env=settled)
+        for name, given in (('no trace', []), ('a trace that is none', ['-x'])):
+            test.ends(name, 2, 'usage: ./replay TRACE NUMBER..', ['./replay', *given], cwd=directory, env=settled)
+        test.ends('a trace that is not there', 2, 'replay: nowhere: no file that can be read', ['./replay', 'nowhere'], cwd=directory,
+                  env=settled)

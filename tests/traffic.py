@@ -11,7 +11,7 @@ from failing import Cases, altered, independent
 from making.pieces import damaged, packet_items
 from making.script import Script
 from real import UNLIMITED, Wrong, as_expected, conversation, corpus, must, octets_of, settings_text, written_by
-from released import check_conversation, check_results, heard, through_the_program
+from released import check_conversation, check_results, heard, replayed, through_the_program
 from rules.arguments import shown, sized
 from rules.datagrams import PARITY, SPARES, read_datagram
 from rules.packets import read_packet, written_packet
@@ -19,6 +19,7 @@ from running import left_out
 
 CALLS = ('tt_v17_ecm_v0.a2b', 'tt_v17_ecm_v0.b2a', 'tt_v29_ecm_v0.a2b', 'gt_v17_nonecm_v0.a2b')
 DATAGRAMS = {'tt_v17_ecm_v0.a2b.k3': (SPARES, 3, 0), 'tt_v17_ecm_v0.a2b.n3m2': (PARITY, 3, 2)}
+REPLAYED = tuple((name, loss) for name in DATAGRAMS for loss in (0, 0.1, 0.4))
 SETTINGS = ((SPARES, 0, 0), (SPARES, 3, 0), (SPARES, 8, 0), (PARITY, 3, 2), (PARITY, 1, 1), (PARITY, 8, 4))
 
 
@@ -112,12 +113,13 @@ def checks(arguments):
                 name = CALLS[at % len(CALLS)]
                 label = '%s with %s, %d %% lost' % (name, settings_text(settings), 100 * loss)
                 yield label, lambda n=name, s=settings, l=loss: heard(arguments.calls, n, s, l)
+        for name, loss in REPLAYED:
+            yield 'replayed: %s, %d %% dropped' % (name, 100 * loss), lambda n=name, l=loss: replayed(arguments.calls, n, l)
         yield from joined.checks(arguments.calls)
     if arguments.program:
-        for name in DATAGRAMS:
-            for loss in (0, 0.1, 0.4):
-                label = 'through the program: %s, %d %% lost' % (name, 100 * loss)
-                yield label, lambda n=name, l=loss: through_the_program(arguments.program, n, l)
+        for name, loss in REPLAYED:
+            label = 'through the program: %s, %d %% lost' % (name, 100 * loss)
+            yield label, lambda n=name, l=loss: through_the_program(arguments.program, n, l)
 
 
 def self_test():
@@ -130,6 +132,7 @@ def self_test():
                         ('sending', lambda c: sent_as_recorded(c, spares)), ('conversation', lambda c: heard(c, call, settings, 0.3))):
         badly_ended(test, name, check, right)
     badly_ended(test, 'program', lambda c: through_the_program(c, spares, 0.4), program)
+    test.passes('replay', replayed, right, spares, 0.4)
     for name, check, how, words in (
             ('a datagram read otherwise', lambda c: datagrams_back(c, spares), 'calls 03 -1', 'answer 1 is not the expected one'),
             ('a datagram written otherwise', lambda c: datagrams_back(c, spares), 'calls 04 -1', 'line 2: written back as '),
@@ -164,6 +167,13 @@ def self_test():
             ('a packet', 'program 00 6', ' was sent as '),
             ('a number given up', 'program 03 5', 'given up: ')):
         test.fails('program, ' + name, words, through_the_program, altered(how), spares, 0.4)
+    for name, how, words in (
+            ('refused', 'calls 40 0', 'not replayed: 10000000'),
+            ('a count', 'calls 40 9', 'the counts are 000000'),
+            ('a kind', 'calls 40 43', 'result 11'),
+            ('a number', 'calls 40 53', 'released: 1 in place of 0'),
+            ('a packet', 'calls 40 55', 'number 0 was sent as ')):
+        test.fails('replay, ' + name, words, replayed, altered(how), spares, 0.4)
     test.fails('program, a packet never released', '0 of 1 numbers released', check_results, [], packets[:1])
     test.fails('program, one too many', 'number 0 is released, and 0 were sent', check_results, [b'00000006'], [])
     joined.self_test(test)

@@ -1,6 +1,6 @@
 """The arguments of a line of the calls program."""
 
-CAP_LIMIT = 2600
+CAP_LIMITS = {2: 2600, 4: 120000}  # by the octets that a cap takes
 
 
 class NoCall(Exception):
@@ -39,18 +39,18 @@ class Arguments:
         call_if(value in values)
         return value
 
-    def sized(self):
-        """Octets behind their length [2]."""
-        return self.take(self.number(2))
+    def sized(self, width=2):
+        """Octets behind their length."""
+        return self.take(self.number(width))
 
-    def numbers(self, width):
-        """Numbers behind their count [1]."""
-        return [self.number(width) for _ in range(self.number(1))]
+    def numbers(self, width, count_width=1):
+        """Numbers behind their count."""
+        return [self.number(width) for _ in range(self.number(count_width))]
 
-    def last_cap(self):
+    def last_cap(self, width=2):
         """The size of the lent buffer, the last argument."""
-        cap = self.number(2)
-        call_if(cap <= CAP_LIMIT)
+        cap = self.number(width)
+        call_if(cap <= CAP_LIMITS[width])
         self.end()
         return cap
 
@@ -64,6 +64,6 @@ def shown(value, width):
     return value.to_bytes(width, 'big')
 
 
-def sized(octets):
-    """Octets behind their length [2]."""
-    return shown(len(octets), 2) + octets
+def sized(octets, width=2):
+    """Octets behind their length."""
+    return shown(len(octets), width) + octets

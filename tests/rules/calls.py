@@ -2,6 +2,7 @@
 
 import binascii
 
+from .answers import lent, packet_read, shown_counts, stored
 from .arguments import Arguments, NoCall, shown, sized
 from .datagrams import M_LIMIT, PARITY, SPARES, read_datagram, write_datagram
 from .joining import Joiner
@@ -11,32 +12,10 @@ from .packets import DATA_PACKET, INDICATOR, read_packet, write_packet
 from .pencil import read_by_bits
 from .receiving import AFTER, BEFORE, Receiving
 from .refusals import Refusal
+from .replaying import replay
 from .sending import Sending
 
-LINE_LIMIT = 16000
-FILLING = b'\xA5'
-
-
-def lent(cap, call, size_width=2):
-    """The answer of a call with a lent buffer; the call gives what is shown before the size, and the octets written."""
-    try:
-        before, octets = call()
-    except Refusal as refusal:
-        return refusal.octets() + FILLING * cap
-    return b'\x00' + before + shown(len(octets), size_width) + octets.ljust(cap, FILLING)
-
-
-def stored(item):
-    """A stored packet, message or frame: its length as it stands, and its octets as far as there are any."""
-    return shown(item.length, 2) + item.bytes()
-
-
-def packet_read(reader, arguments):
-    """The answer of a reader of packets."""
-    repaired = arguments.one_of(0, 1)
-    packet = reader(arguments.rest(), repaired)
-    return (bytes([0, packet.kind, packet.value, len(packet.fields)])
-            + b''.join(shown(field_type, 1) + sized(data) for field_type, data in packet.fields))
+LINE_LIMIT = 240000
 
 
 class Calls:
@@ -52,7 +31,7 @@ class Calls:
             0x11: self.offer, 0x12: self.next, 0x13: self.give_up, 0x14: self.counts, 0x15: self.view, 0x16: self.many_given_up,
             0x17: self.overwrite_receiving, 0x20: self.fresh_sending, 0x21: self.send, 0x22: self.many_sent,
             0x23: self.overwrite_sending, 0x30: self.fresh_joiner, 0x31: self.field, 0x32: self.lost, 0x33: self.show_joiner,
-            0x34: self.overwrite_joiner}
+            0x34: self.overwrite_joiner, 0x40: self.replay}
 
     def answer(self, line):
         """The answer to a line that is not empty, without its line feed."""
@@ -146,7 +125,7 @@ class Calls:
     def counts(self, arguments):
         """14."""
         arguments.end()
-        return b'\x00' + b''.join(shown(count, 4) for count in self.receiving.counts.values())
+        return b'\x00' + shown_counts(self.receiving.counts.values())
 
     def view(self, arguments):
         """15."""
@@ -230,6 +209,16 @@ class Calls:
         """34."""
         overwrite_joiner(self.joiner, arguments)
         return b'\x00'
+
+    def replay(self, arguments):
+        """40."""
+        numbers, trace = arguments.numbers(2, 2), arguments.sized(4)
+        cap = arguments.last_cap(4)
+
+        def call():
+            counts, octets = replay(numbers, trace, cap)
+            return shown_counts(counts), octets
+        return lent(cap, call, size_width=4)
 
 
 def answer_all(lines, calls=None):

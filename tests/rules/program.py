@@ -28,12 +28,7 @@ class Program:
         """Offers the line's datagram; an empty line is one give-up, which has a result line."""
         if not line:
             return [bytes([LOST_LINE]) + self.session.give_up().to_bytes(2, 'big')]
-        refuse_if(len(line) > LINE_LIMIT, OVERLONG)
-        try:
-            octets = binascii.unhexlify(line)
-        except binascii.Error:
-            raise Refusal(SETTINGS)
-        self.session.offer(octets)
+        self.session.offer(octets_of(line))
         return []
 
     def released(self):
@@ -46,6 +41,21 @@ class Program:
                 assert refusal.number in (BASE_UNKNOWN, LIMIT)
                 return lines
             lines.append(bytes([state - RECEIVED]) + number.to_bytes(2, 'big') + octets)
+
+
+def octets_of(line):
+    """The octets that a line has in hexadecimal."""
+    refuse_if(len(line) > LINE_LIMIT, OVERLONG)
+    try:
+        return binascii.unhexlify(line)
+    except binascii.Error:
+        raise Refusal(SETTINGS)
+
+
+def lines_of(text):
+    """The lines of a text; only a line feed ends one, and a last one without it counts unless it is empty."""
+    lines = text.split(b'\n')
+    return lines if lines[-1] else lines[:-1]
 
 
 def results_of(lines):

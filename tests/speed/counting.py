@@ -16,22 +16,29 @@ RUN = str(pathlib.Path(__file__).resolve().parents[1] / 'run')
 PLAIN_LOOPS = 'glibc.cpu.x86_rep_movsb_threshold=1000000000:glibc.cpu.x86_rep_stosb_threshold=1000000000'
 
 
-def watched(tool, program, lines):
+def watched(tool, program, lines, arguments=()):
     """Runs a program under valgrind's tool; what valgrind says."""
     for needed in ('valgrind', 'addr2line', 'objdump'):
         if not shutil.which(needed):
             sys.exit('%s is not here' % needed)
     environment = {**os.environ, 'COUNTER': 'valgrind ' + tool, 'GLIBC_TUNABLES': PLAIN_LOOPS, 'LD_BIND_NOW': '1'}
-    ran = subprocess.run([RUN, program], input=lines, stdout=subprocess.DEVNULL, stderr=subprocess.PIPE, env=environment)
+    ran = subprocess.run([RUN, program, *arguments], input=lines, stdout=subprocess.DEVNULL, stderr=subprocess.PIPE, env=environment)
     if ran.returncode:
         sys.exit('not counted: %s ended with status %d' % (program, ran.returncode))
     return ran.stderr.decode()
 
 
-def whole(program, lines):
+def whole(program, lines, arguments=()):
     """All instructions of a run."""
-    said = watched('--tool=callgrind --callgrind-out-file=/dev/null', program, lines)
+    said = watched('--tool=callgrind --callgrind-out-file=/dev/null', program, lines, arguments)
     return int(re.search(r'Collected\s*:\s*(\d+)', said).group(1))
+
+
+def same_code(program, lines):
+    """`calls` built anew takes as many instructions as the proved one, but for one in a thousand: their paths and stacks differ."""
+    proved, anew = (whole(one, lines) for one in ('calls', program))
+    if abs(proved - anew) * 1000 > proved:
+        sys.exit('the program built anew takes %d instructions, the proved one %d: ./calls builds it again' % (anew, proved))
 
 
 def is_called(pattern, name):

@@ -49,22 +49,23 @@ pub fn sized<'a>(s: &'a [u8], at: &mut usize, width: usize) -> &'a [u8] {
     &s[..0]
 }
 
-// Numbers of two octets behind their count, which is of one octet, to the front of out. How many they are.
-pub fn numbers(s: &[u8], at: &mut usize, out: &mut [u16; 256]) -> usize {
-    let count = octet(s, at) as usize;
+// Numbers of two octets behind their count, which is of so many octets, to the front of out. How many they are.
+pub fn numbers(s: &[u8], at: &mut usize, width: usize, out: &mut [u16]) -> usize {
+    let count = number(s, at, width) as usize;
     let mut i = 0;
     while i < count {
         let n = number(s, at, 2);
-        let place = i % 256;
-        out[place] = (n % 65536) as u16;
+        let place = i;
         i += 1;
+        if place < out.len() {
+            out[place] = (n % 65536) as u16;
+        }
     }
     count
 }
 
 // So many numbers from the front, or none where there are fewer.
-pub fn first(numbers: &[u16; 256], count: usize) -> &[u16] {
-    let all = &numbers[..];
+pub fn first(all: &[u16], count: usize) -> &[u16] {
     if count <= all.len() {
         let start = 0;
         return &all[start..count];

@@ -101,7 +101,7 @@ fn write_datagram(s: &[u8], lent: &mut [u8]) {
     let packet = sized(s, &mut at, 2);
     let kind = octet(s, &mut at);
     let n = octet(s, &mut at);
-    let count = numbers(s, &mut at, &mut lengths);
+    let count = numbers(s, &mut at, 1, &mut lengths);
     let data = sized(s, &mut at, 2);
     let named = (kind == PARITY) | (kind == SPARES) & (n == 0);
     if named & (at == s.len()) {
@@ -183,7 +183,7 @@ fn write_packet(s: &[u8], lent: &mut [u8]) {
     let kind = octet(s, &mut at);
     let value = octet(s, &mut at);
     let types = sized(s, &mut at, 1);
-    let count = numbers(s, &mut at, &mut lengths);
+    let count = numbers(s, &mut at, 1, &mut lengths);
     let data = sized(s, &mut at, 2);
     if (kind < 2) & (at == s.len()) {
         let listed = first(&lengths, count);

@@ -5,7 +5,7 @@ use call_lines::part;
 pub const BLOCK: usize = 65536;
 
 // The characters that a line has at most.
-const LIMIT: usize = 16000;
+const LIMIT: usize = 240000;
 
 // What is kept of a line: one more, by which one that is too long is known.
 pub const KEPT: usize = LIMIT + 1;

@@ -3,6 +3,7 @@
 mod input;
 mod joiner;
 mod receiver;
+mod replay;
 mod sender;
 mod session;
 
@@ -41,6 +42,7 @@ fn shape_of(call: u8) -> Shape {
         0x01 | 0x03 | 0x05 | 0x07 | 0x11 => Shape(ANY, 0),
         0x02 => Shape(2, 2),
         0x04 | 0x06 | 0x21 | 0x31 => Shape(ANY, 2),
+        0x40 => Shape(ANY, 4),
         0x10 | 0x13 | 0x14 | 0x15 | 0x20 | 0x30 | 0x32 | 0x33 => Shape(0, 0),
         0x12 => Shape(0, 2),
         0x16 | 0x22 => Shape(4, 0),
@@ -117,6 +119,10 @@ fn answered(held: Held, line: &[u8; KEPT], count: usize, all: &mut [u8]) -> Held
     let size = size_of(call, octets.len());
     let cap = cap_of(octets, size);
     if size != NONE {
+        if call == 0x40 {
+            replay::answer(part(octets, 1, size), cap);
+            return held;
+        }
         if cap <= all.len() {
             let start = 0;
             return called(held, call, part(octets, 1, size), &mut all[start..cap]);
@@ -126,17 +132,22 @@ fn answered(held: Held, line: &[u8; KEPT], count: usize, all: &mut [u8]) -> Held
     held
 }
 
-// One line of the input, answered unless it is empty.
-fn turn(held: Held, block: &mut [u8; BLOCK], at: &mut usize, end: &mut usize) -> Held {
-    let mut line = [0u8; KEPT];
-    let mut octets = [0u8; KEPT];
+// One line of the input, answered unless it is empty. What stood in line and octets before does not matter.
+fn turn(
+    held: Held,
+    block: &mut [u8; BLOCK],
+    at: &mut usize,
+    end: &mut usize,
+    line: &mut [u8; KEPT],
+    octets: &mut [u8; KEPT],
+) -> Held {
     let mut all = [FILLING; CAP];
-    let size = read_line(block, at, end, &mut line);
+    let size = read_line(block, at, end, line);
     if size == 0 {
         return held;
     }
-    let count = octets_of(&line, size, &mut octets);
-    let after = answered(held, &octets, count, &mut all);
+    let count = octets_of(line, size, octets);
+    let after = answered(held, octets, count, &mut all);
     io::write_all(1, b"\n");
     after
 }
@@ -151,13 +162,15 @@ fn main() {
         joiner,
     };
     let mut block = [0u8; BLOCK];
+    let mut line = [0u8; KEPT];
+    let mut octets = [0u8; KEPT];
     let mut at = 0;
     let mut end = 0;
     // Nothing says that the input ends, so the turns are counted down from a number that no run uses up.
     let mut turns = u64::MAX;
     while turns > 0 {
         turns -= 1;
-        let after = turn(held, &mut block, &mut at, &mut end);
+        let after = turn(held, &mut block, &mut at, &mut end, &mut line, &mut octets);
         held = after;
         if end == 0 {
             return;

@@ -2,6 +2,7 @@
 use Rattle.sending.proofs.Claims as sending
 use Rattle.frames.proofs.Claims as frames
 use Rattle.frame_feed.proofs.Claims as frameFeed
+use Rattle.replays.proofs.Claims as replays
 use Rattle.demands.specs.Claims.{Claims}
 use Rattle.demands.proofs.Demand1.{demand-1}
 use Rattle.demands.proofs.Demand2.{demand-2}
@@ -31,4 +32,5 @@ claims =
       wholeFrames = frames.claims;
       framesFromSession = frameFeed.claims;
       secondReader = second-reader;
+      replay = replays.claims;
     }

@@ -13,6 +13,7 @@ use Rattle.sending.proofs.Claims as sending
 use Rattle.lines.proofs.Claims as lines
 use Rattle.frames.proofs.Claims as frames
 use Rattle.frame_feed.proofs.Claims as frameFeed
+use Rattle.replays.proofs.Claims as replays
 use Rattle.demands.specs.OneOutcome.{OneWrite, OneOutcome}
 use Rattle.demands.proofs.OneTold.{one-told}
 use Rattle.demands.proofs.OneInside.{one-inside}
@@ -38,6 +39,7 @@ one-outcome =
       program = lines.claims .oneOutcome;
       joiner = frames.claims .oneOutcome;
       frameFeed = frameFeed.claims .oneOutcome;
+      replay = replays.claims .oneOutcome;
       told = one-told;
       inside = one-inside;
     }

@@ -1,6 +1,12 @@
 -- Two answers of a call that only tells something are one: its promise is an equation with a function of what was given. Assumes
 -- nothing.
+use Prim.Native.Nat.{ℕ, _≤_, _<_}
 use mathlib.Core.Path.{_≡_, sym, _∙_}
+use mathlib.Core.List.{List}
+use mathlib.Core.Logic.{⊎-elim}
+use native.Mathlib.Omega.{arith}
+use Rattle.octets.proofs.Laws.{below-or-not}
+use Rattle.lines.specs.FeedPromise.{Found}
 use Rattle.demands.specs.OneTold.{ToldByLengths, ToldByDatagrams, ToldByPackets, ToldByPacketReader, ToldByStores, ToldByHeld}
 use Rattle.demands.specs.OneTold.{ToldBySending, ToldByLines, ToldByFrames, OneTold}
 
@@ -77,6 +83,11 @@ by-held =
 by-sending : ToldBySending
 by-sending = record { senderLimit = told-one; historyKept = told-one; historyOctets = told-one; slotOf = λ number. told-one }
 
+-- no line feed is found behind another
+no-later : (s : List ℕ) {r q : ℕ} → Found s r → Found s q → r ≤ q
+no-later s {r} {q} a b =
+    ⊎-elim (λ before. absurd (a .begun .plain q before (b .feed (omega (arith, a .begun .inside))))) (λ so. so) (below-or-not q r)
+
 by-lines : ToldByLines
 by-lines =
     record {
@@ -85,6 +96,7 @@ by-lines =
       stepLimit = told-one;
       allDigits = λ line. told-one;
       kindOctet = λ kind. told-one;
+      findFeed = λ s r q a b. let up = no-later s a b in let down = no-later s b a in omega arith;
     }
 
 by-frames : ToldByFrames

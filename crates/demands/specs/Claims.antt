@@ -2,6 +2,7 @@
 use Rattle.sending.specs.Claims as sending
 use Rattle.frames.specs.Claims as frames
 use Rattle.frame_feed.specs.Claims as frameFeed
+use Rattle.replays.specs.Claims as replays
 use Rattle.demands.specs.Demand1.{Demand1}
 use Rattle.demands.specs.Demand2.{Demand2}
 use Rattle.demands.specs.Demand3.{Demand3}
@@ -35,3 +36,5 @@ pub record Claims : Type 0 where
   pub framesFromSession : frameFeed.Claims
   -- document 02, request 4: the second reader of packets agrees with the quick one
   pub secondReader : SecondReader
+  -- document 02, request 6: a trace played again with chosen losses; of what it releases demand 3 is not claimed
+  pub replay : replays.Claims

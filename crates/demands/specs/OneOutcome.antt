@@ -21,6 +21,7 @@ use Rattle.sessions.specs.Claims as sessions
 use Rattle.lines.specs.Claims as lines
 use Rattle.frames.specs.Claims as frames
 use Rattle.frame_feed.specs.Claims as frameFeed
+use Rattle.replays.specs.Claims as replays
 use Rattle.demands.specs.OneTold.{One, OneTold}
 use Rattle.demands.specs.OneInside.{OneInside}
 
@@ -39,7 +40,8 @@ pub record Writers : Type 0 where
 -- all public calls of the library: `read`, `read_within` and `write` of `lengths`, `read` and `write` of `datagram_reader` and
 -- `datagram_writer`, of `packet_reader` and `packet_writer`, `read` of `pencil_reader`; `Session::fresh`, `offer`, `next` and `give_up`;
 -- `Sender::fresh`, `in_ranges` and `send`; the program's `hex_to_octets`, `step`, `take_block` and `finish`; `Joiner::fresh`, `field` and
--- `lost` of `frame_joiner`, `turns` and `feed` of `frame_feed`; those that only tell; and those that serve callers inside this repository
+-- `lost` of `frame_joiner`, `turns` and `feed` of `frame_feed`; `replay` of `replaying`, whose `replay_line` owes of its own line what
+-- `step` owes; those that only tell; and those that serve callers inside this repository
 pub record OneOutcome : Type 0 where
   pub lengths : lengths.OneOutcome
   pub datagrams : datagrams.OneOutcome
@@ -51,5 +53,6 @@ pub record OneOutcome : Type 0 where
   pub program : lines.OneOutcome
   pub joiner : frames.OneOutcome
   pub frameFeed : frameFeed.OneOutcome
+  pub replay : replays.OneOutcome
   pub told : OneTold
   pub inside : OneInside

@@ -34,6 +34,7 @@ use Rattle.lines.specs.Hex as hex
 use Rattle.lines.specs.Feed as feed
 use Rattle.lines.specs.Lines as lines
 use Rattle.lines.specs.Promise as steps
+use Rattle.lines.specs.FeedPromise.{Found}
 
 -- two answers that a promise allows are one
 abbrev pub One : {A : Type 0} → (A → Type 0) → Type 0
@@ -114,13 +115,15 @@ pub record ToldBySending : Type 0 where
   pub historyOctets : One (λ (r : ℕ). r ≡ sender.historyOctets)
   pub slotOf : (number : ℕ) → One (λ (r : ℕ). r ≡ number % history.historyKept)
 
--- `lines`: `limit`, `kept_limit` and `step_limit` of `Line`; `hexadecimal`: `all_digits`; `line_steps`: `kind_octet`
+-- `lines`: `limit`, `kept_limit` and `step_limit` of `Line`; `hexadecimal`: `all_digits`; `line_steps`: `kind_octet`; `line_blocks`:
+-- `find_feed`
 pub record ToldByLines : Type 0 where
   pub lineLimit : One (λ (r : ℕ). r ≡ hex.lineLimit)
   pub keptLimit : One (λ (r : ℕ). r ≡ feed.keptLimit)
   pub stepLimit : One (λ (r : ℕ). r ≡ steps.stepLimit)
   pub allDigits : (line : List ℕ) → One (λ (r : Bool). r ≡ hex.allDigits line)
   pub kindOctet : (kind : State) → One (λ (r : ℕ). r ≡ lines.kindOctet (table.stateOf kind))
+  pub findFeed : (s : List ℕ) → One (Found s)
 
 -- `frames`: `limit` of `Joiner`
 pub record ToldByFrames : Type 0 where

@@ -45,7 +45,7 @@ fn find_from(s: &[u8], from: usize) -> usize
 }
 
 // Where the first line feed is; the length if there is none.
-fn find_feed(s: &[u8]) -> usize
+pub fn find_feed(s: &[u8]) -> usize
     ensures { λ r. ⌜ Found (now (s .entry)) r ⌝ }
 {
     let mut at = 0;
@@ -69,7 +69,7 @@ fn least(a: usize, b: usize) -> usize
 }
 
 // Characters put after the line that has begun: of one that is too long no more is kept than shows it.
-fn keep_line(line: &mut [u8], begun: usize, more: &[u8]) -> usize
+pub fn keep_line(line: &mut [u8], begun: usize, more: &[u8]) -> usize
     requires { ⌜ LineIn (now line) begun ⌝ }
     ensures { λ r. ⌜ LineKept (now (line .entry)) begun (now (more .entry)) (now (line .exit)) r ⌝ }
 {
@@ -84,7 +84,7 @@ fn keep_line(line: &mut [u8], begun: usize, more: &[u8]) -> usize
 }
 
 // The lent line with no line begun: zeros.
-fn clear_line(line: &mut [u8], begun: usize)
+pub fn clear_line(line: &mut [u8], begun: usize)
     requires { ⌜ LineIn (now line) begun ⌝ }
     ensures { λ _. ⌜ LineIn (now (line .exit)) 0 ⌝ }
 {

@@ -3,3 +3,4 @@ mod Stepping
 mod ReleaseLoop
 mod Offering
 mod StepLaws
+pub mod Laws

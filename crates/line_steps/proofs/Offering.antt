@@ -76,7 +76,7 @@ line-fits line octets e =
     omega (arith, ltb-false lineLimit (length line) (short .0), ap length same, length-octetsIn line)
 
 -- what hex_to_octets says of a line's octets, with room for a datagram
-read-octets : (x : Answer (List ℕ)) (size : ℕ) (old new : List ℕ) → ((l : List ℕ) → x ≡ done l → length l ≤ length old)
+pub read-octets : (x : Answer (List ℕ)) (size : ℕ) (old new : List ℕ) → ((l : List ℕ) → x ≡ done l → length l ≤ length old)
     → done size ≡ sizeOf (fitted x old) → new ≡ over (fitted x old) old → (x ≡ done (take size new)) × (size ≤ length new)
 read-octets (done l) size old new fits e lent =
     let room = le-leb (length l) (length old) (fits l refl) in
@@ -87,7 +87,7 @@ read-octets (done l) size old new fits e lent =
     (ap (λ (s : List ℕ). done s) (sym front), omega (arith, ap length all, length-append l (drop (length l) old)))
 read-octets (refused r) size old new fits e lent = let z : _≡_ {A = ℕ} 0 1 = cc in absurd (omega arith)
 
-read-refused : (x : Answer (List ℕ)) (why : Refusal) (old : List ℕ) → ((l : List ℕ) → x ≡ done l → length l ≤ length old)
+pub read-refused : (x : Answer (List ℕ)) (why : Refusal) (old : List ℕ) → ((l : List ℕ) → x ≡ done l → length l ≤ length old)
     → refused why ≡ sizeOf (fitted x old) → x ≡ refused why
 read-refused (done l) why old fits e =
     let bad : refused why ≡ done (length l) = rw (le-leb (length l) (length old) (fits l refl)) at e in

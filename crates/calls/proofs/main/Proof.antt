@@ -4,10 +4,10 @@ use Rattle.calls.proofs.main.Statement.{statement}
 use Rattle.calls.proofs.main.Tie as tie
 
 abbrev Inv-loop : tie.InvT-loop
-Inv-loop held₀ block₀ at₀ end₀ turns₀ held block at end turns = Unit {0}
+Inv-loop held₀ block₀ line₀ octets₀ at₀ end₀ turns₀ held block line octets at end turns = Unit {0}
 
 abbrev μ-loop : tie.MeasureT-loop
-μ-loop held₀ block₀ at₀ end₀ turns₀ held block at end turns = turns
+μ-loop held₀ block₀ line₀ octets₀ at₀ end₀ turns₀ held block line octets at end turns = turns
 
 fresh-requires : tie.Need-fresh-requires Inv-loop μ-loop
 fresh-requires c κs = search needs

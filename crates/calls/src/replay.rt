@@ -1,0 +1,75 @@
+// Line 40: a trace played again with chosen losses.
+use call_lines::CAP;
+use call_lines::FILLING;
+use call_lines::first;
+use call_lines::numbers;
+use call_lines::part;
+use call_lines::say;
+use call_lines::say_all;
+use call_lines::say_no_call;
+use call_lines::say_refused;
+use call_lines::sized;
+use held::Counts;
+use replays::Replayed;
+
+// The characters that its lent buffer has at most.
+const LONGEST: usize = 120000;
+
+// More numbers than a line can list.
+const NUMBERS: usize = 65536;
+
+// A lent buffer, as much at a time as one line of the others has.
+fn say_long(lent: &[u8]) {
+    let mut at = 0;
+    while at < lent.len() {
+        let left = lent.len() - at;
+        if left < CAP {
+            say_all(part(lent, at, left));
+            return;
+        }
+        say_all(part(lent, at, CAP));
+        at += CAP;
+    }
+}
+
+fn say_counts(counts: Counts) {
+    say(counts.received, 4);
+    say(counts.spare, 4);
+    say(counts.repaired, 4);
+    say(counts.lost, 4);
+}
+
+fn say_replayed(answer: Replayed) {
+    match answer {
+        Replayed::Done { counts, size } => {
+            say(0, 1);
+            say_counts(counts);
+            say((size % 4294967296) as u32, 4);
+        }
+        Replayed::Refused(why) => say_refused(why),
+    }
+}
+
+// The replay with the front of a buffer to lend.
+fn replayed(trace: &[u8], listed: &[u16], cap: usize, all: &mut [u8]) {
+    if cap <= all.len() {
+        let start = 0;
+        let answer = replaying::replay(trace, listed, &mut all[start..cap]);
+        say_replayed(answer);
+        return say_long(part(all, 0, cap));
+    }
+    say_no_call()
+}
+
+// The numbers to drop behind their count, and the trace behind its length.
+pub fn answer(s: &[u8], cap: usize) {
+    let mut listed = [0u16; NUMBERS];
+    let mut all = [FILLING; LONGEST];
+    let mut at = 0;
+    let count = numbers(s, &mut at, 2, &mut listed);
+    let trace = sized(s, &mut at, 4);
+    if at == s.len() {
+        return replayed(trace, first(&listed, count), cap, &mut all);
+    }
+    say_no_call()
+}

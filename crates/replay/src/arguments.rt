@@ -1,0 +1,111 @@
+// The numbers to drop, as they stand in the arguments: in decimal, or `0x` and hexadecimal digits.
+use crate::telling::say;
+
+// As many numbers as there are.
+pub const MOST: usize = 65536;
+
+// No count: an argument is wrong.
+pub const NONE: usize = usize::MAX;
+
+// The characters of an argument that are looked at.
+const LONGEST: usize = 32;
+
+// No digit, and no number.
+const NO_DIGIT: u32 = 16;
+
+const NO_NUMBER: u32 = 65536;
+
+fn digit(c: u8) -> u32 {
+    match c {
+        b'0'..=b'9' => (c - b'0') as u32,
+        b'A'..=b'F' => (c - b'A') as u32 + 10,
+        b'a'..=b'f' => (c - b'a') as u32 + 10,
+        _ => NO_DIGIT,
+    }
+}
+
+// A number with one digit more; more than a number is none.
+fn more(n: u32, digit: u32, base: u32) -> u32 {
+    if (base <= digit) | (NO_NUMBER <= n) {
+        return NO_NUMBER;
+    }
+    if base == 16 {
+        return n % NO_NUMBER * 16 + digit % 16;
+    }
+    n % NO_NUMBER * 10 + digit % 16
+}
+
+// The number in some digits of a base; at least one.
+fn number(digits: &[u8], base: u32) -> u32 {
+    if digits.len() == 0 {
+        return NO_NUMBER;
+    }
+    let mut n = 0;
+    let mut i = 0;
+    while i < digits.len() {
+        let next = digit(digits[i]);
+        n = more(n, next, base);
+        i += 1;
+    }
+    n
+}
+
+fn number_in(text: &[u8]) -> u32 {
+    if text.len() < 2 {
+        return number(text, 10);
+    }
+    if (text[0] == b'0') & ((text[1] == b'x') | (text[1] == b'X')) {
+        return number(&text[2..], 16);
+    }
+    number(text, 10)
+}
+
+// The number in an argument, NO_NUMBER where it is none, which is said.
+fn number_at(at: usize) -> u32 {
+    let mut text = [0u8; LONGEST];
+    let size = os::arg(at, &mut text);
+    if os::errno() == 0 {
+        let n = number_in(&text[..size]);
+        if n < NO_NUMBER {
+            return n;
+        }
+        say(b"replay: ");
+        say(&text[..size]);
+        say(b" is no number to drop: 0 to 65535 in decimal, or 0x and hexadecimal digits\n");
+        return NO_NUMBER;
+    }
+    say(b"replay: an argument is too long for a number\n");
+    NO_NUMBER
+}
+
+// The numbers in the arguments behind the trace, to the front of out: how many they are, NONE where one is wrong.
+pub fn numbers(out: &mut [u16; MOST]) -> usize {
+    let last = os::arg_count();
+    let mut at = 2;
+    let mut count = 0;
+    while at < last {
+        let n = number_at(at);
+        if n == NO_NUMBER {
+            return NONE;
+        }
+        if count == MOST {
+            say(b"replay: more than 65536 numbers\n");
+            return NONE;
+        }
+        let place = count % MOST;
+        out[place] = (n % NO_NUMBER) as u16;
+        count = place + 1;
+        at += 1;
+    }
+    count
+}
+
+// So many numbers from the front, or none where there are fewer.
+pub fn first(numbers: &[u16; MOST], count: usize) -> &[u16] {
+    let all = &numbers[..];
+    if count <= all.len() {
+        let start = 0;
+        return &all[start..count];
+    }
+    &all[..0]
+}

@@ -1,0 +1,65 @@
+// The program for a salesman's question, document 02, request 6: `replay TRACE NUMBER..` plays a recorded trace again without the
+// datagrams of these numbers. The lines go to standard output, the four counts to standard error. The trace is read block by block and
+// may have any length; whether a line is dropped and what it comes to is what `replaying::replay_line` answers.
+mod arguments;
+mod playing;
+mod telling;
+
+use arguments::MOST;
+use arguments::NONE;
+use arguments::first;
+use held::Session;
+use telling::say;
+
+fn usage() {
+    say(b"usage: replay TRACE NUMBER..\n");
+    say(
+        b"TRACE is a file of lines in hexadecimal, one datagram a line, an empty line a give-up;\n",
+    );
+    say(
+        b"NUMBER is a datagram's number to drop, 0 to 65535 in decimal, or 0x and hexadecimal digits\n",
+    );
+}
+
+// The trace in a file.
+fn replay(path: &[u8], numbers: &[u16]) {
+    let file = os::open_read(path);
+    if file < 0 {
+        return os::fail(path);
+    }
+    let session = Session::fresh();
+    let base = session.base;
+    let counts = session.counts;
+    let mut table = session.table;
+    let mut octets = session.octets;
+    let mut messages = session.messages;
+    let told = playing::play(
+        file,
+        path,
+        base,
+        counts,
+        &mut table,
+        &mut octets,
+        &mut messages,
+        numbers,
+    );
+    libc::close(file);
+    if told.well {
+        let last = told.counts;
+        telling::say_counts(last);
+    }
+}
+
+fn main() {
+    let mut path = io::buffer();
+    let mut numbers = [0u16; MOST];
+    let size = os::arg(1, &mut path);
+    if os::errno() != 0 {
+        return usage();
+    }
+    let count = arguments::numbers(&mut numbers);
+    if count == NONE {
+        return;
+    }
+    replay(&path[..size], first(&numbers, count))
+}

@@ -1,0 +1,6 @@
+mod Listing
+mod Fronts
+mod Taking
+mod Laying
+mod Loop
+mod Whole

@@ -1,0 +1,34 @@
+-- The cases of a replay, each computed. Assumes nothing.
+use mathlib.Core.Path.{refl}
+use Rattle.lengths.specs.Tables.{unless}
+use Rattle.octets.specs.Place.{tab, allBelow}
+use Rattle.lengths.specs.Length.{lengthAt, allowed, lengthWithin}
+use Rattle.datagrams.specs.Read.{itemAt, itemsAt, endOf, sparesAt, extraAt, numberOf, wholeOf, readDatagram, carriedBy}
+use Rattle.views.specs.Repair.{firstUsable, repairF, repair}
+use Rattle.views.specs.Held.{messagesOf, messagesInRow, heldMessages}
+use Rattle.views.specs.View.{freshView, goneOn}
+use Rattle.views.specs.Offer.{keep, keepSpares, accept, offered, offer}
+use Rattle.views.specs.Release.{next, giveUp}
+use Rattle.lines.specs.Hex.{digitOf, digitFor, allDigits, octetsIn, lineOctets, hexOf}
+use Rattle.lines.specs.Lines.{resultLine, refusalLine, releasesF, lineOffered, offerLine, answerLine, step, linesFrom, steps, program}
+use Rattle.lines.specs.Text.{characters}
+use Rattle.replays.specs.Replay.{numberIn, listed, dropped, replayStep, replaySteps, replay}
+use Rattle.replays.specs.Cases.{Cases}
+
+pub cases : Cases
+unfolding unless characters program steps linesFrom step answerLine offerLine lineOffered releasesF resultLine refusalLine
+    lineOctets octetsIn allDigits digitOf hexOf digitFor next giveUp offer offered accept keep keepSpares freshView goneOn
+    messagesOf messagesInRow heldMessages repair repairF firstUsable readDatagram wholeOf numberOf extraAt sparesAt endOf
+    itemsAt itemAt lengthWithin allowed carriedBy lengthAt tab allBelow numberIn listed dropped replayStep replaySteps replay
+cases =
+    record {
+      give-up = refl;
+      two-dropped = refl;
+      two-counted = refl;
+      second-listed = refl;
+      cut-short = refl;
+      not-paired = refl;
+      no-release = refl;
+      last-line = refl;
+      in-time = refl;
+    }

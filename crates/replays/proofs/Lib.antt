@@ -1,0 +1,9 @@
+mod TraceLines
+mod Dropping
+mod Front
+mod Rest
+mod Lists
+mod OneOutcome
+pub mod Laws
+pub mod Cases
+pub mod Claims

@@ -1,0 +1,4 @@
+pub mod Replay
+pub mod Promise
+pub mod Cases
+pub mod Claims

@@ -1,0 +1,35 @@
+-- What the replay owes, a record which its contract cites, and what each case of its answer is. Definitions only.
+use Prim.Native.Nat.{ℕ}
+use mathlib.Core.Path.{_≡_}
+use mathlib.Core.List.{List}
+use lib.ListN.{length}
+use Rattle.lengths.specs.Answers.{Answer, done, refused, mapped, fitted, over}
+use Rattle.views.specs.View.{Counts}
+use Rattle.held.specs.Table.{countsOf}
+use Rattle.lines.specs.Lines.{Made}
+use Rattle.replays.specs.Replay.{replay}
+use Rattle.replays.specs.declared.Replayed.{Replayed}
+use Rattle.replays.specs.declared.Replayed.the-variants as replayed
+
+-- "returns the four counts", and how many characters were written
+pub record Told : Type 0 where
+  pub counts : Counts
+  pub size : ℕ
+
+-- each case of the answer, in document 01's number and values
+abbrev pub replayedOutcome : Replayed → Answer Told
+replayedOutcome (replayed.Done counts size) = done (record { counts = countsOf counts; size = size })
+replayedOutcome (replayed.Refused why) = refused why
+
+-- "13, the lines don't fit"
+abbrev pub fittedText : Made → List ℕ → Answer (List ℕ)
+fittedText made old = fitted (done (made .text)) old
+
+-- the text, or 13, as the call answers it
+abbrev pub toldOf : Made → Answer (List ℕ) → Answer Told
+toldOf made text = mapped (λ (t : List ℕ). record { counts = made .after .counts; size = length t }) text
+
+-- its answer, and all the lent characters: "nothing is written" where it is refused
+pub record Replays (trace numbers old new : List ℕ) (r : Replayed) : Type 0 where
+  pub answer : replayedOutcome r ≡ toldOf (replay numbers trace) (fittedText (replay numbers trace) old)
+  pub lent : new ≡ over (fittedText (replay numbers trace) old) old

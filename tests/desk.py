@@ -1,0 +1,17 @@
+"""The desk tools of ../tools, as they are or with an edit. A part of lines_of.py and loss_table.py."""
+
+import pathlib
+
+TOOLS = pathlib.Path(__file__).resolve().parent.parent / 'tools'
+
+
+def edited(directory, name, old, new):
+    """The tools in a folder of their own, one of their files with an edit; the folder."""
+    for path in TOOLS.iterdir():
+        if path.is_file():
+            text = path.read_text()
+            if path.name == name:
+                assert text.count(old) == 1, (name, old)
+                text = text.replace(old, new)
+            (pathlib.Path(directory) / path.name).write_text(text)
+    return pathlib.Path(directory)

@@ -1,0 +1,248 @@
+#!/usr/bin/env python3
+"""The desk tool ../loss: its table must be what the program replay answered, and its picture must show the table.
+
+Also looks at what it has replay play: the trace, the datagrams that it drops, and where it gives up."""
+
+import argparse
+import os
+import pathlib
+import re
+import shlex
+import shutil
+import subprocess
+import sys
+import tempfile
+import xml.etree.ElementTree
+
+from desk import TOOLS, edited
+from failing import Cases
+from loss_edits import EDITS
+from loss_tool import NAME, PYTHON, SPARES, Loss
+from real import Wrong, must
+from running import text_of
+from standing_in import StandingIn, number_of, quick_program
+
+KINDS = b'00', b'01', b'02', b'03'
+WORDS = 'received', 'from a spare copy', 'repaired by parity', 'lost'
+HEAD = re.compile(r' +dropped +datagrams +received +spare +repaired +lost\n')
+SVG = '{http://www.w3.org/2000/svg}'
+NO_TRACE = 'no line of it is a datagram in hexadecimal; tools/lines-of makes a trace of a capture\n'
+PLAYED = 'datagrams sent, 0 to 30 % of them dropped in bursts of 1 to 5 (seed 1); a number is given up when one 8 later was heard'
+MIDDLE = 'it begins with number 32, and a call with 0: it was not recorded from the start\n'
+
+
+def counted(loss):
+    """Each row has what the program answered, as many datagrams as were dropped, and the counts that the independent program has."""
+    for name, lines in (('spares', loss.spares), ('parity', loss.parity)):
+        ran = loss.table(lines, '--steps', '3')
+        must(HEAD.search(ran.written), '%s: no head', name)
+        percents = [row[0] for row in ran.rows]
+        must(percents == [0, 10, 20, 30] and len(ran.calls) == 4, '%s: rows of %s, %d calls', name, percents, len(ran.calls))
+        for (percent, dropped, *counts), call in zip(ran.rows, ran.calls):
+            where = '%s, %g %%' % (name, percent)
+            told = [sum(result[:2] == kind for result in call.results) for kind in KINDS]
+            must(counts == told, '%s: %s, answered %s', where, counts, told)
+            program = quick_program()
+            for line in call.lines:
+                if number_of(line) not in call.numbers:
+                    program.results(line)
+            must(counts == list(program.session.counts.values()), '%s: %s is not as the independent program has it', where, counts)
+            listed = sum(number_of(line) in call.numbers for line in call.lines)
+            must(dropped == listed == round(len(lines) * percent / 100), '%s: %d dropped, %d listed', where, dropped, listed)
+            must(sum(counts) == len(lines), '%s: %d numbers of %d left', where, sum(counts), len(lines))
+    return '8 rows'
+
+
+def without_options(loss):
+    """As a salesman calls it: 16 rows, and what was played."""
+    ran = loss.table(loss.parity)
+    must([row[0] for row in ran.rows] == list(range(0, 32, 2)), 'rows of %s', [row[0] for row in ran.rows])
+    first = ran.written.splitlines()[0]
+    must(first == '%d %s' % (len(loss.parity), PLAYED) and first in ran.picture, 'told as %s', first)
+
+
+def nothing_dropped(loss):
+    """With nothing dropped all is received and nothing lost."""
+    for lines in (loss.spares, loss.parity):
+        first = loss.table(lines, '--steps', '1').rows[0]
+        must(first == [0, 0, len(lines), 0, 0, 0], 'at 0 %%: %s', first)
+
+
+def dropped_in_bursts(loss):
+    """Datagrams are dropped 1 to 5 in a row, with one between two; each step drops the same and more."""
+    calls = loss.table(loss.parity, '--steps', '3', '--seed', 'b').calls
+    for before, call in zip([calls[0]] + calls, calls):
+        must(set(before.numbers) <= set(call.numbers), 'dropped before, and then not: %s', set(before.numbers) - set(call.numbers))
+    runs = ''.join('x' if number in calls[-1].numbers else ' ' for number in range(len(loss.parity))).split()
+    lengths = {len(run) for run in runs}
+    must({1, 5} <= lengths <= {1, 2, 3, 4, 5}, 'bursts of %s', lengths)
+    return '%d bursts' % len(runs)
+
+
+def given_up(loss):
+    """What is played is the trace, with give-ups exactly where a number is late; at the end all numbers have left."""
+    for lines, patience in ((loss.spares, 1), (loss.parity, 8), (loss.parity, 31)):
+        for call in loss.table(lines, '--steps', '2', '--patience', str(patience)).calls:
+            must([line for line in call.lines if line] == lines, 'another trace is played')
+            last = max(at for at, line in enumerate(call.lines) if line)
+            program, highest = quick_program(), -1
+            for at, line in enumerate(call.lines):
+                late = highest - program.session.total() >= patience
+                must(late or line or at > last, 'patience %d, line %d: given up too early', patience, at)
+                must(not (late and line), 'patience %d, line %d: given up too late', patience, at)
+                if number_of(line) not in call.numbers:
+                    program.results(line)
+                    highest = max(highest, -1 if not line else number_of(line))
+            must(program.session.total() == len(lines), 'patience %d: %d numbers left', patience, program.session.total())
+
+
+def seeded(loss):
+    """The same seed gives the same table and picture, another one another."""
+    one, same, other = (loss.table(loss.parity, '--steps', '1', '--seed', seed) for seed in ('one', 'one', 'two'))
+    must((one.written, one.picture) == (same.written, same.picture), 'the same seed gives another table')
+    must(one.rows != other.rows and one.calls[-1].numbers != other.calls[-1].numbers, 'another seed gives the same table')
+
+
+def pictured(loss):
+    """The picture is well formed, shows each number of the table in its column, and its areas are as high as the table says."""
+    ran = loss.table(loss.parity, '--steps', '2')
+    must('the picture is in a & b.svg' in ran.said, 'not said where the picture is: %s', ran.said)
+    try:
+        svg = xml.etree.ElementTree.fromstring(ran.picture)
+    except xml.etree.ElementTree.ParseError as wrong:
+        raise Wrong('the picture is not well formed: %s' % wrong)
+    texts = [(float(text.get('y')), float(text.get('x')), text.text) for text in svg.iter(SVG + 'text')]
+    shown = [[words for y, x, words in sorted(texts) if y == height] for height in sorted({y for y, _, _ in texts})]
+    heads = ('dropped by the line', 'datagrams dropped', *WORDS)
+    columns = [['%g %%' % row[0] for row in ran.rows]] + [[str(row[at]) for row in ran.rows] for at in range(1, 6)]
+    for head, column in zip(heads, columns):
+        must([head, *column] in shown, 'not shown: %s, %s', head, column)
+    must('share of all %d packets' % len(loss.parity) in (words for _, _, words in texts), 'the axis is not named')
+    must(any(NAME in words for _, _, words in texts), 'the trace is not named')
+    areas = [[tuple(map(float, point.split(','))) for point in area.get('points').split()] for area in svg.iter(SVG + 'polygon')]
+    scale = (areas[0][-1][1] - areas[-1][0][1]) / len(loss.parity)
+    for kind, area in enumerate(areas):
+        for row, above, below in zip(ran.rows, area[:len(ran.rows)], reversed(area[len(ran.rows):])):
+            must(abs((below[1] - above[1]) - scale * row[2 + kind]) < 0.2, 'the area of %s at %g %%: %s', WORDS[kind], row[0], area)
+    must(len(areas) == 4 and scale > 1, '%d areas', len(areas))
+
+
+def odd_traces(loss):
+    """Lines that do not read, repeated and late datagrams, a gap, empty lines: what reads is dropped or not, and all numbers leave."""
+    lines = [b'', b'no line', b'80'] + SPARES[1:60] + SPARES[20:60] + [b'', b'0002'] + SPARES[100:120] + [SPARES[0]]
+    ran = loss.table(lines, '--steps', '2')
+    for (_, dropped, *counts), call in zip(ran.rows, ran.calls):
+        must([line for line in call.lines if line] == [line for line in lines if line], 'another trace is played')
+        must(sum(counts) == 120, '%s: not 120 numbers', counts)
+        must(sum(result.startswith(b'FF0F') for result in call.results) == 1, 'a line that does not read is not played')
+        listed = sum(number_of(line) in call.numbers for line in lines)
+        must(listed == dropped, '%d dropped, %d listed', dropped, listed)
+    must(ran.rows[0][1:] == [0, 78, 4, 0, 38], 'as recorded: %s', ran.rows[0])
+
+
+def refused(name, loss, lines, words):
+    """What cannot be played is told in words, with status 1."""
+    ran = loss.ran(lines, '--steps', '1')
+    right = ran.status == 1 and not ran.written and words in ran.said and ran.said.count('\n') == 1
+    must(right, '%s: status %d, %s%s', name, ran.status, ran.written, ran.said)
+
+
+def wrong_traces(loss):
+    """Traces that are none, and a part of one."""
+    for name, lines, words in (('no trace', [b'no line', b'80'], NO_TRACE), ('nothing', [], NO_TRACE),
+                               ('the middle of a call', SPARES[32:], MIDDLE)):
+        refused(name, loss, lines, words)
+
+
+def wrong_receive(loss):
+    """A program receive that ends, is not there, or does not give up."""
+    for name, lines, receive, words in (
+            ('receive that ends', SPARES, 'sed -u 5q | ' + loss.receive, 'receive ended before its time\n'),
+            ('receive that is not there', SPARES, 'exit 3', 'receive ended before its time\n'),
+            ('receive that does not give up', SPARES[8:31], loss.receive + ' | sed -u s/^03/FF/', 'receive does not give up: FF0000\n')):
+        refused(name, Loss(receive, loss.replay, loss.tools), lines, words)
+
+
+def wrong_replay(loss):
+    """A program replay that fails, or whose counts, lines or numbers are wrong."""
+    for name, replay, words in (
+            ('replay that fails', 'echo no >&2; exit 3; ', 'replay ended with status 3: no\n'),
+            ('replay that ends badly', 'f() { %s "$@"; exit 3; }; f' % loss.replay, 'status 3: received 160, spare 0, '),
+            ('replay without counts', 'true', 'replay ended with status 0: \n'),
+            ('other counts', loss.replay + ' /dev/null; echo 000000; true', 'replay tells other counts than its lines have\n'),
+            ('too few numbers', loss.replay + ' /dev/null; true', 'replay released or lost 0 numbers of 160\n')):
+        refused(name, Loss(loss.receive, replay, loss.tools), SPARES, words)
+
+
+def proved_first(loss):
+    """Without commands the programs are proved and built first; what is said of that is passed on, and no more."""
+    with tempfile.TemporaryDirectory() as directory:
+        folder = pathlib.Path(directory)
+        shutil.copytree(loss.tools, folder / 'tools', ignore=shutil.ignore_patterns('__pycache__'))
+        for name, text in (('receive', 'echo receive: 1 of 1 proved: receive >&2; exit ${RECEIVE-0}'),
+                           ('replay', '[ "$*" = /dev/null ] && echo received 0, spare 0, repaired 0, lost 0 >&2'),
+                           ('run', 'name=$1; shift; case $name in receive) %s ;; replay) %s "$@" ;; esac' % (loss.receive, loss.replay))):
+            path = folder / ('tests/run' if name == 'run' else name)
+            path.parent.mkdir(exist_ok=True)
+            path.write_text('#!/bin/sh\n%s\n' % text)
+            path.chmod(0o755)
+        (folder / 'a.hex').write_bytes(text_of(SPARES[:9]))
+        for status, said in (('0', 'receive: 1 of 1 proved: receive\nloss: the picture is in a.svg\n'),
+                             ('3', 'receive: 1 of 1 proved: receive\nloss: a.hex: receive cannot be run\n')):
+            ended = subprocess.run([*PYTHON, 'tools/loss.py', '--steps', '1', 'a.hex'], cwd=directory, stdout=subprocess.PIPE,
+                                   stderr=subprocess.PIPE, text=True, env={**os.environ, 'RECEIVE': status})
+            must(ended.stderr == said and ended.returncode == int(status != '0'), 'status %d, %s', ended.returncode, ended.stderr)
+            must(('30 %          3          6 ' in ended.stdout) == (status == '0'), 'written: %s', ended.stdout)
+
+
+CHECKS = {
+    'the table as replay answered': counted, 'without options': without_options, 'nothing dropped': nothing_dropped,
+    'bursts': dropped_in_bursts, 'give-ups': given_up, 'the seed': seeded, 'the picture': pictured, 'odd traces': odd_traces,
+    'traces that are refused': wrong_traces, 'a wrong receive': wrong_receive, 'a wrong replay': wrong_replay,
+    'programs proved first': proved_first}
+
+
+def self_test():
+    """Wrong tools, each one edit of the right one, and what is said of each; the independent program stands in for the programs."""
+    test = Cases('loss_table.py')
+    with tempfile.TemporaryDirectory() as folder:
+        commands = StandingIn(folder).commands()
+        for name, check in CHECKS.items():
+            test.passes(name, check, Loss(*commands, most=60))
+        for name, part, old, new, check, words in EDITS:
+            with tempfile.TemporaryDirectory() as directory:
+                test.fails(name, words, CHECKS[check], Loss(*commands, edited(directory, part, old, new), 60))
+        command = [sys.executable, __file__]
+        test.ends('a wrong tool', 1, '0 passed, 1 failed', [*command, '--receive', commands[0], '--replay', 'false'])
+        test.ends('no command', 2, 'two commands are needed', command)
+    test.end()
+
+
+def main():
+    """Does each check; ends with status 1 at the first that is wrong."""
+    parser = argparse.ArgumentParser(description=__doc__)
+    parser.add_argument('--receive', help='shell command of the program receive')
+    parser.add_argument('--replay', help='shell command of the program replay, before a trace and numbers')
+    parser.add_argument('--tools', type=pathlib.Path, default=TOOLS, help='the folder of the tool under test')
+    parser.add_argument('--self-test', action='store_true', help='check that wrong tools are reported')
+    arguments = parser.parse_args()
+    if arguments.self_test:
+        self_test()
+        return
+    if not (arguments.receive and arguments.replay):
+        parser.error('two commands are needed: --receive and --replay')
+    here = 'cd %s && ' % shlex.quote(os.getcwd())
+    loss = Loss('(%s%s)' % (here, arguments.receive), here + arguments.replay, arguments.tools)
+    for passed, (name, check) in enumerate(CHECKS.items()):
+        try:
+            remark = check(loss)
+        except Wrong as wrong:
+            print('wrong %s: %s' % (name, wrong))
+            print('%d passed, 1 failed' % passed)
+            sys.exit(1)
+        print('ok %s%s' % (name, '; ' + remark if remark else ''), flush=True)
+    print('%d passed, 0 failed' % len(CHECKS))
+
+
+if __name__ == '__main__':
+    main()

@@ -1,0 +1,78 @@
+"""The desk tool ../loss, run over a trace, with what it has replay play. A part of loss_table.py."""
+
+import pathlib
+import re
+import shlex
+import subprocess
+import sys
+import tempfile
+import typing
+
+from desk import TOOLS
+from real import CORPUS, must
+from running import lines_of, text_of
+
+SPARES, PARITY = (lines_of((CORPUS / ('tt_v17_ecm_v0.a2b.%s.hex' % name)).read_bytes()) for name in ('k3', 'n3m2'))
+NAME = 'a & b.hex'
+PYTHON = sys.executable, '-E', '-S'  # it starts sooner so
+ROW = re.compile(r' *([0-9.]+) %' + r' +([0-9]+)' * 5)
+# A shell command that runs another before a trace and numbers, and keeps what that was given and what it answered.
+KEEPING = '''keep() {
+    folder=%s; count=0; [ ! -f "$folder/count" ] || read -r count <"$folder/count"
+    at=$folder/$count; echo $((count + 1)) >"$folder/count"
+    trace=$1; shift; cp "$trace" "$at.trace"; echo "$@" >"$at.numbers"
+    %s "$trace" "$@" >"$at.results"
+    status=$?; cat "$at.results"; return $status
+}
+keep'''
+
+
+class Call(typing.NamedTuple):
+    """A call of replay: the lines that it was given, the numbers to drop, and its results."""
+    lines: list
+    numbers: list
+    results: list
+
+
+def kept(path):
+    """A call of replay, from the file with its results."""
+    given, numbers = path.with_suffix('.trace').read_bytes(), path.with_suffix('.numbers').read_text()
+    return Call(lines_of(given), list(map(int, numbers.split())), lines_of(path.read_bytes()))
+
+
+class Ran(typing.NamedTuple):
+    """A run of loss: its status, the rows of its table, all that it wrote and said, its picture, and the calls of replay."""
+    status: int
+    rows: list
+    written: str
+    said: str
+    picture: str
+    calls: list
+
+
+class Loss:
+    """../loss as its parts stand in a folder, with the programs that it drives, and so many lines of the traces that it is given."""
+
+    def __init__(self, receive, replay, tools=TOOLS, most=None):
+        self.receive, self.replay, self.tools = receive, replay, tools
+        self.spares, self.parity = SPARES[:most], PARITY[:most]
+
+    def ran(self, lines, *options):
+        """One run over a trace of these lines."""
+        with tempfile.TemporaryDirectory() as directory:
+            folder = pathlib.Path(directory)
+            (folder / NAME).write_bytes(text_of(lines))
+            keeping = KEEPING % (shlex.quote(directory), self.replay)
+            command = [*PYTHON, str(self.tools / 'loss.py'), '--receive', self.receive, '--replay', keeping, *options, NAME]
+            ended = subprocess.run(command, cwd=directory, stdout=subprocess.PIPE, stderr=subprocess.PIPE, text=True)
+            matches = map(ROW.fullmatch, ended.stdout.splitlines())
+            rows = [[float(match[1]), *map(int, match.groups()[1:])] for match in matches if match]
+            picture = folder / NAME.replace('.hex', '.svg')
+            calls = [kept(path) for path in sorted(folder.glob('*.results'), key=lambda path: int(path.stem))]
+            return Ran(ended.returncode, rows, ended.stdout, ended.stderr, picture.read_text() if picture.exists() else '', calls)
+
+    def table(self, lines, *options):
+        """One run that must end well."""
+        ran = self.ran(lines, *options)
+        must(ran.status == 0, 'status %d: %s', ran.status, ran.said)
+        return ran

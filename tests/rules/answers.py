@@ -1,0 +1,33 @@
+"""The answers of the calls program: what several of its calls show."""
+
+from .arguments import shown, sized
+from .refusals import Refusal
+
+FILLING = b'\xA5'
+
+
+def lent(cap, call, size_width=2):
+    """The answer of a call with a lent buffer; the call gives what is shown before the size, and the octets written."""
+    try:
+        before, octets = call()
+    except Refusal as refusal:
+        return refusal.octets() + FILLING * cap
+    return b'\x00' + before + shown(len(octets), size_width) + octets.ljust(cap, FILLING)
+
+
+def stored(item):
+    """A stored packet, message or frame: its length as it stands, and its octets as far as there are any."""
+    return shown(item.length, 2) + item.bytes()
+
+
+def shown_counts(counts):
+    """The four counts."""
+    return b''.join(shown(count, 4) for count in counts)
+
+
+def packet_read(reader, arguments):
+    """The answer of a reader of packets."""
+    repaired = arguments.one_of(0, 1)
+    packet = reader(arguments.rest(), repaired)
+    return (bytes([0, packet.kind, packet.value, len(packet.fields)])
+            + b''.join(shown(field_type, 1) + sized(data) for field_type, data in packet.fields))

@@ -1,0 +1,83 @@
+"""The independent program in place of receive and replay, for the self-test of loss_table.py.
+
+Their shell commands ask threads of this process through pipes in a folder: so no run of a program has to start Python."""
+
+import contextlib
+import os
+import pathlib
+import shlex
+import signal
+import sys
+import threading
+
+from independent import lines_of
+from rules.datagrams import read_datagram
+from rules.program import Program
+from rules.refusals import Refusal
+from running import text_of
+
+RECEIVE = '''cd %s && mkfifo $$.in $$.out && echo receive $$ >asked
+cat $$.out & cat >$$.in
+wait; rm $$.in $$.out
+'''
+REPLAY = '''cd %s && mkfifo $$.counts && echo replay $$ "$@" >asked
+read -r counts <$$.counts
+cat $$.results; echo "$counts" >&2
+rm $$.counts $$.results
+'''
+
+
+def number_of(line):
+    """The number of a line's datagram, None if it does not read."""
+    try:
+        return read_datagram(bytes.fromhex(line.decode('ascii'))).number if line else None
+    except (Refusal, ValueError):
+        return None
+
+
+def quick_program():
+    """The program, its session's ranges not looked at: it is never outside them, and they take most of the time."""
+    program = Program()
+    program.session.in_ranges = lambda: True
+    return program
+
+
+class StandingIn:
+    """Both programs as shell commands, in a folder. This process answers them before it ends, where it is told to end too."""
+
+    def __init__(self, folder):
+        signal.signal(signal.SIGTERM, lambda *_: sys.exit(1))
+        self.folder = pathlib.Path(folder)
+        for name, text in (('receive', RECEIVE), ('replay', REPLAY)):
+            (self.folder / name).write_text(text % shlex.quote(folder))
+        os.mkfifo(self.folder / 'asked')
+        threading.Thread(target=self.answer_all, daemon=True).start()
+
+    def commands(self):
+        """The shell commands of receive and of replay."""
+        return tuple('sh %s' % shlex.quote(str(self.folder / name)) for name in ('receive', 'replay'))
+
+    def answer_all(self):
+        """Has each command answered that asks: a line with the program, the name of its pipes, and its arguments."""
+        with os.fdopen(os.open(self.folder / 'asked', os.O_RDWR)) as asked:
+            for line in asked:
+                program, *arguments = line.split()
+                threading.Thread(target={'receive': self.receive, 'replay': self.replay}[program], args=arguments).start()
+
+    def receive(self, name):
+        """The program's results, line by line."""
+        program = quick_program()
+        with open(self.folder / (name + '.in'), 'rb') as given, open(self.folder / (name + '.out'), 'wb', buffering=0) as out:
+            with contextlib.suppress(BrokenPipeError):
+                for line in lines_of(given):
+                    out.write(text_of(program.results(line)))
+
+    def replay(self, name, trace, *numbers):
+        """The program's lines for the trace without the datagrams of these numbers, and the four counts on standard error."""
+        program, dropped = quick_program(), {int(number, 0) for number in numbers}
+        with open(self.folder / (name + '.counts'), 'w') as counts:
+            with open(trace, 'rb') as given, open(self.folder / (name + '.results'), 'wb') as out:
+                for line in lines_of(given):
+                    if number_of(line) not in dropped:
+                        out.write(text_of(program.results(line)))
+            counts.write('received %d, spare %d, repaired %d, lost %d\n' % tuple(program.session.counts.values()))
