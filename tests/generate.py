@@ -12,7 +12,7 @@ from making.script import Full, Script
 SINGLE = (single.lengths, single.datagrams_read, single.datagrams_written, single.packets_read, single.packets_written,
           single.packets_written, single.many_fields, single.round_trips, single.no_calls)
 SESSIONS = (conversations.honest, conversations.dishonest, conversations.sparse_parity, conversations.contested,
-            conversations.contested, edges.blanks, edges.damaged_offers, edges.at_the_limit, edges.sending,
+            conversations.contested, edges.blanks, edges.damaged_offers, edges.skipping, edges.at_the_limit, edges.sending,
             outside.receiving_outside, outside.receiving_outside, outside.overwritten_inside, outside.odd_overwrites,
             outside.sending_outside, outside.sending_outside)
 FRAMES = (frames.honest_row, frames.any_fields, frames.near_the_limit, frames.tainted, frames.outside, frames.overwritten_inside,

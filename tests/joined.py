@@ -21,7 +21,7 @@ LINES = (('tt_v17_ecm_v0.a2b', (SPARES, 0, 0), 0.05), ('tt_v17_ecm_v0.a2b', (SPA
          ('gt_v17_nonecm_v0.a2b', (SPARES, 2, 0), 0.4))
 TOGETHER = (('tt_v17_ecm_v0.a2b', (SPARES, 1, 0), 0.3), ('tt_v17_ecm_v0.b2a', (PARITY, 2, 1), 0.2))
 ROWS, FRAMES_EACH = 20, 12
-REPAIRED = 2
+REPAIRED, LOST = 2, 3
 
 
 def frame_check(octets):
@@ -144,7 +144,7 @@ def bad_line(command, name, settings, loss, packed=lambda packets: packets):
 
     def taken(script, answer):
         """Reads a released packet, as repaired if it was, and feeds its fields; or feeds the lost number."""
-        if len(answer) == 3:
+        if answer[1] == LOST:
             lost.add(len(released))
             script.lost()
         else:

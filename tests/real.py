@@ -78,10 +78,10 @@ def conversation(seed, packets, settings, loss, taken=lambda script, answer: Non
 
 
 def release(script, patience, taken):
-    """Next while the base is known; a give-up once the sender is so far ahead of the base."""
+    """Next while the base is known; with leave to skip once the sender is so far ahead of the base."""
     session = script.receiving
     while True:
         known = session.place(session.base).state != UNKNOWN
         if not known and script.sending.sent - session.total() <= min(patience, AFTER - 1):
             return
-        taken(script, script.next(160) if known else script.give_up())
+        taken(script, script.next(160, not known))

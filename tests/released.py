@@ -18,16 +18,14 @@ def check_conversation(command, script, packets):
     number = 0
     answers = written_by(command, script.lines, script.answers)
     for line, theirs in zip(script.lines, octets_of(answers)):
-        call = line[:2]
-        if call == b'12' and theirs[0] == 0:
-            kind, at, size = (int.from_bytes(part, 'big') for part in (theirs[1:2], theirs[2:4], theirs[4:6]))
-            check_released(kind, number, at, theirs[6:6 + size], packets)
-        elif call == b'13' and theirs[0] == 0:
-            kind = LOST
-            must(int.from_bytes(theirs[1:3], 'big') == number, 'given up: %s in place of %d', theirs.hex(), number)
-        else:
-            must(call not in (b'12', b'13'), 'not released: %s at number %d', theirs.hex(), number)
+        if line[:2] != b'12':
             continue
+        must(theirs[0] == 0, 'not released: %s at number %d', theirs.hex(), number)
+        kind, at, size = (int.from_bytes(part, 'big') for part in (theirs[1:2], theirs[2:4], theirs[4:6]))
+        if kind == LOST:
+            must(at == number and size == 0, 'given up: %s in place of %d', theirs.hex(), number)
+        else:
+            check_released(kind, number, at, theirs[6:6 + size], packets)
         counts[kind] += 1
         number += 1
     must(number == len(packets), '%d of %d numbers released', number, len(packets))

@@ -56,7 +56,7 @@ def of_cutting(test):
     test.says('a right program of lines', '200 lines', '%d lines' % len(cut_lines(independent('program'), lines)))
     test.says('a wrong count', "[b'14']", str(cut_calls(altered('calls 14 9'), calls)))
     test.says('a wrong give-up', "[b'']", str(cut_lines(altered('program 03 5'), lines)))
-    script = [b'10', b'14', b'11000001060000', b'120002', b'11000101070000', b'15', b'11000101080000']
+    script = [b'10', b'14', b'11000001060000', b'12000002', b'11000101070000', b'15', b'11000101080000']
     test.says('FF07 as 00', "[b'11000101070000', b'11000101080000']", str(cut_calls(altered('calls repeated'), text_of(script))))
 
 

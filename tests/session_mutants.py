@@ -35,23 +35,44 @@ SESSION_MUTANTS = (
     ('mark stays', 'receiving', '        self.marks[self.base % AFTER] = Mark()\n', ''),
     ('old packet stays', 'receiving', '        self.places[(self.base + AFTER) % (BEFORE + AFTER)] = Place()\n', ''),
     ('10 before 16', 'receiving',
-     '        refuse_if(self.total() == NUMBERS_LIMIT, LIMIT)\n'
+     '        refuse_if(self.total() == NUMBERS_LIMIT, LIMIT)\n        number, place = self.base, self.place(self.base)\n',
      '        number, place = self.base, self.place(self.base)\n'
-     '        refuse_if(place.state == UNKNOWN, BASE_UNKNOWN)\n',
+     '        refuse_if(place.state == UNKNOWN and not skip, BASE_UNKNOWN)\n'
+     '        refuse_if(self.total() == NUMBERS_LIMIT, LIMIT)\n'),
+    ('13 before 16', 'receiving',
+     '        refuse_if(self.total() == NUMBERS_LIMIT, LIMIT)\n        number, place = self.base, self.place(self.base)\n',
      '        number, place = self.base, self.place(self.base)\n'
-     '        refuse_if(place.state == UNKNOWN, BASE_UNKNOWN)\n'
+     '        refuse_if(place.length > room, NO_ROOM)\n'
      '        refuse_if(self.total() == NUMBERS_LIMIT, LIMIT)\n'),
     ('13 before 10', 'receiving',
-     '        refuse_if(place.state == UNKNOWN, BASE_UNKNOWN)\n',
-     '        refuse_if(room == 0, NO_ROOM)\n        refuse_if(place.state == UNKNOWN, BASE_UNKNOWN)\n'),
-    ('11 before 16', 'receiving',
-     '        refuse_if(self.total() == NUMBERS_LIMIT, LIMIT)\n'
-     '        number = self.base\n'
-     '        refuse_if(self.place(number).state != UNKNOWN, BASE_KNOWN)\n',
-     '        number = self.base\n'
-     '        refuse_if(self.place(number).state != UNKNOWN, BASE_KNOWN)\n'
-     '        refuse_if(self.total() == NUMBERS_LIMIT, LIMIT)\n'),
-    ('a known base is given up', 'receiving', '        refuse_if(self.place(number).state != UNKNOWN, BASE_KNOWN)\n', ''),
+     '            refuse_if(not skip, BASE_UNKNOWN)\n',
+     '            refuse_if(room == 0 and not skip, NO_ROOM)\n            refuse_if(not skip, BASE_UNKNOWN)\n'),
+    ('a loss at the limit', 'receiving',
+     'refuse_if(self.total() == NUMBERS_LIMIT, LIMIT)',
+     'refuse_if(self.total() == NUMBERS_LIMIT and not (skip and self.place(self.base).state == UNKNOWN), LIMIT)'),
+    ('a known base is booked lost with leave', 'receiving',
+     'if place.state == UNKNOWN:\n            refuse', 'if skip or place.state == UNKNOWN:\n            refuse'),
+    ('a known base is refused with leave', 'receiving',
+     '        refuse_if(place.length > room, NO_ROOM)\n', '        refuse_if(skip, 11)\n        refuse_if(place.length > room, NO_ROOM)\n'),
+    ('an unknown base is skipped without leave', 'receiving',  # where the buffer is not that of the program, which would skip on and on
+     'refuse_if(not skip, BASE_UNKNOWN)', 'refuse_if(not skip and room == PACKET_LIMIT, BASE_UNKNOWN)'),
+    ('an unknown base is 10 with leave', 'receiving', 'refuse_if(not skip, BASE_UNKNOWN)', 'refuse_if(True, BASE_UNKNOWN)'),
+    ('leave the other way round', 'receiving',
+     'refuse_if(not skip, BASE_UNKNOWN)', 'refuse_if(skip or room == PACKET_LIMIT, BASE_UNKNOWN)'),
+    ('leave with a short buffer skips', 'receiving',
+     'if place.state == UNKNOWN:\n            refuse', 'if place.state == UNKNOWN or skip and place.length > room:\n            refuse'),
+    ('a loss needs room', 'receiving',
+     '            self.advance(LOST)\n', '            refuse_if(room == 0, NO_ROOM)\n            self.advance(LOST)\n'),
+    ('a loss counted as repaired', 'receiving', 'self.advance(LOST)', 'self.advance(REPAIRED)'),
+    ('a loss as a received packet of no octets', 'receiving', "return LOST, number, b''", "return RECEIVED, number, b''"),
+    ('a loss with the number after', 'receiving', "return LOST, number, b''", "return LOST, self.base, b''"),
+    ('a loss goes on to the next release', 'receiving',
+     "            return LOST, number, b''\n",
+     "            return (LOST, number, b'') if self.place(self.base).state == UNKNOWN else self.next(skip, room)\n"),
+    ('a loss makes the number blank', 'receiving',
+     '            self.advance(LOST)\n', '            place.state = BLANK\n            self.advance(LOST)\n'),
+    ('leave by any octet', 'calls', 'arguments.one_of(0, 1), arguments.last_cap()', 'arguments.number(1), arguments.last_cap()'),
+    ('13 is still a line', 'calls', '0x12: self.next,', '0x12: self.next, 0x13: lambda arguments: self.next(Arguments(bytes([1, 0, 0]))),'),
     ('a packet without room leaves', 'receiving',
      '        refuse_if(place.length > room, NO_ROOM)\n        self.advance(place.state)\n',
      '        self.advance(place.state)\n        refuse_if(place.length > room, NO_ROOM)\n'),

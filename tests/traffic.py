@@ -153,8 +153,9 @@ def self_test():
             ('a kind', 'calls 12 2', 0.3, 'number 0 is released with kind 17'),
             ('a number', 'calls 12 7', 0.3, 'released: 1 in place of 0'),
             ('nothing released', 'calls 12 0', 0.3, 'not released: '),
-            ('a number given up', 'calls 13 5', 0.99, 'given up: '),
-            ('a give-up refused', 'calls 13 0', 0.99, 'not released: '),
+            ('a number given up', 'calls 12 7', 0.99, 'given up: '),
+            ('a size given up', 'calls 12 11', 0.99, 'given up: '),
+            ('a give-up refused', 'calls 12 0', 0.99, 'not released: '),
             ('the counts', 'calls 14 9', 0.3, 'the counts are ')):
         test.fails('conversation, ' + name, words, heard, altered(how), call, settings, loss)
     script = conversation('short', packets, settings, 0)

@@ -119,11 +119,9 @@ def release_some(script, style, everything=False):
     for _ in range(70):
         session = script.receiving
         if session.place(session.base).state != UNKNOWN:
-            if script.chance(0.04):
-                script.give_up()
             length = session.place(session.base).length
             cap = r.choice((160, 160, 160, 160, length, length, max(0, length - 1), length + 1, 0))
-            answer = script.next(cap)
+            answer = script.next(cap, script.chance(0.3))
             if answer[0] == 0xFF and answer[1] != 13:
                 return
         else:
@@ -132,7 +130,7 @@ def release_some(script, style, everything=False):
             behind = sum(session.mark(session.base + d).accepted for d in range(AFTER))
             if not (everything or behind > style.patience) or behind == 0 and script.chance(0.7):
                 return
-            if script.give_up()[0] == 0xFF:
+            if script.give_up(r.choice((0, 0, 1, 160)))[0] == 0xFF:
                 return
 
 
@@ -149,8 +147,8 @@ def dishonest(script):
             script.offer(written_datagram(pieces.datagram(r, number, 0.95)))
             if script.chance(0.1):
                 script.next(160)
-            if script.chance(0.05):
-                script.give_up()
+            if script.chance(0.08):
+                script.give_up(r.choice((0, 1, 160)))
         script.look(0.7)
         release_some(script, style, everything=True)
     script.look(0.5)

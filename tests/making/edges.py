@@ -41,17 +41,30 @@ def blanks(script):
     script.look()
 
 
+def skipping(script):
+    """Next without leave to skip and with it, at known and unknown bases, with room, too little, and none."""
+    r = script.random
+    start(script)
+    for distance in r.sample(range(12), 5):
+        script.offer(written_datagram(pieces.datagram(r, (script.receiving.base + distance) % 65536, 0.95)))
+    for _ in range(16):
+        length = script.receiving.place(script.receiving.base).length
+        script.next(r.choice((0, max(0, length - 1), length, length, length + 2)), script.chance(0.6))
+        script.look(0.1)
+
+
 def at_the_limit(script):
     """The last numbers before 1,000,000: next and give up stop there, offer goes on."""
     r = script.random
     left = r.randrange(4)
     script.call(0x16, shown(r.choice((NUMBERS_LIMIT - left, NUMBERS_LIMIT + r.randrange(3), 0xFFFFFFFF)), 4))
+    script.next(160)
     for distance in r.sample(range(32), 6) + [0, 1]:
         script.offer(written_datagram(pieces.datagram(r, (script.receiving.base + distance) % 65536, 0.95)))
     for _ in range(6):
         script.next(r.choice((0, 160)))
         if script.chance(0.5):
-            script.give_up()
+            script.give_up(r.choice((0, 160)))
     script.look()
     script.call(0x22, shown(r.choice((NUMBERS_LIMIT - left, NUMBERS_LIMIT + 1, 0xFFFFFFFF)), 4))
     for _ in range(5):

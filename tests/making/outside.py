@@ -36,11 +36,11 @@ def furnish(script):
 
 
 def try_all(script, chance_of_view=0.2):
-    """Offer, next and give up, in any order."""
+    """Offer, and next without leave to skip and with it, in any order."""
     r = script.random
     number = (script.receiving.base + r.randrange(14)) % 65536
     tries = [lambda: script.offer(written_datagram(pieces.datagram(r, number, 0.97))), lambda: script.next(r.choice((160, 160, 0))),
-             script.give_up]
+             lambda: script.give_up(r.choice((160, 0)))]
     if script.chance(0.1):
         tries.append(lambda: script.offer(pieces.damaged_datagram(r, number)))
     r.shuffle(tries)

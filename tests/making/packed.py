@@ -2,7 +2,7 @@
 
 from rules.arguments import shown, sized
 from rules.packets import DATA_PACKET, FIELDS_LIMIT, PACKET_LIMIT, Packet, written_packet
-from rules.receiving import REPAIRED
+from rules.receiving import LOST, RECEIVED, REPAIRED
 
 from . import pieces
 from .frames import frame, packets_of
@@ -131,13 +131,14 @@ def carried(script):
         if not script.chance(0.25):
             script.offer(datagram)
     for _ in range(script.sending.sent):
-        answer = script.next()
+        answer = script.next(skip=script.chance(0.5))
         if answer[0] != 0:
-            script.give_up()
+            answer = script.give_up()
+        if answer[1] == LOST - RECEIVED:
             script.lost()
             continue
         packet = answer[6:6 + int.from_bytes(answer[4:6], 'big')]
-        answer = read(script, packet, answer[1] == REPAIRED - 1)
+        answer = read(script, packet, answer[1] == REPAIRED - RECEIVED)
         at = 4
         while at < len(answer):
             size = int.from_bytes(answer[at + 1:at + 3], 'big')

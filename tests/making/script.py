@@ -62,13 +62,13 @@ class Script:
         """11."""
         return self.call(0x11, octets)
 
-    def next(self, cap=160):
-        """12."""
-        return self.call(0x12, shown(cap, 2))
+    def next(self, cap=160, skip=False):
+        """12, without leave to skip or with it."""
+        return self.call(0x12, shown(skip, 1), shown(cap, 2))
 
-    def give_up(self):
-        """13."""
-        return self.call(0x13)
+    def give_up(self, cap=0):
+        """12 with leave to skip."""
+        return self.next(cap, True)
 
     def send(self, packet, kind, a, b, cap=1500):
         """21: the answer, and the datagram if there is one."""

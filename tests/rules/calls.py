@@ -10,7 +10,7 @@ from .lengths import read_length, write_length
 from .overwriting import overwrite_joiner, overwrite_receiving, overwrite_sending
 from .packets import DATA_PACKET, INDICATOR, read_packet, write_packet
 from .pencil import read_by_bits
-from .receiving import AFTER, BEFORE, Receiving
+from .receiving import AFTER, BEFORE, RECEIVED, Receiving
 from .refusals import Refusal
 from .replaying import replay
 from .sending import Sending
@@ -28,7 +28,7 @@ class Calls:
         self.by_first_octet = {
             0x01: self.read_length, 0x02: self.write_length, 0x03: self.read_datagram, 0x04: self.write_datagram,
             0x05: self.read_packet, 0x06: self.write_packet, 0x07: self.read_by_bits, 0x10: self.fresh_receiving,
-            0x11: self.offer, 0x12: self.next, 0x13: self.give_up, 0x14: self.counts, 0x15: self.view, 0x16: self.many_given_up,
+            0x11: self.offer, 0x12: self.next, 0x14: self.counts, 0x15: self.view, 0x16: self.many_given_up,
             0x17: self.overwrite_receiving, 0x20: self.fresh_sending, 0x21: self.send, 0x22: self.many_sent,
             0x23: self.overwrite_sending, 0x30: self.fresh_joiner, 0x31: self.field, 0x32: self.lost, 0x33: self.show_joiner,
             0x34: self.overwrite_joiner, 0x40: self.replay}
@@ -110,17 +110,12 @@ class Calls:
 
     def next(self, arguments):
         """12."""
-        cap = arguments.last_cap()
+        skip, cap = arguments.one_of(0, 1), arguments.last_cap()
 
         def call():
-            state, number, octets = self.receiving.next(cap)
-            return shown(state - 1, 1) + shown(number, 2), octets
+            state, number, octets = self.receiving.next(skip, cap)
+            return shown(state - RECEIVED, 1) + shown(number, 2), octets
         return lent(cap, call)
-
-    def give_up(self, arguments):
-        """13."""
-        arguments.end()
-        return b'\x00' + shown(self.receiving.give_up(), 2)
 
     def counts(self, arguments):
         """14."""

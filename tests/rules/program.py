@@ -7,7 +7,6 @@ from .receiving import RECEIVED, Receiving
 from .refusals import BASE_UNKNOWN, LIMIT, OVERLONG, SETTINGS, Refusal, refuse_if
 
 LINE_LIMIT = 3000
-LOST_LINE = 3
 
 
 class Program:
@@ -27,7 +26,7 @@ class Program:
     def take(self, line):
         """Offers the line's datagram; an empty line is one give-up, which has a result line."""
         if not line:
-            return [bytes([LOST_LINE]) + self.session.give_up().to_bytes(2, 'big')]
+            return [self.result(skip=True)]
         self.session.offer(octets_of(line))
         return []
 
@@ -36,11 +35,15 @@ class Program:
         lines = []
         while True:
             try:
-                state, number, octets = self.session.next(PACKET_LIMIT)
+                lines.append(self.result(skip=False))
             except Refusal as refusal:
                 assert refusal.number in (BASE_UNKNOWN, LIMIT)
                 return lines
-            lines.append(bytes([state - RECEIVED]) + number.to_bytes(2, 'big') + octets)
+
+    def result(self, skip):
+        """One number that leaves: its kind, number and octets."""
+        state, number, octets = self.session.next(skip, PACKET_LIMIT)
+        return bytes([state - RECEIVED]) + number.to_bytes(2, 'big') + octets
 
 
 def octets_of(line):

@@ -2,13 +2,13 @@
 
 from .datagrams import M_LIMIT, MESSAGE_LIMIT, N_LIMIT, PARITY, exclusive_or, members_of, read_datagram
 from .packets import PACKET_LIMIT
-from .refusals import (AHEAD, BASE_KNOWN, BASE_UNKNOWN, LATE, LIMIT, NO_ROOM, RANGES, REPEATED, refuse_if)
+from .refusals import AHEAD, BASE_UNKNOWN, LATE, LIMIT, NO_ROOM, RANGES, REPEATED, refuse_if
 from .stored import Stored
 
 NUMBERS_LIMIT = 1000000
 BEFORE, AFTER = 32, 32
 UNKNOWN, RECEIVED, SPARE, REPAIRED, BLANK = range(5)
-LOST = 4  # the fourth count; the first three go by the states of released packets
+LOST = 4  # the fourth count and kind; the first three go by the states of released packets
 
 
 class Place(Stored):
@@ -117,24 +117,18 @@ class Receiving:
                     return True
         return False
 
-    def next(self, room):
-        """Hands out the packet at the base: its kind, number and octets."""
+    def next(self, skip, room):
+        """Hands out the packet at the base, its kind, number and octets; with leave to skip, an unknown base is booked lost."""
         refuse_if(not self.in_ranges(), RANGES)
         refuse_if(self.total() == NUMBERS_LIMIT, LIMIT)
         number, place = self.base, self.place(self.base)
-        refuse_if(place.state == UNKNOWN, BASE_UNKNOWN)
+        if place.state == UNKNOWN:
+            refuse_if(not skip, BASE_UNKNOWN)
+            self.advance(LOST)
+            return LOST, number, b''
         refuse_if(place.length > room, NO_ROOM)
         self.advance(place.state)
         return place.state, number, place.bytes()
-
-    def give_up(self):
-        """Books an unknown base as lost; its number."""
-        refuse_if(not self.in_ranges(), RANGES)
-        refuse_if(self.total() == NUMBERS_LIMIT, LIMIT)
-        number = self.base
-        refuse_if(self.place(number).state != UNKNOWN, BASE_KNOWN)
-        self.advance(LOST)
-        return number
 
     def advance(self, count):
         """The base goes on by one; the number that leaves drops its mark, the one that comes into view is unknown."""

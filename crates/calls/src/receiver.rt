@@ -4,9 +4,9 @@ use crate::session::gone_on;
 use crate::session::overwritten;
 use crate::session::say_counts;
 use crate::session::say_view;
-use crate::session::state_octet;
 use call_lines::fits;
 use call_lines::number;
+use call_lines::octet;
 use call_lines::row_of;
 use call_lines::say;
 use call_lines::say_all;
@@ -14,7 +14,7 @@ use call_lines::say_done;
 use call_lines::say_no_call;
 use call_lines::say_refused;
 use call_lines::target_of;
-use sessions::Lost;
+use sessions::Kind;
 use sessions::Offered;
 use sessions::Released;
 use sessions::Session;
@@ -35,40 +35,38 @@ fn offer(session: Session, s: &[u8]) -> Session {
     held
 }
 
+fn kind_octet(kind: Kind) -> usize {
+    match kind {
+        Kind::Received => 0,
+        Kind::Spare => 1,
+        Kind::Repaired => 2,
+        Kind::Lost => 3,
+    }
+}
+
 fn say_released(answer: Released) {
     match answer {
         Released::Refused(why) => say_refused(why),
-        Released::Packet { kind, number, size } => {
-            let octet = std::num::wrapping_sub_u8(state_octet(kind), 1);
-            say_done(octet as usize, 1);
+        Released::Number { kind, number, size } => {
+            say_done(kind_octet(kind), 1);
             say(number as u32, 2);
             say((size % 65536) as u32, 2);
         }
     }
 }
 
-// 12: next.
-fn next(session: Session, lent: &mut [u8]) -> Session {
-    let after = sessions::next(session, lent);
+// 12: release, with leave to skip or without.
+fn release(session: Session, s: &[u8], lent: &mut [u8]) -> Session {
+    let mut at = 0;
+    let leave = octet(s, &mut at);
+    if 1 < leave {
+        say_no_call();
+        return session;
+    }
+    let after = sessions::release(session, leave == 1, lent);
     let answer = after.answer;
     say_released(answer);
     say_all(lent);
-    let held = after.session;
-    held
-}
-
-fn say_lost(answer: Lost) {
-    match answer {
-        Lost::Number(number) => say_done(number as usize, 2),
-        Lost::Refused(why) => say_refused(why),
-    }
-}
-
-// 13: give up.
-fn give_up(session: Session) -> Session {
-    let after = sessions::give_up(session);
-    let answer = after.answer;
-    say_lost(answer);
     let held = after.session;
     held
 }
@@ -94,7 +92,7 @@ fn many(times: u32) -> Session {
     let mut session = Session::fresh();
     let mut left = around(times);
     while left > 0 {
-        let after = sessions::give_up(session);
+        let after = sessions::release(session, true, &mut []);
         let next = after.session;
         session = next;
         left -= 1;
@@ -124,8 +122,7 @@ pub fn answer(session: Session, call: u8, s: &[u8], lent: &mut [u8]) -> Session 
     match call {
         0x10 => fresh(),
         0x11 => offer(session, s),
-        0x12 => next(session, lent),
-        0x13 => give_up(session),
+        0x12 => release(session, s, lent),
         0x14 => {
             say_counts(session);
             session

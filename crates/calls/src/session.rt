@@ -8,7 +8,6 @@ use datagrams::Packet;
 use datagrams::Parity;
 use sessions::Counts;
 use sessions::Session;
-use sessions::State;
 
 // The fields of line 17 that stand in the table, and those of octets.
 const STATE: u8 = 5;
@@ -26,16 +25,6 @@ const M: u8 = 10;
 const MESSAGE_SIZE: u8 = 11;
 
 const MESSAGE_OCTET: u8 = 12;
-
-pub fn state_octet(state: State) -> u8 {
-    match state {
-        State::Unknown => 0,
-        State::Received => 1,
-        State::Spare => 2,
-        State::Repaired => 3,
-        State::Blank => 4,
-    }
-}
 
 // The slot of a message of a number.
 fn message_slot(number: u16, message: usize) -> usize {

@@ -19,7 +19,7 @@ use Rattle.views.specs.Held.{heldAt}
 use Rattle.views.specs.View.{View, sum, numbers, sessionLimit, freshView}
 use Rattle.views.specs.Offer as offers
 use Rattle.views.specs.Release as releases
-use Rattle.views.specs.Release.{Release, Loss, viewAfterNext, viewAfterLoss}
+use Rattle.views.specs.Release.{Release, viewAfterRelease}
 use Rattle.views.specs.Ranges.{sumRight, sizeRight, Sound}
 use Rattle.views.proofs.Laws.{held-sizes}
 use Rattle.held.specs.Table.{stateOf, viewOf}
@@ -27,24 +27,21 @@ use Rattle.held.specs.Laid.{sessionInRanges}
 use Rattle.held.specs.Promise.{Fresh}
 use Rattle.held.specs.declared.Session.{Session}
 use Rattle.held.proofs.Laws.{session-in-ranges, in-ranges-true}
-use Rattle.leaving.specs.Outcome.{Handed, releasedOutcome, lostOutcome, handedOf, octetsHanded, numberLost}
+use Rattle.leaving.specs.Outcome.{Handed, releasedOutcome, handedOf, octetsHanded}
 use Rattle.leaving.specs.declared.Released.{Released}
 use Rattle.leaving.specs.declared.Released.the-variants as answer
-use Rattle.leaving.specs.declared.Lost.{Lost}
-use Rattle.leaving.specs.declared.Lost.the-variants as loss
 use Rattle.offering.specs.Outcome.{acceptedOf}
-use Rattle.sessions.specs.Receiver.{SeenAs, After, inRangesThen, offerOf, OfferOwes, nextOf, NextOwes, giveUpOf, GiveUpOwes}
+use Rattle.sessions.specs.Receiver.{SeenAs, After, inRangesThen, offerOf, OfferOwes, releaseOf, ReleaseOwes}
 use Rattle.sessions.specs.declared.receiver.AfterOffer.{AfterOffer}
-use Rattle.sessions.specs.declared.receiver.AfterNext.{AfterNext}
-use Rattle.sessions.specs.declared.receiver.AfterGiveUp.{AfterGiveUp}
+use Rattle.sessions.specs.declared.receiver.AfterRelease.{AfterRelease}
 use Rattle.demands.specs.History as moves
 use Rattle.demands.specs.History.{afterMove}
-use Rattle.demands.specs.Calls.{Call, offer, next, giveUp, Calls, handedOut, givenUp, leftIn}
-use Rattle.demands.specs.Calls.{Called, atStart, offered, asked, gaveUp}
+use Rattle.demands.specs.Calls.{Call, offer, release, Calls, handedOut, leftIn}
+use Rattle.demands.specs.Calls.{Called, atStart, offered, released}
 use Rattle.demands.specs.GoesOn.{moveOf, Says, GoesOn, from, by}
 use Rattle.demands.specs.Demand2.{Saved, Begins, fresh, saved}
 use Rattle.demands.proofs.Ranges.{ViewInRanges}
-use Rattle.demands.proofs.Steps.{leaving, releasedBy, lostBy}
+use Rattle.demands.proofs.Steps.{leaving, releasedBy}
 
 -- ---- a session within its ranges
 pub fresh-seen : (s : Session) → Fresh s → SeenAs freshView s
@@ -111,26 +108,18 @@ module _ {view : View} {s : Session} (seen : SeenAs view s) where
   unfolding offerOf
   offer-is octets = in-ranges-then (offers.offer octets) seen
 
-  pub next-is : (room : ℕ) → nextOf room s ≡ releases.next room view
-  unfolding nextOf
-  next-is room = in-ranges-then (releases.next room) seen
-
-  pub give-up-is : giveUpOf s ≡ releases.giveUp view
-  unfolding giveUpOf
-  give-up-is = in-ranges-then releases.giveUp seen
+  pub release-is : (leave : Bool) (room : ℕ) → releaseOf leave room s ≡ releases.release leave room view
+  unfolding releaseOf
+  release-is leave room = in-ranges-then (releases.release leave room) seen
 
   -- the session after it
   after-offer : (a : Answer View) (t : Session) → After a s t → SeenAs (afterwards a view) t
   after-offer (done v) t state = state
   after-offer (refused why) t state = subst (SeenAs view) (sym state) seen
 
-  after-next : (a : Answer Release) (t : Session) → After (viewAfterNext a) s t → SeenAs (afterwards (viewAfterNext a) view) t
-  after-next (done v) t state = state
-  after-next (refused why) t state = subst (SeenAs view) (sym state) seen
-
-  after-give-up : (a : Answer Loss) (t : Session) → After (viewAfterLoss a) s t → SeenAs (afterwards (viewAfterLoss a) view) t
-  after-give-up (done v) t state = state
-  after-give-up (refused why) t state = subst (SeenAs view) (sym state) seen
+  after-release : (a : Answer Release) (t : Session) → After (viewAfterRelease a) s t → SeenAs (afterwards (viewAfterRelease a) view) t
+  after-release (done v) t state = state
+  after-release (refused why) t state = subst (SeenAs view) (sym state) seen
 
   pub offered-seen : {octets : List ℕ} {r : AfterOffer} → OfferOwes s octets r → SeenAs (afterMove (moves.offer octets) view) (r .session)
   unfolding afterMove
@@ -138,23 +127,17 @@ module _ {view : View} {s : Session} (seen : SeenAs view s) where
       after-offer (offers.offer octets view) (r .session)
       (subst (λ (a : Answer View). After a s (r .session)) (offer-is octets) (owes .state))
 
-  pub asked-seen : {old new : List ℕ} {r : AfterNext} → NextOwes s old new r
-      → SeenAs (afterMove (moves.next (length old)) view) (r .session)
+  pub released-seen : {leave : Bool} {old new : List ℕ} {r : AfterRelease} → ReleaseOwes s leave old new r
+      → SeenAs (afterMove (moves.release leave (length old)) view) (r .session)
   unfolding afterMove
-  asked-seen {old} {new} {r} owes =
-      after-next (releases.next (length old) view) (r .session)
-      (subst (λ (a : Answer Release). After (viewAfterNext a) s (r .session)) (next-is (length old)) (owes .state))
-
-  pub gave-up-seen : {r : AfterGiveUp} → GiveUpOwes s r → SeenAs (afterMove moves.giveUp view) (r .session)
-  unfolding afterMove
-  gave-up-seen {r} owes =
-      after-give-up (releases.giveUp view) (r .session)
-      (subst (λ (a : Answer Loss). After (viewAfterLoss a) s (r .session)) give-up-is (owes .state))
+  released-seen {leave} {old} {new} {r} owes =
+      after-release (releases.release leave (length old) view) (r .session)
+      (subst (λ (a : Answer Release). After (viewAfterRelease a) s (r .session)) (release-is leave (length old)) (owes .state))
 
 -- ---- what the answers hand out
 handed-out : (a : Answer Release) (r : Released) (old : List ℕ) → releasedOutcome r ≡ handedOf a
     → handedOut r (over (octetsHanded a) old) ≡ releasedBy a
-handed-out (done a) (answer.Packet kind number size) old e =
+handed-out (done a) (answer.Number kind number size) old e =
     let same : _≡_ {A = Handed} (record { kind = stateOf kind; number = number; size = size })
     (record { kind = a .kind; number = a .number; size = length (a .octets) }) = cc in
     let word = ap (λ (x : Handed). x .kind) same in
@@ -162,35 +145,27 @@ handed-out (done a) (answer.Packet kind number size) old e =
     let long = ap (λ (x : Handed). x .size) same in
     rw (word, place, long, take-append-seam (a .octets) (drop (length (a .octets)) old))
 handed-out (done a) (answer.Refused why) old e = let z : _≡_ {A = ℕ} 0 1 = cc in absurd (omega arith)
-handed-out (refused x) (answer.Packet kind number size) old e = let z : _≡_ {A = ℕ} 0 1 = cc in absurd (omega arith)
+handed-out (refused x) (answer.Number kind number size) old e = let z : _≡_ {A = ℕ} 0 1 = cc in absurd (omega arith)
 handed-out (refused x) (answer.Refused why) old e = refl
-
-given-up : (a : Answer Loss) (r : Lost) → lostOutcome r ≡ numberLost a → givenUp r ≡ lostBy a
-given-up (done a) (loss.Number number) e = let same : number ≡ a .number = cc in rw same
-given-up (done a) (loss.Refused why) e = let z : _≡_ {A = ℕ} 0 1 = cc in absurd (omega arith)
-given-up (refused x) (loss.Number number) e = let z : _≡_ {A = ℕ} 0 1 = cc in absurd (omega arith)
-given-up (refused x) (loss.Refused why) e = refl
 
 -- what left is what document 01 makes leave
 pub left-is : (view : View) (call : Call) → Says view call → leftIn call ≡ leaving (moveOf call) view
 unfolding leaving
 left-is view (offer octets r) says = refl
-left-is view (next old new r) says = ap (handedOut r) (says .1) ∙ handed-out (releases.next (length old) view) r old (says .0)
-left-is view (giveUp r) says = given-up (releases.giveUp view) r says
+left-is view (release leave old new r) says =
+    ap (handedOut r) (says .1) ∙ handed-out (releases.release leave (length old) view) r old (says .0)
 
 -- ---- chains
 module _ {view : View} {s : Session} (seen : SeenAs view s) where
   offered-says : {octets : List ℕ} {r : AfterOffer} → OfferOwes s octets r → Says view (offer octets (r .answer))
   offered-says {octets} owes = owes .answer ∙ ap acceptedOf (offer-is seen octets)
 
-  asked-says : {old new : List ℕ} {r : AfterNext} → NextOwes s old new r → Says view (next old new (r .answer))
-  asked-says {old} owes = (
-    owes .answer ∙ ap handedOf (next-is seen (length old)),
-    owes .lent ∙ ap (λ (a : Answer Release). over (octetsHanded a) old) (next-is seen (length old)),
+  released-says : {leave : Bool} {old new : List ℕ} {r : AfterRelease} → ReleaseOwes s leave old new r
+      → Says view (release leave old new (r .answer))
+  released-says {leave} {old} owes = (
+    owes .answer ∙ ap handedOf (release-is seen leave (length old)),
+    owes .lent ∙ ap (λ (a : Answer Release). over (octetsHanded a) old) (release-is seen leave (length old)),
   )
-
-  gave-up-says : {r : AfterGiveUp} → GiveUpOwes s r → Says view (giveUp (r .answer))
-  gave-up-says owes = owes .answer ∙ ap numberLost (give-up-is seen)
 
 -- a chain of calls goes on from what the first session holds
 pub record Went (view : View) (calls : Calls) (t : Session) : Type 0 where
@@ -207,19 +182,12 @@ called-went seen (offered {octets = octets} rest owes) =
       seen = offered-seen (w .seen) owes;
       on = by (w .on) (offered-says (w .seen) owes);
     }
-called-went seen (asked {old = old} rest owes) =
+called-went seen (released {leave = leave} {old = old} rest owes) =
     let w = called-went seen rest in
     record {
-      held = afterMove (moves.next (length old)) (w .held);
-      seen = asked-seen (w .seen) owes;
-      on = by (w .on) (asked-says (w .seen) owes);
-    }
-called-went seen (gaveUp rest owes) =
-    let w = called-went seen rest in
-    record {
-      held = afterMove moves.giveUp (w .held);
-      seen = gave-up-seen (w .seen) owes;
-      on = by (w .on) (gave-up-says (w .seen) owes);
+      held = afterMove (moves.release leave (length old)) (w .held);
+      seen = released-seen (w .seen) owes;
+      on = by (w .on) (released-says (w .seen) owes);
     }
 
 -- so the last session holds what document 01 says

@@ -14,6 +14,7 @@ use Rattle.demands.proofs.OneOutcome.{one-outcome}
 use Rattle.demands.proofs.Sheet.{twelve-cases, mended-example}
 use Rattle.demands.proofs.Program.{program-claims}
 use Rattle.demands.proofs.SecondReader.{second-reader}
+use Rattle.demands.proofs.OneCall.{one-call}
 
 pub claims : Claims
 claims =
@@ -33,4 +34,5 @@ claims =
       framesFromSession = frameFeed.claims;
       secondReader = second-reader;
       replay = replays.claims;
+      oneCall = one-call;
     }

@@ -17,12 +17,12 @@ use Rattle.sessions.specs.Receiver.{SeenAs, OfferOwes}
 use Rattle.sessions.specs.declared.receiver.AfterOffer.{AfterOffer}
 use Rattle.sending.specs.Honest.{HonestSender}
 use Rattle.demands.specs.History.{afterMove, offer}
-use Rattle.demands.specs.Feeding.{Near, sentAt, datagramAt, Offers, Fed, fresh, offered, asked, gaveUp, Takes, none, accepted}
+use Rattle.demands.specs.Feeding.{Near, sentAt, datagramAt, Offers, Fed, fresh, offered, released, Takes, none, accepted}
 use Rattle.demands.specs.Feeding.{repeated}
 use Rattle.demands.specs.Demand3.{TwoLists, BurstBack, Demand3}
-use Rattle.demands.proofs.Calling.{fresh-seen, offer-is, offered-seen, asked-seen, gave-up-seen}
+use Rattle.demands.proofs.Calling.{fresh-seen, offer-is, offered-seen, released-seen}
 use Rattle.demands.proofs.FedViews as views
-use Rattle.demands.proofs.FedViews.{FedView, TakesViews, arrives, asks, givesUp}
+use Rattle.demands.proofs.FedViews.{FedView, TakesViews, arrives, releases}
 use Rattle.demands.proofs.Fed.{fed-sound}
 use Rattle.demands.proofs.FedCalls.{call-of, fed-calls, takes-calls}
 use Rattle.demands.proofs.Lists.{views-no-less}
@@ -59,12 +59,9 @@ module _ {row datagrams : List (List ℕ)} where
         seen = offered-seen (b .seen) (call-of o);
         fed = arrives (b .fed) S (o .sent) (subst (Near S) (b .seen .view) (o .near));
       }
-  fed-seen (asked {old = old} f owes) =
+  fed-seen (released {leave = leave} {old = old} f owes) =
       let b = fed-seen f in
-      record { view = _; seen = asked-seen (b .seen) owes; fed = asks (b .fed) (length old) }
-  fed-seen (gaveUp f owes) =
-      let b = fed-seen f in
-      record { view = _; seen = gave-up-seen (b .seen) owes; fed = givesUp (b .fed) }
+      record { view = _; seen = released-seen (b .seen) owes; fed = releases (b .fed) leave (length old) }
 
   -- a list of accepted or repeated datagrams
   module _ {view : View} {s : Session} (seen : SeenAs view s) {S : ℕ} {r : AfterOffer} (o : Offers row datagrams S s r) where

@@ -18,15 +18,15 @@ use Rattle.views.specs.Held.{heldAt}
 use Rattle.views.specs.View.{View, numbers, distance}
 use Rattle.views.specs.Offer as offers
 use Rattle.views.specs.Offer.{accept, acceptedAt, offered, lateFrom}
-use Rattle.views.specs.Release as releases
-use Rattle.views.specs.Release.{Release, Loss, viewAfterNext, viewAfterLoss}
+use Rattle.views.specs.Release.{Release, release, viewAfterRelease}
+use Rattle.views.proofs.Laws.{release-leaves}
 use Rattle.sending.specs.Honest.{HonestSender}
 use Rattle.demands.specs.History as moves
 use Rattle.demands.specs.History.{afterMove, offer}
 use Rattle.demands.specs.Feeding.{placeOf, Near, datagramAt}
 use Rattle.demands.proofs.Ranges.{ViewInRanges}
-use Rattle.demands.proofs.FedViews.{FedView, fresh, arrives, asks, givesUp}
-use Rattle.demands.proofs.Taken.{offer-done, next-done, give-up-done}
+use Rattle.demands.proofs.FedViews.{FedView, fresh, arrives, releases}
+use Rattle.demands.proofs.Taken.{offer-done}
 use Rattle.demands.proofs.Steps.{moved-sum}
 use Rattle.demands.proofs.Sent.{Follows, follows-of}
 use Rattle.demands.proofs.Sound.{Sound, fresh-sound, accept-sound}
@@ -146,21 +146,12 @@ module _ {row datagrams : List (List ℕ)} (honest : HonestSender row datagrams)
     pick (done last) e = took-sound low s (took honest (s .ranges) S low near last e)
     pick (refused why) e = s
 
-  asks-sound : (room : ℕ) → Sound row datagrams (afterMove (moves.next room) view)
+  releases-sound : (leave : Bool) (room : ℕ) → Sound row datagrams (afterMove (moves.release leave room) view)
   unfolding afterMove
-  asks-sound room = pick (releases.next room view) refl where
-    pick : (a : Answer Release) → releases.next room view ≡ a → Sound row datagrams (afterwards (viewAfterNext a) view)
+  releases-sound leave room = pick (release leave room view) refl where
+    pick : (a : Answer Release) → release leave room view ≡ a → Sound row datagrams (afterwards (viewAfterRelease a) view)
     pick (done a) e =
-        let o = next-done room view a e in
-        subst (Sound row datagrams) (sym (o .after)) (on-sound s _ (moved-sum view (s .ranges)))
-    pick (refused why) e = s
-
-  gives-up-sound : Sound row datagrams (afterMove moves.giveUp view)
-  unfolding afterMove
-  gives-up-sound = pick (releases.giveUp view) refl where
-    pick : (a : Answer Loss) → releases.giveUp view ≡ a → Sound row datagrams (afterwards (viewAfterLoss a) view)
-    pick (done a) e =
-        let o = give-up-done view a e in
+        let o = release-leaves leave room view a e in
         subst (Sound row datagrams) (sym (o .after)) (on-sound s _ (moved-sum view (s .ranges)))
     pick (refused why) e = s
 
@@ -168,5 +159,4 @@ pub fed-sound : {row datagrams : List (List ℕ)} → HonestSender row datagrams
     → Sound row datagrams view
 fed-sound {row} {datagrams} honest fresh = fresh-sound row datagrams
 fed-sound honest (arrives f S low near) = arrives-sound honest (fed-sound honest f) S low near
-fed-sound honest (asks f room) = asks-sound honest (fed-sound honest f) room
-fed-sound honest (givesUp f) = gives-up-sound honest (fed-sound honest f)
+fed-sound honest (releases f leave room) = releases-sound honest (fed-sound honest f) leave room

@@ -8,7 +8,7 @@ use Rattle.sessions.specs.Receiver.{OfferOwes}
 use Rattle.sessions.specs.declared.receiver.AfterOffer.{AfterOffer}
 use Rattle.demands.specs.Calls as chain
 use Rattle.demands.specs.Calls.{Calls, start, _then_, Called, offer, leftBy}
-use Rattle.demands.specs.Feeding.{datagramAt, Offers, Fed, fresh, offered, asked, gaveUp, Takes, none, accepted, repeated}
+use Rattle.demands.specs.Feeding.{datagramAt, Offers, Fed, fresh, offered, released, Takes, none, accepted, repeated}
 use Rattle.demands.specs.FedCalls as fed
 use Rattle.demands.specs.FedCalls.{CameBy, Offering, CameOn}
 use Rattle.demands.proofs.Calling.{fresh-seen, called-on}
@@ -26,8 +26,7 @@ module _ {row datagrams : List (List ℕ)} where
   pub fed-calls : {s : Session} → Fed row datagrams s → (calls : Calls) × CameBy calls s
   fed-calls (fresh f) = (start, came-by f chain.atStart)
   fed-calls (offered f o) = let c = fed-calls f in (_, came-by (c .1 .fresh) (chain.offered (c .1 .called) (call-of o)))
-  fed-calls (asked f owes) = let c = fed-calls f in (_, came-by (c .1 .fresh) (chain.asked (c .1 .called) owes))
-  fed-calls (gaveUp f owes) = let c = fed-calls f in (_, came-by (c .1 .fresh) (chain.gaveUp (c .1 .called) owes))
+  fed-calls (released f owes) = let c = fed-calls f in (_, came-by (c .1 .fresh) (chain.released (c .1 .called) owes))
 
   -- ---- a list of accepted or repeated datagrams
   came-on : {calls : Calls} {S : ℕ} {places : List ℕ} {s t : Session} {r : AfterOffer} → CameBy calls s → Offers row datagrams S s r

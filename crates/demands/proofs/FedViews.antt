@@ -1,13 +1,14 @@
 -- A session that an honest sender alone feeds, as document 01 sees it: demand 3 is proved of these views. Definitions only.
 use Prim.Native.Nat.{ℕ, _<_}
 use mathlib.Core.Path.{_≡_}
+use mathlib.Core.Bool.{Bool}
 use mathlib.Core.List.{List, [], _∷_}
 use lib.ListN.{length}
 use Rattle.lengths.specs.Refusals as refusals
 use Rattle.lengths.specs.Answers.{done, refuse}
 use Rattle.views.specs.View.{View, freshView}
 use Rattle.views.specs.Offer as offers
-use Rattle.demands.specs.History.{afterMove, offer, next, giveUp}
+use Rattle.demands.specs.History.{afterMove, offer, release}
 use Rattle.demands.specs.Feeding.{Near, datagramAt}
 
 module _ (row datagrams : List (List ℕ)) where
@@ -15,8 +16,7 @@ module _ (row datagrams : List (List ℕ)) where
     fresh : FedView freshView
     arrives : {view : View} → FedView view → (S : ℕ) → S < length row → Near S view
         → FedView (afterMove (offer (datagramAt datagrams S)) view)
-    asks : {view : View} → FedView view → (room : ℕ) → FedView (afterMove (next room) view)
-    givesUp : {view : View} → FedView view → FedView (afterMove giveUp view)
+    releases : {view : View} → FedView view → (leave : Bool) (room : ℕ) → FedView (afterMove (release leave room) view)
 
   -- a list of accepted or repeated datagrams
   pub data TakesViews : List ℕ → View → View → Type 0 where

@@ -1,26 +1,26 @@
 -- What is known is never written over: call by call, each of which leaves what is known as it is, or makes the number at the base
--- leave, released with its kind and octets if it is known. Assumes nothing.
+-- leave with its kind and octets. Assumes nothing.
 use Prim.Native.Nat.{ℕ, suc, _+_, _-_, _%_, _≤_, _<_}
 use mathlib.Core.Path.{_≡_, refl, sym, ap, ap₂, subst, _∙_}
 use mathlib.Core.Logic.{⊎-elim}
-use mathlib.Core.Bool.{true≢false}
 use mathlib.Core.List.{List, [], _∷_, _++_, append-nil}
 use lib.ListN.{length, length-append, getD, List·getD-append}
 use lib.Seq.{getD-at}
 use native.Mathlib.Omega.{arith}
 use Rattle.octets.proofs.Laws.{below-or-not}
 use Rattle.lengths.specs.Answers.{Answer, done, refused, afterwards}
-use Rattle.views.specs.Cells.{Cell, isUnknown, cellAt, unknownAt, keptBefore, keptNumbers}
-use Rattle.views.specs.Reached.{Known, Unknown}
+use Rattle.views.specs.Cells.{unknown, Cell, isUnknown, cellAt, keptBefore, keptNumbers}
+use Rattle.views.specs.Reached.{Known}
 use Rattle.views.specs.View.{View, Counts, numbers, goneOn}
 use Rattle.views.specs.Offer as offers
 use Rattle.views.specs.Release as releases
-use Rattle.views.specs.Release.{Release, Loss, atBase, viewAfterNext, viewAfterLoss}
+use Rattle.views.specs.Release.{Release, atBase, viewAfterRelease}
+use Rattle.views.proofs.Laws.{release-leaves}
 use Rattle.held.specs.Table.{viewOf}
 use Rattle.held.specs.declared.Session.{Session}
 use Rattle.sessions.specs.Receiver.{SeenAs}
 use Rattle.demands.specs.History as moves
-use Rattle.demands.specs.History.{Move, Left, released, lost, afterMove}
+use Rattle.demands.specs.History.{Move, Left, leftAs, afterMove}
 use Rattle.demands.specs.Calls.{Call, Calls, Called, leftIn, leftBy}
 use Rattle.demands.specs.GoesOn.{moveOf, GoesOn, from, by}
 use Rattle.demands.specs.Demand2.{StaysKnown}
@@ -28,16 +28,15 @@ use Rattle.demands.proofs.Ranges.{ViewInRanges}
 use Rattle.demands.proofs.Growing.{grown-known}
 use Rattle.demands.proofs.Shifted.{cell-on}
 use Rattle.demands.proofs.InRanges.{grown-accept}
-use Rattle.demands.proofs.Steps.{leaving, releasedBy, lostBy}
-use Rattle.demands.proofs.Taken.{offer-done, next-done, give-up-done}
+use Rattle.demands.proofs.Steps.{leaving, releasedBy}
+use Rattle.demands.proofs.Taken.{offer-done}
 use Rattle.demands.proofs.Leaving.{on-ranges, went}
 use Rattle.demands.proofs.Calling.{seen-ranges, left-is, called-went, called-on}
 
 -- ---- one call
 data Does (view : View) : List Left → View → Type 0 where
   stays : {last : View} → ((p : ℕ) → Known (view .cells) p → cellAt (last .cells) p ≡ cellAt (view .cells) p) → Does view [] last
-  hands : (counts : Counts) → Does view (released ((atBase view) .state) (view .base) ((atBase view) .octets) ∷ []) (goneOn counts view)
-  loses : (counts : Counts) → Unknown (view .cells) keptBefore → Does view (lost (view .base) ∷ []) (goneOn counts view)
+  leaves : (counts : Counts) → Does view (leftAs ((atBase view) .state) (view .base) ((atBase view) .octets) ∷ []) (goneOn counts view)
 
 does : (move : Move) (view : View) → Does view (leaving move view) (afterMove move view)
 unfolding afterMove leaving
@@ -47,13 +46,9 @@ does (moves.offer octets) view = pick (offers.offer octets view) refl where
       let o = offer-done octets view last e in
       subst (Does view []) (o .is) (stays (grown-known (grown-accept _ _ view)))
   pick (refused why) e = stays (λ p known. refl)
-does (moves.next room) view = pick (releases.next room view) refl where
-  pick : (a : Answer Release) → releases.next room view ≡ a → Does view (releasedBy a) (afterwards (viewAfterNext a) view)
-  pick (done a) e = let o = next-done room view a e in rw (o .kind, o .number, o .octets, o .after) (hands _)
-  pick (refused why) e = stays (λ p known. refl)
-does moves.giveUp view = pick (releases.giveUp view) refl where
-  pick : (a : Answer Loss) → releases.giveUp view ≡ a → Does view (lostBy a) (afterwards (viewAfterLoss a) view)
-  pick (done a) e = let o = give-up-done view a e in rw (o .number, o .after) (loses _ (o .unknown))
+does (moves.release leave room) view = pick (releases.release leave room view) refl where
+  pick : (a : Answer Release) → releases.release leave room view ≡ a → Does view (releasedBy a) (afterwards (viewAfterRelease a) view)
+  pick (done a) e = let o = release-leaves leave room view a e in rw (o .kind, o .number, o .octets, o .after) (leaves _)
   pick (refused why) e = stays (λ p known. refl)
 
 -- ---- one number, from call to call
@@ -74,9 +69,8 @@ module _ {view : View} {p : ℕ} (small : p < keptNumbers) (known : Known (view 
         → StaysKnown view left last p
     keeps-stays same = record { stays = λ low. same (p - length left) (still low) ∙ k .stays low; leaves = k .leaves }
 
-    -- the number at the base left; if it is this one, it was released as it was known
-    module _ (r : ViewInRanges held) (x : Left)
-        (is : Known (held .cells) keptBefore → x ≡ released ((atBase held) .state) (held .base) ((atBase held) .octets))
+    -- the number at the base left, as it stood there
+    module _ (r : ViewInRanges held) (x : Left) (is : x ≡ leftAs ((atBase held) .state) (held .base) ((atBase held) .octets))
         (base : held .base ≡ (view .base + length left) % numbers) where
       long : length (left ++ (x ∷ [])) ≡ length left + 1
       long = length-append left (x ∷ [])
@@ -90,14 +84,13 @@ module _ {view : View} {p : ℕ} (small : p < keptNumbers) (known : Known (view 
           ∙ k .stays (omega (arith, long))
 
       leaves-now : p ≡ keptBefore + length left
-          → x ≡ released ((cellAt (view .cells) p) .state) ((view .base + (p - keptBefore)) % numbers) ((cellAt (view .cells) p) .octets)
+          → x ≡ leftAs ((cellAt (view .cells) p) .state) ((view .base + (p - keptBefore)) % numbers) ((cellAt (view .cells) p) .octets)
       leaves-now at =
           let here : p - length left ≡ keptBefore = omega arith in
           let cell : atBase held ≡ cellAt (view .cells) p = ap (cellAt (held .cells)) (sym here) ∙ k .stays (omega arith) in
           let turn : held .base ≡ (view .base + (p - keptBefore)) % numbers =
           base ∙ ap (λ (n : ℕ). (view .base + n) % numbers) (let same : length left ≡ p - keptBefore = omega arith in same) in
-          is (subst (Known (held .cells)) here (still (omega arith)))
-          ∙ ap₂ (λ (c : Cell) (n : ℕ). released (c .state) n (c .octets)) cell turn
+          is ∙ ap₂ (λ (c : Cell) (n : ℕ). leftAs (c .state) n (c .octets)) cell turn
 
       keeps-left : (counts : Counts) → StaysKnown view (left ++ (x ∷ [])) (goneOn counts held) p
       keeps-left counts =
@@ -105,10 +98,10 @@ module _ {view : View} {p : ℕ} (small : p < keptNumbers) (known : Known (view 
             stays = goes-on counts;
             leaves = λ past low.
                 ⊎-elim
-                (λ before. List·getD-append left (x ∷ []) (lost 0) (p - keptBefore) (omega arith) ∙ k .leaves past before)
+                (λ before. List·getD-append left (x ∷ []) (leftAs unknown 0 []) (p - keptBefore) (omega arith) ∙ k .leaves past before)
                 (λ now.
                 let at : p ≡ keptBefore + length left = omega (arith, long) in
-                getD-at left x [] (lost 0) (p - keptBefore) (omega arith) ∙ leaves-now at)
+                getD-at left x [] (leftAs unknown 0 []) (p - keptBefore) (omega arith) ∙ leaves-now at)
                 (below-or-not p (keptBefore + length left));
           }
 
@@ -116,8 +109,7 @@ module _ {view : View} {p : ℕ} (small : p < keptNumbers) (known : Known (view 
   keeps-by : {left more : List Left} {held last : View} → StaysKnown view left held p → ViewInRanges held
       → held .base ≡ (view .base + length left) % numbers → Does held more last → StaysKnown view (left ++ more) last p
   keeps-by {left} k r base (stays same) = rw (append-nil left) (keeps-stays k same)
-  keeps-by k r base (hands counts) = keeps-left k r _ (λ now. refl) base counts
-  keeps-by k r base (loses counts unknown) = keeps-left k r _ (λ now. absurd (true≢false (sym unknown ∙ now))) base counts
+  keeps-by k r base (leaves counts) = keeps-left k r _ refl base counts
 
   -- ---- chains
   pub keeps : {calls : Calls} {held : View} → ViewInRanges view → GoesOn view calls held → StaysKnown view (leftBy calls) held p

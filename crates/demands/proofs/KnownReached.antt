@@ -13,22 +13,21 @@ use Rattle.views.specs.Reached.{Known}
 use Rattle.views.specs.View.{View, Counts, sum, freshView, goneOn}
 use Rattle.views.specs.Offer as offers
 use Rattle.views.specs.Release as releases
-use Rattle.views.specs.Release.{Release, Loss, viewAfterNext, viewAfterLoss}
+use Rattle.views.specs.Release.{Release, viewAfterRelease}
+use Rattle.views.proofs.Laws.{release-leaves}
 use Rattle.held.specs.Table.{stateOf}
-use Rattle.leaving.specs.Outcome.{releasedOutcome, lostOutcome, handedOf, numberLost}
+use Rattle.leaving.specs.Outcome.{releasedOutcome, handedOf}
 use Rattle.leaving.specs.declared.Released.{Released}
 use Rattle.leaving.specs.declared.Released.the-variants as answer
-use Rattle.leaving.specs.declared.Lost.{Lost}
-use Rattle.leaving.specs.declared.Lost.the-variants as loss
 use Rattle.offering.specs.Outcome.{offeredOutcome, acceptedOf}
 use Rattle.offering.specs.declared.Offered.{Offered}
 use Rattle.offering.specs.declared.Offered.the-variants as outcome
-use Rattle.demands.specs.History.{Left, released, lost, afterMove}
-use Rattle.demands.specs.Calls.{Call, offer, next, giveUp, Calls, _then_, acceptedIn, leftIn}
+use Rattle.demands.specs.History.{Left, leftAs, afterMove}
+use Rattle.demands.specs.Calls.{Call, offer, release, Calls, _then_, acceptedIn, leftIn}
 use Rattle.demands.specs.GoesOn.{moveOf, Says, GoesOn, from, by}
 use Rattle.demands.specs.ReachedBy.{gone, ReachedBy}
 use Rattle.demands.proofs.Ranges.{ViewInRanges}
-use Rattle.demands.proofs.Taken.{OfferDone, offer-done, next-done, give-up-done}
+use Rattle.demands.proofs.Taken.{OfferDone, offer-done}
 use Rattle.demands.proofs.Steps.{moved-sum}
 use Rattle.demands.proofs.Reaching.{Knows, knows-start, knows-stays, knows-left}
 use Rattle.demands.proofs.Arriving.{took-of}
@@ -51,25 +50,16 @@ did view (offer octets r) ranges says = pick (offers.offer octets view) refl r s
   pick (done v) e (outcome.Refused why) s = let z : _≡_ {A = ℕ} 0 1 = cc in absurd (omega arith)
   pick (refused x) e outcome.Accepted s = let z : _≡_ {A = ℕ} 0 1 = cc in absurd (omega arith)
   pick (refused x) e (outcome.Refused why) s = nothing refl refl
-did view (next old new r) ranges says = pick (releases.next (length old) view) refl r (says .0) where
-  pick : (a : Answer Release) → releases.next (length old) view ≡ a → (r : Released) → releasedOutcome r ≡ handedOf a
-      → Did view (next old new r) (afterwards (viewAfterNext a) view)
-  pick (done a) e (answer.Packet kind number size) s =
-      let o = next-done (length old) view a e in
-      subst (Did view (next old new (answer.Packet kind number size))) (sym (o .after))
-      (leaves (released (stateOf kind) number (take size new)) _ refl refl (moved-sum view ranges))
+did view (release leave old new r) ranges says = pick (releases.release leave (length old) view) refl r (says .0) where
+  pick : (a : Answer Release) → releases.release leave (length old) view ≡ a → (r : Released) → releasedOutcome r ≡ handedOf a
+      → Did view (release leave old new r) (afterwards (viewAfterRelease a) view)
+  pick (done a) e (answer.Number kind number size) s =
+      let o = release-leaves leave (length old) view a e in
+      subst (Did view (release leave old new (answer.Number kind number size))) (sym (o .after))
+      (leaves (leftAs (stateOf kind) number (take size new)) _ refl refl (moved-sum view ranges))
   pick (done a) e (answer.Refused why) s = let z : _≡_ {A = ℕ} 0 1 = cc in absurd (omega arith)
-  pick (refused x) e (answer.Packet kind number size) s = let z : _≡_ {A = ℕ} 0 1 = cc in absurd (omega arith)
+  pick (refused x) e (answer.Number kind number size) s = let z : _≡_ {A = ℕ} 0 1 = cc in absurd (omega arith)
   pick (refused x) e (answer.Refused why) s = nothing refl refl
-did view (giveUp r) ranges says = pick (releases.giveUp view) refl r says where
-  pick : (a : Answer Loss) → releases.giveUp view ≡ a → (r : Lost) → lostOutcome r ≡ numberLost a
-      → Did view (giveUp r) (afterwards (viewAfterLoss a) view)
-  pick (done a) e (loss.Number number) s =
-      let o = give-up-done view a e in
-      subst (Did view (giveUp (loss.Number number))) (sym (o .after)) (leaves (lost number) _ refl refl (moved-sum view ranges))
-  pick (done a) e (loss.Refused why) s = let z : _≡_ {A = ℕ} 0 1 = cc in absurd (omega arith)
-  pick (refused x) e (loss.Number number) s = let z : _≡_ {A = ℕ} 0 1 = cc in absurd (omega arith)
-  pick (refused x) e (loss.Refused why) s = nothing refl refl
 
 -- ---- chains
 knows : {calls : Calls} {held : View} → GoesOn freshView calls held → (g : ℕ) × Knows calls g held

@@ -11,8 +11,8 @@ use native.Mathlib.Omega.{arith}
 use Rattle.octets.specs.Place.{tab}
 use Rattle.octets.proofs.Laws.{tab-ext, tab-more}
 use Rattle.views.specs.View.{View, Counts, sum, numbers, following, freshView}
-use Rattle.views.specs.Cells.{unknown, received, spare, repaired, blank}
-use Rattle.demands.specs.History.{Left, released, lost, isReceived, isSpare, isRepaired, isLost, numberLeft, afterMove, many}
+use Rattle.views.specs.Cells.{State, unknown, received, spare, repaired, blank}
+use Rattle.demands.specs.History.{Left, leftAs, isReceived, isSpare, isRepaired, isLost, afterMove, many}
 use Rattle.demands.specs.History.{historyCounts}
 use Rattle.demands.specs.Calls.{Calls, leftIn, leftBy}
 use Rattle.demands.specs.GoesOn.{moveOf, GoesOn, from, by}
@@ -28,7 +28,7 @@ on-ranges r from = r
 on-ranges r (by {call = call} {held = held} on says) = after-in-ranges (moveOf call) held (on-ranges r on)
 
 -- ---- the counts
-many-append : (test : Left → Bool) (some more : List Left) → many test (some ++ more) ≡ many test some + many test more
+many-append : (test : State → Bool) (some more : List Left) → many test (some ++ more) ≡ many test some + many test more
 unfolding many
 many-append test [] more = omega arith
 many-append test (x ∷ some) more = let rest = many-append test some more in omega arith
@@ -45,18 +45,21 @@ grown-none : (c : Counts) → c ≡ grown c (historyCounts [])
 unfolding many
 grown-none c = counts-path (omega arith) (omega arith) (omega arith) (omega arith)
 
-one-sum : (x : Left) → OneKind x → sum (historyCounts (x ∷ [])) ≡ 1
+kind-sum : (st : State) (number : ℕ) (octets : List ℕ) → OneKind (leftAs st number octets)
+    → sum (historyCounts (leftAs st number octets ∷ [])) ≡ 1
 unfolding many
-one-sum (released unknown number octets) one = absurd (false≢true one)
-one-sum (released received number octets) one = refl
-one-sum (released spare number octets) one = refl
-one-sum (released repaired number octets) one = refl
-one-sum (released blank number octets) one = absurd (false≢true one)
-one-sum (lost number) one = refl
+kind-sum unknown number octets one = refl
+kind-sum received number octets one = refl
+kind-sum spare number octets one = refl
+kind-sum repaired number octets one = refl
+kind-sum blank number octets one = absurd (false≢true one)
+
+one-sum : (x : Left) → OneKind x → sum (historyCounts (x ∷ [])) ≡ 1
+one-sum x one = kind-sum (x .kind) (x .number) (x .octets) one
 
 -- ---- what left, on plain values: from a base and counts to others
 pub record Went (base : ℕ) (counts : Counts) (left : List Left) (on : ℕ) (more : Counts) : Type 0 where
-  pub inOrder : map numberLeft left ≡ tab (length left) (λ j. (base + j) % numbers)
+  pub inOrder : map (λ (y : Left). y .number) left ≡ tab (length left) (λ j. (base + j) % numbers)
   pub kinds : (x : Left) → Among x left → OneKind x
   pub counted : more ≡ grown counts (historyCounts left)
   pub advance : sum more ≡ sum counts + length left
@@ -74,12 +77,12 @@ went-none {base} counts small =
     }
 
 module _ {base : ℕ} {counts : Counts} {left : List Left} {on : ℕ} {more : Counts} (w : Went base counts left on more) (x : Left)
-    (at : numberLeft x ≡ on) (one : OneKind x) where
-  in-order : map numberLeft (left ++ (x ∷ [])) ≡ tab (length (left ++ (x ∷ []))) (λ j. (base + j) % numbers)
+    (at : x .number ≡ on) (one : OneKind x) where
+  in-order : map (λ (y : Left). y .number) (left ++ (x ∷ [])) ≡ tab (length (left ++ (x ∷ []))) (λ j. (base + j) % numbers)
   in-order =
-      let last : numberLeft x ≡ (base + length left) % numbers = at ∙ w .reached in
+      let last : x .number ≡ (base + length left) % numbers = at ∙ w .reached in
       let long : length left + 1 ≡ length (left ++ (x ∷ [])) = omega (arith, length-append left (x ∷ [])) in
-      map-append numberLeft left (x ∷ [])
+      map-append (λ (y : Left). y .number) left (x ∷ [])
       ∙ ap₂ (λ (l : List ℕ) (n : ℕ). l ++ (n ∷ [])) (w .inOrder) last
       ∙ sym (tab-more (length left) (λ j. (base + j) % numbers))
       ∙ ap (λ (n : ℕ). tab n (λ j. (base + j) % numbers)) long

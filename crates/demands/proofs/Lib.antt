@@ -65,4 +65,5 @@ pub mod Example
 pub mod Burst
 pub mod Program
 pub mod SecondReader
+pub mod OneCall
 pub mod Claims

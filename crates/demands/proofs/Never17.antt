@@ -2,7 +2,7 @@
 -- 01's calls on what it holds have lower refusals only. Assumes nothing.
 use Prim.Native.Nat.{ℕ, zero, suc, _+_, _-_, _%_, _<_}
 use mathlib.Core.Path.{_≡_, refl, sym, subst}
-use mathlib.Core.Bool.{Bool, true, false, cond}
+use mathlib.Core.Bool.{Bool, true, false, not, cond, _&&_}
 use mathlib.Core.List.{List}
 use mathlib.Core.Option.{some, Option·none-ne-some, Option·some-injective}
 use lib.ListN.{length, getD, drop}
@@ -10,7 +10,7 @@ use lib.Dec.{leb, ltb, eqb}
 use native.Mathlib.Omega.{arith}
 use borrow.Author.Tests.{ltb-true}
 use Rattle.lengths.specs.Refusals.{endsEarly, tooLong, badForm, outsideSizes, spareBit, leftOver}
-use Rattle.lengths.specs.Refusals.{repeated, tooFar, late, baseUnknown, baseKnown, noRoom, allPassed, outsideRanges}
+use Rattle.lengths.specs.Refusals.{repeated, tooFar, late, baseUnknown, noRoom, allPassed, outsideRanges}
 use Rattle.lengths.specs.Answers.{Answer, done, refused, refuse, refuseAt, readFrom, _>>=_, LengthAnswer}
 use Rattle.lengths.specs.Length.{ofTwo, lengthAt, within, allowed, lengthWithin}
 use Rattle.lengths.specs.declared.Refusal.{Refusal}
@@ -25,12 +25,12 @@ use Rattle.views.specs.View.{View, sum, distance, sessionLimit}
 use Rattle.views.specs.Offer as offers
 use Rattle.views.specs.Offer.{acceptedAt, lateFrom}
 use Rattle.views.specs.Release as releases
-use Rattle.views.specs.Release.{Release, Loss, atBase}
+use Rattle.views.specs.Release.{Release, atBase}
 use Rattle.held.specs.declared.Session.{Session}
-use Rattle.leaving.specs.Outcome.{handedOf, numberLost}
+use Rattle.leaving.specs.Outcome.{handedOf}
 use Rattle.offering.specs.Outcome.{acceptedOf}
 use Rattle.lengths.specs.Tables.{refusalIn}
-use Rattle.demands.specs.Calls.{Call, offer, next, giveUp, Calls, _then_, Called, callRefusal}
+use Rattle.demands.specs.Calls.{Call, offer, release, Calls, _then_, Called, callRefusal}
 use Rattle.demands.specs.GoesOn.{Says, GoesOn, by}
 use Rattle.demands.specs.Demand2.{Begins}
 use Rattle.demands.proofs.Calling.{begins-seen, called-on}
@@ -141,18 +141,12 @@ lower-offer : (octets : List ℕ) (view : View) → Lower (offers.offer octets v
 unfolding offers.offer
 lower-offer octets view = lower-bind (lower-read octets) (λ parts. lower-offered (carriedBy octets parts) view)
 
-lower-next : (room : ℕ) (view : View) → Lower (releases.next room view)
-unfolding releases.next
-lower-next room view =
+lower-release : (leave : Bool) (room : ℕ) (view : View) → Lower (releases.release leave room view)
+unfolding releases.release
+lower-release leave room view =
     lower-cond (leb sessionLimit (sum (view .counts))) (low allPassed refl)
-    (lower-cond (unknownAt (view .cells) keptBefore) (low baseUnknown refl)
+    (lower-cond (unknownAt (view .cells) keptBefore && not leave) (low baseUnknown refl)
     (lower-cond (ltb room (length ((atBase view) .octets))) (low noRoom refl) (value _)))
-
-lower-give-up : (view : View) → Lower (releases.giveUp view)
-unfolding releases.giveUp
-lower-give-up view =
-    lower-cond (leb sessionLimit (sum (view .counts))) (low allPassed refl)
-    (lower-cond (unknownAt (view .cells) keptBefore) (value _) (low baseKnown refl))
 
 -- the same of what they answer
 lower-accepted : {a : Answer View} → Lower a → Lower (acceptedOf a)
@@ -163,14 +157,9 @@ lower-handed : {a : Answer Release} → Lower a → Lower (handedOf a)
 lower-handed (value a) = value _
 lower-handed (below low) = below low
 
-lower-lost : {a : Answer Loss} → Lower a → Lower (numberLost a)
-lower-lost (value a) = value _
-lower-lost (below low) = below low
-
 says-lower : (view : View) (call : Call) → Says view call → callRefusal call ≡ some outsideRanges → ⊥
 says-lower view (offer octets r) says = not-17 (subst Lower (sym says) (lower-accepted (lower-offer octets view)))
-says-lower view (next old new r) says = not-17 (subst Lower (sym (says .0)) (lower-handed (lower-next (length old) view)))
-says-lower view (giveUp r) says = not-17 (subst Lower (sym says) (lower-lost (lower-give-up view)))
+says-lower view (release leave old new r) says = not-17 (subst Lower (sym (says .0)) (lower-handed (lower-release leave (length old) view)))
 
 -- ---- chains
 last-says : {view held : View} {calls : Calls} {call : Call} → GoesOn view (calls then call) held → callRefusal call ≡ some outsideRanges

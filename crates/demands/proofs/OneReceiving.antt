@@ -2,6 +2,7 @@
 -- its ranges, and within them the view tells all that is lent. Assumes nothing.
 use Prim.Native.Nat.{ℕ}
 use mathlib.Core.Path.{_≡_, refl, sym, ap, ap₂, _∙_}
+use mathlib.Core.Bool.{Bool}
 use mathlib.Core.List.{List, map}
 use lib.ListN.{take}
 use Rattle.datagrams.specs.Read.{octetsOf}
@@ -16,10 +17,9 @@ use Rattle.held.specs.declared.Counts.{Counts}
 use Rattle.held.proofs.Laws.{lent-same}
 use Rattle.keeping.specs.Promise.{CellsNow, HeldNow, MayKeep, Keeps, KeepsSpares, MayHold, Holds}
 use Rattle.repairing.specs.Promise.{MayMend, Mends}
-use Rattle.leaving.specs.Promise.{Releases, GivesUp}
+use Rattle.leaving.specs.Promise.{Releases}
 use Rattle.leaving.specs.declared.Released.{Released}
-use Rattle.leaving.specs.declared.Lost.{Lost}
-use Rattle.leaving.proofs.Laws.{released-told, lost-told}
+use Rattle.leaving.proofs.Laws.{released-told}
 use Rattle.offering.specs.Promise.{Offers}
 use Rattle.offering.specs.declared.Offered.{Offered}
 use Rattle.offering.proofs.Laws.{offered-told}
@@ -103,19 +103,13 @@ mend-one base t o g may newO otherO newT otherT x y =
     let b = y .mends (may .counts) (may .within) in
     table-octets (lent-same (a .within) (b .within) (a .state ∙ sym (b .state)))
 
-next-one : {before after other : Lent} {old new newer : List ℕ} {r q : Released} → Releases before after old new r
-    → Releases before other old newer q
+release-one : {leave : Bool} {before after other : Lent} {old new newer : List ℕ} {r q : Released}
+    → Releases leave before after old new r → Releases leave before other old newer q
     → (r ≡ q) × (after ≡ other) × (new ≡ newer)
-next-one {r = r} {q} a b = (
+release-one {r = r} {q} a b = (
   released-told r q (a .told ∙ sym (b .told)),
   lent-same (a .within) (b .within) (a .state ∙ sym (b .state)),
   a .written ∙ sym (b .written),
-)
-
-give-up-one : {before after other : Lent} {r q : Lost} → GivesUp before after r → GivesUp before other q → (r ≡ q) × (after ≡ other)
-give-up-one {r = r} {q} a b = (
-  lost-told r q (a .told ∙ sym (b .told)),
-  lent-same (a .within) (b .within) (a .state ∙ sym (b .state)),
 )
 
 offer-one : {octets : List ℕ} {before after other : Lent} {r q : Offered} → Offers octets before after r → Offers octets before other q
@@ -133,7 +127,6 @@ in-receiving =
       keepSpares = spares-one;
       hold = hold-one;
       mend = mend-one;
-      nextCore = λ a b. next-one a b;
-      giveUpCore = λ a b. give-up-one a b;
+      releaseCore = λ a b. release-one a b;
       offerCore = λ a b. offer-one a b;
     }

@@ -1,11 +1,11 @@
 -- Where each call places its refusals: offer where the datagram reader does, all others but the readers at 0. Assumes nothing.
 use Prim.Native.Nat.{ℕ}
 use mathlib.Core.Path.{_≡_, refl, sym, ap, _∙_}
-use mathlib.Core.Bool.{Bool, true, false, cond}
+use mathlib.Core.Bool.{Bool, true, false, not, cond, _&&_}
 use mathlib.Core.List.{List}
 use lib.ListN.{length}
 use lib.Dec.{leb, ltb}
-use Rattle.lengths.specs.Refusals.{repeated, tooFar, late, baseUnknown, baseKnown, noRoom, allPassed, outsideRanges}
+use Rattle.lengths.specs.Refusals.{repeated, tooFar, late, baseUnknown, noRoom, allPassed, outsideRanges}
 use Rattle.lengths.specs.Answers.{Answer, done, refused, refuse, _>>=_, fitted}
 use Rattle.lengths.specs.Tables.{placeIn}
 use Rattle.lengths.specs.Length.{lengthAt, lengthToWrite}
@@ -21,11 +21,11 @@ use Rattle.views.specs.Cells.{unknownAt, keptBefore, keptAhead}
 use Rattle.views.specs.View.{View, sum, distance, sessionLimit}
 use Rattle.views.specs.Offer as offers
 use Rattle.views.specs.Offer.{lateFrom, acceptedAt, offered}
-use Rattle.views.specs.Release.{atBase, next, giveUp}
+use Rattle.views.specs.Release.{atBase, release}
 use Rattle.held.specs.Table.{viewOf}
 use Rattle.held.specs.Laid.{sessionInRanges}
 use Rattle.held.specs.declared.Session.{Session}
-use Rattle.sessions.specs.Receiver.{offerOf, nextOf, giveUpOf}
+use Rattle.sessions.specs.Receiver.{offerOf, releaseOf}
 use Rattle.sending.specs.Promise.{toSend}
 use Rattle.sending.specs.declared.Sender.{Sender}
 use Rattle.sending.specs.declared.Settings.{Settings}
@@ -59,22 +59,14 @@ offer-place octets s =
     ∙ ap (λ (k : ℕ). cond (sessionInRanges s) k 0)
     (bind-place (readDatagram octets) _ (λ parts. offered-front (carriedBy octets parts) (viewOf s)))
 
--- ---- next and give up
-next-front : (room : ℕ) (s : Session) → AtFront (nextOf room s)
-unfolding nextOf next
-next-front room s =
+-- ---- release
+release-front : (leave : Bool) (room : ℕ) (s : Session) → AtFront (releaseOf leave room s)
+unfolding releaseOf release
+release-front leave room s =
     cond-front (sessionInRanges s)
     (cond-front (leb sessionLimit (sum ((viewOf s) .counts))) (refuse-front allPassed)
-    (cond-front (unknownAt ((viewOf s) .cells) keptBefore) (refuse-front baseUnknown)
+    (cond-front (unknownAt ((viewOf s) .cells) keptBefore && not leave) (refuse-front baseUnknown)
     (cond-front (ltb room (length ((atBase (viewOf s)) .octets))) (refuse-front noRoom) (done-front _))))
-    (refuse-front outsideRanges)
-
-give-up-front : (s : Session) → AtFront (giveUpOf s)
-unfolding giveUpOf giveUp
-give-up-front s =
-    cond-front (sessionInRanges s)
-    (cond-front (leb sessionLimit (sum ((viewOf s) .counts))) (refuse-front allPassed)
-    (cond-front (unknownAt ((viewOf s) .cells) keptBefore) (done-front _) (refuse-front baseKnown)))
     (refuse-front outsideRanges)
 
 -- ---- what follows from a table
@@ -116,9 +108,8 @@ places =
       offer = λ {s} {octets} p q.
           ap placeIn (p .answer) ∙ mapped-place _ (offerOf octets s) ∙ offer-place octets s
           ∙ ap (λ (k : ℕ). cond (sessionInRanges s) k 0) (sym (ap placeIn (q .answer)));
-      next = λ {s} {old} p.
-          ap placeIn (p .answer) ∙ mapped-place _ (nextOf (length old) s) ∙ front-place _ (next-front (length old) s);
-      giveUp = λ {s} p. ap placeIn (p .answer) ∙ mapped-place _ (giveUpOf s) ∙ front-place _ (give-up-front s);
+      release = λ {s} {leave} {old} p.
+          ap placeIn (p .answer) ∙ mapped-place _ (releaseOf leave (length old) s) ∙ front-place _ (release-front leave (length old) s);
       lengthWriter = λ n old new r p. puts-place (length-writer n) p;
       datagramWriter = λ number packet kind lengths run old new r p. puts-place (datagram-writer number packet kind lengths run) p;
       packetWriter = λ kind value types lengths octets old new r p. puts-place (packet-writer kind value types lengths octets) p;

@@ -1,4 +1,4 @@
--- Offer, next and give up refuse exactly what their tables say, and a refusal changes nothing. Assumes nothing.
+-- Offer and release refuse exactly what their tables say, and a refusal changes nothing. Assumes nothing.
 use Prim.Native.Nat.{ℕ, _+_, _-_, _*_, _≤_, _<_}
 use mathlib.Core.Path.{_≡_, refl, sym, ap, _∙_}
 use mathlib.Core.Logic.{_⊎_, ⊎-elim}
@@ -10,7 +10,7 @@ use lib.Dec.{leb, ltb}
 use native.Mathlib.Omega.{arith}
 use borrow.Author.Tests.{lt-ltb, le-ltb, le-leb, lt-leb, ltb-true, ltb-false}
 use Rattle.octets.proofs.Laws.{below-or-not}
-use Rattle.lengths.specs.Refusals.{repeated, tooFar, late, baseUnknown, baseKnown, noRoom}
+use Rattle.lengths.specs.Refusals.{repeated, tooFar, late, baseUnknown, noRoom}
 use Rattle.lengths.specs.Refusals.{allPassed, outsideRanges}
 use Rattle.lengths.specs.Answers.{Answer, done, refused, refuse}
 use Rattle.lengths.specs.Answers as answers
@@ -24,15 +24,15 @@ use Rattle.views.specs.View.{View, sum, distance, sessionLimit}
 use Rattle.views.specs.Offer as offers
 use Rattle.views.specs.Offer.{lateFrom, acceptedAt, offered, accept}
 use Rattle.views.specs.Release as releases
-use Rattle.views.specs.Release.{Release, Loss, atBase, viewAfterNext, viewAfterLoss}
+use Rattle.views.specs.Release.{Release, atBase, viewAfterRelease}
 use Rattle.held.specs.Table.{viewOf}
 use Rattle.held.specs.Laid.{sessionInRanges}
 use Rattle.held.specs.declared.Session.{Session}
-use Rattle.leaving.specs.Outcome.{handedOf, numberLost}
+use Rattle.leaving.specs.Outcome.{handedOf}
 use Rattle.leaving.specs.Outcome as outcome
 use Rattle.offering.specs.Outcome.{acceptedOf}
-use Rattle.sessions.specs.Receiver.{After, offerOf, nextOf, giveUpOf}
-use Rattle.demands.specs.Refusals.{distanceTo, offerRows, nextRows, giveUpRows}
+use Rattle.sessions.specs.Receiver.{After, offerOf, releaseOf}
+use Rattle.demands.specs.Refusals.{distanceTo, offerRows, releaseRows}
 use Rattle.demands.specs.Demand1.{Receiving}
 
 -- ---- offer
@@ -91,39 +91,24 @@ after-refused : (a : Answer View) (s t : Session) (n : ℕ) → refusalIn a ≡ 
 after-refused (done v) s t n e state = let z : _≡_ {A = ℕ} 0 1 = cc in absurd (omega arith)
 after-refused (refused why) s t n e state = state
 
--- ---- next
-next-rows : (old : List ℕ) (s : Session) → refusalIn (nextOf (length old) s) ≡ first (nextRows old s)
-unfolding nextOf nextRows releases.next
-next-rows old s =
-    row-met (sessionInRanges s) outsideRanges (releases.next (length old) (viewOf s)) _
+-- ---- release
+release-rows : (leave : Bool) (old : List ℕ) (s : Session)
+    → refusalIn (releaseOf leave (length old) s) ≡ first (releaseRows leave old s)
+unfolding releaseOf releaseRows releases.release
+release-rows leave old s =
+    row-met (sessionInRanges s) outsideRanges (releases.release leave (length old) (viewOf s)) _
     (row (leb sessionLimit (sum ((viewOf s) .counts))) allPassed _ _
-    (row (unknownAt ((viewOf s) .cells) keptBefore) baseUnknown _ _
+    (row (unknownAt ((viewOf s) .cells) keptBefore && not leave) baseUnknown _ _
     (row (ltb (length old) (length ((atBase (viewOf s)) .octets))) noRoom _ _ no-row)))
 
 handed-refusal : (a : Answer Release) → refusalIn (handedOf a) ≡ refusalIn a
 handed-refusal (done v) = refl
 handed-refusal (refused why) = refl
 
-next-refused : (a : Answer Release) (s t : Session) (old : List ℕ) (n : ℕ) → refusalIn a ≡ some n → After (viewAfterNext a) s t
+release-refused : (a : Answer Release) (s t : Session) (old : List ℕ) (n : ℕ) → refusalIn a ≡ some n → After (viewAfterRelease a) s t
     → (t ≡ s) × (answers.over (outcome.octetsHanded a) old ≡ old)
-next-refused (done v) s t old n e state = let z : _≡_ {A = ℕ} 0 1 = cc in absurd (omega arith)
-next-refused (refused why) s t old n e state = (state, refl)
-
--- ---- give up
-give-up-rows : (s : Session) → refusalIn (giveUpOf s) ≡ first (giveUpRows s)
-unfolding giveUpOf giveUpRows releases.giveUp
-give-up-rows s =
-    row-met (sessionInRanges s) outsideRanges (releases.giveUp (viewOf s)) _
-    (row (leb sessionLimit (sum ((viewOf s) .counts))) allPassed _ _
-    (row-met (unknownAt ((viewOf s) .cells) keptBefore) baseKnown _ _ no-row))
-
-lost-refusal : (a : Answer Loss) → refusalIn (numberLost a) ≡ refusalIn a
-lost-refusal (done v) = refl
-lost-refusal (refused why) = refl
-
-give-up-refused : (a : Answer Loss) (s t : Session) (n : ℕ) → refusalIn a ≡ some n → After (viewAfterLoss a) s t → t ≡ s
-give-up-refused (done v) s t n e state = let z : _≡_ {A = ℕ} 0 1 = cc in absurd (omega arith)
-give-up-refused (refused why) s t n e state = state
+release-refused (done v) s t old n e state = let z : _≡_ {A = ℕ} 0 1 = cc in absurd (omega arith)
+release-refused (refused why) s t old n e state = (state, refl)
 
 pub receiving : Receiving
 receiving =
@@ -132,13 +117,11 @@ receiving =
       offerUnchanged = λ {s} {octets} {r} {n} p e.
           after-refused (offerOf octets s) s (r .session) n (sym (ap refusalIn (p .answer) ∙ accepted-refusal (offerOf octets s)) ∙ e)
           (p .state);
-      next = λ {s} {old} p. ap refusalIn (p .answer) ∙ handed-refusal (nextOf (length old) s) ∙ next-rows old s;
-      nextUnchanged = λ {s} {old} {new} {r} {n} p e.
+      release = λ {s} {leave} {old} p.
+          ap refusalIn (p .answer) ∙ handed-refusal (releaseOf leave (length old) s) ∙ release-rows leave old s;
+      releaseUnchanged = λ {s} {leave} {old} {new} {r} {n} p e.
           let stays =
-          next-refused (nextOf (length old) s) s (r .session) old n
-          (sym (ap refusalIn (p .answer) ∙ handed-refusal (nextOf (length old) s)) ∙ e) (p .state) in
+          release-refused (releaseOf leave (length old) s) s (r .session) old n
+          (sym (ap refusalIn (p .answer) ∙ handed-refusal (releaseOf leave (length old) s)) ∙ e) (p .state) in
           (stays .0, p .lent ∙ stays .1);
-      giveUp = λ {s} p. ap refusalIn (p .answer) ∙ lost-refusal (giveUpOf s) ∙ give-up-rows s;
-      giveUpUnchanged = λ {s} {r} {n} p e.
-          give-up-refused (giveUpOf s) s (r .session) n (sym (ap refusalIn (p .answer) ∙ lost-refusal (giveUpOf s)) ∙ e) (p .state);
     }

@@ -1,60 +1,48 @@
 -- What one call does to the session: nothing leaves, or the number at the base; and the ranges stay. Assumes nothing.
 use Prim.Native.Nat.{ℕ, _+_, _-_}
 use mathlib.Core.Path.{_≡_, refl, sym, ap, subst, _∙_}
-use mathlib.Core.Bool.{true, false, true≢false, false≢true}
 use mathlib.Core.List.{List, [], _∷_}
 use native.Mathlib.Omega.{arith}
 use Rattle.lengths.specs.Answers.{Answer, done, refused, afterwards}
 use Rattle.datagrams.specs.Carried.{Carried}
 use Rattle.datagrams.specs.Read.{carriedBy}
-use Rattle.views.specs.Cells.{State, unknown, received, spare, repaired, blank, isUnknown, keptBefore}
-use Rattle.views.specs.Reached.{Known}
+use Rattle.views.specs.Cells.{State, unknown, received, spare, repaired, blank, keptBefore}
 use Rattle.views.specs.View.{View, Counts, sum, following, distance, goneOn}
 use Rattle.views.specs.Offer as offers
 use Rattle.views.specs.Offer.{accept}
 use Rattle.views.specs.Release as releases
-use Rattle.views.specs.Release.{Release, Loss, counted, atBase, viewAfterNext, viewAfterLoss}
-use Rattle.demands.specs.History.{Move, offer, next, giveUp, Left, released, lost, numberLeft, afterMove, many, historyCounts}
+use Rattle.views.specs.Release.{Release, counted, atBase, viewAfterRelease}
+use Rattle.views.proofs.Laws.{release-leaves}
+use Rattle.demands.specs.History.{Move, offer, release, Left, leftAs, afterMove, many, historyCounts}
 use Rattle.demands.specs.Demand2.{OneKind, grown}
 use Rattle.demands.proofs.Ranges.{ViewInRanges}
-use Rattle.demands.proofs.Growing.{Fills, asReceived, asSpare, asRepaired}
 use Rattle.demands.proofs.InRanges.{read-held, accept-in-ranges, on-in-ranges}
-use Rattle.demands.proofs.Taken.{offer-done, next-done, give-up-done}
+use Rattle.demands.proofs.Taken.{offer-done}
 
 -- ---- what a call does
--- what next and give up make leave: one number, or none
+-- what a release makes leave: one number, or none
 abbrev pub releasedBy : Answer Release → List Left
-releasedBy (done a) = released (a .kind) (a .number) (a .octets) ∷ []
+releasedBy (done a) = leftAs (a .kind) (a .number) (a .octets) ∷ []
 releasedBy (refused why) = []
-
-abbrev pub lostBy : Answer Loss → List Left
-lostBy (done a) = lost (a .number) ∷ []
-lostBy (refused why) = []
 
 unfoldable pub leaving : Move → View → List Left
 leaving (offer octets) view = []
-leaving (next room) view = releasedBy (releases.next room view)
-leaving giveUp view = lostBy (releases.giveUp view)
+leaving (release leave room) view = releasedBy (releases.release leave room view)
 
 pub data Step (view after : View) (left : List Left) : Type 0 where
   stays : after .counts ≡ view .counts → after .base ≡ view .base → left ≡ [] → Step view after left
-  leaves : (x : Left) → left ≡ x ∷ [] → numberLeft x ≡ view .base → OneKind x
+  leaves : (x : Left) → left ≡ x ∷ [] → x .number ≡ view .base → OneKind x
       → after .counts ≡ grown (view .counts) (historyCounts (x ∷ []))
       → after .base ≡ following (view .base)
       → Step view after left
 
--- a known number that is not blank is received, spare or repaired
-pub fills-of : (st : State) → isUnknown st ≡ false → (st ≡ blank → ⊥) → Fills st
-fills-of unknown known other = absurd (true≢false known)
-fills-of received known other = asReceived
-fills-of spare known other = asSpare
-fills-of repaired known other = asRepaired
-fills-of blank known other = absurd (other refl)
-
-one-released : {st : State} → Fills st → (number : ℕ) (octets : List ℕ) → OneKind (released st number octets)
-one-released asReceived number octets = refl
-one-released asSpare number octets = refl
-one-released asRepaired number octets = refl
+-- a number that is not blank is of one kind
+one-kind : (st : State) → (st ≡ blank → ⊥) → (number : ℕ) (octets : List ℕ) → OneKind (leftAs st number octets)
+one-kind unknown other number octets = refl
+one-kind received other number octets = refl
+one-kind spare other number octets = refl
+one-kind repaired other number octets = refl
+one-kind blank other number octets = absurd (other refl)
 
 -- its count grows by one
 pub counts-path : {a b c d e f g h : ℕ} → a ≡ e → b ≡ f → c ≡ g → d ≡ h
@@ -62,20 +50,14 @@ pub counts-path : {a b c d e f g h : ℕ} → a ≡ e → b ≡ f → c ≡ g �
     (record { received = e; spare = f; repaired = g; lost = h })
 counts-path p q r s = λ i. record { received = p i; spare = q i; repaired = r i; lost = s i }
 
-released-grown : {st : State} → Fills st → (number : ℕ) (octets : List ℕ) (c : Counts)
-    → counted st c ≡ grown c (historyCounts (released st number octets ∷ []))
+kind-grown : (st : State) → (st ≡ blank → ⊥) → (number : ℕ) (octets : List ℕ) (c : Counts)
+    → counted st c ≡ grown c (historyCounts (leftAs st number octets ∷ []))
 unfolding many
-released-grown asReceived number octets c = counts-path (omega arith) (omega arith) (omega arith) (omega arith)
-released-grown asSpare number octets c = counts-path (omega arith) (omega arith) (omega arith) (omega arith)
-released-grown asRepaired number octets c = counts-path (omega arith) (omega arith) (omega arith) (omega arith)
-
-lost-grown : (st : State) → isUnknown st ≡ true → (number : ℕ) (c : Counts) → counted st c ≡ grown c (historyCounts (lost number ∷ []))
-unfolding many
-lost-grown unknown u number c = counts-path (omega arith) (omega arith) (omega arith) (omega arith)
-lost-grown received u number c = absurd (false≢true u)
-lost-grown spare u number c = absurd (false≢true u)
-lost-grown repaired u number c = absurd (false≢true u)
-lost-grown blank u number c = absurd (false≢true u)
+kind-grown unknown other number octets c = counts-path (omega arith) (omega arith) (omega arith) (omega arith)
+kind-grown received other number octets c = counts-path (omega arith) (omega arith) (omega arith) (omega arith)
+kind-grown spare other number octets c = counts-path (omega arith) (omega arith) (omega arith) (omega arith)
+kind-grown repaired other number octets c = counts-path (omega arith) (omega arith) (omega arith) (omega arith)
+kind-grown blank other number octets c = absurd (other refl)
 
 -- the number at the base is not blank: one count is one more
 counted-sum : (st : State) → (st ≡ blank → ⊥) → (c : Counts) → sum (counted st c) ≡ sum c + 1
@@ -104,10 +86,6 @@ pub accept-counts : (d : ℕ) (datagram : Carried) (view : View) → (accept d d
 unfolding accept
 accept-counts d datagram view = refl
 
--- the number at the base, where it is known
-base-fills : (view : View) → ViewInRanges view → Known (view .cells) keptBefore → Fills ((atBase view) .state)
-base-fills view r known = fills-of ((atBase view) .state) known (r .noBlank keptBefore (omega arith) (omega arith))
-
 pub step : (move : Move) (view : View) → ViewInRanges view → Step view (afterMove move view) (leaving move view)
 unfolding afterMove leaving
 step (offer octets) view r = pick (offers.offer octets view) refl where
@@ -118,26 +96,16 @@ step (offer octets) view r = pick (offers.offer octets view) refl where
       (ap (λ (x : View). x .base) (sym (o .is)) ∙ accept-base _ _ view)
       refl
   pick (refused why) e = stays refl refl refl
-step (next room) view r = pick (releases.next room view) refl where
-  pick : (a : Answer Release) → releases.next room view ≡ a → Step view (afterwards (viewAfterNext a) view) (releasedBy a)
+step (release leave room) view r = pick (releases.release leave room view) refl where
+  pick : (a : Answer Release) → releases.release leave room view ≡ a → Step view (afterwards (viewAfterRelease a) view) (releasedBy a)
   pick (done a) e =
-      let o = next-done room view a e in
-      let fills = base-fills view r (o .known) in
-      leaves (released (a .kind) (a .number) (a .octets)) refl (o .number)
-      (one-released (subst Fills (sym (o .kind)) fills) (a .number) (a .octets))
+      let o = release-leaves leave room view a e in
+      let other : a .kind ≡ blank → ⊥ = λ is. r .noBlank keptBefore (omega arith) (omega arith) (sym (o .kind) ∙ is) in
+      leaves (leftAs (a .kind) (a .number) (a .octets)) refl (o .number) (one-kind (a .kind) other (a .number) (a .octets))
       (ap (λ (x : View). x .counts) (o .after)
       ∙ gone-counts _ view
       ∙ ap (λ (st : State). counted st (view .counts)) (sym (o .kind))
-      ∙ released-grown (subst Fills (sym (o .kind)) fills) (a .number) (a .octets) (view .counts))
-      (ap (λ (x : View). x .base) (o .after) ∙ gone-base _ view)
-  pick (refused why) e = stays refl refl refl
-step giveUp view r = pick (releases.giveUp view) refl where
-  pick : (a : Answer Loss) → releases.giveUp view ≡ a → Step view (afterwards (viewAfterLoss a) view) (lostBy a)
-  pick (done a) e =
-      let o = give-up-done view a e in
-      leaves (lost (a .number)) refl (o .number) refl
-      (ap (λ (x : View). x .counts) (o .after) ∙ gone-counts _ view ∙ lost-grown ((atBase view) .state) (o .unknown) (a .number)
-      (view .counts))
+      ∙ kind-grown (a .kind) other (a .number) (a .octets) (view .counts))
       (ap (λ (x : View). x .base) (o .after) ∙ gone-base _ view)
   pick (refused why) e = stays refl refl refl
 
@@ -152,15 +120,9 @@ after-in-ranges (offer octets) view r = pick (offers.offer octets view) refl whe
       (accept-in-ranges (distance (view .base) (o .parts .number)) (carriedBy octets (o .parts)) view r (o .near)
       (read-held octets (o .parts) (o .read)))
   pick (refused why) e = r
-after-in-ranges (next room) view r = pick (releases.next room view) refl where
-  pick : (a : Answer Release) → releases.next room view ≡ a → ViewInRanges (afterwards (viewAfterNext a) view)
+after-in-ranges (release leave room) view r = pick (releases.release leave room view) refl where
+  pick : (a : Answer Release) → releases.release leave room view ≡ a → ViewInRanges (afterwards (viewAfterRelease a) view)
   pick (done a) e =
-      let o = next-done room view a e in
-      subst ViewInRanges (sym (o .after)) (on-in-ranges _ view r (moved-sum view r))
-  pick (refused why) e = r
-after-in-ranges giveUp view r = pick (releases.giveUp view) refl where
-  pick : (a : Answer Loss) → releases.giveUp view ≡ a → ViewInRanges (afterwards (viewAfterLoss a) view)
-  pick (done a) e =
-      let o = give-up-done view a e in
+      let o = release-leaves leave room view a e in
       subst ViewInRanges (sym (o .after)) (on-in-ranges _ view r (moved-sum view r))
   pick (refused why) e = r

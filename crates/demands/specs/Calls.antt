@@ -2,33 +2,30 @@
 -- answer that its promise allows. What the calls brought and what left by them is told by the calls and their answers alone.
 -- Definitions only.
 use Prim.Native.Nat.{ℕ}
+use mathlib.Core.Bool.{Bool}
 use mathlib.Core.List.{List, [], _∷_, _++_}
 use mathlib.Core.Option.{Option, none, some}
 use lib.ListN.{take}
 use Rattle.held.specs.Table.{stateOf}
 use Rattle.held.specs.declared.Session.{Session}
-use Rattle.leaving.specs.Outcome.{releasedOutcome, lostOutcome}
+use Rattle.leaving.specs.Outcome.{releasedOutcome}
 use Rattle.leaving.specs.declared.Released.{Released}
 use Rattle.leaving.specs.declared.Released.the-variants as answer
-use Rattle.leaving.specs.declared.Lost.{Lost}
-use Rattle.leaving.specs.declared.Lost.the-variants as loss
 use Rattle.offering.specs.Outcome.{offeredOutcome}
 use Rattle.offering.specs.declared.Offered.{Offered}
 use Rattle.offering.specs.declared.Offered.the-variants as outcome
-use Rattle.sessions.specs.Receiver.{OfferOwes, NextOwes, GiveUpOwes}
+use Rattle.sessions.specs.Receiver.{OfferOwes, ReleaseOwes}
 use Rattle.sessions.specs.declared.receiver.AfterOffer.{AfterOffer}
-use Rattle.sessions.specs.declared.receiver.AfterNext.{AfterNext}
-use Rattle.sessions.specs.declared.receiver.AfterGiveUp.{AfterGiveUp}
-use Rattle.demands.specs.History.{Left, released, lost}
+use Rattle.sessions.specs.declared.receiver.AfterRelease.{AfterRelease}
+use Rattle.demands.specs.History.{Left, leftAs}
 use Rattle.lengths.specs.Tables.{refusalIn}
 
 -- a call and its answer, as the caller has them
 pub data Call : Type 0 where
   -- these octets were offered
   offer : List ℕ → Offered → Call
-  -- next, with this lent buffer before the call and after it
-  next : List ℕ → List ℕ → Released → Call
-  giveUp : Lost → Call
+  -- a release, with leave to skip or without, and with this lent buffer before the call and after it
+  release : Bool → List ℕ → List ℕ → Released → Call
 
 -- calls one after the other, the latest last
 infixl 10 _then_
@@ -41,39 +38,31 @@ pub data Called (s : Session) : Calls → Session → Type 0 where
   atStart : Called s start s
   offered : {t : Session} {calls : Calls} {octets : List ℕ} {r : AfterOffer} → Called s calls t → OfferOwes t octets r
       → Called s (calls then offer octets (r .answer)) (r .session)
-  asked : {t : Session} {calls : Calls} {old new : List ℕ} {r : AfterNext} → Called s calls t → NextOwes t old new r
-      → Called s (calls then next old new (r .answer)) (r .session)
-  gaveUp : {t : Session} {calls : Calls} {r : AfterGiveUp} → Called s calls t → GiveUpOwes t r
-      → Called s (calls then giveUp (r .answer)) (r .session)
+  released : {t : Session} {calls : Calls} {leave : Bool} {old new : List ℕ} {r : AfterRelease} → Called s calls t
+      → ReleaseOwes t leave old new r
+      → Called s (calls then release leave old new (r .answer)) (r .session)
 
 -- ---- what a call brought
 -- the octets of an offer that was accepted; a refused offer brings nothing
 abbrev pub acceptedIn : Call → Option (List ℕ)
 acceptedIn (offer octets outcome.Accepted) = some octets
 acceptedIn (offer octets (outcome.Refused why)) = none
-acceptedIn (next old new r) = none
-acceptedIn (giveUp r) = none
+acceptedIn (release leave old new r) = none
 
 -- the number of the refusal that it was answered with, or none
 abbrev pub callRefusal : Call → Option ℕ
 callRefusal (offer octets r) = refusalIn (offeredOutcome r)
-callRefusal (next old new r) = refusalIn (releasedOutcome r)
-callRefusal (giveUp r) = refusalIn (lostOutcome r)
+callRefusal (release leave old new r) = refusalIn (releasedOutcome r)
 
 -- ---- what left by a call
--- the number that an answer of next hands out, its octets at the front of the lent buffer; and that of give up
+-- the number that an answer of release hands out, its octets at the front of the lent buffer
 abbrev pub handedOut : Released → List ℕ → List Left
-handedOut (answer.Packet kind number size) buffer = released (stateOf kind) number (take size buffer) ∷ []
+handedOut (answer.Number kind number size) buffer = leftAs (stateOf kind) number (take size buffer) ∷ []
 handedOut (answer.Refused why) buffer = []
-
-abbrev pub givenUp : Lost → List Left
-givenUp (loss.Number number) = lost number ∷ []
-givenUp (loss.Refused why) = []
 
 abbrev pub leftIn : Call → List Left
 leftIn (offer octets r) = []
-leftIn (next old new r) = handedOut r new
-leftIn (giveUp r) = givenUp r
+leftIn (release leave old new r) = handedOut r new
 
 -- what left by some calls, in order
 unfoldable pub leftBy : Calls → List Left

@@ -13,6 +13,7 @@ use Rattle.demands.specs.OneOutcome.{OneOutcome}
 use Rattle.demands.specs.Sheet.{TwelveCases, MendedExample}
 use Rattle.demands.specs.Program.{Program}
 use Rattle.demands.specs.SecondReader.{SecondReader}
+use Rattle.demands.specs.OneCall.{OneCall}
 
 pub record Claims : Type 0 where
   pub demand1 : Demand1
@@ -38,3 +39,5 @@ pub record Claims : Type 0 where
   pub secondReader : SecondReader
   -- document 02, request 6: a trace played again with chosen losses; of what it releases demand 3 is not claimed
   pub replay : replays.Claims
+  -- document 02, request 7: one call in place of next and give up
+  pub oneCall : OneCall

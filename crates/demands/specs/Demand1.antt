@@ -2,14 +2,14 @@
 -- document 01 says, with the number it says, and then only. A refused call leaves the session and each lent buffer as they
 -- were." That a call ends is part of the proof of its contract, which asks nothing of its caller. The field of a call's name says
 -- that its refusal is the first row of its table that is given, and that it is not refused where none is; the field
--- beside it (`offerUnchanged`, `nextUnchanged`, ..) says what a refusal leaves. Readers change nothing. The refusals
+-- beside it (`offerUnchanged`, `releaseUnchanged`, ..) says what a refusal leaves. Readers change nothing. The refusals
 -- of the datagram and the packet reader are those of their definitions, met in reading order; apart from that order is told what
 -- they do not refuse (`isDatagram`, `isPacket`, `isRepaired`) and what they do (`datagramRefusals`, `packetRefusals`). The place that
 -- document 02, request 5, adds to a refusal stands there too, and for the other calls in `places`. Statements alone.
 use Prim.Native.Nat.{ℕ, _≤_}
 use mathlib.Core.Path.{_≡_}
 use mathlib.Core.Logic.{_↔_}
-use mathlib.Core.Bool.{true, cond}
+use mathlib.Core.Bool.{Bool, true, cond}
 use mathlib.Core.List.{List, _++_}
 use mathlib.Core.Option.{none, some}
 use lib.ListN.{length, replicate}
@@ -33,14 +33,13 @@ use Rattle.packets.specs.declared.types.Kind as packets
 use Rattle.packets.specs.declared.types.Ending.{Ending}
 use Rattle.packets.specs.declared.types.Ending.the-variants.{Whole, Repaired}
 use Rattle.packets.specs.declared.types.PacketRead.{PacketRead}
-use Rattle.leaving.specs.Outcome.{releasedOutcome, lostOutcome}
+use Rattle.leaving.specs.Outcome.{releasedOutcome}
 use Rattle.offering.specs.Outcome.{offeredOutcome}
 use Rattle.held.specs.Laid.{sessionInRanges}
 use Rattle.held.specs.declared.Session.{Session}
-use Rattle.sessions.specs.Receiver.{OfferOwes, NextOwes, GiveUpOwes}
+use Rattle.sessions.specs.Receiver.{OfferOwes, ReleaseOwes}
 use Rattle.sessions.specs.declared.receiver.AfterOffer.{AfterOffer}
-use Rattle.sessions.specs.declared.receiver.AfterNext.{AfterNext}
-use Rattle.sessions.specs.declared.receiver.AfterGiveUp.{AfterGiveUp}
+use Rattle.sessions.specs.declared.receiver.AfterRelease.{AfterRelease}
 use Rattle.sending.specs.Send.{carriedNext}
 use Rattle.sending.specs.Sender.{sendingOf}
 use Rattle.sending.specs.Promise.{senderRows, Sends}
@@ -51,7 +50,7 @@ use Rattle.frames.specs.Promise.{handedOutcome, FieldOwes, LossOwes}
 use Rattle.frames.specs.declared.Joiner.{Joiner}
 use Rattle.frames.specs.declared.Joined.{Joined}
 use Rattle.lines.specs.Hex.{octetsIn, lineRows, lineOctets}
-use Rattle.demands.specs.Refusals.{lengthRows, offerRows, nextRows, giveUpRows}
+use Rattle.demands.specs.Refusals.{lengthRows, offerRows, releaseRows}
 use Rattle.demands.specs.PacketRefusals.{PacketRefusals}
 use Rattle.demands.specs.DatagramRefusals.{DatagramRefusals}
 
@@ -127,13 +126,10 @@ pub record Receiving : Type 0 where
       → refusalIn (offeredOutcome (r .answer)) ≡ first (offerRows octets s)
   pub offerUnchanged : {s : Session} {octets : List ℕ} {r : AfterOffer} {n : ℕ} → OfferOwes s octets r
       → refusalIn (offeredOutcome (r .answer)) ≡ some n → r .session ≡ s
-  pub next : {s : Session} {old new : List ℕ} {r : AfterNext} → NextOwes s old new r
-      → refusalIn (releasedOutcome (r .answer)) ≡ first (nextRows old s)
-  pub nextUnchanged : {s : Session} {old new : List ℕ} {r : AfterNext} {n : ℕ} → NextOwes s old new r
+  pub release : {s : Session} {leave : Bool} {old new : List ℕ} {r : AfterRelease} → ReleaseOwes s leave old new r
+      → refusalIn (releasedOutcome (r .answer)) ≡ first (releaseRows leave old s)
+  pub releaseUnchanged : {s : Session} {leave : Bool} {old new : List ℕ} {r : AfterRelease} {n : ℕ} → ReleaseOwes s leave old new r
       → refusalIn (releasedOutcome (r .answer)) ≡ some n → (r .session ≡ s) × (new ≡ old)
-  pub giveUp : {s : Session} {r : AfterGiveUp} → GiveUpOwes s r → refusalIn (lostOutcome (r .answer)) ≡ first (giveUpRows s)
-  pub giveUpUnchanged : {s : Session} {r : AfterGiveUp} {n : ℕ} → GiveUpOwes s r → refusalIn (lostOutcome (r .answer)) ≡ some n
-      → r .session ≡ s
 
 -- ---- the sending session
 pub record SendingCalls : Type 0 where
@@ -155,8 +151,8 @@ pub record Places : Type 0 where
   pub offer : {s : Session} {octets : List ℕ} {r : AfterOffer} {q : DatagramRead} → OfferOwes s octets r → DatagramReads octets q
       → placeIn (offeredOutcome (r .answer)) ≡ cond (sessionInRanges s) (placeIn (readOutcome q)) 0
   -- "refusals not met while reading give 0"
-  pub next : {s : Session} {old new : List ℕ} {r : AfterNext} → NextOwes s old new r → placeIn (releasedOutcome (r .answer)) ≡ 0
-  pub giveUp : {s : Session} {r : AfterGiveUp} → GiveUpOwes s r → placeIn (lostOutcome (r .answer)) ≡ 0
+  pub release : {s : Session} {leave : Bool} {old new : List ℕ} {r : AfterRelease} → ReleaseOwes s leave old new r
+      → placeIn (releasedOutcome (r .answer)) ≡ 0
   pub lengthWriter : (n : ℕ) → Unplaced (lengthToWrite n)
   pub datagramWriter : (number : ℕ) (packet : List ℕ) (kind : Kind) (lengths run : List ℕ)
       → Unplaced (datagramToWrite number packet kind lengths run)

@@ -9,14 +9,14 @@ use Prim.Native.Nat.{ℕ, _+_, _-_, _%_, _≤_, _<_}
 use mathlib.Core.Path.{_≡_}
 use mathlib.Core.Logic.{_↔_}
 use mathlib.Core.Bool.{true, _||_}
-use mathlib.Core.List.{List, map, List·Memᴰ as Among}
+use mathlib.Core.List.{List, [], map, List·Memᴰ as Among}
 use mathlib.Core.Option.{some}
 use lib.ListN.{length, getD}
 use Rattle.octets.specs.Place.{tab}
 use Rattle.lengths.specs.Refusals.{outsideRanges}
 use Rattle.lengths.specs.Answers.{writtenOutcome}
 use Rattle.lengths.specs.Tables.{refusalIn}
-use Rattle.views.specs.Cells.{cellAt, keptBefore, keptNumbers}
+use Rattle.views.specs.Cells.{unknown, cellAt, keptBefore, keptNumbers}
 use Rattle.views.specs.Reached.{Known}
 use Rattle.views.specs.View.{View, Counts, sum, numbers}
 use Rattle.held.specs.Table.{viewOf}
@@ -27,7 +27,7 @@ use Rattle.sending.specs.Promise.{Sends}
 use Rattle.sending.specs.declared.Sender.{Sender}
 use Rattle.sending.specs.declared.Sent.{Sent}
 use Rattle.sending.specs.declared.Settings.{Settings}
-use Rattle.demands.specs.History.{Left, released, lost, numberLeft, isReceived, isSpare, isRepaired, isLost, historyCounts}
+use Rattle.demands.specs.History.{Left, leftAs, isReceived, isSpare, isRepaired, isLost, historyCounts}
 use Rattle.demands.specs.Calls.{Call, Calls, _then_, Called, callRefusal, leftBy}
 use Rattle.demands.specs.GoesOn.{GoesOn}
 use Rattle.demands.specs.ReachedBy.{gone, ReachedBy}
@@ -49,12 +49,12 @@ pub data Begins (s : Session) : Type 0 where
 
 -- released as received, spare or repaired, or lost
 abbrev pub OneKind : Left → Type 0
-OneKind x = (isReceived x || (isSpare x || (isRepaired x || isLost x))) ≡ true
+OneKind x = (isReceived (x .kind) || (isSpare (x .kind) || (isRepaired (x .kind) || isLost (x .kind)))) ≡ true
 
 -- what left a session fresh at its start, and where that took it
 pub record FreshLeaves (left : List Left) (after : View) : Type 0 where
   -- in order, each place once: the j-th number to leave, from 0, is j
-  pub inOrder : map numberLeft left ≡ tab (length left) (λ j. j % numbers)
+  pub inOrder : map (λ (x : Left). x .number) left ≡ tab (length left) (λ j. j % numbers)
   pub kinds : (x : Left) → Among x left → OneKind x
   -- "Each equals the number of such moves since the start"
   pub counts : after .counts ≡ historyCounts left
@@ -75,7 +75,7 @@ grown c more =
 -- the same of a saved session, from its own base and counts
 pub record SavedLeaves (before : View) (left : List Left) (after : View) : Type 0 where
   -- the j-th number to leave, from 0, is j after the base
-  pub inOrder : map numberLeft left ≡ tab (length left) (λ j. (before .base + j) % numbers)
+  pub inOrder : map (λ (x : Left). x .number) left ≡ tab (length left) (λ j. (before .base + j) % numbers)
   pub kinds : (x : Left) → Among x left → OneKind x
   pub counts : after .counts ≡ grown (before .counts) (historyCounts left)
   pub advance : sum (after .counts) ≡ sum (before .counts) + length left
@@ -89,8 +89,8 @@ pub record StaysKnown (before : View) (left : List Left) (after : View) (p : ℕ
   pub stays : length left ≤ p → cellAt (after .cells) (p - length left) ≡ cellAt (before .cells) p
   -- from the base on it leaves in its turn, released with that kind and those octets
   pub leaves : keptBefore ≤ p → p < keptBefore + length left
-      → getD left (p - keptBefore) (lost 0)
-      ≡ released ((cellAt (before .cells) p) .state) ((before .base + (p - keptBefore)) % numbers) ((cellAt (before .cells) p) .octets)
+      → getD left (p - keptBefore) (leftAs unknown 0 [])
+      ≡ leftAs ((cellAt (before .cells) p) .state) ((before .base + (p - keptBefore)) % numbers) ((cellAt (before .cells) p) .octets)
 
 -- ---- the demand: of every chain of public calls, with whatever they answered, refusals among them
 pub record Demand2 : Type 0 where

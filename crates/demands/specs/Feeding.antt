@@ -4,6 +4,7 @@
 -- offered over 32,000 places from the base". Definitions only.
 use Prim.Native.Nat.{ℕ, _+_, _≤_, _<_}
 use mathlib.Core.Path.{_≡_}
+use mathlib.Core.Bool.{Bool}
 use mathlib.Core.List.{List, [], _∷_}
 use lib.ListN.{length, getD}
 use Rattle.lengths.specs.Refusals as refusals
@@ -13,10 +14,9 @@ use Rattle.held.specs.Table.{viewOf}
 use Rattle.held.specs.Promise.{Fresh}
 use Rattle.held.specs.declared.Session.{Session}
 use Rattle.offering.specs.declared.Offered.the-variants as answer
-use Rattle.sessions.specs.Receiver.{OfferOwes, NextOwes, GiveUpOwes}
+use Rattle.sessions.specs.Receiver.{OfferOwes, ReleaseOwes}
 use Rattle.sessions.specs.declared.receiver.AfterOffer.{AfterOffer}
-use Rattle.sessions.specs.declared.receiver.AfterNext.{AfterNext}
-use Rattle.sessions.specs.declared.receiver.AfterGiveUp.{AfterGiveUp}
+use Rattle.sessions.specs.declared.receiver.AfterRelease.{AfterRelease}
 use Rattle.sending.specs.Honest as sending
 
 -- "32,000 places from the base"
@@ -51,12 +51,12 @@ module _ (row datagrams : List (List ℕ)) where
     pub call : OfferOwes s octets r
 
   -- the sessions that this sender alone feeds, from a fresh one on: offers of its datagrams in any order and as often as may
-  -- be, accepted or refused, and releases and give-ups among them
+  -- be, accepted or refused, and releases among them, with leave to skip or without
   pub data Fed : Session → Type 0 where
     fresh : {s : Session} → Fresh s → Fed s
     offered : {s : Session} {S : ℕ} {r : AfterOffer} → Fed s → Offers S s r → Fed (r .session)
-    asked : {s : Session} {old new : List ℕ} {r : AfterNext} → Fed s → NextOwes s old new r → Fed (r .session)
-    gaveUp : {s : Session} {r : AfterGiveUp} → Fed s → GiveUpOwes s r → Fed (r .session)
+    released : {s : Session} {leave : Bool} {old new : List ℕ} {r : AfterRelease} → Fed s → ReleaseOwes s leave old new r
+        → Fed (r .session)
 
   -- a list of "accepted or repeated datagrams", with "no release or give-up meanwhile": from one session to another
   pub data Takes : List ℕ → Session → Session → Type 0 where

@@ -5,24 +5,23 @@ use Rattle.lengths.specs.Answers.{over}
 use Rattle.views.specs.View.{View}
 use Rattle.views.specs.Offer as offers
 use Rattle.views.specs.Release as releases
-use Rattle.leaving.specs.Outcome.{releasedOutcome, lostOutcome, handedOf, octetsHanded, numberLost}
+use Rattle.leaving.specs.Outcome.{releasedOutcome, handedOf, octetsHanded}
 use Rattle.offering.specs.Outcome.{offeredOutcome, acceptedOf}
 use Rattle.demands.specs.History as moves
 use Rattle.demands.specs.History.{Move, afterMove}
-use Rattle.demands.specs.Calls.{Call, offer, next, giveUp, Calls, start, _then_}
+use Rattle.demands.specs.Calls.{Call, offer, release, Calls, start, _then_}
 
 -- what was called
 abbrev pub moveOf : Call → Move
 moveOf (offer octets r) = moves.offer octets
-moveOf (next old new r) = moves.next (length old)
-moveOf (giveUp r) = moves.giveUp
+moveOf (release leave old new r) = moves.release leave (length old)
 
 -- the call's answer and its lent buffer are as document 01 says, of a session that holds this
 abbrev pub Says : View → Call → Type 0
 Says view (offer octets r) = offeredOutcome r ≡ acceptedOf (offers.offer octets view)
-Says view (next old new r) =
-    (releasedOutcome r ≡ handedOf (releases.next (length old) view)) × (new ≡ over (octetsHanded (releases.next (length old) view)) old)
-Says view (giveUp r) = lostOutcome r ≡ numberLost (releases.giveUp view)
+Says view (release leave old new r) =
+    (releasedOutcome r ≡ handedOf (releases.release leave (length old) view))
+    × (new ≡ over (octetsHanded (releases.release leave (length old) view)) old)
 
 -- each of the calls as document 01 says, from a session that holds the one to a session that holds the other
 pub data GoesOn (view : View) : Calls → View → Type 0 where

@@ -5,70 +5,63 @@ use Prim.Native.Nat.{ℕ, _+_}
 use mathlib.Core.List.{List, [], _∷_}
 use mathlib.Core.Bool.{Bool, true, false, cond}
 use Rattle.lengths.specs.Answers.{afterwards}
-use Rattle.views.specs.Cells.{State, unknown, received, spare, repaired, blank}
+use Rattle.views.specs.Cells.{State, unknown, received, spare, repaired, blank, isUnknown}
 use Rattle.views.specs.View.{View, Counts}
 use Rattle.views.specs.Offer as offers
 use Rattle.views.specs.Release as releases
-use Rattle.views.specs.Release.{viewAfterNext, viewAfterLoss}
+use Rattle.views.specs.Release.{viewAfterRelease}
 
 -- one call
 pub data Move : Type 0 where
   -- any octets are offered
   offer : List ℕ → Move
-  -- next, with a lent buffer of so many octets
-  next : ℕ → Move
-  giveUp : Move
+  -- a release, with leave to skip or without, and with a lent buffer of so many octets
+  release : Bool → ℕ → Move
 
--- a number that left: released with its kind and octets, or lost
-pub data Left : Type 0 where
-  released : State → ℕ → List ℕ → Left
-  lost : ℕ → Left
+-- a number that left: released as received, spare or repaired, with its octets; or lost, which is unknown
+pub record Left : Type 0 where
+  pub kind : State
+  pub number : ℕ
+  pub octets : List ℕ
 
--- that number
-abbrev pub numberLeft : Left → ℕ
-numberLeft (released kind number octets) = number
-numberLeft (lost number) = number
+abbrev pub leftAs : State → ℕ → List ℕ → Left
+leftAs kind number octets = record { kind = kind; number = number; octets = octets }
 
 -- the session after a call: "A refusal .. changes nothing."
 unfoldable pub afterMove : Move → View → View
 afterMove (offer octets) view = afterwards (offers.offer octets view) view
-afterMove (next room) view = afterwards (viewAfterNext (releases.next room view)) view
-afterMove giveUp view = afterwards (viewAfterLoss (releases.giveUp view)) view
+afterMove (release leave room) view = afterwards (viewAfterRelease (releases.release leave room view)) view
 
 -- ---- "Four counts: received, spare, repaired (each released) and lost. Each equals the number of such moves since the start"
 
-abbrev pub isReceived : Left → Bool
-isReceived (released unknown number octets) = false
-isReceived (released received number octets) = true
-isReceived (released spare number octets) = false
-isReceived (released repaired number octets) = false
-isReceived (released blank number octets) = false
-isReceived (lost number) = false
+abbrev pub isReceived : State → Bool
+isReceived unknown = false
+isReceived received = true
+isReceived spare = false
+isReceived repaired = false
+isReceived blank = false
 
-abbrev pub isSpare : Left → Bool
-isSpare (released unknown number octets) = false
-isSpare (released received number octets) = false
-isSpare (released spare number octets) = true
-isSpare (released repaired number octets) = false
-isSpare (released blank number octets) = false
-isSpare (lost number) = false
+abbrev pub isSpare : State → Bool
+isSpare unknown = false
+isSpare received = false
+isSpare spare = true
+isSpare repaired = false
+isSpare blank = false
 
-abbrev pub isRepaired : Left → Bool
-isRepaired (released unknown number octets) = false
-isRepaired (released received number octets) = false
-isRepaired (released spare number octets) = false
-isRepaired (released repaired number octets) = true
-isRepaired (released blank number octets) = false
-isRepaired (lost number) = false
+abbrev pub isRepaired : State → Bool
+isRepaired unknown = false
+isRepaired received = false
+isRepaired spare = false
+isRepaired repaired = true
+isRepaired blank = false
 
-abbrev pub isLost : Left → Bool
-isLost (released kind number octets) = false
-isLost (lost number) = true
+abbrev pub isLost : State → Bool
+isLost = isUnknown
 
--- how many of a list pass a test
-unfoldable pub many : (Left → Bool) → List Left → ℕ
+-- how many of a list are of a kind that passes a test
+unfoldable pub many : (State → Bool) → List Left → ℕ
 many test [] = 0
-many test (left ∷ more) = cond (test left) 1 0 + many test more
+many test (x ∷ more) = cond (test (x .kind)) 1 0 + many test more
 
 -- the four counts of a history
 abbrev pub historyCounts : List Left → Counts

@@ -27,9 +27,8 @@ use Rattle.held.specs.Laid.{lentInRanges}
 use Rattle.held.specs.declared.Counts.{Counts}
 use Rattle.keeping.specs.Promise.{MayKeep, Keeps, KeepsSpares, MayHold, Holds}
 use Rattle.repairing.specs.Promise.{MayMend, Mends}
-use Rattle.leaving.specs.Promise.{Releases, GivesUp}
+use Rattle.leaving.specs.Promise.{Releases}
 use Rattle.leaving.specs.declared.Released.{Released}
-use Rattle.leaving.specs.declared.Lost.{Lost}
 use Rattle.offering.specs.Promise.{Offers}
 use Rattle.offering.specs.declared.Offered.{Offered}
 use Rattle.sending.specs.Sender as sender
@@ -86,8 +85,8 @@ pub record InHeld : Type 0 where
   pub setMessageSize : (t : List ℕ) (slot size : ℕ) → One (λ (new : List ℕ). new ≡ set t (messagePlace slot) size)
   pub dropHeard : (t : List ℕ) (slot : ℕ) → One (λ (new : List ℕ). new ≡ heardDropped t slot)
 
--- the receiving session's: `checking::in_ranges`, `keep`, `keep_spares` and `hold` of `keeping`, `repairing::mend`, `next_core` and
--- `give_up_core` of `leaving`, `offering::offer_core`. All that is lent after a call is one, base and counts too
+-- the receiving session's: `checking::in_ranges`, `keep`, `keep_spares` and `hold` of `keeping`, `repairing::mend`,
+-- `leaving::release_core`, `offering::offer_core`. All that is lent after a call is one, base and counts too
 pub record InReceiving : Type 0 where
   pub inRanges : (base : ℕ) (counts : Counts) (t o g : List ℕ) → One (λ (r : Bool). r ≡ lentInRanges (lent base counts t o g))
   pub keep : (state number : ℕ) (b t o : List ℕ) → MayKeep number 0 t o
@@ -97,10 +96,9 @@ pub record InReceiving : Type 0 where
   pub hold : (base d : ℕ) (s : List ℕ) (n : ℕ) (items : List Part) (count : ℕ) (t g : List ℕ) → MayHold base t g d
       → OneLent (λ (newG newT : List ℕ). Holds base d s n items count t g newT newG)
   pub mend : (base : ℕ) (t o g : List ℕ) → MayMend base t o g → OneLent (λ (newO newT : List ℕ). Mends base t o g newT newO)
-  pub nextCore : {before after other : Lent} {old new newer : List ℕ} {r q : Released} → Releases before after old new r
-      → Releases before other old newer q
+  pub releaseCore : {leave : Bool} {before after other : Lent} {old new newer : List ℕ} {r q : Released}
+      → Releases leave before after old new r → Releases leave before other old newer q
       → (r ≡ q) × (after ≡ other) × (new ≡ newer)
-  pub giveUpCore : {before after other : Lent} {r q : Lost} → GivesUp before after r → GivesUp before other q → (r ≡ q) × (after ≡ other)
   pub offerCore : {octets : List ℕ} {before after other : Lent} {r q : Offered} → Offers octets before after r
       → Offers octets before other q
       → (r ≡ q) × (after ≡ other)

@@ -26,7 +26,7 @@ use Rattle.views.specs.View as views
 use Rattle.held.specs.Slots as slots
 use Rattle.held.specs.Table as table
 use Rattle.held.specs.declared.Counts.{Counts}
-use Rattle.held.specs.declared.State.{State}
+use Rattle.held.specs.declared.Kind as kinds
 use Rattle.sending.specs.Sending as history
 use Rattle.sending.specs.Sender as sender
 use Rattle.frames.specs.Frame as frames
@@ -122,7 +122,7 @@ pub record ToldByLines : Type 0 where
   pub keptLimit : One (λ (r : ℕ). r ≡ feed.keptLimit)
   pub stepLimit : One (λ (r : ℕ). r ≡ steps.stepLimit)
   pub allDigits : (line : List ℕ) → One (λ (r : Bool). r ≡ hex.allDigits line)
-  pub kindOctet : (kind : State) → One (λ (r : ℕ). r ≡ lines.kindOctet (table.stateOf kind))
+  pub kindOctet : (kind : kinds.Kind) → One (λ (r : ℕ). r ≡ lines.kindOctet (table.stateOf kind))
   pub findFeed : (s : List ℕ) → One (Found s)
 
 -- `frames`: `limit` of `Joiner`

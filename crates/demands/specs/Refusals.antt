@@ -4,12 +4,12 @@
 -- `datagramWriterRows`, `packetWriterRows`, `senderRows`, `lineRows`. Here are those of the length reader and of the receiving
 -- session; what the packet reader and the datagram reader refuse stands in PacketItems and DatagramRefusals. Definitions only.
 use Prim.Native.Nat.{ℕ, _+_, _*_}
-use mathlib.Core.Bool.{not, _&&_}
+use mathlib.Core.Bool.{Bool, not, _&&_}
 use mathlib.Core.List.{List, [], _∷_}
 use mathlib.Core.Option.{Option}
 use lib.ListN.{length, getD}
 use lib.Dec.{leb, ltb}
-use Rattle.lengths.specs.Refusals.{endsEarly, badForm, repeated, tooFar, late, baseUnknown, baseKnown, noRoom}
+use Rattle.lengths.specs.Refusals.{endsEarly, badForm, repeated, tooFar, late, baseUnknown, noRoom}
 use Rattle.lengths.specs.Refusals.{allPassed, outsideRanges}
 use Rattle.lengths.specs.Tables.{when, refusalIn}
 use Rattle.lengths.specs.Length.{ofTwo}
@@ -45,19 +45,11 @@ offerRows octets s =
     ∷ when (acceptedAt (viewOf s) (distanceTo octets s)) repeated
     ∷ []
 
--- ---- "Next 17, 16, 10, 13."
-unfoldable pub nextRows : List ℕ → Session → List (Option ℕ)
-nextRows lent s =
+-- ---- release: "the order is 17, 16, 10, 13" (document 02, request 7)
+unfoldable pub releaseRows : Bool → List ℕ → Session → List (Option ℕ)
+releaseRows leave lent s =
     when (not (sessionInRanges s)) outsideRanges
     ∷ when (leb sessionLimit (sum ((viewOf s) .counts))) allPassed
-    ∷ when (unknownAt ((viewOf s) .cells) keptBefore) baseUnknown
+    ∷ when (unknownAt ((viewOf s) .cells) keptBefore && not leave) baseUnknown
     ∷ when (ltb (length lent) (length ((atBase (viewOf s)) .octets))) noRoom
-    ∷ []
-
--- ---- "Give up 17, 16, 11."
-unfoldable pub giveUpRows : Session → List (Option ℕ)
-giveUpRows s =
-    when (not (sessionInRanges s)) outsideRanges
-    ∷ when (leb sessionLimit (sum ((viewOf s) .counts))) allPassed
-    ∷ when (not (unknownAt ((viewOf s) .cells) keptBefore)) baseKnown
     ∷ []

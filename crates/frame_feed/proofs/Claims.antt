@@ -45,5 +45,6 @@ claims =
           λ heard {j} {frames} fresh fed.
           joiner.claims .anyEvents .handed (HandedOut.fresh fresh) fed
           ∙ ap (λ (v : Joining). handedBy v (eventsFrom heard)) (ap joiningOf (fresh .state) ∙ held-joining freshJoining);
+      lostAlike = refl;
       example = refl;
     }

@@ -2,13 +2,13 @@
 use Prim.Native.Nat.{ℕ}
 use mathlib.Core.Path.{_≡_}
 use mathlib.Core.List.{List, [], _∷_}
-use Rattle.views.specs.Cells.{State, received, spare, repaired}
+use Rattle.views.specs.Cells.{State, unknown, received, spare, repaired}
 use Rattle.frames.specs.Frame.{Frame, good}
 use Rattle.frames.specs.Promise.{FreshMade}
 use Rattle.frames.specs.Claims.{HandsOut}
 use Rattle.frames.specs.declared.Joiner.{Joiner}
 use Rattle.frames.specs.declared.Joined.{Joined}
-use Rattle.frame_feed.specs.Feed.{Heard, released, lost, eventsFrom, framesFrom}
+use Rattle.frame_feed.specs.Feed.{Heard, released, lost, eventsOf, eventsFrom, framesFrom}
 use Rattle.frame_feed.specs.Promise.{TurnsTold, FeedOwes}
 
 -- two outcomes that a promise allows are equal
@@ -37,4 +37,6 @@ pub record Claims : Type 0 where
   -- whatever left a session, fed to a fresh joiner with room for any frame, hands out the frames of the definition
   pub frames : (heard : List Heard) {j : Joiner} {frames : List Frame} → FreshMade j → HandsOut j (eventsFrom heard) frames
       → frames ≡ framesFrom heard
+  -- a lost number, which has no octets, may be fed as a packet is
+  pub lostAlike : eventsOf (released unknown []) ≡ eventsOf lost
   pub example : framesFrom exampleHeard ≡ good (0xFF ∷ 0x13 ∷ 0x80 ∷ []) ∷ good (0xAA ∷ []) ∷ []

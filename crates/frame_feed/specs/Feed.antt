@@ -1,4 +1,4 @@
--- Document 02, request 1, over the receiving session: what next released and give up booked lost, as a joiner is fed with it. A packet
+-- Document 02, request 1, over the receiving session: the numbers that left it, released or lost, as a joiner is fed with them. A packet
 -- is read by its kind, as received or as repaired, and its fields are fed one by one; a packet that is refused counts as a loss, since
 -- nothing in it can be trusted. Definitions only.
 use Prim.Native.Nat.{ℕ}
@@ -10,11 +10,10 @@ use Rattle.packets.specs.declared.types.Ending.{Ending}
 use Rattle.packets.specs.declared.types.Ending.the-variants.{Whole, Repaired}
 use Rattle.packets.specs.declared.types.Field as packets
 use Rattle.views.specs.Cells.{State, unknown, received, spare, repaired, blank}
-use Rattle.held.specs.Table.{stateOf}
+use Rattle.held.specs.declared.Kind.{Kind}
+use Rattle.held.specs.declared.Kind.the-variants as kinds
 use Rattle.leaving.specs.declared.Released.{Released}
 use Rattle.leaving.specs.declared.Released.the-variants as answer
-use Rattle.leaving.specs.declared.Lost.{Lost}
-use Rattle.leaving.specs.declared.Lost.the-variants as loss
 use Rattle.frames.specs.Frame.{Frame, freshJoining}
 use Rattle.frames.specs.Line.{Field, Event, aField, aLoss, handedBy}
 
@@ -23,14 +22,16 @@ pub data Heard : Type 0 where
   released : State → List ℕ → Heard
   lost : Heard
 
--- what an answer of next hands out, at the front of the lent buffer, and what an answer of give up books; a refusal is neither
-abbrev pub heardNext : Released → List ℕ → List Heard
-heardNext (answer.Packet kind number size) buffer = released (stateOf kind) (take size buffer) ∷ []
-heardNext (answer.Refused why) buffer = []
+-- what an answer of release hands out, its packet at the front of the lent buffer; a refusal is nothing
+abbrev pub heardAs : Kind → List ℕ → Heard
+heardAs kinds.Received octets = released received octets
+heardAs kinds.Spare octets = released spare octets
+heardAs kinds.Repaired octets = released repaired octets
+heardAs kinds.Lost octets = lost
 
-abbrev pub heardLost : Lost → List Heard
-heardLost (loss.Number number) = lost ∷ []
-heardLost (loss.Refused why) = []
+abbrev pub heardFrom : Released → List ℕ → List Heard
+heardFrom (answer.Number kind number size) buffer = heardAs kind (take size buffer) ∷ []
+heardFrom (answer.Refused why) buffer = []
 
 -- "A received or spare packet ends at its last field. A repaired one may go on with zeros only"
 abbrev pub endingOf : State → Ending

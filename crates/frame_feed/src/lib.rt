@@ -1,5 +1,5 @@
-// From a receiving session to frames: document 02, request 1, over what next released. A packet that reads is fed to the joiner field
-// by field, one that does not read is fed to it as one lost number. A number that give up booked lost is fed by `frame_joiner::lost`.
+// From a receiving session to frames: document 02, request 1, over what release answers. A packet that reads is fed to the joiner field
+// by field, one that does not read is fed to it as one lost number. A lost number, which has no octets, is fed alike.
 mod turn;
 
 use frame_joiner::field;
@@ -7,7 +7,7 @@ use frame_joiner::lost;
 use frames::Handed;
 use frames::Joined;
 use frames::Joiner;
-use held::State;
+use held::Kind;
 use turn::Turn;
 use turn::turn_of;
 ghost use mathlib.Core.Path.{_≡_};
@@ -17,9 +17,9 @@ ghost use Rattle.frame_feed.specs.Feed.{eventsOf, released};
 ghost use Rattle.frame_feed.specs.Promise.{FeedOwes};
 pub use turn::turns;
 
-// The turn-th thing that a released packet of this kind is to the joiner, from 0: one of its fields, or a loss. Past the last one
+// The turn-th thing that a number of this kind and packet is to the joiner, from 0: one of its fields, or a loss. Past the last one
 // nothing is done. A frame that ends is written to the front of out.
-pub fn feed(joiner: Joiner, kind: State, packet: &[u8], turn: usize, out: &mut [u8]) -> Joined
+pub fn feed(joiner: Joiner, kind: Kind, packet: &[u8], turn: usize, out: &mut [u8]) -> Joined
     ensures { λ r. ⌜ FeedOwes joiner (stateOf kind) (now (packet .entry)) turn (now (out .entry)) (now (out .exit)) r ⌝ }
 {
     let event = turn_of(kind, packet, turn);

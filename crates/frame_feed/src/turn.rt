@@ -1,5 +1,5 @@
 // What a released packet is to the joiner, turn by turn.
-use held::State;
+use held::Kind;
 use packets::Ending;
 use packets::Field;
 use packets::Reading;
@@ -18,20 +18,19 @@ pub enum Turn {
 }
 
 // "packets read as received or as repaired by their kind".
-fn ending_of(kind: State) -> Ending
+fn ending_of(kind: Kind) -> Ending
     ensures { λ r. ⌜ r ≡ endingOf (stateOf kind) ⌝ }
 {
     match kind {
-        State::Unknown => Ending::Whole,
-        State::Received => Ending::Whole,
-        State::Spare => Ending::Whole,
-        State::Repaired => Ending::Repaired,
-        State::Blank => Ending::Whole,
+        Kind::Received => Ending::Whole,
+        Kind::Spare => Ending::Whole,
+        Kind::Repaired => Ending::Repaired,
+        Kind::Lost => Ending::Whole,
     }
 }
 
 // How many turns a released packet of this kind takes.
-pub fn turns(kind: State, packet: &[u8]) -> usize
+pub fn turns(kind: Kind, packet: &[u8]) -> usize
     ensures { λ r. ⌜ TurnsTold (stateOf kind) (now (packet .entry)) r ⌝ }
 {
     let ending = ending_of(kind);
@@ -48,7 +47,7 @@ pub fn turns(kind: State, packet: &[u8]) -> usize
 }
 
 // One of them.
-pub fn turn_of(kind: State, packet: &[u8], turn: usize) -> Turn
+pub fn turn_of(kind: Kind, packet: &[u8], turn: usize) -> Turn
     ensures { λ r. ⌜ TurnTold (stateOf kind) (now (packet .entry)) turn r ⌝ }
 {
     let ending = ending_of(kind);

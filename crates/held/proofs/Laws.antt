@@ -4,8 +4,8 @@
 pub use Rattle.held.proofs.Slots.{slot-small, heard-small, message-small, slot-apart, heard-apart, message-apart, apart-before}
 pub use Rattle.held.proofs.Slots.{apart-here, has-packet-slot, has-message-slot, slot-of, heard-slot-of, slot-after, slot-comes}
 pub use Rattle.held.proofs.Slots.{heard-after, heard-leaves}
--- ---- states
-pub use Rattle.held.proofs.States.{state-same}
+-- ---- kinds and states
+pub use Rattle.held.proofs.States.{kind-same}
 -- ---- what the view says of a place of the table
 pub use Rattle.held.proofs.Seen.{length-cells, length-held, cell-at, held-at, unknown-at, octets-long, octet-at, cell-right}
 pub use Rattle.held.proofs.Seen.{held-right, unknown-empty, n-small}

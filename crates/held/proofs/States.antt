@@ -1,25 +1,24 @@
--- The state as an answer names it and document 01's word for it: one word, one state. Assumes nothing.
+-- The kind as an answer names it and document 01's word for it: one word, one kind. Assumes nothing.
 use mathlib.Core.Path.{_≡_, refl, sym, ap, _∙_}
 use Rattle.views.specs.Cells as cells
 use Rattle.held.specs.Table.{stateOf}
-use Rattle.held.specs.declared.State.{State}
-use Rattle.held.specs.declared.State.the-variants.{Unknown, Received, Spare, Repaired, Blank}
+use Rattle.held.specs.declared.Kind.{Kind}
+use Rattle.held.specs.declared.Kind.the-variants.{Received, Spare, Repaired, Lost}
 
--- the state as an answer names it, from document 01's word
-state-named : cells.State → State
-state-named cells.unknown = Unknown
-state-named cells.received = Received
-state-named cells.spare = Spare
-state-named cells.repaired = Repaired
-state-named cells.blank = Blank
+-- the kind as an answer names it, from document 01's word; a blank number has none
+kind-named : cells.State → Kind
+kind-named cells.unknown = Lost
+kind-named cells.received = Received
+kind-named cells.spare = Spare
+kind-named cells.repaired = Repaired
+kind-named cells.blank = Lost
 
-named-state : (s : State) → state-named (stateOf s) ≡ s
-unfolding state-named
-named-state Unknown = refl
-named-state Received = refl
-named-state Spare = refl
-named-state Repaired = refl
-named-state Blank = refl
+named-kind : (k : Kind) → kind-named (stateOf k) ≡ k
+unfolding kind-named
+named-kind Received = refl
+named-kind Spare = refl
+named-kind Repaired = refl
+named-kind Lost = refl
 
-pub state-same : (s t : State) → stateOf s ≡ stateOf t → s ≡ t
-state-same s t e = sym (named-state s) ∙ ap state-named e ∙ named-state t
+pub kind-same : (k l : Kind) → stateOf k ≡ stateOf l → k ≡ l
+kind-same k l e = sym (named-kind k) ∙ ap kind-named e ∙ named-kind l

@@ -14,8 +14,8 @@ use Rattle.stores.specs.Store.{part}
 use Rattle.views.specs.View as views
 use Rattle.views.specs.View.{View}
 use Rattle.held.specs.Slots.{slotsKept, slotsHeard, slotsMessages, slotAt, heardSlotAt, messageSlot}
-use Rattle.held.specs.declared.State.{State}
-use Rattle.held.specs.declared.State.the-variants.{Unknown, Received, Spare, Repaired, Blank}
+use Rattle.held.specs.declared.Kind.{Kind}
+use Rattle.held.specs.declared.Kind.the-variants.{Received, Spare, Repaired, Lost}
 use Rattle.held.specs.declared.Counts.{Counts}
 use Rattle.held.specs.declared.Session.{Session}
 
@@ -68,13 +68,12 @@ unfoldable pub stateNumbered : ℕ → cells.State
 stateNumbered n =
     cond (eqb n 0) cells.unknown (cond (eqb n 1) cells.received (cond (eqb n 2) cells.spare (cond (eqb n 3) cells.repaired cells.blank)))
 
--- each state that an answer names, in document 01's word
-abbrev pub stateOf : State → cells.State
-stateOf Unknown = cells.unknown
+-- the state in which a number leaves, by the kind that an answer names: a lost one is unknown, and a blank one never leaves
+abbrev pub stateOf : Kind → cells.State
 stateOf Received = cells.received
 stateOf Spare = cells.spare
 stateOf Repaired = cells.repaired
-stateOf Blank = cells.blank
+stateOf Lost = cells.unknown
 
 abbrev pub countsOf : Counts → views.Counts
 countsOf c = record { received = c .received; spare = c .spare; repaired = c .repaired; lost = c .lost }

@@ -26,13 +26,12 @@ ghost use Rattle.views.specs.View.{sessionLimit};
 ghost use Rattle.held.specs.Slots.{slotsKept, slotsHeard, keptOctets, messageOctets};
 ghost use Rattle.held.specs.Table.{places};
 
-// The state of a kept number, as the answers name it. In the table it is a number.
-pub enum State {
-    Unknown,
+// The kind of a number that leaves, as the answers name it. In the table a state is a number.
+pub enum Kind {
     Received,
     Spare,
     Repaired,
-    Blank,
+    Lost,
 }
 
 // The moves since the start, of each kind.

@@ -1,21 +1,19 @@
 -- The number at the base of a session within its ranges. Assumes nothing.
-use Prim.Native.Nat.{ℕ, _+_, _%_, _≤_, _<_}
+use Prim.Native.Nat.{ℕ, _%_, _≤_, _<_}
 use mathlib.Core.Path.{_≡_, sym, ap, _∙_}
-use mathlib.Core.Bool.{Bool, true, false, false≢true}
+use mathlib.Core.Bool.{Bool, true, false}
 use mathlib.Core.List.{List}
 use lib.ListN.{length}
-use lib.Dec.{eqb}
 use native.Mathlib.Omega.{arith}
 use borrow.Author.Tests.{leb-false}
-use Rattle.octets.proofs.Laws.{tab-at, and-right}
+use Rattle.octets.proofs.Laws.{tab-at}
 use Rattle.datagrams.specs.Sizes.{packetLimit}
-use Rattle.views.specs.Cells.{State, unknown, received, spare, repaired, blank, Cell, blankCell, isUnknown, cellAt, unknownAt, keptBefore}
+use Rattle.views.specs.Cells.{Cell, blankCell, isUnknown, cellAt, unknownAt, keptBefore}
 use Rattle.views.specs.Cells.{keptNumbers}
 use Rattle.stores.specs.Store.{HasSlot}
 use Rattle.stores.proofs.Laws.{length-part}
-use Rattle.views.specs.View as views
 use Rattle.views.specs.View.{sum, sessionLimit}
-use Rattle.views.specs.Release.{counted, atBase}
+use Rattle.views.specs.Release.{atBase}
 use Rattle.views.specs.Ranges.{sizeRight}
 use Rattle.held.specs.Slots.{slotAt, slotsKept}
 use Rattle.held.specs.Table.{lent, countsOf, stateIn, sizeIn, stateNumbered, cellIn, cellsOf, viewIn}
@@ -23,15 +21,6 @@ use Rattle.held.specs.Laid.{InRanges}
 use Rattle.held.specs.declared.Counts.{Counts}
 use Rattle.held.proofs.Laws.{has-packet-slot}
 use Rattle.leaving.specs.Steps.{Passed}
-
--- a number at the base is not blank: one count is one more
-pub sum-counted : (s : State) (n : ℕ) (c : views.Counts) → sizeRight s n false ≡ true → sum (counted s c) ≡ sum c + 1
-unfolding sizeRight
-sum-counted unknown n c e = omega arith
-sum-counted received n c e = omega arith
-sum-counted spare n c e = omega arith
-sum-counted repaired n c e = omega arith
-sum-counted blank n c e = absurd (false≢true (and-right (eqb n 0) false e))
 
 pub goes-on : {c : Counts} {p : Bool} → Passed c p → p ≡ false → sum (countsOf c) < sessionLimit
 goes-on {c} limit more = leb-false sessionLimit (sum (countsOf c)) (sym (limit .test) ∙ more)

@@ -4,27 +4,19 @@ use Prim.Native.Nat.{ℕ}
 use mathlib.Core.Path.{_≡_, ap}
 use native.Mathlib.Omega.{arith}
 use Rattle.held.specs.Table.{stateOf}
-use Rattle.held.proofs.Laws.{state-same}
-use Rattle.leaving.specs.Outcome.{Handed, releasedOutcome, lostOutcome}
+use Rattle.held.proofs.Laws.{kind-same}
+use Rattle.leaving.specs.Outcome.{Handed, releasedOutcome}
 use Rattle.leaving.specs.declared.Released.{Released}
 use Rattle.leaving.specs.declared.Released.the-variants as released
-use Rattle.leaving.specs.declared.Lost.{Lost}
-use Rattle.leaving.specs.declared.Lost.the-variants as lost
 
 pub released-told : (r q : Released) → releasedOutcome r ≡ releasedOutcome q → r ≡ q
-released-told (released.Packet k n s) (released.Packet l m t) e =
+released-told (released.Number k n s) (released.Number l m t) e =
     let same : _≡_ {A = Handed} (record { kind = stateOf k; number = n; size = s })
     (record { kind = stateOf l; number = m; size = t }) = cc in
-    let kind = state-same k l (ap (λ (a : Handed). a .kind) same) in
+    let kind = kind-same k l (ap (λ (a : Handed). a .kind) same) in
     let number = ap (λ (a : Handed). a .number) same in
     let size = ap (λ (a : Handed). a .size) same in
     rw (kind, number, size)
-released-told (released.Packet k n s) (released.Refused y) e = let z : _≡_ {A = ℕ} 0 1 = cc in absurd (omega arith)
-released-told (released.Refused x) (released.Packet k n s) e = let z : _≡_ {A = ℕ} 0 1 = cc in absurd (omega arith)
+released-told (released.Number k n s) (released.Refused y) e = let z : _≡_ {A = ℕ} 0 1 = cc in absurd (omega arith)
+released-told (released.Refused x) (released.Number k n s) e = let z : _≡_ {A = ℕ} 0 1 = cc in absurd (omega arith)
 released-told (released.Refused x) (released.Refused y) e = cc
-
-pub lost-told : (r q : Lost) → lostOutcome r ≡ lostOutcome q → r ≡ q
-lost-told (lost.Number n) (lost.Number m) e = cc
-lost-told (lost.Number n) (lost.Refused y) e = let z : _≡_ {A = ℕ} 0 1 = cc in absurd (omega arith)
-lost-told (lost.Refused x) (lost.Number m) e = let z : _≡_ {A = ℕ} 0 1 = cc in absurd (omega arith)
-lost-told (lost.Refused x) (lost.Refused y) e = cc

@@ -3,6 +3,5 @@ pub mod Advanced
 pub mod Laying
 pub mod Base
 pub mod Moving
-pub mod Next
-pub mod GiveUp
+pub mod Release
 pub mod Laws

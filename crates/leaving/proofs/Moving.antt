@@ -15,13 +15,13 @@ use Rattle.stores.proofs.Laws.{zeros-fit, part-pasted-other}
 use Rattle.views.specs.View as views
 use Rattle.views.specs.View.{View, sum, following, numbers, goneOn}
 use Rattle.views.specs.Release.{counted}
-use Rattle.views.proofs.Laws.{lastPlace, lastAhead, sound-goes-on}
+use Rattle.views.proofs.Laws.{lastPlace, lastAhead, sound-goes-on, sum-counted}
 use Rattle.held.specs.Slots.{slotAt, heardSlotAt, messageSlot, Apart, slotsKept, slotsHeard}
 use Rattle.held.specs.Table.{lent, countsOf, stateOf, stateNumbered, stateIn, sizeIn, mIn, messageSizeIn, messageIn, cellIn, heldIn}
 use Rattle.held.specs.Table.{cellsOf, heldOf, viewIn, keptSet, heardDropped}
 use Rattle.held.specs.Laid.{InRanges}
 use Rattle.held.specs.declared.Counts.{Counts}
-use Rattle.held.specs.declared.State.{State}
+use Rattle.held.specs.declared.Kind.{Kind}
 use Rattle.held.proofs.Laws.{slot-after, slot-comes, heard-after, heard-leaves, slot-small, heard-small, message-small, slot-apart}
 use Rattle.held.proofs.Laws.{heard-apart, message-apart, has-packet-slot, has-message-slot}
 use Rattle.leaving.specs.Steps.{Freed}
@@ -29,7 +29,7 @@ use Rattle.leaving.specs.Promise.{MayMoveOn, MovesOn}
 use Rattle.leaving.proofs.Advanced.{advanced, state-other, size-other, state-comes, size-comes, mark-other, n-other, m-other}
 use Rattle.leaving.proofs.Advanced.{mark-gone, n-gone, m-gone, sizes-other}
 use Rattle.leaving.proofs.Laying.{laid-goes-on}
-use Rattle.leaving.proofs.Base.{sum-counted, base-kind, base-state}
+use Rattle.leaving.proofs.Base.{base-kind, base-state}
 
 abbrev seen : ℕ → views.Counts → List Cell → List Held → View
 seen base counts cells held = record { base = base; counts = counts; cells = cells; held = held }
@@ -125,7 +125,7 @@ module _ {b : ℕ} {before : Counts} {t o g newO newG : List ℕ} (counts : Coun
   unfolding viewIn goneOn
   view-after = ap₂ (seen (following b) (countsOf counts)) cells-after held-after
 
-  moved : {kind : State} → MayMoveOn kind (lent b before t o g) → countsOf counts ≡ counted (stateOf kind) (countsOf before)
+  moved : {kind : Kind} → MayMoveOn kind (lent b before t o g) → countsOf counts ≡ counted (stateOf kind) (countsOf before)
       → MovesOn (lent b before t o g) (lent (following b) counts (advanced b t) newO newG)
   unfolding viewIn
   moved {kind} may e =
@@ -150,7 +150,7 @@ few-leave {base} {leaves} {m} {before} {t} {o} {g} w at-base read =
     let e : leaves ≡ heardSlotAt base 0 = omega arith in
     rw (read, e) (w .laid .few (heardSlotAt base 0) (heard-small base 0))
 
-pub base-moved : {base b leaves m after : ℕ} {before counts : Counts} {kind : State} {t o g t1 t2 newO newG : List ℕ}
+pub base-moved : {base b leaves m after : ℕ} {before counts : Counts} {kind : Kind} {t o g t1 t2 newO newG : List ℕ}
     → InRanges (lent base before t o g)
     → MayMoveOn kind (lent base before t o g) → countsOf counts ≡ counted (stateOf kind) (countsOf before) → b ≡ base
     → leaves ≡ base % slotsHeard → m ≡ mIn t leaves

@@ -1,21 +1,21 @@
 -- What each call owes, over what is lent before and after. Definitions only.
 use Prim.Native.Nat.{ℕ, _<_}
 use mathlib.Core.Path.{_≡_}
+use mathlib.Core.Bool.{Bool}
 use mathlib.Core.List.{List}
 use lib.ListN.{length}
 use Rattle.lengths.specs.Answers.{refused, over, afterwards}
 use Rattle.lengths.specs.declared.Refusal.{Refusal}
 use Rattle.views.specs.View.{sum, sessionLimit}
-use Rattle.views.specs.Release.{atBase, movedOn, next, giveUp, viewAfterNext, viewAfterLoss}
+use Rattle.views.specs.Release.{atBase, movedOn, release, viewAfterRelease}
 use Rattle.held.specs.Table.{stateOf, countsOf, Lent, viewIn}
 use Rattle.held.specs.Laid.{InRanges}
-use Rattle.held.specs.declared.State.{State}
-use Rattle.leaving.specs.Outcome.{releasedOutcome, handedOf, octetsHanded, lostOutcome, numberLost}
-use Rattle.leaving.specs.declared.Lost.{Lost}
+use Rattle.held.specs.declared.Kind.{Kind}
+use Rattle.leaving.specs.Outcome.{releasedOutcome, handedOf, octetsHanded}
 use Rattle.leaving.specs.declared.Released.{Released}
 
 -- the base may go on: the number there is of this kind, and not all numbers have passed
-pub record MayMoveOn (kind : State) (l : Lent) : Type 0 where
+pub record MayMoveOn (kind : Kind) (l : Lent) : Type 0 where
   pub same : stateOf kind ≡ (atBase (viewIn l)) .state
   pub left : sum (countsOf (l .counts)) < sessionLimit
 
@@ -24,17 +24,10 @@ pub record MovesOn (before after : Lent) : Type 0 where
   pub state : viewIn after ≡ movedOn (viewIn before)
   pub within : InRanges after
 
--- next: its answer, the lent buffer old before and new after, and the session after
-pub record Releases (before after : Lent) (old new : List ℕ) (answer : Released) : Type 0 where
-  pub told : releasedOutcome answer ≡ handedOf (next (length old) (viewIn before))
-  pub written : new ≡ over (octetsHanded (next (length old) (viewIn before))) old
-  pub state : viewIn after ≡ afterwards (viewAfterNext (next (length old) (viewIn before))) (viewIn before)
+-- a release, with leave to skip or without: its answer, the lent buffer old before and new after, and the session after
+pub record Releases (leave : Bool) (before after : Lent) (old new : List ℕ) (answer : Released) : Type 0 where
+  pub told : releasedOutcome answer ≡ handedOf (release leave (length old) (viewIn before))
+  pub written : new ≡ over (octetsHanded (release leave (length old) (viewIn before))) old
+  pub state : viewIn after ≡ afterwards (viewAfterRelease (release leave (length old) (viewIn before))) (viewIn before)
   pub within : InRanges after
-  pub stays : (x : Refusal) → next (length old) (viewIn before) ≡ refused x → after ≡ before
-
--- give up, likewise
-pub record GivesUp (before after : Lent) (answer : Lost) : Type 0 where
-  pub told : lostOutcome answer ≡ numberLost (giveUp (viewIn before))
-  pub state : viewIn after ≡ afterwards (viewAfterLoss (giveUp (viewIn before))) (viewIn before)
-  pub within : InRanges after
-  pub stays : (x : Refusal) → giveUp (viewIn before) ≡ refused x → after ≡ before
+  pub stays : (x : Refusal) → release leave (length old) (viewIn before) ≡ refused x → after ≡ before

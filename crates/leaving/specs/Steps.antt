@@ -12,21 +12,16 @@ use Rattle.views.specs.View.{sum, sessionLimit}
 use Rattle.held.specs.Slots.{messageSlot, Apart}
 use Rattle.held.specs.Table.{countsOf, stateOf, stateNumbered}
 use Rattle.held.specs.declared.Counts.{Counts}
-use Rattle.held.specs.declared.State.{State}
-use Rattle.leaving.specs.declared.NextDone.{NextDone}
+use Rattle.held.specs.declared.Kind.{Kind}
+use Rattle.leaving.specs.declared.ReleaseDone.{ReleaseDone}
 use Rattle.leaving.specs.declared.Released.the-variants as released
-use Rattle.leaving.specs.declared.GivenUp.{GivenUp}
-use Rattle.leaving.specs.declared.Lost.the-variants as lost
 
-abbrev pub nextRefused : ℕ → Counts → ℕ → NextDone
-nextRefused b c number = record { base = b; counts = c; answer = released.Refused (refusal number) }
-
-abbrev pub giveUpRefused : ℕ → Counts → ℕ → GivenUp
-giveUpRefused b c number = record { base = b; counts = c; answer = lost.Refused (refusal number) }
+abbrev pub releaseRefused : ℕ → Counts → ℕ → ReleaseDone
+releaseRefused b c number = record { base = b; counts = c; answer = released.Refused (refusal number) }
 
 -- the state that a number of the table stands for, as an answer names it
-pub record Named (number : ℕ) (kind : State) : Type 0 where
-  pub same : stateOf kind ≡ stateNumbered number
+pub record Named (state : ℕ) (kind : Kind) : Type 0 where
+  pub same : stateOf kind ≡ stateNumbered state
 
 pub record Passed (c : Counts) (p : Bool) : Type 0 where
   pub test : p ≡ leb sessionLimit (sum (countsOf c))

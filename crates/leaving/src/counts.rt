@@ -1,7 +1,7 @@
 // The four counts of a session: one more of a kind, and whether all numbers have passed.
 use held::Counts;
+use held::Kind;
 use held::Session;
-use held::State;
 use held::total;
 ghost use mathlib.Core.Path.{_≡_};
 ghost use Prim.Native.Nat.{_<_};
@@ -55,17 +55,15 @@ fn one_lost(c: Counts) -> Counts
     r
 }
 
-// One more of the kind of the number that leaves: a count is of releases and losses, never of arrivals. An unknown number is lost,
-// a blank one never leaves.
-pub fn count_one(kind: State, c: Counts) -> Counts
+// One more of the kind of the number that leaves: a count is of releases and losses, never of arrivals.
+pub fn count_one(kind: Kind, c: Counts) -> Counts
     requires { ⌜ sum (countsOf c) < sessionLimit ⌝ }
     ensures { λ r. ⌜ countsOf r ≡ counted (stateOf kind) (countsOf c) ⌝ }
 {
     match kind {
-        State::Unknown => one_lost(c),
-        State::Received => one_received(c),
-        State::Spare => one_spare(c),
-        State::Repaired => one_repaired(c),
-        State::Blank => c,
+        Kind::Received => one_received(c),
+        Kind::Spare => one_spare(c),
+        Kind::Repaired => one_repaired(c),
+        Kind::Lost => one_lost(c),
     }
 }

@@ -1,14 +1,15 @@
-// The calls that move the base of a receiving session: document 01, 'The receiving session', Next and Give up, over a session that
-// is lent. They serve callers inside this repository: they require the session's ranges, which the public calls check (refusal
-// 17), and keep them. Only the slots of the number that leaves and of the one that comes into view are written.
+// The call that moves the base of a receiving session: document 01, 'The receiving session', Next and Give up, which are one call
+// since document 02, request 7, over a session that is lent. It serves callers inside this repository: it requires the session's
+// ranges, which the public call checks (refusal 17), and keeps them. Only the slots of the number that leaves and of the one that
+// comes into view are written.
 mod counts;
 
 use counts::all_passed;
 use counts::count_one;
 use datagrams::Parity;
 use held::Counts;
+use held::Kind;
 use held::Session;
-use held::State;
 use lengths::Refusal;
 ghost use mathlib.Core.Path.{_≡_};
 ghost use Prim.Native.Nat.{_+_, _≤_, _<_};
@@ -16,56 +17,42 @@ ghost use lib.ListN.{length};
 ghost use Rattle.datagrams.specs.Sizes.{messagesLimit};
 ghost use Rattle.views.specs.View.{following};
 ghost use Rattle.held.specs.Slots.{slotsHeard, messageOctets};
-ghost use Rattle.held.specs.Table.{lent};
+ghost use Rattle.held.specs.Table.{lent, lastState};
 ghost use Rattle.held.specs.Laid.{InRanges};
-ghost use Rattle.leaving.specs.Steps.{Named, Freed, nextRefused, giveUpRefused};
-ghost use Rattle.leaving.specs.Promise.{MayMoveOn, MovesOn, Releases, GivesUp};
+ghost use Rattle.leaving.specs.Steps.{Named, Freed, releaseRefused};
+ghost use Rattle.leaving.specs.Promise.{MayMoveOn, MovesOn, Releases};
 
-// What next answers: the kind, the number and the size of the packet that it handed out, or why it is refused.
+// What a release answers: the kind and the number of what left, and the size of its packet, 0 where it is lost; or why it is refused.
 pub enum Released {
-    Packet {
-        kind: State,
+    Number {
+        kind: Kind,
         number: u16,
         size: usize,
     },
     Refused(Refusal),
 }
 
-pub struct NextDone {
+pub struct ReleaseDone {
     pub base: u16,
     pub counts: Counts,
     pub answer: Released,
 }
 
-// What give up answers: the number that was booked lost, or why it is refused.
-pub enum Lost {
-    Number(u16),
-    Refused(Refusal),
-}
-
-pub struct GivenUp {
-    pub base: u16,
-    pub counts: Counts,
-    pub answer: Lost,
-}
-
-// The state that a number stands for.
-fn state_of(n: u16) -> State
-    ensures { λ r. ⌜ Named n r ⌝ }
+// The kind of a number that leaves in this state: a blank one never does.
+fn kind_of(state: u16) -> Kind
+    requires { ⌜ state < lastState ⌝ }
+    ensures { λ r. ⌜ Named state r ⌝ }
 {
-    if n == Session::UNKNOWN {
-        return State::Unknown;
+    if state == Session::UNKNOWN {
+        return Kind::Lost;
     }
-    if n == Session::RECEIVED {
-        return State::Received;
+    if state == Session::RECEIVED {
+        return Kind::Received;
     }
-    if n == Session::SPARE {
-        return State::Spare;
+    if state == Session::SPARE {
+        return Kind::Spare;
     }
-    if n == Session::REPAIRED {
-        return State::Repaired;
-    }
-    State::Blank
+    Kind::Repaired
 }
 
 // The number after n: "All arithmetic on numbers is modulo 65,536".
@@ -96,13 +83,13 @@ struct Moved {
     counts: Counts,
 }
 
-// How next and give up move on: the number at the base, which is of this kind, is counted, and "the base goes on by one": "The
-// number that leaves drops its accepted mark and messages; the one that comes into view is unknown." The number that comes into
-// view has the slot of the oldest before the base, which leaves the view.
+// How a number leaves: the one at the base, which is of this kind, is counted, and "the base goes on by one": "The number that
+// leaves drops its accepted mark and messages; the one that comes into view is unknown." The number that comes into view has the
+// slot of the oldest before the base, which leaves the view.
 fn move_on(
     base: u16,
     counts: Counts,
-    kind: State,
+    kind: Kind,
     t: &mut [u16; Session::PLACES],
     o: &mut [u8; Session::PACKET_OCTETS],
     g: &mut [u8; Session::MESSAGE_OCTETS],
@@ -128,95 +115,57 @@ fn move_on(
     }
 }
 
-fn next_refused(base: u16, counts: Counts, number: u8) -> NextDone
-    ensures { λ r. ⌜ r ≡ nextRefused base counts number ⌝ }
+fn release_refused(base: u16, counts: Counts, number: u8) -> ReleaseDone
+    ensures { λ r. ⌜ r ≡ releaseRefused base counts number ⌝ }
 {
     let refusal = Refusal::new(number);
-    NextDone {
+    ReleaseDone {
         base,
         counts,
         answer: Released::Refused(refusal),
     }
 }
 
-// Next: refusals 16, 10 and 13 in this order, else the packet at the base to the front of out, and the base goes on by one.
-pub fn next_core(
+// Refusals 16, 10 and 13 in this order, 10 where the base is unknown and may not be skipped; else the number at the base leaves, its
+// packet to the front of out. An unknown one is booked lost: it has no octets, so that nothing is written.
+pub fn release_core(
     base: u16,
     counts: Counts,
     t: &mut [u16; Session::PLACES],
     o: &mut [u8; Session::PACKET_OCTETS],
     g: &mut [u8; Session::MESSAGE_OCTETS],
+    skip: bool,
     out: &mut [u8],
-) -> NextDone
+) -> ReleaseDone
     requires { ⌜ InRanges (lent base counts (now t) (now o) (now g)) ⌝ }
-    ensures { λ r. ⌜ Releases (lent base counts (now (t .entry)) (now (o .entry)) (now (g .entry)))
+    ensures { λ r. ⌜ Releases skip (lent base counts (now (t .entry)) (now (o .entry)) (now (g .entry)))
         (lent (r .base) (r .counts) (now (t .exit)) (now (o .exit)) (now (g .exit))) (now (out .entry)) (now (out .exit)) (r .answer) ⌝ }
 {
     if all_passed(counts) {
-        return next_refused(base, counts, Refusal::ALL_PASSED);
+        return release_refused(base, counts, Refusal::ALL_PASSED);
     }
     let slot = held::kept_slot(base);
-    let number = held::state_at(t, slot);
-    if number == Session::UNKNOWN {
-        return next_refused(base, counts, Refusal::BASE_UNKNOWN);
+    let state = held::state_at(t, slot);
+    let waits = (state == Session::UNKNOWN) & !skip;
+    if waits {
+        return release_refused(base, counts, Refusal::BASE_UNKNOWN);
     }
     let size = held::size_at(t, slot);
     if out.len() < size {
-        return next_refused(base, counts, Refusal::NO_ROOM);
+        return release_refused(base, counts, Refusal::NO_ROOM);
     }
     stores::copy_out(o, slot, size, out);
-    let kind = state_of(number);
+    let kind = kind_of(state);
     let moved = move_on(base, counts, kind, t, o, g);
     let after = moved.base;
-    let released = moved.counts;
-    NextDone {
+    let left = moved.counts;
+    ReleaseDone {
         base: after,
-        counts: released,
-        answer: Released::Packet {
+        counts: left,
+        answer: Released::Number {
             kind,
             number: base,
             size,
         },
     }
-}
-
-fn give_up_refused(base: u16, counts: Counts, number: u8) -> GivenUp
-    ensures { λ r. ⌜ r ≡ giveUpRefused base counts number ⌝ }
-{
-    let refusal = Refusal::new(number);
-    GivenUp {
-        base,
-        counts,
-        answer: Lost::Refused(refusal),
-    }
-}
-
-// Give up: refusals 16 and 11 in this order, else the unknown number at the base is booked lost and the base goes on by one.
-pub fn give_up_core(
-    base: u16,
-    counts: Counts,
-    t: &mut [u16; Session::PLACES],
-    o: &mut [u8; Session::PACKET_OCTETS],
-    g: &mut [u8; Session::MESSAGE_OCTETS],
-) -> GivenUp
-    requires { ⌜ InRanges (lent base counts (now t) (now o) (now g)) ⌝ }
-    ensures { λ r. ⌜ GivesUp (lent base counts (now (t .entry)) (now (o .entry)) (now (g .entry)))
-        (lent (r .base) (r .counts) (now (t .exit)) (now (o .exit)) (now (g .exit))) (r .answer) ⌝ }
-{
-    if all_passed(counts) {
-        return give_up_refused(base, counts, Refusal::ALL_PASSED);
-    }
-    let slot = held::kept_slot(base);
-    let number = held::state_at(t, slot);
-    if number == Session::UNKNOWN {
-        let moved = move_on(base, counts, State::Unknown, t, o, g);
-        let after = moved.base;
-        let booked = moved.counts;
-        return GivenUp {
-            base: after,
-            counts: booked,
-            answer: Lost::Number(base),
-        };
-    }
-    give_up_refused(base, counts, Refusal::BASE_KNOWN)
 }

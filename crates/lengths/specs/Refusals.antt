@@ -37,11 +37,12 @@ tooFar = 8
 abbrev pub late : ℕ
 late = 9
 
--- next: base unknown
+-- base unknown, and no leave to skip it
 abbrev pub baseUnknown : ℕ
 baseUnknown = 10
 
--- give up: base known
+-- give up: base known. Document 02, request 7, retires it, and its number is not used again: only give up as it was (`views`, Pair)
+-- has it
 abbrev pub baseKnown : ℕ
 baseKnown = 11
 

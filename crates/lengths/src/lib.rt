@@ -36,8 +36,7 @@ impl Refusal {
 
     pub const BASE_UNKNOWN: u8 = 10;
 
-    pub const BASE_KNOWN: u8 = 11;
-
+    // 11 was give up's, at a known base. Document 02, request 7, retires it: its number is not used again.
     pub const NOT_ASSIGNED: u8 = 12;
 
     pub const NO_ROOM: u8 = 13;

@@ -14,7 +14,7 @@ use Rattle.lengths.specs.declared.Refusal.{Refusal}
 use Rattle.datagrams.specs.Sizes.{packetLimit}
 use Rattle.views.specs.Cells.{isUnknown, unknownAt, keptBefore, keptAhead}
 use Rattle.views.specs.View.{View, sum, sessionLimit}
-use Rattle.views.specs.Release.{Release, next}
+use Rattle.views.specs.Release.{Release, release}
 use Rattle.held.specs.Slots.{slotAt, slotsKept}
 use Rattle.held.specs.Table.{Lent, viewIn, stateIn, stateNumbered}
 use Rattle.held.specs.Laid.{InRanges}
@@ -24,31 +24,31 @@ use Rattle.lines.specs.Promise.{Appends, Does, Able, goesOn, resultLimit, relea
 use Rattle.lines.proofs.Laws.{appends-none, appends-then, appends-long}
 
 -- ---- the definition, as the loop goes
-onward-goes : (x : Answer Release) (f : View → Made) (view : View) → true ≡ goesOn x → onward x f view ≡ (releaseMade x view then f)
+onward-goes : (x : Answer Release) (f : View → Made) (view : View) → true ≡ goesOn x → onward x f view ≡ (releaseMade false x view then f)
 onward-goes (done r) f view goes = refl
 onward-goes (refused x) f view goes = absurd (false≢true (sym goes))
 
-onward-stops : (x : Answer Release) (f : View → Made) (view : View) → false ≡ goesOn x → onward x f view ≡ releaseMade x view
+onward-stops : (x : Answer Release) (f : View → Made) (view : View) → false ≡ goesOn x → onward x f view ≡ releaseMade false x view
 onward-stops (done r) f view stops = absurd (false≢true stops)
 onward-stops (refused x) f view stops = refl
 
-one-of : (left : ℕ) (view : View) → 0 < left → releasesF left view ≡ onward (next packetLimit view) (releasesF (left - 1)) view
+one-of : (left : ℕ) (view : View) → 0 < left → releasesF left view ≡ onward (release false packetLimit view) (releasesF (left - 1)) view
 unfolding releasesF
 one-of zero view some = absurd (not-suc-le-zero some)
 one-of (suc left) view some =
     let e : suc left - 1 ≡ left = omega arith in
-    ap (λ (k : ℕ). onward (next packetLimit view) (releasesF k) view) (sym e)
+    ap (λ (k : ℕ). onward (release false packetLimit view) (releasesF k) view) (sym e)
 
 -- an unknown base is not released
 refused-both : (b : Bool) (x y : Refusal) → goesOn (cond b (refused x) (refused y)) ≡ false
 refused-both true x y = refl
 refused-both false x y = refl
 
-unknown-stops : (view : View) → unknownAt (view .cells) keptBefore ≡ true → goesOn (next packetLimit view) ≡ false
-unfolding next
+unknown-stops : (view : View) → unknownAt (view .cells) keptBefore ≡ true → goesOn (release false packetLimit view) ≡ false
+unfolding release
 unknown-stops view unknown = rw unknown (refused-both (leb sessionLimit (sum (view .counts))) _ _)
 
-stops-silent : (x : Answer Release) (view : View) → goesOn x ≡ false → releaseMade x view ≡ silent view
+stops-silent : (x : Answer Release) (view : View) → goesOn x ≡ false → releaseMade false x view ≡ silent view
 stops-silent (done r) view e = absurd (false≢true (sym e))
 stops-silent (refused x) view e = refl
 
@@ -111,22 +111,22 @@ module _ {start : View} {old : List ℕ} {at : ℕ} {session : Lent} {out : List
         let stops = unknown-stops v (unknown-at (session .base) (session .table) (session .octets) keptBefore (omega arith) ∙ at-base) in
         let step : releasesF left v ≡ silent v =
         one-of left v some
-        ∙ onward-stops (next packetLimit v) (releasesF (left - 1)) v (sym stops)
-        ∙ stops-silent (next packetLimit v) v stops in
+        ∙ onward-stops (release false packetLimit v) (releasesF (left - 1)) v (sym stops)
+        ∙ stops-silent (release false packetLimit v) v stops in
         let all : releases start ≡ record { text = l .text ++ []; after = v } =
         l .whole ∙ ap (λ (m : Made). record { text = l .text ++ m .text; after = m .after }) step in
         record { lent = rw (all, append-nil (l .text)) (l .laid); state = rw all refl; within = l .within }
 
     module _ (some : 0 < left) {after : Lent} {later : ℕ} {more : Bool} {new : List ℕ}
-        (r : ReleasesOne (viewIn session) out end after later more new) where
+        (r : ReleasesOne false (viewIn session) out end after later more new) where
       -- something was released
       pub left-turn : more ≡ true → Left start old at after new later (left - 1)
       left-turn goes =
           let v = viewIn session in
-          let a = releaseMade (next packetLimit v) v in
+          let a = releaseMade false (release false packetLimit v) v in
           let b = releasesF (left - 1) (a .after) in
           let step : releasesF left v ≡ (a then releasesF (left - 1)) =
-          one-of left v some ∙ onward-goes (next packetLimit v) (releasesF (left - 1)) v (sym goes ∙ r .goes) in
+          one-of left v some ∙ onward-goes (release false packetLimit v) (releasesF (left - 1)) v (sym goes ∙ r .goes) in
           record {
             text = l .text ++ a .text;
             laid = appends-then (l .laid) (r .does .lent);
@@ -144,9 +144,9 @@ module _ {start : View} {old : List ℕ} {at : ℕ} {session : Lent} {out : List
       pub left-stop : more ≡ false → Does (releases start) old at after later new
       left-stop stops =
           let v = viewIn session in
-          let a = releaseMade (next packetLimit v) v in
+          let a = releaseMade false (release false packetLimit v) v in
           let step : releasesF left v ≡ a =
-          one-of left v some ∙ onward-stops (next packetLimit v) (releasesF (left - 1)) v (sym stops ∙ r .goes) in
+          one-of left v some ∙ onward-stops (release false packetLimit v) (releasesF (left - 1)) v (sym stops ∙ r .goes) in
           let all : releases start ≡ record { text = l .text ++ a .text; after = a .after } =
           l .whole ∙ ap (λ (m : Made). record { text = l .text ++ m .text; after = m .after }) step in
           record {

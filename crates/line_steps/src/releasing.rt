@@ -1,6 +1,7 @@
-// Releases after a line: "after each releases all it can", "Releasing stops without a line at 10 or 16". Base and counts go by value,
-// all else of the session and the buffer are lent; the session's ranges are required and kept.
+// Releases: one that answers an empty line, and those after a line: "after each releases all it can", "Releasing stops without a line at
+// 10 or 16". Base and counts go by value, all else of the session and the buffer are lent; the session's ranges are required and kept.
 use crate::results::kind_octet;
+use crate::results::put_refusal;
 use crate::results::put_result;
 use datagrams::Packet;
 use held::Counts;
@@ -12,40 +13,52 @@ ghost use Rattle.lines.specs.Lines.{releases as allReleases};
 ghost use Rattle.lines.specs.Promise.{Does, Able, ReleasesOne, resultLimit, releasesLimit};
 
 // A release, and whether there was something to release.
-struct Turn {
-    base: u16,
-    counts: Counts,
-    end: usize,
-    more: bool,
+pub struct Turn {
+    pub base: u16,
+    pub counts: Counts,
+    pub end: usize,
+    pub more: bool,
 }
 
-// One release: the packet at the base.
-fn release(
+// One release, with leave to skip or without: the number at the base is a line, and with leave a refusal is one too.
+pub fn release(
     base: u16,
     counts: Counts,
     t: &mut [u16; Session::PLACES],
     o: &mut [u8; Session::PACKET_OCTETS],
     g: &mut [u8; Session::MESSAGE_OCTETS],
+    skip: bool,
     out: &mut [u8],
     at: usize,
 ) -> Turn
     requires { ⌜ Able resultLimit (lent base counts (now t) (now o) (now g)) (now out) at ⌝ }
-    ensures { λ r. ⌜ ReleasesOne (viewIn (lent base counts (now (t .entry)) (now (o .entry)) (now (g .entry)))) (now (out .entry)) at
+    ensures { λ r. ⌜ ReleasesOne skip (viewIn (lent base counts (now (t .entry)) (now (o .entry)) (now (g .entry)))) (now (out .entry)) at
         (lent (r .base) (r .counts) (now (t .exit)) (now (o .exit)) (now (g .exit))) (r .end) (r .more) (now (out .exit)) ⌝ }
 {
     let mut packet = [0u8; Packet::LIMIT];
-    let done = leaving::next_core(base, counts, t, o, g, &mut packet);
+    let done = leaving::release_core(base, counts, t, o, g, skip, &mut packet);
     let after = done.base;
     let moved = done.counts;
     let answer = done.answer;
     match answer {
-        Released::Refused(_) => Turn {
-            base: after,
-            counts: moved,
-            end: at,
-            more: false,
-        },
-        Released::Packet { kind, number, size } => {
+        Released::Refused(why) => {
+            if skip {
+                let told = put_refusal(why, out, at);
+                return Turn {
+                    base: after,
+                    counts: moved,
+                    end: told,
+                    more: false,
+                };
+            }
+            Turn {
+                base: after,
+                counts: moved,
+                end: at,
+                more: false,
+            }
+        }
+        Released::Number { kind, number, size } => {
             let octet = kind_octet(kind);
             let end = put_result(octet, number, &packet[..size], out, at);
             Turn {
@@ -85,7 +98,7 @@ pub fn releases(
                 end,
             };
         }
-        let turn = release(now, moves, t, o, g, out, end);
+        let turn = release(now, moves, t, o, g, false, out, end);
         now = turn.base;
         let moved = turn.counts;
         moves = moved;

@@ -1,7 +1,7 @@
 // Result lines: "kind (00 received, 01 spare, 02 repaired, 03 lost), number, octets", for a refusal "FF, number, then the place in
 // four hexadecimal digits", "each line ended by a line feed". Each is laid into out from place at on; the answer is the place after
 // it.
-use held::State;
+use held::Kind;
 use hexadecimal::put_octets;
 use lengths::Refusal;
 use lines::Line;
@@ -13,16 +13,15 @@ ghost use Rattle.held.specs.Table.{stateOf};
 ghost use Rattle.lines.specs.Lines.{lineFeed, kindOctet, resultLine, refusalLine};
 ghost use Rattle.lines.specs.Promise.{Appends};
 
-// The kind of a released number; an unknown or blank one is never released.
-pub fn kind_octet(kind: State) -> u8
+// The kind of a number that left.
+pub fn kind_octet(kind: Kind) -> u8
     ensures { λ r. ⌜ r ≡ kindOctet (stateOf kind) ⌝ }
 {
     match kind {
-        State::Unknown => Line::LOST,
-        State::Received => 0,
-        State::Spare => 1,
-        State::Repaired => 2,
-        State::Blank => Line::LOST,
+        Kind::Received => 0,
+        Kind::Spare => 1,
+        Kind::Repaired => 2,
+        Kind::Lost => Line::LOST,
     }
 }
 

@@ -1,65 +1,22 @@
 // One line of the program: its answer, then all releases. Base and counts go by value, all else of the session and the buffers are
 // lent: no range is checked and nothing copied for each line. These functions require the session's ranges and keep them.
+use crate::releasing::release;
 use crate::releasing::releases;
 use crate::results::put_refusal;
-use crate::results::put_result;
 use datagrams::Datagram;
 use held::Counts;
 use held::Session;
 use hexadecimal::hex_to_octets;
-use leaving::Lost;
 use lengths::Written;
-use lines::Line;
 use lines::Stepped;
 use offering::Offered;
 ghost use Prim.Native.Nat.{_+_, _≤_};
 ghost use lib.ListN.{length};
 ghost use Rattle.views.specs.Offer.{offer};
-ghost use Rattle.views.specs.Release.{giveUp};
 ghost use Rattle.held.specs.Table.{lent, viewIn};
 ghost use Rattle.held.specs.Laid.{InRanges};
-ghost use Rattle.lines.specs.Lines.{giveUpMade, offerMade, offerLine, answerLine, step as wholeStep};
+ghost use Rattle.lines.specs.Lines.{offerMade, offerLine, answerLine, step as wholeStep};
 ghost use Rattle.lines.specs.Promise.{Does, Able, resultLimit, stepLimit};
-
-// "An empty line is one give-up".
-fn give_up_line(
-    base: u16,
-    counts: Counts,
-    t: &mut [u16; Session::PLACES],
-    o: &mut [u8; Session::PACKET_OCTETS],
-    g: &mut [u8; Session::MESSAGE_OCTETS],
-    out: &mut [u8],
-    at: usize,
-) -> Stepped
-    requires { ⌜ InRanges (lent base counts (now t) (now o) (now g)) ⌝ }
-    requires { ⌜ at + resultLimit ≤ length (now out) ⌝ }
-    ensures { λ r. ⌜ Does (giveUpMade (giveUp (viewIn (lent base counts (now (t .entry)) (now (o .entry)) (now (g .entry)))))
-        (viewIn (lent base counts (now (t .entry)) (now (o .entry)) (now (g .entry))))) (now (out .entry)) at
-        (lent (r .base) (r .counts) (now (t .exit)) (now (o .exit)) (now (g .exit))) (r .end) (now (out .exit)) ⌝ }
-{
-    let done = leaving::give_up_core(base, counts, t, o, g);
-    let after = done.base;
-    let moved = done.counts;
-    let answer = done.answer;
-    match answer {
-        Lost::Number(number) => {
-            let end = put_result(Line::LOST, number, &[], out, at);
-            Stepped {
-                base: after,
-                counts: moved,
-                end,
-            }
-        }
-        Lost::Refused(why) => {
-            let end = put_refusal(why, out, at);
-            Stepped {
-                base: after,
-                counts: moved,
-                end,
-            }
-        }
-    }
-}
 
 // Octets offered: a line for a refusal alone. Base and counts stay as they are.
 fn offer_octets(
@@ -109,7 +66,7 @@ fn offer_line(
     }
 }
 
-// A line's own answer.
+// A line's own answer: "An empty line is one give-up".
 fn answer_line(
     base: u16,
     counts: Counts,
@@ -125,7 +82,15 @@ fn answer_line(
         (now (out .entry)) at (lent (r .base) (r .counts) (now (t .exit)) (now (o .exit)) (now (g .exit))) (r .end) (now (out .exit)) ⌝ }
 {
     if line.len() == 0 {
-        return give_up_line(base, counts, t, o, g, out, at);
+        let turn = release(base, counts, t, o, g, true, out, at);
+        let after = turn.base;
+        let moved = turn.counts;
+        let end = turn.end;
+        return Stepped {
+            base: after,
+            counts: moved,
+            end,
+        };
     }
     let end = offer_line(base, counts, t, o, g, line, out, at);
     Stepped { base, counts, end }

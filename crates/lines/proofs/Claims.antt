@@ -9,7 +9,7 @@ use Rattle.views.specs.Held.{messagesOf, messagesInRow, heldMessages}
 use Rattle.views.specs.Members.{membersOf}
 use Rattle.views.specs.View.{freshView, goneOn}
 use Rattle.views.specs.Offer.{keep, keepSpares, accept, offered, offer}
-use Rattle.views.specs.Release.{next, giveUp}
+use Rattle.views.specs.Release.{release}
 use Rattle.lengths.specs.Tables.{unless}
 use Rattle.lines.specs.Hex.{digitOf, digitFor, allDigits, octetsIn, lineOctets, hexOf}
 use Rattle.lines.specs.Lines.{resultLine, refusalLine, releasesF, lineOffered, offerLine, answerLine, step, linesFrom, steps, program}
@@ -18,12 +18,13 @@ use Rattle.lines.specs.Claims.{Claims, WholeCase, Cases}
 use Rattle.lines.proofs.Feeding.{program-fed, fed-append}
 use Rattle.lines.proofs.HexBack.{written-reads}
 use Rattle.lines.proofs.ReleaseAll.{releases-all}
+use Rattle.lines.proofs.AsBefore.{as-before}
 use Rattle.lines.proofs.InTurn.{in-turn}
 use Rattle.lines.proofs.OneOutcome.{one-outcome}
 
 pub whole-case : WholeCase
 unfolding characters program steps linesFrom step answerLine offerLine lineOffered releasesF resultLine refusalLine lineOctets unless
-    octetsIn allDigits digitOf hexOf digitFor next giveUp offer offered accept keep keepSpares freshView goneOn messagesOf messagesInRow
+    octetsIn allDigits digitOf hexOf digitFor release offer offered accept keep keepSpares freshView goneOn messagesOf messagesInRow
     heldMessages membersOf repair repairF firstUsable usable passing mended fill readDatagram wholeOf numberOf extraAt parityAt sparesAt
     endOf itemsAt itemAt lengthWithin octetAt allowed carriedBy lengthAt tab allBelow exclusiveOr xorAt
 whole-case = refl
@@ -38,6 +39,7 @@ claims =
       wholeCase = whole-case;
       cases = cases;
       releasesAll = releases-all;
+      asBefore = as-before;
       writtenReads = written-reads;
       cutAnyhow = record { whole = program-fed; cut = fed-append };
       inTurn = in-turn;

@@ -4,6 +4,7 @@ mod Feeding
 mod FeedTaken
 mod BlockLaws
 mod ReleaseAll
+mod AsBefore
 mod HexBack
 mod InTurn
 pub mod Laws

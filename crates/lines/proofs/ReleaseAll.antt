@@ -2,7 +2,7 @@
 -- on, the base is a number that came into view unknown. Assumes nothing.
 use Prim.Native.Nat.{ℕ, zero, suc, _+_, _-_, _≤_, _<_}
 use mathlib.Core.Path.{_≡_, refl, ap, _∙_}
-use mathlib.Core.Bool.{Bool, true, false, cond}
+use mathlib.Core.Bool.{Bool, true, false, not, cond, _&&_}
 use mathlib.Core.List.{List, [], _∷_, _++_}
 use mathlib.Core.Logic.{_⊎_, inl, inr, ⊎-elim}
 use lib.ListN.{length, drop, length-append, length-drop, List·getD-append}
@@ -10,30 +10,29 @@ use lib.Seq.{getD-drop, getD-at}
 use lib.Dec.{leb}
 use native.Mathlib.Omega.{arith}
 use borrow.Author.Tests.{le-ltb}
-use Rattle.octets.proofs.Laws.{below-or-not}
+use Rattle.octets.proofs.Laws.{below-or-not, and-both}
 use Rattle.lengths.specs.Refusals.{baseUnknown, allPassed, noRoom, refusal}
 use Rattle.lengths.specs.Answers.{Answer, done, refused, refuse}
 use Rattle.lengths.specs.declared.Refusal.{Refusal}
 use Rattle.datagrams.specs.Sizes.{packetLimit}
 use Rattle.views.specs.Cells.{Cell, cellAt, unknownAt, unknownCell, blankCell, keptBefore, keptAhead, keptNumbers}
 use Rattle.views.specs.View.{View, Counts, sum, sessionLimit, goneOn}
-use Rattle.views.specs.Release as release
-use Rattle.views.specs.Release.{Release, next, atBase}
+use Rattle.views.specs.Ranges.{Sound}
+use Rattle.views.specs.Release.{Release, counted, release, atBase}
 use Rattle.views.proofs.Laws.{size-fits}
-use Rattle.held.specs.Table.{viewIn}
 use Rattle.lines.specs.Lines.{onward, releasesF, releases}
 use Rattle.lines.specs.Claims.{ReleasesAll}
 
--- ---- next, with room for any packet
-abbrev Stops : View → Type 0
-Stops view = (next packetLimit view ≡ refuse baseUnknown) ⊎ (next packetLimit view ≡ refuse allPassed)
+-- ---- a release without leave, with room for any packet
+abbrev pub Stops : View → Type 0
+Stops view = (release false packetLimit view ≡ refuse baseUnknown) ⊎ (release false packetLimit view ≡ refuse allPassed)
 
-data Next (view : View) : Type 0 where
-  goes : (r : Release) (counts : Counts) → next packetLimit view ≡ done r → r .after ≡ goneOn counts view → Next view
-  unknown : next packetLimit view ≡ refuse baseUnknown → Next view
-  passed : next packetLimit view ≡ refuse allPassed → Next view
+data Asked (view : View) : Type 0 where
+  goes : (r : Release) (counts : Counts) → release false packetLimit view ≡ done r → r .after ≡ goneOn counts view → Asked view
+  unknown : release false packetLimit view ≡ refuse baseUnknown → Asked view
+  passed : release false packetLimit view ≡ refuse allPassed → Asked view
 
--- the three tests of next
+-- its three tests
 data Tested (x y : Refusal) (a : Release) (r : Answer Release) : Type 0 where
   first : r ≡ refused x → Tested x y a r
   second : r ≡ refused y → Tested x y a r
@@ -45,14 +44,14 @@ tested true b₂ b₃ x y z a e = first refl
 tested false true b₃ x y z a e = second refl
 tested false false b₃ x y z a e = neither (ap (λ (b : Bool). cond b (refused z) (done a)) e)
 
-next-is : (view : View) → length ((atBase view) .octets) ≤ packetLimit → Next view
-unfolding next
-next-is view fits = from (tested (leb sessionLimit (sum (view .counts))) (unknownAt (view .cells) keptBefore) _ (refusal allPassed)
-    (refusal baseUnknown)
+asked : (view : View) → length ((atBase view) .octets) ≤ packetLimit → Asked view
+unfolding release
+asked view fits = from (tested (leb sessionLimit (sum (view .counts))) (unknownAt (view .cells) keptBefore && not false) _
+    (refusal allPassed) (refusal baseUnknown)
     (refusal noRoom) handed (le-ltb packetLimit (length ((atBase view) .octets)) fits))
   where
-    counts : Counts
-    counts = release.counted ((atBase view) .state) (view .counts)
+    moved : Counts
+    moved = counted ((atBase view) .state) (view .counts)
 
     handed : Release
     handed =
@@ -60,13 +59,13 @@ next-is view fits = from (tested (leb sessionLimit (sum (view .counts))) (unknow
           kind = (atBase view) .state;
           number = view .base;
           octets = (atBase view) .octets;
-          after = goneOn counts view;
+          after = goneOn moved view;
         }
 
-    from : Tested (refusal allPassed) (refusal baseUnknown) handed (next packetLimit view) → Next view
+    from : Tested (refusal allPassed) (refusal baseUnknown) handed (release false packetLimit view) → Asked view
     from (first e) = passed e
     from (second e) = unknown e
-    from (neither e) = goes handed counts e refl
+    from (neither e) = goes handed moved e refl
 
 -- ---- the numbers ahead
 -- every packet fits, and from so many numbers after the base on all are unknown
@@ -110,23 +109,24 @@ unknown-tested true u x y rest e = inr refl
 unknown-tested false u x y rest e = inl (ap (λ (v : Bool). cond v (refused y) rest) e)
 
 unknown-stops : (view : View) → unknownAt (view .cells) keptBefore ≡ true → Stops view
-unfolding next
-unknown-stops view e = unknown-tested (leb sessionLimit (sum (view .counts))) _ (refusal allPassed) (refusal baseUnknown) _ e
+unfolding release
+unknown-stops view e =
+    unknown-tested (leb sessionLimit (sum (view .counts))) _ (refusal allPassed) (refusal baseUnknown) _ (and-both e refl)
 
 -- ---- all releases
 cells-on : (counts : Counts) (view : View) → (goneOn counts view) .cells ≡ drop 1 (view .cells) ++ (unknownCell ∷ [])
 unfolding goneOn
 cells-on counts view = refl
 
-stays : (left : ℕ) (view : View) {x : Refusal} → next packetLimit view ≡ refused x
-    → (onward (next packetLimit view) (releasesF left) view) .after ≡ view
+stays : (left : ℕ) (view : View) {x : Refusal} → release false packetLimit view ≡ refused x
+    → (onward (release false packetLimit view) (releasesF left) view) .after ≡ view
 stays left view e = ap (λ (r : Answer Release). (onward r (releasesF left) view) .after) e
 
 turn : (left : ℕ) (view : View) → Ahead (suc left) (view .cells)
-    → ((v : View) → Ahead left (v .cells) → Stops ((releasesF left v) .after)) → Next view
-    → Stops ((onward (next packetLimit view) (releasesF left) view) .after)
+    → ((v : View) → Ahead left (v .cells) → Stops ((releasesF left v) .after)) → Asked view
+    → Stops ((onward (release false packetLimit view) (releasesF left) view) .after)
 turn left view a more (goes r counts e on) =
-    let after : (onward (next packetLimit view) (releasesF left) view) .after ≡ (releasesF left (goneOn counts view)) .after =
+    let after : (onward (release false packetLimit view) (releasesF left) view) .after ≡ (releasesF left (goneOn counts view)) .after =
     ap (λ (x : Answer Release). (onward x (releasesF left) view) .after) e ∙ ap (λ (v : View). (releasesF left v) .after) on in
     rw after (more (goneOn counts view) (rw (cells-on counts view) (ahead-on left (view .cells) a)))
 turn left view a more (unknown e) = rw (stays left view e) (inl e)
@@ -136,14 +136,17 @@ releases-stop : (left : ℕ) (view : View) → Ahead left (view .cells) → Stop
 unfolding releasesF
 releases-stop zero view a = unknown-stops view (a .unknown keptBefore (omega arith) (omega arith))
 releases-stop (suc left) view a =
-    turn left view a (λ v ahead. releases-stop left v ahead) (next-is view (a .fits keptBefore (omega arith)))
+    turn left view a (λ v ahead. releases-stop left v ahead) (asked view (a .fits keptBefore (omega arith)))
 
 -- a session within its ranges
-pub releases-all : ReleasesAll
-releases-all session w =
-    releases-stop keptAhead (viewIn session)
+pub sound-stops : {view : View} → Sound view → Stops ((releases view) .after)
+sound-stops {view} s =
+    releases-stop keptAhead view
     (record {
-      long = w .sound .kept;
-      fits = λ p inside. size-fits _ _ _ (w .sound .cell p inside);
+      long = s .kept;
+      fits = λ p inside. size-fits _ _ _ (s .cell p inside);
       unknown = λ p past inside. absurd (omega arith);
     })
+
+pub releases-all : ReleasesAll
+releases-all session w = sound-stops (w .sound)

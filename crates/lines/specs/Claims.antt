@@ -1,6 +1,7 @@
 -- The claims of this crate: statements alone.
 use Prim.Native.Nat.{ℕ, _≤_, _<_}
 use mathlib.Core.Path.{_≡_}
+use mathlib.Core.Bool.{false}
 use mathlib.Core.List.{List, [], _∷_, _++_}
 use mathlib.Core.Logic.{_⊎_}
 use lib.ListN.{length, take}
@@ -10,13 +11,14 @@ use Rattle.lengths.specs.Promise.{Puts}
 use Rattle.lengths.specs.Claims.{Octets}
 use Rattle.lengths.specs.declared.Written.{Written}
 use Rattle.datagrams.specs.Sizes.{packetLimit, datagramLimit}
-use Rattle.views.specs.Release.{next}
+use Rattle.views.specs.Release.{release}
 use Rattle.held.specs.Table.{Lent, lent, lentBy, viewIn}
 use Rattle.held.specs.Laid.{InRanges}
 use Rattle.held.specs.Promise.{Fresh}
 use Rattle.held.specs.declared.Session.{Session}
 use Rattle.lines.specs.Hex.{lineOctets, hexOf}
 use Rattle.lines.specs.Lines.{Made, program, releases}
+use Rattle.lines.specs.Before.{programBefore}
 use Rattle.lines.specs.Feed.{Going, atStart, fed, atEnd, goingIn, PartWay}
 use Rattle.lines.specs.Promise.{Does, stepLimit}
 use Rattle.lines.specs.FeedPromise.{Feedable, Feeds, Ends}
@@ -40,8 +42,12 @@ pub record Cases : Type 0 where
 -- "releases all it can": what is left after the releases is refused with 10 or 16, so that their count cuts nothing off
 abbrev pub ReleasesAll : Type 0
 ReleasesAll = (session : Lent) → InRanges session
-    → (next packetLimit ((releases (viewIn session)) .after) ≡ refuse baseUnknown)
-    ⊎ (next packetLimit ((releases (viewIn session)) .after) ≡ refuse allPassed)
+    → (release false packetLimit ((releases (viewIn session)) .after) ≡ refuse baseUnknown)
+    ⊎ (release false packetLimit ((releases (viewIn session)) .after) ≡ refuse allPassed)
+
+-- the program is the same function of its input as it was when next and give up were two calls
+abbrev pub AsBefore : Type 0
+AsBefore = (input : List ℕ) → program input ≡ programBefore input
 
 -- a line that was written reads back to the same octets
 abbrev pub WrittenReads : Type 0
@@ -93,6 +99,7 @@ pub record Claims : Type 0 where
   pub wholeCase : WholeCase
   pub cases : Cases
   pub releasesAll : ReleasesAll
+  pub asBefore : AsBefore
   pub writtenReads : WrittenReads
   pub cutAnyhow : CutAnyhow
   pub inTurn : InTurn

@@ -1,5 +1,6 @@
 pub mod Hex
 pub mod Lines
+pub mod Before
 pub mod Feed
 pub mod Promise
 pub mod FeedPromise

@@ -4,7 +4,7 @@
 -- read; upper case is written, each line ended by a line feed. A last line without a line feed counts unless it is empty." And
 -- document 02, request 5: "The program writes FF, number, then the place in four hexadecimal digits". Definitions only.
 use Prim.Native.Nat.{ℕ, zero, suc, _/_, _%_}
-use mathlib.Core.Bool.{cond}
+use mathlib.Core.Bool.{Bool, true, false, cond}
 use mathlib.Core.List.{List, [], _∷_, _++_}
 use lib.Dec.{eqb}
 use Rattle.lengths.specs.Answers.{Answer, done, refused, _>>=_}
@@ -13,7 +13,7 @@ use Rattle.datagrams.specs.Sizes.{packetLimit}
 use Rattle.views.specs.Cells.{State, unknown, received, spare, repaired, blank, keptAhead}
 use Rattle.views.specs.View.{View, freshView}
 use Rattle.views.specs.Offer.{offer}
-use Rattle.views.specs.Release.{Release, next, Loss, giveUp}
+use Rattle.views.specs.Release.{Release, release}
 use Rattle.lines.specs.Hex.{hexOf, lineOctets}
 
 -- ---- result lines
@@ -25,7 +25,7 @@ lineFeed = 0x0A
 abbrev pub lostKind : ℕ
 lostKind = 0x03
 
--- the kind of a released number; an unknown or blank one is never released
+-- the kind of a number that left: an unknown one is lost, and a blank one never leaves
 abbrev pub kindOctet : State → ℕ
 kindOctet received = 0x00
 kindOctet spare = 0x01
@@ -62,20 +62,21 @@ abbrev pub _then_ : Made → (View → Made) → Made
 first then second =
     record { text = first .text ++ (second (first .after)) .text; after = (second (first .after)) .after }
 
--- a release's line; "Releasing stops without a line at 10 or 16"
-abbrev pub releaseMade : Answer Release → View → Made
-releaseMade (done r) view = record { text = resultLine (kindOctet (r .kind)) (r .number) (r .octets); after = r .after }
-releaseMade (refused x) view = silent view
+-- a number that leaves is a line. Of a refusal there is one with leave, where it answers an empty line: "Releasing stops without a line
+-- at 10 or 16"
+abbrev pub releaseMade : Bool → Answer Release → View → Made
+releaseMade leave (done r) view = record { text = resultLine (kindOctet (r .kind)) (r .number) (r .octets); after = r .after }
+releaseMade leave (refused x) view = record { text = cond leave (refusalLine x) []; after = view }
 
--- a release, and what comes after it
+-- a release without leave, and what comes after it
 abbrev pub onward : Answer Release → (View → Made) → View → Made
-onward (done r) more view = releaseMade (done r) view then more
-onward (refused x) more view = releaseMade (refused x) view
+onward (done r) more view = releaseMade false (done r) view then more
+onward (refused x) more view = releaseMade false (refused x) view
 
 -- at most so many releases, with room for any packet
 unfoldable pub releasesF : ℕ → View → Made
 releasesF zero view = silent view
-releasesF (suc left) view = onward (next packetLimit view) (releasesF left) view
+releasesF (suc left) view = onward (release false packetLimit view) (releasesF left) view
 
 -- "releases all it can": after keptAhead releases the base is a number that came into view unknown
 abbrev pub releases : View → Made
@@ -95,14 +96,9 @@ lineOffered line view = do
 unfoldable pub offerLine : List ℕ → View → Made
 offerLine line view = offerMade (lineOffered line view) view
 
--- a give-up's answer: "03 lost", and the number
-abbrev pub giveUpMade : Answer Loss → View → Made
-giveUpMade (done l) view = record { text = resultLine lostKind (l .number) []; after = l .after }
-giveUpMade (refused r) view = record { text = refusalLine r; after = view }
-
--- "An empty line is one give-up"
+-- "An empty line is one give-up": a release with leave to skip. It meets no known base, since all that can be was released before
 unfoldable pub answerLine : List ℕ → View → Made
-answerLine [] view = giveUpMade (giveUp view) view
+answerLine [] view = releaseMade true (release true packetLimit view) view
 answerLine (c ∷ line) view = offerLine (c ∷ line) view
 
 -- one line

@@ -8,7 +8,7 @@ use Rattle.lengths.specs.Answers.{Answer, done, refused}
 use Rattle.datagrams.specs.Sizes.{packetLimit}
 use Rattle.views.specs.Cells.{keptAhead}
 use Rattle.views.specs.View.{View}
-use Rattle.views.specs.Release.{Release, next}
+use Rattle.views.specs.Release.{Release, release}
 use Rattle.held.specs.Table.{Lent, viewIn}
 use Rattle.held.specs.Laid.{InRanges}
 use Rattle.lines.specs.Lines.{Made, releaseMade}
@@ -46,8 +46,9 @@ abbrev pub goesOn : Answer Release → Bool
 goesOn (done r) = true
 goesOn (refused x) = false
 
--- what one release owes, from a session that is seen as view
-pub record ReleasesOne (view : View) (old : List ℕ) (at : ℕ) (session : Lent) (end : ℕ) (more : Bool) (new : List ℕ) : Type 0 where
-  pub does : Does (releaseMade (next packetLimit view) view) old at session end new
-  pub goes : more ≡ goesOn (next packetLimit view)
+-- what one release owes, with leave or without, from a session that is seen as view
+pub record ReleasesOne (leave : Bool) (view : View) (old : List ℕ) (at : ℕ) (session : Lent) (end : ℕ) (more : Bool) (new : List ℕ)
+    : Type 0 where
+  pub does : Does (releaseMade leave (release leave packetLimit view) view) old at session end new
+  pub goes : more ≡ goesOn (release leave packetLimit view)
   pub few : end ≤ at + resultLimit

@@ -8,7 +8,7 @@ use Rattle.views.specs.Repair.{firstUsable, repairF, repair}
 use Rattle.views.specs.Held.{messagesOf, messagesInRow, heldMessages}
 use Rattle.views.specs.View.{freshView, goneOn}
 use Rattle.views.specs.Offer.{keep, keepSpares, accept, offered, offer}
-use Rattle.views.specs.Release.{next, giveUp}
+use Rattle.views.specs.Release.{release}
 use Rattle.lines.specs.Hex.{digitOf, digitFor, allDigits, octetsIn, lineOctets, hexOf}
 use Rattle.lines.specs.Lines.{resultLine, refusalLine, releasesF, lineOffered, offerLine, answerLine, step, linesFrom, steps, program}
 use Rattle.lines.specs.Text.{characters}
@@ -17,7 +17,7 @@ use Rattle.replays.specs.Cases.{Cases}
 
 pub cases : Cases
 unfolding unless characters program steps linesFrom step answerLine offerLine lineOffered releasesF resultLine refusalLine
-    lineOctets octetsIn allDigits digitOf hexOf digitFor next giveUp offer offered accept keep keepSpares freshView goneOn
+    lineOctets octetsIn allDigits digitOf hexOf digitFor release offer offered accept keep keepSpares freshView goneOn
     messagesOf messagesInRow heldMessages repair repairF firstUsable readDatagram wholeOf numberOf extraAt sparesAt endOf
     itemsAt itemAt lengthWithin allowed carriedBy lengthAt tab allBelow numberIn listed dropped replayStep replaySteps replay
 cases =

@@ -11,23 +11,20 @@ use Rattle.lengths.specs.Promise.{RefusalMade}
 use Rattle.lengths.specs.declared.Refusal.{Refusal}
 use Rattle.views.specs.View.{View}
 use Rattle.views.specs.Offer as offers
-use Rattle.views.specs.Release as release
-use Rattle.views.specs.Release.{Release, Loss, viewAfterNext, viewAfterLoss}
+use Rattle.views.specs.Release.{Release, release, viewAfterRelease}
 use Rattle.held.specs.Table.{Lent, lent, lentBy, viewOf}
 use Rattle.held.specs.Laid.{sessionInRanges, InRanges}
 use Rattle.held.specs.Promise.{Sized}
 use Rattle.held.specs.declared.Counts.{Counts}
 use Rattle.held.specs.declared.Session.{Session}
 use Rattle.held.proofs.Laws.{session-in-ranges}
-use Rattle.leaving.specs.Promise.{Releases, GivesUp}
+use Rattle.leaving.specs.Promise.{Releases}
 use Rattle.leaving.specs.declared.Released.{Released}
 use Rattle.leaving.specs.declared.Released.the-variants as released
-use Rattle.leaving.specs.declared.Lost.{Lost}
-use Rattle.leaving.specs.declared.Lost.the-variants as lost
 use Rattle.offering.specs.Promise.{Offers}
 use Rattle.offering.specs.declared.Offered.{Offered}
 use Rattle.offering.specs.declared.Offered.the-variants as offered
-use Rattle.sessions.specs.Receiver.{SeenAs, After, offerOf, OfferOwes, nextOf, NextOwes, giveUpOf, GiveUpOwes}
+use Rattle.sessions.specs.Receiver.{SeenAs, After, offerOf, OfferOwes, releaseOf, ReleaseOwes}
 
 -- the session put together again
 abbrev pub sessionOf : ℕ → Counts → List ℕ → List ℕ → List ℕ → Session
@@ -72,12 +69,12 @@ module _ {s : Session} {octets : List ℕ} {ok : Bool} (e : ok ≡ sessionInRang
             (λ x is. is));
       }
 
--- ---- next
-module _ {s : Session} {old : List ℕ} {ok : Bool} (e : ok ≡ sessionInRanges s) where
-  pub next-outside : {why : Refusal} → RefusalMade outsideRanges why → ok ≡ false
-      → NextOwes s old old (record { session = s; answer = released.Refused why })
-  unfolding nextOf
-  next-outside made out =
+-- ---- release
+module _ {s : Session} {leave : Bool} {old : List ℕ} {ok : Bool} (e : ok ≡ sessionInRanges s) where
+  pub release-outside : {why : Refusal} → RefusalMade outsideRanges why → ok ≡ false
+      → ReleaseOwes s leave old old (record { session = s; answer = released.Refused why })
+  unfolding releaseOf
+  release-outside made out =
       let outside : sessionInRanges s ≡ false = sym e ∙ out in
       record {
         answer = rw (outside, made .answer);
@@ -85,55 +82,30 @@ module _ {s : Session} {old : List ℕ} {ok : Bool} (e : ok ≡ sessionInRanges 
         state = rw outside refl;
       }
 
-  pub next-inside : {new : List ℕ} {b : ℕ} {c : Counts} {t o g : List ℕ} {answer : Released} → ok ≡ true
-      → Releases (lentBy s) (lent b c t o g) old new answer
-      → NextOwes s old new (record { session = sessionOf b c t o g; answer = answer })
-  unfolding nextOf
-  next-inside {new} {b} {c} {t} {o} {g} yes-in m =
+  pub release-inside : {new : List ℕ} {b : ℕ} {c : Counts} {t o g : List ℕ} {answer : Released} → ok ≡ true
+      → Releases leave (lentBy s) (lent b c t o g) old new answer
+      → ReleaseOwes s leave old new (record { session = sessionOf b c t o g; answer = answer })
+  unfolding releaseOf
+  release-inside {new} {b} {c} {t} {o} {g} yes-in m =
       let inside : sessionInRanges s ≡ true = sym e ∙ yes-in in
       record {
         answer = rw inside (m .told);
         lent = rw inside (m .written);
         state =
             rw inside
-            (stands (release.next (length old) (viewOf s)) (λ a. a .after) _ s (sessionOf b c t o g)
+            (stands (release leave (length old) (viewOf s)) (λ a. a .after) _ s (sessionOf b c t o g)
             (λ a is.
             record {
               within = m .within;
-              view = m .state ∙ ap (λ (x : Answer Release). afterwards (viewAfterNext x) (viewOf s)) is;
+              view = m .state ∙ ap (λ (x : Answer Release). afterwards (viewAfterRelease x) (viewOf s)) is;
             })
             (λ x is. same-session (m .stays x is))
-            (λ a is. ap viewAfterNext is)
-            (λ x is. ap viewAfterNext is));
-      }
-
--- ---- give up
-module _ {s : Session} {ok : Bool} (e : ok ≡ sessionInRanges s) where
-  pub give-up-outside : {why : Refusal} → RefusalMade outsideRanges why → ok ≡ false
-      → GiveUpOwes s (record { session = s; answer = lost.Refused why })
-  unfolding giveUpOf
-  give-up-outside made out =
-      let outside : sessionInRanges s ≡ false = sym e ∙ out in
-      record { answer = rw (outside, made .answer); state = rw outside refl }
-
-  pub give-up-inside : {b : ℕ} {c : Counts} {t o g : List ℕ} {answer : Lost} → ok ≡ true → GivesUp (lentBy s) (lent b c t o g) answer
-      → GiveUpOwes s (record { session = sessionOf b c t o g; answer = answer })
-  unfolding giveUpOf
-  give-up-inside {b} {c} {t} {o} {g} yes-in m =
-      let inside : sessionInRanges s ≡ true = sym e ∙ yes-in in
-      record {
-        answer = rw inside (m .told);
-        state =
-            rw inside
-            (stands (release.giveUp (viewOf s)) (λ a. a .after) _ s (sessionOf b c t o g)
-            (λ a is. record { within = m .within; view = m .state ∙ ap (λ (x : Answer Loss). afterwards (viewAfterLoss x) (viewOf s)) is })
-            (λ x is. same-session (m .stays x is))
-            (λ a is. ap viewAfterLoss is)
-            (λ x is. ap viewAfterLoss is));
+            (λ a is. ap viewAfterRelease is)
+            (λ x is. ap viewAfterRelease is));
       }
 
 -- ---- what the cores require
 pub within-session : {s : Session} {ok : Bool} → ok ≡ sessionInRanges s → ok ≡ true → Sized s → InRanges (lentBy s)
 within-session {s} e yes-in sized = session-in-ranges s (sym e ∙ yes-in) sized
 
-pub ruleset calls = (offer-outside, offer-inside, next-outside, next-inside, give-up-outside, give-up-inside)
+pub ruleset calls = (offer-outside, offer-inside, release-outside, release-inside)

@@ -10,37 +10,38 @@ use lib.Dec.{ltb}
 use native.Mathlib.Omega.{arith}
 use borrow.Author.Tests.{ltb-true}
 use Rattle.octets.proofs.Laws.{true-or-false}
-use Rattle.lengths.specs.Refusals.{repeated, tooFar, late}
+use Rattle.lengths.specs.Refusals.{repeated, tooFar, late, outsideRanges}
 use Rattle.lengths.specs.Answers.{Answer, done, refused, refuse, _>>=_, over}
+use Rattle.lengths.proofs.Laws.{not-done, done-same}
 use Rattle.datagrams.specs.Carried.{Carried, Extra, spares, parity}
 use Rattle.datagrams.specs.Read.{DatagramParts, readDatagram, carriedBy}
 use Rattle.views.specs.Cells.{State, received, spare, Cell, isUnknown, cellAt, unknownAt, keptBefore, keptAhead}
 use Rattle.views.specs.Held.{Held, nothingHeld}
 use Rattle.views.specs.Reached.{Known}
-use Rattle.views.proofs.Laws.{repair-known}
+use Rattle.views.proofs.Laws.{repair-known, release-leaves}
 use Rattle.views.specs.View.{View, distance}
 use Rattle.views.specs.Offer as offers
-use Rattle.views.specs.Release.{viewAfterNext, viewAfterLoss}
+use Rattle.views.specs.Release.{Release, atBase, release, viewAfterRelease}
+use Rattle.held.specs.Table.{viewOf}
 use Rattle.held.specs.Laid.{sessionInRanges}
 use Rattle.held.specs.declared.Session.{Session}
 use Rattle.held.proofs.Laws.{in-ranges-true, fresh-same}
-use Rattle.leaving.specs.Outcome.{octetsHanded}
-use Rattle.leaving.proofs.Laws.{released-told, lost-told}
+use Rattle.leaving.specs.Outcome.{Handed, releasedOutcome, handedOf, octetsHanded}
+use Rattle.leaving.proofs.Laws.{released-told}
 use Rattle.offering.proofs.Laws.{offered-told}
-use Rattle.sessions.specs.Receiver.{After, offerOf, nextOf, giveUpOf}
-use Rattle.sessions.specs.Claims.{RefusedStays, OneOutcome, AcceptedOffer, Claims}
+use Rattle.sessions.specs.Receiver.{After, offerOf, releaseOf}
+use Rattle.sessions.specs.Claims.{RefusedStays, OneOutcome, AcceptedOffer, KnownNeverLost, Claims}
 use Rattle.sessions.proofs.Outcomes.{after-same, after-refused}
 
 refused-stays : RefusedStays
 refused-stays =
     record {
       offer = λ {s} {octets} {r} x o is. after-refused (offerOf octets s) x (o .state) is;
-      next =
-          λ {s} {old} {new} {r} x o is. (
-            after-refused (viewAfterNext (nextOf (length old) s)) x (o .state) (ap viewAfterNext is),
+      release =
+          λ {s} {leave} {old} {new} {r} x o is. (
+            after-refused (viewAfterRelease (releaseOf leave (length old) s)) x (o .state) (ap viewAfterRelease is),
             o .lent ∙ ap (λ (a : Answer (List ℕ)). over a old) (ap octetsHanded is),
           );
-      giveUp = λ {s} {r} x o is. after-refused (viewAfterLoss (giveUpOf s)) x (o .state) (ap viewAfterLoss is);
     }
 
 one-outcome : OneOutcome
@@ -50,16 +51,13 @@ one-outcome =
           λ {s} {octets} {r} {q} a b.
           ap₂ (λ x y. record { session = x; answer = y }) (after-same (offerOf octets s) s (a .state) (b .state))
           (offered-told (r .answer) (q .answer) (a .answer ∙ sym (b .answer)));
-      next =
-          λ {s} {old} {new} {other} {r} {q} a b. (
-            ap₂ (λ x y. record { session = x; answer = y }) (after-same (viewAfterNext (nextOf (length old) s)) s (a .state) (b .state))
+      release =
+          λ {s} {leave} {old} {new} {other} {r} {q} a b. (
+            ap₂ (λ x y. record { session = x; answer = y })
+                (after-same (viewAfterRelease (releaseOf leave (length old) s)) s (a .state) (b .state))
                 (released-told (r .answer) (q .answer) (a .answer ∙ sym (b .answer))),
             a .lent ∙ sym (b .lent),
           );
-      giveUp =
-          λ {s} {r} {q} a b.
-          ap₂ (λ x y. record { session = x; answer = y }) (after-same (viewAfterLoss (giveUpOf s)) s (a .state) (b .state))
-          (lost-told (r .answer) (q .answer) (a .answer ∙ sym (b .answer)));
       fresh = λ {r} {q} a b. fresh-same r q a b;
     }
 
@@ -173,6 +171,22 @@ after-ranges : (a : Answer View) (s r : Session) → After a s r → sessionInRa
 after-ranges (done v) s r x inside = in-ranges-true (x .within)
 after-ranges (refused why) s r x inside = ap (λ (q : Session). sessionInRanges q) x ∙ inside
 
+-- ---- a known base
+-- within the ranges, whatever leaves has the kind of the base
+handed-kind : (inside : Bool) (leave : Bool) (room : ℕ) (view : View) (h : Handed)
+    → done h ≡ handedOf (cond inside (release leave room view) (refuse outsideRanges)) → h .kind ≡ (atBase view) .state
+handed-kind false leave room view h e = absurd (not-done (sym e))
+handed-kind true leave room view h e = pick (release leave room view) refl e where
+  pick : (a : Answer Release) → release leave room view ≡ a → done h ≡ handedOf a → h .kind ≡ (atBase view) .state
+  pick (done r) is told = ap (λ (x : Handed). x .kind) (done-same told) ∙ release-leaves leave room view r is .kind
+  pick (refused why) is told = let z : _≡_ {A = ℕ} 0 1 = cc in absurd (omega arith)
+
+known-never-lost : KnownNeverLost
+unfolding releaseOf
+known-never-lost s leave old new r number size o known is =
+    let kind = handed-kind (sessionInRanges s) leave (length old) (viewOf s) _ (sym (ap releasedOutcome is) ∙ o .answer) in
+    true≢false (ap isUnknown kind ∙ known)
+
 pub claims : Claims
 claims =
     record {
@@ -180,7 +194,8 @@ claims =
       oneOutcome = one-outcome;
       accepted = accepted-offer;
       afterOffer = λ {s} {octets} {r} o inside. after-ranges (offerOf octets s) s (r .session) (o .state) inside;
-      afterNext =
-          λ {s} {old} {new} {r} o inside. after-ranges (viewAfterNext (nextOf (length old) s)) s (r .session) (o .state) inside;
-      afterGiveUp = λ {s} {r} o inside. after-ranges (viewAfterLoss (giveUpOf s)) s (r .session) (o .state) inside;
+      afterRelease =
+          λ {s} {leave} {old} {new} {r} o inside.
+          after-ranges (viewAfterRelease (releaseOf leave (length old) s)) s (r .session) (o .state) inside;
+      knownNeverLost = known-never-lost;
     }

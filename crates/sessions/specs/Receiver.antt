@@ -1,25 +1,24 @@
 -- What the calls of the receiving session owe: document 01, 'The receiving session', and of the order of refusals "offer 17, 2,
--- then reading order, then 8 or 9, then 7. Next 17, 16, 10, 13. Give up 17, 16, 11." Each promise settles the answer, the
--- session after and all lent octets, for every session of the struct's type and every input. Definitions only.
+-- then reading order, then 8 or 9, then 7"; of release, which stands for next and give up since document 02, request 7, "17, 16,
+-- 10, 13". Each promise settles the answer, the session after and all lent octets, for every session of the struct's type and every
+-- input. Definitions only.
 use Prim.Native.Nat.{ℕ}
 use mathlib.Core.Path.{_≡_}
-use mathlib.Core.Bool.{cond}
+use mathlib.Core.Bool.{Bool, cond}
 use mathlib.Core.List.{List}
 use lib.ListN.{length}
 use Rattle.lengths.specs.Refusals.{outsideRanges}
 use Rattle.lengths.specs.Answers.{Answer, done, refused, refuse, over}
 use Rattle.views.specs.View.{View}
 use Rattle.views.specs.Offer as offers
-use Rattle.views.specs.Release as release
-use Rattle.views.specs.Release.{Release, Loss, viewAfterNext, viewAfterLoss}
+use Rattle.views.specs.Release.{Release, release, viewAfterRelease}
 use Rattle.held.specs.Table.{lentBy, viewOf}
 use Rattle.held.specs.Laid.{sessionInRanges, InRanges}
 use Rattle.held.specs.declared.Session.{Session}
-use Rattle.leaving.specs.Outcome.{releasedOutcome, lostOutcome, handedOf, octetsHanded, numberLost}
+use Rattle.leaving.specs.Outcome.{releasedOutcome, handedOf, octetsHanded}
 use Rattle.offering.specs.Outcome.{offeredOutcome, acceptedOf}
 use Rattle.sessions.specs.declared.receiver.AfterOffer.{AfterOffer}
-use Rattle.sessions.specs.declared.receiver.AfterNext.{AfterNext}
-use Rattle.sessions.specs.declared.receiver.AfterGiveUp.{AfterGiveUp}
+use Rattle.sessions.specs.declared.receiver.AfterRelease.{AfterRelease}
 
 -- a session within its ranges, which document 01 sees as this view
 pub record SeenAs (wanted : View) (s : Session) : Type 0 where
@@ -43,19 +42,11 @@ pub record OfferOwes (s : Session) (octets : List ℕ) (r : AfterOffer) : Type 0
   pub answer : offeredOutcome (r .answer) ≡ acceptedOf (offerOf octets s)
   pub state : After (offerOf octets s) s (r .session)
 
--- ---- next, with a lent buffer of so many octets
-unfoldable pub nextOf : ℕ → Session → Answer Release
-nextOf room s = inRangesThen (release.next room) s
+-- ---- release, with leave to skip or without, and with a lent buffer of so many octets
+unfoldable pub releaseOf : Bool → ℕ → Session → Answer Release
+releaseOf leave room s = inRangesThen (release leave room) s
 
-pub record NextOwes (s : Session) (old new : List ℕ) (r : AfterNext) : Type 0 where
-  pub answer : releasedOutcome (r .answer) ≡ handedOf (nextOf (length old) s)
-  pub lent : new ≡ over (octetsHanded (nextOf (length old) s)) old
-  pub state : After (viewAfterNext (nextOf (length old) s)) s (r .session)
-
--- ---- give up
-unfoldable pub giveUpOf : Session → Answer Loss
-giveUpOf s = inRangesThen release.giveUp s
-
-pub record GiveUpOwes (s : Session) (r : AfterGiveUp) : Type 0 where
-  pub answer : lostOutcome (r .answer) ≡ numberLost (giveUpOf s)
-  pub state : After (viewAfterLoss (giveUpOf s)) s (r .session)
+pub record ReleaseOwes (s : Session) (leave : Bool) (old new : List ℕ) (r : AfterRelease) : Type 0 where
+  pub answer : releasedOutcome (r .answer) ≡ handedOf (releaseOf leave (length old) s)
+  pub lent : new ≡ over (octetsHanded (releaseOf leave (length old) s)) old
+  pub state : After (viewAfterRelease (releaseOf leave (length old) s)) s (r .session)

@@ -4,14 +4,11 @@
 mod receiver;
 
 pub use held::Counts;
+pub use held::Kind;
 pub use held::Session;
-pub use held::State;
-pub use leaving::Lost;
 pub use leaving::Released;
 pub use offering::Offered;
-pub use receiver::AfterGiveUp;
-pub use receiver::AfterNext;
 pub use receiver::AfterOffer;
-pub use receiver::give_up;
-pub use receiver::next;
+pub use receiver::AfterRelease;
 pub use receiver::offer;
+pub use receiver::release;

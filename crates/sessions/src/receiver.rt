@@ -1,10 +1,9 @@
 // The receiving session: document 01, 'The receiving session'.
 use held::Session;
-use leaving::Lost;
 use leaving::Released;
 use lengths::Refusal;
 use offering::Offered;
-ghost use Rattle.sessions.specs.Receiver.{OfferOwes, NextOwes, GiveUpOwes};
+ghost use Rattle.sessions.specs.Receiver.{OfferOwes, ReleaseOwes};
 
 // What offer answers, and the session after.
 pub struct AfterOffer {
@@ -12,16 +11,10 @@ pub struct AfterOffer {
     pub answer: Offered,
 }
 
-// What next answers, and the session after.
-pub struct AfterNext {
+// What a release answers, and the session after.
+pub struct AfterRelease {
     pub session: Session,
     pub answer: Released,
-}
-
-// What give up answers, and the session after.
-pub struct AfterGiveUp {
-    pub session: Session,
-    pub answer: Lost,
 }
 
 // Any octets from the network, offered to the session.
@@ -58,9 +51,10 @@ pub fn offer(s: Session, datagram: &[u8]) -> AfterOffer
     }
 }
 
-// Hands out the packet at the base into the front of out, and the base goes on by one.
-pub fn next(s: Session, out: &mut [u8]) -> AfterNext
-    ensures { λ r. ⌜ NextOwes s (now (out .entry)) (now (out .exit)) r ⌝ }
+// The number at the base leaves, its packet to the front of out, and the base goes on by one. An unknown base is refused, or where it
+// may be skipped, booked lost.
+pub fn release(s: Session, skip: bool, out: &mut [u8]) -> AfterRelease
+    ensures { λ r. ⌜ ReleaseOwes s skip (now (out .entry)) (now (out .exit)) r ⌝ }
 {
     let base = s.base;
     let counts = s.counts;
@@ -68,7 +62,15 @@ pub fn next(s: Session, out: &mut [u8]) -> AfterNext
     let mut octets = s.octets;
     let mut messages = s.messages;
     if checking::in_ranges(base, counts, &table, &octets, &messages) {
-        let done = leaving::next_core(base, counts, &mut table, &mut octets, &mut messages, out);
+        let done = leaving::release_core(
+            base,
+            counts,
+            &mut table,
+            &mut octets,
+            &mut messages,
+            skip,
+            out,
+        );
         let following = done.base;
         let moved = done.counts;
         let answer = done.answer;
@@ -79,41 +81,11 @@ pub fn next(s: Session, out: &mut [u8]) -> AfterNext
             octets,
             messages,
         };
-        return AfterNext { session, answer };
+        return AfterRelease { session, answer };
     }
     let why = Refusal::new(Refusal::OUTSIDE_RANGES);
-    AfterNext {
+    AfterRelease {
         session: s,
         answer: Released::Refused(why),
-    }
-}
-
-// Gives an unknown base up: books it lost, and the base goes on by one.
-pub fn give_up(s: Session) -> AfterGiveUp
-    ensures { λ r. ⌜ GiveUpOwes s r ⌝ }
-{
-    let base = s.base;
-    let counts = s.counts;
-    let mut table = s.table;
-    let mut octets = s.octets;
-    let mut messages = s.messages;
-    if checking::in_ranges(base, counts, &table, &octets, &messages) {
-        let done = leaving::give_up_core(base, counts, &mut table, &mut octets, &mut messages);
-        let following = done.base;
-        let moved = done.counts;
-        let answer = done.answer;
-        let session = Session {
-            base: following,
-            counts: moved,
-            table,
-            octets,
-            messages,
-        };
-        return AfterGiveUp { session, answer };
-    }
-    let why = Refusal::new(Refusal::OUTSIDE_RANGES);
-    AfterGiveUp {
-        session: s,
-        answer: Lost::Refused(why),
     }
 }

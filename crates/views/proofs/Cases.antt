@@ -9,7 +9,7 @@ use Rattle.views.specs.Repair.{passing, usable, firstUsable, mended, fil
 use Rattle.views.specs.Held.{messagesOf, messagesInRow, heldMessages}
 use Rattle.views.specs.View.{freshView, goneOn}
 use Rattle.views.specs.Offer.{keep, keepSpares, accept, offered, offer}
-use Rattle.views.specs.Release.{next, giveUp}
+use Rattle.views.specs.Release.{release}
 use Rattle.views.specs.Cases.{OfferCases, ReleaseCases}
 
 pub offer-cases : OfferCases
@@ -35,15 +35,15 @@ offer-cases =
     }
 
 pub release-cases : ReleaseCases
-unfolding next giveUp goneOn freshView
+unfolding release goneOn freshView
 release-cases =
     record {
       passed-then-unknown = refl;
       passed-then-room = refl;
+      passed-with-leave = refl;
       unknown-then-room = refl;
       no-room = refl;
-      passed-then-known = refl;
-      known-base = refl;
+      no-room-with-leave = refl;
       spare-leaves = refl;
       stays-unknown = refl;
     }

@@ -33,3 +33,8 @@ pub use Rattle.views.proofs.Filled.{filledAt, filled-sound}
 pub use Rattle.views.proofs.Holding.{heldThere, held-none, accepted-right, held-sound}
 -- ---- the ranges: the base goes on
 pub use Rattle.views.proofs.GoesOn.{lastPlace, lastAhead, sound-goes-on}
+-- ---- the ranges: every call keeps them
+pub use Rattle.views.proofs.Stays.{fresh-sound, offer-sound, sum-counted, release-sound}
+-- ---- a release
+pub use Rattle.views.proofs.Release.{Leaves, release-leaves}
+pub use Rattle.views.proofs.Pair.{unknown-base}

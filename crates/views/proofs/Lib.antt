@@ -18,5 +18,8 @@ pub mod Filled
 pub mod Holding
 pub mod GoesOn
 pub mod Ranges
+pub mod Release
+pub mod Pair
+pub mod Stays
 pub mod Claims
 pub mod Laws

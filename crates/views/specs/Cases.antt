@@ -1,17 +1,18 @@
 -- Small sessions, at a limit or where document 01's 'The receiving session' may be read in two ways: each case says one answer.
 use Prim.Native.Nat.{ℕ, _-_}
 use mathlib.Core.Path.{_≡_}
+use mathlib.Core.Bool.{true, false}
 use mathlib.Core.List.{List, [], _∷_, _++_}
 use lib.ListN.{length, replicate}
-use Rattle.lengths.specs.Refusals.{endsEarly, repeated, tooFar, late, baseUnknown, baseKnown, noRoom, allPassed}
+use Rattle.lengths.specs.Refusals.{endsEarly, repeated, tooFar, late, baseUnknown, noRoom, allPassed}
 use Rattle.lengths.specs.Answers.{done, refuse, refuseAt}
 use Rattle.datagrams.specs.Carried.{Carried, spares, parity}
-use Rattle.views.specs.Cells.{spare, Cell, blankCell, unknownCell, filledCell, keptBefore, keptAhead}
+use Rattle.views.specs.Cells.{unknown, spare, Cell, blankCell, unknownCell, filledCell, keptBefore, keptAhead}
 use Rattle.views.specs.Held.{Held, nothingHeld}
 use Rattle.views.specs.RepairCases.{came, filled, holding}
 use Rattle.views.specs.View.{View, Counts, sessionLimit, freshView}
 use Rattle.views.specs.Offer.{offer, offered}
-use Rattle.views.specs.Release.{next, giveUp}
+use Rattle.views.specs.Release.{release}
 
 -- ---- what stands in them
 -- a number that came with `06`, and a spare with `02`
@@ -108,16 +109,17 @@ pub record OfferCases : Type 0 where
   pub late-first : offered (alone 0) (later 1 1 (arrived ∷ []) []) ≡ refuse late
   pub again : offered (alone 0) (started (arrived ∷ []) (marked ∷ [])) ≡ refuse repeated
 
--- ---- next and give up: "Next 17, 16, 10, 13. Give up 17, 16, 11."
+-- ---- release: "the order is 17, 16, 10, 13"
 pub record ReleaseCases : Type 0 where
-  pub passed-then-unknown : next 0 (atLimit [] []) ≡ refuse allPassed
-  pub passed-then-room : next 0 (atLimit (arrived ∷ []) []) ≡ refuse allPassed
-  pub unknown-then-room : next 0 freshView ≡ refuse baseUnknown
-  pub no-room : next 0 (started (copy ∷ []) []) ≡ refuse noRoom
-  pub passed-then-known : giveUp (atLimit (arrived ∷ []) []) ≡ refuse allPassed
-  pub known-base : giveUp (started (arrived ∷ []) []) ≡ refuse baseKnown
-  -- a spare is counted as it leaves, and after 65,535 comes 0
-  pub spare-leaves : next 1 (later 65535 65535 (copy ∷ []) (marked ∷ []))
+  pub passed-then-unknown : release false 0 (atLimit [] []) ≡ refuse allPassed
+  pub passed-then-room : release false 0 (atLimit (arrived ∷ []) []) ≡ refuse allPassed
+  pub passed-with-leave : release true 0 (atLimit [] []) ≡ refuse allPassed
+  pub unknown-then-room : release false 0 freshView ≡ refuse baseUnknown
+  pub no-room : release false 0 (started (copy ∷ []) []) ≡ refuse noRoom
+  -- leave skips no known number: a short buffer is 13
+  pub no-room-with-leave : release true 0 (started (copy ∷ []) []) ≡ refuse noRoom
+  -- a spare is counted as it leaves, with leave too, and after 65,535 comes 0
+  pub spare-leaves : release true 1 (later 65535 65535 (copy ∷ []) (marked ∷ []))
       ≡ done (record {
         kind = spare;
         number = 65535;
@@ -129,10 +131,12 @@ pub record ReleaseCases : Type 0 where
           held = replicate keptAhead nothingHeld;
         };
       })
-  -- a number given up stays unknown
-  pub stays-unknown : giveUp freshView
+  -- a number that is skipped is lost, with no room too, and stays unknown
+  pub stays-unknown : release true 0 freshView
       ≡ done (record {
+        kind = unknown;
         number = 0;
+        octets = [];
         after = record {
           base = 1;
           counts = record { received = 0; spare = 0; repaired = 0; lost = 1 };

@@ -8,6 +8,7 @@ pub mod View
 pub mod Ranges
 pub mod Offer
 pub mod Release
+pub mod Pair
 pub mod Claims
 pub mod RepairCases
 pub mod Cases

@@ -1,12 +1,13 @@
 -- Document 01, 'The receiving session', "Next. Hands out the packet at the base with its number and kind, and the base goes
 -- on by one. Give up gives the number of an unknown base, books it lost and moves the base likewise; the number stays
--- unknown." And of the order: "Next 17, 16, 10, 13. Give up 17, 16, 11." Definitions only.
+-- unknown." They are one call, which is told whether it may skip (document 02, request 7): "Base known: it releases, skip or
+-- not. Unknown: refusal 10 without leave, booked lost with it. .. the order is 17, 16, 10, 13." Definitions only.
 use Prim.Native.Nat.{ℕ, _+_}
-use mathlib.Core.Bool.{cond}
+use mathlib.Core.Bool.{Bool, not, cond, _&&_}
 use mathlib.Core.List.{List}
 use lib.ListN.{length}
 use lib.Dec.{leb, ltb}
-use Rattle.lengths.specs.Refusals.{baseUnknown, baseKnown, noRoom, allPassed}
+use Rattle.lengths.specs.Refusals.{baseUnknown, noRoom, allPassed}
 use Rattle.lengths.specs.Answers.{Answer, done, refuse, mapped}
 use Rattle.views.specs.Cells.{State, unknown, received, spare, repaired, blank, Cell, cellAt, unknownAt, keptBefore}
 use Rattle.views.specs.View.{View, Counts, sum, sessionLimit, goneOn}
@@ -23,23 +24,24 @@ counted blank c = c
 abbrev pub atBase : View → Cell
 atBase view = cellAt (view .cells) keptBefore
 
--- how next and give up move on: the number at the base is counted and leaves
+-- how a number leaves: the one at the base is counted, and the base goes on
 abbrev pub movedOn : View → View
 movedOn view = goneOn (counted ((atBase view) .state) (view .counts)) view
 
--- what next hands out, and the session after
+-- the number that leaves, and the session after: its kind is its state, where unknown is lost, and a lost one has no octets
 pub record Release : Type 0 where
   pub kind : State
   pub number : ℕ
   pub octets : List ℕ
   pub after : View
 
--- next, with a lent buffer of so many octets
-unfoldable pub next : ℕ → View → Answer Release
-next room view =
+-- the call, with leave to skip or without, and a lent buffer of so many octets. The number at the base leaves as it stands there:
+-- leave does no more than lift refusal 10, and an unknown number, which has no octets, needs no room
+unfoldable pub release : Bool → ℕ → View → Answer Release
+release leave room view =
     let cell = atBase view in
     cond (leb sessionLimit (sum (view .counts))) (refuse allPassed)
-    (cond (unknownAt (view .cells) keptBefore) (refuse baseUnknown)
+    (cond (unknownAt (view .cells) keptBefore && not leave) (refuse baseUnknown)
     (cond (ltb room (length (cell .octets))) (refuse noRoom)
     (done
     (record {
@@ -49,20 +51,6 @@ next room view =
       after = movedOn view;
     }))))
 
--- the number that give up gives, and the session after
-pub record Loss : Type 0 where
-  pub number : ℕ
-  pub after : View
-
-unfoldable pub giveUp : View → Answer Loss
-giveUp view =
-    cond (leb sessionLimit (sum (view .counts))) (refuse allPassed)
-    (cond (unknownAt (view .cells) keptBefore) (done (record { number = view .base; after = movedOn view }))
-    (refuse baseKnown))
-
--- the session after each of them
-abbrev pub viewAfterNext : Answer Release → Answer View
-viewAfterNext answer = mapped (λ (r : Release). r .after) answer
-
-abbrev pub viewAfterLoss : Answer Loss → Answer View
-viewAfterLoss answer = mapped (λ (l : Loss). l .after) answer
+-- the session after it
+abbrev pub viewAfterRelease : Answer Release → Answer View
+viewAfterRelease answer = mapped (λ (r : Release). r .after) answer

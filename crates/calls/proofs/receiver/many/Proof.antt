@@ -18,8 +18,11 @@ around-requires c κs = search needs
 loop-holds : tie.Need-loop-holds Inv-loop μ-loop
 loop-holds c = search needs
 
-give-up-requires : tie.Need-give-up-requires Inv-loop μ-loop
-give-up-requires c κs = search needs
+slice-aggregate-release : tie.Need-slice-aggregate-release Inv-loop μ-loop
+slice-aggregate-release c = search needs
+
+release-requires : tie.Need-release-requires Inv-loop μ-loop
+release-requires c κs = search needs
 
 sub-left : tie.Need-sub-left Inv-loop μ-loop
 sub-left c = search needs
@@ -48,7 +51,8 @@ many-spec =
     fresh-requires
     around-requires
     loop-holds
-    give-up-requires
+    slice-aggregate-release
+    release-requires
     sub-left
     loop-less
     loop-again

@@ -4,16 +4,16 @@ use borrow.Author.Needs.{needs}
 use Rattle.line_steps.proofs.steps.answer_line.Statement.{statement}
 use Rattle.line_steps.proofs.steps.answer_line.Tie as tie
 
-give-up-line-requires : tie.Need-give-up-line-requires
-give-up-line-requires c κs = search needs
+release-requires : tie.Need-release-requires
+release-requires c κs = search needs
 
 same-length : tie.Need-same-length
 same-length c = search needs
 
 returns : tie.Need-returns
 returns c =
-    let gave = c .before .before in
-    answers-empty _ _ (gave .before .before .before .before .before .if1 .taken) (gave .give-up-line .ensures)
+    let left = c .before .before .before in
+    answers-empty _ _ (left .before .before .before .before .before .if1 .taken) (left .release .ensures)
 
 offer-line-requires : tie.Need-offer-line-requires
 offer-line-requires c κs = search needs
@@ -29,10 +29,4 @@ returns-2 c =
 pub answer-line-spec : {M : Type 1} → statement M
 answer-line-spec =
     tie.close
-    (tie.spec
-    give-up-line-requires
-    same-length
-    returns
-    offer-line-requires
-    same-length-2
-    returns-2)
+    (tie.spec release-requires same-length returns offer-line-requires same-length-2 returns-2)

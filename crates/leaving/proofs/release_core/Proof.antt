@@ -1,20 +1,20 @@
--- `leaving::next_core` meets its contract. Assumes nothing.
+-- `leaving::release_core` meets its contract. Assumes nothing.
 use borrow.Author.Needs.{needs}
 use Rattle.leaving.proofs.Base.{base-there}
-use Rattle.leaving.proofs.Next.{next-16, next-10, next-13, next-released, may-release, size-fits}
-use Rattle.leaving.proofs.next_core.Statement.{statement}
-use Rattle.leaving.proofs.next_core.Tie as tie
+use Rattle.leaving.proofs.Release.{release-16, release-10, release-13, release-left, may-leave, not-blank, size-fits}
+use Rattle.leaving.proofs.release_core.Statement.{statement}
+use Rattle.leaving.proofs.release_core.Tie as tie
 
 all-passed-requires : tie.Need-all-passed-requires
 all-passed-requires c κs = search needs
 
-next-refused-requires : tie.Need-next-refused-requires
-next-refused-requires c κs = search needs
+release-refused-requires : tie.Need-release-refused-requires
+release-refused-requires c κs = search needs
 
 returns : tie.Need-returns
 returns c =
     let passed = c .before .before in
-    next-16 (passed .before .before .pre) (passed .all-passed .ensures) (c .before .if1 .taken) (c .next-refused .ensures)
+    release-16 (passed .before .before .pre) (passed .all-passed .ensures) (c .before .if1 .taken) (c .release-refused .ensures)
 
 kept-slot-requires : tie.Need-kept-slot-requires
 kept-slot-requires c κs = search needs
@@ -22,22 +22,22 @@ kept-slot-requires c κs = search needs
 state-at-requires : tie.Need-state-at-requires
 state-at-requires c κs = search needs
 
-next-refused-requires-2 : tie.Need-next-refused-requires-2
-next-refused-requires-2 c κs = search needs
+release-refused-requires-2 : tie.Need-release-refused-requires-2
+release-refused-requires-2 c κs = search needs
 
 returns-2 : tie.Need-returns-2
 returns-2 c =
     let read = c .before .before in
     let at = read .before .before .before in
     let passed = at .before .before in
-    next-10 (passed .before .before .pre) (passed .all-passed .ensures) (at .before .if1 .left) (at .kept-slot .ensures)
-    (read .state-at .ensures) (c .before .if2 .taken) (c .next-refused2 .ensures)
+    release-10 (passed .before .before .pre) (passed .all-passed .ensures) (at .before .if1 .left) (at .kept-slot .ensures)
+    (read .state-at .ensures) (c .before .if2 .taken) (c .release-refused2 .ensures)
 
 size-at-requires : tie.Need-size-at-requires
 size-at-requires c κs = search needs
 
-next-refused-requires-3 : tie.Need-next-refused-requires-3
-next-refused-requires-3 c κs = search needs
+release-refused-requires-3 : tie.Need-release-refused-requires-3
+release-refused-requires-3 c κs = search needs
 
 returns-3 : tie.Need-returns-3
 returns-3 c =
@@ -46,8 +46,8 @@ returns-3 c =
     let read = other .before in
     let at = read .before .before .before in
     let passed = at .before .before in
-    next-13 (passed .before .before .pre) (passed .all-passed .ensures) (at .before .if1 .left) (at .kept-slot .ensures)
-    (read .state-at .ensures) (other .if2 .left) (sized .size-at .ensures) (c .before .if3 .taken) (c .next-refused3 .ensures)
+    release-13 (passed .before .before .pre) (passed .all-passed .ensures) (at .before .if1 .left) (at .kept-slot .ensures)
+    (read .state-at .ensures) (other .if2 .left) (sized .size-at .ensures) (c .before .if3 .taken) (c .release-refused3 .ensures)
 
 copy-out-requires : tie.Need-copy-out-requires
 copy-out-requires c κs =
@@ -59,21 +59,26 @@ copy-out-requires c κs =
       (size-fits (start .pre) (at .kept-slot .ensures) (sized .size-at .ensures), room .if3 .left),
     )
 
-state-of-requires : tie.Need-state-of-requires
-state-of-requires c κs = search needs
+kind-of-requires : tie.Need-kind-of-requires
+kind-of-requires c κs =
+    let copied = c .before .before in
+    let room = copied .before .before .before .before in
+    let read = room .before .before .before .before .before in
+    let at = read .before .before .before in
+    not-blank (at .before .before .before .before .pre) (at .kept-slot .ensures) (read .state-at .ensures)
 
 move-on-requires : tie.Need-move-on-requires
 move-on-requires c κs =
-    let state = c .before .before .before in
-    let copied = state .before .before .before in
+    let kind = c .before .before .before in
+    let copied = kind .before .before .before in
     let room = copied .before .before .before .before in
     let read = room .before .before .before .before .before in
     let at = read .before .before .before in
     let passed = at .before .before in
     let start = passed .before .before in (
       start .pre,
-      may-release (start .pre) (passed .all-passed .ensures) (at .before .if1 .left) (at .kept-slot .ensures) (read .state-at .ensures)
-          (state .state-of .ensures),
+      may-leave (start .pre) (passed .all-passed .ensures) (at .before .if1 .left) (at .kept-slot .ensures) (read .state-at .ensures)
+          (kind .kind-of .ensures),
     )
 
 same-length : tie.Need-same-length
@@ -82,34 +87,34 @@ same-length c = search needs
 returns-4 : tie.Need-returns-4
 returns-4 c =
     let moved = c .before in
-    let state = moved .before .before .before .before in
-    let copied = state .before .before .before in
+    let kind = moved .before .before .before .before in
+    let copied = kind .before .before .before in
     let room = copied .before .before .before .before in
     let sized = room .before in
     let other = sized .before .before .before in
     let read = other .before in
     let at = read .before .before .before in
     let passed = at .before .before in
-    next-released (passed .before .before .pre) (passed .all-passed .ensures) (at .before .if1 .left) (at .kept-slot .ensures)
+    release-left (passed .before .before .pre) (passed .all-passed .ensures) (at .before .if1 .left) (at .kept-slot .ensures)
     (read .state-at .ensures) (other .if2 .left) (sized .size-at .ensures) (room .if3 .left) (copied .copy-out .ensures)
-    (state .state-of .ensures) (moved .move-on .ensures)
+    (kind .kind-of .ensures) (moved .move-on .ensures)
 
-pub next-core-spec : {M : Type 1} → statement M
-next-core-spec =
+pub release-core-spec : {M : Type 1} → statement M
+release-core-spec =
     tie.close
     (tie.spec
     all-passed-requires
-    next-refused-requires
+    release-refused-requires
     returns
     kept-slot-requires
     state-at-requires
-    next-refused-requires-2
+    release-refused-requires-2
     returns-2
     size-at-requires
-    next-refused-requires-3
+    release-refused-requires-3
     returns-3
     copy-out-requires
-    state-of-requires
+    kind-of-requires
     move-on-requires
     same-length
     returns-4)

@@ -1,8 +1,8 @@
--- `sessions::next` meets its contract: outside the ranges 17 and the very session, within them what the core owes. Assumes nothing.
+-- `sessions::release` meets its contract: outside the ranges 17 and the very session, within them what the core owes. Assumes nothing.
 use Rattle.sessions.proofs.Called.{calls, within-session}
 use borrow.Author.Needs.{needs}
-use Rattle.sessions.proofs.receiver.next.Statement.{statement}
-use Rattle.sessions.proofs.receiver.next.Tie as tie
+use Rattle.sessions.proofs.receiver.release.Statement.{statement}
+use Rattle.sessions.proofs.receiver.release.Tie as tie
 
 slice-aggregate-in-ranges : tie.Need-slice-aggregate-in-ranges
 slice-aggregate-in-ranges c = search needs
@@ -16,8 +16,8 @@ slice-aggregate-in-ranges-3 c = search needs
 in-ranges-requires : tie.Need-in-ranges-requires
 in-ranges-requires c κs = search needs
 
-next-core-requires : tie.Need-next-core-requires
-next-core-requires c κs =
+release-core-requires : tie.Need-release-core-requires
+release-core-requires c κs =
     within-session (c .before .before .before .before .before .in-ranges .ensures) (c .before .before .before .before .if1 .taken)
     (record { table = search needs; octets = search needs; messages = search needs })
 
@@ -33,15 +33,15 @@ new-requires c κs = search needs
 returns-2 : tie.Need-returns-2
 returns-2 c = search calls
 
-pub next-spec : {M : Type 1} → statement M
-next-spec =
+pub release-spec : {M : Type 1} → statement M
+release-spec =
     tie.close
     (tie.spec
     slice-aggregate-in-ranges
     slice-aggregate-in-ranges-2
     slice-aggregate-in-ranges-3
     in-ranges-requires
-    next-core-requires
+    release-core-requires
     same-length
     returns
     new-requires

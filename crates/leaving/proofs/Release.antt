@@ -1,0 +1,156 @@
+-- What `release` is by the tests of the code, and one law for each answer of `release_core`: the tests that led there give the
+-- promise. Assumes nothing.
+use Prim.Native.Nat.{ℕ, _+_, _%_, _≤_, _<_}
+use mathlib.Core.Path.{_≡_, refl, sym, ap, _∙_}
+use mathlib.Core.Bool.{Bool, true, false, false≢true, not, _&&_}
+use mathlib.Core.List.{List, _++_}
+use mathlib.Core.Logic.{⊎-elim}
+use lib.ListN.{length, drop}
+use lib.Dec.{eqb}
+use native.Mathlib.Omega.{arith}
+use borrow.Author.Tests.{lt-ltb, le-ltb, ne-eqb}
+use Rattle.octets.proofs.Laws.{below-or-not, and-right}
+use Rattle.lengths.specs.Refusals.{baseUnknown, noRoom, allPassed}
+use Rattle.lengths.specs.Answers.{done, refuse}
+use Rattle.views.specs.Cells.{unknownAt, keptBefore}
+use Rattle.datagrams.specs.Sizes.{packetLimit}
+use Rattle.stores.specs.Store.{part}
+use Rattle.stores.proofs.Laws.{length-part}
+use Rattle.views.specs.Ranges.{sizeRight}
+use Rattle.views.specs.Release.{movedOn, release}
+use Rattle.held.specs.Slots.{slotsKept}
+use Rattle.held.specs.Table.{Lent, lent, lastState, stateOf, stateIn, sizeIn, cellIn, cellsOf, viewIn, stateNumbered}
+use Rattle.held.specs.Laid.{InRanges}
+use Rattle.held.specs.declared.Counts.{Counts}
+use Rattle.held.specs.declared.Kind.{Kind}
+use Rattle.held.proofs.Laws.{unknown-number}
+use Rattle.leaving.specs.Steps.{Named, Passed, releaseRefused}
+use Rattle.leaving.specs.Promise.{MayMoveOn, MovesOn, Releases}
+use Rattle.leaving.specs.declared.ReleaseDone.{ReleaseDone}
+use Rattle.leaving.specs.declared.Released.the-variants as released
+use Rattle.leaving.proofs.Base.{goes-on, base-there, base-cell, base-kind, base-size, base-unknown, base-octets, base-state}
+
+-- ---- what the definition says, by the tests of the code
+module _ {b : ℕ} {c : Counts} {t o g : List ℕ} (w : InRanges (lent b c t o g)) {p : Bool} (limit : Passed c p) (leave : Bool) (room : ℕ)
+  where
+    release-passed : p ≡ true → release leave room (viewIn (lent b c t o g)) ≡ refuse allPassed
+    unfolding release viewIn
+    release-passed passed = rw (sym (limit .test) ∙ passed)
+
+    module _ (more : p ≡ false) {slot : ℕ} (at-base : slot ≡ b % slotsKept) {waits : Bool}
+        (test : (eqb (stateIn t slot) 0 && not leave) ≡ waits) where
+      base-waits : (unknownAt (cellsOf b t o) keptBefore && not leave) ≡ waits
+      base-waits = ap (λ (u : Bool). u && not leave) (base-unknown w at-base ∙ sym (unknown-number (stateIn t slot))) ∙ test
+
+      release-waits : waits ≡ true → release leave room (viewIn (lent b c t o g)) ≡ refuse baseUnknown
+      unfolding release viewIn
+      release-waits stops = rw (sym (limit .test) ∙ more, base-waits, stops)
+
+      release-short : waits ≡ false → room < sizeIn t slot → release leave room (viewIn (lent b c t o g)) ≡ refuse noRoom
+      unfolding release viewIn
+      release-short goes short =
+          rw (
+            sym (limit .test) ∙ more,
+            base-waits,
+            goes,
+            base-octets w at-base,
+            lt-ltb room (sizeIn t slot) short,
+          )
+
+      release-done : waits ≡ false → sizeIn t slot ≤ room
+          → release leave room (viewIn (lent b c t o g))
+          ≡ done
+          (record {
+            kind = stateNumbered (stateIn t slot);
+            number = b;
+            octets = part o slot (sizeIn t slot);
+            after = movedOn (viewIn (lent b c t o g));
+          })
+      unfolding release viewIn cellIn
+      release-done goes fits =
+          rw (
+            sym (limit .test) ∙ more,
+            base-waits,
+            goes,
+            base-octets w at-base,
+            le-ltb room (sizeIn t slot) fits,
+            base-cell w at-base,
+          )
+
+-- the test is on the state that was read
+same-test : (leave : Bool) {state s : ℕ} → state ≡ s → (eqb s 0 && not leave) ≡ (eqb state 0 && not leave)
+same-test leave read = ap (λ (n : ℕ). eqb n 0 && not leave) (sym read)
+
+-- ---- each answer
+-- a refusal: the very session and buffer
+refused-release : {leave : Bool} {b : ℕ} {c : Counts} {t o g old : List ℕ} {r : ReleaseDone} (n : ℕ) → InRanges (lent b c t o g)
+    → release leave (length old) (viewIn (lent b c t o g)) ≡ refuse n
+    → r ≡ releaseRefused b c n
+    → Releases leave (lent b c t o g) (lent (r .base) (r .counts) t o g) old old (r .answer)
+refused-release n w e made =
+    rw made
+    (record {
+      told = rw e;
+      written = rw e;
+      state = rw e;
+      within = w;
+      stays = λ x same. refl;
+    })
+
+module _ {leave : Bool} {b : ℕ} {c : Counts} {t o g old : List ℕ} {p : Bool} (w : InRanges (lent b c t o g)) (limit : Passed c p) where
+  pub release-16 : {r : ReleaseDone} → p ≡ true → r ≡ releaseRefused b c allPassed
+      → Releases leave (lent b c t o g) (lent (r .base) (r .counts) t o g) old old (r .answer)
+  release-16 passed made = refused-release allPassed w (release-passed w limit leave (length old) passed) made
+
+  module _ {slot state : ℕ} (more : p ≡ false) (at-base : slot ≡ b % slotsKept) (read : state ≡ stateIn t slot) where
+    pub release-10 : {r : ReleaseDone} → (eqb state 0 && not leave) ≡ true → r ≡ releaseRefused b c baseUnknown
+        → Releases leave (lent b c t o g) (lent (r .base) (r .counts) t o g) old old (r .answer)
+    release-10 waits made = refused-release baseUnknown w (release-waits w limit leave (length old) more at-base (same-test leave read) waits) made
+
+    module _ {s : ℕ} (goes : (eqb state 0 && not leave) ≡ false) (size : s ≡ sizeIn t slot) where
+      pub release-13 : {r : ReleaseDone} → length old < s → r ≡ releaseRefused b c noRoom
+          → Releases leave (lent b c t o g) (lent (r .base) (r .counts) t o g) old old (r .answer)
+      release-13 short made =
+          refused-release noRoom w (release-short w limit leave (length old) more at-base (same-test leave read) goes (rw size at short)) made
+
+      pub release-left : {kind : Kind} {after : Lent} {new : List ℕ} → s ≤ length old
+          → new ≡ part o slot s ++ drop s old → Named state kind → MovesOn (lent b c t o g) after
+          → Releases leave (lent b c t o g) after old new (released.Number kind b s)
+      release-left {kind} fits copied told moved =
+          let long = length-part o slot (sizeIn t slot) (base-there w at-base) (base-size w at-base) in
+          let whole = release-done w limit leave (length old) more at-base (same-test leave read) goes (rw size at fits) in
+          let kinds : stateOf kind ≡ stateNumbered (stateIn t slot) = told .same ∙ ap stateNumbered read in
+          record {
+            told = rw (whole, long, size, kinds);
+            written = rw (whole, long) (copied ∙ rw size);
+            state = rw whole (moved .state);
+            within = moved .within;
+            stays = λ x same. let z : _≡_ {A = ℕ} 0 1 = cc in absurd (omega arith);
+          }
+
+-- the number that leaves is the one at the base, and not all have passed
+pub may-leave : {b slot state : ℕ} {c : Counts} {t o g : List ℕ} {p : Bool} {kind : Kind}
+    → InRanges (lent b c t o g) → Passed c p → p ≡ false → slot ≡ b % slotsKept → state ≡ stateIn t slot → Named state kind
+    → MayMoveOn kind (lent b c t o g)
+may-leave w limit more at-base read told =
+    record { same = told .same ∙ ap stateNumbered read ∙ sym (base-kind w at-base); left = goes-on limit more }
+
+-- it is not blank
+blank-size : (n size : ℕ) → lastState ≤ n → sizeRight (stateNumbered n) size false ≡ true → ⊥
+unfolding sizeRight stateNumbered
+blank-size n size high e =
+    false≢true
+    (and-right (eqb size 0) false
+    (rw (ne-eqb n 0 (λ z. omega arith), ne-eqb n 1 (λ z. omega arith), ne-eqb n 2 (λ z. omega arith), ne-eqb n 3 (λ z. omega arith)) at e))
+
+pub not-blank : {b slot state : ℕ} {c : Counts} {t o g : List ℕ} → InRanges (lent b c t o g) → slot ≡ b % slotsKept
+    → state ≡ stateIn t slot → state < lastState
+not-blank {slot = slot} {state = state} {t = t} w at-base read =
+    ⊎-elim (λ low. low)
+    (λ high. absurd (blank-size (stateIn t slot) (sizeIn t slot) (rw read at high) (base-state w at-base)))
+    (below-or-not state lastState)
+
+-- what is handed out there is no longer than a packet
+pub size-fits : {b slot s : ℕ} {c : Counts} {t o g : List ℕ} → InRanges (lent b c t o g) → slot ≡ b % slotsKept
+    → s ≡ sizeIn t slot → s ≤ packetLimit
+size-fits w at-base size = rw (size) (base-size w at-base)
