@@ -4,4 +4,5 @@ pub mod Laying
 pub mod Base
 pub mod Moving
 pub mod Release
+pub mod Copying
 pub mod Laws

@@ -140,6 +140,10 @@ module _ {b : ℕ} {before : Counts} {t o g newO newG : List ℕ} (counts : Coun
               laid = laid-goes-on b (w .laid) cleared freed;
               sound = rw view-after (sound-goes-on (countsOf counts) (w .sound) one (omega (arith, may .left)));
             };
+        kept = λ n fits.
+            rw cleared
+            (part-pasted-other o (slotAt b 0) (zeros packetLimit) comes-there zeros-fit (b % slotsKept) n (there (b % slotsKept) (omega arith))
+            fits (λ same. omega arith));
       }
 
 -- ---- in the words of the code

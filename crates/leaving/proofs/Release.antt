@@ -1,7 +1,7 @@
 -- What `release` is by the tests of the code, and one law for each answer of `release_core`: the tests that led there give the
 -- promise. Assumes nothing.
 use Prim.Native.Nat.{ℕ, _+_, _%_, _≤_, _<_}
-use mathlib.Core.Path.{_≡_, refl, sym, ap, _∙_}
+use mathlib.Core.Path.{_≡_, refl, sym, ap, subst, _∙_}
 use mathlib.Core.Bool.{Bool, true, false, false≢true, not, _&&_}
 use mathlib.Core.List.{List, _++_}
 use mathlib.Core.Logic.{⊎-elim}
@@ -12,6 +12,7 @@ use borrow.Author.Tests.{lt-ltb, le-ltb, ne-eqb}
 use Rattle.octets.proofs.Laws.{below-or-not, and-right}
 use Rattle.lengths.specs.Refusals.{baseUnknown, noRoom, allPassed}
 use Rattle.lengths.specs.Answers.{done, refuse}
+use Rattle.lengths.proofs.Laws.{done-same}
 use Rattle.views.specs.Cells.{unknownAt, keptBefore}
 use Rattle.datagrams.specs.Sizes.{packetLimit}
 use Rattle.stores.specs.Store.{part}
@@ -25,7 +26,7 @@ use Rattle.held.specs.declared.Counts.{Counts}
 use Rattle.held.specs.declared.Kind.{Kind}
 use Rattle.held.proofs.Laws.{unknown-number}
 use Rattle.leaving.specs.Steps.{Named, Passed, releaseRefused}
-use Rattle.leaving.specs.Promise.{MayMoveOn, MovesOn, Releases}
+use Rattle.leaving.specs.Promise.{MayMoveOn, MovesOn, Stored, Leaves}
 use Rattle.leaving.specs.declared.ReleaseDone.{ReleaseDone}
 use Rattle.leaving.specs.declared.Released.the-variants as released
 use Rattle.leaving.proofs.Base.{goes-on, base-there, base-cell, base-kind, base-size, base-unknown, base-octets, base-state}
@@ -82,47 +83,49 @@ same-test : (leave : Bool) {state s : ℕ} → state ≡ s → (eqb s 0 && not l
 same-test leave read = ap (λ (n : ℕ). eqb n 0 && not leave) (sym read)
 
 -- ---- each answer
--- a refusal: the very session and buffer
-refused-release : {leave : Bool} {b : ℕ} {c : Counts} {t o g old : List ℕ} {r : ReleaseDone} (n : ℕ) → InRanges (lent b c t o g)
-    → release leave (length old) (viewIn (lent b c t o g)) ≡ refuse n
+-- a refusal: the very session
+refused-release : {leave : Bool} {room b : ℕ} {c : Counts} {t o g : List ℕ} {r : ReleaseDone} (n : ℕ) → InRanges (lent b c t o g)
+    → release leave room (viewIn (lent b c t o g)) ≡ refuse n
     → r ≡ releaseRefused b c n
-    → Releases leave (lent b c t o g) (lent (r .base) (r .counts) t o g) old old (r .answer)
+    → Leaves leave room (lent b c t o g) (lent (r .base) (r .counts) t o g) (r .answer)
 refused-release n w e made =
     rw made
     (record {
       told = rw e;
-      written = rw e;
+      stored = λ r is. let z : _≡_ {A = ℕ} 0 1 = cc in absurd (omega arith);
       state = rw e;
       within = w;
       stays = λ x same. refl;
     })
 
-module _ {leave : Bool} {b : ℕ} {c : Counts} {t o g old : List ℕ} {p : Bool} (w : InRanges (lent b c t o g)) (limit : Passed c p) where
+module _ {leave : Bool} {room b : ℕ} {c : Counts} {t o g : List ℕ} {p : Bool} (w : InRanges (lent b c t o g)) (limit : Passed c p) where
   pub release-16 : {r : ReleaseDone} → p ≡ true → r ≡ releaseRefused b c allPassed
-      → Releases leave (lent b c t o g) (lent (r .base) (r .counts) t o g) old old (r .answer)
-  release-16 passed made = refused-release allPassed w (release-passed w limit leave (length old) passed) made
+      → Leaves leave room (lent b c t o g) (lent (r .base) (r .counts) t o g) (r .answer)
+  release-16 passed made = refused-release allPassed w (release-passed w limit leave room passed) made
 
   module _ {slot state : ℕ} (more : p ≡ false) (at-base : slot ≡ b % slotsKept) (read : state ≡ stateIn t slot) where
     pub release-10 : {r : ReleaseDone} → (eqb state 0 && not leave) ≡ true → r ≡ releaseRefused b c baseUnknown
-        → Releases leave (lent b c t o g) (lent (r .base) (r .counts) t o g) old old (r .answer)
-    release-10 waits made = refused-release baseUnknown w (release-waits w limit leave (length old) more at-base (same-test leave read) waits) made
+        → Leaves leave room (lent b c t o g) (lent (r .base) (r .counts) t o g) (r .answer)
+    release-10 waits made = refused-release baseUnknown w (release-waits w limit leave room more at-base (same-test leave read) waits) made
 
     module _ {s : ℕ} (goes : (eqb state 0 && not leave) ≡ false) (size : s ≡ sizeIn t slot) where
-      pub release-13 : {r : ReleaseDone} → length old < s → r ≡ releaseRefused b c noRoom
-          → Releases leave (lent b c t o g) (lent (r .base) (r .counts) t o g) old old (r .answer)
+      pub release-13 : {r : ReleaseDone} → room < s → r ≡ releaseRefused b c noRoom
+          → Leaves leave room (lent b c t o g) (lent (r .base) (r .counts) t o g) (r .answer)
       release-13 short made =
-          refused-release noRoom w (release-short w limit leave (length old) more at-base (same-test leave read) goes (rw size at short)) made
+          refused-release noRoom w (release-short w limit leave room more at-base (same-test leave read) goes (rw size at short)) made
 
-      pub release-left : {kind : Kind} {after : Lent} {new : List ℕ} → s ≤ length old
-          → new ≡ part o slot s ++ drop s old → Named state kind → MovesOn (lent b c t o g) after
-          → Releases leave (lent b c t o g) after old new (released.Number kind b s)
-      release-left {kind} fits copied told moved =
-          let long = length-part o slot (sizeIn t slot) (base-there w at-base) (base-size w at-base) in
-          let whole = release-done w limit leave (length old) more at-base (same-test leave read) goes (rw size at fits) in
+      pub release-left : {kind : Kind} {after : Lent} → s ≤ room → Named state kind → MovesOn (lent b c t o g) after
+          → Leaves leave room (lent b c t o g) after (released.Number kind b s)
+      release-left {kind} {after} fits told moved =
+          let low = base-size w at-base in
+          let long = length-part o slot (sizeIn t slot) (base-there w at-base) low in
+          let whole = release-done w limit leave room more at-base (same-test leave read) goes (rw size at fits) in
           let kinds : stateOf kind ≡ stateNumbered (stateIn t slot) = told .same ∙ ap stateNumbered read in
+          let there : part (after .octets) (b % slotsKept) (sizeIn t slot) ≡ part o slot (sizeIn t slot) =
+          moved .kept (sizeIn t slot) low ∙ ap (λ (i : ℕ). part o i (sizeIn t slot)) (sym at-base) in
           record {
             told = rw (whole, long, size, kinds);
-            written = rw (whole, long) (copied ∙ rw size);
+            stored = λ r is. subst (Stored (after .octets)) (done-same (sym whole ∙ is)) (record { fits = rw long low; octets = rw (long, there) });
             state = rw whole (moved .state);
             within = moved .within;
             stays = λ x same. let z : _≡_ {A = ℕ} 0 1 = cc in absurd (omega arith);
@@ -149,8 +152,3 @@ not-blank {slot = slot} {state = state} {t = t} w at-base read =
     ⊎-elim (λ low. low)
     (λ high. absurd (blank-size (stateIn t slot) (sizeIn t slot) (rw read at high) (base-state w at-base)))
     (below-or-not state lastState)
-
--- what is handed out there is no longer than a packet
-pub size-fits : {b slot s : ℕ} {c : Counts} {t o g : List ℕ} → InRanges (lent b c t o g) → slot ≡ b % slotsKept
-    → s ≡ sizeIn t slot → s ≤ packetLimit
-size-fits w at-base size = rw (size) (base-size w at-base)

@@ -1,13 +1,16 @@
 -- What each call owes, over what is lent before and after. Definitions only.
-use Prim.Native.Nat.{ℕ, _<_}
+use Prim.Native.Nat.{ℕ, _%_, _≤_, _<_}
 use mathlib.Core.Path.{_≡_}
 use mathlib.Core.Bool.{Bool}
 use mathlib.Core.List.{List}
 use lib.ListN.{length}
-use Rattle.lengths.specs.Answers.{refused, over, afterwards}
+use Rattle.lengths.specs.Answers.{done, refused, over, afterwards}
 use Rattle.lengths.specs.declared.Refusal.{Refusal}
+use Rattle.datagrams.specs.Sizes.{packetLimit}
+use Rattle.stores.specs.Store.{part}
 use Rattle.views.specs.View.{sum, sessionLimit}
-use Rattle.views.specs.Release.{atBase, movedOn, release, viewAfterRelease}
+use Rattle.views.specs.Release.{Release, atBase, movedOn, release, viewAfterRelease}
+use Rattle.held.specs.Slots.{slotsKept}
 use Rattle.held.specs.Table.{stateOf, countsOf, Lent, viewIn}
 use Rattle.held.specs.Laid.{InRanges}
 use Rattle.held.specs.declared.Kind.{Kind}
@@ -19,10 +22,25 @@ pub record MayMoveOn (kind : Kind) (l : Lent) : Type 0 where
   pub same : stateOf kind ≡ (atBase (viewIn l)) .state
   pub left : sum (countsOf (l .counts)) < sessionLimit
 
--- the base went on by one
+-- the base went on by one: the packet of the number that left stays in its slot
 pub record MovesOn (before after : Lent) : Type 0 where
   pub state : viewIn after ≡ movedOn (viewIn before)
   pub within : InRanges after
+  pub kept : (n : ℕ) → n ≤ packetLimit
+      → part (after .octets) (before .base % slotsKept) n ≡ part (before .octets) (before .base % slotsKept) n
+
+-- a packet of a number that left, in that number's slot
+pub record Stored (o : List ℕ) (r : Release) : Type 0 where
+  pub fits : length (r .octets) ≤ packetLimit
+  pub octets : part o (r .number % slotsKept) (length (r .octets)) ≡ r .octets
+
+-- a number leaves, with leave to skip or without, and with room for so many octets: the answer, the session after, and where its packet is
+pub record Leaves (leave : Bool) (room : ℕ) (before after : Lent) (answer : Released) : Type 0 where
+  pub told : releasedOutcome answer ≡ handedOf (release leave room (viewIn before))
+  pub stored : (r : Release) → release leave room (viewIn before) ≡ done r → Stored (after .octets) r
+  pub state : viewIn after ≡ afterwards (viewAfterRelease (release leave room (viewIn before))) (viewIn before)
+  pub within : InRanges after
+  pub stays : (x : Refusal) → release leave room (viewIn before) ≡ refused x → after ≡ before
 
 -- a release, with leave to skip or without: its answer, the lent buffer old before and new after, and the session after
 pub record Releases (leave : Bool) (before after : Lent) (old new : List ℕ) (answer : Released) : Type 0 where

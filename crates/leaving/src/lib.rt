@@ -20,7 +20,7 @@ ghost use Rattle.held.specs.Slots.{slotsHeard, messageOctets};
 ghost use Rattle.held.specs.Table.{lent, lastState};
 ghost use Rattle.held.specs.Laid.{InRanges};
 ghost use Rattle.leaving.specs.Steps.{Named, Freed, releaseRefused};
-ghost use Rattle.leaving.specs.Promise.{MayMoveOn, MovesOn, Releases};
+ghost use Rattle.leaving.specs.Promise.{MayMoveOn, MovesOn, Leaves, Releases};
 
 // What a release answers: the kind and the number of what left, and the size of its packet, 0 where it is lost; or why it is refused.
 pub enum Released {
@@ -126,20 +126,20 @@ fn release_refused(base: u16, counts: Counts, number: u8) -> ReleaseDone
     }
 }
 
-// Refusals 16, 10 and 13 in this order, 10 where the base is unknown and may not be skipped; else the number at the base leaves, its
-// packet to the front of out. An unknown one is booked lost: it has no octets, so that nothing is written.
-pub fn release_core(
+// Refusals 16, 10 and 13 in this order, 10 where the base is unknown and may not be skipped, 13 where its packet is longer than room;
+// else the number at the base leaves, an unknown one booked lost. Its packet stays in its slot, where the caller finds it.
+pub fn leave_core(
     base: u16,
     counts: Counts,
     t: &mut [u16; Session::PLACES],
     o: &mut [u8; Session::PACKET_OCTETS],
     g: &mut [u8; Session::MESSAGE_OCTETS],
     skip: bool,
-    out: &mut [u8],
+    room: usize,
 ) -> ReleaseDone
     requires { ⌜ InRanges (lent base counts (now t) (now o) (now g)) ⌝ }
-    ensures { λ r. ⌜ Releases skip (lent base counts (now (t .entry)) (now (o .entry)) (now (g .entry)))
-        (lent (r .base) (r .counts) (now (t .exit)) (now (o .exit)) (now (g .exit))) (now (out .entry)) (now (out .exit)) (r .answer) ⌝ }
+    ensures { λ r. ⌜ Leaves skip room (lent base counts (now (t .entry)) (now (o .entry)) (now (g .entry)))
+        (lent (r .base) (r .counts) (now (t .exit)) (now (o .exit)) (now (g .exit))) (r .answer) ⌝ }
 {
     if all_passed(counts) {
         return release_refused(base, counts, Refusal::ALL_PASSED);
@@ -151,10 +151,9 @@ pub fn release_core(
         return release_refused(base, counts, Refusal::BASE_UNKNOWN);
     }
     let size = held::size_at(t, slot);
-    if out.len() < size {
+    if room < size {
         return release_refused(base, counts, Refusal::NO_ROOM);
     }
-    stores::copy_out(o, slot, size, out);
     let kind = kind_of(state);
     let moved = move_on(base, counts, kind, t, o, g);
     let after = moved.base;
@@ -168,4 +167,33 @@ pub fn release_core(
             size,
         },
     }
+}
+
+// A release: the packet of the number that leaves goes to the front of out. A lost one has no octets, so that nothing is written.
+pub fn release_core(
+    base: u16,
+    counts: Counts,
+    t: &mut [u16; Session::PLACES],
+    o: &mut [u8; Session::PACKET_OCTETS],
+    g: &mut [u8; Session::MESSAGE_OCTETS],
+    skip: bool,
+    out: &mut [u8],
+) -> ReleaseDone
+    requires { ⌜ InRanges (lent base counts (now t) (now o) (now g)) ⌝ }
+    ensures { λ r. ⌜ Releases skip (lent base counts (now (t .entry)) (now (o .entry)) (now (g .entry)))
+        (lent (r .base) (r .counts) (now (t .exit)) (now (o .exit)) (now (g .exit))) (now (out .entry)) (now (out .exit)) (r .answer) ⌝ }
+{
+    let done = leave_core(base, counts, t, o, g, skip, out.len());
+    let answer = done.answer;
+    let Released::Number {
+        kind: _,
+        number,
+        size,
+    } = answer
+    else {
+        return done;
+    };
+    let slot = held::kept_slot(number);
+    stores::copy_out(o, slot, size, out);
+    done
 }

@@ -1,120 +1,53 @@
--- `leaving::release_core` meets its contract. Assumes nothing.
+-- `leaving::release_core` meets its contract: what left is copied out of its slot. Assumes nothing.
 use borrow.Author.Needs.{needs}
-use Rattle.leaving.proofs.Base.{base-there}
-use Rattle.leaving.proofs.Release.{release-16, release-10, release-13, release-left, may-leave, not-blank, size-fits}
+use Rattle.leaving.proofs.Copying.{left-there, left-short, left-fits, copied, not-copied}
 use Rattle.leaving.proofs.release_core.Statement.{statement}
 use Rattle.leaving.proofs.release_core.Tie as tie
 
-all-passed-requires : tie.Need-all-passed-requires
-all-passed-requires c κs = search needs
+leave-core-requires : tie.Need-leave-core-requires
+leave-core-requires c κs = search needs
 
-release-refused-requires : tie.Need-release-refused-requires
-release-refused-requires c κs = search needs
+enum-known-answer : tie.Need-enum-known-answer
+enum-known-answer c = search needs
+
+enum-told : tie.Need-enum-told
+enum-told c = search needs
 
 returns : tie.Need-returns
-returns c =
-    let passed = c .before .before in
-    release-16 (passed .before .before .pre) (passed .all-passed .ensures) (c .before .if1 .taken) (c .release-refused .ensures)
+returns c = not-copied (c .before .before .leave-core .ensures) (c .enum-told .given .1)
 
 kept-slot-requires : tie.Need-kept-slot-requires
 kept-slot-requires c κs = search needs
 
-state-at-requires : tie.Need-state-at-requires
-state-at-requires c κs = search needs
-
-release-refused-requires-2 : tie.Need-release-refused-requires-2
-release-refused-requires-2 c κs = search needs
-
-returns-2 : tie.Need-returns-2
-returns-2 c =
-    let read = c .before .before in
-    let at = read .before .before .before in
-    let passed = at .before .before in
-    release-10 (passed .before .before .pre) (passed .all-passed .ensures) (at .before .if1 .left) (at .kept-slot .ensures)
-    (read .state-at .ensures) (c .before .if2 .taken) (c .release-refused2 .ensures)
-
-size-at-requires : tie.Need-size-at-requires
-size-at-requires c κs = search needs
-
-release-refused-requires-3 : tie.Need-release-refused-requires-3
-release-refused-requires-3 c κs = search needs
-
-returns-3 : tie.Need-returns-3
-returns-3 c =
-    let sized = c .before .before in
-    let other = sized .before .before .before in
-    let read = other .before in
-    let at = read .before .before .before in
-    let passed = at .before .before in
-    release-13 (passed .before .before .pre) (passed .all-passed .ensures) (at .before .if1 .left) (at .kept-slot .ensures)
-    (read .state-at .ensures) (other .if2 .left) (sized .size-at .ensures) (c .before .if3 .taken) (c .release-refused3 .ensures)
-
 copy-out-requires : tie.Need-copy-out-requires
 copy-out-requires c κs =
-    let room = c .before .before .before in
-    let sized = room .before in
-    let at = sized .before .before .before .before .before .before .before in
-    let start = at .before .before .before .before in (
-      base-there (start .pre) (at .kept-slot .ensures),
-      (size-fits (start .pre) (at .kept-slot .ensures) (sized .size-at .ensures), room .if3 .left),
-    )
-
-kind-of-requires : tie.Need-kind-of-requires
-kind-of-requires c κs =
-    let copied = c .before .before in
-    let room = copied .before .before .before .before in
-    let read = room .before .before .before .before .before in
-    let at = read .before .before .before in
-    not-blank (at .before .before .before .before .pre) (at .kept-slot .ensures) (read .state-at .ensures)
-
-move-on-requires : tie.Need-move-on-requires
-move-on-requires c κs =
-    let kind = c .before .before .before in
-    let copied = kind .before .before .before in
-    let room = copied .before .before .before .before in
-    let read = room .before .before .before .before .before in
-    let at = read .before .before .before in
-    let passed = at .before .before in
-    let start = passed .before .before in (
-      start .pre,
-      may-leave (start .pre) (passed .all-passed .ensures) (at .before .if1 .left) (at .kept-slot .ensures) (read .state-at .ensures)
-          (kind .kind-of .ensures),
+    let slot = c .before .before .before in
+    let told = slot .before .before in
+    let core = told .before .before in (
+      left-there (core .leave-core .ensures) _ (slot .kept-slot .ensures),
+      (left-short (core .leave-core .ensures) (told .answer .given .1), left-fits (core .leave-core .ensures) (told .answer .given .1)),
     )
 
 same-length : tie.Need-same-length
 same-length c = search needs
 
-returns-4 : tie.Need-returns-4
-returns-4 c =
-    let moved = c .before in
-    let kind = moved .before .before .before .before in
-    let copied = kind .before .before .before in
-    let room = copied .before .before .before .before in
-    let sized = room .before in
-    let other = sized .before .before .before in
-    let read = other .before in
-    let at = read .before .before .before in
-    let passed = at .before .before in
-    release-left (passed .before .before .pre) (passed .all-passed .ensures) (at .before .if1 .left) (at .kept-slot .ensures)
-    (read .state-at .ensures) (other .if2 .left) (sized .size-at .ensures) (room .if3 .left) (copied .copy-out .ensures)
-    (kind .kind-of .ensures) (moved .move-on .ensures)
+returns-2 : tie.Need-returns-2
+returns-2 c =
+    let copy = c .before .before in
+    let slot = copy .before .before .before .before in
+    let told = slot .before .before in
+    let core = told .before .before in
+    copied (core .leave-core .ensures) (told .answer .given .1) (slot .kept-slot .ensures) (copy .copy-out .ensures)
 
 pub release-core-spec : {M : Type 1} → statement M
 release-core-spec =
     tie.close
     (tie.spec
-    all-passed-requires
-    release-refused-requires
+    leave-core-requires
+    enum-known-answer
+    enum-told
     returns
     kept-slot-requires
-    state-at-requires
-    release-refused-requires-2
-    returns-2
-    size-at-requires
-    release-refused-requires-3
-    returns-3
     copy-out-requires
-    kind-of-requires
-    move-on-requires
     same-length
-    returns-4)
+    returns-2)
