@@ -5,7 +5,7 @@ use mathlib.Core.Bool.{Bool}
 use mathlib.Core.List.{List, _++_}
 use lib.ListN.{length, drop}
 use native.Mathlib.Omega.{arith}
-use Rattle.lengths.specs.Answers.{Answer, done, refused, over}
+use Rattle.lengths.specs.Answers.{Answer, done, refused}
 use Rattle.lengths.specs.declared.Refusal.{Refusal}
 use Rattle.datagrams.specs.Sizes.{packetLimit}
 use Rattle.stores.specs.Store.{HasSlot, part}
@@ -16,22 +16,22 @@ use Rattle.held.specs.Slots.{slotsKept}
 use Rattle.held.specs.Table.{Lent, viewIn, stateOf}
 use Rattle.held.specs.declared.Kind.{Kind}
 use Rattle.held.proofs.Laws.{has-packet-slot}
-use Rattle.leaving.specs.Outcome.{Handed, releasedOutcome, handedOf, octetsHanded}
+use Rattle.leaving.specs.Outcome.{Handed, releasedOutcome, handedOf}
 use Rattle.leaving.specs.Promise.{Leaves, Releases}
 use Rattle.leaving.specs.declared.Released.{Released}
 use Rattle.leaving.specs.declared.Released.the-variants as released
 
 -- ---- what the answer says of the number that left
-pub record Left (x : Answer Release) (kind : State) (number size : ℕ) : Type 0 where
+pub record Gone (x : Answer Release) (kind : State) (number size : ℕ) : Type 0 where
   pub out : Release
   pub is : x ≡ done out
   pub same-kind : kind ≡ out .kind
   pub same-number : number ≡ out .number
   pub same-size : size ≡ length (out .octets)
 
-left-of : (x : Answer Release) (kind : State) (number size : ℕ)
-    → done (record { kind = kind; number = number; size = size }) ≡ handedOf x → Left x kind number size
-left-of (done r) kind number size e =
+gone-of : (x : Answer Release) (kind : State) (number size : ℕ)
+    → done (record { kind = kind; number = number; size = size }) ≡ handedOf x → Gone x kind number size
+gone-of (done r) kind number size e =
     let same : _≡_ {A = Handed} (record { kind = kind; number = number; size = size })
     (record { kind = r .kind; number = r .number; size = length (r .octets) }) = cc in
     record {
@@ -41,35 +41,35 @@ left-of (done r) kind number size e =
       same-number = ap (λ (a : Handed). a .number) same;
       same-size = ap (λ (a : Handed). a .size) same;
     }
-left-of (refused x) kind number size e = let z : _≡_ {A = ℕ} 0 1 = cc in absurd (omega arith)
+gone-of (refused x) kind number size e = let z : _≡_ {A = ℕ} 0 1 = cc in absurd (omega arith)
 
-none-left : (x : Answer Release) (why : Refusal) → refused why ≡ handedOf x → x ≡ refused why
-none-left (done r) why e = let z : _≡_ {A = ℕ} 0 1 = cc in absurd (omega arith)
-none-left (refused x) why e = cc
+none-gone : (x : Answer Release) (why : Refusal) → refused why ≡ handedOf x → x ≡ refused why
+none-gone (done r) why e = let z : _≡_ {A = ℕ} 0 1 = cc in absurd (omega arith)
+none-gone (refused x) why e = cc
 
 module _ {leave : Bool} {room : ℕ} {before after : Lent} {answer : Released} (l : Leaves leave room before after answer) where
-  pub left : {kind : Kind} {number size : ℕ} → answer ≡ released.Number kind number size
-      → Left (release leave room (viewIn before)) (stateOf kind) number size
-  left {kind} {number} {size} is =
-      left-of (release leave room (viewIn before)) (stateOf kind) number size (sym (ap releasedOutcome is) ∙ l .told)
+  pub gone : {kind : Kind} {number size : ℕ} → answer ≡ released.Number kind number size
+      → Gone (release leave room (viewIn before)) (stateOf kind) number size
+  gone {kind} {number} {size} is =
+      gone-of (release leave room (viewIn before)) (stateOf kind) number size (sym (ap releasedOutcome is) ∙ l .told)
 
-  pub not-left : {why : Refusal} → answer ≡ released.Refused why → release leave room (viewIn before) ≡ refused why
-  not-left {why} is = none-left (release leave room (viewIn before)) why (sym (ap releasedOutcome is) ∙ l .told)
+  pub not-gone : {why : Refusal} → answer ≡ released.Refused why → release leave room (viewIn before) ≡ refused why
+  not-gone {why} is = none-gone (release leave room (viewIn before)) why (sym (ap releasedOutcome is) ∙ l .told)
 
   -- where its packet is, and how long
-  pub left-there : (number : ℕ) {slot : ℕ} → slot ≡ number % slotsKept → HasSlot slot (after .octets)
-  left-there number {slot} at = has-packet-slot (after .octets) slot (l .within .laid .octets) (omega arith)
+  pub gone-there : (number : ℕ) {slot : ℕ} → slot ≡ number % slotsKept → HasSlot slot (after .octets)
+  gone-there number {slot} at = has-packet-slot (after .octets) slot (l .within .laid .octets) (omega arith)
 
   module _ {kind : Kind} {number size : ℕ} (is : answer ≡ released.Number kind number size) where
-    pub left-short : size ≤ packetLimit
-    left-short = let a = left is in omega (arith, a .same-size, l .stored (a .out) (a .is) .fits)
+    pub gone-short : size ≤ packetLimit
+    gone-short = let a = gone is in omega (arith, a .same-size, l .stored (a .out) (a .is) .fits)
 
-    pub left-fits : size ≤ room
-    left-fits = let a = left is in omega (arith, a .same-size, release-leaves leave room (viewIn before) (a .out) (a .is) .fits)
+    pub gone-fits : size ≤ room
+    gone-fits = let a = gone is in omega (arith, a .same-size, release-leaves leave room (viewIn before) (a .out) (a .is) .fits)
 
-    pub left-octets : part (after .octets) (number % slotsKept) size ≡ (left is) .out .octets
-    left-octets =
-        let a = left is in
+    pub gone-octets : part (after .octets) (number % slotsKept) size ≡ (gone is) .out .octets
+    gone-octets =
+        let a = gone is in
         ap₂ (λ (n s : ℕ). part (after .octets) (n % slotsKept) s) (a .same-number) (a .same-size) ∙ l .stored (a .out) (a .is) .octets
 
 -- ---- each answer
@@ -78,10 +78,10 @@ module _ {leave : Bool} {before after : Lent} {old : List ℕ} {answer : Release
       → slot ≡ number % slotsKept → new ≡ part (after .octets) slot size ++ drop size old
       → Releases leave before after old new answer
   copied {number = number} {size = size} {slot = slot} {new = new} is at lent =
-      let a = left l is in
+      let a = gone l is in
       let whole : new ≡ a .out .octets ++ drop (length (a .out .octets)) old =
       lent
-      ∙ ap₂ (λ (b : List ℕ) (n : ℕ). b ++ drop n old) (ap (λ (i : ℕ). part (after .octets) i size) at ∙ left-octets l is) (a .same-size) in
+      ∙ ap₂ (λ (b : List ℕ) (n : ℕ). b ++ drop n old) (ap (λ (i : ℕ). part (after .octets) i size) at ∙ gone-octets l is) (a .same-size) in
       record {
         told = l .told;
         written = whole ∙ rw (a .is) refl;
@@ -94,7 +94,7 @@ module _ {leave : Bool} {before after : Lent} {old : List ℕ} {answer : Release
   not-copied is =
       record {
         told = l .told;
-        written = rw (not-left l is) refl;
+        written = rw (not-gone l is) refl;
         state = l .state;
         within = l .within;
         stays = l .stays;

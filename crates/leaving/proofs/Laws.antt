@@ -1,5 +1,5 @@
--- Laws for callers: an answer's case is told by document 01's number and values, so that two answers that say the same are the
--- same. Assumes nothing.
+-- Laws for callers: what left, and where its packet is; an answer's case is told by document 01's number and values, so that two answers
+-- that say the same are the same. Assumes nothing.
 use Prim.Native.Nat.{ℕ}
 use mathlib.Core.Path.{_≡_, ap}
 use native.Mathlib.Omega.{arith}
@@ -8,7 +8,10 @@ use Rattle.held.proofs.Laws.{kind-same}
 use Rattle.leaving.specs.Outcome.{Handed, releasedOutcome}
 use Rattle.leaving.specs.declared.Released.{Released}
 use Rattle.leaving.specs.declared.Released.the-variants as released
+-- ---- what the answer says of the number that left, and where its packet is
+pub use Rattle.leaving.proofs.Copying.{Gone, gone, not-gone, gone-there, gone-short, gone-octets}
 
+-- ---- an answer told by number and values
 pub released-told : (r q : Released) → releasedOutcome r ≡ releasedOutcome q → r ≡ q
 released-told (released.Number k n s) (released.Number l m t) e =
     let same : _≡_ {A = Handed} (record { kind = stateOf k; number = n; size = s })

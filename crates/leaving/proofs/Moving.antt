@@ -142,8 +142,8 @@ module _ {b : ℕ} {before : Counts} {t o g newO newG : List ℕ} (counts : Coun
             };
         kept = λ n fits.
             rw cleared
-            (part-pasted-other o (slotAt b 0) (zeros packetLimit) comes-there zeros-fit (b % slotsKept) n (there (b % slotsKept) (omega arith))
-            fits (λ same. omega arith));
+            (part-pasted-other o (slotAt b 0) (zeros packetLimit) comes-there zeros-fit (b % slotsKept) n
+            (there (b % slotsKept) (omega arith)) fits (λ same. omega arith));
       }
 
 -- ---- in the words of the code

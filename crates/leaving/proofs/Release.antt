@@ -1,11 +1,10 @@
 -- What `release` is by the tests of the code, and one law for each answer of `release_core`: the tests that led there give the
 -- promise. Assumes nothing.
-use Prim.Native.Nat.{ℕ, _+_, _%_, _≤_, _<_}
+use Prim.Native.Nat.{ℕ, _%_, _≤_, _<_}
 use mathlib.Core.Path.{_≡_, refl, sym, ap, subst, _∙_}
 use mathlib.Core.Bool.{Bool, true, false, false≢true, not, _&&_}
-use mathlib.Core.List.{List, _++_}
+use mathlib.Core.List.{List}
 use mathlib.Core.Logic.{⊎-elim}
-use lib.ListN.{length, drop}
 use lib.Dec.{eqb}
 use native.Mathlib.Omega.{arith}
 use borrow.Author.Tests.{lt-ltb, le-ltb, ne-eqb}
@@ -14,7 +13,6 @@ use Rattle.lengths.specs.Refusals.{baseUnknown, noRoom, allPassed}
 use Rattle.lengths.specs.Answers.{done, refuse}
 use Rattle.lengths.proofs.Laws.{done-same}
 use Rattle.views.specs.Cells.{unknownAt, keptBefore}
-use Rattle.datagrams.specs.Sizes.{packetLimit}
 use Rattle.stores.specs.Store.{part}
 use Rattle.stores.proofs.Laws.{length-part}
 use Rattle.views.specs.Ranges.{sizeRight}
@@ -125,7 +123,8 @@ module _ {leave : Bool} {room b : ℕ} {c : Counts} {t o g : List ℕ} {p : Bool
           moved .kept (sizeIn t slot) low ∙ ap (λ (i : ℕ). part o i (sizeIn t slot)) (sym at-base) in
           record {
             told = rw (whole, long, size, kinds);
-            stored = λ r is. subst (Stored (after .octets)) (done-same (sym whole ∙ is)) (record { fits = rw long low; octets = rw (long, there) });
+            stored = λ r is.
+                subst (Stored (after .octets)) (done-same (sym whole ∙ is)) (record { fits = rw long low; octets = rw (long, there) });
             state = rw whole (moved .state);
             within = moved .within;
             stays = λ x same. let z : _≡_ {A = ℕ} 0 1 = cc in absurd (omega arith);

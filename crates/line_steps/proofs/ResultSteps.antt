@@ -1,10 +1,13 @@
 -- Result lines, laid part after part. Assumes nothing.
-use Prim.Native.Nat.{ℕ, _+_, _*_, _/_, _%_, _≤_}
+use Prim.Native.Nat.{ℕ, _+_, _-_, _*_, _/_, _%_, _≤_}
 use mathlib.Core.Path.{_≡_, refl, ap, _∙_}
 use mathlib.Core.List.{List, [], _∷_}
-use lib.ListN.{length, set, length-append}
+use lib.ListN.{length, set, take, drop, length-append}
 use native.Mathlib.Omega.{arith}
 use Rattle.lengths.specs.declared.Refusal.{Refusal}
+use Rattle.datagrams.specs.Sizes.{packetLimit}
+use Rattle.stores.specs.Store.{part}
+use Rattle.held.specs.Slots.{slotsKept}
 use Rattle.lines.specs.Hex.{hexOf}
 use Rattle.lines.specs.Lines.{resultLine, refusalLine}
 use Rattle.lines.specs.Promise.{Appends}
@@ -30,6 +33,15 @@ pub result-put : (kind number : ℕ) (octets : List ℕ) {old one two new : List
     → Appends (10 ∷ []) two end new r → Appends (resultLine kind number octets) old at new r
 unfolding resultLine hexOf
 result-put kind number octets front packet feed = appends-then (appends-then front packet) feed
+
+-- the octets of a slot are the part of it that is read
+pub kept-put : (kind number size slot : ℕ) (o : List ℕ) {old new : List ℕ} {at end : ℕ} → slot ≡ number % slotsKept
+    → Appends (resultLine kind number (take (slot * packetLimit + size - slot * packetLimit) (drop (slot * packetLimit) o))) old at new end
+    → Appends (resultLine kind number (part o (number % slotsKept) size)) old at new end
+unfolding part
+kept-put kind number size slot o e a =
+    let all : slot * packetLimit + size - slot * packetLimit ≡ size = omega arith in
+    rw (all, e) at a
 
 pub refusal-put : (why : Refusal) {old one new : List ℕ} {at end r : ℕ}
     → Appends (hexOf (255 ∷ why .number ∷ why .place / 256 % 256 ∷ why .place % 256 ∷ [])) old at one end → Appends (10 ∷ []) one end new r

@@ -1,6 +1,7 @@
 // Result lines: "kind (00 received, 01 spare, 02 repaired, 03 lost), number, octets", for a refusal "FF, number, then the place in
 // four hexadecimal digits", "each line ended by a line feed". Each is laid into out from place at on; the answer is the place after
 // it.
+use datagrams::Packet;
 use held::Kind;
 use hexadecimal::put_octets;
 use lengths::Refusal;
@@ -9,6 +10,9 @@ ghost use mathlib.Core.Path.{_≡_};
 ghost use mathlib.Core.List.{[], _∷_};
 ghost use Prim.Native.Nat.{_+_, _*_, _/_, _%_, _≤_};
 ghost use lib.ListN.{length};
+ghost use Rattle.datagrams.specs.Sizes.{packetLimit};
+ghost use Rattle.stores.specs.Store.{HasSlot, part};
+ghost use Rattle.held.specs.Slots.{slotsKept};
 ghost use Rattle.held.specs.Table.{stateOf};
 ghost use Rattle.lines.specs.Lines.{lineFeed, kindOctet, resultLine, refusalLine};
 ghost use Rattle.lines.specs.Promise.{Appends};
@@ -34,7 +38,7 @@ fn end_line(out: &mut [u8], at: usize) -> usize
     at + 1
 }
 
-pub fn put_result(kind: u8, number: u16, octets: &[u8], out: &mut [u8], at: usize) -> usize
+fn put_result(kind: u8, number: u16, octets: &[u8], out: &mut [u8], at: usize) -> usize
     requires { ⌜ at + (7 + 2 * length (now octets)) ≤ length (now out) ⌝ }
     ensures { λ r. ⌜ Appends (resultLine kind number (now (octets .entry))) (now (out .entry)) at (now (out .exit)) r ⌝ }
 {
@@ -44,6 +48,20 @@ pub fn put_result(kind: u8, number: u16, octets: &[u8], out: &mut [u8], at: usiz
     let middle = put_octets(&front, out, at);
     let end = put_octets(octets, out, middle);
     end_line(out, end)
+}
+
+// The result line of a number that left, its packet of this size read where it is stored.
+pub fn put_kept(kind: u8, number: u16, size: usize, o: &[u8], out: &mut [u8], at: usize) -> usize
+    requires { ⌜ HasSlot (number % slotsKept) (now o) ⌝ }
+    requires { ⌜ size ≤ packetLimit ⌝ }
+    requires { ⌜ at + (7 + 2 * size) ≤ length (now out) ⌝ }
+    ensures { λ r. ⌜ Appends (resultLine kind number (part (now (o .entry)) (number % slotsKept) size)) (now (out .entry)) at
+        (now (out .exit)) r ⌝ }
+{
+    let slot = held::kept_slot(number);
+    let from = slot * Packet::LIMIT;
+    let to = from + size;
+    put_result(kind, number, &o[from..to], out, at)
 }
 
 pub fn put_refusal(why: Refusal, out: &mut [u8], at: usize) -> usize

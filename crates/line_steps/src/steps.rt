@@ -1,6 +1,5 @@
 // One line of the program: its answer, then all releases. Base and counts go by value, all else of the session and the buffers are
 // lent: no range is checked and nothing copied for each line. These functions require the session's ranges and keep them.
-use crate::releasing::release;
 use crate::releasing::releases;
 use crate::results::put_refusal;
 use datagrams::Datagram;
@@ -10,13 +9,15 @@ use hexadecimal::hex_to_octets;
 use lengths::Written;
 use lines::Stepped;
 use offering::Offered;
+ghost use mathlib.Core.Path.{_≡_};
 ghost use Prim.Native.Nat.{_+_, _≤_};
 ghost use lib.ListN.{length};
 ghost use Rattle.views.specs.Offer.{offer};
 ghost use Rattle.held.specs.Table.{lent, viewIn};
 ghost use Rattle.held.specs.Laid.{InRanges};
-ghost use Rattle.lines.specs.Lines.{offerMade, offerLine, answerLine, step as wholeStep};
+ghost use Rattle.lines.specs.Lines.{offerMade, offerLine, step as wholeStep};
 ghost use Rattle.lines.specs.Promise.{Does, Able, resultLimit, stepLimit};
+ghost use Rattle.line_steps.specs.Turns.{ownAnswer, turnsAfter};
 
 // Octets offered: a line for a refusal alone. Base and counts stay as they are.
 fn offer_octets(
@@ -66,8 +67,8 @@ fn offer_line(
     }
 }
 
-// A line's own answer: "An empty line is one give-up".
-fn answer_line(
+// A line's own answer: an empty one has none, since its first turn of releasing is "one give-up".
+fn own_answer(
     base: u16,
     counts: Counts,
     t: &mut [u16; Session::PLACES],
@@ -76,27 +77,28 @@ fn answer_line(
     line: &[u8],
     out: &mut [u8],
     at: usize,
-) -> Stepped
+) -> usize
     requires { ⌜ Able resultLimit (lent base counts (now t) (now o) (now g)) (now out) at ⌝ }
-    ensures { λ r. ⌜ Does (answerLine (now (line .entry)) (viewIn (lent base counts (now (t .entry)) (now (o .entry)) (now (g .entry)))))
-        (now (out .entry)) at (lent (r .base) (r .counts) (now (t .exit)) (now (o .exit)) (now (g .exit))) (r .end) (now (out .exit)) ⌝ }
+    ensures { λ r. ⌜ Does (ownAnswer (now (line .entry)) (viewIn (lent base counts (now (t .entry)) (now (o .entry)) (now (g .entry)))))
+        (now (out .entry)) at (lent base counts (now (t .exit)) (now (o .exit)) (now (g .exit))) r (now (out .exit)) ⌝ }
 {
     if line.len() == 0 {
-        let turn = release(base, counts, t, o, g, true, out, at);
-        let after = turn.base;
-        let moved = turn.counts;
-        let end = turn.end;
-        return Stepped {
-            base: after,
-            counts: moved,
-            end,
-        };
+        return at;
     }
-    let end = offer_line(base, counts, t, o, g, line, out, at);
-    Stepped { base, counts, end }
+    offer_line(base, counts, t, o, g, line, out, at)
 }
 
-// One line: its answer, then releases.
+// The turns of releasing after a line.
+fn turns_after(line: &[u8]) -> usize
+    ensures { λ r. ⌜ r ≡ turnsAfter (now (line .entry)) ⌝ }
+{
+    if line.len() == 0 {
+        return Session::HEARD + 1;
+    }
+    Session::HEARD
+}
+
+// One line: its answer, then releases. "An empty line is one give-up, then releases."
 pub fn step(
     base: u16,
     counts: Counts,
@@ -111,9 +113,7 @@ pub fn step(
     ensures { λ r. ⌜ Does (wholeStep (now (line .entry)) (viewIn (lent base counts (now (t .entry)) (now (o .entry)) (now (g .entry)))))
         (now (out .entry)) at (lent (r .base) (r .counts) (now (t .exit)) (now (o .exit)) (now (g .exit))) (r .end) (now (out .exit)) ⌝ }
 {
-    let first = answer_line(base, counts, t, o, g, line, out, at);
-    let after = first.base;
-    let moves = first.counts;
-    let end = first.end;
-    releases(after, moves, t, o, g, out, end)
+    let end = own_answer(base, counts, t, o, g, line, out, at);
+    let turns = turns_after(line);
+    releases(base, counts, t, o, g, turns, out, end)
 }

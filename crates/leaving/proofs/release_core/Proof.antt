@@ -1,6 +1,6 @@
--- `leaving::release_core` meets its contract: what left is copied out of its slot. Assumes nothing.
+-- `leaving::release_core` meets its contract: what gone is copied out of its slot. Assumes nothing.
 use borrow.Author.Needs.{needs}
-use Rattle.leaving.proofs.Copying.{left-there, left-short, left-fits, copied, not-copied}
+use Rattle.leaving.proofs.Copying.{gone-there, gone-short, gone-fits, copied, not-copied}
 use Rattle.leaving.proofs.release_core.Statement.{statement}
 use Rattle.leaving.proofs.release_core.Tie as tie
 
@@ -24,8 +24,8 @@ copy-out-requires c κs =
     let slot = c .before .before .before in
     let told = slot .before .before in
     let core = told .before .before in (
-      left-there (core .leave-core .ensures) _ (slot .kept-slot .ensures),
-      (left-short (core .leave-core .ensures) (told .answer .given .1), left-fits (core .leave-core .ensures) (told .answer .given .1)),
+      gone-there (core .leave-core .ensures) _ (slot .kept-slot .ensures),
+      (gone-short (core .leave-core .ensures) (told .answer .given .1), gone-fits (core .leave-core .ensures) (told .answer .given .1)),
     )
 
 same-length : tie.Need-same-length

@@ -1,16 +1,12 @@
 -- `line_steps::release` meets its contract: one law for each answer of the core. Assumes nothing.
-use mathlib.Core.Path.{refl}
 use native.Mathlib.Omega.{arith}
-use Rattle.line_steps.proofs.Stepping.{packet-inside, packet-length, packet-room, released-one, released-told, released-none}
+use Rattle.line_steps.proofs.Stepping.{packet-there, packet-short, packet-room, released-one, released-told, released-none}
 use borrow.Author.Needs.{needs}
 use Rattle.line_steps.proofs.releasing.release.Statement.{statement}
 use Rattle.line_steps.proofs.releasing.release.Tie as tie
 
-slice-aggregate-release-core : tie.Need-slice-aggregate-release-core
-slice-aggregate-release-core c = search needs
-
-release-core-requires : tie.Need-release-core-requires
-release-core-requires c κs = search needs
+leave-core-requires : tie.Need-leave-core-requires
+leave-core-requires c κs = search needs
 
 enum-known-answer : tie.Need-enum-known-answer
 enum-known-answer c = search needs
@@ -26,7 +22,7 @@ returns c =
     let put = c .before .before in
     let then = put .before .before in
     let told = then .before .before in
-    released-told (told .before .before .before .before .release-core .ensures) refl (told .answer .given .1) (then .if1 .taken)
+    released-told (told .before .before .before .leave-core .ensures) (told .answer .given .1) (then .if1 .taken)
     (put .put-refusal .ensures)
 
 enum-known-answer-2 : tie.Need-enum-known-answer-2
@@ -35,29 +31,24 @@ enum-known-answer-2 c = search needs
 kind-octet-requires : tie.Need-kind-octet-requires
 kind-octet-requires c κs = search needs
 
-array-share-prefix-packet : tie.Need-array-share-prefix-packet
-array-share-prefix-packet c =
-    let told = c .before .before in
-    packet-inside (told .before .before .before .before .release-core .ensures) refl (told .answer2 .given .1)
-
-slice-aggregate-put-result : tie.Need-slice-aggregate-put-result
-slice-aggregate-put-result c =
-    let told = c .before .before .before in
-    packet-length (told .before .before .before .before .release-core .ensures) refl (told .answer2 .given .1)
-
-put-result-requires : tie.Need-put-result-requires
-put-result-requires c κs =
-    let told = c .before .before .before .before in
-    let core = told .before .before .before .before in
-    let start = core .before .before .before .before .before .before in
-    packet-room (core .release-core .ensures) refl (start .args .at) (start .args .out .now) (told .answer2 .given .1) (start .pre .room)
+put-kept-requires : tie.Need-put-kept-requires
+put-kept-requires c κs =
+    let told = c .before .before .before .before .before in
+    let core = told .before .before .before in
+    let start = core .before .before .before .before .before in (
+      packet-there (core .leave-core .ensures) _,
+      (
+        packet-short (core .leave-core .ensures) (told .answer2 .given .1),
+        packet-room (core .leave-core .ensures) (told .answer2 .given .1) (start .args .at) (start .args .out .now) (start .pre .room),
+      ),
+    )
 
 returns-2 : tie.Need-returns-2
 returns-2 c =
     let told = c .before .before in
-    let core = told .before .before .before .before in
-    let start = core .before .before .before .before .before .before in
-    released-none (core .release-core .ensures) refl (told .answer .given .1) (c .if1 .left) (omega (arith, start .pre .room))
+    let core = told .before .before .before in
+    let start = core .before .before .before .before .before in
+    released-none (core .leave-core .ensures) (told .answer .given .1) (c .if1 .left) (omega (arith, start .pre .room))
 
 same-length-2 : tie.Need-same-length-2
 same-length-2 c = search needs
@@ -65,26 +56,23 @@ same-length-2 c = search needs
 returns-3 : tie.Need-returns-3
 returns-3 c =
     let put = c .before .before in
-    let octet = put .before .before .before in
+    let octet = put .before .before .before .before in
     let told = octet .before .before in
-    released-one (told .before .before .before .before .release-core .ensures) refl (told .answer2 .given .1) (octet .kind-octet .ensures)
-    (put .put-result .ensures)
+    released-one (told .before .before .before .leave-core .ensures) (told .answer2 .given .1) (octet .kind-octet .ensures)
+    (put .put-kept .ensures)
 
 pub release-spec : {M : Type 1} → statement M
 release-spec =
     tie.close
     (tie.spec
-    slice-aggregate-release-core
-    release-core-requires
+    leave-core-requires
     enum-known-answer
     put-refusal-requires
     same-length
     returns
     enum-known-answer-2
     kind-octet-requires
-    array-share-prefix-packet
-    slice-aggregate-put-result
-    put-result-requires
+    put-kept-requires
     returns-2
     same-length-2
     returns-3)

@@ -1,20 +1,22 @@
--- `line_steps::releases` meets its contract: what was written so far, then as many releases as are left, are all releases. Assumes nothing.
+-- `line_steps::releases` meets its contract: what was written so far, then as many turns as are left, is the whole. Assumes nothing.
+use mathlib.Core.Path.{refl}
 use borrow.Author.Needs.{needs}
 use borrow.Author.Tests.{not-true, not-false}
 use Rattle.held.specs.Table.{lent, viewIn}
+use Rattle.line_steps.specs.Turns as spec
 use Rattle.line_steps.proofs.ReleaseLoop.{Left, left-start, left-ready, left-done, left-unknown, left-turn, left-stop}
 use Rattle.line_steps.proofs.releasing.releases.Statement.{statement}
 use Rattle.line_steps.proofs.releasing.releases.Tie as tie
 
 abbrev Inv-loop : tie.InvT-loop
-Inv-loop base t₀ o₀ g₀ out₀ at now₀ moves₀ end₀ left₀ t o g out now moves end left =
-    Left (viewIn (lent now₀ moves₀ t₀ o₀ g₀)) out₀ at (lent now moves t o g) out end left
+Inv-loop base t₀ o₀ g₀ turns out₀ at now₀ moves₀ end₀ left₀ t o g out now moves end left =
+    Left (spec.turns turns (viewIn (lent now₀ moves₀ t₀ o₀ g₀))) out₀ at (lent now moves t o g) out end left
 
 abbrev μ-loop : tie.MeasureT-loop
-μ-loop base t₀ o₀ g₀ out₀ at now₀ moves₀ end₀ left₀ t o g out now moves end left = left
+μ-loop base t₀ o₀ g₀ turns out₀ at now₀ moves₀ end₀ left₀ t o g out now moves end left = left
 
 loop-holds : tie.Need-loop-holds Inv-loop μ-loop
-loop-holds c = left-start (c .before .pre)
+loop-holds c = left-start (c .before .pre .0) (c .before .pre .1)
 
 kept-slot-requires : tie.Need-kept-slot-requires Inv-loop μ-loop
 kept-slot-requires c κs = search needs
@@ -44,7 +46,7 @@ returns-2 : tie.Need-returns-2 Inv-loop μ-loop
 returns-2 c =
     let made = c .before .before .before .before .before in
     let turn = made .before .before .before .before .before .before .before .before .before .before in
-    left-stop (turn .before .loop .inv) (turn .loop-test .taken) (made .release .ensures) (not-true _ (c .if2 .taken))
+    left-stop (turn .before .loop .inv) (turn .loop-test .taken) refl (made .release .ensures) (not-true _ (c .if2 .taken))
 
 sub-left : tie.Need-sub-left Inv-loop μ-loop
 sub-left c = search needs
@@ -56,7 +58,7 @@ loop-again : tie.Need-loop-again Inv-loop μ-loop
 loop-again c =
     let made = c .before .before .before .before .before in
     let turn = made .before .before .before .before .before .before .before .before .before .before in
-    left-turn (turn .before .loop .inv) (turn .loop-test .taken) (made .release .ensures) (not-false _ (c .if2 .left))
+    left-turn (turn .before .loop .inv) (turn .loop-test .taken) refl (made .release .ensures) (not-false _ (c .if2 .left))
 
 same-length-3 : tie.Need-same-length-3 Inv-loop μ-loop
 same-length-3 c = search needs
