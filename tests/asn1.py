@@ -11,7 +11,7 @@ from typing import NamedTuple, Optional
 
 from failing import Cases, altered, independent
 from format_mutants import PACKET_MUTANTS
-from mutants import command_of, make_mutant
+from mutants import make_mutant
 from pencil_mutants import PENCIL_MUTANTS
 from real import CORPUS, Wrong, as_expected, must, written_by
 from rules.arguments import shown, sized
@@ -130,8 +130,7 @@ def self_test(lines):
                  'a low half lost after a field with data', '07: align skips an octet at an edge', '07: 6 for 5 in padding'):
         edit = next(row[1:] for row in PACKET_MUTANTS + PENCIL_MUTANTS if row[0] == name)
         with tempfile.TemporaryDirectory() as directory:
-            make_mutant(pathlib.Path(directory), *edit)
-            test.fails(name, ' is answered ', check, command_of(pathlib.Path(directory)), lines)
+            test.fails(name, ' is answered ', check, make_mutant(pathlib.Path(directory), *edit), lines)
     for name, line, words in (
             ('one to be accepted', 'C8 A OK dat 4', 'line 1: 0500C8 is answered FF010001, and not 00010400'),
             ('one to be refused', '48 R OK dat 4', 'line 1: 050048 is answered 00010400, and not refused'),

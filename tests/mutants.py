@@ -2,134 +2,192 @@
 """Checks that the made scripts tell the independent program from wrong ones: each wrong program is one edit of its text."""
 
 import argparse
-import concurrent.futures
 import functools
+import importlib
+import importlib.machinery
+import io
 import itertools
+import multiprocessing
 import os
 import pathlib
 import shlex
 import shutil
+import signal
 import sys
-import tempfile
+import types
 
-from compare import (CALL_SEEDS, FRAME_SEEDS, PACKET_SEEDS, PROGRAM_SEEDS, REPLAY_SEEDS, Failed, compare_calls, compare_program,
-                     made_calls, made_frames, made_lines, made_packets, made_replays, stored)
+import running
+
+from compare import (CALL_SEEDS, FRAME_SEEDS, PACKET_SEEDS, PROGRAM_SEEDS, REPLAY_SEEDS, Failed, made_calls, made_frames, made_lines,
+                     made_packets, made_replays, stored)
 from failing import Cases
 from format_mutants import DATAGRAM_MUTANTS, PACKET_MUTANTS
 from joiner_mutants import JOINER_MUTANTS
 from pencil_mutants import PENCIL_MUTANTS
 from place_mutants import PLACE_MUTANTS
+from program_mutants import PROGRAM_MUTANTS
 from replay_mutants import REPLAY_MUTANTS
 from session_mutants import SESSION_MUTANTS
 
 HERE = pathlib.Path(__file__).resolve().parent
-PROGRAM_MUTANTS = (
-    ('lower case written', 'program', 'octets.hex().upper().encode()', 'octets.hex().encode()'),
-    ('an empty line ignored', 'program', 'return [self.result(skip=True)]', 'return []'),
-    ('an empty line without leave to skip', 'program', 'self.result(skip=True)', 'self.result(skip=False)'),
-    ('a give-up without its line', 'program', 'return [self.result(skip=True)]', 'return [self.result(skip=True)][1:]'),
-    ('a give-up with its line alone', 'program',
-     'encode() for octets in lines + self.released()]',
-     'encode() for octets in (lines + self.released() if line else lines)]'),
-    ('releasing stops after one', 'program',
-     '                lines.append(self.result(skip=False))\n',
-     '                return [self.result(skip=False)]\n'),
-    ('the end of releasing is a line', 'program',
-     '                return lines\n',
-     '                return lines + [refusal.octets()]\n'),
-    ('a refusal without its line', 'program', 'lines = [refusal.octets()]', 'lines = []'),
-    ('kinds by their states', 'program', 'bytes([state - RECEIVED])', 'bytes([state])'),
-    ('15 before 2', 'program',
-     '    refuse_if(len(line) > LINE_LIMIT, OVERLONG)\n    try:\n        return binascii.unhexlify(line)\n',
-     '    try:\n        refuse_if(len(binascii.unhexlify(line)) > LINE_LIMIT // 2, OVERLONG)\n        return binascii.unhexlify(line)\n'),
-    ('line of 3,001', 'program', 'LINE_LIMIT = 3000', 'LINE_LIMIT = 3001'),
-    ('line of 2,999', 'program', 'LINE_LIMIT = 3000', 'LINE_LIMIT = 2999'),
-    ('spaces around a line dropped', 'program', 'binascii.unhexlify(line)', 'binascii.unhexlify(line.strip())'),
-    ('a carriage return ends a line too', 'independent',
-     "line[:-1] if line.endswith(b'\\n') else line",
-     "line.rstrip(b'\\n').rstrip(b'\\r')"),
-    ('a last line without line feed dropped', 'independent',
-     "        yield line[:-1] if line.endswith(b'\\n') else line\n",
-     "        if line.endswith(b'\\n'):\n            yield line[:-1]\n"),
-    ('an empty last part is a line', 'independent',
-     "    for line in stream:\n        yield line[:-1] if line.endswith(b'\\n') else line\n",
-     "    yield from stream.read().split(b'\\n')\n"),
-)
 MUTANTS = {kind: rows + PLACE_MUTANTS.get(kind, ()) for kind, rows in (
     ('calls', DATAGRAM_MUTANTS + SESSION_MUTANTS), ('packets', PACKET_MUTANTS + PENCIL_MUTANTS), ('joiner', JOINER_MUTANTS),
     ('replays', REPLAY_MUTANTS), ('program', PROGRAM_MUTANTS))}
+SEEDS = {'calls': CALL_SEEDS, 'packets': PACKET_SEEDS, 'joiner': FRAME_SEEDS, 'replays': REPLAY_SEEDS, 'program': PROGRAM_SEEDS}
 
 
-def make_mutant(directory, module, old, new):
-    """A copy of the independent program with one edit."""
-    shutil.copy(HERE / 'independent.py', directory)
-    shutil.copytree(HERE / 'rules', directory / 'rules', ignore=shutil.ignore_patterns('__pycache__'))
-    path = directory / ('' if module == 'independent' else 'rules') / (module + '.py')
-    text = path.read_text()
+class Different(BaseException):
+    """Something else is written than what is expected, or there is no end."""
+
+
+class Expected:
+    """Standard output that holds what is written against what is expected."""
+
+    def __init__(self, expected):
+        self.left = memoryview(expected)
+
+    def write(self, octets):
+        """The next octets."""
+        if self.left[:len(octets)] != octets:
+            raise Different
+        self.left = self.left[len(octets):]
+
+    def writelines(self, lines):
+        """The same of several."""
+        for line in lines:
+            self.write(line)
+
+
+@functools.lru_cache(None)
+def modules():
+    """The modules of the independent program: the path, the text and the code of each."""
+    paths = {'rules.' + path.stem: path for path in (HERE / 'rules').glob('*.py')}
+    paths['independent'], paths['rules'] = HERE / 'independent.py', paths.pop('rules.__init__')
+    return {name: (path, path.read_text(), compile(path.read_text(), str(path), 'exec')) for name, path in paths.items()}
+
+
+def edited(module, old, new):
+    """A module of the independent program with one edit: its name, path, text and code."""
+    name = module if module == 'independent' else 'rules.' + module
+    path, text, _ = modules()[name]
     if text.count(old) != 1:
         raise Failed('%s: the text to edit occurs %d times: %r' % (module, text.count(old), old))
+    text = text.replace(old, new)
     try:
-        compile(text.replace(old, new), str(path), 'exec')
+        return name, path, text, compile(text, str(path), 'exec')
     except SyntaxError as wrong:
         raise Failed('%s: with the edit it is no program: %s' % (module, wrong))
-    path.write_text(text.replace(old, new))
 
 
-def command_of(directory, argument=''):
-    """The shell command of a mutant; what it says as it breaks off goes into a file."""
-    program, errors = (shlex.quote(str(directory / name)) for name in ('independent.py', 'errors'))
-    return '%s %s %s 2> %s' % (shlex.quote(sys.executable), program, argument, errors)
+def make_mutant(directory, *edit):
+    """A copy of the independent program with one edit, in a folder of its own; its shell command."""
+    shutil.copy(HERE / 'independent.py', directory)
+    shutil.copytree(HERE / 'rules', directory / 'rules', ignore=shutil.ignore_patterns('__pycache__'))
+    _, path, text, _ = edited(*edit)
+    (directory / path.relative_to(HERE)).write_text(text)
+    return ' '.join(map(shlex.quote, (sys.executable, str(directory / 'independent.py'))))
+
+
+class Mutant:
+    """The independent program with one edit, for Python to import: only the module that is edited is read anew."""
+
+    def __init__(self, *edit):
+        self.name, _, _, self.code = edited(*edit)
+
+    def find_spec(self, name, path=None, target=None):
+        """Its modules are made here."""
+        return importlib.machinery.ModuleSpec(name, self, is_package=name == 'rules') if name in modules() else None
+
+    def create_module(self, spec):
+        """A module as usual."""
+
+    def exec_module(self, module):
+        """One of its modules."""
+        exec(self.code if module.__name__ == self.name else modules()[module.__name__][2], module.__dict__)
+
+    def run(self):
+        """Runs it, all its modules new."""
+        kept = {name: sys.modules.pop(name) for name in modules() if name in sys.modules}
+        sys.meta_path.insert(0, self)
+        try:
+            importlib.import_module('independent').main()
+        finally:
+            sys.meta_path.remove(self)
+            sys.modules.update({**dict.fromkeys(modules()), **kept})
+
+    def differs(self, kind, given, expected):
+        """Whether it writes something else than expected, breaks off, or does not end."""
+        kept, out = (sys.argv, sys.stdin, sys.stdout), Expected(expected)
+        sys.argv = ['independent.py'] + ['program'] * (kind == 'program')
+        sys.stdin, sys.stdout = types.SimpleNamespace(buffer=io.BytesIO(given)), types.SimpleNamespace(buffer=out)
+        signal.signal(signal.SIGALRM, no_end)
+        signal.alarm(running.PATIENCE)
+        try:
+            self.run()
+        except (Exception, SystemExit, Different):
+            return True
+        finally:
+            signal.alarm(0)
+            sys.argv, sys.stdin, sys.stdout = kept
+        return len(out.left) > 0
+
+
+def no_end(number, frame):
+    """The time is up."""
+    raise Different
 
 
 @functools.lru_cache(None)
 def input_at(kind, number):
     """The inputs that mutants are tried with, one after the other: a name, what is given, what is expected; None past the last."""
-    name, seeds, made = {'calls': ('script', CALL_SEEDS, made_calls), 'packets': ('packet script', PACKET_SEEDS, made_packets),
-                         'joiner': ('joiner script', FRAME_SEEDS, made_frames),
-                         'replays': ('replay script', REPLAY_SEEDS, made_replays), 'program': ('lines', PROGRAM_SEEDS, made_lines)}[kind]
-    if number < seeds:
-        return ('%s %d' % (name, number), *made(str(number)))
-    return dict(enumerate(stored('.lines', '.results'), seeds)).get(number) if kind == 'program' else None
+    name, made = {'calls': ('script', made_calls), 'packets': ('packet script', made_packets), 'joiner': ('joiner script', made_frames),
+                  'replays': ('replay script', made_replays), 'program': ('lines', made_lines)}[kind]
+    cases = list(stored('.lines', '.results')) if kind == 'program' and number else []
+    if 0 < number <= len(cases):
+        return cases[number - 1]
+    seed = number - len(cases)
+    return ('%s %d' % (name, seed), *made(str(seed))) if seed < SEEDS[kind] else None
 
 
-def found_by(directory, kind):
-    """The name of the first input that tells the mutant apart, or None."""
-    argument, compare = ('program', compare_program) if kind == 'program' else ('', compare_calls)
-    command = command_of(directory, argument)
-    for number in itertools.count():
-        made = input_at(kind, number)
-        if made is None:
-            return None
-        name, given, expected = made
-        try:
-            compare('mutant', command, given, expected)
-        except Failed:
+def tried(kind, *edit):
+    """One wrong program: the name of the first input that tells it apart, or None."""
+    mutant = Mutant(*edit)
+    for name, given, expected in iter(map(functools.partial(input_at, kind), itertools.count()).__next__, None):
+        if mutant.differs(kind, given, expected):
             return name
+    return None
 
 
-def tried(kind, module, old, new):
-    """One wrong program: what found it, or None."""
-    with tempfile.TemporaryDirectory() as directory:
-        make_mutant(pathlib.Path(directory), module, old, new)
-        return found_by(pathlib.Path(directory), kind)
+def try_some(edits, found):
+    """Tries some wrong programs, and hands on what found each, or why it was not tried."""
+    for edit in edits:
+        try:
+            found.send((tried(*edit), ''))
+        except Failed as failed:
+            found.send((None, str(failed) + '\n'))
+
+
+def begin(edits):
+    """A process that tries some wrong programs; from what is handed back, what found them can be received in turn."""
+    found, finding = multiprocessing.Pipe(False)
+    multiprocessing.get_context('fork').Process(target=try_some, args=(edits, finding), daemon=True).start()
+    finding.close()
+    return found
 
 
 def try_all(mutants):
     """Tries wrong programs, tables of them by the kind of input; as many at a time as there are processors.
 
     Prints which input found each; status 1 if one was not found."""
-    missed = 0
-    with concurrent.futures.ThreadPoolExecutor(os.cpu_count()) as pool:
-        begun = [(name, pool.submit(tried, kind, *edit)) for kind, rows in mutants.items() for name, *edit in rows]
-        for name, trying in begun:
-            try:
-                found = trying.result()
-            except Failed as failed:
-                found = None
-                print(failed)
-            missed += found is None
-            print('found by %s: %s' % (found, name) if found else 'NOT FOUND: %s' % name, flush=True)
-    print('%d passed, %d failed' % (len(begun) - missed, missed))
+    missed, edits = 0, [(name, (kind, *edit)) for kind, rows in mutants.items() for name, *edit in rows]
+    for kind in mutants:
+        input_at(kind, 0)
+    begun = [begin([edit for _, edit in edits[at::os.cpu_count()]]) for at in range(os.cpu_count())]
+    for (name, _), trying in zip(edits, itertools.cycle(begun)):
+        found, remark = trying.recv()
+        missed += found is None
+        print('%sfound by %s: %s' % (remark, found, name) if found else '%sNOT FOUND: %s' % (remark, name), flush=True)
+    print('%d passed, %d failed' % (len(edits) - missed, missed))
     if missed:
         sys.exit(1)
 
@@ -137,6 +195,7 @@ def try_all(mutants):
 def self_test():
     """An edit that changes no answer is not found, and one of a text that is not there is not tried."""
     test = Cases('mutants.py')
+    SEEDS.update(dict.fromkeys(SEEDS, 1))
     test.passes('a wrong program', try_all, {'calls': DATAGRAM_MUTANTS[:1]})
     for kind, name, old, new in (('calls', 'lengths', 'first >= 0xC0', 'first > 0xBF'),
                                  ('packets', 'packets', 'items.bits(count) for count in (1, 3)', 'items.bits(1 + 2 * at) for at in (0, 1)'),
@@ -147,6 +206,11 @@ def self_test():
                    {kind: MUTANTS[kind][:1] + (('same', name, old, new),)})
     test.fails('an edit of the program that changes no result', 'NOT FOUND: same\n0 passed, 1 failed\nSystemExit: 1', try_all,
                {'program': (('same', 'program', 'LINE_LIMIT = 3000', 'LINE_LIMIT = 2999 + 1'),)})
+    test.passes('a program that breaks off', try_all, {'calls': (('no such name', 'lengths', 'first >= 0xC0', 'first >= nothing'),)})
+    running.PATIENCE, patience = 1, running.PATIENCE
+    test.passes('a program that does not end', try_all, {'calls': (('no end', 'calls', 'arguments = Arguments(octets)',
+                                                                        'while True: arguments = Arguments(octets)'),)})
+    running.PATIENCE = patience
     test.fails('an edit of a text that is not there', 'lengths: the text to edit occurs 0 times', try_all,
                {'calls': (('nowhere', 'lengths', 'no such text', ''),)})
     test.fails('an edit that makes it no program', 'lengths: with the edit it is no program', try_all,
