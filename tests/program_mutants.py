@@ -1,4 +1,4 @@
-"""Wrong programs of document 01, each one edit of the independent program's text: a name, the module, the text, what stands in its place."""
+"""Wrong programs over lines, each one edit of the independent program's text: a name, the module, the text, what stands in its place."""
 
 PROGRAM_MUTANTS = (
     ('lower case written', 'program', 'octets.hex().upper().encode()', 'octets.hex().encode()'),
