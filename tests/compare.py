@@ -5,7 +5,9 @@ import argparse
 import concurrent.futures
 import os
 import pathlib
+import shlex
 import sys
+import tempfile
 
 import running
 from failing import Cases, altered, independent
@@ -168,14 +170,18 @@ def self_test():
         given, expected = made('self-test')
         place = 'differs self-test: script line' if compare is compare_calls else 'differs self-test: result line'
         test.passes(name, compare, 'self-test', right, given, expected)
-        for wrong, how, words in (
-                ('a character altered', "| sed '700s/.$/x/'", place),
-                ('the last answer left out', "| sed '$d'", place),
-                ('an answer more', '; echo 00', place),
-                ('a character more', "| sed '$s/^/0/'", place),
-                ('no last line feed', '| head -c -1', place),
-                ('status 3', '; exit 3', 'are right, but status 3')):
-            test.fails('%s, %s' % (name, wrong), words, compare, 'self-test', right + how, given, expected)
+        with tempfile.TemporaryDirectory() as directory:
+            answers = pathlib.Path(directory, 'answers')
+            answers.write_bytes(expected)
+            for wrong, how, words in (
+                    ('a character altered', "| sed '700s/.$/x/'", place),
+                    ('the last answer left out', "| sed '$d'", place),
+                    ('an answer more', '; echo 00', place),
+                    ('a character more', "| sed '$s/^/0/'", place),
+                    ('no last line feed', '| head -c -1', place),
+                    ('status 3', '; exit 3', 'are right, but status 3')):
+                test.fails('%s, %s' % (name, wrong), words, compare, 'self-test', 'cat %s %s' % (shlex.quote(str(answers)), how), given,
+                           expected)
         running.PATIENCE, patience = 1, running.PATIENCE
         test.fails(name + ', no end', 'no end within 1 seconds', compare, 'self-test', 'exec sleep 60', given, expected)
         running.PATIENCE = patience

@@ -12,11 +12,11 @@ import sys
 import tempfile
 
 import running
-from compare import made_calls, made_lines
 from cutting import cut_calls, cut_lines
 from failing import HERE, Cases, altered, independent
 from generate import FRAMES, PACKETS, REPLAYS, make_script
 from making import placed, single
+from making.lines import program_lines
 from making.script import Script
 from rules.refusals import ENDS, SPARE_BIT, Refusal
 from running import difference, left_out, lines_of, run, text_of
@@ -51,7 +51,7 @@ def of_running(test):
 
 def of_cutting(test):
     """The lines that a difference does not need are dropped, and no others."""
-    calls, lines = (text_of(lines_of(made('cutting')[0])[:200]) for made in (made_calls, made_lines))
+    calls, lines = text_of(make_script('cutting', 200).lines), text_of(lines_of(program_lines('cutting', 200)))
     test.says('a right program', '200 lines', '%d lines' % len(cut_calls(independent(), calls)))
     test.says('a right program of lines', '200 lines', '%d lines' % len(cut_lines(independent('program'), lines)))
     test.says('a wrong count', "[b'14']", str(cut_calls(altered('calls 14 9'), calls)))
@@ -99,12 +99,12 @@ def of_run(test):
 
 def of_long(test):
     """A difference ends it with status 1, with the lines that are left."""
-    right = independent('program')
+    right = independent()
     for name, option, command, status, words in (
-            ('a right program', '--program', right, 0, '1 seeds, no difference'),
+            ('right calls', '--calls', right, 0, '1 seeds, no difference'),
             ('wrong calls', '--calls', altered('calls 14 9'), 1, 'cut down to 1 lines:\n14\n'),
             ('a wrong program', '--program', altered('program 03 5'), 1, 'cut down to 1 lines:\n\n'),
-            ('status 3', '--program', right + '; exit 3', 1, 'are right, but status 3')):
+            ('status 3', '--calls', right + '; exit 3', 1, 'are right, but status 3')):
         test.ends(name, status, words, [LONG, '0', option, command, '--start', 'one'])
     test.ends('no command', 2, 'a command is needed', [LONG, '5'], env={'PATH': os.environ['PATH']})
 

@@ -12,7 +12,12 @@ case $1 in
 version) echo "${RT_VERSION:-stub}" ;;
 fmt) exit "${RT_FMT:-0}" ;;
 ci) printf "${RT_SAYS:-7 passed, 0 failed\\n}"; exit "${RT_CI:-0}" ;;
-check) sleep "${RT_SLEEPS:-0}"; printf "$RT_SAYS"; exit "${RT_CHECK:-0}" ;;
+check)
+    waited=0
+    until [ -z "$RT_WAITS" ] || [ -s errors ] || [ "$waited" = 300 ]; do sleep 1; waited=$((waited + 1)); done
+    printf "$RT_SAYS"
+    exit "${RT_CHECK:-0}"
+    ;;
 esac
 '''
 PYTHON = '''#!/bin/sh
@@ -35,6 +40,8 @@ def with_stubs(directory):
         path.chmod(0o755)
     for name in ('test', 'receive', 'explain', 'replay', 'tests/prove', 'tests/toolchain'):
         shutil.copy(HERE.parent / name, directory / name)
+    prove = (directory / 'tests/prove').read_text()
+    (directory / 'tests/prove').write_text(prove.replace('quiet=3 ', 'quiet=${QUIET:-60} '))
     return {**os.environ, 'PATH': '%s:%s' % (directory / 'bin', os.environ['PATH'])}
 
 
@@ -87,7 +94,7 @@ def of_prove(test):
              RT_SAYS='rt: one proved (unchanged since it was last proved)\\nmore\\nrt: receive proved (19 s)\\n')
         ends('all proved anew', 0, 'receive ran\n', begun + 'receive: 1 of 2 proved: one\nreceive: 2 of 2 proved: receive\n',
              RT_SAYS='rt: one proved (4 s)\\nrt: receive proved (19 s)\\nrt: ok, 2 crates proved\\n')
-        ends('a crate that takes long', 0, 'receive ran\n', begun, RT_SLEEPS='5', RT_SAYS=same)
+        ends('a crate that takes long', 0, 'receive ran\n', begun, QUIET='1', RT_WAITS='1', RT_SAYS=same)
         failed = 'rt: one NOT PROVED (exit 1, 3 s)\n'
         for status in (1, 2, 3):
             ends('not proved, status %d' % status, status, '',
