@@ -113,27 +113,29 @@ class Mutant:
             importlib.import_module('independent').main()
         finally:
             sys.meta_path.remove(self)
-            sys.modules.update({**dict.fromkeys(modules()), **kept})
+            for name in modules():
+                sys.modules.pop(name, None)
+            sys.modules.update(kept)
 
     def differs(self, kind, given, expected):
         """Whether it writes something else than expected, breaks off, or does not end."""
         kept, out = (sys.argv, sys.stdin, sys.stdout), Expected(expected)
         sys.argv = ['independent.py'] + ['program'] * (kind == 'program')
         sys.stdin, sys.stdout = types.SimpleNamespace(buffer=io.BytesIO(given)), types.SimpleNamespace(buffer=out)
-        signal.signal(signal.SIGALRM, no_end)
-        signal.alarm(running.PATIENCE)
+        signal.signal(signal.SIGVTALRM, no_end)
+        signal.setitimer(signal.ITIMER_VIRTUAL, running.PATIENCE)
         try:
             self.run()
         except (Exception, SystemExit, Different):
             return True
         finally:
-            signal.alarm(0)
+            signal.setitimer(signal.ITIMER_VIRTUAL, 0)
             sys.argv, sys.stdin, sys.stdout = kept
         return len(out.left) > 0
 
 
 def no_end(number, frame):
-    """The time is up."""
+    """The processor's time for it is used up."""
     raise Different
 
 
