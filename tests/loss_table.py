@@ -17,7 +17,7 @@ import xml.etree.ElementTree
 from desk import TOOLS, edited
 from failing import Cases
 from loss_edits import EDITS
-from loss_tool import NAME, PYTHON, SPARES, Loss
+from loss_tool import NAME, PYTHON, SPARES, Loss, without_progress
 from real import Wrong, must
 from running import text_of
 from standing_in import StandingIn, number_of, quick_program
@@ -191,7 +191,8 @@ def proved_first(loss):
                              ('3', 'receive: 1 of 1 proved: receive\nloss: a.hex: receive cannot be run\n')):
             ended = subprocess.run([*PYTHON, 'tools/loss.py', '--steps', '1', 'a.hex'], cwd=directory, stdout=subprocess.PIPE,
                                    stderr=subprocess.PIPE, text=True, env={**os.environ, 'RECEIVE': status})
-            must(ended.stderr == said and ended.returncode == int(status != '0'), 'status %d, %s', ended.returncode, ended.stderr)
+            told = without_progress(ended.stderr)
+            must(told == said and ended.returncode == int(status != '0'), 'status %d, %s', ended.returncode, ended.stderr)
             must(('30 %          3          6 ' in ended.stdout) == (status == '0'), 'written: %s', ended.stdout)
 
 

@@ -27,6 +27,11 @@ KEEPING = '''keep() {
 keep'''
 
 
+def without_progress(said):
+    """What was said, but for words about long work: on a busy machine any work is long."""
+    return re.sub(r'loss: [0-9]+ of [0-9]+ steps done\n', '', said)
+
+
 class Call(typing.NamedTuple):
     """A call of replay: the lines that it was given, the numbers to drop, and its results."""
     lines: list
@@ -69,7 +74,8 @@ class Loss:
             rows = [[float(match[1]), *map(int, match.groups()[1:])] for match in matches if match]
             picture = folder / NAME.replace('.hex', '.svg')
             calls = [kept(path) for path in sorted(folder.glob('*.results'), key=lambda path: int(path.stem))]
-            return Ran(ended.returncode, rows, ended.stdout, ended.stderr, picture.read_text() if picture.exists() else '', calls)
+            said = without_progress(ended.stderr)
+            return Ran(ended.returncode, rows, ended.stdout, said, picture.read_text() if picture.exists() else '', calls)
 
     def table(self, lines, *options):
         """One run that must end well."""
