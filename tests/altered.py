@@ -4,6 +4,7 @@
 altered.py calls CALL AT         the hexadecimal digit at this place of each answer to this call that was done (-1: its last)
 altered.py program KIND AT       the same of each result of this kind
 altered.py calls spares          spares are handed out and counted as repaired; likewise: program spares
+altered.py calls own             a release has its own number as its note
 altered.py calls repeated        a repeated datagram is answered as done
 altered.py calls bad             good frames are handed out as bad ones
 altered.py calls none            frames are not handed out
@@ -42,6 +43,11 @@ def spares_released(kind, result):
     return b'02' + result[2:] if kind == b'01' else result
 
 
+def own_note(call, answer):
+    """12 gives each number as its own note."""
+    return answer[:8] + answer[4:8] + answer[12:] if call == b'12' and answer.startswith((b'0000', b'0001', b'0002')) else answer
+
+
 def repeated_done(call, answer):
     """11 does not refuse with 7."""
     return b'00' if call == b'11' and answer == b'FF070000' else answer
@@ -72,8 +78,9 @@ def main():
     if at:
         alter = digit_changed(how.encode(), int(at[0]))
     else:
-        alter = {'calls spares': spares_called, 'calls repeated': repeated_done, 'calls bad': frames_bad, 'calls none': frames_none,
-                 'calls deaf': lambda call, answer: answer, 'program spares': spares_released}[program + ' ' + how]
+        alter = {'calls spares': spares_called, 'calls own': own_note, 'calls repeated': repeated_done, 'calls bad': frames_bad,
+                 'calls none': frames_none, 'calls deaf': lambda call, answer: answer,
+                 'program spares': spares_released}[program + ' ' + how]
     if program == 'program':
         session = Program()
         out.writelines(alter(result[:2], result) + b'\n' for line in lines_of(stream) for result in session.results(line))

@@ -5,16 +5,17 @@ import argparse
 import collections
 import sys
 
-from making import conversations, edges, frames, outside, packed, placed, replays, single
+from making import conversations, edges, frames, notes, outside, packed, placed, replays, single
 from making.lines import program_lines
 from making.script import Full, Script
 
 SINGLE = (single.lengths, single.datagrams_read, single.datagrams_written, single.packets_read, single.packets_written,
           single.packets_written, single.many_fields, single.round_trips, single.no_calls)
+NOTES = (notes.saved, notes.in_runs, notes.into_view, notes.overwritten)
 SESSIONS = (conversations.honest, conversations.dishonest, conversations.sparse_parity, conversations.contested,
             conversations.contested, edges.blanks, edges.damaged_offers, edges.skipping, edges.at_the_limit, edges.sending,
             outside.receiving_outside, outside.receiving_outside, outside.overwritten_inside, outside.odd_overwrites,
-            outside.sending_outside, outside.sending_outside)
+            outside.sending_outside, outside.sending_outside) + NOTES
 FRAMES = (frames.honest_row, frames.any_fields, frames.near_the_limit, frames.tainted, frames.outside, frames.overwritten_inside,
           frames.odd_overwrites)
 PACKETS = (packed.runs_read, packed.runs_written, packed.padding_damaged, packed.counts_off, packed.near_the_limit, packed.carried,

@@ -1,9 +1,10 @@
 #!/usr/bin/env python3
-"""The independent program: answers `calls` lines, or with the argument `program` does what the program does."""
+"""The independent program: answers `calls` lines, or with the argument `program` or `notes` does what that program does."""
 
 import sys
 
 from rules.calls import Calls
+from rules.noting import Notes
 from rules.program import Program
 
 
@@ -20,13 +21,18 @@ def main():
         program = Program()
         for line in lines_of(sys.stdin.buffer):
             out.writelines(result + b'\n' for result in program.results(line))
+    elif sys.argv[1:] == ['notes']:
+        notes = Notes()
+        for line in lines_of(sys.stdin.buffer):
+            out.writelines(words + b'\n' for words in notes.results(line))
+        out.writelines(words + b'\n' for words in notes.table())
     elif not sys.argv[1:]:
         calls = Calls()
         for line in lines_of(sys.stdin.buffer):
             if line:
                 out.write(calls.answer(line) + b'\n')
     else:
-        sys.exit('usage: independent.py [program]')
+        sys.exit('usage: independent.py [program | notes]')
 
 
 if __name__ == '__main__':

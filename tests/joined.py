@@ -149,7 +149,7 @@ def bad_line(command, name, settings, loss, packed=lambda packets: packets):
             script.lost()
         else:
             repaired = answer[1] == REPAIRED
-            octets = answer[6:6 + int.from_bytes(answer[4:6], 'big')]
+            octets = answer[8:8 + int.from_bytes(answer[6:8], 'big')]
             script.read(octets, repaired)
             feed(script, [read_packet(octets, repaired).fields], ())
         released.append(answer)

@@ -23,6 +23,7 @@ from compare import (CALL_SEEDS, FRAME_SEEDS, PACKET_SEEDS, PROGRAM_SEEDS, REPLA
 from failing import Cases
 from format_mutants import DATAGRAM_MUTANTS, PACKET_MUTANTS
 from joiner_mutants import JOINER_MUTANTS
+from note_mutants import NOTE_MUTANTS
 from pencil_mutants import PENCIL_MUTANTS
 from place_mutants import PLACE_MUTANTS
 from program_mutants import PROGRAM_MUTANTS
@@ -30,7 +31,7 @@ from replay_mutants import REPLAY_MUTANTS
 from session_mutants import SESSION_MUTANTS
 
 HERE = pathlib.Path(__file__).resolve().parent
-MUTANTS = {kind: rows + PLACE_MUTANTS.get(kind, ()) for kind, rows in (
+MUTANTS = {kind: rows + PLACE_MUTANTS.get(kind, ()) + NOTE_MUTANTS.get(kind, ()) for kind, rows in (
     ('calls', DATAGRAM_MUTANTS + SESSION_MUTANTS), ('packets', PACKET_MUTANTS + PENCIL_MUTANTS), ('joiner', JOINER_MUTANTS),
     ('replays', REPLAY_MUTANTS), ('program', PROGRAM_MUTANTS))}
 SEEDS = {'calls': CALL_SEEDS, 'packets': PACKET_SEEDS, 'joiner': FRAME_SEEDS, 'replays': REPLAY_SEEDS, 'program': PROGRAM_SEEDS}

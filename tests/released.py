@@ -7,25 +7,31 @@ from making.lines import Recording
 from making.script import Script
 from real import UNLIMITED, as_expected, conversation, corpus, must, octets_of, settings_text, written_by
 from rules.arguments import shown
+from rules.datagrams import SPARES, read_datagram
 from running import lines_of, text_of
 
 RECEIVED, SPARE, REPAIRED, LOST = range(4)
 
 
 def check_conversation(command, script, packets):
-    """What the program under test released is what was sent, each number once, and the counts are of that; every answer is as expected."""
+    """What the program under test released is what was sent, each number once, with a right note, and the counts are of that.
+
+    Every answer is as expected."""
     counts = [0, 0, 0, 0]
-    number = 0
+    number, arrived = 0, []
     answers = written_by(command, script.lines, script.answers)
-    for line, theirs in zip(script.lines, octets_of(answers)):
+    for line, ours, theirs in zip(script.lines, script.answers, octets_of(answers)):
+        if line[:2] == b'11' and ours == b'00':
+            arrived.append(read_datagram(bytes.fromhex(line[2:].decode())))
         if line[:2] != b'12':
             continue
         must(theirs[0] == 0, 'not released: %s at number %d', theirs.hex(), number)
-        kind, at, size = (int.from_bytes(part, 'big') for part in (theirs[1:2], theirs[2:4], theirs[4:6]))
+        kind, at, note, size = (int.from_bytes(part, 'big') for part in (theirs[1:2], theirs[2:4], theirs[4:6], theirs[6:8]))
         if kind == LOST:
-            must(at == number and size == 0, 'given up: %s in place of %d', theirs.hex(), number)
+            must(at == number and note == 0 and size == 0, 'given up: %s in place of %d', theirs.hex(), number)
         else:
-            check_released(kind, number, at, theirs[6:6 + size], packets)
+            check_released(kind, number, at, theirs[8:8 + size], packets)
+            check_note(kind, number, note, arrived)
         counts[kind] += 1
         number += 1
     must(number == len(packets), '%d of %d numbers released', number, len(packets))
@@ -42,6 +48,19 @@ def check_released(kind, number, released_number, octets, packets):
     sent = packets[number]
     whole = octets.startswith(sent) and not any(octets[len(sent):]) if kind == REPAIRED else octets == sent
     must(whole, 'number %d was sent as %s and released as %s', number, sent.hex(), octets.hex())
+
+
+def check_note(kind, number, note, arrived):
+    """A received number's note is its own; a spare's is the first datagram that came with it; a repaired one's had come."""
+    if kind == RECEIVED:
+        must(note == number, 'number %d is received with datagram %d', number, note)
+    elif kind == SPARE:
+        carriers = [datagram.number for datagram in arrived
+                    if datagram.kind == SPARES and 0 < datagram.number - number <= len(datagram.items)]
+        must(carriers[:1] == [note], 'number %d is a spare of datagram %d, and these came with it: %s', number, note, carriers)
+    else:
+        came = any(datagram.number == note for datagram in arrived)
+        must(came and note != number, 'number %d is repaired with datagram %d', number, note)
 
 
 def worse_line(name, loss):

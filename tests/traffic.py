@@ -149,15 +149,21 @@ def self_test():
             ('offers', 'calls 11 1', 0.3, '  expected 00\n  answered 01'),
             ('datagrams', 'calls 21 -1', 0.3, 'is not the expected one'),
             ('the rest of the lent buffer', 'calls 12 -1', 0.3, 'A5A4'),
-            ('a packet', 'calls 12 12', 0.3, 'number 0 was sent as '),
+            ('a packet', 'calls 12 16', 0.3, 'number 0 was sent as '),
             ('a kind', 'calls 12 2', 0.3, 'number 0 is released with kind 17'),
             ('a number', 'calls 12 7', 0.3, 'released: 1 in place of 0'),
             ('nothing released', 'calls 12 0', 0.3, 'not released: '),
             ('a number given up', 'calls 12 7', 0.99, 'given up: '),
-            ('a size given up', 'calls 12 11', 0.99, 'given up: '),
+            ('a size given up', 'calls 12 15', 0.99, 'given up: '),
+            ('a note given up', 'calls 12 11', 0.99, 'given up: '),
+            ("a spare's note", 'calls own', 0.3, 'number 0 is a spare of datagram 0, and these came with it: [1]'),
             ('a give-up refused', 'calls 12 0', 0.99, 'not released: '),
             ('the counts', 'calls 14 9', 0.3, 'the counts are ')):
         test.fails('conversation, ' + name, words, heard, altered(how), call, settings, loss)
+    test.fails("conversation, a received number's note", ' is received with datagram ', heard, altered('calls 12 11'), call,
+               (SPARES, 0, 0), 0.3)
+    test.fails("conversation, a repaired number's note", ' is repaired with datagram ', heard, altered('calls own'), call,
+               (PARITY, 3, 2), 0.3)
     script = conversation('short', packets, settings, 0)
     test.fails('conversation, one never released', '55 of 56 numbers released', check_conversation, right, script, packets + [b'\x06'])
     test.fails('conversation, one too many', 'number 54 is released, and 54 were sent', check_conversation, right, script, packets[:-1])

@@ -17,6 +17,10 @@ class Session:
         """The numbers in view, counted from the base, whose place meets the condition."""
         return [(self.held.base + d) % 65536 for d in range(first, end) if condition(self.held.place(self.held.base + d))]
 
+    def noted(self):
+        """The numbers in view that are spare or repaired, with a note that is not 0 and not their own."""
+        return [number for number in self.numbers(of_state(SPARE, REPAIRED)) if self.held.place(number).note not in (0, number)]
+
     def accepted(self, condition):
         """The numbers from the base on whose mark meets the condition."""
         return [(self.held.base + d) % 65536 for d in range(AFTER) if condition(self.held.mark(self.held.base + d))]
@@ -66,7 +70,7 @@ def not_blank(s):
     number = one(s.r, s.numbers(of_state(BLANK), end=0))
     if s.r.random() < 0.5:
         return [(5, dict(number=number, value=UNKNOWN))]
-    return [(5, dict(number=number, value=s.r.choice(KNOWN))), (6, dict(number=number, value=1))]
+    return [(5, dict(number=number, value=s.r.choice(KNOWN))), (6, dict(number=number, value=1)), (13, dict(number=number, value=number))]
 
 
 def blank_before(s):
@@ -170,6 +174,33 @@ def message_octet_anywhere(s):
     return [(12, dict(number=number, message=s.r.randrange(4), octet=s.r.choice((0, 159)), value=1))]
 
 
+def note_of_received(s):
+    """A received number's note is not its own."""
+    number = one(s.r, s.numbers(of_state(RECEIVED)))
+    others = [(number + step) % 65536 for step in (1, 65535, 64, 256, 32768)] + 2 * [0] * (number != 0)
+    return [(13, dict(number=number, value=s.r.choice(others)))]
+
+
+def note_where_none(s):
+    """Unknown or blank has a note, its own number's too."""
+    number = one(s.r, s.numbers(of_state(s.r.choice((UNKNOWN, BLANK)))))
+    return [(13, dict(number=number, value=s.r.choice((1, 255, 256, 32768, 65535, number or 1))))]
+
+
+def received_by_another(s):
+    """A spare or repaired number becomes received, and its note stays."""
+    return [(5, dict(number=one(s.r, s.noted()), value=RECEIVED))]
+
+
+def unknown_again(s):
+    """A spare or repaired number becomes unknown, and its note stays."""
+    number = one(s.r, [number for number in s.noted() if s.held.place(number).length <= 3
+                       and ((number - s.held.base) % 65536 >= AFTER or not s.held.mark(number).accepted)])
+    octets = [(7, dict(number=number, octet=o, value=0)) for o in range(s.held.place(number).length)]
+    return octets + [(6, dict(number=number, value=0)), (5, dict(number=number, value=UNKNOWN))]
+
+
 BREAKS = (base_off, count_off, sum_too_great, sum_wraps, not_blank, blank_before, blank_ahead, length_where_none, no_length,
           length_too_great, octet_past, accepted_unknown, messages_unaccepted, messages_from_nowhere, n_without_m, n_outside,
-          m_outside, m_without_n, message_too_long, message_octet_past, message_past_m, message_octet_anywhere)
+          m_outside, m_without_n, message_too_long, message_octet_past, message_past_m, message_octet_anywhere, note_of_received,
+          note_where_none, note_where_none, received_by_another, unknown_again)

@@ -2,7 +2,7 @@
 
 from rules.arguments import shown
 from rules.datagrams import PARITY, SPARES, written_datagram
-from rules.receiving import NUMBERS_LIMIT
+from rules.receiving import NUMBERS_LIMIT, RECEIVED, REPAIRED, SPARE
 
 from . import pieces
 from .breaking import BREAKS, KNOWN, Session
@@ -17,7 +17,7 @@ def field_value(session, field, number=0, message=0, octet=0, **_):
         return list(session.counts.values())[field - 1]
     return {5: lambda: place.state, 6: lambda: place.length, 7: lambda: place.octets[octet], 8: lambda: mark.accepted,
             9: lambda: mark.n, 10: lambda: mark.m, 11: lambda: mark.messages[message].length,
-            12: lambda: mark.messages[message].octets[octet]}[field]()
+            12: lambda: mark.messages[message].octets[octet], 13: lambda: place.note}[field]()
 
 
 def furnish(script):
@@ -53,7 +53,7 @@ def receiving_outside(script):
     """Several rules broken, each alone; the session is mended and goes on, or a fresh one follows."""
     r = script.random
     furnish(script)
-    for broken in r.sample(BREAKS, 8):
+    for broken in r.sample(BREAKS, 10):
         session = Session(script)
         try:
             changes = broken(session)
@@ -82,9 +82,12 @@ def overwritten_inside(script):
         held = script.receiving
         d = r.randrange(14)
         number, place, mark = (held.base + d) % 65536, held.place(held.base + d), held.mark(held.base + d)
-        choice = r.randrange(7)
+        choice = r.randrange(8)
         if choice == 0 and place.state in KNOWN:
-            script.overwrite(5, number, value=r.choice(KNOWN))
+            state = r.choice(KNOWN)
+            script.overwrite(5, number, value=state)
+            if state == RECEIVED:
+                script.overwrite(13, number, value=number)
         elif choice == 1 and place.length:
             script.overwrite(7, number, octet=r.randrange(place.length), value=r.randrange(256))
         elif choice == 2 and place.state in KNOWN and not mark.m:
@@ -102,6 +105,8 @@ def overwritten_inside(script):
             if counts[3]:
                 script.overwrite(4, value=counts[3] - 1)
                 script.overwrite(r.randrange(1, 4), value=counts[0] + 1)
+        elif choice == 7 and place.state in (SPARE, REPAIRED):
+            script.overwrite(13, number, value=r.choice((0, number, r.randrange(65536))))
         if script.chance(0.5):
             try_all(script, 0.3)
     if not script.receiving.in_ranges():
@@ -112,18 +117,18 @@ def odd_overwrites(script):
     """Values that a field cannot hold and places that are not there."""
     r = script.random
     base = script.receiving.base
-    script.overwrite(r.choice((0, 6)), base, value=r.choice((65536, 0xFFFFFFFF)))
+    script.overwrite(r.choice((0, 6, 13)), base, value=r.choice((65536, 0xFFFFFFFF)))
     script.overwrite(5, base, value=r.choice((5, 255, 256)))
     script.overwrite(7, base, octet=r.choice((159, 160, 65535)), value=0)
     script.overwrite(7, base, octet=r.randrange(160), value=256)
-    script.overwrite(r.choice((5, 6, 7)), base + r.choice((32, -33, 1000)))
+    script.overwrite(r.choice((5, 6, 7, 13)), base + r.choice((32, -33, 1000)))
     script.overwrite(5, base + r.choice((-32, 31)), value=5)
     script.overwrite(8, base, value=2)
     script.overwrite(r.choice((9, 10)), base, value=256)
     script.overwrite(r.choice((8, 9, 10, 11, 12)), base + r.choice((-1, 32, 40)))
     script.overwrite(r.choice((11, 12)), base, message=r.choice((4, 255)))
     script.overwrite(12, base, message=3, octet=160)
-    script.overwrite(r.choice((13, 128, 255)), base)
+    script.overwrite(r.choice((14, 128, 255)), base)
     sent = script.sending.sent
     script.overwrite_sending(r.choice((1, 2)), sent + r.choice((0, 1, -33)))
     script.overwrite_sending(1, sent - 1, value=65536)

@@ -137,7 +137,7 @@ def carried(script):
         if answer[1] == LOST - RECEIVED:
             script.lost()
             continue
-        packet = answer[6:6 + int.from_bytes(answer[4:6], 'big')]
+        packet = answer[8:8 + int.from_bytes(answer[6:8], 'big')]
         answer = read(script, packet, answer[1] == REPAIRED - RECEIVED)
         at = 4
         while at < len(answer):

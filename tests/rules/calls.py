@@ -113,8 +113,8 @@ class Calls:
         skip, cap = arguments.one_of(0, 1), arguments.last_cap()
 
         def call():
-            state, number, octets = self.receiving.next(skip, cap)
-            return shown(state - RECEIVED, 1) + shown(number, 2), octets
+            state, number, note, octets = self.receiving.next(skip, cap)
+            return shown(state - RECEIVED, 1) + shown(number, 2) + shown(note, 2), octets
         return lent(cap, call)
 
     def counts(self, arguments):
@@ -129,7 +129,7 @@ class Calls:
         answer = [b'\x00' + shown(base, 2)]
         for number in range(base - BEFORE, base + AFTER):
             place = session.place(number)
-            answer.append(shown(place.state, 1) + stored(place))
+            answer.append(shown(place.state, 1) + shown(place.note, 2) + stored(place))
         for number in range(base, base + AFTER):
             mark = session.mark(number)
             answer.append(bytes([mark.accepted, mark.n, mark.m]))

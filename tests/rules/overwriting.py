@@ -30,13 +30,15 @@ def overwrite_receiving(session, arguments):
         put_attribute(session, 'base', value, TWO_OCTETS)
     elif field in COUNT_FIELDS:
         session.counts[COUNT_FIELDS[field]] = value
-    elif field in (0x05, 0x06, 0x07):
+    elif field in (0x05, 0x06, 0x07, 0x0D):
         call_if((number - session.base + BEFORE) % 65536 < BEFORE + AFTER)
         place = session.place(number)
         if field == 0x05:
             put_attribute(place, 'state', value, BLANK)
         elif field == 0x06:
             put_attribute(place, 'length', value, TWO_OCTETS)
+        elif field == 0x0D:
+            put_attribute(place, 'note', value, TWO_OCTETS)
         else:
             put_octet(place, octet, value)
     else:

@@ -42,7 +42,7 @@ class Program:
 
     def result(self, skip):
         """One number that leaves: its kind, number and octets."""
-        state, number, octets = self.session.next(skip, PACKET_LIMIT)
+        state, number, _, octets = self.session.next(skip, PACKET_LIMIT)
         return bytes([state - RECEIVED]) + number.to_bytes(2, 'big') + octets
 
 

@@ -12,11 +12,18 @@ LOST = 4  # the fourth count and kind; the first three go by the states of relea
 
 
 class Place(Stored):
-    """A number in view: its state, and its packet."""
+    """A number in view: its state, its packet, and as its note the datagram whose offer filled it, or 0 (02, request 8)."""
 
-    def __init__(self, state=UNKNOWN, octets=b''):
+    def __init__(self, state=UNKNOWN, octets=b'', note=0):
         super().__init__(octets)
         self.state = state
+        self.note = note
+
+    def note_in_ranges(self, number):
+        """A received number's note is its own, an unknown or blank one's is 0; a spare or repaired one's may be any."""
+        if self.state == RECEIVED:
+            return self.note == number
+        return self.note == 0 or self.state not in (UNKNOWN, BLANK)
 
 
 class Mark:
@@ -72,7 +79,7 @@ class Receiving:
             if (place.state == BLANK) != (-j > total):
                 return False
             least, most = (0, 0) if place.state in (UNKNOWN, BLANK) else (1, PACKET_LIMIT)
-            if not place.in_ranges(least, most):
+            if not (place.in_ranges(least, most) and place.note_in_ranges((self.base + j) % 65536)):
                 return False
         return all(self.mark(self.base + j).in_ranges(self.place(self.base + j).state) for j in range(AFTER))
 
@@ -84,22 +91,22 @@ class Receiving:
         refuse_if(AFTER <= distance <= 32767, AHEAD)
         refuse_if(distance > 32767, LATE)
         refuse_if(self.mark(datagram.number).accepted, REPEATED)
-        self.fill(datagram.number, RECEIVED, datagram.packet)
+        self.fill(datagram.number, RECEIVED, datagram.packet, datagram.number)
         if datagram.kind == PARITY:
             self.marks[datagram.number % AFTER] = Mark(1, datagram.n, datagram.items)
         else:
             self.marks[datagram.number % AFTER] = Mark(1)
             for j, spare in enumerate(datagram.items, 1):
-                self.fill(datagram.number - j, SPARE, spare)
-        while self.repair_once():
+                self.fill(datagram.number - j, SPARE, spare, datagram.number)
+        while self.repair_once(datagram.number):
             pass
 
-    def fill(self, number, state, octets):
-        """Makes a number known, if it is still unknown."""
+    def fill(self, number, state, octets, offered):
+        """Makes a number known, if it is still unknown; its note is the datagram being offered."""
         if self.place(number).state == UNKNOWN:
-            self.places[number % (BEFORE + AFTER)] = Place(state, octets)
+            self.places[number % (BEFORE + AFTER)] = Place(state, octets, offered)
 
-    def repair_once(self):
+    def repair_once(self, offered):
         """Fills the unknown member of the first message that has exactly one; whether there was such a message."""
         for number in range(self.base, self.base + AFTER):
             mark = self.mark(number)
@@ -113,22 +120,22 @@ class Receiving:
                 unknown = [member for member in members if self.place(member).state == UNKNOWN]
                 if len(unknown) == 1:
                     known = [self.place(member).bytes() for member in members if member != unknown[0]]
-                    self.fill(unknown[0], REPAIRED, exclusive_or([message.bytes()] + known, message.length))
+                    self.fill(unknown[0], REPAIRED, exclusive_or([message.bytes()] + known, message.length), offered)
                     return True
         return False
 
     def next(self, skip, room):
-        """Hands out the packet at the base, its kind, number and octets; with leave to skip, an unknown base is booked lost."""
+        """Hands out the packet at the base: its kind, number, note and octets; with leave to skip, an unknown base is booked lost."""
         refuse_if(not self.in_ranges(), RANGES)
         refuse_if(self.total() == NUMBERS_LIMIT, LIMIT)
         number, place = self.base, self.place(self.base)
         if place.state == UNKNOWN:
             refuse_if(not skip, BASE_UNKNOWN)
             self.advance(LOST)
-            return LOST, number, b''
+            return LOST, number, 0, b''
         refuse_if(place.length > room, NO_ROOM)
         self.advance(place.state)
-        return place.state, number, place.bytes()
+        return place.state, number, place.note, place.bytes()
 
     def advance(self, count):
         """The base goes on by one; the number that leaves drops its mark, the one that comes into view is unknown."""

@@ -48,7 +48,7 @@ pub fn row_of(line: u16) -> Row {
         0x1700 => Row(0xFFFF, 0, ANY, ANY, ANY),
         0x1701..=0x1704 => Row(u32::MAX, 0, ANY, ANY, ANY),
         0x1705 => Row(4, 32, 64, ANY, ANY),
-        0x1706 => Row(0xFFFF, 32, 64, ANY, ANY),
+        0x1706 | 0x170D => Row(0xFFFF, 32, 64, ANY, ANY),
         0x1707 => Row(0xFF, 32, 64, ANY, OCTETS),
         0x1708 => Row(1, 0, 32, ANY, ANY),
         0x1709..=0x170A => Row(0xFF, 0, 32, ANY, ANY),

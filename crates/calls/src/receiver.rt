@@ -47,9 +47,15 @@ fn kind_octet(kind: Kind) -> usize {
 fn say_released(answer: Released) {
     match answer {
         Released::Refused(why) => say_refused(why),
-        Released::Number { kind, number, size } => {
+        Released::Number {
+            kind,
+            number,
+            note,
+            size,
+        } => {
             say_done(kind_octet(kind), 1);
             say(number as u32, 2);
+            say(note as u32, 2);
             say((size % 65536) as u32, 2);
         }
     }

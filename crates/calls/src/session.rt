@@ -26,6 +26,8 @@ const MESSAGE_SIZE: u8 = 11;
 
 const MESSAGE_OCTET: u8 = 12;
 
+const NOTE: u8 = 13;
+
 // The slot of a message of a number.
 fn message_slot(number: u16, message: usize) -> usize {
     let slot = (number as usize) % Session::HEARD;
@@ -39,6 +41,7 @@ fn place_of(field: u8, number: u16, message: usize) -> usize {
     match field {
         STATE => kept,
         SIZE => Session::SIZES + kept,
+        NOTE => Session::NOTES + kept,
         ACCEPTED => Session::MARKS + heard,
         N => Session::NS + heard,
         M => Session::MS + heard,
@@ -118,10 +121,12 @@ pub fn say_counts(session: Session) {
     say(c.lost, 4);
 }
 
-// A number in view: state and packet.
+// A number in view: state, note and packet.
 fn say_kept(t: &[u16; Session::PLACES], o: &[u8], number: u16) {
     let state = value_at(t, STATE, number, 0);
     say((state % 256) as u32, 1);
+    let note = value_at(t, NOTE, number, 0);
+    say(note as u32, 2);
     let start = (number as usize) % Session::KEPT * Packet::LIMIT;
     let size = value_at(t, SIZE, number, 0);
     say_sized(o, start, size as usize);

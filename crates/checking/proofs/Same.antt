@@ -14,18 +14,18 @@ use Rattle.datagrams.specs.Sizes.{messageLimit, messagesLimit}
 use Rattle.views.specs.Cells.{Cell, cellAt, isUnknown, keptBefore, keptAhead, keptNumbers}
 use Rattle.views.specs.Held.{Held, heldAt}
 use Rattle.stores.specs.Store.{zerosPast}
-use Rattle.views.specs.View.{sum, numbers, sessionLimit}
-use Rattle.views.specs.Ranges.{sumRight, blankAt, sizeRight, cellRight, markRight, heldRight, knownAt, Sound}
+use Rattle.views.specs.View.{sum, numbers, numberAt, sessionLimit}
+use Rattle.views.specs.Ranges.{sumRight, blankAt, sizeRight, noteRight, cellRight, cellNoted, markRight, heldRight, knownAt, Sound}
 use Rattle.views.proofs.Laws.{base-small, size-fits, mark-sizes}
 use Rattle.held.specs.Slots.{slotsKept, slotsHeard, slotAt, heardSlotAt, keptOctets, messageOctets}
-use Rattle.held.specs.Table.{Lent, lent, countsOf, places, lastState, stateIn, sizeIn, markIn, nIn, mIn, stateNumbered}
+use Rattle.held.specs.Table.{Lent, lent, countsOf, places, lastState, stateIn, sizeIn, noteIn, markIn, nIn, mIn, stateNumbered}
 use Rattle.held.specs.Table.{cellIn, messageIn, heldIn, cellsOf, heldOf, viewIn}
 use Rattle.held.specs.Laid.{messageLaid, lentInRanges, Laid, InRanges}
 use Rattle.held.specs.declared.Counts.{Counts}
 use Rattle.held.proofs.Laws.{slot-small, heard-small, heard-slot-of, length-cells, length-held, cell-at, held-at, unknown-at}
 use Rattle.held.proofs.Laws.{octets-long, cell-right, held-right, message-length, message-fits, message-none, message-zeros, laid-message}
 use Rattle.held.proofs.Laws.{in-ranges-of, in-ranges-true}
-use Rattle.checking.specs.Pieces.{stateRight, placeIn, stateTest, packetTest, allKept, markedRight, heardRight, heardTest}
+use Rattle.checking.specs.Pieces.{stateRight, placeIn, stateTest, noteTest, packetTest, allKept, markedRight, heardRight, heardTest}
 use Rattle.checking.proofs.Turns.{both-ways}
 use Rattle.checking.proofs.Places.{place-small, slot-place, place-slot}
 
@@ -64,6 +64,12 @@ heard-seen t g j known e =
 seen-heard : {t g : List ℕ} {j : ℕ} {known : Bool} → HeardSeen t g j known → heardRight t g j known ≡ true
 unfolding heardRight markedRight
 seen-heard s = and-both (and-both (s .number) (s .mark)) (allBelow-of messagesLimit _ (s .message))
+
+-- a note's test and the view's
+note-told : (base : ℕ) (t o : List ℕ) (p number : ℕ) → p < keptNumbers
+    → cellNoted (cellAt (cellsOf base t o) p) number ≡ noteRight (stateNumbered (stateIn t (slotAt base p))) (noteIn t (slotAt base p)) number
+unfolding cellIn
+note-told base t o p number below = ap (λ (c : Cell). cellNoted c number) (cell-at base t o p below)
 
 -- ---- a slot's test and the view's, of what is laid
 module _ {t o g : List ℕ} (laid : Laid t o g) where
@@ -107,13 +113,16 @@ total l = sum (countsOf (l .counts))
 abbrev keptAll : Lent → Bool
 keptAll l = allKept (l .base) (total l) (l .table) (l .octets)
 
+abbrev notedAll : Lent → Bool
+notedAll l = allBelow slotsKept (noteTest (l .base) (l .table))
+
 abbrev heardAll : Lent → Bool
 heardAll l = allBelow keptAhead (heardTest (l .base) (l .table) (l .messages))
 
 -- from the tests to the ranges
 module _ (l : Lent) (long : length (l .table) ≡ places) (octets : length (l .octets) ≡ keptOctets)
     (messages : length (l .messages) ≡ messageOctets) (summed : sumRight (viewIn l) ≡ true) (kept : keptAll l ≡ true)
-    (heard : heardAll l ≡ true) where
+    (noted : notedAll l ≡ true) (heard : heardAll l ≡ true) where
   kept-in : (i : ℕ) → i < slotsKept → KeptSeen (l .table) (l .octets) i (blankAt (total l) (placeIn (l .base) i))
   unfolding allKept stateTest packetTest
   kept-in i low =
@@ -162,6 +171,15 @@ module _ (l : Lent) (long : length (l .table) ≡ places) (octets : length (l .o
         message = λ j i low below. message-zeros t g j (mIn t j) i (heard-in j low .1 .message i below);
       }
 
+  note-there : (p : ℕ) → p < keptNumbers → cellNoted (cellAt (cellsOf (l .base) (l .table) (l .octets)) p) (numberAt (l .base) p) ≡ true
+  unfolding noteTest
+  note-there p below =
+      let i = slotAt (l .base) p in
+      note-told (l .base) (l .table) (l .octets) p (numberAt (l .base) p) below
+      ∙ ap (λ (q : ℕ). noteRight (stateNumbered (stateIn (l .table) i)) (noteIn (l .table) i) (numberAt (l .base) q))
+      (sym (place-slot (l .base) p below))
+      ∙ allBelow-at slotsKept (noteTest (l .base) (l .table)) noted i (slot-small (l .base) p)
+
   held-there : (d : ℕ) → d < keptAhead
       → heldRight (heldAt (heldOf (l .base) (l .table) (l .messages)) d) (knownAt (viewIn l) (keptBefore + d)) ≡ true
   held-there d below =
@@ -178,6 +196,7 @@ module _ (l : Lent) (long : length (l .table) ≡ places) (octets : length (l .o
         kept = length-cells (l .base) (l .table) (l .octets);
         ahead = length-held (l .base) (l .table) (l .messages);
         cell = λ p below. cell-told laid-there (l .base) p below (blankAt (total l) p) ∙ kept-at p below .size;
+        note = note-there;
         held = held-there;
       }
 
@@ -204,6 +223,23 @@ module _ {l : Lent} (w : InRanges l) where
       (λ i small. and-both (le-leb (stateIn (l .table) i) lastState (w .laid .state i small)) (size-there i small)))
       (allBelow-of slotsKept _ (w .laid .packet))
 
+  noted-view : (p : ℕ) → p < keptNumbers
+      → cellNoted (cellAt (cellsOf (l .base) (l .table) (l .octets)) p) (numberAt (l .base) p) ≡ true
+  unfolding viewIn
+  noted-view = w .sound .note
+
+  tests-noted : notedAll l ≡ true
+  unfolding noteTest
+  tests-noted =
+      allBelow-of slotsKept _
+      (λ i small.
+      let p = placeIn (l .base) i in
+      let below = place-small (l .base) i in
+      ap (λ (j : ℕ). noteRight (stateNumbered (stateIn (l .table) j)) (noteIn (l .table) j) (numberAt (l .base) p))
+      (sym (slot-place (l .base) i small))
+      ∙ sym (note-told (l .base) (l .table) (l .octets) p (numberAt (l .base) p) below)
+      ∙ noted-view p below)
+
   tests-heard : heardAll l ≡ true
   unfolding heardTest
   tests-heard =
@@ -226,22 +262,25 @@ unfolding viewIn sumRight
 sum-told l = refl
 
 all-told : (l : Lent) → length (l .table) ≡ places → length (l .octets) ≡ keptOctets → length (l .messages) ≡ messageOctets
-    → ((sumRight (viewIn l) && keptAll l) && heardAll l) ≡ lentInRanges l
+    → (((sumRight (viewIn l) && keptAll l) && notedAll l) && heardAll l) ≡ lentInRanges l
 all-told l long octets messages =
-    both-ways ((sumRight (viewIn l) && keptAll l) && heardAll l) (lentInRanges l)
+    both-ways (((sumRight (viewIn l) && keptAll l) && notedAll l) && heardAll l) (lentInRanges l)
     (λ e.
-    let first = and-left (sumRight (viewIn l) && keptAll l) (heardAll l) e in
+    let three = and-left ((sumRight (viewIn l) && keptAll l) && notedAll l) (heardAll l) e in
+    let first = and-left (sumRight (viewIn l) && keptAll l) (notedAll l) three in
     ranges-there l long octets messages (and-left (sumRight (viewIn l)) (keptAll l) first)
     (and-right (sumRight (viewIn l)) (keptAll l) first)
-    (and-right (sumRight (viewIn l) && keptAll l) (heardAll l) e))
+    (and-right (sumRight (viewIn l) && keptAll l) (notedAll l) three)
+    (and-right ((sumRight (viewIn l) && keptAll l) && notedAll l) (heardAll l) e))
     (λ e.
     let w = in-ranges-of l e long octets messages in
-    and-both (and-both (w .sound .total) (tests-kept w)) (tests-heard w))
+    and-both (and-both (and-both (w .sound .total) (tests-kept w)) (tests-noted w)) (tests-heard w))
 
-pub whole-right : (base : ℕ) (counts : Counts) (t o g : List ℕ) {whole : ℕ} {summed kept heard : Bool} → length t ≡ places
+pub whole-right : (base : ℕ) (counts : Counts) (t o g : List ℕ) {whole : ℕ} {summed kept noted heard : Bool} → length t ≡ places
     → length o ≡ keptOctets → length g ≡ messageOctets → whole ≡ sum (countsOf counts)
     → summed ≡ (eqb base (whole % numbers) && leb whole sessionLimit) → kept ≡ allKept base whole t o
-    → heard ≡ allBelow keptAhead (heardTest base t g) → ((summed && kept) && heard) ≡ lentInRanges (lent base counts t o g)
-whole-right base counts t o g long octets messages whole-is summed-is kept-is heard-is =
-    rw (summed-is, kept-is, heard-is, whole-is, ← sum-told (lent base counts t o g))
+    → noted ≡ allBelow slotsKept (noteTest base t) → heard ≡ allBelow keptAhead (heardTest base t g)
+    → (((summed && kept) && noted) && heard) ≡ lentInRanges (lent base counts t o g)
+whole-right base counts t o g long octets messages whole-is summed-is kept-is noted-is heard-is =
+    rw (summed-is, kept-is, noted-is, heard-is, whole-is, ← sum-told (lent base counts t o g))
     (all-told (lent base counts t o g) long octets messages)

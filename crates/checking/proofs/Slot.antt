@@ -11,7 +11,7 @@ use Rattle.octets.specs.Place.{allBelow}
 use Rattle.octets.proofs.Laws.{same-or-not, and-right, allBelow-at, allBelow-of, allBelow-ext}
 use Rattle.datagrams.specs.Sizes.{packetLeast, packetLimit, coveredLimit, messageLimit, messagesLimit, coveredLeast}
 use Rattle.stores.specs.Store.{zerosPast}
-use Rattle.views.specs.Ranges.{blankAt, sizeRight, markRight}
+use Rattle.views.specs.Ranges.{blankAt, sizeRight, noteRight, markRight}
 use Rattle.views.proofs.Laws.{size-fits}
 use Rattle.held.specs.Slots.{slotsKept, messageSlot}
 use Rattle.held.specs.Table.{lastState, stateIn, sizeIn, markIn, nIn, mIn, messageSizeIn, stateNumbered}
@@ -67,6 +67,32 @@ state-told state size blank =
     (same-or-not state 2))
     (same-or-not state 1))
     (same-or-not state 0)
+
+-- ---- a note
+-- the answer of `note_right`
+abbrev noteAnswer : ℕ → ℕ → ℕ → Bool
+noteAnswer state note number =
+    (eqb state 2 || eqb state 3) || ((eqb state 1 && eqb note number) || (not (eqb state 1) && eqb note 0))
+
+or-false : (b : Bool) → (b || false) ≡ b
+or-false true = refl
+or-false false = refl
+
+pub note-told : (state note number : ℕ) → noteAnswer state note number ≡ noteRight (stateNumbered state) note number
+unfolding noteRight stateNumbered
+note-told state note number =
+    ⊎-elim (λ (e : state ≡ 1). rw e (or-false (eqb note number)))
+    (λ (no1 : state ≡ 1 → ⊥).
+    ⊎-elim (λ (e : state ≡ 2). rw e)
+    (λ (no2 : state ≡ 2 → ⊥).
+    ⊎-elim (λ (e : state ≡ 3). rw e)
+    (λ (no3 : state ≡ 3 → ⊥).
+    ⊎-elim (λ (e : state ≡ 0). rw e)
+    (λ (no0 : state ≡ 0 → ⊥). rw (ne-eqb state 0 no0, ne-eqb state 1 no1, ne-eqb state 2 no2, ne-eqb state 3 no3))
+    (same-or-not state 0))
+    (same-or-not state 3))
+    (same-or-not state 2))
+    (same-or-not state 1)
 
 -- ---- octets past a length
 pub slot-empty : (o : List ℕ) (slot : ℕ) {size : ℕ} {right : Bool} → size ≡ 0 → right ≡ zerosPast o slot 0 → right ≡ zerosPast o slot size

@@ -14,11 +14,12 @@ use Rattle.datagrams.specs.Sizes.{packetLimit, messageLimit, messagesLimit}
 use Rattle.views.specs.Cells.{isUnknown, keptBefore, keptAhead}
 use Rattle.stores.specs.Store.{zerosPast}
 use Rattle.stores.proofs.Laws.{zerosPast-at}
-use Rattle.views.specs.Ranges.{blankAt}
+use Rattle.views.specs.Ranges.{blankAt, noteRight}
+use Rattle.views.specs.View.{numbers, numberAt}
 use Rattle.held.specs.Slots.{slotsKept, slotAt, heardSlotAt, messageSlot}
-use Rattle.held.specs.Table.{stateIn, sizeIn, messageSizeIn, stateNumbered}
+use Rattle.held.specs.Table.{stateIn, sizeIn, noteIn, messageSizeIn, stateNumbered}
 use Rattle.held.specs.Laid.{messageLaid}
-use Rattle.checking.specs.Pieces.{stateRight, passedOf, placeIn, stateTest, packetTest, SizesFit}
+use Rattle.checking.specs.Pieces.{stateRight, passedOf, placeIn, stateTest, noteTest, packetTest, SizesFit}
 use Rattle.checking.specs.Pieces.{heardRight, heardTest, sizeless, emptyAt, heldOctets, octetZero}
 
 -- two tests that pass together
@@ -94,6 +95,20 @@ module _ (base total : ℕ) (t : List ℕ) {i state size gone place : ℕ} {ok r
   unfolding stateTest
   state-turn c more state-is size-is gone-is place-is right-is =
       checked-turn c more (rw (state-is, size-is, gone-is, place-is, blank-told total (placeIn base i)) at right-is)
+
+-- the number at a place, counted from the first
+number-told : (base first place number : ℕ) → base < numbers → first < numbers → (first + keptBefore) % numbers ≡ base
+    → number ≡ (first + place) % numbers → number ≡ numberAt base place
+number-told base first place number small low back number-is = omega arith
+
+pub note-turn : (base : ℕ) (t : List ℕ) {i state note first place number : ℕ} {ok right : Bool} → Checked slotsKept (noteTest base t) ok i
+    → i < slotsKept → state ≡ stateIn t i → note ≡ noteIn t i → base < numbers → first < numbers → (first + keptBefore) % numbers ≡ base
+    → place ≡ placeIn base i → number ≡ (first + place) % numbers → right ≡ noteRight (stateNumbered state) note number
+    → Checked slotsKept (noteTest base t) (ok && right) (i + 1)
+unfolding noteTest
+note-turn base t {i} {first = first} {place} {number} c more state-is note-is small low back place-is number-is right-is =
+    checked-turn c more
+    (rw (state-is, note-is, number-told base first place number small low back number-is, place-is) at right-is)
 
 pub packet-turn : (t o : List ℕ) {i size : ℕ} {ok right : Bool} → Checked slotsKept (packetTest t o) ok i → i < slotsKept
     → size ≡ sizeIn t i → right ≡ zerosPast o i size → Checked slotsKept (packetTest t o) (ok && right) (i + 1)

@@ -9,9 +9,10 @@ use Rattle.octets.specs.Place.{allBelow}
 use Rattle.datagrams.specs.Sizes.{packetLimit, messagesLimit}
 use Rattle.views.specs.Cells.{isUnknown, keptBefore}
 use Rattle.stores.specs.Store.{zerosPast}
-use Rattle.views.specs.Ranges.{blankAt, sizeRight, markRight}
+use Rattle.views.specs.Ranges.{blankAt, sizeRight, noteRight, markRight}
+use Rattle.views.specs.View.{numberAt}
 use Rattle.held.specs.Slots.{slotsKept, slotAt, heardSlotAt, messageSlot}
-use Rattle.held.specs.Table.{lastState, stateIn, sizeIn, markIn, nIn, mIn, messageSizeIn, stateNumbered}
+use Rattle.held.specs.Table.{lastState, stateIn, sizeIn, noteIn, markIn, nIn, mIn, messageSizeIn, stateNumbered}
 use Rattle.held.specs.Laid.{messageLaid}
 
 -- a number that stands for a state, with the length beside it
@@ -29,6 +30,10 @@ placeIn base i = (i + (keptBefore + slotsKept - base % slotsKept)) % slotsKept
 -- the kept number in slot i: its state and its length
 unfoldable pub stateTest : ℕ → ℕ → List ℕ → ℕ → Bool
 stateTest base total t i = stateRight (stateIn t i) (sizeIn t i) (blankAt total (placeIn base i))
+
+-- .. its note
+unfoldable pub noteTest : ℕ → List ℕ → ℕ → Bool
+noteTest base t i = noteRight (stateNumbered (stateIn t i)) (noteIn t i) (numberAt base (placeIn base i))
 
 -- .. and its octets
 unfoldable pub packetTest : List ℕ → List ℕ → ℕ → Bool

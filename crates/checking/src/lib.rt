@@ -8,6 +8,7 @@ use datagrams::Parity;
 use held::Counts;
 use held::Session;
 use slots::heard_right;
+use slots::note_right;
 use slots::slot_right;
 use slots::state_right;
 ghost use mathlib.Core.Path.{_≡_};
@@ -22,7 +23,7 @@ ghost use Rattle.views.specs.View.{numbers, sessionLimit};
 ghost use Rattle.held.specs.Slots.{slotsKept, keptOctets, messageOctets};
 ghost use Rattle.held.specs.Table.{places, lent};
 ghost use Rattle.held.specs.Laid.{lentInRanges};
-ghost use Rattle.checking.specs.Pieces.{passedOf, SizesFit, stateTest, packetTest, allKept, heardTest};
+ghost use Rattle.checking.specs.Pieces.{passedOf, SizesFit, stateTest, noteTest, packetTest, allKept, heardTest};
 
 // Numbers are counted modulo this.
 const NUMBERS: u64 = 65536;
@@ -68,6 +69,27 @@ fn all_states_right(base: u16, whole: u64, t: &[u16]) -> bool
         let size = held::size_at(t, i);
         let place = (i as u16 + shift) % KEPT;
         let right = state_right(state, size, gone + place < BEFORE);
+        ok = ok & right;
+        i += 1;
+    }
+    ok
+}
+
+// The notes of all kept numbers, slot by slot, likewise without a branch. The number at the first place of the view is base - 32.
+fn all_notes_right(base: u16, t: &[u16]) -> bool
+    requires { ⌜ length (now t) ≡ places ⌝ }
+    ensures { λ r. ⌜ r ≡ allBelow slotsKept (noteTest base (now (t .entry))) ⌝ }
+{
+    let shift = BEFORE + KEPT - base % KEPT;
+    let first = std::num::wrapping_sub_u16(base, BEFORE);
+    let mut ok = true;
+    let mut i = 0;
+    while i < Session::KEPT {
+        let state = held::state_at(t, i);
+        let note = held::note_at(t, i);
+        let place = (i as u16 + shift) % KEPT;
+        let number = std::num::wrapping_add_u16(first, place);
+        let right = note_right(state, note, number);
         ok = ok & right;
         i += 1;
     }
@@ -127,7 +149,7 @@ fn all_heard_right(base: u16, t: &[u16], g: &[u8], passes: &[u8]) -> bool
     ok
 }
 
-// Document 01, 'Ranges of a session': the whole paragraph.
+// Document 01, 'Ranges of a session': the whole paragraph, and document 02, request 8, of the notes.
 pub fn in_ranges(base: u16, counts: Counts, t: &[u16], o: &[u8], g: &[u8]) -> bool
     requires { ⌜ length (now t) ≡ places ⌝ }
     requires { ⌜ length (now o) ≡ keptOctets ⌝ }
@@ -138,6 +160,7 @@ pub fn in_ranges(base: u16, counts: Counts, t: &[u16], o: &[u8], g: &[u8]) -> bo
     let passes = stores::passing();
     let summed = sum_right(base, whole);
     let kept = all_kept_right(base, whole, t, o, &passes);
+    let noted = all_notes_right(base, t);
     let heard = all_heard_right(base, t, g, &passes);
-    (summed & kept) & heard
+    ((summed & kept) & noted) & heard
 }

@@ -14,7 +14,8 @@ ghost use Rattle.octets.specs.Place.{allBelow};
 ghost use Rattle.datagrams.specs.Sizes.{packetLimit, messageLimit, messagesLimit};
 ghost use Rattle.stores.specs.Store.{HasSlot, zerosPast, mask};
 ghost use Rattle.held.specs.Slots.{slotsHeard, messageOctets};
-ghost use Rattle.held.specs.Table.{places};
+ghost use Rattle.views.specs.Ranges.{noteRight};
+ghost use Rattle.held.specs.Table.{places, stateNumbered};
 ghost use Rattle.held.specs.Laid.{messageLaid};
 ghost use Rattle.checking.specs.Pieces.{stateRight, markedRight, heardRight, sizeless, emptyAt};
 
@@ -27,6 +28,16 @@ pub fn state_right(state: u16, size: usize, blank: bool) -> bool
     let filled = (state != Session::UNKNOWN) & (state < Session::BLANK);
     let fits = (Packet::LEAST <= size) & (size <= Packet::LIMIT);
     (empty & (size == 0)) | (filled & (fits & !blank))
+}
+
+// "For a received one [the note] is its own number; for a blank or unknown one it is zero."; a spare or repaired one may have any.
+pub fn note_right(state: u16, note: u16, number: u16) -> bool
+    ensures { λ r. ⌜ r ≡ noteRight (stateNumbered state) note number ⌝ }
+{
+    let any = (state == Session::SPARE) | (state == Session::REPAIRED);
+    let own = (state == Session::RECEIVED) & (note == number);
+    let none = (state != Session::RECEIVED) & (note == 0);
+    any | (own | none)
 }
 
 // "Octets past a length are zero."

@@ -112,8 +112,8 @@ record Cells : Type 0 where
   known3 : Known (with03 .cells) (keptBefore + 3)
   still0 : Known (with034 .cells) keptBefore
   still3 : Known (with034 .cells) (keptBefore + 3)
-  back1 : cellAt (with034 .cells) (keptBefore + 1) ≡ filledCell repaired packet1
-  back2 : cellAt (with034 .cells) (keptBefore + 2) ≡ filledCell repaired packet2
+  back1 : cellAt (with034 .cells) (keptBefore + 1) ≡ filledCell 4 repaired packet1
+  back2 : cellAt (with034 .cells) (keptBefore + 2) ≡ filledCell 4 repaired packet2
 
 cells : Cells
 unfolding freshView accept keep keepSpares tab xorAt exclusiveOr membersOf passing usable firstUsable mended fill repairF repair messagesOf

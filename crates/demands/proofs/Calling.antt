@@ -137,15 +137,16 @@ module _ {view : View} {s : Session} (seen : SeenAs view s) where
 -- ---- what the answers hand out
 handed-out : (a : Answer Release) (r : Released) (old : List ℕ) → releasedOutcome r ≡ handedOf a
     → handedOut r (over (octetsHanded a) old) ≡ releasedBy a
-handed-out (done a) (answer.Number kind number size) old e =
-    let same : _≡_ {A = Handed} (record { kind = stateOf kind; number = number; size = size })
-    (record { kind = a .kind; number = a .number; size = length (a .octets) }) = cc in
+handed-out (done a) (answer.Number kind number note size) old e =
+    let same : _≡_ {A = Handed} (record { kind = stateOf kind; number = number; note = note; size = size })
+    (record { kind = a .kind; number = a .number; note = a .note; size = length (a .octets) }) = cc in
     let word = ap (λ (x : Handed). x .kind) same in
     let place = ap (λ (x : Handed). x .number) same in
+    let filler = ap (λ (x : Handed). x .note) same in
     let long = ap (λ (x : Handed). x .size) same in
-    rw (word, place, long, take-append-seam (a .octets) (drop (length (a .octets)) old))
+    rw (word, place, filler, long, take-append-seam (a .octets) (drop (length (a .octets)) old))
 handed-out (done a) (answer.Refused why) old e = let z : _≡_ {A = ℕ} 0 1 = cc in absurd (omega arith)
-handed-out (refused x) (answer.Number kind number size) old e = let z : _≡_ {A = ℕ} 0 1 = cc in absurd (omega arith)
+handed-out (refused x) (answer.Number kind number note size) old e = let z : _≡_ {A = ℕ} 0 1 = cc in absurd (omega arith)
 handed-out (refused x) (answer.Refused why) old e = refl
 
 -- what left is what document 01 makes leave

@@ -118,7 +118,7 @@ unfolding freshView accept keep keepSpares tab xorAt exclusiveOr membersOf passi
     messagesInRow heldMessages
 missing = refl
 
-back : cellAt (with12 .cells) keptBefore ≡ filledCell repaired (0x06 ∷ 0 ∷ 0 ∷ 0 ∷ 0 ∷ 0 ∷ [])
+back : cellAt (with12 .cells) keptBefore ≡ filledCell 2 repaired (0x06 ∷ 0 ∷ 0 ∷ 0 ∷ 0 ∷ 0 ∷ [])
 unfolding freshView accept keep keepSpares tab xorAt exclusiveOr membersOf passing usable firstUsable mended fill repairF repair messagesOf
     messagesInRow heldMessages
 back = refl

@@ -1,5 +1,5 @@
 -- What an accepted datagram does to the numbers in view: each is as it was, or it was unknown and is filled, as received, spare
--- or repaired. Assumes nothing.
+-- or repaired, with the datagram's number as its note. Assumes nothing.
 use Prim.Native.Nat.{ℕ, zero, suc, _-_, _≤_, _<_}
 use mathlib.Core.Path.{_≡_, refl, sym, ap, subst, _∙_}
 use mathlib.Core.Logic.{_⊎_, inl, inr, ⊎-elim}
@@ -27,140 +27,143 @@ fills-known asReceived = refl
 fills-known asSpare = refl
 fills-known asRepaired = refl
 
--- each number is as it was, or it was unknown and is filled
-pub record Grown (cells after : List Cell) : Type 0 where
+-- each number is as it was, or it was unknown and is filled, while datagram S is offered
+pub record Grown (S : ℕ) (cells after : List Cell) : Type 0 where
   pub long : length after ≡ length cells
-  pub each : (q : ℕ) → (cellAt after q ≡ cellAt cells q) ⊎ (Unknown cells q × Fills ((cellAt after q) .state))
+  pub each : (q : ℕ) → (cellAt after q ≡ cellAt cells q)
+      ⊎ (Unknown cells q × Fills ((cellAt after q) .state) × ((cellAt after q) .note ≡ S))
 
 -- what is known is never written over
-pub grown-known : {cells after : List Cell} → Grown cells after → (q : ℕ) → Known cells q → cellAt after q ≡ cellAt cells q
-grown-known {cells} g q k = ⊎-elim (λ same. same) (λ new. absurd (known-not-unknown cells q k (new .0))) (g .each q)
+pub grown-known : {S : ℕ} {cells after : List Cell} → Grown S cells after → (q : ℕ) → Known cells q → cellAt after q ≡ cellAt cells q
+grown-known {cells = cells} g q k = ⊎-elim (λ same. same) (λ new. absurd (known-not-unknown cells q k (new .0))) (g .each q)
 
-pub known-grown : {cells after : List Cell} → Grown cells after → (q : ℕ) → Known cells q → Known after q
-known-grown {cells} {after} g q k = same-unknown cells after q (grown-known g q k) ∙ k
+pub known-grown : {S : ℕ} {cells after : List Cell} → Grown S cells after → (q : ℕ) → Known cells q → Known after q
+known-grown {cells = cells} {after} g q k = same-unknown cells after q (grown-known g q k) ∙ k
 
-pub grown-same : (cells : List Cell) → Grown cells cells
-grown-same cells = record { long = refl; each = λ q. inl refl }
+pub grown-same : (S : ℕ) (cells : List Cell) → Grown S cells cells
+grown-same S cells = record { long = refl; each = λ q. inl refl }
 
-pub grown-twice : {cells mid after : List Cell} → Grown cells mid → Grown mid after → Grown cells after
-grown-twice {cells} {mid} {after} first second =
+pub grown-twice : {S : ℕ} {cells mid after : List Cell} → Grown S cells mid → Grown S mid after → Grown S cells after
+grown-twice {S} {cells} {mid} {after} first second =
     record {
       long = second .long ∙ first .long;
       each = λ q.
           ⊎-elim
           (λ same.
-          ⊎-elim (λ was. inl (same ∙ was)) (λ new. inr (new .0, subst (λ (c : Cell). Fills (c .state)) (sym same) (new .1)))
+          ⊎-elim (λ was. inl (same ∙ was))
+          (λ new.
+          inr (new .0, subst (λ (c : Cell). Fills (c .state)) (sym same) (new .1), ap (λ (c : Cell). c .note) same ∙ new .2))
           (first .each q))
           (λ new.
-          ⊎-elim (λ was. inr (sym (same-unknown cells mid q was) ∙ new .0, new .1))
+          ⊎-elim (λ was. inr (sym (same-unknown cells mid q was) ∙ new .0, new .1, new .2))
           (λ old. absurd (known-not-unknown mid q (fills-known (old .1)) (new .0)))
           (first .each q))
           (second .each q);
     }
 
 -- ---- "fill only numbers still unknown"
-pub keep-known : (state : State) (p : ℕ) (octets : List ℕ) (cells : List Cell) → Known cells p → keep state p octets cells ≡ cells
+pub keep-known : (S : ℕ) (state : State) (p : ℕ) (octets : List ℕ) (cells : List Cell) → Known cells p → keep S state p octets cells ≡ cells
 unfolding keep
-keep-known state p octets cells k = rw k
+keep-known S state p octets cells k = rw k
 
-pub keep-unknown : (state : State) (p : ℕ) (octets : List ℕ) (cells : List Cell) → Unknown cells p
-    → keep state p octets cells ≡ set cells p (filledCell state octets)
+pub keep-unknown : (S : ℕ) (state : State) (p : ℕ) (octets : List ℕ) (cells : List Cell) → Unknown cells p
+    → keep S state p octets cells ≡ set cells p (filledCell S state octets)
 unfolding keep
-keep-unknown state p octets cells u = rw u
+keep-unknown S state p octets cells u = rw u
 
 -- an unknown number is filled
-pub grown-set : (cells : List Cell) (p : ℕ) (cell : Cell) → Unknown cells p → Fills (cell .state) → Grown cells (set cells p cell)
+pub grown-set : (cells : List Cell) (p : ℕ) (cell : Cell) → Unknown cells p → Fills (cell .state)
+    → Grown (cell .note) cells (set cells p cell)
 grown-set cells p cell u fills =
     record {
       long = length-set cells p cell;
       each = λ q.
           ⊎-elim
           (λ same.
-          inr (
-            rw same u,
-            subst (λ (c : Cell). Fills (c .state))
-                (sym (ap (cellAt (set cells p cell)) same ∙ getD-set-same cells p cell _ (unknown-inside cells p u))) fills,
-          ))
+          let here = ap (cellAt (set cells p cell)) same ∙ getD-set-same cells p cell _ (unknown-inside cells p u) in
+          inr (rw same u, subst (λ (c : Cell). Fills (c .state)) (sym here) fills, ap (λ (c : Cell). c .note) here))
           (λ other. inl (getD-set-other cells p q cell _ other))
           (same-or-not q p);
     }
 
-pub grown-keep : {state : State} (p : ℕ) (octets : List ℕ) (cells : List Cell) → Fills state → Grown cells (keep state p octets cells)
-grown-keep {state} p octets cells fills =
-    ⊎-elim (λ u. rw (keep-unknown state p octets cells u) (grown-set cells p (filledCell state octets) u fills))
-    (λ k. rw (keep-known state p octets cells k) (grown-same cells))
+pub grown-keep : (S : ℕ) {state : State} (p : ℕ) (octets : List ℕ) (cells : List Cell) → Fills state
+    → Grown S cells (keep S state p octets cells)
+grown-keep S {state} p octets cells fills =
+    ⊎-elim (λ u. rw (keep-unknown S state p octets cells u) (grown-set cells p (filledCell S state octets) u fills))
+    (λ k. rw (keep-known S state p octets cells k) (grown-same S cells))
     (true-or-false (unknownAt cells p))
 
-pub grown-spares : (p : ℕ) (copies : List (List ℕ)) (cells : List Cell) → Grown cells (keepSpares p copies cells)
+pub grown-spares : (S p : ℕ) (copies : List (List ℕ)) (cells : List Cell) → Grown S cells (keepSpares S p copies cells)
 unfolding keepSpares
-grown-spares p [] cells = grown-same cells
-grown-spares p (octets ∷ more) cells =
-    grown-twice (grown-keep (p - 1) octets cells asSpare) (grown-spares (p - 1) more (keep spare (p - 1) octets cells))
+grown-spares S p [] cells = grown-same S cells
+grown-spares S p (octets ∷ more) cells =
+    grown-twice (grown-keep S (p - 1) octets cells asSpare) (grown-spares S (p - 1) more (keep S spare (p - 1) octets cells))
 
-pub grown-extra : (p : ℕ) (extra : Extra) (cells : List Cell) → Grown cells (keepExtra p extra cells)
-grown-extra p (spares copies) cells = grown-spares p copies cells
-grown-extra p (parity n messages) cells = grown-same cells
+pub grown-extra : (S p : ℕ) (extra : Extra) (cells : List Cell) → Grown S cells (keepExtra S p extra cells)
+grown-extra S p (spares copies) cells = grown-spares S p copies cells
+grown-extra S p (parity n messages) cells = grown-same S cells
 
 -- ---- repair
-pub grown-repair : (cells : List Cell) (messages : List Message) → Grown cells (repair (filledCell repaired) cells messages)
-grown-repair cells messages =
+pub grown-repair : (S : ℕ) (cells : List Cell) (messages : List Message) → Grown S cells (repair (filledCell S repaired) cells messages)
+grown-repair S cells messages =
     record {
-      long = length-repair (filledCell repaired) cells messages;
+      long = length-repair (filledCell S repaired) cells messages;
       each = λ q.
           ⊎-elim
           (λ u.
-          ⊎-elim (λ same. inl same) (λ new. inr (u, subst (λ (c : Cell). Fills (c .state)) (sym (new .1)) asRepaired))
-          (repair-made (filledCell repaired) cells messages q))
-          (λ k. inl (repair-known (filledCell repaired) cells messages q k))
+          ⊎-elim (λ same. inl same)
+          (λ new. inr (u, subst (λ (c : Cell). Fills (c .state)) (sym (new .1)) asRepaired, ap (λ (c : Cell). c .note) (new .1)))
+          (repair-made (filledCell S repaired) cells messages q))
+          (λ k. inl (repair-known (filledCell S repaired) cells messages q k))
           (true-or-false (unknownAt cells q));
     }
 
 -- ---- which numbers are known once a packet is kept, and spares
-pub known-kept : {state : State} (p : ℕ) (octets : List ℕ) (cells : List Cell) → p < length cells → Fills state
-    → Known (keep state p octets cells) p
-known-kept {state} p octets cells inside fills =
+pub known-kept : (S : ℕ) {state : State} (p : ℕ) (octets : List ℕ) (cells : List Cell) → p < length cells → Fills state
+    → Known (keep S state p octets cells) p
+known-kept S {state} p octets cells inside fills =
     ⊎-elim
     (λ u.
-    rw (keep-unknown state p octets cells u)
-    (ap (λ (c : Cell). isUnknown (c .state)) (getD-set-same cells p (filledCell state octets) _ inside)
+    rw (keep-unknown S state p octets cells u)
+    (ap (λ (c : Cell). isUnknown (c .state)) (getD-set-same cells p (filledCell S state octets) _ inside)
     ∙ fills-known fills))
-    (λ k. rw (keep-known state p octets cells k) k)
+    (λ k. rw (keep-known S state p octets cells k) k)
     (true-or-false (unknownAt cells p))
 
-pub kept-known : (state : State) (p : ℕ) (octets : List ℕ) (cells : List Cell) (q : ℕ) → Known (keep state p octets cells) q
+pub kept-known : (S : ℕ) (state : State) (p : ℕ) (octets : List ℕ) (cells : List Cell) (q : ℕ) → Known (keep S state p octets cells) q
     → Known cells q ⊎ (q ≡ p)
-kept-known state p octets cells q k =
+kept-known S state p octets cells q k =
     ⊎-elim
     (λ same. inr same)
     (λ other.
     ⊎-elim
     (λ u.
     inl
-    (sym (ap (λ (c : Cell). isUnknown (c .state)) (getD-set-other cells p q (filledCell state octets) _ other))
-    ∙ (rw (keep-unknown state p octets cells u) at k)))
-    (λ was. inl (rw (keep-known state p octets cells was) at k))
+    (sym (ap (λ (c : Cell). isUnknown (c .state)) (getD-set-other cells p q (filledCell S state octets) _ other))
+    ∙ (rw (keep-unknown S state p octets cells u) at k)))
+    (λ was. inl (rw (keep-known S state p octets cells was) at k))
     (true-or-false (unknownAt cells p)))
     (same-or-not q p)
 
 -- the place of spare j, from 0
-pub known-spares : (p : ℕ) (copies : List (List ℕ)) (cells : List Cell) → p ≤ length cells → 1 ≤ length cells
-    → (j : ℕ) → j < length copies → Known (keepSpares p copies cells) (p - suc j)
+pub known-spares : (S p : ℕ) (copies : List (List ℕ)) (cells : List Cell) → p ≤ length cells → 1 ≤ length cells
+    → (j : ℕ) → j < length copies → Known (keepSpares S p copies cells) (p - suc j)
 unfolding keepSpares
-known-spares p [] cells inside some j few = absurd (omega arith)
-known-spares p (octets ∷ more) cells inside some zero few =
-    known-grown (grown-spares (p - 1) more (keep spare (p - 1) octets cells)) (p - 1)
-    (known-kept (p - 1) octets cells (omega arith) asSpare)
-known-spares p (octets ∷ more) cells inside some (suc j) few =
-    let long = grown-keep (p - 1) octets cells asSpare .long in
+known-spares S p [] cells inside some j few = absurd (omega arith)
+known-spares S p (octets ∷ more) cells inside some zero few =
+    known-grown (grown-spares S (p - 1) more (keep S spare (p - 1) octets cells)) (p - 1)
+    (known-kept S (p - 1) octets cells (omega arith) asSpare)
+known-spares S p (octets ∷ more) cells inside some (suc j) few =
+    let long = grown-keep S (p - 1) octets cells asSpare .long in
     let place : p - suc (suc j) ≡ (p - 1) - suc j = omega arith in
-    rw place (known-spares (p - 1) more (keep spare (p - 1) octets cells) (omega arith) (omega arith) j (omega arith))
+    rw place (known-spares S (p - 1) more (keep S spare (p - 1) octets cells) (omega arith) (omega arith) j (omega arith))
 
-pub spares-known : (p : ℕ) (copies : List (List ℕ)) (cells : List Cell) (q : ℕ) → Known (keepSpares p copies cells) q
+pub spares-known : (S p : ℕ) (copies : List (List ℕ)) (cells : List Cell) (q : ℕ) → Known (keepSpares S p copies cells) q
     → Known cells q ⊎ ((j : ℕ) × (j < length copies) × (q ≡ p - suc j))
 unfolding keepSpares
-spares-known p [] cells q k = inl k
-spares-known p (octets ∷ more) cells q k =
+spares-known S p [] cells q k = inl k
+spares-known S p (octets ∷ more) cells q k =
     ⊎-elim
-    (λ kept. ⊎-elim (λ was. inl was) (λ same. inr (0, omega arith, same)) (kept-known spare (p - 1) octets cells q kept))
+    (λ kept. ⊎-elim (λ was. inl was) (λ same. inr (0, omega arith, same)) (kept-known S spare (p - 1) octets cells q kept))
     (λ later. inr (suc (later .0), omega (arith, later .1), later .2 ∙ omega arith))
-    (spares-known (p - 1) more (keep spare (p - 1) octets cells) q k)
+    (spares-known S (p - 1) more (keep S spare (p - 1) octets cells) q k)

@@ -96,18 +96,20 @@ read-held octets parts e =
 -- the numbers in view grow
 abbrev pub filled : ℕ → Carried → View → List Cell
 filled d datagram view =
-    keepExtra (keptBefore + d) (datagram .extra) (keep received (keptBefore + d) (datagram .packet) (view .cells))
+    keepExtra (datagram .number) (keptBefore + d) (datagram .extra)
+    (keep (datagram .number) received (keptBefore + d) (datagram .packet) (view .cells))
 
-pub grown-filled : (d : ℕ) (datagram : Carried) (view : View) → Grown (view .cells) (filled d datagram view)
+pub grown-filled : (d : ℕ) (datagram : Carried) (view : View) → Grown (datagram .number) (view .cells) (filled d datagram view)
 grown-filled d datagram view =
-    grown-twice (grown-keep (keptBefore + d) (datagram .packet) (view .cells) asReceived)
-    (grown-extra (keptBefore + d) (datagram .extra) (keep received (keptBefore + d) (datagram .packet) (view .cells)))
+    let S = datagram .number in
+    grown-twice (grown-keep S (keptBefore + d) (datagram .packet) (view .cells) asReceived)
+    (grown-extra S (keptBefore + d) (datagram .extra) (keep S received (keptBefore + d) (datagram .packet) (view .cells)))
 
-pub grown-accept : (d : ℕ) (datagram : Carried) (view : View) → Grown (view .cells) ((accept d datagram view) .cells)
+pub grown-accept : (d : ℕ) (datagram : Carried) (view : View) → Grown (datagram .number) (view .cells) ((accept d datagram view) .cells)
 unfolding accept
 grown-accept d datagram view =
     grown-twice (grown-filled d datagram view)
-    (grown-repair (filled d datagram view) (heldMessages (set (view .held) d (heldBy (datagram .extra)))))
+    (grown-repair (datagram .number) (filled d datagram view) (heldMessages (set (view .held) d (heldBy (datagram .extra)))))
 
 fills-not-blank : {st : State} → Fills st → st ≡ blank → ⊥
 fills-not-blank asReceived e = let z : _≡_ {A = ℕ} 0 1 = cc in omega arith

@@ -36,7 +36,7 @@ use Rattle.demands.proofs.Calling.{seen-ranges, left-is, called-went, c
 -- ---- one call
 data Does (view : View) : List Left → View → Type 0 where
   stays : {last : View} → ((p : ℕ) → Known (view .cells) p → cellAt (last .cells) p ≡ cellAt (view .cells) p) → Does view [] last
-  leaves : (counts : Counts) → Does view (leftAs ((atBase view) .state) (view .base) ((atBase view) .octets) ∷ []) (goneOn counts view)
+  leaves : (counts : Counts) → Does view (leftAs ((atBase view) .state) (view .base) ((atBase view) .note) ((atBase view) .octets) ∷ []) (goneOn counts view)
 
 does : (move : Move) (view : View) → Does view (leaving move view) (afterMove move view)
 unfolding afterMove leaving
@@ -48,7 +48,7 @@ does (moves.offer octets) view = pick (offers.offer octets view) refl where
   pick (refused why) e = stays (λ p known. refl)
 does (moves.release leave room) view = pick (releases.release leave room view) refl where
   pick : (a : Answer Release) → releases.release leave room view ≡ a → Does view (releasedBy a) (afterwards (viewAfterRelease a) view)
-  pick (done a) e = let o = release-leaves leave room view a e in rw (o .kind, o .number, o .octets, o .after) (leaves _)
+  pick (done a) e = let o = release-leaves leave room view a e in rw (o .kind, o .number, o .note, o .octets, o .after) (leaves _)
   pick (refused why) e = stays (λ p known. refl)
 
 -- ---- one number, from call to call
@@ -70,7 +70,7 @@ module _ {view : View} {p : ℕ} (small : p < keptNumbers) (known : Known (view 
     keeps-stays same = record { stays = λ low. same (p - length left) (still low) ∙ k .stays low; leaves = k .leaves }
 
     -- the number at the base left, as it stood there
-    module _ (r : ViewInRanges held) (x : Left) (is : x ≡ leftAs ((atBase held) .state) (held .base) ((atBase held) .octets))
+    module _ (r : ViewInRanges held) (x : Left) (is : x ≡ leftAs ((atBase held) .state) (held .base) ((atBase held) .note) ((atBase held) .octets))
         (base : held .base ≡ (view .base + length left) % numbers) where
       long : length (left ++ (x ∷ [])) ≡ length left + 1
       long = length-append left (x ∷ [])
@@ -84,13 +84,15 @@ module _ {view : View} {p : ℕ} (small : p < keptNumbers) (known : Known (view 
           ∙ k .stays (omega (arith, long))
 
       leaves-now : p ≡ keptBefore + length left
-          → x ≡ leftAs ((cellAt (view .cells) p) .state) ((view .base + (p - keptBefore)) % numbers) ((cellAt (view .cells) p) .octets)
+          → x
+          ≡ leftAs ((cellAt (view .cells) p) .state) ((view .base + (p - keptBefore)) % numbers) ((cellAt (view .cells) p) .note)
+          ((cellAt (view .cells) p) .octets)
       leaves-now at =
           let here : p - length left ≡ keptBefore = omega arith in
           let cell : atBase held ≡ cellAt (view .cells) p = ap (cellAt (held .cells)) (sym here) ∙ k .stays (omega arith) in
           let turn : held .base ≡ (view .base + (p - keptBefore)) % numbers =
           base ∙ ap (λ (n : ℕ). (view .base + n) % numbers) (let same : length left ≡ p - keptBefore = omega arith in same) in
-          is ∙ ap₂ (λ (c : Cell) (n : ℕ). leftAs (c .state) n (c .octets)) cell turn
+          is ∙ ap₂ (λ (c : Cell) (n : ℕ). leftAs (c .state) n (c .note) (c .octets)) cell turn
 
       keeps-left : (counts : Counts) → StaysKnown view (left ++ (x ∷ [])) (goneOn counts held) p
       keeps-left counts =
@@ -98,10 +100,10 @@ module _ {view : View} {p : ℕ} (small : p < keptNumbers) (known : Known (view 
             stays = goes-on counts;
             leaves = λ past low.
                 ⊎-elim
-                (λ before. List·getD-append left (x ∷ []) (leftAs unknown 0 []) (p - keptBefore) (omega arith) ∙ k .leaves past before)
+                (λ before. List·getD-append left (x ∷ []) (leftAs unknown 0 0 []) (p - keptBefore) (omega arith) ∙ k .leaves past before)
                 (λ now.
                 let at : p ≡ keptBefore + length left = omega (arith, long) in
-                getD-at left x [] (leftAs unknown 0 []) (p - keptBefore) (omega arith) ∙ leaves-now at)
+                getD-at left x [] (leftAs unknown 0 0 []) (p - keptBefore) (omega arith) ∙ leaves-now at)
                 (below-or-not p (keptBefore + length left));
           }
 

@@ -30,22 +30,22 @@ pub data Brings (datagram : Carried) (d : ℕ) : ℕ → Type 0 where
 
 module _ (datagram : Carried) (d : ℕ) (view : View) (long : length (view .cells) ≡ keptNumbers) (low : d < keptAhead) where
   abbrev arrived : List Cell
-  arrived = keep received (keptBefore + d) (datagram .packet) (view .cells)
+  arrived = keep (datagram .number) received (keptBefore + d) (datagram .packet) (view .cells)
 
   arrived-long : length arrived ≡ keptNumbers
-  arrived-long = grown-keep (keptBefore + d) (datagram .packet) (view .cells) asReceived .long ∙ long
+  arrived-long = grown-keep (datagram .number) (keptBefore + d) (datagram .packet) (view .cells) asReceived .long ∙ long
 
   abbrev Extras : Extra → Type 0
-  Extras extra = (p : ℕ) → Known (keepExtra (keptBefore + d) extra arrived) p
+  Extras extra = (p : ℕ) → Known (keepExtra (datagram .number) (keptBefore + d) extra arrived) p
       ↔ (Known arrived p ⊎ ((j : ℕ) × (j < sparesIn extra) × (p ≡ keptBefore + d - suc j)))
 
   extras : (extra : Extra) → Extras extra
   extras (spares copies) p = (
-    spares-known (keptBefore + d) copies arrived p,
-    ⊎-elim (known-grown (grown-extra (keptBefore + d) (spares copies) arrived) p)
+    spares-known (datagram .number) (keptBefore + d) copies arrived p,
+    ⊎-elim (known-grown (grown-extra (datagram .number) (keptBefore + d) (spares copies) arrived) p)
         (λ t.
         rw (t .2)
-        (known-spares (keptBefore + d) copies arrived (let long = arrived-long in omega arith) (let long = arrived-long in omega arith)
+        (known-spares (datagram .number) (keptBefore + d) copies arrived (let long = arrived-long in omega arith) (let long = arrived-long in omega arith)
         (t .0)
         (t .1))),
   )
@@ -57,25 +57,25 @@ module _ (datagram : Carried) (d : ℕ) (view : View) (long : length (view .cell
         ⊎-elim
         (λ first.
         ⊎-elim inl (λ same. inr (subst (Brings datagram d) (sym same) packet))
-        (kept-known received (keptBefore + d) (datagram .packet) (view .cells) p first))
+        (kept-known (datagram .number) received (keptBefore + d) (datagram .packet) (view .cells) p first))
         (λ t. inr (subst (Brings datagram d) (sym (t .2)) (copy (t .0) (t .1))))
         (extras (datagram .extra) p .0 k),
     ⊎-elim
         (λ k. extras (datagram .extra) p .1 (inl (known-grown
-        (grown-keep (keptBefore + d) (datagram .packet) (view .cells) asReceived) p k)))
+        (grown-keep (datagram .number) (keptBefore + d) (datagram .packet) (view .cells) asReceived) p k)))
         (brings p),
   )
     where
       brings : (q : ℕ) → Brings datagram d q → Known (filled d datagram view) q
       brings q packet =
           extras (datagram .extra) (keptBefore + d) .1
-          (inl (known-kept (keptBefore + d) (datagram .packet) (view .cells) (rw long (omega arith)) asReceived))
+          (inl (known-kept (datagram .number) (keptBefore + d) (datagram .packet) (view .cells) (rw long (omega arith)) asReceived))
       brings q (copy j few) = extras (datagram .extra) (keptBefore + d - suc j) .1 (inr (j, few, refl))
 
 -- ---- an accepted offer
 pub accept-cells : (d : ℕ) (datagram : Carried) (view : View)
     → (accept d datagram view) .cells
-    ≡ repair (filledCell repaired) (filled d datagram view) (heldMessages ((accept d datagram view) .held))
+    ≡ repair (filledCell (datagram .number) repaired) (filled d datagram view) (heldMessages ((accept d datagram view) .held))
 unfolding accept
 accept-cells d datagram view = refl
 
@@ -85,11 +85,11 @@ pub accept-known : (d : ℕ) (datagram : Carried) (view : View) → DistinctMemb
     ↔ Reached (filled d datagram view) (heldMessages ((accept d datagram view) .held)) p
 accept-known d datagram view distinct p = (
   λ k.
-      known-reached (filledCell repaired) (filled d datagram view) (heldMessages ((accept d datagram view) .held)) p
+      known-reached (filledCell (datagram .number) repaired) (filled d datagram view) (heldMessages ((accept d datagram view) .held)) p
       (rw (accept-cells d datagram view) at k),
   λ t.
       rw (accept-cells d datagram view)
-      (reached-known makes-repaired (filled d datagram view) (heldMessages ((accept d datagram view) .held)) distinct p t),
+      (reached-known (makes-repaired (datagram .number)) (filled d datagram view) (heldMessages ((accept d datagram view) .held)) distinct p t),
 )
 
 -- ---- from the start

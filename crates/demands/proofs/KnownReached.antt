@@ -1,7 +1,7 @@
 -- In a session fresh at its start the known numbers are exactly those that the calls reached: call by call, each of which did
 -- nothing, took a datagram, or made a number leave. Assumes nothing.
 use Prim.Native.Nat.{ℕ, suc, _+_, _<_}
-use mathlib.Core.Path.{_≡_, refl, sym, subst}
+use mathlib.Core.Path.{_≡_, refl, sym, ap, subst, _∙_}
 use mathlib.Core.Logic.{_↔_}
 use mathlib.Core.List.{List, [], _∷_}
 use mathlib.Core.Option.{none, some}
@@ -13,10 +13,10 @@ use Rattle.views.specs.Reached.{Known}
 use Rattle.views.specs.View.{View, Counts, sum, freshView, goneOn}
 use Rattle.views.specs.Offer as offers
 use Rattle.views.specs.Release as releases
-use Rattle.views.specs.Release.{Release, viewAfterRelease}
+use Rattle.views.specs.Release.{Release, atBase, viewAfterRelease}
 use Rattle.views.proofs.Laws.{release-leaves}
 use Rattle.held.specs.Table.{stateOf}
-use Rattle.leaving.specs.Outcome.{releasedOutcome, handedOf}
+use Rattle.leaving.specs.Outcome.{Handed, releasedOutcome, handedOf}
 use Rattle.leaving.specs.declared.Released.{Released}
 use Rattle.leaving.specs.declared.Released.the-variants as answer
 use Rattle.offering.specs.Outcome.{offeredOutcome, acceptedOf}
@@ -34,14 +34,15 @@ use Rattle.demands.proofs.Arriving.{took-of}
 use Rattle.demands.proofs.Repairing.{knows-mid}
 
 -- ---- what a call did
-data Did (view : View) (call : Call) : View → Type 0 where
+pub data Did (view : View) (call : Call) : View → Type 0 where
   nothing : leftIn call ≡ [] → acceptedIn call ≡ none → Did view call view
   took : {last : View} (octets : List ℕ) → leftIn call ≡ [] → acceptedIn call ≡ some octets → OfferDone octets view last
       → Did view call last
-  leaves : (x : Left) (counts : Counts) → leftIn call ≡ x ∷ [] → acceptedIn call ≡ none → sum counts ≡ sum (view .counts) + 1
+  leaves : (x : Left) (counts : Counts) → leftIn call ≡ x ∷ [] → x .kind ≡ (atBase view) .state → x .note ≡ (atBase view) .note
+      → acceptedIn call ≡ none → sum counts ≡ sum (view .counts) + 1
       → Did view call (goneOn counts view)
 
-did : (view : View) (call : Call) → ViewInRanges view → Says view call → Did view call (afterMove (moveOf call) view)
+pub did : (view : View) (call : Call) → ViewInRanges view → Says view call → Did view call (afterMove (moveOf call) view)
 unfolding afterMove
 did view (offer octets r) ranges says = pick (offers.offer octets view) refl r says where
   pick : (a : Answer View) → offers.offer octets view ≡ a → (r : Offered) → offeredOutcome r ≡ acceptedOf a
@@ -53,12 +54,16 @@ did view (offer octets r) ranges says = pick (offers.offer octets view) refl r s
 did view (release leave old new r) ranges says = pick (releases.release leave (length old) view) refl r (says .0) where
   pick : (a : Answer Release) → releases.release leave (length old) view ≡ a → (r : Released) → releasedOutcome r ≡ handedOf a
       → Did view (release leave old new r) (afterwards (viewAfterRelease a) view)
-  pick (done a) e (answer.Number kind number size) s =
+  pick (done a) e (answer.Number kind number note size) s =
       let o = release-leaves leave (length old) view a e in
-      subst (Did view (release leave old new (answer.Number kind number size))) (sym (o .after))
-      (leaves (leftAs (stateOf kind) number (take size new)) _ refl refl (moved-sum view ranges))
+      let same : _≡_ {A = Handed} (record { kind = stateOf kind; number = number; note = note; size = size })
+      (record { kind = a .kind; number = a .number; note = a .note; size = length (a .octets) }) = cc in
+      let word = ap (λ (x : Handed). x .kind) same ∙ o .kind in
+      let filler = ap (λ (x : Handed). x .note) same ∙ o .note in
+      subst (Did view (release leave old new (answer.Number kind number note size))) (sym (o .after))
+      (leaves (leftAs (stateOf kind) number note (take size new)) _ refl word filler refl (moved-sum view ranges))
   pick (done a) e (answer.Refused why) s = let z : _≡_ {A = ℕ} 0 1 = cc in absurd (omega arith)
-  pick (refused x) e (answer.Number kind number size) s = let z : _≡_ {A = ℕ} 0 1 = cc in absurd (omega arith)
+  pick (refused x) e (answer.Number kind number note size) s = let z : _≡_ {A = ℕ} 0 1 = cc in absurd (omega arith)
   pick (refused x) e (answer.Refused why) s = nothing refl refl
 
 -- ---- chains
@@ -71,7 +76,7 @@ knows (by {calls = calls} {call = call} {held = held} on says) = step (knows on)
     pick (nothing stays none-taken) = (t .0, knows-stays (t .1) call none-taken stays)
     pick (took octets stays taken o) =
         (t .0, subst (Knows (calls then call) (t .0)) (o .is) (knows-mid (took-of (t .1) o call taken stays)))
-    pick (leaves x counts left none-taken more) = (suc (t .0), knows-left (t .1) call none-taken counts more x left)
+    pick (leaves x counts left kind note none-taken more) = (suc (t .0), knows-left (t .1) call none-taken counts more x left)
 
 pub known-reached-by : {calls : Calls} {held : View} → GoesOn freshView calls held → (p : ℕ) → p < keptNumbers
     → Known (held .cells) p ↔ ReachedBy calls (gone calls + p)

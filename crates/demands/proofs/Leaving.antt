@@ -45,17 +45,17 @@ grown-none : (c : Counts) → c ≡ grown c (historyCounts [])
 unfolding many
 grown-none c = counts-path (omega arith) (omega arith) (omega arith) (omega arith)
 
-kind-sum : (st : State) (number : ℕ) (octets : List ℕ) → OneKind (leftAs st number octets)
-    → sum (historyCounts (leftAs st number octets ∷ [])) ≡ 1
+kind-sum : (st : State) (number note : ℕ) (octets : List ℕ) → OneKind (leftAs st number note octets)
+    → sum (historyCounts (leftAs st number note octets ∷ [])) ≡ 1
 unfolding many
-kind-sum unknown number octets one = refl
-kind-sum received number octets one = refl
-kind-sum spare number octets one = refl
-kind-sum repaired number octets one = refl
-kind-sum blank number octets one = absurd (false≢true one)
+kind-sum unknown number note octets one = refl
+kind-sum received number note octets one = refl
+kind-sum spare number note octets one = refl
+kind-sum repaired number note octets one = refl
+kind-sum blank number note octets one = absurd (false≢true one)
 
 one-sum : (x : Left) → OneKind x → sum (historyCounts (x ∷ [])) ≡ 1
-one-sum x one = kind-sum (x .kind) (x .number) (x .octets) one
+one-sum x one = kind-sum (x .kind) (x .number) (x .note) (x .octets) one
 
 -- ---- what left, on plain values: from a base and counts to others
 pub record Went (base : ℕ) (counts : Counts) (left : List Left) (on : ℕ) (more : Counts) : Type 0 where

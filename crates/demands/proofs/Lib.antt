@@ -17,6 +17,7 @@ pub mod Reaching
 pub mod Arriving
 pub mod Repairing
 pub mod KnownReached
+pub mod Noting
 pub mod Never17
 pub mod SendNever17
 pub mod RoundTrips

@@ -135,7 +135,7 @@ module _ {row datagrams : List (List ℕ)} {view : View} (s : Sound row datagram
 
     within-two : (p : ℕ) → Known (mid .cells) p → Known (two .cells) p
     within-two p k =
-        known-within (filledCell repaired) (Known (two .cells)) (filled d c view) (heldMessages (mid .held)) start
+        known-within (filledCell (c .number) repaired) (Known (two .cells)) (filled d c view) (heldMessages (mid .held)) start
         (λ message q among. t .closed message q (messages-among mid-sound t mid-place mark-both message among))
         p
         (rw (accept-cells d c view) at k)

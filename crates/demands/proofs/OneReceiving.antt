@@ -33,13 +33,14 @@ in-held =
     record {
       stateAt = λ t slot. told-one;
       sizeAt = λ t slot. told-one;
+      noteAt = λ t slot. told-one;
       isKnown = λ t slot. told-one;
       markAt = λ t slot. told-one;
       acceptedAt = λ t slot. told-one;
       nAt = λ t slot. told-one;
       mAt = λ t slot. told-one;
       messageSizeAt = λ t slot. told-one;
-      setKept = λ t slot state size. told-one;
+      setKept = λ t slot state size note. told-one;
       setHeard = λ t slot n m. told-one;
       setMessageSize = λ t slot size. told-one;
       dropHeard = λ t slot. told-one;
@@ -73,19 +74,19 @@ table-octets e = (ap (λ (x : Lent). x .table) e, ap (λ (x : Lent). x .octets) 
 table-messages : {l k : Lent} → l ≡ k → (l .table ≡ k .table) × (l .messages ≡ k .messages)
 table-messages e = (ap (λ (x : Lent). x .table) e, ap (λ (x : Lent). x .messages) e)
 
-module _ (state number : ℕ) (b t o : List ℕ) (may : MayKeep number 0 t o) where
-  keep-told : {newT newO : List ℕ} → Keeps state number b t o newT newO
+module _ (note state number : ℕ) (b t o : List ℕ) (may : MayKeep number 0 t o) where
+  keep-told : {newT newO : List ℕ} → Keeps note state number b t o newT newO
       → CellsNow (lent (may .base) (may .counts) t o (may .messages)) (lent (may .base) (may .counts) newT newO (may .messages))
-      (offers.keep (stateNumbered state) (may .place) b (cellsOf (may .base) t o))
+      (offers.keep note (stateNumbered state) (may .place) b (cellsOf (may .base) t o))
   keep-told k = k .kept (may .base) (may .counts) (may .messages) (may .place) (may .within) (may .there) (may .stands)
 
-  keep-one : OneLent (λ (newO newT : List ℕ). Keeps state number b t o newT newO)
+  keep-one : OneLent (λ (newO newT : List ℕ). Keeps note state number b t o newT newO)
   keep-one newO otherO newT otherT x y = table-octets (cells-one refl refl (keep-told x) (keep-told y))
 
 module _ (number : ℕ) (s : List ℕ) (items : List Part) (count : ℕ) (t o : List ℕ) (may : MayKeep number count t o) where
   spares-told : {newT newO : List ℕ} → KeepsSpares number s items count t o newT newO
       → CellsNow (lent (may .base) (may .counts) t o (may .messages)) (lent (may .base) (may .counts) newT newO (may .messages))
-      (offers.keepSpares (may .place) (map (octetsOf s) (take count items)) (cellsOf (may .base) t o))
+      (offers.keepSpares number (may .place) (map (octetsOf s) (take count items)) (cellsOf (may .base) t o))
   spares-told k = k .kept (may .base) (may .counts) (may .messages) (may .place) (may .within) (may .there) (may .low) (may .stands)
 
   spares-one : OneLent (λ (newO newT : List ℕ). KeepsSpares number s items count t o newT newO)
@@ -97,8 +98,8 @@ hold-one base d s n items count t g may newG otherG newT otherT x y =
     table-messages
     (held-one refl refl (x .holds (may .counts) (may .octets) (may .unmarked)) (y .holds (may .counts) (may .octets) (may .unmarked)))
 
-mend-one : (base : ℕ) (t o g : List ℕ) → MayMend base t o g → OneLent (λ (newO newT : List ℕ). Mends base t o g newT newO)
-mend-one base t o g may newO otherO newT otherT x y =
+mend-one : (note base : ℕ) (t o g : List ℕ) → MayMend base t o g → OneLent (λ (newO newT : List ℕ). Mends note base t o g newT newO)
+mend-one note base t o g may newO otherO newT otherT x y =
     let a = x .mends (may .counts) (may .within) in
     let b = y .mends (may .counts) (may .within) in
     table-octets (lent-same (a .within) (b .within) (a .state ∙ sym (b .state)))

@@ -38,7 +38,7 @@ module _ {calls : Calls} {call : Call} {g d : ℕ} {c : Carried} {view : View} (
   mid-closed : Closed (heldMessages (mid .held)) (Known (mid .cells))
   mid-closed =
       subst (λ (cells : List Cell). Closed (heldMessages (mid .held)) (Known cells)) (sym (accept-cells d c view))
-      (known-closed makes-repaired (filled d c view) (heldMessages (mid .held)) distinct)
+      (known-closed (makes-repaired (c .number)) (filled d c view) (heldMessages (mid .held)) distinct)
 
   -- ---- what is known is reached
   brings-reached : (p : ℕ) → Brings c d p → ReachedBy (calls then call) (g + p)

@@ -137,7 +137,7 @@ module _ {row datagrams : List (List ℕ)} {view : View} (s : Sound row datagram
   unfolding accept
   mid-right =
       let long = grown-filled d c view .long ∙ s .ranges .kept in
-      repair-right makes-repaired sent-here (filled d c view) (heldMessages (mid .held))
+      repair-right (makes-repaired (c .number)) sent-here (filled d c view) (heldMessages (mid .held))
       (rw long
       (held-honest sent-here (mid .held) (rw (mid-ranges .heard) (omega arith))
       (λ e small. mid-honest e (rw (mid-ranges .heard) at small))))
@@ -146,7 +146,7 @@ module _ {row datagrams : List (List ℕ)} {view : View} (s : Sound row datagram
   mid-brings : (p : ℕ) → Brings c d p → Known (mid .cells) p
   unfolding accept
   mid-brings p b =
-      known-grown (grown-repair (filled d c view) (heldMessages (mid .held))) p (brought c d view (s .ranges .kept) low p .1 (inr b))
+      known-grown (grown-repair (c .number) (filled d c view) (heldMessages (mid .held))) p (brought c d view (s .ranges .kept) low p .1 (inr b))
 
   mid-new : Marked row datagrams mid d
   unfolding accept
@@ -188,5 +188,5 @@ module _ {row datagrams : List (List ℕ)} {view : View} (s : Sound row datagram
             (λ other. held-beside d c view e other ∙ s .unmarked e small (sym (beside-mark e other) ∙ is))
             (same-or-not e d);
         blanks = λ p first. known-grown (grown-accept d c view) p (s .blanks p first);
-        closed = known-closed makes-repaired (filled d c view) (heldMessages (mid .held)) (distinct-held mid mid-ranges);
+        closed = known-closed (makes-repaired (c .number)) (filled d c view) (heldMessages (mid .held)) (distinct-held mid mid-ranges);
       }

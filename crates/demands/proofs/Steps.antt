@@ -22,7 +22,7 @@ use Rattle.demands.proofs.Taken.{offer-done}
 -- ---- what a call does
 -- what a release makes leave: one number, or none
 abbrev pub releasedBy : Answer Release → List Left
-releasedBy (done a) = leftAs (a .kind) (a .number) (a .octets) ∷ []
+releasedBy (done a) = leftAs (a .kind) (a .number) (a .note) (a .octets) ∷ []
 releasedBy (refused why) = []
 
 unfoldable pub leaving : Move → View → List Left
@@ -37,12 +37,12 @@ pub data Step (view after : View) (left : List Left) : Type 0 where
       → Step view after left
 
 -- a number that is not blank is of one kind
-one-kind : (st : State) → (st ≡ blank → ⊥) → (number : ℕ) (octets : List ℕ) → OneKind (leftAs st number octets)
-one-kind unknown other number octets = refl
-one-kind received other number octets = refl
-one-kind spare other number octets = refl
-one-kind repaired other number octets = refl
-one-kind blank other number octets = absurd (other refl)
+one-kind : (st : State) → (st ≡ blank → ⊥) → (number note : ℕ) (octets : List ℕ) → OneKind (leftAs st number note octets)
+one-kind unknown other number note octets = refl
+one-kind received other number note octets = refl
+one-kind spare other number note octets = refl
+one-kind repaired other number note octets = refl
+one-kind blank other number note octets = absurd (other refl)
 
 -- its count grows by one
 pub counts-path : {a b c d e f g h : ℕ} → a ≡ e → b ≡ f → c ≡ g → d ≡ h
@@ -50,14 +50,14 @@ pub counts-path : {a b c d e f g h : ℕ} → a ≡ e → b ≡ f → c ≡ g �
     (record { received = e; spare = f; repaired = g; lost = h })
 counts-path p q r s = λ i. record { received = p i; spare = q i; repaired = r i; lost = s i }
 
-kind-grown : (st : State) → (st ≡ blank → ⊥) → (number : ℕ) (octets : List ℕ) (c : Counts)
-    → counted st c ≡ grown c (historyCounts (leftAs st number octets ∷ []))
+kind-grown : (st : State) → (st ≡ blank → ⊥) → (number note : ℕ) (octets : List ℕ) (c : Counts)
+    → counted st c ≡ grown c (historyCounts (leftAs st number note octets ∷ []))
 unfolding many
-kind-grown unknown other number octets c = counts-path (omega arith) (omega arith) (omega arith) (omega arith)
-kind-grown received other number octets c = counts-path (omega arith) (omega arith) (omega arith) (omega arith)
-kind-grown spare other number octets c = counts-path (omega arith) (omega arith) (omega arith) (omega arith)
-kind-grown repaired other number octets c = counts-path (omega arith) (omega arith) (omega arith) (omega arith)
-kind-grown blank other number octets c = absurd (other refl)
+kind-grown unknown other number note octets c = counts-path (omega arith) (omega arith) (omega arith) (omega arith)
+kind-grown received other number note octets c = counts-path (omega arith) (omega arith) (omega arith) (omega arith)
+kind-grown spare other number note octets c = counts-path (omega arith) (omega arith) (omega arith) (omega arith)
+kind-grown repaired other number note octets c = counts-path (omega arith) (omega arith) (omega arith) (omega arith)
+kind-grown blank other number note octets c = absurd (other refl)
 
 -- the number at the base is not blank: one count is one more
 counted-sum : (st : State) → (st ≡ blank → ⊥) → (c : Counts) → sum (counted st c) ≡ sum c + 1
@@ -101,11 +101,11 @@ step (release leave room) view r = pick (releases.release leave room view) refl 
   pick (done a) e =
       let o = release-leaves leave room view a e in
       let other : a .kind ≡ blank → ⊥ = λ is. r .noBlank keptBefore (omega arith) (omega arith) (sym (o .kind) ∙ is) in
-      leaves (leftAs (a .kind) (a .number) (a .octets)) refl (o .number) (one-kind (a .kind) other (a .number) (a .octets))
+      leaves (leftAs (a .kind) (a .number) (a .note) (a .octets)) refl (o .number) (one-kind (a .kind) other (a .number) (a .note) (a .octets))
       (ap (λ (x : View). x .counts) (o .after)
       ∙ gone-counts _ view
       ∙ ap (λ (st : State). counted st (view .counts)) (sym (o .kind))
-      ∙ kind-grown (a .kind) other (a .number) (a .octets) (view .counts))
+      ∙ kind-grown (a .kind) other (a .number) (a .note) (a .octets) (view .counts))
       (ap (λ (x : View). x .base) (o .after) ∙ gone-base _ view)
   pick (refused why) e = stays refl refl refl
 

@@ -37,36 +37,36 @@ right-set sent cells p cell low is right q inside k =
     (right q (rw (length-set cells p cell) at inside) (sym (same-unknown cells (set cells p cell) q as-was) ∙ k)))
     (same-or-not q p)
 
-right-keep : (sent : ℕ → List ℕ) (state : State) (p : ℕ) (octets : List ℕ) (cells : List Cell) → octets ≡ sent p → TrueCells sent cells
-    → TrueCells sent (keep state p octets cells)
-right-keep sent state p octets cells is right =
+right-keep : (sent : ℕ → List ℕ) (S : ℕ) (state : State) (p : ℕ) (octets : List ℕ) (cells : List Cell) → octets ≡ sent p → TrueCells sent cells
+    → TrueCells sent (keep S state p octets cells)
+right-keep sent S state p octets cells is right =
     ⊎-elim
     (λ u.
-    rw (keep-unknown state p octets cells u)
-    (right-set sent cells p (filledCell state octets) (unknown-inside cells p u) is right))
-    (λ k. rw (keep-known state p octets cells k) right)
+    rw (keep-unknown S state p octets cells u)
+    (right-set sent cells p (filledCell S state octets) (unknown-inside cells p u) is right))
+    (λ k. rw (keep-known S state p octets cells k) right)
     (true-or-false (unknownAt cells p))
 
-right-spares : (sent : ℕ → List ℕ) (count : ℕ) (f : ℕ → List ℕ) (p : ℕ) (cells : List Cell)
-    → ((j : ℕ) → j < count → f j ≡ sent (p - suc j)) → TrueCells sent cells → TrueCells sent (keepSpares p (tab count f) cells)
+right-spares : (sent : ℕ → List ℕ) (S count : ℕ) (f : ℕ → List ℕ) (p : ℕ) (cells : List Cell)
+    → ((j : ℕ) → j < count → f j ≡ sent (p - suc j)) → TrueCells sent cells → TrueCells sent (keepSpares S p (tab count f) cells)
 unfolding keepSpares tab
-right-spares sent zero f p cells is right = right
-right-spares sent (suc count) f p cells is right =
-    right-spares sent count (λ j. f (suc j)) (p - 1) (keep spare (p - 1) (f zero) cells)
+right-spares sent S zero f p cells is right = right
+right-spares sent S (suc count) f p cells is right =
+    right-spares sent S count (λ j. f (suc j)) (p - 1) (keep S spare (p - 1) (f zero) cells)
     (λ j low. is (suc j) (omega arith) ∙ ap sent (let place : p - suc (suc j) ≡ (p - 1) - suc j = omega arith in place))
-    (right-keep sent spare (p - 1) (f zero) cells (is zero (omega arith)) right)
+    (right-keep sent S spare (p - 1) (f zero) cells (is zero (omega arith)) right)
 
-right-from : (st : Settings) (before : ℕ) (sent : ℕ → List ℕ) (p : ℕ) (cells : List Cell) → TrueCells sent cells
-    → TrueCells sent (keepExtra p (extraFrom st before sent p) cells)
+right-from : (S : ℕ) (st : Settings) (before : ℕ) (sent : ℕ → List ℕ) (p : ℕ) (cells : List Cell) → TrueCells sent cells
+    → TrueCells sent (keepExtra S p (extraFrom st before sent p) cells)
 unfolding sparesFrom
-right-from (settings.Spares k) before sent p cells right =
-    right-spares sent _ (λ j. sent (p - suc j)) p cells (λ j low. refl) right
-right-from (settings.Parity n m) before sent p cells right = right
+right-from S (settings.Spares k) before sent p cells right =
+    right-spares sent S _ (λ j. sent (p - suc j)) p cells (λ j low. refl) right
+right-from S (settings.Parity n m) before sent p cells right = right
 
 pub right-filled : (sent : ℕ → List ℕ) (d : ℕ) (c : Carried) (view : View) → InView sent d c → TrueCells sent (view .cells)
     → TrueCells sent (filled d c view)
 right-filled sent d c view v right =
-    let first = right-keep sent received (keptBefore + d) (c .packet) (view .cells) (v .packet) right in
-    subst (λ (x : Extra). TrueCells sent (keepExtra (keptBefore + d) x (keep received (keptBefore + d) (c .packet) (view .cells))))
+    let first = right-keep sent (c .number) received (keptBefore + d) (c .packet) (view .cells) (v .packet) right in
+    subst (λ (x : Extra). TrueCells sent (keepExtra (c .number) (keptBefore + d) x (keep (c .number) received (keptBefore + d) (c .packet) (view .cells))))
     (sym (v .extra))
-    (right-from (v .settings) (v .before) sent (keptBefore + d) _ first)
+    (right-from (c .number) (v .settings) (v .before) sent (keptBefore + d) _ first)

@@ -57,8 +57,8 @@ pub record BurstMet (before after : Session) : Type 0 where
   pub held : heldAt ((viewOf after) .held) 4 ≡ record { accepted = true; n = 2; messages = burstMessages }
   pub rest : RestKnown (viewOf after) 4 (keptBefore + 1) 2
   -- both numbers are back
-  pub back1 : cellAt ((viewOf after) .cells) (keptBefore + 1) ≡ filledCell repaired packet1
-  pub back2 : cellAt ((viewOf after) .cells) (keptBefore + 2) ≡ filledCell repaired packet2
+  pub back1 : cellAt ((viewOf after) .cells) (keptBefore + 1) ≡ filledCell 4 repaired packet1
+  pub back2 : cellAt ((viewOf after) .cells) (keptBefore + 2) ≡ filledCell 4 repaired packet2
 
 pub record Burst : Type 0 where
   pub honest : HonestSender burstRow burstDatagrams

@@ -57,7 +57,7 @@ callRefusal (release leave old new r) = refusalIn (releasedOutcome r)
 -- ---- what left by a call
 -- the number that an answer of release hands out, its octets at the front of the lent buffer
 abbrev pub handedOut : Released → List ℕ → List Left
-handedOut (answer.Number kind number size) buffer = leftAs (stateOf kind) number (take size buffer) ∷ []
+handedOut (answer.Number kind number note size) buffer = leftAs (stateOf kind) number note (take size buffer) ∷ []
 handedOut (answer.Refused why) buffer = []
 
 abbrev pub leftIn : Call → List Left

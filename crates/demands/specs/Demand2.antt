@@ -31,6 +31,7 @@ use Rattle.demands.specs.History.{Left, leftAs, isReceived, isSpare, isR
 use Rattle.demands.specs.Calls.{Call, Calls, _then_, Called, callRefusal, leftBy}
 use Rattle.demands.specs.GoesOn.{GoesOn}
 use Rattle.demands.specs.ReachedBy.{gone, ReachedBy}
+use Rattle.demands.specs.NotedBy.{NotedBy, LeftNoted}
 use Rattle.demands.specs.SendChain.{SenderBegins, SentFrom}
 use Rattle.demands.specs.RoundTrips.{RoundTrips}
 
@@ -85,12 +86,13 @@ pub record SavedLeaves (before : View) (left : List Left) (after : View) : Type 
 
 -- a number that is known at place p in view, and what became of it by calls that made these numbers leave
 pub record StaysKnown (before : View) (left : List Left) (after : View) (p : ℕ) : Type 0 where
-  -- as long as it is in view it keeps its kind and its octets
+  -- as long as it is in view it keeps its kind, its octets and its note
   pub stays : length left ≤ p → cellAt (after .cells) (p - length left) ≡ cellAt (before .cells) p
-  -- from the base on it leaves in its turn, released with that kind and those octets
+  -- from the base on it leaves in its turn, released with that kind, that note and those octets
   pub leaves : keptBefore ≤ p → p < keptBefore + length left
-      → getD left (p - keptBefore) (leftAs unknown 0 [])
-      ≡ leftAs ((cellAt (before .cells) p) .state) ((before .base + (p - keptBefore)) % numbers) ((cellAt (before .cells) p) .octets)
+      → getD left (p - keptBefore) (leftAs unknown 0 0 [])
+      ≡ leftAs ((cellAt (before .cells) p) .state) ((before .base + (p - keptBefore)) % numbers) ((cellAt (before .cells) p) .note)
+      ((cellAt (before .cells) p) .octets)
 
 -- ---- the demand: of every chain of public calls, with whatever they answered, refusals among them
 pub record Demand2 : Type 0 where
@@ -100,6 +102,12 @@ pub record Demand2 : Type 0 where
   -- repair rule." What stands at place p in view is the session's place `gone calls + p`
   pub knownNumbers : {s t : Session} {calls : Calls} → Fresh s → Called s calls t → (p : ℕ) → p < keptNumbers
       → Known ((viewOf t) .cells) p ↔ ReachedBy calls (gone calls + p)
+  -- document 02, request 8: "each known number shall also keep the number of the datagram whose offer filled it, and each release gives
+  -- it": the one by whose offer the number was reached, and before which it was not. The calls tell one note for a place
+  pub notes : {s t : Session} {calls : Calls} → Fresh s → Called s calls t → (p : ℕ) → p < keptNumbers → Known ((viewOf t) .cells) p
+      → NotedBy calls (gone calls + p) ((cellAt ((viewOf t) .cells) p) .note)
+  pub leftNotes : {s t : Session} {calls : Calls} → Fresh s → Called s calls t → LeftNoted calls (leftBy calls)
+  pub oneNote : {calls : Calls} {P n m : ℕ} → NotedBy calls P n → NotedBy calls P m → n ≡ m
   -- "Numbers leave in order, each place once, released or lost, and the counts match the history."
   pub leaves : {s t : Session} {calls : Calls} → Fresh s → Called s calls t → FreshLeaves (leftBy calls) (viewOf t)
   pub savedLeaves : {s t : Session} {calls : Calls} → Saved s → Called s calls t

@@ -41,7 +41,7 @@ pub record Met (s one two : Session) : Type 0 where
   -- after the first list packet 0 is not known: two numbers of the reach are missing, and m is 1
   pub missing : Unknown ((viewOf one) .cells) keptBefore
   -- after the second it is back, with five zeros at its end, and datagram 2 is still held
-  pub back : cellAt ((viewOf two) .cells) keptBefore ≡ filledCell repaired (0x06 ∷ 0 ∷ 0 ∷ 0 ∷ 0 ∷ 0 ∷ [])
+  pub back : cellAt ((viewOf two) .cells) keptBefore ≡ filledCell 2 repaired (0x06 ∷ 0 ∷ 0 ∷ 0 ∷ 0 ∷ 0 ∷ [])
   pub held : heldAt ((viewOf two) .held) 2 ≡ record { accepted = true; n = 2; messages = message2 ∷ [] }
   -- of its reach all is known but for the one number that is brought back, and m is 1
   pub rest : RestKnown (viewOf two) 2 keptBefore 1

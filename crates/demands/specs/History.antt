@@ -18,14 +18,15 @@ pub data Move : Type 0 where
   -- a release, with leave to skip or without, and with a lent buffer of so many octets
   release : Bool → ℕ → Move
 
--- a number that left: released as received, spare or repaired, with its octets; or lost, which is unknown
+-- a number that left: released as received, spare or repaired, with its note and its octets; or lost, which is unknown
 pub record Left : Type 0 where
   pub kind : State
   pub number : ℕ
+  pub note : ℕ
   pub octets : List ℕ
 
-abbrev pub leftAs : State → ℕ → List ℕ → Left
-leftAs kind number octets = record { kind = kind; number = number; octets = octets }
+abbrev pub leftAs : State → ℕ → ℕ → List ℕ → Left
+leftAs kind number note octets = record { kind = kind; number = number; note = note; octets = octets }
 
 -- the session after a call: "A refusal .. changes nothing."
 unfoldable pub afterMove : Move → View → View

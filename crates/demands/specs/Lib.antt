@@ -11,6 +11,7 @@ pub mod History
 pub mod Calls
 pub mod GoesOn
 pub mod ReachedBy
+pub mod NotedBy
 pub mod SendChain
 pub mod RoundTrips
 pub mod NotInside

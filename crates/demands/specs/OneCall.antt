@@ -25,6 +25,6 @@ pub record OneCall : Type 0 where
   -- whatever is called between: a number that is known when some calls begin, and leaves by them, is not lost
   pub noneBetween : {s t u : Session} {calls more : Calls} → Begins s → Called s calls t → Called t more u
       → (p : ℕ) → p < keptNumbers → Known ((viewOf t) .cells) p → keptBefore ≤ p → p < keptBefore + length (leftBy more)
-      → isLost ((getD (leftBy more) (p - keptBefore) (leftAs unknown 0 [])) .kind) ≡ false
+      → isLost ((getD (leftBy more) (p - keptBefore) (leftAs unknown 0 0 [])) .kind) ≡ false
   -- "Program and replay change over": the program is the same function of its input
   pub programAsBefore : lines.AsBefore

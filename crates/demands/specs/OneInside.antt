@@ -74,13 +74,14 @@ pub record InDatagrams : Type 0 where
 pub record InHeld : Type 0 where
   pub stateAt : (t : List ℕ) (slot : ℕ) → One (λ (r : ℕ). r ≡ table.stateIn t slot)
   pub sizeAt : (t : List ℕ) (slot : ℕ) → One (λ (r : ℕ). r ≡ table.sizeIn t slot)
+  pub noteAt : (t : List ℕ) (slot : ℕ) → One (λ (r : ℕ). r ≡ table.noteIn t slot)
   pub isKnown : (t : List ℕ) (slot : ℕ) → One (λ (r : Bool). r ≡ not (isUnknown (stateNumbered (table.stateIn t slot))))
   pub markAt : (t : List ℕ) (slot : ℕ) → One (λ (r : ℕ). r ≡ table.markIn t slot)
   pub acceptedAt : (t : List ℕ) (slot : ℕ) → One (λ (r : Bool). r ≡ eqb (table.markIn t slot) 1)
   pub nAt : (t : List ℕ) (slot : ℕ) → One (λ (r : ℕ). r ≡ table.nIn t slot)
   pub mAt : (t : List ℕ) (slot : ℕ) → One (λ (r : ℕ). r ≡ table.mIn t slot)
   pub messageSizeAt : (t : List ℕ) (slot : ℕ) → One (λ (r : ℕ). r ≡ table.messageSizeIn t slot)
-  pub setKept : (t : List ℕ) (slot state size : ℕ) → One (λ (new : List ℕ). new ≡ keptSet t slot state size)
+  pub setKept : (t : List ℕ) (slot state size note : ℕ) → One (λ (new : List ℕ). new ≡ keptSet t slot state size note)
   pub setHeard : (t : List ℕ) (slot n m : ℕ) → One (λ (new : List ℕ). new ≡ heardSet t slot 1 n m)
   pub setMessageSize : (t : List ℕ) (slot size : ℕ) → One (λ (new : List ℕ). new ≡ set t (messagePlace slot) size)
   pub dropHeard : (t : List ℕ) (slot : ℕ) → One (λ (new : List ℕ). new ≡ heardDropped t slot)
@@ -89,13 +90,14 @@ pub record InHeld : Type 0 where
 -- `leaving::release_core`, `offering::offer_core`. All that is lent after a call is one, base and counts too
 pub record InReceiving : Type 0 where
   pub inRanges : (base : ℕ) (counts : Counts) (t o g : List ℕ) → One (λ (r : Bool). r ≡ lentInRanges (lent base counts t o g))
-  pub keep : (state number : ℕ) (b t o : List ℕ) → MayKeep number 0 t o
-      → OneLent (λ (newO newT : List ℕ). Keeps state number b t o newT newO)
+  pub keep : (note state number : ℕ) (b t o : List ℕ) → MayKeep number 0 t o
+      → OneLent (λ (newO newT : List ℕ). Keeps note state number b t o newT newO)
   pub keepSpares : (number : ℕ) (s : List ℕ) (items : List Part) (count : ℕ) (t o : List ℕ) → MayKeep number count t o
       → OneLent (λ (newO newT : List ℕ). KeepsSpares number s items count t o newT newO)
   pub hold : (base d : ℕ) (s : List ℕ) (n : ℕ) (items : List Part) (count : ℕ) (t g : List ℕ) → MayHold base t g d
       → OneLent (λ (newG newT : List ℕ). Holds base d s n items count t g newT newG)
-  pub mend : (base : ℕ) (t o g : List ℕ) → MayMend base t o g → OneLent (λ (newO newT : List ℕ). Mends base t o g newT newO)
+  pub mend : (note base : ℕ) (t o g : List ℕ) → MayMend base t o g
+      → OneLent (λ (newO newT : List ℕ). Mends note base t o g newT newO)
   pub releaseCore : {leave : Bool} {before after other : Lent} {old new newer : List ℕ} {r q : Released}
       → Releases leave before after old new r → Releases leave before other old newer q
       → (r ≡ q) × (after ≡ other) × (new ≡ newer)

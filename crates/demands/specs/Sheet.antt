@@ -51,7 +51,7 @@ pub record Losing0 : Type 0 where
   pub first : offer datagram1 freshView ≡ done with1
   pub second : offer datagram2 with1 ≡ done after
   -- number 0, which the base still is at
-  pub cell : cellAt (after .cells) keptBefore ≡ filledCell repaired (0x06 ∷ 0 ∷ 0 ∷ 0 ∷ 0 ∷ 0 ∷ [])
+  pub cell : cellAt (after .cells) keptBefore ≡ filledCell 2 repaired (0x06 ∷ 0 ∷ 0 ∷ 0 ∷ 0 ∷ 0 ∷ [])
   pub reads : readPacket Repaired ((cellAt (after .cells) keptBefore) .octets) ≡ done (record { kind = Indicator; value = 3; fields = [] })
 
 pub record TwelveCases : Type 0 where

@@ -30,7 +30,7 @@ heardAs kinds.Repaired octets = released repaired octets
 heardAs kinds.Lost octets = lost
 
 abbrev pub heardFrom : Released → List ℕ → List Heard
-heardFrom (answer.Number kind number size) buffer = heardAs kind (take size buffer) ∷ []
+heardFrom (answer.Number kind number note size) buffer = heardAs kind (take size buffer) ∷ []
 heardFrom (answer.Refused why) buffer = []
 
 -- "A received or spare packet ends at its last field. A repaired one may go on with zeros only"

@@ -11,7 +11,7 @@ use lib.Dec.{ltb, eqb}
 use native.Mathlib.Omega.{arith}
 use borrow.Author.Fill.{fill-more}
 use borrow.Author.Tests.{lt-ltb, le-ltb}
-use Rattle.octets.specs.Place.{tab, allBelow}
+use Rattle.octets.specs.Place.{tab}
 use Rattle.octets.proofs.Laws.{tab-ext, below-or-not, and-both}
 use Rattle.views.specs.Cells as cells
 use Rattle.views.specs.Cells.{blankCell, unknownCell, keptBefore, keptAhead, keptNumbers}
@@ -19,15 +19,17 @@ use Rattle.views.specs.Held.{nothingHeld}
 use Rattle.stores.specs.Store.{part}
 use Rattle.stores.proofs.Laws.{zerosPast-zeros}
 use Rattle.views.specs.View.{freshView}
-use Rattle.views.specs.Ranges.{sumRight, sizeRight, markRight, heldRight, cellsRight, allHeldRight, inRanges}
+use Rattle.views.specs.Ranges.{inRanges}
+use Rattle.views.proofs.Laws.{fresh-sound, inRanges-of}
 use Rattle.held.specs.Slots.{slotsKept, slotAt, heardSlotAt, messageSlot, keptOctets, messageOctets}
-use Rattle.held.specs.Table.{Lent, lentBy, places, lastState, markPlace, nPlace, mPlace, messagePlace, stateIn, sizeIn, nIn, mIn}
-use Rattle.held.specs.Table.{stateNumbered, cellIn, messageIn, heldIn, cellsOf, heldOf, viewIn}
+use Rattle.held.specs.Table.{Lent, lentBy, places, lastState, notePlace, markPlace, nPlace, mPlace, messagePlace, stateIn, sizeIn}
+use Rattle.held.specs.Table.{nIn, mIn, stateNumbered, cellIn, messageIn, heldIn, cellsOf, heldOf, viewIn}
 use Rattle.held.specs.Laid.{lentInRanges, Laid}
 use Rattle.held.specs.Promise.{freshTable, Fresh}
 use Rattle.held.specs.declared.Counts.{Counts}
 use Rattle.held.specs.declared.Session.{Session}
 use Rattle.held.proofs.Ranges.{laid-true}
+use Rattle.held.proofs.Seen.{cell-parts}
 
 -- ---- a list that begins with so many equal numbers: those, what follows them, and a number stored there
 front : (n v : ℕ) (b : List ℕ) (i : ℕ) → i < n → getD (replicate n v ++ b) i 0 ≡ v
@@ -158,10 +160,10 @@ module _ {l : Lent} (f : FreshParts l) where
       rw (f .table, slot) (low-zero (p - keptBefore) (omega arith))
 
   cell-of : (i n : ℕ) → stateIn (l .table) i ≡ n
-      → cellIn (l .table) (l .octets) i ≡ record { state = stateNumbered n; octets = [] }
+      → cellIn (l .table) (l .octets) i ≡ record { state = stateNumbered n; octets = []; note = 0 }
   unfolding cellIn part
   cell-of i n e =
-      ap₂ (λ (s k : ℕ). record { state = stateNumbered s; octets = part (l .octets) i k }) e (size-zero i)
+      cell-parts (ap stateNumbered e) (ap (part (l .octets) i) (size-zero i)) (zero-at (notePlace i) (omega arith))
 
   cell-fresh : (p : ℕ) → p < keptNumbers
       → cellIn (l .table) (l .octets) (slotAt (l .base) p) ≡ cond (ltb p keptBefore) blankCell unknownCell
@@ -215,13 +217,9 @@ module _ {l : Lent} (f : FreshParts l) where
         message = λ j i small low. zerosPast-zeros (l .messages) (messageSlot j i) _ (f .messages);
       }
 
-fresh-sound : inRanges freshView ≡ true
-unfolding inRanges sumRight cellsRight allHeldRight sizeRight heldRight markRight allBelow freshView
-fresh-sound = refl
-
 fresh-ranges : {l : Lent} → FreshParts l → lentInRanges l ≡ true
 unfolding lentInRanges
-fresh-ranges {l} f = and-both (laid-true l (fresh-laid f)) (ap inRanges (fresh-view f) ∙ fresh-sound)
+fresh-ranges {l} f = and-both (laid-true l (fresh-laid f)) (ap inRanges (fresh-view f) ∙ inRanges-of fresh-sound)
 
 pub fresh-made : {r : Session} → FreshParts (lentBy r) → Fresh r
 fresh-made f =

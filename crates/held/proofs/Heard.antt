@@ -18,12 +18,12 @@ use Rattle.stores.specs.Store.{part, zerosPast}
 use Rattle.views.specs.Ranges.{markRight, heldRight, knownAt}
 use Rattle.views.proofs.Laws.{mark-sizes, heldThere, held-none, accepted-right, held-sound}
 use Rattle.held.specs.Slots.{slotAt, heardSlotAt, messageSlot, Apart, slotsKept, slotsHeard}
-use Rattle.held.specs.Table.{Lent, lent, countsOf, statePlace, sizePlace, markPlace, nPlace, mPlace, messagePlace, markIn, nIn, mIn}
-use Rattle.held.specs.Table.{messageSizeIn, stateNumbered, cellIn, messageIn, heldIn, cellsOf, heldOf, viewIn, heardSet}
+use Rattle.held.specs.Table.{Lent, lent, countsOf, statePlace, sizePlace, notePlace, markPlace, nPlace, mPlace, messagePlace}
+use Rattle.held.specs.Table.{markIn, nIn, mIn, messageSizeIn, stateNumbered, cellIn, messageIn, heldIn, cellsOf, heldOf, viewIn, heardSet}
 use Rattle.held.specs.Laid.{Laid, InRanges}
 use Rattle.held.specs.Heard.{NoSize, SizesLaid, OctetsLaid}
 use Rattle.held.proofs.Marked.{long-heard, mark-set, n-set, m-set, heard-elsewhere}
-use Rattle.held.proofs.Seen.{held-at, held-right}
+use Rattle.held.proofs.Seen.{cell-parts, held-at, held-right}
 use Rattle.held.proofs.Slots.{slot-small, heard-small, message-small, heard-apart, message-apart, has-message-slot}
 
 module _ {t o g : List ℕ} (laid : Laid t o g) {j m : ℕ} (n : ℕ) {messages : ℕ → List ℕ} (small : j < slotsHeard)
@@ -33,7 +33,7 @@ module _ {t o g : List ℕ} (laid : Laid t o g) {j m : ℕ} (n : ℕ) {messages 
   stays : (k : ℕ) → (k ≡ markPlace j → ⊥) → (k ≡ nPlace j → ⊥) → (k ≡ mPlace j → ⊥) → NoSize j m k → getD newT k 0 ≡ getD t k 0
   stays k no-mark no-n no-m no-size = sizes .other k no-size ∙ heard-elsewhere t j 1 n m k no-mark no-n no-m
 
-  kept-stays : (k : ℕ) → k < slotsKept + slotsKept → getD newT k 0 ≡ getD t k 0
+  kept-stays : (k : ℕ) → k < slotsKept + slotsKept + slotsKept → getD newT k 0 ≡ getD t k 0
   kept-stays k low = stays k (λ e. omega arith) (λ e. omega arith) (λ e. omega arith) (λ i below e. omega arith)
 
   mark-other : (e : ℕ) → e < slotsHeard → (e ≡ j → ⊥) → markIn newT e ≡ markIn t e
@@ -164,8 +164,9 @@ module _ {t o g : List ℕ} (laid : Laid t o g) {j m : ℕ} (n : ℕ) {messages 
   cell-stays : (i : ℕ) → i < slotsKept → cellIn newT o i ≡ cellIn t o i
   unfolding cellIn
   cell-stays i low =
-      ap₂ (λ (s size : ℕ). record { state = stateNumbered s; octets = part o i size }) (kept-stays (statePlace i) (omega arith))
-      (kept-stays (sizePlace i) (omega arith))
+      cell-parts (ap stateNumbered (kept-stays (statePlace i) (omega arith)))
+      (ap (part o i) (kept-stays (sizePlace i) (omega arith)))
+      (kept-stays (notePlace i) (omega arith))
 
   pub heard-cells : (base : ℕ) → cellsOf base newT o ≡ cellsOf base t o
   unfolding cellsOf

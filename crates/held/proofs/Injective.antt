@@ -18,8 +18,8 @@ use Rattle.views.specs.Held.{Held, heldAt}
 use Rattle.views.specs.View as views
 use Rattle.views.specs.View.{View}
 use Rattle.held.specs.Slots.{slotsKept, slotsHeard, slotsMessages, keptOctets, messageOctets, slotAt, heardSlotAt, messageSlot}
-use Rattle.held.specs.Table.{Lent, lentBy, countsOf, places, lastState, sizePlace, markPlace, nPlace, mPlace, messagePlace, stateIn}
-use Rattle.held.specs.Table.{sizeIn, markIn, nIn, mIn, messageSizeIn, stateNumbered, cellIn, heldIn, cellsOf, heldOf, viewIn, viewOf}
+use Rattle.held.specs.Table.{Lent, lentBy, countsOf, places, lastState, sizePlace, notePlace, markPlace, nPlace, mPlace, messagePlace}
+use Rattle.held.specs.Table.{stateIn, sizeIn, noteIn, markIn, nIn, mIn, messageSizeIn, stateNumbered, cellIn, heldIn, cellsOf, heldOf, viewIn, viewOf}
 use Rattle.held.specs.Laid.{InRanges}
 use Rattle.held.specs.Promise.{Fresh}
 use Rattle.held.specs.declared.Counts.{Counts}
@@ -68,6 +68,10 @@ state-in-same : (t s o q : List ℕ) (i : ℕ) → stateIn t i ≤ lastState →
     → stateIn t i ≡ stateIn s i
 unfolding cellIn
 state-in-same t s o q i low few e = number-same (stateIn t i) (stateIn s i) low few (ap (λ (c : Cell). c .state) e)
+
+note-in-same : (t s o q : List ℕ) (i : ℕ) → cellIn t o i ≡ cellIn s q i → noteIn t i ≡ noteIn s i
+unfolding cellIn
+note-in-same t s o q i e = ap (λ (c : Cell). c .note) e
 
 module _ (t s g e : List ℕ) (j : ℕ) (same : heldIn t g j ≡ heldIn s e j) where
   mark-in-same : markIn t j ≤ 1 → markIn s j ≤ 1 → markIn t j ≡ markIn s j
@@ -136,6 +140,9 @@ module _ {l k : Lent} (w : InRanges l) (v : InRanges k) (same : viewIn l ≡ vie
       ∙ ap (λ (c : Cell). length (c .octets)) (cell-same i small)
       ∙ octets-long (v .laid) i small
 
+  note-same : (i : ℕ) → i < slotsKept → noteIn (l .table) i ≡ noteIn (k .table) i
+  note-same i small = note-in-same (l .table) (k .table) (l .octets) (k .octets) i (cell-same i small)
+
   message-size-same : (j i : ℕ) → j < slotsHeard → i < messagesLimit
       → messageSizeIn (l .table) (messageSlot j i) ≡ messageSizeIn (k .table) (messageSlot j i)
   message-size-same j i small low =
@@ -181,11 +188,16 @@ module _ {l k : Lent} (w : InRanges l) (v : InRanges k) (same : viewIn l ≡ vie
       let small : x < places = rw (w .laid .long) at inside in
       ⊎-elim (λ (low : x < sizePlace 0). state-same x (omega arith))
       (λ past.
-      ⊎-elim (λ (low : x < markPlace 0).
+      ⊎-elim (λ (low : x < notePlace 0).
       let e : sizePlace (x - sizePlace 0) ≡ x = omega arith in
       rw e at (size-same (x - sizePlace 0) (omega arith)))
+      (λ more.
+      ⊎-elim (λ (low : x < markPlace 0).
+      let e : notePlace (x - notePlace 0) ≡ x = omega arith in
+      rw e at (note-same (x - notePlace 0) (omega arith)))
       (λ far. heard-run-same x far small)
       (below-or-not x (markPlace 0)))
+      (below-or-not x (notePlace 0)))
       (below-or-not x (sizePlace 0)))
 
   -- ---- the stores

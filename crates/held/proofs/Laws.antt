@@ -8,7 +8,7 @@ pub use Rattle.held.proofs.Slots.{heard-after, heard-leaves}
 pub use Rattle.held.proofs.States.{kind-same}
 -- ---- what the view says of a place of the table
 pub use Rattle.held.proofs.Seen.{length-cells, length-held, cell-at, held-at, unknown-at, octets-long, octet-at, cell-right}
-pub use Rattle.held.proofs.Seen.{held-right, unknown-empty, n-small}
+pub use Rattle.held.proofs.Seen.{cell-parts, held-right, unknown-empty, n-small}
 -- ---- a message in its slot
 pub use Rattle.held.proofs.Messages.{message-length}
 -- ---- the ranges

@@ -12,21 +12,24 @@ use Rattle.octets.proofs.Laws.{same-or-not}
 use Rattle.datagrams.specs.Sizes.{messagesLimit}
 use Rattle.views.specs.Cells.{unknown, received, spare, repaired, blank, isUnknown}
 use Rattle.held.specs.Slots.{slotsKept, slotsHeard, messageSlot}
-use Rattle.held.specs.Table.{places, statePlace, sizePlace, markPlace, nPlace, mPlace, messagePlace, stateNumbered, keptSet}
-use Rattle.held.specs.Table.{sizesFreed, heardDropped}
+use Rattle.held.specs.Table.{places, statePlace, sizePlace, notePlace, markPlace, nPlace, mPlace, messagePlace, stateNumbered}
+use Rattle.held.specs.Table.{keptSet, sizesFreed, heardDropped}
 
 -- ---- the length, and that a place is there after writes
 long-set : (t : List ℕ) (i v : ℕ) → length t ≡ places → length (set t i v) ≡ places
 long-set t i v long = length-set t i v ∙ long
 
-pub long-kept : (t : List ℕ) (i a b : ℕ) → length t ≡ places → length (keptSet t i a b) ≡ places
-long-kept t i a b long = simp length-set long
+pub long-kept : (t : List ℕ) (i a b c : ℕ) → length t ≡ places → length (keptSet t i a b c) ≡ places
+long-kept t i a b c long = simp length-set long
 
 pub long-dropped : (t : List ℕ) (j : ℕ) → length t ≡ places → length (heardDropped t j) ≡ places
 long-dropped t j long = simp length-set long
 
 pub size-there : (t : List ℕ) (i v slot : ℕ) → length t ≡ places → slot < slotsKept → sizePlace slot < length (set t i v)
 size-there t i v slot long small = omega (arith, length-set t i v)
+
+pub note-there : (t : List ℕ) (i v k w slot : ℕ) → length t ≡ places → slot < slotsKept → notePlace slot < length (set (set t i v) k w)
+note-there t i v k w slot long small = omega (arith, length-set t i v, length-set (set t i v) k w)
 
 pub n-there : (t : List ℕ) (i v slot : ℕ) → length t ≡ places → slot < slotsHeard → nPlace slot < length (set t i v)
 n-there t i v slot long small = omega (arith, length-set t i v)
@@ -69,16 +72,23 @@ zero-stored l i k e = rw e (here l i) where
   here (x ∷ s) (suc n) = here s n
 
 -- ---- a kept number written: unknown, and every other place as it was
-pub kept-zero : (t : List ℕ) (i : ℕ) → (getD (keptSet t i 0 0) (statePlace i) 0 ≡ 0) × (getD (keptSet t i 0 0) (sizePlace i) 0 ≡ 0)
-kept-zero t i = (
-  zero-stays (set t (statePlace i) 0) (sizePlace i) (statePlace i) (zero-stored t (statePlace i) (statePlace i) refl),
-  zero-stored (set t (statePlace i) 0) (sizePlace i) (sizePlace i) refl,
-)
+pub kept-zero : (t : List ℕ) (i : ℕ) → (getD (keptSet t i 0 0 0) (statePlace i) 0 ≡ 0) × (getD (keptSet t i 0 0 0) (sizePlace i) 0 ≡ 0)
+    × (getD (keptSet t i 0 0 0) (notePlace i) 0 ≡ 0)
+kept-zero t i =
+    let one = set t (statePlace i) 0 in
+    let two = set one (sizePlace i) 0 in (
+      zero-stays two (notePlace i) (statePlace i)
+          (zero-stays one (sizePlace i) (statePlace i) (zero-stored t (statePlace i) (statePlace i) refl)),
+      zero-stays two (notePlace i) (sizePlace i) (zero-stored one (sizePlace i) (sizePlace i) refl),
+      zero-stored two (notePlace i) (notePlace i) refl,
+    )
 
-pub kept-elsewhere : (t : List ℕ) (i a b k : ℕ) → (k ≡ statePlace i → ⊥) → (k ≡ sizePlace i → ⊥)
-    → getD (keptSet t i a b) k 0 ≡ getD t k 0
-kept-elsewhere t i a b k state size =
-    getD-set-other (set t (statePlace i) a) (sizePlace i) k b 0 size ∙ getD-set-other t (statePlace i) k a 0 state
+pub kept-elsewhere : (t : List ℕ) (i a b c k : ℕ) → (k ≡ statePlace i → ⊥) → (k ≡ sizePlace i → ⊥) → (k ≡ notePlace i → ⊥)
+    → getD (keptSet t i a b c) k 0 ≡ getD t k 0
+kept-elsewhere t i a b c k state size note =
+    getD-set-other (set (set t (statePlace i) a) (sizePlace i) b) (notePlace i) k c 0 note
+    ∙ getD-set-other (set t (statePlace i) a) (sizePlace i) k b 0 size
+    ∙ getD-set-other t (statePlace i) k a 0 state
 
 -- ---- sizes of messages
 pub sizes-stay : (t : List ℕ) (at k : ℕ) → getD t k 0 ≡ 0 → getD (sizesFreed t at) k 0 ≡ 0

@@ -1,13 +1,13 @@
 -- What the view shows at a place is what stands in the slot of that place; and what the ranges of the view say of that slot.
 -- Assumes nothing.
 use Prim.Native.Nat.{ℕ, _+_, _*_, _≤_, _<_}
-use mathlib.Core.Path.{_≡_, sym, ap, _∙_}
+use mathlib.Core.Path.{_≡_, sym, ap, ap₂, _∙_}
 use mathlib.Core.Bool.{true}
 use mathlib.Core.List.{List, []}
 use lib.ListN.{length, getD, take, drop}
 use Rattle.octets.proofs.Laws.{tab-at, length-tab}
 use Rattle.datagrams.specs.Sizes.{packetLimit, coveredLimit}
-use Rattle.views.specs.Cells.{Cell, cellAt, unknownAt, isUnknown, keptBefore, keptAhead, keptNumbers}
+use Rattle.views.specs.Cells.{State, Cell, filledCell, cellAt, unknownAt, isUnknown, keptBefore, keptAhead, keptNumbers}
 use Rattle.views.specs.Held.{Held, heldAt}
 use Rattle.stores.specs.Store.{part}
 use Rattle.stores.proofs.Laws.{part-octet, length-part}
@@ -18,6 +18,11 @@ use Rattle.held.specs.Slots.{slotAt, heardSlotAt, slotsKept, slotsHeard}
 use Rattle.held.specs.Table.{Lent, countsOf, stateIn, sizeIn, nIn, stateNumbered, cellIn, heldIn, cellsOf, heldOf, viewIn}
 use Rattle.held.specs.Laid.{Laid, InRanges}
 use Rattle.held.proofs.Slots.{slot-small, heard-slot-of, has-packet-slot}
+
+-- a kept number by its parts
+pub cell-parts : {s r : State} {o q : List ℕ} {n m : ℕ} → s ≡ r → o ≡ q → n ≡ m → filledCell n s o ≡ filledCell m r q
+cell-parts {s} {r} {o} {q} {n} {m} state octets note =
+    ap₂ (λ (x : State) (y : List ℕ). filledCell n x y) state octets ∙ ap (λ (x : ℕ). filledCell x r q) note
 
 pub length-cells : (base : ℕ) (t o : List ℕ) → length (cellsOf base t o) ≡ keptNumbers
 unfolding cellsOf

@@ -1,9 +1,8 @@
 -- Which slot a number has: slots go by number modulo their count, so that nothing moves when the base goes on. Definitions only.
-use Prim.Native.Nat.{ℕ, _+_, _-_, _*_, _%_, _<_}
+use Prim.Native.Nat.{ℕ, _+_, _*_, _%_, _<_}
 use mathlib.Core.Path.{_≡_}
 use Rattle.datagrams.specs.Sizes.{packetLimit, messagesLimit}
 use Rattle.views.specs.Cells.{keptBefore, keptAhead, keptNumbers}
-use Rattle.views.specs.View.{numbers}
 
 -- the slots of kept numbers, of numbers from the base on, and of messages; the octets of both stores
 abbrev pub slotsKept : ℕ
@@ -21,13 +20,9 @@ keptOctets = slotsKept * packetLimit
 abbrev pub messageOctets : ℕ
 messageOctets = slotsMessages * packetLimit
 
--- the slot of the kept number at place p of the view: that number is base − keptBefore + p
+-- the slot of the kept number at place p of the view: that number is `numberAt base p`
 abbrev pub slotAt : ℕ → ℕ → ℕ
 slotAt base p = (base + keptBefore + p) % slotsKept
-
--- that number
-abbrev pub numberAt : ℕ → ℕ → ℕ
-numberAt base p = (base + (numbers - keptBefore) + p) % numbers
 
 -- the slot of the number at distance d from the base
 abbrev pub heardSlotAt : ℕ → ℕ → ℕ

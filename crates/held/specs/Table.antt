@@ -26,20 +26,23 @@ statePlace i = i
 abbrev pub sizePlace : ℕ → ℕ
 sizePlace i = slotsKept + i
 
+abbrev pub notePlace : ℕ → ℕ
+notePlace i = slotsKept + slotsKept + i
+
 abbrev pub markPlace : ℕ → ℕ
-markPlace j = slotsKept + slotsKept + j
+markPlace j = slotsKept + slotsKept + slotsKept + j
 
 abbrev pub nPlace : ℕ → ℕ
-nPlace j = slotsKept + slotsKept + slotsHeard + j
+nPlace j = slotsKept + slotsKept + slotsKept + slotsHeard + j
 
 abbrev pub mPlace : ℕ → ℕ
-mPlace j = slotsKept + slotsKept + slotsHeard + slotsHeard + j
+mPlace j = slotsKept + slotsKept + slotsKept + slotsHeard + slotsHeard + j
 
 abbrev pub messagePlace : ℕ → ℕ
-messagePlace k = slotsKept + slotsKept + slotsHeard + slotsHeard + slotsHeard + k
+messagePlace k = slotsKept + slotsKept + slotsKept + slotsHeard + slotsHeard + slotsHeard + k
 
 abbrev pub places : ℕ
-places = slotsKept + slotsKept + slotsHeard + slotsHeard + slotsHeard + slotsMessages
+places = slotsKept + slotsKept + slotsKept + slotsHeard + slotsHeard + slotsHeard + slotsMessages
 
 -- what stands there
 abbrev pub stateIn : List ℕ → ℕ → ℕ
@@ -47,6 +50,9 @@ stateIn t i = getD t (statePlace i) 0
 
 abbrev pub sizeIn : List ℕ → ℕ → ℕ
 sizeIn t i = getD t (sizePlace i) 0
+
+abbrev pub noteIn : List ℕ → ℕ → ℕ
+noteIn t i = getD t (notePlace i) 0
 
 abbrev pub markIn : List ℕ → ℕ → ℕ
 markIn t j = getD t (markPlace j) 0
@@ -93,9 +99,9 @@ abbrev pub lentBy : Session → Lent
 lentBy s = lent (s .base) (s .counts) (s .table) (s .octets) (s .messages)
 
 -- ---- from slots to the session that document 01 sees
--- the kept number in slot i, with its octets
+-- the kept number in slot i, with its octets and its note
 unfoldable pub cellIn : List ℕ → List ℕ → ℕ → Cell
-cellIn t o i = record { state = stateNumbered (stateIn t i); octets = part o i (sizeIn t i) }
+cellIn t o i = record { state = stateNumbered (stateIn t i); octets = part o i (sizeIn t i); note = noteIn t i }
 
 -- message i of the number whose slot is j
 unfoldable pub messageIn : List ℕ → List ℕ → ℕ → ℕ → List ℕ
@@ -126,8 +132,8 @@ abbrev pub viewOf : Session → View
 viewOf s = viewIn (lentBy s)
 
 -- ---- the table with another number in a slot
-abbrev pub keptSet : List ℕ → ℕ → ℕ → ℕ → List ℕ
-keptSet t i state size = set (set t (statePlace i) state) (sizePlace i) size
+abbrev pub keptSet : List ℕ → ℕ → ℕ → ℕ → ℕ → List ℕ
+keptSet t i state size note = set (set (set t (statePlace i) state) (sizePlace i) size) (notePlace i) note
 
 abbrev pub heardSet : List ℕ → ℕ → ℕ → ℕ → ℕ → List ℕ
 heardSet t j mark n m = set (set (set t (markPlace j) mark) (nPlace j) n) (mPlace j) m

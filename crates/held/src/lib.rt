@@ -15,6 +15,7 @@ pub use table::m_at;
 pub use table::mark_at;
 pub use table::message_size_at;
 pub use table::n_at;
+pub use table::note_at;
 pub use table::set_heard;
 pub use table::set_kept;
 pub use table::set_message_size;
@@ -68,11 +69,13 @@ impl Session {
 
     pub const MESSAGE_OCTETS: usize = Session::MESSAGES * Packet::LIMIT;
 
-    // The table has a run for each value: the states of kept numbers first, then their sizes; of numbers from the base on the
-    // marks, n and m; then the sizes of messages: message i of a number is at its slot times 4, plus i.
+    // The table has a run for each value: the states of kept numbers first, then their sizes and their notes; of numbers from the
+    // base on the marks, n and m; then the sizes of messages: message i of a number is at its slot times 4, plus i.
     pub const SIZES: usize = Session::KEPT;
 
-    pub const MARKS: usize = Session::SIZES + Session::KEPT;
+    pub const NOTES: usize = Session::SIZES + Session::KEPT;
+
+    pub const MARKS: usize = Session::NOTES + Session::KEPT;
 
     pub const NS: usize = Session::MARKS + Session::HEARD;
 

@@ -12,8 +12,8 @@ ghost use Rattle.datagrams.specs.Sizes.{messagesLimit};
 ghost use Rattle.views.specs.Cells.{isUnknown};
 ghost use Rattle.views.specs.View.{sum};
 ghost use Rattle.held.specs.Slots.{slotsKept, slotsHeard, slotsMessages};
-ghost use Rattle.held.specs.Table.{countsOf, places, stateIn, sizeIn, markIn, nIn, mIn, messageSizeIn, messagePlace, stateNumbered};
-ghost use Rattle.held.specs.Table.{keptSet, heardSet, sizesFreed, heardDropped};
+ghost use Rattle.held.specs.Table.{countsOf, places, stateIn, sizeIn, noteIn, markIn, nIn, mIn, messageSizeIn, messagePlace};
+ghost use Rattle.held.specs.Table.{stateNumbered, keptSet, heardSet, sizesFreed, heardDropped};
 
 // The slot of a number among those kept, and among those from the base on.
 pub fn kept_slot(number: u16) -> usize
@@ -55,6 +55,15 @@ pub fn size_at(t: &[u16], slot: usize) -> usize
 {
     let size = t[Session::SIZES + slot];
     stores::wide(size)
+}
+
+// The number of the datagram whose offer filled a kept number.
+pub fn note_at(t: &[u16], slot: usize) -> u16
+    requires { ⌜ length (now t) ≡ places ⌝ }
+    requires { ⌜ slot < slotsKept ⌝ }
+    ensures { λ r. ⌜ r ≡ noteIn (now (t .entry)) slot ⌝ }
+{
+    t[Session::NOTES + slot]
 }
 
 // Whether a kept number is known.
@@ -112,13 +121,14 @@ pub fn message_size_at(t: &[u16], slot: usize) -> usize
 }
 
 // Another kept number in a slot.
-pub fn set_kept(t: &mut [u16], slot: usize, state: u16, size: u16)
+pub fn set_kept(t: &mut [u16], slot: usize, state: u16, size: u16, note: u16)
     requires { ⌜ length (now t) ≡ places ⌝ }
     requires { ⌜ slot < slotsKept ⌝ }
-    ensures { λ _. ⌜ now (t .exit) ≡ keptSet (now (t .entry)) slot state size ⌝ }
+    ensures { λ _. ⌜ now (t .exit) ≡ keptSet (now (t .entry)) slot state size note ⌝ }
 {
     t[slot] = state;
     t[Session::SIZES + slot] = size;
+    t[Session::NOTES + slot] = note;
 }
 
 // A number from the base on is marked as accepted, with its n and m.

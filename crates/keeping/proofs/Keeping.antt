@@ -14,9 +14,10 @@ use Rattle.datagrams.specs.Claims.{PartInside}
 use Rattle.datagrams.specs.Read.{octetsOf}
 use Rattle.datagrams.specs.declared.reader.Part.{Part}
 use Rattle.views.specs.Cells.{received, spare, blank, isUnknown, unknownAt}
-use Rattle.views.specs.Ranges.{isFill}
+use Rattle.views.specs.Ranges.{isFill, noteRight}
 use Rattle.views.specs.Offer as offers
-use Rattle.held.specs.Slots.{numberAt, slotAt, slotsKept}
+use Rattle.views.specs.View.{numberAt}
+use Rattle.held.specs.Slots.{slotAt, slotsKept}
 use Rattle.held.specs.Table.{lastState, stateIn, stateNumbered, cellsOf, keptSet}
 use Rattle.held.proofs.Laws.{slot-small, unknown-at, placed-cells, placed-held, placed-ranges}
 use Rattle.keeping.specs.Steps.{PartPut}
@@ -67,15 +68,20 @@ fills (suc (suc zero)) low high = refl
 fills (suc (suc (suc zero))) low high = refl
 fills (suc (suc (suc (suc n)))) low high = absurd (omega arith)
 
+-- a spare may have any note
+pub spare-noted : (S number : ℕ) → noteRight (stateNumbered 2) S number ≡ true
+unfolding stateNumbered noteRight
+spare-noted S number = refl
+
 -- ---- in the words of the code
-module _ {state number slot : ℕ} {t o : List ℕ} {was : Bool} (e-slot : slot ≡ number % slotsKept)
+module _ {note state number slot : ℕ} {t o : List ℕ} {was : Bool} (e-slot : slot ≡ number % slotsKept)
     (e-was : was ≡ not (isUnknown (stateNumbered (stateIn t slot)))) where
   -- an unknown number takes the octets
   pub keeps-unknown : {s : List ℕ} {p : Part} {size : ℕ} {newT newO : List ℕ} → isFill (stateNumbered state) ≡ true
-      → PartInside packetLeast packetLimit s p → was ≡ false → PartPut slot s p o newO size → newT ≡ keptSet t slot state size
-      → Keeps state number (octetsOf s p) t o newT newO
+      → noteRight (stateNumbered state) note number ≡ true → PartInside packetLeast packetLimit s p → was ≡ false → PartPut slot s p o newO size → newT ≡ keptSet t slot state size note
+      → Keeps note state number (octetsOf s p) t o newT newO
   unfolding offers.keep
-  keeps-unknown {s} {p} {size} {newT} {newO} fills inside no-was put written =
+  keeps-unknown {s} {p} {size} {newT} {newO} fills noted inside no-was put written =
       let b = octetsOf s p in
       let long = length-octets inside in
       let least : packetLeast ≤ length b = omega (arith, inside .low) in
@@ -90,14 +96,14 @@ module _ {state number slot : ℕ} {t o : List ℕ} {was : Bool} (e-slot : slot 
             unknown-at base t o q there ∙ ap (λ (i : ℕ). isUnknown (stateNumbered (stateIn t i))) (sym at) ∙ free in
             rw (written, put .octets, put .size)
             (record {
-              cells = rw unknown (placed-cells (w .laid) slot state b small low most base q there at);
-              held = placed-held t slot state (length b) small base g;
-              within = placed-ranges w q unknown state low fills b least most at;
+              cells = rw unknown (placed-cells (w .laid) slot state note b small low most base q there at);
+              held = placed-held t slot state (length b) note small base g;
+              within = placed-ranges w q unknown note state low fills (rw e at noted) b least most at;
             });
       }
 
   -- any other stays as it is
-  pub keeps-known : {b : List ℕ} → was ≡ true → Keeps state number b t o t o
+  pub keeps-known : {b : List ℕ} → was ≡ true → Keeps note state number b t o t o
   unfolding offers.keep
   keeps-known yes-was =
       let known : isUnknown (stateNumbered (stateIn t slot)) ≡ false = not-true _ e-was yes-was in

@@ -12,9 +12,9 @@ use Rattle.datagrams.specs.Promise.{nowhere}
 use Rattle.datagrams.specs.Read.{octetsOf}
 use Rattle.datagrams.specs.declared.reader.Part.{Part}
 use Rattle.views.specs.Cells.{Cell, spare, keptNumbers}
-use Rattle.views.specs.View.{numbers}
+use Rattle.views.specs.View.{numbers, numberAt}
 use Rattle.views.specs.Offer as offers
-use Rattle.held.specs.Slots.{numberAt, keptOctets}
+use Rattle.held.specs.Slots.{keptOctets}
 use Rattle.held.specs.Table.{lent, places, cellsOf, heldOf}
 use Rattle.held.specs.Laid.{InRanges}
 use Rattle.held.specs.declared.Counts.{Counts}
@@ -23,33 +23,33 @@ use Rattle.keeping.specs.Promise.{MayKeep, Keeps, CarriesSpares, KeepsSp
 use Rattle.keeping.proofs.Keeping.{spare-number}
 
 -- ---- one spare more to keep
-keepSpares-cons : (p : ℕ) (x : List ℕ) (xs : List (List ℕ)) (cells : List Cell)
-    → offers.keepSpares p (x ∷ xs) cells ≡ offers.keepSpares (p - 1) xs (offers.keep spare (p - 1) x cells)
+keepSpares-cons : (S p : ℕ) (x : List ℕ) (xs : List (List ℕ)) (cells : List Cell)
+    → offers.keepSpares S p (x ∷ xs) cells ≡ offers.keepSpares S (p - 1) xs (offers.keep S spare (p - 1) x cells)
 unfolding offers.keepSpares
-keepSpares-cons p x xs cells = refl
+keepSpares-cons S p x xs cells = refl
 
-spares-step : (s : List ℕ) (items : List Part) (count p j : ℕ) (cells : List Cell) → count ≤ length items → j < count → count ≤ p
-    → offers.keepSpares (p - j) (map (octetsOf s) (drop j (take count items))) cells
-    ≡ offers.keepSpares (p - (j + 1)) (map (octetsOf s) (drop (j + 1) (take count items)))
-    (offers.keep spare (p - (j + 1)) (octetsOf s (partAt items j)) cells)
-spares-step s items count p j cells fits more low =
+spares-step : (S : ℕ) (s : List ℕ) (items : List Part) (count p j : ℕ) (cells : List Cell) → count ≤ length items → j < count → count ≤ p
+    → offers.keepSpares S (p - j) (map (octetsOf s) (drop j (take count items))) cells
+    ≡ offers.keepSpares S (p - (j + 1)) (map (octetsOf s) (drop (j + 1) (take count items)))
+    (offers.keep S spare (p - (j + 1)) (octetsOf s (partAt items j)) cells)
+spares-step S s items count p j cells fits more low =
     let long : length (take count items) ≡ count = length-take-le count items fits in
     let part : getD (take count items) j nowhere ≡ partAt items j = getD-take count items j nowhere more in
     let back : (p - j) - 1 ≡ p - (j + 1) = omega arith in
     let parted : drop j (take count items) ≡ partAt items j ∷ drop (j + 1) (take count items) =
     drop-cons (take count items) j nowhere (rw long more)
     ∙ ap₂ (λ (x : Part) (k : ℕ). x ∷ drop k (take count items)) part (sym (add-one j)) in
-    ap (λ (l : List Part). offers.keepSpares (p - j) (map (octetsOf s) l) cells) parted
-    ∙ keepSpares-cons (p - j) (octetsOf s (partAt items j)) (map (octetsOf s) (drop (j + 1) (take count items))) cells
-    ∙ ap (λ (k : ℕ). offers.keepSpares k (map (octetsOf s) (drop (j + 1) (take count items)))
-    (offers.keep spare k (octetsOf s (partAt items j)) cells)) back
+    ap (λ (l : List Part). offers.keepSpares S (p - j) (map (octetsOf s) l) cells) parted
+    ∙ keepSpares-cons S (p - j) (octetsOf s (partAt items j)) (map (octetsOf s) (drop (j + 1) (take count items))) cells
+    ∙ ap (λ (k : ℕ). offers.keepSpares S k (map (octetsOf s) (drop (j + 1) (take count items)))
+    (offers.keep S spare k (octetsOf s (partAt items j)) cells)) back
 
 -- ---- the loop
-pub record SparesNow (s : List ℕ) (items : List Part) (count base : ℕ) (c : Counts) (g : List ℕ) (p : ℕ) (t o new store : List ℕ) (at j : ℕ)
+pub record SparesNow (S : ℕ) (s : List ℕ) (items : List Part) (count base : ℕ) (c : Counts) (g : List ℕ) (p : ℕ) (t o new store : List ℕ) (at j : ℕ)
     : Type 0 where
   pub number : at ≡ numberAt base (p - j)
-  pub left : offers.keepSpares (p - j) (map (octetsOf s) (drop j (take count items))) (cellsOf base new store)
-      ≡ offers.keepSpares p (map (octetsOf s) (take count items)) (cellsOf base t o)
+  pub left : offers.keepSpares S (p - j) (map (octetsOf s) (drop j (take count items))) (cellsOf base new store)
+      ≡ offers.keepSpares S p (map (octetsOf s) (take count items)) (cellsOf base t o)
   pub held : heldOf base new g ≡ heldOf base t g
   pub within : InRanges (lent base c new store g)
 
@@ -58,7 +58,7 @@ pub record Sparing (number : ℕ) (s : List ℕ) (items : List Part) (count : �
   pub long : length new ≡ places
   pub octets : length store ≡ keptOctets
   pub now : (base : ℕ) (c : Counts) (g : List ℕ) (p : ℕ) → InRanges (lent base c t o g) → p < keptNumbers → count ≤ p
-      → number ≡ numberAt base p → SparesNow s items count base c g p t o new store at j
+      → number ≡ numberAt base p → SparesNow number s items count base c g p t o new store at j
 
 pub sparing-start : (number : ℕ) (s : List ℕ) (items : List Part) (count : ℕ) (t o : List ℕ) → length t ≡ places → length o ≡ keptOctets
     → Sparing number s items count t o t o number 0
@@ -103,7 +103,7 @@ module _ {number : ℕ} {s : List ℕ} {items : List Part} {count : ℕ} {t o ne
       }
 
   pub sparing-turn : {before : ℕ} {newT newO : List ℕ} → CarriesSpares s items count → j < count → before < numbers
-      → (before + 1) % numbers ≡ at → Keeps 2 before (octetsOf s (partAt items j)) new store newT newO → length newT ≡ length new
+      → (before + 1) % numbers ≡ at → Keeps number 2 before (octetsOf s (partAt items j)) new store newT newO → length newT ≡ length new
       → length newO ≡ length store → Sparing number s items count t o newT newO before (j + 1)
   sparing-turn {before} {newT} {newO} carries more small e-before k same-t same-o =
       record {
@@ -118,9 +118,9 @@ module _ {number : ℕ} {s : List ℕ} {items : List Part} {count : ℕ} {t o ne
             record {
               number = here;
               left =
-                  ap (offers.keepSpares (p - (j + 1)) (map (octetsOf s) (drop (j + 1) (take count items))))
+                  ap (offers.keepSpares number (p - (j + 1)) (map (octetsOf s) (drop (j + 1) (take count items))))
                   (rw spare-number at (kept .cells))
-                  ∙ sym (spares-step s items count p j (cellsOf base new store) (carries .there) more low)
+                  ∙ sym (spares-step number s items count p j (cellsOf base new store) (carries .there) more low)
                   ∙ n .left;
               held = kept .held ∙ n .held;
               within = kept .within;

@@ -15,8 +15,8 @@ use Rattle.datagrams.specs.declared.reader.Part.{Part}
 use Rattle.views.specs.Cells.{Cell, keptBefore, keptAhead, keptNumbers}
 use Rattle.views.specs.Held.{Held, heldAt}
 use Rattle.views.specs.Reached.{Known}
+use Rattle.views.specs.View.{numberAt}
 use Rattle.views.specs.Offer as offers
-use Rattle.held.specs.Slots.{numberAt}
 use Rattle.held.specs.Table.{Lent, lent, stateNumbered, cellsOf, heldOf}
 use Rattle.held.specs.Laid.{InRanges}
 use Rattle.held.specs.declared.Counts.{Counts}
@@ -41,11 +41,11 @@ pub record MayKeep (number count : ℕ) (t o : List ℕ) : Type 0 where
   pub low : count ≤ place
   pub stands : number ≡ numberAt base place
 
--- the octets b kept at a number, if that is still unknown: with every base, counts and messages with which all is within the
+-- the octets b of datagram S kept at a number, if that is still unknown: with every base, counts and messages with which all is within the
 -- ranges, where the number stands at a place p of the view
-pub record Keeps (state number : ℕ) (b t o newT newO : List ℕ) : Type 0 where
+pub record Keeps (S state number : ℕ) (b t o newT newO : List ℕ) : Type 0 where
   pub kept : (base : ℕ) (c : Counts) (g : List ℕ) (p : ℕ) → InRanges (lent base c t o g) → p < keptNumbers → number ≡ numberAt base p
-      → CellsNow (lent base c t o g) (lent base c newT newO g) (offers.keep (stateNumbered state) p b (cellsOf base t o))
+      → CellsNow (lent base c t o g) (lent base c newT newO g) (offers.keep S (stateNumbered state) p b (cellsOf base t o))
 
 -- the spares of a datagram are its first `count` items: few enough, and each a packet
 pub record CarriesSpares (s : List ℕ) (items : List Part) (count : ℕ) : Type 0 where
@@ -58,7 +58,7 @@ pub record KeepsSpares (number : ℕ) (s : List ℕ) (items : List Part) (count 
   pub kept : (base : ℕ) (c : Counts) (g : List ℕ) (p : ℕ) → InRanges (lent base c t o g) → p < keptNumbers → count ≤ p
       → number ≡ numberAt base p
       → CellsNow (lent base c t o g) (lent base c newT newO g)
-      (offers.keepSpares p (map (octetsOf s) (take count items)) (cellsOf base t o))
+      (offers.keepSpares number p (map (octetsOf s) (take count items)) (cellsOf base t o))
 
 -- ---- mark and messages
 -- "with m = 0 also n = 0, otherwise n [and] m .. are within the sizes"

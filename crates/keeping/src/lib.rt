@@ -14,7 +14,7 @@ ghost use Rattle.datagrams.specs.Sizes.{packetLeast, packetLimit, messageLeast,
 ghost use Rattle.datagrams.specs.Claims.{PartInside};
 ghost use Rattle.datagrams.specs.Read.{octetsOf};
 ghost use Rattle.stores.specs.Store.{HasSlot};
-ghost use Rattle.views.specs.Ranges.{isFill};
+ghost use Rattle.views.specs.Ranges.{isFill, noteRight};
 ghost use Rattle.held.specs.Slots.{slotsHeard, keptOctets, messageOctets};
 ghost use Rattle.held.specs.Table.{places, stateNumbered};
 ghost use Rattle.keeping.specs.Steps.{PartPut, Fit, ItemsLaid};
@@ -33,14 +33,16 @@ fn put_part(o: &mut [u8], slot: usize, s: &[u8], part: Part) -> u16
     size as u16
 }
 
-// A packet, which is a part of the datagram s, kept at its number as received or spare, if that number is still unknown.
-pub fn keep(t: &mut [u16], o: &mut [u8], number: u16, state: u16, s: &[u8], part: Part)
+// A packet, which is a part of the datagram s, kept at its number as received or spare, if that number is still unknown. Its note is the
+// number of the datagram.
+pub fn keep(t: &mut [u16], o: &mut [u8], number: u16, state: u16, note: u16, s: &[u8], part: Part)
     requires { ⌜ length (now t) ≡ places ⌝ }
     requires { ⌜ length (now o) ≡ keptOctets ⌝ }
     requires { ⌜ MayKeep number 0 (now t) (now o) ⌝ }
     requires { ⌜ isFill (stateNumbered state) ≡ true ⌝ }
+    requires { ⌜ noteRight (stateNumbered state) note number ≡ true ⌝ }
     requires { ⌜ PartInside packetLeast packetLimit (now s) part ⌝ }
-    ensures { λ _. ⌜ Keeps state number (octetsOf (now (s .entry)) part) (now (t .entry)) (now (o .entry)) (now (t .exit))
+    ensures { λ _. ⌜ Keeps note state number (octetsOf (now (s .entry)) part) (now (t .entry)) (now (o .entry)) (now (t .exit))
         (now (o .exit)) ⌝ }
 {
     let slot = held::kept_slot(number);
@@ -48,7 +50,7 @@ pub fn keep(t: &mut [u16], o: &mut [u8], number: u16, state: u16, s: &[u8], part
         return;
     }
     let size = put_part(o, slot, s, part);
-    held::set_kept(t, slot, state, size);
+    held::set_kept(t, slot, state, size, note);
 }
 
 // The spares of the datagram s with that number, its first `count` items, each kept at the number before the last.
@@ -71,7 +73,7 @@ pub fn keep_spares(
     while j < count {
         let part = items[j];
         let before = std::num::wrapping_sub_u16(at, 1);
-        keep(t, o, before, Session::SPARE, s, part);
+        keep(t, o, before, Session::SPARE, number, s, part);
         at = before;
         j += 1;
     }

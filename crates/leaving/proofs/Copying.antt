@@ -22,18 +22,18 @@ use Rattle.leaving.specs.declared.Released.{Released}
 use Rattle.leaving.specs.declared.Released.the-variants as released
 
 -- ---- what the answer says of the number that left
-pub record Gone (x : Answer Release) (kind : State) (number size : ℕ) : Type 0 where
+pub record Gone (x : Answer Release) (kind : State) (number note size : ℕ) : Type 0 where
   pub out : Release
   pub is : x ≡ done out
   pub same-kind : kind ≡ out .kind
   pub same-number : number ≡ out .number
   pub same-size : size ≡ length (out .octets)
 
-gone-of : (x : Answer Release) (kind : State) (number size : ℕ)
-    → done (record { kind = kind; number = number; size = size }) ≡ handedOf x → Gone x kind number size
-gone-of (done r) kind number size e =
-    let same : _≡_ {A = Handed} (record { kind = kind; number = number; size = size })
-    (record { kind = r .kind; number = r .number; size = length (r .octets) }) = cc in
+gone-of : (x : Answer Release) (kind : State) (number note size : ℕ)
+    → done (record { kind = kind; number = number; note = note; size = size }) ≡ handedOf x → Gone x kind number note size
+gone-of (done r) kind number note size e =
+    let same : _≡_ {A = Handed} (record { kind = kind; number = number; note = note; size = size })
+    (record { kind = r .kind; number = r .number; note = r .note; size = length (r .octets) }) = cc in
     record {
       out = r;
       is = refl;
@@ -41,17 +41,17 @@ gone-of (done r) kind number size e =
       same-number = ap (λ (a : Handed). a .number) same;
       same-size = ap (λ (a : Handed). a .size) same;
     }
-gone-of (refused x) kind number size e = let z : _≡_ {A = ℕ} 0 1 = cc in absurd (omega arith)
+gone-of (refused x) kind number note size e = let z : _≡_ {A = ℕ} 0 1 = cc in absurd (omega arith)
 
 none-gone : (x : Answer Release) (why : Refusal) → refused why ≡ handedOf x → x ≡ refused why
 none-gone (done r) why e = let z : _≡_ {A = ℕ} 0 1 = cc in absurd (omega arith)
 none-gone (refused x) why e = cc
 
 module _ {leave : Bool} {room : ℕ} {before after : Lent} {answer : Released} (l : Leaves leave room before after answer) where
-  pub gone : {kind : Kind} {number size : ℕ} → answer ≡ released.Number kind number size
-      → Gone (release leave room (viewIn before)) (stateOf kind) number size
-  gone {kind} {number} {size} is =
-      gone-of (release leave room (viewIn before)) (stateOf kind) number size (sym (ap releasedOutcome is) ∙ l .told)
+  pub gone : {kind : Kind} {number note size : ℕ} → answer ≡ released.Number kind number note size
+      → Gone (release leave room (viewIn before)) (stateOf kind) number note size
+  gone {kind} {number} {note} {size} is =
+      gone-of (release leave room (viewIn before)) (stateOf kind) number note size (sym (ap releasedOutcome is) ∙ l .told)
 
   pub not-gone : {why : Refusal} → answer ≡ released.Refused why → release leave room (viewIn before) ≡ refused why
   not-gone {why} is = none-gone (release leave room (viewIn before)) why (sym (ap releasedOutcome is) ∙ l .told)
@@ -60,7 +60,7 @@ module _ {leave : Bool} {room : ℕ} {before after : Lent} {answer : Released} (
   pub gone-there : (number : ℕ) {slot : ℕ} → slot ≡ number % slotsKept → HasSlot slot (after .octets)
   gone-there number {slot} at = has-packet-slot (after .octets) slot (l .within .laid .octets) (omega arith)
 
-  module _ {kind : Kind} {number size : ℕ} (is : answer ≡ released.Number kind number size) where
+  module _ {kind : Kind} {number note size : ℕ} (is : answer ≡ released.Number kind number note size) where
     pub gone-short : size ≤ packetLimit
     gone-short = let a = gone is in omega (arith, a .same-size, l .stored (a .out) (a .is) .fits)
 
@@ -74,7 +74,7 @@ module _ {leave : Bool} {room : ℕ} {before after : Lent} {answer : Released} (
 
 -- ---- each answer
 module _ {leave : Bool} {before after : Lent} {old : List ℕ} {answer : Released} (l : Leaves leave (length old) before after answer) where
-  pub copied : {kind : Kind} {number size slot : ℕ} {new : List ℕ} → answer ≡ released.Number kind number size
+  pub copied : {kind : Kind} {number note size slot : ℕ} {new : List ℕ} → answer ≡ released.Number kind number note size
       → slot ≡ number % slotsKept → new ≡ part (after .octets) slot size ++ drop size old
       → Releases leave before after old new answer
   copied {number = number} {size = size} {slot = slot} {new = new} is at lent =

@@ -13,13 +13,14 @@ pub use Rattle.leaving.proofs.Copying.{Gone, gone, not-gone, gone-there
 
 -- ---- an answer told by number and values
 pub released-told : (r q : Released) → releasedOutcome r ≡ releasedOutcome q → r ≡ q
-released-told (released.Number k n s) (released.Number l m t) e =
-    let same : _≡_ {A = Handed} (record { kind = stateOf k; number = n; size = s })
-    (record { kind = stateOf l; number = m; size = t }) = cc in
+released-told (released.Number k n x s) (released.Number l m y t) e =
+    let same : _≡_ {A = Handed} (record { kind = stateOf k; number = n; note = x; size = s })
+    (record { kind = stateOf l; number = m; note = y; size = t }) = cc in
     let kind = kind-same k l (ap (λ (a : Handed). a .kind) same) in
     let number = ap (λ (a : Handed). a .number) same in
+    let note = ap (λ (a : Handed). a .note) same in
     let size = ap (λ (a : Handed). a .size) same in
-    rw (kind, number, size)
-released-told (released.Number k n s) (released.Refused y) e = let z : _≡_ {A = ℕ} 0 1 = cc in absurd (omega arith)
-released-told (released.Refused x) (released.Number k n s) e = let z : _≡_ {A = ℕ} 0 1 = cc in absurd (omega arith)
+    rw (kind, number, note, size)
+released-told (released.Number k n x s) (released.Refused y) e = let z : _≡_ {A = ℕ} 0 1 = cc in absurd (omega arith)
+released-told (released.Refused x) (released.Number k n y s) e = let z : _≡_ {A = ℕ} 0 1 = cc in absurd (omega arith)
 released-told (released.Refused x) (released.Refused y) e = cc

@@ -27,7 +27,7 @@ use Rattle.held.proofs.Laws.{heard-apart, message-apart, has-packet-slot, has-m
 use Rattle.leaving.specs.Steps.{Freed}
 use Rattle.leaving.specs.Promise.{MayMoveOn, MovesOn}
 use Rattle.leaving.proofs.Advanced.{advanced, state-other, size-other, state-comes, size-comes, mark-other, n-other, m-other}
-use Rattle.leaving.proofs.Advanced.{mark-gone, n-gone, m-gone, sizes-other}
+use Rattle.leaving.proofs.Advanced.{note-other, note-comes, mark-gone, n-gone, m-gone, sizes-other}
 use Rattle.leaving.proofs.Laying.{laid-goes-on}
 use Rattle.leaving.proofs.Base.{base-kind, base-state}
 
@@ -54,6 +54,7 @@ module _ {b : ℕ} {before : Counts} {t o g newO newG : List ℕ} (counts : Coun
       rw (
         state-other b t i small other,
         size-other b t i small other,
+        note-other b t i small other,
         cleared,
         part-pasted-other o (slotAt b 0) (zeros packetLimit) comes-there zeros-fit i (sizeIn t i) (there i small)
             (w .laid .size i small) other,
@@ -61,7 +62,7 @@ module _ {b : ℕ} {before : Counts} {t o g newO newG : List ℕ} (counts : Coun
 
   cell-comes : cellIn (advanced b t) newO (slotAt b 0) ≡ unknownCell
   unfolding cellIn part stateNumbered
-  cell-comes = rw (state-comes b t, size-comes b t)
+  cell-comes = rw (state-comes b t, size-comes b t, note-comes b t)
 
   -- marks and messages: a message of another slot is none of those that were cleared
   few : mIn t (heardSlotAt b 0) ≤ messagesLimit
@@ -159,7 +160,7 @@ pub base-moved : {base b leaves m after : ℕ} {before counts : Counts} {kind : 
     → MayMoveOn kind (lent base before t o g) → countsOf counts ≡ counted (stateOf kind) (countsOf before) → b ≡ base
     → leaves ≡ base % slotsHeard → m ≡ mIn t leaves
     → newO ≡ pasted o ((b + keptBefore) % slotsKept) (zeros packetLimit) → Freed leaves m g newG
-    → t1 ≡ keptSet t ((b + keptBefore) % slotsKept) 0 0 → t2 ≡ heardDropped t1 leaves → after ≡ following base
+    → t1 ≡ keptSet t ((b + keptBefore) % slotsKept) 0 0 0 → t2 ≡ heardDropped t1 leaves → after ≡ following base
     → MovesOn (lent base before t o g) (lent after counts t2 newO newG)
 base-moved {base} {b} {leaves} {counts = counts} w may one wide at-base read cleared freed written gone next =
     let comes : (b + keptBefore) % slotsKept ≡ slotAt base 0 = omega (arith, wide) in

@@ -18,7 +18,7 @@ use Rattle.stores.proofs.Laws.{length-part}
 use Rattle.views.specs.Ranges.{sizeRight}
 use Rattle.views.specs.Release.{movedOn, release}
 use Rattle.held.specs.Slots.{slotsKept}
-use Rattle.held.specs.Table.{Lent, lent, lastState, stateOf, stateIn, sizeIn, cellIn, cellsOf, viewIn, stateNumbered}
+use Rattle.held.specs.Table.{Lent, lent, lastState, stateOf, stateIn, sizeIn, noteIn, cellIn, cellsOf, viewIn, stateNumbered}
 use Rattle.held.specs.Laid.{InRanges}
 use Rattle.held.specs.declared.Counts.{Counts}
 use Rattle.held.specs.declared.Kind.{Kind}
@@ -62,6 +62,7 @@ module _ {b : ℕ} {c : Counts} {t o g : List ℕ} (w : InRanges (lent b c t o g
           (record {
             kind = stateNumbered (stateIn t slot);
             number = b;
+            note = noteIn t slot;
             octets = part o slot (sizeIn t slot);
             after = movedOn (viewIn (lent b c t o g));
           })
@@ -112,9 +113,9 @@ module _ {leave : Bool} {room b : ℕ} {c : Counts} {t o g : List ℕ} {p : Bool
       release-13 short made =
           refused-release noRoom w (release-short w limit leave room more at-base (same-test leave read) goes (rw size at short)) made
 
-      pub release-left : {kind : Kind} {after : Lent} → s ≤ room → Named state kind → MovesOn (lent b c t o g) after
-          → Leaves leave room (lent b c t o g) after (released.Number kind b s)
-      release-left {kind} {after} fits told moved =
+      pub release-left : {kind : Kind} {note : ℕ} {after : Lent} → s ≤ room → note ≡ noteIn t slot → Named state kind
+          → MovesOn (lent b c t o g) after → Leaves leave room (lent b c t o g) after (released.Number kind b note s)
+      release-left {kind} {after = after} fits noted told moved =
           let low = base-size w at-base in
           let long = length-part o slot (sizeIn t slot) (base-there w at-base) low in
           let whole = release-done w limit leave room more at-base (same-test leave read) goes (rw size at fits) in
@@ -122,7 +123,7 @@ module _ {leave : Bool} {room b : ℕ} {c : Counts} {t o g : List ℕ} {p : Bool
           let there : part (after .octets) (b % slotsKept) (sizeIn t slot) ≡ part o slot (sizeIn t slot) =
           moved .kept (sizeIn t slot) low ∙ ap (λ (i : ℕ). part o i (sizeIn t slot)) (sym at-base) in
           record {
-            told = rw (whole, long, size, kinds);
+            told = rw (whole, long, size, noted, kinds);
             stored = λ r is.
                 subst (Stored (after .octets)) (done-same (sym whole ∙ is)) (record { fits = rw long low; octets = rw (long, there) });
             state = rw whole (moved .state);

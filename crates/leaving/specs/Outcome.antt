@@ -13,14 +13,16 @@ use Rattle.leaving.specs.declared.Released.the-variants as released
 pub record Handed : Type 0 where
   pub kind : cells.State
   pub number : ℕ
+  pub note : ℕ
   pub size : ℕ
 
 abbrev pub releasedOutcome : Released → Answer Handed
-releasedOutcome (released.Number kind number size) = done (record { kind = stateOf kind; number = number; size = size })
+releasedOutcome (released.Number kind number note size) = done (record { kind = stateOf kind; number = number; note = note; size = size })
 releasedOutcome (released.Refused r) = refused r
 
 abbrev pub handedOf : Answer Release → Answer Handed
-handedOf answer = mapped (λ (r : Release). record { kind = r .kind; number = r .number; size = length (r .octets) }) answer
+handedOf answer =
+    mapped (λ (r : Release). record { kind = r .kind; number = r .number; note = r .note; size = length (r .octets) }) answer
 
 -- the octets that it puts into the lent buffer
 abbrev pub octetsHanded : Answer Release → Answer (List ℕ)

@@ -22,11 +22,13 @@ ghost use Rattle.held.specs.Laid.{InRanges};
 ghost use Rattle.leaving.specs.Steps.{Named, Freed, releaseRefused};
 ghost use Rattle.leaving.specs.Promise.{MayMoveOn, MovesOn, Leaves, Releases};
 
-// What a release answers: the kind and the number of what left, and the size of its packet, 0 where it is lost; or why it is refused.
+// What a release answers: the kind and the number of what left, the number of the datagram whose offer filled it and the size of its
+// packet, both 0 where it is lost; or why it is refused.
 pub enum Released {
     Number {
         kind: Kind,
         number: u16,
+        note: u16,
         size: usize,
     },
     Refused(Refusal),
@@ -106,7 +108,7 @@ fn move_on(
     let m = held::m_at(t, leaves);
     stores::clear(o, comes);
     free_messages(g, leaves, m);
-    held::set_kept(t, comes, Session::UNKNOWN, 0);
+    held::set_kept(t, comes, Session::UNKNOWN, 0, 0);
     held::drop_heard(t, leaves);
     let after = number_after(base);
     Moved {
@@ -154,6 +156,7 @@ pub fn leave_core(
     if room < size {
         return release_refused(base, counts, Refusal::NO_ROOM);
     }
+    let note = held::note_at(t, slot);
     let kind = kind_of(state);
     let moved = move_on(base, counts, kind, t, o, g);
     let after = moved.base;
@@ -164,6 +167,7 @@ pub fn leave_core(
         answer: Released::Number {
             kind,
             number: base,
+            note,
             size,
         },
     }
@@ -188,6 +192,7 @@ pub fn release_core(
     let Released::Number {
         kind: _,
         number,
+        note: _,
         size,
     } = answer
     else {

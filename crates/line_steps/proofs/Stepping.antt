@@ -55,7 +55,7 @@ module _ {leave : Bool} {before session : Lent} {answer : Released} (made : leav
   pub packet-there : (number : ℕ) → HasSlot (number % slotsKept) (session .octets)
   packet-there number = gone-there made number refl
 
-  module _ {kind : Kind} {number size : ℕ} (is : answer ≡ released.Number kind number size) where
+  module _ {kind : Kind} {number note size : ℕ} (is : answer ≡ released.Number kind number note size) where
     pub packet-short : size ≤ packetLimit
     packet-short = gone-short made is
 

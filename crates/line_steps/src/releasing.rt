@@ -61,7 +61,12 @@ fn release(
                 more: false,
             }
         }
-        Released::Number { kind, number, size } => {
+        Released::Number {
+            kind,
+            number,
+            note: _,
+            size,
+        } => {
             let octet = kind_octet(kind);
             let end = put_kept(octet, number, size, o, out, at);
             Turn {

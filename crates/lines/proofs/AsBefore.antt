@@ -13,6 +13,7 @@ use native.Mathlib.Omega.{arith}
 use Rattle.octets.proofs.Laws.{true-or-false}
 use Rattle.lengths.specs.Refusals.{baseUnknown, noRoom, allPassed}
 use Rattle.lengths.specs.Answers.{Answer, done, refused, refuse, _>>=_, afterwards}
+use Rattle.lengths.specs.Claims.{Octets}
 use Rattle.lengths.specs.Tables.{refusalIn}
 use Rattle.lengths.proofs.Laws.{not-done}
 use Rattle.datagrams.specs.Sizes.{packetLimit}
@@ -29,6 +30,7 @@ use Rattle.lines.specs.Lines.{Made, _then_, releaseMade, onward, release
 use Rattle.lines.specs.Lines.{answerLine, step, linesFrom, steps, program}
 use Rattle.lines.specs.Before.{releasesBeforeF, releasesBefore, giveUpMade, answerBefore, stepsBefore, programBefore}
 use Rattle.lines.specs.Claims.{AsBefore}
+use Rattle.lines.proofs.HexLaws.{line-octets}
 use Rattle.lines.proofs.ReleaseAll.{Stops, sound-stops}
 
 -- ---- every part of a step keeps the ranges
@@ -55,14 +57,15 @@ after-offer : (a : Answer View) (view : View) → Sound (afterwards a view) → 
 after-offer (done w) view s = s
 after-offer (refused x) view s = s
 
-offered-sound : (a : Answer (List ℕ)) {view : View} → Sound view → Sound (afterwards (_>>=_ a (λ octets. offer octets view)) view)
-offered-sound (done octets) s = offer-sound s octets
-offered-sound (refused x) s = s
+offered-sound : (a : Answer (List ℕ)) → ((octets : List ℕ) → a ≡ done octets → Octets octets) → {view : View} → Sound view
+    → Sound (afterwards (_>>=_ a (λ octets. offer octets view)) view)
+offered-sound (done octets) small s = offer-sound s octets (small octets refl)
+offered-sound (refused x) small s = s
 
 answer-sound : (line : List ℕ) {view : View} → Sound view → Sound ((answerLine line view) .after)
 unfolding answerLine offerLine lineOffered
 answer-sound [] s = released-sound true s
-answer-sound (c ∷ line) {view} s = after-offer (lineOffered (c ∷ line) view) view (offered-sound (lineOctets (c ∷ line)) s)
+answer-sound (c ∷ line) {view} s = after-offer (lineOffered (c ∷ line) view) view (offered-sound (lineOctets (c ∷ line)) (line-octets (c ∷ line)) s)
 
 -- so after a step the base is unknown or all numbers have passed
 step-sound : (line : List ℕ) {view : View} → Sound view → Sound ((step line view) .after)

@@ -5,6 +5,7 @@ mod FeedTaken
 mod BlockLaws
 mod ReleaseAll
 mod AsBefore
+mod Unnoted
 mod HexBack
 mod InTurn
 pub mod Laws

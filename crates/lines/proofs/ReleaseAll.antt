@@ -58,6 +58,7 @@ asked view fits = from (tested (leb sessionLimit (sum (view .counts))) (unknownA
         record {
           kind = (atBase view) .state;
           number = view .base;
+          note = (atBase view) .note;
           octets = (atBase view) .octets;
           after = goneOn moved view;
         }

@@ -8,6 +8,7 @@ use mathlib.Core.List.{List, map}
 use mathlib.Core.Logic.{inl, inr}
 use lib.ListN.{length, set, take}
 use native.Mathlib.Omega.{arith}
+use borrow.Author.Tests.{eq-eqb}
 use Rattle.datagrams.specs.Sizes.{coveredLeast, coveredLimit, messagesLeast, messagesLimit}
 use Rattle.lengths.specs.Length.{within}
 use Rattle.lengths.proofs.Laws.{both, within-true}
@@ -21,7 +22,7 @@ use Rattle.views.specs.Cells.{received, repaired, Cell, filledCell, unknownAt, 
 use Rattle.views.specs.Held.{Held, heldAt, heldMessages}
 use Rattle.views.specs.Reached.{Known}
 use Rattle.views.specs.Repair.{repair}
-use Rattle.views.specs.Ranges.{isFill}
+use Rattle.views.specs.Ranges.{isFill, noteRight}
 use Rattle.views.specs.Offer as offers
 use Rattle.held.specs.Table.{Lent, lent, countsOf, stateNumbered, cellsOf, heldOf, viewIn}
 use Rattle.held.specs.Laid.{InRanges}
@@ -41,6 +42,11 @@ is-received = refl
 
 pub received-fills : isFill (stateNumbered 1) ≡ true
 received-fills = rw is-received
+
+-- with its own number as its note
+pub own-note : (S : ℕ) → noteRight (stateNumbered 1) S S ≡ true
+unfolding stateNumbered noteRight
+own-note S = eq-eqb S S refl
 
 -- the spares: with parity there are none
 spares-carried : {s : List ℕ} {packet : Part} (k : Kind) {count : ℕ} {items : List Part} → Inside s packet k count items
@@ -90,8 +96,8 @@ may-keep {base} {c} {g = g} {d = d} w may =
 
 -- ---- what is kept and held of both kinds, as document 01 has it
 kept-extra : (s : List ℕ) (number : ℕ) (packet : Part) (k : Kind) (count : ℕ) (items : List Part) (p : ℕ) (cells : List Cell)
-    → offers.keepSpares p (map (octetsOf s) (take (spareCount k count) items)) cells
-    ≡ offers.keepExtra p ((carriedItems s number packet k count items) .extra) cells
+    → offers.keepSpares number p (map (octetsOf s) (take (spareCount k count) items)) cells
+    ≡ offers.keepExtra number p ((carriedItems s number packet k count items) .extra) cells
 unfolding carriedBy offers.keepSpares
 kept-extra s number packet kind.Spares count items p cells = refl
 kept-extra s number packet (kind.Parity n) count items p cells = refl
@@ -105,12 +111,12 @@ held-extra s number packet (kind.Parity n) count items = refl
 -- ---- from step to step
 module _ {base : ℕ} {c : Counts} {t o g s : List ℕ} {number d : ℕ} {packet : Part} {k : Kind} {count : ℕ} {items : List Part}
     (w : InRanges (lent base c t o g)) (may : MayBeAccepted (lent base c t o g) s number d packet k count items)
-    {t₁ o₁ : List ℕ} (k₁ : Keeps 1 number (octetsOf s packet) t o t₁ o₁) where
+    {t₁ o₁ : List ℕ} (k₁ : Keeps number 1 number (octetsOf s packet) t o t₁ o₁) where
   in-view : keptBefore + d < keptNumbers
   in-view = omega (arith, may .near)
 
   packet-now : CellsNow (lent base c t o g) (lent base c t₁ o₁ g)
-      (offers.keep received (keptBefore + d) (octetsOf s packet) (cellsOf base t o))
+      (offers.keep number received (keptBefore + d) (octetsOf s packet) (cellsOf base t o))
   packet-now = rw is-received at (k₁ .kept base c g (keptBefore + d) w in-view (may .place))
 
   pub within-first : InRanges (lent base c t₁ o₁ g)
@@ -133,11 +139,11 @@ module _ {base : ℕ} {c : Counts} {t o g s : List ℕ} {number d : ℕ} {packet
   known-first : Known (cellsOf base t₁ o₁) (keptBefore + d)
   known-first =
       ap (λ (x : List Cell). unknownAt x (keptBefore + d)) (packet-now .cells)
-      ∙ keep-here received (keptBefore + d) (octetsOf s packet) (cellsOf base t o) refl (rw (length-cells base t o) in-view)
+      ∙ keep-here number received (keptBefore + d) (octetsOf s packet) (cellsOf base t o) refl (rw (length-cells base t o) in-view)
 
   module _ {spares : ℕ} (e-spares : spares ≡ spareCount k count) {t₂ o₂ : List ℕ} (k₂ : KeepsSpares number s items spares t₁ o₁ t₂ o₂) where
     spares-now : CellsNow (lent base c t₁ o₁ g) (lent base c t₂ o₂ g)
-        (offers.keepSpares (keptBefore + d) (map (octetsOf s) (take (spareCount k count) items)) (cellsOf base t₁ o₁))
+        (offers.keepSpares number (keptBefore + d) (map (octetsOf s) (take (spareCount k count) items)) (cellsOf base t₁ o₁))
     spares-now =
         let few = spares-carried k (may .inside) (may .there) .few in
         (rw e-spares at k₂) .kept base c g (keptBefore + d) within-first in-view (omega arith) (may .place)
@@ -151,7 +157,7 @@ module _ {base : ℕ} {c : Counts} {t o g s : List ℕ} {number d : ℕ} {packet
           within = spares-now .within;
           known =
               ap (λ (x : List Cell). unknownAt x (keptBefore + d)) (spares-now .cells)
-              ∙ spares-stay (keptBefore + d) (map (octetsOf s) (take (spareCount k count) items)) (cellsOf base t₁ o₁) (keptBefore + d)
+              ∙ spares-stay number (keptBefore + d) (map (octetsOf s) (take (spareCount k count) items)) (cellsOf base t₁ o₁) (keptBefore + d)
               known-first;
           unmarked = ap (λ (x : List Held). (heldAt x d) .accepted) held-second ∙ may .unmarked;
         }
@@ -171,19 +177,19 @@ module _ {base : ℕ} {c : Counts} {t o g s : List ℕ} {number d : ℕ} {packet
         pub may-mend : MayMend base t₃ o₂ g₁
         may-mend = record { counts = c; within = within-third }
 
-        cells-third : cellsOf base t₃ o₂ ≡ offers.keepExtra (keptBefore + d) ((carriedItems s number packet k count items) .extra)
-            (offers.keep received (keptBefore + d) (octetsOf s packet) (cellsOf base t o))
+        cells-third : cellsOf base t₃ o₂ ≡ offers.keepExtra number (keptBefore + d) ((carriedItems s number packet k count items) .extra)
+            (offers.keep number received (keptBefore + d) (octetsOf s packet) (cellsOf base t o))
         cells-third =
             held-now .cells ∙ spares-now .cells
-            ∙ ap (offers.keepSpares (keptBefore + d) (map (octetsOf s) (take (spareCount k count) items))) (packet-now .cells)
+            ∙ ap (offers.keepSpares number (keptBefore + d) (map (octetsOf s) (take (spareCount k count) items))) (packet-now .cells)
             ∙ kept-extra s number packet k count items (keptBefore + d)
-            (offers.keep received (keptBefore + d) (octetsOf s packet) (cellsOf base t o))
+            (offers.keep number received (keptBefore + d) (octetsOf s packet) (cellsOf base t o))
 
         held-third : heldOf base t₃ g₁ ≡ set (heldOf base t g) d (offers.heldBy ((carriedItems s number packet k count items) .extra))
         held-third =
             held-now .held ∙ ap₂ (λ (l : List Held) (x : Held). set l d x) held-second (held-extra s number packet k count items)
 
-        pub accepted : {t₄ o₃ : List ℕ} → Mends base t₃ o₂ g₁ t₄ o₃
+        pub accepted : {t₄ o₃ : List ℕ} → Mends number base t₃ o₂ g₁ t₄ o₃
             → AcceptedAt (carriedItems s number packet k count items) d (lent base c t o g) (lent base c t₄ o₃ g₁)
         unfolding offers.accept viewIn carriedBy
         accepted k₄ =
@@ -192,7 +198,7 @@ module _ {base : ℕ} {c : Counts} {t o g s : List ℕ} {number d : ℕ} {packet
               state =
                   mended .state
                   ∙ ap₂ (λ (x : List Cell) (y : List Held).
-                  record { base = base; counts = countsOf c; cells = repair (filledCell repaired) x (heldMessages y); held = y })
+                  record { base = base; counts = countsOf c; cells = repair (filledCell number repaired) x (heldMessages y); held = y })
                   cells-third
                   held-third;
               within = mended .within;

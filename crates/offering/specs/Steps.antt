@@ -14,8 +14,8 @@ use Rattle.datagrams.specs.declared.kind.Kind.{Kind}
 use Rattle.datagrams.specs.declared.kind.Kind.the-variants as kind
 use Rattle.views.specs.Cells.{keptBefore, keptAhead}
 use Rattle.views.specs.Held.{heldAt}
+use Rattle.views.specs.View.{numberAt}
 use Rattle.views.specs.Offer as offers
-use Rattle.held.specs.Slots.{numberAt}
 use Rattle.held.specs.Table.{Lent, heldOf, viewIn}
 use Rattle.held.specs.Laid.{InRanges}
 use Rattle.offering.specs.Outcome.{offeredOutcome, acceptedOf}

@@ -73,13 +73,13 @@ fn accept(
         (lent base counts (now (t .entry)) (now (o .entry)) (now (g .entry)))
         (lent base counts (now (t .exit)) (now (o .exit)) (now (g .exit))) ⌝ }
 {
-    keeping::keep(t, o, number, Session::RECEIVED, s, packet);
+    keeping::keep(t, o, number, Session::RECEIVED, number, s, packet);
     let spares = spares_of(kind, count);
     keeping::keep_spares(t, o, number, s, items, spares);
     let n = covered_of(kind);
     let m = messages_of(kind, count);
     keeping::hold(base, t, g, s, distance, n, items, m);
-    repairing::mend(base, t, o, g);
+    repairing::mend(base, t, o, g, number);
 }
 
 // A refusal, made of its number.

@@ -12,8 +12,8 @@ use Rattle.octets.proofs.Laws.{same-or-not}
 use Rattle.datagrams.specs.Sizes.{packetLimit, messagesLimit}
 use Rattle.views.specs.Cells.{keptBefore, keptAhead}
 use Rattle.views.specs.Repair.{Message, usable}
-use Rattle.views.specs.View.{numbers}
-use Rattle.held.specs.Slots.{numberAt, heardSlotAt, slotsHeard, messageOctets}
+use Rattle.views.specs.View.{numbers, numberAt}
+use Rattle.held.specs.Slots.{heardSlotAt, slotsHeard, messageOctets}
 use Rattle.held.specs.Table.{nIn, mIn, messageSizeIn, cellsOf}
 use Rattle.repairing.specs.Back.{findBack}
 use Rattle.repairing.specs.Promise.{Searchable, nAt, mAt, messageSizeAt, messageHeld, missingOf, LowestFound, Seeable, LowestSeen}

@@ -16,8 +16,8 @@ use Rattle.datagrams.specs.Sizes.{packetLimit}
 use Rattle.views.specs.Cells.{Cell, cellAt, unknownAt, keptNumbers}
 use Rattle.views.specs.Repair.{passing}
 use Rattle.views.proofs.Laws.{passing-yes, passing-no}
-use Rattle.views.specs.View.{distance, numbers}
-use Rattle.held.specs.Slots.{numberAt, slotAt}
+use Rattle.views.specs.View.{distance, numbers, numberAt}
+use Rattle.held.specs.Slots.{slotAt}
 use Rattle.held.specs.Table.{Lent, cellsOf}
 use Rattle.held.specs.Laid.{InRanges}
 use Rattle.held.proofs.Laws.{cell-at, unknown-at, octet-at, unknown-empty, slot-small}

@@ -19,7 +19,8 @@ use Rattle.views.specs.Repair.{Message, unknownMembers, usable, firstUsable}
 use Rattle.views.specs.Held.{messagesOf, messageAt}
 use Rattle.stores.proofs.Laws.{length-part}
 use Rattle.views.proofs.Laws.{reach-kept}
-use Rattle.held.specs.Slots.{numberAt, slotAt, heardSlotAt, messageSlot, slotsHeard, slotsMessages, messageOctets}
+use Rattle.views.specs.View.{numberAt}
+use Rattle.held.specs.Slots.{slotAt, heardSlotAt, messageSlot, slotsHeard, slotsMessages, messageOctets}
 use Rattle.held.specs.Table.{Lent, messageIn, heldIn, cellsOf}
 use Rattle.held.specs.Laid.{InRanges}
 use Rattle.held.proofs.Laws.{n-small, heard-small, message-small, has-message-slot}

@@ -15,8 +15,8 @@ use Rattle.views.specs.Repair.{Message, mended}
 use Rattle.views.proofs.Laws.{length-mended}
 use Rattle.stores.specs.Store.{added, part}
 use Rattle.stores.proofs.Laws.{length-added, added-at}
-use Rattle.views.specs.View.{distance, numbers}
-use Rattle.held.specs.Slots.{numberAt, heardSlotAt, messageSlot, slotsHeard}
+use Rattle.views.specs.View.{distance, numbers, numberAt}
+use Rattle.held.specs.Slots.{heardSlotAt, messageSlot, slotsHeard}
 use Rattle.held.specs.Table.{Lent, nIn, mIn, messageSizeIn, messageIn, cellsOf}
 use Rattle.held.specs.Laid.{InRanges}
 use Rattle.repairing.specs.Back.{slotOf, xorBack, Summed}

@@ -101,43 +101,43 @@ pub record MendedOctets (base : ℕ) (t o g : List ℕ) (d i : ℕ) (r : List �
   pub long : length r ≡ packetLimit
   pub front : take (length ((messageHeld base t g d i) .octets)) r ≡ mended (cellsOf base t o) (messageHeld base t g d i)
 
--- of the table only states and sizes of kept numbers have changed: marks, n, m and sizes of messages are as they were
+-- of the table only states, sizes and notes of kept numbers have changed: marks, n, m and sizes of messages are as they were
 pub record SameBeside (before after : List ℕ) : Type 0 where
-  pub stays : (k : ℕ) → slotsKept + slotsKept ≤ k → getD after k 0 ≡ getD before k 0
+  pub stays : (k : ℕ) → slotsKept + slotsKept + slotsKept ≤ k → getD after k 0 ≡ getD before k 0
 
 -- what mend sees is within the ranges: there are counts with which it is so
 pub record MayMend (base : ℕ) (t o g : List ℕ) : Type 0 where
   pub counts : Counts
   pub within : InRanges (lent base counts t o g)
 
--- one message used
-pub record FilledNow (before : Lent) (d i : ℕ) (after : Lent) : Type 0 where
+-- one message used, while datagram S is offered
+pub record FilledNow (S : ℕ) (before : Lent) (d i : ℕ) (after : Lent) : Type 0 where
   pub cells : cellsOf (after .base) (after .table) (after .octets)
-      ≡ fill (filledCell repaired) (cellsOf (before .base) (before .table) (before .octets))
+      ≡ fill (filledCell S repaired) (cellsOf (before .base) (before .table) (before .octets))
       (messageHeld (before .base) (before .table) (before .messages) d i)
   pub within : InRanges after
   pub beside : SameBeside (before .table) (after .table)
 
 -- what fill owes: so it is with every counts with which it was within the ranges
-pub record Fills (base : ℕ) (t o g : List ℕ) (d i : ℕ) (newT newO : List ℕ) : Type 0 where
-  pub fills : (c : Counts) → InRanges (lent base c t o g) → FilledNow (lent base c t o g) d i (lent base c newT newO g)
+pub record Fills (S base : ℕ) (t o g : List ℕ) (d i : ℕ) (newT newO : List ℕ) : Type 0 where
+  pub fills : (c : Counts) → InRanges (lent base c t o g) → FilledNow S (lent base c t o g) d i (lent base c newT newO g)
 
 -- "Then repair": what is held stays, and the kept numbers are repaired
-abbrev pub repairedView : View → View
-repairedView v =
+abbrev pub repairedView : ℕ → View → View
+repairedView S v =
     record {
       base = v .base;
       counts = v .counts;
-      cells = repair (filledCell repaired) (v .cells) (heldMessages (v .held));
+      cells = repair (filledCell S repaired) (v .cells) (heldMessages (v .held));
       held = v .held;
     }
 
 -- all that can be mended is
-pub record MendedNow (before after : Lent) : Type 0 where
-  pub state : viewIn after ≡ repairedView (viewIn before)
+pub record MendedNow (S : ℕ) (before after : Lent) : Type 0 where
+  pub state : viewIn after ≡ repairedView S (viewIn before)
   pub within : InRanges after
   pub beside : SameBeside (before .table) (after .table)
 
 -- what mend owes, likewise with every counts
-pub record Mends (base : ℕ) (t o g newT newO : List ℕ) : Type 0 where
-  pub mends : (c : Counts) → InRanges (lent base c t o g) → MendedNow (lent base c t o g) (lent base c newT newO g)
+pub record Mends (S base : ℕ) (t o g newT newO : List ℕ) : Type 0 where
+  pub mends : (c : Counts) → InRanges (lent base c t o g) → MendedNow S (lent base c t o g) (lent base c newT newO g)

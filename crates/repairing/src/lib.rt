@@ -78,29 +78,39 @@ fn mended(
     sum
 }
 
-// One usable message used: its unknown member becomes repaired.
-fn fill(base: u16, t: &mut [u16], o: &mut [u8], g: &[u8], distance: u16, index: usize, slot: usize)
+// One usable message used: its unknown member becomes repaired, with the number of the datagram being offered as its note.
+fn fill(
+    base: u16,
+    t: &mut [u16],
+    o: &mut [u8],
+    g: &[u8],
+    distance: u16,
+    index: usize,
+    slot: usize,
+    note: u16,
+)
     requires { ⌜ MayMend base (now t) (now o) (now g) ⌝ }
     requires { ⌜ Points base (now t) distance index slot ⌝ }
     requires { ⌜ usable (cellsOf base (now t) (now o)) (messageHeld base (now t) (now g) distance index) ≡ true ⌝ }
-    ensures { λ _. ⌜ Fills base (now (t .entry)) (now (o .entry)) (now (g .entry)) distance index (now (t .exit)) (now (o .exit)) ⌝ }
+    ensures { λ _. ⌜ Fills note base (now (t .entry)) (now (o .entry)) (now (g .entry)) distance index (now (t .exit)) (now (o .exit)) ⌝ }
 {
     let sum = mended(base, t, o, g, distance, index);
     let size = size_of(base, t, distance, index);
     stores::put(o, slot, &sum[..size]);
     let octets = narrow(size);
-    held::set_kept(t, slot, Session::REPAIRED, octets);
+    held::set_kept(t, slot, Session::REPAIRED, octets, note);
 }
 
-// Repair to the end: document 01's rule, until no message is usable.
+// Repair to the end: document 01's rule, until no message is usable. The note of what it fills is the number of the datagram being offered.
 pub fn mend(
     base: u16,
     t: &mut [u16; Session::PLACES],
     o: &mut [u8; Session::PACKET_OCTETS],
     g: &[u8; Session::MESSAGE_OCTETS],
+    note: u16,
 )
     requires { ⌜ MayMend base (now t) (now o) (now g) ⌝ }
-    ensures { λ _. ⌜ Mends base (now (t .entry)) (now (o .entry)) (now (g .entry)) (now (t .exit)) (now (o .exit)) ⌝ }
+    ensures { λ _. ⌜ Mends note base (now (t .entry)) (now (o .entry)) (now (g .entry)) (now (t .exit)) (now (o .exit)) ⌝ }
 {
     let mut left = Session::KEPT;
     while 0 < left {
@@ -113,7 +123,7 @@ pub fn mend(
         else {
             return;
         };
-        fill(base, t, o, g, distance, index, slot);
+        fill(base, t, o, g, distance, index, slot, note);
         left -= 1;
     }
 }

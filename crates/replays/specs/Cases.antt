@@ -27,7 +27,8 @@ pub record Cases : Type 0 where
   pub cut-short : (replay (2 ∷ []) (characters "0002\n")) .text ≡ program (characters "0002\n")
   pub not-paired : (replay (2 ∷ []) (characters "0002010000000\n")) .text ≡ program (characters "0002010000000\n")
   -- a dropped line releases nothing, even from a session that has something to release
-  pub no-release : replaySteps (2 ∷ []) (characters "000201000000" ∷ []) (started (arrived ∷ []) []) ≡ silent (started (arrived ∷ []) [])
+  pub no-release : replaySteps (2 ∷ []) (characters "000201000000" ∷ []) (started (arrived 0 ∷ []) [])
+      ≡ silent (started (arrived 0 ∷ []) [])
   -- a last line without a line feed counts unless it is empty
   pub last-line : (replay (2 ∷ []) (characters "000001060000")) .text ≡ characters "00000006\n"
   -- why demand 3 is not claimed: with 1 dropped, 0 comes in time and is received; before, its spare had left and it was late

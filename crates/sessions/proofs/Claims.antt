@@ -87,10 +87,10 @@ offer-done (done parts) octets view after e = (parts, refl, e)
 offer-done (refused x) octets view after e = let z : _≡_ {A = ℕ} 0 1 = cc in absurd (omega arith)
 
 -- what is known is never written over
-keep-known : (state : State) (q : ℕ) (b : List ℕ) (cells : List Cell) (p : ℕ) → Known cells p
-    → cellAt (offers.keep state q b cells) p ≡ cellAt cells p
+keep-known : (S : ℕ) (state : State) (q : ℕ) (b : List ℕ) (cells : List Cell) (p : ℕ) → Known cells p
+    → cellAt (offers.keep S state q b cells) p ≡ cellAt cells p
 unfolding offers.keep
-keep-known state q b cells p known =
+keep-known S state q b cells p known =
     ⊎-elim
     (λ t. rw t (getD-set-other cells q p _ _ (λ same. true≢false (sym t ∙ ap (unknownAt cells) (sym same) ∙ known))))
     (λ f. rw f)
@@ -99,28 +99,28 @@ keep-known state q b cells p known =
 still-known : (cells after : List Cell) (p : ℕ) → cellAt after p ≡ cellAt cells p → Known cells p → Known after p
 still-known cells after p same known = ap (λ (c : Cell). isUnknown (c .state)) same ∙ known
 
-spares-known : (q : ℕ) (copies : List (List ℕ)) (cells : List Cell) (p : ℕ) → Known cells p
-    → cellAt (offers.keepSpares q copies cells) p ≡ cellAt cells p
+spares-known : (S q : ℕ) (copies : List (List ℕ)) (cells : List Cell) (p : ℕ) → Known cells p
+    → cellAt (offers.keepSpares S q copies cells) p ≡ cellAt cells p
 unfolding offers.keepSpares
-spares-known q [] cells p known = refl
-spares-known q (b ∷ more) cells p known =
-    let one = keep-known spare (q - 1) b cells p known in
-    spares-known (q - 1) more (offers.keep spare (q - 1) b cells) p (still-known cells (offers.keep spare (q - 1) b cells) p one known)
+spares-known S q [] cells p known = refl
+spares-known S q (b ∷ more) cells p known =
+    let one = keep-known S spare (q - 1) b cells p known in
+    spares-known S (q - 1) more (offers.keep S spare (q - 1) b cells) p (still-known cells (offers.keep S spare (q - 1) b cells) p one known)
     ∙ one
 
-extra-known : (q : ℕ) (x : Extra) (cells : List Cell) (p : ℕ) → Known cells p → cellAt (offers.keepExtra q x cells) p ≡ cellAt cells p
-extra-known q (spares copies) cells p known = spares-known q copies cells p known
-extra-known q (parity n messages) cells p known = refl
+extra-known : (S q : ℕ) (x : Extra) (cells : List Cell) (p : ℕ) → Known cells p → cellAt (offers.keepExtra S q x cells) p ≡ cellAt cells p
+extra-known S q (spares copies) cells p known = spares-known S q copies cells p known
+extra-known S q (parity n messages) cells p known = refl
 
 accept-known : (d : ℕ) (c : Carried) (view : View) (p : ℕ) → Known (view .cells) p
     → cellAt ((offers.accept d c view) .cells) p ≡ cellAt (view .cells) p
 unfolding offers.accept
 accept-known d c view p known =
-    let one = keep-known received (keptBefore + d) (c .packet) (view .cells) p known in
-    let first = offers.keep received (keptBefore + d) (c .packet) (view .cells) in
+    let one = keep-known (c .number) received (keptBefore + d) (c .packet) (view .cells) p known in
+    let first = offers.keep (c .number) received (keptBefore + d) (c .packet) (view .cells) in
     let kept = still-known (view .cells) first p one known in
-    let two = extra-known (keptBefore + d) (c .extra) first p kept in
-    repair-known _ _ _ p (still-known first (offers.keepExtra (keptBefore + d) (c .extra) first) p two kept) ∙ two ∙ one
+    let two = extra-known (c .number) (keptBefore + d) (c .extra) first p kept in
+    repair-known _ _ _ p (still-known first (offers.keepExtra (c .number) (keptBefore + d) (c .extra) first) p two kept) ∙ two ∙ one
 
 held-accepted : (x : Extra) → (offers.heldBy x) .accepted ≡ true
 held-accepted (spares copies) = refl
@@ -183,7 +183,7 @@ handed-kind true leave room view h e = pick (release leave room view) refl e whe
 
 known-never-lost : KnownNeverLost
 unfolding releaseOf
-known-never-lost s leave old new r number size o known is =
+known-never-lost s leave old new r number note size o known is =
     let kind = handed-kind (sessionInRanges s) leave (length old) (viewOf s) _ (sym (ap releasedOutcome is) ∙ o .answer) in
     true≢false (ap isUnknown kind ∙ known)
 

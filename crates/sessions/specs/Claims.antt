@@ -50,8 +50,8 @@ pub record AcceptedOffer (octets : List ℕ) (view after : View) : Type 0 where
 
 -- "Base known: it releases, skip or not" (document 02, request 7): a known base is never booked lost
 abbrev pub KnownNeverLost : Type 0
-KnownNeverLost = (s : Session) (leave : Bool) (old new : List ℕ) (r : AfterRelease) (number size : ℕ) → ReleaseOwes s leave old new r
-    → Known ((viewOf s) .cells) keptBefore → r .answer ≡ released.Number Lost number size → ⊥
+KnownNeverLost = (s : Session) (leave : Bool) (old new : List ℕ) (r : AfterRelease) (number note size : ℕ) → ReleaseOwes s leave old new r
+    → Known ((viewOf s) .cells) keptBefore → r .answer ≡ released.Number Lost number note size → ⊥
 
 pub record Claims : Type 0 where
   pub refusedStays : RefusedStays

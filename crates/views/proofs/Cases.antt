@@ -21,6 +21,7 @@ offer-cases =
       spare-before-first = refl;
       spare-stays = refl;
       repaired-then = refl;
+      noted-then = refl;
       before-base = refl;
       two-missing = refl;
       across-65535 = refl;

@@ -8,6 +8,7 @@ use Rattle.views.proofs.Least.{known-within, known-reached, reached-kno
 use Rattle.views.proofs.Honest.{repair-right}
 use Rattle.views.proofs.Burst.{burst-mended, burst-repaired}
 use Rattle.views.proofs.Pair.{as-the-pair}
+use Rattle.views.proofs.Forgotten.{notes-apart}
 
 pub claims : Claims
 claims =
@@ -28,4 +29,5 @@ claims =
       burstMended = burst-mended;
       burstRepaired = burst-repaired;
       asThePair = as-the-pair;
+      notesApart = notes-apart;
     }

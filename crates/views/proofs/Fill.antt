@@ -119,8 +119,8 @@ module _ (made : List ℕ → Cell) where
       (same-or-not q (missing cells message))
 
 -- repair as document 01 has it: a fill is a repaired number
-pub makes-repaired : Makes (filledCell repaired)
-makes-repaired = record { known = λ octets. refl; same = λ octets. refl }
+pub makes-repaired : (S : ℕ) → Makes (filledCell S repaired)
+makes-repaired S = record { known = λ octets. refl; same = λ octets. refl }
 
 -- the fill's octets are as many as the message's
 pub length-mended : (cells : List Cell) (message : Message) → length (mended cells message) ≡ length (message .octets)

@@ -1,6 +1,6 @@
--- An unknown number is filled: it takes the state of a packet and 1 to 160 octets, and the view stays within the ranges. Its own
--- cell passes by its length, since an unknown number is not blank; a number that must be known is known all the more; every other
--- place is as it was. Assumes nothing.
+-- An unknown number is filled: it takes the state of a packet, 1 to 160 octets and a note that is right for it, and the view stays within
+-- the ranges. Its own cell passes by its length, since an unknown number is not blank; a number that must be known is known all the
+-- more; every other place is as it was. Assumes nothing.
 use Prim.Native.Nat.{ℕ, _+_, _≤_, _<_}
 use mathlib.Core.Path.{_≡_, refl, ap, _∙_}
 use mathlib.Core.Bool.{Bool, true, false, not, false≢true}
@@ -16,17 +16,18 @@ use Rattle.views.specs.Cells.{State, unknown, received, spare, repaired,
 use Rattle.views.specs.Cells.{unknownAt, keptBefore, keptAhead, keptNumbers}
 use Rattle.views.specs.Held.{Held, heldAt}
 use Rattle.views.proofs.Fill.{unknown-inside}
-use Rattle.views.specs.View.{View, sum}
-use Rattle.views.specs.Ranges.{sumRight, blankAt, sizeRight, isFill, cellRight, markRight, heldRight, knownAt, Sound}
+use Rattle.views.specs.View.{View, sum, numberAt}
+use Rattle.views.specs.Ranges.{sumRight, blankAt, sizeRight, noteRight, isFill, cellRight, cellNoted, markRight, heldRight, knownAt}
+use Rattle.views.specs.Ranges.{Sound}
 use Rattle.views.proofs.Sizes.{unknown-size}
 
--- the view with a packet at place p
-abbrev pub filledAt : View → ℕ → State → List ℕ → View
-filledAt v p state octets =
+-- the view with a packet at place p, filled while datagram S is offered
+abbrev pub filledAt : View → ℕ → ℕ → State → List ℕ → View
+filledAt v p S state octets =
     record {
       base = v .base;
       counts = v .counts;
-      cells = set (v .cells) p (filledCell state octets);
+      cells = set (v .cells) p (filledCell S state octets);
       held = v .held;
     }
 
@@ -60,10 +61,11 @@ held-known h known e =
     and-both (mark-known (h .accepted) known (h .n) (length (h .messages)) (and-left mark _ e)) (and-right mark _ e)
 
 -- ---- the view
-module _ {v : View} (s : Sound v) (p : ℕ) (free : unknownAt (v .cells) p ≡ true) (state : State) (fills : isFill state ≡ true)
+module _ {v : View} (s : Sound v) (p : ℕ) (free : unknownAt (v .cells) p ≡ true) (S : ℕ) (state : State) (fills : isFill state ≡ true)
+    (noted : noteRight state S (numberAt (v .base) p) ≡ true)
     (b : List ℕ) (least : packetLeast ≤ length b) (most : length b ≤ packetLimit) where
   filled : Cell
-  filled = filledCell state b
+  filled = filledCell S state b
 
   inside : p < length (v .cells)
   inside = unknown-inside (v .cells) p free
@@ -88,6 +90,17 @@ module _ {v : View} (s : Sound v) (p : ℕ) (free : unknownAt (v .cells) p ≡ t
       (λ other. ap (λ (c : Cell). cellRight c (blankAt (sum (v .counts)) q)) (cell-other q other) ∙ s .cell q small)
       (same-or-not q p)
 
+  note-each : (q : ℕ) → q < keptNumbers → cellNoted (cellAt (set (v .cells) p filled) q) (numberAt (v .base) q) ≡ true
+  unfolding filled
+  note-each q small =
+      ⊎-elim
+      (λ (same : q ≡ p).
+      ap (λ (k : ℕ). cellNoted (cellAt (set (v .cells) p filled) k) (numberAt (v .base) k)) same
+      ∙ ap (λ (c : Cell). cellNoted c (numberAt (v .base) p)) cell-here
+      ∙ noted)
+      (λ other. ap (λ (c : Cell). cellNoted c (numberAt (v .base) q)) (cell-other q other) ∙ s .note q small)
+      (same-or-not q p)
+
   held-each : (d : ℕ) → d < keptAhead
       → heldRight (heldAt (v .held) d) (not (unknownAt (set (v .cells) p filled) (keptBefore + d))) ≡ true
   unfolding filled
@@ -102,14 +115,15 @@ module _ {v : View} (s : Sound v) (p : ℕ) (free : unknownAt (v .cells) p ≡ t
       (λ other. ap (λ (c : Cell). heldRight h (not (isUnknown (c .state)))) (cell-other q other) ∙ s .held d small)
       (same-or-not q p)
 
-  pub filled-sound : Sound (filledAt v p state b)
+  pub filled-sound : Sound (filledAt v p S state b)
   unfolding filled sumRight
   filled-sound =
       record {
         small = s .small;
         total = s .total;
-        kept = length-set (v .cells) p (filledCell state b) ∙ s .kept;
+        kept = length-set (v .cells) p (filledCell S state b) ∙ s .kept;
         ahead = s .ahead;
         cell = cell-each;
+        note = note-each;
         held = held-each;
       }

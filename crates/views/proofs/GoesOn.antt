@@ -12,9 +12,9 @@ use Rattle.octets.specs.Place.{allBelow}
 use Rattle.octets.proofs.Laws.{same-or-not, below-or-not, and-left, and-both}
 use Rattle.views.specs.Cells.{Cell, blankCell, unknownCell, cellAt, isUnknown, keptBefore, keptAhead, keptNumbers}
 use Rattle.views.specs.Held.{Held, nothingHeld, heldAt}
-use Rattle.views.specs.Ranges.{blankAt, sumRight, sizeRight, cellRight, markRight, heldRight, knownAt, Sound}
+use Rattle.views.specs.Ranges.{blankAt, sumRight, sizeRight, noteRight, cellRight, cellNoted, markRight, heldRight, knownAt, Sound}
 use Rattle.views.specs.View as views
-use Rattle.views.specs.View.{View, sum, numbers, sessionLimit, following, goneOn}
+use Rattle.views.specs.View.{View, sum, numbers, numberAt, sessionLimit, following, goneOn}
 
 -- the last place of the view, where a number comes into view, and the last distance from the base
 abbrev pub lastPlace : ℕ
@@ -44,6 +44,10 @@ blank-further total p = ⊎-elim low high (below-or-not (suc p) keptBefore) wher
       rw (lt-ltb p keptBefore base, le-ltb (suc p) keptBefore past) (le-ltb (total + 1) (keptBefore - p) (omega arith)))
       (λ ahead. rw (le-ltb p keptBefore ahead, le-ltb (suc p) keptBefore past))
       (below-or-not p keptBefore)
+
+-- and the number there is the same
+number-further : (base p : ℕ) → base < numbers → numberAt (following base) p ≡ numberAt base (suc p)
+number-further base p small = omega arith
 
 -- ---- a list one place further
 module _ {A : Type 0} where
@@ -107,6 +111,14 @@ module _ {v : View} (counts : views.Counts) (s : Sound v) (more : sum counts ≡
   unfolding sizeRight
   last-right = ap (λ (c : Cell). cellRight c (blankAt (sum counts) lastPlace)) cell-last
 
+  note-right : (p : ℕ) → p < lastPlace → cellNoted (cellAt ((goneOn counts v) .cells) p) (numberAt (following (v .base)) p) ≡ true
+  note-right p low =
+      ap₂ (λ (c : Cell) (n : ℕ). cellNoted c n) (cell-next p low) (number-further (v .base) p (s .small)) ∙ s .note (suc p) (omega arith)
+
+  last-noted : (n : ℕ) → cellNoted (cellAt ((goneOn counts v) .cells) lastPlace) n ≡ true
+  unfolding noteRight
+  last-noted n = ap (λ (c : Cell). cellNoted c n) cell-last
+
   held-right : (d : ℕ) → d < lastAhead → heldRight (heldAt ((goneOn counts v) .held) d) (knownAt (goneOn counts v) (keptBefore + d)) ≡ true
   held-right d low =
       let e : suc (keptBefore + d) ≡ keptBefore + suc d = omega arith in
@@ -128,6 +140,9 @@ module _ {v : View} (counts : views.Counts) (s : Sound v) (more : sum counts ≡
         ahead = as-long (v .held) nothingHeld lastAhead (s .ahead);
         cell = λ p below.
             ⊎-elim (λ (e : p ≡ lastPlace). rw e last-right) (λ other. cell-right p (omega arith)) (same-or-not p lastPlace);
+        note = λ p below.
+            ⊎-elim (λ (e : p ≡ lastPlace). rw e (last-noted (numberAt (following (v .base)) lastPlace))) (λ other. note-right p (omega arith))
+            (same-or-not p lastPlace);
         held = λ d below.
             ⊎-elim (λ (e : d ≡ lastAhead). rw e gone-right) (λ other. held-right d (omega arith)) (same-or-not d lastAhead);
       }

@@ -67,5 +67,6 @@ module _ {v : View} (s : Sound v) (d : ℕ) (near : d < keptAhead) (h : Held)
         kept = s .kept;
         ahead = length-set (v .held) d h ∙ s .ahead;
         cell = s .cell;
+        note = s .note;
         held = held-each;
       }

@@ -21,5 +21,6 @@ pub mod Ranges
 pub mod Release
 pub mod Pair
 pub mod Stays
+pub mod Forgotten
 pub mod Claims
 pub mod Laws

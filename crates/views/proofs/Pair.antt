@@ -17,7 +17,7 @@ use Rattle.views.specs.Ranges.{Sound}
 use Rattle.views.specs.Release.{atBase, movedOn, release}
 use Rattle.views.specs.Pair.{next, Loss, giveUp, lossReleased}
 use Rattle.views.specs.Claims.{AsThePair}
-use Rattle.views.proofs.Sizes.{unknown-size}
+use Rattle.views.proofs.Sizes.{unknown-size, unknown-note}
 
 -- an unknown base, within the ranges
 no-octets : (s : List ℕ) → length s ≡ 0 → s ≡ []
@@ -32,11 +32,12 @@ is-unknown repaired e = absurd (false≢true e)
 is-unknown blank e = absurd (false≢true e)
 
 pub unknown-base : (view : View) → Sound view → Unknown (view .cells) keptBefore
-    → ((atBase view) .state ≡ unknown) × ((atBase view) .octets ≡ [])
+    → ((atBase view) .state ≡ unknown) × ((atBase view) .octets ≡ []) × ((atBase view) .note ≡ 0)
 unknown-base view s u = (
   is-unknown ((atBase view) .state) u,
   no-octets ((atBase view) .octets)
       (unknown-size ((atBase view) .state) (length ((atBase view) .octets)) _ u (s .cell keptBefore (omega arith)) .0),
+  unknown-note ((atBase view) .state) ((atBase view) .note) _ u (s .note keptBefore (omega arith)),
 )
 
 -- ---- without leave
@@ -54,18 +55,18 @@ unfolding release next
 leave-known room view known = rw known
 
 one-or-other : (p : Bool) (l : Loss) (kind : State) → kind ≡ unknown
-    → cond p (refuse allPassed) (done (record { kind = kind; number = l .number; octets = []; after = l .after }))
+    → cond p (refuse allPassed) (done (record { kind = kind; number = l .number; note = 0; octets = []; after = l .after }))
     ≡ lossReleased (cond p (refuse allPassed) (done l))
 one-or-other true l kind e = refl
 one-or-other false l kind e =
-    ap (λ (s : State). done (record { kind = s; number = l .number; octets = []; after = l .after })) e
+    ap (λ (s : State). done (record { kind = s; number = l .number; note = 0; octets = []; after = l .after })) e
 
 leave-unknown : (room : ℕ) (view : View) → Sound view → Unknown (view .cells) keptBefore
     → release true room view ≡ lossReleased (giveUp view)
 unfolding release giveUp
 leave-unknown room view s u =
     let cell = unknown-base view s u in
-    rw (cell .1, u, le-ltb room 0 (omega arith))
+    rw (cell .1, cell .2, u, le-ltb room 0 (omega arith))
     (one-or-other (leb sessionLimit (sum (view .counts))) (record { number = view .base; after = movedOn view }) _ (cell .0))
 
 pub as-the-pair : AsThePair

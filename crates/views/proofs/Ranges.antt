@@ -11,8 +11,9 @@ use Rattle.octets.proofs.Laws.{and-left, and-right, and-both, allBelow-at, allB
 use Rattle.datagrams.specs.Sizes.{packetLeast, packetLimit}
 use Rattle.views.specs.Cells.{State, unknown, received, spare, repaired, blank, cellAt, keptBefore, keptAhead, keptNumbers}
 use Rattle.views.specs.Held.{heldAt}
-use Rattle.views.specs.View.{View, sum, numbers, sessionLimit}
-use Rattle.views.specs.Ranges.{sumRight, blankAt, sizeRight, cellRight, heldRight, knownAt, cellsRight, allHeldRight, inRanges, Sound}
+use Rattle.views.specs.View.{View, sum, numbers, numberAt, sessionLimit}
+use Rattle.views.specs.Ranges.{sumRight, blankAt, sizeRight, cellRight, cellNoted, heldRight, knownAt, cellsRight, notesRight}
+use Rattle.views.specs.Ranges.{allHeldRight, inRanges, Sound}
 
 -- a base that equals a sum modulo 65,536 is a number
 pub base-small : (v : View) → sumRight v ≡ true → v .base < numbers
@@ -36,9 +37,10 @@ size-fits blank size b e = omega (arith, eqb-true size 0 (and-left (eqb size 0) 
 
 -- what passes the test, with the lengths that the lists have, is within the ranges
 pub sound-of : (v : View) → inRanges v ≡ true → length (v .cells) ≡ keptNumbers → length (v .held) ≡ keptAhead → Sound v
-unfolding inRanges cellsRight allHeldRight
+unfolding inRanges cellsRight notesRight allHeldRight
 sound-of v e kept ahead =
-    let first = and-left (sumRight v && cellsRight v) (allHeldRight v) e in
+    let cells = and-left ((sumRight v && cellsRight v) && notesRight v) (allHeldRight v) e in
+    let first = and-left (sumRight v && cellsRight v) (notesRight v) cells in
     let total = and-left (sumRight v) (cellsRight v) first in
     record {
       small = base-small v total;
@@ -48,13 +50,17 @@ sound-of v e kept ahead =
       cell =
           allBelow-at keptNumbers (λ p. cellRight (cellAt (v .cells) p) (blankAt (sum (v .counts)) p))
           (and-right (sumRight v) (cellsRight v) first);
+      note =
+          allBelow-at keptNumbers (λ p. cellNoted (cellAt (v .cells) p) (numberAt (v .base) p))
+          (and-right (sumRight v && cellsRight v) (notesRight v) cells);
       held =
           allBelow-at keptAhead (λ d. heldRight (heldAt (v .held) d) (knownAt v (keptBefore + d)))
-          (and-right (sumRight v && cellsRight v) (allHeldRight v) e);
+          (and-right ((sumRight v && cellsRight v) && notesRight v) (allHeldRight v) e);
     }
 
 -- what is within the ranges passes the test
 pub inRanges-of : {v : View} → Sound v → inRanges v ≡ true
-unfolding inRanges cellsRight allHeldRight
+unfolding inRanges cellsRight notesRight allHeldRight
 inRanges-of {v} s =
-    and-both (and-both (s .total) (allBelow-of keptNumbers _ (s .cell))) (allBelow-of keptAhead _ (s .held))
+    and-both (and-both (and-both (s .total) (allBelow-of keptNumbers _ (s .cell))) (allBelow-of keptNumbers _ (s .note)))
+    (allBelow-of keptAhead _ (s .held))

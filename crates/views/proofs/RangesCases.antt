@@ -2,11 +2,11 @@
 use mathlib.Core.Path.{refl}
 use Rattle.octets.specs.Place.{allBelow}
 use Rattle.views.specs.View.{freshView}
-use Rattle.views.specs.Ranges.{sumRight, sizeRight, markRight, heldRight, cellsRight, allHeldRight, inRanges}
+use Rattle.views.specs.Ranges.{sumRight, sizeRight, noteRight, markRight, heldRight, cellsRight, notesRight, allHeldRight, inRanges}
 use Rattle.views.specs.RangesCases.{RangesCases}
 
 pub ranges-cases : RangesCases
-unfolding inRanges sumRight sizeRight markRight heldRight cellsRight allHeldRight allBelow freshView
+unfolding inRanges sumRight sizeRight noteRight markRight heldRight cellsRight notesRight allHeldRight allBelow freshView
 ranges-cases =
     record {
       at-start = refl;
@@ -24,6 +24,12 @@ ranges-cases =
       spare-160 = refl;
       spare-161 = refl;
       repaired-empty = refl;
+      own-note = refl;
+      another-note = refl;
+      unknown-note = refl;
+      blank-note = refl;
+      spare-note = refl;
+      repaired-note = refl;
       accepted-unknown = refl;
       bare-messages = refl;
       n-without-messages = refl;

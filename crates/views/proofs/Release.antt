@@ -20,6 +20,7 @@ pub record Leaves (leave : Bool) (room : ℕ) (view : View) (r : Release) : Type
   pub fits : length (r .octets) ≤ room
   pub kind : r .kind ≡ (atBase view) .state
   pub number : r .number ≡ view .base
+  pub note : r .note ≡ (atBase view) .note
   pub octets : r .octets ≡ (atBase view) .octets
   pub after : r .after ≡ movedOn view
 
@@ -38,6 +39,7 @@ release-leaves leave room view r e =
       fits = omega (arith, ap length octets, ltb-false room size (fits .0));
       kind = ap (λ (x : Release). x .kind) same;
       number = ap (λ (x : Release). x .number) same;
+      note = ap (λ (x : Release). x .note) same;
       octets = octets;
       after = ap (λ (x : Release). x .after) same;
     }

@@ -1,5 +1,5 @@
--- What the ranges say of lengths: an unknown number has no octets and is not blank, no packet is over the limit, and n and m are
--- within the sizes. Each is read off the test that the ranges make. Assumes nothing.
+-- What the ranges say of lengths and notes: an unknown number has no octets and note 0 and is not blank, no packet is over the limit, and
+-- n and m are within the sizes. Each is read off the test that the ranges make. Assumes nothing.
 use Prim.Native.Nat.{ℕ, _*_, _≤_}
 use mathlib.Core.Path.{_≡_, refl}
 use mathlib.Core.Bool.{Bool, true, false, not, cond, _&&_, false≢true}
@@ -12,7 +12,7 @@ use Rattle.octets.proofs.Laws.{and-left, and-right}
 use Rattle.datagrams.specs.Sizes.{coveredLimit, messagesLimit, reachLimit, coveredLeast}
 use Rattle.views.specs.Cells.{State, unknown, received, spare, repaired, blank, isUnknown, keptBefore}
 use Rattle.views.specs.Held.{Held}
-use Rattle.views.specs.Ranges.{sizeRight, markRight, heldRight}
+use Rattle.views.specs.Ranges.{sizeRight, noteRight, markRight, heldRight}
 
 -- ---- a kept number
 pub unknown-size : (state : State) (size : ℕ) (mustBeBlank : Bool) → isUnknown state ≡ true → sizeRight state size mustBeBlank ≡ true
@@ -23,6 +23,14 @@ unknown-size received size b u e = absurd (false≢true u)
 unknown-size spare size b u e = absurd (false≢true u)
 unknown-size repaired size b u e = absurd (false≢true u)
 unknown-size blank size b u e = absurd (false≢true u)
+
+pub unknown-note : (state : State) (note number : ℕ) → isUnknown state ≡ true → noteRight state note number ≡ true → note ≡ 0
+unfolding noteRight
+unknown-note unknown note number u e = eqb-true note 0 e
+unknown-note received note number u e = absurd (false≢true u)
+unknown-note spare note number u e = absurd (false≢true u)
+unknown-note repaired note number u e = absurd (false≢true u)
+unknown-note blank note number u e = absurd (false≢true u)
 
 -- ---- what is held
 settings-sizes : (b : Bool) (n m : ℕ) → eqb m 0 ≡ b

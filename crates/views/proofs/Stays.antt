@@ -10,11 +10,12 @@ use lib.ListN.{length, getD, drop, length-map, length-drop, List·getD-map}
 use lib.Seq.{getD-set-same, length-take-le}
 use lib.Dec.{leb, ltb, eqb}
 use native.Mathlib.Omega.{arith}
-use borrow.Author.Tests.{le-leb, leb-true, ltb-true, ne-eqb}
+use borrow.Author.Tests.{le-leb, leb-true, ltb-true, eq-eqb, ne-eqb}
 use Rattle.octets.specs.Place.{allBelow}
 use Rattle.octets.proofs.Laws.{true-or-false, and-left, and-right, and-both, allBelow-at}
 use Rattle.lengths.specs.Refusals.{repeated, tooFar, late}
 use Rattle.lengths.specs.Answers.{Answer, done, refused, refuse, _>>=_, afterwards}
+use Rattle.lengths.specs.Claims.{Octets}
 use Rattle.lengths.specs.Length.{within}
 use Rattle.lengths.proofs.Laws.{within-true}
 use Rattle.datagrams.specs.Sizes.{packetLeast, packetLimit, messageLimit, coveredLeast, coveredLimit, messagesLeast, messagesLimit}
@@ -26,15 +27,15 @@ use Rattle.datagrams.specs.Write.{countInside, extraOf}
 use Rattle.datagrams.specs.declared.reader.Part.{Part}
 use Rattle.datagrams.specs.declared.kind.Kind.{Kind}
 use Rattle.datagrams.specs.declared.kind.Kind.the-variants as kind
-use Rattle.datagrams.proofs.Laws.{read-inside}
+use Rattle.datagrams.proofs.Laws.{read-inside, number-small}
 use Rattle.views.specs.Cells.{State, unknown, received, spare, repaired, blank, Cell, blankCell, filledCell, isUnknown, unknownAt}
 use Rattle.views.specs.Cells.{keptBefore, keptAhead}
 use Rattle.views.specs.Held.{Held, heldAt, heldMessages}
 use Rattle.views.specs.Repair.{Message, firstUsable, mended, fill, repair}
 use Rattle.views.specs.View as views
-use Rattle.views.specs.View.{View, sum, distance, freshView}
+use Rattle.views.specs.View.{View, sum, numbers, numberAt, distance, freshView}
 use Rattle.views.specs.Offer.{keep, keepSpares, keepExtra, heldBy, accept, acceptedAt, lateFrom, offered, offer}
-use Rattle.views.specs.Ranges.{sumRight, sizeRight, isFill, markRight, heldRight, knownAt, Sound}
+use Rattle.views.specs.Ranges.{sumRight, sizeRight, noteRight, isFill, markRight, heldRight, knownAt, Sound}
 use Rattle.views.specs.Release.{Release, counted, atBase, release, viewAfterRelease}
 use Rattle.views.proofs.Fill.{unknown-inside, missing, usable-says, length-mended}
 use Rattle.views.proofs.Search.{found-usable}
@@ -53,7 +54,8 @@ withCells v cells = record { base = v .base; counts = v .counts; cells = cells; 
 
 same-sound : {v : View} → Sound v → Sound (withCells v (v .cells))
 unfolding sumRight
-same-sound s = record { small = s .small; total = s .total; kept = s .kept; ahead = s .ahead; cell = s .cell; held = s .held }
+same-sound s =
+    record { small = s .small; total = s .total; kept = s .kept; ahead = s .ahead; cell = s .cell; note = s .note; held = s .held }
 
 -- ---- packets and spares are kept
 -- octets that a packet may have
@@ -61,23 +63,23 @@ record PacketSized (b : List ℕ) : Type 0 where
   least : packetLeast ≤ length b
   most : length b ≤ packetLimit
 
-keep-sound : {v : View} → Sound v → (state : State) → isFill state ≡ true → (p : ℕ) (b : List ℕ) → PacketSized b
-    → Sound (withCells v (keep state p b (v .cells)))
+keep-sound : {v : View} → Sound v → (S : ℕ) (state : State) → isFill state ≡ true → (p : ℕ) → noteRight state S (numberAt (v .base) p) ≡ true
+    → (b : List ℕ) → PacketSized b → Sound (withCells v (keep S state p b (v .cells)))
 unfolding keep
-keep-sound {v} s state fills p b sized =
-    ⊎-elim (λ t. rw t (filled-sound s p t state fills b (sized .least) (sized .most))) (λ f. rw f (same-sound s))
+keep-sound {v} s S state fills p noted b sized =
+    ⊎-elim (λ t. rw t (filled-sound s p t S state fills noted b (sized .least) (sized .most))) (λ f. rw f (same-sound s))
     (true-or-false (unknownAt (v .cells) p))
 
-spares-sound : (copies : List (List ℕ)) → ((i : ℕ) → i < length copies → PacketSized (getD copies i [])) → {v : View} → Sound v → (p : ℕ)
-    → Sound (withCells v (keepSpares p copies (v .cells)))
-unfolding keepSpares
-spares-sound [] each s p = same-sound s
-spares-sound (b ∷ more) each s p =
-    spares-sound more (λ i low. each (suc i) (omega arith)) (keep-sound s spare refl (p - 1) b (each 0 (omega arith))) (p - 1)
+spares-sound : (copies : List (List ℕ)) → ((i : ℕ) → i < length copies → PacketSized (getD copies i [])) → {v : View} → Sound v → (S p : ℕ)
+    → Sound (withCells v (keepSpares S p copies (v .cells)))
+unfolding keepSpares noteRight
+spares-sound [] each s S p = same-sound s
+spares-sound (b ∷ more) each s S p =
+    spares-sound more (λ i low. each (suc i) (omega arith)) (keep-sound s S spare refl (p - 1) refl b (each 0 (omega arith))) S (p - 1)
 
 -- what an accepted datagram adds beside its packet
 record ExtraSized (x : Extra) : Type 0 where
-  copies : {v : View} → Sound v → (p : ℕ) → Sound (withCells v (keepExtra p x (v .cells)))
+  copies : {v : View} → Sound v → (S p : ℕ) → Sound (withCells v (keepExtra S p x (v .cells)))
   right : heldRight (heldBy x) true ≡ true
 
 -- ---- its messages mend
@@ -90,48 +92,55 @@ message-fits h known e i low =
     (allBelow-at (length (h .messages)) (λ j. leb (length (getD (h .messages) j [])) messageLimit)
     (and-right (markRight (h .accepted) known (h .n) (length (h .messages))) _ e) i low)
 
-fill-sound : {v : View} → Sound v → (found : Message) → firstUsable (v .cells) (heldMessages (v .held)) ≡ some found
-    → Sound (withCells v (fill (filledCell repaired) (v .cells) found))
-unfolding fill heldMessages
-fill-sound {v} s found e =
+fill-sound : {v : View} → Sound v → (S : ℕ) (found : Message) → firstUsable (v .cells) (heldMessages (v .held)) ≡ some found
+    → Sound (withCells v (fill (filledCell S repaired) (v .cells) found))
+unfolding fill heldMessages noteRight
+fill-sound {v} s S found e =
     let got = found-usable (v .cells) (heldMessages (v .held)) found e in
     let says = usable-says (v .cells) found (got .1) in
     let at = held-at keptBefore (v .held) found (got .0) in
     let h : Held = heldAt (v .held) (at .j) in
     let fits = message-fits h _ (s .held (at .j) (omega (arith, s .ahead, at .inside))) (at .i) (at .low) in
     let long = length-mended (v .cells) found in
-    filled-sound s (missing (v .cells) found) (says .unknown) repaired refl (mended (v .cells) found)
+    filled-sound s (missing (v .cells) found) (says .unknown) S repaired refl refl (mended (v .cells) found)
     (omega (arith, long, says .length-one))
     (omega (arith, long, ap (λ (x : Message). length (x .octets)) (at .same)))
 
-repair-sound : {v : View} → Sound v → Sound (withCells v (repair (filledCell repaired) (v .cells) (heldMessages (v .held))))
-repair-sound {v} s =
-    repair-keeps (filledCell repaired) (λ now. Sound (withCells v now)) (heldMessages (v .held)) (λ now found e sound. fill-sound sound found e)
+repair-sound : {v : View} → Sound v → (S : ℕ) → Sound (withCells v (repair (filledCell S repaired) (v .cells) (heldMessages (v .held))))
+repair-sound {v} s S =
+    repair-keeps (filledCell S repaired) (λ now. Sound (withCells v now)) (heldMessages (v .held))
+    (λ now found e sound. fill-sound sound S found e)
     (v .cells) (same-sound s)
 
 -- ---- an accepted datagram
-known-kept : (state : State) → isFill state ≡ true → (p : ℕ) (b : List ℕ) (cells : List Cell) → not (unknownAt (keep state p b cells) p) ≡ true
+known-kept : (S : ℕ) (state : State) → isFill state ≡ true → (p : ℕ) (b : List ℕ) (cells : List Cell)
+    → not (unknownAt (keep S state p b cells) p) ≡ true
 unfolding keep
-known-kept state fills p b cells =
+known-kept S state fills p b cells =
     ⊎-elim
     (λ t.
     rw t
-    (ap (λ (c : Cell). not (isUnknown (c .state))) (getD-set-same cells p (filledCell state b) blankCell (unknown-inside cells p t))
+    (ap (λ (c : Cell). not (isUnknown (c .state))) (getD-set-same cells p (filledCell S state b) blankCell (unknown-inside cells p t))
     ∙ fill-known state fills))
     (λ f. rw f (ap not f))
     (true-or-false (unknownAt cells p))
 
-accept-sound : {v : View} → Sound v → (d : ℕ) → d < keptAhead → (datagram : Carried) → PacketSized (datagram .packet)
+accept-sound : {v : View} → Sound v → (d : ℕ) → d < keptAhead → (datagram : Carried)
+    → datagram .number ≡ numberAt (v .base) (keptBefore + d) → PacketSized (datagram .packet)
     → ExtraSized (datagram .extra) → Sound (accept d datagram v)
-unfolding accept
-accept-sound {v} s d near datagram packet extra =
+unfolding accept noteRight
+accept-sound {v} s d near datagram stands packet extra =
+    let S = datagram .number in
     let place = keptBefore + d in
-    let first = keep received place (datagram .packet) (v .cells) in
-    let known : knownAt (withCells v first) place ≡ true = known-kept received refl place (datagram .packet) (v .cells) in
+    let first = keep S received place (datagram .packet) (v .cells) in
+    let known : knownAt (withCells v first) place ≡ true = known-kept S received refl place (datagram .packet) (v .cells) in
+    let own = eq-eqb S (numberAt (v .base) place) stands in
     repair-sound
     (extra .copies
-    (held-sound (keep-sound s received refl place (datagram .packet) packet) d near (heldBy (datagram .extra)) (rw known (extra .right)))
-    place)
+    (held-sound (keep-sound s S received refl place own (datagram .packet) packet) d near (heldBy (datagram .extra))
+    (rw known (extra .right)))
+    S place)
+    S
 
 -- ---- a datagram that was read
 part-sized : {least most : ℕ} {s : List ℕ} {p : Part} → PartInside least most s p → length (octetsOf s p) ≡ p .size
@@ -162,7 +171,7 @@ extra-sized (kind.Parity n) s items inside each =
     let n-in = within-true coveredLeast coveredLimit n (and-left (within coveredLeast coveredLimit n) _ inside) in
     let m-in = within-true messagesLeast messagesLimit (length items) (and-right (within coveredLeast coveredLimit n) _ inside) in
     record {
-      copies = λ sound p. same-sound sound;
+      copies = λ sound S p. same-sound sound;
       right =
           accepted-right n (map (octetsOf s) items)
           (rw (ne-eqb count 0 (λ none. omega (arith, long, m-in .0)))
@@ -171,13 +180,19 @@ extra-sized (kind.Parity n) s items inside each =
           (λ i low. item-sized s items each i low .1);
     }
 
-read-sound : {v : View} → Sound v → (octets : List ℕ) (parts : DatagramParts) → readDatagram octets ≡ done parts → (d : ℕ) → d < keptAhead
-    → Sound (accept d (carriedBy octets parts) v)
+-- the number at its distance from the base
+number-there : (base S : ℕ) → base < numbers → S < numbers → S ≡ numberAt base (keptBefore + distance base S)
+number-there base S low small = omega arith
+
+read-sound : {v : View} → Sound v → (octets : List ℕ) → Octets octets → (parts : DatagramParts) → readDatagram octets ≡ done parts
+    → distance (v .base) (parts .number) < keptAhead
+    → Sound (accept (distance (v .base) (parts .number)) (carriedBy octets parts) v)
 unfolding carriedBy
-read-sound s octets parts e d near =
+read-sound {v} s octets small parts e near =
     let inside = read-inside octets parts e in
     let long = part-sized (inside .newest) in
-    accept-sound s d near (carriedBy octets parts)
+    let stands = number-there (v .base) (parts .number) (s .small) (number-small octets parts small e) in
+    accept-sound s (distance (v .base) (parts .number)) near (carriedBy octets parts) stands
     (record { least = omega (arith, long, inside .newest .low); most = omega (arith, long, inside .newest .high) })
     (extra-sized (parts .kind) octets (parts .items) (inside .counted) (inside .each))
 
@@ -193,13 +208,14 @@ after-offered true false far s sound = sound refl
 after-offered false repeats true s sound = s
 after-offered false repeats false s sound = s
 
-pub offer-sound : {v : View} → Sound v → (octets : List ℕ) → Sound (afterwards (offer octets v) v)
-unfolding offer offered
-offer-sound {v} s octets = pick (readDatagram octets) refl where
+pub offer-sound : {v : View} → Sound v → (octets : List ℕ) → Octets octets → Sound (afterwards (offer octets v) v)
+unfolding offer offered carriedBy
+offer-sound {v} s octets small = pick (readDatagram octets) refl where
   pick : (a : Answer DatagramParts) → readDatagram octets ≡ a → Sound (afterwards (_>>=_ a (λ parts. offered (carriedBy octets parts) v)) v)
   pick (done parts) e =
-      let d = distance (v .base) ((carriedBy octets parts) .number) in
-      after-offered (ltb d keptAhead) (acceptedAt v d) (ltb d lateFrom) s (λ near. read-sound s octets parts e d (ltb-true d keptAhead near))
+      let d = distance (v .base) (parts .number) in
+      after-offered (ltb d keptAhead) (acceptedAt v d) (ltb d lateFrom) s
+      (λ near. read-sound s octets small parts e (ltb-true d keptAhead near))
   pick (refused why) e = s
 
 -- a number at the base is not blank: one count is one more

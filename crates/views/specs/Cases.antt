@@ -15,22 +15,23 @@ use Rattle.views.specs.Offer.{offer, offered}
 use Rattle.views.specs.Release.{release}
 
 -- ---- what stands in them
--- a number that came with `06`, and a spare with `02`
-abbrev pub arrived : Cell
-arrived = came (0x06 ∷ [])
+-- number S, which came with `06`, and a spare `02` of datagram S
+abbrev pub arrived : ℕ → Cell
+arrived S = came S (0x06 ∷ [])
 
-abbrev pub copy : Cell
-copy = filledCell spare (0x02 ∷ [])
+abbrev pub copy : ℕ → Cell
+copy S = filledCell S spare (0x02 ∷ [])
 
--- the message `C6 01` over two packets, one of which is `C0 01`; the other is then `06` and a zero
+-- the message `C6 01` over two packets; number 1 came with one of them, `C0 01`; the other is then `06` and a zero, and stands there since
+-- datagram 2 was offered
 abbrev pub message : List ℕ
 message = 0xC6 ∷ 0x01 ∷ []
 
 abbrev pub member : Cell
-member = came (0xC0 ∷ 0x01 ∷ [])
+member = came 1 (0xC0 ∷ 0x01 ∷ [])
 
 abbrev pub restored : Cell
-restored = filled (0x06 ∷ 0x00 ∷ [])
+restored = filled 2 (0x06 ∷ 0x00 ∷ [])
 
 -- held of a datagram without messages, and of one with that message
 abbrev pub marked : Held
@@ -73,69 +74,74 @@ atLimit = later 0x4240 sessionLimit
 
 -- ---- offer
 pub record OfferCases : Type 0 where
-  -- a packet and its spare are kept, its number is marked, and no count moves
-  pub spare-kept : offered (withSpare 1) freshView ≡ done (started (copy ∷ arrived ∷ []) (nothingHeld ∷ marked ∷ []))
+  -- a packet and its spare are kept, both with the datagram's number as their note, its number is marked, and no count moves
+  pub spare-kept : offered (withSpare 1) freshView ≡ done (started (copy 1 ∷ arrived 1 ∷ []) (nothingHeld ∷ marked ∷ []))
   -- a spare for a number before the first is passed over: blank is known
-  pub spare-before-first : offered (withSpare 0) freshView ≡ done (started (arrived ∷ []) (marked ∷ []))
-  -- a datagram accepted for a number that is spare: kind and octets stay, and it is marked
-  pub spare-stays : offered (alone 0) (started (copy ∷ []) []) ≡ done (started (copy ∷ []) (marked ∷ []))
+  pub spare-before-first : offered (withSpare 0) freshView ≡ done (started (arrived 0 ∷ []) (marked ∷ []))
+  -- a datagram accepted for a number that is spare: kind, octets and note stay, and it is marked
+  pub spare-stays : offered (alone 0) (started (copy 1 ∷ []) []) ≡ done (started (copy 1 ∷ []) (marked ∷ []))
   -- a datagram's own message repairs within its offer, whatever came before, and is kept
   pub repaired-then : offered (withMessage 2) (started (unknownCell ∷ member ∷ []) (nothingHeld ∷ marked ∷ []))
-      ≡ done (started (restored ∷ member ∷ arrived ∷ []) (nothingHeld ∷ marked ∷ overTwo ∷ []))
+      ≡ done (started (restored ∷ member ∷ arrived 2 ∷ []) (nothingHeld ∷ marked ∷ overTwo ∷ []))
+  -- "the datagram being offered, not the holder of the message": number 1 comes after datagram 2, which holds the message, and fills 0
+  pub noted-then : offered (alone 1) (started (unknownCell ∷ unknownCell ∷ arrived 2 ∷ []) (nothingHeld ∷ nothingHeld ∷ overTwo ∷ []))
+      ≡ done (started (filled 1 (0xC0 ∷ 0x01 ∷ []) ∷ arrived 1 ∷ arrived 2 ∷ []) (nothingHeld ∷ marked ∷ overTwo ∷ []))
   -- a number before the base is repaired too, and no count moves
   pub before-base : offered (withMessage 2) (later 1 1 (member ∷ []) (marked ∷ []))
       ≡ done (record {
         base = 1;
         counts = record { received = 1; spare = 0; repaired = 0; lost = 0 };
-        cells = replicate 31 unknownCell ++ (restored ∷ member ∷ arrived ∷ replicate 30 unknownCell);
+        cells = replicate 31 unknownCell ++ (restored ∷ member ∷ arrived 2 ∷ replicate 30 unknownCell);
         held = marked ∷ overTwo ∷ replicate 30 nothingHeld;
       })
   -- its message is kept while two members are missing
   pub two-missing : offered (withMessage 2) freshView
-      ≡ done (started (unknownCell ∷ unknownCell ∷ arrived ∷ []) (nothingHeld ∷ nothingHeld ∷ overTwo ∷ []))
+      ≡ done (started (unknownCell ∷ unknownCell ∷ arrived 2 ∷ []) (nothingHeld ∷ nothingHeld ∷ overTwo ∷ []))
   -- after base 65,535 comes number 0
   pub across-65535 : offered (alone 0) (later 65535 65535 [] [])
-      ≡ done (later 65535 65535 (unknownCell ∷ arrived ∷ []) (nothingHeld ∷ marked ∷ []))
+      ≡ done (later 65535 65535 (unknownCell ∷ arrived 0 ∷ []) (nothingHeld ∷ marked ∷ []))
   -- an offer is never refused by 16
-  pub at-limit : offered (alone 0x4240) (atLimit [] []) ≡ done (atLimit (arrived ∷ []) (marked ∷ []))
+  pub at-limit : offered (alone 0x4240) (atLimit [] []) ≡ done (atLimit (arrived 0x4240 ∷ []) (marked ∷ []))
   -- "d up to 31 may be accepted, 32 to 32,767 is refusal 8, more is 9"
   pub ahead-31 : offered (alone 31) freshView
-      ≡ done (started (replicate 31 unknownCell ++ (arrived ∷ [])) (replicate 31 nothingHeld ++ (marked ∷ [])))
+      ≡ done (started (replicate 31 unknownCell ++ (arrived 31 ∷ [])) (replicate 31 nothingHeld ++ (marked ∷ [])))
   pub far-32767 : offered (alone 32767) freshView ≡ refuse tooFar
   pub late-32768 : offered (alone 32768) freshView ≡ refuse late
   -- "reading order, then 8 or 9, then 7": a number that has left is late, not repeated
   pub read-first : offer (0x01 ∷ 0x00 ∷ []) freshView ≡ refuseAt 2 endsEarly
-  pub far-first : offered (alone 32) (started (arrived ∷ []) (marked ∷ [])) ≡ refuse tooFar
-  pub late-first : offered (alone 0) (later 1 1 (arrived ∷ []) []) ≡ refuse late
-  pub again : offered (alone 0) (started (arrived ∷ []) (marked ∷ [])) ≡ refuse repeated
+  pub far-first : offered (alone 32) (started (arrived 0 ∷ []) (marked ∷ [])) ≡ refuse tooFar
+  pub late-first : offered (alone 0) (later 1 1 (arrived 1 ∷ []) []) ≡ refuse late
+  pub again : offered (alone 0) (started (arrived 0 ∷ []) (marked ∷ [])) ≡ refuse repeated
 
 -- ---- release: "the order is 17, 16, 10, 13"
 pub record ReleaseCases : Type 0 where
   pub passed-then-unknown : release false 0 (atLimit [] []) ≡ refuse allPassed
-  pub passed-then-room : release false 0 (atLimit (arrived ∷ []) []) ≡ refuse allPassed
+  pub passed-then-room : release false 0 (atLimit (arrived 0x4240 ∷ []) []) ≡ refuse allPassed
   pub passed-with-leave : release true 0 (atLimit [] []) ≡ refuse allPassed
   pub unknown-then-room : release false 0 freshView ≡ refuse baseUnknown
-  pub no-room : release false 0 (started (copy ∷ []) []) ≡ refuse noRoom
+  pub no-room : release false 0 (started (copy 1 ∷ []) []) ≡ refuse noRoom
   -- leave skips no known number: a short buffer is 13
-  pub no-room-with-leave : release true 0 (started (copy ∷ []) []) ≡ refuse noRoom
-  -- a spare is counted as it leaves, with leave too, and after 65,535 comes 0
-  pub spare-leaves : release true 1 (later 65535 65535 (copy ∷ []) (marked ∷ []))
+  pub no-room-with-leave : release true 0 (started (copy 1 ∷ []) []) ≡ refuse noRoom
+  -- a spare is counted as it leaves, with leave too, and gives its note; after 65,535 comes 0, and what comes into view has note 0
+  pub spare-leaves : release true 1 (later 65535 65535 (copy 1 ∷ []) (marked ∷ []))
       ≡ done (record {
         kind = spare;
         number = 65535;
+        note = 1;
         octets = 0x02 ∷ [];
         after = record {
           base = 0;
           counts = record { received = 65535; spare = 1; repaired = 0; lost = 0 };
-          cells = replicate 31 unknownCell ++ (copy ∷ replicate keptAhead unknownCell);
+          cells = replicate 31 unknownCell ++ (copy 1 ∷ replicate keptAhead unknownCell);
           held = replicate keptAhead nothingHeld;
         };
       })
-  -- a number that is skipped is lost, with no room too, and stays unknown
+  -- a number that is skipped is lost, with no room too and with note 0, and stays unknown
   pub stays-unknown : release true 0 freshView
       ≡ done (record {
         kind = unknown;
         number = 0;
+        note = 0;
         octets = [];
         after = record {
           base = 1;

@@ -1,5 +1,6 @@
 -- Document 01, 'The receiving session': "It keeps 64 numbers .., each unknown, received, spare, repaired or blank, with its
--- octets." Definitions only.
+-- octets." And document 02, request 8: "each known number shall also keep the number of the datagram whose offer filled it".
+-- Definitions only.
 use Prim.Native.Nat.{ℕ, _+_}
 use mathlib.Core.Path.{_≡_}
 use mathlib.Core.Bool.{Bool, true, false}
@@ -23,22 +24,23 @@ pub data State : Type 0 where
   repaired : State
   blank : State
 
--- a kept number: its state and its octets
+-- a kept number: its state, its octets, and its note, the number of the datagram whose offer filled it
 pub record Cell : Type 0 where
   pub state : State
   pub octets : List ℕ
+  pub note : ℕ
 
 -- ---- how a number is made: blank, unknown or filled
--- "Numbers before the first are blank: known, empty, never released."
+-- "Numbers before the first are blank: known, empty, never released."; of the note: "for a blank or unknown one it is zero"
 abbrev pub blankCell : Cell
-blankCell = record { state = blank; octets = [] }
+blankCell = record { state = blank; octets = []; note = 0 }
 
 abbrev pub unknownCell : Cell
-unknownCell = record { state = unknown; octets = [] }
+unknownCell = record { state = unknown; octets = []; note = 0 }
 
--- filled with a packet, as received, spare or repaired
-abbrev pub filledCell : State → List ℕ → Cell
-filledCell state octets = record { state = state; octets = octets }
+-- filled with a packet, as received, spare or repaired, while datagram S is offered
+abbrev pub filledCell : ℕ → State → List ℕ → Cell
+filledCell S state octets = record { state = state; octets = octets; note = S }
 
 abbrev pub isUnknown : State → Bool
 isUnknown unknown = true

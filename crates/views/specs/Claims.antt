@@ -2,10 +2,11 @@
 use Prim.Native.Nat.{ℕ, _+_, _-_, _*_, _%_, _≤_, _<_}
 use mathlib.Core.Path.{_≡_}
 use mathlib.Core.Logic.{_↔_}
-use mathlib.Core.Bool.{true, false}
+use mathlib.Core.Bool.{Bool, true, false}
 use mathlib.Core.List.{List, List·Memᴰ as Among}
 use mathlib.Core.Option.{none}
 use lib.ListN.{length}
+use Rattle.lengths.specs.Answers.{mapped}
 use Rattle.views.specs.Members.{membersOf, InReach}
 use Rattle.views.specs.Cells.{Cell, Makes, cellAt, keptBefore}
 use Rattle.views.specs.Repair.{Message, firstUsable, repair}
@@ -14,8 +15,10 @@ use Rattle.views.specs.Reached.{Known, Unknown, Closed, Reached, Distinc
 use Rattle.views.specs.Honest.{HonestMessages, HonestHeld, TrueCells}
 use Rattle.views.specs.View.{View}
 use Rattle.views.specs.Ranges.{Sound}
+use Rattle.views.specs.Offer.{offer}
 use Rattle.views.specs.Release.{release}
 use Rattle.views.specs.Pair.{next, giveUp, lossReleased}
+use Rattle.views.specs.Forgotten.{forgotten, releaseForgotten}
 
 -- ---- members
 -- "Message i .. covers S+i−m, S+i−2m, up to n members; S itself is in none", where the reach n·m does not go below zero: no
@@ -115,6 +118,14 @@ pub record AsThePair : Type 0 where
   pub leaveUnknown : (room : ℕ) (view : View) → Sound view → Unknown (view .cells) keptBefore
       → release true room view ≡ lossReleased (giveUp view)
 
+-- ---- which datagram saved us
+-- two sessions that are the same but for their notes answer alike, and are the same but for their notes after it
+pub record NotesApart : Type 0 where
+  pub offers : (octets : List ℕ) (v w : View) → forgotten v ≡ forgotten w
+      → mapped forgotten (offer octets v) ≡ mapped forgotten (offer octets w)
+  pub releases : (leave : Bool) (room : ℕ) (v w : View) → forgotten v ≡ forgotten w
+      → mapped releaseForgotten (release leave room v) ≡ mapped releaseForgotten (release leave room w)
+
 pub record Claims : Type 1 where
   pub membersExact : MembersExact
   pub heldDistinct : HeldDistinct
@@ -129,3 +140,4 @@ pub record Claims : Type 1 where
   pub burstMended : BurstMended
   pub burstRepaired : BurstRepaired
   pub asThePair : AsThePair
+  pub notesApart : NotesApart

@@ -9,6 +9,7 @@ pub mod Ranges
 pub mod Offer
 pub mod Release
 pub mod Pair
+pub mod Forgotten
 pub mod Claims
 pub mod RepairCases
 pub mod Cases

@@ -1,7 +1,8 @@
 -- Document 01, 'The receiving session', "Offer. With distance d from base to S: d up to 31 may be accepted, 32 to 32,767 is
 -- refusal 8, more is 9. A number whose datagram was accepted before is 7. Accepted: its packet, then its spares in order,
 -- fill only numbers still unknown, those before the base too. Then repair". And of the order: "reading order, then 8 or 9,
--- then 7". Definitions only.
+-- then 7". Document 02, request 8: each number that an offer fills keeps "the number of the datagram whose offer filled it. .. In a run
+-- of repairs it is the datagram being offered, not the holder of the message." Definitions only.
 use Prim.Native.Nat.{ℕ, suc, _+_, _-_}
 use mathlib.Core.Bool.{Bool, true, cond}
 use mathlib.Core.List.{List, [], _∷_}
@@ -20,19 +21,19 @@ use Rattle.views.specs.View.{View, distance}
 abbrev pub lateFrom : ℕ
 lateFrom = 32768
 
--- "fill only numbers still unknown"
-unfoldable pub keep : State → ℕ → List ℕ → List Cell → List Cell
-keep state p octets cells = cond (unknownAt cells p) (set cells p (filledCell state octets)) cells
+-- "fill only numbers still unknown", while datagram S is offered
+unfoldable pub keep : ℕ → State → ℕ → List ℕ → List Cell → List Cell
+keep S state p octets cells = cond (unknownAt cells p) (set cells p (filledCell S state octets)) cells
 
 -- "the j-th spare of datagram S is packet S−j": the first of the given spares stands before place p
-unfoldable pub keepSpares : ℕ → List (List ℕ) → List Cell → List Cell
-keepSpares p [] cells = cells
-keepSpares p (octets ∷ more) cells = keepSpares (p - 1) more (keep spare (p - 1) octets cells)
+unfoldable pub keepSpares : ℕ → ℕ → List (List ℕ) → List Cell → List Cell
+keepSpares S p [] cells = cells
+keepSpares S p (octets ∷ more) cells = keepSpares S (p - 1) more (keep S spare (p - 1) octets cells)
 
--- the spares of a datagram at place p are kept
-abbrev pub keepExtra : ℕ → Extra → List Cell → List Cell
-keepExtra p (spares copies) cells = keepSpares p copies cells
-keepExtra p (parity n messages) cells = cells
+-- the spares of datagram S, at place p, are kept
+abbrev pub keepExtra : ℕ → ℕ → Extra → List Cell → List Cell
+keepExtra S p (spares copies) cells = keepSpares S p copies cells
+keepExtra S p (parity n messages) cells = cells
 
 -- what is held of an accepted datagram: its mark, and its parity messages
 abbrev pub heldBy : Extra → Held
@@ -42,13 +43,14 @@ heldBy (parity n messages) = record { accepted = true; n = n; messages = message
 -- an accepted datagram, at distance d
 unfoldable pub accept : ℕ → Carried → View → View
 accept d datagram view =
+    let S = datagram .number in
     let place = keptBefore + d in
-    let filled = keepExtra place (datagram .extra) (keep received place (datagram .packet) (view .cells)) in
+    let filled = keepExtra S place (datagram .extra) (keep S received place (datagram .packet) (view .cells)) in
     let held = set (view .held) d (heldBy (datagram .extra)) in
     record {
       base = view .base;
       counts = view .counts;
-      cells = repair (filledCell repaired) filled (heldMessages held);
+      cells = repair (filledCell S repaired) filled (heldMessages held);
       held = held;
     }
 

@@ -1,5 +1,6 @@
 -- Next and give up, the two calls in whose place `release` stands since document 02, request 7, as they were: "Next 17, 16, 10, 13.
--- Give up 17, 16, 11." They serve the claims that say what `release` is in their words, and nothing else. Definitions only.
+-- Give up 17, 16, 11."; since request 8 what next hands out has its note, and a loss has note 0. They serve the claims that say what
+-- `release` is in their words, and nothing else. Definitions only.
 use Prim.Native.Nat.{ℕ}
 use mathlib.Core.Bool.{cond}
 use mathlib.Core.List.{[]}
@@ -22,6 +23,7 @@ next room view =
     (record {
       kind = cell .state;
       number = view .base;
+      note = cell .note;
       octets = cell .octets;
       after = movedOn view;
     }))))
@@ -40,4 +42,4 @@ giveUp view =
 -- a loss as the one call answers it
 abbrev pub lossReleased : Answer Loss → Answer Release
 lossReleased answer =
-    mapped (λ (l : Loss). record { kind = unknown; number = l .number; octets = []; after = l .after }) answer
+    mapped (λ (l : Loss). record { kind = unknown; number = l .number; note = 0; octets = []; after = l .after }) answer

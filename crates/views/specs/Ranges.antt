@@ -1,8 +1,9 @@
 -- Document 01, 'Ranges of a session', of the session as the page sees it: "Base equals the sum of counts modulo 65,536, sum at most
 -- 1,000,000. The number j before the base is blank exactly if j exceeds the sum; no other is blank. Unknown and blank have length
 -- 0, others 1 to 160. .. An accepted number is known. Messages stand only at accepted numbers, and with m = 0 also n = 0, otherwise
--- n, m and message lengths are within the sizes". What the page says of octets past a length, and of message places past m, is
--- said of how a session is held. Definitions only.
+-- n, m and message lengths are within the sizes". Document 02, request 8: "For a received one [the note] is its own number; for a blank
+-- or unknown one it is zero. .. The session's ranges gain the rules for received, blank and unknown." What the page says of octets past
+-- a length, and of message places past m, is said of how a session is held. Definitions only.
 use Prim.Native.Nat.{ℕ, _+_, _-_, _%_, _<_}
 use mathlib.Core.Path.{_≡_}
 use mathlib.Core.Bool.{Bool, true, false, not, cond, _&&_}
@@ -14,7 +15,7 @@ use Rattle.datagrams.specs.Sizes.{packetLeast, packetLimit, messageLimit, cover
 use Rattle.views.specs.Cells.{State, unknown, received, spare, repaired, blank, Cell, cellAt, unknownAt, keptBefore, keptAhead}
 use Rattle.views.specs.Cells.{keptNumbers}
 use Rattle.views.specs.Held.{Held, heldAt}
-use Rattle.views.specs.View.{View, sum, numbers, sessionLimit}
+use Rattle.views.specs.View.{View, sum, numbers, numberAt, sessionLimit}
 
 -- "Base equals the sum of counts modulo 65,536, sum at most 1,000,000."
 unfoldable pub sumRight : View → Bool
@@ -44,6 +45,17 @@ isFill blank = false
 abbrev pub cellRight : Cell → Bool → Bool
 cellRight c mustBeBlank = sizeRight (c .state) (length (c .octets)) mustBeBlank
 
+-- "For a received one [the note] is its own number; for a blank or unknown one it is zero."; a spare or repaired one may have any
+unfoldable pub noteRight : State → ℕ → ℕ → Bool
+noteRight unknown note number = eqb note 0
+noteRight received note number = eqb note number
+noteRight spare note number = true
+noteRight repaired note number = true
+noteRight blank note number = eqb note 0
+
+abbrev pub cellNoted : Cell → ℕ → Bool
+cellNoted c number = noteRight (c .state) (c .note) number
+
 -- "An accepted number is known. Messages stand only at accepted numbers, and with m = 0 also n = 0, otherwise n [and] m .. are
 -- within the sizes"
 unfoldable pub markRight : Bool → Bool → ℕ → ℕ → Bool
@@ -64,11 +76,14 @@ knownAt v p = not (unknownAt (v .cells) p)
 unfoldable pub cellsRight : View → Bool
 cellsRight v = allBelow keptNumbers (λ p. cellRight (cellAt (v .cells) p) (blankAt (sum (v .counts)) p))
 
+unfoldable pub notesRight : View → Bool
+notesRight v = allBelow keptNumbers (λ p. cellNoted (cellAt (v .cells) p) (numberAt (v .base) p))
+
 unfoldable pub allHeldRight : View → Bool
 allHeldRight v = allBelow keptAhead (λ d. heldRight (heldAt (v .held) d) (knownAt v (keptBefore + d)))
 
 unfoldable pub inRanges : View → Bool
-inRanges v = (sumRight v && cellsRight v) && allHeldRight v
+inRanges v = ((sumRight v && cellsRight v) && notesRight v) && allHeldRight v
 
 -- a view within the ranges, as the calls inside the session require and keep it: the same place by place, with the lengths that
 -- the lists have
@@ -78,4 +93,5 @@ pub record Sound (v : View) : Type 0 where
   pub kept : length (v .cells) ≡ keptNumbers
   pub ahead : length (v .held) ≡ keptAhead
   pub cell : (p : ℕ) → p < keptNumbers → cellRight (cellAt (v .cells) p) (blankAt (sum (v .counts)) p) ≡ true
+  pub note : (p : ℕ) → p < keptNumbers → cellNoted (cellAt (v .cells) p) (numberAt (v .base) p) ≡ true
   pub held : (d : ℕ) → d < keptAhead → heldRight (heldAt (v .held) d) (knownAt v (keptBefore + d)) ≡ true

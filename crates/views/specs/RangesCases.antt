@@ -6,7 +6,7 @@ use lib.ListN.{replicate}
 use Rattle.views.specs.Cells.{unknown, received, spare, repaired, blank}
 use Rattle.views.specs.RepairCases.{holding}
 use Rattle.views.specs.View.{freshView}
-use Rattle.views.specs.Ranges.{sumRight, blankAt, sizeRight, markRight, heldRight, inRanges}
+use Rattle.views.specs.Ranges.{sumRight, blankAt, sizeRight, noteRight, markRight, heldRight, inRanges}
 use Rattle.views.specs.Cases.{later, atLimit}
 
 pub record RangesCases : Type 0 where
@@ -28,6 +28,13 @@ pub record RangesCases : Type 0 where
   pub spare-160 : sizeRight spare 160 false ≡ true
   pub spare-161 : sizeRight spare 161 false ≡ false
   pub repaired-empty : sizeRight repaired 0 false ≡ false
+  -- "For a received one [the note] is its own number; for a blank or unknown one it is zero."; a spare or repaired one may have any
+  pub own-note : noteRight received 7 7 ≡ true
+  pub another-note : noteRight received 8 7 ≡ false
+  pub unknown-note : noteRight unknown 7 7 ≡ false
+  pub blank-note : noteRight blank 7 7 ≡ false
+  pub spare-note : noteRight spare 8 7 ≡ true
+  pub repaired-note : noteRight repaired 8 7 ≡ true
   -- "An accepted number is known."
   pub accepted-unknown : markRight true false 0 0 ≡ false
   -- "Messages stand only at accepted numbers, and with m = 0 also n = 0, otherwise n, m and message lengths are within the sizes"

@@ -1,7 +1,8 @@
 -- Document 01, 'The receiving session', "Next. Hands out the packet at the base with its number and kind, and the base goes
 -- on by one. Give up gives the number of an unknown base, books it lost and moves the base likewise; the number stays
 -- unknown." They are one call, which is told whether it may skip (document 02, request 7): "Base known: it releases, skip or
--- not. Unknown: refusal 10 without leave, booked lost with it. .. the order is 17, 16, 10, 13." Definitions only.
+-- not. Unknown: refusal 10 without leave, booked lost with it. .. the order is 17, 16, 10, 13." And request 8: "each release gives"
+-- the number of the datagram whose offer filled the number. Definitions only.
 use Prim.Native.Nat.{ℕ, _+_}
 use mathlib.Core.Bool.{Bool, not, cond, _&&_}
 use mathlib.Core.List.{List}
@@ -28,10 +29,11 @@ atBase view = cellAt (view .cells) keptBefore
 abbrev pub movedOn : View → View
 movedOn view = goneOn (counted ((atBase view) .state) (view .counts)) view
 
--- the number that leaves, and the session after: its kind is its state, where unknown is lost, and a lost one has no octets
+-- the number that leaves, and the session after: its kind is its state, where unknown is lost, and a lost one has no octets and note 0
 pub record Release : Type 0 where
   pub kind : State
   pub number : ℕ
+  pub note : ℕ
   pub octets : List ℕ
   pub after : View
 
@@ -47,6 +49,7 @@ release leave room view =
     (record {
       kind = cell .state;
       number = view .base;
+      note = cell .note;
       octets = cell .octets;
       after = movedOn view;
     }))))

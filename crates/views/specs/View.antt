@@ -25,6 +25,10 @@ following n = (n + 1) % numbers
 abbrev pub distance : ℕ → ℕ → ℕ
 distance base S = (S + (numbers - base)) % numbers
 
+-- the number at place p of a view with this base: base − keptBefore + p
+abbrev pub numberAt : ℕ → ℕ → ℕ
+numberAt base p = (base + (numbers - keptBefore) + p) % numbers
+
 -- each count is the number of such moves since the start
 pub record Counts : Type 0 where
   pub received : ℕ
@@ -36,7 +40,7 @@ pub record Counts : Type 0 where
 abbrev pub sum : Counts → ℕ
 sum c = c .received + c .spare + c .repaired + c .lost
 
--- the session: at place p of cells stands the number base − keptBefore + p, at place d of held the number base + d
+-- the session: at place p of cells stands the number `numberAt base p`, at place d of held the number base + d
 pub record View : Type 0 where
   pub base : ℕ
   pub counts : Counts

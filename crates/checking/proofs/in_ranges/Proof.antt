@@ -1,4 +1,4 @@
--- `checking::in_ranges` meets its contract: the three parts together are the ranges. Assumes nothing.
+-- `checking::in_ranges` meets its contract: the four parts together are the ranges. Assumes nothing.
 use borrow.Author.Needs.{needs}
 use Rattle.checking.proofs.Same.{whole-right}
 use Rattle.checking.proofs.in_ranges.Statement.{statement}
@@ -19,6 +19,9 @@ slice-aggregate-all-kept-right c = search needs
 all-kept-right-requires : tie.Need-all-kept-right-requires
 all-kept-right-requires c κs = search needs
 
+all-notes-right-requires : tie.Need-all-notes-right-requires
+all-notes-right-requires c κs = search needs
+
 slice-aggregate-all-heard-right : tie.Need-slice-aggregate-all-heard-right
 slice-aggregate-all-heard-right c = search needs
 
@@ -37,6 +40,7 @@ in-ranges-spec =
     sum-right-requires
     slice-aggregate-all-kept-right
     all-kept-right-requires
+    all-notes-right-requires
     slice-aggregate-all-heard-right
     all-heard-right-requires
     returns)

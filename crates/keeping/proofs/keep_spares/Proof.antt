@@ -2,7 +2,7 @@
 -- nothing.
 use Prim.Native.Nat.{_-_}
 use borrow.Author.Needs.{needs}
-use Rattle.keeping.proofs.Keeping.{fills}
+use Rattle.keeping.proofs.Keeping.{fills, spare-noted}
 use Rattle.keeping.proofs.Sparing.{Sparing, sparing-start, sparing-long, sparing-octets, sparing-may, sparing-part, sparing-turn}
 use Rattle.keeping.proofs.Sparing.{sparing-done}
 use Rattle.keeping.proofs.keep_spares.Statement.{statement}
@@ -28,7 +28,7 @@ wrapping-sub-u16-requires c κs = search needs
 
 keep-requires : tie.Need-keep-requires Inv-loop μ-loop
 keep-requires c κs =
-    (search sparing-long, (search sparing-octets, (search sparing-may, (fills _ (search needs) (search needs), search sparing-part))))
+    (search sparing-long, (search sparing-octets, (search sparing-may, (fills _ (search needs) (search needs), (spare-noted _ _, search sparing-part)))))
 
 add-j : tie.Need-add-j Inv-loop μ-loop
 add-j c = search needs

@@ -48,16 +48,20 @@ returns-3 c =
     release-13 (passed .before .pre) (passed .all-passed .ensures) (at .before .if1 .left) (at .kept-slot .ensures)
     (read .state-at .ensures) (other .if2 .left) (sized .size-at .ensures) (c .before .if3 .taken) (c .release-refused3 .ensures)
 
+note-at-requires : tie.Need-note-at-requires
+note-at-requires c κs = search needs
+
 kind-of-requires : tie.Need-kind-of-requires
 kind-of-requires c κs =
-    let read = c .before .before .before .before .before in
+    let room = c .before .before .before in
+    let read = room .before .before .before .before .before in
     let at = read .before .before .before in
     not-blank (at .before .before .before .pre) (at .kept-slot .ensures) (read .state-at .ensures)
 
 move-on-requires : tie.Need-move-on-requires
 move-on-requires c κs =
     let kind = c .before .before .before in
-    let room = kind .before in
+    let room = kind .before .before .before .before in
     let read = room .before .before .before .before .before in
     let at = read .before .before .before in
     let passed = at .before .before in
@@ -71,15 +75,16 @@ returns-4 : tie.Need-returns-4
 returns-4 c =
     let moved = c .before in
     let kind = moved .before .before .before .before in
-    let room = kind .before in
+    let noted = kind .before in
+    let room = noted .before .before .before in
     let sized = room .before in
     let other = sized .before .before .before in
     let read = other .before in
     let at = read .before .before .before in
     let passed = at .before .before in
     release-left (passed .before .pre) (passed .all-passed .ensures) (at .before .if1 .left) (at .kept-slot .ensures)
-    (read .state-at .ensures) (other .if2 .left) (sized .size-at .ensures) (room .if3 .left) (kind .kind-of .ensures)
-    (moved .move-on .ensures)
+    (read .state-at .ensures) (other .if2 .left) (sized .size-at .ensures) (room .if3 .left) (noted .note-at .ensures)
+    (kind .kind-of .ensures) (moved .move-on .ensures)
 
 pub leave-core-spec : {M : Type 1} → statement M
 leave-core-spec =
@@ -95,6 +100,7 @@ leave-core-spec =
     size-at-requires
     release-refused-requires-3
     returns-3
+    note-at-requires
     kind-of-requires
     move-on-requires
     returns-4)

@@ -1,6 +1,6 @@
 -- `offering::accept` meets its contract: packet, spares, mark and messages, repair, one after the other. Assumes nothing.
 use borrow.Author.Needs.{needs}
-use Rattle.offering.proofs.Accepting.{received-fills, carries-spares, carries, may-keep, within-first, may-spare, may-hold}
+use Rattle.offering.proofs.Accepting.{received-fills, own-note, carries-spares, carries, may-keep, within-first, may-spare, may-hold}
 use Rattle.offering.proofs.Accepting.{may-mend, accepted}
 use Rattle.offering.proofs.accept.Statement.{statement}
 use Rattle.offering.proofs.accept.Tie as tie
@@ -9,7 +9,7 @@ keep-requires : tie.Need-keep-requires
 keep-requires c κs =
     let start = c .before .before .before in
     let laid = start .pre .0 .laid in
-    (laid .long, (laid .octets, (may-keep (start .pre .0) (start .pre .1), (received-fills, start .pre .1 .inside .newest))))
+    (laid .long, (laid .octets, (may-keep (start .pre .0) (start .pre .1), (received-fills, (own-note _, start .pre .1 .inside .newest)))))
 
 spares-of-requires : tie.Need-spares-of-requires
 spares-of-requires c κs = search needs

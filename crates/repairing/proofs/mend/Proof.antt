@@ -6,10 +6,10 @@ use Rattle.repairing.proofs.mend.Statement.{statement}
 use Rattle.repairing.proofs.mend.Tie as tie
 
 abbrev Inv-loop : tie.InvT-loop
-Inv-loop base t₀ o₀ g left₀ t o left = Mending base g t₀ o₀ t o left
+Inv-loop base t₀ o₀ g note left₀ t o left = Mending note base g t₀ o₀ t o left
 
 abbrev μ-loop : tie.MeasureT-loop
-μ-loop base t₀ o₀ g left₀ t o left = left
+μ-loop base t₀ o₀ g note left₀ t o left = left
 
 loop-holds : tie.Need-loop-holds Inv-loop μ-loop
 loop-holds c = search mending-start

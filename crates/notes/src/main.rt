@@ -1,0 +1,144 @@
+// The program for tuning spares against parity: document 02, request 8, "Which datagram saved us?". A trace from standard input, read as
+// the program of document 01 reads it. For each number that leaves it tells the kind and the datagram that filled it, as the release gives
+// them; at the end how many numbers spares and parity saved, and from how far ahead.
+mod input;
+mod saved;
+mod text;
+
+use datagrams::Packet;
+use input::BLOCK;
+use input::KEPT;
+use input::read_line;
+use lengths::Written;
+use saved::SAVED;
+use sessions::Offered;
+use sessions::Released;
+use sessions::Session;
+use text::part;
+use text::say_refused;
+
+// The octets that a line holds at most.
+const OCTETS: usize = 1500;
+
+// What a release answers, told: whether something left. A refusal is told with leave to skip, as the program has it.
+fn told(answer: Released, skip: bool, line: usize, table: &mut [u32; SAVED]) -> bool {
+    match answer {
+        Released::Refused(why) => {
+            if skip {
+                say_refused(line, why);
+            }
+            false
+        }
+        Released::Number {
+            kind,
+            number,
+            note,
+            size: _,
+        } => {
+            saved::told(kind, number, note, table);
+            true
+        }
+    }
+}
+
+// One release, with leave to skip or without: the session after it, and whether something left.
+struct Turn {
+    session: Session,
+    more: bool,
+}
+
+fn release(session: Session, skip: bool, line: usize, table: &mut [u32; SAVED]) -> Turn {
+    let mut packet = [0u8; Packet::LIMIT];
+    let after = sessions::release(session, skip, &mut packet);
+    let answer = after.answer;
+    let more = told(answer, skip, line, table);
+    let held = after.session;
+    Turn {
+        session: held,
+        more,
+    }
+}
+
+// "releases all it can": after as many releases as there are numbers from the base on, the base is unknown.
+fn releases(session: Session, line: usize, table: &mut [u32; SAVED]) -> Session {
+    let mut held = session;
+    let mut left: usize = Session::HEARD;
+    while left > 0 {
+        left -= 1;
+        let turn = release(held, false, line, table);
+        let next = turn.session;
+        held = next;
+        if !turn.more {
+            return held;
+        }
+    }
+    held
+}
+
+// A datagram, offered.
+fn offer(session: Session, octets: &[u8], line: usize) -> Session {
+    let after = sessions::offer(session, octets);
+    let answer = after.answer;
+    if let Offered::Refused(why) = answer {
+        say_refused(line, why);
+    }
+    let held = after.session;
+    held
+}
+
+// "An empty line is one give-up"; any other is a datagram in hexadecimal.
+fn answer(session: Session, digits: &[u8], line: usize, table: &mut [u32; SAVED]) -> Session {
+    if digits.len() == 0 {
+        let turn = release(session, true, line, table);
+        let held = turn.session;
+        return held;
+    }
+    let mut octets = [0u8; OCTETS];
+    match hexadecimal::hex_to_octets(digits, &mut octets) {
+        Written::Refused(why) => {
+            say_refused(line, why);
+            session
+        }
+        Written::Octets(count) => offer(session, part(&octets, 0, count), line),
+    }
+}
+
+// A line of so many characters, answered, and the releases after it.
+fn answered(
+    session: Session,
+    digits: &[u8; KEPT],
+    size: usize,
+    line: usize,
+    table: &mut [u32; SAVED],
+) -> Session {
+    let held = answer(session, part(digits, 0, size), line, table);
+    releases(held, line, table)
+}
+
+fn main() {
+    let mut session = Session::fresh();
+    let mut table = [0u32; SAVED];
+    let mut block = [0u8; BLOCK];
+    let mut digits = [0u8; KEPT];
+    let mut at = 0;
+    let mut end = 0;
+    let mut ended = false;
+    let mut line = 0;
+    // Nothing says that the input ends, so the turns are counted down from a number that no run uses up.
+    let mut turns = u64::MAX;
+    while turns > 0 {
+        turns -= 1;
+        let size = read_line(&mut digits, &mut block, &mut at, &mut end, &mut ended);
+        line = std::num::wrapping_add_usize(line, 1);
+        // "A last line without a line feed counts unless it is empty"
+        if !(ended & (size == 0)) {
+            let next = answered(session, &digits, size, line, &mut table);
+            session = next;
+        }
+        if ended {
+            turns = 0;
+        }
+    }
+    let counts = session.counts;
+    saved::say_report(counts, &table);
+}

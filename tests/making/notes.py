@@ -1,0 +1,122 @@
+"""Scenes about notes (02, request 8): which datagram filled each number, as the view shows it and a release gives it."""
+
+from rules.arguments import shown
+from rules.datagrams import PARITY, SPARES
+from rules.receiving import AFTER, BEFORE, NUMBERS_LIMIT, UNKNOWN
+from rules.sending import Sending
+
+from . import pieces
+from .outside import furnish, try_all
+
+ANY_NOTE = (0, 1, 255, 256, 32767, 32768, 65535)
+
+
+def begin(script):
+    """A receiving session at the first number, near the wrap or anywhere, and an honest sender that is there too."""
+    r = script.random
+    at = r.choice((0, 0, 40, 65536 - r.randrange(30), 65536 - r.randrange(30), 131072 - r.randrange(30), r.randrange(NUMBERS_LIMIT - 99)))
+    script.call(0x16, shown(at, 4))
+    return Sending(at)
+
+
+def send(script, sender, settings):
+    """The sender's next datagram, small."""
+    return sender.send(pieces.octets(script.random, script.random.choice((1, 2, 3))), *settings, 1500)
+
+
+def filled(script):
+    """How many numbers in view are known."""
+    return sum(place.state != UNKNOWN for place in script.receiving.places)
+
+
+def watched(script, octets):
+    """Offers a datagram, and shows the view if more than its own number has been filled."""
+    before = filled(script)
+    script.offer(octets)
+    if filled(script) > before + 1:
+        script.call(0x15)
+
+
+def release_all(script, count):
+    """So many numbers leave, known or not."""
+    for _ in range(count):
+        known = script.receiving.place(script.receiving.base).state != UNKNOWN
+        script.next(3, not known or script.chance(0.5))
+
+
+def saved(script):
+    """Spares and parity save numbers, before the base too; then their own datagrams come, late, and no note of them changes."""
+    r, sender = script.random, begin(script)
+    settings = r.choice(((SPARES, r.randrange(1, 9), 0), (PARITY, r.randrange(1, 5), r.randrange(1, 5))))
+    datagrams = [send(script, sender, settings) for _ in range(r.choice((8, 16)))]
+    late = [octets for octets in datagrams if script.chance(0.4)]
+    for _ in range(r.choice((0, 0, 2))):
+        script.give_up()
+    early = [octets for octets in datagrams if octets not in late]
+    if script.chance(0.3):
+        r.shuffle(early)
+    for octets in early:
+        watched(script, octets)
+    r.shuffle(late)
+    for octets in late:
+        watched(script, octets)
+        if script.chance(0.2):
+            script.call(0x15)
+    release_all(script, len(datagrams))
+    script.look(0.5)
+
+
+def in_runs(script):
+    """Every second datagram comes, with a message over its two neighbours; one of those sets off a run up and down, all by its offer."""
+    r, sender = script.random, begin(script)
+    datagrams = [send(script, sender, (PARITY, 2, 2) if at % 2 and at > 1 else (SPARES, 0, 0)) for at in range(r.choice((8, 12, 20)))]
+    waiting = datagrams[::2]
+    holders = datagrams[1::2]
+    r.shuffle(waiting)
+    if script.chance(0.5):
+        r.shuffle(holders)
+    for octets in holders + waiting[:1]:
+        watched(script, octets)
+    for octets in waiting[1:3]:
+        script.offer(octets)
+    script.call(0x15)
+    release_all(script, len(datagrams))
+
+
+def into_view(script):
+    """Filled places are taken by other numbers, which come into view unknown and without a note, and are then filled by others."""
+    r, sender = script.random, begin(script)
+    for _ in range(r.choice((2, 3))):
+        settings = r.choice(((SPARES, r.randrange(1, 9), 0), (PARITY, r.randrange(1, 5), r.randrange(1, 5))))
+        datagrams = [send(script, sender, settings) for _ in range(AFTER)]
+        for octets in datagrams:
+            if script.chance(0.6):
+                script.offer(octets)
+        script.call(0x15)
+        release_all(script, AFTER)
+    script.call(0x15)
+
+
+def overwritten(script):
+    """For each state there is, notes as a caller could set them: 0, the number's own, its neighbour's, any; those outside are mended."""
+    r = script.random
+    furnish(script)
+    if script.chance(0.5):
+        script.call(0x16, shown(65536 - r.randrange(1, 20), 4))
+        sender = Sending(script.receiving.total())
+        for octets in [send(script, sender, (SPARES, r.randrange(4), 0)) for _ in range(14)]:
+            if script.chance(0.5):
+                script.offer(octets)
+    for state in r.sample(range(5), 5):
+        held = script.receiving
+        numbers = [(held.base + d) % 65536 for d in range(-BEFORE, AFTER) if held.place(held.base + d).state == state]
+        for number in r.sample(numbers, min(2, len(numbers))):
+            before = script.receiving.place(number).note
+            script.overwrite(13, number, value=r.choice(ANY_NOTE + 4 * (number, (number + 1) % 65536, (number - 1) % 65536)))
+            if script.receiving.in_ranges():
+                script.next(r.choice((0, 160)))
+                script.call(0x15)
+            else:
+                try_all(script, 0.1)
+                script.overwrite(13, number, value=before)
+    try_all(script)

@@ -1,0 +1,222 @@
+#!/usr/bin/env python3
+"""The program notes: a line for each result of the program, with the datagram that saved the number, and a table of distances.
+
+What it writes must be what the independent program writes. Of that, the lines must go with the results of the program, and the table
+with the lines."""
+
+import argparse
+import pathlib
+import random
+import re
+import sys
+import tempfile
+
+from compare import CASES, LINES_EACH, stored
+from failing import Cases, independent
+from making.lines import Recording, program_lines
+from mutants import make_mutant
+from note_mutants import REPORT_MUTANTS
+from real import Wrong, corpus, must
+from released import worse_line
+from rules.datagrams import PARITY, SPARES
+from rules.noting import Notes, report_of
+from rules.program import Program, results_of
+from running import around, described, difference, lines_of, run, text_of
+from traffic import REPLAYED
+
+# The words of the program: of a number that has left, of a refused line, of the table.
+NUMBER = re.compile(rb'number (?P<number>[0-9]+): (?P<kind>received|lost|spare, from|repaired, with)( datagram (?P<note>[0-9]+))?')
+REFUSED = re.compile(rb'line (?P<line>[0-9]+): refused with (?P<number>[0-9]+)( at octet (?P<place>[0-9]+))?')
+TOTAL = re.compile(rb'saved by spares (?P<spares>[0-9]+), by parity (?P<parity>[0-9]+)')
+ROW = re.compile(rb'(?P<name>distance (?P<distance>[0-9]+)|behind): spares (?P<spares>[0-9]+), parity (?P<parity>[0-9]+)')
+KINDS = b'received', b'spare, from', b'repaired, with', b'lost'
+SEEDS, WRAP, LIMIT = 2, 65536 - 20, 1000000 - 50
+
+
+def late_line(name, loss):
+    """Recorded datagrams, some lost, many late; an empty line for each number that is waited for too long."""
+    r, datagrams, recording = random.Random(name + str(loss)), corpus(name), Recording(name)
+    row = sorted((number + r.choice((0, 0, 0, 2, 7, 15)), octets) for number, octets in enumerate(datagrams) if r.random() >= loss)
+    for place, octets in row:
+        recording.add_datagram(octets)
+        while place - recording.base() > 20:
+            recording.add(b'')
+    while recording.base() < len(datagrams):
+        recording.add(b'')
+    return recording.lines
+
+
+def across_the_wrap():
+    """Lines from 20 numbers before 65,535 on, half of the datagrams lost, with spares and parity in turn, so that both reach over it."""
+    recording = Recording('wrap', WRAP)
+    for at in range(60):
+        octets = recording.sender.send(bytes([at]), *((SPARES, 8, 0), (PARITY, 3, 2))[at // 3 % 2], 1500)
+        if recording.random.random() < 0.5:
+            recording.add_datagram(octets)
+        while recording.waiting() > 20:
+            recording.add(b'')
+    return recording.lines
+
+
+def after_give_ups(given_up, lines):
+    """Lines behind so many empty ones, with the report and the results; the give-ups are not done one by one."""
+    notes, program = Notes(given_up), Program(given_up)
+    report = [b'number %d: lost' % (number % 65536) for number in range(given_up)]
+    results = [b'03%04X' % (number % 65536) for number in range(given_up)]
+    report += [words for line in lines for words in notes.results(line)] + notes.table()
+    return b'\n' * given_up + text_of(lines), text_of(report), results + [result for line in lines for result in program.results(line)]
+
+
+def inputs(limit=False):
+    """Names, and what makes the program's input, the report that is expected, and the results that it goes with."""
+    for name, given, _ in stored('.lines', '.results'):
+        yield 'stored ' + name, lambda n=name, g=given: as_stored(n, *with_report(g))
+    for seed in range(SEEDS):
+        yield 'lines of seed %d' % seed, lambda s=seed: with_report(program_lines(str(s), LINES_EACH))
+    for name, loss in REPLAYED:
+        yield '%s, %d %% lost' % (name, 100 * loss), lambda n=name, l=loss: with_report(text_of(worse_line(n, l)[0].lines))
+        yield '%s, %d %% lost, many late' % (name, 100 * loss), lambda n=name, l=loss: with_report(text_of(late_line(n, l)))
+    yield 'across the wrap', lambda: after_give_ups(WRAP, across_the_wrap())
+    if limit:
+        numbers = [number % 65536 for number in range(LIMIT, LIMIT + 70)]
+        yield 'at the limit', lambda: after_give_ups(LIMIT, [b'%04X01060000' % number if number % 7 else b'' for number in numbers])
+
+
+def as_stored(name, given, report, results):
+    """A stored case; its report is the one derived by hand, if there is one."""
+    path = (CASES / name).with_suffix('.notes')
+    must(not path.exists() or path.read_bytes() == report, 'the independent program differs from stored %s', path.name)
+    return given, report, results
+
+
+def with_report(given):
+    """An input, its report and its results."""
+    return given, text_of(report_of(lines_of(given))), results_of(lines_of(given))
+
+
+def goes_with(report, results):
+    """Each line of a report goes with a result, and its table with the lines; how many numbers spares and parity have saved."""
+    lines = lines_of(report)
+    must(b'' in lines, 'no empty line before the table')
+    told, table = lines[:lines.index(b'')], lines[lines.index(b'') + 1:]
+    must(len(told) == len(results), '%d lines for %d results', len(told), len(results))
+    saved = {}
+    for words, result in zip(told, results):
+        number, refused = NUMBER.fullmatch(words), REFUSED.fullmatch(words)
+        meant = b''
+        if refused:
+            meant = b'FF%02X%04X' % (int(refused['number']), int(refused['place'] or 0))
+        elif number and (b',' in number['kind']) == (number['note'] is not None):
+            meant = b'%02X%04X' % (KINDS.index(number['kind']), int(number['number']))
+        must(meant and result.startswith(meant), 'told of %s: %s', around(result, 0), around(words, 0))
+        if not refused and number['note']:
+            distance = (int(number['note']) - int(number['number'])) % 65536
+            row = saved.setdefault(distance if 1 <= distance <= 32 else 33, [0, 0])
+            row[result[:2] == b'02'] += 1
+    total = [sum(row[kind] for row in saved.values()) for kind in (0, 1)]
+    rows = [(b'distance %d' % distance if distance <= 32 else b'behind', *saved[distance]) for distance in sorted(saved)]
+    expected = [b'saved by spares %d, by parity %d' % tuple(total)] + [b'%s: spares %d, parity %d' % row for row in rows]
+    must(table == expected, 'the table is %s, and the lines have %s', table, expected)
+    return total
+
+
+def check(command, given, report, results):
+    """One input through the program; what was saved."""
+    saved = goes_with(report, results)
+    written, remark = run(command, given)
+    must(not remark, 'it does not end well: %s', remark)
+    at = difference(report, written)
+    if at is not None:
+        raise Wrong('\n'.join(['line %d of the report is not the expected one' % (at + 1)] + described(report, written, at)))
+    return '%d by spares, %d by parity' % tuple(saved)
+
+
+def missing(made):
+    """What is in no report: kinds, refusals with a place and without, rows."""
+    lines = b'\n' + b''.join(report for _, report, _ in made)
+    every = [b'received', b'spare, from', b'repaired, with', b'lost', b'behind'] + [b'\ndistance %d:' % row for row in (*range(1, 16), 31)]
+    every += [b'with %d at octet' % number for number in (1, 3, 4, 5, 6)] + [b'with %d\n' % number for number in (2, 7, 8, 9, 15)]
+    return [words.strip().decode() for words in every if words not in lines]
+
+
+def found(command, made):
+    """What an input says of a wrong program; nothing if none tells it apart."""
+    for one in made:
+        try:
+            check(command, *one)
+        except Wrong as wrong:
+            return str(wrong)
+    return ''
+
+
+def self_test():
+    """Wrong reports and wrong programs, and what is said of each; the right ones pass."""
+    test = Cases('noted.py')
+    made = [make() for _, make in inputs()]
+    given, report, results = with_report(dict((name, text) for name, text, _ in stored('.lines', '.results'))['request-8-program.lines']
+                                         + b'0\n0009\n')
+    test.says('what no input has', '[]', str(missing(made)))
+    test.says('what the stored ones do not have', "'distance 14:', 'distance 15:']", str(missing(made[:9])))
+    test.fails('a stored report altered', 'differs from stored whole-case.notes', as_stored, 'whole-case.lines', given, report, results)
+    test.passes('as it should be', check, independent('notes'), given, report, results)
+    for name, old, new, words in (
+            ('another kind', b'number 7: spare, from', b'number 7: repaired, with', 'told of 01000747: number 7: repaired'),
+            ('another number', b'number 7: s', b'number 8: s', 'told of 01000747: number 8: spare'),
+            ('a number in other words', b'number 1: received', b'number 1: came', 'told of 00000102: number 1: came'),
+            ('another datagram', b'from datagram 8', b'from datagram 9', 'the table is '),
+            ('lost for received', b'number 1: received', b'number 1: lost', 'told of 00000102: number 1: lost'),
+            ('another refusal', b'line 9: refused with 15', b'line 9: refused with 1', 'told of FF0F0000: line 9'),
+            ('another place', b'at octet 2', b'at octet 3', 'told of FF010002: line 10'),
+            ('no place', b' at octet 2', b'', 'told of FF010002: line 10'),
+            ('no empty line', b'\n\n', b'\n', 'no empty line before the table'),
+            ('a line less', b'number 6: lost\n', b'', '12 lines for 13 results'),
+            ('a line more', b'number 6: lost\n', 2 * b'number 6: lost\n', '14 lines for 13 results'),
+            ('another total', b'saved by spares 1', b'saved by spares 2', 'the table is '),
+            ('a row less', b'distance 1: spares 1, parity 0\n', b'', 'the table is '),
+            ('a row of zeros', b'distance 2:', b'distance 3: spares 0, parity 0\ndistance 2:', 'the table is '),
+            ('another row', b'distance 2:', b'distance 3:', 'the table is ')):
+        assert report.count(old) == 1, (name, report)
+        test.fails(name, words, goes_with, report.replace(old, new), results)
+    right = independent('notes')
+    for name, command, words in (
+            ('status 3', right + '; exit 3', 'it does not end well: status 3'),
+            ('no last line feed', right + ' | head -c -1', 'is not the expected one'),
+            ('a line number', right + " | sed 's/^line 9/line 8/'", 'line 12 of the report is not the expected one'),
+            ('the last line left out', right + " | sed '$d'", 'is not the expected one'),
+            ('a line more', right + '; echo', 'is not the expected one')):
+        test.fails('the program, ' + name, words, check, command, given, report, results)
+    for name, *edit in REPORT_MUTANTS:
+        with tempfile.TemporaryDirectory() as directory:
+            command = make_mutant(pathlib.Path(directory), *edit) + ' notes 2> /dev/null'
+            test.says('a wrong program, ' + name, 'is not the expected one', found(command, made))
+    test.ends('a wrong program', 1, '0 passed, 1 failed', [sys.executable, __file__, '--notes', right + ' | tac'])
+    test.ends('no command', 2, 'a command is needed', [sys.executable, __file__])
+    test.end()
+
+
+def main():
+    """Checks the program; ends with status 1 if it is wrong."""
+    parser = argparse.ArgumentParser(description=__doc__)
+    parser.add_argument('--notes', help='shell command of the program notes')
+    parser.add_argument('--limit', action='store_true', help='also at 1,000,000 numbers')
+    parser.add_argument('--self-test', action='store_true', help='check that wrong reports are reported')
+    arguments = parser.parse_args()
+    if arguments.self_test:
+        self_test()
+        return
+    if not arguments.notes:
+        parser.error('a command is needed: --notes')
+    passed = 0
+    for name, make in inputs(arguments.limit):
+        try:
+            print('ok %s; %s' % (name, check(arguments.notes, *make())), flush=True)
+        except Wrong as wrong:
+            print('wrong %s: %s' % (name, wrong))
+            print('%d passed, 1 failed' % passed)
+            sys.exit(1)
+        passed += 1
+    print('%d passed, 0 failed' % passed)
+
+
+if __name__ == '__main__':
+    main()
