@@ -7,7 +7,7 @@ pub use Rattle.formats.proofs.Lawful.{Lawful, lawful-known, lawful-item
 pub use Rattle.formats.proofs.Lawful.{lawful-either, lawful-sequence-of}
 -- ---- and for each part
 pub use Rattle.formats.proofs.Parts.{lawful-flag, lawful-bits, lawful-align, lawful-here, lawful-octets, lawful-two-octets}
-pub use Rattle.formats.proofs.Parts.{lawful-length-rule}
+pub use Rattle.formats.proofs.Parts.{lawful-length-rule, Fronts, lawful-octetwise}
 -- ---- into octets, and back
 pub use Rattle.formats.proofs.Packing.{packed-whole, written-found, found-written}
 -- ---- what a part reads at a place, told by the octets there

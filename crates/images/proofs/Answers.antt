@@ -1,0 +1,133 @@
+-- What a text reads as: a session exactly if the text is its image, 20 exactly if it is nobody's, 17 where it is one of a session outside
+-- its ranges. Assumes nothing.
+use Prim.Native.Nat.{ℕ, _*_, _<_}
+use mathlib.Core.Path.{_≡_, refl, sym, ap, _∙_}
+use mathlib.Core.Logic.{_⊎_, inl, inr, _↔_}
+use mathlib.Core.Bool.{Bool, true, false, cond}
+use mathlib.Core.List.{List}
+use lib.ListN.{length}
+use lib.Dec.{eqb}
+use native.Mathlib.Omega.{arith}
+use Rattle.lengths.specs.Refusals.{refusal, outsideRanges}
+use Rattle.lengths.specs.Answers.{Answer, done, refused, refuse}
+use Rattle.lengths.specs.Claims.{Octets}
+use Rattle.lengths.specs.declared.Refusal.{Refusal}
+use Rattle.lengths.proofs.Laws.{not-done, bind-done, cond-met, done-same, refused-same}
+use Rattle.formats.specs.Reading.{Finding, found, stopped}
+use Rattle.formats.specs.Format.{Format}
+use Rattle.views.specs.View.{View}
+use Rattle.views.specs.Ranges.{inRanges}
+use Rattle.images.specs.Parts.{badImage, upTo, readWhole}
+use Rattle.images.specs.Layout.{Edition, image}
+use Rattle.images.specs.Image.{imageText, inRangesOnly, readImage, Holds}
+use Rattle.images.proofs.Plain.{whole-reads, reads-whole}
+use Rattle.images.proofs.Whole.{plain-image}
+use Rattle.images.proofs.Holds.{holds-fits, fits-holds}
+
+-- ---- the lines
+-- whatever is wrong with them is 20
+upTo-refused : {A : Type 0} (size : ℕ) (r : Finding A) (why : Refusal) → upTo size r ≡ refused why → why ≡ refusal badImage
+upTo-refused size (found a p) why e = by (eqb p (8 * size)) e where
+  by : (b : Bool) → cond b (done a) (refuse badImage) ≡ refused why → why ≡ refusal badImage
+  by true e = absurd (not-done (sym e))
+  by false e = sym (refused-same e)
+upTo-refused size (stopped r) why e = sym (refused-same e)
+
+whole-refused : {A : Type 0} (f : Format A) (s : List ℕ) (why : Refusal) → readWhole f s ≡ refused why → why ≡ refusal badImage
+unfolding readWhole
+whole-refused f s why e = upTo-refused (length s) (f .read s 0 0) why e
+
+-- what an edition can hold reads back
+pub held-reads : (edition : Edition) (view : View) → edition .octet < 256 → Holds (edition .limit) view
+    → readWhole (image edition) (imageText edition view) ≡ done view
+unfolding imageText
+held-reads edition view small h = whole-reads (plain-image edition) view (holds-fits edition view small h)
+
+-- and what reads is such a session's image
+pub record ImageOf (edition : Edition) (text : List ℕ) (view : View) : Type 0 where
+  pub holds : Holds (edition .limit) view
+  pub written : imageText edition view ≡ text
+
+pub reads-held : (edition : Edition) (text : List ℕ) (view : View) → Octets text → readWhole (image edition) text ≡ done view
+    → ImageOf edition text view
+unfolding imageText
+reads-held edition text view small e =
+    let back = reads-whole (plain-image edition) text view small e in
+    record { holds = fits-holds edition view (back .0); written = back .1 }
+
+-- ---- then the ranges
+seventeen : {A : Type 0} → _≡_ {A = Answer A} (refuse outsideRanges) (refuse badImage) → ⊥
+seventeen e = let z : _≡_ {A = ℕ} 17 20 = ap (λ (why : Refusal). why .number) (refused-same e) in omega arith
+
+only-done : (view out : View) → inRangesOnly view ≡ done out → (view ≡ out) × (inRanges view ≡ true)
+only-done view out e = let met = cond-met (inRanges view) outsideRanges (done view) out e in (done-same (met .1), met .0)
+
+only-outside : (b : Bool) (view : View) (why : Refusal) → cond b (done view) (refuse outsideRanges) ≡ refused why
+    → (b ≡ false) × (why ≡ refusal outsideRanges)
+only-outside true view why e = absurd (not-done (sym e))
+only-outside false view why e = (refl, sym (refused-same e))
+
+module _ (edition : Edition) (text : List ℕ) where
+  pub read-lines : (view : View) → readWhole (image edition) text ≡ done view → readImage edition text ≡ inRangesOnly view
+  unfolding readImage
+  read-lines view e = rw e
+
+  read-none : (why : Refusal) → readWhole (image edition) text ≡ refused why → readImage edition text ≡ refuse badImage
+  unfolding readImage
+  read-none why e = rw (e, whole-refused (image edition) text why e)
+
+  pub read-only : (why : Refusal) → readImage edition text ≡ refused why → (why ≡ refusal badImage) ⊎ (why ≡ refusal outsideRanges)
+  read-only why e = by (readWhole (image edition) text) refl where
+    by : (r : Answer View) → readWhole (image edition) text ≡ r → (why ≡ refusal badImage) ⊎ (why ≡ refusal outsideRanges)
+    by (done view) was = inr (only-outside (inRanges view) view why (sym (read-lines view was) ∙ e) .1)
+    by (refused other) was = inl (sym (refused-same (sym (read-none other was) ∙ e)))
+
+  module _ (small : Octets text) where
+    pub read-image : (view : View) → readImage edition text ≡ done view → ImageOf edition text view × (inRanges view ≡ true)
+    unfolding readImage
+    read-image view e =
+        let lines = bind-done (readWhole (image edition) text) inRangesOnly view e in
+        let only = only-done (lines .0) view (lines .2) in
+        rw (← only .0) (reads-held edition text (lines .0) small (lines .1), only .1)
+
+    module _ (octet : edition .octet < 256) where
+      image-lines : (view : View) → Holds (edition .limit) view → imageText edition view ≡ text → readWhole (image edition) text ≡ done view
+      image-lines view h e = rw (← e) (held-reads edition view octet h)
+
+      pub session-exactly : (view : View) → (readImage edition text ≡ done view)
+          ↔ ((Holds (edition .limit) view) × (imageText edition view ≡ text) × (inRanges view ≡ true))
+      session-exactly view = (
+        λ e. let so = read-image view e in (so .0 .holds, so .0 .written, so .1),
+        λ x. read-lines view (image-lines view (x .0) (x .1)) ∙ ap (λ (b : Bool). cond b (done view) (refuse outsideRanges)) (x .2),
+      )
+
+      pub misshapen-exactly : (readImage edition text ≡ refuse badImage)
+          ↔ ((view : View) → Holds (edition .limit) view → imageText edition view ≡ text → ⊥)
+      misshapen-exactly = (
+        λ e view h is. never (inRanges view) view (sym (read-lines view (image-lines view h is)) ∙ e),
+        λ nobody. by nobody (readWhole (image edition) text) refl,
+      ) where
+        never : (b : Bool) (view : View) → cond b (done view) (refuse outsideRanges) ≡ refuse badImage → ⊥
+        never true view e = not-done (sym e)
+        never false view e = seventeen e
+
+        by : ((view : View) → Holds (edition .limit) view → imageText edition view ≡ text → ⊥)
+            → (r : Answer View) → readWhole (image edition) text ≡ r → readImage edition text ≡ refuse badImage
+        by nobody (done view) was =
+            let is = reads-held edition text view small was in
+            absurd (nobody view (is .holds) (is .written))
+        by nobody (refused why) was = read-none why was
+
+      pub outside-exactly : (readImage edition text ≡ refuse outsideRanges)
+          ↔ ((view : View) × (Holds (edition .limit) view) × (imageText edition view ≡ text) × (inRanges view ≡ false))
+      outside-exactly = (
+        λ e. by e (readWhole (image edition) text) refl,
+        λ x.
+            read-lines (x .0) (image-lines (x .0) (x .1) (x .2)) ∙ ap (λ (b : Bool). cond b (done (x .0)) (refuse outsideRanges)) (x .3),
+      ) where
+        by : readImage edition text ≡ refuse outsideRanges → (r : Answer View) → readWhole (image edition) text ≡ r
+            → (view : View) × (Holds (edition .limit) view) × (imageText edition view ≡ text) × (inRanges view ≡ false)
+        by e (done view) was =
+            let is = reads-held edition text view small was in
+            (view, is .holds, is .written, only-outside (inRanges view) view (refusal outsideRanges) (sym (read-lines view was) ∙ e) .0)
+        by e (refused why) was = absurd (seventeen (sym e ∙ read-none why was))

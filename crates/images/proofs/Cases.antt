@@ -1,0 +1,76 @@
+-- The cases of an image, each computed. Assumes nothing.
+use mathlib.Core.Path.{refl}
+use Rattle.octets.specs.Place.{tab, allBelow}
+use Rattle.lengths.specs.Length.{lengthAt, allowed, lengthWithin, lengthOctets}
+use Rattle.datagrams.specs.Read.{itemAt}
+use Rattle.datagrams.specs.Write.{itemOctets}
+use Rattle.formats.specs.Spelling.{spelt, whole, wide, packed}
+use Rattle.formats.specs.Reading as reading
+use Rattle.formats.specs.Format.{sequenceSpelt}
+use Rattle.views.specs.View.{freshView}
+use Rattle.views.specs.Ranges.{sumRight, inRanges}
+use Rattle.held.specs.Table.{stateNumbered}
+use Rattle.lines.specs.Hex.{digitOf, digitFor, octetsIn, hexOf}
+use Rattle.lines.specs.Text.{characters}
+use Rattle.images.specs.Parts.{readWhole, highFirst, numberIn, numberFront, itemFront, lineAt, upperPairs, readLine, lineFront}
+use Rattle.images.specs.Layout.{first, state, accepted, messages, numberLine, image}
+use Rattle.images.specs.Image.{readImage}
+use Rattle.images.specs.Cases.{Written, Lines, Texts, Cases}
+
+written : Written
+unfolding tab lengthOctets itemOctets spelt whole wide packed sequenceSpelt freshView digitFor hexOf characters
+    numberIn first state accepted messages numberLine
+written = record { fresh-first = refl; fresh-blank = refl; fresh-unknown = refl; counts = refl; number = refl }
+
+lines : Lines
+unfolding tab allBelow lengthAt allowed lengthWithin itemAt reading.octetwise reading.align reading.bits reading.sequenceOf
+    stateNumbered digitOf octetsIn characters readWhole highFirst numberFront itemFront upperPairs readLine
+    first state accepted messages numberLine
+lines =
+    record {
+      counts = refl;
+      number = refl;
+      lower-case = refl;
+      carriage-return = refl;
+      odd = refl;
+      empty = refl;
+      unknown = refl;
+      missing = refl;
+      left-over = refl;
+      state-5 = refl;
+      accepted-02 = refl;
+      n-8 = refl;
+      n-9 = refl;
+      m-4 = refl;
+      m-5 = refl;
+      at-limit = refl;
+      packet-over = refl;
+      message-over = refl;
+      length-c0 = refl;
+      length-two = refl;
+      n-alone = refl;
+      m-alone = refl;
+      accepted-before = refl;
+      n-before = refl;
+      m-before = refl;
+      edition-02 = refl;
+    }
+
+texts : Texts
+unfolding tab allBelow lengthAt allowed lengthWithin itemAt reading.octetwise reading.align reading.bits reading.sequenceOf
+    stateNumbered digitOf octetsIn characters readWhole highFirst numberFront itemFront lineAt upperPairs readLine lineFront
+    first state accepted messages numberLine image readImage
+texts =
+    record {
+      no-feed = refl;
+      two = refl;
+      missing = refl;
+      extra = refl;
+      empty-line = refl;
+      nothing = refl;
+      first-alone = refl;
+    }
+
+pub cases : Cases
+unfolding freshView sumRight inRanges
+cases = record { written = written; lines = lines; texts = texts; past-32-bits = refl }

@@ -1,0 +1,41 @@
+-- The claims of this crate, each proved by a law. Assumes nothing.
+use mathlib.Core.Path.{refl, sym, _∙_}
+use Rattle.lengths.proofs.Laws.{fitted-first}
+use Rattle.held.specs.Table.{viewIn}
+use Rattle.images.specs.Image.{imageText, imageRows, imageToWrite}
+use Rattle.images.specs.Claims.{Writes, Claims}
+use Rattle.images.proofs.Whole.{image-lines}
+use Rattle.images.proofs.Holds.{sound-holds}
+use Rattle.images.proofs.Sizes.{image-length, image-most}
+use Rattle.images.proofs.Answers.{held-reads, read-image, read-only, session-exactly, misshapen-exactly, outside-exactly}
+use Rattle.images.proofs.Lent.{session-reads, lent-back, struct-back}
+use Rattle.images.proofs.Cases.{cases}
+
+writes : Writes
+unfolding imageToWrite
+writes edition session old = fitted-first (imageRows session) (imageText edition (viewIn session)) old
+
+pub claims : Claims
+claims =
+    record {
+      readBack =
+          record { held = held-reads; holds = sound-holds; session = session-reads; lent = lent-back; struct = struct-back };
+      oneImage =
+          record {
+            written = λ edition text view small e. read-image edition text small view e .0 .written;
+            one =
+                λ edition text other view small few e again.
+                sym (read-image edition text small view e .0 .written) ∙ read-image edition other few view again .0 .written;
+          };
+      lines = image-lines;
+      sized = record { settled = image-length; most = image-most; lent = refl };
+      reads =
+          record {
+            session = λ edition text view octet small. session-exactly edition text small octet view;
+            misshapen = λ edition text octet small. misshapen-exactly edition text small octet;
+            outside = λ edition text octet small. outside-exactly edition text small octet;
+            only = λ edition text why e. read-only edition text why e;
+          };
+      writes = writes;
+      cases = cases;
+    }

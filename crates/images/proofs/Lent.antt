@@ -1,0 +1,74 @@
+-- A session as it is lent: its packets and messages are of octets, and the one that was read is the very one. Assumes nothing.
+use Prim.Native.Nat.{ℕ, _*_, _<_}
+use mathlib.Core.Path.{_≡_, sym, _∙_}
+use mathlib.Core.List.{List, []}
+use lib.ListN.{length, getD, drop}
+use native.Mathlib.Omega.{arith}
+use Rattle.octets.proofs.Laws.{length-tab, tab-at}
+use Rattle.lengths.specs.Answers.{done}
+use Rattle.lengths.specs.Claims.{Octets}
+use Rattle.lengths.proofs.Laws.{done-same}
+use Rattle.datagrams.specs.Sizes.{packetLimit}
+use Rattle.stores.specs.Store.{part}
+use Rattle.views.specs.View.{View, numbers}
+use Rattle.views.specs.Ranges.{Sound}
+use Rattle.views.proofs.Laws.{inRanges-of}
+use Rattle.held.specs.Slots.{slotAt, heardSlotAt, messageSlot}
+use Rattle.held.specs.Table.{Lent, lentBy, notePlace, sizeIn, mIn, messageSizeIn, cellIn, messageIn, heldIn, viewIn, viewOf}
+use Rattle.held.specs.Laid.{InRanges}
+use Rattle.held.specs.declared.Session.{Session}
+use Rattle.held.proofs.Laws.{cell-at, held-at, lent-same, session-same}
+use Rattle.images.specs.Layout.{edition01}
+use Rattle.images.specs.Image.{imageText, readImage, OfOctets, LentOctets}
+use Rattle.images.proofs.Numbers.{octets-take, octets-drop}
+use Rattle.images.proofs.Holds.{sound-holds}
+use Rattle.images.proofs.Answers.{held-reads, read-lines}
+
+part-small : (o : List ℕ) (i n : ℕ) → Octets o → Octets (part o i n)
+unfolding part
+part-small o i n small = octets-take n (drop (i * packetLimit) o) (octets-drop (i * packetLimit) o small)
+
+cell-small : {session : Lent} → LentOctets session → (i : ℕ) → ((cellIn (session .table) (session .octets) i) .note < numbers)
+    × Octets ((cellIn (session .table) (session .octets) i) .octets)
+unfolding cellIn
+cell-small {session} x i = (x .table (notePlace i), part-small (session .octets) i (sizeIn (session .table) i) (x .octets))
+
+message-small : {session : Lent} → LentOctets session → (j i : ℕ)
+    → i < length ((heldIn (session .table) (session .messages) j) .messages)
+    → Octets (getD ((heldIn (session .table) (session .messages) j) .messages) i [])
+unfolding heldIn messageIn
+message-small {session} x j i below =
+    let t = session .table in
+    let g = session .messages in
+    rw (tab-at (mIn t j) (messageIn t g j) i [] (omega (arith, length-tab (mIn t j) (messageIn t g j))))
+    (part-small g (messageSlot j i) (messageSizeIn t (messageSlot j i)) (x .messages))
+
+pub lent-octets : {session : Lent} → LentOctets session → OfOctets (viewIn session)
+unfolding viewIn
+lent-octets {session} x =
+    let slot = slotAt (session .base) in
+    let at = cell-at (session .base) (session .table) (session .octets) in
+    record {
+      note = λ p below. rw (at p below) (cell-small x (slot p) .0);
+      packet = λ p below. rw (at p below) (cell-small x (slot p) .1);
+      message =
+          λ d below.
+          rw (held-at (session .base) (session .table) (session .messages) d below) (message-small x (heardSlotAt (session .base) d));
+    }
+
+-- the image of a session within its ranges reads
+pub session-reads : (view : View) → Sound view → OfOctets view → readImage edition01 (imageText edition01 view) ≡ done view
+session-reads view s o =
+    let h = sound-holds view s o in
+    read-lines edition01 (imageText edition01 view) view (held-reads edition01 view (omega arith) h)
+    ∙ rw (inRanges-of s)
+
+pub lent-back : {session other : Lent} → InRanges session → LentOctets session → InRanges other
+    → readImage edition01 (imageText edition01 (viewIn session)) ≡ done (viewIn other) → other ≡ session
+lent-back {session} {other} w x v e =
+    lent-same v w (sym (done-same (sym (session-reads (viewIn session) (w .sound) (lent-octets x)) ∙ e)))
+
+pub struct-back : {session other : Session} → InRanges (lentBy session) → LentOctets (lentBy session) → InRanges (lentBy other)
+    → readImage edition01 (imageText edition01 (viewOf session)) ≡ done (viewOf other) → other ≡ session
+struct-back {session} {other} w x v e =
+    session-same other session v w (sym (done-same (sym (session-reads (viewOf session) (w .sound) (lent-octets x)) ∙ e)))

@@ -1,0 +1,13 @@
+mod Plain
+mod Numbers
+mod Text
+mod HexLine
+mod Productions
+mod Whole
+mod Holds
+mod Sizes
+mod Answers
+mod Lent
+pub mod Laws
+pub mod Cases
+pub mod Claims

@@ -1,0 +1,108 @@
+-- Document 02, request 9: a receiving session written as an image, and read back. "Refusals: reading, 20, a line missing, extra or
+-- misshapen .., then 17, and nothing is restored; writing, 17, then 13." The 13 is that of every call that writes to a lent buffer.
+-- Definitions only.
+use Prim.Native.Nat.{ℕ, _+_, _*_, _^_, _≤_, _<_}
+use mathlib.Core.Path.{_≡_}
+use mathlib.Core.Bool.{not, cond}
+use mathlib.Core.List.{List, [], _∷_, map}
+use mathlib.Core.Option.{Option}
+use lib.ListN.{length, getD}
+use Rattle.octets.specs.Place.{tab}
+use Rattle.lengths.specs.Refusals.{outsideRanges}
+use Rattle.lengths.specs.Answers.{Answer, done, refuse, _>>=_}
+use Rattle.lengths.specs.Tables.{when, unless}
+use Rattle.lengths.specs.Claims.{Octets}
+use Rattle.datagrams.specs.Sizes.{coveredLimit, messagesLimit}
+use Rattle.datagrams.specs.Write.{sumOf}
+use Rattle.datagrams.specs.Inner.Heads.{itemSize, itemsSize}
+use Rattle.views.specs.Cells.{cellAt, keptBefore, keptAhead, keptNumbers}
+use Rattle.views.specs.Held.{heldAt}
+use Rattle.views.specs.View.{View, numbers}
+use Rattle.views.specs.Ranges.{inRanges}
+use Rattle.held.specs.Table.{Lent, viewIn}
+use Rattle.held.specs.Laid.{lentInRanges}
+use Rattle.images.specs.Parts.{octetsFor, readWhole, Sendable}
+use Rattle.images.specs.Layout.{Edition, Number, before, ahead, image}
+
+-- the characters of a session's image
+unfoldable pub imageText : Edition → View → List ℕ
+imageText edition view = octetsFor (image edition) view
+
+-- 17: a session outside its ranges, as document 01 sees it
+abbrev pub inRangesOnly : View → Answer View
+inRangesOnly view = cond (inRanges view) (done view) (refuse outsideRanges)
+
+-- what any text reads as: 20 over the whole image, then 17
+unfoldable pub readImage : Edition → List ℕ → Answer View
+readImage edition text = do
+  view ← readWhole (image edition) text
+  inRangesOnly view
+
+-- what is written of a session as it is lent: "writing, 17"
+abbrev pub imageRows : Lent → List (Option ℕ)
+imageRows session = when (not (lentInRanges session)) outsideRanges ∷ []
+
+unfoldable pub imageToWrite : Edition → Lent → Answer (List ℕ)
+imageToWrite edition session = unless (imageRows session) (imageText edition (viewIn session))
+
+-- ---- what an image can hold: numbers that have their octets, packets and messages within the limit
+pub record Holds (limit : ℕ) (view : View) : Type 0 where
+  pub base : view .base < 256 ^ 2
+  pub received : view .counts .received < 256 ^ 4
+  pub spare : view .counts .spare < 256 ^ 4
+  pub repaired : view .counts .repaired < 256 ^ 4
+  pub lost : view .counts .lost < 256 ^ 4
+  pub kept : length (view .cells) ≡ keptNumbers
+  pub ahead : length (view .held) ≡ keptAhead
+  pub note : (p : ℕ) → p < keptNumbers → (cellAt (view .cells) p) .note < 256 ^ 2
+  pub packet : (p : ℕ) → p < keptNumbers → Sendable limit ((cellAt (view .cells) p) .octets)
+  pub covered : (d : ℕ) → d < keptAhead → (heldAt (view .held) d) .n ≤ coveredLimit
+  pub few : (d : ℕ) → d < keptAhead → length ((heldAt (view .held) d) .messages) ≤ messagesLimit
+  pub message : (d : ℕ) → d < keptAhead → (i : ℕ) → i < length ((heldAt (view .held) d) .messages)
+      → Sendable limit (getD ((heldAt (view .held) d) .messages) i [])
+
+-- what a session's numbers are by their kinds, in its ranges or not: a note is a datagram's number, and packets and messages are of
+-- octets
+pub record OfOctets (view : View) : Type 0 where
+  pub note : (p : ℕ) → p < keptNumbers → (cellAt (view .cells) p) .note < numbers
+  pub packet : (p : ℕ) → p < keptNumbers → Octets ((cellAt (view .cells) p) .octets)
+  pub message : (d : ℕ) → d < keptAhead → (i : ℕ) → i < length ((heldAt (view .held) d) .messages)
+      → Octets (getD ((heldAt (view .held) d) .messages) i [])
+
+-- the same of a session as it is lent: a table of 16-bit numbers, stores of octets
+pub record LentOctets (session : Lent) : Type 0 where
+  pub table : (i : ℕ) → getD (session .table) i 0 < numbers
+  pub octets : Octets (session .octets)
+  pub messages : Octets (session .messages)
+
+-- ---- how long it is
+-- the characters of a line of so many octets
+abbrev pub lineSize : ℕ → ℕ
+lineSize octets = 2 * octets + 1
+
+-- edition, base and counts
+abbrev pub firstSize : ℕ
+firstSize = 1 + 2 + 4 * 4
+
+-- state, accepted octet, note, packet, n, m and messages
+abbrev pub numberSize : Number → ℕ
+numberSize k = 6 + itemSize (length (k .cell .octets)) + itemsSize (map length (k .held .messages))
+
+abbrev pub linesSize : ℕ → (ℕ → Number) → ℕ
+linesSize n lines = sumOf (tab n (λ p. lineSize (numberSize (lines p))))
+
+unfoldable pub imageSize : View → ℕ
+imageSize view = lineSize firstSize + linesSize keptBefore (before view) + linesSize keptAhead (ahead view)
+
+-- a packet or message of `limit` octets, with its length
+abbrev pub longestItem : ℕ → ℕ
+longestItem limit = 2 + limit
+
+-- the most octets of the line of a number: a packet and all messages
+abbrev pub lineLimit : ℕ → ℕ
+lineLimit limit = 6 + longestItem limit + messagesLimit * longestItem limit
+
+-- the longest image: before the base there are no messages
+abbrev pub imageLimit : ℕ → ℕ
+imageLimit limit =
+    lineSize firstSize + keptBefore * lineSize (6 + longestItem limit) + keptAhead * lineSize (lineLimit limit)

@@ -1,0 +1,38 @@
+// A receiving session as lines of hexadecimal, document 02, request 9: definitions and proofs, so that one description says what is read
+// and what is written, and the limits that code and its hosts go by.
+use datagrams::Packet;
+use datagrams::Parity;
+use held::Session;
+ghost use mathlib.Core.Path.{_≡_};
+ghost use Rattle.datagrams.specs.Sizes.{packetLimit};
+ghost use Rattle.images.specs.Image.{firstSize, lineLimit, imageLimit};
+
+// An image of a session.
+pub struct Image {}
+
+impl Image {
+    // The edition that is written.
+    pub const EDITION: u8 = 1;
+    // The octets of the first line: edition, base and counts.
+    pub const FIRST: usize = 19;
+    // The most octets of a packet or message with its length, and of the line of a number.
+    pub const ITEM: usize = 2 + Packet::LIMIT;
+
+    pub const LINE: usize = 6 + Image::ITEM + Parity::MESSAGES * Image::ITEM;
+    // The most characters of an image: so many a host can lend.
+    pub const LIMIT: usize = (2 * Image::FIRST + 1)
+        + Session::BEFORE * (2 * (6 + Image::ITEM) + 1)
+        + Session::HEARD * (2 * Image::LINE + 1);
+
+    pub fn line() -> usize
+        ensures { λ r. ⌜ r ≡ lineLimit packetLimit ⌝ }
+    {
+        Image::LINE
+    }
+
+    pub fn limit() -> usize
+        ensures { λ r. ⌜ r ≡ imageLimit packetLimit ⌝ }
+    {
+        Image::LIMIT
+    }
+}
