@@ -1,7 +1,8 @@
 #!/usr/bin/env python3
 """Makes each check of running.py, cutting.py, run, prove, long, speed/ and ../test fail, and looks for what it must say.
 
-Also looks whether the scripts for the joiner, datagrams, packets and replays meet every answer that there is."""
+Also looks whether the scripts for the joiner, datagrams, packets and replays meet every answer that there is, and those for notes
+every note."""
 
 import argparse
 import importlib.machinery
@@ -14,7 +15,7 @@ import tempfile
 import running
 from cutting import cut_calls, cut_lines
 from failing import HERE, Cases, altered, independent
-from generate import FRAMES, PACKETS, REPLAYS, make_script
+from generate import FRAMES, NOTES, PACKETS, REPLAYS, make_script
 from making import placed, single
 from making.lines import program_lines
 from making.script import Script
@@ -75,6 +76,10 @@ def of_generate(test):
         test.says('every answer on ' + name, every, answers_met(scenes, 300 if scenes is REPLAYS else 1500))
         test.fails('a short script on ' + name, 'NOT CAUGHT by inner: one: ' + every, Cases('inner').says, 'one', every,
                    answers_met(scenes, short))
+    every = ('received: own | repaired: ahead | repaired: ahead over 65,535 | repaired: behind | repaired: behind over 65,535 | '
+             'spare: ahead | spare: ahead over 65,535')
+    test.says('every note', every, notes_met(1500))
+    test.fails('a short script on notes', 'NOT CAUGHT by inner: one: ' + every, Cases('inner').says, 'one', every, notes_met(60))
     script = Script('0', 2)
     script.calls.by_first_octet[0x07] = lambda arguments: Refusal(SPARE_BIT).octets()
     test.fails('two readers that differ', "b'050006' is read as b'00000300', by 07 as b'FF050000'", script.read, b'\x06', 0)
@@ -88,6 +93,19 @@ def answers_met(scenes, count):
     return ' '.join(sorted({(line[:2] + answer[:4 if line[:2] in (b'31', b'33') or answer[:1] == b'F' else 2]
                              + b'+' * (answer[:1] == b'F' and answer[4:8] != b'0000')).decode()
                             for line, answer in zip(script.lines, script.answers)}))
+
+
+def notes_met(count):
+    """The kinds of the numbers that leave, each with where its note is."""
+    script = make_script('0', count, NOTES)
+    met = set()
+    for line, answer in zip(script.lines, script.answers):
+        if line[:2] == b'12' and answer[:2] == b'00':
+            kind, number, note = (int(part, 16) for part in (answer[2:4], answer[4:8], answer[8:12]))
+            ahead = (note - number) % 65536 < 32768
+            where = 'own' if note == number else '%s%s' % (('behind', 'ahead')[ahead], ' over 65,535' * ((note > number) != ahead))
+            met.add('%s: %s' % (('received', 'spare', 'repaired', 'lost')[kind], where))
+    return ' | '.join(sorted(met))
 
 
 def of_run(test):

@@ -11,10 +11,11 @@ from .outside import furnish, try_all
 ANY_NOTE = (0, 1, 255, 256, 32767, 32768, 65535)
 
 
-def begin(script):
-    """A receiving session at the first number, near the wrap or anywhere, and an honest sender that is there too."""
+def begin(script, count):
+    """A receiving session, and an honest sender that is there too: at the first number, so that 65,535 is among so many, or anywhere."""
     r = script.random
-    at = r.choice((0, 0, 40, 65536 - r.randrange(30), 65536 - r.randrange(30), 131072 - r.randrange(30), r.randrange(NUMBERS_LIMIT - 99)))
+    at = r.choice((0, r.randrange(40), 65536 - r.randrange(1, count), 65536 * r.randrange(1, 15) - r.randrange(1, count),
+                   r.randrange(NUMBERS_LIMIT - 99)))
     script.call(0x16, shown(at, 4))
     return Sending(at)
 
@@ -46,9 +47,10 @@ def release_all(script, count):
 
 def saved(script):
     """Spares and parity save numbers, before the base too; then their own datagrams come, late, and no note of them changes."""
-    r, sender = script.random, begin(script)
+    r, count = script.random, script.random.choice((8, 16))
+    sender = begin(script, count)
     settings = r.choice(((SPARES, r.randrange(1, 9), 0), (PARITY, r.randrange(1, 5), r.randrange(1, 5))))
-    datagrams = [send(script, sender, settings) for _ in range(r.choice((8, 16)))]
+    datagrams = [send(script, sender, settings) for _ in range(count)]
     late = [octets for octets in datagrams if script.chance(0.4)]
     for _ in range(r.choice((0, 0, 2))):
         script.give_up()
@@ -68,8 +70,9 @@ def saved(script):
 
 def in_runs(script):
     """Every second datagram comes, with a message over its two neighbours; one of those sets off a run up and down, all by its offer."""
-    r, sender = script.random, begin(script)
-    datagrams = [send(script, sender, (PARITY, 2, 2) if at % 2 and at > 1 else (SPARES, 0, 0)) for at in range(r.choice((8, 12, 20)))]
+    r, count = script.random, script.random.choice((8, 12, 20))
+    sender = begin(script, count)
+    datagrams = [send(script, sender, (PARITY, 2, 2) if at % 2 and at > 1 else (SPARES, 0, 0)) for at in range(count)]
     waiting = datagrams[::2]
     holders = datagrams[1::2]
     r.shuffle(waiting)
@@ -85,7 +88,7 @@ def in_runs(script):
 
 def into_view(script):
     """Filled places are taken by other numbers, which come into view unknown and without a note, and are then filled by others."""
-    r, sender = script.random, begin(script)
+    r, sender = script.random, begin(script, 2 * AFTER)
     for _ in range(r.choice((2, 3))):
         settings = r.choice(((SPARES, r.randrange(1, 9), 0), (PARITY, r.randrange(1, 5), r.randrange(1, 5))))
         datagrams = [send(script, sender, settings) for _ in range(AFTER)]
