@@ -8,7 +8,7 @@ use mathlib.Core.List.{List}
 use lib.ListN.{length}
 use lib.Dec.{eqb}
 use native.Mathlib.Omega.{arith}
-use Rattle.lengths.specs.Refusals.{refusal, outsideRanges}
+use Rattle.lengths.specs.Refusals.{refusal, outsideRanges, badImage}
 use Rattle.lengths.specs.Answers.{Answer, done, refused, refuse}
 use Rattle.lengths.specs.Claims.{Octets}
 use Rattle.lengths.specs.declared.Refusal.{Refusal}
@@ -17,7 +17,7 @@ use Rattle.formats.specs.Reading.{Finding, found, stopped}
 use Rattle.formats.specs.Format.{Format}
 use Rattle.views.specs.View.{View}
 use Rattle.views.specs.Ranges.{inRanges}
-use Rattle.images.specs.Parts.{badImage, upTo, readWhole}
+use Rattle.images.specs.Parts.{upTo, readWhole}
 use Rattle.images.specs.Layout.{Edition, image}
 use Rattle.images.specs.Image.{imageText, inRangesOnly, readImage, Holds}
 use Rattle.images.proofs.Plain.{whole-reads, reads-whole}

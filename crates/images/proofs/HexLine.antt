@@ -8,7 +8,7 @@ use lib.Seq.{append-snoc}
 use lib.Dec.{ltb}
 use native.Mathlib.Omega.{arith}
 use borrow.Author.Tests.{lt-ltb, ltb-true}
-use Rattle.lengths.specs.Refusals.{refusal}
+use Rattle.lengths.specs.Refusals.{refusal, badImage}
 use Rattle.lengths.specs.Answers.{Answer, done, refused}
 use Rattle.lengths.specs.Claims.{Octets}
 use Rattle.lengths.proofs.Laws.{cond-met}
@@ -18,7 +18,7 @@ use Rattle.formats.specs.Format.{Format}
 use Rattle.formats.proofs.Laws.{Fronts}
 use Rattle.lines.specs.Hex.{octetsIn, hexOf}
 use Rattle.lines.specs.Lines.{lineFeed, lineOf}
-use Rattle.images.specs.Parts.{badImage, octetsFor, readWhole, taking, lineAt, upperPairs, readLine, lineFront, line}
+use Rattle.images.specs.Parts.{octetsFor, readWhole, taking, lineAt, upperPairs, readLine, lineFront, line}
 use Rattle.images.proofs.Plain.{Plain, plain-octetwise, octets-for, whole-reads, reads-whole}
 use Rattle.images.proofs.Text.{pairs-of, hex-back, octets-small, octets-back, hex-pairs, hex-line, line-ended, line-small}
 

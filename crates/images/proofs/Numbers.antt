@@ -10,7 +10,7 @@ use lib.Dec.{leb, ltb, eqb}
 use native.Mathlib.Nat.{pow-suc, mod-lt}
 use native.Mathlib.Omega.{arith}
 use borrow.Author.Tests.{le-ltb, ltb-false}
-use Rattle.lengths.specs.Refusals.{refusal}
+use Rattle.lengths.specs.Refusals.{refusal, badImage}
 use Rattle.lengths.specs.Answers.{Answer, done, refused}
 use Rattle.lengths.specs.Length.{lengthOctets}
 use Rattle.lengths.specs.Claims.{Octets}
@@ -21,7 +21,7 @@ use Rattle.datagrams.specs.declared.reader.Part.{Part}
 use Rattle.datagrams.proofs.Laws.{item-done, item-back}
 use Rattle.formats.specs.Reading.{found, stopped}
 use Rattle.formats.proofs.Laws.{Fronts}
-use Rattle.images.specs.Parts.{badImage, highFirst, numberIn, numberFront, number, octetTo, octetIs, partTaken, itemFront}
+use Rattle.images.specs.Parts.{highFirst, numberIn, numberFront, number, octetTo, octetIs, partTaken, itemFront}
 use Rattle.images.specs.Parts.{Sendable, item}
 use Rattle.images.proofs.Plain.{Plain, octets-append, plain-octetwise, plain-guarded}
 

@@ -8,6 +8,7 @@ use lib.ListN.{length}
 use lib.Dec.{eqb}
 use native.Mathlib.Omega.{arith}
 use borrow.Author.Tests.{eq-eqb, eqb-true}
+use Rattle.lengths.specs.Refusals.{badImage}
 use Rattle.lengths.specs.Answers.{done}
 use Rattle.lengths.specs.Claims.{Octets}
 use Rattle.lengths.proofs.Laws.{not-done, cond-met, done-same, octets-cons, octets-none}
@@ -17,7 +18,7 @@ use Rattle.formats.specs.Format.{Format, octetwise, guarded, _⊳_, made, seque
 use Rattle.formats.proofs.Laws.{wide-whole, packed-whole, written-found, found-written, Fronts, lawful-octetwise, Lawful, lawful-guarded}
 use Rattle.formats.proofs.Laws.{lawful-then, lawful-made, lawful-sequence-of}
 use Rattle.images.specs.Octets.{inRow}
-use Rattle.images.specs.Parts.{badImage, octetsFor, upTo, readWhole}
+use Rattle.images.specs.Parts.{octetsFor, upTo, readWhole}
 
 -- ---- octets
 pub octets-append : (a b : List ℕ) → Octets a → Octets b → Octets (a ++ b)

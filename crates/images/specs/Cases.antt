@@ -4,7 +4,7 @@ use Prim.Native.Nat.{ℕ}
 use mathlib.Core.Path.{_≡_}
 use mathlib.Core.Bool.{true, false}
 use mathlib.Core.List.{List, [], _∷_}
-use Rattle.lengths.specs.Refusals.{refusal, outsideRanges}
+use Rattle.lengths.specs.Refusals.{refusal, outsideRanges, badImage}
 use Rattle.lengths.specs.Answers.{Answer, done, refuse}
 use Rattle.datagrams.specs.Sizes.{packetLimit}
 use Rattle.formats.specs.Reading.{stopped}
@@ -13,7 +13,7 @@ use Rattle.views.specs.Cells.{unknown, received, spare, unknownCell}
 use Rattle.views.specs.Held.{nothingHeld}
 use Rattle.views.specs.View.{View, freshView}
 use Rattle.lines.specs.Text.{characters}
-use Rattle.images.specs.Parts.{badImage, octetsFor, readWhole, octetTo, line, lineFront, readLine}
+use Rattle.images.specs.Parts.{octetsFor, readWhole, octetTo, line, lineFront, readLine}
 use Rattle.images.specs.Layout.{edition01, First, first, firstOf, Number, numberLine, before, ahead}
 use Rattle.images.specs.Image.{readImage, inRangesOnly}
 

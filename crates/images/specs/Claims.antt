@@ -5,7 +5,7 @@ use mathlib.Core.Logic.{_⊎_, _↔_}
 use mathlib.Core.Bool.{true, false}
 use mathlib.Core.List.{List, _++_}
 use lib.ListN.{length}
-use Rattle.lengths.specs.Refusals.{refusal, outsideRanges}
+use Rattle.lengths.specs.Refusals.{refusal, outsideRanges, badImage}
 use Rattle.lengths.specs.Answers.{done, refused, refuse, fitted}
 use Rattle.lengths.specs.Tables.{first, refusalIn, roomRow}
 use Rattle.lengths.specs.Claims.{Octets}
@@ -16,7 +16,7 @@ use Rattle.views.specs.Ranges.{inRanges, Sound}
 use Rattle.held.specs.Table.{Lent, lentBy, viewIn, viewOf}
 use Rattle.held.specs.Laid.{InRanges}
 use Rattle.held.specs.declared.Session.{Session}
-use Rattle.images.specs.Parts.{badImage, readWhole}
+use Rattle.images.specs.Parts.{readWhole}
 use Rattle.images.specs.Layout.{Edition, edition01, linesOf, image}
 use Rattle.images.specs.Octets.{imageLines}
 use Rattle.images.specs.Image.{imageText, readImage, imageRows, imageToWrite, Holds, OfOctets, LentOctets, imageSize, imageLimit}

@@ -8,7 +8,7 @@ use mathlib.Core.List.{List, [], _∷_, _++_}
 use lib.ListN.{length, getD}
 use lib.Dec.{leb, ltb, eqb}
 use Rattle.octets.specs.Place.{allBelow}
-use Rattle.lengths.specs.Refusals.{refusal}
+use Rattle.lengths.specs.Refusals.{refusal, badImage}
 use Rattle.lengths.specs.Answers.{Answer, done, refused, refuse}
 use Rattle.lengths.specs.Length.{within, lengthLimit}
 use Rattle.lengths.specs.Claims.{Octets}
@@ -20,10 +20,6 @@ use Rattle.datagrams.specs.Write.{itemOctets}
 use Rattle.datagrams.specs.declared.reader.Part.{Part}
 use Rattle.lines.specs.Hex.{octetsIn}
 use Rattle.lines.specs.Lines.{lineFeed, lineOf}
-
--- "20, a line missing, extra or misshapen"
-abbrev pub badImage : ℕ
-badImage = 20
 
 -- ---- what is written of a value, and what octets read as, up to the last of them
 module _ {A : Type 0} where

@@ -3,12 +3,19 @@
 use datagrams::Packet;
 use datagrams::Parity;
 use held::Session;
+use lengths::Refusal;
 ghost use mathlib.Core.Path.{_≡_};
 ghost use Rattle.datagrams.specs.Sizes.{packetLimit};
 ghost use Rattle.images.specs.Image.{firstSize, lineLimit, imageLimit};
 
 // An image of a session.
 pub struct Image {}
+
+// What a text restores: the session whose image it is, or nothing.
+pub enum Restored {
+    Session(Session),
+    Refused(Refusal),
+}
 
 impl Image {
     // The edition that is written.

@@ -75,6 +75,22 @@ outsideRanges = 17
 abbrev pub frameTooLong : ℕ
 frameTooLong = 18
 
+-- request 9: "20, a line missing, extra or misshapen", of an image
+abbrev pub badImage : ℕ
+badImage = 20
+
+-- request 10: "21, any other edition octet", of an image
+abbrev pub otherEdition : ℕ
+otherEdition = 21
+
+-- request 12: "22, a trace with too many lines"
+abbrev pub tooManyLines : ℕ
+tooManyLines = 22
+
+-- request 13: "23, no octets satisfy all equations"
+abbrev pub noSolution : ℕ
+noSolution = 23
+
 -- document 02, request 5: "Every refusal met in reading order shall give the octet at which the refused item begins, from the start of
 -- the datagram or packet". A refusal with this number, of an item that begins at this octet
 abbrev pub refusalAt : ℕ → ℕ → Refusal

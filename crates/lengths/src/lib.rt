@@ -49,8 +49,16 @@ impl Refusal {
 
     pub const OUTSIDE_RANGES: u8 = 17;
 
-    // Document 02, request 1.
+    // Document 02, requests 1, 9, 10, 12 and 13.
     pub const FRAME_TOO_LONG: u8 = 18;
+
+    pub const BAD_IMAGE: u8 = 20;
+
+    pub const OTHER_EDITION: u8 = 21;
+
+    pub const TOO_MANY_LINES: u8 = 22;
+
+    pub const NO_SOLUTION: u8 = 23;
 
     pub fn new(number: u8) -> Refusal
         ensures { λ r. ⌜ RefusalMade number r ⌝ }
