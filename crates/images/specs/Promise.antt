@@ -9,27 +9,32 @@ use Rattle.lengths.specs.declared.Written.{Written}
 use Rattle.views.specs.View.{View}
 use Rattle.held.specs.Table.{lentBy, viewOf}
 use Rattle.held.specs.Laid.{InRanges}
+use Rattle.held.specs.Promise.{Fresh}
 use Rattle.held.specs.declared.Session.{Session}
 use Rattle.images.specs.Layout.{edition01}
 use Rattle.images.specs.Image.{readImage, imageToWrite}
+use Rattle.images.specs.declared.Restore.{Restore}
+use Rattle.images.specs.declared.Restore.the-variants as restore
 use Rattle.images.specs.declared.Restored.{Restored}
-use Rattle.images.specs.declared.Restored.the-variants as restored
 
 -- ---- write: the session's image to the front of a lent buffer
 abbrev pub ImageWritten : Session → List ℕ → List ℕ → Written → Type 0
 ImageWritten s old new r = Puts (imageToWrite edition01 (lentBy s)) old new r
 
 -- ---- read: the session that the text is an image of
--- each case of the answer, as document 01 sees the session
-abbrev pub restoredOutcome : Restored → Answer View
-restoredOutcome (restored.Session s) = done (viewOf s)
-restoredOutcome (restored.Refused why) = refused why
+-- each case of the answer, with the session as document 01 sees it
+abbrev pub restoreOutcome : Restore → View → Answer View
+restoreOutcome restore.Done view = done view
+restoreOutcome (restore.Refused why) view = refused why
 
--- whatever is restored is within its ranges; of a refusal nothing is
-abbrev pub WithinIfRestored : Restored → Type 0
-WithinIfRestored (restored.Session s) = InRanges (lentBy s)
-WithinIfRestored (restored.Refused why) = Unit {0}
+abbrev pub restoredOutcome : Restored → Answer View
+restoredOutcome r = restoreOutcome (r .answer) (viewOf (r .session))
+
+-- what is restored is within its ranges; "nothing is restored" of a refused text, and the session is a fresh one
+abbrev pub Restores : Restore → Session → Type 0
+Restores restore.Done s = InRanges (lentBy s)
+Restores (restore.Refused why) s = Fresh s
 
 pub record ImageRead (text : List ℕ) (r : Restored) : Type 0 where
   pub answer : restoredOutcome r ≡ readImage edition01 text
-  pub within : WithinIfRestored r
+  pub state : Restores (r .answer) (r .session)

@@ -11,10 +11,16 @@ ghost use Rattle.images.specs.Image.{firstSize, lineLimit, imageLimit};
 // An image of a session.
 pub struct Image {}
 
-// What a text restores: the session whose image it is, or nothing.
-pub enum Restored {
-    Session(Session),
+// Whether a session was restored, or why not.
+pub enum Restore {
+    Done,
     Refused(Refusal),
+}
+
+// What a text restores: the session whose image it is. Of a refused text nothing is restored: a fresh session stands in its place.
+pub struct Restored {
+    pub session: Session,
+    pub answer: Restore,
 }
 
 impl Image {
