@@ -1,5 +1,6 @@
 pub mod OneTold
 pub mod OneReceiving
+pub mod OnePencil
 pub mod OneInside
 pub mod OneOutcome
 pub mod Ranges

@@ -1,8 +1,13 @@
 -- Two outcomes of a call that serves callers inside this repository are one. Most promises are equations. Assumes
 -- nothing.
-use Prim.Native.Nat.{ℕ, _%_}
-use mathlib.Core.Path.{_≡_, sym, subst, _∙_}
+use Prim.Native.Nat.{ℕ, _%_, _<_}
+use mathlib.Core.Path.{_≡_, refl, sym, ap, subst, _∙_}
+use mathlib.Core.Logic.{⊎-elim}
 use mathlib.Core.List.{List}
+use lib.ListN.{length, getD, take}
+use lib.Seq.{ext-getD, getD-take}
+use native.Mathlib.Omega.{arith}
+use Rattle.octets.proofs.Laws.{below-or-not}
 use Rattle.lengths.specs.Answers.{Answer}
 use Rattle.lengths.specs.Promise.{Puts, Put}
 use Rattle.lengths.specs.declared.Written.{Written}
@@ -19,10 +24,14 @@ use Rattle.sending.specs.Inner.Items.{ItemsSize}
 use Rattle.datagram_sender.specs.Inner.{HistoryAfter, SendsHeld}
 use Rattle.sending.specs.declared.Settings.{Settings}
 use Rattle.lines.specs.Promise.{Appends}
+use Rattle.lines.specs.FeedPromise.{LineIn, LineKept}
+use Rattle.lines.proofs.Laws.{begun-length}
+use Rattle.lines.proofs.Claims as lines
 use Rattle.demands.specs.OneTold.{OneLent}
 use Rattle.demands.specs.OneInside.{Alike, InWords, InStores, InDatagrams, InSending, InLines, OneInside}
 use Rattle.demands.proofs.OneTold.{told-one}
 use Rattle.demands.proofs.OneReceiving.{in-held, in-receiving}
+use Rattle.demands.proofs.OnePencil.{in-pencil-reader}
 
 in-words : InWords
 in-words = record { add = λ src old. told-one }
@@ -62,6 +71,28 @@ in-datagrams =
       itemsSize = λ lengths. told-one;
     }
 
+-- ---- the program
+-- the lent line is told by the line that has begun
+module _ {l m : List ℕ} {begun kept : ℕ} (a : LineIn l begun) (b : LineIn m kept) (front : take begun l ≡ take kept m) where
+  begun-one : begun ≡ kept
+  begun-one = sym (begun-length a) ∙ ap length front ∙ begun-length b
+
+  line-one : l ≡ m
+  line-one =
+      ext-getD 0 l m (sym (a .size) ∙ b .size)
+      (λ i inside.
+      ⊎-elim
+      (λ low.
+      let also : i < kept = omega (arith, begun-one) in
+      sym (getD-take begun l i 0 low) ∙ ap (λ (x : List ℕ). getD x i 0) front ∙ getD-take kept m i 0 also)
+      (λ past. a .zeros i past ∙ sym (b .zeros i (omega (arith, begun-one))))
+      (below-or-not i begun))
+
+keep-line-one : {old : List ℕ} {begun : ℕ} {more : List ℕ} → OneLent (LineKept old begun more)
+keep-line-one new other r q a b =
+    let front = a .line ∙ sym (b .line) in
+    (begun-one (a .holds) (b .holds) front, line-one (a .holds) (b .holds) front)
+
 in-lines : InLines
 in-lines =
     record {
@@ -69,6 +100,9 @@ in-lines =
       pairUp = λ line old. told-one;
       putResult = λ kind number octets old at. appends-one;
       putRefusal = λ why old at. appends-one;
+      keepLine = λ old begun more. keep-line-one;
+      clearLine = λ r q a b. line-one a b refl;
+      replayLine = λ numbers line before a b. lines.claims .oneOutcome .step a b;
     }
 
 -- ---- the sending session
@@ -126,4 +160,5 @@ one-inside =
       inReceiving = in-receiving;
       inSending = in-sending;
       inLines = in-lines;
+      inPencilReader = in-pencil-reader;
     }

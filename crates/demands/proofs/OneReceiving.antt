@@ -17,7 +17,7 @@ use Rattle.held.specs.declared.Counts.{Counts}
 use Rattle.held.proofs.Laws.{lent-same}
 use Rattle.keeping.specs.Promise.{CellsNow, HeldNow, MayKeep, Keeps, KeepsSpares, MayHold, Holds}
 use Rattle.repairing.specs.Promise.{MayMend, Mends}
-use Rattle.leaving.specs.Promise.{Releases}
+use Rattle.leaving.specs.Promise.{Leaves, Releases}
 use Rattle.leaving.specs.declared.Released.{Released}
 use Rattle.leaving.proofs.Laws.{released-told}
 use Rattle.offering.specs.Promise.{Offers}
@@ -104,6 +104,14 @@ mend-one note base t o g may newO otherO newT otherT x y =
     let b = y .mends (may .counts) (may .within) in
     table-octets (lent-same (a .within) (b .within) (a .state ∙ sym (b .state)))
 
+leave-one : {leave : Bool} {room : ℕ} {before after other : Lent} {r q : Released} → Leaves leave room before after r
+    → Leaves leave room before other q
+    → (r ≡ q) × (after ≡ other)
+leave-one {r = r} {q} a b = (
+  released-told r q (a .told ∙ sym (b .told)),
+  lent-same (a .within) (b .within) (a .state ∙ sym (b .state)),
+)
+
 release-one : {leave : Bool} {before after other : Lent} {old new newer : List ℕ} {r q : Released}
     → Releases leave before after old new r → Releases leave before other old newer q
     → (r ≡ q) × (after ≡ other) × (new ≡ newer)
@@ -128,6 +136,7 @@ in-receiving =
       keepSpares = spares-one;
       hold = hold-one;
       mend = mend-one;
+      leaveCore = λ a b. leave-one a b;
       releaseCore = λ a b. release-one a b;
       offerCore = λ a b. offer-one a b;
     }

@@ -8,7 +8,7 @@ use native.Mathlib.Omega.{arith}
 use Rattle.octets.proofs.Laws.{below-or-not}
 use Rattle.lines.specs.FeedPromise.{Found}
 use Rattle.demands.specs.OneTold.{ToldByLengths, ToldByDatagrams, ToldByPackets, ToldByPacketReader, ToldByStores, ToldByHeld}
-use Rattle.demands.specs.OneTold.{ToldBySending, ToldByLines, ToldByFrames, OneTold}
+use Rattle.demands.specs.OneTold.{ToldBySending, ToldByLines, ToldByFrames, ToldByImages, OneTold}
 
 -- both are what is told
 pub told-one : {A : Type 0} {told : A} (r q : A) → r ≡ told → q ≡ told → r ≡ q
@@ -102,6 +102,9 @@ by-lines =
 by-frames : ToldByFrames
 by-frames = record { frameLimit = told-one }
 
+by-images : ToldByImages
+by-images = record { imageLine = told-one; imageLimit = told-one }
+
 pub one-told : OneTold
 one-told =
     record {
@@ -114,4 +117,5 @@ one-told =
       bySending = by-sending;
       byLines = by-lines;
       byFrames = by-frames;
+      byImages = by-images;
     }

@@ -1,4 +1,5 @@
 pub mod OneTold
+pub mod OnePencil
 pub mod OneInside
 pub mod OneOutcome
 pub mod Refusals

@@ -1,6 +1,6 @@
 -- One outcome of the calls that serve callers inside this repository, each of which but `clear_run` has a `requires`: a record for
 -- each crate, with a field for each call, under its name and with its promise. Where a field has a hypothesis more, the call
--- requires it. Statements alone.
+-- requires it. Those of the second reader of packets stand in OnePencil. Statements alone.
 use Prim.Native.Nat.{ℕ, _/_}
 use mathlib.Core.Path.{_≡_}
 use mathlib.Core.Bool.{Bool, not}
@@ -22,12 +22,12 @@ use Rattle.words.specs.Words as words
 use Rattle.stores.specs.Store as store
 use Rattle.views.specs.Cells.{isUnknown}
 use Rattle.held.specs.Table as table
-use Rattle.held.specs.Table.{Lent, lent, stateNumbered, keptSet, heardSet, heardDropped, messagePlace}
+use Rattle.held.specs.Table.{Lent, lent, stateNumbered, keptSet, heardSet, heardDropped, messagePlace, viewIn}
 use Rattle.held.specs.Laid.{lentInRanges}
 use Rattle.held.specs.declared.Counts.{Counts}
 use Rattle.keeping.specs.Promise.{MayKeep, Keeps, KeepsSpares, MayHold, Holds}
 use Rattle.repairing.specs.Promise.{MayMend, Mends}
-use Rattle.leaving.specs.Promise.{Releases}
+use Rattle.leaving.specs.Promise.{Leaves, Releases}
 use Rattle.leaving.specs.declared.Released.{Released}
 use Rattle.offering.specs.Promise.{Offers}
 use Rattle.offering.specs.declared.Offered.{Offered}
@@ -41,8 +41,13 @@ use Rattle.datagram_sender.specs.Inner.{SendsHeld}
 use Rattle.sending.specs.declared.Settings.{Settings}
 use Rattle.lines.specs.Hex.{hexOf, octetsIn}
 use Rattle.lines.specs.Lines.{resultLine, refusalLine}
-use Rattle.lines.specs.Promise.{Appends}
+use Rattle.lines.specs.Promise.{Appends, Does}
+use Rattle.lines.specs.FeedPromise.{LineIn, LineKept}
+use Rattle.lines.specs.Claims.{Same}
+use Rattle.lines.specs.declared.steps.Stepped.{Stepped}
+use Rattle.replays.specs.Replay.{replayStep}
 use Rattle.demands.specs.OneTold.{One, OneLent}
+use Rattle.demands.specs.OnePencil.{InPencilReader}
 
 -- `words`: `add`
 pub record InWords : Type 0 where
@@ -87,7 +92,7 @@ pub record InHeld : Type 0 where
   pub dropHeard : (t : List ℕ) (slot : ℕ) → One (λ (new : List ℕ). new ≡ heardDropped t slot)
 
 -- the receiving session's: `checking::in_ranges`, `keep`, `keep_spares` and `hold` of `keeping`, `repairing::mend`,
--- `leaving::release_core`, `offering::offer_core`. All that is lent after a call is one, base and counts too
+-- `leave_core` and `release_core` of `leaving`, `offering::offer_core`. All that is lent after a call is one, base and counts too
 pub record InReceiving : Type 0 where
   pub inRanges : (base : ℕ) (counts : Counts) (t o g : List ℕ) → One (λ (r : Bool). r ≡ lentInRanges (lent base counts t o g))
   pub keep : (note state number : ℕ) (b t o : List ℕ) → MayKeep number 0 t o
@@ -98,6 +103,9 @@ pub record InReceiving : Type 0 where
       → OneLent (λ (newG newT : List ℕ). Holds base d s n items count t g newT newG)
   pub mend : (note base : ℕ) (t o g : List ℕ) → MayMend base t o g
       → OneLent (λ (newO newT : List ℕ). Mends note base t o g newT newO)
+  pub leaveCore : {leave : Bool} {room : ℕ} {before after other : Lent} {r q : Released} → Leaves leave room before after r
+      → Leaves leave room before other q
+      → (r ≡ q) × (after ≡ other)
   pub releaseCore : {leave : Bool} {before after other : Lent} {old new newer : List ℕ} {r q : Released}
       → Releases leave before after old new r → Releases leave before other old newer q
       → (r ≡ q) × (after ≡ other) × (new ≡ newer)
@@ -127,12 +135,19 @@ pub record InSending : Type 0 where
       → SendsHeld sent settings packet lengths o old newS newO new r → SendsHeld sent settings packet lengths o old otherS otherO other q
       → (Alike r q newS otherS newO otherO) × (new ≡ other)
 
--- the program's: `put_octets` and `pair_up` of `hexadecimal`, `put_result` and `put_refusal` of `line_steps`
+-- the program's: `put_octets` and `pair_up` of `hexadecimal`, `put_result` and `put_refusal` of `line_steps`, `keep_line` and `clear_line`
+-- of `line_blocks`, `replay_line` of `replaying`
 pub record InLines : Type 0 where
   pub putOctets : (octets old : List ℕ) (at : ℕ) → OneLent (Appends (hexOf octets) old at)
   pub pairUp : (line old : List ℕ) → One (λ (new : List ℕ). new ≡ octetsIn line ++ drop (length line / 2) old)
   pub putResult : (kind number : ℕ) (octets old : List ℕ) (at : ℕ) → OneLent (Appends (resultLine kind number octets) old at)
   pub putRefusal : (why : Refusal) (old : List ℕ) (at : ℕ) → OneLent (Appends (refusalLine why) old at)
+  pub keepLine : (old : List ℕ) (begun : ℕ) (more : List ℕ) → OneLent (LineKept old begun more)
+  pub clearLine : One (λ (new : List ℕ). LineIn new 0)
+  pub replayLine : (numbers line : List ℕ) (before : Lent) {old : List ℕ} {at : ℕ} {r q : Stepped} {t u o p g k new written : List ℕ}
+      → Does (replayStep numbers line (viewIn before)) old at (lent (r .base) (r .counts) t o g) (r .end) new
+      → Does (replayStep numbers line (viewIn before)) old at (lent (q .base) (q .counts) u p k) (q .end) written
+      → Same r q (lent (r .base) (r .counts) t o g) (lent (q .base) (q .counts) u p k) new written
 
 pub record OneInside : Type 0 where
   pub inWords : InWords
@@ -142,3 +157,4 @@ pub record OneInside : Type 0 where
   pub inReceiving : InReceiving
   pub inSending : InSending
   pub inLines : InLines
+  pub inPencilReader : InPencilReader

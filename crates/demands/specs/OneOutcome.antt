@@ -40,8 +40,8 @@ pub record Writers : Type 0 where
 -- all public calls of the library: `read`, `read_within` and `write` of `lengths`, `read` and `write` of `datagram_reader` and
 -- `datagram_writer`, of `packet_reader` and `packet_writer`, `read` of `pencil_reader`; `Session::fresh`, `offer` and `release`;
 -- `Sender::fresh`, `in_ranges` and `send`; the program's `hex_to_octets`, `step`, `take_block` and `finish`; `Joiner::fresh`, `field` and
--- `lost` of `frame_joiner`, `turns` and `feed` of `frame_feed`; `replay` of `replaying`, whose `replay_line` owes of its own line what
--- `step` owes; those that only tell; and those that serve callers inside this repository
+-- `lost` of `frame_joiner`, `turns` and `feed` of `frame_feed`; `replay` of `replaying`; those that only tell; and those that serve
+-- callers inside this repository
 pub record OneOutcome : Type 0 where
   pub lengths : lengths.OneOutcome
   pub datagrams : datagrams.OneOutcome

@@ -35,6 +35,7 @@ use Rattle.lines.specs.Feed as feed
 use Rattle.lines.specs.Lines as lines
 use Rattle.lines.specs.Promise as steps
 use Rattle.lines.specs.FeedPromise.{Found}
+use Rattle.images.specs.Image as images
 
 -- two answers that a promise allows are one
 abbrev pub One : {A : Type 0} → (A → Type 0) → Type 0
@@ -129,6 +130,11 @@ pub record ToldByLines : Type 0 where
 pub record ToldByFrames : Type 0 where
   pub frameLimit : One (λ (r : ℕ). r ≡ frames.frameLimit)
 
+-- `images`: `line` and `limit` of `Image`
+pub record ToldByImages : Type 0 where
+  pub imageLine : One (λ (r : ℕ). r ≡ images.lineLimit sizes.packetLimit)
+  pub imageLimit : One (λ (r : ℕ). r ≡ images.imageLimit sizes.packetLimit)
+
 pub record OneTold : Type 0 where
   pub byLengths : ToldByLengths
   pub byDatagrams : ToldByDatagrams
@@ -139,3 +145,4 @@ pub record OneTold : Type 0 where
   pub bySending : ToldBySending
   pub byLines : ToldByLines
   pub byFrames : ToldByFrames
+  pub byImages : ToldByImages
