@@ -12,14 +12,14 @@ pub read-cases : ReadCases
 unfolding readDatagram numberOf wholeOf extraAt sparesAt parityAt itemsAt itemAt lengthWithin octetAt allowed endOf lengthAt
 read-cases =
     record {
-      octets-1501 = refl;
+      over-limit = refl;
       number-256 = refl;
-      packet-161 = refl;
+      packet-over = refl;
       packet-0 = refl;
       bit-40 = refl;
       spares-9 = refl;
       spare-0 = refl;
-      spare-161 = refl;
+      spare-over = refl;
       octet-c0 = refl;
       octet-02 = refl;
       n-0 = refl;

@@ -1,11 +1,12 @@
 -- Small datagrams, read and written, at a limit or where document 01's 'The datagram' may be read in two ways: each case says one
 -- answer.
-use Prim.Native.Nat.{ℕ}
+use Prim.Native.Nat.{ℕ, _+_, _/_, _%_}
 use mathlib.Core.Path.{_≡_}
 use mathlib.Core.List.{List, [], _∷_, _++_}
 use lib.ListN.{replicate}
 use Rattle.lengths.specs.Refusals.{endsEarly, tooLong, outsideSizes, spareBit, leftOver, wrongSettings}
 use Rattle.lengths.specs.Answers.{Answer, done, refuse, refuseAt}
+use Rattle.datagrams.specs.Sizes.{packetLimit, datagramLimit}
 use Rattle.datagrams.specs.Write.{datagramToWrite}
 use Rattle.datagrams.specs.Read.{DatagramParts, readDatagram}
 use Rattle.datagrams.specs.declared.kind.Kind.the-variants as kind
@@ -14,20 +15,24 @@ use Rattle.datagrams.specs.declared.kind.Kind.the-variants as kind
 abbrev pub reads : List ℕ → Answer DatagramParts
 reads s = readDatagram (0x01 ∷ 0x00 ∷ 0x01 ∷ 0x06 ∷ s)
 
+-- a length from 128 on, in two octets
+abbrev pub twoOctetLength : ℕ → List ℕ
+twoOctetLength n = (0x80 + n / 256) ∷ n % 256 ∷ []
+
 pub record ReadCases : Type 0 where
-  pub octets-1501 : readDatagram (replicate 1501 0) ≡ refuse tooLong
+  pub over-limit : readDatagram (replicate (datagramLimit + 1) 0) ≡ refuse tooLong
   -- "Number: two octets, high first"; the newest packet is at place 3
   pub number-256 : reads (0x00 ∷ 0x00 ∷ [])
       ≡ done (record { number = 256; packet = record { start = 3; size = 1 }; kind = kind.Spares; items = [] })
   -- "At a length: 3 or 1 in its form, then 4, then 1 for missing octets"
-  pub packet-161 : readDatagram (0x00 ∷ 0x00 ∷ 0x80 ∷ 0xA1 ∷ []) ≡ refuseAt 2 outsideSizes
+  pub packet-over : readDatagram (0x00 ∷ 0x00 ∷ twoOctetLength (packetLimit + 1)) ≡ refuseAt 2 outsideSizes
   pub packet-0 : readDatagram (0x00 ∷ 0x00 ∷ 0x00 ∷ []) ≡ refuseAt 2 outsideSizes
   -- "one octet, 00 for spares or 80 for parity; its low seven bits are zero"
   pub bit-40 : reads (0x40 ∷ []) ≡ refuseAt 4 spareBit
   pub spares-9 : reads (0x00 ∷ 0x09 ∷ []) ≡ refuseAt 5 outsideSizes
-  -- a spare is a packet: 1 to 160 octets
+  -- a spare is a packet: from one octet to the limit
   pub spare-0 : reads (0x00 ∷ 0x01 ∷ 0x00 ∷ []) ≡ refuseAt 6 outsideSizes
-  pub spare-161 : reads (0x00 ∷ 0x01 ∷ 0x80 ∷ 0xA1 ∷ []) ≡ refuseAt 6 outsideSizes
+  pub spare-over : reads (0x00 ∷ 0x01 ∷ twoOctetLength (packetLimit + 1)) ≡ refuseAt 6 outsideSizes
   -- "Parity: octet 01, octet n": plain octets, not by the length rule, and then "count m"
   pub octet-c0 : reads (0x80 ∷ 0xC0 ∷ []) ≡ refuseAt 5 outsideSizes
   pub octet-02 : reads (0x80 ∷ 0x02 ∷ []) ≡ refuseAt 5 outsideSizes

@@ -7,6 +7,7 @@ mod names;
 mod start;
 mod text;
 
+use datagrams::Datagram;
 use datagrams::Packet;
 use input::KEPT;
 use input::is_repaired;
@@ -20,7 +21,7 @@ use text::say_number;
 use text::say_octets;
 
 // The octets that a line holds at most.
-const OCTETS: usize = 1500;
+const OCTETS: usize = Datagram::LIMIT;
 
 // More octets than a packet has.
 fn too_long(size: usize) {

@@ -1,6 +1,6 @@
 -- Fields and lost numbers at which another reading of document 02's request 1 was possible, or a mistake would look right: each case
 -- says one answer, or the joiner after it. Definitions only.
-use Prim.Native.Nat.{ℕ}
+use Prim.Native.Nat.{ℕ, _+_}
 use mathlib.Core.Path.{_≡_}
 use mathlib.Core.Bool.{true, false}
 use mathlib.Core.List.{List, [], _∷_}
@@ -8,6 +8,7 @@ use mathlib.Core.Option.{none, some}
 use lib.ListN.{replicate}
 use Rattle.lengths.specs.Refusals.{notAssigned, noRoom, wrongData, outsideRanges, frameTooLong}
 use Rattle.lengths.specs.Answers.{done, refuse}
+use Rattle.datagrams.specs.Sizes.{packetLimit}
 use Rattle.frames.specs.Frame.{tainted, opened, good, bad}
 use Rattle.frames.specs.Joiner.{heldAs}
 use Rattle.frames.specs.Promise.{fieldAnswer, joinerAfter, lossAnswer, joinerAfterLoss}
@@ -51,7 +52,7 @@ pub record Cases : Type 0 where
   pub tainted-14 : fieldAnswer 0 0 [] (heldAs tainted) ≡ refuse wrongData
   pub tainted-12 : joinerAfter 0 8 [] (heldAs tainted) ≡ heldAs tainted
   -- "18, the frame would pass 300; it is then tainted in the same way"; data over the packet limit may come
-  pub adds-161 : joinerAfter 0 0 (replicate 161 0x55) (with []) ≡ with (replicate 161 0x55)
+  pub adds-over-packet : joinerAfter 0 0 (replicate (packetLimit + 1) 0x55) (with []) ≡ with (replicate (packetLimit + 1) 0x55)
   pub adds-300 : fieldAnswer 0 0 fullFrame (with []) ≡ done none
   pub adds-301 : fieldAnswer 0 0 (0x11 ∷ []) (with fullFrame) ≡ refuse frameTooLong
   pub too-long-taints : joinerAfter 0 0 (0x11 ∷ []) (with fullFrame) ≡ heldAs tainted

@@ -1,17 +1,18 @@
 -- Small inputs, at a limit or where document 01's 'The program' may be read in two ways: each case says what is written.
+use Prim.Native.Nat.{_+_}
 use mathlib.Core.Path.{_≡_}
 use mathlib.Core.List.{[]}
 use lib.ListN.{replicate}
 use Rattle.lengths.specs.Refusals.{refusalAt, tooLong, leftOver}
 use Rattle.lengths.specs.Answers.{refuse}
 use Rattle.views.specs.Cases.{atLimit}
-use Rattle.lines.specs.Hex.{lineOctets}
+use Rattle.lines.specs.Hex.{lineLimit, lineOctets}
 use Rattle.lines.specs.Lines.{refusalLine, step, program}
 use Rattle.lines.specs.Text.{characters}
 
 pub record ProgramCases : Type 0 where
-  -- "line over 3,000 characters (before 15)": 3,001 times `G`, which is no digit
-  pub too-long-first : lineOctets (replicate 3001 0x47) ≡ refuse tooLong
+  -- a line over its limit, before 15: one character more, each `G`, which is no digit
+  pub too-long-first : lineOctets (replicate (lineLimit + 1) 0x47) ≡ refuse tooLong
   -- only a line feed ends a line: a carriage return is a character that is no digit
   pub carriage-return : program (characters "\r\n") ≡ characters "FF0F0000\n"
   -- document 02, request 5: the place, from the start of the datagram, high first; a datagram that ends where a length must come

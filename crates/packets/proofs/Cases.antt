@@ -17,8 +17,8 @@ unfolding readPacket description.wholePacket packet start typeOfMsg enumerated r
     allowed lengthWithin
 read-cases =
     record {
-      octets-161 = refl;
-      octets-160 = refl;
+      over-limit = refl;
+      at-limit = refl;
       extended = refl;
       value-first = refl;
       bit-first = refl;
@@ -35,7 +35,7 @@ read-cases =
       bare-0 = refl;
       data-1 = refl;
       length-cut = refl;
-      data-161 = refl;
+      data-over = refl;
       zero-after = refl;
       one-after-zero = refl;
       true-zero = refl;
@@ -64,6 +64,6 @@ write-cases =
       true-sum = refl;
       type-8 = refl;
       indicator-field = refl;
-      whole-161 = refl;
+      whole-over = refl;
       mended = refl;
     }

@@ -1,11 +1,12 @@
 -- Small packets, read and written, at a limit or where document 01's 'The packet' may be read in two ways: each says one answer, a refusal
 -- of an item with the octet at which the item begins.
-use Prim.Native.Nat.{ℕ}
+use Prim.Native.Nat.{ℕ, _+_, _-_, _/_, _%_}
 use mathlib.Core.Path.{_≡_}
 use mathlib.Core.List.{List, [], _∷_}
 use lib.ListN.{replicate}
 use Rattle.lengths.specs.Refusals.{endsEarly, badForm, outsideSizes, spareBit, leftOver, notAssigned, wrongData, wrongSettings}
 use Rattle.lengths.specs.Answers.{done, refuse, refuseAt}
+use Rattle.datagrams.specs.Sizes.{packetLimit}
 use Rattle.packets.specs.Packet.{PacketAnswer, readPacket}
 use Rattle.packets.specs.Write.{packetToWrite}
 use Rattle.packets.specs.declared.types.Kind.the-variants.{Indicator, Data}
@@ -24,11 +25,15 @@ mendedPacket = record {
       ∷ [];
 }
 
+-- a packet of one field with this many octets of data, in 5 octets more
+abbrev pub oneField : ℕ → List ℕ
+oneField size = 0xC0 ∷ 0x01 ∷ 0x80 ∷ (size - 1) / 256 ∷ (size - 1) % 256 ∷ replicate size 0x55
+
 pub record ReadCases : Type 0 where
-  -- "over 160 octets 4"
-  pub octets-161 : readPacket Whole (0xC0 ∷ 0x01 ∷ 0x80 ∷ 0x00 ∷ 0x9B ∷ replicate 156 0x55) ≡ refuse outsideSizes
-  pub octets-160 : readPacket Whole (0xC0 ∷ 0x01 ∷ 0x80 ∷ 0x00 ∷ 0x9A ∷ replicate 155 0x55)
-      ≡ done (record { kind = Data; value = 0; fields = record { kind = 0; start = 5; size = 155 } ∷ [] })
+  -- over the packet limit 4, before all else
+  pub over-limit : readPacket Whole (oneField (packetLimit - 4)) ≡ refuse outsideSizes
+  pub at-limit : readPacket Whole (oneField (packetLimit - 5))
+      ≡ done (record { kind = Data; value = 0; fields = record { kind = 0; start = 5; size = packetLimit - 5 } ∷ [] })
   -- "in the first octet extension 12"
   pub extended : readPacket Whole (0x20 ∷ 0x00 ∷ []) ≡ refuse notAssigned
   -- ".. value 12, spare bit 5, indicator with data 14"
@@ -54,7 +59,7 @@ pub record ReadCases : Type 0 where
   pub data-1 : readPacket Whole (0xC0 ∷ 0x01 ∷ 0x80 ∷ 0x00 ∷ 0x00 ∷ 0x55 ∷ [])
       ≡ done (record { kind = Data; value = 0; fields = record { kind = 0; start = 5; size = 1 } ∷ [] })
   pub length-cut : readPacket Whole (0xC0 ∷ 0x01 ∷ 0x80 ∷ 0xFF ∷ []) ≡ refuseAt 3 endsEarly
-  pub data-161 : readPacket Whole (0xC0 ∷ 0x01 ∷ 0x80 ∷ 0x00 ∷ 0xA0 ∷ []) ≡ refuseAt 3 outsideSizes
+  pub data-over : readPacket Whole (0xC0 ∷ 0x01 ∷ 0x80 ∷ packetLimit / 256 ∷ packetLimit % 256 ∷ []) ≡ refuseAt 3 outsideSizes
   -- "A received or spare packet ends at its last field. A repaired one may go on with zeros only"
   pub zero-after : readPacket Whole (0x06 ∷ 0x00 ∷ []) ≡ refuseAt 1 leftOver
   pub one-after-zero : readPacket Repaired (0x06 ∷ 0x00 ∷ 0x01 ∷ []) ≡ refuseAt 1 leftOver
@@ -80,7 +85,7 @@ pub record WriteCases : Type 0 where
   pub types-first : packetToWrite Data 0 (replicate 18 1) [] [] ≡ refuse outsideSizes
   pub settings-before-12 : packetToWrite Data 9 (0 ∷ []) [] [] ≡ refuse wrongSettings
   pub value-before-14 : packetToWrite Data 9 (0 ∷ []) (0 ∷ []) [] ≡ refuse notAssigned
-  pub data-before-4 : packetToWrite Data 0 (1 ∷ []) (161 ∷ []) (replicate 161 0) ≡ refuse wrongData
+  pub data-before-4 : packetToWrite Data 0 (1 ∷ []) ((packetLimit + 1) ∷ []) (replicate (packetLimit + 1) 0) ≡ refuse wrongData
   -- true sums: nothing wraps
   pub true-sum : packetToWrite Data 0 (0 ∷ 0 ∷ []) (65535 ∷ 1 ∷ []) [] ≡ refuse wrongSettings
   -- "a type over 7 is refusal 12"
@@ -88,7 +93,7 @@ pub record WriteCases : Type 0 where
   -- "An indicator never has a data field", with or without data
   pub indicator-field : packetToWrite Indicator 0 (1 ∷ []) (0 ∷ []) [] ≡ refuse wrongData
   -- each field within the packet limit, and the whole over it by one
-  pub whole-161 : packetToWrite Data 0 (0 ∷ []) (156 ∷ []) (replicate 156 0) ≡ refuse outsideSizes
+  pub whole-over : packetToWrite Data 0 (0 ∷ []) ((packetLimit - 4) ∷ []) (replicate (packetLimit - 4) 0) ≡ refuse outsideSizes
   -- "Two frames in one packet", written
   pub mended : packetToWrite Data 0 (0 ∷ 2 ∷ 0 ∷ 4 ∷ []) (1 ∷ 0 ∷ 1 ∷ 0 ∷ []) (0xAA ∷ 0xBB ∷ [])
       ≡ done (0xC0 ∷ 0x04 ∷ 0x80 ∷ 0x00 ∷ 0x00 ∷ 0xAA ∷ 0x28 ∷ 0x00 ∷ 0x00 ∷ 0xBB ∷ 0x40 ∷ [])

@@ -17,5 +17,5 @@ refusal-cases =
       n-0 = refl;
       m-0 = refl;
       packet-0 = refl;
-      packet-161 = refl;
+      packet-over = refl;
     }

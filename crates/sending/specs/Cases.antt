@@ -1,11 +1,12 @@
 -- Sends at which more than one refusal of document 01 could be given: each case says which. "Send 17, 16, 15, 4, 13." Definitions
 -- only.
-use Prim.Native.Nat.{ℕ}
+use Prim.Native.Nat.{ℕ, _+_}
 use mathlib.Core.Path.{_≡_}
 use mathlib.Core.List.{List, [], _∷_}
 use lib.ListN.{replicate}
 use Rattle.lengths.specs.Refusals.{outsideSizes, wrongSettings, allPassed, outsideRanges}
 use Rattle.lengths.specs.Answers.{refuse}
+use Rattle.datagrams.specs.Sizes.{packetLimit}
 use Rattle.views.specs.View.{sessionLimit}
 use Rattle.sending.specs.Sending.{Sending, historyKept, freshSending}
 use Rattle.sending.specs.Send.{datagramToSend}
@@ -28,6 +29,6 @@ pub record RefusalCases : Type 0 where
   -- n = 0 and m = 0 are settings outside the sizes
   pub n-0 : datagramToSend (settings.Parity 0 1) (0x06 ∷ []) freshSending ≡ refuse wrongSettings
   pub m-0 : datagramToSend (settings.Parity 1 0) (0x06 ∷ []) freshSending ≡ refuse wrongSettings
-  -- an empty packet, and one of 161 octets
+  -- an empty packet, and one over the limit by an octet
   pub packet-0 : datagramToSend (settings.Spares 0) [] freshSending ≡ refuse outsideSizes
-  pub packet-161 : datagramToSend (settings.Spares 0) (replicate 161 0) freshSending ≡ refuse outsideSizes
+  pub packet-over : datagramToSend (settings.Spares 0) (replicate (packetLimit + 1) 0) freshSending ≡ refuse outsideSizes

@@ -21,8 +21,8 @@ ranges-cases =
       not-blank = refl;
       unknown-with-octets = refl;
       received-empty = refl;
-      spare-160 = refl;
-      spare-161 = refl;
+      spare-at-limit = refl;
+      spare-over = refl;
       repaired-empty = refl;
       own-note = refl;
       another-note = refl;
@@ -37,5 +37,5 @@ ranges-cases =
       most = refl;
       n-9 = refl;
       m-5 = refl;
-      message-161 = refl;
+      message-over = refl;
     }

@@ -1,8 +1,10 @@
 -- What stands at the edges of document 01's 'Ranges of a session': each case says whether it is within them. Definitions only.
+use Prim.Native.Nat.{_+_}
 use mathlib.Core.Path.{_≡_}
 use mathlib.Core.Bool.{true, false}
 use mathlib.Core.List.{[], _∷_}
 use lib.ListN.{replicate}
+use Rattle.datagrams.specs.Sizes.{packetLimit, messageLimit}
 use Rattle.views.specs.Cells.{unknown, received, spare, repaired, blank}
 use Rattle.views.specs.RepairCases.{holding}
 use Rattle.views.specs.View.{freshView}
@@ -25,8 +27,8 @@ pub record RangesCases : Type 0 where
   -- "Unknown and blank have length 0, others 1 to 160."
   pub unknown-with-octets : sizeRight unknown 1 false ≡ false
   pub received-empty : sizeRight received 0 false ≡ false
-  pub spare-160 : sizeRight spare 160 false ≡ true
-  pub spare-161 : sizeRight spare 161 false ≡ false
+  pub spare-at-limit : sizeRight spare packetLimit false ≡ true
+  pub spare-over : sizeRight spare (packetLimit + 1) false ≡ false
   pub repaired-empty : sizeRight repaired 0 false ≡ false
   -- "For a received one [the note] is its own number; for a blank or unknown one it is zero."; a spare or repaired one may have any
   pub own-note : noteRight received 7 7 ≡ true
@@ -44,4 +46,4 @@ pub record RangesCases : Type 0 where
   pub most : markRight true true 8 4 ≡ true
   pub n-9 : markRight true true 9 4 ≡ false
   pub m-5 : markRight true true 8 5 ≡ false
-  pub message-161 : heldRight (holding 1 (replicate 161 1 ∷ [])) true ≡ false
+  pub message-over : heldRight (holding 1 (replicate (messageLimit + 1) 1 ∷ [])) true ≡ false
