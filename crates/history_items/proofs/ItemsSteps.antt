@@ -11,7 +11,7 @@ use native.Mathlib.Omega.{arith}
 use borrow.Rule.Slice.PartMut.{midOf, putMid}
 use Rattle.lengths.proofs.Laws.{size-written, put-none, put-next, put-long, room-left}
 use Rattle.lengths.specs.Promise.{Put}
-use Rattle.datagrams.specs.Sizes.{packetLimit}
+use Rattle.datagrams.specs.Sizes.{packetLimit, datagramLimit}
 use Rattle.datagrams.specs.Write.{itemOctets, itemsOctets, countInside}
 use Rattle.datagrams.specs.Inner.Heads.{itemSize}
 use Rattle.datagrams.specs.declared.kind.Kind.{Kind}
@@ -92,7 +92,7 @@ module _ {k : Kind} {count number : ℕ} {sizes : List ℕ} {size j : ℕ} (v : 
 
 -- the sum of one more fits
 pub total-fits : {k : Kind} {count number : ℕ} {sizes : List ℕ} {size j one s : ℕ} → Totalling k count number sizes size j
-    → countInside k count ≡ true → j < count → ItemSize k count number sizes j one → s ≡ itemSize one → size + s ≤ 2000
+    → countInside k count ≡ true → j < count → ItemSize k count number sizes j one → s ≡ itemSize one → size + s ≤ datagramLimit
 total-fits {k} {count} {number} {sizes} {size} {j} {one} v counted more told found =
     let few = size-written one .1 in
     let short = told .small in

@@ -11,6 +11,7 @@ use Rattle.lengths.specs.Promise.{Puts, RefusalMade, Put}
 use Rattle.lengths.specs.declared.Refusal.{Refusal}
 use Rattle.lengths.specs.declared.Written.the-variants as written
 use Rattle.lengths.proofs.Laws.{size-written, put-next, put-long, put-puts, full-puts, room-left}
+use Rattle.datagrams.specs.Sizes.{datagramLimit}
 use Rattle.datagrams.specs.Write.{numberOctets, itemOctets, itemsOctets, datagramOctets}
 use Rattle.datagrams.specs.Inner.Heads.{FrontAsked, kindHead, frontOctets, itemSize}
 use Rattle.datagrams.specs.declared.kind.Kind.{Kind}
@@ -42,7 +43,7 @@ module _ (number : ℕ) (sizes o packet : List ℕ) (k : Kind) (count : ℕ) whe
 module _ {number : ℕ} {sizes packet : List ℕ} {k : Kind} {count newest before items : ℕ} (asked : NextSizes sizes packet k count)
     (first : newest ≡ itemSize (length packet)) (head : before ≡ length (kindHead k count))
     (rest : ItemsSize k count number sizes items) where
-  pub next-few : 2 + newest + before + items ≤ 2000
+  pub next-few : 2 + newest + before + items ≤ datagramLimit
   next-few =
       let short = packet-fits packet (asked .newest) in
       let two = size-written (length packet) .1 in
