@@ -11,11 +11,11 @@ use borrow.Author.Tests.{lt-ltb, eq-eqb, ne-eqb}
 use Rattle.octets.proofs.Laws.{below-or-not, same-or-not}
 use Rattle.lengths.specs.Answers.{refuse}
 use Rattle.lengths.specs.Refusals.{tooLong}
-use Rattle.views.specs.View.{View}
+use Rattle.views.specs.View.{View, freshView}
 use Rattle.lengths.specs.Tables.{unless}
 use Rattle.lines.specs.Hex.{lineLimit, lineOctets}
-use Rattle.lines.specs.Lines.{Made, lineFeed, lineOffered, offerLine, answerLine, step, lastLine, linesFrom, steps, program}
-use Rattle.lines.specs.Feed.{Going, atStart, keptLimit, lineDone, longer, takenIn, fed, atEnd}
+use Rattle.lines.specs.Lines.{Made, lineFeed, lineOffered, offerLine, answerLine, step, lastLine, linesFrom, steps, programFrom, program}
+use Rattle.lines.specs.Feed.{Going, startingAt, atStart, keptLimit, lineDone, longer, takenIn, fed, atEnd}
 
 -- ---- taken in block after block
 pub fed-append : (a b : List ℕ) (now : Going) → fed (a ++ b) now ≡ fed b (fed a now)
@@ -192,6 +192,10 @@ fed-writes (c ∷ input) line now k =
     (keeps-longer c line (now .begun) k)))
     (same-or-not c lineFeed)
 
+pub program-from-fed : (view : View) (input : List ℕ) → programFrom view input ≡ (atEnd (fed input (startingAt view))) .text
+unfolding onFrom
+program-from-fed view input = sym (fed-writes input [] (startingAt view) (whole refl))
+
 pub program-fed : (input : List ℕ) → program input ≡ (atEnd (fed input atStart)) .text
-unfolding program onFrom
-program-fed input = sym (fed-writes input [] atStart (whole refl))
+unfolding program
+program-fed input = program-from-fed freshView input

@@ -7,15 +7,13 @@ use mathlib.Core.List.{List, [], _∷_, _++_, append-assoc, append-nil}
 use lib.ListN.{length, take}
 use lib.Dec.{eqb}
 use Rattle.views.specs.View.{View}
-use Rattle.held.specs.Table.{Lent, lentBy, viewIn}
-use Rattle.held.specs.Promise.{Fresh}
-use Rattle.held.specs.declared.Session.{Session}
-use Rattle.lines.specs.Lines.{lineFeed, step, program}
-use Rattle.lines.specs.Feed.{Going, atStart, lineDone, longer, takenIn, fed, atEnd, goingIn, PartWay}
+use Rattle.held.specs.Table.{Lent, viewIn}
+use Rattle.lines.specs.Lines.{lineFeed, step, programFrom, program}
+use Rattle.lines.specs.Feed.{Going, startingAt, lineDone, longer, takenIn, fed, atEnd, goingIn, PartWayFrom}
 use Rattle.lines.specs.FeedPromise.{Feeds, Ends}
 use Rattle.lines.specs.Claims.{InTurn}
 use Rattle.lines.proofs.BlockLaws.{feeds-some}
-use Rattle.lines.proofs.Feeding.{fed-append, program-fed}
+use Rattle.lines.proofs.Feeding.{fed-append, program-from-fed}
 
 -- ---- some text written before
 abbrev after : List ℕ → Going → Going
@@ -47,34 +45,40 @@ end-after text now = cond-after (eqb (length (now .begun)) 0) text now (lineDone
 
 -- ---- the calls
 -- with the lent buffer from its start
-from-start : {input text : List ℕ} {session : Lent} {l : List ℕ} {begun : ℕ} (out : List ℕ) → PartWay input text session l begun
-    → fed input atStart ≡ after text (goingIn session l begun out 0)
-from-start {input} {text} {session} {l} {begun} out p =
+from-start : {first : View} {input text : List ℕ} {session : Lent} {l : List ℕ} {begun : ℕ} (out : List ℕ)
+    → PartWayFrom first input text session l begun
+    → fed input (startingAt first) ≡ after text (goingIn session l begun out 0)
+from-start {text = text} {session} {l} {begun} out p =
     p .state ∙ ap (λ (t : List ℕ). record { text = t; view = viewIn session; begun = take begun l }) (sym (append-nil text))
 
-start : {r : Session} (line : List ℕ) → Fresh r → PartWay [] [] (lentBy r) line 0
+pub part-way-start : {first : View} {session : Lent} (line : List ℕ) → viewIn session ≡ first → PartWayFrom first [] [] session line 0
 unfolding fed
-start line f = record { state = ap (λ (v : View). record { text = []; view = v; begun = [] }) (sym (f .view)) }
+part-way-start line e = record { state = ap startingAt (sym e) }
 
-block : {input text : List ℕ} {session later : Lent} {l : List ℕ} {begun : ℕ} {s out : List ℕ} {m : List ℕ} {kept taken : ℕ}
-    {new : List ℕ} {end : ℕ} → PartWay input text session l begun → Feeds (goingIn session l begun out 0) s out later m kept taken new end
-    → PartWay (input ++ take taken s) (text ++ take end new) later m kept
-block {input} {text} {session} {later} {l} {begun} {s} {out} {m} {kept} {taken} way f =
+pub part-way-block : {first : View} {input text : List ℕ} {session later : Lent} {l : List ℕ} {begun : ℕ} {s out : List ℕ} {m : List ℕ}
+    {kept taken : ℕ} {new : List ℕ} {end : ℕ} → PartWayFrom first input text session l begun
+    → Feeds (goingIn session l begun out 0) s out later m kept taken new end
+    → PartWayFrom first (input ++ take taken s) (text ++ take end new) later m kept
+part-way-block {first} {input} {text} {session} {later} {l} {begun} {s} {out} {m} {kept} {taken} way f =
     record {
       state =
-          fed-append input (take taken s) atStart
+          fed-append input (take taken s) (startingAt first)
           ∙ ap (fed (take taken s)) (from-start out way)
           ∙ fed-after (take taken s) text (goingIn session l begun out 0)
           ∙ ap (after text) (sym (f .takes .state));
     }
 
-finish : {input text : List ℕ} {session later : Lent} {l : List ℕ} {begun : ℕ} {out new : List ℕ} {end : ℕ}
-    → PartWay input text session l begun → Ends (goingIn session l begun out 0) out later new end → program input ≡ text ++ take end new
-finish {input} {text} {session} {later} {l} {begun} {out} way f =
-    program-fed input
+pub part-way-end : {first : View} {input text : List ℕ} {session later : Lent} {l : List ℕ} {begun : ℕ} {out new : List ℕ} {end : ℕ}
+    → PartWayFrom first input text session l begun → Ends (goingIn session l begun out 0) out later new end
+    → programFrom first input ≡ text ++ take end new
+part-way-end {first} {input} {text} {session} {later} {l} {begun} {out} way f =
+    program-from-fed first input
     ∙ ap (λ (now : Going). (atEnd now) .text) (from-start out way)
     ∙ ap (λ (now : Going). now .text) (end-after text (goingIn session l begun out 0))
     ∙ ap (λ (now : Going). text ++ now .text) (sym (f .state))
 
+-- from a fresh session on
 pub in-turn : InTurn
-in-turn = record { start = start; block = block; goesOn = feeds-some; finish = finish }
+unfolding program
+in-turn =
+    record { start = λ line f. part-way-start line (f .view); block = part-way-block; goesOn = feeds-some; finish = part-way-end }

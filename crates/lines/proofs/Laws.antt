@@ -9,4 +9,4 @@ pub use Rattle.lines.proofs.Feeding.{NoFeed, step-kept, keeps-all, take
 pub use Rattle.lines.proofs.FeedTaken.{taken-line, taken-full}
 -- ---- one block after another
 pub use Rattle.lines.proofs.BlockLaws.{line-fresh, begun-length, feedable-block, feeds-on, feeds-some}
-pub use Rattle.lines.proofs.InTurn.{in-turn}
+pub use Rattle.lines.proofs.InTurn.{part-way-start, part-way-block, part-way-end}

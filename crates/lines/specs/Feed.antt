@@ -17,8 +17,12 @@ pub record Going : Type 0 where
   pub view : View
   pub begun : List ℕ
 
+-- before the first character, with a session
+abbrev pub startingAt : View → Going
+startingAt view = record { text = []; view = view; begun = [] }
+
 abbrev pub atStart : Going
-atStart = record { text = []; view = freshView; begun = [] }
+atStart = startingAt freshView
 
 -- a line feed: the line is done
 unfoldable pub lineDone : Going → Going
@@ -52,7 +56,11 @@ atEnd now = cond (eqb (length (now .begun)) 0) now (lineDone now)
 abbrev pub goingIn : Lent → List ℕ → ℕ → List ℕ → ℕ → Going
 goingIn session line begun out end = record { text = take end out; view = viewIn session; begun = take begun line }
 
--- between two blocks: some input is taken in and some text written, with the session and the line that has begun as the code
--- holds them
-pub record PartWay (input text : List ℕ) (session : Lent) (line : List ℕ) (begun : ℕ) : Type 0 where
-  pub state : fed input atStart ≡ record { text = text; view = viewIn session; begun = take begun line }
+-- between two blocks, from a session on: some input is taken in and some text written, with the session and the line that has begun as
+-- the code holds them
+pub record PartWayFrom (first : View) (input text : List ℕ) (session : Lent) (line : List ℕ) (begun : ℕ) : Type 0 where
+  pub state : fed input (startingAt first) ≡ record { text = text; view = viewIn session; begun = take begun line }
+
+-- from a fresh one
+abbrev pub PartWay : List ℕ → List ℕ → Lent → List ℕ → ℕ → Type 0
+PartWay input text session line begun = PartWayFrom freshView input text session line begun

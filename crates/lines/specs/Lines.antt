@@ -122,6 +122,10 @@ unfoldable pub steps : List (List ℕ) → View → Made
 steps [] view = silent view
 steps (line ∷ lines) view = step line view then steps lines
 
--- all that the program writes
+-- all that the program writes, from a session on
+abbrev pub programFrom : View → List ℕ → List ℕ
+programFrom view input = (steps (linesFrom [] input) view) .text
+
+-- document 01's begins with a fresh one
 unfoldable pub program : List ℕ → List ℕ
-program input = (steps (linesFrom [] input) freshView) .text
+program input = programFrom freshView input

@@ -1,49 +1,14 @@
--- What taking in a block of the program's input owes, and the whole run: as many octets were handed to `write` so far as the
--- program's text for the input so far has. Definitions only.
-use Prim.Native.Nat.{ℕ, _%_, _^_}
-use mathlib.Core.Path.{_≡_}
-use mathlib.Core.Bool.{Bool, true}
-use mathlib.Core.List.{List, _++_}
-use lib.ListN.{length, take}
-use Rattle.held.specs.Table.{Lent, viewIn}
-use Rattle.lines.specs.Lines.{program}
-use Rattle.lines.specs.Feed.{atStart, fed, atEnd, PartWay}
-use Rattle.lines.specs.Promise.{stepLimit}
-use Rattle.lines.specs.FeedPromise.{Feedable}
+-- What a run of the program owes: it begins with a fresh session. Definitions only.
+use mathlib.Core.List.{List}
+use Prim.Native.Nat.{ℕ}
+use Rattle.views.specs.View.{freshView}
+use Rattle.held.specs.Table.{lent}
+use Rattle.serving.specs.Promise.{Serves}
+use Rattle.serving.specs.declared.Served.{Served}
 
--- a block of the input, and what is handed over at once, have at most so many octets: the toolchain's large buffer
-abbrev pub bufferSize : ℕ
-bufferSize = 65536
-
--- how many octets, as a counter of 64 bits shows it
-abbrev pub tallied : List ℕ → ℕ
-tallied octets = length octets % 2 ^ 64
-
--- the program part way, with more text handed over; all that was handed over so far is counted
-pub record Onward (input text : List ℕ) (session : Lent) (line : List ℕ) (begun handed : ℕ) : Type 0 where
-  pub more : List ℕ
-  pub way : PartWay input (text ++ more) session line begun
-  pub count : handed ≡ tallied (text ++ more)
-
--- the program may go on; a front of the block is taken in and its text handed over, whatever was taken in and handed over before
--- it; where all was written that front is the whole block
-pub record Passes (before : Lent) (line : List ℕ) (begun : ℕ) (block : List ℕ) (handed : ℕ) (after : Lent) (new : List ℕ) (kept : ℕ)
-    (out : List ℕ) (sum : ℕ) (written : Bool)
-    : Type 0 where
-  pub feedable : Feedable stepLimit after new kept out 0
-  pub front : ℕ
-  pub way : (input text : List ℕ) → PartWay input text before line begun → handed ≡ tallied text
-      → Onward (input ++ take front block) text after new kept sum
-  pub whole : written ≡ true → take front block ≡ block
-
--- there is an input, as long as all that was read: as many octets as the program writes of it were handed over, and the session is
--- the one that the program ends it with
-pub record Complete (session : Lent) (taken handed : ℕ) : Type 0 where
-  pub input : List ℕ
-  pub read : taken ≡ tallied input
-  pub wrote : handed ≡ tallied (program input)
-  pub state : viewIn session ≡ (atEnd (fed input atStart)) .view
-
--- the run: either a write failed, or it is complete
-pub record Serves (session : Lent) (taken handed : ℕ) (whole : Bool) : Type 0 where
-  pub complete : whole ≡ true → Complete session taken handed
+-- with the table and the stores that the session has at the end
+pub record Receives (r : Served) : Type 0 where
+  pub table : List ℕ
+  pub octets : List ℕ
+  pub messages : List ℕ
+  pub serves : Serves freshView (lent (r .base) (r .counts) table octets messages) (r .taken) (r .handed) (r .whole)

@@ -8,37 +8,35 @@ use lib.ListN.{length, take}
 use lib.Seq.{length-take-le}
 use lib.Dec.{eqb}
 use native.Mathlib.Omega.{arith}
-use Rattle.views.specs.View.{View, freshView}
+use Rattle.views.specs.View.{View}
 use Rattle.held.specs.Table.{Lent, viewIn}
 use Rattle.held.specs.Laid.{InRanges}
-use Rattle.lines.specs.Lines.{program}
-use Rattle.lines.specs.Feed.{Going, fed, lineDone, atEnd, goingIn, PartWay}
+use Rattle.lines.specs.Feed.{Going, lineDone, atEnd, goingIn, PartWayFrom}
 use Rattle.lines.specs.Promise.{stepLimit}
 use Rattle.lines.specs.FeedPromise.{LineIn, Feedable, Ends}
-use Rattle.lines.proofs.Laws.{in-turn}
-use Rattle.receive.specs.Promise.{bufferSize, tallied, Passes, Complete, Serves}
-use Rattle.receive.proofs.Serving.{tallied-on}
+use Rattle.lines.proofs.Laws.{part-way-start, part-way-end}
+use Rattle.serving.specs.Promise.{bufferSize, tallied, Passes, Complete, Serves}
+use Rattle.serving.proofs.Serving.{tallied-on}
 
 -- all that was read and handed over so far
-pub record SoFar (session : Lent) (l : List ℕ) (begun taken handed : ℕ) : Type 0 where
+pub record SoFar (first : View) (session : Lent) (l : List ℕ) (begun taken handed : ℕ) : Type 0 where
   pub input : List ℕ
   pub text : List ℕ
-  pub way : PartWay input text session l begun
+  pub way : PartWayFrom first input text session l begun
   pub read : taken ≡ tallied input
   pub wrote : handed ≡ tallied text
 
 -- beside what the calls ask for, the lengths of the buffers
-pub record Turning (session : Lent) (l block : List ℕ) (begun : ℕ) (out : List ℕ) (taken handed : ℕ) : Type 0 where
+pub record Turning (first : View) (session : Lent) (l block : List ℕ) (begun : ℕ) (out : List ℕ) (taken handed : ℕ) : Type 0 where
   pub feedable : Feedable stepLimit session l begun out 0
   pub block-long : bufferSize ≡ length block
   pub out-long : bufferSize ≡ length out
-  pub so-far : SoFar session l begun taken handed
+  pub so-far : SoFar first session l begun taken handed
 
 -- before the first block
-pub turning-start : {session : Lent} {l block out : List ℕ} → InRanges session → viewIn session ≡ freshView → LineIn l 0
-    → bufferSize ≡ length block → bufferSize ≡ length out → Turning session l block 0 out 0 0
-unfolding fed
-turning-start within fresh line read room =
+pub turning-start : {session : Lent} {l block out : List ℕ} → InRanges session → LineIn l 0
+    → bufferSize ≡ length block → bufferSize ≡ length out → Turning (viewIn session) session l block 0 out 0 0
+turning-start {l = l} within line read room =
     record {
       feedable = record { able = record { within = within; room = omega arith }; line = line };
       block-long = read;
@@ -46,17 +44,17 @@ turning-start within fresh line read room =
       so-far = record {
         input = [];
         text = [];
-        way = record { state = ap (λ (v : View). record { text = []; view = v; begun = [] }) (sym fresh) };
+        way = part-way-start l refl;
         read = refl;
         wrote = refl;
       };
     }
 
 -- after a read that gave nothing
-pub turning-none : {session : Lent} {l block : List ℕ} {begun : ℕ} {out : List ℕ} {taken handed : ℕ}
-    → Turning session l block begun out taken handed
+pub turning-none : {first : View} {session : Lent} {l block : List ℕ} {begun : ℕ} {out : List ℕ} {taken handed : ℕ}
+    → Turning first session l block begun out taken handed
     → {new : List ℕ} {n after : ℕ} → n ≡ 0 → after ≡ (taken + n) % 2 ^ 64 → length new ≡ length block
-    → Turning session l new begun out after handed
+    → Turning first session l new begun out after handed
 turning-none t none on same =
     let far = t .so-far in
     record {
@@ -78,14 +76,14 @@ written-all true e = refl
 written-all false e = sym e
 
 -- after a block of which all was written
-pub turning-on : {session : Lent} {l block : List ℕ} {begun : ℕ} {out : List ℕ} {taken handed : ℕ}
-    → Turning session l block begun out taken handed
+pub turning-on : {first : View} {session : Lent} {l block : List ℕ} {begun : ℕ} {out : List ℕ} {taken handed : ℕ}
+    → Turning first session l block begun out taken handed
     → {new : List ℕ} (n : ℕ) {later : Lent} {m : List ℕ} {kept : ℕ} {room : List ℕ} {sum after : ℕ} {written : Bool} → n ≤ length new
     → Passes session l begun (take n new) handed later m kept room sum written → written ≡ true → after ≡ (taken + n) % 2 ^ 64
-    → length new ≡ length block → length room ≡ length out → Turning later m new kept room after sum
-turning-on t {new} n long s all on same lent =
+    → length new ≡ length block → length room ≡ length out → Turning first later m new kept room after sum
+turning-on {first} t {new} n long s all on same lent =
     let far = t .so-far in
-    let next = s .way (far .input) (far .text) (far .way) (far .wrote) in
+    let next = s .way first (far .input) (far .text) (far .way) (far .wrote) in
     record {
       feedable = s .feedable;
       block-long = t .block-long ∙ sym same;
@@ -113,25 +111,26 @@ view-at-end s t v begun =
     cond-view (eqb (length begun) 0) (now s) (lineDone (now s)) (now t) (lineDone (now t)) refl refl
 
 -- the last line is done and handed over
-pub complete : {session : Lent} {l : List ℕ} {begun : ℕ} {out : List ℕ} {taken handed : ℕ} → SoFar session l begun taken handed
+pub complete : {first : View} {session : Lent} {l : List ℕ} {begun : ℕ} {out : List ℕ} {taken handed : ℕ} → SoFar first session l begun taken handed
     → {later : Lent} {new : List ℕ} {end after : ℕ} → Ends (goingIn session l begun out 0) out later new end
-    → after ≡ (handed + end) % 2 ^ 64 → Complete later taken after
-complete {session} {l} {begun} {out} far {new = new} {end} e on =
+    → after ≡ (handed + end) % 2 ^ 64 → Complete first later taken after
+complete {first} {session} {l} {begun} {out} far {new = new} {end} e on =
     record {
       input = far .input;
       read = far .read;
       wrote =
           tallied-on (far .text) (take end new) (far .wrote) (sym (length-take-le end new (omega (arith, e .fits, e .long)))) on
-          ∙ ap tallied (sym (in-turn .finish (far .way) e));
+          ∙ ap tallied (sym (part-way-end (far .way) e));
       state =
           ap (λ (now : Going). now .view) (e .state)
           ∙ view-at-end (take 0 out) (far .text) (viewIn session) (take begun l)
           ∙ ap (λ (now : Going). (atEnd now) .view) (sym (far .way .state));
     }
 
-pub serves : {later : Lent} {taken after : ℕ} (whole : Bool) → Complete later taken after → Serves later taken after whole
-serves whole all = record { complete = λ e. all }
+pub serves : {first : View} {later : Lent} {taken after : ℕ} (whole : Bool) → Complete first later taken after → InRanges later
+    → Serves first later taken after whole
+serves whole all within = record { complete = λ e. all; within = within }
 
 -- a write failed
-pub serves-not : {later : Lent} {taken after : ℕ} → Serves later taken after false
-serves-not = record { complete = λ e. absurd (false≢true e) }
+pub serves-not : {first : View} {later : Lent} {taken after : ℕ} → InRanges later → Serves first later taken after false
+serves-not within = record { complete = λ e. absurd (false≢true e); within = within }

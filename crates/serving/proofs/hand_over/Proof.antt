@@ -1,11 +1,11 @@
--- `receive::hand_over` meets its contract: a front up to a place within the buffer has so many octets. Assumes nothing.
+-- `serving::hand_over` meets its contract: a front up to a place within the buffer has so many octets. Assumes nothing.
 use mathlib.Core.Path.{sym}
 use lib.Seq.{length-take-le}
 use denote.Ref.{now}
 use borrow.Author.Needs.{needs}
-use Rattle.receive.proofs.Serving.{more-tallied}
-use Rattle.receive.proofs.hand_over.Statement.{statement}
-use Rattle.receive.proofs.hand_over.Tie as tie
+use Rattle.serving.proofs.Serving.{more-tallied}
+use Rattle.serving.proofs.hand_over.Statement.{statement}
+use Rattle.serving.proofs.hand_over.Tie as tie
 
 slice-aggregate-front : tie.Need-slice-aggregate-front
 slice-aggregate-front c = sym (length-take-le _ _ (c .before .before .pre))

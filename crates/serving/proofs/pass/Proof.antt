@@ -1,4 +1,4 @@
--- `receive::pass` meets its contract: between two parts of the block the program may go on, the front of it is taken in and its text
+-- `serving::pass` meets its contract: between two parts of the block the program may go on, the front of it is taken in and its text
 -- handed over; each part takes some of it. Assumes nothing.
 use Prim.Native.Nat.{_-_}
 use mathlib.Core.Path.{_∙_}
@@ -7,9 +7,9 @@ use native.Mathlib.Omega.{arith}
 use borrow.Author.Needs.{needs}
 use Rattle.held.specs.Table.{lent}
 use Rattle.lines.proofs.Laws.{feedable-block}
-use Rattle.receive.proofs.Serving.{Serving, serving-start, served, stopped, part-some, part-inside, part-fits, part-done}
-use Rattle.receive.proofs.pass.Statement.{statement}
-use Rattle.receive.proofs.pass.Tie as tie
+use Rattle.serving.proofs.Serving.{Serving, serving-start, served, stopped, part-some, part-inside, part-fits, part-done}
+use Rattle.serving.proofs.pass.Statement.{statement}
+use Rattle.serving.proofs.pass.Tie as tie
 
 abbrev Inv-loop : tie.InvT-loop
 Inv-loop t₀ o₀ g₀ line₀ block out₀ handed₀ after₀ moves₀ kept₀ from₀ t o g line out handed after moves kept from =

@@ -8,12 +8,13 @@ use lib.ListN.{length, take, drop, length-drop, length-append}
 use lib.Seq.{length-take-le, take-add, take-all}
 use native.Mathlib.Nat.{mod-add-mod}
 use native.Mathlib.Omega.{arith}
+use Rattle.views.specs.View.{View}
 use Rattle.held.specs.Table.{Lent}
-use Rattle.lines.specs.Feed.{goingIn, PartWay}
+use Rattle.lines.specs.Feed.{goingIn, PartWayFrom}
 use Rattle.lines.specs.Promise.{stepLimit}
 use Rattle.lines.specs.FeedPromise.{Feedable, Feeds}
-use Rattle.lines.proofs.Laws.{feeds-on, feeds-some, in-turn}
-use Rattle.receive.specs.Promise.{tallied, Onward, Passes}
+use Rattle.lines.proofs.Laws.{feeds-on, feeds-some, part-way-block}
+use Rattle.serving.specs.Promise.{tallied, Onward, Passes}
 
 -- so many more are tallied
 pub more-tallied : (sum : ℕ) {m n new : ℕ} → m ≡ n → new ≡ (sum + m) % 2 ^ 64 → new ≡ (sum + n) % 2 ^ 64
@@ -29,15 +30,15 @@ tallied-on a b {sum} {n} before same on =
     ∙ ap (λ (x : ℕ). x % 2 ^ 64) (sym (length-append a b))
 
 -- the program may go on, no lent buffer has changed its length, the front of the block is taken in and its text handed over
-pub record Serving (first : Lent) (l₀ : List ℕ) (begun₀ : ℕ) (out₀ s : List ℕ) (handed : ℕ) (session : Lent) (l : List ℕ) (begun : ℕ)
+pub record Serving (before : Lent) (l₀ : List ℕ) (begun₀ : ℕ) (out₀ s : List ℕ) (handed : ℕ) (session : Lent) (l : List ℕ) (begun : ℕ)
     (out : List ℕ) (from sum : ℕ)
     : Type 0 where
   pub feedable : Feedable stepLimit session l begun out 0
   pub line-long : length l ≡ length l₀
   pub out-long : length out ≡ length out₀
   pub inside : from ≤ length s
-  pub way : (input text : List ℕ) → PartWay input text first l₀ begun₀ → handed ≡ tallied text
-      → Onward (input ++ take from s) text session l begun sum
+  pub way : (first : View) (input text : List ℕ) → PartWayFrom first input text before l₀ begun₀ → handed ≡ tallied text
+      → Onward first (input ++ take from s) text session l begun sum
 
 pub serving-start : {session : Lent} {l : List ℕ} {begun : ℕ} {out : List ℕ} (s : List ℕ) (handed : ℕ)
     → Feedable stepLimit session l begun out 0
@@ -48,7 +49,7 @@ serving-start {session} {l} {begun} s handed f =
       line-long = refl;
       out-long = refl;
       inside = omega arith;
-      way = λ input text p count.
+      way = λ first input text p count.
           record {
             more = [];
             way = rw (append-nil input, append-nil text) p;
@@ -63,15 +64,15 @@ left-of s from = take-all (length s - from) (drop from s) (omega (arith, length-
 left-long : (s : List ℕ) (from : ℕ) → length (take (length s - from) (drop from s)) ≡ length s - from
 left-long s from = ap length (left-of s from) ∙ length-drop from s
 
-module _ {first : Lent} {l₀ : List ℕ} {begun₀ : ℕ} {out₀ : List ℕ}
+module _ {before : Lent} {l₀ : List ℕ} {begun₀ : ℕ} {out₀ : List ℕ}
     (s : List ℕ) {handed : ℕ} {session : Lent} {l : List ℕ} {begun : ℕ} {out : List ℕ} {from sum : ℕ}
-    (v : Serving first l₀ begun₀ out₀ s handed session l begun out from sum) where
+    (v : Serving before l₀ begun₀ out₀ s handed session l begun out from sum) where
   -- all of it is taken in
-  pub served : length s ≤ from → Passes first l₀ begun₀ s handed session l begun out sum true
+  pub served : length s ≤ from → Passes before l₀ begun₀ s handed session l begun out sum true
   served all = record { feedable = v .feedable; front = from; way = v .way; whole = λ e. take-all from s all }
 
   -- a write failed
-  pub stopped : Passes first l₀ begun₀ s handed session l begun out sum false
+  pub stopped : Passes before l₀ begun₀ s handed session l begun out sum false
   stopped = record { feedable = v .feedable; front = from; way = v .way; whole = λ e. absurd (false≢true e) }
 
   -- a part more is taken in
@@ -88,7 +89,7 @@ module _ {first : Lent} {l₀ : List ℕ} {begun₀ : ℕ} {out₀ : List ℕ}
 
     -- and handed over
     pub part-done : {total : ℕ} → length newL ≡ length l → total ≡ (sum + end) % 2 ^ 64
-        → Serving first l₀ begun₀ out₀ s handed after newL kept new (from + taken) total
+        → Serving before l₀ begun₀ out₀ s handed after newL kept new (from + taken) total
     part-done same on =
         record {
           feedable = feeds-on (v .feedable) t;
@@ -96,18 +97,18 @@ module _ {first : Lent} {l₀ : List ℕ} {begun₀ : ℕ} {out₀ : List ℕ}
           out-long = t .takes .long ∙ v .out-long;
           inside = part-inside;
           way =
-              λ input text p count.
-              let before = v .way input text p count in
+              λ first input text p count.
+              let so-far = v .way first input text p count in
               let front : (input ++ take from s) ++ take taken (take (length s - from) (drop from s)) ≡ input ++ take (from + taken) s =
               ap (λ (x : List ℕ). (input ++ take from s) ++ take taken x) (left-of s from)
               ∙ append-assoc input (take from s) (take taken (drop from s))
               ∙ ap (λ (x : List ℕ). input ++ x) (sym (take-add from taken s)) in
-              let joined = append-assoc text (before .more) (take end new) in
+              let joined = append-assoc text (so-far .more) (take end new) in
               record {
-                more = before .more ++ take end new;
-                way = rw (front, joined) at (in-turn .block (before .way) t);
+                more = so-far .more ++ take end new;
+                way = rw (front, joined) at (part-way-block (so-far .way) t);
                 count =
-                    tallied-on (text ++ before .more) (take end new) (before .count) (sym (length-take-le end new part-fits)) on
+                    tallied-on (text ++ so-far .more) (take end new) (so-far .count) (sym (length-take-le end new part-fits)) on
                     ∙ ap tallied joined;
               };
         }

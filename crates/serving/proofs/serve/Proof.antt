@@ -1,19 +1,19 @@
--- `receive::serve` meets its contract: between two blocks the program is within its ranges, all that was read is taken in and its text
+-- `serving::serve` meets its contract: between two blocks the program is within its ranges, all that was read is taken in and its text
 -- handed over; the end of the input comes last; the turns left are the measure. Assumes nothing.
 use mathlib.Core.Path.{refl, sym}
 use lib.Seq.{length-take-le}
 use native.Mathlib.Omega.{arith}
 use borrow.Author.Needs.{needs}
-use Rattle.held.specs.Table.{lent}
+use Rattle.held.specs.Table.{lent, viewIn}
 use Rattle.lines.specs.Feed.{keptLimit}
 use Rattle.lines.proofs.Laws.{line-fresh}
-use Rattle.receive.proofs.Turning.{Turning, turning-start, turning-none, written-all, turning-on, complete, serves, serves-not}
-use Rattle.receive.proofs.serve.Statement.{statement}
-use Rattle.receive.proofs.serve.Tie as tie
+use Rattle.serving.proofs.Turning.{Turning, turning-start, turning-none, written-all, turning-on, complete, serves, serves-not}
+use Rattle.serving.proofs.serve.Statement.{statement}
+use Rattle.serving.proofs.serve.Tie as tie
 
 abbrev Inv-loop : tie.InvT-loop
-Inv-loop _ _ _ _ _ _ _ _ _ _ _ _ _ t o g line block out after moves begun taken handed turns =
-    Turning (lent after moves t o g) line block begun out taken handed
+Inv-loop _ t₀ o₀ g₀ _ _ _ after₀ moves₀ _ _ _ _ t o g line block out after moves begun taken handed turns =
+    Turning (viewIn (lent after₀ moves₀ t₀ o₀ g₀)) (lent after moves t o g) line block begun out taken handed
 
 abbrev μ-loop : tie.MeasureT-loop
 μ-loop _ _ _ _ _ _ _ _ _ _ _ _ _ _ _ _ _ _ _ _ _ _ _ _ turns = turns
@@ -27,7 +27,7 @@ large-buffer-requires-2 c κs = search needs
 loop-holds : tie.Need-loop-holds Inv-loop μ-loop
 loop-holds c =
     let start = c .before .before in
-    turning-start (start .pre .0) (start .pre .1) (line-fresh keptLimit refl) (c .before .large-buffer .ensures) (c .large-buffer2 .ensures)
+    turning-start (start .pre) (line-fresh keptLimit refl) (c .before .large-buffer .ensures) (c .large-buffer2 .ensures)
 
 sub-turns : tie.Need-sub-turns Inv-loop μ-loop
 sub-turns c = search needs
@@ -62,7 +62,7 @@ pass-requires : tie.Need-pass-requires Inv-loop μ-loop
 pass-requires c κs = search needs
 
 returns : tie.Need-returns Inv-loop μ-loop
-returns c = serves-not
+returns c = serves-not (search needs)
 
 loop-less-2 : tie.Need-loop-less-2 Inv-loop μ-loop
 loop-less-2 c =
@@ -99,7 +99,7 @@ returns-2 : tie.Need-returns-2 Inv-loop μ-loop
 returns-2 c =
     let last = c .before .before .before .before .before in
     let loop = last .before .before .before .before .before .before .before in
-    serves _ (complete (loop .loop .inv .so-far) (last .finish .ensures) (c .hand-over .ensures))
+    serves _ (complete (loop .loop .inv .so-far) (last .finish .ensures) (c .hand-over .ensures)) (last .finish .ensures .within)
 
 pub serve-spec : {M : Type 1} → statement M
 serve-spec =
