@@ -14,10 +14,10 @@ use call_lines::octet;
 use call_lines::part;
 use call_lines::say_no_call;
 use frames::Joiner;
-use input::BLOCK;
 use input::KEPT;
 use input::octets_of;
-use input::read_line;
+use input_lines::BLOCK;
+use input_lines::read_line;
 use sending::Sender;
 use sessions::Session;
 

@@ -1,24 +1,21 @@
 // The program for tuning spares against parity: document 02, request 8, "Which datagram saved us?". A trace from standard input, read as
 // the program of document 01 reads it. For each number that leaves it tells the kind and the datagram that filled it, as the release gives
 // them; at the end how many numbers spares and parity saved, and from how far ahead.
-mod input;
 mod saved;
 mod text;
 
+use datagrams::Datagram;
 use datagrams::Packet;
-use input::BLOCK;
-use input::KEPT;
-use input::read_line;
+use input_lines::BLOCK;
+use input_lines::read_line;
 use lengths::Written;
+use lines::Line;
 use saved::SAVED;
 use sessions::Offered;
 use sessions::Released;
 use sessions::Session;
 use text::part;
 use text::say_refused;
-
-// The octets that a line holds at most.
-const OCTETS: usize = 1500;
 
 // What a release answers, told: whether something left. A refusal is told with leave to skip, as the program has it.
 fn told(answer: Released, skip: bool, line: usize, table: &mut [u32; SAVED]) -> bool {
@@ -93,7 +90,7 @@ fn answer(session: Session, digits: &[u8], line: usize, table: &mut [u32; SAVED]
         let held = turn.session;
         return held;
     }
-    let mut octets = [0u8; OCTETS];
+    let mut octets = [0u8; Datagram::LIMIT];
     match hexadecimal::hex_to_octets(digits, &mut octets) {
         Written::Refused(why) => {
             say_refused(line, why);
@@ -106,7 +103,7 @@ fn answer(session: Session, digits: &[u8], line: usize, table: &mut [u32; SAVED]
 // A line of so many characters, answered, and the releases after it.
 fn answered(
     session: Session,
-    digits: &[u8; KEPT],
+    digits: &[u8; Line::KEPT],
     size: usize,
     line: usize,
     table: &mut [u32; SAVED],
@@ -115,27 +112,47 @@ fn answered(
     releases(held, line, table)
 }
 
+// One line of the input, answered. "A last line without a line feed counts unless it is empty".
+fn take_line(
+    session: Session,
+    block: &mut [u8; BLOCK],
+    at: &mut usize,
+    end: &mut usize,
+    digits: &mut [u8; Line::KEPT],
+    line: usize,
+    table: &mut [u32; SAVED],
+) -> Session {
+    let size = read_line(block, at, end, digits);
+    if (*end == 0) & (size == 0) {
+        return session;
+    }
+    answered(session, digits, size, line, table)
+}
+
 fn main() {
     let mut session = Session::fresh();
     let mut table = [0u32; SAVED];
     let mut block = [0u8; BLOCK];
-    let mut digits = [0u8; KEPT];
+    let mut digits = [0u8; Line::KEPT];
     let mut at = 0;
     let mut end = 0;
-    let mut ended = false;
     let mut line = 0;
     // Nothing says that the input ends, so the turns are counted down from a number that no run uses up.
     let mut turns = u64::MAX;
     while turns > 0 {
         turns -= 1;
-        let size = read_line(&mut digits, &mut block, &mut at, &mut end, &mut ended);
         line = std::num::wrapping_add_usize(line, 1);
-        // "A last line without a line feed counts unless it is empty"
-        if !(ended & (size == 0)) {
-            let next = answered(session, &digits, size, line, &mut table);
-            session = next;
-        }
-        if ended {
+        let next = take_line(
+            session,
+            &mut block,
+            &mut at,
+            &mut end,
+            &mut digits,
+            line,
+            &mut table,
+        );
+        session = next;
+        if end == 0 {
             turns = 0;
         }
     }

@@ -4,10 +4,10 @@ use Rattle.notes.proofs.main.Statement.{statement}
 use Rattle.notes.proofs.main.Tie as tie
 
 abbrev Inv-loop : tie.InvT-loop
-Inv-loop session₀ table₀ block₀ digits₀ at₀ end₀ ended₀ line₀ turns₀ session table block digits at end ended line turns = Unit {0}
+Inv-loop session₀ table₀ block₀ digits₀ at₀ end₀ line₀ turns₀ session table block digits at end line turns = Unit {0}
 
 abbrev μ-loop : tie.MeasureT-loop
-μ-loop session₀ table₀ block₀ digits₀ at₀ end₀ ended₀ line₀ turns₀ session table block digits at end ended line turns = turns
+μ-loop session₀ table₀ block₀ digits₀ at₀ end₀ line₀ turns₀ session table block digits at end line turns = turns
 
 fresh-requires : tie.Need-fresh-requires Inv-loop μ-loop
 fresh-requires c κs = search needs
@@ -18,14 +18,11 @@ loop-holds c = search needs
 sub-turns : tie.Need-sub-turns Inv-loop μ-loop
 sub-turns c = search needs
 
-read-line-requires : tie.Need-read-line-requires Inv-loop μ-loop
-read-line-requires c κs = search needs
-
 wrapping-add-usize-requires : tie.Need-wrapping-add-usize-requires Inv-loop μ-loop
 wrapping-add-usize-requires c κs = search needs
 
-answered-requires : tie.Need-answered-requires Inv-loop μ-loop
-answered-requires c κs = search needs
+take-line-requires : tie.Need-take-line-requires Inv-loop μ-loop
+take-line-requires c κs = search needs
 
 loop-less : tie.Need-loop-less Inv-loop μ-loop
 loop-less c = search needs
@@ -54,9 +51,8 @@ main-spec =
     fresh-requires
     loop-holds
     sub-turns
-    read-line-requires
     wrapping-add-usize-requires
-    answered-requires
+    take-line-requires
     loop-less
     loop-again
     loop-less-2

@@ -1,10 +1,12 @@
--- `calls::input::read_line` is safe and ends. The turns left are the measure, and nothing has to hold from turn to turn. Assumes nothing.
+-- `input_lines::read_line` is safe and ends. The lent line keeps its length, and the turns left are the measure. Assumes nothing.
+use mathlib.Core.Path.{_≡_}
+use lib.ListN.{length}
 use borrow.Author.Needs.{needs}
-use Rattle.calls.proofs.input.read_line.Statement.{statement}
-use Rattle.calls.proofs.input.read_line.Tie as tie
+use Rattle.input_lines.proofs.read_line.Statement.{statement}
+use Rattle.input_lines.proofs.read_line.Tie as tie
 
 abbrev Inv-loop : tie.InvT-loop
-Inv-loop block₀ at₀ end₀ line₀ size₀ turns₀ block at end line size turns = Unit {0}
+Inv-loop block₀ at₀ end₀ line₀ size₀ turns₀ block at end line size turns = length line ≡ length line₀
 
 abbrev μ-loop : tie.MeasureT-loop
 μ-loop block₀ at₀ end₀ line₀ size₀ turns₀ block at end line size turns = turns
@@ -18,11 +20,14 @@ sub-turns c = search needs
 character-requires : tie.Need-character-requires Inv-loop μ-loop
 character-requires c κs = search needs
 
+same-length : tie.Need-same-length Inv-loop μ-loop
+same-length c = search needs
+
 returns : tie.Need-returns Inv-loop μ-loop
 returns c = search needs
 
-element-write-line : tie.Need-element-write-line Inv-loop μ-loop
-element-write-line c = search needs
+slice-write-line : tie.Need-slice-write-line Inv-loop μ-loop
+slice-write-line c = search needs
 
 add-size : tie.Need-add-size Inv-loop μ-loop
 add-size c = search needs
@@ -39,6 +44,9 @@ loop-less-2 c = search needs
 loop-again-2 : tie.Need-loop-again-2 Inv-loop μ-loop
 loop-again-2 c = search needs
 
+same-length-2 : tie.Need-same-length-2 Inv-loop μ-loop
+same-length-2 c = search needs
+
 returns-2 : tie.Need-returns-2 Inv-loop μ-loop
 returns-2 c = search needs
 
@@ -51,11 +59,13 @@ read-line-spec =
     loop-holds
     sub-turns
     character-requires
+    same-length
     returns
-    element-write-line
+    slice-write-line
     add-size
     loop-less
     loop-again
     loop-less-2
     loop-again-2
+    same-length-2
     returns-2)
