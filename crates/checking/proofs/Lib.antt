@@ -1,4 +1,5 @@
 mod Turns
 mod Slot
 mod Places
+mod SlotTests
 mod Same

@@ -6,8 +6,8 @@ pub use Rattle.formats.proofs.Standing.{wide-append, wide-whole, wide-s
 pub use Rattle.formats.proofs.Lawful.{Lawful, lawful-known, lawful-item, lawful-guarded, lawful-demand, lawful-then, lawful-made}
 pub use Rattle.formats.proofs.Lawful.{lawful-either, lawful-sequence-of}
 -- ---- and for each part
-pub use Rattle.formats.proofs.Parts.{lawful-flag, lawful-bits, lawful-align, lawful-here, lawful-octets, lawful-two-octets}
-pub use Rattle.formats.proofs.Parts.{lawful-length-rule, Fronts, lawful-octetwise}
+pub use Rattle.formats.proofs.Parts.{lawful-flag, lawful-bits, lawful-align, lawful-here}
+pub use Rattle.formats.proofs.WholeOctets.{lawful-octets, lawful-two-octets, lawful-length-rule, Fronts, lawful-octetwise}
 -- ---- into octets, and back
 pub use Rattle.formats.proofs.Packing.{packed-whole, written-found, found-written}
 -- ---- what a part reads at a place, told by the octets there

@@ -1,6 +1,7 @@
 mod Standing
 mod Lawful
 mod Parts
+mod WholeOctets
 mod Packing
 mod Edges
 mod Filling

@@ -19,7 +19,8 @@ use Rattle.views.specs.Ranges.{markRight, heldRight, knownAt}
 use Rattle.views.proofs.Laws.{mark-sizes, heldThere, held-none, accepted-right, held-sound}
 use Rattle.held.specs.Slots.{slotAt, heardSlotAt, messageSlot, Apart, slotsKept, slotsHeard}
 use Rattle.held.specs.Table.{Lent, lent, countsOf, statePlace, sizePlace, notePlace, markPlace, nPlace, mPlace, messagePlace}
-use Rattle.held.specs.Table.{markIn, nIn, mIn, messageSizeIn, stateNumbered, cellIn, messageIn, heldIn, cellsOf, heldOf, viewIn, heardSet}
+use Rattle.held.specs.Table.{markIn, nIn, mIn, messageSizeIn, stateNumbered, cellIn, messageIn, heldIn, cellsOf, heldOf, viewIn}
+use Rattle.held.specs.Table.{heardSet}
 use Rattle.held.specs.Laid.{Laid, InRanges}
 use Rattle.held.specs.Heard.{NoSize, SizesLaid, OctetsLaid}
 use Rattle.held.proofs.Marked.{long-heard, mark-set, n-set, m-set, heard-elsewhere}

@@ -7,19 +7,16 @@ use mathlib.Core.List.{List, []}
 use mathlib.Core.Logic.{⊎-elim}
 use lib.ListN.{length, getD}
 use lib.Seq.{ext-getD}
-use lib.Dec.{eqb}
 use native.Mathlib.Omega.{arith}
-use borrow.Author.Tests.{eqb-true, eq-eqb}
-use Rattle.octets.proofs.Laws.{length-tab, below-or-not, same-or-not}
+use Rattle.octets.proofs.Laws.{below-or-not}
 use Rattle.datagrams.specs.Sizes.{packetLimit, messagesLimit}
-use Rattle.views.specs.Cells as cells
 use Rattle.views.specs.Cells.{Cell, cellAt, keptAhead, keptNumbers}
 use Rattle.views.specs.Held.{Held, heldAt}
 use Rattle.views.specs.View as views
 use Rattle.views.specs.View.{View}
 use Rattle.held.specs.Slots.{slotsKept, slotsHeard, slotsMessages, keptOctets, messageOctets, slotAt, heardSlotAt, messageSlot}
-use Rattle.held.specs.Table.{Lent, lentBy, countsOf, places, lastState, sizePlace, notePlace, markPlace, nPlace, mPlace, messagePlace}
-use Rattle.held.specs.Table.{stateIn, sizeIn, noteIn, markIn, nIn, mIn, messageSizeIn, stateNumbered, cellIn, heldIn, cellsOf, heldOf, viewIn, viewOf}
+use Rattle.held.specs.Table.{Lent, lentBy, countsOf, places, sizePlace, notePlace, markPlace, nPlace, mPlace, messagePlace, stateIn}
+use Rattle.held.specs.Table.{sizeIn, noteIn, markIn, nIn, mIn, messageSizeIn, cellIn, heldIn, cellsOf, heldOf, viewIn, viewOf}
 use Rattle.held.specs.Laid.{InRanges}
 use Rattle.held.specs.Promise.{Fresh}
 use Rattle.held.specs.declared.Counts.{Counts}
@@ -28,63 +25,7 @@ use Rattle.held.proofs.Messages.{message-length, message-octet}
 use Rattle.held.proofs.Ranges.{session-in-ranges}
 use Rattle.held.proofs.Seen.{cell-at, held-at, octets-long, octet-at}
 use Rattle.held.proofs.Slots.{slot-of, heard-slot-of}
-
--- ---- a state's number from document 01's word for it
-abbrev numberOf : cells.State → ℕ
-numberOf cells.unknown = 0
-numberOf cells.received = 1
-numberOf cells.spare = 2
-numberOf cells.repaired = 3
-numberOf cells.blank = 4
-
-number-back : (n : ℕ) → n ≤ lastState → numberOf (stateNumbered n) ≡ n
-unfolding stateNumbered
-number-back n few =
-    ⊎-elim (λ (e : n ≡ 0). rw e)
-    (λ no0.
-    ⊎-elim (λ (e : n ≡ 1). rw e)
-    (λ no1.
-    ⊎-elim (λ (e : n ≡ 2). rw e)
-    (λ no2.
-    ⊎-elim (λ (e : n ≡ 3). rw e)
-    (λ no3. let e : n ≡ 4 = omega arith in rw e)
-    (same-or-not n 3))
-    (same-or-not n 2))
-    (same-or-not n 1))
-    (same-or-not n 0)
-
-number-same : (a b : ℕ) → a ≤ lastState → b ≤ lastState → stateNumbered a ≡ stateNumbered b → a ≡ b
-number-same a b low few e = sym (number-back a low) ∙ ap numberOf e ∙ number-back b few
-
-mark-same : (a b : ℕ) → a ≤ 1 → b ≤ 1 → eqb a 1 ≡ eqb b 1 → a ≡ b
-mark-same a b low few e =
-    ⊎-elim (λ (one : a ≡ 1). let other : b ≡ 1 = eqb-true b 1 (sym e ∙ eq-eqb a 1 one) in omega arith)
-    (λ no.
-    ⊎-elim (λ (one : b ≡ 1). absurd (no (eqb-true a 1 (e ∙ eq-eqb b 1 one)))) (λ none. omega arith) (same-or-not b 1))
-    (same-or-not a 1)
-
--- ---- a slot from what the view shows of it
-state-in-same : (t s o q : List ℕ) (i : ℕ) → stateIn t i ≤ lastState → stateIn s i ≤ lastState → cellIn t o i ≡ cellIn s q i
-    → stateIn t i ≡ stateIn s i
-unfolding cellIn
-state-in-same t s o q i low few e = number-same (stateIn t i) (stateIn s i) low few (ap (λ (c : Cell). c .state) e)
-
-note-in-same : (t s o q : List ℕ) (i : ℕ) → cellIn t o i ≡ cellIn s q i → noteIn t i ≡ noteIn s i
-unfolding cellIn
-note-in-same t s o q i e = ap (λ (c : Cell). c .note) e
-
-module _ (t s g e : List ℕ) (j : ℕ) (same : heldIn t g j ≡ heldIn s e j) where
-  mark-in-same : markIn t j ≤ 1 → markIn s j ≤ 1 → markIn t j ≡ markIn s j
-  unfolding heldIn
-  mark-in-same low few = mark-same (markIn t j) (markIn s j) low few (ap (λ (h : Held). h .accepted) same)
-
-  n-in-same : nIn t j ≡ nIn s j
-  unfolding heldIn
-  n-in-same = ap (λ (h : Held). h .n) same
-
-  m-in-same : mIn t j ≡ mIn s j
-  unfolding heldIn
-  m-in-same = sym (length-tab (mIn t j) _) ∙ ap (λ (h : Held). length (h .messages)) same ∙ length-tab (mIn s j) _
+use Rattle.held.proofs.SameSlot.{state-in-same, note-in-same, mark-in-same, n-in-same, m-in-same}
 
 counts-of-same : (c d : Counts) → countsOf c ≡ countsOf d → c ≡ d
 counts-of-same c d e =

@@ -6,6 +6,7 @@ pub mod Placed
 pub mod Ranges
 pub mod FreshSession
 pub mod Messages
+mod SameSlot
 pub mod Injective
 pub mod Marked
 pub mod Heard

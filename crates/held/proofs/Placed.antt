@@ -32,7 +32,8 @@ use Rattle.held.proofs.Slots.{slot-small, slot-apart, has-packet-slot}
 module _ (t : List ℕ) (slot state size note : ℕ) (small : slot < slotsKept) where
   pub state-here : length t ≡ places → stateIn (keptSet t slot state size note) slot ≡ state
   state-here long =
-      getD-set-other (set (set t (statePlace slot) state) (sizePlace slot) size) (notePlace slot) (statePlace slot) note 0 (λ e. omega arith)
+      getD-set-other (set (set t (statePlace slot) state) (sizePlace slot) size) (notePlace slot) (statePlace slot) note 0
+      (λ e. omega arith)
       ∙ getD-set-other (set t (statePlace slot) state) (sizePlace slot) (statePlace slot) size 0 (λ e. omega arith)
       ∙ getD-set-same t (statePlace slot) state 0 (omega arith)
 
