@@ -15,8 +15,8 @@ use Rattle.datagrams.specs.Sizes.{packetLeast, packetLimit, datagramLimi
 use Rattle.datagrams.specs.Sizes.{messagesLeast, messagesLimit}
 use Rattle.datagrams.specs.Write.{numberOctets, itemOctets, itemsOctets, countedOctets, extraOctets, extraOf, datagramOctets}
 use Rattle.datagrams.specs.Write.{countInside, itemInside, itemsInside, cut, sumOf}
-use Rattle.datagrams.specs.Read.{after, octetsOf, lengthFrom, octetAt, itemAt, itemsAt, endOf, sparesAt, parityAt, extraAt, leastOf, mostOf}
-use Rattle.datagrams.specs.Read.{numberOf, readDatagram, carriedBy}
+use Rattle.datagrams.specs.Read.{after, octetsOf, lengthFrom, octetAt, itemAt, itemsAt, endOf, sparesAt, parityAt, extraAt}
+use Rattle.datagrams.specs.Read.{leastOf, mostOf, numberOf, readDatagram, carriedBy}
 use Rattle.datagrams.specs.Claims.{ReadsAs, WrittenReads}
 use Rattle.datagrams.specs.declared.reader.Part.{Part}
 use Rattle.datagrams.specs.declared.kind.Kind.{Kind}

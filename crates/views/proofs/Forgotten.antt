@@ -13,8 +13,8 @@ use Rattle.lengths.specs.Refusals.{repeated, tooFar, late, baseUnknown, noRoom,
 use Rattle.lengths.specs.Answers.{Answer, done, refused, refuse, _>>=_, mapped}
 use Rattle.datagrams.specs.Carried.{Carried, Extra, spares, parity}
 use Rattle.datagrams.specs.Read.{DatagramParts, readDatagram, carriedBy}
-use Rattle.views.specs.Cells.{State, received, spare, repaired, Cell, blankCell, unknownCell, filledCell, cellAt, unknownAt, isUnknown}
-use Rattle.views.specs.Cells.{keptBefore, keptAhead}
+use Rattle.views.specs.Cells.{State, received, spare, repaired, Cell, blankCell, unknownCell, filledCell, cellAt, unknownAt}
+use Rattle.views.specs.Cells.{isUnknown, keptBefore, keptAhead}
 use Rattle.views.specs.Repair.{Message, passing, otherMembers, usable, firstUsable, mended, fill, repairF, repair}
 use Rattle.views.specs.Held.{Held, nothingHeld, heldMessages}
 use Rattle.views.specs.View.{View, Counts, sum, sessionLimit, distance, following, goneOn}
@@ -240,7 +240,8 @@ release-same leave room v w e =
     (cond (leb sessionLimit (sum n)) (refuse allPassed)
     (cond (isUnknown (c .state) && not leave) (refuse baseUnknown) (cond (ltb room (length (c .octets))) (refuse noRoom) (done r)))))
     cell (s .counts)
-    ∙ left (leb sessionLimit (sum (w .counts))) (unknownAt (w .cells) keptBefore && not leave) (ltb room (length ((atBase w) .octets))) r q one
+    ∙ left (leb sessionLimit (sum (w .counts))) (unknownAt (w .cells) keptBefore && not leave) (ltb room (length ((atBase w) .octets))) r q
+    one
 
 pub notes-apart : NotesApart
 notes-apart = record { offers = offer-same; releases = release-same }

@@ -141,8 +141,8 @@ module _ {v : View} (counts : views.Counts) (s : Sound v) (more : sum counts ≡
         cell = λ p below.
             ⊎-elim (λ (e : p ≡ lastPlace). rw e last-right) (λ other. cell-right p (omega arith)) (same-or-not p lastPlace);
         note = λ p below.
-            ⊎-elim (λ (e : p ≡ lastPlace). rw e (last-noted (numberAt (following (v .base)) lastPlace))) (λ other. note-right p (omega arith))
-            (same-or-not p lastPlace);
+            ⊎-elim (λ (e : p ≡ lastPlace). rw e (last-noted (numberAt (following (v .base)) lastPlace)))
+            (λ other. note-right p (omega arith)) (same-or-not p lastPlace);
         held = λ d below.
             ⊎-elim (λ (e : d ≡ lastAhead). rw e gone-right) (λ other. held-right d (omega arith)) (same-or-not d lastAhead);
       }

@@ -63,8 +63,9 @@ record PacketSized (b : List ℕ) : Type 0 where
   least : packetLeast ≤ length b
   most : length b ≤ packetLimit
 
-keep-sound : {v : View} → Sound v → (S : ℕ) (state : State) → isFill state ≡ true → (p : ℕ) → noteRight state S (numberAt (v .base) p) ≡ true
-    → (b : List ℕ) → PacketSized b → Sound (withCells v (keep S state p b (v .cells)))
+keep-sound : {v : View} → Sound v → (S : ℕ) (state : State) → isFill state ≡ true → (p : ℕ)
+    → noteRight state S (numberAt (v .base) p) ≡ true → (b : List ℕ) → PacketSized b
+    → Sound (withCells v (keep S state p b (v .cells)))
 unfolding keep
 keep-sound {v} s S state fills p noted b sized =
     ⊎-elim (λ t. rw t (filled-sound s p t S state fills noted b (sized .least) (sized .most))) (λ f. rw f (same-sound s))
