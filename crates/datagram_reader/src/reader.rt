@@ -1,17 +1,13 @@
 // A datagram read: document 01, 'The datagram'. One pass over the octets, none of them copied: what was read is told as
 // parts of the input. It does not look inside a packet.
-use datagrams::Datagram;
 use datagrams::DatagramRead;
 use datagrams::Kind;
-use datagrams::Message;
 use datagrams::Packet;
 use datagrams::Parity;
 use datagrams::Part;
-use datagrams::Reading;
 use datagrams::Spares;
 use lengths::Length;
 use lengths::Refusal;
-use lengths::wide;
 ghost use mathlib.Core.Path.{_≡_};
 ghost use Prim.Native.Nat.{_+_, _*_, _≤_};
 ghost use lib.ListN.{length};
@@ -50,7 +46,7 @@ fn octet_at(s: &[u8], at: usize, least: usize, most: usize) -> Length
     if s.len() <= at {
         return Length::Refused(Refusal::at(Refusal::ENDS_EARLY, at));
     }
-    let value = wide(s[at]);
+    let value = lengths::wide(s[at]);
     if lengths::within(least, most, value) {
         return Length::Value(value, 1);
     }
@@ -135,7 +131,7 @@ fn extra_at(s: &[u8], at: usize) -> Extra
     if s.len() <= at {
         return Extra::Refused(Refusal::at(Refusal::ENDS_EARLY, at));
     }
-    let choice = wide(s[at]);
+    let choice = lengths::wide(s[at]);
     let low = choice % 128;
     if low != 0 {
         return Extra::Refused(Refusal::at(Refusal::SPARE_BIT, at));
@@ -153,7 +149,7 @@ fn least(kind: Kind) -> usize
 {
     match kind {
         Kind::Spares => Packet::LEAST,
-        Kind::Parity(_) => Message::LEAST,
+        Kind::Parity(_) => datagrams::Message::LEAST,
     }
 }
 
@@ -163,7 +159,7 @@ fn most(kind: Kind) -> usize
 {
     match kind {
         Kind::Spares => Packet::LIMIT,
-        Kind::Parity(_) => Message::LIMIT,
+        Kind::Parity(_) => datagrams::Message::LIMIT,
     }
 }
 
@@ -173,7 +169,7 @@ fn refused(why: Refusal) -> DatagramRead
 {
     let nowhere = Part { start: 0, size: 0 };
     DatagramRead {
-        reading: Reading::Refused(why),
+        reading: datagrams::Reading::Refused(why),
         items: [nowhere; Spares::LIMIT],
     }
 }
@@ -212,7 +208,7 @@ fn whole_of(
         return refused(Refusal::at(Refusal::LEFT_OVER, at));
     }
     DatagramRead {
-        reading: Reading::Datagram {
+        reading: datagrams::Reading::Datagram {
             number,
             packet,
             kind,
@@ -226,7 +222,7 @@ fn whole_of(
 pub fn read(s: &[u8]) -> DatagramRead
     ensures { λ r. ⌜ DatagramReads (now (s .entry)) r ⌝ }
 {
-    if Datagram::LIMIT < s.len() {
+    if datagrams::Datagram::LIMIT < s.len() {
         return refused(Refusal::new(Refusal::TOO_LONG));
     }
     if s.len() < 2 {

@@ -99,5 +99,15 @@ module _ (number : ℕ) (packet : List ℕ) (k : Kind) (lengths run : List ℕ) 
   write-passed a p = rw (allowed-written number a) p
 
 -- the answers of the writer
-pub ruleset writes =
-    (front-asked, datagram-put, put-puts, allowed-full, write-uncounted, write-unsummed, write-unsized, passed, write-passed, allowed-bounded)
+pub ruleset writes = (
+  front-asked,
+  datagram-put,
+  put-puts,
+  allowed-full,
+  write-uncounted,
+  write-unsummed,
+  write-unsized,
+  passed,
+  write-passed,
+  allowed-bounded,
+)

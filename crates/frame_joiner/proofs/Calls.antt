@@ -227,7 +227,8 @@ module _ {size type : ℕ} {octets storage : List ℕ} (g : Admitted size type o
           let is : onOpen type octets (take size storage) ≡ record { handed = some (good (take size storage)); after = opened [] } =
           rw (ne-eqb type 0 other, not-bad, and-left (handsGood type) (ltb 0 size) hands, some-octets) in
           gives-out (good (take size storage)) is long m
-          (λ e. rw long at (owes-good {old = old} {k = joinerOf false 0 (inStorage [])} (ap heldAs (after-open _ is)) (take size storage) e))
+          (λ e.
+          rw long at (owes-good {old = old} {k = joinerOf false 0 (inStorage [])} (ap heldAs (after-open _ is)) (take size storage) e))
 
     pub join-drops : {newStorage old : List ℕ} {r : Kept} {b d : Bool} → b ≡ handsBad type → b ≡ false → d ≡ handsGood type
         → (d && ltb 0 size) ≡ false → Drops false newStorage r → FieldFed false size type octets storage newStorage old old r

@@ -22,11 +22,14 @@ module _ (b : ℕ) (t : List ℕ) where
       (λ i below e. omega arith)
 
   pub state-other : (i : ℕ) → i < slotsKept → (i ≡ slotAt b 0 → ⊥) → stateIn (advanced b t) i ≡ stateIn t i
-  state-other i small other = low (statePlace i) (omega arith) ∙ kept-elsewhere t (slotAt b 0) 0 0 0 (statePlace i) other (λ e. omega arith) (λ e. omega arith)
+  state-other i small other =
+      low (statePlace i) (omega arith)
+      ∙ kept-elsewhere t (slotAt b 0) 0 0 0 (statePlace i) other (λ e. omega arith) (λ e. omega arith)
 
   pub size-other : (i : ℕ) → i < slotsKept → (i ≡ slotAt b 0 → ⊥) → sizeIn (advanced b t) i ≡ sizeIn t i
   size-other i small other =
-      low (sizePlace i) (omega arith) ∙ kept-elsewhere t (slotAt b 0) 0 0 0 (sizePlace i) (λ e. omega arith) (λ e. other (omega arith)) (λ e. omega arith)
+      low (sizePlace i) (omega arith)
+      ∙ kept-elsewhere t (slotAt b 0) 0 0 0 (sizePlace i) (λ e. omega arith) (λ e. other (omega arith)) (λ e. omega arith)
 
   pub note-other : (i : ℕ) → i < slotsKept → (i ≡ slotAt b 0 → ⊥) → noteIn (advanced b t) i ≡ noteIn t i
   note-other i small other =

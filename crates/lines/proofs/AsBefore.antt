@@ -65,7 +65,8 @@ offered-sound (refused x) small s = s
 answer-sound : (line : List ℕ) {view : View} → Sound view → Sound ((answerLine line view) .after)
 unfolding answerLine offerLine lineOffered
 answer-sound [] s = released-sound true s
-answer-sound (c ∷ line) {view} s = after-offer (lineOffered (c ∷ line) view) view (offered-sound (lineOctets (c ∷ line)) (line-octets (c ∷ line)) s)
+answer-sound (c ∷ line) {view} s =
+    after-offer (lineOffered (c ∷ line) view) view (offered-sound (lineOctets (c ∷ line)) (line-octets (c ∷ line)) s)
 
 -- so after a step the base is unknown or all numbers have passed
 step-sound : (line : List ℕ) {view : View} → Sound view → Sound ((step line view) .after)

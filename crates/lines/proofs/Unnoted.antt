@@ -75,7 +75,8 @@ releases-same (suc left) v w s =
     (views.claims .notesApart .releases false packetLimit v w (s .seen)) (releasesF left) (releases-same left)
 
 -- ---- lines
-offered-same : {v w : View} → Same v w → (a b : Answer View) → mapped forgotten a ≡ mapped forgotten b → Alike (offerMade a v) (offerMade b w)
+offered-same : {v w : View} → Same v w → (a b : Answer View) → mapped forgotten a ≡ mapped forgotten b
+    → Alike (offerMade a v) (offerMade b w)
 offered-same s (done x) (done y) e = record { text = refl; after = record { seen = done-same e } }
 offered-same s (done x) (refused y) e = absurd (not-done (sym e))
 offered-same s (refused x) (done y) e = absurd (not-done e)

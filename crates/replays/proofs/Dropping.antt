@@ -22,7 +22,8 @@ or-assoc : (a b c : Bool) → ((a || b) || c) ≡ (a || (b || c))
 or-assoc true b c = refl
 or-assoc false b c = refl
 
-pub listed-append : (numbers others : List ℕ) (number : ℕ) → listed (numbers ++ others) number ≡ (listed numbers number || listed others number)
+pub listed-append : (numbers others : List ℕ) (number : ℕ)
+    → listed (numbers ++ others) number ≡ (listed numbers number || listed others number)
 unfolding listed
 listed-append [] others number = refl
 listed-append (n ∷ numbers) others number =

@@ -24,7 +24,9 @@ steps-alike numbers others [] view same = refl
 steps-alike numbers others (line ∷ lines) view same =
     let made = replayStep others line view in
     ap (λ (b : Bool). record {
-      text = (cond b (silent view) (step line view)) .text ++ (replaySteps numbers lines ((cond b (silent view) (step line view)) .after)) .text;
+      text =
+          (cond b (silent view) (step line view)) .text
+          ++ (replaySteps numbers lines ((cond b (silent view) (step line view)) .after)) .text;
       after = (replaySteps numbers lines ((cond b (silent view) (step line view)) .after)) .after;
     })
     (same line (List·Memᴰ·head refl))

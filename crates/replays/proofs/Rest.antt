@@ -46,7 +46,10 @@ pub goes-dropped : (numbers line : List ℕ) (lines : List (List ℕ)) (view : V
     → replaySteps numbers (line ∷ lines) view ≡ replaySteps numbers lines view
 unfolding replaySteps
 goes-dropped numbers line lines view is =
-    ap (λ (m : Made). record { text = m .text ++ (replaySteps numbers lines (m .after)) .text; after = (replaySteps numbers lines (m .after)) .after })
+    ap (λ (m : Made). record {
+      text = m .text ++ (replaySteps numbers lines (m .after)) .text;
+      after = (replaySteps numbers lines (m .after)) .after;
+    })
     (step-dropped numbers line view is)
 
 goes-left : (numbers line : List ℕ) (lines : List (List ℕ)) (view : View) → dropped numbers line ≡ false
@@ -54,7 +57,10 @@ goes-left : (numbers line : List ℕ) (lines : List (List ℕ)) (view : View) �
     → replaySteps numbers (line ∷ lines) view ≡ steps (line ∷ left numbers lines) view
 unfolding replaySteps steps
 goes-left numbers line lines view is more =
-    ap (λ (m : Made). record { text = m .text ++ (replaySteps numbers lines (m .after)) .text; after = (replaySteps numbers lines (m .after)) .after })
+    ap (λ (m : Made). record {
+      text = m .text ++ (replaySteps numbers lines (m .after)) .text;
+      after = (replaySteps numbers lines (m .after)) .after;
+    })
     (step-left numbers line view is)
     ∙ ap (λ (m : Made). record { text = (step line view) .text ++ m .text; after = m .after }) more
 
@@ -93,7 +99,10 @@ module _ (numbers : List ℕ) where
   unfolding left ended
   back-one line lines plain more =
       ⊎-elim
-      (λ is. ap (λ (l : List (List ℕ)). linesFrom [] (ended l)) (left-dropped numbers line lines is) ∙ more ∙ sym (left-dropped numbers line lines is))
+      (λ is.
+      ap (λ (l : List (List ℕ)). linesFrom [] (ended l)) (left-dropped numbers line lines is)
+      ∙ more
+      ∙ sym (left-dropped numbers line lines is))
       (λ not.
       ap (λ (l : List (List ℕ)). linesFrom [] (ended l)) (left-kept numbers line lines not)
       ∙ past-line line (ended (left numbers lines)) plain
@@ -108,7 +117,8 @@ module _ (numbers : List ℕ) where
   back begun (c ∷ input) plain =
       ⊎-elim
       (λ feed.
-      rw (at-feed begun c input feed) (back-one begun (linesFrom [] input) plain (back [] input (λ k below e. absurd (omega (arith, below))))))
+      rw (at-feed begun c input feed)
+      (back-one begun (linesFrom [] input) plain (back [] input (λ k below e. absurd (omega (arith, below))))))
       (λ other. rw (at-other begun c input other) (back (begun ++ (c ∷ [])) input (plain-more begun c plain other)))
       (same-or-not c lineFeed)
 
@@ -125,7 +135,8 @@ unfolding replaySteps
 dropped-nowhere numbers line [] after view is = goes-dropped numbers line after view is
 dropped-nowhere numbers line (first ∷ before) after view is =
     let made = replayStep numbers first view in
-    ap (λ (m : Made). record { text = made .text ++ m .text; after = m .after }) (dropped-nowhere numbers line before after (made .after) is)
+    ap (λ (m : Made). record { text = made .text ++ m .text; after = m .after })
+    (dropped-nowhere numbers line before after (made .after) is)
 
 -- a line that does not read
 unread : (numbers line : List ℕ) (why : Refusal) → numberIn line ≡ refused why → dropped numbers line ≡ false
