@@ -78,7 +78,8 @@ module _ {note state number slot : ℕ} {t o : List ℕ} {was : Bool} (e-slot : 
     (e-was : was ≡ not (isUnknown (stateNumbered (stateIn t slot)))) where
   -- an unknown number takes the octets
   pub keeps-unknown : {s : List ℕ} {p : Part} {size : ℕ} {newT newO : List ℕ} → isFill (stateNumbered state) ≡ true
-      → noteRight (stateNumbered state) note number ≡ true → PartInside packetLeast packetLimit s p → was ≡ false → PartPut slot s p o newO size → newT ≡ keptSet t slot state size note
+      → noteRight (stateNumbered state) note number ≡ true → PartInside packetLeast packetLimit s p → was ≡ false
+      → PartPut slot s p o newO size → newT ≡ keptSet t slot state size note
       → Keeps note state number (octetsOf s p) t o newT newO
   unfolding offers.keep
   keeps-unknown {s} {p} {size} {newT} {newO} fills noted inside no-was put written =

@@ -45,8 +45,8 @@ spares-step S s items count p j cells fits more low =
     (offers.keep S spare k (octetsOf s (partAt items j)) cells)) back
 
 -- ---- the loop
-pub record SparesNow (S : ℕ) (s : List ℕ) (items : List Part) (count base : ℕ) (c : Counts) (g : List ℕ) (p : ℕ) (t o new store : List ℕ) (at j : ℕ)
-    : Type 0 where
+pub record SparesNow (S : ℕ) (s : List ℕ) (items : List Part) (count base : ℕ) (c : Counts) (g : List ℕ) (p : ℕ)
+    (t o new store : List ℕ) (at j : ℕ) : Type 0 where
   pub number : at ≡ numberAt base (p - j)
   pub left : offers.keepSpares S (p - j) (map (octetsOf s) (drop j (take count items))) (cellsOf base new store)
       ≡ offers.keepSpares S p (map (octetsOf s) (take count items)) (cellsOf base t o)

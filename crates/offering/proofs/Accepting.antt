@@ -157,8 +157,8 @@ module _ {base : ℕ} {c : Counts} {t o g s : List ℕ} {number d : ℕ} {packet
           within = spares-now .within;
           known =
               ap (λ (x : List Cell). unknownAt x (keptBefore + d)) (spares-now .cells)
-              ∙ spares-stay number (keptBefore + d) (map (octetsOf s) (take (spareCount k count) items)) (cellsOf base t₁ o₁) (keptBefore + d)
-              known-first;
+              ∙ spares-stay number (keptBefore + d) (map (octetsOf s) (take (spareCount k count) items)) (cellsOf base t₁ o₁)
+              (keptBefore + d) known-first;
           unmarked = ap (λ (x : List Held). (heldAt x d) .accepted) held-second ∙ may .unmarked;
         }
 

@@ -83,7 +83,8 @@ module _ (line : List ℕ) {old new : List ℕ} {r : Written} (work : datagramLi
   line-reads {size} is told =
       told
       ∙ number-done (readDatagram (take size new))
-      ∙ sym (ap (λ (a : Answer (List ℕ)). isDone (_>>=_ a (λ (o : List ℕ). _>>=_ (readDatagram o) (λ (d : DatagramParts). done (d .number)))))
+      ∙ sym (ap (λ (a : Answer (List ℕ)).
+      isDone (_>>=_ a (λ (o : List ℕ). _>>=_ (readDatagram o) (λ (d : DatagramParts). done (d .number)))))
       ((octets is) .0))
 
   pub line-refused : {why : Refusal} → r ≡ written.Refused why → false ≡ isDone (numberIn line)

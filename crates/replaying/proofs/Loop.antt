@@ -145,7 +145,8 @@ module _ {numbers trace : List ℕ} {writes : Bool} {old : List ℕ} {before ses
       record {
         answer =
             sym (ap (λ (m : Made). toldOf m (fittedText m old)) all
-            ∙ ap (λ (b : Bool). toldOf (record { text = p .so-far; after = viewIn session }) (cond b (done (p .so-far)) (refuse noRoom))) fits
+            ∙ ap (λ (b : Bool). toldOf (record { text = p .so-far; after = viewIn session }) (cond b (done (p .so-far)) (refuse noRoom)))
+            fits
             ∙ ap (λ (n : ℕ). done (record { counts = countsOf (session .counts); size = n })) (sym size));
         written = λ so room.
             let laid = p .lays .written so in

@@ -133,8 +133,8 @@ module _ (n : ℕ) (out : List ℕ) (inside : n < length out) {trace numbers par
             ∙ sym (over-fits made out room);
       }
 
-  pub front-full : {why : Refusal} {new : List ℕ} {q : Replayed} → r ≡ replayed.Refused why → Replays trace numbers (part ++ drop n out) new q
-      → Replays trace numbers out new q
+  pub front-full : {why : Refusal} {new : List ℕ} {q : Replayed} → r ≡ replayed.Refused why
+      → Replays trace numbers (part ++ drop n out) new q → Replays trace numbers out new q
   front-full is again =
       let made = replay numbers trace in
       let same : part ++ drop n out ≡ out =

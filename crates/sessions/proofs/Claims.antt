@@ -105,7 +105,8 @@ unfolding offers.keepSpares
 spares-known S q [] cells p known = refl
 spares-known S q (b ∷ more) cells p known =
     let one = keep-known S spare (q - 1) b cells p known in
-    spares-known S (q - 1) more (offers.keep S spare (q - 1) b cells) p (still-known cells (offers.keep S spare (q - 1) b cells) p one known)
+    spares-known S (q - 1) more (offers.keep S spare (q - 1) b cells) p
+    (still-known cells (offers.keep S spare (q - 1) b cells) p one known)
     ∙ one
 
 extra-known : (S q : ℕ) (x : Extra) (cells : List Cell) (p : ℕ) → Known cells p → cellAt (offers.keepExtra S q x cells) p ≡ cellAt cells p

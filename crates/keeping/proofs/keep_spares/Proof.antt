@@ -27,8 +27,10 @@ wrapping-sub-u16-requires : tie.Need-wrapping-sub-u16-requires Inv-loop μ-loop
 wrapping-sub-u16-requires c κs = search needs
 
 keep-requires : tie.Need-keep-requires Inv-loop μ-loop
-keep-requires c κs =
-    (search sparing-long, (search sparing-octets, (search sparing-may, (fills _ (search needs) (search needs), (spare-noted _ _, search sparing-part)))))
+keep-requires c κs = (
+  search sparing-long,
+  (search sparing-octets, (search sparing-may, (fills _ (search needs) (search needs), (spare-noted _ _, search sparing-part)))),
+)
 
 add-j : tie.Need-add-j Inv-loop μ-loop
 add-j c = search needs

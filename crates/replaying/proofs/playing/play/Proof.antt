@@ -5,8 +5,8 @@ use lib.ListN.{length}
 use native.Mathlib.Omega.{arith}
 use Rattle.held.specs.Table.{lent}
 use borrow.Author.Needs.{needs}
-use Rattle.replaying.proofs.Loop.{Playing, playing-start, playing-long, playing-able, line-inside, line-long, line-room, playing-turn}
-use Rattle.replaying.proofs.Loop.{playing-full, playing-done}
+use Rattle.replaying.proofs.Loop.{Playing, playing-start, playing-long, playing-able, line-inside, line-long, line-room}
+use Rattle.replaying.proofs.Loop.{playing-turn, playing-full, playing-done}
 use Rattle.replaying.proofs.playing.play.Statement.{statement}
 use Rattle.replaying.proofs.playing.play.Tie as tie
 

@@ -54,7 +54,8 @@ returns-3 c =
     let again = c .before .before in
     let told = again .before .before in
     let first = told .before .before .before .before in
-    front-full keptAside _ (first .before .before .if1 .left) (first .play-aside2 .ensures) (told .enum-told2 .given .1) (again .play-measured .ensures)
+    front-full keptAside _ (first .before .before .if1 .left) (first .play-aside2 .ensures) (told .enum-told2 .given .1)
+    (again .play-measured .ensures)
 
 pub replay-spec : {M : Type 1} → statement M
 replay-spec =
