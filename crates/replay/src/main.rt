@@ -3,6 +3,7 @@
 // may have any length; whether a line is dropped and what it comes to is what `replaying::replay_line` answers.
 mod arguments;
 mod playing;
+mod taking;
 mod telling;
 
 use arguments::MOST;

@@ -8,12 +8,12 @@ use Rattle.replay.proofs.playing.play.Statement.{statement}
 use Rattle.replay.proofs.playing.play.Tie as tie
 
 abbrev Inv-loop : tie.InvT-loop
-Inv-loop file path base t₀ o₀ g₀ numbers line₀ block₀ out₀ after₀ moves₀ begun₀ end₀ turns₀ t o g line block out after moves begun end turns =
+Inv-loop file path base t₀ o₀ g₀ numbers line₀ block₀ out₀ after₀ moves₀ begun₀ end₀ left₀ t o g line block out after moves begun end left =
     Between (lent after moves t o g) line block begun out end
 
 abbrev μ-loop : tie.MeasureT-loop
-μ-loop file path base t₀ o₀ g₀ numbers line₀ block₀ out₀ after₀ moves₀ begun₀ end₀ turns₀ t o g line block out after moves begun end turns =
-    turns
+μ-loop file path base t₀ o₀ g₀ numbers line₀ block₀ out₀ after₀ moves₀ begun₀ end₀ left₀ t o g line block out after moves begun end left =
+    left
 
 large-buffer-requires : tie.Need-large-buffer-requires Inv-loop μ-loop
 large-buffer-requires c κs = search needs

@@ -1,9 +1,9 @@
--- `replay::playing::hand_over` is safe: a front up to a place within the buffer. Assumes nothing.
+-- `replay::taking::hand_over` is safe: a front up to a place within the buffer. Assumes nothing.
 use mathlib.Core.Path.{sym}
 use lib.Seq.{length-take-le}
 use borrow.Author.Needs.{needs}
-use Rattle.replay.proofs.playing.hand_over.Statement.{statement}
-use Rattle.replay.proofs.playing.hand_over.Tie as tie
+use Rattle.replay.proofs.taking.hand_over.Statement.{statement}
+use Rattle.replay.proofs.taking.hand_over.Tie as tie
 
 slice-aggregate-write-all : tie.Need-slice-aggregate-write-all
 slice-aggregate-write-all c = sym (length-take-le _ _ (c .before .before .pre))

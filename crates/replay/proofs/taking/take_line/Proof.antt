@@ -1,10 +1,10 @@
--- `replay::playing::take_line` meets its contract: the line is whole in its block, or its front was kept. Assumes nothing.
+-- `replay::taking::take_line` meets its contract: the line is whole in its block, or its front was kept. Assumes nothing.
 use mathlib.Core.Path.{refl, sym}
 use Rattle.lines.proofs.Laws.{begun-length}
 use Rattle.replay.proofs.Turning.{goes-line}
 use borrow.Author.Needs.{needs}
-use Rattle.replay.proofs.playing.take_line.Statement.{statement}
-use Rattle.replay.proofs.playing.take_line.Tie as tie
+use Rattle.replay.proofs.taking.take_line.Statement.{statement}
+use Rattle.replay.proofs.taking.take_line.Tie as tie
 
 end-line-requires : tie.Need-end-line-requires
 end-line-requires c κs = search needs

@@ -1,4 +1,4 @@
--- `replay::playing::take_block` meets its contract: after each line the next may come, and the front of the last one is kept. What is left
+-- `replay::taking::take_block` meets its contract: after each line the next may come, and the front of the last one is kept. What is left
 -- of the block is the measure. Assumes nothing.
 use Prim.Native.Nat.{_-_}
 use mathlib.Core.Path.{sym, _∙_}
@@ -8,8 +8,8 @@ use Rattle.held.specs.Table.{lent}
 use Rattle.replay.specs.Promise.{Goes}
 use Rattle.replay.proofs.Turning.{feed-inside, goes-start, goes-then, goes-kept}
 use borrow.Author.Needs.{needs}
-use Rattle.replay.proofs.playing.take_block.Statement.{statement}
-use Rattle.replay.proofs.playing.take_block.Tie as tie
+use Rattle.replay.proofs.taking.take_block.Statement.{statement}
+use Rattle.replay.proofs.taking.take_block.Tie as tie
 
 abbrev Inv-loop : tie.InvT-loop
 Inv-loop t₀ o₀ g₀ numbers line₀ block out₀ base₀ counts₀ begun₀ end₀ at₀ t o g line out base counts begun end at =
@@ -106,7 +106,8 @@ returns-2 c =
 
 loop-less : tie.Need-loop-less Inv-loop μ-loop
 loop-less c =
-    let more = c .before .before .before .before .before .before .before .before .before .before .before .before .before .before .before .before .before in
+    let taken = c .before .before .before .before .before .before in
+    let more = taken .before .before .before .before .before .before .before .before .before .before .before in
     omega (arith, more .loop-test .taken)
 
 loop-again : tie.Need-loop-again Inv-loop μ-loop
