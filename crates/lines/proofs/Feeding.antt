@@ -14,7 +14,8 @@ use Rattle.lengths.specs.Refusals.{tooLong}
 use Rattle.views.specs.View.{View, freshView}
 use Rattle.lengths.specs.Tables.{unless}
 use Rattle.lines.specs.Hex.{lineLimit, lineOctets}
-use Rattle.lines.specs.Lines.{Made, lineFeed, lineOffered, offerLine, answerLine, step, lastLine, linesFrom, steps, programFrom, program}
+use Rattle.lines.specs.Lines.{Made, lineFeed, lineOffered, offerLine, answerLine, step, lastLine, linesFrom, steps}
+use Rattle.lines.specs.Lines.{programFrom, program}
 use Rattle.lines.specs.Feed.{Going, startingAt, atStart, keptLimit, lineDone, longer, takenIn, fed, atEnd}
 
 -- ---- taken in block after block
