@@ -11,18 +11,21 @@ import tempfile
 
 import running
 from failing import Cases, altered, independent
-from generate import FRAMES, PACKETS, REPLAYS, make_script
+from generate import FRAMES, IMAGES, PACKETS, REPLAYS, make_script
+from making.images import every_octet
 from making.lines import across_the_wrap, at_the_limit, program_lines
+from making.script import UNLIMITED, Script
 from rules.arguments import Arguments
 from running import (around, call_of_answer, described, difference, expected_answers, expected_results, left_out, line_at, lines_of,
                      run, text_of)
 
 HERE = pathlib.Path(__file__).resolve().parent
 CASES = HERE / 'cases'
-CALL_SEEDS, CALLS_EACH = 5, 4000
+CALL_SEEDS, CALLS_EACH = 5, 5000
 FRAME_SEEDS, FRAMES_EACH = 3, 1500
 PACKET_SEEDS, PACKETS_EACH = 3, 2000
 REPLAY_SEEDS, REPLAYS_EACH = 3, 400
+IMAGE_SEEDS, IMAGES_EACH = 3, 1000
 PROGRAM_SEEDS, LINES_EACH = 4, 1000
 
 
@@ -86,6 +89,9 @@ def comparisons(arguments):
         yield 'calls on packets of seed ' + seed, arguments.calls, compare_calls, lambda s=seed: made_packets(s)
     for seed in seeds[:REPLAY_SEEDS]:
         yield 'replays of seed ' + seed, arguments.calls, compare_calls, lambda s=seed: made_replays(s)
+    for seed in seeds[:IMAGE_SEEDS]:
+        yield 'images of seed ' + seed, arguments.calls, compare_calls, lambda s=seed: made_images(s)
+    yield 'an image with each octet changed in turn', arguments.calls, compare_calls, made_octets
     for seed in seeds[:PROGRAM_SEEDS]:
         yield 'program lines of seed ' + seed, arguments.program, compare_program, lambda s=seed: made_lines(s)
     yield 'program across the wrap', arguments.program, compare_program, lambda: across_the_wrap(seeds[0], LINES_EACH)
@@ -111,6 +117,18 @@ def made_packets(seed):
 def made_replays(seed):
     """The same of replays."""
     return with_answers(make_script(seed, REPLAYS_EACH, REPLAYS))
+
+
+def made_images(seed):
+    """The same of sessions written as images and read back."""
+    return with_answers(make_script(seed, IMAGES_EACH, IMAGES))
+
+
+def made_octets():
+    """The same of one image, each of its octets changed in turn."""
+    script = Script('octets', UNLIMITED)
+    every_octet(script)
+    return with_answers(script)
 
 
 def with_answers(script):

@@ -5,7 +5,7 @@ import argparse
 import collections
 import sys
 
-from making import conversations, edges, frames, notes, outside, packed, placed, replays, single
+from making import conversations, edges, frames, images, notes, outside, packed, placed, replays, single
 from making.lines import program_lines
 from making.script import Full, Script
 
@@ -21,7 +21,9 @@ FRAMES = (frames.honest_row, frames.any_fields, frames.near_the_limit, frames.ta
 PACKETS = (packed.runs_read, packed.runs_written, packed.padding_damaged, packed.counts_off, packed.near_the_limit, packed.carried,
            placed.packets, single.packets_read, single.packets_written, single.many_fields)
 REPLAYS = (replays.recorded, replays.crowded, replays.crowded, replays.edges, replays.no_calls)
-SCENES = 2 * SINGLE + (placed.datagrams,) + SESSIONS + FRAMES + PACKETS[:7] + REPLAYS[:1] + REPLAYS[2:]
+IMAGES = (images.written, images.read_back, images.handed_over, images.misshapen, images.misshapen, images.no_session,
+          images.no_session, images.another, images.moved, images.texts, images.great, outside.receiving_outside)
+SCENES = 2 * SINGLE + (placed.datagrams,) + SESSIONS + FRAMES + PACKETS[:7] + REPLAYS[:1] + REPLAYS[2:] + IMAGES[:5] + IMAGES[7:10]
 
 
 def make_script(seed, count, scenes=SCENES):

@@ -1,9 +1,11 @@
 #!/usr/bin/env python3
-"""The independent program: answers `calls` lines, or with the argument `program` or `notes` does what that program does."""
+"""The independent program: answers `calls` lines, or with the argument `program`, `notes` or `handover` does what that program does."""
 
+import argparse
 import sys
 
 from rules.calls import Calls
+from rules.handing import Handover, Unusable
 from rules.noting import Notes
 from rules.program import Program
 
@@ -14,25 +16,47 @@ def lines_of(stream):
         yield line[:-1] if line.endswith(b'\n') else line
 
 
+def play(program):
+    """The results of standard input, line by line."""
+    for line in lines_of(sys.stdin.buffer):
+        sys.stdout.buffer.writelines(result + b'\n' for result in program.results(line))
+
+
+def hand_over(words):
+    """The program from a loaded session to a saved one; status 2 if a file is not usable."""
+    parser = argparse.ArgumentParser('handover')
+    parser.add_argument('--load', metavar='FILE', help='the image to begin with, in place of a fresh session')
+    parser.add_argument('--save', metavar='FILE', help='where the image is written at the end')
+    options, program = parser.parse_args(words), Handover()
+    try:
+        if options.load:
+            program.load(options.load)
+        play(program)
+        if options.save:
+            program.save(options.save)
+    except Unusable as unusable:
+        print('handover: %s' % unusable, file=sys.stderr)
+        sys.exit(2)
+
+
 def main():
     """Answers standard input line by line."""
     out = sys.stdout.buffer
     if sys.argv[1:] == ['program']:
-        program = Program()
-        for line in lines_of(sys.stdin.buffer):
-            out.writelines(result + b'\n' for result in program.results(line))
+        play(Program())
     elif sys.argv[1:] == ['notes']:
         notes = Notes()
-        for line in lines_of(sys.stdin.buffer):
-            out.writelines(words + b'\n' for words in notes.results(line))
+        play(notes)
         out.writelines(words + b'\n' for words in notes.table())
+    elif sys.argv[1:2] == ['handover']:
+        hand_over(sys.argv[2:])
     elif not sys.argv[1:]:
         calls = Calls()
         for line in lines_of(sys.stdin.buffer):
             if line:
                 out.write(calls.answer(line) + b'\n')
     else:
-        sys.exit('usage: independent.py [program | notes]')
+        sys.exit('usage: independent.py [program | notes | handover [--load FILE] [--save FILE]]')
 
 
 if __name__ == '__main__':

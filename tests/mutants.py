@@ -18,10 +18,11 @@ import types
 
 import running
 
-from compare import (CALL_SEEDS, FRAME_SEEDS, PACKET_SEEDS, PROGRAM_SEEDS, REPLAY_SEEDS, Failed, made_calls, made_frames, made_lines,
-                     made_packets, made_replays, stored)
+from compare import (CALL_SEEDS, FRAME_SEEDS, IMAGE_SEEDS, PACKET_SEEDS, PROGRAM_SEEDS, REPLAY_SEEDS, Failed, made_calls, made_frames,
+                     made_images, made_lines, made_packets, made_replays, stored)
 from failing import Cases
 from format_mutants import DATAGRAM_MUTANTS, PACKET_MUTANTS
+from image_mutants import IMAGE_MUTANTS
 from joiner_mutants import JOINER_MUTANTS
 from note_mutants import NOTE_MUTANTS
 from pencil_mutants import PENCIL_MUTANTS
@@ -33,8 +34,9 @@ from session_mutants import SESSION_MUTANTS
 HERE = pathlib.Path(__file__).resolve().parent
 MUTANTS = {kind: rows + PLACE_MUTANTS.get(kind, ()) + NOTE_MUTANTS.get(kind, ()) for kind, rows in (
     ('calls', DATAGRAM_MUTANTS + SESSION_MUTANTS), ('packets', PACKET_MUTANTS + PENCIL_MUTANTS), ('joiner', JOINER_MUTANTS),
-    ('replays', REPLAY_MUTANTS), ('program', PROGRAM_MUTANTS))}
-SEEDS = {'calls': CALL_SEEDS, 'packets': PACKET_SEEDS, 'joiner': FRAME_SEEDS, 'replays': REPLAY_SEEDS, 'program': PROGRAM_SEEDS}
+    ('replays', REPLAY_MUTANTS), ('images', IMAGE_MUTANTS), ('program', PROGRAM_MUTANTS))}
+SEEDS = {'calls': CALL_SEEDS, 'packets': PACKET_SEEDS, 'joiner': FRAME_SEEDS, 'replays': REPLAY_SEEDS, 'images': IMAGE_SEEDS,
+         'program': PROGRAM_SEEDS}
 
 
 class Different(BaseException):
@@ -144,7 +146,8 @@ def no_end(number, frame):
 def input_at(kind, number):
     """The inputs that mutants are tried with, one after the other: a name, what is given, what is expected; None past the last."""
     name, made = {'calls': ('script', made_calls), 'packets': ('packet script', made_packets), 'joiner': ('joiner script', made_frames),
-                  'replays': ('replay script', made_replays), 'program': ('lines', made_lines)}[kind]
+                  'replays': ('replay script', made_replays), 'images': ('image script', made_images),
+                  'program': ('lines', made_lines)}[kind]
     cases = list(stored('.lines', '.results')) if kind == 'program' and number else []
     if 0 < number <= len(cases):
         return cases[number - 1]
@@ -204,7 +207,8 @@ def self_test():
                                  ('packets', 'packets', 'items.bits(count) for count in (1, 3)', 'items.bits(1 + 2 * at) for at in (0, 1)'),
                                  ('packets', 'pencil', 'self.place >= len(self.row)', 'self.place == len(self.row)'),
                                  ('joiner', 'joining', 'len(whole) > FRAME_LIMIT', 'len(whole) >= FRAME_LIMIT + 1'),
-                                 ('replays', 'replaying', 'number in numbers', 'number in set(numbers)')):
+                                 ('replays', 'replaying', 'number in numbers', 'number in set(numbers)'),
+                                 ('images', 'images', 'value > most', 'value >= most + 1')):
         test.fails('an edit of %s that changes no answer' % name, 'NOT FOUND: same\n1 passed, 1 failed\nSystemExit: 1', try_all,
                    {kind: MUTANTS[kind][:1] + (('same', name, old, new),)})
     test.fails('an edit of the program that changes no result', 'NOT FOUND: same\n0 passed, 1 failed\nSystemExit: 1', try_all,

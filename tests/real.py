@@ -3,13 +3,12 @@
 import pathlib
 import re
 
-from making.script import Script
+from making.script import UNLIMITED, Script
 from rules.datagrams import SPARES
 from rules.receiving import AFTER, UNKNOWN
 from running import around, described, difference, lines_of, run, text_of
 
 CORPUS = pathlib.Path(__file__).resolve().parent / 'corpus'
-UNLIMITED = 10 ** 9
 
 
 class Wrong(Exception):

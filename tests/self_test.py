@@ -1,8 +1,8 @@
 #!/usr/bin/env python3
 """Makes each check of running.py, cutting.py, run, prove, long, speed/ and ../test fail, and looks for what it must say.
 
-Also looks whether the scripts for the joiner, datagrams, packets and replays meet every answer that there is, and those for notes
-every note."""
+Also looks whether the scripts for the joiner, datagrams, packets, replays and images meet every answer that there is, and those for
+notes every note."""
 
 import argparse
 import importlib.machinery
@@ -15,11 +15,11 @@ import tempfile
 import running
 from cutting import cut_calls, cut_lines
 from failing import HERE, Cases, altered, independent
-from generate import FRAMES, NOTES, PACKETS, REPLAYS, make_script
-from making import placed, single
+from generate import FRAMES, IMAGES, NOTES, PACKETS, REPLAYS, make_script
+from making import images, placed, single
 from making.lines import program_lines
-from making.script import Script
-from rules.refusals import ENDS, SPARE_BIT, Refusal
+from making.script import UNLIMITED, Script
+from rules.refusals import ENDS, MISSHAPEN, RANGES, SPARE_BIT, Refusal
 from running import difference, left_out, lines_of, run, text_of
 from stubbed import of_prove, of_test
 
@@ -62,9 +62,9 @@ def of_cutting(test):
 
 
 def of_generate(test):
-    """The scripts for the joiner, datagrams, packets and replays meet every answer, at its start and further on; a short one does not.
+    """The scripts for each kind of call meet every answer, at its start and further on; a short one does not.
 
-    Both readers answer alike, and each refusal is the one that the items tell."""
+    Both readers answer alike, each refusal is the one that the items tell, and each image the one that the rows have."""
     for name, scenes, short, every in (
             ('the joiner', FRAMES, 20, '3000 310000 310001 310002 31FF0C 31FF0D 31FF0E 31FF11 31FF12 3200 32FF11 330000 330001 3400 34EE'),
             ('datagrams', (single.datagrams_read, placed.datagrams), 40,
@@ -72,19 +72,24 @@ def of_generate(test):
             ('packets', PACKETS, 60, '0500 05FF01 05FF01+ 05FF03+ 05FF04 05FF04+ 05FF05 05FF05+ 05FF06+ 05FF0C 05FF0E 05FF0E+ '
              '0600 06FF04 06FF0C 06FF0D 06FF0E 06FF0F '
              '0700 07FF01 07FF01+ 07FF03+ 07FF04 07FF04+ 07FF05 07FF05+ 07FF06+ 07FF0C 07FF0E 07FF0E+'),
-            ('replays', REPLAYS, 5, '4000 40EE 40FF0D')):
-        test.says('every answer on ' + name, every, answers_met(scenes, 300 if scenes is REPLAYS else 1500))
+            ('replays', REPLAYS, 5, '4000 40EE 40FF0D'), ('images', IMAGES, 30, '1800 18EE 18FF0D 18FF11 1900 19EE 19FF11 19FF14')):
+        test.says('every answer on ' + name, every, answers_met(scenes, {REPLAYS: 300, IMAGES: 1000}.get(scenes, 1500)))
         test.fails('a short script on ' + name, 'NOT CAUGHT by inner: one: ' + every, Cases('inner').says, 'one', every,
                    answers_met(scenes, short))
     every = ('received: own | repaired: ahead | repaired: ahead over 65,535 | repaired: behind | repaired: behind over 65,535 | '
              'spare: ahead | spare: ahead over 65,535')
-    test.says('every note', every, notes_met(1500))
+    test.says('every note', every, notes_met(3000))
     test.fails('a short script on notes', 'NOT CAUGHT by inner: one: ' + every, Cases('inner').says, 'one', every, notes_met(60))
     script = Script('0', 2)
     script.calls.by_first_octet[0x07] = lambda arguments: Refusal(SPARE_BIT).octets()
     test.fails('two readers that differ', "b'050006' is read as b'00000300', by 07 as b'FF050000'", script.read, b'\x06', 0)
     test.fails('a refusal at another place', 'answered ff010003, and the items tell ff010002', placed.met,
                Refusal(ENDS, 3).octets(), Refusal(ENDS, 2))
+    script = Script('0', UNLIMITED)
+    script.calls.by_first_octet.update(dict.fromkeys((0x18, 0x19), lambda arguments: Refusal(RANGES).octets()))
+    test.fails('an image refused otherwise', 'answered ff110000, and the items tell ff140000', images.restore, script, b'', MISSHAPEN)
+    test.fails('an image refused', 'answered ff110000, and the items tell a session', images.restore, script, b'')
+    test.fails('another image written', 'answered ff110000, and the rows have ', images.image, script)
 
 
 def answers_met(scenes, count):

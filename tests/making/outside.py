@@ -36,11 +36,11 @@ def furnish(script):
 
 
 def try_all(script, chance_of_view=0.2):
-    """Offer, and next without leave to skip and with it, in any order."""
+    """Offer, next without leave to skip and with it, and an image with little room or none, in any order."""
     r = script.random
     number = (script.receiving.base + r.randrange(14)) % 65536
     tries = [lambda: script.offer(written_datagram(pieces.datagram(r, number, 0.97))), lambda: script.next(r.choice((160, 160, 0))),
-             lambda: script.give_up(r.choice((160, 0)))]
+             lambda: script.give_up(r.choice((160, 0))), lambda: script.image(r.choice((0, 0, 1100)))]
     if script.chance(0.1):
         tries.append(lambda: script.offer(pieces.damaged_datagram(r, number)))
     r.shuffle(tries)

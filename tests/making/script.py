@@ -6,6 +6,8 @@ from rules.arguments import shown, sized
 from rules.calls import Calls
 from rules.joining import FRAME_LIMIT
 
+UNLIMITED = 10 ** 9  # lines of a script
+
 
 class Full(Exception):
     """The script has all its lines."""
@@ -78,6 +80,14 @@ class Script:
     def overwrite(self, field, number=0, message=0, octet=0, value=0):
         """17."""
         return self.call(0x17, shown(field, 1), shown(number % 65536, 2), shown(message, 1), shown(octet, 2), shown(value, 4))
+
+    def image(self, cap=0):
+        """18."""
+        return self.call(0x18, shown(cap, 4))
+
+    def restore(self, text):
+        """19."""
+        return self.call(0x19, text)
 
     def overwrite_sending(self, field, number=0, octet=0, value=0):
         """23."""

@@ -5,6 +5,7 @@ import binascii
 from .answers import lent, packet_read, shown_counts, stored
 from .arguments import Arguments, NoCall, shown, sized
 from .datagrams import M_LIMIT, PARITY, SPARES, read_datagram, write_datagram
+from .images import read_image, write_image
 from .joining import Joiner
 from .lengths import read_length, write_length
 from .overwriting import overwrite_joiner, overwrite_receiving, overwrite_sending
@@ -29,9 +30,9 @@ class Calls:
             0x01: self.read_length, 0x02: self.write_length, 0x03: self.read_datagram, 0x04: self.write_datagram,
             0x05: self.read_packet, 0x06: self.write_packet, 0x07: self.read_by_bits, 0x10: self.fresh_receiving,
             0x11: self.offer, 0x12: self.next, 0x14: self.counts, 0x15: self.view, 0x16: self.many_given_up,
-            0x17: self.overwrite_receiving, 0x20: self.fresh_sending, 0x21: self.send, 0x22: self.many_sent,
-            0x23: self.overwrite_sending, 0x30: self.fresh_joiner, 0x31: self.field, 0x32: self.lost, 0x33: self.show_joiner,
-            0x34: self.overwrite_joiner, 0x40: self.replay}
+            0x17: self.overwrite_receiving, 0x18: self.write_image, 0x19: self.read_image, 0x20: self.fresh_sending, 0x21: self.send,
+            0x22: self.many_sent, 0x23: self.overwrite_sending, 0x30: self.fresh_joiner, 0x31: self.field, 0x32: self.lost,
+            0x33: self.show_joiner, 0x34: self.overwrite_joiner, 0x40: self.replay}
 
     def answer(self, line):
         """The answer to a line that is not empty, without its line feed."""
@@ -146,6 +147,16 @@ class Calls:
     def overwrite_receiving(self, arguments):
         """17."""
         overwrite_receiving(self.receiving, arguments)
+        return b'\x00'
+
+    def write_image(self, arguments):
+        """18."""
+        cap = arguments.last_cap(4)
+        return lent(cap, lambda: (b'', write_image(self.receiving, cap)), size_width=4)
+
+    def read_image(self, arguments):
+        """19: nothing is restored if it is refused."""
+        self.receiving = read_image(arguments.rest())
         return b'\x00'
 
     def fresh_sending(self, arguments):

@@ -17,6 +17,7 @@ SETTINGS = 15       # settings, given lengths, or a line's digits
 LIMIT = 16          # 1,000,000 numbers have passed
 RANGES = 17         # session or joiner outside its ranges
 FRAME = 18          # the frame would pass 300 octets
+MISSHAPEN = 20      # an image: a line missing, extra or misshapen
 
 
 class Refusal(Exception):

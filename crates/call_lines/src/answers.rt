@@ -4,18 +4,34 @@ use datagrams::Packet;
 use lengths::Refusal;
 use lengths::Written;
 
-// The octets that a lent buffer has at most, and what stands in it before the call.
+// The octets that a lent buffer has at most, of a line whose cap is of two octets, and of four; and what stands in it before the call.
 pub const CAP: usize = 2600;
+
+pub const LONGEST: usize = 120000;
 
 pub const FILLING: u8 = 0xA5;
 
-// Octets as they are, at most as many as a lent buffer has.
+// Octets as they are, at most so many.
 pub fn say_all(octets: &[u8]) {
     let mut text = [0u8; 2 * CAP];
     let size = octets.len();
     if size <= CAP {
         hexadecimal::put_octets(octets, &mut text, 0);
         io::write_all(1, part(&text, 0, 2 * size));
+    }
+}
+
+// A lent buffer, so many octets at a time.
+pub fn say_long(lent: &[u8]) {
+    let mut at = 0;
+    while at < lent.len() {
+        let left = lent.len() - at;
+        if left < CAP {
+            say_all(part(lent, at, left));
+            return;
+        }
+        say_all(part(lent, at, CAP));
+        at += CAP;
     }
 }
 
@@ -33,7 +49,7 @@ pub fn say(n: u32, width: usize) {
 // The call was done, and a number that it answered.
 pub fn say_done(n: usize, width: usize) {
     say(0, 1);
-    say((n % 65536) as u32, width);
+    say((n % 4294967296) as u32, width);
 }
 
 pub fn say_refused(why: Refusal) {
@@ -63,5 +79,5 @@ pub fn say_written(answer: Written, width: usize, lent: &[u8]) {
         Written::Octets(size) => say_done(size, width),
         Written::Refused(why) => say_refused(why),
     }
-    say_all(lent);
+    say_long(lent);
 }

@@ -6,9 +6,11 @@ mod items;
 
 pub use answers::CAP;
 pub use answers::FILLING;
+pub use answers::LONGEST;
 pub use answers::say;
 pub use answers::say_all;
 pub use answers::say_done;
+pub use answers::say_long;
 pub use answers::say_no_call;
 pub use answers::say_refused;
 pub use answers::say_sized;

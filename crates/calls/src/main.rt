@@ -1,5 +1,6 @@
-// The calls program: every call of document 01 on one line of hexadecimal, one answer a line, so that any other
+// The calls program: every public call on one line of hexadecimal, one answer a line, so that any other
 // program can be compared with it call by call. It holds one receiving and one sending session and one joiner, all fresh at the start.
+mod image;
 mod input;
 mod joiner;
 mod receiver;
@@ -39,7 +40,7 @@ const NONE: usize = KEPT;
 
 fn shape_of(call: u8) -> Shape {
     match call {
-        0x01 | 0x03 | 0x05 | 0x07 | 0x11 => Shape(ANY, 0),
+        0x01 | 0x03 | 0x05 | 0x07 | 0x11 | 0x19 => Shape(ANY, 0),
         0x02 => Shape(2, 2),
         0x04 | 0x06 | 0x21 | 0x31 => Shape(ANY, 2),
         0x40 => Shape(ANY, 4),
@@ -47,6 +48,7 @@ fn shape_of(call: u8) -> Shape {
         0x12 => Shape(1, 2),
         0x16 | 0x22 => Shape(4, 0),
         0x17 => Shape(10, 0),
+        0x18 => Shape(0, 4),
         0x23 => Shape(9, 0),
         0x34 => Shape(5, 0),
         _ => Shape(NONE, 0),
@@ -121,6 +123,11 @@ fn answered(held: Held, line: &[u8; KEPT], count: usize, all: &mut [u8]) -> Held
     if size != NONE {
         if call == 0x40 {
             replay::answer(part(octets, 1, size), cap);
+            return held;
+        }
+        if call == 0x18 {
+            let receiver = held.receiver;
+            image::write(receiver, cap);
             return held;
         }
         if cap <= all.len() {

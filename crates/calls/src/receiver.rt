@@ -1,4 +1,5 @@
-// Lines 10 to 17, on the receiving session.
+// Lines 10 to 17 and 19, on the receiving session.
+use crate::image::restored;
 use crate::session::base_of;
 use crate::session::gone_on;
 use crate::session::overwritten;
@@ -141,6 +142,7 @@ pub fn answer(session: Session, call: u8, s: &[u8], lent: &mut [u8]) -> Session 
             let mut at = 0;
             many(at_most(number(s, &mut at, 4)))
         }
+        0x19 => restored(session, s),
         _ => overwrite(session, s),
     }
 }

@@ -1,36 +1,19 @@
 // Line 40: a trace played again with chosen losses.
-use call_lines::CAP;
 use call_lines::FILLING;
+use call_lines::LONGEST;
 use call_lines::first;
 use call_lines::numbers;
 use call_lines::part;
 use call_lines::say;
-use call_lines::say_all;
+use call_lines::say_long;
 use call_lines::say_no_call;
 use call_lines::say_refused;
 use call_lines::sized;
 use held::Counts;
 use replays::Replayed;
 
-// The characters that its lent buffer has at most.
-const LONGEST: usize = 120000;
-
 // More numbers than a line can list.
 const NUMBERS: usize = 65536;
-
-// A lent buffer, as much at a time as one line of the others has.
-fn say_long(lent: &[u8]) {
-    let mut at = 0;
-    while at < lent.len() {
-        let left = lent.len() - at;
-        if left < CAP {
-            say_all(part(lent, at, left));
-            return;
-        }
-        say_all(part(lent, at, CAP));
-        at += CAP;
-    }
-}
 
 fn say_counts(counts: Counts) {
     say(counts.received, 4);

@@ -15,6 +15,7 @@ use Rattle.demands.proofs.Sheet.{twelve-cases, mended-example}
 use Rattle.demands.proofs.Program.{program-claims}
 use Rattle.demands.proofs.SecondReader.{second-reader}
 use Rattle.demands.proofs.OneCall.{one-call}
+use Rattle.demands.proofs.Handover as handover
 
 pub claims : Claims
 claims =
@@ -35,4 +36,5 @@ claims =
       secondReader = second-reader;
       replay = replays.claims;
       oneCall = one-call;
+      handover = handover.handover;
     }

@@ -57,7 +57,7 @@ over-refused : (w : Answer (List ℕ)) (old : List ℕ) (n : ℕ) → refusalIn 
 over-refused (done x) old n e = let z : _≡_ {A = ℕ} 0 1 = cc in absurd (omega arith)
 over-refused (refused why) old n e = refl
 
-puts-unchanged : (w : Answer (List ℕ)) → Unchanged w
+pub puts-unchanged : (w : Answer (List ℕ)) → Unchanged w
 puts-unchanged w old new r n p e = p .lent ∙ over-refused (fitted w old) old n (sym (puts-refusal p) ∙ e)
 
 writers : Writers

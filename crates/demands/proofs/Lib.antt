@@ -68,4 +68,6 @@ pub mod Burst
 pub mod Program
 pub mod SecondReader
 pub mod OneCall
+pub mod ImageCalls
+pub mod Handover
 pub mod Claims

@@ -5,6 +5,8 @@ use Rattle.lengths.specs.Answers.{Answer}
 use Rattle.lengths.specs.Length.{lengthToWrite}
 use Rattle.datagrams.specs.Write.{datagramToWrite}
 use Rattle.packets.specs.Write.{packetToWrite}
+use Rattle.images.specs.Layout.{editionWritten}
+use Rattle.images.specs.Image.{imageToWrite}
 use Rattle.lengths.proofs.Claims as lengths
 use Rattle.datagrams.proofs.Claims as datagrams
 use Rattle.packets.proofs.Claims as packets
@@ -17,6 +19,7 @@ use Rattle.replays.proofs.Claims as replays
 use Rattle.demands.specs.OneOutcome.{OneWrite, OneOutcome}
 use Rattle.demands.proofs.OneTold.{one-told}
 use Rattle.demands.proofs.OneInside.{one-inside}
+use Rattle.demands.proofs.ImageCalls.{read-one}
 
 one-write : (w : Answer (List ℕ)) → OneWrite w
 one-write w old new other r q a b = lengths.claims .oneOutcome .written a b
@@ -33,6 +36,7 @@ one-outcome =
             length = λ n. one-write (lengthToWrite n);
             datagram = λ number packet kind lengths run. one-write (datagramToWrite number packet kind lengths run);
             packet = λ kind value types lengths octets. one-write (packetToWrite kind value types lengths octets);
+            image = λ session. one-write (imageToWrite editionWritten session);
           };
       receiver = sessions.claims .oneOutcome;
       sender = sending.claims .oneOutcome;
@@ -40,6 +44,7 @@ one-outcome =
       joiner = frames.claims .oneOutcome;
       frameFeed = frameFeed.claims .oneOutcome;
       replay = replays.claims .oneOutcome;
+      imageReader = λ text r q. read-one (r .session) (q .session) (r .answer) (q .answer);
       told = one-told;
       inside = one-inside;
     }

@@ -1,6 +1,7 @@
 -- Where each call places its refusals: offer where the datagram reader does, all others but the readers at 0. Assumes nothing.
 use Prim.Native.Nat.{ℕ}
 use mathlib.Core.Path.{_≡_, refl, sym, ap, _∙_}
+use mathlib.Core.Logic.{⊎-elim}
 use mathlib.Core.Bool.{Bool, true, false, not, cond, _&&_}
 use mathlib.Core.List.{List}
 use lib.ListN.{length}
@@ -9,6 +10,7 @@ use Rattle.lengths.specs.Refusals.{repeated, tooFar, late, baseUnknown, noRoom,
 use Rattle.lengths.specs.Answers.{Answer, done, refused, refuse, _>>=_, fitted}
 use Rattle.lengths.specs.Tables.{placeIn}
 use Rattle.lengths.specs.Length.{lengthAt, lengthToWrite}
+use Rattle.lengths.specs.declared.Refusal.{Refusal}
 use Rattle.lengths.proofs.Laws.{AtFront, refuse-front, done-front, cond-front, length-front}
 use Rattle.lengths.proofs.Laws.{unless-front, fitted-front, front-place, mapped-place, puts-place}
 use Rattle.datagrams.specs.Carried.{Carried}
@@ -22,7 +24,7 @@ use Rattle.views.specs.View.{View, sum, distance, sessionLimit}
 use Rattle.views.specs.Offer as offers
 use Rattle.views.specs.Offer.{lateFrom, acceptedAt, offered}
 use Rattle.views.specs.Release.{atBase, release}
-use Rattle.held.specs.Table.{viewOf}
+use Rattle.held.specs.Table.{lentBy, viewOf}
 use Rattle.held.specs.Laid.{sessionInRanges}
 use Rattle.held.specs.declared.Session.{Session}
 use Rattle.sessions.specs.Receiver.{offerOf, releaseOf}
@@ -32,6 +34,9 @@ use Rattle.sending.specs.declared.Settings.{Settings}
 use Rattle.lines.specs.Hex.{lineOctets}
 use Rattle.frames.specs.Promise.{fieldAnswer, lossAnswer}
 use Rattle.frames.specs.declared.Joiner.{Joiner}
+use Rattle.images.specs.Layout.{edition01}
+use Rattle.images.specs.Image.{readImage, imageToWrite}
+use Rattle.images.proofs.Claims as images
 use Rattle.demands.specs.Demand1.{Places}
 
 -- ---- offer
@@ -100,6 +105,19 @@ loss-front : (j : Joiner) → AtFront (lossAnswer j)
 unfolding lossAnswer
 loss-front j = unless-front _ _
 
+-- ---- images
+image-writer : (s : Session) → AtFront (imageToWrite edition01 (lentBy s))
+unfolding imageToWrite
+image-writer s = unless-front _ _
+
+image-place : (text : List ℕ) → placeIn (readImage edition01 text) ≡ 0
+image-place text = by (readImage edition01 text) refl where
+  by : (a : Answer View) → readImage edition01 text ≡ a → placeIn a ≡ 0
+  by (done view) e = refl
+  by (refused why) e =
+      ⊎-elim (λ same. ap (λ (r : Refusal). r .place) same) (λ same. ap (λ (r : Refusal). r .place) same)
+      (images.claims .reads .only edition01 text why e)
+
 -- ---- the calls
 pub places : Places
 places =
@@ -121,4 +139,6 @@ places =
           ap placeIn (p .answer) ∙ mapped-place _ (fieldAnswer (length old) type octets j)
           ∙ front-place _ (field-front (length old) type octets j);
       joinerLost = λ {j} p. ap placeIn (p .answer) ∙ mapped-place _ (lossAnswer j) ∙ front-place _ (loss-front j);
+      imageWriter = λ s old new r p. puts-place (image-writer s) p;
+      imageReader = λ {text} p. ap placeIn (p .answer) ∙ image-place text;
     }

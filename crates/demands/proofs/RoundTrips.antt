@@ -54,11 +54,11 @@ fitted-done (done s) old octets e = cond-met (leb (length s) (length old)) noRoo
 fitted-done (refused why) old octets e = e
 
 -- what has room fits
-done-fitted : (s old : List ℕ) → length s ≤ length old → fitted (done s) old ≡ done s
+pub done-fitted : (s old : List ℕ) → length s ≤ length old → fitted (done s) old ≡ done s
 done-fitted s old room = rw (le-leb (length s) (length old) room)
 
 -- a write that answered n octets left what was to be written
-puts-octets : {w : Answer (List ℕ)} {old new : List ℕ} {r : Written} {n : ℕ} → Puts w old new r → r ≡ written.Octets n
+pub puts-octets : {w : Answer (List ℕ)} {old new : List ℕ} {r : Written} {n : ℕ} → Puts w old new r → r ≡ written.Octets n
     → (w ≡ done (take n new)) × (n ≡ length (take n new))
 puts-octets {w} {old} {new} {r} {n} puts e =
     let told : done n ≡ sizeOf (fitted w old) = rw e at (puts .answer) in
@@ -72,7 +72,7 @@ octets-told (written.Octets k) n e = cc
 octets-told (written.Refused why) n e = let z : _≡_ {A = ℕ} 0 1 = cc in absurd (omega arith)
 
 -- a write of octets that have room leaves them at the front
-puts-back : {w : Answer (List ℕ)} {s old new : List ℕ} {r : Written} {n : ℕ} → Puts w old new r → w ≡ done s → n ≡ length s
+pub puts-back : {w : Answer (List ℕ)} {s old new : List ℕ} {r : Written} {n : ℕ} → Puts w old new r → w ≡ done s → n ≡ length s
     → n ≤ length old → WrittenBack n s old new r
 puts-back {w} {s} {old} {new} {r} {n} puts is long room =
     let fits : fitted w old ≡ done s = rw is (done-fitted s old (omega arith)) in

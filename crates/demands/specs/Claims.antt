@@ -14,6 +14,7 @@ use Rattle.demands.specs.Sheet.{TwelveCases, MendedExample}
 use Rattle.demands.specs.Program.{Program}
 use Rattle.demands.specs.SecondReader.{SecondReader}
 use Rattle.demands.specs.OneCall.{OneCall}
+use Rattle.demands.specs.Handover.{Handover}
 
 pub record Claims : Type 0 where
   pub demand1 : Demand1
@@ -41,3 +42,5 @@ pub record Claims : Type 0 where
   pub replay : replays.Claims
   -- document 02, request 7: one call in place of next and give up
   pub oneCall : OneCall
+  -- document 02, request 9: a session written as an image and read back, and what then holds of demands 2 and 3
+  pub handover : Handover

@@ -5,7 +5,8 @@
 -- beside it (`offerUnchanged`, `releaseUnchanged`, ..) says what a refusal leaves. Readers change nothing. The refusals
 -- of the datagram and the packet reader are those of their definitions, met in reading order; apart from that order is told what
 -- they do not refuse (`isDatagram`, `isPacket`, `isRepaired`) and what they do (`datagramRefusals`, `packetRefusals`). The place that
--- document 02, request 5, adds to a refusal stands there too, and for the other calls in `places`. Statements alone.
+-- document 02, request 5, adds to a refusal stands there too, and for the other calls in `places`. What the calls on images refuse
+-- stands in Handover. Statements alone.
 use Prim.Native.Nat.{ℕ, _≤_}
 use mathlib.Core.Path.{_≡_}
 use mathlib.Core.Logic.{_↔_}
@@ -35,6 +36,7 @@ use Rattle.packets.specs.declared.types.Ending.the-variants.{Whole, Repaired}
 use Rattle.packets.specs.declared.types.PacketRead.{PacketRead}
 use Rattle.leaving.specs.Outcome.{releasedOutcome}
 use Rattle.offering.specs.Outcome.{offeredOutcome}
+use Rattle.held.specs.Table.{lentBy}
 use Rattle.held.specs.Laid.{sessionInRanges}
 use Rattle.held.specs.declared.Session.{Session}
 use Rattle.sessions.specs.Receiver.{OfferOwes, ReleaseOwes}
@@ -50,6 +52,10 @@ use Rattle.frames.specs.Promise.{handedOutcome, FieldOwes, LossOwes}
 use Rattle.frames.specs.declared.Joiner.{Joiner}
 use Rattle.frames.specs.declared.Joined.{Joined}
 use Rattle.lines.specs.Hex.{octetsIn, lineRows, lineOctets}
+use Rattle.images.specs.Layout.{edition01}
+use Rattle.images.specs.Image.{imageToWrite}
+use Rattle.images.specs.Promise.{ImageRead, restoredOutcome}
+use Rattle.images.specs.declared.Restored.{Restored}
 use Rattle.demands.specs.Refusals.{lengthRows, offerRows, releaseRows}
 use Rattle.demands.specs.PacketRefusals.{PacketRefusals}
 use Rattle.demands.specs.DatagramRefusals.{DatagramRefusals}
@@ -164,6 +170,9 @@ pub record Places : Type 0 where
   pub joinerField : {j : Joiner} {type : ℕ} {octets old new : List ℕ} {r : Joined} → FieldOwes j type octets old new r
       → placeIn (handedOutcome (r .answer)) ≡ 0
   pub joinerLost : {j : Joiner} {r : Joined} → LossOwes j r → placeIn (handedOutcome (r .answer)) ≡ 0
+  -- an image is no datagram and no packet
+  pub imageWriter : (s : Session) → Unplaced (imageToWrite edition01 (lentBy s))
+  pub imageReader : {text : List ℕ} {r : Restored} → ImageRead text r → placeIn (restoredOutcome r) ≡ 0
 
 pub record Demand1 : Type 0 where
   pub readers : Readers

@@ -26,4 +26,5 @@ pub mod Burst
 pub mod Program
 pub mod SecondReader
 pub mod OneCall
+pub mod Handover
 pub mod Claims

@@ -13,6 +13,10 @@ use Rattle.packets.specs.Write.{packetToWrite}
 use Rattle.packets.specs.Promise.{PacketTold}
 use Rattle.packets.specs.declared.types.Kind as packetKinds
 use Rattle.packets.specs.declared.types.Ending.{Ending}
+use Rattle.held.specs.Table.{Lent}
+use Rattle.images.specs.Layout.{editionWritten}
+use Rattle.images.specs.Image.{imageToWrite}
+use Rattle.images.specs.Promise.{ImageRead}
 use Rattle.lengths.specs.Claims as lengths
 use Rattle.datagrams.specs.Claims as datagrams
 use Rattle.packets.specs.Claims as packets
@@ -29,19 +33,21 @@ use Rattle.demands.specs.OneInside.{OneInside}
 abbrev pub OneWrite : Answer (List ℕ) → Type 0
 OneWrite w = (old new other : List ℕ) (r q : Written) → Puts w old new r → Puts w old other q → (r ≡ q) × (new ≡ other)
 
--- `write` of `lengths`, `datagram_writer` and `packet_writer`
+-- `write` of `lengths`, `datagram_writer`, `packet_writer` and `image_writer`
 pub record Writers : Type 0 where
   pub length : (n : ℕ) → OneWrite (lengthToWrite n)
   pub datagram : (number : ℕ) (packet : List ℕ) (kind : Kind) (lengths run : List ℕ)
       → OneWrite (datagramToWrite number packet kind lengths run)
   pub packet : (kind : packetKinds.Kind) (value : ℕ) (types lengths octets : List ℕ)
       → OneWrite (packetToWrite kind value types lengths octets)
+  -- `write` of `image_writer`, and its `write_core`, of a session that is lent
+  pub image : (session : Lent) → OneWrite (imageToWrite editionWritten session)
 
 -- all public calls of the library: `read`, `read_within` and `write` of `lengths`, `read` and `write` of `datagram_reader` and
 -- `datagram_writer`, of `packet_reader` and `packet_writer`, `read` of `pencil_reader`; `Session::fresh`, `offer` and `release`;
 -- `Sender::fresh`, `in_ranges` and `send`; the program's `hex_to_octets`, `step`, `take_block` and `finish`; `Joiner::fresh`, `field` and
--- `lost` of `frame_joiner`, `turns` and `feed` of `frame_feed`; `replay` of `replaying`; those that only tell; and those that serve
--- callers inside this repository
+-- `lost` of `frame_joiner`, `turns` and `feed` of `frame_feed`; `replay` of `replaying`; `write` of `image_writer` and
+-- `read` of `image_reader`; those that only tell; and those that serve callers inside this repository
 pub record OneOutcome : Type 0 where
   pub lengths : lengths.OneOutcome
   pub datagrams : datagrams.OneOutcome
@@ -54,5 +60,6 @@ pub record OneOutcome : Type 0 where
   pub joiner : frames.OneOutcome
   pub frameFeed : frameFeed.OneOutcome
   pub replay : replays.OneOutcome
+  pub imageReader : (text : List ℕ) → One (ImageRead text)
   pub told : OneTold
   pub inside : OneInside

@@ -24,6 +24,10 @@ pub record Edition : Type 0 where
 abbrev pub edition01 : Edition
 edition01 = record { octet = 0x01; limit = packetLimit }
 
+-- the edition that is written
+abbrev pub editionWritten : Edition
+editionWritten = edition01
+
 -- ---- the first line
 pub record First : Type 0 where
   pub base : ℕ

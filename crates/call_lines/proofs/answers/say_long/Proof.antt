@@ -1,9 +1,9 @@
--- `calls::replay::say_long` is safe and ends. What is left of the buffer is the measure. Assumes nothing.
+-- `call_lines::answers::say_long` is safe and ends. What is left of the buffer is the measure. Assumes nothing.
 use Prim.Native.Nat.{_-_, _≤_}
 use lib.ListN.{length}
 use borrow.Author.Needs.{needs}
-use Rattle.calls.proofs.replay.say_long.Statement.{statement}
-use Rattle.calls.proofs.replay.say_long.Tie as tie
+use Rattle.call_lines.proofs.answers.say_long.Statement.{statement}
+use Rattle.call_lines.proofs.answers.say_long.Tie as tie
 
 abbrev Inv-loop : tie.InvT-loop
 Inv-loop lent at₀ at = at ≤ length lent

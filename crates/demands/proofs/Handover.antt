@@ -1,0 +1,114 @@
+-- A session that is handed over: what was read is the very session that was written, so that whatever held of the one holds of the other.
+-- Assumes nothing.
+use Prim.Native.Nat.{ℕ}
+use mathlib.Core.Path.{_≡_, refl, sym, ap, subst, _∙_}
+use mathlib.Core.List.{List, _++_, append-assoc, append-nil}
+use Rattle.lengths.specs.Answers.{done}
+use Rattle.lengths.proofs.Laws.{done-same}
+use Rattle.views.specs.View.{View}
+use Rattle.held.specs.Table.{lentBy, viewOf}
+use Rattle.held.specs.Laid.{InRanges}
+use Rattle.held.specs.Promise.{Fresh}
+use Rattle.held.specs.declared.Session.{Session}
+use Rattle.held.proofs.Laws.{session-in-ranges, in-ranges-true}
+use Rattle.sending.specs.Honest.{HonestSender}
+use Rattle.images.specs.Layout.{edition01}
+use Rattle.images.specs.Image.{readImage, LentOctets}
+use Rattle.images.proofs.Claims as images
+use Rattle.demands.specs.History.{Left}
+use Rattle.demands.specs.Calls.{Calls, start, _then_, Called, atStart, offered, released, leftIn, leftBy}
+use Rattle.demands.specs.Demand2.{Saved, Begins, fresh, saved, FreshLeaves, SavedLeaves}
+use Rattle.demands.specs.Feeding.{Fed}
+use Rattle.demands.specs.GoesOn.{GoesOn}
+use Rattle.demands.specs.Handover.{Wrote, ReadAs, followedBy, GoesOnFrom, StartsAt, Handover}
+use Rattle.demands.proofs.Calling.{begins-seen, called-went}
+use Rattle.demands.proofs.RoundTrips.{puts-back}
+use Rattle.demands.proofs.Demand2.{demand-2}
+use Rattle.demands.proofs.Demand3.{demand-3}
+use Rattle.demands.proofs.ImageCalls.{wrote-image, to-write, read-same, reads-back, every-one, refuses}
+
+-- ---- demand 2 goes on
+-- some calls and then others are one chain, and so is what left by them
+chain-on : {first t u : Session} {before after : Calls} → Called first before t → Called t after u → Called first (followedBy before after) u
+unfolding followedBy
+chain-on c atStart = c
+chain-on c (offered rest owes) = offered (chain-on c rest) owes
+chain-on c (released rest owes) = released (chain-on c rest) owes
+
+left-on : (before after : Calls) → leftBy (followedBy before after) ≡ leftBy before ++ leftBy after
+unfolding followedBy leftBy
+left-on before start = sym (append-nil (leftBy before))
+left-on before (after then call) =
+    ap (λ (l : List Left). l ++ leftIn call) (left-on before after) ∙ append-assoc (leftBy before) (leftBy after) (leftIn call)
+
+called-within : {first s : Session} {calls : Calls} → Begins first → Called first calls s → InRanges (lentBy s)
+called-within {first} begins called = called-went (begins-seen first begins) called .seen .within
+
+one-history : {first s t u : Session} {before after : Calls} {text : List ℕ} → Begins first → Called first before s → LentOctets (lentBy s)
+    → Wrote s text → ReadAs text t → Called t after u
+    → Called first (followedBy before after) u
+one-history {u = u} {after = after} begins called small w read more =
+    let same = read-same (called-within begins called) small w read in
+    chain-on called (subst (λ (x : Session). Called x after u) same more)
+
+-- a restored session is a saved one, and holds what its text reads as
+read-saved : {text : List ℕ} {t : Session} → ReadAs text t → Saved t
+read-saved read =
+    let laid = read .state .laid in
+    record {
+      sized = record { table = laid .long; octets = laid .octets; messages = laid .messages };
+      inRanges = in-ranges-true (read .state);
+    }
+
+rewinds : {text : List ℕ} {image : View} {t : Session} → readImage edition01 text ≡ done image → ReadAs text t → GoesOnFrom image t
+rewinds {text} {image} {t} e read =
+    let holds : viewOf t ≡ image = done-same (read .answer ∙ e) in
+    let is = read-saved read in
+    record {
+      saved = is;
+      holds = holds;
+      goesOn = λ {u} {calls} called.
+          subst (λ (view : View). GoesOn view calls (viewOf u)) holds (demand-2 .goesOn (saved is) called);
+      leaves = λ {u} {calls} called.
+          subst (λ (view : View). SavedLeaves view (leftBy calls) (viewOf u)) holds (demand-2 .savedLeaves is called);
+      keeps = λ called more. demand-2 .keeps (saved is) called more;
+      never17 = λ called. demand-2 .never17 (saved is) called;
+    }
+
+-- ---- demand 3 starts there
+starts-at : (row datagrams : List (List ℕ)) → HonestSender row datagrams → {s t : Session} {text : List ℕ} → Fed row datagrams s
+    → LentOctets (lentBy s) → Wrote s text → ReadAs text t
+    → StartsAt row datagrams t
+starts-at row datagrams honest {s} {t} f small w read =
+    let came = demand-3 .fedCalls row datagrams s f .1 in
+    let same = read-same (called-within (fresh (came .fresh)) (came .called)) small w read in
+    let fed : Fed row datagrams t = subst (Fed row datagrams) (sym same) f in
+    record {
+      fed = fed;
+      noLessKnown = demand-3 .noLessKnown row datagrams honest t fed;
+      knownRight = demand-3 .knownRight row datagrams honest t fed;
+      burstBack = demand-3 .burstBack row datagrams honest t fed;
+    }
+
+pub handover : Handover
+handover =
+    record {
+      readsBack = λ {s} {text} {r} sized small w read.
+          reads-back (session-in-ranges s (wrote-image w .ranges) sized) small w (r .session) (r .answer) read;
+      everyOne = every-one;
+      oneWritten = λ w v. wrote-image w .is ∙ sym (wrote-image v .is);
+      writesBack = λ {t} {text} small read put room.
+          puts-back put
+          (to-write (read .state) ∙ ap done (images.claims .oneImage .written edition01 text (viewOf t) small (sym (read .answer))))
+          refl
+          room;
+      oneRead = λ {t} {text} {other} small few read again.
+          images.claims .oneImage .one edition01 text other (viewOf t) small few (sym (read .answer)) (sym (again .answer));
+      rewinds = rewinds;
+      oneHistory = one-history;
+      onceEach = λ {u = u} {before} {after} f called small w read more.
+          subst (λ (l : List Left). FreshLeaves l (viewOf u)) (left-on before after)
+          (demand-2 .leaves f (one-history (fresh f) called small w read more));
+      demand3 = λ row datagrams honest f small w read. starts-at row datagrams honest f small w read;
+      refuses = refuses;
+    }

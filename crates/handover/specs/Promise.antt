@@ -1,0 +1,27 @@
+-- What the program owes beside being safe and ending: which session it begins with, and of which session it leaves an image. Definitions
+-- only.
+use Prim.Native.Nat.{ℕ}
+use mathlib.Core.Path.{_≡_}
+use mathlib.Core.Bool.{true}
+use mathlib.Core.List.{List}
+use Rattle.lengths.specs.Answers.{done}
+use Rattle.lengths.specs.Promise.{Puts}
+use Rattle.views.specs.View.{View}
+use Rattle.held.specs.Table.{Lent, lentBy, viewOf}
+use Rattle.held.specs.Laid.{InRanges}
+use Rattle.images.specs.Layout.{edition01, editionWritten}
+use Rattle.images.specs.Image.{readImage, imageToWrite}
+use Rattle.serving.specs.Promise.{Serves}
+use Rattle.handover.specs.declared.loading.Begun.{Begun}
+use Rattle.handover.specs.declared.playing.Played.{Played}
+
+-- if all is well the text is an image, of this session; it may be served in any case
+pub record Begins (text : List ℕ) (r : Begun) : Type 0 where
+  pub state : r .well ≡ true → readImage edition01 text ≡ done (viewOf (r .session))
+  pub within : InRanges (lentBy (r .session))
+
+-- the run from a session on, and the image of the very session that it ends with
+pub record Plays (first : View) (old new : List ℕ) (r : Played) : Type 0 where
+  pub last : Lent
+  pub serves : Serves first last (r .taken) (r .handed) (r .whole)
+  pub image : Puts (imageToWrite editionWritten last) old new (r .image)

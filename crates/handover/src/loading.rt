@@ -1,0 +1,80 @@
+// The session to begin with: a fresh one, or that of an image.
+use crate::arguments::NONE;
+use crate::telling::say_failed;
+use crate::telling::say_long;
+use crate::telling::say_refused;
+use held::Session;
+use images::Image;
+use images::Restore;
+use libc::PATH_MAX;
+ghost use Rattle.held.specs.Table.{lentBy};
+ghost use Rattle.held.specs.Laid.{InRanges};
+ghost use Rattle.handover.specs.Promise.{Begins};
+
+// What is read of a file: one character more than an image has, by which a text that is too long is known.
+const TEXT: usize = Image::LIMIT + 1;
+
+// The session, and whether nothing went wrong.
+pub struct Begun {
+    pub session: Session,
+    pub well: bool,
+}
+
+fn fresh(well: bool) -> Begun
+    ensures { λ r. ⌜ InRanges (lentBy (r .session)) ⌝ }
+{
+    let session = Session::fresh();
+    Begun { session, well }
+}
+
+// The session that a text is an image of; a fresh one where it is none.
+fn restored(path: &[u8], text: &[u8]) -> Begun
+    ensures { λ r. ⌜ Begins (now (text .entry)) r ⌝ }
+{
+    let found = image_reader::read(text);
+    let session = found.session;
+    let answer = found.answer;
+    match answer {
+        Restore::Done => Begun {
+            session,
+            well: true,
+        },
+        Restore::Refused(why) => {
+            say_refused(path, why);
+            Begun {
+                session,
+                well: false,
+            }
+        }
+    }
+}
+
+// .. in a file, with room for its text.
+fn load(path: &[u8], text: &mut [u8]) -> Begun
+    ensures { λ r. ⌜ InRanges (lentBy (r .session)) ⌝ }
+{
+    let file = os::open_read(path);
+    if file < 0 {
+        say_failed(path, b"cannot be opened");
+        return fresh(false);
+    }
+    let size = io::read_full(file, text);
+    libc::close(file);
+    restored(path, &text[..size])
+}
+
+pub fn begin(at: usize) -> Begun
+    ensures { λ r. ⌜ InRanges (lentBy (r .session)) ⌝ }
+{
+    if at == NONE {
+        return fresh(true);
+    }
+    let mut path = [0u8; PATH_MAX];
+    let mut text = [0u8; TEXT];
+    let size = os::arg(at, &mut path);
+    if os::errno() != 0 {
+        say_long();
+        return fresh(false);
+    }
+    load(&path[..size], &mut text)
+}

@@ -1,0 +1,42 @@
+// The program from a session on, and the image of the session at its end.
+use held::Session;
+use lengths::Written;
+ghost use Rattle.held.specs.Table.{lentBy, viewOf};
+ghost use Rattle.held.specs.Laid.{InRanges};
+ghost use Rattle.handover.specs.Promise.{Plays};
+
+// How many octets were read and how many handed over, whether the end was reached with all written, and what writing the image answers.
+pub struct Played {
+    pub taken: usize,
+    pub handed: usize,
+    pub whole: bool,
+    pub image: Written,
+}
+
+pub fn play(session: Session, out: &mut [u8]) -> Played
+    requires { ⌜ InRanges (lentBy session) ⌝ }
+    ensures { λ r. ⌜ Plays (viewOf session) (now (out .entry)) (now (out .exit)) r ⌝ }
+{
+    let base = session.base;
+    let counts = session.counts;
+    let mut table = session.table;
+    let mut octets = session.octets;
+    let mut messages = session.messages;
+    let served = serving::serve(base, counts, &mut table, &mut octets, &mut messages);
+    let last_base = served.base;
+    let last_counts = served.counts;
+    let last = Session {
+        base: last_base,
+        counts: last_counts,
+        table,
+        octets,
+        messages,
+    };
+    let image = image_writer::write(last, out);
+    Played {
+        taken: served.taken,
+        handed: served.handed,
+        whole: served.whole,
+        image,
+    }
+}

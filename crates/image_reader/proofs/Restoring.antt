@@ -1,0 +1,106 @@
+-- One law for each answer of `read`: 20 where the text is no image, then 17 where the session that it is an image of is outside its ranges.
+-- Assumes nothing.
+use Prim.Native.Nat.{ℕ}
+use mathlib.Core.Path.{_≡_, sym, ap, _∙_}
+use mathlib.Core.Logic.{⊎-elim}
+use mathlib.Core.Bool.{Bool, true, false, cond}
+use mathlib.Core.List.{List}
+use lib.ListN.{getD, replicate, length-replicate, getD-replicate, List·getD-eq-default}
+use Rattle.octets.proofs.Laws.{true-or-false, below-or-not}
+use Rattle.lengths.specs.Refusals.{outsideRanges, badImage}
+use Rattle.lengths.specs.Answers.{done, refuse}
+use Rattle.datagrams.specs.Sizes.{packetLimit}
+use Rattle.views.specs.Ranges.{inRanges}
+use Rattle.views.proofs.Laws.{sound-of, inRanges-of}
+use Rattle.held.specs.Slots.{keptOctets, messageOctets}
+use Rattle.held.specs.Table.{Lent, lent, viewIn, places}
+use Rattle.held.specs.Laid.{lentInRanges, Laid, InRanges}
+use Rattle.held.proofs.Laws.{length-cells, length-held, in-ranges-of, in-ranges-true}
+use Rattle.images.specs.Layout.{edition01}
+use Rattle.images.specs.Image.{inRangesOnly, readImage}
+use Rattle.images.specs.Promise.{ImageRead}
+use Rattle.images.specs.declared.Restore.the-variants as restore
+use Rattle.images.specs.declared.Restored.{Restored}
+use Rattle.images.proofs.Laws.{read-lines}
+use Rattle.image_reader.specs.Whole.{Cleared, CoreTold, NothingRestored}
+use Rattle.image_reader.specs.declared.whole.First.{First}
+use Rattle.image_reader.proofs.NumberSteps.{contrary}
+
+-- ---- zeros
+zero-at : (n k : ℕ) → _≡_ {A = ℕ} (getD (replicate n 0) k 0) 0
+zero-at n k =
+    ⊎-elim (λ below. getD-replicate n k 0 0 below)
+    (λ past. List·getD-eq-default (replicate n 0) 0 (rw (length-replicate {A = ℕ} n 0) past))
+    (below-or-not k n)
+
+pub cleared-zeros : Cleared (replicate places 0) (replicate keptOctets 0) (replicate messageOctets 0)
+cleared-zeros =
+    record {
+      sized =
+          record {
+            table = length-replicate {A = ℕ} places 0;
+            octets = length-replicate {A = ℕ} keptOctets 0;
+            messages = length-replicate {A = ℕ} messageOctets 0;
+          };
+      table = λ k. zero-at places k;
+      octets = λ k. zero-at keptOctets k;
+      messages = λ k. zero-at messageOctets k;
+    }
+
+-- ---- what is laid is within the ranges exactly if document 01 sees it so
+ranges-of : (l : Lent) → Laid (l .table) (l .octets) (l .messages) → inRanges (viewIn l) ≡ true → InRanges l
+unfolding viewIn
+ranges-of l laid e =
+    record {
+      laid = laid;
+      sound = sound-of (viewIn l) e (length-cells (l .base) (l .table) (l .octets)) (length-held (l .base) (l .table) (l .messages));
+    }
+
+seen-in : (l : Lent) → Laid (l .table) (l .octets) (l .messages) → lentInRanges l ≡ inRanges (viewIn l)
+seen-in l laid =
+    ⊎-elim (λ sees. in-ranges-true (ranges-of l laid sees) ∙ sym sees)
+    (λ out.
+    ⊎-elim
+    (λ passes.
+    contrary (inRanges-of (in-ranges-of l passes (laid .long) (laid .octets) (laid .messages) .sound)) out)
+    (λ fails. fails ∙ sym out)
+    (true-or-false (lentInRanges l)))
+    (true-or-false (inRanges (viewIn l)))
+
+-- ---- the answers
+refused-read : {text : List ℕ} {number : ℕ} {r : Restored} → NothingRestored number r → readImage edition01 text ≡ refuse number
+    → ImageRead text r
+refused-read {text} {number} {r} made e =
+    record { answer = rw (made .answer) (sym e); state = rw (made .answer) (made .state) }
+
+module _ {text t o g : List ℕ} {found : First} (core : CoreTold 1 packetLimit text t o g found) where
+  pub read-misshapen : {r : Restored} → found .read ≡ false → NothingRestored badImage r → ImageRead text r
+  unfolding readImage
+  read-misshapen so made = refused-read made (rw (core .none so))
+
+  module _ (so : found .read ≡ true) {ok : Bool} (told : ok ≡ lentInRanges (lent (found .base) (found .counts) t o g)) where
+    reads : readImage edition01 text ≡ inRangesOnly (viewIn (lent (found .base) (found .counts) t o g))
+    reads = read-lines edition01 text (viewIn (lent (found .base) (found .counts) t o g)) (core .right so)
+
+    seen : ok ≡ inRanges (viewIn (lent (found .base) (found .counts) t o g))
+    seen = told ∙ seen-in (lent (found .base) (found .counts) t o g) (core .laid so)
+
+    answers : (b : Bool) → ok ≡ b → readImage edition01 text
+        ≡ cond b (done (viewIn (lent (found .base) (found .counts) t o g))) (refuse outsideRanges)
+    answers b is =
+        reads ∙ ap (λ (x : Bool). cond x (done (viewIn (lent (found .base) (found .counts) t o g))) (refuse outsideRanges)) (sym seen ∙ is)
+
+    pub read-outside : {r : Restored} → ok ≡ false → NothingRestored outsideRanges r → ImageRead text r
+    read-outside out made = refused-read made (answers false out)
+
+    pub read-restored : ok ≡ true → ImageRead text
+        (record {
+          session = record { base = found .base; counts = found .counts; table = t; octets = o; messages = g };
+          answer = restore.Done;
+        })
+    read-restored passes =
+        let laid = core .laid so in
+        record {
+          answer = sym (answers true passes);
+          state = in-ranges-of (lent (found .base) (found .counts) t o g) (sym told ∙ passes) (laid .long) (laid .octets) (laid .messages);
+        }

@@ -1,0 +1,110 @@
+-- How the numbers that were read stand in a session's table and stores, slot by slot: those that are not read yet are unknown and hold
+-- nothing. And what the functions owe that lay them there. Definitions only.
+use Prim.Native.Nat.{ℕ, _+_, _≤_, _<_}
+use mathlib.Core.Path.{_≡_}
+use mathlib.Core.Bool.{Bool, true}
+use mathlib.Core.List.{List, [], _∷_, _++_, map}
+use lib.ListN.{length, getD, set, take}
+use Rattle.datagrams.specs.Sizes.{packetLimit, messageLeast, messageLimit, messagesLimit}
+use Rattle.datagrams.specs.Read.{octetsOf}
+use Rattle.datagrams.specs.Promise.{nowhere}
+use Rattle.datagrams.specs.Claims.{PartInside}
+use Rattle.datagrams.specs.declared.reader.Part.{Part}
+use Rattle.formats.specs.Format.{flagBit}
+use Rattle.stores.specs.Store.{part, pasted, zerosPast}
+use Rattle.views.specs.Cells.{Cell, unknownCell, keptBefore, keptAhead, keptNumbers}
+use Rattle.views.specs.Held.{Held, nothingHeld}
+use Rattle.held.specs.Slots.{slotsHeard, keptOctets, messageOctets, slotAt, heardSlotAt, messageSlot}
+use Rattle.held.specs.Table.{places, lastState, stateNumbered, messagePlace, stateIn, sizeIn, noteIn, markIn, nIn, mIn, messageSizeIn}
+use Rattle.held.specs.Table.{keptSet}
+use Rattle.images.specs.Layout as layout
+use Rattle.images.specs.Layout.{fromBase}
+use Rattle.image_reader.specs.Number.{numberBy, partsOf, NumberIs}
+use Rattle.image_reader.specs.declared.number.Number.{Number}
+
+-- ---- slots
+-- slot i of kept numbers holds this one
+pub record KeptIs (t o : List ℕ) (i : ℕ) (c : Cell) : Type 0 where
+  pub last : stateIn t i ≤ lastState
+  pub state : stateNumbered (stateIn t i) ≡ c .state
+  pub size : sizeIn t i ≡ length (c .octets)
+  pub note : noteIn t i ≡ c .note
+  pub fits : length (c .octets) ≤ packetLimit
+  pub octets : part o i (length (c .octets)) ≡ c .octets
+  pub past : zerosPast o i (length (c .octets)) ≡ true
+
+-- message slot k holds this message
+pub record MessageIs (t g : List ℕ) (k : ℕ) (message : List ℕ) : Type 0 where
+  pub size : messageSizeIn t k ≡ length message
+  pub fits : length message ≤ packetLimit
+  pub octets : part g k (length message) ≡ message
+  pub past : zerosPast g k (length message) ≡ true
+
+-- the message slots of slot j of numbers from the base on hold these messages, and those past them are empty
+abbrev pub MessagesAre : List ℕ → List ℕ → ℕ → List (List ℕ) → Type 0
+MessagesAre t g j messages = (i : ℕ) → i < messagesLimit → MessageIs t g (messageSlot j i) (getD messages i [])
+
+-- slot j holds this
+pub record HeldIs (t g : List ℕ) (j : ℕ) (h : Held) : Type 0 where
+  pub mark : markIn t j ≡ flagBit (h .accepted)
+  pub n : nIn t j ≡ h .n
+  pub m : mIn t j ≡ length (h .messages)
+  pub few : length (h .messages) ≤ messagesLimit
+  pub messages : MessagesAre t g j (h .messages)
+
+-- ---- a session with that base, of which so many numbers are read, from 32 before the base upward
+abbrev pub notYet : layout.Number
+notYet = record { cell = unknownCell; held = nothingHeld }
+
+-- the lengths of table and stores
+pub record Lengths (t o g : List ℕ) : Type 0 where
+  pub table : length t ≡ places
+  pub octets : length o ≡ keptOctets
+  pub messages : length g ≡ messageOctets
+
+pub record Filled (base : ℕ) (rows : List layout.Number) (t o g : List ℕ) : Type 0 where
+  pub sized : Lengths t o g
+  pub kept : (p : ℕ) → p < keptNumbers → KeptIs t o (slotAt base p) ((getD rows p notYet) .cell)
+  pub held : (d : ℕ) → d < keptAhead → HeldIs t g (heardSlotAt base d) ((getD rows (keptBefore + d) notYet) .held)
+
+-- ---- what is owed
+-- the octets of the part at the front of the slot, and how many they are
+pub record PartPut (slot : ℕ) (s : List ℕ) (p : Part) (old new : List ℕ) (r : ℕ) : Type 0 where
+  pub size : r ≡ length (octetsOf s p)
+  pub octets : new ≡ pasted old slot (octetsOf s p)
+
+pub record KeptLaid (slot state note : ℕ) (s : List ℕ) (p : Part) (t o newT newO : List ℕ) : Type 0 where
+  pub table : newT ≡ keptSet t slot state (length (octetsOf s p)) note
+  pub octets : newO ≡ pasted o slot (octetsOf s p)
+
+pub record MessageLaid (slot : ℕ) (s : List ℕ) (p : Part) (t g newT newG : List ℕ) : Type 0 where
+  pub table : newT ≡ set t (messagePlace slot) (length (octetsOf s p))
+  pub octets : newG ≡ pasted g slot (octetsOf s p)
+
+-- the messages are few enough, and each is a part of the line within the sizes
+pub record MessagesFit (s : List ℕ) (parts : List Part) (count : ℕ) : Type 0 where
+  pub few : count ≤ messagesLimit
+  pub there : count ≤ length parts
+  pub each : (i : ℕ) → i < count → PartInside messageLeast messageLimit s (getD parts i nowhere)
+
+-- so many messages, in slots that held none; the table before the messages' sizes and the messages of every other number stay
+pub record MessagesLaid (j : ℕ) (s : List ℕ) (parts : List Part) (count : ℕ) (t g newT newG : List ℕ) : Type 0 where
+  pub long : length newT ≡ length t
+  pub octets : length newG ≡ length g
+  pub laid : MessagesAre t g j [] → MessagesAre newT newG j (map (octetsOf s) (take count parts))
+  pub others : (e : ℕ) → e < slotsHeard → (e ≡ j → ⊥) → (messages : List (List ℕ)) → MessagesAre t g e messages
+      → MessagesAre newT newG e messages
+  pub before : (k : ℕ) → k < messagePlace 0 → getD newT k 0 ≡ getD t k 0
+
+-- a line that was read, of a packet and messages that a slot can hold
+pub record LineFits (ahead : Bool) (s : List ℕ) (r : Number) : Type 0 where
+  pub limit : ℕ
+  pub most : limit ≤ packetLimit
+  pub read : NumberIs limit ahead s (partsOf r)
+  pub counted : length (take (r .m) (r .parts)) ≡ r .m
+
+-- one number more
+pub record Lays (base : ℕ) (ahead : Bool) (k : ℕ) (s : List ℕ) (r : Number) (t o g newT newO newG : List ℕ) : Type 0 where
+  pub sized : Lengths newT newO newG
+  pub lays : (rows : List layout.Number) → length rows ≡ fromBase ahead keptBefore + k → Filled base rows t o g
+      → Filled base (rows ++ (numberBy s (partsOf r) ∷ [])) newT newO newG

@@ -1,0 +1,5 @@
+pub mod Text
+pub mod Items
+pub mod Number
+pub mod Laying
+pub mod Whole

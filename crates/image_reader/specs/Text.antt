@@ -1,0 +1,46 @@
+-- What the functions owe that take a line of an image from a text. Definitions only.
+use Prim.Native.Nat.{ℕ, _+_, _≤_, _<_}
+use mathlib.Core.Path.{_≡_}
+use mathlib.Core.Bool.{Bool, true, false}
+use mathlib.Core.List.{List, _++_}
+use lib.ListN.{length, getD, drop}
+use Rattle.lines.specs.Hex.{octetsIn}
+use Rattle.images.specs.Parts.{lineAt, upperDigit, upperPairs}
+use Rattle.image_reader.specs.declared.text.Taken.{Taken}
+use Rattle.image_reader.specs.declared.text.Taken.the-variants as taken
+
+-- the character at distance j from a place is an upper-case digit
+abbrev pub upperAt : List ℕ → ℕ → ℕ → Bool
+upperAt s at j = upperDigit (getD s (at + j) 0)
+
+-- upper-case digits alone stand before a place
+pub record UpperTo (s : List ℕ) (at : ℕ) : Type 0 where
+  pub digits : (k : ℕ) → k < at → upperDigit (getD s k 0) ≡ true
+  pub inside : at ≤ length s
+
+-- all those at the front
+pub record UpperRun (s : List ℕ) (at : ℕ) : Type 0 where
+  pub to : UpperTo s at
+  pub end : at < length s → upperDigit (getD s at 0) ≡ false
+
+-- the line at the front of a text: a line feed ends it, it is of pairs of upper-case digits, and its octets stand at the front of a lent
+-- buffer
+pub record LineOctets (text old new : List ℕ) (count next : ℕ) : Type 0 where
+  pub ended : length (lineAt text) < length text
+  pub pairs : upperPairs (lineAt text) ≡ true
+  pub counted : count ≡ length (octetsIn (lineAt text))
+  pub after : next ≡ length (lineAt text) + 1
+  pub fits : count ≤ length old
+  pub lent : new ≡ octetsIn (lineAt text) ++ drop (length (octetsIn (lineAt text))) old
+
+-- no such line, of at most so many octets
+abbrev pub NoLine : List ℕ → ℕ → Type 0
+NoLine text room =
+    length (lineAt text) < length text → upperPairs (lineAt text) ≡ true → length (octetsIn (lineAt text)) ≤ room → ⊥
+
+abbrev pub TakenCase : List ℕ → List ℕ → List ℕ → Taken → Type 0
+TakenCase text old new (taken.Octets count next) = LineOctets text old new count next
+TakenCase text old new taken.Misshapen = NoLine text (length old)
+
+pub record LineTaken (text old new : List ℕ) (r : Taken) : Type 0 where
+  pub answer : TakenCase text old new r

@@ -1,0 +1,114 @@
+-- What the functions owe that read an image line by line. Definitions only.
+use Prim.Native.Nat.{ℕ, _+_, _*_, _≤_}
+use mathlib.Core.Path.{_≡_}
+use mathlib.Core.Bool.{Bool, true, false}
+use mathlib.Core.List.{List, _∷_, [], _++_}
+use lib.ListN.{length, getD, drop}
+use Rattle.lengths.specs.Refusals.{refusal, badImage}
+use Rattle.lengths.specs.Answers.{done, refuse}
+use Rattle.formats.specs.Reading.{found}
+use Rattle.formats.specs.Format.{Format, sequenceOf}
+use Rattle.views.specs.Cells.{keptBefore, keptAhead}
+use Rattle.held.specs.Table.{countsOf, lent, viewIn}
+use Rattle.held.specs.Laid.{Laid}
+use Rattle.held.specs.Promise.{Fresh}
+use Rattle.images.specs.Parts.{readWhole, highFirst, lineFront, line}
+use Rattle.images.specs.Layout as layout
+use Rattle.images.specs.Layout.{numberLine, image, fromBase}
+use Rattle.images.specs.Image.{firstSize}
+use Rattle.images.specs.declared.Restore.the-variants as restore
+use Rattle.images.specs.declared.Restored.{Restored}
+use Rattle.image_reader.specs.Laying.{Lengths, Filled}
+use Rattle.image_reader.specs.declared.whole.First.{First}
+use Rattle.image_reader.specs.declared.whole.Reached.{Reached}
+use Rattle.image_reader.specs.declared.whole.Reached.the-variants as reached
+
+-- ---- the first line
+-- by its octets: "edition octet 01, base in two octets, the four counts in 01's order in four each, high first"
+pub record FirstIs (octet : ℕ) (s : List ℕ) (f : layout.First) : Type 0 where
+  pub long : length s ≡ firstSize
+  pub edition : getD s 0 0 ≡ octet
+  pub base : f .base ≡ highFirst 2 (drop 1 s)
+  pub received : f .counts .received ≡ highFirst 4 (drop 3 s)
+  pub spare : f .counts .spare ≡ highFirst 4 (drop 7 s)
+  pub repaired : f .counts .repaired ≡ highFirst 4 (drop 11 s)
+  pub lost : f .counts .lost ≡ highFirst 4 (drop 15 s)
+
+-- as it is told
+abbrev pub firstTold : First → layout.First
+firstTold r = record { base = r .base; counts = countsOf (r .counts) }
+
+pub record FirstTold (octet : ℕ) (s : List ℕ) (end : ℕ) (r : First) : Type 0 where
+  pub right : r .read ≡ true → FirstIs octet s (firstTold r)
+  pub after : r .read ≡ true → r .end ≡ end
+  pub none : r .read ≡ false → (f : layout.First) → FirstIs octet s f → ⊥
+
+pub record NoFirst (r : First) : Type 0 where
+  pub refused : r .read ≡ false
+
+-- the first line of a text, whatever the limit of its edition
+pub record FirstLineTold (octet : ℕ) (text : List ℕ) (r : First) : Type 0 where
+  pub right : r .read ≡ true → (limit : ℕ)
+      → lineFront (layout.first (record { octet = octet; limit = limit })) text ≡ found (firstTold r) (r .end)
+  pub none : r .read ≡ false → (limit : ℕ) (f : layout.First) (n : ℕ)
+      → lineFront (layout.first (record { octet = octet; limit = limit })) text ≡ found f n → ⊥
+
+-- ---- one line of a number
+pub record LineLaid (limit : ℕ) (ahead : Bool) (base k : ℕ) (text t o g newT newO newG : List ℕ) (next : ℕ) : Type 0 where
+  pub number : layout.Number
+  pub read : lineFront (numberLine limit ahead) text ≡ found number next
+  pub sized : Lengths newT newO newG
+  pub lays : (rows : List layout.Number) → length rows ≡ fromBase ahead keptBefore + k → Filled base rows t o g
+      → Filled base (rows ++ (number ∷ [])) newT newO newG
+
+abbrev pub LineCase : ℕ → Bool → ℕ → ℕ → List ℕ → List ℕ → List ℕ → List ℕ → List ℕ → List ℕ → List ℕ → Reached → Type 0
+LineCase limit ahead base k text t o g newT newO newG (reached.At next) = LineLaid limit ahead base k text t o g newT newO newG next
+LineCase limit ahead base k text t o g newT newO newG reached.Misshapen =
+    (number : layout.Number) (next : ℕ) → lineFront (numberLine limit ahead) text ≡ found number next → ⊥
+
+pub record LineTold (limit : ℕ) (ahead : Bool) (base k : ℕ) (text t o g newT newO newG : List ℕ) (r : Reached) : Type 0 where
+  pub answer : LineCase limit ahead base k text t o g newT newO newG r
+
+-- ---- the lines before the base, or from it on
+abbrev pub numberLines : ℕ → Bool → Format (List layout.Number)
+numberLines limit ahead = sequenceOf keptAhead (line (numberLine limit ahead))
+
+pub record LinesLaid (limit : ℕ) (ahead : Bool) (base : ℕ) (text : List ℕ) (from : ℕ) (t o g newT newO newG : List ℕ) (end : ℕ)
+    : Type 0 where
+  pub numbers : List layout.Number
+  pub read : numberLines limit ahead .read text 0 (8 * from) ≡ found numbers (8 * end)
+  pub many : length numbers ≡ keptAhead
+  pub inside : end ≤ length text
+  pub sized : Lengths newT newO newG
+  pub lays : (rows : List layout.Number) → length rows ≡ fromBase ahead keptBefore → Filled base rows t o g
+      → Filled base (rows ++ numbers) newT newO newG
+
+abbrev pub LinesCase : ℕ → Bool → ℕ → List ℕ → ℕ → List ℕ → List ℕ → List ℕ → List ℕ → List ℕ → List ℕ → Reached → Type 0
+LinesCase limit ahead base text from t o g newT newO newG (reached.At end) =
+    LinesLaid limit ahead base text from t o g newT newO newG end
+LinesCase limit ahead base text from t o g newT newO newG reached.Misshapen =
+    (numbers : List layout.Number) (p : ℕ) → numberLines limit ahead .read text 0 (8 * from) ≡ found numbers p → ⊥
+
+pub record LinesTold (limit : ℕ) (ahead : Bool) (base : ℕ) (text : List ℕ) (from : ℕ) (t o g newT newO newG : List ℕ) (r : Reached)
+    : Type 0 where
+  pub answer : LinesCase limit ahead base text from t o g newT newO newG r
+
+-- ---- the whole
+-- a table and stores that hold zeros
+pub record Cleared (t o g : List ℕ) : Type 0 where
+  pub sized : Lengths t o g
+  pub table : (k : ℕ) → getD t k 0 ≡ 0
+  pub octets : (k : ℕ) → getD o k 0 ≡ 0
+  pub messages : (k : ℕ) → getD g k 0 ≡ 0
+
+-- what read_core owes: the session that the text reads as, laid as document 01 asks; or that it is no image
+pub record CoreTold (octet limit : ℕ) (text t o g : List ℕ) (r : First) : Type 0 where
+  pub right : r .read ≡ true
+      → readWhole (image (record { octet = octet; limit = limit })) text ≡ done (viewIn (lent (r .base) (r .counts) t o g))
+  pub laid : r .read ≡ true → Laid t o g
+  pub none : r .read ≡ false → readWhole (image (record { octet = octet; limit = limit })) text ≡ refuse badImage
+
+-- a refused text: "nothing is restored"
+pub record NothingRestored (number : ℕ) (r : Restored) : Type 0 where
+  pub answer : r .answer ≡ restore.Refused (refusal number)
+  pub state : Fresh (r .session)

@@ -1,0 +1,136 @@
+// A number that was read, laid into its slots of a session: the table and the stores hold zeros there, as in every slot of a number that
+// is not read yet.
+use crate::number::Number;
+use datagrams::Parity;
+use datagrams::Part;
+use held::Session;
+ghost use mathlib.Core.Path.{_≡_};
+ghost use Prim.Native.Nat.{_+_, _<_};
+ghost use lib.ListN.{length};
+ghost use Rattle.datagrams.specs.Sizes.{messageLeast, messageLimit};
+ghost use Rattle.datagrams.specs.Claims.{PartInside};
+ghost use Rattle.stores.specs.Store.{HasSlot};
+ghost use Rattle.views.specs.Cells.{keptBefore, keptAhead};
+ghost use Rattle.held.specs.Slots.{slotsKept, slotsHeard, slotsMessages, messageOctets};
+ghost use Rattle.held.specs.Table.{places, heardSet};
+ghost use Rattle.images.specs.Layout.{fromBase};
+ghost use Rattle.image_reader.specs.Laying.{PartPut, KeptLaid, MessageLaid, MessagesFit, MessagesLaid, LineFits, Lays, Lengths};
+
+// The octets of a part of the line s, laid at the front of a slot: hands back how many.
+fn put_part(o: &mut [u8], slot: usize, s: &[u8], part: Part) -> u16
+    requires { ⌜ HasSlot slot (now o) ⌝ }
+    requires { ⌜ PartInside messageLeast messageLimit (now s) part ⌝ }
+    ensures { λ r. ⌜ PartPut slot (now (s .entry)) part (now (o .entry)) (now (o .exit)) r ⌝ }
+{
+    let start = part.start;
+    let size = part.size;
+    let end = start + size;
+    stores::put(o, slot, &s[start..end]);
+    size as u16
+}
+
+// A kept number.
+fn lay_kept(t: &mut [u16], o: &mut [u8], slot: usize, s: &[u8], packet: Part, state: u16, note: u16)
+    requires { ⌜ length (now t) ≡ places ⌝ }
+    requires { ⌜ slot < slotsKept ⌝ }
+    requires { ⌜ HasSlot slot (now o) ⌝ }
+    requires { ⌜ PartInside messageLeast messageLimit (now s) packet ⌝ }
+    ensures { λ _. ⌜ KeptLaid slot state note (now (s .entry)) packet (now (t .entry)) (now (o .entry)) (now (t .exit)) (now (o .exit)) ⌝ }
+{
+    let size = put_part(o, slot, s, packet);
+    held::set_kept(t, slot, state, size, note);
+}
+
+// A message.
+fn lay_message(t: &mut [u16], g: &mut [u8], slot: usize, s: &[u8], part: Part)
+    requires { ⌜ length (now t) ≡ places ⌝ }
+    requires { ⌜ slot < slotsMessages ⌝ }
+    requires { ⌜ HasSlot slot (now g) ⌝ }
+    requires { ⌜ PartInside messageLeast messageLimit (now s) part ⌝ }
+    ensures { λ _. ⌜ MessageLaid slot (now (s .entry)) part (now (t .entry)) (now (g .entry)) (now (t .exit)) (now (g .exit)) ⌝ }
+{
+    let size = put_part(g, slot, s, part);
+    held::set_message_size(t, slot, size);
+}
+
+// The messages of the number in slot j of those from the base on.
+fn lay_messages(
+    t: &mut [u16],
+    g: &mut [u8],
+    j: usize,
+    s: &[u8],
+    parts: [Part; Parity::MESSAGES],
+    count: usize,
+)
+    requires { ⌜ length (now t) ≡ places ⌝ }
+    requires { ⌜ length (now g) ≡ messageOctets ⌝ }
+    requires { ⌜ j < slotsHeard ⌝ }
+    requires { ⌜ MessagesFit (now s) parts count ⌝ }
+    ensures { λ _. ⌜ MessagesLaid j (now (s .entry)) parts count (now (t .entry)) (now (g .entry)) (now (t .exit)) (now (g .exit)) ⌝ }
+{
+    let at = j * Parity::MESSAGES;
+    let mut i = 0;
+    while i < count {
+        let part = parts[i];
+        let slot = at + i;
+        lay_message(t, g, slot, s, part);
+        i += 1;
+    }
+}
+
+// The mark, n and m of a number from the base on, as the line has them: they may be outside the ranges.
+fn set_held(t: &mut [u16], j: usize, mark: u16, n: u16, m: u16)
+    requires { ⌜ length (now t) ≡ places ⌝ }
+    requires { ⌜ j < slotsHeard ⌝ }
+    ensures { λ _. ⌜ now (t .exit) ≡ heardSet (now (t .entry)) j mark n m ⌝ }
+{
+    t[Session::MARKS + j] = mark;
+    t[Session::NS + j] = n;
+    t[Session::MS + j] = m;
+}
+
+// The place in the view of the k-th number before the base, or from it on.
+fn place_of(ahead: bool, k: usize) -> usize
+    requires { ⌜ k < keptAhead ⌝ }
+    ensures { λ r. ⌜ r ≡ fromBase ahead keptBefore + k ⌝ }
+{
+    if ahead {
+        return Session::BEFORE + k;
+    }
+    k
+}
+
+// The k-th number before the base, or from it on, of which s is the line.
+pub fn lay(
+    base: u16,
+    ahead: bool,
+    k: usize,
+    s: &[u8],
+    number: Number,
+    t: &mut [u16],
+    o: &mut [u8],
+    g: &mut [u8],
+)
+    requires { ⌜ k < keptAhead ⌝ }
+    requires { ⌜ LineFits ahead (now s) number ⌝ }
+    requires { ⌜ Lengths (now t) (now o) (now g) ⌝ }
+    ensures { λ _. ⌜ Lays base ahead k (now (s .entry)) number (now (t .entry)) (now (o .entry)) (now (g .entry)) (now (t .exit))
+        (now (o .exit)) (now (g .exit)) ⌝ }
+{
+    let first = base as usize;
+    let place = place_of(ahead, k);
+    let slot = (first + Session::BEFORE + place) % Session::KEPT;
+    let packet = number.packet;
+    let state = number.state;
+    let note = number.note;
+    lay_kept(t, o, slot, s, packet, state, note);
+    if ahead {
+        let j = (first + k) % Session::HEARD;
+        let mark = number.mark;
+        let n = number.n;
+        let m = number.m;
+        let parts = number.parts;
+        lay_messages(t, g, j, s, parts, stores::wide(m));
+        set_held(t, j, mark, n, m);
+    }
+}

@@ -1,0 +1,93 @@
+// The lines of an image as text: "lines of upper-case hexadecimal, each ended by a line feed". A line ends at the first character that
+// is no upper-case digit, so that one look at its characters finds its end and tells that it is of digits.
+use hexadecimal::pair_up;
+use lines::Line;
+ghost use mathlib.Core.Path.{_≡_};
+ghost use Prim.Native.Nat.{_+_, _≤_};
+ghost use lib.ListN.{length};
+ghost use Rattle.octets.specs.Place.{allBelow};
+ghost use Rattle.lines.specs.FeedPromise.{lookedAt};
+ghost use Rattle.images.specs.Parts.{upperDigit};
+ghost use Rattle.image_reader.specs.Text.{upperAt, UpperTo, UpperRun, LineTaken};
+
+// The line at the front of a text: how many octets it has, and how many characters with its line feed.
+pub enum Taken {
+    Octets(usize, usize),
+    Misshapen,
+}
+
+// Whether a character is an upper-case digit.
+fn is_upper(c: u8) -> bool
+    ensures { λ r. ⌜ r ≡ upperDigit c ⌝ }
+{
+    let decimal = std::num::wrapping_sub_u8(c, b'0');
+    let letter = std::num::wrapping_sub_u8(c, b'A');
+    (decimal < 10) | (letter < 6)
+}
+
+// Whether the next characters are upper-case digits: so many at a time that the compiler takes them together.
+fn is_near(s: &[u8], at: usize) -> bool
+    requires { ⌜ at + lookedAt ≤ length (now s) ⌝ }
+    ensures { λ r. ⌜ r ≡ allBelow lookedAt (upperAt (now (s .entry)) at) ⌝ }
+{
+    let mut all = true;
+    let mut j = 0;
+    while j < Line::NEAR {
+        all = all & is_upper(s[at + j]);
+        j += 1;
+    }
+    all
+}
+
+// Where the upper-case digits at the front end, of which there are some.
+fn run_from(s: &[u8], from: usize) -> usize
+    requires { ⌜ UpperTo (now s) from ⌝ }
+    ensures { λ r. ⌜ UpperRun (now (s .entry)) r ⌝ }
+{
+    let mut at = from;
+    while at < s.len() {
+        if !is_upper(s[at]) {
+            return at;
+        }
+        at += 1;
+    }
+    at
+}
+
+// Where the upper-case digits at the front end.
+fn upper_run(s: &[u8]) -> usize
+    ensures { λ r. ⌜ UpperRun (now (s .entry)) r ⌝ }
+{
+    let mut at = 0;
+    while Line::NEAR <= s.len() - at {
+        if !is_near(s, at) {
+            return run_from(s, at);
+        }
+        at += Line::NEAR;
+    }
+    run_from(s, at)
+}
+
+// The line at the front of a text, its octets to the front of out.
+pub fn take_line(text: &[u8], out: &mut [u8]) -> Taken
+    ensures { λ r. ⌜ LineTaken (now (text .entry)) (now (out .entry)) (now (out .exit)) r ⌝ }
+{
+    let stop = upper_run(text);
+    if text.len() <= stop {
+        return Taken::Misshapen;
+    }
+    if text[stop] != Line::FEED {
+        return Taken::Misshapen;
+    }
+    let odd = stop % 2;
+    if odd != 0 {
+        return Taken::Misshapen;
+    }
+    let count = stop / 2;
+    if out.len() < count {
+        return Taken::Misshapen;
+    }
+    pair_up(&text[..stop], out);
+    let next = stop + 1;
+    Taken::Octets(count, next)
+}

@@ -1,0 +1,199 @@
+// The whole of an image: its first line, the lines before the base, those from it on, and nothing after them. The edition and the packet
+// limit are arguments: one layout serves every edition.
+use crate::laying::lay;
+use crate::number::number_in;
+use crate::number::two;
+use crate::text::Taken;
+use crate::text::take_line;
+use held::Counts;
+use held::Session;
+use images::Image;
+ghost use mathlib.Core.Path.{_≡_};
+ghost use Prim.Native.Nat.{_+_, _≤_, _<_};
+ghost use lib.ListN.{length, drop};
+ghost use Rattle.datagrams.specs.Sizes.{packetLimit};
+ghost use Rattle.views.specs.Cells.{keptAhead};
+ghost use Rattle.images.specs.Parts.{highFirst};
+ghost use Rattle.images.specs.Image.{lineLimit};
+ghost use Rattle.image_reader.specs.Laying.{Lengths};
+ghost use Rattle.image_reader.specs.Whole.{FirstTold, FirstLineTold, LineTold, LinesTold, NoFirst, Cleared, CoreTold};
+
+// The first line, and whether it is right.
+pub struct First {
+    pub read: bool,
+    pub base: u16,
+    pub counts: Counts,
+    pub end: usize,
+}
+
+// How far a text was read.
+pub enum Reached {
+    At(usize),
+    Misshapen,
+}
+
+// Four octets as a number, the high one first.
+fn four(s: &[u8], at: usize) -> u32
+    requires { ⌜ at + 4 ≤ length (now s) ⌝ }
+    ensures { λ r. ⌜ r ≡ highFirst 4 (drop at (now (s .entry))) ⌝ }
+{
+    let high = two(s[at], s[at + 1]) as u32;
+    let low = two(s[at + 2], s[at + 3]) as u32;
+    high * 65536 + low
+}
+
+fn no_first() -> First
+    ensures { λ r. ⌜ NoFirst r ⌝ }
+{
+    let counts = Counts {
+        received: 0,
+        spare: 0,
+        repaired: 0,
+        lost: 0,
+    };
+    First {
+        read: false,
+        base: 0,
+        counts,
+        end: 0,
+    }
+}
+
+// "edition octet 01, base in two octets, the four counts in 01's order in four each, high first".
+fn first_in(s: &[u8], edition: u8, end: usize) -> First
+    ensures { λ r. ⌜ FirstTold edition (now (s .entry)) end r ⌝ }
+{
+    if s.len() != Image::FIRST {
+        return no_first();
+    }
+    if s[0] != edition {
+        return no_first();
+    }
+    let base = two(s[1], s[2]);
+    let received = four(s, 3);
+    let spare = four(s, 7);
+    let repaired = four(s, 11);
+    let lost = four(s, 15);
+    let counts = Counts {
+        received,
+        spare,
+        repaired,
+        lost,
+    };
+    First {
+        read: true,
+        base,
+        counts,
+        end,
+    }
+}
+
+// The first line of a text.
+fn first_line(text: &[u8], edition: u8) -> First
+    ensures { λ r. ⌜ FirstLineTold edition (now (text .entry)) r ⌝ }
+{
+    let mut line = [0u8; Image::FIRST];
+    match take_line(text, &mut line) {
+        Taken::Misshapen => no_first(),
+        Taken::Octets(count, next) => first_in(&line[..count], edition, next),
+    }
+}
+
+// The line of the k-th number before the base, or from it on, at the front of a text.
+fn read_line(
+    text: &[u8],
+    limit: usize,
+    ahead: bool,
+    base: u16,
+    k: usize,
+    line: &mut [u8],
+    t: &mut [u16],
+    o: &mut [u8],
+    g: &mut [u8],
+) -> Reached
+    requires { ⌜ limit ≤ packetLimit ⌝ }
+    requires { ⌜ k < keptAhead ⌝ }
+    requires { ⌜ length (now line) ≡ lineLimit packetLimit ⌝ }
+    requires { ⌜ Lengths (now t) (now o) (now g) ⌝ }
+    ensures { λ r. ⌜ LineTold limit ahead base k (now (text .entry)) (now (t .entry)) (now (o .entry)) (now (g .entry)) (now (t .exit))
+        (now (o .exit)) (now (g .exit)) r ⌝ }
+{
+    match take_line(text, line) {
+        Taken::Misshapen => Reached::Misshapen,
+        Taken::Octets(count, next) => {
+            let number = number_in(&line[..count], limit, ahead);
+            let read = number.read;
+            if !read {
+                return Reached::Misshapen;
+            }
+            lay(base, ahead, k, &line[..count], number, t, o, g);
+            Reached::At(next)
+        }
+    }
+}
+
+// The lines before the base, or those from it on.
+fn read_lines(
+    text: &[u8],
+    from: usize,
+    limit: usize,
+    ahead: bool,
+    base: u16,
+    t: &mut [u16],
+    o: &mut [u8],
+    g: &mut [u8],
+) -> Reached
+    requires { ⌜ from ≤ length (now text) ⌝ }
+    requires { ⌜ limit ≤ packetLimit ⌝ }
+    requires { ⌜ Lengths (now t) (now o) (now g) ⌝ }
+    ensures { λ r. ⌜ LinesTold limit ahead base (now (text .entry)) from (now (t .entry)) (now (o .entry)) (now (g .entry))
+        (now (t .exit)) (now (o .exit)) (now (g .exit)) r ⌝ }
+{
+    let mut line = [0u8; Image::LINE];
+    let mut at = from;
+    let mut k = 0;
+    while k < Session::HEARD {
+        match read_line(&text[at..], limit, ahead, base, k, &mut line, t, o, g) {
+            Reached::Misshapen => {
+                return Reached::Misshapen;
+            }
+            Reached::At(taken) => {
+                at += taken;
+            }
+        }
+        k += 1;
+    }
+    Reached::At(at)
+}
+
+// A text as an image of that edition, with packets and messages of at most `limit` octets, into a table and stores that hold zeros.
+pub fn read_core(
+    text: &[u8],
+    edition: u8,
+    limit: usize,
+    t: &mut [u16],
+    o: &mut [u8],
+    g: &mut [u8],
+) -> First
+    requires { ⌜ limit ≤ packetLimit ⌝ }
+    requires { ⌜ Cleared (now t) (now o) (now g) ⌝ }
+    ensures { λ r. ⌜ CoreTold edition limit (now (text .entry)) (now (t .exit)) (now (o .exit)) (now (g .exit)) r ⌝ }
+{
+    let first = first_line(text, edition);
+    let read = first.read;
+    let base = first.base;
+    let start = first.end;
+    if !read {
+        return no_first();
+    }
+    let Reached::At(middle) = read_lines(text, start, limit, false, base, t, o, g) else {
+        return no_first();
+    };
+    let Reached::At(end) = read_lines(text, middle, limit, true, base, t, o, g) else {
+        return no_first();
+    };
+    if end < text.len() {
+        return no_first();
+    }
+    first
+}

@@ -1,0 +1,5 @@
+mod Laying
+mod Turns
+mod Sizing
+mod Whole
+mod Answers

@@ -1,0 +1,42 @@
+-- `image_writer::put_count` meets its contract. Assumes nothing.
+use Rattle.image_writer.proofs.Laying.{count-room, count-put}
+use borrow.Author.Needs.{needs}
+use Rattle.image_writer.proofs.numbers.put_count.Statement.{statement}
+use Rattle.image_writer.proofs.numbers.put_count.Tie as tie
+
+cast-first : tie.Need-cast-first
+cast-first c = search needs
+
+cast-second : tie.Need-cast-second
+cast-second c = search needs
+
+cast-third : tie.Need-cast-third
+cast-third c = search needs
+
+cast-fourth : tie.Need-cast-fourth
+cast-fourth c = search needs
+
+slice-aggregate-put-octets : tie.Need-slice-aggregate-put-octets
+slice-aggregate-put-octets c = search needs
+
+put-octets-requires : tie.Need-put-octets-requires
+put-octets-requires c κs = count-room _ (c .before .before .before .pre)
+
+same-length : tie.Need-same-length
+same-length c = search needs
+
+returns : tie.Need-returns
+returns c = search count-put
+
+pub put-count-spec : {M : Type 1} → statement M
+put-count-spec =
+    tie.close
+    (tie.spec
+    cast-first
+    cast-second
+    cast-third
+    cast-fourth
+    slice-aggregate-put-octets
+    put-octets-requires
+    same-length
+    returns)

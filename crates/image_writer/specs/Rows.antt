@@ -1,0 +1,113 @@
+-- The lines of an image as the code goes by them: what the table says of the number at a place of the view, the text of its line, and how
+-- long that is. It is proved to be the image that `images` defines. Definitions only.
+use Prim.Native.Nat.{ℕ, _+_, _-_, _*_, _/_, _%_, _≤_, _<_}
+use mathlib.Core.Path.{_≡_}
+use mathlib.Core.Bool.{false, cond}
+use mathlib.Core.List.{List, [], _∷_, _++_}
+use lib.ListN.{length}
+use lib.Dec.{ltb, eqb}
+use Rattle.octets.specs.Place.{tab}
+use Rattle.formats.specs.Format.{flagBit}
+use Rattle.datagrams.specs.Sizes.{packetLimit, messagesLimit}
+use Rattle.datagrams.specs.Write.{itemOctets, sumOf}
+use Rattle.datagrams.specs.Inner.Heads.{itemSize}
+use Rattle.stores.specs.Store.{part}
+use Rattle.views.specs.Cells.{keptBefore}
+use Rattle.held.specs.Slots.{slotsKept, slotsHeard, slotAt, heardSlotAt, messageSlot}
+use Rattle.held.specs.Table.{places, lastState, stateIn, sizeIn, noteIn, markIn, nIn, mIn, messageSizeIn, messageIn}
+use Rattle.held.specs.declared.Counts.{Counts}
+use Rattle.lines.specs.Hex.{hexOf}
+use Rattle.lines.specs.Lines.{lineFeed}
+use Rattle.images.specs.Parts.{numberIn}
+use Rattle.images.specs.Octets.{inRow}
+use Rattle.images.specs.Image.{lineSize}
+use Rattle.image_writer.specs.declared.rows.Row.{Row}
+
+-- there is room for a text from a place on
+pub record Room (text old : List ℕ) (at : ℕ) : Type 0 where
+  pub fits : at + length text ≤ length old
+
+-- what a session within its ranges says of its table alone
+pub record TableFits (t : List ℕ) : Type 0 where
+  pub long : length t ≡ places
+  pub state : (i : ℕ) → i < slotsKept → stateIn t i ≤ lastState
+  pub size : (i : ℕ) → i < slotsKept → sizeIn t i ≤ packetLimit
+  pub few : (j : ℕ) → j < slotsHeard → mIn t j ≤ messagesLimit
+  pub part : (j i : ℕ) → j < slotsHeard → i < messagesLimit → messageSizeIn t (messageSlot j i) ≤ packetLimit
+
+-- ---- what the table says of the number at place p of the view: "before the base accepted, n and m are 00"
+abbrev pub rowBefore : ℕ → Row
+rowBefore slot = record { slot = slot; heard = 0; accepted = false; n = 0; m = 0 }
+
+abbrev pub rowAhead : List ℕ → ℕ → ℕ → Row
+rowAhead t slot heard = record { slot = slot; heard = heard; accepted = eqb (markIn t heard) 1; n = nIn t heard; m = mIn t heard }
+
+unfoldable pub rowAt : ℕ → List ℕ → ℕ → Row
+rowAt base t p =
+    cond (ltb p keptBefore) (rowBefore (slotAt base p)) (rowAhead t (slotAt base p) (heardSlotAt base (p - keptBefore)))
+
+-- a row names slots that are there
+pub record RowFits (row : Row) : Type 0 where
+  pub slot : row .slot < slotsKept
+  pub heard : row .heard < slotsHeard
+  pub few : row .m ≤ messagesLimit
+
+pub record RowTold (base : ℕ) (t : List ℕ) (p : ℕ) (r : Row) : Type 0 where
+  pub answer : r ≡ rowAt base t p
+  pub fits : RowFits r
+
+-- ---- its line
+-- state, accepted, note; packet
+abbrev pub keptFront : List ℕ → Row → List ℕ
+keptFront t row =
+    stateIn t (row .slot) % 256 ∷ flagBit (row .accepted) ∷ noteIn t (row .slot) / 256 % 256 ∷ noteIn t (row .slot) % 256 ∷ []
+
+abbrev pub keptText : List ℕ → List ℕ → Row → List ℕ
+keptText t o row = hexOf (keptFront t row) ++ hexOf (itemOctets (part o (row .slot) (sizeIn t (row .slot))))
+
+-- n and m
+abbrev pub countOctets : Row → List ℕ
+countOctets row = row .n % 256 ∷ row .m % 256 ∷ []
+
+-- texts one after the other
+abbrev pub allTexts : ℕ → (ℕ → List ℕ) → List ℕ
+allTexts n text = inRow (λ x. x) (tab n text)
+
+-- the first m messages of a slot
+abbrev pub messageText : List ℕ → List ℕ → ℕ → ℕ → List ℕ
+messageText t g heard i = hexOf (itemOctets (messageIn t g heard i))
+
+abbrev pub messagesText : List ℕ → List ℕ → ℕ → ℕ → List ℕ
+messagesText t g heard m = allTexts m (messageText t g heard)
+
+unfoldable pub rowText : List ℕ → List ℕ → List ℕ → Row → List ℕ
+rowText t o g row =
+    keptText t o row
+    ++ (hexOf (countOctets row) ++ (messagesText t g (row .heard) (row .m) ++ (lineFeed ∷ [])))
+
+-- all of them
+abbrev pub rowsText : ℕ → List ℕ → List ℕ → List ℕ → List ℕ
+rowsText base t o g = allTexts slotsKept (λ p. rowText t o g (rowAt base t p))
+
+-- the first line: the edition's octet, base, counts
+abbrev pub firstText : ℕ → ℕ → Counts → List ℕ
+firstText octet base counts =
+    hexOf (octet ∷ base / 256 % 256 ∷ base % 256 ∷ [])
+    ++ (hexOf (numberIn 4 (counts .received))
+    ++ (hexOf (numberIn 4 (counts .spare))
+    ++ (hexOf (numberIn 4 (counts .repaired)) ++ (hexOf (numberIn 4 (counts .lost)) ++ (lineFeed ∷ [])))))
+
+-- ---- how long it is
+abbrev pub messagesSize : List ℕ → ℕ → ℕ → ℕ
+messagesSize t heard m = sumOf (tab m (λ i. 2 * itemSize (messageSizeIn t (messageSlot heard i))))
+
+abbrev pub rowSize : List ℕ → Row → ℕ
+rowSize t row = lineSize (6 + itemSize (sizeIn t (row .slot))) + messagesSize t (row .heard) (row .m)
+
+abbrev pub rowsSize : ℕ → List ℕ → ℕ
+rowsSize base t = sumOf (tab slotsKept (λ p. rowSize t (rowAt base t p)))
+
+-- a size that is told, and the most that it can be
+pub record SizeWithin (size most r : ℕ) : Type 0 where
+  pub answer : r ≡ size
+  pub few : r ≤ most

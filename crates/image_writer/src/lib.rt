@@ -1,0 +1,59 @@
+// A receiving session written as an image: document 02, request 9, as `images` defines it.
+mod numbers;
+mod rows;
+
+use held::Counts;
+use held::Session;
+use images::Image;
+use lengths::Refusal;
+use lengths::Written;
+use numbers::put_first;
+use numbers::put_rows;
+use rows::rows_size;
+ghost use mathlib.Core.Path.{_≡_};
+ghost use lib.ListN.{length};
+ghost use Rattle.lengths.specs.Promise.{Puts};
+ghost use Rattle.held.specs.Slots.{keptOctets, messageOctets};
+ghost use Rattle.held.specs.Table.{places, lent};
+ghost use Rattle.images.specs.Layout.{editionWritten};
+ghost use Rattle.images.specs.Image.{imageToWrite};
+ghost use Rattle.images.specs.Promise.{ImageWritten};
+
+// The session's image to the front of out: 17 for a session outside its ranges, then 13 where it is longer than out.
+pub fn write(s: Session, out: &mut [u8]) -> Written
+    ensures { λ r. ⌜ ImageWritten s (now (out .entry)) (now (out .exit)) r ⌝ }
+{
+    let base = s.base;
+    let counts = s.counts;
+    let table = s.table;
+    let octets = s.octets;
+    let messages = s.messages;
+    write_core(base, counts, &table, &octets, &messages, out)
+}
+
+// The same of a session that is lent. It serves callers inside this repository: it requires the lengths of the table and the stores.
+pub fn write_core(
+    base: u16,
+    counts: Counts,
+    t: &[u16],
+    o: &[u8],
+    g: &[u8],
+    out: &mut [u8],
+) -> Written
+    requires { ⌜ length (now t) ≡ places ⌝ }
+    requires { ⌜ length (now o) ≡ keptOctets ⌝ }
+    requires { ⌜ length (now g) ≡ messageOctets ⌝ }
+    ensures { λ r. ⌜ Puts (imageToWrite editionWritten (lent base counts (now (t .entry)) (now (o .entry)) (now (g .entry))))
+        (now (out .entry)) (now (out .exit)) r ⌝ }
+{
+    if !checking::in_ranges(base, counts, t, o, g) {
+        return Written::Refused(Refusal::new(Refusal::OUTSIDE_RANGES));
+    }
+    let size = 2 * Image::FIRST + 1 + rows_size(base, t);
+    if out.len() < size {
+        return Written::Refused(Refusal::new(Refusal::NO_ROOM));
+    }
+    let first = put_first(base, counts, out, 0);
+    let end = put_rows(base, t, o, g, out, first);
+    Written::Octets(end)
+}

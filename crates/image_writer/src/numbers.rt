@@ -1,0 +1,153 @@
+// The lines of an image, in upper-case hexadecimal. Each writer lays its text into out from a place on, and answers the place after it.
+use crate::rows::Row;
+use crate::rows::row_at;
+use datagrams::Packet;
+use datagrams::Parity;
+use held::Counts;
+use held::Session;
+use hexadecimal::put_octets;
+use images::Image;
+use lines::Line;
+ghost use mathlib.Core.Path.{_≡_};
+ghost use mathlib.Core.List.{[], _∷_};
+ghost use Prim.Native.Nat.{_≤_, _<_};
+ghost use lib.ListN.{length};
+ghost use Rattle.datagrams.specs.Sizes.{packetLimit, messagesLimit};
+ghost use Rattle.datagrams.specs.Write.{itemOctets};
+ghost use Rattle.stores.specs.Store.{HasSlot, part};
+ghost use Rattle.held.specs.Slots.{slotsHeard, keptOctets, messageOctets};
+ghost use Rattle.lines.specs.Hex.{hexOf};
+ghost use Rattle.lines.specs.Lines.{lineFeed};
+ghost use Rattle.lines.specs.Promise.{Appends};
+ghost use Rattle.images.specs.Parts.{numberIn};
+ghost use Rattle.images.specs.Layout.{editionWritten};
+ghost use Rattle.image_writer.specs.Rows.{Room, TableFits, RowFits, keptText, messagesText, rowText, rowsText, firstText};
+
+// A line feed.
+fn end_line(out: &mut [u8], at: usize) -> usize
+    requires { ⌜ Room (lineFeed ∷ []) (now out) at ⌝ }
+    ensures { λ r. ⌜ Appends (lineFeed ∷ []) (now (out .entry)) at (now (out .exit)) r ⌝ }
+{
+    out[at] = Line::FEED;
+    at + 1
+}
+
+// A count: four octets, the high one first.
+fn put_count(count: u32, out: &mut [u8], at: usize) -> usize
+    requires { ⌜ Room (hexOf (numberIn 4 count)) (now out) at ⌝ }
+    ensures { λ r. ⌜ Appends (hexOf (numberIn 4 count)) (now (out .entry)) at (now (out .exit)) r ⌝ }
+{
+    let first = (count / 256 / 256 / 256 % 256) as u8;
+    let second = (count / 256 / 256 % 256) as u8;
+    let third = (count / 256 % 256) as u8;
+    let fourth = (count % 256) as u8;
+    let octets = [first, second, third, fourth];
+    put_octets(&octets, out, at)
+}
+
+// The first line: edition, base and counts.
+pub fn put_first(base: u16, counts: Counts, out: &mut [u8], at: usize) -> usize
+    requires { ⌜ Room (firstText (editionWritten .octet) base counts) (now out) at ⌝ }
+    ensures { λ r. ⌜ Appends (firstText (editionWritten .octet) base counts) (now (out .entry)) at (now (out .exit)) r ⌝ }
+{
+    let high = (base / 256 % 256) as u8;
+    let low = (base % 256) as u8;
+    let front = [Image::EDITION, high, low];
+    let one = put_octets(&front, out, at);
+    let two = put_count(counts.received, out, one);
+    let three = put_count(counts.spare, out, two);
+    let four = put_count(counts.repaired, out, three);
+    let end = put_count(counts.lost, out, four);
+    end_line(out, end)
+}
+
+// A packet or message with its length, read where it is stored.
+fn put_item(store: &[u8], slot: usize, size: usize, out: &mut [u8], at: usize) -> usize
+    requires { ⌜ HasSlot slot (now store) ⌝ }
+    requires { ⌜ size ≤ packetLimit ⌝ }
+    requires { ⌜ Room (hexOf (itemOctets (part (now store) slot size))) (now out) at ⌝ }
+    ensures { λ r. ⌜ Appends (hexOf (itemOctets (part (now (store .entry)) slot size))) (now (out .entry)) at (now (out .exit)) r ⌝ }
+{
+    let from = slot * Packet::LIMIT;
+    let to = from + size;
+    let mut octets = [0u8; Image::ITEM];
+    let count = datagram_items::put_item(&store[from..to], &mut octets);
+    put_octets(&octets[..count], out, at)
+}
+
+// State, accepted, note and packet.
+fn put_kept(t: &[u16], o: &[u8], row: Row, out: &mut [u8], at: usize) -> usize
+    requires { ⌜ TableFits (now t) ⌝ }
+    requires { ⌜ length (now o) ≡ keptOctets ⌝ }
+    requires { ⌜ RowFits row ⌝ }
+    requires { ⌜ Room (keptText (now t) (now o) row) (now out) at ⌝ }
+    ensures { λ r. ⌜ Appends (keptText (now (t .entry)) (now (o .entry)) row) (now (out .entry)) at (now (out .exit)) r ⌝ }
+{
+    let slot = row.slot;
+    let state = (held::state_at(t, slot) % 256) as u8;
+    let mark = row.accepted as u8;
+    let note = held::note_at(t, slot);
+    let high = (note / 256 % 256) as u8;
+    let low = (note % 256) as u8;
+    let front = [state, mark, high, low];
+    let next = put_octets(&front, out, at);
+    let size = held::size_at(t, slot);
+    put_item(o, slot, size, out, next)
+}
+
+// The first m messages of a slot.
+fn put_messages(t: &[u16], g: &[u8], heard: usize, m: usize, out: &mut [u8], at: usize) -> usize
+    requires { ⌜ TableFits (now t) ⌝ }
+    requires { ⌜ length (now g) ≡ messageOctets ⌝ }
+    requires { ⌜ heard < slotsHeard ⌝ }
+    requires { ⌜ m ≤ messagesLimit ⌝ }
+    requires { ⌜ Room (messagesText (now t) (now g) heard m) (now out) at ⌝ }
+    ensures { λ r. ⌜ Appends (messagesText (now (t .entry)) (now (g .entry)) heard m) (now (out .entry)) at (now (out .exit)) r ⌝ }
+{
+    let mut end = at;
+    let mut i = 0;
+    while i < m {
+        let slot = heard * Parity::MESSAGES + i;
+        let size = held::message_size_at(t, slot);
+        end = put_item(g, slot, size, out, end);
+        i += 1;
+    }
+    end
+}
+
+// The line of a number.
+fn put_row(t: &[u16], o: &[u8], g: &[u8], row: Row, out: &mut [u8], at: usize) -> usize
+    requires { ⌜ TableFits (now t) ⌝ }
+    requires { ⌜ length (now o) ≡ keptOctets ⌝ }
+    requires { ⌜ length (now g) ≡ messageOctets ⌝ }
+    requires { ⌜ RowFits row ⌝ }
+    requires { ⌜ Room (rowText (now t) (now o) (now g) row) (now out) at ⌝ }
+    ensures { λ r. ⌜ Appends (rowText (now (t .entry)) (now (o .entry)) (now (g .entry)) row) (now (out .entry)) at (now (out .exit)) r ⌝ }
+{
+    let one = put_kept(t, o, row, out, at);
+    let n = (row.n % 256) as u8;
+    let m = (row.m % 256) as u8;
+    let counts = [n, m];
+    let two = put_octets(&counts, out, one);
+    let end = put_messages(t, g, row.heard, row.m, out, two);
+    end_line(out, end)
+}
+
+// "then 64 lines, from 32 before the base upward".
+pub fn put_rows(base: u16, t: &[u16], o: &[u8], g: &[u8], out: &mut [u8], at: usize) -> usize
+    requires { ⌜ TableFits (now t) ⌝ }
+    requires { ⌜ length (now o) ≡ keptOctets ⌝ }
+    requires { ⌜ length (now g) ≡ messageOctets ⌝ }
+    requires { ⌜ Room (rowsText base (now t) (now o) (now g)) (now out) at ⌝ }
+    ensures { λ r. ⌜ Appends (rowsText base (now (t .entry)) (now (o .entry)) (now (g .entry))) (now (out .entry)) at
+        (now (out .exit)) r ⌝ }
+{
+    let mut end = at;
+    let mut p = 0;
+    while p < Session::KEPT {
+        let row = row_at(base, t, p);
+        end = put_row(t, o, g, row, out, end);
+        p += 1;
+    }
+    end
+}

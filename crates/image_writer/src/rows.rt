@@ -1,0 +1,93 @@
+// What the table says of the number at a place of the view, and how many characters its line has.
+use datagram_items::item_size;
+use datagrams::Parity;
+use held::Session;
+ghost use Prim.Native.Nat.{_*_, _≤_, _<_};
+ghost use Rattle.datagrams.specs.Sizes.{packetLimit, messagesLimit};
+ghost use Rattle.held.specs.Slots.{slotsKept, slotsHeard};
+ghost use Rattle.images.specs.Image.{lineSize, longestItem, lineLimit};
+ghost use Rattle.image_writer.specs.Rows.{TableFits, RowFits, RowTold, SizeWithin, messagesSize, rowSize, rowsSize};
+
+// The slot of a kept number; of one from the base on its other slot too, and what is heard of it.
+pub struct Row {
+    pub slot: usize,
+    pub heard: usize,
+    pub accepted: bool,
+    pub n: usize,
+    pub m: usize,
+}
+
+// Place p of the view is the number base - 32 + p.
+pub fn row_at(base: u16, t: &[u16], p: usize) -> Row
+    requires { ⌜ TableFits (now t) ⌝ }
+    requires { ⌜ p < slotsKept ⌝ }
+    ensures { λ r. ⌜ RowTold base (now (t .entry)) p r ⌝ }
+{
+    let base = base as usize;
+    let slot = (base + Session::BEFORE + p) % Session::KEPT;
+    if p < Session::BEFORE {
+        return Row {
+            slot,
+            heard: 0,
+            accepted: false,
+            n: 0,
+            m: 0,
+        };
+    }
+    let heard = (base + (p - Session::BEFORE)) % Session::HEARD;
+    let accepted = held::accepted_at(t, heard);
+    let n = held::n_at(t, heard);
+    let m = held::m_at(t, heard);
+    Row {
+        slot,
+        heard,
+        accepted,
+        n,
+        m,
+    }
+}
+
+// The characters of the first m messages of a slot, with their lengths.
+fn messages_size(t: &[u16], heard: usize, m: usize) -> usize
+    requires { ⌜ TableFits (now t) ⌝ }
+    requires { ⌜ heard < slotsHeard ⌝ }
+    requires { ⌜ m ≤ messagesLimit ⌝ }
+    ensures { λ r. ⌜ SizeWithin (messagesSize (now (t .entry)) heard m) (messagesLimit * (2 * longestItem packetLimit)) r ⌝ }
+{
+    let mut size = 0;
+    let mut i = 0;
+    while i < m {
+        let octets = held::message_size_at(t, heard * Parity::MESSAGES + i);
+        size += 2 * item_size(octets);
+        i += 1;
+    }
+    size
+}
+
+// The characters of a line: state, accepted, note, n and m are six octets.
+fn row_size(t: &[u16], row: Row) -> usize
+    requires { ⌜ TableFits (now t) ⌝ }
+    requires { ⌜ RowFits row ⌝ }
+    ensures { λ r. ⌜ SizeWithin (rowSize (now (t .entry)) row) (lineSize (lineLimit packetLimit)) r ⌝ }
+{
+    let slot = row.slot;
+    let octets = held::size_at(t, slot);
+    let packet = item_size(octets);
+    let messages = messages_size(t, row.heard, row.m);
+    2 * (6 + packet) + 1 + messages
+}
+
+// The characters of all lines but the first.
+pub fn rows_size(base: u16, t: &[u16]) -> usize
+    requires { ⌜ TableFits (now t) ⌝ }
+    ensures { λ r. ⌜ SizeWithin (rowsSize base (now (t .entry))) (slotsKept * lineSize (lineLimit packetLimit)) r ⌝ }
+{
+    let mut size = 0;
+    let mut p = 0;
+    while p < Session::KEPT {
+        let row = row_at(base, t, p);
+        size += row_size(t, row);
+        p += 1;
+    }
+    size
+}

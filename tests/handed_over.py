@@ -1,0 +1,275 @@
+#!/usr/bin/env python3
+"""The program handover: traces cut at every 50th line, the first part played to a saved image, the rest from it.
+
+What the parts write must together be what the program writes for the whole trace, and each image the one that the independent program
+has there. An image that does not read, or a file that is not usable, must end it in words."""
+
+import argparse
+import itertools
+import pathlib
+import random
+import shlex
+import subprocess
+import sys
+import tempfile
+
+import running
+from failing import Cases, independent
+from image_mutants import FILE_MUTANTS, HANDOVER_MUTANTS
+from making.lines import Recording, program_lines
+from mutants import make_mutant
+from real import Wrong, corpus, must
+from released import worse_line
+from rules.handing import Handover
+from rules.images import written_image
+from rules.program import results_of
+from rules.receiving import AFTER, BEFORE, RECEIVED, REPAIRED, SPARE, UNKNOWN
+from running import described, difference, lines_of, run, text_of
+from traffic import DATAGRAMS
+
+EACH = 50  # lines of a part
+SEEDS, MADE = 2, 400
+KINDS = {RECEIVED: 'received', SPARE: 'spare', REPAIRED: 'repaired'}
+LOSSES = 0, 0.3, 0.6  # with many lost, something is waited for where a trace is cut
+
+
+class Adapter:
+    """The program handover, with a folder for its images."""
+
+    def __init__(self, command, folder):
+        self.command = command
+        self.folder = pathlib.Path(folder)
+
+    def image(self, name):
+        """Where an image of this name is kept."""
+        return self.folder / name
+
+    def run(self, given, load=None, save=None):
+        """Plays octets, from an image and to one, if they are given: its status, what it writes, what it says."""
+        words = [word for option, path in (('--load', load), ('--save', save)) if path for word in (option, str(path))]
+        command = ' '.join([self.command, *map(shlex.quote, words)])
+        try:
+            ended = subprocess.run(command, shell=True, input=given, capture_output=True, timeout=running.PATIENCE)
+        except subprocess.TimeoutExpired:
+            raise Wrong('no end within %d seconds' % running.PATIENCE)
+        return ended.returncode, ended.stdout, ended.stderr.decode('utf-8', 'backslashreplace')
+
+    def play(self, given, load=None, save=None):
+        """The same, to a good end: what it writes."""
+        if save and save != load:
+            save.unlink(missing_ok=True)
+        status, written, said = self.run(given, load, save)
+        must(status == 0, 'it does not end well: status %d, %s', status, said.strip())
+        must(not save or save.is_file(), 'no image is saved')
+        return written
+
+
+def session_after(lines):
+    """The session that the independent program has after these lines."""
+    handover = Handover()
+    for line in lines:
+        handover.results(line)
+    return handover.session
+
+
+def image_after(lines):
+    """Its image."""
+    return written_image(session_after(lines))
+
+
+def held_at_cuts(traces):
+    """What sessions hold where traces are cut: from the base on kinds, accepted numbers and messages, and before it unknown numbers."""
+    held = set()
+    for lines in traces:
+        for at in range(EACH, len(lines), EACH):
+            session = session_after(lines[:at])
+            ahead = range(session.base, session.base + AFTER)
+            held.update(KINDS[session.place(number).state] for number in ahead if session.place(number).state in KINDS)
+            held.update(['accepted'] * any(session.mark(number).accepted for number in ahead))
+            held.update(['messages'] * any(session.mark(number).m for number in ahead))
+            held.update(['unknown before'] * any(session.place(session.base - j).state == UNKNOWN for j in range(1, BEFORE + 1)))
+    return ' '.join(sorted(held))
+
+
+def same(what, expected, written):
+    """What was written is what is expected, to the last character."""
+    at = difference(expected, written)
+    if at is not None:
+        raise Wrong('\n'.join(['%s, line %d' % (what, at + 1)] + described(expected, written, at)))
+
+
+def cut_in_two(adapter, lines, whole):
+    """At every 50th line: two parts, and the image between them, which stays as it is if nothing is played.
+
+    The first part's last line has its line feed or not."""
+    for at in range(EACH, len(lines), EACH):
+        first, image = text_of(lines[:at]), adapter.image('image')
+        front = adapter.play(first, save=image)
+        back = adapter.play(text_of(lines[at:]), load=image)
+        same('cut behind line %d: the results are not those of the whole trace' % at, whole, front + back)
+        same('cut behind line %d: the image is not the expected one' % at, image_after(lines[:at]), image.read_bytes())
+        adapter.play(b'', load=image, save=adapter.image('again'))
+        same('cut behind line %d: loaded and saved, the image is another' % at, image.read_bytes(), adapter.image('again').read_bytes())
+        if lines[at - 1]:
+            same('cut behind line %d, without its line feed: other results' % at, front, adapter.play(first[:-1], save=image))
+            same('cut behind line %d, without its line feed: another image' % at, image_after(lines[:at]), image.read_bytes())
+
+
+def in_parts(adapter, lines, whole):
+    """Parts of 50 lines, each from the image of the one before, in a file of its own and all in one file; and all in one part."""
+    for name, images in (('from file to file', [adapter.image('image %d' % at) for at in range(-(-len(lines) // EACH))]),
+                         ('in one file', [adapter.image('image')] * -(-len(lines) // EACH))):
+        written, before = b'', None
+        for at, image in enumerate(images):
+            written += adapter.play(text_of(lines[EACH * at:EACH * (at + 1)]), load=before, save=image)
+            before = image
+        same('%s: the results are not those of the whole trace' % name, whole, written)
+        same('%s: the last image is not the expected one' % name, image_after(lines), before.read_bytes())
+    same('uncut: the results are not those of the program', whole, adapter.play(text_of(lines)))
+
+
+def check(program, handover, lines):
+    """One trace, whole and cut."""
+    whole = text_of(results_of(lines))
+    written, remark = run(program, text_of(lines))
+    must(not remark, 'the program does not end well: %s', remark)
+    same('the program differs from the independent one', whole, written)
+    with tempfile.TemporaryDirectory() as folder:
+        adapter = Adapter(handover, folder)
+        cut_in_two(adapter, lines, whole)
+        in_parts(adapter, lines, whole)
+    return '%d lines, %d cuts' % (len(lines), (len(lines) - 1) // EACH)
+
+
+def unusable(adapter):
+    """Files that cannot be loaded: a name, what is in it, or None where nothing is written, and its path."""
+    image = image_after([b'000001060000', b'000201000001' + b'01C0'])
+    yield 'no file', None, adapter.image('nowhere')
+    yield 'no file in a folder that is not there', None, adapter.image('nowhere') / 'image'
+    yield 'a folder', None, adapter.folder
+    for name, text in (('an empty file', b''), ('a line less', image[:image.rindex(b'\n', 0, -1) + 1]), ('a line more', image + b'\n'),
+                       ('no last line feed', image[:-1]), ('small letters', image.replace(b'C0', b'c0')),
+                       ('another base', image[:5] + b'2' + image[6:]), ('another note', image.replace(b'\n01000002', b'\n01000003')),
+                       ('a trace', b'000001060000\n')):
+        yield name, text, adapter.image('image')
+
+
+def refused(handover):
+    """Files that cannot be loaded or saved to: status 2, a line that names the file, and nothing played or saved."""
+    count = 0
+    with tempfile.TemporaryDirectory() as folder:
+        adapter = Adapter(handover, folder)
+        saved, trace = adapter.image('saved'), b'000001060000\n'
+        for name, text, path in unusable(adapter):
+            if text is not None:
+                path.write_bytes(text)
+            for save in (None, saved, path if text is not None else None):
+                status, written, said = adapter.run(trace, path, save)
+                in_words('%s to be loaded' % name, path, status, said)
+                must(not written, '%s to be loaded: something is played: %s', name, written)
+                must(not saved.exists(), '%s to be loaded: an image is saved', name)
+                must(text is None or path.read_bytes() == text, '%s to be loaded: the file is changed', name)
+                count += 1
+        for name, path in (('a folder that is not there', adapter.image('nowhere') / 'image'), ('a folder', adapter.folder)):
+            status, _, said = adapter.run(trace, save=path)
+            in_words('%s to be saved to' % name, path, status, said)
+            count += 1
+    return '%d files' % count
+
+
+def in_words(name, path, status, said):
+    """It ended with status 2, and one line that names the file."""
+    must(status == 2, '%s: status %d', name, status)
+    must(said.startswith('handover: %s: ' % path) and said.count('\n') == 1 and said.endswith('\n'), '%s: this was said: %s', name, said)
+
+
+def twice_and_late(name, loss):
+    """Recorded datagrams, some lost, many late, some twice; an empty line for each number that is waited for too long."""
+    r, recording = random.Random(name + str(loss)), Recording(name)
+    row = [(number + r.choice((0, 0, 2, 7, 15)), octets) for number, octets in enumerate(corpus(name)) for _ in range(r.choice((1, 1, 2)))]
+    for place, octets in sorted(one for one in row if r.random() >= loss):
+        recording.add_datagram(octets)
+        while place - recording.base() > 20:
+            recording.add(b'')
+    return recording.lines
+
+
+def traces():
+    """Names, and what makes the lines."""
+    for name, loss in itertools.product(DATAGRAMS, LOSSES):
+        yield '%s, %d %% lost' % (name, 100 * loss), lambda n=name, l=loss: worse_line(n, l)[0].lines
+        yield '%s, %d %% lost, many late' % (name, 100 * loss), lambda n=name, l=loss: twice_and_late(n, l)
+    for seed in range(SEEDS):
+        yield 'lines of seed %d' % seed, lambda s=seed: lines_of(program_lines(str(s), MADE))
+
+
+def checks(arguments):
+    """All checks: a name, and what does it."""
+    for name, make in traces():
+        yield name, lambda m=make: check(arguments.program, arguments.handover, m())
+    yield 'files that cannot be used', lambda: refused(arguments.handover)
+
+
+def self_test():
+    """Programs that lose something, and what is said of each; the right one passes."""
+    test, program, right = Cases('handed_over.py'), independent('program'), independent('handover')
+    lines = [twice_and_late(name, LOSSES[-1]) for name in DATAGRAMS]
+
+    def over_traces(handover):
+        """Two traces."""
+        for trace in lines:
+            check(program, handover, trace)
+
+    every = 'accepted messages received repaired spare unknown before'
+    test.says('what is held at cuts', every, held_at_cuts(make() for _, make in traces()))
+    test.fails('what is held with nothing lost', 'NOT CAUGHT by inner: one: ' + every, Cases('inner').says, 'one', every,
+               held_at_cuts(worse_line(name, 0)[0].lines for name in DATAGRAMS))
+    test.passes('as it should be, over traces', over_traces, right)
+    test.passes('as it should be, over files', refused, right)
+    test.fails('a wrong program', 'the program differs from the independent one, line ', check, program + " | sed '$d'", right, lines[0])
+    test.fails('a program with status 3', 'the program does not end well: status 3', check, program + '; exit 3', right, lines[0])
+    for check_one, mutants in ((over_traces, HANDOVER_MUTANTS), (refused, FILE_MUTANTS)):
+        for name, words, *edit in mutants:
+            with tempfile.TemporaryDirectory() as directory:
+                test.fails(name, words, check_one, make_mutant(pathlib.Path(directory), *edit) + ' handover')
+    with tempfile.TemporaryDirectory() as directory:
+        quiet = pathlib.Path(directory, 'quiet')
+        quiet.write_text('#!/bin/sh\n%s "$@" 2>/dev/null\n' % right)
+        loud = pathlib.Path(directory, 'loud')
+        loud.write_text('#!/bin/sh\n%s "$@"; status=$?; [ $status = 0 ] || echo again >&2; exit $status\n' % right)
+        test.fails('nothing said', 'no file to be loaded: this was said: ', refused, 'sh %s' % shlex.quote(str(quiet)))
+        test.fails('two lines said', 'again', refused, 'sh %s' % shlex.quote(str(loud)))
+    running.PATIENCE, patience = 1, running.PATIENCE
+    test.fails('no end', 'no end within 1 seconds', refused, 'exec sleep 60 #')
+    running.PATIENCE = patience
+    test.ends('a wrong handover', 1, '0 passed, 1 failed', [sys.executable, __file__, '--program', program, '--handover', 'exit 3 #'])
+    test.ends('no command', 2, 'both commands are needed', [sys.executable, __file__, '--program', program])
+    test.end()
+
+
+def main():
+    """Does each check; ends with status 1 at the first that is wrong."""
+    parser = argparse.ArgumentParser(description=__doc__)
+    parser.add_argument('--program', help='shell command of the program, for the traces as a whole')
+    parser.add_argument('--handover', help='shell command of the program handover, without its options')
+    parser.add_argument('--self-test', action='store_true', help='check that a program that loses something is reported')
+    arguments = parser.parse_args()
+    if arguments.self_test:
+        self_test()
+        return
+    if not (arguments.program and arguments.handover):
+        parser.error('both commands are needed: --program, --handover')
+    passed = 0
+    for name, do in checks(arguments):
+        try:
+            print('ok %s; %s' % (name, do()), flush=True)
+        except Wrong as wrong:
+            print('wrong %s: %s' % (name, wrong))
+            print('%d passed, 1 failed' % passed)
+            sys.exit(1)
+        passed += 1
+    print('%d passed, 0 failed' % passed)
+
+
+if __name__ == '__main__':
+    main()
