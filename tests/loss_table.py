@@ -97,9 +97,10 @@ def given_up(loss):
 
 
 def seeded(loss):
-    """The same seed gives the same table and picture, another one another."""
+    """The same seed drops the same datagrams and gives the same table and picture, another one another."""
     one, same, other = (loss.table(loss.parity, '--steps', '1', '--seed', seed) for seed in ('one', 'one', 'two'))
-    must((one.written, one.picture) == (same.written, same.picture), 'the same seed gives another table')
+    must((one.written, one.picture) == (same.written, same.picture) and one.calls[-1].numbers == same.calls[-1].numbers,
+         'the same seed gives another table, or drops others')
     must(one.rows != other.rows and one.calls[-1].numbers != other.calls[-1].numbers, 'another seed gives the same table')
 
 
