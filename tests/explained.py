@@ -117,7 +117,7 @@ def self_test():
     """Wrong explanations, and what is said of each; the right ones pass."""
     test = Cases('explained.py')
     given = [(b'\x06', False), (b'\xC0\x80\x01', False), (b'\x06\0\0', True), (b'\xC0\x01\x80\0\0\xAA', True),
-             (b'\x06' * 161, False)]
+             (b'\x06' * (PACKET_LIMIT + 1), False)]
     right = b'''octet 0   bit 0  0000011           all but the last
 octet 0   bit 7  0                 the last
 reads as indicator 3 (one), 0 fields
@@ -144,7 +144,7 @@ refused with 4: others
             ('another refusal', b'refused with 3', b'refused with 4', 'block 2, C08001: expected (3, 1), told (4, 1)'),
             ('another place', b'3 at octet 1', b'3 at octet 2', 'block 2, C08001: expected (3, 1), told (3, 2)'),
             ('no place', b'3 at octet 1', b'3', 'block 2, C08001: expected (3, 1), told (3, None)'),
-            ('a place for over 160 octets', b'with 4:', b'with 4 at octet 0:', ': expected (4, None), told (4, 0)'),
+            ('a place for over 256 octets', b'with 4:', b'with 4 at octet 0:', ': expected (4, None), told (4, 0)'),
             ('a refusal without words', b'with 4: others', b'with 4', ': neither read nor refused: refused with 4'),
             ('refused, not read', b'reads as indicator 3, 0', b'refused with 6 at octet 1: 0',
              'repaired 060000: expected (0, 3, []), told (6, 1)'),

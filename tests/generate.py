@@ -22,8 +22,8 @@ PACKETS = (packed.runs_read, packed.runs_written, packed.padding_damaged, packed
            placed.packets, single.packets_read, single.packets_written, single.many_fields)
 REPLAYS = (replays.recorded, replays.crowded, replays.crowded, replays.edges, replays.no_calls)
 IMAGES = (images.written, images.read_back, images.handed_over, images.misshapen, images.misshapen, images.no_session,
-          images.no_session, images.another, images.moved, images.texts, images.great, outside.receiving_outside)
-SCENES = 2 * SINGLE + (placed.datagrams,) + SESSIONS + FRAMES + PACKETS[:7] + REPLAYS[:1] + REPLAYS[2:] + IMAGES[:5] + IMAGES[7:10]
+          images.no_session, images.another, images.no_edition, images.moved, images.texts, images.great, outside.receiving_outside)
+SCENES = 2 * SINGLE + (placed.datagrams,) + SESSIONS + FRAMES + PACKETS[:7] + REPLAYS[:1] + REPLAYS[2:] + IMAGES[:5] + IMAGES[7:11]
 
 
 def make_script(seed, count, scenes=SCENES):

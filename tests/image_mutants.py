@@ -1,4 +1,4 @@
-"""Wrong images (02, request 9), each one edit of the independent program's text: a name, the module, the text, what stands in its place."""
+"""Wrong images (02, requests 9, 10), each one edit of the independent program's text: a name, the module, the text, what stands for it."""
 
 WRITE = '    refuse_if(not session.in_ranges(), RANGES)\n    return must_fit(written_image(session), room)\n'
 HEAD = "    lines = [bytes([EDITION]) + session.base.to_bytes(2, 'big') + counts]\n"
@@ -9,8 +9,11 @@ PLACED = '        session.places[(base + j) % (BEFORE + AFTER)] = place\n'
 MARKED = '            session.marks[(base + j) % AFTER] = mark\n'
 BEFORE = 'refuse_if(mark.accepted or mark.n or mark.m, MISSHAPEN)'
 CHECKED = '    refuse_if(not session.in_ranges(), RANGES)\n    return session\n'
-PACKET = 'items.sized_octets(0, PACKET_LIMIT)'
-MESSAGE = 'items.sized_octets(0, MESSAGE_LIMIT)'
+PACKET = 'Place(state, items.sized_octets(0, limit), note)'
+MESSAGE = '[items.sized_octets(0, limit) for _ in range(m)]'
+LIMITED = '    limit = limit_of(text[:2])\n'
+EDITIONS = 'LIMITS = {1: 160, 2: PACKET_LIMIT}'
+IN_DIGITS = "    refuse_if(not re.fullmatch(b'[0-9A-F]{2}', digits), MISSHAPEN)\n"
 RESTORED = 'self.receiving = read_image(arguments.rest())\n'
 ROOM = "cap = arguments.last_cap(4)\n        return lent(cap, lambda: (b'', write_image(self.receiving, cap)), size_width=4)\n"
 IMAGE_MUTANTS = (
@@ -19,7 +22,10 @@ IMAGE_MUTANTS = (
      '    refuse_if(not session.in_ranges(), RANGES)\n    return text\n'),
     ('exactly enough room is too little', 'images', 'must_fit(written_image(session), room)', 'must_fit(written_image(session), room - 1)'),
     ('what has no room is cut off', 'images', 'must_fit(written_image(session), room)', 'written_image(session)[:room]'),
-    ('another edition', 'images', 'EDITION = 1\n', 'EDITION = 2\n'),
+    ('edition 01 is written', 'images', 'EDITION = 2\n', 'EDITION = 1\n'),
+    ('edition 03 is written', 'images', 'EDITION = 2\n', 'EDITION = 3\n'),
+    ('the first edition that can hold it is written', 'images', "bytes([EDITION]) + session",
+     'bytes([1 + any(place.length > 160 for place in session.places)]) + session'),
     ('counts before the base', 'images', HEAD, "    lines = [bytes([EDITION]) + counts + session.base.to_bytes(2, 'big')]\n"),
     ('base low octet first', 'images', "session.base.to_bytes(2, 'big')", "session.base.to_bytes(2, 'little')"),
     ('counts low octet first', 'images', "count.to_bytes(4, 'big')", "count.to_bytes(4, 'little')"),
@@ -54,7 +60,7 @@ IMAGE_MUTANTS = (
     ('a missing last line feed passes', 'images', ENDED, "    text = text if text.endswith(b'\\n') else text + b'\\n'\n" + ENDED),
     ('what follows the last line passes', 'images', 'len(lines) != LINES or behind', 'len(lines) != LINES'),
     ('an empty line at the end passes', 'images', ENDED, "    text = text[:-1] if text.endswith(b'\\n\\n') else text\n" + ENDED),
-    ('an empty line before the first passes', 'images', ENDED, "    text = text[1:] if text.startswith(b'\\n') else text\n" + ENDED),
+    ('an empty line before the first passes', 'images', LIMITED, "    text = text[1:] if text.startswith(b'\\n') else text\n" + LIMITED),
     ('empty lines pass', 'images', ENDED, "    *lines, behind = text.split(b'\\n')\n    lines = [line for line in lines if line]\n"
      '    refuse_if(len(lines) != LINES or behind, MISSHAPEN)\n'),
     ('lines more pass', 'images', ENDED, ENDED.replace('!=', '<') + '    lines = lines[:LINES]\n'),
@@ -73,9 +79,29 @@ IMAGE_MUTANTS = (
      'items.refuse_if(any(items.left_over()), LEFT_OVER)'),
     ('a refused item with its own number', 'images', '        raise Refusal(MISSHAPEN)\n', '        raise\n'),
     ('20 with a place', 'images', '        raise Refusal(MISSHAPEN)\n', '        raise Refusal(MISSHAPEN, items.begun)\n'),
-    ('every edition passes', 'images', 'items.refuse_if(items.octet() != EDITION, SIZE)', 'items.octet()'),
-    ('edition 00 passes', 'images', 'items.octet() != EDITION', 'items.octet() not in (0, EDITION)'),
-    ('edition 02 passes', 'images', 'items.octet() != EDITION', 'items.octet() not in (2, EDITION)'),
+    ('every edition passes', 'images', '    refuse_if(int(digits, 16) not in LIMITS, OTHER_EDITION)\n    return LIMITS[int(digits, 16)]\n',
+     '    return LIMITS.get(int(digits, 16), PACKET_LIMIT)\n'),
+    ('edition 00 passes', 'images', EDITIONS, 'LIMITS = {0: PACKET_LIMIT, 1: 160, 2: PACKET_LIMIT}'),
+    ('edition 03 passes', 'images', EDITIONS, 'LIMITS = {1: 160, 2: PACKET_LIMIT, 3: PACKET_LIMIT}'),
+    ('edition 01 is read no more', 'images', EDITIONS, 'LIMITS = {2: PACKET_LIMIT}'),
+    ('edition 02 is not read', 'images', EDITIONS, 'LIMITS = {1: PACKET_LIMIT}'),
+    ('edition 01 has the new limit', 'images', EDITIONS, 'LIMITS = {1: PACKET_LIMIT, 2: PACKET_LIMIT}'),
+    ('edition 02 has the old limit', 'images', EDITIONS, 'LIMITS = {1: 160, 2: 160}'),
+    ('edition 01 has a limit of 161', 'images', EDITIONS, 'LIMITS = {1: 161, 2: PACKET_LIMIT}'),
+    ('edition 01 has a limit of 159', 'images', EDITIONS, 'LIMITS = {1: 159, 2: PACKET_LIMIT}'),
+    ('messages of edition 01 have the new limit', 'images', MESSAGE, MESSAGE.replace('limit', 'PACKET_LIMIT')),
+    ('packets of edition 01 have the new limit', 'images', PACKET, PACKET.replace('limit', 'PACKET_LIMIT')),
+    ('the edition is its low digit', 'images', LIMITED, "    limit = limit_of(text[:2] and b'0' + text[1:2])\n"),
+    ('20 for no edition', 'images', 'not in LIMITS, OTHER_EDITION)', 'not in LIMITS, MISSHAPEN)'),
+    ('21 behind a missing or extra line', 'images', LIMITED + ENDED, ENDED + LIMITED),
+    ('21 behind a missing line feed', 'images', LIMITED, "    refuse_if(not text.endswith(b'\\n'), MISSHAPEN)\n" + LIMITED),
+    ('21 behind a misshapen first line', 'images', LIMITED, "    shaped(text.split(b'\\n')[0], read_head)\n" + LIMITED),
+    ('21 behind lines that are no digits', 'images', LIMITED,
+     "    refuse_if(not all(map(DIGITS.fullmatch, text.split(b'\\n'))), MISSHAPEN)\n" + LIMITED),
+    ('21 in small letters', 'images', IN_DIGITS, IN_DIGITS.replace('A-F', 'A-Fa-f')),
+    ('21 for what is no digit', 'images', IN_DIGITS, IN_DIGITS.replace('MISSHAPEN', 'OTHER_EDITION')),
+    ('21 for one digit', 'images', IN_DIGITS, IN_DIGITS.replace('{2}', '{1,2}')),
+    ('21 for what is not there', 'images', IN_DIGITS, '    refuse_if(not digits, OTHER_EDITION)\n' + IN_DIGITS),
     ('state 5 is 17', 'images', 'at_most(items, BLANK)', 'at_most(items, 255)'),
     ('accepted 02 passes', 'images', 'at_most(items, 1)', 'at_most(items, 2)'),
     ('accepted 02 is 01', 'images', 'at_most(items, 1)', 'items.octet() & 1'),
@@ -84,16 +110,16 @@ IMAGE_MUTANTS = (
     ('m of 5 is 4', 'images', 'at_most(items, M_LIMIT)', 'min(M_LIMIT, items.octet())'),
     ('n of 8 is 20', 'images', 'at_most(items, N_LIMIT)', 'at_most(items, N_LIMIT - 1)'),
     ('m of 4 is 20', 'images', 'at_most(items, M_LIMIT)', 'at_most(items, M_LIMIT - 1)'),
-    ('a packet over the limit is 17', 'images', PACKET, 'items.sized_octets(0, 16383)'),
-    ('a packet of the limit is 20', 'images', PACKET, 'items.sized_octets(0, PACKET_LIMIT - 1)'),
-    ('no packet is 20', 'images', PACKET, 'items.sized_octets(1, PACKET_LIMIT)'),
-    ('no packet at a known number is 20', 'images', PACKET, 'items.sized_octets(state in (1, 2, 3), PACKET_LIMIT)'),
-    ('a packet at an unknown number is 20', 'images', PACKET, 'items.sized_octets(0, PACKET_LIMIT * (state in (1, 2, 3)))'),
-    ('a message over the limit is 17', 'images', MESSAGE, 'items.sized_octets(0, 16383)'),
-    ('a message of the limit is 20', 'images', MESSAGE, 'items.sized_octets(0, MESSAGE_LIMIT - 1)'),
-    ('an empty message is 20', 'images', MESSAGE, 'items.sized_octets(1, MESSAGE_LIMIT)'),
-    ("a packet's length in one octet", 'images', PACKET, 'items.octets(items.octet())'),
-    ("a message's length in one octet", 'images', MESSAGE, 'items.octets(items.octet())'),
+    ('a packet over the limit is 17', 'images', PACKET, PACKET.replace('limit', '16383')),
+    ('a packet of the limit is 20', 'images', PACKET, PACKET.replace('limit', 'limit - 1')),
+    ('no packet is 20', 'images', PACKET, PACKET.replace('(0,', '(1,')),
+    ('no packet at a known number is 20', 'images', PACKET, PACKET.replace('(0,', '(state in (1, 2, 3),')),
+    ('a packet at an unknown number is 20', 'images', PACKET, PACKET.replace('limit', 'limit * (state in (1, 2, 3))')),
+    ('a message over the limit is 17', 'images', MESSAGE, MESSAGE.replace('limit', '16383')),
+    ('a message of the limit is 20', 'images', MESSAGE, MESSAGE.replace('limit', 'limit - 1')),
+    ('an empty message is 20', 'images', MESSAGE, MESSAGE.replace('(0,', '(1,')),
+    ("a packet's length in one octet", 'images', PACKET, PACKET.replace('sized_octets(0, limit)', 'octets(items.octet())')),
+    ("a message's length in one octet", 'images', MESSAGE, MESSAGE.replace('sized_octets(0, limit)', 'octets(items.octet())')),
     ('whatever stands before the base passes', 'images', BEFORE, 'pass'),
     ('accepted before the base passes', 'images', BEFORE, 'refuse_if(mark.n or mark.m, MISSHAPEN)'),
     ('n before the base passes', 'images', BEFORE, 'refuse_if(mark.accepted or mark.m, MISSHAPEN)'),
@@ -166,7 +192,7 @@ HANDOVER_MUTANTS = (  # in the program handover, over traces: a name, what is sa
      LAST.replace('else line', 'else line[:-2]')),
     ('an image in small letters', 'it does not end well: status 2', 'images', "b'\\n' for line in lines)\n",
      "b'\\n' for line in lines).lower()\n"),
-    ('another edition', 'the image is not the expected one', 'images', 'EDITION = 1\n', 'EDITION = 2\n'),
+    ('another edition', 'the image is not the expected one', 'images', 'EDITION = 2\n', 'EDITION = 1\n'),
     ('nothing played without options', 'uncut: the results are not those of the program', 'independent', PARSED,
      PARSED + '    if not words:\n        return\n'),
 )

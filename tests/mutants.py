@@ -212,7 +212,7 @@ def self_test():
         test.fails('an edit of %s that changes no answer' % name, 'NOT FOUND: same\n1 passed, 1 failed\nSystemExit: 1', try_all,
                    {kind: MUTANTS[kind][:1] + (('same', name, old, new),)})
     test.fails('an edit of the program that changes no result', 'NOT FOUND: same\n0 passed, 1 failed\nSystemExit: 1', try_all,
-               {'program': (('same', 'program', 'LINE_LIMIT = 3000', 'LINE_LIMIT = 2999 + 1'),)})
+               {'program': (('same', 'program', 'LINE_LIMIT = 4800', 'LINE_LIMIT = 4799 + 1'),)})
     test.passes('a program that breaks off', try_all, {'calls': (('no such name', 'lengths', 'first >= 0xC0', 'first >= nothing'),)})
     running.PATIENCE, patience = 1, running.PATIENCE
     test.passes('a program that does not end', try_all, {'calls': (('no end', 'calls', 'arguments = Arguments(octets)',

@@ -18,7 +18,7 @@ from mutants import make_mutant
 from note_mutants import REPORT_MUTANTS
 from real import Wrong, corpus, must
 from released import worse_line
-from rules.datagrams import PARITY, SPARES
+from rules.datagrams import DATAGRAM_LIMIT, PARITY, SPARES
 from rules.noting import Notes, report_of
 from rules.program import Program, results_of
 from running import around, described, difference, lines_of, run, text_of
@@ -50,7 +50,7 @@ def across_the_wrap():
     """Lines from 20 numbers before 65,535 on, half of the datagrams lost, with spares and parity in turn, so that both reach over it."""
     recording = Recording('wrap', WRAP)
     for at in range(60):
-        octets = recording.sender.send(bytes([at]), *((SPARES, 8, 0), (PARITY, 3, 2))[at // 3 % 2], 1500)
+        octets = recording.sender.send(bytes([at]), *((SPARES, 8, 0), (PARITY, 3, 2))[at // 3 % 2], DATAGRAM_LIMIT)
         if recording.random.random() < 0.5:
             recording.add_datagram(octets)
         while recording.waiting() > 20:
@@ -156,7 +156,8 @@ def self_test():
     given, report, results = with_report(dict((name, text) for name, text, _ in stored('.lines', '.results'))['request-8-program.lines']
                                          + b'0\n0009\n')
     test.says('what no input has', '[]', str(missing(made)))
-    test.says('what the stored ones do not have', "'distance 14:', 'distance 15:']", str(missing(made[:9])))
+    count = len(list(stored('.lines', '.results')))
+    test.says('what the stored ones do not have', "'distance 14:', 'distance 15:']", str(missing(made[:count])))
     test.fails('a stored report altered', 'differs from stored whole-case.notes', as_stored, 'whole-case.lines', given, report, results)
     test.passes('as it should be', check, independent('notes'), given, report, results)
     for name, old, new, words in (

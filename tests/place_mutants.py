@@ -42,7 +42,7 @@ PLACE_MUTANTS = {
          'items.refuse_if(count > SPARES_LIMIT, SIZE)', 'refuse_if(count > SPARES_LIMIT, SIZE, items.at)'),
         ('a count of messages outside the sizes at n', 'datagrams',
          'items.refuse_if(not 1 <= count <= M_LIMIT, SIZE)', 'refuse_if(not 1 <= count <= M_LIMIT, SIZE, items.begun - 1)'),
-        ('over 1,500 octets at the first too many', 'datagrams', 'DATAGRAM_LIMIT, OVERLONG)', 'DATAGRAM_LIMIT, OVERLONG, DATAGRAM_LIMIT)'),
+        ('over 2,400 octets at the first too many', 'datagrams', 'DATAGRAM_LIMIT, OVERLONG)', 'DATAGRAM_LIMIT, OVERLONG, DATAGRAM_LIMIT)'),
         ('an offer without its place', 'receiving',
          '        datagram = read_datagram(octets)\n',
          '        try:\n            datagram = read_datagram(octets)\n        except Exception as refusal:\n'
@@ -77,7 +77,7 @@ PLACE_MUTANTS = {
          'items.refuse_if(value > LAST_VALUE[kind], NOT_ASSIGNED)', 'refuse_if(value > LAST_VALUE[kind], NOT_ASSIGNED, 1)'),
         ('a count outside the sizes at the first field', 'packets',
          'items.refuse_if(not 1 <= count <= FIELDS_LIMIT, SIZE)', 'refuse_if(not 1 <= count <= FIELDS_LIMIT, SIZE, items.at)'),
-        ('over 160 octets at the first too many', 'packets',
+        ('over 256 octets at the first too many', 'packets',
          '> PACKET_LIMIT, SIZE)\n    items', '> PACKET_LIMIT, SIZE, PACKET_LIMIT)\n    items'),
         ("a field's length as two items", 'packets',
          "int.from_bytes(items.octets(2), 'big') + 1", 'items.octet() * 256 + items.octet() + 1'),
@@ -113,7 +113,7 @@ PLACE_MUTANTS = {
          'refuse_if(bits.bit() or not repaired, LEFT_OVER, (bits.place - 1) // 8)'),
         ('07: padding at the octet after', 'pencil',
          'self.refuse_if(self.bit(), SPARE_BIT)', 'refuse_if(self.bit(), SPARE_BIT, self.first // 8 + 1)'),
-        ('07: over 160 octets at the first too many', 'pencil',
+        ('07: over 256 octets at the first too many', 'pencil',
          '> PACKET_LIMIT, SIZE)\n    bits = ', '> PACKET_LIMIT, SIZE, PACKET_LIMIT)\n    bits = '),
     ),
     'joiner': (
@@ -125,6 +125,6 @@ PLACE_MUTANTS = {
         ('the place in characters', 'program',
          'lines = [refusal.octets()]', "lines = [refusal.octets()[:2] + (2 * refusal.place).to_bytes(2, 'big')]"),
         ('a line that is no hexadecimal at its end', 'program', 'raise Refusal(SETTINGS)', 'raise Refusal(SETTINGS, len(line) // 2)'),
-        ('a line over 3,000 at the first too many', 'program', 'LINE_LIMIT, OVERLONG)', 'LINE_LIMIT, OVERLONG, LINE_LIMIT // 2)'),
+        ('a line over 4,800 at the first too many', 'program', 'LINE_LIMIT, OVERLONG)', 'LINE_LIMIT, OVERLONG, LINE_LIMIT // 2)'),
     ),
 }

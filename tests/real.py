@@ -5,6 +5,7 @@ import re
 
 from making.script import UNLIMITED, Script
 from rules.datagrams import SPARES
+from rules.packets import PACKET_LIMIT
 from rules.receiving import AFTER, UNKNOWN
 from running import around, described, difference, lines_of, run, text_of
 
@@ -83,4 +84,4 @@ def release(script, patience, taken):
         known = session.place(session.base).state != UNKNOWN
         if not known and script.sending.sent - session.total() <= min(patience, AFTER - 1):
             return
-        taken(script, script.next(160, not known))
+        taken(script, script.next(PACKET_LIMIT, not known))

@@ -72,13 +72,13 @@ def of_generate(test):
             ('packets', PACKETS, 60, '0500 05FF01 05FF01+ 05FF03+ 05FF04 05FF04+ 05FF05 05FF05+ 05FF06+ 05FF0C 05FF0E 05FF0E+ '
              '0600 06FF04 06FF0C 06FF0D 06FF0E 06FF0F '
              '0700 07FF01 07FF01+ 07FF03+ 07FF04 07FF04+ 07FF05 07FF05+ 07FF06+ 07FF0C 07FF0E 07FF0E+'),
-            ('replays', REPLAYS, 5, '4000 40EE 40FF0D'), ('images', IMAGES, 30, '1800 18EE 18FF0D 18FF11 1900 19EE 19FF11 19FF14')):
+            ('replays', REPLAYS, 5, '4000 40EE 40FF0D'), ('images', IMAGES, 30, '1800 18EE 18FF0D 18FF11 1900 19EE 19FF11 19FF14 19FF15')):
         test.says('every answer on ' + name, every, answers_met(scenes, {REPLAYS: 300, IMAGES: 1000}.get(scenes, 1500)))
         test.fails('a short script on ' + name, 'NOT CAUGHT by inner: one: ' + every, Cases('inner').says, 'one', every,
                    answers_met(scenes, short))
     every = ('received: own | repaired: ahead | repaired: ahead over 65,535 | repaired: behind | repaired: behind over 65,535 | '
              'spare: ahead | spare: ahead over 65,535')
-    test.says('every note', every, notes_met(3000))
+    test.says('every note', every, notes_met(6000))
     test.fails('a short script on notes', 'NOT CAUGHT by inner: one: ' + every, Cases('inner').says, 'one', every, notes_met(60))
     script = Script('0', 2)
     script.calls.by_first_octet[0x07] = lambda arguments: Refusal(SPARE_BIT).octets()

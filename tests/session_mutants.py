@@ -94,7 +94,7 @@ SESSION_MUTANTS = (
     ('octets unchecked', 'stored', ' and self.octets.count(0, self.length) == len(self.octets) - self.length', ''),
     ('last octet unchecked', 'stored',
      'self.octets.count(0, self.length) == len(self.octets) - self.length',
-     '(self.length == 160 or self.octets.count(0, self.length, 159) == 159 - self.length)'),
+     '(self.length == 256 or self.octets.count(0, self.length, 255) == 255 - self.length)'),
     ('accepted unknown unchecked', 'receiving', 'self.accepted and state == UNKNOWN or self.m', 'self.m'),
     ('unaccepted messages unchecked', 'receiving', ' or self.m and not self.accepted', ''),
     ('n without m unchecked', 'receiving', 'self.n == 0 if self.m == 0', 'True if self.m == 0'),
@@ -102,9 +102,9 @@ SESSION_MUTANTS = (
     ('n of 9 unchecked', 'receiving', '1 <= self.n <= N_LIMIT', '1 <= self.n'),
     ('m of 5 unchecked', 'receiving', ' and self.m <= M_LIMIT', ''),
     ('message past m unchecked', 'receiving', 'MESSAGE_LIMIT if i < self.m else 0', 'MESSAGE_LIMIT'),
-    ('length over 160 unchecked', 'stored',
+    ('length over 256 unchecked', 'stored',
      'least <= self.length <= most and self.octets.count(0, self.length) == len(self.octets) - self.length',
-     'least <= min(self.length, 160) <= most and self.octets.count(0, self.length) == max(0, len(self.octets) - '
+     'least <= min(self.length, 256) <= most and self.octets.count(0, self.length) == max(0, len(self.octets) - '
      'self.length)'),
     ('numbers before the first by size', 'sending', 'range(1, min(k, self.sent) + 1)', 'range(1, min(k, self.sent % 65536) + 1)'),
     ('settings after size', 'sending',

@@ -1,8 +1,10 @@
 """Ways to bring a receiving session outside its ranges, as a caller could: each rule broken alone, as rows of field and place."""
 
+from rules.packets import PACKET_LIMIT
 from rules.receiving import AFTER, BEFORE, BLANK, NUMBERS_LIMIT, RECEIVED, REPAIRED, SPARE, UNKNOWN
 
 KNOWN = (RECEIVED, SPARE, REPAIRED)
+TOO_GREAT = (PACKET_LIMIT + 1, PACKET_LIMIT + 1, PACKET_LIMIT + 2, 2 * PACKET_LIMIT, PACKET_LIMIT + 256, 65535)
 
 
 class Session:
@@ -86,7 +88,7 @@ def blank_ahead(s):
 def length_where_none(s):
     """Unknown or blank has a length."""
     number = one(s.r, s.numbers(of_state(UNKNOWN, BLANK)))
-    return [(6, dict(number=number, value=s.r.choice((1, 160, 161, 256, 65535))))]
+    return [(6, dict(number=number, value=s.r.choice((1, 255, PACKET_LIMIT, PACKET_LIMIT + 1, 65535))))]
 
 
 def no_length(s):
@@ -97,15 +99,16 @@ def no_length(s):
 
 
 def length_too_great(s):
-    """A known packet is longer than 160."""
-    return [(6, dict(number=one(s.r, s.numbers(of_state(*KNOWN))), value=s.r.choice((161, 162, 256, 257, 416, 65535))))]
+    """A known packet is longer than the limit."""
+    return [(6, dict(number=one(s.r, s.numbers(of_state(*KNOWN))), value=s.r.choice(TOO_GREAT)))]
 
 
 def octet_past(s):
     """An octet past a length is not zero."""
-    number = one(s.r, s.numbers(lambda place: place.length < 160))
+    number = one(s.r, s.numbers(lambda place: place.length < PACKET_LIMIT))
     length = s.held.place(number).length
-    return [(7, dict(number=number, octet=s.r.choice((length, 159, s.r.randrange(length, 160))), value=s.r.choice((1, 128, 255))))]
+    octet = s.r.choice((length, PACKET_LIMIT - 1, s.r.randrange(length, PACKET_LIMIT)))
+    return [(7, dict(number=number, octet=octet, value=s.r.choice((1, 128, 255))))]
 
 
 def accepted_unknown(s):
@@ -145,10 +148,10 @@ def m_without_n(s):
 
 
 def message_too_long(s):
-    """A message is longer than 160."""
+    """A message is longer than the limit."""
     number = one(s.r, s.accepted(lambda mark: mark.m))
     message = s.r.randrange(s.held.mark(number).m)
-    return [(11, dict(number=number, message=message, value=s.r.choice((161, 162, 256, 300, 65535))))]
+    return [(11, dict(number=number, message=message, value=s.r.choice(TOO_GREAT)))]
 
 
 def message_octet_past(s):
@@ -156,28 +159,28 @@ def message_octet_past(s):
     number = one(s.r, s.accepted(lambda mark: mark.accepted))
     message = s.r.randrange(4)
     length = s.held.mark(number).messages[message].length
-    if length >= 160:
+    if length >= PACKET_LIMIT:
         raise LookupError
-    return [(12, dict(number=number, message=message, octet=s.r.choice((length, 159)), value=s.r.choice((1, 255))))]
+    return [(12, dict(number=number, message=message, octet=s.r.choice((length, PACKET_LIMIT - 1)), value=s.r.choice((1, 255))))]
 
 
 def message_past_m(s):
     """A message place past m has a length."""
     number = one(s.r, s.accepted(lambda mark: mark.m < 4))
     message = s.r.randrange(s.held.mark(number).m, 4)
-    return [(11, dict(number=number, message=message, value=s.r.choice((1, 160))))]
+    return [(11, dict(number=number, message=message, value=s.r.choice((1, PACKET_LIMIT))))]
 
 
 def message_octet_anywhere(s):
     """A message's octet is set at a number that is not accepted."""
     number = one(s.r, s.accepted(lambda mark: not mark.accepted))
-    return [(12, dict(number=number, message=s.r.randrange(4), octet=s.r.choice((0, 159)), value=1))]
+    return [(12, dict(number=number, message=s.r.randrange(4), octet=s.r.choice((0, PACKET_LIMIT - 1)), value=1))]
 
 
 def note_of_received(s):
     """A received number's note is not its own."""
     number = one(s.r, s.numbers(of_state(RECEIVED)))
-    others = [(number + step) % 65536 for step in (1, 65535, 64, 256, 32768)] + 2 * [0] * (number != 0)
+    others = [(number + step) % 65536 for step in (1, 65535, 64, 256, 32768)] + 5 * [0] * (number != 0)
     return [(13, dict(number=number, value=s.r.choice(others)))]
 
 

@@ -1,7 +1,8 @@
 """Scenes with a receiving session, and mostly an honest sender on a line that loses, repeats and reorders."""
 
 from rules.arguments import shown
-from rules.datagrams import PARITY, SPARES, Datagram, written_datagram
+from rules.datagrams import DATAGRAM_LIMIT, PARITY, SPARES, Datagram, written_datagram
+from rules.packets import PACKET_LIMIT
 from rules.receiving import AFTER, NUMBERS_LIMIT, UNKNOWN
 from rules.sending import Sending
 
@@ -71,7 +72,7 @@ def honest(script):
 def send_one(script, style, on_the_way):
     """Sends one packet; the datagram is lost, or comes after some others, or twice."""
     r = script.random
-    cap = 1500
+    cap = DATAGRAM_LIMIT
     settings = style.settings()
     packet = pieces.opaque(r, style.small) if r.random() < 0.8 else pieces.fax_packet(r)
     if script.chance(0.12):
@@ -90,11 +91,11 @@ def awkward(script, packet, settings):
     copy = Sending()
     copy.sent, copy.history = script.sending.sent, list(script.sending.history)
     if copy.in_ranges() and copy.sent < NUMBERS_LIMIT and script.chance(0.6):
-        size = len(copy.send(packet, *settings, 1500))
+        size = len(copy.send(packet, *settings, DATAGRAM_LIMIT))
         return r.choice((0, 1, size - 1, size - 1, size, size + 1, 2600)), packet, settings
     if script.chance(0.5):
-        return 1500, pieces.octets(r, r.choice((0, 160, 161, 161, 256, 300))), settings
-    return r.choice((0, 1500)), packet, r.choice((
+        return DATAGRAM_LIMIT, pieces.octets(r, r.choice((0, PACKET_LIMIT, PACKET_LIMIT + 1, PACKET_LIMIT + 1, 300))), settings
+    return r.choice((0, DATAGRAM_LIMIT)), packet, r.choice((
         (SPARES, 9, 0), (SPARES, 255, 0), (SPARES, 8, 0), (PARITY, 0, 1), (PARITY, 9, 1), (PARITY, 8, 0), (PARITY, 1, 5), (PARITY, 0, 0),
         (PARITY, 8, 4), (PARITY, 255, 255)))
 
@@ -120,17 +121,17 @@ def release_some(script, style, everything=False):
         session = script.receiving
         if session.place(session.base).state != UNKNOWN:
             length = session.place(session.base).length
-            cap = r.choice((160, 160, 160, 160, length, length, max(0, length - 1), length + 1, 0))
+            cap = r.choice(4 * (PACKET_LIMIT,) + (length, length, max(0, length - 1), length + 1, 0))
             answer = script.next(cap, script.chance(0.3))
             if answer[0] == 0xFF and answer[1] != 13:
                 return
         else:
             if script.chance(0.2):
-                script.next(r.choice((0, 160)))
+                script.next(r.choice((0, PACKET_LIMIT)))
             behind = sum(session.mark(session.base + d).accepted for d in range(AFTER))
             if not (everything or behind > style.patience) or behind == 0 and script.chance(0.7):
                 return
-            if script.give_up(r.choice((0, 0, 1, 160)))[0] == 0xFF:
+            if script.give_up(r.choice((0, 0, 1, PACKET_LIMIT)))[0] == 0xFF:
                 return
 
 
@@ -146,9 +147,9 @@ def dishonest(script):
             number = (script.receiving.base + distance) % 65536
             script.offer(written_datagram(pieces.datagram(r, number, 0.95)))
             if script.chance(0.1):
-                script.next(160)
+                script.next(PACKET_LIMIT)
             if script.chance(0.08):
-                script.give_up(r.choice((0, 1, 160)))
+                script.give_up(r.choice((0, 1, PACKET_LIMIT)))
         script.look(0.7)
         release_some(script, style, everything=True)
     script.look(0.5)
@@ -164,7 +165,7 @@ def sparse_parity(script):
     for _ in range(40):
         if sender.sent < NUMBERS_LIMIT:
             settings = (PARITY, n, m) if script.chance(0.8) else (PARITY, r.randrange(1, 9), r.randrange(1, 5))
-            datagrams.append(sender.send(pieces.opaque(r, 0.95), *settings, 1500))
+            datagrams.append(sender.send(pieces.opaque(r, 0.95), *settings, DATAGRAM_LIMIT))
     kept = [octets for octets in datagrams[:32] if script.chance(r.choice((0.3, 0.5, 0.7)))]
     order = r.choice(('forward', 'backward', 'shuffled'))
     if order == 'backward':
@@ -179,12 +180,12 @@ def sparse_parity(script):
         script.look(0.05)
     script.look()
     for _ in range(r.randrange(1, 40)):
-        if script.next(160)[0] == 0xFF:
+        if script.next(PACKET_LIMIT)[0] == 0xFF:
             script.give_up()
     for octets in datagrams[32:]:
         script.offer(octets)
     script.look()
-    script.next(160)
+    script.next(PACKET_LIMIT)
 
 
 def contested(script):

@@ -1,7 +1,8 @@
 """Scenes at a session's edges: numbers before the first, the wrap, the limit, datagrams that are refused; a sending session alone."""
 
 from rules.arguments import shown
-from rules.datagrams import PARITY, SPARES, written_datagram
+from rules.datagrams import DATAGRAM_LIMIT, PARITY, SPARES, written_datagram
+from rules.packets import PACKET_LIMIT
 from rules.receiving import NUMBERS_LIMIT
 
 from . import pieces
@@ -16,10 +17,10 @@ def damaged_offers(script):
         number = (script.receiving.base + r.randrange(32)) % 65536
         script.offer(pieces.damaged_datagram(r, number))
         script.look(0.1)
-    script.offer(bytes(r.choice((1500, 1501, 1600))))
+    script.offer(bytes(r.choice((DATAGRAM_LIMIT, DATAGRAM_LIMIT + 1, DATAGRAM_LIMIT + 100))))
     for distance in (31, 32, 32767, 32768, 65535):
         script.offer(written_datagram(pieces.datagram(r, (script.receiving.base + distance) % 65536, 0.95)))
-    script.next(160)
+    script.next(PACKET_LIMIT)
 
 
 def blanks(script):
@@ -33,10 +34,10 @@ def blanks(script):
     for number in numbers:
         script.offer(written_datagram(pieces.datagram(r, number, 0.95)))
         if script.chance(0.2):
-            script.next(160)
+            script.next(PACKET_LIMIT)
     script.look()
     for _ in range(12):
-        if script.next(160)[0] == 0xFF:
+        if script.next(PACKET_LIMIT)[0] == 0xFF:
             script.give_up()
     script.look()
 
@@ -58,18 +59,18 @@ def at_the_limit(script):
     r = script.random
     left = r.randrange(4)
     script.call(0x16, shown(r.choice((NUMBERS_LIMIT - left, NUMBERS_LIMIT + r.randrange(3), 0xFFFFFFFF)), 4))
-    script.next(160)
+    script.next(PACKET_LIMIT)
     for distance in r.sample(range(32), 6) + [0, 1]:
         script.offer(written_datagram(pieces.datagram(r, (script.receiving.base + distance) % 65536, 0.95)))
     for _ in range(6):
-        script.next(r.choice((0, 160)))
+        script.next(r.choice((0, PACKET_LIMIT)))
         if script.chance(0.5):
-            script.give_up(r.choice((0, 160)))
+            script.give_up(r.choice((0, PACKET_LIMIT)))
     script.look()
     script.call(0x22, shown(r.choice((NUMBERS_LIMIT - left, NUMBERS_LIMIT + 1, 0xFFFFFFFF)), 4))
     for _ in range(5):
         settings = r.choice(((SPARES, 8, 0), (SPARES, 9, 0), (PARITY, 2, 2), (PARITY, 8, 4)))
-        script.send(pieces.opaque(r), *settings, r.choice((3, 1500, 1500)))
+        script.send(pieces.opaque(r), *settings, r.choice((3, DATAGRAM_LIMIT, DATAGRAM_LIMIT)))
 
 
 def sending(script):
@@ -86,4 +87,4 @@ def sending(script):
     for _ in range(3):
         script.send(pieces.opaque(r, 1.0), SPARES, r.choice((1, 4, 8, 8)), 0)
     wrong = r.choice(((SPARES, 9, 0), (PARITY, 0, 1), (PARITY, 1, 5), (SPARES, 8, 0)))
-    script.send(pieces.octets(r, r.choice((0, 161, 161))), *wrong, r.choice((0, 1500)))
+    script.send(pieces.octets(r, r.choice((0, PACKET_LIMIT + 1, PACKET_LIMIT + 1))), *wrong, r.choice((0, DATAGRAM_LIMIT)))

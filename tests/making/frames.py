@@ -1,11 +1,11 @@
 """Scenes with the joiner: rows of fields with losses, frames near 300 octets, wrong fields, joiners outside their ranges."""
 
 from rules.joining import ADDING, ENDING_A_TAINT, FRAME_LIMIT
-from rules.packets import WITH_DATA
+from rules.packets import PACKET_LIMIT, WITH_DATA
 
 from . import pieces
 
-ANY_LENGTH = (1, 1, 2, 3, 7, 159, 160, 161, 255, 256, 257, 299, 300, 301, 400, 556)
+ANY_LENGTH = (1, 1, 2, 3, 7, 255, PACKET_LIMIT - 1, PACKET_LIMIT, PACKET_LIMIT + 1, 299, 300, 301, 400, 556)
 
 
 def data_for(r, field_type, small=0.8):
@@ -79,7 +79,7 @@ def near_the_limit(script):
     script.call(0x30)
     left = r.choice((298, 299, 299, 300, 300, 300, 301, 301, 302, 460, 600))
     while left > 0:
-        size = min(left, r.choice((1, 150, 160, 161, 299, 300, 301, 600)))
+        size = min(left, r.choice((1, 150, PACKET_LIMIT, PACKET_LIMIT + 1, 299, 300, 301, 600)))
         script.field(ADDING, pieces.octets(r, size), r.choice((0, FRAME_LIMIT)))
         left -= size
     script.look_at_joiner()
@@ -131,7 +131,7 @@ def held(script):
     r = script.random
     script.call(0x30)
     if script.chance(0.8):
-        script.field(ADDING, pieces.octets(r, r.choice((1, 2, 5, 160, 298, 299, 300))))
+        script.field(ADDING, pieces.octets(r, r.choice((1, 2, 5, PACKET_LIMIT, 298, 299, 300))))
     if script.chance(0.25):
         script.lost()
 

@@ -1,14 +1,17 @@
-"""Scenes for images (02, request 9): sessions written with room near the size, read back and gone on with, and images damaged.
+"""Scenes for images (02, requests 9 and 10): sessions written with room near the size, read back in both editions and gone on with, and
+images damaged.
 
-The items of an image tell what each damage is met with, 20, 17 or nothing; making the script ends if the answer is another."""
+The items of an image tell what each damage is met with, 21, 20, 17 or nothing; making the script ends if the answer is another."""
+
+import re
 
 from rules.arguments import shown
 from rules.datagrams import M_LIMIT, N_LIMIT, PARITY, SPARES, Datagram, written_datagram
-from rules.images import EDITION
+from rules.images import EDITION, LIMITS
 from rules.lengths import written_length
 from rules.packets import PACKET_LIMIT
 from rules.receiving import AFTER, BEFORE, BLANK, NUMBERS_LIMIT, RECEIVED, REPAIRED, SPARE, UNKNOWN
-from rules.refusals import MISSHAPEN, RANGES, Refusal
+from rules.refusals import MISSHAPEN, OTHER_EDITION, RANGES, Refusal
 
 from . import pieces
 from .breaking import KNOWN, one
@@ -20,8 +23,10 @@ DONE = b'\x00'
 COUNTS = ('received', 'spare', 'repaired', 'lost')
 WRONG_FORMS = b'8000', b'8001', b'807F', b'C0', b'C001', b'FF'
 NO_DIGITS = b' ', b'G', b'g', b'/', b':', b'@', b'\r', b'\t', b'\x00', b'\xC1', b'\n\n', b'\n'
-TEXTS = (b'', b'\n', b'\n' * 65, b'\r\n' * 65, b'00', b'01', b'01\n', b'01' + b'0' * 36, b'01' + b'0' * 36 + b'\n', b'0' * 38 + b'\n' * 65,
-         b'g', b'0a\n', (b'01' + b'0' * 36 + b'\n').ljust(999, b'0'))
+TEXTS = (b'', b'\n', b'\n' * 65, b'\r\n' * 65, b'0', b'3', b'01', b'02', b'01\n', b'02\r\n', b'01' + b'0' * 36, b'02' + b'0' * 36 + b'\n',
+         b'02' + b'0' * 36 + b'\n' * 65, b'g', b'0a', b'0a\n', b'a0', b'0G', b' 03', b'\n03', b'0\n3', b'0/', b':0', b'@3',
+         (b'02' + b'0' * 36 + b'\n').ljust(999, b'0'))
+NO_EDITIONS = b'00', b'03', b'03', b'04', b'0A', b'10', b'20', b'81', b'82', b'A1', b'FF'
 
 
 def digits(value, octets=1):
@@ -34,9 +39,9 @@ def sized(octets, length=None):
     return (pieces.digits(written_length(len(octets))) if length is None else length) + pieces.digits(octets)
 
 
-def rows_of(session):
+def rows_of(session, edition=EDITION):
     """A session's image as rows, each of items by their names: the head, then a row for each number in view."""
-    head = dict(edition=digits(EDITION), base=digits(session.base, 2))
+    head = dict(edition=digits(edition), base=digits(session.base, 2))
     head.update((name, digits(count, 4)) for name, count in zip(COUNTS, session.counts.values()))
     rows = [head]
     for j in range(-BEFORE, AFTER):
@@ -75,12 +80,18 @@ def in_state(rows, *states):
     return [row for row in rows if value(row, 'state') in states]
 
 
+def limit(rows):
+    """The limit of the rows' edition."""
+    return LIMITS[value(rows[0], 'edition')]
+
+
+def fits(session, edition):
+    """Whether an edition can hold a session: no packet and no message is over its limit."""
+    longest = max([place.length for place in session.places] + [message.length for mark in session.marks for message in mark.messages])
+    return longest <= LIMITS[edition]
+
+
 # Damages that are met with 20: each changes rows, or the text that they have.
-
-
-def another_edition(r, rows):
-    """An edition octet other than 01."""
-    rows[0]['edition'] = r.choice((b'00', b'02', b'03', b'10', b'81', b'FF'))
 
 
 def state_over(r, rows):
@@ -90,7 +101,7 @@ def state_over(r, rows):
 
 def accepted_over(r, rows):
     """Accepted over 01."""
-    one(r, in_state(ahead(rows), *r.choice((KNOWN, (UNKNOWN,)))))['accepted'] = r.choice((b'02', b'02', b'03', b'80', b'81', b'FF'))
+    one(r, in_state(ahead(rows), *r.choice((KNOWN, KNOWN, (UNKNOWN,)))))['accepted'] = r.choice((b'02', b'02', b'02', b'03', b'81', b'FF'))
 
 
 def n_over(r, rows):
@@ -107,13 +118,13 @@ def m_over(r, rows):
 
 def too_long(r, rows):
     """A packet over the limit, its octets there."""
-    r.choice(rows[1:])['packet'] = sized(pieces.octets(r, r.choice((PACKET_LIMIT + 1, PACKET_LIMIT + 1, 400))))
+    r.choice(rows[1:])['packet'] = sized(pieces.octets(r, r.choice((limit(rows) + 1, limit(rows) + 1, 257, 400))))
 
 
 def message_too_long(r, rows):
     """A message over the limit, its octets there."""
     row = one(r, [row for row in ahead(rows) if value(row, 'accepted')])
-    row.update(n=b'01', m=b'01', messages=sized(pieces.octets(r, r.choice((PACKET_LIMIT + 1, PACKET_LIMIT + 1, 400)))))
+    row.update(n=b'01', m=b'01', messages=sized(pieces.octets(r, r.choice((limit(rows) + 1, limit(rows) + 1, 257, 400)))))
 
 
 def length_form(r, rows):
@@ -260,7 +271,7 @@ def blank(r, rows):
 
 def packet_where_none(r, rows):
     """Unknown or blank has a packet."""
-    one(r, in_state(rows[1:], UNKNOWN, BLANK))['packet'] = sized(pieces.octets(r, r.choice((1, 2, PACKET_LIMIT))))
+    one(r, in_state(rows[1:], UNKNOWN, BLANK))['packet'] = sized(pieces.octets(r, r.choice((1, 2, limit(rows)))))
 
 
 def no_packet(r, rows):
@@ -319,7 +330,7 @@ def another_kind(r, rows):
 
 def another_packet(r, rows):
     """A known number has another packet, of any length up to the limit."""
-    one(r, in_state(rows[1:], *KNOWN))['packet'] = sized(pieces.octets(r, r.choice((1, 2, 127, 128, PACKET_LIMIT - 1, PACKET_LIMIT))))
+    one(r, in_state(rows[1:], *KNOWN))['packet'] = sized(pieces.octets(r, r.choice((1, 2, 127, 128, limit(rows) - 1, limit(rows)))))
 
 
 def known_before(r, rows):
@@ -336,7 +347,7 @@ def acceptance_off(r, rows):
 def other_messages(r, rows):
     """An accepted number has other messages, up to the limit and empty ones too."""
     row, m = one(r, [row for row in ahead(rows) if value(row, 'accepted')]), r.choice((1, 2, M_LIMIT, M_LIMIT))
-    lengths = [r.choice((0, 1, 2, 127, 128, PACKET_LIMIT - 1, PACKET_LIMIT)) for _ in range(m)]
+    lengths = [r.choice((0, 1, 2, 127, 128, limit(rows) - 1, limit(rows))) for _ in range(m)]
     row.update(n=digits(r.choice((1, 2, N_LIMIT))), m=digits(m), messages=b''.join(sized(pieces.octets(r, length)) for length in lengths))
 
 
@@ -348,7 +359,7 @@ def counts_moved(r, rows):
         rows[0][other] = digits(value(rows[0], other) + 1, 4)
 
 
-BY_ROWS = (another_edition, state_over, accepted_over, n_over, m_over, too_long, message_too_long, length_form, message_form, two_octets,
+BY_ROWS = (state_over, accepted_over, n_over, m_over, too_long, message_too_long, length_form, message_form, two_octets,
            accepted_before, n_before, m_before, octets_missing, octets_left, message_more)
 BY_TEXT = (line_missing, line_extra, not_ended, carriage_return, lower_case, no_digit, odd_digits)
 NO_SESSION = (base_off, count_off, sum_too_great, sum_wraps, not_blank, blank, packet_where_none, no_packet, note_of_received,
@@ -356,9 +367,14 @@ NO_SESSION = (base_off, count_off, sum_too_great, sum_wraps, not_blank, blank, p
 ANOTHER = (another_note, another_kind, another_packet, known_before, acceptance_off, other_messages, counts_moved)
 
 
+def any_edition(script):
+    """The rows of the session that is held, in an edition that can hold it."""
+    return rows_of(script.receiving, script.random.choice([edition for edition in LIMITS if fits(script.receiving, edition)]))
+
+
 def changed(script, *changes):
     """The image of the session that is held, with changes; None if there is nothing that they could change."""
-    rows = rows_of(script.receiving)
+    rows = any_edition(script)
     try:
         for change in changes:
             if change not in BY_TEXT:
@@ -370,6 +386,11 @@ def changed(script, *changes):
     except LookupError:
         return None
     return text
+
+
+def misshapen_as(text):
+    """What a misshapen text is met with: 21 if it begins with an octet that is no edition, else 20."""
+    return OTHER_EDITION if re.match(b'[0-9A-F]{2}', text) and int(text[:2], 16) not in LIMITS else MISSHAPEN
 
 
 def restore(script, text, number=None):
@@ -410,7 +431,7 @@ def crowd(script):
     """Two rounds of 32 numbers, with long packets and messages: the greatest image that there is, or one not far below."""
     r = script.random
     script.call(0x16, shown(r.choice((0, 65530, NUMBERS_LIMIT - AFTER)), 4))
-    size = r.choice((PACKET_LIMIT, PACKET_LIMIT, 128))
+    size = r.choice((PACKET_LIMIT, PACKET_LIMIT, LIMITS[1], 128))
     for first in (True, False):
         for at in range(AFTER):
             octets = [pieces.octets(r, size) for _ in range(1 + M_LIMIT)]
@@ -438,22 +459,24 @@ def written(script):
 
 
 def read_back(script):
-    """An image read back into another session: it is the same session again, has the same image, and goes on."""
+    """An image of either edition read back into another session: it is the same session again, has the same image, and goes on."""
     any_session(script)
-    text = image(script)
+    image(script)
+    text, same = text_of(any_edition(script)), text_of(rows_of(script.receiving))
     if script.chance(0.7):
         any_session(script)
     restore(script, text)
     script.look(0.5)
-    assert image(script) == text
+    assert image(script) == same
     try_restored(script)
 
 
 def great(script):
-    """The greatest image, written and read back."""
+    """The greatest image of an edition, written and read back."""
     crowd(script)
     text = image(script)
     script.image(len(text) - 1)
+    text = text_of(any_edition(script))
     script.call(0x10)
     restore(script, text)
     script.look()
@@ -490,7 +513,7 @@ def misshapen(script):
     for damage in r.sample(2 * BY_ROWS + 4 * BY_TEXT, 24):
         text = changed(script, damage)
         if text is not None:
-            restore(script, text, MISSHAPEN)
+            restore(script, text, misshapen_as(text))
             script.look(0.05)
     image(script)
     try_restored(script)
@@ -500,13 +523,13 @@ def no_session(script):
     """Images whose lines have their shape, but are no session's: 17; with a misshapen line too, before it or behind, 20."""
     r = script.random
     any_session(script)
-    for damage in r.sample(NO_SESSION, 10):
+    for damage in r.sample(NO_SESSION, len(NO_SESSION)):
         text = changed(script, damage)
         if text is not None:
             restore(script, text, RANGES)
             text = changed(script, damage, r.choice(BY_ROWS + BY_TEXT))
-            if text is not None and script.chance(0.6):
-                restore(script, text, MISSHAPEN)
+            if text is not None:
+                restore(script, text, misshapen_as(text))
             script.look(0.05)
     image(script)
     try_restored(script)
@@ -520,8 +543,28 @@ def another(script):
         text = changed(script, change)
         if text is not None:
             restore(script, text)
-            assert image(script) == text
+            assert image(script)[2:] == text[2:]
             try_restored(script)
+
+
+def no_edition(script):
+    """Images of no edition, whole or damaged behind that octet, and their first octets: 21; then the same image in both editions."""
+    r = script.random
+    any_session(script)
+    for _ in range(8):
+        text = changed(script, *r.choice(((), (r.choice(BY_ROWS),), (r.choice(NO_SESSION),), (r.choice(BY_ROWS), r.choice(NO_SESSION)))))
+        if text is not None:
+            edition = r.choice(NO_EDITIONS)
+            damage = r.choice((line_missing, line_extra, not_ended, carriage_return, no_digit, odd_digits))
+            text = r.choice((text, damage(r, text), damage(r, text), text[:r.randrange(2, len(text))], text[:2]))
+            restore(script, edition + text[2:], OTHER_EDITION)
+            script.look(0.05)
+    text = changed(script, r.choice((too_long, another_packet, message_too_long, other_messages)))
+    for edition in LIMITS:
+        if text is not None:
+            script.restore(digits(edition) + text[2:])
+    image(script)
+    try_restored(script)
 
 
 def moved(script):
@@ -545,11 +588,11 @@ def moved(script):
 def texts(script):
     """Short texts that are no images, and lines that are no calls."""
     r = script.random
-    for text in r.sample(TEXTS, 5):
-        restore(script, text, MISSHAPEN)
+    for text in r.sample(TEXTS, 12):
+        restore(script, text, misshapen_as(text))
     odd = [b'18', b'1800', b'180000', b'18000000', b'1800000000', b'180000000000', b'1800000005FF', b'180001D4C1', b'18FFFFFFFF', b'19',
            b'190', b'1901', b'190A', b'193031', b'19 ', b'1A', b'1B', b'1C']
-    for line in r.sample(odd, 6):
+    for line in r.sample(odd, 9):
         script.line(line)
     if script.chance(0.2):
         script.line(b'180001D4C0')

@@ -2,15 +2,16 @@
 
 import random
 
-from rules.datagrams import PARITY, SPARES, written_datagram
-from rules.program import Program
+from rules.datagrams import DATAGRAM_LIMIT, PARITY, SPARES, written_datagram
+from rules.program import LINE_LIMIT, Program
 from rules.receiving import NUMBERS_LIMIT
 from rules.sending import Sending
 
 from . import pieces
 
-ODD_LINES = (b'0', b'0G', b'00 01', b' ', b'\r', b'\t', b'\x00', b'\xFF\xFE', b'0x00', b'FF', b'00', b'0000', b'g' * 3000, b'g' * 3001,
-             b'0' * 2999, b'0' * 3000, b'0' * 3001, b'0' * 3002, b'A' * 3000, b'z' * 5000, b'F' * 20000)
+ODD_LINES = (b'0', b'0G', b'00 01', b' ', b'\r', b'\t', b'\x00', b'\xFF\xFE', b'0x00', b'FF', b'00', b'0000',
+             b'g' * LINE_LIMIT, b'g' * (LINE_LIMIT + 1), b'0' * (LINE_LIMIT - 1), b'0' * LINE_LIMIT, b'0' * (LINE_LIMIT + 1),
+             b'0' * (LINE_LIMIT + 2), b'A' * LINE_LIMIT, b'z' * (LINE_LIMIT + 2000), b'F' * 20000)
 
 
 class Recording:
@@ -86,7 +87,7 @@ def stretch(recording):
     on_the_way = []
     for step in range(r.choice((10, 40, 100))):
         settings = (SPARES, k, 0) if kind == SPARES or kind == 'mixed' and r.random() < 0.5 else (PARITY, n, m)
-        octets = sender.send(pieces.opaque(r, small), *settings, 1500)
+        octets = sender.send(pieces.opaque(r, small), *settings, DATAGRAM_LIMIT)
         if kind == 'dishonest':
             octets = written_datagram(pieces.datagram(r, (sender.sent - 1) % 65536, small))
         if r.random() >= loss:
@@ -101,7 +102,7 @@ def stretch(recording):
         while recording.waiting() > r.choice((12, 24, 31, 36)) or r.random() < 0.01:
             recording.add(b'')
         while recording.waiting() < 0:
-            sender.send(b'\x00', SPARES, 0, 0, 1500)
+            sender.send(b'\x00', SPARES, 0, 0, DATAGRAM_LIMIT)
 
 
 def odd_line(r, base):

@@ -1,7 +1,8 @@
 """Scenes about notes (02, request 8): which datagram filled each number, as the view shows it and a release gives it."""
 
 from rules.arguments import shown
-from rules.datagrams import PARITY, SPARES
+from rules.datagrams import DATAGRAM_LIMIT, PARITY, SPARES
+from rules.packets import PACKET_LIMIT
 from rules.receiving import AFTER, BEFORE, NUMBERS_LIMIT, UNKNOWN
 from rules.sending import Sending
 
@@ -22,7 +23,7 @@ def begin(script, count):
 
 def send(script, sender, settings):
     """The sender's next datagram, small."""
-    return sender.send(pieces.octets(script.random, script.random.choice((1, 2, 3))), *settings, 1500)
+    return sender.send(pieces.octets(script.random, script.random.choice((1, 2, 3))), *settings, DATAGRAM_LIMIT)
 
 
 def filled(script):
@@ -117,7 +118,7 @@ def overwritten(script):
             before = script.receiving.place(number).note
             script.overwrite(13, number, value=r.choice(ANY_NOTE + 4 * (number, (number + 1) % 65536, (number - 1) % 65536)))
             if script.receiving.in_ranges():
-                script.next(r.choice((0, 160)))
+                script.next(r.choice((0, PACKET_LIMIT)))
                 script.call(0x15)
             else:
                 try_all(script, 0.1)

@@ -1,7 +1,8 @@
 """Scenes with sessions outside their ranges: each rule is broken alone, seen refused, then mended or left behind."""
 
 from rules.arguments import shown
-from rules.datagrams import PARITY, SPARES, written_datagram
+from rules.datagrams import DATAGRAM_LIMIT, PARITY, SPARES, written_datagram
+from rules.packets import PACKET_LIMIT
 from rules.receiving import NUMBERS_LIMIT, RECEIVED, REPAIRED, SPARE
 
 from . import pieces
@@ -32,15 +33,15 @@ def furnish(script):
     for distance in r.sample(range(12), 7):
         script.offer(written_datagram(pieces.datagram(r, (script.receiving.base + distance) % 65536, 0.97)))
     for _ in range(r.randrange(4)):
-        script.next(160)
+        script.next(PACKET_LIMIT)
 
 
 def try_all(script, chance_of_view=0.2):
     """Offer, next without leave to skip and with it, and an image with little room or none, in any order."""
     r = script.random
     number = (script.receiving.base + r.randrange(14)) % 65536
-    tries = [lambda: script.offer(written_datagram(pieces.datagram(r, number, 0.97))), lambda: script.next(r.choice((160, 160, 0))),
-             lambda: script.give_up(r.choice((160, 0))), lambda: script.image(r.choice((0, 0, 1100)))]
+    tries = [lambda: script.offer(written_datagram(pieces.datagram(r, number, 0.97))), lambda: script.image(r.choice((0, 0, 1100))),
+             lambda: script.next(r.choice((PACKET_LIMIT, PACKET_LIMIT, 0))), lambda: script.give_up(r.choice((PACKET_LIMIT, 0)))]
     if script.chance(0.1):
         tries.append(lambda: script.offer(pieces.damaged_datagram(r, number)))
     r.shuffle(tries)
@@ -119,20 +120,20 @@ def odd_overwrites(script):
     base = script.receiving.base
     script.overwrite(r.choice((0, 6, 13)), base, value=r.choice((65536, 0xFFFFFFFF)))
     script.overwrite(5, base, value=r.choice((5, 255, 256)))
-    script.overwrite(7, base, octet=r.choice((159, 160, 65535)), value=0)
-    script.overwrite(7, base, octet=r.randrange(160), value=256)
+    script.overwrite(7, base, octet=r.choice((PACKET_LIMIT - 1, PACKET_LIMIT, 65535)), value=0)
+    script.overwrite(7, base, octet=r.randrange(PACKET_LIMIT), value=256)
     script.overwrite(r.choice((5, 6, 7, 13)), base + r.choice((32, -33, 1000)))
     script.overwrite(5, base + r.choice((-32, 31)), value=5)
     script.overwrite(8, base, value=2)
     script.overwrite(r.choice((9, 10)), base, value=256)
     script.overwrite(r.choice((8, 9, 10, 11, 12)), base + r.choice((-1, 32, 40)))
     script.overwrite(r.choice((11, 12)), base, message=r.choice((4, 255)))
-    script.overwrite(12, base, message=3, octet=160)
+    script.overwrite(12, base, message=3, octet=PACKET_LIMIT)
     script.overwrite(r.choice((14, 128, 255)), base)
     sent = script.sending.sent
     script.overwrite_sending(r.choice((1, 2)), sent + r.choice((0, 1, -33)))
     script.overwrite_sending(1, sent - 1, value=65536)
-    script.overwrite_sending(2, sent - 1, octet=160)
+    script.overwrite_sending(2, sent - 1, octet=PACKET_LIMIT)
     script.overwrite_sending(2, sent - 1, octet=0, value=256)
     script.overwrite_sending(3, sent - 1)
 
@@ -146,15 +147,15 @@ def sending_changes(script):
     if choice == 0:
         return [(0, 0, 0, r.choice((NUMBERS_LIMIT + 1, 1048576 + sent % 32, 0xFFFFFFFF, max(0, sent - 1), sent + 1, 0, sent % 32)))]
     if choice == 1:
-        return [(1, number, 0, r.choice((161, 256, 257, 65535)))]
+        return [(1, number, 0, r.choice((PACKET_LIMIT + 1, PACKET_LIMIT + 1, 2 * PACKET_LIMIT, 65535)))]
     if choice == 2:
         if j > sent:
             return [(1, number, 0, 1)]
         return [(2, number, octet, 0) for octet in range(item.length)][:8] + [(1, number, 0, 0)]
     if choice == 3:
-        return [(2, number, r.choice((min(item.length, 159), 159)), r.choice((1, 255)))]
+        return [(2, number, r.choice((min(item.length, PACKET_LIMIT - 1), PACKET_LIMIT - 1)), r.choice((1, 255)))]
     if choice == 4:
-        return [(1, number, 0, r.randrange(161))]
+        return [(1, number, 0, r.randrange(PACKET_LIMIT + 1))]
     return [(2, number, 0, r.randrange(256))]
 
 
@@ -177,7 +178,7 @@ def sending_outside(script):
             script.overwrite_sending(*change)
         for _ in range(2):
             settings = r.choice(((SPARES, 0, 0), (SPARES, 3, 0), (PARITY, 3, 2), (PARITY, 8, 4), (SPARES, 9, 0)))
-            script.send(r.choice((b'\x06', b'', pieces.opaque(r, 0.9))), *settings, r.choice((3, 1500)))
+            script.send(r.choice((b'\x06', b'', pieces.opaque(r, 0.9))), *settings, r.choice((3, DATAGRAM_LIMIT)))
         if not script.sending.in_ranges():
             for change in reversed(before):
                 script.overwrite_sending(*change)

@@ -8,7 +8,7 @@ from . import pieces
 from .frames import frame, packets_of
 
 BARE = (1, 2, 3, 4, 5, 7)
-NEAR_THE_LIMIT = (159, 160, 160, 160, 161, 162)
+NEAR_THE_LIMIT = (PACKET_LIMIT - 1,) + 3 * (PACKET_LIMIT,) + (PACKET_LIMIT + 1, PACKET_LIMIT + 2)
 
 
 def bare_fields(r, count):
@@ -105,14 +105,14 @@ def counts_off(script):
 
 
 def near_the_limit(script):
-    """Packets of 159 to 162 octets with runs before and after their data, read and written."""
+    """Packets of the limit, one octet less, and one and two more, with runs before and after their data, read and written."""
     r = script.random
     for size in r.sample(NEAR_THE_LIMIT, 4):
         given = packet_of_size(r, size)
         read(script, written_packet(given))
         write(script, given, r.choice((0, PACKET_LIMIT - 1, PACKET_LIMIT, 400)))
         if script.chance(0.5):
-            read(script, written_packet(given).ljust(r.choice((160, 161)), b'\0'), 1)
+            read(script, written_packet(given).ljust(r.choice((PACKET_LIMIT, PACKET_LIMIT + 1)), b'\0'), 1)
         if script.chance(0.5) and len(given.fields) < FIELDS_LIMIT:
             write(script, given._replace(fields=given.fields + bare_fields(r, 1)), r.choice((PACKET_LIMIT, 400)))
 

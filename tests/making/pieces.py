@@ -1,13 +1,14 @@
 """Packets and datagrams of every shape and edge, whole and damaged; each is drawn from a random source r."""
 
-from rules.datagrams import PARITY, SPARES, Datagram
+from rules.arguments import shown
+from rules.datagrams import DATAGRAM_LIMIT, PARITY, SPARES, Datagram
 from rules.lengths import written_length
 from rules.packets import DATA_PACKET, INDICATOR, PACKET_LIMIT, WITH_DATA, Packet, written_packet
 
-EDGES = (1, 2, 3, 126, 127, 128, 129, 158, 159, 160)
+EDGES = (1, 2, 3, 126, 127, 128, 129, 160, 161, PACKET_LIMIT - 2, PACKET_LIMIT - 1, PACKET_LIMIT)  # 160 was the limit before request 10
 LENGTH_FORMS = tuple(bytes.fromhex(text) for text in (
-    '00', '01', '03', '04', '05', '07', '08', '09', '10', '11', '7F', '80', '8000', '807F', '8080', '809F', '80A0', '80A1',
-    '8100', 'BFFF', 'C0', 'C101', 'FF'))
+    '00', '01', '03', '04', '05', '07', '08', '09', '10', '11', '7F', '80', '8000', '807F', '8080', '80A0', '80A1', 'BFFF', 'C0', 'C101',
+    'FF')) + tuple(written_length(PACKET_LIMIT + step) for step in (-1, 0, 1))
 
 
 def octets(r, length):
@@ -21,7 +22,7 @@ def length(r, small=0.6):
     """A packet's length, small with this chance, else at an edge or anywhere."""
     if r.random() < small:
         return r.randrange(1, 9)
-    return r.choice(EDGES) if r.random() < 0.5 else r.randrange(1, 161)
+    return r.choice(EDGES) if r.random() < 0.5 else r.randrange(1, PACKET_LIMIT + 1)
 
 
 def opaque(r, small=0.6):
@@ -40,7 +41,7 @@ def packet(r):
         room = PACKET_LIMIT - len(written_packet(with_field(given, kind, bytes(has_data))))
         if room < 0:
             break
-        most = min(room, r.choice((2, 8, 160)))
+        most = min(room, r.choice((2, 8, PACKET_LIMIT)))
         size = r.choice((0, most, r.randrange(most + 1)))
         given = with_field(given, kind, octets(r, size + 1) if has_data else b'')
     return given
@@ -132,8 +133,8 @@ def changed_octets(r, role, item):
     if role in ('one', 'n'):
         return bytes([r.choice((0, 1, 2, 8, 9, 0x7F, 0x80, 0xC0, 0xFF))])
     if role == 'size':
-        return r.choice((b'\xFF\xFF', b'\x00\xA0', b'\x00\x9F', b'\x01\x00', b'\x00\x00', item[:1],
-                         bytes([item[0], (item[1] + 1) % 256]), bytes([item[0], (item[1] - 1) % 256])))
+        return r.choice((b'\xFF\xFF', b'\x00\x00', item[:1], bytes([item[0], (item[1] + 1) % 256]), bytes([item[0], (item[1] - 1) % 256]),
+                         *(shown(PACKET_LIMIT + step, 2) for step in (-1, 0, 1))))
     if role == 'first':
         return bytes([item[0] ^ 1 << r.randrange(8)]) if r.random() < 0.7 else bytes([r.randrange(256)])
     return r.choice((item[:-1], item + b'\x00', item[:len(item) // 2], b''))
@@ -160,5 +161,5 @@ def damaged_datagram(r, number):
     """A datagram that is most likely refused; now and then one that is too long."""
     whole = damaged(r, datagram_items(datagram(r, number, 0.8)))
     if r.random() < 0.08:
-        whole = whole.ljust(r.choice((1499, 1500, 1501, 1502, 3000)), r.choice((b'\x00', b'\xFF')))
+        whole = whole.ljust(DATAGRAM_LIMIT + r.choice((-1, 0, 1, 2, DATAGRAM_LIMIT)), r.choice((b'\x00', b'\xFF')))
     return whole

@@ -2,13 +2,18 @@
 
 The row of items tells which refusal is met, and at which octet its item begins; making the script ends if the answer is another."""
 
-from rules.datagrams import PARITY
+from rules.arguments import shown
+from rules.datagrams import DATAGRAM_LIMIT, PARITY
+from rules.lengths import written_length
+from rules.packets import PACKET_LIMIT
 from rules.refusals import DATA, ENDS, FORM, LEFT_OVER, NOT_ASSIGNED, SIZE, SPARE_BIT, Refusal
 
 from . import pieces
 from .packed import packet_in_runs
 
 WRONG_FORMS = (b'C0', b'FF', b'8000', b'807F')
+TOO_LONG = pieces.digits(written_length(PACKET_LIMIT + 1))
+FIRST_TOO_LONG = pieces.digits(shown(PACKET_LIMIT, 2))  # where a length minus one stands
 WRONG_FIRST = (b'D2', NOT_ASSIGNED), (b'D3', NOT_ASSIGNED), (b'A1', NOT_ASSIGNED), (b'81', SPARE_BIT), (b'8C', DATA)
 WITH_DATA_MISPLACED, DATA_MISSING = (0x9, 0xA, 0xB, 0xC, 0xD), (0x0, 0x6)
 
@@ -43,7 +48,7 @@ def wrong_in_datagram(r, row, at, most):
     role = row[at][0]
     if role == 'length':
         count = sum(other == 'length' for other, _ in row[:at]) == 1
-        too_great = b'%02X' % r.choice((most + 1, 0x7F)) if count else b'80A1'
+        too_great = b'%02X' % r.choice((most + 1, 0x7F)) if count else TOO_LONG
         return r.choice(((r.choice(WRONG_FORMS), FORM), (r.choice((too_great, b'BFFF')), SIZE)))
     if role == 'kind':
         return b'%02X' % (int(row[at][1], 16) | r.choice((0x01, 0x40, 0x7F))), SPARE_BIT
@@ -59,7 +64,7 @@ def wrong_in_packet(r, row, at):
     if role == 'header':
         return b'%X' % r.choice(WITH_DATA_MISPLACED + DATA_MISSING), DATA
     return {'count': r.choice(((r.choice(WRONG_FORMS), FORM), (r.choice((b'00', b'11', b'8080')), SIZE))),
-            'padding': (b'%X' % r.randrange(1, 16), SPARE_BIT), 'size': (r.choice((b'00A0', b'0100', b'FFFF')), SIZE)}.get(role)
+            'padding': (b'%X' % r.randrange(1, 16), SPARE_BIT), 'size': (r.choice((FIRST_TOO_LONG, b'FFFF')), SIZE)}.get(role)
 
 
 def met(answer, refusal):
@@ -81,7 +86,7 @@ def datagrams(script):
             tries.append(with_wrong(row, at, *wrong_in_datagram(r, row, at, 4 if given.kind == PARITY else 8)))
         tries.append((whole + r.choice((b'\x00', b'\x01', bytes(9))), Refusal(LEFT_OVER, len(whole))))
         for octets, refusal in tries:
-            if len(octets) <= 1500:
+            if len(octets) <= DATAGRAM_LIMIT:
                 met(script.call(0x03, octets), refusal)
                 if script.chance(0.5):
                     met(script.offer(octets), refusal)
@@ -99,5 +104,5 @@ def packets(script):
             tries.append(with_wrong(row, at, *wrong_in_packet(r, row, at)))
         tries.append((whole + bytes(r.choice((0, 0, 1, 5))) + b'\x01', Refusal(LEFT_OVER, len(whole))))
         for octets, refusal in tries:
-            if len(octets) <= 160:
+            if len(octets) <= PACKET_LIMIT:
                 met(script.read(octets, r.randrange(2)), refusal)

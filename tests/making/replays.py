@@ -3,7 +3,8 @@
 import re
 
 from rules.arguments import shown, sized
-from rules.datagrams import PARITY, SPARES, written_datagram
+from rules.datagrams import DATAGRAM_LIMIT, PARITY, SPARES, written_datagram
+from rules.program import LINE_LIMIT
 from rules.replaying import replay
 from rules.sending import Sending
 
@@ -11,11 +12,11 @@ from . import pieces
 from .lines import record
 
 ENOUGH = 120000
-LONGEST = 3002
+LONGEST = LINE_LIMIT + 2
 EDGES = (b'', b'\n', b'\n\n', b'\r\n', b' \n', b'0', b'00', b'0000', b'000001060000', b'000001060000\n', b'000001060000\n\n',
          b'\n000001060000', b'000001060000\r\n', b'000001060000 \n000101070000', b'000001060000\n000001060000\n', b'0000010600FF\n',
-         b'00000106000\n', b'000001060000\n0001010700G0\n', b'000101060000\n', b'000001060000' + b'0' * 2989 + b'\n', b'g' * 3001,
-         b'0000' + b'0' * 2996, b'0001010600010107\n', b'0001010680010101010A\n')
+         b'00000106000\n', b'000001060000\n0001010700G0\n', b'000101060000\n', b'000001060000'.ljust(LINE_LIMIT + 1, b'0') + b'\n',
+         b'g' * (LINE_LIMIT + 1), b'0' * LINE_LIMIT, b'0001010600010107\n', b'0001010680010101010A\n')
 
 
 def call(script, numbers, trace, cap):
@@ -59,7 +60,7 @@ def crowded(script):
     sender, lines = Sending(), []
     settings = r.choice(((SPARES, 0, 0), (SPARES, 2, 0), (PARITY, 2, 1), (PARITY, 3, 2)))
     for _ in range(r.choice((3, 6, 10))):
-        line = sender.send(pieces.opaque(r, 1.0), *settings, 1500).hex().upper().encode()
+        line = sender.send(pieces.opaque(r, 1.0), *settings, DATAGRAM_LIMIT).hex().upper().encode()
         lines += r.choice(([line], [line], [line, line], [odd(r, line), line], [line, odd(r, line)], [b'', line], [line, b''], [],
                            [line.lower()]))
         if script.chance(0.3):
@@ -78,7 +79,7 @@ def crowded(script):
 def odd(r, line):
     """A datagram's line made unreadable, its number as it was."""
     return r.choice((line[:-2], line[:-1], line + b'00', line + b'0', line + b'\r', line[:4] + b' ' + line[4:], line[:4] + b'00' + line[6:],
-                     line[:4], line + b'0' * 3000))
+                     line[:4], line + b'0' * LINE_LIMIT))
 
 
 def hold_something(script):

@@ -4,7 +4,9 @@ import random
 
 from rules.arguments import shown, sized
 from rules.calls import Calls
+from rules.datagrams import DATAGRAM_LIMIT
 from rules.joining import FRAME_LIMIT
+from rules.packets import PACKET_LIMIT
 
 UNLIMITED = 10 ** 9  # lines of a script
 
@@ -64,7 +66,7 @@ class Script:
         """11."""
         return self.call(0x11, octets)
 
-    def next(self, cap=160, skip=False):
+    def next(self, cap=PACKET_LIMIT, skip=False):
         """12, without leave to skip or with it."""
         return self.call(0x12, shown(skip, 1), shown(cap, 2))
 
@@ -72,7 +74,7 @@ class Script:
         """12 with leave to skip."""
         return self.next(cap, True)
 
-    def send(self, packet, kind, a, b, cap=1500):
+    def send(self, packet, kind, a, b, cap=DATAGRAM_LIMIT):
         """21: the answer, and the datagram if there is one."""
         answer = self.call(0x21, sized(packet), bytes([kind, a, b]), shown(cap, 2))
         return answer, answer[3:3 + int.from_bytes(answer[1:3], 'big')] if answer[0] == 0 else None

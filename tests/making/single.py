@@ -1,13 +1,13 @@
 """Scenes for the calls without a session: lengths, datagrams, packets, and lines that are no calls."""
 
 from rules.arguments import shown, sized
-from rules.datagrams import PARITY, write_datagram, written_datagram
-from rules.packets import DATA_PACKET, INDICATOR, write_packet, written_packet
+from rules.datagrams import DATAGRAM_LIMIT, PARITY, write_datagram, written_datagram
+from rules.packets import DATA_PACKET, INDICATOR, PACKET_LIMIT, write_packet, written_packet
 from rules.refusals import Refusal
 
 from . import pieces
 
-LENGTH_EDGES = (0, 1, 126, 127, 128, 129, 160, 255, 256, 16382, 16383, 16384, 32768, 65535)
+LENGTH_EDGES = (0, 1, 126, 127, 128, 129, 255, PACKET_LIMIT, PACKET_LIMIT + 1, 16382, 16383, 16384, 32768, 65535)
 GREAT_ROOM = 2600
 
 
@@ -44,7 +44,7 @@ def datagrams_read(script):
         script.call(0x03, written_datagram(pieces.datagram(r, r.randrange(65536), 0.5)))
     for _ in range(10):
         script.call(0x03, pieces.damaged_datagram(r, r.randrange(65536)))
-    script.call(0x03, bytes(r.choice((0, 1, 2, 1500, 1501))))
+    script.call(0x03, bytes(r.choice((0, 1, 2, DATAGRAM_LIMIT, DATAGRAM_LIMIT + 1))))
 
 
 def datagrams_written(script):
@@ -55,14 +55,14 @@ def datagrams_written(script):
         packet, kind, n, lengths, data = given.packet, given.kind, given.n, [len(i) for i in given.items], b''.join(given.items)
         for wrong in r.sample(range(5), r.choice((0, 0, 1, 1, 2, 2, 3))):
             if wrong == 0:
-                packet = pieces.octets(r, r.choice((0, 0, 160, 161, 300)))
+                packet = pieces.octets(r, r.choice((0, 0, PACKET_LIMIT, PACKET_LIMIT + 1, 300)))
             elif wrong == 1 and kind == PARITY:
                 n = r.choice((0, 8, 9, 128, 255))
             elif wrong == 2:
                 lengths = [1] * r.choice((0, 4, 5, 8, 9, 255))
                 data = bytes(len(lengths))
             elif wrong == 3 and lengths:
-                size = r.choice((0, 160, 161, 256, 300))
+                size = r.choice((0, 255, PACKET_LIMIT, PACKET_LIMIT + 1, 300))
                 lengths[-1] = size
                 data = pieces.octets(r, sum(lengths)) if sum(lengths) < 2000 else data
             elif wrong == 4:
@@ -83,7 +83,7 @@ def packets_read(script):
         script.read(pieces.fax_packet(r) + zeros, r.choice((0, 0, 1, 1, 1)) if zeros else r.randrange(2))
     for _ in range(14):
         script.read(pieces.damaged(r, pieces.packet_items(pieces.packet(r))), r.randrange(2))
-    whole = pieces.fax_packet(r).ljust(r.choice((159, 160, 161, 162, 400)), b'\0')
+    whole = pieces.fax_packet(r).ljust(r.choice((PACKET_LIMIT - 1, PACKET_LIMIT, PACKET_LIMIT + 1, PACKET_LIMIT + 2, 400)), b'\0')
     script.read(whole, 1)
     for _ in range(3):
         script.read(bytes([r.randrange(256)]) + pieces.octets(r, r.choice((0, 1, 2))), r.randrange(2))
@@ -113,7 +113,7 @@ def packets_written(script):
             elif wrong == 5:
                 kind = r.choice((INDICATOR, DATA_PACKET))
             elif wrong == 6:
-                size = r.choice((0, 1, 155, 156, 160, 161, 300))
+                size = r.choice((0, 1, PACKET_LIMIT - 5, PACKET_LIMIT - 4, PACKET_LIMIT, PACKET_LIMIT + 1, 300))
                 types, lengths, data = [r.choice((0, 6, 7, 3))], [size], pieces.octets(r, size)
         if r.random() < 0.05:
             types, lengths, data = [0, 0], [65535, 1], b''
@@ -130,7 +130,7 @@ def many_fields(script):
         types = [r.randrange(1, 6) if script.chance(0.95) else r.choice((0, 7, 8)) for _ in range(r.choice((15, 16, 16, 17, 18)))]
         count = r.choice((len(types), len(types), 15, 16, 17, 18))
         script.call(0x06, bytes([r.choice((0, 1, 1, 1)), r.choice((0, 8, 9)), len(types)] + types + [count]), bytes(2 * count + 2),
-                    shown(r.choice((0, 17, 18, 160)), 2))
+                    shown(r.choice((0, 17, 18, PACKET_LIMIT)), 2))
 
 
 def round_trips(script):
@@ -140,12 +140,12 @@ def round_trips(script):
         given = pieces.datagram(r, r.randrange(65536), 0.4)
         script.call(0x03, written_datagram(given))
         script.call(0x04, shown(given.number, 2), sized(given.packet), bytes([given.kind, given.n, len(given.items)]),
-                    b''.join(shown(len(i), 2) for i in given.items), sized(b''.join(given.items)), shown(1500, 2))
+                    b''.join(shown(len(i), 2) for i in given.items), sized(b''.join(given.items)), shown(DATAGRAM_LIMIT, 2))
     for _ in range(3):
         kind, value, fields = given = pieces.packet(r)
         script.read(written_packet(given), 0)
         script.call(0x06, bytes([kind, value, len(fields)] + [t for t, _ in fields] + [len(fields)]),
-                    b''.join(shown(len(d), 2) for _, d in fields), sized(b''.join(d for _, d in fields)), shown(160, 2))
+                    b''.join(shown(len(d), 2) for _, d in fields), sized(b''.join(d for _, d in fields)), shown(PACKET_LIMIT, 2))
 
 
 def no_calls(script):

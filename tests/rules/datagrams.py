@@ -6,7 +6,7 @@ from .lengths import Items, cut, written_length, written_sized
 from .packets import PACKET_LIMIT
 from .refusals import LEFT_OVER, OVERLONG, SETTINGS, SIZE, SPARE_BIT, must_fit, refuse_if
 
-DATAGRAM_LIMIT = 1500
+DATAGRAM_LIMIT = 2400
 SPARES_LIMIT = 8
 N_LIMIT = 8
 M_LIMIT = 4

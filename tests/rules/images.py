@@ -1,15 +1,18 @@
-"""A receiving session as an image (02, request 9): lines of upper-case hexadecimal, one for the whole and one for each number in view."""
+"""A receiving session as an image (02, request 9): lines of upper-case hexadecimal, one for the whole and one for each number in view.
+
+Two editions (02, request 10) have one layout, each with its limit for packets and messages; the newer is written, both are read."""
 
 import binascii
 import re
 
-from .datagrams import M_LIMIT, MESSAGE_LIMIT, N_LIMIT
+from .datagrams import M_LIMIT, N_LIMIT
 from .lengths import Items, written_sized
 from .packets import PACKET_LIMIT
 from .receiving import AFTER, BEFORE, BLANK, Mark, Place, Receiving
-from .refusals import LEFT_OVER, MISSHAPEN, RANGES, SIZE, Refusal, must_fit, refuse_if
+from .refusals import LEFT_OVER, MISSHAPEN, OTHER_EDITION, RANGES, SIZE, Refusal, must_fit, refuse_if
 
-EDITION = 1
+EDITION = 2
+LIMITS = {1: 160, 2: PACKET_LIMIT}  # by the edition
 LINES = 1 + BEFORE + AFTER
 DIGITS = re.compile(b'([0-9A-F]{2})*')
 
@@ -38,14 +41,15 @@ def written_number(place, mark):
 
 
 def read_image(text):
-    """The session that a text is the image of; every line must have its shape before the session must be inside its ranges."""
+    """The session that a text is the image of: its edition is known, then every line has its shape, then it is inside its ranges."""
+    limit = limit_of(text[:2])
     *lines, behind = text.split(b'\n')
     refuse_if(len(lines) != LINES or behind, MISSHAPEN)
     base, counts = shaped(lines[0], read_head)
     session = Receiving()
     session.base, session.counts = base, dict(zip(session.counts, counts))
     for j, line in enumerate(lines[1:], -BEFORE):
-        place, mark = shaped(line, read_number)
+        place, mark = shaped(line, lambda items: read_number(items, limit))
         session.places[(base + j) % (BEFORE + AFTER)] = place
         if j >= 0:
             session.marks[(base + j) % AFTER] = mark
@@ -53,6 +57,13 @@ def read_image(text):
             refuse_if(mark.accepted or mark.n or mark.m, MISSHAPEN)
     refuse_if(not session.in_ranges(), RANGES)
     return session
+
+
+def limit_of(digits):
+    """The limit of the edition that two digits have; if they are no digits, the first line is misshapen."""
+    refuse_if(not re.fullmatch(b'[0-9A-F]{2}', digits), MISSHAPEN)
+    refuse_if(int(digits, 16) not in LIMITS, OTHER_EDITION)
+    return LIMITS[int(digits, 16)]
 
 
 def shaped(line, read):
@@ -69,16 +80,16 @@ def shaped(line, read):
 
 def read_head(items):
     """The first line: base and the four counts, behind the edition."""
-    items.refuse_if(items.octet() != EDITION, SIZE)
+    items.octet()
     return number(items, 2), [number(items, 4) for _ in range(4)]
 
 
-def read_number(items):
-    """A number's line: its place and its mark."""
+def read_number(items, limit):
+    """A number's line: its place and its mark; packet and messages are within the limit."""
     state, accepted, note = at_most(items, BLANK), at_most(items, 1), number(items, 2)
-    place = Place(state, items.sized_octets(0, PACKET_LIMIT), note)
+    place = Place(state, items.sized_octets(0, limit), note)
     n, m = at_most(items, N_LIMIT), at_most(items, M_LIMIT)
-    return place, Mark(accepted, n, [items.sized_octets(0, MESSAGE_LIMIT) for _ in range(m)])
+    return place, Mark(accepted, n, [items.sized_octets(0, limit) for _ in range(m)])
 
 
 def number(items, width):

@@ -8,7 +8,7 @@ from typing import NamedTuple, Tuple
 from .lengths import Items, cut, written_length
 from .refusals import DATA, LEFT_OVER, NOT_ASSIGNED, SETTINGS, SIZE, must_fit, refuse_if
 
-PACKET_LIMIT = 160
+PACKET_LIMIT = 256
 FIELDS_LIMIT = 16
 INDICATOR, DATA_PACKET = 0, 1
 LAST_VALUE = {INDICATOR: 15, DATA_PACKET: 8}

@@ -6,7 +6,7 @@ from .packets import PACKET_LIMIT
 from .receiving import RECEIVED, Receiving
 from .refusals import BASE_UNKNOWN, LIMIT, OVERLONG, SETTINGS, Refusal, refuse_if
 
-LINE_LIMIT = 3000
+LINE_LIMIT = 4800
 
 
 class Program:

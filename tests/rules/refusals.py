@@ -1,7 +1,7 @@
 """The refusals by number, with a name for each."""
 
 ENDS = 1            # input ends inside an item or before one that must come
-OVERLONG = 2        # datagram over 1,500 octets, or line over 3,000 characters
+OVERLONG = 2        # datagram over 2,400 octets, or line over 4,800 characters (02, request 10)
 FORM = 3            # length or count in a form not allowed
 SIZE = 4            # length, count, n or m outside the sizes
 SPARE_BIT = 5       # a spare bit is set
@@ -18,6 +18,7 @@ LIMIT = 16          # 1,000,000 numbers have passed
 RANGES = 17         # session or joiner outside its ranges
 FRAME = 18          # the frame would pass 300 octets
 MISSHAPEN = 20      # an image: a line missing, extra or misshapen
+OTHER_EDITION = 21  # an image of neither edition
 
 
 class Refusal(Exception):

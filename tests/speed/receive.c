@@ -6,7 +6,7 @@
 #include <stdlib.h>
 #include <string.h>
 
-enum { PACKET_LIMIT = 160, DATAGRAM_LIMIT = 1500, LINE_LIMIT = 3000, NUMBERS_LIMIT = 1000000, VIEW = 64, AFTER = 32 };
+enum { PACKET_LIMIT = 256, DATAGRAM_LIMIT = 2400, LINE_LIMIT = 4800, NUMBERS_LIMIT = 1000000, VIEW = 64, AFTER = 32 };
 enum { SPARES_LIMIT = 8, N_LIMIT = 8, M_LIMIT = 4 };
 enum { UNKNOWN, RECEIVED, SPARE, REPAIRED, BLANK };
 enum { ENDS = 1, OVERLONG, FORM, SIZE, SPARE_BIT, LEFT_OVER, REPEATED, AHEAD, LATE, NO_DIGITS = 15, LIMIT = 16 };
@@ -16,9 +16,9 @@ struct piece { const uint8_t *octets; unsigned length; };
 
 struct datagram { unsigned number, n, count; int parity; struct piece packet, items[SPARES_LIMIT]; };
 
-struct place { uint8_t state, length, octets[PACKET_LIMIT]; };
+struct place { uint8_t state; uint16_t length; uint8_t octets[PACKET_LIMIT]; };
 
-struct mark { uint8_t accepted, n, m, lengths[M_LIMIT], messages[M_LIMIT][PACKET_LIMIT]; };
+struct mark { uint8_t accepted, n, m; uint16_t lengths[M_LIMIT]; uint8_t messages[M_LIMIT][PACKET_LIMIT]; };
 
 struct session {
     uint32_t base;                /* not wrapped; the number is its low 16 bits, and it is the sum of the counts */
@@ -114,7 +114,7 @@ static void fill(struct place *place, int state, const uint8_t *octets, unsigned
 {
     if (place->state != UNKNOWN) return;
     place->state = (uint8_t)state;
-    place->length = (uint8_t)length;
+    place->length = (uint16_t)length;
     memcpy(place->octets, octets, length);
 }
 
@@ -170,7 +170,7 @@ static int offer(struct session *s, const uint8_t *octets, size_t length, unsign
         if (!d.parity) {
             fill(place_of(s, d.number - 1 - i), SPARE, d.items[i].octets, d.items[i].length);
         } else {
-            mark->lengths[i] = (uint8_t)d.items[i].length;
+            mark->lengths[i] = (uint16_t)d.items[i].length;
             memcpy(mark->messages[i], d.items[i].octets, d.items[i].length);
         }
     }

@@ -3,7 +3,7 @@
 import random
 
 from making.lines import Recording
-from rules.datagrams import PARITY, SPARES
+from rules.datagrams import DATAGRAM_LIMIT, PARITY, SPARES
 from rules.sending import Sending
 from traffic import corpus
 
@@ -18,7 +18,7 @@ def trace(name, settings, loss):
     r = random.Random(name)
     packets = corpus(CALL)
     for number in range(LINES):
-        octets = recording.sender.send(packets[number % len(packets)], *settings, 1500)
+        octets = recording.sender.send(packets[number % len(packets)], *settings, DATAGRAM_LIMIT)
         if name in ('k3', 'n3m2') and number < len(packets):
             assert octets == corpus(CALL + '.' + name)[number]
         if r.random() >= loss:
@@ -31,4 +31,4 @@ def trace(name, settings, loss):
 def datagrams(settings):
     """Each packet once, as a datagram."""
     sender = Sending(0)
-    return [sender.send(packet, *settings, 1500) for packet in corpus(CALL)]
+    return [sender.send(packet, *settings, DATAGRAM_LIMIT) for packet in corpus(CALL)]

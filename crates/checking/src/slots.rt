@@ -19,8 +19,8 @@ ghost use Rattle.held.specs.Table.{places, stateNumbered};
 ghost use Rattle.held.specs.Laid.{messageLaid};
 ghost use Rattle.checking.specs.Pieces.{stateRight, markedRight, heardRight, sizeless, emptyAt};
 
-// "Unknown and blank have length 0, others 1 to 160.", and the number stands for a state. There is no branch, so that the loop over
-// all slots may take several together.
+// "Unknown and blank have length 0, others 1 to [the packet limit].", and the number stands for a state. There is no branch,
+// so that the loop over all slots may take several together.
 pub fn state_right(state: u16, size: usize, blank: bool) -> bool
     ensures { λ r. ⌜ r ≡ stateRight state size blank ⌝ }
 {

@@ -11,7 +11,7 @@ pub struct Packet {}
 impl Packet {
     pub const LEAST: usize = 1;
 
-    pub const LIMIT: usize = 160;
+    pub const LIMIT: usize = 256;
 
     pub fn least() -> usize
         ensures { λ r. ⌜ r ≡ packetLeast ⌝ }
@@ -51,7 +51,7 @@ impl Message {
 pub struct Datagram {}
 
 impl Datagram {
-    pub const LIMIT: usize = 1500;
+    pub const LIMIT: usize = 2400;
 
     pub fn limit() -> usize
         ensures { λ r. ⌜ r ≡ datagramLimit ⌝ }

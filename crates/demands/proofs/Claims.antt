@@ -16,6 +16,8 @@ use Rattle.demands.proofs.Program.{program-claims}
 use Rattle.demands.proofs.SecondReader.{second-reader}
 use Rattle.demands.proofs.OneCall.{one-call}
 use Rattle.demands.proofs.Handover as handover
+use Rattle.demands.proofs.Editions as editions
+use Rattle.demands.proofs.Fits as fits
 
 pub claims : Claims
 claims =
@@ -37,4 +39,6 @@ claims =
       replay = replays.claims;
       oneCall = one-call;
       handover = handover.handover;
+      editions = editions.editions;
+      fits = fits.fits;
     }

@@ -9,7 +9,6 @@ use native.Mathlib.Omega.{arith}
 use Rattle.lengths.specs.Refusals.{endsEarly, badForm, outsideSizes}
 use Rattle.lengths.specs.Length.{lengthOctets, ofTwo}
 use Rattle.lengths.specs.Claims.{Octets}
-use Rattle.datagrams.specs.Sizes.{packetLimit}
 use Rattle.octets.proofs.Laws.{below-or-not}
 use Rattle.demands.specs.DatagramItems.{Item, number, packet, kind, spares, octet01, octetN, countM, message, inside, Form}
 use Rattle.demands.specs.DatagramItems.{many, sized, formOf, formDue}
@@ -35,26 +34,26 @@ complete-few before rest item later n due is less =
     let long : length (rest ++ missing) ≡ n = omega (arith, length-append rest missing, length-replicate {A = ℕ} (n - length rest) 0) in
     complete-right before rest missing item later 0 due (octets-zero (n - length rest)) (rw is (rightOctets long))
 
--- a length or count is at most that of a packet, and may be small
-sized-same : {a b c d : ℕ} → sized a b ≡ sized c d → (a ≡ c) × (b ≡ d)
-sized-same e = (cc, cc)
+-- a length or count may be small
+sized-same : {a b c d : ℕ} → sized a b ≡ sized c d → a ≡ c
+sized-same e = cc
 
-sizes-of : {a b least most : ℕ} → sized a b ≡ sized least most → a ≤ 1 → b ≤ packetLimit → (least ≤ 1) × (most ≤ packetLimit)
-sizes-of e low high = rw (← sized-same e .0, ← sized-same e .1) (low, high)
+least-of : {a b least most : ℕ} → sized a b ≡ sized least most → a ≤ 1 → least ≤ 1
+least-of e low = rw (← sized-same e) low
 
-item-sizes : (item : Item) (least most : ℕ) → formOf item ≡ sized least most → (least ≤ 1) × (most ≤ packetLimit)
+item-least : (item : Item) (least most : ℕ) → formOf item ≡ sized least most → least ≤ 1
 unfolding formOf
-item-sizes number least most is = let z : _≡_ {A = ℕ} 0 1 = cc in absurd (omega arith)
-item-sizes packet least most is = sizes-of is (omega arith) (omega arith)
-item-sizes kind least most is = let z : _≡_ {A = ℕ} 0 1 = cc in absurd (omega arith)
-item-sizes spares least most is = sizes-of is (omega arith) (omega arith)
-item-sizes octet01 least most is = let z : _≡_ {A = ℕ} 0 1 = cc in absurd (omega arith)
-item-sizes octetN least most is = let z : _≡_ {A = ℕ} 0 1 = cc in absurd (omega arith)
-item-sizes countM least most is = sizes-of is (omega arith) (omega arith)
-item-sizes message least most is = sizes-of is (omega arith) (omega arith)
-item-sizes (inside n) least most is = let z : _≡_ {A = ℕ} 0 1 = cc in absurd (omega arith)
+item-least number least most is = let z : _≡_ {A = ℕ} 0 1 = cc in absurd (omega arith)
+item-least packet least most is = least-of is (omega arith)
+item-least kind least most is = let z : _≡_ {A = ℕ} 0 1 = cc in absurd (omega arith)
+item-least spares least most is = least-of is (omega arith)
+item-least octet01 least most is = let z : _≡_ {A = ℕ} 0 1 = cc in absurd (omega arith)
+item-least octetN least most is = let z : _≡_ {A = ℕ} 0 1 = cc in absurd (omega arith)
+item-least countM least most is = least-of is (omega arith)
+item-least message least most is = least-of is (omega arith)
+item-least (inside n) least most is = let z : _≡_ {A = ℕ} 0 1 = cc in absurd (omega arith)
 
--- after 80 a second octet of 80 makes 128; if that is over its most, or the first octet is another, no second octet helps
+-- the least second octet is 80 after 80, which makes 128, and 00 after any other; if that is over its most, no second octet helps
 module _ (before : List ℕ) (item : Item) (later : List Item) (least most first : ℕ) (due : Due before (item ∷ later))
     (is : formOf item ≡ sized least most) (low : 0x80 ≤ first) (high : first < 0xC0) where
   beyond : ((second : ℕ) → 0x80 ≤ ofTwo first second → most < ofTwo first second) → CutOver (before ++ (first ∷ []))
@@ -73,24 +72,26 @@ module _ (before : List ℕ) (item : Item) (later : List Item) (least most first
         over = over;
       }
 
-  eighty-twice : first < 0x81 → 0x80 ≤ most → Right (formOf item) (first ∷ 0x80 ∷ []) 0x80
-  unfolding lengthOctets
-  eighty-twice one large =
-      let eighty : first ≡ 0x80 = omega arith in
-      let small : least ≤ 0x80 = omega (arith, item-sizes item least most is .0) in
-      rw (is, eighty) (rightSize small large)
+  with-second : (second : ℕ) → second < 256 → 0x80 ≤ ofTwo first second → ofTwo first second ≤ most → Comes (before ++ (first ∷ [])) []
+  with-second second octet large fits =
+      let small : least ≤ ofTwo first second = omega (arith, item-least item least most is) in
+      let right : Right (formOf item) (lengthOctets (ofTwo first second)) (ofTwo first second) = rw is (rightSize small fits) in
+      complete-right before (first ∷ []) (second ∷ []) item later (ofTwo first second) due (octet-alone second octet)
+      (subst (λ (l : List ℕ). Right (formOf item) l (ofTwo first second)) (two-octets first second octet low high large) right)
+
+  -- a second octet that makes a length or count of two octets, and no other makes less
+  complete-least : (second : ℕ) → second < 256 → 0x80 ≤ ofTwo first second
+      → ((other : ℕ) → 0x80 ≤ ofTwo first other → ofTwo first second ≤ ofTwo first other)
+      → Comes (before ++ (first ∷ [])) [] ⊎ CutOver (before ++ (first ∷ []))
+  complete-least second octet large no-less =
+      ⊎-elim (λ over. inr (beyond (λ other long. omega (arith, no-less other long)))) (λ fits. inl (with-second second octet large fits))
+      (below-or-not most (ofTwo first second))
 
   complete-size : Comes (before ++ (first ∷ [])) [] ⊎ CutOver (before ++ (first ∷ []))
   complete-size =
-      ⊎-elim (λ small. inr (beyond (λ second large. omega arith)))
-      (λ large.
-      ⊎-elim
-      (λ one.
-      inl
-      (complete-right before (first ∷ []) (0x80 ∷ []) item later 0x80 due (octet-alone 0x80 (omega arith)) (eighty-twice one large)))
-      (λ more. inr (beyond (λ second long. omega (arith, item-sizes item least most is .1))))
-      (below-or-not first 0x81))
-      (below-or-not most 0x80)
+      ⊎-elim (λ eighty. complete-least 0x80 (omega arith) (omega arith) (λ other long. omega arith))
+      (λ more. complete-least 0x00 (omega arith) (omega arith) (λ other long. omega arith))
+      (below-or-not first 0x81)
 
 pub completed : (before rest : List ℕ) (items : List Item) → Due before items → Early (formDue items) rest
     → Comes (before ++ rest) [] ⊎ CutOver (before ++ rest)

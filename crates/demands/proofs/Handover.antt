@@ -2,29 +2,31 @@
 -- Assumes nothing.
 use Prim.Native.Nat.{ℕ}
 use mathlib.Core.Path.{_≡_, refl, sym, ap, subst, _∙_}
+use mathlib.Core.Logic.{inr}
 use mathlib.Core.List.{List, _++_, append-assoc, append-nil}
 use Rattle.lengths.specs.Answers.{done}
+use Rattle.lengths.specs.Claims.{Octets}
 use Rattle.lengths.proofs.Laws.{done-same}
 use Rattle.views.specs.View.{View}
 use Rattle.held.specs.Table.{lentBy, viewOf}
 use Rattle.held.specs.Laid.{InRanges}
-use Rattle.held.specs.Promise.{Fresh}
 use Rattle.held.specs.declared.Session.{Session}
 use Rattle.held.proofs.Laws.{session-in-ranges, in-ranges-true}
 use Rattle.sending.specs.Honest.{HonestSender}
-use Rattle.images.specs.Layout.{edition01}
-use Rattle.images.specs.Image.{readImage, LentOctets}
+use Rattle.images.specs.Layout.{Edition, edition02}
+use Rattle.images.specs.Image.{editionNamed, readText, readImage, LentOctets}
 use Rattle.images.proofs.Claims as images
 use Rattle.demands.specs.History.{Left}
 use Rattle.demands.specs.Calls.{Calls, start, _then_, Called, atStart, offered, released, leftIn, leftBy}
 use Rattle.demands.specs.Demand2.{Saved, Begins, fresh, saved, FreshLeaves, SavedLeaves}
 use Rattle.demands.specs.Feeding.{Fed}
 use Rattle.demands.specs.GoesOn.{GoesOn}
-use Rattle.demands.specs.Handover.{Wrote, ReadAs, followedBy, GoesOnFrom, StartsAt, Handover}
+use Rattle.demands.specs.Handover.{Wrote, ReadAs, IsRead, Names, followedBy, GoesOnFrom, StartsAt, Handover}
 use Rattle.demands.proofs.Calling.{begins-seen, called-went}
 use Rattle.demands.proofs.RoundTrips.{puts-back}
 use Rattle.demands.proofs.Demand2.{demand-2}
 use Rattle.demands.proofs.Demand3.{demand-3}
+use Rattle.demands.proofs.ImageTexts.{reads-named, done-named}
 use Rattle.demands.proofs.ImageCalls.{wrote-image, to-write, read-same, reads-back, every-one, refuses}
 
 -- ---- demand 2 goes on
@@ -60,7 +62,7 @@ read-saved read =
       inRanges = in-ranges-true (read .state);
     }
 
-rewinds : {text : List ℕ} {image : View} {t : Session} → readImage edition01 text ≡ done image → ReadAs text t → GoesOnFrom image t
+rewinds : {text : List ℕ} {image : View} {t : Session} → readText text ≡ done image → ReadAs text t → GoesOnFrom image t
 rewinds {text} {image} {t} e read =
     let holds : viewOf t ≡ image = done-same (read .answer ∙ e) in
     let is = read-saved read in
@@ -90,6 +92,21 @@ starts-at row datagrams honest {s} {t} f small w read =
       burstBack = demand-3 .burstBack row datagrams honest t fed;
     }
 
+-- ---- one image
+-- what was read of an edition is what that edition reads, and the session's image there
+module _ (edition : Edition) (is : IsRead edition) {text : List ℕ} {t : Session} (n : Names edition text) (read : ReadAs text t) where
+  pub edition-reads : readImage edition text ≡ done (viewOf t)
+  edition-reads = sym (reads-named text edition is n) ∙ sym (read .answer)
+
+one-read : {t : Session} {text other : List ℕ} → Octets text → Octets other → editionNamed text ≡ editionNamed other
+    → ReadAs text t → ReadAs other t → text ≡ other
+one-read {t} {text} {other} small few same read again =
+    let mine = done-named text (viewOf t) (sym (read .answer)) in
+    let its = done-named other (viewOf t) (sym (again .answer)) in
+    let n : Names (mine .0) other = record { reads = its .2 .reads; octet = sym same ∙ mine .2 .octet } in
+    images.claims .oneImage .one (mine .0) text other (viewOf t) small few (edition-reads (mine .0) (mine .1) (mine .2) read)
+    (edition-reads (mine .0) (mine .1) n again)
+
 pub handover : Handover
 handover =
     record {
@@ -97,13 +114,13 @@ handover =
           reads-back (session-in-ranges s (wrote-image w .ranges) sized) small w (r .session) (r .answer) read;
       everyOne = every-one;
       oneWritten = λ w v. wrote-image w .is ∙ sym (wrote-image v .is);
-      writesBack = λ {t} {text} small read put room.
+      writesBack = λ {t} {text} small n read put room.
+          let reads = edition-reads edition02 (inr refl) n read in
           puts-back put
-          (to-write (read .state) ∙ ap done (images.claims .oneImage .written edition01 text (viewOf t) small (sym (read .answer))))
+          (to-write (read .state) ∙ ap done (images.claims .oneImage .written edition02 text (viewOf t) small reads))
           refl
           room;
-      oneRead = λ {t} {text} {other} small few read again.
-          images.claims .oneImage .one edition01 text other (viewOf t) small few (sym (read .answer)) (sym (again .answer));
+      oneRead = one-read;
       rewinds = rewinds;
       oneHistory = one-history;
       onceEach = λ {u = u} {before} {after} f called small w read more.

@@ -1,5 +1,5 @@
--- The calls on images: what was written is the session's image, what was read is the very session, what they refuse, and that two answers to
--- one text are one. Assumes nothing.
+-- The calls on images: what was written is the session's image, what was read is the very session, what they refuse, and that two answers
+-- to one text are one. Assumes nothing.
 use Prim.Native.Nat.{ℕ, _≤_}
 use mathlib.Core.Path.{_≡_, refl, sym, ap, ap₂, subst, _∙_}
 use mathlib.Core.Logic.{_↔_, Iff·trans}
@@ -9,7 +9,7 @@ use lib.ListN.{length, drop}
 use lib.Seq.{take-append-seam}
 use native.Mathlib.Omega.{arith}
 use borrow.Author.Tests.{not-false}
-use Rattle.lengths.specs.Refusals.{refusal, noRoom, outsideRanges, badImage}
+use Rattle.lengths.specs.Refusals.{refusal, noRoom, outsideRanges, badImage, otherEdition}
 use Rattle.lengths.specs.Answers.{done, refused, refuse, fitted}
 use Rattle.lengths.specs.Tables.{unless}
 use Rattle.lengths.specs.Claims.{Octets}
@@ -23,33 +23,34 @@ use Rattle.held.specs.Laid.{lentInRanges, sessionInRanges, InRanges}
 use Rattle.held.specs.Promise.{Sized}
 use Rattle.held.specs.declared.Session.{Session}
 use Rattle.held.proofs.Laws.{session-in-ranges, in-ranges-true, session-same, fresh-same}
-use Rattle.images.specs.Layout.{edition01}
-use Rattle.images.specs.Image.{imageText, readImage, imageRows, imageToWrite, LentOctets, imageLimit}
+use Rattle.images.specs.Layout.{edition02}
+use Rattle.images.specs.Image.{imageText, readText, imageRows, imageToWrite, LentOctets, imageLimit}
 use Rattle.images.specs.Promise.{ImageWritten, ImageRead, Restores}
 use Rattle.images.specs.declared.Restore.{Restore}
 use Rattle.images.specs.declared.Restore.the-variants as restore
 use Rattle.images.specs.declared.Restored.{Restored}
-use Rattle.images.proofs.Laws.{lent-octets, session-reads}
+use Rattle.images.proofs.Laws.{lent-octets, reads02}
 use Rattle.images.proofs.Claims as images
 use Rattle.demands.specs.Demand2.{Saved}
 use Rattle.demands.specs.Handover.{Wrote, restoring, ReadAs, Refuses}
 use Rattle.demands.proofs.RoundTrips.{done-fitted, puts-octets, puts-back}
 use Rattle.demands.proofs.Demand1.{puts-unchanged}
+use Rattle.demands.proofs.ImageTexts.{refused-only, another-exactly, misshapen-exactly, outside-exactly}
 
 -- ---- what was written
 -- it is the image of the session, which is within its ranges
 pub record Image (s : Session) (text : List ℕ) : Type 0 where
-  pub is : text ≡ imageText edition01 (viewOf s)
+  pub is : text ≡ imageText edition02 (viewOf s)
   pub ranges : sessionInRanges s ≡ true
 
-written-is : (s : Session) (text : List ℕ) → imageToWrite edition01 (lentBy s) ≡ done text → Image s text
+written-is : (s : Session) (text : List ℕ) → imageToWrite edition02 (lentBy s) ≡ done text → Image s text
 unfolding imageToWrite
 written-is s text e =
     record {
-      is = unless-done (imageRows (lentBy s)) (imageText edition01 (viewOf s)) text e;
+      is = unless-done (imageRows (lentBy s)) (imageText edition02 (viewOf s)) text e;
       ranges =
           not-false (lentInRanges (lentBy s))
-          (unless-past (not (lentInRanges (lentBy s))) outsideRanges [] (imageText edition01 (viewOf s)) text e .0);
+          (unless-past (not (lentInRanges (lentBy s))) outsideRanges [] (imageText edition02 (viewOf s)) text e .0);
     }
 
 pub wrote-image : {s : Session} {text : List ℕ} → Wrote s text → Image s text
@@ -58,29 +59,38 @@ wrote-image {s} {text} w =
     written-is s text (put .0 ∙ ap done (sym (w .unaltered)))
 
 -- a session within its ranges is written as its image
-pub to-write : {s : Session} → InRanges (lentBy s) → imageToWrite edition01 (lentBy s) ≡ done (imageText edition01 (viewOf s))
+pub to-write : {s : Session} → InRanges (lentBy s) → imageToWrite edition02 (lentBy s) ≡ done (imageText edition02 (viewOf s))
 unfolding imageToWrite unless
 to-write within = rw (in-ranges-true within)
 
 -- ---- what was read
+-- a text that reads as a session within its ranges is answered with the very struct
+module _ {s : Session} {text : List ℕ} (within : InRanges (lentBy s)) (reads : readText text ≡ done (viewOf s)) where
+  restores-same : {t : Session} → ReadAs text t → t ≡ s
+  restores-same {t} read = session-same t s (read .state) within (done-same (read .answer ∙ reads))
+
+  pub restores : (t : Session) (a : Restore) → ImageRead text (record { session = t; answer = a })
+      → record { session = t; answer = a } ≡ restoring s
+  restores t restore.Done read = ap restoring (restores-same read)
+  restores t (restore.Refused why) read = absurd (not-done (read .answer ∙ reads))
+
 module _ {s : Session} {text : List ℕ} (within : InRanges (lentBy s)) (small : LentOctets (lentBy s)) (w : Wrote s text) where
-  reads : readImage edition01 text ≡ done (viewOf s)
-  reads = rw (wrote-image w .is) (session-reads (viewOf s) (within .sound) (lent-octets small))
+  wrote-reads : readText text ≡ done (viewOf s)
+  wrote-reads = rw (wrote-image w .is) (reads02 (viewOf s) (within .sound) (lent-octets small))
 
   pub read-same : {t : Session} → ReadAs text t → t ≡ s
-  read-same {t} read = session-same t s (read .state) within (done-same (read .answer ∙ reads))
+  read-same = restores-same within wrote-reads
 
   pub reads-back : (t : Session) (a : Restore) → ImageRead text (record { session = t; answer = a })
       → record { session = t; answer = a } ≡ restoring s
-  reads-back t restore.Done read = ap restoring (read-same read)
-  reads-back t (restore.Refused why) read = absurd (not-done (read .answer ∙ reads))
+  reads-back = restores within wrote-reads
 
 -- every session within its ranges can be handed over
 pub every-one : {s : Session} → Saved s → LentOctets (lentBy s) → (text : List ℕ) × Wrote s text × ReadAs text s
 every-one {s} v small =
     let within = session-in-ranges s (v .inRanges) (v .sized) in
-    let text = imageText edition01 (viewOf s) in
-    let fits : fitted (imageToWrite edition01 (lentBy s)) text ≡ done text = rw (to-write within) (done-fitted text text (omega arith)) in (
+    let text = imageText edition02 (viewOf s) in
+    let fits : fitted (imageToWrite edition02 (lentBy s)) text ≡ done text = rw (to-write within) (done-fitted text text (omega arith)) in (
       text,
       record {
         old = text;
@@ -89,7 +99,7 @@ every-one {s} v small =
         call = record { answer = rw fits; lent = rw fits };
         unaltered = sym (take-append-seam text (drop (length text) text));
       },
-      record { answer = sym (session-reads (viewOf s) (within .sound) (lent-octets small)); state = within },
+      record { answer = sym (reads02 (viewOf s) (within .sound) (lent-octets small)); state = within },
     )
 
 -- ---- the refusals
@@ -106,7 +116,7 @@ room-enough {s} {old} {new} {w} sized small put room is = by (sessionInRanges s)
       let within = session-in-ranges s e sized in
       let holds = images.claims .readBack .holds (viewOf s) (within .sound) (lent-octets small) in
       let most = images.claims .sized .most packetLimit (viewOf s) holds in
-      let long = images.claims .sized .settled edition01 (viewOf s) in
+      let long = images.claims .sized .settled edition02 (viewOf s) in
       let back = puts-back put (to-write within) refl (omega (arith, most, long, room)) in
       octets-refused (sym (back .answer) ∙ is)
   by false e =
@@ -116,7 +126,7 @@ room-enough {s} {old} {new} {w} sized small put room is = by (sessionInRanges s)
 
 -- a refused read, and what the text then reads as
 refused-told : {text : List ℕ} (t : Session) (a : Restore) (why : Refusal) → ImageRead text (record { session = t; answer = a })
-    → (a ≡ restore.Refused why) ↔ (readImage edition01 text ≡ refused why)
+    → (a ≡ restore.Refused why) ↔ (readText text ≡ refused why)
 refused-told t restore.Done why read = (
   λ e. let z : _≡_ {A = ℕ} 0 1 = cc in absurd (omega arith),
   λ e. absurd (not-done (sym (read .answer ∙ e))),
@@ -129,17 +139,16 @@ refused-told t (restore.Refused x) why read = (
 pub refuses : Refuses
 refuses =
     record {
-      write = λ s {old} put. puts-refusal put ∙ images.claims .writes edition01 (lentBy s) old;
-      writeUnchanged = λ s. puts-unchanged (imageToWrite edition01 (lentBy s));
+      write = λ s {old} put. puts-refusal put ∙ images.claims .writes edition02 (lentBy s) old;
+      writeUnchanged = λ s. puts-unchanged (imageToWrite edition02 (lentBy s));
       roomEnough = room-enough;
+      anotherEdition = λ {text} {r} read.
+          Iff·trans (refused-told (r .session) (r .answer) (refusal otherEdition) read) (another-exactly text);
       misshapen = λ {text} {r} small read.
-          Iff·trans (refused-told (r .session) (r .answer) (refusal badImage) read)
-          (images.claims .reads .misshapen edition01 text (omega arith) small);
+          Iff·trans (refused-told (r .session) (r .answer) (refusal badImage) read) (misshapen-exactly text small);
       outside = λ {text} {r} small read.
-          Iff·trans (refused-told (r .session) (r .answer) (refusal outsideRanges) read)
-          (images.claims .reads .outside edition01 text (omega arith) small);
-      only = λ {text} {r} {why} read is.
-          images.claims .reads .only edition01 text why (refused-told (r .session) (r .answer) why read .0 is);
+          Iff·trans (refused-told (r .session) (r .answer) (refusal outsideRanges) read) (outside-exactly text small);
+      only = λ {text} {r} {why} read is. refused-only text why (refused-told (r .session) (r .answer) why read .0 is);
       nothing = λ {text} {r} read is. subst (λ (a : Restore). Restores a (r .session)) is (read .state);
     }
 

@@ -50,6 +50,7 @@ pub mod Front
 pub mod OfferReads
 pub mod RefusedReads
 pub mod RefusedCalls
+pub mod ImageTexts
 pub mod RefusalPlaces
 pub mod Demand1
 pub mod Sent
@@ -70,4 +71,6 @@ pub mod SecondReader
 pub mod OneCall
 pub mod ImageCalls
 pub mod Handover
+pub mod Editions
+pub mod Fits
 pub mod Claims

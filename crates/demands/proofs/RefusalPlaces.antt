@@ -6,7 +6,7 @@ use mathlib.Core.Bool.{Bool, true, false, not, cond, _&&_}
 use mathlib.Core.List.{List}
 use lib.ListN.{length}
 use lib.Dec.{leb, ltb}
-use Rattle.lengths.specs.Refusals.{repeated, tooFar, late, baseUnknown, noRoom, allPassed, outsideRanges}
+use Rattle.lengths.specs.Refusals.{refusal, repeated, tooFar, late, baseUnknown, noRoom, allPassed, outsideRanges}
 use Rattle.lengths.specs.Answers.{Answer, done, refused, refuse, _>>=_, fitted}
 use Rattle.lengths.specs.Tables.{placeIn}
 use Rattle.lengths.specs.Length.{lengthAt, lengthToWrite}
@@ -34,10 +34,10 @@ use Rattle.sending.specs.declared.Settings.{Settings}
 use Rattle.lines.specs.Hex.{lineOctets}
 use Rattle.frames.specs.Promise.{fieldAnswer, lossAnswer}
 use Rattle.frames.specs.declared.Joiner.{Joiner}
-use Rattle.images.specs.Layout.{edition01}
-use Rattle.images.specs.Image.{readImage, imageToWrite}
-use Rattle.images.proofs.Claims as images
+use Rattle.images.specs.Layout.{edition02}
+use Rattle.images.specs.Image.{readText, imageToWrite}
 use Rattle.demands.specs.Demand1.{Places}
+use Rattle.demands.proofs.ImageTexts.{refused-only}
 
 -- ---- offer
 offered-front : (datagram : Carried) (view : View) → AtFront (offered datagram view)
@@ -106,17 +106,19 @@ unfolding lossAnswer
 loss-front j = unless-front _ _
 
 -- ---- images
-image-writer : (s : Session) → AtFront (imageToWrite edition01 (lentBy s))
+image-writer : (s : Session) → AtFront (imageToWrite edition02 (lentBy s))
 unfolding imageToWrite
 image-writer s = unless-front _ _
 
-image-place : (text : List ℕ) → placeIn (readImage edition01 text) ≡ 0
-image-place text = by (readImage edition01 text) refl where
-  by : (a : Answer View) → readImage edition01 text ≡ a → placeIn a ≡ 0
+image-place : (text : List ℕ) → placeIn (readText text) ≡ 0
+image-place text = by (readText text) refl where
+  at-front : {why : Refusal} {n : ℕ} → why ≡ refusal n → why .place ≡ 0
+  at-front same = ap (λ (r : Refusal). r .place) same
+
+  by : (a : Answer View) → readText text ≡ a → placeIn a ≡ 0
   by (done view) e = refl
   by (refused why) e =
-      ⊎-elim (λ same. ap (λ (r : Refusal). r .place) same) (λ same. ap (λ (r : Refusal). r .place) same)
-      (images.claims .reads .only edition01 text why e)
+      ⊎-elim at-front (⊎-elim at-front at-front) (refused-only text why e)
 
 -- ---- the calls
 pub places : Places

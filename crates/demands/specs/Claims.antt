@@ -15,6 +15,8 @@ use Rattle.demands.specs.Program.{Program}
 use Rattle.demands.specs.SecondReader.{SecondReader}
 use Rattle.demands.specs.OneCall.{OneCall}
 use Rattle.demands.specs.Handover.{Handover}
+use Rattle.demands.specs.Editions.{Editions}
+use Rattle.demands.specs.Fits.{Fits}
 
 pub record Claims : Type 0 where
   pub demand1 : Demand1
@@ -44,3 +46,6 @@ pub record Claims : Type 0 where
   pub oneCall : OneCall
   -- document 02, request 9: a session written as an image and read back, and what then holds of demands 2 and 3
   pub handover : Handover
+  -- document 02, request 10: images in two editions, and what fits a datagram under the raised limits
+  pub editions : Editions
+  pub fits : Fits

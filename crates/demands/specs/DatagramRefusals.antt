@@ -85,7 +85,7 @@ pub record CutOver (s : List ℕ) : Type 0 where
 
 -- its refusal of these octets
 pub record RefusalOf (s : List ℕ) (answer : Option ℕ) : Type 0 where
-  -- 2 exactly if they are more than 1,500
+  -- 2 exactly if they are more than the limit
   pub over : (answer ≡ some tooLong) ↔ (datagramLimit < length s)
   -- not refused exactly if they are a datagram
   pub whole : (answer ≡ none) ↔ WholeDatagram s

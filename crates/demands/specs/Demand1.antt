@@ -52,7 +52,7 @@ use Rattle.frames.specs.Promise.{handedOutcome, FieldOwes, LossOwes}
 use Rattle.frames.specs.declared.Joiner.{Joiner}
 use Rattle.frames.specs.declared.Joined.{Joined}
 use Rattle.lines.specs.Hex.{octetsIn, lineRows, lineOctets}
-use Rattle.images.specs.Layout.{edition01}
+use Rattle.images.specs.Layout.{edition02}
 use Rattle.images.specs.Image.{imageToWrite}
 use Rattle.images.specs.Promise.{ImageRead, restoredOutcome}
 use Rattle.images.specs.declared.Restored.{Restored}
@@ -116,7 +116,7 @@ pub record Writers : Type 0 where
       → Puts (packetToWrite kind value types lengths octets) old new r
       → refusalIn (writtenOutcome r)
       ≡ first (packetWriterRows kind value types lengths octets ++ roomRow (packetOctets kind value types lengths octets) old)
-  -- the octets of a line of hexadecimal: "line over 3,000 characters (before 15)", "a line not of paired hexadecimal digits", 13
+  -- the octets of a line of hexadecimal: "line over [its limit] (before 15)", "a line not of paired hexadecimal digits", 13
   pub line : (line : List ℕ) {old new : List ℕ} {r : Written} → Puts (lineOctets line) old new r
       → refusalIn (writtenOutcome r) ≡ first (lineRows line ++ roomRow (octetsIn line) old)
   pub lengthUnchanged : (n : ℕ) → Unchanged (lengthToWrite n)
@@ -171,7 +171,7 @@ pub record Places : Type 0 where
       → placeIn (handedOutcome (r .answer)) ≡ 0
   pub joinerLost : {j : Joiner} {r : Joined} → LossOwes j r → placeIn (handedOutcome (r .answer)) ≡ 0
   -- an image is no datagram and no packet
-  pub imageWriter : (s : Session) → Unplaced (imageToWrite edition01 (lentBy s))
+  pub imageWriter : (s : Session) → Unplaced (imageToWrite edition02 (lentBy s))
   pub imageReader : {text : List ℕ} {r : Restored} → ImageRead text r → placeIn (restoredOutcome r) ≡ 0
 
 pub record Demand1 : Type 0 where

@@ -1,15 +1,15 @@
 -- Document 02, request 9: "Hand a call to the other adapter." What holds of a session that is written as an image and read back, by the
--- public calls and with whatever they answered. How an image looks is said in `images`. That a session's arrays have their lengths
--- (`Sized`), its table 16-bit numbers and its stores octets (`LentOctets`) is so of every value of the struct's type, and that a text is
--- of octets (`Octets`) of every slice of them. Statements alone.
+-- public calls and with whatever they answered. How an image looks is said in `images`, and what request 10 adds on its two editions in
+-- Editions. That a session's arrays have their lengths (`Sized`), its table 16-bit numbers and its stores octets (`LentOctets`) is so of
+-- every value of the struct's type, and that a text is of octets (`Octets`) of every slice of them. Statements alone.
 use Prim.Native.Nat.{ℕ, _≤_, _<_}
 use mathlib.Core.Path.{_≡_}
 use mathlib.Core.Logic.{_⊎_, _↔_}
-use mathlib.Core.Bool.{false}
+use mathlib.Core.Bool.{true, false}
 use mathlib.Core.List.{List, _++_, List·Memᴰ as Among}
 use mathlib.Core.Option.{some}
 use lib.ListN.{length, take}
-use Rattle.lengths.specs.Refusals.{refusal, noRoom, outsideRanges, badImage}
+use Rattle.lengths.specs.Refusals.{refusal, noRoom, outsideRanges, badImage, otherEdition}
 use Rattle.lengths.specs.Answers.{done, writtenOutcome}
 use Rattle.lengths.specs.Tables.{first, refusalIn, roomRow}
 use Rattle.lengths.specs.Claims.{Octets}
@@ -26,8 +26,8 @@ use Rattle.held.specs.Table.{lentBy, viewOf}
 use Rattle.held.specs.Promise.{Sized, Fresh}
 use Rattle.held.specs.declared.Session.{Session}
 use Rattle.sending.specs.Honest.{HonestSender}
-use Rattle.images.specs.Layout.{edition01}
-use Rattle.images.specs.Image.{imageText, readImage, imageRows, imageToWrite, Holds, LentOctets, imageLimit}
+use Rattle.images.specs.Layout.{Edition, edition01, edition02}
+use Rattle.images.specs.Image.{imageText, namesEdition, editionNamed, readText, imageRows, imageToWrite, Holds, LentOctets, imageLimit}
 use Rattle.images.specs.Promise.{ImageWritten, ImageRead}
 use Rattle.images.specs.declared.Restore.the-variants as restore
 use Rattle.images.specs.declared.Restored.{Restored}
@@ -54,6 +54,21 @@ restoring t = record { session = t; answer = restore.Done }
 
 abbrev pub ReadAs : List ℕ → Session → Type 0
 ReadAs text t = ImageRead text (restoring t)
+
+-- ---- the editions
+-- those that are read
+abbrev pub IsRead : Edition → Type 0
+IsRead edition = (edition ≡ edition01) ⊎ (edition ≡ edition02)
+
+-- a text is of this edition: its edition octet can be read, and is this edition's
+pub record Names (edition : Edition) (text : List ℕ) : Type 0 where
+  pub reads : namesEdition text ≡ true
+  pub octet : editionNamed text ≡ edition .octet
+
+-- and it is the image there of a session that the edition can hold, within its ranges or not
+pub record ImageOf (edition : Edition) (text : List ℕ) (view : View) : Type 0 where
+  pub holds : Holds (edition .limit) view
+  pub written : imageText edition view ≡ text
 
 -- ---- "A restore may rewind"
 -- demand 2 of every chain of calls from a restored session, with the base and the counts of the image
@@ -82,23 +97,32 @@ pub record StartsAt (row datagrams : List (List ℕ)) (t : Session) : Type 0 whe
   pub knownRight : TrueCells (sentAt row (viewOf t)) ((viewOf t) .cells)
   pub burstBack : BurstBack (viewOf t)
 
--- ---- "Refusals: reading, 20 .., then 17, and nothing is restored; writing, 17, then 13"
+-- ---- "Refusals: reading, 20 .., then 17, and nothing is restored; writing, 17, then 13", and of request 10: "21, any other edition octet,
+-- before 20 where that octet can be read"
 pub record Refuses : Type 0 where
   -- 17 of a session outside its ranges, 13 of an image longer than the lent buffer, which then stays
   pub write : (s : Session) {old new : List ℕ} {w : Written} → ImageWritten s old new w
-      → refusalIn (writtenOutcome w) ≡ first (imageRows (lentBy s) ++ roomRow (imageText edition01 (viewOf s)) old)
-  pub writeUnchanged : (s : Session) → Unchanged (imageToWrite edition01 (lentBy s))
+      → refusalIn (writtenOutcome w) ≡ first (imageRows (lentBy s) ++ roomRow (imageText edition02 (viewOf s)) old)
+  pub writeUnchanged : (s : Session) → Unchanged (imageToWrite edition02 (lentBy s))
   -- with `Image::limit` characters there is always room
   pub roomEnough : {s : Session} {old new : List ℕ} {w : Written} → Sized s → LentOctets (lentBy s) → ImageWritten s old new w
       → imageLimit packetLimit ≤ length old → w ≡ written.Refused (refusal noRoom) → ⊥
-  -- 20: the text is no image of any session, within its ranges or not; 17: it is one of a session outside them; and no other
+  -- 21: the edition octet can be read, and is of none that is read
+  pub anotherEdition : {text : List ℕ} {r : Restored} → ImageRead text r
+      → (r .answer ≡ restore.Refused (refusal otherEdition))
+      ↔ ((namesEdition text ≡ true) × ((edition : Edition) → IsRead edition → Names edition text → ⊥))
+  -- 20: it cannot be read; or it is of one that is read, and the text is the image there of no session, within its ranges or not
   pub misshapen : {text : List ℕ} {r : Restored} → Octets text → ImageRead text r
-      → (r .answer ≡ restore.Refused (refusal badImage)) ↔ ((view : View) → Holds packetLimit view → imageText edition01 view ≡ text → ⊥)
+      → (r .answer ≡ restore.Refused (refusal badImage))
+      ↔ ((namesEdition text ≡ false)
+      ⊎ ((edition : Edition) × IsRead edition × Names edition text × ((view : View) → ImageOf edition text view → ⊥)))
+  -- 17: it is the image, in an edition that is read, of a session outside its ranges
   pub outside : {text : List ℕ} {r : Restored} → Octets text → ImageRead text r
       → (r .answer ≡ restore.Refused (refusal outsideRanges))
-      ↔ ((view : View) × (Holds packetLimit view) × (imageText edition01 view ≡ text) × (inRanges view ≡ false))
+      ↔ ((edition : Edition) × IsRead edition × (view : View) × ImageOf edition text view × (inRanges view ≡ false))
+  -- and no other
   pub only : {text : List ℕ} {r : Restored} {why : Refusal} → ImageRead text r → r .answer ≡ restore.Refused why
-      → (why ≡ refusal badImage) ⊎ (why ≡ refusal outsideRanges)
+      → (why ≡ refusal otherEdition) ⊎ ((why ≡ refusal badImage) ⊎ (why ≡ refusal outsideRanges))
   -- "nothing is restored": in its place stands a fresh session
   pub nothing : {text : List ℕ} {r : Restored} {why : Refusal} → ImageRead text r → r .answer ≡ restore.Refused why → Fresh (r .session)
 
@@ -108,15 +132,16 @@ pub record Handover : Type 0 where
       → r ≡ restoring s
   -- and every session within its ranges can be handed over: some text is its image, and is read as this session
   pub everyOne : {s : Session} → Saved s → LentOctets (lentBy s) → (text : List ℕ) × Wrote s text × ReadAs text s
-  -- "one session has one image": two writes of it, into whatever buffers, wrote the same; what was read is written back to the same
-  -- text; and two texts that were read as one session are one
+  -- "one session has one image": two writes of it, into whatever buffers, wrote the same; what was read of the edition that is written
+  -- is written back to the same text; and two texts of one edition that were read as one session are one
   pub oneWritten : {s : Session} {text other : List ℕ} → Wrote s text → Wrote s other → text ≡ other
-  pub writesBack : {t : Session} {text old new : List ℕ} {w : Written} → Octets text → ReadAs text t → ImageWritten t old new w
-      → length text ≤ length old → WrittenBack (length text) text old new w
-  pub oneRead : {t : Session} {text other : List ℕ} → Octets text → Octets other → ReadAs text t → ReadAs other t → text ≡ other
+  pub writesBack : {t : Session} {text old new : List ℕ} {w : Written} → Octets text → Names edition02 text → ReadAs text t
+      → ImageWritten t old new w → length text ≤ length old → WrittenBack (length text) text old new w
+  pub oneRead : {t : Session} {text other : List ℕ} → Octets text → Octets other → editionNamed text ≡ editionNamed other
+      → ReadAs text t → ReadAs other t → text ≡ other
   -- "A restore may rewind: releases are then once each counted from the image's own history": of any text that was read, whoever wrote it
   -- and whenever, with what it reads as
-  pub rewinds : {text : List ℕ} {image : View} {t : Session} → readImage edition01 text ≡ done image → ReadAs text t → GoesOnFrom image t
+  pub rewinds : {text : List ℕ} {image : View} {t : Session} → readText text ≡ done image → ReadAs text t → GoesOnFrom image t
   -- and if a session wrote it, the calls that led to that session and those on the restored one are one chain, of which all of demand 2
   -- holds: so what left before and what leaves after is each place once. What left the first adapter after it wrote is not in it
   pub oneHistory : {first s t u : Session} {before after : Calls} {text : List ℕ} → Begins first → Called first before s

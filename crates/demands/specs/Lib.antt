@@ -27,4 +27,6 @@ pub mod Program
 pub mod SecondReader
 pub mod OneCall
 pub mod Handover
+pub mod Editions
+pub mod Fits
 pub mod Claims

@@ -1,8 +1,8 @@
 -- The packet of documents 01 and 02, item by item: what it is made of, and the table of refusals of each item. "Packet reader: over
--- 160 octets 4, then reading order; in the first octet extension 12, value 12, spare bit 5, indicator with data 14 .. At a length: 3 or
--- 1 in its form, then 4, then 1 for missing octets." And request 2: "a spare bit set is still 5, met after its header, so for a field
--- 14 now comes first". Nothing here reads: a packet is a row of items, each of them as it must be, and each at its place, so many bits
--- after the packet's begin. Definitions only.
+-- [the packet limit] 4, then reading order; in the first octet extension 12, value 12, spare bit 5, indicator with data 14 .. At a
+-- length: 3 or 1 in its form, then 4, then 1 for missing octets." And request 2: "a spare bit set is still 5, met after its header, so
+-- for a field 14 now comes first". Nothing here reads: a packet is a row of items, each of them as it must be, and each at its place, so
+-- many bits after the packet's begin. Definitions only.
 use Prim.Native.Nat.{ℕ, zero, suc, _+_, _*_, _/_, _%_}
 use mathlib.Core.Path.{_≡_}
 use mathlib.Core.Bool.{Bool, not, cond}

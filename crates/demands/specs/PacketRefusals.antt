@@ -84,7 +84,7 @@ Exactly n Case = (ending : Ending) (s : List ℕ) (r : PacketRead) → PacketTol
     → (refusalIn (packetOutcome r) ≡ some n) ↔ Case s
 
 pub record PacketRefusals : Type 0 where
-  -- "over 160 octets 4"; the fields below are for the others
+  -- "over [the packet limit] 4"; the fields below are for the others
   pub overLimit : {ending : Ending} {s : List ℕ} {r : PacketRead} → PacketTold ending s r → packetLimit < length s
       → refusalIn (packetOutcome r) ≡ some number.outsideSizes
   -- "then reading order": refused exactly if there is a first wrong item, with its number

@@ -48,7 +48,7 @@ fn packet(digits: &[u8], ending: Ending) {
     let mut octets = [0u8; OCTETS];
     match hexadecimal::hex_to_octets(digits, &mut octets) {
         Written::Refused(_) => say(
-            b"no packet in hexadecimal: two digits an octet, at most 3,000; the word repaired may stand first\n",
+            b"no packet in hexadecimal: two digits an octet, at most 4,800; the word repaired may stand first\n",
         ),
         Written::Octets(count) => explain(part(&octets, 0, count), ending),
     }

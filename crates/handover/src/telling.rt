@@ -18,6 +18,9 @@ fn say_meaning(number: u8) {
     if number == Refusal::OUTSIDE_RANGES {
         return say(b", a session outside its ranges\n");
     }
+    if number == Refusal::OTHER_EDITION {
+        return say(b", an image of an edition that is not known here\n");
+    }
     say(b", a line is missing, extra or misshapen\n")
 }
 

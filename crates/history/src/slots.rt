@@ -28,7 +28,7 @@ pub fn size_in(sizes: &[u16], slot: usize) -> usize
 
 // ---- the ranges
 
-// "history lengths 1 to 160, or 0 exactly for numbers before the first": at is how many were sent, plus the place.
+// "history lengths 1 to [the packet limit], or 0 exactly for numbers before the first": at is how many were sent, plus the place.
 fn size_right(at: usize, size: usize) -> bool
     ensures { λ r. ⌜ r ≡ sizeInRange at size ⌝ }
 {

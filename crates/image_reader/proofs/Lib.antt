@@ -1,5 +1,6 @@
 mod Digits
 mod Taking
+mod Naming
 mod Parting
 mod NumberSteps
 mod Messages

@@ -1,28 +1,32 @@
--- One law for each answer of `read`: 20 where the text is no image, then 17 where the session that it is an image of is outside its ranges.
+-- One law for each answer of `read_edition`: 20 where the text is no image, then 17 where the session that it is an image of is outside its
+-- ranges; and of `read`, by the edition that the text names.
 -- Assumes nothing.
 use Prim.Native.Nat.{ℕ}
 use mathlib.Core.Path.{_≡_, sym, ap, _∙_}
 use mathlib.Core.Logic.{⊎-elim}
 use mathlib.Core.Bool.{Bool, true, false, cond}
 use mathlib.Core.List.{List}
+use borrow.Author.Tests.{ne-eqb}
 use lib.ListN.{getD, replicate, length-replicate, getD-replicate, List·getD-eq-default}
 use Rattle.octets.proofs.Laws.{true-or-false, below-or-not}
-use Rattle.lengths.specs.Refusals.{outsideRanges, badImage}
+use Rattle.lengths.specs.Refusals.{outsideRanges, badImage, otherEdition}
 use Rattle.lengths.specs.Answers.{done, refuse}
-use Rattle.datagrams.specs.Sizes.{packetLimit}
 use Rattle.views.specs.Ranges.{inRanges}
 use Rattle.views.proofs.Laws.{sound-of, inRanges-of}
 use Rattle.held.specs.Slots.{keptOctets, messageOctets}
 use Rattle.held.specs.Table.{Lent, lent, viewIn, places}
 use Rattle.held.specs.Laid.{lentInRanges, Laid, InRanges}
 use Rattle.held.proofs.Laws.{length-cells, length-held, in-ranges-of, in-ranges-true}
-use Rattle.images.specs.Layout.{edition01}
-use Rattle.images.specs.Image.{inRangesOnly, readImage}
+use Rattle.images.specs.Layout.{Edition, edition01, edition02}
+use Rattle.images.specs.Image.{inRangesOnly, readImage, namesEdition, editionNamed, readText}
 use Rattle.images.specs.Promise.{ImageRead}
 use Rattle.images.specs.declared.Restore.the-variants as restore
 use Rattle.images.specs.declared.Restored.{Restored}
-use Rattle.images.proofs.Laws.{read-lines}
-use Rattle.image_reader.specs.Whole.{Cleared, CoreTold, NothingRestored}
+use Rattle.images.proofs.Laws.{read-lines, by01, by02}
+use Rattle.image_reader.specs.Text.{EditionTold}
+use Rattle.image_reader.specs.Whole.{Cleared, CoreTold, EditionRead, NothingRestored}
+use Rattle.image_reader.specs.declared.text.Named.{Named}
+use Rattle.image_reader.specs.declared.text.Named.the-variants as named
 use Rattle.image_reader.specs.declared.whole.First.{First}
 use Rattle.image_reader.proofs.NumberSteps.{contrary}
 
@@ -68,32 +72,35 @@ seen-in l laid =
     (true-or-false (inRanges (viewIn l)))
 
 -- ---- the answers
-refused-read : {text : List ℕ} {number : ℕ} {r : Restored} → NothingRestored number r → readImage edition01 text ≡ refuse number
-    → ImageRead text r
-refused-read {text} {number} {r} made e =
-    record { answer = rw (made .answer) (sym e); state = rw (made .answer) (made .state) }
+refused-read : {octet limit : ℕ} {text : List ℕ} {number : ℕ} {r : Restored} → NothingRestored number r
+    → readImage (record { octet = octet; limit = limit }) text ≡ refuse number
+    → EditionRead octet limit text r
+refused-read made e = record { answer = rw (made .answer) (sym e); state = rw (made .answer) (made .state) }
 
-module _ {text t o g : List ℕ} {found : First} (core : CoreTold 1 packetLimit text t o g found) where
-  pub read-misshapen : {r : Restored} → found .read ≡ false → NothingRestored badImage r → ImageRead text r
+module _ {octet limit : ℕ} {text t o g : List ℕ} {found : First} (core : CoreTold octet limit text t o g found) where
+  abbrev edition : Edition
+  edition = record { octet = octet; limit = limit }
+
+  pub read-misshapen : {r : Restored} → found .read ≡ false → NothingRestored badImage r → EditionRead octet limit text r
   unfolding readImage
   read-misshapen so made = refused-read made (rw (core .none so))
 
   module _ (so : found .read ≡ true) {ok : Bool} (told : ok ≡ lentInRanges (lent (found .base) (found .counts) t o g)) where
-    reads : readImage edition01 text ≡ inRangesOnly (viewIn (lent (found .base) (found .counts) t o g))
-    reads = read-lines edition01 text (viewIn (lent (found .base) (found .counts) t o g)) (core .right so)
+    reads : readImage edition text ≡ inRangesOnly (viewIn (lent (found .base) (found .counts) t o g))
+    reads = read-lines edition text (viewIn (lent (found .base) (found .counts) t o g)) (core .right so)
 
     seen : ok ≡ inRanges (viewIn (lent (found .base) (found .counts) t o g))
     seen = told ∙ seen-in (lent (found .base) (found .counts) t o g) (core .laid so)
 
-    answers : (b : Bool) → ok ≡ b → readImage edition01 text
+    answers : (b : Bool) → ok ≡ b → readImage edition text
         ≡ cond b (done (viewIn (lent (found .base) (found .counts) t o g))) (refuse outsideRanges)
     answers b is =
         reads ∙ ap (λ (x : Bool). cond x (done (viewIn (lent (found .base) (found .counts) t o g))) (refuse outsideRanges)) (sym seen ∙ is)
 
-    pub read-outside : {r : Restored} → ok ≡ false → NothingRestored outsideRanges r → ImageRead text r
+    pub read-outside : {r : Restored} → ok ≡ false → NothingRestored outsideRanges r → EditionRead octet limit text r
     read-outside out made = refused-read made (answers false out)
 
-    pub read-restored : ok ≡ true → ImageRead text
+    pub read-restored : ok ≡ true → EditionRead octet limit text
         (record {
           session = record { base = found .base; counts = found .counts; table = t; octets = o; messages = g };
           answer = restore.Done;
@@ -104,3 +111,39 @@ module _ {text t o g : List ℕ} {found : First} (core : CoreTold 1 packetLimit 
           answer = sym (answers true passes);
           state = in-ranges-of (lent (found .base) (found .counts) t o g) (sym told ∙ passes) (laid .long) (laid .octets) (laid .messages);
         }
+
+-- ---- by the edition that the text names
+made-read : {text : List ℕ} {number : ℕ} {r : Restored} → NothingRestored number r → readText text ≡ refuse number → ImageRead text r
+made-read made e = record { answer = rw (made .answer) (sym e); state = rw (made .answer) (made .state) }
+
+pub read-nothing : {text : List ℕ} {n : Named} {r : Restored} → EditionTold text n → n ≡ named.Nothing → NothingRestored badImage r
+    → ImageRead text r
+unfolding readText
+read-nothing told is made =
+    let none : namesEdition _ ≡ false = rw is at (told .told) in
+    made-read made (rw none)
+
+module _ {text : List ℕ} {n : Named} {octet : ℕ} (told : EditionTold text n) (is : n ≡ named.Octet octet) where
+  names : (namesEdition text ≡ true) × (editionNamed text ≡ octet)
+  names = rw is at (told .told)
+
+  pub read-old : {r : Restored} → octet ≡ 1 → EditionRead 1 160 text r → ImageRead text r
+  read-old one read =
+      record {
+        answer = read .answer ∙ sym (by01 text (record { reads = names .0; named = names .1 ∙ one }));
+        state = read .state;
+      }
+
+  pub read-new : {r : Restored} → octet ≡ 2 → EditionRead 2 256 text r → ImageRead text r
+  read-new two read =
+      record {
+        answer = read .answer ∙ sym (by02 text (record { reads = names .0; named = names .1 ∙ two }));
+        state = read .state;
+      }
+
+  pub read-other : {r : Restored} → (octet ≡ 1 → ⊥) → (octet ≡ 2 → ⊥) → NothingRestored otherEdition r → ImageRead text r
+  unfolding readText
+  read-other one two made =
+      made-read made (rw (names .0, names .1, ne-eqb octet 1 one, ne-eqb octet 2 two))
+
+pub ruleset readings = (read-nothing, read-old, read-new, read-other)

@@ -6,6 +6,9 @@ use mathlib.Core.List.{List, _++_}
 use lib.ListN.{length, getD, drop}
 use Rattle.lines.specs.Hex.{octetsIn}
 use Rattle.images.specs.Parts.{lineAt, upperDigit, upperPairs}
+use Rattle.images.specs.Image.{namesEdition, editionNamed}
+use Rattle.image_reader.specs.declared.text.Named.{Named}
+use Rattle.image_reader.specs.declared.text.Named.the-variants as named
 use Rattle.image_reader.specs.declared.text.Taken.{Taken}
 use Rattle.image_reader.specs.declared.text.Taken.the-variants as taken
 
@@ -44,3 +47,11 @@ TakenCase text old new taken.Misshapen = NoLine text (length old)
 
 pub record LineTaken (text old new : List ℕ) (r : Taken) : Type 0 where
   pub answer : TakenCase text old new r
+
+-- ---- the edition that a text names
+abbrev pub NamedCase : List ℕ → Named → Type 0
+NamedCase text (named.Octet octet) = (namesEdition text ≡ true) × (editionNamed text ≡ octet)
+NamedCase text named.Nothing = namesEdition text ≡ false
+
+pub record EditionTold (text : List ℕ) (r : Named) : Type 0 where
+  pub told : NamedCase text r

@@ -15,7 +15,8 @@ use Rattle.held.specs.Promise.{Fresh}
 use Rattle.images.specs.Parts.{readWhole, highFirst, lineFront, line}
 use Rattle.images.specs.Layout as layout
 use Rattle.images.specs.Layout.{numberLine, image, fromBase}
-use Rattle.images.specs.Image.{firstSize}
+use Rattle.images.specs.Image.{firstSize, readImage}
+use Rattle.images.specs.Promise.{restoredOutcome, Restores}
 use Rattle.images.specs.declared.Restore.the-variants as restore
 use Rattle.images.specs.declared.Restored.{Restored}
 use Rattle.image_reader.specs.Laying.{Lengths, Filled}
@@ -107,6 +108,11 @@ pub record CoreTold (octet limit : ℕ) (text t o g : List ℕ) (r : First) : Ty
       → readWhole (image (record { octet = octet; limit = limit })) text ≡ done (viewIn (lent (r .base) (r .counts) t o g))
   pub laid : r .read ≡ true → Laid t o g
   pub none : r .read ≡ false → readWhole (image (record { octet = octet; limit = limit })) text ≡ refuse badImage
+
+-- what reading a text in one edition owes
+pub record EditionRead (octet limit : ℕ) (text : List ℕ) (r : Restored) : Type 0 where
+  pub answer : restoredOutcome r ≡ readImage (record { octet = octet; limit = limit }) text
+  pub state : Restores (r .answer) (r .session)
 
 -- a refused text: "nothing is restored"
 pub record NothingRestored (number : ℕ) (r : Restored) : Type 0 where

@@ -1,5 +1,6 @@
 // An image of a receiving session read back: document 02, request 9, as `images` defines it. "Refusals: reading, 20, a line missing, extra
-// or misshapen .., then 17, and nothing is restored".
+// or misshapen .., then 17, and nothing is restored". And request 10: "edition 01 is still read, under the old limit ..; 21, any other
+// edition octet, before 20 where that octet can be read".
 mod items;
 mod laying;
 mod number;
@@ -12,9 +13,13 @@ use images::Image;
 use images::Restore;
 use images::Restored;
 use lengths::Refusal;
+use text::Named;
+use text::edition_named;
 use whole::read_core;
+ghost use Prim.Native.Nat.{_≤_};
+ghost use Rattle.datagrams.specs.Sizes.{packetLimit};
 ghost use Rattle.images.specs.Promise.{ImageRead};
-ghost use Rattle.image_reader.specs.Whole.{NothingRestored};
+ghost use Rattle.image_reader.specs.Whole.{EditionRead, NothingRestored};
 
 // A refused text: nothing is restored.
 fn refused(number: u8) -> Restored
@@ -26,21 +31,15 @@ fn refused(number: u8) -> Restored
     Restored { session, answer }
 }
 
-// The session that a text is an image of. Any octets may be handed in.
-pub fn read(text: &[u8]) -> Restored
-    ensures { λ r. ⌜ ImageRead (now (text .entry)) r ⌝ }
+// The session that a text is an image of, in the edition with this octet, in which packets have at most `limit` octets.
+fn read_edition(text: &[u8], edition: u8, limit: usize) -> Restored
+    requires { ⌜ limit ≤ packetLimit ⌝ }
+    ensures { λ r. ⌜ EditionRead edition limit (now (text .entry)) r ⌝ }
 {
     let mut table = [0u16; Session::PLACES];
     let mut octets = [0u8; Session::PACKET_OCTETS];
     let mut messages = [0u8; Session::MESSAGE_OCTETS];
-    let found = read_core(
-        text,
-        Image::EDITION,
-        Packet::LIMIT,
-        &mut table,
-        &mut octets,
-        &mut messages,
-    );
+    let found = read_core(text, edition, limit, &mut table, &mut octets, &mut messages);
     let read = found.read;
     if !read {
         return refused(Refusal::BAD_IMAGE);
@@ -59,4 +58,22 @@ pub fn read(text: &[u8]) -> Restored
         return Restored { session, answer };
     }
     refused(Refusal::OUTSIDE_RANGES)
+}
+
+// The session that a text is an image of, by the edition that it names. Any octets may be handed in.
+pub fn read(text: &[u8]) -> Restored
+    ensures { λ r. ⌜ ImageRead (now (text .entry)) r ⌝ }
+{
+    match edition_named(text) {
+        Named::Nothing => refused(Refusal::BAD_IMAGE),
+        Named::Octet(octet) => {
+            if octet == Image::OLD_EDITION {
+                return read_edition(text, Image::OLD_EDITION, Image::OLD_LIMIT);
+            }
+            if octet == Image::EDITION {
+                return read_edition(text, Image::EDITION, Packet::LIMIT);
+            }
+            refused(Refusal::OTHER_EDITION)
+        }
+    }
 }

@@ -8,7 +8,7 @@ ghost use lib.ListN.{length};
 ghost use Rattle.octets.specs.Place.{allBelow};
 ghost use Rattle.lines.specs.FeedPromise.{lookedAt};
 ghost use Rattle.images.specs.Parts.{upperDigit};
-ghost use Rattle.image_reader.specs.Text.{upperAt, UpperTo, UpperRun, LineTaken};
+ghost use Rattle.image_reader.specs.Text.{upperAt, UpperTo, UpperRun, LineTaken, EditionTold};
 
 // The line at the front of a text: how many octets it has, and how many characters with its line feed.
 pub enum Taken {
@@ -90,4 +90,23 @@ pub fn take_line(text: &[u8], out: &mut [u8]) -> Taken
     pair_up(&text[..stop], out);
     let next = stop + 1;
     Taken::Octets(count, next)
+}
+
+// The edition that a text names.
+pub enum Named {
+    Octet(u8),
+    Nothing,
+}
+
+// "where that octet can be read": the first two characters are upper-case digits.
+pub fn edition_named(text: &[u8]) -> Named
+    ensures { λ r. ⌜ EditionTold (now (text .entry)) r ⌝ }
+{
+    let digits = upper_run(text);
+    if digits < 2 {
+        return Named::Nothing;
+    }
+    let mut octet = [0u8];
+    pair_up(&text[..2], &mut octet);
+    Named::Octet(octet[0])
 }

@@ -14,7 +14,7 @@ use Rattle.lines.specs.Hex.{digitOf, digitFor, octetsIn, hexOf}
 use Rattle.lines.specs.Text.{characters}
 use Rattle.images.specs.Parts.{readWhole, highFirst, numberIn, numberFront, itemFront, lineAt, upperPairs, readLine, lineFront}
 use Rattle.images.specs.Layout.{first, state, accepted, messages, numberLine, image}
-use Rattle.images.specs.Image.{readImage}
+use Rattle.images.specs.Image.{readImage, namesEdition, editionNamed, readText}
 use Rattle.images.specs.Cases.{Written, Lines, Texts, Cases}
 
 written : Written
@@ -25,7 +25,7 @@ written = record { fresh-first = refl; fresh-blank = refl; fresh-unknown = refl;
 lines : Lines
 unfolding tab allBelow lengthAt allowed lengthWithin itemAt reading.octetwise reading.align reading.bits reading.sequenceOf
     stateNumbered digitOf octetsIn characters readWhole highFirst numberFront itemFront upperPairs readLine
-    first state accepted messages numberLine
+    first state accepted messages numberLine hexOf digitFor
 lines =
     record {
       counts = refl;
@@ -46,6 +46,8 @@ lines =
       at-limit = refl;
       packet-over = refl;
       message-over = refl;
+      old-over = refl;
+      new-reads = refl;
       length-c0 = refl;
       length-two = refl;
       n-alone = refl;
@@ -54,12 +56,13 @@ lines =
       n-before = refl;
       m-before = refl;
       edition-02 = refl;
+      edition-01 = refl;
     }
 
 texts : Texts
 unfolding tab allBelow lengthAt allowed lengthWithin itemAt reading.octetwise reading.align reading.bits reading.sequenceOf
     stateNumbered digitOf octetsIn characters readWhole highFirst numberFront itemFront lineAt upperPairs readLine lineFront
-    first state accepted messages numberLine image readImage
+    first state accepted messages numberLine image readImage readText namesEdition editionNamed
 texts =
     record {
       no-feed = refl;
@@ -69,6 +72,11 @@ texts =
       empty-line = refl;
       nothing = refl;
       first-alone = refl;
+      edition-03 = refl;
+      edition-00 = refl;
+      edition-0a = refl;
+      one-digit = refl;
+      edition-02-alone = refl;
     }
 
 pub cases : Cases

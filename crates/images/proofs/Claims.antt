@@ -8,7 +8,8 @@ use Rattle.images.proofs.Whole.{image-lines}
 use Rattle.images.proofs.Holds.{sound-holds}
 use Rattle.images.proofs.Sizes.{image-length, image-most}
 use Rattle.images.proofs.Answers.{held-reads, read-image, read-only, session-exactly, misshapen-exactly, outside-exactly}
-use Rattle.images.proofs.Lent.{session-reads, lent-back, struct-back}
+use Rattle.images.proofs.Editions.{editions, reads02}
+use Rattle.images.proofs.Lent.{lent-back, struct-back}
 use Rattle.images.proofs.Cases.{cases}
 
 writes : Writes
@@ -19,7 +20,7 @@ pub claims : Claims
 claims =
     record {
       readBack =
-          record { held = held-reads; holds = sound-holds; session = session-reads; lent = lent-back; struct = struct-back };
+          record { held = held-reads; holds = sound-holds; session = reads02; lent = lent-back; struct = struct-back };
       oneImage =
           record {
             written = λ edition text view small e. read-image edition text small view e .0 .written;
@@ -36,6 +37,7 @@ claims =
             outside = λ edition text octet small. outside-exactly edition text small octet;
             only = λ edition text why e. read-only edition text why e;
           };
+      editions = editions;
       writes = writes;
       cases = cases;
     }

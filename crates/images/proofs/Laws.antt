@@ -19,4 +19,6 @@ pub use Rattle.images.proofs.Sizes.{number-length, image-length, image-
 -- ---- what a text reads as
 pub use Rattle.images.proofs.Answers.{held-reads, ImageOf, reads-held, read-lines, read-only, read-image}
 -- ---- a session as it is lent
-pub use Rattle.images.proofs.Lent.{lent-octets, session-reads, lent-back, struct-back}
+pub use Rattle.images.proofs.Lent.{lent-octets, lent-back, struct-back}
+-- ---- two editions
+pub use Rattle.images.proofs.Editions.{Names, by01, by02, text01, text02, reads01, reads02, either-reads}

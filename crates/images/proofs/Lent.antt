@@ -18,11 +18,12 @@ use Rattle.held.specs.Table.{Lent, lentBy, notePlace, sizeIn, mIn, messageSizeI
 use Rattle.held.specs.Laid.{InRanges}
 use Rattle.held.specs.declared.Session.{Session}
 use Rattle.held.proofs.Laws.{cell-at, held-at, lent-same, session-same}
-use Rattle.images.specs.Layout.{edition01}
-use Rattle.images.specs.Image.{imageText, readImage, OfOctets, LentOctets}
+use Rattle.images.specs.Layout.{edition02}
+use Rattle.images.specs.Image.{imageText, readText, OfOctets, LentOctets}
 use Rattle.images.proofs.Numbers.{octets-take, octets-drop}
 use Rattle.images.proofs.Holds.{sound-holds}
 use Rattle.images.proofs.Answers.{held-reads, read-lines}
+use Rattle.images.proofs.Editions.{reads02}
 
 part-small : (o : List ℕ) (i n : ℕ) → Octets o → Octets (part o i n)
 unfolding part
@@ -56,19 +57,12 @@ lent-octets {session} x =
           rw (held-at (session .base) (session .table) (session .messages) d below) (message-small x (heardSlotAt (session .base) d));
     }
 
--- the image of a session within its ranges reads
-pub session-reads : (view : View) → Sound view → OfOctets view → readImage edition01 (imageText edition01 view) ≡ done view
-session-reads view s o =
-    let h = sound-holds view s o in
-    read-lines edition01 (imageText edition01 view) view (held-reads edition01 view (omega arith) h)
-    ∙ rw (inRanges-of s)
-
 pub lent-back : {session other : Lent} → InRanges session → LentOctets session → InRanges other
-    → readImage edition01 (imageText edition01 (viewIn session)) ≡ done (viewIn other) → other ≡ session
+    → readText (imageText edition02 (viewIn session)) ≡ done (viewIn other) → other ≡ session
 lent-back {session} {other} w x v e =
-    lent-same v w (sym (done-same (sym (session-reads (viewIn session) (w .sound) (lent-octets x)) ∙ e)))
+    lent-same v w (sym (done-same (sym (reads02 (viewIn session) (w .sound) (lent-octets x)) ∙ e)))
 
 pub struct-back : {session other : Session} → InRanges (lentBy session) → LentOctets (lentBy session) → InRanges (lentBy other)
-    → readImage edition01 (imageText edition01 (viewOf session)) ≡ done (viewOf other) → other ≡ session
+    → readText (imageText edition02 (viewOf session)) ≡ done (viewOf other) → other ≡ session
 struct-back {session} {other} w x v e =
-    session-same other session v w (sym (done-same (sym (session-reads (viewOf session) (w .sound) (lent-octets x)) ∙ e)))
+    session-same other session v w (sym (done-same (sym (reads02 (viewOf session) (w .sound) (lent-octets x)) ∙ e)))

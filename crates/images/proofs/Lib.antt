@@ -7,6 +7,7 @@ mod Whole
 mod Holds
 mod Sizes
 mod Answers
+mod Editions
 mod Lent
 pub mod Laws
 pub mod Cases

@@ -1,21 +1,23 @@
 -- Single lines of an image, at a limit or where document 02, request 9, may be read in two ways: each case says what is written, or what
 -- a line reads as. Definitions only.
-use Prim.Native.Nat.{ℕ}
+use Prim.Native.Nat.{ℕ, _+_, _/_, _%_}
 use mathlib.Core.Path.{_≡_}
 use mathlib.Core.Bool.{true, false}
-use mathlib.Core.List.{List, [], _∷_}
-use Rattle.lengths.specs.Refusals.{refusal, outsideRanges, badImage}
+use mathlib.Core.List.{List, [], _∷_, _++_}
+use lib.ListN.{replicate}
+use Rattle.lengths.specs.Refusals.{refusal, outsideRanges, badImage, otherEdition}
 use Rattle.lengths.specs.Answers.{Answer, done, refuse}
 use Rattle.datagrams.specs.Sizes.{packetLimit}
 use Rattle.formats.specs.Reading.{stopped}
 use Rattle.formats.specs.Format.{sequenceOf}
-use Rattle.views.specs.Cells.{unknown, received, spare, unknownCell}
+use Rattle.views.specs.Cells.{unknown, received, spare, repaired, unknownCell}
 use Rattle.views.specs.Held.{nothingHeld}
 use Rattle.views.specs.View.{View, freshView}
+use Rattle.lines.specs.Hex.{hexOf}
 use Rattle.lines.specs.Text.{characters}
 use Rattle.images.specs.Parts.{octetsFor, readWhole, octetTo, line, lineFront, readLine}
-use Rattle.images.specs.Layout.{edition01, First, first, firstOf, Number, numberLine, before, ahead}
-use Rattle.images.specs.Image.{readImage, inRangesOnly}
+use Rattle.images.specs.Layout.{oldLimit, edition01, edition02, First, first, firstOf, Number, numberLine, before, ahead}
+use Rattle.images.specs.Image.{readText, inRangesOnly}
 
 -- a first line, and lines from the base on and before it
 abbrev pub counted : First
@@ -39,6 +41,13 @@ withMessages n messages =
       held = record { accepted = true; n = n; messages = messages };
     }
 
+-- before the base, with a packet of so many octets, from 128 on
+abbrev pub withPacket : ℕ → List ℕ
+withPacket size = hexOf (0x03 ∷ 0x00 ∷ 0x00 ∷ 0x07 ∷ (0x80 + size / 256) ∷ size % 256 ∷ replicate size 0x55) ++ hexOf (0x00 ∷ 0x00 ∷ [])
+
+abbrev pub unheard : ℕ → Number
+unheard size = record { cell = record { state = repaired; octets = replicate size 0x55; note = 7 }; held = nothingHeld }
+
 abbrev pub fromBaseOn : List ℕ → Answer Number
 fromBaseOn text = readLine (numberLine packetLimit true) text
 
@@ -48,7 +57,7 @@ beforeBase text = readLine (numberLine packetLimit false) text
 -- ---- what is written
 pub record Written : Type 0 where
   -- a fresh session: its first line, a blank number before the base, an unknown one from it on
-  pub fresh-first : octetsFor (line (first edition01)) (firstOf freshView) ≡ characters "01000000000000000000000000000000000000\n"
+  pub fresh-first : octetsFor (line (first edition02)) (firstOf freshView) ≡ characters "02000000000000000000000000000000000000\n"
   pub fresh-blank : octetsFor (line (numberLine packetLimit false)) (before freshView 0) ≡ characters "04000000000000\n"
   pub fresh-unknown : octetsFor (line (numberLine packetLimit true)) (ahead freshView 0) ≡ characters "00000000000000\n"
   -- "base in two octets, the four counts in 01's order in four each, high first"
@@ -80,6 +89,9 @@ pub record Lines : Type 0 where
   pub at-limit : readLine (numberLine 1 true) (characters "0101000001AA010100") ≡ done (withMessages 1 ([] ∷ []))
   pub packet-over : readLine (numberLine 1 true) (characters "0101000002AABB010100") ≡ refuse badImage
   pub message-over : readLine (numberLine 1 true) (characters "0101000001AA010102BBCC") ≡ refuse badImage
+  -- "edition 01 is still read, under the old limit": one octet more is read in edition 02 alone
+  pub old-over : readLine (numberLine (edition01 .limit) false) (withPacket 161) ≡ refuse badImage
+  pub new-reads : readLine (numberLine (edition02 .limit) false) (withPacket 161) ≡ done (unheard 161)
   -- a length in a form not allowed
   pub length-c0 : fromBaseOn (characters "01010000C001AA0000") ≡ refuse badImage
   pub length-two : fromBaseOn (characters "010100008001AA0000") ≡ refuse badImage
@@ -90,8 +102,9 @@ pub record Lines : Type 0 where
   pub accepted-before : beforeBase (characters "0101000001AA0000") ≡ refuse badImage
   pub n-before : beforeBase (characters "0100000001AA0100") ≡ refuse badImage
   pub m-before : beforeBase (characters "0100000001AA000100") ≡ refuse badImage
-  -- another edition
+  -- each edition has its octet
   pub edition-02 : readLine (first edition01) (characters "02010200000001000000020000000304050607") ≡ refuse badImage
+  pub edition-01 : readLine (first edition02) (characters "01010200000001000000020000000304050607") ≡ refuse badImage
 
 -- ---- what a text reads as
 pub record Texts : Type 0 where
@@ -102,9 +115,15 @@ pub record Texts : Type 0 where
   pub missing : readWhole (sequenceOf 2 (line (octetTo 9))) (characters "01\n") ≡ refuse badImage
   pub extra : readWhole (sequenceOf 2 (line (octetTo 9))) (characters "01\n02\n03\n") ≡ refuse badImage
   pub empty-line : readWhole (sequenceOf 2 (line (octetTo 9))) (characters "01\n02\n\n") ≡ refuse badImage
-  pub nothing : readImage edition01 [] ≡ refuse badImage
+  pub nothing : readText [] ≡ refuse badImage
   -- 20 comes before 17: base 1, with no count to sum to it, and no line after
-  pub first-alone : readImage edition01 (characters "01000100000000000000000000000000000000\n") ≡ refuse badImage
+  pub first-alone : readText (characters "01000100000000000000000000000000000000\n") ≡ refuse badImage
+  -- "21, any other edition octet, before 20 where that octet can be read": two upper-case digits, whatever follows or does not
+  pub edition-03 : readText (characters "03") ≡ refuse otherEdition
+  pub edition-00 : readText (characters "00\r") ≡ refuse otherEdition
+  pub edition-0a : readText (characters "0a") ≡ refuse badImage
+  pub one-digit : readText (characters "0") ≡ refuse badImage
+  pub edition-02-alone : readText (characters "02") ≡ refuse badImage
 
 -- "then 17": counts that sum past 32 bits, in a session that is fresh but for them
 abbrev pub wrapped : View

@@ -3,12 +3,13 @@
 -- Definitions only.
 use Prim.Native.Nat.{ℕ, _+_, _*_, _^_, _≤_, _<_}
 use mathlib.Core.Path.{_≡_}
-use mathlib.Core.Bool.{not, cond}
+use mathlib.Core.Bool.{Bool, false, not, cond, _&&_}
 use mathlib.Core.List.{List, [], _∷_, map}
 use mathlib.Core.Option.{Option}
 use lib.ListN.{length, getD}
+use lib.Dec.{eqb}
 use Rattle.octets.specs.Place.{tab}
-use Rattle.lengths.specs.Refusals.{outsideRanges}
+use Rattle.lengths.specs.Refusals.{outsideRanges, badImage, otherEdition}
 use Rattle.lengths.specs.Answers.{Answer, done, refuse, _>>=_}
 use Rattle.lengths.specs.Tables.{when, unless}
 use Rattle.lengths.specs.Claims.{Octets}
@@ -21,8 +22,9 @@ use Rattle.views.specs.View.{View, numbers}
 use Rattle.views.specs.Ranges.{inRanges}
 use Rattle.held.specs.Table.{Lent, viewIn}
 use Rattle.held.specs.Laid.{lentInRanges}
-use Rattle.images.specs.Parts.{octetsFor, readWhole, Sendable}
-use Rattle.images.specs.Layout.{Edition, Number, before, ahead, image}
+use Rattle.lines.specs.Hex.{digitOf}
+use Rattle.images.specs.Parts.{octetsFor, readWhole, upperDigit, Sendable}
+use Rattle.images.specs.Layout.{Edition, edition01, edition02, Number, before, ahead, image}
 
 -- the characters of a session's image
 unfoldable pub imageText : Edition → View → List ℕ
@@ -37,6 +39,29 @@ unfoldable pub readImage : Edition → List ℕ → Answer View
 readImage edition text = do
   view ← readWhole (image edition) text
   inRangesOnly view
+
+-- document 02, request 10: "21, any other edition octet, before 20 where that octet can be read", which is where the first two characters
+-- are upper-case digits
+unfoldable pub namesEdition : List ℕ → Bool
+namesEdition [] = false
+namesEdition (high ∷ []) = false
+namesEdition (high ∷ low ∷ text) = upperDigit high && upperDigit low
+
+-- the edition octet then
+unfoldable pub editionNamed : List ℕ → ℕ
+editionNamed [] = 0
+editionNamed (high ∷ []) = 0
+editionNamed (high ∷ low ∷ text) = digitOf high * 16 + digitOf low
+
+-- what a text reads as that names an edition
+abbrev pub readBy : ℕ → List ℕ → Answer View
+readBy octet text =
+    cond (eqb octet (edition01 .octet)) (readImage edition01 text)
+    (cond (eqb octet (edition02 .octet)) (readImage edition02 text) (refuse otherEdition))
+
+-- and any text
+unfoldable pub readText : List ℕ → Answer View
+readText text = cond (namesEdition text) (readBy (editionNamed text) text) (refuse badImage)
 
 -- what is written of a session as it is lent: "writing, 17"
 abbrev pub imageRows : Lent → List (Option ℕ)

@@ -21,12 +21,19 @@ pub record Edition : Type 0 where
   pub octet : ℕ
   pub limit : ℕ
 
+-- document 02, request 10: "Image edition 02 is written; edition 01 is still read, under the old limit"
+abbrev pub oldLimit : ℕ
+oldLimit = 160
+
 abbrev pub edition01 : Edition
-edition01 = record { octet = 0x01; limit = packetLimit }
+edition01 = record { octet = 0x01; limit = oldLimit }
+
+abbrev pub edition02 : Edition
+edition02 = record { octet = 0x02; limit = packetLimit }
 
 -- the edition that is written
 abbrev pub editionWritten : Edition
-editionWritten = edition01
+editionWritten = edition02
 
 -- ---- the first line
 pub record First : Type 0 where

@@ -11,8 +11,8 @@ use Rattle.held.specs.Table.{lentBy, viewOf}
 use Rattle.held.specs.Laid.{InRanges}
 use Rattle.held.specs.Promise.{Fresh}
 use Rattle.held.specs.declared.Session.{Session}
-use Rattle.images.specs.Layout.{edition01, editionWritten}
-use Rattle.images.specs.Image.{readImage, imageToWrite}
+use Rattle.images.specs.Layout.{editionWritten}
+use Rattle.images.specs.Image.{readText, imageToWrite}
 use Rattle.images.specs.declared.Restore.{Restore}
 use Rattle.images.specs.declared.Restore.the-variants as restore
 use Rattle.images.specs.declared.Restored.{Restored}
@@ -36,5 +36,5 @@ Restores restore.Done s = InRanges (lentBy s)
 Restores (restore.Refused why) s = Fresh s
 
 pub record ImageRead (text : List ℕ) (r : Restored) : Type 0 where
-  pub answer : restoredOutcome r ≡ readImage edition01 text
+  pub answer : restoredOutcome r ≡ readText text
   pub state : Restores (r .answer) (r .session)

@@ -24,8 +24,12 @@ pub struct Restored {
 }
 
 impl Image {
-    // The edition that is written.
-    pub const EDITION: u8 = 1;
+    // The edition that is written, and the older one, which is still read: packets and messages had fewer octets then.
+    pub const EDITION: u8 = 2;
+
+    pub const OLD_EDITION: u8 = 1;
+
+    pub const OLD_LIMIT: usize = 160;
     // The octets of the first line: edition, base and counts.
     pub const FIRST: usize = 19;
     // The most octets of a packet or message with its length, and of the line of a number.

@@ -1,5 +1,5 @@
 -- Document 01, 'The program': "Reads lines of hexadecimal, one datagram a line .. Both cases are read; upper case is
--- written". And of refusals: 2, "line over 3,000 characters (before 15)"; 15, "a line not of paired hexadecimal digits". A
+-- written". And of refusals: 2, "line over [its limit] (before 15)"; 15, "a line not of paired hexadecimal digits". A
 -- line's characters are octets. Definitions only.
 use Prim.Native.Nat.{ℕ, _+_, _-_, _*_, _/_, _%_}
 use mathlib.Core.Bool.{Bool, cond, not, _&&_}
@@ -47,7 +47,7 @@ octetsIn line = tab (length line / 2) (pairAt line)
 abbrev pub paired : List ℕ → Bool
 paired line = eqb (length line % 2) 0 && allDigits line
 
--- 2, "line over 3,000 characters (before 15)"; 15, "a line not of paired hexadecimal digits"
+-- 2, "line over [its limit] (before 15)"; 15, "a line not of paired hexadecimal digits"
 abbrev pub lineRows : List ℕ → List (Option ℕ)
 lineRows line = when (ltb lineLimit (length line)) tooLong ∷ when (not (paired line)) wrongSettings ∷ []
 

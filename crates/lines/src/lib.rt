@@ -16,7 +16,7 @@ use held::Session;
 pub struct Line {}
 
 impl Line {
-    // Document 01: "line over 3,000 characters".
+    // Document 01: "line over [its limit]".
     pub const LIMIT: usize = 2 * Datagram::LIMIT;
 
     // Of a line that is too long no more is kept than shows it.

@@ -194,7 +194,7 @@ abbrev pub answerOf : Finding IfpPacket → Answer PacketAnswer
 answerOf (found p at) = done (record { kind = p .kind; value = p .value; fields = map fieldOf (p .contents) })
 answerOf (stopped r) = refused r
 
--- "over 160 octets 4, then reading order"
+-- "over [the packet limit] 4, then reading order"
 unfoldable pub readPacket : Ending → List ℕ → Answer PacketAnswer
 readPacket ending s = cond (ltb packetLimit (length s)) (refuse outsideSizes) (answerOf (wholePacket edition98 ending s 0 0))
 

@@ -1,5 +1,5 @@
--- Document 01, 'The sending session': "The sending session's ranges: numbers sent at most 1,000,000; history lengths 1 to 160, or 0
--- exactly for numbers before the first; octets past a length zero." Definitions only.
+-- Document 01, 'The sending session': "The sending session's ranges: numbers sent at most 1,000,000; history lengths 1 to [the packet
+-- limit], or 0 exactly for numbers before the first; octets past a length zero." Definitions only.
 use Prim.Native.Nat.{ℕ, _+_}
 use mathlib.Core.Bool.{Bool, cond, _&&_}
 use mathlib.Core.List.{List}
@@ -13,7 +13,7 @@ use Rattle.sending.specs.Sending.{historyKept}
 use Rattle.sending.specs.Sender.{historySlot, lengthIn}
 use Rattle.sending.specs.declared.Sender.{Sender}
 
--- "history lengths 1 to 160, or 0 exactly for numbers before the first": of the number at − historyKept
+-- "history lengths 1 to [the packet limit], or 0 exactly for numbers before the first": of the number at − historyKept
 unfoldable pub sizeInRange : ℕ → ℕ → Bool
 sizeInRange at size = cond (ltb at historyKept) (eqb size 0) (within packetLeast packetLimit size)
 

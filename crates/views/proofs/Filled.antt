@@ -1,4 +1,4 @@
--- An unknown number is filled: it takes the state of a packet, 1 to 160 octets and a note that is right for it, and the view stays within
+-- An unknown number is filled: it takes the state of a packet, octets within the limit and a note that is right for it; the view stays in
 -- the ranges. Its own cell passes by its length, since an unknown number is not blank; a number that must be known is known all the
 -- more; every other place is as it was. Assumes nothing.
 use Prim.Native.Nat.{ℕ, _+_, _≤_, _<_}

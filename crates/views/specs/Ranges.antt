@@ -1,9 +1,9 @@
 -- Document 01, 'Ranges of a session', of the session as the page sees it: "Base equals the sum of counts modulo 65,536, sum at most
 -- 1,000,000. The number j before the base is blank exactly if j exceeds the sum; no other is blank. Unknown and blank have length
--- 0, others 1 to 160. .. An accepted number is known. Messages stand only at accepted numbers, and with m = 0 also n = 0, otherwise
--- n, m and message lengths are within the sizes". Document 02, request 8: "For a received one [the note] is its own number; for a blank
--- or unknown one it is zero. .. The session's ranges gain the rules for received, blank and unknown." What the page says of octets past
--- a length, and of message places past m, is said of how a session is held. Definitions only.
+-- 0, others 1 to [the packet limit]. .. An accepted number is known. Messages stand only at accepted numbers, and with m = 0 also n = 0,
+-- otherwise n, m and message lengths are within the sizes". Document 02, request 8: "For a received one [the note] is its own number;
+-- for a blank or unknown one it is zero. .. The session's ranges gain the rules for received, blank and unknown." What the page says
+-- of octets past a length, and of message places past m, is said of how a session is held. Definitions only.
 use Prim.Native.Nat.{ℕ, _+_, _-_, _%_, _<_}
 use mathlib.Core.Path.{_≡_}
 use mathlib.Core.Bool.{Bool, true, false, not, cond, _&&_}
@@ -26,7 +26,7 @@ sumRight v = eqb (v .base) (sum (v .counts) % numbers) && leb (sum (v .counts)) 
 abbrev pub blankAt : ℕ → ℕ → Bool
 blankAt total p = ltb p keptBefore && ltb total (keptBefore - p)
 
--- "Unknown and blank have length 0, others 1 to 160.", and blank exactly where it must be
+-- "Unknown and blank have length 0, others 1 to [the packet limit].", and blank exactly where it must be
 unfoldable pub sizeRight : State → ℕ → Bool → Bool
 sizeRight unknown size mustBeBlank = eqb size 0 && not mustBeBlank
 sizeRight received size mustBeBlank = (leb packetLeast size && leb size packetLimit) && not mustBeBlank

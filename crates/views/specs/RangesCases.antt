@@ -24,7 +24,7 @@ pub record RangesCases : Type 0 where
   pub base-not-blank : blankAt 0 32 ≡ false
   pub blank-elsewhere : sizeRight blank 0 false ≡ false
   pub not-blank : sizeRight unknown 0 true ≡ false
-  -- "Unknown and blank have length 0, others 1 to 160."
+  -- "Unknown and blank have length 0, others 1 to [the packet limit]."
   pub unknown-with-octets : sizeRight unknown 1 false ≡ false
   pub received-empty : sizeRight received 0 false ≡ false
   pub spare-at-limit : sizeRight spare packetLimit false ≡ true
