@@ -12,6 +12,7 @@ use Rattle.lengths.specs.Length.{lengthOctets, lengthWriterRows, lengthToWrite}
 use Rattle.lengths.proofs.Laws.{fitted-first, puts-refusal, size-refusal}
 use Rattle.datagrams.specs.Write.{carriedOf, datagramOctets, datagramWriterRows, datagramToWrite}
 use Rattle.datagrams.specs.declared.kind.Kind.{Kind}
+use Rattle.packets.specs.Edition.{edition98}
 use Rattle.packets.specs.Write.{packetOctets, packetWriterRows, packetToWrite}
 use Rattle.packets.specs.declared.types.Kind as packets
 use Rattle.sending.specs.Sending.{Sending}
@@ -42,11 +43,12 @@ datagram-writer number packet kind lengths run old =
     fitted-first (datagramWriterRows packet kind lengths run) (datagramOctets (carriedOf number packet kind lengths run)) old
 
 packet-writer : (kind : packets.Kind) (value : ℕ) (types lengths octets old : List ℕ)
-    → refusalIn (fitted (packetToWrite kind value types lengths octets) old)
-    ≡ first (packetWriterRows kind value types lengths octets ++ roomRow (packetOctets kind value types lengths octets) old)
+    → refusalIn (fitted (packetToWrite edition98 kind value types lengths octets) old)
+    ≡ first
+    (packetWriterRows edition98 kind value types lengths octets ++ roomRow (packetOctets edition98 kind value types lengths octets) old)
 unfolding packetToWrite
 packet-writer kind value types lengths octets old =
-    fitted-first (packetWriterRows kind value types lengths octets) (packetOctets kind value types lengths octets) old
+    fitted-first (packetWriterRows edition98 kind value types lengths octets) (packetOctets edition98 kind value types lengths octets) old
 
 line-writer : (line old : List ℕ) → refusalIn (fitted (lineOctets line) old) ≡ first (lineRows line ++ roomRow (octetsIn line) old)
 unfolding lineOctets
@@ -69,7 +71,7 @@ writers =
       line = λ line {old} p. puts-refusal p ∙ line-writer line old;
       lengthUnchanged = λ n. puts-unchanged (lengthToWrite n);
       datagramUnchanged = λ number packet kind lengths run. puts-unchanged (datagramToWrite number packet kind lengths run);
-      packetUnchanged = λ kind value types lengths octets. puts-unchanged (packetToWrite kind value types lengths octets);
+      packetUnchanged = λ kind value types lengths octets. puts-unchanged (packetToWrite edition98 kind value types lengths octets);
       lineUnchanged = λ line. puts-unchanged (lineOctets line);
     }
 

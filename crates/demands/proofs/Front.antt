@@ -18,6 +18,7 @@ use Rattle.lengths.specs.Claims.{Octets}
 use Rattle.lengths.proofs.Laws.{octets-cons, octets-none}
 use Rattle.formats.specs.Places.{Place}
 use Rattle.datagrams.specs.Sizes.{packetLimit}
+use Rattle.packets.specs.Edition.{edition98}
 use Rattle.packets.specs.Packet.{every, allZero, readPacket}
 use Rattle.packets.specs.declared.types.Ending.{Ending}
 use Rattle.packets.specs.declared.types.Ending.the-variants.{Whole, Repaired}
@@ -46,9 +47,9 @@ pub record InFront (s : List ℕ) : Type 0 where
   pub is : s ≡ front ++ replicate zeros 0
   pub fits : length s ≤ packetLimit
   pub octets : Octets s → Octets front
-  pub reads : refusalIn (readPacket Whole front) ≡ none
+  pub reads : refusalIn (readPacket edition98 Whole front) ≡ none
 
-within-limit : (ending : Ending) (s : List ℕ) → refusalIn (readPacket ending s) ≡ none → length s ≤ packetLimit
+within-limit : (ending : Ending) (s : List ℕ) → refusalIn (readPacket edition98 ending s) ≡ none → length s ≤ packetLimit
 within-limit ending s e = by (below-or-not packetLimit (length s)) where
   by : (packetLimit < length s) ⊎ (length s ≤ packetLimit) → length s ≤ packetLimit
   by (inl over) = absurd (not-both e (over-limit ending s over))
@@ -59,7 +60,7 @@ ends-there w due =
     let nothing : length (octetsFrom w (8 * length w)) ≡ 0 = omega (arith, length-drop (8 * length w / 8) w) in
     record { place = 8 * length w; due = due; follows = eq-eqb (length (octetsFrom w (8 * length w))) 0 nothing }
 
-pub repaired-front : (s : List ℕ) → refusalIn (readPacket Repaired s) ≡ none → InFront s
+pub repaired-front : (s : List ℕ) → refusalIn (readPacket edition98 Repaired s) ≡ none → InFront s
 repaired-front s e =
     let fits = within-limit Repaired s e in
     let t = passed-ended Repaired s fits .0 e in

@@ -4,6 +4,7 @@ use mathlib.Core.List.{List}
 use Rattle.lengths.specs.Answers.{Answer}
 use Rattle.lengths.specs.Length.{lengthToWrite}
 use Rattle.datagrams.specs.Write.{datagramToWrite}
+use Rattle.packets.specs.Edition.{edition98}
 use Rattle.packets.specs.Write.{packetToWrite}
 use Rattle.images.specs.Layout.{editionWritten}
 use Rattle.images.specs.Image.{imageToWrite}
@@ -35,7 +36,7 @@ one-outcome =
           record {
             length = λ n. one-write (lengthToWrite n);
             datagram = λ number packet kind lengths run. one-write (datagramToWrite number packet kind lengths run);
-            packet = λ kind value types lengths octets. one-write (packetToWrite kind value types lengths octets);
+            packet = λ kind value types lengths octets. one-write (packetToWrite edition98 kind value types lengths octets);
             image = λ session. one-write (imageToWrite editionWritten session);
           };
       receiver = sessions.claims .oneOutcome;

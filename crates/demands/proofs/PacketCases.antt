@@ -16,6 +16,7 @@ use Rattle.lengths.specs.Tables.{when, first}
 use Rattle.formats.specs.Spelling.{gap}
 use Rattle.formats.specs.Places.{Place, bitsAt}
 use Rattle.datagrams.specs.Sizes.{packetLimit}
+use Rattle.packets.specs.Edition.{edition98}
 use Rattle.packets.specs.Packet.{fieldsLeast, fieldsLimit, assigned, rightFields, mayFollow}
 use Rattle.packets.specs.Inner.Octets.{kindOf}
 use Rattle.packets.specs.declared.types.Kind.{Kind}
@@ -71,11 +72,11 @@ module _ (ending : Ending) (s : List ℕ) where
       let some = ltb-false (8 * length s) 8 there in
       row (extension o) notAssigned n _ (λ e. record { some = omega arith; is = rw e })
       (λ plain.
-      row (leb (assigned (kindOf o)) (valueIn o)) notAssigned n _ (λ e. record { some = omega arith; is = rw (plain, e) })
+      row (leb (assigned edition98 (kindOf o)) (valueIn o)) notAssigned n _ (λ e. record { some = omega arith; is = rw (plain, e) })
       (λ known.
       row (ltb 0 (o % 2)) spareBit n _
       (λ odd.
-      lowest (omega arith) plain (leb-false (assigned (kindOf o)) (valueIn o) known) (omega (arith, ltb-true 0 (o % 2) odd)))
+      lowest (omega arith) plain (leb-false (assigned edition98 (kindOf o)) (valueIn o) known) (omega (arith, ltb-true 0 (o % 2) odd)))
       (λ even.
       last (not (rightFields (kindOf o) (hasFields o))) wrongData n
       (λ unfit.

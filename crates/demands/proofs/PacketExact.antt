@@ -14,6 +14,7 @@ use Rattle.lengths.specs.Tables.{when, first}
 use Rattle.formats.specs.Spelling.{gap}
 use Rattle.formats.specs.Places.{bitsAt}
 use Rattle.datagrams.specs.Sizes.{packetLimit}
+use Rattle.packets.specs.Edition.{edition98}
 use Rattle.packets.specs.Packet.{fieldsLeast, fieldsLimit, assigned, rightFields}
 use Rattle.packets.specs.Inner.Octets.{kindOf}
 use Rattle.packets.specs.declared.types.Ending.{Ending}
@@ -30,7 +31,8 @@ abbrev fromSpare : ℕ → List (Option ℕ)
 fromSpare o = when (ltb 0 (o % 2)) spareBit ∷ when (not (rightFields (kindOf o) (hasFields o))) wrongData ∷ []
 
 in-first : (ending : Ending) (s : List ℕ) (n : ℕ) → 1 ≤ length s → extension (octetHere s 0) ≡ false
-    → valueIn (octetHere s 0) < assigned (kindOf (octetHere s 0)) → first (fromSpare (octetHere s 0)) ≡ some n → FirstWrong ending s n
+    → valueIn (octetHere s 0) < assigned edition98 (kindOf (octetHere s 0)) → first (fromSpare (octetHere s 0)) ≡ some n
+    → FirstWrong ending s n
 unfolding rows
 in-first ending s n there plain known then =
     let o = octetHere s 0 in
@@ -41,7 +43,8 @@ in-first ending s n there plain known then =
       wrong =
           past-row (ltb (8 * length s) 8) endsEarly n _ (le-ltb (8 * length s) 8 (omega arith))
           (past-row (extension o) notAssigned n _ plain
-          (past-row (leb (assigned (kindOf o)) (valueIn o)) notAssigned n _ (lt-leb (assigned (kindOf o)) (valueIn o) known) then));
+          (past-row (leb (assigned edition98 (kindOf o)) (valueIn o)) notAssigned n _
+          (lt-leb (assigned edition98 (kindOf o)) (valueIn o) known) then));
     }
 
 -- ---- 5
@@ -95,7 +98,7 @@ of-unassigned ending s u =
       place = 0;
       due = begins;
       wrong =
-          tests-first (ltb (8 * length s) 8) (extension o) (leb (assigned (kindOf o)) (valueIn o)) (ltb 0 (o % 2))
+          tests-first (ltb (8 * length s) 8) (extension o) (leb (assigned edition98 (kindOf o)) (valueIn o)) (ltb 0 (o % 2))
           (not (rightFields (kindOf o) (hasFields o))) (le-ltb (8 * length s) 8 (omega arith)) (u .is);
     }
 

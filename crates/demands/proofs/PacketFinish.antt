@@ -15,6 +15,7 @@ use Rattle.lengths.specs.Tables.{first}
 use Rattle.formats.specs.Spelling.{gap}
 use Rattle.formats.specs.Places.{Place, bitsAt}
 use Rattle.datagrams.specs.Sizes.{packetLimit}
+use Rattle.packets.specs.Edition.{edition98}
 use Rattle.packets.specs.Packet.{rightData}
 use Rattle.packets.specs.Inner.Octets.{headerOf}
 use Rattle.packets.specs.declared.types.Ending.the-variants.{Whole}
@@ -94,7 +95,7 @@ header-then left s due =
     let spare : bitsAt (gap (p + 4)) t (p + 4) ≡ 0 =
     ap (λ (k : ℕ). bitsAt ((8 - k) % 8) t (p + 4)) half ∙ bits-behind 4 s (0x80 ∷ []) 4 in
     let inside = le-ltb (8 * length t) (p + 4) (omega arith) in
-    let met : dataFits t p ≡ true = ap (λ (b : ℕ). rightData ((headerOf b) .kind) ((headerOf b) .present)) bits in
+    let met : dataFits t p ≡ true = ap (λ (b : ℕ). rightData edition98 ((headerOf b) .kind) ((headerOf b) .present)) bits in
     let padded : Due t (p + 4) (padding (dataLength left)) =
     subst (λ (b : ℕ). Due t (p + 4) (cond ((headerOf b) .present) (padding (dataLength left)) (fields left))) bits
     (goesOn (due-more due (0x80 ∷ []))

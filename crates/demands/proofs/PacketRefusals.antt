@@ -17,6 +17,7 @@ use Rattle.lengths.specs.declared.Refusal.{Refusal}
 use Rattle.lengths.proofs.Laws.{refused-same}
 use Rattle.formats.specs.Places.{Place}
 use Rattle.datagrams.specs.Sizes.{packetLimit}
+use Rattle.packets.specs.Edition.{edition98}
 use Rattle.packets.specs.Packet.{mayFollow}
 use Rattle.packets.specs.Promise.{PacketTold, packetOutcome}
 use Rattle.packets.specs.declared.types.Ending.{Ending}
@@ -38,7 +39,7 @@ use Rattle.demands.proofs.PacketCases.{Case, case-of}
 use Rattle.demands.proofs.PacketExact.{of-spare, of-data, of-unassigned, of-bad-count, of-sizes}
 
 -- ---- the call's answer
-module _ {ending : Ending} {s : List ℕ} {r : PacketRead} (told : PacketTold ending s r) where
+module _ {ending : Ending} {s : List ℕ} {r : PacketRead} (told : PacketTold edition98 ending s r) where
   over-limit : packetLimit < length s → refusalIn (packetOutcome r) ≡ some outsideSizes
   over-limit over = ap refusalIn (told .answer) ∙ stops.over-limit ending s over
 
@@ -98,20 +99,23 @@ module _ {ending : Ending} {s : List ℕ} {r : PacketRead} (told : PacketTold en
   )
 
 -- ---- two calls
-stays : {ending : Ending} {s : List ℕ} (more : List ℕ) {r t : PacketRead} {n : ℕ} → PacketTold ending s r → PacketTold ending (s ++ more) t
+stays : {ending : Ending} {s : List ℕ} (more : List ℕ) {r t : PacketRead} {n : ℕ} → PacketTold edition98 ending s r
+    → PacketTold edition98 ending (s ++ more) t
     → length (s ++ more) ≤ packetLimit → refusalIn (packetOutcome r) ≡ some n → n ≢ endsEarly → refusalIn (packetOutcome t) ≡ some n
 stays {ending} {s} more {r} {t} {n} told longer fits e apart =
     let long = length-append s more in
     wrong-item longer n fits .1 (wrong-more ending s more n apart (wrong-item told n (omega arith) .0 e))
 
-never : {ending : Ending} {s : List ℕ} (more : List ℕ) {r t : PacketRead} {n : ℕ} → PacketTold ending s r → PacketTold ending (s ++ more) t
+never : {ending : Ending} {s : List ℕ} (more : List ℕ) {r t : PacketRead} {n : ℕ} → PacketTold edition98 ending s r
+    → PacketTold edition98 ending (s ++ more) t
     → refusalIn (packetOutcome r) ≡ some n → n ≢ endsEarly → refusalIn (packetOutcome t) ≡ none → ⊥
 never {s = s} more told longer e apart reads =
     ⊎-elim (λ over. not-both reads (over-limit longer over)) (λ fits. not-both reads (stays more told longer fits e apart))
     (below-or-not packetLimit (length (s ++ more)))
 
 -- from one ending to the other
-other-way : (one other : Ending) {s : List ℕ} {r t : PacketRead} {n : ℕ} → PacketTold one s r → PacketTold other s t → n ≢ number.leftOver
+other-way : (one other : Ending) {s : List ℕ} {r t : PacketRead} {n : ℕ} → PacketTold edition98 one s r
+    → PacketTold edition98 other s t → n ≢ number.leftOver
     → refusalIn (packetOutcome r) ≡ some n → refusalIn (packetOutcome t) ≡ some n
 other-way one other {s} {r} {t} {n} told again apart e = by (below-or-not packetLimit (length s)) where
   same : (w : FirstWrong one s n) → (w .item ≡ end) ⊎ (rows one (w .item) s (w .place) ≡ rows other (w .item) s (w .place))
@@ -140,7 +144,8 @@ nothing-left s p due none-there =
     let edge = due-end due in
     subst (λ (q : Place). Due s q end) (omega (arith, length-drop (p / 8) s)) due
 
-received : {s : List ℕ} {r : PacketRead} → PacketTold Whole s r → length s ≤ packetLimit → (refusalIn (packetOutcome r) ≡ none) ↔ Packet s
+received : {s : List ℕ} {r : PacketRead} → PacketTold edition98 Whole s r → length s ≤ packetLimit
+    → (refusalIn (packetOutcome r) ≡ none) ↔ Packet s
 unfolding followed
 received {s} told fits = (
   λ e.

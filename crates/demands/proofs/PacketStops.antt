@@ -16,6 +16,7 @@ use Rattle.lengths.specs.declared.Refusal.{Refusal}
 use Rattle.lengths.specs.Tables.{first, refusalIn}
 use Rattle.formats.specs.Places.{Place}
 use Rattle.datagrams.specs.Sizes.{packetLimit}
+use Rattle.packets.specs.Edition.{edition98}
 use Rattle.packets.specs.Packet.{mayFollow, PacketAnswer, readPacket}
 use Rattle.packets.specs.declared.types.Ending.{Ending}
 use Rattle.packets.specs.declared.types.Ending.the-variants.{Whole}
@@ -88,24 +89,27 @@ stops {ending} due (right e on) = stops (due-on ending due e) on
 stops {ending} {s} {p} due (whole e) = record { place = p; due = due; follows = end-passed ending s p e }
 
 -- ---- what the reader refuses
-pub over-refused : (ending : Ending) (s : List ℕ) → packetLimit < length s → readPacket ending s ≡ refuse outsideSizes
+pub over-refused : (ending : Ending) (s : List ℕ) → packetLimit < length s → readPacket edition98 ending s ≡ refuse outsideSizes
 unfolding readPacket
 over-refused ending s over = rw (lt-ltb packetLimit (length s) over)
 
-pub over-limit : (ending : Ending) (s : List ℕ) → packetLimit < length s → refusalIn (readPacket ending s) ≡ some outsideSizes
+pub over-limit : (ending : Ending) (s : List ℕ) → packetLimit < length s → refusalIn (readPacket edition98 ending s) ≡ some outsideSizes
 over-limit ending s over = ap refusalIn (over-refused ending s over)
 
 module _ (ending : Ending) (s : List ℕ) (fits : length s ≤ packetLimit) where
-  met : Met ending s 0 firstOctet (whyIn (readPacket ending s))
+  met : Met ending s 0 firstOctet (whyIn (readPacket edition98 ending s))
   met = packet-walk ending s fits
 
   -- where the first wrong item is, it is refused
-  pub wrong-refused : (n : ℕ) (w : FirstWrong ending s n) → whyIn (readPacket ending s) ≡ some (refusalAt (w .place / 8) n)
+  pub wrong-refused : (n : ℕ) (w : FirstWrong ending s n) → whyIn (readPacket edition98 ending s) ≡ some (refusalAt (w .place / 8) n)
   wrong-refused n w = wrong-here (w .wrong) (reaches (w .due) met)
 
-  pub refused-wrong : (n : ℕ) → (refusalIn (readPacket ending s) ≡ some n) ↔ FirstWrong ending s n
+  pub refused-wrong : (n : ℕ) → (refusalIn (readPacket edition98 ending s) ≡ some n) ↔ FirstWrong ending s n
   unfolding Outcome
-  refused-wrong n = (λ e. by (readPacket ending s) e (stops begins met), λ w. back (readPacket ending s) (wrong-refused n w)) where
+  refused-wrong n = (
+    λ e. by (readPacket edition98 ending s) e (stops begins met),
+    λ w. back (readPacket edition98 ending s) (wrong-refused n w),
+  ) where
     by : (m : Answer PacketAnswer) → refusalIn m ≡ some n → Outcome ending s (whyIn m) → FirstWrong ending s n
     by (done a) e t = absurd (not-both refl e)
     by (refused why) e t = subst (FirstWrong ending s) (same-number e) t
@@ -114,11 +118,11 @@ module _ (ending : Ending) (s : List ℕ) (fits : length s ≤ packetLimit) wher
     back (done a) e = let z : _≡_ {A = ℕ} 0 1 = cc in absurd (omega arith)
     back {why} (refused r) e = let same : r ≡ why = cc in ap (λ (x : Refusal). some (x .number)) same
 
-  pub passed-ended : (refusalIn (readPacket ending s) ≡ none) ↔ Ended ending s
+  pub passed-ended : (refusalIn (readPacket edition98 ending s) ≡ none) ↔ Ended ending s
   unfolding Outcome
   passed-ended = (
-    λ e. by (readPacket ending s) e (stops begins met),
-    λ t. back (readPacket ending s) (end-here refl (end-passes ending s (t .place) (t .follows)) (reaches (t .due) met)),
+    λ e. by (readPacket edition98 ending s) e (stops begins met),
+    λ t. back (readPacket edition98 ending s) (end-here refl (end-passes ending s (t .place) (t .follows)) (reaches (t .due) met)),
   ) where
     by : (m : Answer PacketAnswer) → refusalIn m ≡ none → Outcome ending s (whyIn m) → Ended ending s
     by (done a) e t = t

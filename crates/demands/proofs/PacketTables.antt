@@ -15,6 +15,7 @@ use Rattle.lengths.specs.Tables.{when, first}
 use Rattle.formats.specs.Spelling.{gap}
 use Rattle.formats.specs.Places.{Place, bitsAt, edge, edgeAt}
 use Rattle.datagrams.specs.Sizes.{packetLimit}
+use Rattle.packets.specs.Edition.{edition98}
 use Rattle.packets.specs.Packet.{fieldsLeast, fieldsLimit, assigned, rightFields, mayFollow}
 use Rattle.packets.specs.Inner.Octets.{isSet, firstOf, headerWidth, firstAt, Count, countAt, HeaderAnswer, headerAt, sizeAt}
 use Rattle.packets.specs.declared.types.Ending.{Ending}
@@ -77,7 +78,7 @@ first-table ending s =
     rw short
     (refuses 0 (ltb (length s) 1) endsEarly _ _ f
     (refuses 0 (isSet 5 o) notAssigned _ _ f
-    (refuses 0 (leb (assigned (f .kind)) (f .value)) notAssigned _ _ f
+    (refuses 0 (leb (assigned edition98 (f .kind)) (f .value)) notAssigned _ _ f
     (refuses 0 (ltb 0 (o % 2)) spareBit _ _ f
     (must 0 (rightFields (f .kind) (f .present)) wrongData f)))))
 

@@ -15,6 +15,7 @@ use Rattle.lengths.specs.Answers.{Answer, done, refused, refuseAt, readFrom, _>
 use Rattle.lengths.specs.Tables.{first}
 use Rattle.formats.specs.Places.{Place, edge, edgeAt}
 use Rattle.datagrams.specs.Sizes.{packetLimit}
+use Rattle.packets.specs.Edition.{edition98}
 use Rattle.packets.specs.Packet.{readPacket, mayFollow}
 use Rattle.packets.specs.Inner.Octets.{firstOf, headerWidth, firstAt, countAt, HeaderAnswer, headerAt, sizeAt, FieldAnswer}
 use Rattle.packets.specs.Inner.Octets.{afterHeader, fieldAt, FieldsAnswer, fieldsAt, endAt, packetByOctets}
@@ -141,7 +142,8 @@ module _ {B : Type 0} (ending : Ending) (s : List ℕ) where
   count-walk false made = fields-then 0 8 made
 
 -- what the reader comes to is met from the first octet on
-pub packet-walk : (ending : Ending) (s : List ℕ) → length s ≤ packetLimit → Met ending s 0 firstOctet (whyIn (readPacket ending s))
+pub packet-walk : (ending : Ending) (s : List ℕ) → length s ≤ packetLimit
+    → Met ending s 0 firstOctet (whyIn (readPacket edition98 ending s))
 unfolding packetByOctets OnFrom
 packet-walk ending s fits =
     let f = firstOf (getD s 0 0) in

@@ -17,6 +17,7 @@ use Rattle.datagrams.specs.Carried.{Carried}
 use Rattle.datagrams.specs.Read.{readDatagram, carriedBy}
 use Rattle.datagrams.specs.Write.{datagramToWrite}
 use Rattle.datagrams.specs.declared.kind.Kind.{Kind}
+use Rattle.packets.specs.Edition.{edition98}
 use Rattle.packets.specs.Write.{packetToWrite}
 use Rattle.packets.specs.declared.types.Kind as packets
 use Rattle.views.specs.Cells.{unknownAt, keptBefore, keptAhead}
@@ -85,7 +86,7 @@ unfolding datagramToWrite
 datagram-writer number packet kind lengths run = unless-front _ _
 
 packet-writer : (kind : packets.Kind) (value : ℕ) (types lengths octets : List ℕ)
-    → AtFront (packetToWrite kind value types lengths octets)
+    → AtFront (packetToWrite edition98 kind value types lengths octets)
 unfolding packetToWrite
 packet-writer kind value types lengths octets = unless-front _ _
 

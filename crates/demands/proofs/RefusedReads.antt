@@ -19,6 +19,7 @@ use Rattle.lengths.specs.Claims.{Octets}
 use Rattle.datagrams.specs.Read.{octetsOf, readDatagram}
 use Rattle.datagrams.specs.Claims.{lengthsOf, runOf}
 use Rattle.datagrams.proofs.Claims as datagrams
+use Rattle.packets.specs.Edition.{edition98}
 use Rattle.packets.specs.Packet.{allData, readPacket}
 use Rattle.packets.specs.declared.types.Ending.the-variants.{Whole, Repaired}
 use Rattle.packets.proofs.Claims as packet-claims
@@ -72,24 +73,25 @@ is-datagram s octets = (
   λ is. ap refusalIn (datagrams.claims .writtenReads (is .number) (is .packet) (is .kind) (is .lengths) (is .run) s (is .written) .read),
 )
 
-is-packet : (s : List ℕ) → Octets s → (refusalIn (readPacket Whole s) ≡ none) ↔ IsPacket s
+is-packet : (s : List ℕ) → Octets s → (refusalIn (readPacket edition98 Whole s) ≡ none) ↔ IsPacket s
 is-packet s octets = (
   λ e.
-      let p = done-none (readPacket Whole s) e in
+      let p = done-none (readPacket edition98 Whole s) e in
       record {
         kind = p .0 .kind;
         value = p .0 .value;
         types = map (λ f. f .kind) (p .0 .fields);
         lengths = map (λ f. f .size) (p .0 .fields);
         octets = allData s (p .0 .fields);
-        written = packet-claims.claims .readWrites s (p .0) octets (p .1);
+        written = packet-claims.claims .readWrites edition98 s (p .0) octets (p .1);
       },
   λ is.
       ap refusalIn
-      (packet-claims.claims .writtenReads (is .kind) (is .value) (is .types) (is .lengths) (is .octets) s (is .written) .reads),
+      (packet-claims.claims .writtenReads edition98 (packet-claims.claims .sound98) (is .kind) (is .value) (is .types) (is .lengths)
+      (is .octets) s (is .written) .reads),
 )
 
-is-repaired : (s : List ℕ) → Octets s → (refusalIn (readPacket Repaired s) ≡ none) ↔ IsRepaired s
+is-repaired : (s : List ℕ) → Octets s → (refusalIn (readPacket edition98 Repaired s) ≡ none) ↔ IsRepaired s
 is-repaired s octets = (
   λ e.
       let f = repaired-front s e in
@@ -106,9 +108,10 @@ is-repaired s octets = (
       = ap length (is .is) ∙ length-append (is .packet) (replicate (is .zeros) 0)
       ∙ ap (λ (n : ℕ). length (is .packet) + n) (length-replicate {A = ℕ} (is .zeros) 0) in
       let reads =
-      packet-claims.claims .repairedReads (w .kind) (w .value) (w .types) (w .lengths) (w .octets) (is .packet) (is .zeros) (w .written)
+      packet-claims.claims .repairedReads edition98 (packet-claims.claims .sound98) (w .kind) (w .value) (w .types) (w .lengths)
+      (w .octets) (is .packet) (is .zeros) (w .written)
       (omega (arith, is .fits)) .reads in
-      ap (λ (l : List ℕ). refusalIn (readPacket Repaired l)) (is .is) ∙ ap refusalIn reads,
+      ap (λ (l : List ℕ). refusalIn (readPacket edition98 Repaired l)) (is .is) ∙ ap refusalIn reads,
 )
 
 -- the same of a call with that refusal

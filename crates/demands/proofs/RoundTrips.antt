@@ -31,6 +31,7 @@ use Rattle.datagrams.specs.declared.reader.DatagramRead.{DatagramRead}
 use Rattle.datagrams.specs.declared.reader.Reading.{Reading}
 use Rattle.datagrams.specs.declared.reader.Reading.the-variants as reading
 use Rattle.datagrams.proofs.Claims as datagrams
+use Rattle.packets.specs.Edition.{edition98}
 use Rattle.packets.specs.Packet.{allData, fieldsLimit, noField, PacketAnswer, readPacket}
 use Rattle.packets.specs.Promise as packetPromise
 use Rattle.packets.specs.Promise.{PacketTold, packetRead, padded}
@@ -162,7 +163,8 @@ datagram-trips =
 
 -- ---- packets
 packet-told : {ending : Ending} {s : List ℕ} {kind : packets.Kind} {value : ℕ} {types lengths octets : List ℕ} {r : PacketRead}
-    → packetClaims.ReadsAs ending s kind value types lengths octets → PacketTold ending s r → PacketSame s kind value types lengths octets r
+    → packetClaims.ReadsAs edition98 ending s kind value types lengths octets → PacketTold edition98 ending s r
+    → PacketSame s kind value types lengths octets r
 unfolding padded
 packet-told {ending} {s} {kind} {value} {types} {lengths} {octets} {r} reads told =
     let p = reads .packet in
@@ -183,18 +185,23 @@ packet-trips =
     record {
       readsBack =
           λ kind value types lengths octets {old} {new} {w} {n} puts e {r} told.
-          packet-told (packetProofs.claims .writtenReads kind value types lengths octets (take n new) (puts-octets puts e .0)) told;
+          packet-told
+          (packetProofs.claims .writtenReads edition98 (packetProofs.claims .sound98) kind value types lengths octets (take n new)
+          (puts-octets puts e .0))
+          told;
       readsRepaired =
           λ kind value types lengths octets {old} {new} {w} {n} puts e zeros room {r} told.
           let t = puts-octets puts e in
-          let reads = packetProofs.claims .repairedReads kind value types lengths octets (take n new) zeros (t .0) (omega (arith, t .1)) in
+          let reads =
+          packetProofs.claims .repairedReads edition98 (packetProofs.claims .sound98) kind value types lengths octets (take n new) zeros
+          (t .0) (omega (arith, t .1)) in
           packet-told reads told;
       writesBack =
           λ {s} {r} {kind} {value} {count} octets told e {old} {new} {w} puts room.
           let p : PacketAnswer = record { kind = kind; value = value; fields = take count (r .fields) } in
-          let is : readPacket Whole s ≡ done p =
+          let is : readPacket edition98 Whole s ≡ done p =
           sym (told .answer) ∙ ap (λ (x : packetReadings.Reading). packetPromise.readingOutcome x (r .fields)) e in
-          puts-back puts (packetProofs.claims .readWrites s p octets is) refl room;
+          puts-back puts (packetProofs.claims .readWrites edition98 s p octets is) refl room;
     }
 
 -- ---- the sending session

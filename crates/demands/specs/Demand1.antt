@@ -27,6 +27,7 @@ use Rattle.datagrams.specs.Write.{carriedOf, datagramOctets, datagramWriterRows
 use Rattle.datagrams.specs.Promise.{DatagramReads, readOutcome}
 use Rattle.datagrams.specs.declared.kind.Kind.{Kind}
 use Rattle.datagrams.specs.declared.reader.DatagramRead.{DatagramRead}
+use Rattle.packets.specs.Edition.{edition98}
 use Rattle.packets.specs.Packet.{readPacket}
 use Rattle.packets.specs.Write.{packetOctets, packetWriterRows, packetToWrite}
 use Rattle.packets.specs.Promise.{PacketTold, packetOutcome}
@@ -76,7 +77,7 @@ pub record IsPacket (s : List ℕ) : Type 0 where
   pub types : List ℕ
   pub lengths : List ℕ
   pub octets : List ℕ
-  pub written : packetToWrite kind value types lengths octets ≡ done s
+  pub written : packetToWrite edition98 kind value types lengths octets ≡ done s
 
 -- or the packet writer, and zeros only after it, within the packet limit
 pub record IsRepaired (s : List ℕ) : Type 0 where
@@ -89,13 +90,14 @@ pub record IsRepaired (s : List ℕ) : Type 0 where
 pub record Readers : Type 0 where
   pub length : {s : List ℕ} {r : Length} → LengthRead s r → refusalIn (lengthOutcome r) ≡ first (lengthRows s)
   pub datagram : {s : List ℕ} {r : DatagramRead} → DatagramReads s r → refusalIn (readOutcome r) ≡ refusalIn (readDatagram s)
-  pub packet : {ending : Ending} {s : List ℕ} {r : PacketRead} → PacketTold ending s r
-      → refusalIn (packetOutcome r) ≡ refusalIn (readPacket ending s)
+  pub packet : {ending : Ending} {s : List ℕ} {r : PacketRead} → PacketTold edition98 ending s r
+      → refusalIn (packetOutcome r) ≡ refusalIn (readPacket edition98 ending s)
   -- a datagram reads exactly if it is one, and so does a packet as received; one as repaired "may go on with zeros only". That
   -- octets are below 256 (`Octets`) is so of every slice of octets
   pub isDatagram : {s : List ℕ} {r : DatagramRead} → Octets s → DatagramReads s r → (refusalIn (readOutcome r) ≡ none) ↔ IsDatagram s
-  pub isPacket : {s : List ℕ} {r : PacketRead} → Octets s → PacketTold Whole s r → (refusalIn (packetOutcome r) ≡ none) ↔ IsPacket s
-  pub isRepaired : {s : List ℕ} {r : PacketRead} → Octets s → PacketTold Repaired s r
+  pub isPacket : {s : List ℕ} {r : PacketRead} → Octets s → PacketTold edition98 Whole s r
+      → (refusalIn (packetOutcome r) ≡ none) ↔ IsPacket s
+  pub isRepaired : {s : List ℕ} {r : PacketRead} → Octets s → PacketTold edition98 Repaired s r
       → (refusalIn (packetOutcome r) ≡ none) ↔ IsRepaired s
   pub packetRefusals : PacketRefusals
   pub datagramRefusals : DatagramRefusals
@@ -113,9 +115,10 @@ pub record Writers : Type 0 where
       → refusalIn (writtenOutcome r)
       ≡ first (datagramWriterRows packet kind lengths run ++ roomRow (datagramOctets (carriedOf number packet kind lengths run)) old)
   pub packet : (kind : packets.Kind) (value : ℕ) (types lengths octets : List ℕ) {old new : List ℕ} {r : Written}
-      → Puts (packetToWrite kind value types lengths octets) old new r
+      → Puts (packetToWrite edition98 kind value types lengths octets) old new r
       → refusalIn (writtenOutcome r)
-      ≡ first (packetWriterRows kind value types lengths octets ++ roomRow (packetOctets kind value types lengths octets) old)
+      ≡ first
+      (packetWriterRows edition98 kind value types lengths octets ++ roomRow (packetOctets edition98 kind value types lengths octets) old)
   -- the octets of a line of hexadecimal: "line over [its limit] (before 15)", "a line not of paired hexadecimal digits", 13
   pub line : (line : List ℕ) {old new : List ℕ} {r : Written} → Puts (lineOctets line) old new r
       → refusalIn (writtenOutcome r) ≡ first (lineRows line ++ roomRow (octetsIn line) old)
@@ -123,7 +126,7 @@ pub record Writers : Type 0 where
   pub datagramUnchanged : (number : ℕ) (packet : List ℕ) (kind : Kind) (lengths run : List ℕ)
       → Unchanged (datagramToWrite number packet kind lengths run)
   pub packetUnchanged : (kind : packets.Kind) (value : ℕ) (types lengths octets : List ℕ)
-      → Unchanged (packetToWrite kind value types lengths octets)
+      → Unchanged (packetToWrite edition98 kind value types lengths octets)
   pub lineUnchanged : (line : List ℕ) → Unchanged (lineOctets line)
 
 -- ---- the receiving session
@@ -163,7 +166,7 @@ pub record Places : Type 0 where
   pub datagramWriter : (number : ℕ) (packet : List ℕ) (kind : Kind) (lengths run : List ℕ)
       → Unplaced (datagramToWrite number packet kind lengths run)
   pub packetWriter : (kind : packets.Kind) (value : ℕ) (types lengths octets : List ℕ)
-      → Unplaced (packetToWrite kind value types lengths octets)
+      → Unplaced (packetToWrite edition98 kind value types lengths octets)
   pub line : (line : List ℕ) → Unplaced (lineOctets line)
   pub send : {s : Sender} {settings : Settings} {packet old new : List ℕ} {r : Sent} → Sends s settings packet old new r
       → placeIn (writtenOutcome (r .answer)) ≡ 0

@@ -9,6 +9,7 @@ use Rattle.lengths.specs.Promise.{Puts}
 use Rattle.lengths.specs.declared.Written.{Written}
 use Rattle.datagrams.specs.Write.{datagramToWrite}
 use Rattle.datagrams.specs.declared.kind.Kind.{Kind}
+use Rattle.packets.specs.Edition.{edition98}
 use Rattle.packets.specs.Write.{packetToWrite}
 use Rattle.packets.specs.Promise.{PacketTold}
 use Rattle.packets.specs.declared.types.Kind as packetKinds
@@ -39,7 +40,7 @@ pub record Writers : Type 0 where
   pub datagram : (number : ℕ) (packet : List ℕ) (kind : Kind) (lengths run : List ℕ)
       → OneWrite (datagramToWrite number packet kind lengths run)
   pub packet : (kind : packetKinds.Kind) (value : ℕ) (types lengths octets : List ℕ)
-      → OneWrite (packetToWrite kind value types lengths octets)
+      → OneWrite (packetToWrite edition98 kind value types lengths octets)
   -- `write` of `image_writer`, and its `write_core`, of a session that is lent
   pub image : (session : Lent) → OneWrite (imageToWrite editionWritten session)
 
@@ -52,7 +53,7 @@ pub record OneOutcome : Type 0 where
   pub lengths : lengths.OneOutcome
   pub datagrams : datagrams.OneOutcome
   pub packets : packets.OneOutcome
-  pub secondReader : (ending : Ending) (s : List ℕ) → One (PacketTold ending s)
+  pub secondReader : (ending : Ending) (s : List ℕ) → One (PacketTold edition98 ending s)
   pub writers : Writers
   pub receiver : sessions.OneOutcome
   pub sender : sending.OneOutcome

@@ -15,6 +15,7 @@ use Rattle.datagrams.specs.Sizes as sizes
 use Rattle.datagrams.specs.Write as write
 use Rattle.datagrams.specs.Inner.Heads.{LengthSize, kindHead}
 use Rattle.datagrams.specs.declared.kind.Kind.{Kind}
+use Rattle.packets.specs.Edition.{edition98}
 use Rattle.packets.specs.Packet as packet
 use Rattle.packets.specs.Promise.{padded, packetRead}
 use Rattle.packets.specs.declared.types.Kind as packets
@@ -80,10 +81,10 @@ pub record ToldByDatagrams : Type 0 where
 pub record ToldByPackets : Type 0 where
   pub fieldsLeast : One (λ (r : ℕ). r ≡ packet.fieldsLeast)
   pub fieldsLimit : One (λ (r : ℕ). r ≡ packet.fieldsLimit)
-  pub typesLimit : One (λ (r : ℕ). r ≡ packet.typesLimit)
-  pub assigned : (kind : packets.Kind) → One (λ (r : ℕ). r ≡ packet.assigned kind)
+  pub typesLimit : One (λ (r : ℕ). r ≡ packet.typesLimit edition98)
+  pub assigned : (kind : packets.Kind) → One (λ (r : ℕ). r ≡ packet.assigned edition98 kind)
   pub rightFields : (kind : packets.Kind) (present : Bool) → One (λ (r : Bool). r ≡ packet.rightFields kind present)
-  pub rightData : (kind : ℕ) (present : Bool) → One (λ (r : Bool). r ≡ packet.rightData kind present)
+  pub rightData : (kind : ℕ) (present : Bool) → One (λ (r : Bool). r ≡ packet.rightData edition98 kind present)
 
 -- `packet_reader`: what its `read` and the second reader share, `may_follow`, `no_fields` and `refused`
 pub record ToldByPacketReader : Type 0 where

@@ -16,6 +16,7 @@ use Rattle.lengths.specs.Tables.{when, first}
 use Rattle.formats.specs.Spelling.{gap}
 use Rattle.formats.specs.Places.{Place, bitsAt, edge}
 use Rattle.datagrams.specs.Sizes.{packetLimit}
+use Rattle.packets.specs.Edition.{edition98}
 use Rattle.packets.specs.Packet.{Header, fieldsLeast, fieldsLimit, assigned, rightFields, rightData, mayFollow}
 use Rattle.packets.specs.Inner.Octets.{isSet, kindOf, headerOf, headerWidth}
 use Rattle.packets.specs.declared.types.Ending.{Ending}
@@ -62,7 +63,7 @@ abbrev pub headerIn : List ℕ → Place → Header
 headerIn s p = headerOf (bitsAt headerWidth s p)
 
 abbrev pub dataFits : List ℕ → Place → Bool
-dataFits s p = rightData ((headerIn s p) .kind) ((headerIn s p) .present)
+dataFits s p = rightData edition98 ((headerIn s p) .kind) ((headerIn s p) .present)
 
 -- "With data, two octets hold its length minus one"
 abbrev pub dataSize : List ℕ → Place → ℕ
@@ -101,7 +102,7 @@ unfoldable pub rows : Ending → Item → List ℕ → Place → List (Option �
 rows ending firstOctet s p =
     cutShort firstOctet s p
     ∷ when (extension (octetHere s p)) notAssigned
-    ∷ when (leb (assigned (kindOf (octetHere s p))) (valueIn (octetHere s p))) notAssigned
+    ∷ when (leb (assigned edition98 (kindOf (octetHere s p))) (valueIn (octetHere s p))) notAssigned
     ∷ when (ltb 0 (octetHere s p % 2)) spareBit
     ∷ when (not (rightFields (kindOf (octetHere s p)) (hasFields (octetHere s p)))) wrongData
     ∷ []

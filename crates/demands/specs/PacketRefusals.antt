@@ -16,6 +16,7 @@ use Rattle.lengths.specs.Length.{within}
 use Rattle.formats.specs.Spelling.{gap}
 use Rattle.formats.specs.Places.{Place, bitsAt}
 use Rattle.datagrams.specs.Sizes.{packetLimit}
+use Rattle.packets.specs.Edition.{edition98}
 use Rattle.packets.specs.Packet.{fieldsLeast, fieldsLimit, assigned, allZero}
 use Rattle.packets.specs.Inner.Octets.{kindOf, headerWidth}
 use Rattle.packets.specs.Promise.{PacketTold, packetOutcome}
@@ -53,7 +54,7 @@ pub data EndsEarly (s : List ℕ) : Type 0 where
 -- the first octet has the extension bit set, or a value that is not assigned
 pub record NotAssigned (s : List ℕ) : Type 0 where
   pub some : 1 ≤ length s
-  pub is : (extension (octetHere s 0) || leb (assigned (kindOf (octetHere s 0))) (valueIn (octetHere s 0))) ≡ true
+  pub is : (extension (octetHere s 0) || leb (assigned edition98 (kindOf (octetHere s 0))) (valueIn (octetHere s 0))) ≡ true
 
 -- the first octet is as it must be, with fields, and the count after it is in a form not allowed
 pub record BadForm (s : List ℕ) : Type 0 where
@@ -68,7 +69,7 @@ pub data OutsideSizes (s : List ℕ) : Type 0 where
 
 -- a spare bit is set: the first octet's lowest, or one of a padding
 pub data SpareBit (s : List ℕ) : Type 0 where
-  lowest : 1 ≤ length s → extension (octetHere s 0) ≡ false → valueIn (octetHere s 0) < assigned (kindOf (octetHere s 0))
+  lowest : 1 ≤ length s → extension (octetHere s 0) ≡ false → valueIn (octetHere s 0) < assigned edition98 (kindOf (octetHere s 0))
       → octetHere s 0 % 2 ≡ 1 → SpareBit s
   padded : (p : Place) (next : Item) → Due s p (padding next) → 1 ≤ bitsAt (gap p) s p → SpareBit s
 
@@ -80,32 +81,33 @@ pub data WrongData (s : List ℕ) : Type 0 where
 
 -- whatever the call answered, of at most the packet limit: it refused with this number exactly in this case
 abbrev pub Exactly : ℕ → (List ℕ → Type 0) → Type 0
-Exactly n Case = (ending : Ending) (s : List ℕ) (r : PacketRead) → PacketTold ending s r → length s ≤ packetLimit
+Exactly n Case = (ending : Ending) (s : List ℕ) (r : PacketRead) → PacketTold edition98 ending s r → length s ≤ packetLimit
     → (refusalIn (packetOutcome r) ≡ some n) ↔ Case s
 
 pub record PacketRefusals : Type 0 where
   -- "over [the packet limit] 4"; the fields below are for the others
-  pub overLimit : {ending : Ending} {s : List ℕ} {r : PacketRead} → PacketTold ending s r → packetLimit < length s
+  pub overLimit : {ending : Ending} {s : List ℕ} {r : PacketRead} → PacketTold edition98 ending s r → packetLimit < length s
       → refusalIn (packetOutcome r) ≡ some number.outsideSizes
   -- "then reading order": refused exactly if there is a first wrong item, with its number
-  pub firstWrong : {ending : Ending} {s : List ℕ} {r : PacketRead} (n : ℕ) → PacketTold ending s r → length s ≤ packetLimit
+  pub firstWrong : {ending : Ending} {s : List ℕ} {r : PacketRead} (n : ℕ) → PacketTold edition98 ending s r → length s ≤ packetLimit
       → (refusalIn (packetOutcome r) ≡ some n) ↔ FirstWrong ending s n
   -- "Every refusal met in reading order shall give the octet at which the refused item begins, from the start of the .. packet": the one
   -- in which the first wrong item begins, of which there is no more than one; "refusals not met while reading give 0"
-  pub place : {ending : Ending} {s : List ℕ} {r : PacketRead} {why : Refusal} {n : ℕ} → PacketTold ending s r → length s ≤ packetLimit
+  pub place : {ending : Ending} {s : List ℕ} {r : PacketRead} {why : Refusal} {n : ℕ} → PacketTold edition98 ending s r
+      → length s ≤ packetLimit
       → packetOutcome r ≡ refused why → (w : FirstWrong ending s n) → why ≡ number.refusalAt (w .place / 8) n
-  pub overPlace : {ending : Ending} {s : List ℕ} {r : PacketRead} {why : Refusal} → PacketTold ending s r → packetLimit < length s
+  pub overPlace : {ending : Ending} {s : List ℕ} {r : PacketRead} {why : Refusal} → PacketTold edition98 ending s r → packetLimit < length s
       → packetOutcome r ≡ refused why → why .place ≡ 0
   -- not refused exactly if it is a packet; as repaired, with zeros only after it. (`isPacket` and `isRepaired` of `Demand1` say that
   -- these are what the packet writer writes)
-  pub received : {s : List ℕ} {r : PacketRead} → PacketTold Whole s r → length s ≤ packetLimit
+  pub received : {s : List ℕ} {r : PacketRead} → PacketTold edition98 Whole s r → length s ≤ packetLimit
       → (refusalIn (packetOutcome r) ≡ none) ↔ Packet s
-  pub repaired : {s : List ℕ} {r : PacketRead} → PacketTold Repaired s r → length s ≤ packetLimit
+  pub repaired : {s : List ℕ} {r : PacketRead} → PacketTold edition98 Repaired s r → length s ≤ packetLimit
       → (refusalIn (packetOutcome r) ≡ none) ↔ ((rest : List ℕ) × PacketThen s rest × (allZero rest ≡ true))
   -- 6 exactly if a whole packet stands at the front and something follows; as repaired, something that is not all zeros
-  pub leftOver : {s : List ℕ} {r : PacketRead} → PacketTold Whole s r → length s ≤ packetLimit
+  pub leftOver : {s : List ℕ} {r : PacketRead} → PacketTold edition98 Whole s r → length s ≤ packetLimit
       → (refusalIn (packetOutcome r) ≡ some number.leftOver) ↔ ((rest : List ℕ) × PacketThen s rest × (1 ≤ length rest))
-  pub leftOverRepaired : {s : List ℕ} {r : PacketRead} → PacketTold Repaired s r → length s ≤ packetLimit
+  pub leftOverRepaired : {s : List ℕ} {r : PacketRead} → PacketTold edition98 Repaired s r → length s ≤ packetLimit
       → (refusalIn (packetOutcome r) ≡ some number.leftOver) ↔ ((rest : List ℕ) × PacketThen s rest × (allZero rest ≡ false))
   -- 1, 3, 4, 5, 12 and 14, each exactly in its case; so every proper front of a packet is refused with 1
   pub endsEarly : Exactly number.endsEarly EndsEarly
@@ -115,13 +117,14 @@ pub record PacketRefusals : Type 0 where
   pub notAssigned : Exactly number.notAssigned NotAssigned
   pub wrongData : Exactly number.wrongData WrongData
   -- octets more may help against 1 only: octets refused with another number are refused with any octets after them, ..
-  pub never : {ending : Ending} {s : List ℕ} (more : List ℕ) {r t : PacketRead} {n : ℕ} → PacketTold ending s r
-      → PacketTold ending (s ++ more) t → refusalIn (packetOutcome r) ≡ some n → n ≢ number.endsEarly
+  pub never : {ending : Ending} {s : List ℕ} (more : List ℕ) {r t : PacketRead} {n : ℕ} → PacketTold edition98 ending s r
+      → PacketTold edition98 ending (s ++ more) t → refusalIn (packetOutcome r) ≡ some n → n ≢ number.endsEarly
       → refusalIn (packetOutcome t) ≡ none → ⊥
   -- .. and with the same number, up to the packet limit
-  pub stays : {ending : Ending} {s : List ℕ} (more : List ℕ) {r t : PacketRead} {n : ℕ} → PacketTold ending s r
-      → PacketTold ending (s ++ more) t → length (s ++ more) ≤ packetLimit → refusalIn (packetOutcome r) ≡ some n
+  pub stays : {ending : Ending} {s : List ℕ} (more : List ℕ) {r t : PacketRead} {n : ℕ} → PacketTold edition98 ending s r
+      → PacketTold edition98 ending (s ++ more) t → length (s ++ more) ≤ packetLimit → refusalIn (packetOutcome r) ≡ some n
       → n ≢ number.endsEarly → refusalIn (packetOutcome t) ≡ some n
   -- as received and as repaired differ in 6 alone
-  pub eitherWay : {s : List ℕ} {r t : PacketRead} {n : ℕ} → PacketTold Whole s r → PacketTold Repaired s t → n ≢ number.leftOver
+  pub eitherWay : {s : List ℕ} {r t : PacketRead} {n : ℕ} → PacketTold edition98 Whole s r → PacketTold edition98 Repaired s t
+      → n ≢ number.leftOver
       → (refusalIn (packetOutcome r) ≡ some n) ↔ (refusalIn (packetOutcome t) ≡ some n)

@@ -21,6 +21,7 @@ use Rattle.datagrams.specs.declared.kind.Kind.the-variants as kind
 use Rattle.datagrams.specs.declared.reader.Part.{Part}
 use Rattle.datagrams.specs.declared.reader.DatagramRead.{DatagramRead}
 use Rattle.datagrams.specs.declared.reader.Reading.the-variants as reading
+use Rattle.packets.specs.Edition.{edition98}
 use Rattle.packets.specs.Packet.{allData, fieldsLimit, noField}
 use Rattle.packets.specs.Write.{packetToWrite}
 use Rattle.packets.specs.Promise.{PacketTold}
@@ -104,16 +105,16 @@ pub record PacketSame (s : List ℕ) (kind : packets.Kind) (value : ℕ) (types 
 
 pub record PacketTrips : Type 0 where
   pub readsBack : (kind : packets.Kind) (value : ℕ) (types lengths octets : List ℕ) {old new : List ℕ} {w : Written} {n : ℕ}
-      → Puts (packetToWrite kind value types lengths octets) old new w → w ≡ written.Octets n
-      → {r : PacketRead} → PacketTold Whole (take n new) r → PacketSame (take n new) kind value types lengths octets r
+      → Puts (packetToWrite edition98 kind value types lengths octets) old new w → w ≡ written.Octets n
+      → {r : PacketRead} → PacketTold edition98 Whole (take n new) r → PacketSame (take n new) kind value types lengths octets r
   -- "A repaired one may go on with zeros only"
   pub readsRepaired : (kind : packets.Kind) (value : ℕ) (types lengths octets : List ℕ) {old new : List ℕ} {w : Written} {n : ℕ}
-      → Puts (packetToWrite kind value types lengths octets) old new w → w ≡ written.Octets n
-      → (zeros : ℕ) → n + zeros ≤ packetLimit → {r : PacketRead} → PacketTold Repaired (take n new ++ replicate zeros 0) r
+      → Puts (packetToWrite edition98 kind value types lengths octets) old new w → w ≡ written.Octets n
+      → (zeros : ℕ) → n + zeros ≤ packetLimit → {r : PacketRead} → PacketTold edition98 Repaired (take n new ++ replicate zeros 0) r
       → PacketSame (take n new ++ replicate zeros 0) kind value types lengths octets r
-  pub writesBack : {s : List ℕ} {r : PacketRead} {kind : packets.Kind} {value count : ℕ} → Octets s → PacketTold Whole s r
+  pub writesBack : {s : List ℕ} {r : PacketRead} {kind : packets.Kind} {value count : ℕ} → Octets s → PacketTold edition98 Whole s r
       → r .reading ≡ packetReading.Packet kind value count → {old new : List ℕ} {w : Written}
-      → Puts (packetToWrite kind value (typesOf count r) (sizesOf count r) (dataRead s count r)) old new w
+      → Puts (packetToWrite edition98 kind value (typesOf count r) (sizesOf count r) (dataRead s count r)) old new w
       → length s ≤ length old → WrittenBack (length s) s old new w
 
 -- ---- the sending session

@@ -4,6 +4,7 @@
 use Prim.Native.Nat.{ℕ}
 use mathlib.Core.Path.{_≡_}
 use mathlib.Core.List.{List}
+use Rattle.packets.specs.Edition.{edition98}
 use Rattle.packets.specs.Promise.{PacketTold, packetOutcome}
 use Rattle.packets.specs.declared.types.Ending.{Ending}
 use Rattle.packets.specs.declared.types.PacketRead.{PacketRead}
@@ -16,6 +17,6 @@ pub record SameAnswer (quick second : PacketRead) : Type 0 where
 -- whatever `packet_reader::read` answers, `pencil_reader::read` answers
 abbrev pub SecondReader : Type 0
 SecondReader = (ending : Ending) (s : List ℕ) (quick second : PacketRead)
-    → PacketTold ending s quick
-    → PacketTold ending s second
+    → PacketTold edition98 ending s quick
+    → PacketTold edition98 ending s second
     → SameAnswer quick second

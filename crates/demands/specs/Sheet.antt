@@ -6,6 +6,7 @@ use mathlib.Core.List.{List, [], _∷_}
 use Rattle.lengths.specs.Refusals.{badForm, spareBit, notAssigned, wrongData}
 use Rattle.lengths.specs.Answers.{done, refuse, refuseAt}
 use Rattle.lengths.specs.Length.{lengthAt, lengthToWrite}
+use Rattle.packets.specs.Edition.{edition98}
 use Rattle.packets.specs.Packet.{dataOf, readPacket}
 use Rattle.packets.specs.Write.{packetToWrite}
 use Rattle.packets.specs.Cases.{mendedPacket}
@@ -52,21 +53,22 @@ pub record Losing0 : Type 0 where
   pub second : offer datagram2 with1 ≡ done after
   -- number 0, which the base still is at
   pub cell : cellAt (after .cells) keptBefore ≡ filledCell 2 repaired (0x06 ∷ 0 ∷ 0 ∷ 0 ∷ 0 ∷ 0 ∷ [])
-  pub reads : readPacket Repaired ((cellAt (after .cells) keptBefore) .octets) ≡ done (record { kind = Indicator; value = 3; fields = [] })
+  pub reads : readPacket edition98 Repaired ((cellAt (after .cells) keptBefore) .octets)
+      ≡ done (record { kind = Indicator; value = 3; fields = [] })
 
 pub record TwelveCases : Type 0 where
   -- ★ `06` is indicator 3
-  pub case-1 : readPacket Whole (0x06 ∷ []) ≡ done (record { kind = Indicator; value = 3; fields = [] })
+  pub case-1 : readPacket edition98 Whole (0x06 ∷ []) ≡ done (record { kind = Indicator; value = 3; fields = [] })
   -- ★ `01` is refusal 5
-  pub case-2 : readPacket Whole (0x01 ∷ []) ≡ refuse spareBit
+  pub case-2 : readPacket edition98 Whole (0x01 ∷ []) ≡ refuse spareBit
   -- ★ `20 00` is 12
-  pub case-3 : readPacket Whole (0x20 ∷ 0x00 ∷ []) ≡ refuse notAssigned
+  pub case-3 : readPacket edition98 Whole (0x20 ∷ 0x00 ∷ []) ≡ refuse notAssigned
   -- ★ `D2` (data 9) is 12
-  pub case-4 : readPacket Whole (0xD2 ∷ []) ≡ refuse notAssigned
+  pub case-4 : readPacket edition98 Whole (0xD2 ∷ []) ≡ refuse notAssigned
   -- ★ `80` is 14
-  pub case-5 : readPacket Whole (0x80 ∷ []) ≡ refuse wrongData
+  pub case-5 : readPacket edition98 Whole (0x80 ∷ []) ≡ refuse wrongData
   -- ★ `C0 02 80 00 02 FF 13 80 40`: V.21, data FF 13 80, then type 4
-  pub case-6 : (readPacket Whole (0xC0 ∷ 0x02 ∷ 0x80 ∷ 0x00 ∷ 0x02 ∷ 0xFF ∷ 0x13 ∷ 0x80 ∷ 0x40 ∷ [])
+  pub case-6 : (readPacket edition98 Whole (0xC0 ∷ 0x02 ∷ 0x80 ∷ 0x00 ∷ 0x02 ∷ 0xFF ∷ 0x13 ∷ 0x80 ∷ 0x40 ∷ [])
       ≡ done (record {
         kind = Data;
         value = 0;
@@ -93,8 +95,8 @@ mendedOctets = 0xC0 ∷ 0x04 ∷ 0x80 ∷ 0x00 ∷ 0x00 ∷ 0xAA ∷ 0x28 ∷ 0x
 
 pub record MendedExample : Type 0 where
   -- it reads as two frames, each of one octet, and these are written so
-  pub reads : readPacket Whole mendedOctets ≡ done mendedPacket
-  pub writes : packetToWrite Data 0 (0 ∷ 2 ∷ 0 ∷ 4 ∷ []) (1 ∷ 0 ∷ 1 ∷ 0 ∷ []) (0xAA ∷ 0xBB ∷ []) ≡ done mendedOctets
+  pub reads : readPacket edition98 Whole mendedOctets ≡ done mendedPacket
+  pub writes : packetToWrite edition98 Data 0 (0 ∷ 2 ∷ 0 ∷ 4 ∷ []) (1 ∷ 0 ∷ 1 ∷ 0 ∷ []) (0xAA ∷ 0xBB ∷ []) ≡ done mendedOctets
   -- the other is 14, at its `20`: in the low half of that stands a header of type 0 without data
-  pub other : readPacket Whole (0xC0 ∷ 0x04 ∷ 0x80 ∷ 0x00 ∷ 0x00 ∷ 0xAA ∷ 0x20 ∷ 0x80 ∷ 0x00 ∷ 0x00 ∷ 0xBB ∷ 0x40 ∷ [])
+  pub other : readPacket edition98 Whole (0xC0 ∷ 0x04 ∷ 0x80 ∷ 0x00 ∷ 0x00 ∷ 0xAA ∷ 0x20 ∷ 0x80 ∷ 0x00 ∷ 0x00 ∷ 0xBB ∷ 0x40 ∷ [])
       ≡ refuseAt 6 wrongData

@@ -8,6 +8,15 @@ pub use Rattle.formats.proofs.Lawful.{lawful-either, lawful-sequence-of
 -- ---- and for each part
 pub use Rattle.formats.proofs.Parts.{lawful-flag, lawful-bits, lawful-align, lawful-here}
 pub use Rattle.formats.proofs.WholeOctets.{lawful-octets, lawful-two-octets, lawful-length-rule, Fronts, lawful-octetwise}
+-- ---- what was read, taken apart
+pub use Rattle.formats.proofs.Standing.{stepped, passed}
+pub use Rattle.formats.proofs.WholeOctets.{from-found}
+pub use Rattle.formats.proofs.Apart.{then-found, made-found}
+-- ---- a format keeps to its octets, and to what it found in them when more follow
+pub use Rattle.formats.proofs.Steady.{Steady, steady-known, steady-item, steady-guarded, steady-demand, steady-then, steady-made}
+pub use Rattle.formats.proofs.Steady.{steady-either, steady-sequence-of, steady-flag, steady-bits, steady-align, steady-here}
+pub use Rattle.formats.proofs.Steady.{align-edge}
+pub use Rattle.formats.proofs.SteadyOctets.{steady-octets, steady-two-octets, steady-length-rule}
 -- ---- into octets, and back
 pub use Rattle.formats.proofs.Packing.{packed-whole, written-found, found-written}
 -- ---- what a part reads at a place, told by the octets there

@@ -5,4 +5,7 @@ mod WholeOctets
 mod Packing
 mod Edges
 mod Filling
+mod Apart
+mod Steady
+mod SteadyOctets
 pub mod Laws

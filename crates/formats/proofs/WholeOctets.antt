@@ -48,7 +48,7 @@ octets-rest n s small i = rw (getD-drop n s i 0) (small (n + i))
 -- what is asked of octets and their front
 module _ {A : Type 0} where
   -- what is found further on is found there
-  from-found : (start : ℕ) (x : Finding A) (a : A) (n : ℕ) → reading.foundFrom start x ≡ found a n → x ≡ found a n
+  pub from-found : (start : ℕ) (x : Finding A) (a : A) (n : ℕ) → reading.foundFrom start x ≡ found a n → x ≡ found a n
   from-found start (found b m) a n e = e
   from-found start (stopped r) a n e = let z : _≡_ {A = ℕ} 0 1 = cc in absurd (omega arith)
 

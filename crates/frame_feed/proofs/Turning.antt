@@ -8,6 +8,7 @@ use native.Mathlib.Nat.{not-suc-le-zero, le-of-suc-le-suc}
 use native.Mathlib.Omega.{arith}
 use Rattle.lengths.specs.Answers.{Answer, done, refused}
 use Rattle.lengths.specs.declared.Refusal.{Refusal}
+use Rattle.packets.specs.Edition.{edition98}
 use Rattle.packets.specs.Packet.{fieldsLimit, PacketAnswer, readPacket, noField, dataOf}
 use Rattle.packets.specs.Promise.{padded, packetRead, PacketTold}
 use Rattle.packets.specs.declared.types.Ending.{Ending}
@@ -78,13 +79,14 @@ mapped-long f (x ∷ l) zero e = absurd (omega arith)
 mapped-long f (x ∷ l) (suc n) e = ap suc (mapped-long f l n (omega arith))
 
 -- ---- the turns
-module _ (kind : State) {s : List ℕ} {e : Ending} {read : PacketRead} (by-kind : e ≡ endingOf kind) (told : PacketTold e s read) where
-  whole-by-kind : read ≡ packetRead (readPacket (endingOf kind) s)
-  whole-by-kind = told .whole ∙ ap (λ (x : Ending). packetRead (readPacket x s)) by-kind
+module _ (kind : State) {s : List ℕ} {e : Ending} {read : PacketRead} (by-kind : e ≡ endingOf kind)
+    (told : PacketTold edition98 e s read) where
+  whole-by-kind : read ≡ packetRead (readPacket edition98 (endingOf kind) s)
+  whole-by-kind = told .whole ∙ ap (λ (x : Ending). packetRead (readPacket edition98 x s)) by-kind
 
   module _ {k : Kind} {v n : ℕ} (is : read .reading ≡ reading.Packet k v n) where
-    packet-as : DoneAs (readPacket (endingOf kind) s) read n
-    packet-as = done-as (readPacket (endingOf kind) s) whole-by-kind is
+    packet-as : DoneAs (readPacket edition98 (endingOf kind) s) read n
+    packet-as = done-as (readPacket edition98 (endingOf kind) s) whole-by-kind is
 
     pub turns-packet : TurnsTold kind s n
     unfolding eventsOf
@@ -118,7 +120,7 @@ module _ (kind : State) {s : List ℕ} {e : Ending} {read : PacketRead} (by-kind
               ∙ sym
               (ap (λ (a : Answer PacketAnswer). getElem? (eventsRead s a) turn) (packet-as .is)
               ∙ element (λ (f : packets.Field). aField (fieldIn s f)) fields turn noField inside);
-          inside = rw same (packetClaims.claims .partsWithin (endingOf kind) s (packet-as .packet) (packet-as .is) turn);
+          inside = rw same (packetClaims.claims .partsWithin edition98 (endingOf kind) s (packet-as .packet) (packet-as .is) turn);
         }
 
     pub turn-over : {turn : ℕ} → n ≤ turn → TurnTold kind s turn turns.Over
@@ -134,8 +136,8 @@ module _ (kind : State) {s : List ℕ} {e : Ending} {read : PacketRead} (by-kind
         }
 
   module _ {why : Refusal} (is : read .reading ≡ reading.Refused why) where
-    loss-as : eventsRead s (readPacket (endingOf kind) s) ≡ aLoss ∷ []
-    loss-as = refused-events s (readPacket (endingOf kind) s) whole-by-kind is
+    loss-as : eventsRead s (readPacket edition98 (endingOf kind) s) ≡ aLoss ∷ []
+    loss-as = refused-events s (readPacket edition98 (endingOf kind) s) whole-by-kind is
 
     pub turns-refused : TurnsTold kind s 1
     unfolding eventsOf

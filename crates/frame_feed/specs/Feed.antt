@@ -5,6 +5,7 @@ use Prim.Native.Nat.{ℕ}
 use mathlib.Core.List.{List, [], _∷_, _++_, map}
 use lib.ListN.{take}
 use Rattle.lengths.specs.Answers.{Answer, done, refused}
+use Rattle.packets.specs.Edition.{edition98}
 use Rattle.packets.specs.Packet.{PacketAnswer, readPacket, dataOf}
 use Rattle.packets.specs.declared.types.Ending.{Ending}
 use Rattle.packets.specs.declared.types.Ending.the-variants.{Whole, Repaired}
@@ -51,7 +52,7 @@ eventsRead s (done p) = map (λ f. aField (fieldIn s f)) (p .fields)
 eventsRead s (refused why) = aLoss ∷ []
 
 unfoldable pub eventsOf : Heard → List Event
-eventsOf (released kind octets) = eventsRead octets (readPacket (endingOf kind) octets)
+eventsOf (released kind octets) = eventsRead octets (readPacket edition98 (endingOf kind) octets)
 eventsOf lost = aLoss ∷ []
 
 -- all that left, in order

@@ -13,6 +13,7 @@ use Rattle.octets.proofs.Laws.{and-left, and-right}
 use Rattle.lengths.specs.Refusals.{refusal, notAssigned, noRoom, wrongData, outsideRanges, frameTooLong}
 use Rattle.lengths.specs.Answers.{Answer, done, refused, refuse}
 use Rattle.lengths.specs.Tables.{when, unless}
+use Rattle.packets.specs.Edition.{edition98}
 use Rattle.packets.specs.Packet.{typesLimit, rightData}
 use Rattle.frames.specs.Frame.{frameLimit, Joining, tainted, freshJoining, Frame, Step, fieldStep, wouldPass}
 use Rattle.frames.specs.Joiner.{heldAs, joiningOf, joinerInRanges}
@@ -75,7 +76,7 @@ field-never : {j : Joiner} {type : ℕ} {octets old new : List ℕ} {r : Joined}
     → r .answer ≡ handed.Refused (refusal outsideRanges) → ⊥
 unfolding fieldAnswer unless
 field-never {j} {type} {octets} {old} {new} {r} inside m is =
-    others (ltb typesLimit type) (not (rightData type (ltb 0 (length octets)))) (wouldPass type octets (joiningOf j))
+    others (ltb (typesLimit edition98) type) (not (rightData edition98 type (ltb 0 (length octets)))) (wouldPass type octets (joiningOf j))
     (ltb (length old) (length (frameOctets ((fieldStep type octets (joiningOf j)) .handed))))
     ((fieldStep type octets (joiningOf j)) .handed)
     (rw inside at (ap numberIn (sym (ap handedOutcome is) ∙ m .answer)))
@@ -99,13 +100,16 @@ never-17 =
 wrong-answer : (room : ℕ) (f : Field) (v : Joining) → Fitting v → rightField f ≡ false
     → (number : ℕ) × (fieldAnswer room (f .type) (f .octets) (heldAs v) ≡ refuse number) × (eqb number frameTooLong ≡ false)
 unfolding fieldAnswer unless
-wrong-answer room f v fits wrong = by (leb (f .type) typesLimit) refl where
-  by : (b : Bool) → leb (f .type) typesLimit ≡ b
+wrong-answer room f v fits wrong = by (leb (f .type) (typesLimit edition98)) refl where
+  by : (b : Bool) → leb (f .type) (typesLimit edition98) ≡ b
       → (number : ℕ) × (fieldAnswer room (f .type) (f .octets) (heldAs v) ≡ refuse number) × (eqb number frameTooLong ≡ false)
-  by false e = (notAssigned, rw (held-ranges v fits, lt-ltb typesLimit (f .type) (leb-false (f .type) typesLimit e)), refl)
+  by false e =
+      let over = leb-false (f .type) (typesLimit edition98) e in
+      (notAssigned, rw (held-ranges v fits, lt-ltb (typesLimit edition98) (f .type) over), refl)
   by true e =
-      let bad-data : rightData (f .type) (ltb 0 (length (f .octets))) ≡ false = rw e at wrong in
-      (wrongData, rw (held-ranges v fits, le-ltb typesLimit (f .type) (leb-true (f .type) typesLimit e), bad-data), refl)
+      let bad-data : rightData edition98 (f .type) (ltb 0 (length (f .octets))) ≡ false = rw e at wrong in
+      let known = leb-true (f .type) (typesLimit edition98) e in
+      (wrongData, rw (held-ranges v fits, le-ltb (typesLimit edition98) (f .type) known, bad-data), refl)
 
 wrong-field : (v : Joining) {f : Field} {old new : List ℕ} {r : Joined} → Fitting v → rightField f ≡ false
     → FieldOwes (heldAs v) (f .type) (f .octets) old new r → FedBy v none new r

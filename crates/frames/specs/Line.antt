@@ -5,6 +5,7 @@ use mathlib.Core.List.{List, [], _∷_, _++_, map, flatten}
 use mathlib.Core.Option.{Option, none, some}
 use lib.ListN.{length}
 use lib.Dec.{leb, ltb}
+use Rattle.packets.specs.Edition.{edition98}
 use Rattle.packets.specs.Packet.{typesLimit, rightData}
 use Rattle.frames.specs.Frame.{Joining, tainted, Frame, good, bad, adds, handsGood, handsBad, endsFrame, passes, Step, fieldStep}
 
@@ -15,7 +16,7 @@ pub record Field : Type 0 where
 
 -- a packet may hold it: neither 12 nor 14
 abbrev pub rightField : Field → Bool
-rightField f = leb (f .type) typesLimit && rightData (f .type) (ltb 0 (length (f .octets)))
+rightField f = leb (f .type) (typesLimit edition98) && rightData edition98 (f .type) (ltb 0 (length (f .octets)))
 
 unfoldable pub rowRight : List Field → Bool
 rowRight [] = true

@@ -19,6 +19,7 @@ use Rattle.lengths.specs.declared.Refusal.{Refusal}
 use Rattle.lengths.specs.declared.Length.the-variants as length
 use Rattle.datagrams.specs.Sizes.{packetLimit}
 use Rattle.formats.specs.Places.{Place}
+use Rattle.packets.specs.Edition.{edition98}
 use Rattle.packets.specs.Packet.{fieldsLeast, fieldsLimit, assigned, rightFields, rightData}
 use Rattle.packets.specs.Inner.Octets.{kindOf, firstAt, countAt, headerWidth, headerAt, sizeAt}
 use Rattle.packet_reader.specs.Items.{BitsTold, FirstTold, CountTold, HeaderTold, SizeTold}
@@ -40,17 +41,17 @@ module _ {s : List ℕ} where
   first-extended made some set = record { answer = rw (made .answer, le-ltb (length s) 1 some, lt-ltb 0 (getD s 0 0 / 32 % 2) set) }
 
   pub first-value : {r : Refusal} {k : Kind} {n : ℕ} → RefusalMade notAssigned r → 1 ≤ length s → getD s 0 0 / 32 % 2 ≤ 0
-      → k ≡ kindOf (getD s 0 0) → n ≡ assigned k → n ≤ getD s 0 0 / 2 % 16 → FirstTold s (first.Refused r)
+      → k ≡ kindOf (getD s 0 0) → n ≡ assigned edition98 k → n ≤ getD s 0 0 / 2 % 16 → FirstTold s (first.Refused r)
   unfolding firstAt
   first-value made some plain kind values over =
-      let h : assigned (kindOf (getD s 0 0)) ≤ getD s 0 0 / 2 % 16 = rw (values, kind) at over in
+      let h : assigned edition98 (kindOf (getD s 0 0)) ≤ getD s 0 0 / 2 % 16 = rw (values, kind) at over in
       record { answer = rw (made .answer, le-ltb (length s) 1 some, le-ltb 0 (getD s 0 0 / 32 % 2) plain, le-leb _ _ h) }
 
   pub first-spare : {r : Refusal} {k : Kind} {n : ℕ} → RefusalMade spareBit r → 1 ≤ length s → getD s 0 0 / 32 % 2 ≤ 0
-      → k ≡ kindOf (getD s 0 0) → n ≡ assigned k → getD s 0 0 / 2 % 16 < n → 0 < getD s 0 0 % 2 → FirstTold s (first.Refused r)
+      → k ≡ kindOf (getD s 0 0) → n ≡ assigned edition98 k → getD s 0 0 / 2 % 16 < n → 0 < getD s 0 0 % 2 → FirstTold s (first.Refused r)
   unfolding firstAt
   first-spare made some plain kind values known set =
-      let h : getD s 0 0 / 2 % 16 < assigned (kindOf (getD s 0 0)) = rw (values, kind) at known in
+      let h : getD s 0 0 / 2 % 16 < assigned edition98 (kindOf (getD s 0 0)) = rw (values, kind) at known in
       record {
         answer =
             rw
@@ -58,11 +59,11 @@ module _ {s : List ℕ} where
       }
 
   pub first-wrong : {r : Refusal} {k : Kind} {n : ℕ} {b : Bool} → RefusalMade wrongData r → 1 ≤ length s → getD s 0 0 / 32 % 2 ≤ 0
-      → k ≡ kindOf (getD s 0 0) → n ≡ assigned k → getD s 0 0 / 2 % 16 < n → getD s 0 0 % 2 ≤ 0
+      → k ≡ kindOf (getD s 0 0) → n ≡ assigned edition98 k → getD s 0 0 / 2 % 16 < n → getD s 0 0 % 2 ≤ 0
       → b ≡ rightFields k (ltb 0 (getD s 0 0 / 128 % 2)) → b ≡ false → FirstTold s (first.Refused r)
   unfolding firstAt
   first-wrong made some plain kind values known spare fields wrong =
-      let h : getD s 0 0 / 2 % 16 < assigned (kindOf (getD s 0 0)) = rw (values, kind) at known in
+      let h : getD s 0 0 / 2 % 16 < assigned edition98 (kindOf (getD s 0 0)) = rw (values, kind) at known in
       let w : rightFields (kindOf (getD s 0 0)) (ltb 0 (getD s 0 0 / 128 % 2)) ≡ false = rw (fields, kind) at wrong in
       record {
         answer =
@@ -78,12 +79,12 @@ module _ {s : List ℕ} where
       }
 
   pub first-read : {k : Kind} {n : ℕ} {b : Bool} → 1 ≤ length s → getD s 0 0 / 32 % 2 ≤ 0
-      → k ≡ kindOf (getD s 0 0) → n ≡ assigned k → getD s 0 0 / 2 % 16 < n → getD s 0 0 % 2 ≤ 0
+      → k ≡ kindOf (getD s 0 0) → n ≡ assigned edition98 k → getD s 0 0 / 2 % 16 < n → getD s 0 0 % 2 ≤ 0
       → b ≡ rightFields k (ltb 0 (getD s 0 0 / 128 % 2)) → b ≡ true
       → FirstTold s (first.First k (getD s 0 0 / 2 % 16) (ltb 0 (getD s 0 0 / 128 % 2)))
   unfolding firstAt
   first-read some plain kind values known spare fields right =
-      let h : getD s 0 0 / 2 % 16 < assigned (kindOf (getD s 0 0)) = rw (values, kind) at known in
+      let h : getD s 0 0 / 2 % 16 < assigned edition98 (kindOf (getD s 0 0)) = rw (values, kind) at known in
       let w : rightFields (kindOf (getD s 0 0)) (ltb 0 (getD s 0 0 / 128 % 2)) ≡ true = rw (fields, kind) at right in
       record {
         answer =
@@ -143,7 +144,7 @@ module _ {s : List ℕ} {p : Place} where
   header-short made short = record { answer = rw (made .answer, lt-ltb (8 * length s) (p + headerWidth) short) }
 
   module _ {bits : ℕ} {b : Bool} (inside : p + headerWidth ≤ 8 * length s) (is : BitsTold headerWidth s p bits)
-      (test : b ≡ rightData (bits % 8) (ltb 0 (bits / 8 % 2))) where
+      (test : b ≡ rightData edition98 (bits % 8) (ltb 0 (bits / 8 % 2))) where
     pub header-wrong : {r : Refusal} → RefusalPlaced wrongData (p / 8) r → b ≡ false → HeaderTold s p (header.Refused r)
     unfolding headerAt
     header-wrong made wrong =

@@ -12,6 +12,7 @@ use Rattle.lengths.specs.Answers.{Answer, done, refused, refuseAt, _>>=_, mappe
 use Rattle.lengths.specs.Promise.{RefusalMade, RefusalPlaced}
 use Rattle.lengths.specs.declared.Refusal.{Refusal}
 use Rattle.datagrams.specs.Sizes.{packetLimit}
+use Rattle.packets.specs.Edition.{edition98}
 use Rattle.packets.specs.Packet.{fieldsLimit, PacketAnswer, mayFollow}
 use Rattle.formats.specs.Places.{Place, edgeAt}
 use Rattle.packets.specs.Inner.Octets.{firstAt, countAt, FieldsAnswer, fieldsAt, endAt, packetByOctets}
@@ -85,7 +86,7 @@ fields-refused n s at x r told next = by (fieldsAt n s at) refl (told .answer) w
       e ∙ ap (λ (q : Refusal). refused q) same
 
 pub told-of : (e : Ending) (s : List ℕ) (r : PacketRead) (x : Answer PacketAnswer) → packetByOctets e s ≡ x → r ≡ packetRead x
-    → PacketTold e s r
+    → PacketTold edition98 e s r
 told-of e s r x is image =
     let so = read-at e s ∙ is in
     record { answer = ap packetOutcome image ∙ read-outcome x ∙ sym so; whole = image ∙ ap packetRead (sym so) }
@@ -135,18 +136,18 @@ end-same e s p a = by (edgeAt s p) where
 
 module _ {e : Ending} {s : List ℕ} where
   pub packet-over : {x : Refusal} {r : PacketRead} → packetLimit < length s → RefusalMade outsideSizes x → r ≡ packetRead (refused x)
-      → PacketTold e s r
+      → PacketTold edition98 e s r
   unfolding packetByOctets
   packet-over {x} {r} over made is = told-of e s r (refused x) (rw (lt-ltb packetLimit (length s) over, made .answer)) is
 
   module _ {f : FirstRead} (fits : length s ≤ packetLimit) (told : FirstTold s f) where
-    pub packet-first : {x : Refusal} {r : PacketRead} → f ≡ first.Refused x → r ≡ packetRead (refused x) → PacketTold e s r
+    pub packet-first : {x : Refusal} {r : PacketRead} → f ≡ first.Refused x → r ≡ packetRead (refused x) → PacketTold edition98 e s r
     unfolding packetByOctets
     packet-first {x} {r} is image =
         told-of e s r (refused x) (rw (le-ltb packetLimit (length s) fits, sym (told .answer) ∙ ap firstOutcome is)) image
 
     module _ {k : Kind} {v : ℕ} {p : Bool} {c : CountRead} (is : f ≡ first.First k v p) (counted : CountTold s p c) where
-      pub packet-count : {x : Refusal} {r : PacketRead} → c ≡ count.Refused x → r ≡ packetRead (refused x) → PacketTold e s r
+      pub packet-count : {x : Refusal} {r : PacketRead} → c ≡ count.Refused x → r ≡ packetRead (refused x) → PacketTold edition98 e s r
       unfolding packetByOctets
       packet-count {x} {r} countIs image =
           told-of e s r (refused x)
@@ -154,7 +155,8 @@ module _ {e : Ending} {s : List ℕ} where
           image
 
       module _ {n at : ℕ} {all : FieldsRead} (countIs : c ≡ count.Count n at) (read : FieldsTold n s at all) where
-        pub packet-fields : {x : Refusal} {r : PacketRead} → all .end ≡ end.Refused x → r ≡ packetRead (refused x) → PacketTold e s r
+        pub packet-fields : {x : Refusal} {r : PacketRead} → all .end ≡ end.Refused x → r ≡ packetRead (refused x)
+            → PacketTold edition98 e s r
         unfolding packetByOctets
         packet-fields {x} {r} ends image =
             told-of e s r (refused x)
@@ -163,7 +165,7 @@ module _ {e : Ending} {s : List ℕ} where
             image
 
         module _ {m : ℕ} {d : EndRead} (next : all .end ≡ end.Next m) (ended : EndTold e s m d) where
-          pub packet-left : {x : Refusal} {r : PacketRead} → d ≡ ends.Refused x → r ≡ packetRead (refused x) → PacketTold e s r
+          pub packet-left : {x : Refusal} {r : PacketRead} → d ≡ ends.Refused x → r ≡ packetRead (refused x) → PacketTold edition98 e s r
           unfolding packetByOctets
           packet-left {x} {r} endIs image =
               let a = all-read n s at m all read next in
@@ -172,7 +174,7 @@ module _ {e : Ending} {s : List ℕ} where
               (end-same e s m _ ∙ ap (mapped _) (sym (ended .answer) ∙ ap endOutcome endIs)))
               image
 
-          pub packet-read : d ≡ ends.Ends → PacketTold e s (record { reading = reading.Packet k v n; fields = all .fields })
+          pub packet-read : d ≡ ends.Ends → PacketTold edition98 e s (record { reading = reading.Packet k v n; fields = all .fields })
           unfolding packetByOctets
           packet-read endIs =
               let a = all-read n s at m all read next in

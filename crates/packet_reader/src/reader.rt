@@ -17,6 +17,7 @@ use packets::Reading;
 ghost use mathlib.Core.Path.{_≡_};
 ghost use Prim.Native.Nat.{_≤_};
 ghost use mathlib.Core.List.{[]};
+ghost use Rattle.packets.specs.Edition.{edition98};
 ghost use Rattle.packets.specs.Packet.{fieldsLimit, allZero, mayFollow};
 ghost use Rattle.packet_reader.specs.Items.{InPacket, FieldsTold, EndTold};
 ghost use Rattle.packets.specs.Promise.{PacketTold, packetRead, padded};
@@ -135,7 +136,7 @@ pub fn refused(refusal: Refusal) -> PacketRead
 
 // A packet's kind, value and fields, or the first refusal in reading order.
 pub fn read(s: &[u8], ending: Ending) -> PacketRead
-    ensures { λ r. ⌜ PacketTold ending (now (s .entry)) r ⌝ }
+    ensures { λ r. ⌜ PacketTold edition98 ending (now (s .entry)) r ⌝ }
 {
     if Packet::LIMIT < s.len() {
         return refused(Refusal::new(Refusal::OUTSIDE_SIZES));

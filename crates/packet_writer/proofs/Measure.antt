@@ -14,6 +14,7 @@ use Rattle.lengths.specs.Promise.{RefusalMade}
 use Rattle.lengths.specs.declared.Refusal.{Refusal}
 use Rattle.lengths.specs.declared.Written.the-variants as written
 use Rattle.datagrams.specs.Sizes.{packetLimit}
+use Rattle.packets.specs.Edition.{edition98}
 use Rattle.packets.specs.Packet.{fieldsLimit, typesLimit, assigned, rightFields, rightData, every}
 use Rattle.packets.specs.Write.{withData, packetOctets, sum, oneEach, allAssigned, rightTypes, allRight, inSizes, packetToWrite}
 use Rattle.packets.specs.Inner.Laid.{packetSize}
@@ -51,52 +52,57 @@ few-same ts ns few same = omega arith
 
 -- ---- 12
 module _ (k : Kind) (v : ℕ) (ts : List ℕ) where
-  pub assigned-not : {n : ℕ} → n ≡ assigned k → n ≤ v → false ≡ allAssigned k v ts
+  pub assigned-not : {n : ℕ} → n ≡ assigned edition98 k → n ≤ v → false ≡ allAssigned edition98 k v ts
   unfolding allAssigned
-  assigned-not {n} is over = both-left (ltb v (assigned k)) _ (le-ltb v (assigned k) (rw is at over))
+  assigned-not {n} is over = both-left (ltb v (assigned edition98 k)) _ (le-ltb v (assigned edition98 k) (rw is at over))
 
-  pub assigned-is : {n : ℕ} {b : Bool} → n ≡ assigned k → v < n → b ≡ every (λ t. leb t typesLimit) ts → b ≡ allAssigned k v ts
+  pub assigned-is : {n : ℕ} {b : Bool} → n ≡ assigned edition98 k → v < n → b ≡ every (λ t. leb t (typesLimit edition98)) ts
+      → b ≡ allAssigned edition98 k v ts
   unfolding allAssigned
-  assigned-is {n} {b} is known same = both-right (ltb v (assigned k)) _ b (lt-ltb v (assigned k) (rw is at known)) same
+  assigned-is {n} {b} is known same = both-right (ltb v (assigned edition98 k)) _ b (lt-ltb v (assigned edition98 k) (rw is at known)) same
 
 -- ---- 14
 pub record RightLeft (ts ns : List ℕ) (i : ℕ) : Type 0 where
-  pub so : rightTypes ts ns ≡ rightTypes (drop i ts) (drop i ns)
+  pub so : rightTypes edition98 ts ns ≡ rightTypes edition98 (drop i ts) (drop i ns)
 
 right-next : (ts ns : List ℕ) (i : ℕ) → i < length ts → length ts ≡ length ns
-    → rightTypes (drop i ts) (drop i ns) ≡
-    (rightData (getD ts i 0) (withData (getD ns i 0)) && rightTypes (drop (i + 1) ts) (drop (i + 1) ns))
+    → rightTypes edition98 (drop i ts) (drop i ns) ≡
+    (rightData edition98 (getD ts i 0) (withData (getD ns i 0)) && rightTypes edition98 (drop (i + 1) ts) (drop (i + 1) ns))
 unfolding rightTypes
-right-next ts ns i h same = ap₂ rightTypes (drop-next ts i h) (drop-next ns i (omega arith))
+right-next ts ns i h same = ap₂ (rightTypes edition98) (drop-next ts i h) (drop-next ns i (omega arith))
 
 pub right-start : {ts ns : List ℕ} → RightLeft ts ns 0
 right-start = record { so = refl }
 
 module _ {ts ns : List ℕ} {i n : ℕ} {b : Bool} where
-  pub right-turn : RightLeft ts ns i → length ts ≡ length ns → i < length ts → Wide (getD ns i 0) n → b ≡ rightData (getD ts i 0) (ltb 0 n)
+  pub right-turn : RightLeft ts ns i → length ts ≡ length ns → i < length ts → Wide (getD ns i 0) n
+      → b ≡ rightData edition98 (getD ts i 0) (ltb 0 n)
       → not b ≡ false → RightLeft ts ns (i + 1)
   right-turn left same h wide is fine =
-      let e : rightData (getD ts i 0) (withData (getD ns i 0)) ≡ true
-      = ap (λ (k : ℕ). rightData (getD ts i 0) (ltb 0 k)) (sym (wide .same)) ∙ sym is ∙ not-false b fine in
-      record { so = left .so ∙ right-next ts ns i h same ∙ ap (λ (c : Bool). c && rightTypes (drop (i + 1) ts) (drop (i + 1) ns)) e }
+      let e : rightData edition98 (getD ts i 0) (withData (getD ns i 0)) ≡ true
+      = ap (λ (k : ℕ). rightData edition98 (getD ts i 0) (ltb 0 k)) (sym (wide .same)) ∙ sym is ∙ not-false b fine in
+      let rest = rightTypes edition98 (drop (i + 1) ts) (drop (i + 1) ns) in
+      record { so = left .so ∙ right-next ts ns i h same ∙ ap (λ (c : Bool). c && rest) e }
 
-  pub right-not : RightLeft ts ns i → length ts ≡ length ns → i < length ts → Wide (getD ns i 0) n → b ≡ rightData (getD ts i 0) (ltb 0 n)
-      → not b ≡ true → false ≡ rightTypes ts ns
+  pub right-not : RightLeft ts ns i → length ts ≡ length ns → i < length ts → Wide (getD ns i 0) n
+      → b ≡ rightData edition98 (getD ts i 0) (ltb 0 n)
+      → not b ≡ true → false ≡ rightTypes edition98 ts ns
   right-not left same h wide is wrong =
-      let e : rightData (getD ts i 0) (withData (getD ns i 0)) ≡ false
-      = ap (λ (k : ℕ). rightData (getD ts i 0) (ltb 0 k)) (sym (wide .same)) ∙ sym is ∙ not-true b wrong in
-      sym (left .so ∙ right-next ts ns i h same ∙ ap (λ (c : Bool). c && rightTypes (drop (i + 1) ts) (drop (i + 1) ns)) e)
+      let e : rightData edition98 (getD ts i 0) (withData (getD ns i 0)) ≡ false
+      = ap (λ (k : ℕ). rightData edition98 (getD ts i 0) (ltb 0 k)) (sym (wide .same)) ∙ sym is ∙ not-true b wrong in
+      sym (left .so ∙ right-next ts ns i h same ∙ ap (λ (c : Bool). c && rightTypes edition98 (drop (i + 1) ts) (drop (i + 1) ns)) e)
 
-pub right-done : {ts ns : List ℕ} {i : ℕ} → RightLeft ts ns i → length ts ≤ i → true ≡ rightTypes ts ns
+pub right-done : {ts ns : List ℕ} {i : ℕ} → RightLeft ts ns i → length ts ≤ i → true ≡ rightTypes edition98 ts ns
 unfolding rightTypes
-right-done {ts} {ns} {i} left all = sym (left .so ∙ ap (λ (l : List ℕ). rightTypes l (drop i ns)) (drop-of-length-le ts all))
+right-done {ts} {ns} {i} left all = sym (left .so ∙ ap (λ (l : List ℕ). rightTypes edition98 l (drop i ns)) (drop-of-length-le ts all))
 
 module _ (k : Kind) (ts ns : List ℕ) where
-  pub all-not : {b : Bool} → b ≡ rightFields k (ltb 0 (length ts)) → b ≡ false → false ≡ allRight k ts ns
+  pub all-not : {b : Bool} → b ≡ rightFields k (ltb 0 (length ts)) → b ≡ false → false ≡ allRight edition98 k ts ns
   unfolding allRight
   all-not {b} is wrong = both-left (rightFields k (ltb 0 (length ts))) _ (sym is ∙ wrong)
 
-  pub all-is : {b c : Bool} → b ≡ rightFields k (ltb 0 (length ts)) → b ≡ true → c ≡ rightTypes ts ns → c ≡ allRight k ts ns
+  pub all-is : {b c : Bool} → b ≡ rightFields k (ltb 0 (length ts)) → b ≡ true → c ≡ rightTypes edition98 ts ns
+      → c ≡ allRight edition98 k ts ns
   unfolding allRight
   all-is {b} {c} is right same = both-right (rightFields k (ltb 0 (length ts))) _ c (sym is ∙ right) same
 
@@ -136,15 +142,16 @@ pub ruleset decided = (
 
 -- ---- the answers
 size-is : (k : Kind) (v : ℕ) (ts ns d : List ℕ) {each known : Bool} {size : ℕ} → length ts ≤ fieldsLimit → each ≡ oneEach ts ns d
-    → not each ≡ false → known ≡ allAssigned k v ts → not known ≡ false → size ≡ packetSize ns → length (packetOctets k v ts ns d) ≡ size
+    → not each ≡ false → known ≡ allAssigned edition98 k v ts → not known ≡ false → size ≡ packetSize ns
+    → length (packetOctets edition98 k v ts ns d) ≡ size
 size-is k v ts ns d {each} {known} few isEach so isKnown soKnown isSize =
     packet-size k v ts ns d few (sym isEach ∙ not-false each so) (sym isKnown ∙ not-false known soKnown) ∙ sym isSize
 
 -- where all tests before that of the sizes are passed
 passed : (k : Kind) (v : ℕ) (ts ns d : List ℕ) {each known right fits : Bool} {size : ℕ} → length ts ≤ fieldsLimit → each ≡ oneEach ts ns d
-    → not each ≡ false → known ≡ allAssigned k v ts → not known ≡ false → right ≡ allRight k ts ns → not right ≡ false
+    → not each ≡ false → known ≡ allAssigned edition98 k v ts → not known ≡ false → right ≡ allRight edition98 k ts ns → not right ≡ false
     → size ≡ packetSize ns → fits ≡ inSizes ns size
-    → packetToWrite k v ts ns d ≡ unless (when (not fits) outsideSizes ∷ []) (packetOctets k v ts ns d)
+    → packetToWrite edition98 k v ts ns d ≡ unless (when (not fits) outsideSizes ∷ []) (packetOctets edition98 k v ts ns d)
 unfolding packetToWrite unless
 passed k v ts ns d few isEach so isKnown soKnown isRight soRight isSize isFits =
     let size = size-is k v ts ns d few isEach so isKnown soKnown isSize in
@@ -170,13 +177,13 @@ module _ {k : Kind} {v : ℕ} {ts ns d : List ℕ} where
     unfolding packetToWrite unless
     measured-each not-so made = record { answer = rw (le-ltb fieldsLimit (length ts) few, ← isEach, not-so, made .answer) }
 
-    module _ {known : Bool} (so : not each ≡ false) (isKnown : known ≡ allAssigned k v ts) where
+    module _ {known : Bool} (so : not each ≡ false) (isKnown : known ≡ allAssigned edition98 k v ts) where
       pub measured-known : {x : Refusal} → not known ≡ true → RefusalMade notAssigned x → Measured k v ts ns d (written.Refused x)
       unfolding packetToWrite unless
       measured-known not-so made =
           record { answer = rw (le-ltb fieldsLimit (length ts) few, ← isEach, so, ← isKnown, not-so, made .answer) }
 
-      module _ {right : Bool} (soKnown : not known ≡ false) (isRight : right ≡ allRight k ts ns) where
+      module _ {right : Bool} (soKnown : not known ≡ false) (isRight : right ≡ allRight edition98 k ts ns) where
         pub measured-right : {x : Refusal} → not right ≡ true → RefusalMade wrongData x → Measured k v ts ns d (written.Refused x)
         unfolding packetToWrite unless
         measured-right not-so made =

@@ -15,6 +15,7 @@ use Rattle.lengths.specs.Promise.{Put}
 use Rattle.lengths.proofs.Laws.{put-none, put-next, put-long, room-left, both}
 use Rattle.formats.specs.Waiting.{Waiting, waiting, noneWait, Waits, closed}
 use Rattle.formats.proofs.Laws.{none-waits}
+use Rattle.packets.specs.Edition.{edition98}
 use Rattle.packets.specs.Packet.{typesLimit, every}
 use Rattle.packets.specs.Write.{sum}
 use Rattle.packets.specs.Inner.Laid.{fieldOctets, afterField, fieldsOctets}
@@ -113,7 +114,7 @@ module _ {ts ns d old out : List ℕ} {i from at k v n : ℕ} (fits : FieldsFit 
       let within : from + n - from ≤ length (drop from d) = omega (arith, length-drop from d, s .left) in
       record {
         waits = g .waits;
-        type = leb-true _ _ (every-at (λ t. leb t typesLimit) ts i (fits .right .known) h);
+        type = leb-true _ _ (every-at (λ t. leb t (typesLimit edition98)) ts i (fits .right .known) h);
         short =
             omega (
               arith,

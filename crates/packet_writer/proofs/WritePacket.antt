@@ -18,12 +18,13 @@ use Rattle.lengths.specs.declared.Refusal.{Refusal}
 use Rattle.lengths.specs.declared.Written.{Written}
 use Rattle.lengths.specs.declared.Written.the-variants as written
 use Rattle.lengths.proofs.Laws.{put-none, put-one, put-next, put-long, put-puts, full-puts, room-left}
+use Rattle.packets.specs.Edition.{edition98}
 use Rattle.packets.specs.Write.{packetToWrite}
 use Rattle.formats.specs.Waiting.{noneWait}
 use Rattle.packets.specs.Inner.Laid.{firstOctet, fieldsOctets, laidOctets}
 use Rattle.packets.specs.Inner.Items.{FieldsFit, CountedFit, countedFields, PacketFits, Measured}
 use Rattle.packets.specs.declared.types.Kind.{Kind}
-use Rattle.packets.proofs.Laws.{rest, write-form, assigned-few, packet-bare, packet-full}
+use Rattle.packets.proofs.Laws.{rest, write-form, write-laid, assigned-few, packet-bare, packet-full}
 
 -- ---- the count, then the fields
 module _ {ts ns d old mid : List ℕ} {r : Written} (fits : CountedFit ts ns d old) (puts : Puts (lengthToWrite (length ts)) old mid r) where
@@ -80,7 +81,7 @@ pub ruleset counteds = (count-never, count-inside, count-fits, count-put)
 -- ---- the packet
 module _ {k : Kind} {v : ℕ} {ts ns d old : List ℕ} where
   pub packet-value : PacketFits k v ts ns d old → v ≤ 15
-  packet-value fits = omega (arith, write-form k v ts ns d _ (fits .allowed) .known, assigned-few k)
+  packet-value fits = omega (arith, write-form edition98 k v ts ns d _ (fits .allowed) .known, assigned-few k)
 
   pub packet-some : PacketFits k v ts ns d old → 0 < length old
   unfolding laidOctets
@@ -102,7 +103,7 @@ module _ {k : Kind} {v : ℕ} {ts ns d old : List ℕ} where
 
     pub packet-fits : PacketFits k v ts ns d old → not (ltb 0 (length ts)) ≡ false → CountedFit ts ns d (rest 1 (set old 0 r))
     packet-fits fits some =
-        let form = write-form k v ts ns d _ (fits .allowed) in
+        let form = write-form edition98 k v ts ns d _ (fits .allowed) in
         record {
           few = form .few;
           right = record { same = form .same; all = form .all; known = form .types; short = form .short };
@@ -116,7 +117,7 @@ module _ {k : Kind} {v : ℕ} {ts ns d old : List ℕ} where
           → Put (countedFields ts ns d) (rest 1 (set old 0 r)) part n
           → 1 + n < 2 ^ 64
       packet-next fits some put =
-          let short = write-form k v ts ns d _ (fits .allowed) .size in
+          let short = write-form edition98 k v ts ns d _ (fits .allowed) .size in
           omega (arith, ap length (packet-full k v ts ns d (not-false _ some)), put .answer)
 
       pub packet-put : PacketFits k v ts ns d old
@@ -134,21 +135,21 @@ pub ruleset packets = (packet-value, packet-some, packet-after, packet-first, pa
 -- ---- the answers of `write`
 -- what is measured is written
 write-is : {k : Kind} {v : ℕ} {ts ns d : List ℕ} {r : Written} {n : ℕ} → Measured k v ts ns d r → r ≡ written.Octets n
-    → (packetToWrite k v ts ns d ≡ done (laidOctets k v ts ns d)) × (length (laidOctets k v ts ns d) ≡ n)
-write-is {k} {v} {ts} {ns} {d} {r} {n} measured is = by (packetToWrite k v ts ns d) refl
+    → (packetToWrite edition98 k v ts ns d ≡ done (laidOctets k v ts ns d)) × (length (laidOctets k v ts ns d) ≡ n)
+write-is {k} {v} {ts} {ns} {d} {r} {n} measured is = by (packetToWrite edition98 k v ts ns d) refl
     (sym (measured .answer) ∙ ap writtenOutcome is) where
-      by : (a : Answer (List ℕ)) → packetToWrite k v ts ns d ≡ a → sizeOf a ≡ done n
-          → (packetToWrite k v ts ns d ≡ done (laidOctets k v ts ns d)) × (length (laidOctets k v ts ns d) ≡ n)
+      by : (a : Answer (List ℕ)) → packetToWrite edition98 k v ts ns d ≡ a → sizeOf a ≡ done n
+          → (packetToWrite edition98 k v ts ns d ≡ done (laidOctets k v ts ns d)) × (length (laidOctets k v ts ns d) ≡ n)
       by (done w) e size =
-          let form = write-form k v ts ns d w e in
+          let is : w ≡ laidOctets k v ts ns d = write-laid k v ts ns d w e in
           let long : length w ≡ n = cc in
-          (e ∙ ap (λ (l : List ℕ). done l) (form .is), ap length (sym (form .is)) ∙ long)
+          (e ∙ ap (λ (l : List ℕ). done l) is, ap length (sym is) ∙ long)
       by (refused x) e size = let z : _≡_ {A = ℕ} 0 1 = cc in absurd (omega arith)
 
 module _ {k : Kind} {v : ℕ} {ts ns d old : List ℕ} {r : Written} where
   pub write-refused : {x : Refusal} → Measured k v ts ns d r → r ≡ written.Refused x
-      → Puts (packetToWrite k v ts ns d) old old (written.Refused x)
-  write-refused {x} measured is = by (packetToWrite k v ts ns d) (sym (measured .answer) ∙ ap writtenOutcome is) where
+      → Puts (packetToWrite edition98 k v ts ns d) old old (written.Refused x)
+  write-refused {x} measured is = by (packetToWrite edition98 k v ts ns d) (sym (measured .answer) ∙ ap writtenOutcome is) where
     by : (a : Answer (List ℕ)) → sizeOf a ≡ refused x → Puts a old old (written.Refused x)
     by (done w) e = let z : _≡_ {A = ℕ} 0 1 = cc in absurd (omega arith)
     by (refused y) e = let same : x ≡ y = cc in record { answer = ap (λ (q : Refusal). refused q) same; lent = refl }
@@ -158,14 +159,14 @@ module _ {k : Kind} {v : ℕ} {ts ns d old : List ℕ} {r : Written} where
     write-fits measured is room = let w = write-is measured is in record { allowed = w .0; room = omega (arith, w .1) }
 
     pub write-full : {x : Refusal} → Measured k v ts ns d r → r ≡ written.Octets n → length old < n → RefusalMade noRoom x
-        → Puts (packetToWrite k v ts ns d) old old (written.Refused x)
+        → Puts (packetToWrite edition98 k v ts ns d) old old (written.Refused x)
     write-full measured is full made =
         let w = write-is measured is in
         rw (w .0) (full-puts made (omega (arith, w .1)))
 
     pub write-done : {new : List ℕ} {m : ℕ} → Measured k v ts ns d r → r ≡ written.Octets n
         → Put (laidOctets k v ts ns d) old new m
-        → Puts (packetToWrite k v ts ns d) old new (written.Octets m)
+        → Puts (packetToWrite edition98 k v ts ns d) old new (written.Octets m)
     write-done {new} {m} measured is put = rw (write-is measured is .0) (put-puts put)
 
 pub ruleset writes = (write-refused, write-fits, write-full, write-done)

@@ -9,6 +9,7 @@ ghost use mathlib.Core.Path.{_≡_};
 ghost use Prim.Native.Nat.{_^_, _≤_, _<_};
 ghost use lib.ListN.{length};
 ghost use lib.Dec.{leb};
+ghost use Rattle.packets.specs.Edition.{edition98};
 ghost use Rattle.packets.specs.Packet.{fieldsLimit, typesLimit, every};
 ghost use Rattle.packets.specs.Write.{sum, oneEach, allAssigned, rightTypes, allRight, inSizes};
 ghost use Rattle.packets.specs.Inner.Laid.{packetSize};
@@ -69,7 +70,7 @@ fn past_fields(lengths: &[u16]) -> usize
 
 // Whether each type is one of 0 to 7.
 fn all_types(types: &[u8]) -> bool
-    ensures { λ r. ⌜ r ≡ every (λ t. leb t typesLimit) (now (types .entry)) ⌝ }
+    ensures { λ r. ⌜ r ≡ every (λ t. leb t (typesLimit edition98)) (now (types .entry)) ⌝ }
 {
     let mut i: usize = 0;
     while i < types.len() {
@@ -99,7 +100,7 @@ fn all_short(lengths: &[u16]) -> bool
 // Whether each of as many fields as there are types has data or not, as its type may.
 fn right_types(types: &[u8], lengths: &[u16]) -> bool
     requires { ⌜ length (now types) ≡ length (now lengths) ⌝ }
-    ensures { λ r. ⌜ r ≡ rightTypes (now (types .entry)) (now (lengths .entry)) ⌝ }
+    ensures { λ r. ⌜ r ≡ rightTypes edition98 (now (types .entry)) (now (lengths .entry)) ⌝ }
 {
     let mut i: usize = 0;
     while i < types.len() {
@@ -126,7 +127,7 @@ fn one_each(types: &[u8], lengths: &[u16], data: &[u8]) -> bool
 
 // Not 12: the value and each type are assigned.
 fn all_assigned(kind: Kind, value: u8, types: &[u8]) -> bool
-    ensures { λ r. ⌜ r ≡ allAssigned kind value (now (types .entry)) ⌝ }
+    ensures { λ r. ⌜ r ≡ allAssigned edition98 kind value (now (types .entry)) ⌝ }
 {
     if value < packets::assigned(kind) {
         return all_types(types);
@@ -137,7 +138,7 @@ fn all_assigned(kind: Kind, value: u8, types: &[u8]) -> bool
 // Not 14: data where it must be, and none where none may be.
 fn all_right(kind: Kind, types: &[u8], lengths: &[u16]) -> bool
     requires { ⌜ length (now types) ≡ length (now lengths) ⌝ }
-    ensures { λ r. ⌜ r ≡ allRight kind (now (types .entry)) (now (lengths .entry)) ⌝ }
+    ensures { λ r. ⌜ r ≡ allRight edition98 kind (now (types .entry)) (now (lengths .entry)) ⌝ }
 {
     let some = 0 < types.len();
     if packets::right_fields(kind, some) {

@@ -12,6 +12,7 @@ ghost use Prim.Native.Nat.{_^_, _≤_};
 ghost use lib.ListN.{length};
 ghost use Rattle.lengths.specs.Promise.{Puts, Put};
 ghost use Rattle.formats.specs.Waiting.{waiting, noneWait, closed};
+ghost use Rattle.packets.specs.Edition.{edition98};
 ghost use Rattle.packets.specs.Packet.{typesLimit};
 ghost use Rattle.packets.specs.Write.{packetToWrite};
 ghost use Rattle.packets.specs.Inner.Laid.{ofFlag, ofKind, firstOctet, headerBits, sizeOctets, fieldsOctets, laidOctets};
@@ -87,7 +88,7 @@ fn put_data(data: &[u8], out: &mut [u8]) -> usize
 
 // The four bits of a header: data present, and the type.
 fn header_bits(kind: u8, present: bool) -> usize
-    requires { ⌜ kind ≤ typesLimit ⌝ }
+    requires { ⌜ kind ≤ typesLimit edition98 ⌝ }
     ensures { λ r. ⌜ r ≡ headerBits (record { kind = kind; present = present }) ⌝ }
 {
     let low = kind as usize;
@@ -217,7 +218,7 @@ pub fn write(
     data: &[u8],
     out: &mut [u8],
 ) -> Written
-    ensures { λ r. ⌜ Puts (packetToWrite kind value (now (types .entry)) (now (lengths .entry)) (now («data» .entry)))
+    ensures { λ r. ⌜ Puts (packetToWrite edition98 kind value (now (types .entry)) (now (lengths .entry)) (now («data» .entry)))
         (now (out .entry)) (now (out .exit)) r ⌝ }
 {
     match measure(kind, value, types, lengths, data) {

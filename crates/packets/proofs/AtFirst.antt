@@ -50,7 +50,7 @@ module _ (s : List ℕ) (i : ℕ) (some : 1 ≤ length s) where
   kind-value-at : (c : Bool)
       → enumerated (values edition98 (chosen c)) .read s i 2
       ≡ cond (isSet 5 (getD s 0 0)) (stopped (refusalAt i notAssigned))
-      (cond (leb (assigned (chosen c)) (getD s 0 0 / 2 % 16)) (stopped (refusalAt i notAssigned)) (found (getD s 0 0 / 2 % 16) 7))
+      (cond (leb (assigned edition98 (chosen c)) (getD s 0 0 / 2 % 16)) (stopped (refusalAt i notAssigned)) (found (getD s 0 0 / 2 % 16) 7))
   kind-value-at true = value-at 9
   kind-value-at false = value-at 16
 
@@ -59,7 +59,7 @@ unfolding start typeOfMsg firstAt edgeAt
 start-at s i = by (ltb (length s) 1) refl where
   -- by the bits of the octet: data, extension, a value that is not assigned, the spare bit, data where none may be
   told : 1 ≤ length s → (c e o p r : Bool) → isSet 6 (getD s 0 0) ≡ c → isSet 5 (getD s 0 0) ≡ e
-      → leb (assigned (chosen c)) (getD s 0 0 / 2 % 16) ≡ o
+      → leb (assigned edition98 (chosen c)) (getD s 0 0 / 2 % 16) ≡ o
       → ltb 0 (getD s 0 0 % 2) ≡ p → rightFields (chosen c) (isSet 7 (getD s 0 0)) ≡ r
       → start edition98 .read s i 0 ≡ onward (firstAt s) (λ f. found f 8)
   told some c true o p r ce ee oe pe re =

@@ -2,7 +2,7 @@
 -- Assumes nothing.
 use Prim.Native.Nat.{ℕ, _+_, _-_, _*_, _/_, _%_, _≤_, _<_}
 use mathlib.Core.Path.{_≡_, refl, ap}
-use mathlib.Core.Bool.{Bool, true, false, cond}
+use mathlib.Core.Bool.{Bool, true, false}
 use mathlib.Core.List.{List, [], _∷_}
 use lib.ListN.{length, getD, take, drop, length-drop}
 use lib.Dec.{leb, ltb}
@@ -42,7 +42,7 @@ unfolding header enumerated root headerAt
 header-at s p = by (ltb (8 * length s) (p + headerWidth)) refl where
   -- all its bits are there: the first is for data, the others are the type
   told : p + headerWidth ≤ 8 * length s → (r : Bool)
-      → rightData (headerOf (bitsAt headerWidth s p) .kind) (headerOf (bitsAt headerWidth s p) .present) ≡ r
+      → rightData edition98 (headerOf (bitsAt headerWidth s p) .kind) (headerOf (bitsAt headerWidth s p) .present) ≡ r
       → ltb (8 * length s) (p + headerWidth) ≡ false
       → header edition98 .read s (p / 8) p ≡ onward (headerAt s p) (λ h. found (h .header) (h .next))
   told inside true right e =

@@ -1,4 +1,4 @@
--- The cases of 'The packet', each computed. Assumes nothing.
+-- The cases of 'The packet' and of the edition of 2002, each computed. Assumes nothing.
 use mathlib.Core.Path.{refl}
 use Rattle.lengths.specs.Tables.{unless}
 use Rattle.lengths.specs.Length.{lengthAt, allowed, lengthWithin, lengthOctets}
@@ -10,6 +10,7 @@ use Rattle.packets.specs.Packet.{dataField, packet, readPacket}
 use Rattle.packets.specs.Packet as description
 use Rattle.packets.specs.Write.{contentsOf, packetOctets, total, oneEach, allAssigned, rightTypes, allRight, inSizes, packetToWrite}
 use Rattle.packets.specs.Cases.{ReadCases, WriteCases}
+use Rattle.packets.specs.NewCases.{NewReadCases, NewWriteCases}
 
 pub read-cases : ReadCases
 unfolding readPacket description.wholePacket packet start typeOfMsg enumerated root addition dataField count field header fieldData size
@@ -66,4 +67,55 @@ write-cases =
       indicator-field = refl;
       whole-over = refl;
       mended = refl;
+    }
+
+pub new-read-cases : NewReadCases
+unfolding readPacket description.wholePacket packet start typeOfMsg enumerated root addition dataField count field header fieldData size
+    reading.bit reading.bits reading.flag reading.align reading.octetwise reading.sequenceOf octetsFront twoFront every lengthAt
+    allowed lengthWithin
+new-read-cases =
+    record {
+      first-indicator = refl;
+      last-indicator = refl;
+      past-indicators = refl;
+      first-kind = refl;
+      last-kind = refl;
+      past-kinds = refl;
+      not-0 = refl;
+      cut = refl;
+      missing-first = refl;
+      not-0-before-14 = refl;
+      spare-bit = refl;
+      spare-before-14 = refl;
+      indicator-with-data = refl;
+      mended = refl;
+      header-cut = refl;
+      header-bit = refl;
+      cm = refl;
+      cm-bare = refl;
+      v34rate = refl;
+      v34rate-bare = refl;
+      past-types = refl;
+      type-not-0 = refl;
+      type-cut = refl;
+      old-type = refl;
+      new-type = refl;
+    }
+
+pub new-write-cases : NewWriteCases
+unfolding packetToWrite packetOctets contentsOf packet start typeOfMsg enumerated root addition dataField count field header fieldData size
+    spelt whole wide packed sequenceSpelt total oneEach allAssigned rightTypes allRight inSizes every unless lengthOctets
+new-write-cases =
+    record {
+      first-indicator = refl;
+      last-indicator = refl;
+      past-indicators = refl;
+      last-kind = refl;
+      past-kinds = refl;
+      added-old = refl;
+      mended = refl;
+      cm = refl;
+      cm-bare = refl;
+      v34rate-bare = refl;
+      past-types = refl;
     }

@@ -6,7 +6,9 @@ use Rattle.packets.proofs.WriteLaws.{never-longer}
 use Rattle.packets.proofs.RoundTrips.{packet-written-reads, packet-repaired-reads}
 use Rattle.packets.proofs.ReadBack.{packet-read-writes}
 use Rattle.packets.proofs.Follow.{parts-within, zeros-follow, zeros-alike}
-use Rattle.packets.proofs.Cases.{read-cases, write-cases}
+use Rattle.packets.proofs.Fitting.{sound98, sound02}
+use Rattle.packets.proofs.Alike.{plain-alike}
+use Rattle.packets.proofs.Cases.{read-cases, write-cases, new-read-cases, new-write-cases}
 
 pub one-outcome : OneOutcome
 one-outcome =
@@ -15,6 +17,8 @@ one-outcome =
 pub claims : Claims
 claims =
     record {
+      sound98 = sound98;
+      sound02 = sound02;
       writtenReads = packet-written-reads;
       repairedReads = packet-repaired-reads;
       neverLonger = never-longer;
@@ -22,7 +26,10 @@ claims =
       partsWithin = parts-within;
       zerosFollow = zeros-follow;
       zerosAlike = zeros-alike;
+      plainAlike = plain-alike;
       oneOutcome = one-outcome;
       readCases = read-cases;
       writeCases = write-cases;
+      newReadCases = new-read-cases;
+      newWriteCases = new-write-cases;
     }

@@ -35,7 +35,7 @@ four-bits : (v : ℕ) → v < 16 → v / 8 % 2 * 8 + (v / 4 % 2 * 4 + v / 2 % 2 
 four-bits v small = omega (arith, three-bits v)
 
 -- ---- the first octet
-pub start-packed : (k : Kind) (v : ℕ) (b : Bool) (more : List Letter) → v < assigned k
+pub start-packed : (k : Kind) (v : ℕ) (b : Bool) (more : List Letter) → v < assigned edition98 k
     → packed 0 0 (start edition98 .spelling (record { kind = k; value = v; present = b }) 0 ++ more)
     ≡ firstOctet (record { kind = k; value = v; present = b }) ∷ packed 0 0 more
 unfolding start typeOfMsg enumerated root spelt wide packed firstOctet
@@ -47,21 +47,21 @@ start-packed Data v true more known = rw (lt-leb 9 v known) (ap (λ (o : ℕ). o
 start-packed Data v false more known = rw (lt-leb 9 v known)
     (ap (λ (o : ℕ). o ∷ packed 0 0 more) (omega (arith, four-bits v (omega arith))))
 
-pub start-wide : (k : Kind) (v : ℕ) (b : Bool) → v < assigned k
+pub start-wide : (k : Kind) (v : ℕ) (b : Bool) → v < assigned edition98 k
     → wide (start edition98 .spelling (record { kind = k; value = v; present = b }) 0) ≡ 8
 unfolding start typeOfMsg enumerated root spelt wide
 start-wide Indicator v b known' = rw (lt-leb 16 v known')
 start-wide Data v b known' = rw (lt-leb 9 v known')
 
 -- ---- a field
-pub header-small : (k : ℕ) (b : Bool) → k ≤ typesLimit → headerBits (record { kind = k; present = b }) < 2 ^ headerWidth
+pub header-small : (k : ℕ) (b : Bool) → k ≤ typesLimit edition98 → headerBits (record { kind = k; present = b }) < 2 ^ headerWidth
 unfolding headerBits
 header-small k true known' = omega arith
 header-small k false known' = omega arith
 
 -- what waits after it, and how many octets it fills, from a place on
 module _ (w : Waiting) (waits : Waits w) where
-  pub after-waits : (k : ℕ) (l : List ℕ) → k ≤ typesLimit → Waits (afterField w k l)
+  pub after-waits : (k : ℕ) (l : List ℕ) → k ≤ typesLimit edition98 → Waits (afterField w k l)
   unfolding afterField
   after-waits k l known' = by (withData (length l)) where
     by : (b : Bool) → Waits (cond b noneWait (left (withHeader w k b)))
@@ -82,7 +82,7 @@ module _ (w : Waiting) (waits : Waits w) where
       by true = omega arith
       by false = header-at false
 
-    pub field-long : k ≤ typesLimit → p / 8 + length (fieldOctets w k l) ≡ pastField p (length l) / 8
+    pub field-long : k ≤ typesLimit edition98 → p / 8 + length (fieldOctets w k l) ≡ pastField p (length l) / 8
     unfolding fieldOctets
     field-long known' = by (withData (length l)) where
       by : (b : Bool)
@@ -107,13 +107,13 @@ module _ (w : Waiting) (waits : Waits w) where
           )
 
 -- as the description spells it
-header-spelt : (k : ℕ) (b : Bool) (p : ℕ) → k ≤ typesLimit
+header-spelt : (k : ℕ) (b : Bool) (p : ℕ) → k ≤ typesLimit edition98
     → header edition98 .spelling (record { kind = k; present = b }) p ≡ spelt headerWidth (headerBits (record { kind = k; present = b }))
 unfolding header enumerated root spelt headerBits
 header-spelt k true p known' = rw (lt-leb 8 k (omega arith)) (sym (spelt-join 1 3 1 k (omega arith)))
 header-spelt k false p known' = rw (lt-leb 8 k (omega arith)) (sym (spelt-join 1 3 0 k (omega arith)))
 
-pub header-wide : (k : ℕ) (b : Bool) (p : ℕ) → k ≤ typesLimit
+pub header-wide : (k : ℕ) (b : Bool) (p : ℕ) → k ≤ typesLimit edition98
     → wide (header edition98 .spelling (record { kind = k; present = b }) p) ≡ headerWidth
 header-wide k b p known' = ap wide (header-spelt k b p known') ∙ wide-spelt headerWidth (headerBits (record { kind = k; present = b }))
 
@@ -173,7 +173,7 @@ module _ (from : ℕ) (l : List ℕ) (p : ℕ) where
       ∙ sym (append-assoc (closed w) (n ++ l) end)
   rest-packed w waits at false more = refl
 
-module _ (c : Content) (p : ℕ) (known' : c .kind ≤ typesLimit) where
+module _ (c : Content) (p : ℕ) (known' : c .kind ≤ typesLimit edition98) where
   pub field-wide : wide (field edition98 .spelling c p) + p ≡ pastField p (length (c .octets))
   unfolding field
   field-wide =

@@ -1,4 +1,4 @@
--- What the description spells, packed into octets, is the packet octet by octet. Assumes nothing.
+-- What the description spells by the edition of 06/98, packed into octets, is the packet octet by octet. Assumes nothing.
 use Prim.Native.Nat.{ℕ, suc, _+_, _-_, _%_, _≤_, _<_}
 use mathlib.Core.Path.{_≡_, refl, sym, ap, _∙_}
 use mathlib.Core.Bool.{Bool, true, false, cond}
@@ -14,7 +14,7 @@ use Rattle.formats.specs.Waiting.{Waiting, noneWait, Waits}
 use Rattle.formats.specs.Format.{known, sequenceSpelt}
 use Rattle.formats.proofs.Laws.{wide-append, wide-spelt, wide-whole, gap-past, none-waits}
 use Rattle.formats.proofs.Laws.{packed-closed, packed-whole}
-use Rattle.packets.specs.Edition.{edition98}
+use Rattle.packets.specs.Edition.{Edition, edition98}
 use Rattle.packets.specs.Write.{contentsOf, packetOctets}
 use Rattle.packets.specs.Packet.{assigned, typesLimit, every, Content, start, count}
 use Rattle.packets.specs.Packet.{field, dataField, IfpPacket, packet}
@@ -29,14 +29,14 @@ contents-long [] ns d same = refl
 contents-long (t ∷ ts) [] d same = absurd (omega arith)
 contents-long (t ∷ ts) (n ∷ ns) d same = ap suc (contents-long ts ns (drop n d) (omega arith))
 
-pub type-known : (t : ℕ) (ts : List ℕ) → every (λ k. leb k typesLimit) (t ∷ ts) ≡ true → (t ≤ typesLimit)
-    × (every (λ k. leb k typesLimit) ts ≡ true)
+pub type-known : (t : ℕ) (ts : List ℕ) → every (λ k. leb k (typesLimit edition98)) (t ∷ ts) ≡ true → (t ≤ typesLimit edition98)
+    × (every (λ k. leb k (typesLimit edition98)) ts ≡ true)
 unfolding every
 type-known t ts all =
-    let parts = both (leb t typesLimit) (every (λ k. leb k typesLimit) ts) all in
-    (leb-true t typesLimit (parts .0), parts .1)
+    let parts = both (leb t (typesLimit edition98)) (every (λ k. leb k (typesLimit edition98)) ts) all in
+    (leb-true t (typesLimit edition98) (parts .0), parts .1)
 
-fields-packed : (ts ns d : List ℕ) (w : Waiting) (p : ℕ) (more : List Letter) → every (λ t. leb t typesLimit) ts ≡ true
+fields-packed : (ts ns d : List ℕ) (w : Waiting) (p : ℕ) (more : List Letter) → every (λ t. leb t (typesLimit edition98)) ts ≡ true
     → Waits w → p % 8 ≡ w .width
     → packed (w .value) (w .width)
     (sequenceSpelt (field edition98) (contentsOf ts ns d) p
@@ -68,7 +68,7 @@ fields-packed (t ∷ ts) (n ∷ ns) d w p more all waits at =
     ∙ sym (append-assoc octets (fieldsOctets next ts ns (drop n d)) (packed 0 0 more))
 
 -- ---- the packet
-module _ (ts ns d : List ℕ) (all : every (λ t. leb t typesLimit) ts ≡ true) (same : length ts ≡ length ns) where
+module _ (ts ns d : List ℕ) (all : every (λ t. leb t (typesLimit edition98)) ts ≡ true) (same : length ts ≡ length ns) where
   -- the count and the fields, from an edge on
   counted-spelt : (p : ℕ) → p % 8 ≡ 0 → dataField edition98 .spelling (contentsOf ts ns d) p
       ≡ whole (lengthOctets (length ts)) ++ sequenceSpelt (field edition98) (contentsOf ts ns d)
@@ -100,9 +100,9 @@ module _ (ts ns d : List ℕ) (all : every (λ t. leb t typesLimit) ts ≡ true)
       let none : (8 - (0 + p) % 8) % 8 ≡ 0 = omega arith in
       rw none
 
-  module _ (k : Kind) (v : ℕ) (known' : v < assigned k) where
+  module _ (k : Kind) (v : ℕ) (known' : v < assigned edition98 k) where
     -- the packet's octets are those laid one after the other
-    pub packet-laid : packetOctets k v ts ns d ≡ laidOctets k v ts ns d
+    pub packet-laid : packetOctets edition98 k v ts ns d ≡ laidOctets k v ts ns d
     unfolding packetOctets packet laidOctets
     packet-laid =
         let b = ltb 0 (length ts) in
@@ -114,12 +114,12 @@ module _ (ts ns d : List ℕ) (all : every (λ t. leb t typesLimit) ts ≡ true)
         ∙ ap (λ (l : List ℕ). firstOctet (record { kind = k; value = v; present = b }) ∷ l)
         (after-start b (wide letters + 0) (omega arith)))
 
--- its end is at an octet edge
-pub packet-edge : (x : IfpPacket) → wide (packet edition98 .spelling x 0) % 8 ≡ 0
+-- in any edition its end is at an octet edge
+pub packet-edge : (edition : Edition) (x : IfpPacket) → wide (packet edition .spelling x 0) % 8 ≡ 0
 unfolding packet
-packet-edge x =
+packet-edge edition x =
     let b = ltb 0 (length (x .contents)) in
-    let letters = start edition98 .spelling (record { kind = x .kind; value = x .value; present = b }) 0 in
-    let rest = (cond b (dataField edition98) (known [])) .spelling (x .contents) (wide letters + 0) in
+    let letters = start edition .spelling (record { kind = x .kind; value = x .value; present = b }) 0 in
+    let rest = (cond b (dataField edition) (known [])) .spelling (x .contents) (wide letters + 0) in
     let q = wide rest + (wide letters + 0) in
     omega (arith, wide-append letters (rest ++ spelt (gap q) 0), wide-append rest (spelt (gap q) 0), wide-spelt (gap q) 0, gap-past q)

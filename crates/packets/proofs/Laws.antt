@@ -4,14 +4,13 @@
 pub use Rattle.packets.proofs.Tests.{tests}
 pub use Rattle.packets.proofs.Every.{drop-next, EveryLeft, evers, Summing, sum-next, sums, Passing, passes}
 pub use Rattle.packets.proofs.Rest.{rest, rest-is}
--- ---- a packet that is read, octet by octet
-pub use Rattle.packets.proofs.ReadLaws.{stepped, first-form, first-of, count-form, count-of}
-pub use Rattle.packets.proofs.ReadLaws.{header-form, header-of, size-form, size-of, FieldForm, bare, full, field-form, bare-of}
-pub use Rattle.packets.proofs.ReadLaws.{full-of, packet-form, packet-of}
+-- ---- a packet of the edition of 06/98 that is read, octet by octet
+pub use Rattle.packets.proofs.ReadLaws.{first-form, header-form, size-form}
 pub use Rattle.packets.proofs.ReadEnds.{read-outcome, edge-inside, field-inside, fields-inside, count-limit, count-within}
 -- ---- what the description reads is that
 pub use Rattle.packets.proofs.ReadAt.{read-at}
--- ---- a packet that is written
+-- ---- a packet that is written, in any edition, and in that of 06/98 octet by octet
+pub use Rattle.packets.proofs.Written.{each-length, write-form}
 pub use Rattle.packets.proofs.FieldLaid.{header-small, after-waits}
-pub use Rattle.packets.proofs.WriteLaws.{each-length, packet-size, field-bare, after-bare, field-full, after-full, packet-bare}
-pub use Rattle.packets.proofs.WriteLaws.{packet-full, write-form, assigned-few}
+pub use Rattle.packets.proofs.WriteLaws.{packet-size, field-bare, after-bare, field-full, after-full, packet-bare}
+pub use Rattle.packets.proofs.WriteLaws.{packet-full, write-laid, assigned-few}

@@ -5,15 +5,19 @@ mod Rest
 mod ReadLaws
 mod ReadEnds
 mod Described
+mod Steady
 mod AtFirst
 mod AtOctets
 mod ReadAt
+mod Inside
 mod FieldLaid
 mod Laid
+mod Written
 mod WriteLaws
 mod Fitting
 mod RoundTrips
 mod ReadBack
 mod Follow
+mod Alike
 pub mod Laws
 pub mod Claims

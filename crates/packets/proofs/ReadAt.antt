@@ -1,8 +1,8 @@
 -- The fields and the whole packet: what the description reads is the packet read octet by octet. Assumes nothing.
 use Prim.Native.Nat.{ℕ, zero, suc, _+_, _*_, _/_, _≤_}
-use mathlib.Core.Path.{_≡_, refl, sym, ap, ap₂, _∙_}
+use mathlib.Core.Path.{_≡_, refl, sym, ap, ap₂}
 use mathlib.Core.Bool.{Bool, true, false, cond}
-use mathlib.Core.List.{List, [], _∷_, _++_, map}
+use mathlib.Core.List.{List, [], _∷_, map}
 use lib.ListN.{length, getD, take, drop, length-drop}
 use lib.Seq.{length-take-le}
 use lib.Dec.{ltb}
@@ -18,7 +18,7 @@ use Rattle.formats.proofs.Laws.{onward, edge-at}
 use Rattle.datagrams.specs.Sizes.{packetLimit}
 use Rattle.packets.specs.Edition.{edition98}
 use Rattle.packets.specs.Packet.{First, Content, field, dataField, IfpPacket, packet, fieldOf, PacketAnswer, answerOf, noField}
-use Rattle.packets.specs.Packet.{dataOf, allData, mayFollow, wholePacket, readPacket}
+use Rattle.packets.specs.Packet.{dataOf, mayFollow, wholePacket, readPacket}
 use Rattle.packets.specs.Inner.Octets.{firstAt, Count, countAt, HeaderAnswer, headerAt, sizeAt, FieldAnswer, afterHeader, fieldAt}
 use Rattle.packets.specs.Inner.Octets.{FieldsAnswer, fieldsAt, endAt, packetByOctets}
 use Rattle.packets.specs.declared.types.Field.{Field}
@@ -26,7 +26,7 @@ use Rattle.packets.specs.declared.types.Ending.{Ending}
 use Rattle.packets.proofs.AtFirst.{start-at}
 use Rattle.packets.proofs.AtOctets.{count-at, header-at, data-at}
 use Rattle.packets.proofs.ReadLaws.{first-form, header-form}
-use Rattle.packets.proofs.ReadEnds.{edge-inside, count-within, FieldsInside, fields-inside}
+use Rattle.packets.proofs.ReadEnds.{count-within, FieldsInside, fields-inside}
 
 -- a field with its data in s
 abbrev pub contentIn : List ℕ → Field → Content
@@ -188,46 +188,6 @@ module _ (e : Ending) (s : List ℕ) where
       (ended f a at (mayFollow e (drop at s)) refl (contents-same s (a .fields) (inside-packet s f c a fe ce ae .parts)))
   told (broken r reads walks) = rw (reads 0) (sym (walks e))
 
-  pub read-at : readPacket e s ≡ packetByOctets e s
+  pub read-at : readPacket edition98 e s ≡ packetByOctets e s
   unfolding readPacket packetByOctets
   read-at = ap (cond (ltb packetLimit (length s)) (refuse outsideSizes)) (told (steps s))
-
--- ---- a packet that reads
--- the data of some fields, one after the other
-unfoldable pub allOctets : List Content → List ℕ
-allOctets [] = []
-allOctets (c ∷ cs) = c .octets ++ allOctets cs
-
-data-same : (s : List ℕ) (l : List Field) → allData s l ≡ allOctets (map (contentIn s) l)
-unfolding allData allOctets
-data-same s [] = refl
-data-same s (f ∷ l) = ap (λ (d : List ℕ). dataOf s f ++ d) (data-same s l)
-
--- it ends at an octet edge inside the octets, and its data is where its fields say
-pub record PacketIn (s : List ℕ) (x : IfpPacket) (q : ℕ) : Type 0 where
-  pub next : ℕ
-  pub is : q ≡ 8 * next
-  pub inside : next ≤ length s
-  pub octets : allData s (map fieldOf (x .contents)) ≡ allOctets (x .contents)
-
-pub packet-in : (s : List ℕ) (i : ℕ) (x : IfpPacket) (q : ℕ) → packet edition98 .read s i 0 ≡ found x q → PacketIn s x q
-packet-in s i x q e = by (steps s) where
-  by : Steps s → PacketIn s x q
-  by (taken f c a at fe ce ae ee reads) =
-      let inside = inside-packet s f c a fe ce ae in
-      let was : found (packetIn s f a) (8 * at) ≡ found x q = sym (reads i) ∙ e in
-      let is : packetIn s f a ≡ x = cc in
-      let octet : 8 * at ≡ q = cc in
-      let same : map (contentIn s) (a .fields) ≡ x .contents = ap (λ (y : IfpPacket). y .contents) is in
-      record {
-        next = at;
-        is = sym octet;
-        inside = edge-inside s (a .next) at (inside .next) ee;
-        octets =
-            ap (λ (l : List Content). allData s (map fieldOf l)) (sym same)
-            ∙ ap (allData s) (contents-same s (a .fields) (inside .parts)) ∙ data-same s (a .fields) ∙ ap allOctets same;
-      }
-  by (broken r reads walks) =
-      let was : stopped r ≡ found x q = sym (reads i) ∙ e in
-      let z : _≡_ {A = ℕ} 0 1 = cc in
-      absurd (omega arith)

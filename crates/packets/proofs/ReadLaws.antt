@@ -1,6 +1,5 @@
--- Laws of the reader's definitions, for this crate and those above: what it says of the octets that an item of a packet
--- reads, each test of its definition that was passed and the answer; and that octets which pass the tests read. Assumes
--- nothing.
+-- Laws of a packet of the edition of 06/98 as the code reads it, for this crate and those above: what it says of the octets that an item
+-- reads, each test of its definition that was passed and the answer. Assumes nothing.
 use Prim.Native.Nat.{ℕ, _+_, _-_, _*_, _/_, _%_, _^_, _≤_, _<_}
 use mathlib.Core.Path.{_≡_, refl, sym, ap, _∙_}
 use mathlib.Core.Bool.{Bool, true, false}
@@ -8,19 +7,18 @@ use mathlib.Core.List.{List}
 use lib.ListN.{length, getD, drop}
 use lib.Dec.{leb, ltb}
 use native.Mathlib.Omega.{arith}
-use borrow.Author.Tests.{ltb-false, leb-false, lt-leb, le-ltb}
-use Rattle.lengths.specs.Refusals.{refusalAt, endsEarly, outsideSizes, spareBit, leftOver, notAssigned, wrongData}
+use borrow.Author.Tests.{ltb-false, leb-false}
+use Rattle.lengths.specs.Refusals.{refusalAt, endsEarly, outsideSizes, spareBit, notAssigned, wrongData}
 use Rattle.lengths.specs.Answers.{Answer, done, refused, readFrom, _>>=_, LengthAnswer}
 use Rattle.lengths.specs.Length.{lengthWithin}
 use Rattle.lengths.proofs.Laws.{cond-past, cond-done, cond-kept, cond-met, from-done}
 use Rattle.formats.specs.Spelling.{gap}
 use Rattle.formats.specs.Places.{Place, bitsAt, edge, edgeAt}
 use Rattle.datagrams.specs.Sizes.{packetLimit}
-use Rattle.packets.specs.Packet.{First, Header, PacketAnswer, assigned, rightFields, rightData, fieldsLeast, fieldsLimit}
-use Rattle.packets.specs.Packet.{mayFollow}
+use Rattle.packets.specs.Edition.{edition98}
+use Rattle.packets.specs.Packet.{First, assigned, rightFields, rightData, fieldsLeast, fieldsLimit}
 use Rattle.packets.specs.Inner.Octets.{firstOf, headerOf, isSet, firstAt, Count, countAt, headerWidth, HeaderAnswer, headerAt}
-use Rattle.packets.specs.Inner.Octets.{sizeAt, FieldAnswer, afterHeader, fieldAt, FieldsAnswer, fieldsAt, endAt, packetByOctets}
-use Rattle.packets.specs.declared.types.Ending.{Ending}
+use Rattle.packets.specs.Inner.Octets.{sizeAt, FieldAnswer, afterHeader, fieldAt}
 
 -- ---- steps
 module _ {A B : Type 0} where
@@ -38,7 +36,7 @@ module _ {A B : Type 0} where
 pub record FirstForm (s : List ℕ) (f : First) : Type 0 where
   pub some : 1 ≤ length s
   pub plain : isSet 5 (getD s 0 0) ≡ false
-  pub known : f .value < assigned (f .kind)
+  pub known : f .value < assigned edition98 (f .kind)
   pub spare : ltb 0 (getD s 0 0 % 2) ≡ false
   pub right : rightFields (f .kind) (f .present) ≡ true
   pub is : f ≡ firstOf (getD s 0 0)
@@ -50,7 +48,7 @@ first-form s f e =
     let o = firstOf (getD s 0 0) in
     let some = cond-done (ltb (length s) 1) endsEarly _ f e in
     let plain = cond-done (isSet 5 octet) notAssigned _ f (some .1) in
-    let known = cond-done (leb (assigned (o .kind)) (o .value)) notAssigned _ f (plain .1) in
+    let known = cond-done (leb (assigned edition98 (o .kind)) (o .value)) notAssigned _ f (plain .1) in
     let spare = cond-done (ltb 0 (octet % 2)) spareBit _ f (known .1) in
     let right = cond-met (rightFields (o .kind) (o .present)) wrongData (done o) f (spare .1) in
     let is : f ≡ o = cc (right .1) in
@@ -89,7 +87,7 @@ count-form s c e =
 -- ---- a field
 pub record HeaderForm (s : List ℕ) (p : Place) (h : HeaderAnswer) : Type 0 where
   pub inside : p + headerWidth ≤ 8 * length s
-  pub right : rightData (h .header .kind) (h .header .present) ≡ true
+  pub right : rightData edition98 (h .header .kind) (h .header .present) ≡ true
   pub header : h .header ≡ headerOf (bitsAt headerWidth s p)
   pub next : h .next ≡ p + headerWidth
 
@@ -98,7 +96,7 @@ unfolding headerAt
 header-form s p h e =
     let o = headerOf (bitsAt headerWidth s p) in
     let inside = cond-past (ltb (8 * length s) (p + headerWidth)) (refusalAt (p / 8) endsEarly) _ h e in
-    let right = cond-kept (rightData (o .kind) (o .present)) (refusalAt (p / 8) wrongData) _ h (inside .1) in
+    let right = cond-kept (rightData edition98 (o .kind) (o .present)) (refusalAt (p / 8) wrongData) _ h (inside .1) in
     let is : h ≡ record { header = o; next = p + headerWidth } = cc (right .1) in
     record {
       inside = ltb-false _ _ (inside .0);
@@ -124,55 +122,6 @@ size-form s n e =
     let k = ltb-false packetLimit size (few .0) in
     let l = ltb-false (length s - 2) size (all .0) in
     record { inside = omega arith; few = omega arith; is = is }
-
--- ---- and back: what passes each test reads
-pub first-of : (s : List ℕ) (f : First) → FirstForm s f → firstAt s ≡ done f
-unfolding firstAt
-first-of s f form =
-    let o = firstOf (getD s 0 0) in
-    let known : o .value < assigned (o .kind) = rw (form .is) at (form .known) in
-    let right : rightFields (o .kind) (o .present) ≡ true = rw (form .is) at (form .right) in
-    rw (le-ltb (length s) 1 (form .some), form .plain, lt-leb (assigned (o .kind)) (o .value) known, form .spare, right, form .is)
-
-pub edge-of : (s : List ℕ) (p : Place) → getD s (p / 8) 0 % 2 ^ gap p ≤ 0 → edgeAt s p ≡ done (edge p)
-unfolding edgeAt
-edge-of s p zeros = rw (le-ltb 0 (getD s (p / 8) 0 % 2 ^ gap p) zeros)
-
-pub count-of : (s : List ℕ) (a : LengthAnswer) → lengthWithin fieldsLeast fieldsLimit (drop 1 s) ≡ done a
-    → countAt s true ≡ done (record { value = a .value; next = 8 * (1 + a .size) })
-unfolding countAt
-count-of s a reads = rw reads
-
-pub header-of : (s : List ℕ) (p : Place) (k : ℕ) (b : Bool) → p + headerWidth ≤ 8 * length s
-    → headerOf (bitsAt headerWidth s p) ≡ record { kind = k; present = b } → rightData k b ≡ true
-    → headerAt s p ≡ done (record { header = record { kind = k; present = b }; next = p + headerWidth })
-unfolding headerAt
-header-of s p k b inside is right =
-    let o = headerOf (bitsAt headerWidth s p) in
-    let fine : rightData (o .kind) (o .present) ≡ true = ap (λ (h : Header). rightData (h .kind) (h .present)) is ∙ right in
-    rw (le-ltb (8 * length s) (p + headerWidth) inside, fine)
-    (ap (λ (h : Header). done (record { header = h; next = p + headerWidth })) is)
-
-pub size-of : (s : List ℕ) (n : ℕ) → n + 2 ≤ length s → n ≤ packetLimit → n ≡ getD s 0 0 * 256 + getD s 1 0 + 1 → sizeAt s ≡ done n
-unfolding sizeAt
-size-of s n inside few is =
-    let size = getD s 0 0 * 256 + getD s 1 0 + 1 in
-    rw (le-ltb (length s) 2 (omega arith), le-ltb packetLimit size (omega arith), le-ltb (length s - 2) size (omega arith))
-    (ap (λ (k : ℕ). done k) (sym is))
-
--- a field without data, and one with it
-pub bare-of : (s : List ℕ) (p : Place) (k : ℕ)
-    → headerAt s p ≡ done (record { header = record { kind = k; present = false }; next = p + headerWidth })
-    → fieldAt s p ≡ done (record { field = record { kind = k; start = 0; size = 0 }; next = p + headerWidth })
-unfolding fieldAt afterHeader
-bare-of s p k e = rw e
-
-pub full-of : (s : List ℕ) (p : Place) (k at n : ℕ)
-    → headerAt s p ≡ done (record { header = record { kind = k; present = true }; next = p + headerWidth })
-    → edgeAt s (p + headerWidth) ≡ done at → sizeAt (drop at s) ≡ done n
-    → fieldAt s p ≡ done (record { field = record { kind = k; start = at + 2; size = n }; next = 8 * (at + 2 + n) })
-unfolding fieldAt afterHeader
-full-of s p k at n e edges size = rw (e, edges, size)
 
 -- what a field that reads is: one of these two
 pub data FieldForm (s : List ℕ) (p : Place) (f : FieldAnswer) : Type 0 where
@@ -202,48 +151,3 @@ field-form s p f e =
     let is : h .value ≡ record { header = record { kind = k; present = b }; next = p + headerWidth } = ap
     (λ (n : ℕ). record { header = h .value .header; next = n }) (form .next) in
     after-form s p k b f (h .was ∙ ap (λ (x : HeaderAnswer). done x) is) (ap (λ (x : HeaderAnswer). afterHeader s x) (sym is) ∙ h .gave)
-
--- ---- the packet
-pub record PacketForm (ending : Ending) (s : List ℕ) (p : PacketAnswer) : Type 0 where
-  pub fits : length s ≤ packetLimit
-  pub first : First
-  pub firstWas : firstAt s ≡ done first
-  pub count : Count
-  pub countWas : countAt s (first .present) ≡ done count
-  pub all : FieldsAnswer
-  pub allWas : fieldsAt (count .value) s (count .next) ≡ done all
-  pub end : ℕ
-  pub endWas : edgeAt s (all .next) ≡ done end
-  pub follows : mayFollow ending (drop end s) ≡ true
-  pub is : p ≡ record { kind = first .kind; value = first .value; fields = all .fields }
-
-pub packet-form : (ending : Ending) (s : List ℕ) (p : PacketAnswer) → packetByOctets ending s ≡ done p → PacketForm ending s p
-unfolding packetByOctets endAt
-packet-form ending s p e =
-    let fits = cond-done (ltb packetLimit (length s)) outsideSizes _ p e in
-    let f = stepped (firstAt s) _ p (fits .1) in
-    let c = stepped (countAt s (f .value .present)) _ p (f .gave) in
-    let a = stepped (fieldsAt (c .value .value) s (c .value .next)) _ p (c .gave) in
-    let at = stepped (edgeAt s (a .value .next)) _ p (a .gave) in
-    let end = cond-kept (mayFollow ending (drop (at .value) s)) (refusalAt (at .value) leftOver) _ p (at .gave) in
-    record {
-      fits = ltb-false _ _ (fits .0);
-      first = f .value;
-      firstWas = f .was;
-      count = c .value;
-      countWas = c .was;
-      all = a .value;
-      allWas = a .was;
-      end = at .value;
-      endWas = at .was;
-      follows = end .0;
-      is = cc (end .1);
-    }
-
-pub packet-of : (ending : Ending) (s : List ℕ) (f : First) (c : Count) (a : FieldsAnswer) (at : ℕ) → length s ≤ packetLimit
-    → firstAt s ≡ done f → countAt s (f .present) ≡ done c → fieldsAt (c .value) s (c .next) ≡ done a → edgeAt s (a .next) ≡ done at
-    → mayFollow ending (drop at s) ≡ true
-    → packetByOctets ending s ≡ done (record { kind = f .kind; value = f .value; fields = a .fields })
-unfolding packetByOctets endAt
-packet-of ending s f c a at fits first count all ends follows =
-    rw (le-ltb packetLimit (length s) fits, first, count, all, ends, follows)

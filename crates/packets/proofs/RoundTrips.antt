@@ -1,5 +1,4 @@
--- Both round trips of a packet, from the laws of its description: what is written reads back, received and repaired, and what reads as
--- received writes back to the same octets. Assumes nothing.
+-- What is written reads back, received and repaired, in any edition: from the laws of the description. Assumes nothing.
 use Prim.Native.Nat.{ℕ, zero, suc, _+_, _*_, _/_, _≤_}
 use mathlib.Core.Path.{_≡_, refl, sym, ap, ap₂, _∙_}
 use mathlib.Core.Bool.{Bool, true, false, cond}
@@ -14,7 +13,7 @@ use Rattle.formats.specs.Reading.{found}
 use Rattle.formats.specs.Format.{known, sequenceSpelt}
 use Rattle.formats.proofs.Laws.{written-found}
 use Rattle.datagrams.specs.Sizes.{packetLimit}
-use Rattle.packets.specs.Edition.{edition98}
+use Rattle.packets.specs.Edition.{Edition, SoundEdition}
 use Rattle.packets.specs.Packet.{every, Content, start, count, header, fieldData, field, dataField, IfpPacket, packet}
 use Rattle.packets.specs.Packet.{wholePacket, mayFollow, fieldOf, readPacket}
 use Rattle.packets.specs.Write.{contentsOf, packetOctets, sum, total}
@@ -23,50 +22,52 @@ use Rattle.packets.specs.declared.types.Kind.{Kind}
 use Rattle.packets.specs.declared.types.Ending.{Ending}
 use Rattle.packets.specs.declared.types.Ending.the-variants.{Whole, Repaired}
 use Rattle.packets.proofs.Described.{lawful-packet}
-use Rattle.packets.proofs.Laid.{packet-laid, packet-edge}
-use Rattle.packets.proofs.WriteLaws.{WriteForm, write-form}
-use Rattle.packets.proofs.ReadAt.{allOctets, packet-in}
-use Rattle.packets.proofs.Fitting.{placedAt, placed, Cut, fieldsFrom, packet-fits}
+use Rattle.packets.proofs.Laid.{packet-edge}
+use Rattle.packets.proofs.Written.{WriteForm, write-form}
+use Rattle.packets.proofs.Inside.{allOctets, packet-in}
+use Rattle.packets.proofs.Fitting.{placedAt, placed, Cut, firstField, packet-fits}
 
--- where the data begins is not spelt
-field-same : (c : Content) (start p : ℕ) → field edition98 .spelling c p
-    ≡ field edition98 .spelling (record { kind = c .kind; start = start; octets = c .octets }) p
-unfolding field fieldData
-field-same c start p = by (ltb 0 (length (c .octets))) where
-  by : (b : Bool) → header edition98 .spelling (record { kind = c .kind; present = b }) p
-      ++ (cond b fieldData (known (0, []))) .spelling (c .start, c .octets)
-      (wide (header edition98 .spelling (record { kind = c .kind; present = b }) p) + p)
-      ≡ header edition98 .spelling (record { kind = c .kind; present = b }) p
-      ++ (cond b fieldData (known (0, []))) .spelling (start, c .octets)
-      (wide (header edition98 .spelling (record { kind = c .kind; present = b }) p) + p)
-  by true = refl
-  by false = refl
-
+-- a field without the place of its data
 abbrev pub bare : Content → Content
 bare c = record { kind = c .kind; start = 0; octets = c .octets }
 
-sequence-bare : (cs : List Content) (p : ℕ) → sequenceSpelt (field edition98) cs p ≡ sequenceSpelt (field edition98) (map bare cs) p
-unfolding sequenceSpelt
-sequence-bare [] p = refl
-sequence-bare (c ∷ cs) p =
-    let letters = field edition98 .spelling c p in
-    ap (λ (l : List Letter). letters ++ l) (sequence-bare cs (wide letters + p))
-    ∙ ap (λ (l : List Letter). l ++ sequenceSpelt (field edition98) (map bare cs) (wide l + p)) (field-same c 0 p)
+module _ (edition : Edition) where
+  -- where the data begins is not spelt
+  field-same : (c : Content) (start p : ℕ) → field edition .spelling c p
+      ≡ field edition .spelling (record { kind = c .kind; start = start; octets = c .octets }) p
+  unfolding field fieldData
+  field-same c start p = by (ltb 0 (length (c .octets))) where
+    by : (b : Bool) → header edition .spelling (record { kind = c .kind; present = b }) p
+        ++ (cond b fieldData (known (0, []))) .spelling (c .start, c .octets)
+        (wide (header edition .spelling (record { kind = c .kind; present = b }) p) + p)
+        ≡ header edition .spelling (record { kind = c .kind; present = b }) p
+        ++ (cond b fieldData (known (0, []))) .spelling (start, c .octets)
+        (wide (header edition .spelling (record { kind = c .kind; present = b }) p) + p)
+    by true = refl
+    by false = refl
 
-pub packet-bare : (k : Kind) (v : ℕ) (cs : List Content)
-    → packet edition98 .spelling (record { kind = k; value = v; contents = cs }) 0
-    ≡ packet edition98 .spelling (record { kind = k; value = v; contents = map bare cs }) 0
-unfolding packet dataField
-packet-bare k v cs =
-    let first = start edition98 .spelling (record { kind = k; value = v; present = ltb 0 (length cs) }) 0 in
-    rw (length-map cs bare)
-    (ap (λ (l : List Letter). first ++ (l ++ spelt (gap (wide l + (wide first + 0))) 0)) (by (ltb 0 (length cs)) (wide first + 0))) where
-      by : (b : Bool) (p : ℕ)
-          → (cond b (dataField edition98) (known [])) .spelling cs p ≡ (cond b (dataField edition98) (known [])) .spelling (map bare cs) p
-      by true p =
-          let n = count .spelling (length cs) p in
-          rw (length-map cs bare) (ap (λ (l : List Letter). n ++ l) (sequence-bare cs (wide n + p)))
-      by false p = refl
+  sequence-bare : (cs : List Content) (p : ℕ) → sequenceSpelt (field edition) cs p ≡ sequenceSpelt (field edition) (map bare cs) p
+  unfolding sequenceSpelt
+  sequence-bare [] p = refl
+  sequence-bare (c ∷ cs) p =
+      let letters = field edition .spelling c p in
+      ap (λ (l : List Letter). letters ++ l) (sequence-bare cs (wide letters + p))
+      ∙ ap (λ (l : List Letter). l ++ sequenceSpelt (field edition) (map bare cs) (wide l + p)) (field-same c 0 p)
+
+  pub packet-bare : (k : Kind) (v : ℕ) (cs : List Content)
+      → packet edition .spelling (record { kind = k; value = v; contents = cs }) 0
+      ≡ packet edition .spelling (record { kind = k; value = v; contents = map bare cs }) 0
+  unfolding packet dataField
+  packet-bare k v cs =
+      let first = start edition .spelling (record { kind = k; value = v; present = ltb 0 (length cs) }) 0 in
+      rw (length-map cs bare)
+      (ap (λ (l : List Letter). first ++ (l ++ spelt (gap (wide l + (wide first + 0))) 0)) (by (ltb 0 (length cs)) (wide first + 0))) where
+        by : (b : Bool) (p : ℕ)
+            → (cond b (dataField edition) (known [])) .spelling cs p ≡ (cond b (dataField edition) (known [])) .spelling (map bare cs) p
+        by true p =
+            let n = count .spelling (length cs) p in
+            rw (length-map cs bare) (ap (λ (l : List Letter). n ++ l) (sequence-bare cs (wide n + p)))
+        by false p = refl
 
 -- ---- what is written
 cut-of : (ns d : List ℕ) → sum ns ≡ length d → Cut ns d
@@ -90,14 +91,15 @@ empty : (d : List ℕ) → 0 ≡ length d → [] ≡ d
 empty [] e = refl
 empty (x ∷ d) e = absurd (omega arith)
 
-placed-same : (ts ns d : List ℕ) (p : ℕ) → length ts ≡ length ns → sum ns ≡ length d → Same ts ns d (placed ts ns d p)
+placed-same : (edition : Edition) (ts ns d : List ℕ) (p : ℕ) → length ts ≡ length ns → sum ns ≡ length d
+    → Same ts ns d (placed edition ts ns d p)
 unfolding placed contentsOf total allOctets
-placed-same [] [] d p same all = record { types = refl; lengths = refl; octets = empty d all; contents = refl }
-placed-same [] (n ∷ ns) d p same all = absurd (omega arith)
-placed-same (t ∷ ts) [] d p same all = absurd (omega arith)
-placed-same (t ∷ ts) (n ∷ ns) d p same all =
+placed-same edition [] [] d p same all = record { types = refl; lengths = refl; octets = empty d all; contents = refl }
+placed-same edition [] (n ∷ ns) d p same all = absurd (omega arith)
+placed-same edition (t ∷ ts) [] d p same all = absurd (omega arith)
+placed-same edition (t ∷ ts) (n ∷ ns) d p same all =
     let rest =
-    placed-same ts ns (drop n d) (wide (field edition98 .spelling (placedAt t (take n d) p) p) + p) (omega arith)
+    placed-same edition ts ns (drop n d) (wide (field edition .spelling (placedAt edition t (take n d) p) p) + p) (omega arith)
     (omega (arith, length-drop n d)) in
     record {
       types = ap (λ (l : List ℕ). t ∷ l) (rest .types);
@@ -106,40 +108,41 @@ placed-same (t ∷ ts) (n ∷ ns) d p same all =
       contents = ap (λ (l : List Content). record { kind = t; start = 0; octets = take n d } ∷ l) (rest .contents);
     }
 
-packet-back : (e : Ending) (k : Kind) (v : ℕ) (ts ns d w more : List ℕ) → WriteForm k v ts ns d w → mayFollow e more ≡ true
-    → length (w ++ more) ≤ packetLimit → ReadsAs e (w ++ more) k v ts ns d
-unfolding readPacket wholePacket packetOctets
-packet-back e k v ts ns d w more form follows room =
-    let cs = placed ts ns d (fieldsFrom (length ts) 8) in
-    let x : IfpPacket = record { kind = k; value = v; contents = cs } in
-    let same = placed-same ts ns d (fieldsFrom (length ts) 8) (form .same) (form .all) in
-    let fits =
-    packet-fits ts ns d (form .same) k v (form .known) (form .few) (cut-of ns d (form .all)) (form .types) (form .short) (form .right)
-    (form .fields) in
-    let same-spelt : packet edition98 .spelling x 0 ≡ packet edition98 .spelling
-    (record { kind = k; value = v; contents = contentsOf ts ns d }) 0
-    = packet-bare k v cs ∙ ap (λ (l : List Content). packet edition98 .spelling (record { kind = k; value = v; contents = l }) 0)
-    (same .contents) in
-    let is : inOctets (packet edition98 .spelling x 0) ≡ w
-    = ap inOctets same-spelt ∙ packet-laid ts ns d (form .types) (form .same) k v (form .known) ∙ sym (form .is) in
-    let reads : packet edition98 .read (w ++ more) 0 0 ≡ found x (8 * length w) = rw is at
-    (written-found (lawful-packet edition98) x 0 more fits (packet-edge x)) in
-    let at : 8 * length w / 8 ≡ length w = omega arith in
-    record {
-      packet = record { kind = k; value = v; fields = map fieldOf cs };
-      reads = rw (le-ltb packetLimit (length (w ++ more)) room, reads, at, drop-at w more (length w) refl, follows);
-      kindSame = refl;
-      valueSame = refl;
-      typesSame = same .types;
-      lengthsSame = same .lengths;
-      octetsSame = packet-in (w ++ more) 0 x (8 * length w) reads .octets ∙ same .octets;
-    }
+module _ (edition : Edition) (sound : SoundEdition edition) where
+  packet-back : (e : Ending) (k : Kind) (v : ℕ) (ts ns d w more : List ℕ) → WriteForm edition k v ts ns d w → mayFollow e more ≡ true
+      → length (w ++ more) ≤ packetLimit → ReadsAs edition e (w ++ more) k v ts ns d
+  unfolding readPacket wholePacket packetOctets
+  packet-back e k v ts ns d w more form follows room =
+      let from = firstField edition k v (length ts) in
+      let cs = placed edition ts ns d (firstField edition k v (length ts)) in
+      let x : IfpPacket = record { kind = k; value = v; contents = cs } in
+      let same = placed-same edition ts ns d from (form .same) (form .all) in
+      let fits =
+      packet-fits edition sound ts ns d (form .same) k v (form .known) (form .few) (cut-of ns d (form .all)) (form .types) (form .short)
+      (form .right) (form .fields) in
+      let same-spelt : packet edition .spelling x 0 ≡ packet edition .spelling
+      (record { kind = k; value = v; contents = contentsOf ts ns d }) 0
+      = packet-bare edition k v cs ∙ ap (λ (l : List Content). packet edition .spelling (record { kind = k; value = v; contents = l }) 0)
+      (same .contents) in
+      let is : inOctets (packet edition .spelling x 0) ≡ w = ap inOctets same-spelt ∙ sym (form .is) in
+      let reads : packet edition .read (w ++ more) 0 0 ≡ found x (8 * length w) = rw is at
+      (written-found (lawful-packet edition) x 0 more fits (packet-edge edition x)) in
+      let at : 8 * length w / 8 ≡ length w = omega arith in
+      record {
+        packet = record { kind = k; value = v; fields = map fieldOf cs };
+        reads = rw (le-ltb packetLimit (length (w ++ more)) room, reads, at, drop-at w more (length w) refl, follows);
+        kindSame = refl;
+        valueSame = refl;
+        typesSame = same .types;
+        lengthsSame = same .lengths;
+        octetsSame = packet-in edition (w ++ more) 0 x (8 * length w) reads .contents .octets ∙ same .octets;
+      }
 
 pub packet-written-reads : WrittenReads
-packet-written-reads k v ts ns d w e =
-    let form = write-form k v ts ns d w e in
+packet-written-reads edition sound k v ts ns d w e =
+    let form = write-form edition k v ts ns d w e in
     let alone : w ++ [] ≡ w = append-nil w in
-    rw alone at (packet-back Whole k v ts ns d w [] form refl (rw alone (form .size)))
+    rw alone at (packet-back edition sound Whole k v ts ns d w [] form refl (rw alone (form .size)))
 
 pub zeros-all : (n : ℕ) → every (λ x. eqb x 0) (replicate n 0) ≡ true
 unfolding every
@@ -147,6 +150,6 @@ zeros-all zero = refl
 zeros-all (suc n) = zeros-all n
 
 pub packet-repaired-reads : RepairedReads
-packet-repaired-reads k v ts ns d w n e room =
-    packet-back Repaired k v ts ns d w (replicate n 0) (write-form k v ts ns d w e) (zeros-all n)
+packet-repaired-reads edition sound k v ts ns d w n e room =
+    packet-back edition sound Repaired k v ts ns d w (replicate n 0) (write-form edition k v ts ns d w e) (zeros-all n)
     (omega (arith, length-append w (replicate n 0), length-replicate {A = ℕ} n 0))

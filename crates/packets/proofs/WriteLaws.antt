@@ -1,26 +1,23 @@
--- Laws of the writer's definitions, for this crate and those above: the octets of a field and of a packet, how many
--- they are, and what it says of kind, value, types, lengths and data that a packet is written. Assumes nothing.
-use Prim.Native.Nat.{ℕ, suc, _+_, _-_, _*_, _/_, _%_, _≤_, _<_}
+-- Laws of a packet of the edition of 06/98 as it is laid, for this crate and those above: the octets of a field and of a packet, and how
+-- many they are. Assumes nothing.
+use Prim.Native.Nat.{ℕ, suc, _+_, _*_, _/_, _%_, _≤_, _<_}
 use mathlib.Core.Path.{_≡_, refl, sym, ap, _∙_}
-use mathlib.Core.Bool.{Bool, true, false, not, cond, _&&_}
+use mathlib.Core.Bool.{Bool, true, false, cond}
 use mathlib.Core.List.{List, [], _∷_, _++_, append-nil}
 use lib.ListN.{length, take, drop, length-append, length-drop}
 use lib.Seq.{length-take-le}
-use lib.Dec.{leb, ltb, eqb}
+use lib.Dec.{leb, ltb}
 use native.Mathlib.Omega.{arith}
-use borrow.Author.Tests.{lt-ltb, le-ltb, eq-eqb, eqb-true, not-false, le-leb, ltb-true, ltb-false, leb-true}
+use borrow.Author.Tests.{lt-ltb, le-ltb, ltb-true}
 use Rattle.lengths.specs.Length.{lengthOctets}
 use Rattle.lengths.proofs.Laws.{lengthOctets-one, both}
 use Rattle.lengths.specs.Answers.{done}
-use Rattle.lengths.specs.Tables.{unless}
-use Rattle.lengths.proofs.Laws.{unless-past, unless-done}
 use Rattle.formats.specs.Places.{edge}
 use Rattle.formats.specs.Waiting.{Waiting, noneWait, Waits, fullOctets, left, closed}
 use Rattle.formats.proofs.Laws.{none-waits, closed-long}
-use Rattle.datagrams.specs.Sizes.{packetLimit}
-use Rattle.packets.specs.Packet.{fieldsLimit, typesLimit, assigned, rightFields, every}
-use Rattle.packets.specs.Write.{withData, packetOctets, sum, total, oneEach, allAssigned, rightTypes, allRight, inSizes}
-use Rattle.packets.specs.Write.{packetToWrite}
+use Rattle.packets.specs.Edition.{edition98}
+use Rattle.packets.specs.Packet.{fieldsLimit, typesLimit, assigned, every}
+use Rattle.packets.specs.Write.{withData, packetOctets, sum, total, oneEach, allAssigned, packetToWrite}
 use Rattle.packets.specs.Claims.{ownSize, NeverLonger}
 use Rattle.packets.specs.Inner.Laid.{firstOctet, sizeOctets, withHeader, fieldOctets, afterField, fieldsOctets, laidOctets}
 use Rattle.packets.specs.Inner.Laid.{pastField, pastFields, packetSize}
@@ -29,20 +26,11 @@ use Rattle.packets.specs.declared.types.Kind.{Kind}
 use Rattle.packets.specs.declared.types.Kind.the-variants.{Indicator, Data}
 use Rattle.packets.proofs.FieldLaid.{after-waits, after-at, field-long}
 use Rattle.packets.proofs.Laid.{type-known, packet-laid}
-
--- ---- one length for each type, and all of them the data's
-module _ (ts ns d : List ℕ) where
-  pub each-sum : oneEach ts ns d ≡ true → sum ns ≡ length d
-  unfolding oneEach
-  each-sum is = eqb-true _ _ (both (eqb (length ts) (length ns)) _ is .1)
-
-  pub each-length : oneEach ts ns d ≡ true → length ts ≡ length ns
-  unfolding oneEach
-  each-length is = eqb-true _ _ (both _ (eqb (sum ns) (length d)) is .0)
+use Rattle.packets.proofs.Written.{each-sum, each-length, write-form}
 
 -- ---- the size
 -- the fields, from a place on, end at the octet edge next to the place after them
-fields-length : (ts ns d : List ℕ) (w : Waiting) (p : ℕ) → every (λ t. leb t typesLimit) ts ≡ true → length ts ≡ length ns
+fields-length : (ts ns d : List ℕ) (w : Waiting) (p : ℕ) → every (λ t. leb t (typesLimit edition98)) ts ≡ true → length ts ≡ length ns
     → sum ns ≡ length d → Waits w → p % 8 ≡ w .width
     → p / 8 + length (fieldsOctets w ts ns d) ≡ edge (pastFields p ns)
 unfolding fieldsOctets pastFields total
@@ -65,7 +53,7 @@ fields-length (t ∷ ts) (n ∷ ns) d w p known same all waits at =
     )
 
 packet-length : (k : Kind) (v : ℕ) (ts ns d : List ℕ) → length ts ≤ fieldsLimit → length ts ≡ length ns → sum ns ≡ length d
-    → every (λ t. leb t typesLimit) ts ≡ true
+    → every (λ t. leb t (typesLimit edition98)) ts ≡ true
     → length (laidOctets k v ts ns d) ≡ packetSize ns
 unfolding laidOctets
 packet-length k v ts ns d few same all known = rw (← same) (by (ltb 0 (length ts))) where
@@ -78,12 +66,13 @@ packet-length k v ts ns d few same all known = rw (← same) (by (ltb 0 (length 
   by false = refl
 
 -- the octets that the description spells are as many
-pub packet-size : (k : Kind) (v : ℕ) (ts ns d : List ℕ) → length ts ≤ fieldsLimit → oneEach ts ns d ≡ true → allAssigned k v ts ≡ true
-    → length (packetOctets k v ts ns d) ≡ packetSize ns
+pub packet-size : (k : Kind) (v : ℕ) (ts ns d : List ℕ) → length ts ≤ fieldsLimit → oneEach ts ns d ≡ true
+    → allAssigned edition98 k v ts ≡ true
+    → length (packetOctets edition98 k v ts ns d) ≡ packetSize ns
 unfolding allAssigned
 packet-size k v ts ns d few each known =
-    let parts = both (ltb v (assigned k)) (every (λ t. leb t typesLimit) ts) known in
-    ap length (packet-laid ts ns d (parts .1) (each-length ts ns d each) k v (ltb-true v (assigned k) (parts .0)))
+    let parts = both (ltb v (assigned edition98 k)) (every (λ t. leb t (typesLimit edition98)) ts) known in
+    ap length (packet-laid ts ns d (parts .1) (each-length ts ns d each) k v (ltb-true v (assigned edition98 k) (parts .0)))
     ∙ packet-length k v ts ns d few (each-length ts ns d each) (each-sum ts ns d each) (parts .1)
 
 -- ---- the octets of a field and what waits after it, without data and with it
@@ -119,70 +108,15 @@ unfolding laidOctets
 packet-full k v ts ns d some = ap
     (λ (b : Bool). firstOctet (record { kind = k; value = v; present = ltb 0 (length ts) }) ∷ cond b (countedFields ts ns d) []) some
 
--- ---- a packet that is written
-pub record WriteForm (k : Kind) (v : ℕ) (ts ns d w : List ℕ) : Type 0 where
-  pub few : length ts ≤ fieldsLimit
-  pub same : length ts ≡ length ns
-  pub all : sum ns ≡ length d
-  pub known : v < assigned k
-  pub types : every (λ t. leb t typesLimit) ts ≡ true
-  pub fields : rightFields k (ltb 0 (length ts)) ≡ true
-  pub right : rightTypes ts ns ≡ true
-  pub short : every (λ n. leb n packetLimit) ns ≡ true
-  pub size : length w ≤ packetLimit
-  pub is : w ≡ laidOctets k v ts ns d
+-- what is written is laid so
+pub write-laid : (k : Kind) (v : ℕ) (ts ns d w : List ℕ) → packetToWrite edition98 k v ts ns d ≡ done w → w ≡ laidOctets k v ts ns d
+write-laid k v ts ns d w e =
+    let form = write-form edition98 k v ts ns d w e in
+    form .is ∙ packet-laid ts ns d (form .types) (form .same) k v (form .known)
 
-pub write-form : (k : Kind) (v : ℕ) (ts ns d w : List ℕ) → packetToWrite k v ts ns d ≡ done w → WriteForm k v ts ns d w
-unfolding packetToWrite allAssigned allRight inSizes
-write-form k v ts ns d w e =
-    let packet = packetOctets k v ts ns d in
-    let few = unless-past (ltb fieldsLimit (length ts)) _ _ _ w e in
-    let each = unless-past (not (oneEach ts ns d)) _ _ _ w (few .1) in
-    let known = unless-past (not (allAssigned k v ts)) _ _ _ w (each .1) in
-    let right = unless-past (not (allRight k ts ns)) _ _ _ w (known .1) in
-    let sizes = unless-past (not (inSizes ns (length packet))) _ _ _ w (right .1) in
-    let is : w ≡ packetOctets k v ts ns d = unless-done [] packet w (sizes .1) in
-    let one = not-false (oneEach ts ns d) (each .0) in
-    let assignedAll = not-false (ltb v (assigned k) && every (λ t. leb t typesLimit) ts) (known .0) in
-    let rightAll = not-false (rightFields k (ltb 0 (length ts)) && rightTypes ts ns) (right .0) in
-    let sizesAll = not-false (every (λ n. leb n packetLimit) ns && leb (length packet) packetLimit) (sizes .0) in
-    let same = each-length ts ns d one in
-    let value = ltb-true v (assigned k) (both _ (every (λ t. leb t typesLimit) ts) assignedAll .0) in
-    let types = both (ltb v (assigned k)) _ assignedAll .1 in
-    record {
-      few = ltb-false _ _ (few .0);
-      same = same;
-      all = each-sum ts ns d one;
-      known = value;
-      types = types;
-      fields = both _ (rightTypes ts ns) rightAll .0;
-      right = both (rightFields k (ltb 0 (length ts))) _ rightAll .1;
-      short = both _ (leb (length packet) packetLimit) sizesAll .0;
-      size = rw is (leb-true (length packet) packetLimit (both (every (λ n. leb n packetLimit) ns) _ sizesAll .1));
-      is = is ∙ packet-laid ts ns d types same k v value;
-    }
-
-pub assigned-few : (k : Kind) → assigned k ≤ 16
+pub assigned-few : (k : Kind) → assigned edition98 k ≤ 16
 assigned-few Indicator = omega arith
 assigned-few Data = omega arith
-
--- ---- and back: what passes each test is written
-pub write-of : (k : Kind) (v : ℕ) (ts ns d : List ℕ) → WriteForm k v ts ns d (laidOctets k v ts ns d)
-    → packetToWrite k v ts ns d ≡ done (laidOctets k v ts ns d)
-unfolding packetToWrite unless oneEach allAssigned allRight inSizes
-write-of k v ts ns d form =
-    rw (
-      packet-laid ts ns d (form .types) (form .same) k v (form .known),
-      le-ltb fieldsLimit (length ts) (form .few),
-      eq-eqb (length ts) (length ns) (form .same),
-      eq-eqb (sum ns) (length d) (form .all),
-      lt-ltb v (assigned k) (form .known),
-      form .types,
-      form .fields,
-      form .right,
-      form .short,
-      le-leb (length (laidOctets k v ts ns d)) packetLimit (form .size),
-    )
 
 -- ---- no packet is longer than with a header on an octet of its own
 past-shorter : (ns : List ℕ) (p : ℕ) → p % 4 ≡ 0 → pastFields p ns ≤ p + 8 * total ownSize ns
@@ -198,9 +132,9 @@ past-shorter (n ∷ ns) p half =
 
 pub never-longer : NeverLonger
 never-longer k v ts ns d w e =
-    let form = write-form k v ts ns d w e in
+    let form = write-form edition98 k v ts ns d w e in
     let size : length w ≡ packetSize ns
-    = ap length (form .is) ∙ packet-length k v ts ns d (form .few) (form .same) (form .all) (form .types) in
+    = ap length (write-laid k v ts ns d w e) ∙ packet-length k v ts ns d (form .few) (form .same) (form .all) (form .types) in
     rw size (by (ltb 0 (length ns)) (past-shorter ns 16 refl)) where
       by : (b : Bool) → pastFields 16 ns ≤ 16 + 8 * total ownSize ns → cond b (edge (pastFields 16 ns)) 1 ≤ cond b (2 + total ownSize ns) 1
       by true short = omega arith

@@ -1,27 +1,31 @@
 -- The claims of this crate, and the words that they are said in.
-use Prim.Native.Nat.{ℕ, _+_, _≤_}
+use Prim.Native.Nat.{ℕ, _+_, _≤_, _<_}
 use mathlib.Core.Path.{_≡_}
+use mathlib.Core.Logic.{_↔_}
 use mathlib.Core.Bool.{cond}
-use mathlib.Core.List.{List, _++_, map}
+use mathlib.Core.List.{List, [], _++_, map}
 use lib.ListN.{length, getD, replicate}
 use lib.Dec.{ltb}
 use Rattle.lengths.specs.Answers.{done}
 use Rattle.lengths.specs.Claims.{Octets}
 use Rattle.datagrams.specs.Sizes.{packetLimit}
-use Rattle.packets.specs.Packet.{noField, allData, readPacket, PacketAnswer}
+use Rattle.packets.specs.Edition.{Edition, SoundEdition, edition98, edition02}
+use Rattle.packets.specs.Packet.{assigned, noField, allData, readPacket, PacketAnswer}
 use Rattle.packets.specs.Write.{withData, total, packetToWrite}
 use Rattle.packets.specs.Promise.{PacketTold}
 use Rattle.packets.specs.Cases.{ReadCases, WriteCases}
+use Rattle.packets.specs.NewCases.{NewReadCases, NewWriteCases}
 use Rattle.packets.specs.declared.types.Kind.{Kind}
 use Rattle.packets.specs.declared.types.Ending.{Ending}
 use Rattle.packets.specs.declared.types.Ending.the-variants.{Whole, Repaired}
 use Rattle.packets.specs.declared.types.PacketRead.{PacketRead}
 
--- some octets, read with this ending, are a packet of this kind and value, with fields of these types and lengths and, one
--- after the other, this data
-pub record ReadsAs (ending : Ending) (s : List ℕ) (kind : Kind) (value : ℕ) (types lengths octets : List ℕ) : Type 0 where
+-- some octets, read by this edition and with this ending, are a packet of this kind and value, with fields of these types and lengths and,
+-- one after the other, this data
+pub record ReadsAs (edition : Edition) (ending : Ending) (s : List ℕ) (kind : Kind) (value : ℕ) (types lengths octets : List ℕ)
+    : Type 0 where
   pub packet : PacketAnswer
-  pub reads : readPacket ending s ≡ done packet
+  pub reads : readPacket edition ending s ≡ done packet
   pub kindSame : packet .kind ≡ kind
   pub valueSame : packet .value ≡ value
   pub typesSame : map (λ f. f .kind) (packet .fields) ≡ types
@@ -30,59 +34,77 @@ pub record ReadsAs (ending : Ending) (s : List ℕ) (kind : Kind) (value : ℕ) 
 
 -- what is written reads back, as received
 abbrev pub WrittenReads : Type 0
-WrittenReads = (kind : Kind) (value : ℕ) (types lengths octets w : List ℕ)
-    → packetToWrite kind value types lengths octets ≡ done w
-    → ReadsAs Whole w kind value types lengths octets
+WrittenReads = (edition : Edition) → SoundEdition edition
+    → (kind : Kind) (value : ℕ) (types lengths octets w : List ℕ)
+    → packetToWrite edition kind value types lengths octets ≡ done w
+    → ReadsAs edition Whole w kind value types lengths octets
 
 -- and as repaired, with any zeros after it that the packet limit leaves room for
 abbrev pub RepairedReads : Type 0
-RepairedReads = (kind : Kind) (value : ℕ) (types lengths octets w : List ℕ) (n : ℕ)
-    → packetToWrite kind value types lengths octets ≡ done w
+RepairedReads = (edition : Edition) → SoundEdition edition
+    → (kind : Kind) (value : ℕ) (types lengths octets w : List ℕ) (n : ℕ)
+    → packetToWrite edition kind value types lengths octets ≡ done w
     → length w + n ≤ packetLimit
-    → ReadsAs Repaired (w ++ replicate n 0) kind value types lengths octets
+    → ReadsAs edition Repaired (w ++ replicate n 0) kind value types lengths octets
 
--- no packet is longer than by document 01's first rule, "Each field begins on an octet of its own": how many octets a field took
+-- no packet of the edition of 06/98 is longer than by document 01's first rule, "Each field begins on an octet of its own": how many octets
+-- a field took
 abbrev pub ownSize : ℕ → ℕ
 ownSize size = cond (withData size) (3 + size) 1
 
 abbrev pub NeverLonger : Type 0
 NeverLonger = (kind : Kind) (value : ℕ) (types lengths octets w : List ℕ)
-    → packetToWrite kind value types lengths octets ≡ done w
+    → packetToWrite edition98 kind value types lengths octets ≡ done w
     → length w ≤ cond (ltb 0 (length lengths)) (2 + total ownSize lengths) 1
 
 -- what reads as received writes back to the same octets
 abbrev pub ReadWrites : Type 0
-ReadWrites = (s : List ℕ) (p : PacketAnswer)
+ReadWrites = (edition : Edition) (s : List ℕ) (p : PacketAnswer)
     → Octets s
-    → readPacket Whole s ≡ done p
-    → packetToWrite (p .kind) (p .value) (map (λ f. f .kind) (p .fields)) (map (λ f. f .size) (p .fields)) (allData s (p .fields)) ≡ done s
+    → readPacket edition Whole s ≡ done p
+    → packetToWrite edition (p .kind) (p .value) (map (λ f. f .kind) (p .fields)) (map (λ f. f .size) (p .fields))
+    (allData s (p .fields))
+    ≡ done s
 
 -- the parts of a packet that reads lie within its octets
 abbrev pub PartsWithin : Type 0
-PartsWithin = (ending : Ending) (s : List ℕ) (p : PacketAnswer)
-    → readPacket ending s ≡ done p
+PartsWithin = (edition : Edition) (ending : Ending) (s : List ℕ) (p : PacketAnswer)
+    → readPacket edition ending s ≡ done p
     → (i : ℕ)
     → getD (p .fields) i noField .start + getD (p .fields) i noField .size ≤ length s
 
 -- a repaired packet reads the same with any more zeros after it that the packet limit leaves room for
 abbrev pub ZerosFollow : Type 0
-ZerosFollow = (s : List ℕ) (p : PacketAnswer) (n : ℕ)
-    → readPacket Repaired s ≡ done p
+ZerosFollow = (edition : Edition) (s : List ℕ) (p : PacketAnswer) (n : ℕ)
+    → readPacket edition Repaired s ≡ done p
     → length s + n ≤ packetLimit
-    → readPacket Repaired (s ++ replicate n 0) ≡ done p
+    → readPacket edition Repaired (s ++ replicate n 0) ≡ done p
 
 -- so what it reads as does not depend on how many zeros follow
 abbrev pub ZerosAlike : Type 0
-ZerosAlike = (s : List ℕ) (p q : PacketAnswer) (n m : ℕ)
-    → readPacket Repaired (s ++ replicate n 0) ≡ done p
-    → readPacket Repaired (s ++ replicate m 0) ≡ done q
+ZerosAlike = (edition : Edition) (s : List ℕ) (p q : PacketAnswer) (n m : ℕ)
+    → readPacket edition Repaired (s ++ replicate n 0) ≡ done p
+    → readPacket edition Repaired (s ++ replicate m 0) ≡ done q
     → p ≡ q
+
+-- a packet without fields and without an added value is the same in both editions. With fields it need not be: their headers are four bits
+-- wide in one and five in the other, and the same octets may say something else (`old-type` and `new-type` of `NewCases`)
+abbrev pub PlainAlike : Type 0
+PlainAlike = (ending : Ending) (s : List ℕ) (p : PacketAnswer)
+    → p .fields ≡ []
+    → p .value < assigned edition98 (p .kind)
+    → (readPacket edition98 ending s ≡ done p) ↔ (readPacket edition02 ending s ≡ done p)
 
 -- two outcomes that a promise allows are equal
 pub record OneOutcome : Type 0 where
-  pub read : {ending : Ending} {s : List ℕ} {r q : PacketRead} → PacketTold ending s r → PacketTold ending s q → r ≡ q
+  pub read : {edition : Edition} {ending : Ending} {s : List ℕ} {r q : PacketRead} → PacketTold edition ending s r
+      → PacketTold edition ending s q
+      → r ≡ q
 
+-- of every edition whose values can be told apart, as those of both can
 pub record Claims : Type 0 where
+  pub sound98 : SoundEdition edition98
+  pub sound02 : SoundEdition edition02
   pub writtenReads : WrittenReads
   pub repairedReads : RepairedReads
   pub neverLonger : NeverLonger
@@ -90,6 +112,9 @@ pub record Claims : Type 0 where
   pub partsWithin : PartsWithin
   pub zerosFollow : ZerosFollow
   pub zerosAlike : ZerosAlike
+  pub plainAlike : PlainAlike
   pub oneOutcome : OneOutcome
   pub readCases : ReadCases
   pub writeCases : WriteCases
+  pub newReadCases : NewReadCases
+  pub newWriteCases : NewWriteCases

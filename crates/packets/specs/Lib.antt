@@ -4,4 +4,5 @@ pub mod Write
 pub mod Promise
 pub mod Inner
 pub mod Cases
+pub mod NewCases
 pub mod Claims

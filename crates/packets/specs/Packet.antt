@@ -16,7 +16,7 @@ use Rattle.formats.specs.Reading as reading
 use Rattle.formats.specs.Format.{Format, flag, bits, align, here, octets, twoOctets, lengthRule, known, item, guarded, demand, _⊳_}
 use Rattle.formats.specs.Format.{made, sequenceOf}
 use Rattle.datagrams.specs.Sizes.{packetLimit}
-use Rattle.packets.specs.Edition.{Enumerated, Edition, allows, values, edition98}
+use Rattle.packets.specs.Edition.{Enumerated, many, addedWidth, Edition, allows, values}
 use Rattle.packets.specs.declared.types.Kind.{Kind}
 use Rattle.packets.specs.declared.types.Kind.the-variants.{Indicator, Data}
 use Rattle.packets.specs.declared.types.Ending.{Ending}
@@ -32,12 +32,12 @@ abbrev pub fieldsLimit : ℕ
 fieldsLimit = 16
 
 -- the highest field type
-abbrev pub typesLimit : ℕ
-typesLimit = edition98 .types .assigned - 1
+abbrev pub typesLimit : Edition → ℕ
+typesLimit edition = many (edition .types) - 1
 
 -- how many values a kind has, from 0 on
-abbrev pub assigned : Kind → ℕ
-assigned kind = values edition98 kind .assigned
+abbrev pub assigned : Edition → Kind → ℕ
+assigned edition kind = many (values edition kind)
 
 -- "An indicator never has a data field": whether a packet of this kind may have one, or have none
 abbrev pub rightFields : Kind → Bool → Bool
@@ -45,21 +45,21 @@ rightFields Indicator present = not present
 rightFields Data present = true
 
 -- whether a field of this type may have data, or have none
-abbrev pub rightData : ℕ → Bool → Bool
-rightData kind present = allows (edition98 .rule kind) present
+abbrev pub rightData : Edition → ℕ → Bool → Bool
+rightData edition kind present = allows (edition .rule kind) present
 
 -- ---- a value of an ENUMERATED type
 -- one of those before the extension mark
 unfoldable pub root : Enumerated → Format ℕ
 root e = guarded notAssigned (λ v. ltb v (e .assigned)) (bits (e .width))
 
--- one of those added after it: a 0 bit, then six bits counted from zero
+-- one of those added after it, behind the 1 bit for extension: "one 0 bit, then six bits counted from zero"
 unfoldable pub addition : Enumerated → Format ℕ
 addition e =
     made (λ x. e .assigned + x .1 .1) (λ v. (tt, (false, v - e .assigned)))
     (demand notAssigned (ltb 0 (e .added))
     ⊳ λ _. guarded notAssigned not flag
-    ⊳ λ _. guarded notAssigned (λ v. ltb v (e .added)) (bits 6))
+    ⊳ λ _. guarded notAssigned (λ v. ltb v (e .added)) (bits addedWidth))
 
 -- the bit for extension, where there is an extension mark
 unfoldable pub enumerated : Enumerated → Format ℕ
@@ -110,7 +110,7 @@ pub record Header : Type 0 where
 -- its header, so for a field 14 now comes first"
 unfoldable pub header : Edition → Format Header
 header edition =
-    guarded wrongData (λ h. allows (edition .rule (h .kind)) (h .present))
+    guarded wrongData (λ h. rightData edition (h .kind) (h .present))
     (made (λ x. record { kind = x .1; present = x .0 }) (λ h. (h .present, h .kind))
     (flag
     ⊳ λ present. enumerated (edition .types)))
@@ -195,8 +195,8 @@ answerOf (found p at) = done (record { kind = p .kind; value = p .value; fields 
 answerOf (stopped r) = refused r
 
 -- "over [the packet limit] 4, then reading order"
-unfoldable pub readPacket : Ending → List ℕ → Answer PacketAnswer
-readPacket ending s = cond (ltb packetLimit (length s)) (refuse outsideSizes) (answerOf (wholePacket edition98 ending s 0 0))
+unfoldable pub readPacket : Edition → Ending → List ℕ → Answer PacketAnswer
+readPacket edition ending s = cond (ltb packetLimit (length s)) (refuse outsideSizes) (answerOf (wholePacket edition ending s 0 0))
 
 -- ---- a field's data, as a part of the packet's octets
 -- no field: what stands in the places that a packet's fields leave unused

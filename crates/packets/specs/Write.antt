@@ -12,7 +12,7 @@ use Rattle.lengths.specs.Answers.{Answer}
 use Rattle.lengths.specs.Tables.{when, unless}
 use Rattle.formats.specs.Spelling.{inOctets}
 use Rattle.datagrams.specs.Sizes.{packetLimit}
-use Rattle.packets.specs.Edition.{edition98}
+use Rattle.packets.specs.Edition.{Edition}
 use Rattle.packets.specs.Packet.{fieldsLimit, typesLimit, assigned, rightFields, rightData, every, Content, packet}
 use Rattle.packets.specs.declared.types.Kind.{Kind}
 
@@ -28,9 +28,9 @@ contentsOf (kind ∷ types) (size ∷ lengths) octets =
     record { kind = kind; start = 0; octets = take size octets } ∷ contentsOf types lengths (drop size octets)
 
 -- what the description spells, in octets
-unfoldable pub packetOctets : Kind → ℕ → List ℕ → List ℕ → List ℕ → List ℕ
-packetOctets kind value types lengths octets =
-    inOctets (packet edition98 .spelling (record { kind = kind; value = value; contents = contentsOf types lengths octets }) 0)
+unfoldable pub packetOctets : Edition → Kind → ℕ → List ℕ → List ℕ → List ℕ → List ℕ
+packetOctets edition kind value types lengths octets =
+    inOctets (packet edition .spelling (record { kind = kind; value = value; contents = contentsOf types lengths octets }) 0)
 
 -- ---- the refusals, each over the whole packet
 -- the sum of what a measure gives for each element
@@ -45,34 +45,34 @@ sum s = total (λ x. x) s
 unfoldable pub oneEach : List ℕ → List ℕ → List ℕ → Bool
 oneEach types lengths octets = eqb (length types) (length lengths) && eqb (sum lengths) (length octets)
 
--- 12: value not assigned; "a type over 7 is refusal 12"
-unfoldable pub allAssigned : Kind → ℕ → List ℕ → Bool
-allAssigned kind value types = ltb value (assigned kind) && every (λ t. leb t typesLimit) types
+-- 12: value not assigned; "a type over 7 is refusal 12", in the edition of 06/98
+unfoldable pub allAssigned : Edition → Kind → ℕ → List ℕ → Bool
+allAssigned edition kind value types = ltb value (assigned edition kind) && every (λ t. leb t (typesLimit edition)) types
 
 -- each type has data or not, as it may
-unfoldable pub rightTypes : List ℕ → List ℕ → Bool
-rightTypes [] lengths = true
-rightTypes (kind ∷ types) [] = true
-rightTypes (kind ∷ types) (size ∷ lengths) = rightData kind (withData size) && rightTypes types lengths
+unfoldable pub rightTypes : Edition → List ℕ → List ℕ → Bool
+rightTypes edition [] lengths = true
+rightTypes edition (kind ∷ types) [] = true
+rightTypes edition (kind ∷ types) (size ∷ lengths) = rightData edition kind (withData size) && rightTypes edition types lengths
 
 -- 14: "data where none may be, or none where it must"; an indicator with fields
-unfoldable pub allRight : Kind → List ℕ → List ℕ → Bool
-allRight kind types lengths = rightFields kind (ltb 0 (length types)) && rightTypes types lengths
+unfoldable pub allRight : Edition → Kind → List ℕ → List ℕ → Bool
+allRight edition kind types lengths = rightFields kind (ltb 0 (length types)) && rightTypes edition types lengths
 
 -- 4: "the data of each at most the packet limit", and the whole
 unfoldable pub inSizes : List ℕ → ℕ → Bool
 inSizes lengths size = every (λ n. leb n packetLimit) lengths && leb size packetLimit
 
 -- "over 16 fields 4, then 15, 12, 14, 4": what the packet writer refuses, and what it writes where no row is given
-abbrev pub packetWriterRows : Kind → ℕ → List ℕ → List ℕ → List ℕ → List (Option ℕ)
-packetWriterRows kind value types lengths octets =
+abbrev pub packetWriterRows : Edition → Kind → ℕ → List ℕ → List ℕ → List ℕ → List (Option ℕ)
+packetWriterRows edition kind value types lengths octets =
     when (ltb fieldsLimit (length types)) outsideSizes
     ∷ when (not (oneEach types lengths octets)) wrongSettings
-    ∷ when (not (allAssigned kind value types)) notAssigned
-    ∷ when (not (allRight kind types lengths)) wrongData
-    ∷ when (not (inSizes lengths (length (packetOctets kind value types lengths octets)))) outsideSizes
+    ∷ when (not (allAssigned edition kind value types)) notAssigned
+    ∷ when (not (allRight edition kind types lengths)) wrongData
+    ∷ when (not (inSizes lengths (length (packetOctets edition kind value types lengths octets)))) outsideSizes
     ∷ []
 
-unfoldable pub packetToWrite : Kind → ℕ → List ℕ → List ℕ → List ℕ → Answer (List ℕ)
-packetToWrite kind value types lengths octets =
-    unless (packetWriterRows kind value types lengths octets) (packetOctets kind value types lengths octets)
+unfoldable pub packetToWrite : Edition → Kind → ℕ → List ℕ → List ℕ → List ℕ → Answer (List ℕ)
+packetToWrite edition kind value types lengths octets =
+    unless (packetWriterRows edition kind value types lengths octets) (packetOctets edition kind value types lengths octets)

@@ -1,12 +1,13 @@
 // Document 01, 'The packet': what a packet may hold, to the reader and the writer alike.
 use crate::types::Kind;
 ghost use mathlib.Core.Path.{_≡_};
+ghost use Rattle.packets.specs.Edition.{edition98};
 ghost use Rattle.packets.specs.Packet as packet;
 ghost use Rattle.packets.specs.Packet.{rightFields, rightData};
 
 // How many values of a kind are assigned.
 pub fn assigned(kind: Kind) -> u8
-    ensures { λ r. ⌜ r ≡ packet.assigned kind ⌝ }
+    ensures { λ r. ⌜ r ≡ packet.assigned edition98 kind ⌝ }
 {
     match kind {
         Kind::Indicator => 16,
@@ -26,7 +27,7 @@ pub fn right_fields(kind: Kind, present: bool) -> bool
 
 // Whether a field of this type may be so, with or without data.
 pub fn right_data(kind: u8, present: bool) -> bool
-    ensures { λ r. ⌜ r ≡ rightData kind present ⌝ }
+    ensures { λ r. ⌜ r ≡ rightData edition98 kind present ⌝ }
 {
     if kind == 0 {
         return present;
@@ -35,6 +36,12 @@ pub fn right_data(kind: u8, present: bool) -> bool
         return !present;
     }
     if kind == 6 {
+        return present;
+    }
+    if kind == 7 {
+        return true;
+    }
+    if kind < 11 {
         return present;
     }
     true

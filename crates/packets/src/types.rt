@@ -1,6 +1,7 @@
 // Document 01, 'The packet': what a packet is to those who read and write it.
 use lengths::Refusal;
 ghost use mathlib.Core.Path.{_≡_};
+ghost use Rattle.packets.specs.Edition.{edition98};
 ghost use Rattle.packets.specs.Packet.{fieldsLeast, fieldsLimit, typesLimit};
 
 // A packet is an indicator or data.
@@ -43,7 +44,7 @@ impl Field {
     }
 
     pub fn types_limit() -> u8
-        ensures { λ r. ⌜ r ≡ typesLimit ⌝ }
+        ensures { λ r. ⌜ r ≡ typesLimit edition98 ⌝ }
     {
         Field::TYPES
     }

@@ -38,12 +38,12 @@ module _ {s : List ℕ} {p : Place} {m : Marked} (told : FlagTaken s (p / 8) p m
     unfolding description.header
     header-type why = record { answer = rw (told .answer, is, type .answer, why) }
 
-    module _ {k z : ℕ} {t : Bool} (kind : n ≡ number.Found k z) (test : t ≡ rightData (k % 256) b) where
+    module _ {k z : ℕ} {t : Bool} (kind : n ≡ number.Found k z) (test : t ≡ rightData edition98 (k % 256) b) where
       same : k % 256 ≡ k
       same = let low : k < 8 = rw kind at (type .small) in omega arith
 
-      tested : rightData k b ≡ t
-      tested = ap (λ (x : ℕ). rightData x b) (sym same) ∙ sym test
+      tested : rightData edition98 k b ≡ t
+      tested = ap (λ (x : ℕ). rightData edition98 x b) (sym same) ∙ sym test
 
       pub header-wrong : {r : Refusal} → t ≡ false → RefusalPlaced wrongData (p / 8) r → HeaderTaken s p (header.Refused r)
       unfolding description.header

@@ -95,28 +95,28 @@ follows : (e : Ending) {s : List ℕ} {p : Place} {from : ℕ} {t : Bool} → Oc
 follows e {s} {p} {from} octet test = ap (mayFollow e) (sym (octet .rest) ∙ sym (rest-is from s)) ∙ sym test
 
 module _ {e : Ending} {s : List ℕ} where
-  told-of : {r : PacketRead} (x : Answer PacketAnswer) → readPacket e s ≡ x → r ≡ packetRead x → PacketTold e s r
+  told-of : {r : PacketRead} (x : Answer PacketAnswer) → readPacket edition98 e s ≡ x → r ≡ packetRead x → PacketTold edition98 e s r
   told-of x is image =
       record { answer = ap packetOutcome image ∙ read-outcome x ∙ sym is; whole = image ∙ ap packetRead (sym is) }
 
   pub packet-over : {x : Refusal} {r : PacketRead} → packetLimit < length s → RefusalMade outsideSizes x → r ≡ packetRead (refused x)
-      → PacketTold e s r
+      → PacketTold edition98 e s r
   unfolding readPacket
   packet-over {x} over made = told-of (refused x) (rw (lt-ltb packetLimit (length s) over, made .answer))
 
   module _ {f : declared.First} (fits : length s ≤ packetLimit) (told : StartTaken s 0 f) where
-    pub packet-start : {x : Refusal} {r : PacketRead} → f ≡ first.Refused x → r ≡ packetRead (refused x) → PacketTold e s r
+    pub packet-start : {x : Refusal} {r : PacketRead} → f ≡ first.Refused x → r ≡ packetRead (refused x) → PacketTold edition98 e s r
     unfolding readPacket description.wholePacket description.packet
     packet-start {x} is = told-of (refused x) (rw (le-ltb packetLimit (length s) fits, told .answer 0, is))
 
     module _ {k : Kind} {v q : ℕ} {b : Bool} {g : Fields} (is : f ≡ first.Found k v b q) (fields : AfterTaken b s q g) where
-      pub packet-fields : {x : Refusal} {r : PacketRead} → g .all ≡ all.Refused x → r ≡ packetRead (refused x) → PacketTold e s r
+      pub packet-fields : {x : Refusal} {r : PacketRead} → g .all ≡ all.Refused x → r ≡ packetRead (refused x) → PacketTold edition98 e s r
       unfolding readPacket description.wholePacket description.packet
       packet-fields {x} why =
           told-of (refused x) (rw (le-ltb packetLimit (length s) fits, told .answer 0, is, after-stopped fields why))
 
       module _ {n m : ℕ} {d : Edge} (read : g .all ≡ all.Found n m) (aligned : EdgeTaken s m d) where
-        pub packet-edge : {x : Refusal} {r : PacketRead} → d ≡ edge.Refused x → r ≡ packetRead (refused x) → PacketTold e s r
+        pub packet-edge : {x : Refusal} {r : PacketRead} → d ≡ edge.Refused x → r ≡ packetRead (refused x) → PacketTold edition98 e s r
         unfolding readPacket description.wholePacket description.packet
         packet-edge {x} why =
             let c = contents-of fields read in
@@ -126,7 +126,7 @@ module _ {e : Ending} {s : List ℕ} where
         module _ {z from : ℕ} {t : Bool} (on : d ≡ edge.Found z) (octet : OctetTaken s z from)
             (test : t ≡ mayFollow e (rest from s)) where
           pub packet-left : {x : Refusal} {r : PacketRead} → t ≡ false → RefusalPlaced leftOver (z / 8) x → r ≡ packetRead (refused x)
-              → PacketTold e s r
+              → PacketTold edition98 e s r
           unfolding readPacket description.wholePacket description.packet
           packet-left {x} not-so made =
               let c = contents-of fields read in
@@ -134,7 +134,7 @@ module _ {e : Ending} {s : List ℕ} where
               told-of (refused x)
               (rw (le-ltb packetLimit (length s) fits, told .answer 0, is, c .was, aligned .answer 0, on, may, made .answer))
 
-          pub packet-read : t ≡ true → PacketTold e s (record { reading = reading.Packet k v n; fields = g .fields })
+          pub packet-read : t ≡ true → PacketTold edition98 e s (record { reading = reading.Packet k v n; fields = g .fields })
           unfolding readPacket description.wholePacket description.packet
           packet-read so =
               let c = contents-of fields read in

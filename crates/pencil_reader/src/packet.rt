@@ -21,6 +21,7 @@ use packets::Reading;
 ghost use Prim.Native.Nat.{_≤_};
 ghost use lib.ListN.{length};
 ghost use Rattle.datagrams.specs.Sizes.{packetLimit};
+ghost use Rattle.packets.specs.Edition.{edition98};
 ghost use Rattle.packets.specs.Promise.{PacketTold};
 ghost use Rattle.pencil_reader.specs.Packet.{ChosenTaken, TypeTaken, StartTaken, AfterTaken};
 
@@ -104,7 +105,7 @@ fn optional(s: &[u8], at: usize, present: bool) -> Fields
 
 // A packet's kind, value and fields, or the first refusal in reading order.
 pub fn read(s: &[u8], ending: Ending) -> PacketRead
-    ensures { λ r. ⌜ PacketTold ending (now (s .entry)) r ⌝ }
+    ensures { λ r. ⌜ PacketTold edition98 ending (now (s .entry)) r ⌝ }
 {
     if Packet::LIMIT < s.len() {
         return packet_reader::refused(Refusal::new(Refusal::OUTSIDE_SIZES));

@@ -12,6 +12,7 @@ use Rattle.formats.specs.Spelling.{gap}
 use Rattle.formats.specs.Places as places
 use Rattle.formats.specs.Places.{Place, bitsAt}
 use Rattle.datagrams.specs.Sizes.{packetLimit}
+use Rattle.packets.specs.Edition.{edition98}
 use Rattle.packets.specs.Packet.{First, PacketAnswer, rightData, rightFields, assigned, fieldsLeast, fieldsLimit, mayFollow}
 use Rattle.packets.specs.Packet.{readPacket}
 use Rattle.packets.specs.Inner.Octets as today
@@ -33,7 +34,7 @@ module _ (s : List ℕ) where
       let first = firstOf (getD s 0 0) in
       forget-cond (ltb (length s) 1) (forget-refusal 0 endsEarly)
       (forget-cond (isSet 5 (getD s 0 0)) (forget-refusal 0 notAssigned)
-      (forget-cond (leb (assigned (first .kind)) (first .value)) (forget-refusal 0 notAssigned)
+      (forget-cond (leb (assigned edition98 (first .kind)) (first .value)) (forget-refusal 0 notAssigned)
       (forget-cond (ltb 0 (getD s 0 0 % 2)) (forget-refusal 0 spareBit)
       (forget-cond (rightFields (first .kind) (first .present)) (forget-done _) (forget-refusal 0 wrongData)))))
 
@@ -49,7 +50,7 @@ module _ (s : List ℕ) where
   header-same p =
       let header = headerOf (bitsAt headerWidth s p) in
       forget-cond (ltb (8 * length s) (p + headerWidth)) (forget-refusal (p / 8) endsEarly)
-      (forget-cond (rightData (header .kind) (header .present)) (forget-done _) (forget-refusal (p / 8) wrongData))
+      (forget-cond (rightData edition98 (header .kind) (header .present)) (forget-done _) (forget-refusal (p / 8) wrongData))
 
 size-same : (s : List ℕ) → Forgets (today.sizeAt s) (before.sizeAt s)
 unfolding today.sizeAt before.sizeAt
@@ -93,7 +94,7 @@ module _ (s : List ℕ) where
       (λ (count : Count). forget-bind (fields-same (count .value) (count .next))
       (λ (all : FieldsAnswer). end-same ending (all .next) _))))
 
-  pub packet-same : (ending : Ending) → Forgets (readPacket ending s) (before.readPacket ending s)
+  pub packet-same : (ending : Ending) → Forgets (readPacket edition98 ending s) (before.readPacket ending s)
   packet-same ending =
-      let said : readPacket ending s ≡ today.packetByOctets ending s = read-at ending s in
+      let said : readPacket edition98 ending s ≡ today.packetByOctets ending s = read-at ending s in
       record { same = ap (λ (a : Answer PacketAnswer). forgetting a) said ∙ octets-same ending .same }

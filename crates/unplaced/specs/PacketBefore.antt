@@ -12,6 +12,7 @@ use Rattle.lengths.specs.Length.{lengthWithin}
 use Rattle.formats.specs.Spelling.{gap}
 use Rattle.formats.specs.Places.{Place, bitsAt, edge}
 use Rattle.datagrams.specs.Sizes.{packetLimit}
+use Rattle.packets.specs.Edition.{edition98}
 use Rattle.packets.specs.Packet.{PacketAnswer, rightData, fieldsLeast, fieldsLimit, mayFollow}
 use Rattle.packets.specs.Inner.Octets.{headerOf, firstAt, Count, headerWidth, HeaderAnswer, FieldAnswer, FieldsAnswer}
 use Rattle.packets.specs.declared.types.Ending.{Ending}
@@ -33,7 +34,7 @@ countAt s present =
 unfoldable pub headerAt : List ℕ → Place → Answer HeaderAnswer
 headerAt s p =
     let header = headerOf (bitsAt headerWidth s p) in
-    let right = rightData (header .kind) (header .present) in
+    let right = rightData edition98 (header .kind) (header .present) in
     let read : HeaderAnswer = record { header = header; next = p + headerWidth } in
     cond (ltb (8 * length s) (p + headerWidth)) (refuse endsEarly)
     (cond right (done read) (refuse wrongData))

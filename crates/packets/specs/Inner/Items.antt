@@ -11,6 +11,7 @@ use Rattle.lengths.specs.Length.{lengthOctets}
 use Rattle.lengths.specs.Promise.{Put}
 use Rattle.lengths.specs.declared.Written.{Written}
 use Rattle.datagrams.specs.Sizes.{packetLimit}
+use Rattle.packets.specs.Edition.{edition98}
 use Rattle.packets.specs.Packet.{fieldsLimit, typesLimit, every}
 use Rattle.packets.specs.Write.{sum, packetToWrite}
 use Rattle.formats.specs.Places.{Place}
@@ -35,7 +36,7 @@ pub record FieldsPast (p : Place) (lengths : List ℕ) (r : ℕ) : Type 0 where
 
 -- what is to be written, measured
 pub record Measured (kind : Kind) (value : ℕ) (types lengths octets : List ℕ) (r : Written) : Type 0 where
-  pub answer : writtenOutcome r ≡ sizeOf (packetToWrite kind value types lengths octets)
+  pub answer : writtenOutcome r ≡ sizeOf (packetToWrite edition98 kind value types lengths octets)
 
 -- ---- writing: what has room
 -- bits after those that wait, the octet edge after those, some data, and a field
@@ -56,7 +57,7 @@ pub record DataFits (octets old : List ℕ) : Type 0 where
 
 pub record FieldFits (w : Waiting) (kind : ℕ) (octets old : List ℕ) : Type 0 where
   pub waits : Waits w
-  pub type : kind ≤ typesLimit
+  pub type : kind ≤ typesLimit edition98
   pub short : length octets ≤ packetLimit
   pub room : length (fieldOctets w kind octets) ≤ length old
 
@@ -75,7 +76,7 @@ FieldPut w kind octets old new size width value = PutAfter (fieldOctets w kind o
 pub record FieldsRight (types lengths octets : List ℕ) : Type 0 where
   pub same : length types ≡ length lengths
   pub all : sum lengths ≡ length octets
-  pub known : every (λ t. leb t typesLimit) types ≡ true
+  pub known : every (λ t. leb t (typesLimit edition98)) types ≡ true
   pub short : every (λ n. leb n packetLimit) lengths ≡ true
 
 pub record FieldsFit (types lengths octets old : List ℕ) : Type 0 where
@@ -98,5 +99,5 @@ pub record Mark (mark limit r : ℕ) : Type 0 where
 
 -- what may be written, and has room
 pub record PacketFits (kind : Kind) (value : ℕ) (types lengths octets old : List ℕ) : Type 0 where
-  pub allowed : packetToWrite kind value types lengths octets ≡ done (laidOctets kind value types lengths octets)
+  pub allowed : packetToWrite edition98 kind value types lengths octets ≡ done (laidOctets kind value types lengths octets)
   pub room : length (laidOctets kind value types lengths octets) ≤ length old

@@ -1,5 +1,6 @@
--- A packet as the code writes it, octet by octet. A header may leave bits that do not fill their octet: they wait for the next header
--- or for the octet edge. It is proved to be what the description of `Packet` spells. No part of the meaning. Definitions only.
+-- A packet of the edition of 06/98 as the code writes it, octet by octet. A header may leave bits that do not fill their octet: they
+-- wait for the next header or for the octet edge. It is proved to be what the description of `Packet` spells. No part of the meaning.
+-- Definitions only.
 use Prim.Native.Nat.{ℕ, _+_, _-_, _*_, _/_, _%_}
 use mathlib.Core.Bool.{Bool, cond}
 use mathlib.Core.List.{List, [], _∷_, _++_}

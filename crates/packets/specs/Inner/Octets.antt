@@ -1,6 +1,6 @@
--- A packet as the code reads it: a place is a number of bits, and what is read there is told by the one or two octets that hold it.
--- The tables of refusals go by this too; it is proved to be what the description of `Packet` says. No part of the meaning.
--- Definitions only.
+-- A packet of the edition of 06/98 as the code reads it: a place is a number of bits, and what is read there is told by the one or two
+-- octets that hold it. The tables of refusals go by this too; it is proved to be what the description of `Packet` says. No part of the
+-- meaning. Definitions only.
 use Prim.Native.Nat.{ℕ, zero, suc, _+_, _-_, _*_, _/_, _%_, _^_}
 use mathlib.Core.Bool.{Bool, cond}
 use mathlib.Core.List.{List, [], _∷_}
@@ -11,6 +11,7 @@ use Rattle.lengths.specs.Answers.{Answer, done, refuse, refuseAt, readFrom, _>>
 use Rattle.lengths.specs.Length.{lengthWithin}
 use Rattle.formats.specs.Places.{Place, bitsAt, edgeAt}
 use Rattle.datagrams.specs.Sizes.{packetLimit}
+use Rattle.packets.specs.Edition.{edition98}
 use Rattle.packets.specs.Packet.{First, Header, PacketAnswer, assigned, rightFields, rightData, fieldsLeast, fieldsLimit}
 use Rattle.packets.specs.Packet.{mayFollow}
 use Rattle.packets.specs.declared.types.Kind.{Kind}
@@ -42,7 +43,7 @@ firstAt s =
     let first = firstOf (getD s 0 0) in
     cond (ltb (length s) 1) (refuse endsEarly)
     (cond (isSet 5 octet) (refuse notAssigned)
-    (cond (leb (assigned (first .kind)) (first .value)) (refuse notAssigned)
+    (cond (leb (assigned edition98 (first .kind)) (first .value)) (refuse notAssigned)
     (cond (ltb 0 (octet % 2)) (refuse spareBit)
     (cond (rightFields (first .kind) (first .present)) (done first) (refuse wrongData)))))
 
@@ -73,7 +74,7 @@ pub record HeaderAnswer : Type 0 where
 unfoldable pub headerAt : List ℕ → Place → Answer HeaderAnswer
 headerAt s p =
     let header = headerOf (bitsAt headerWidth s p) in
-    let right = rightData (header .kind) (header .present) in
+    let right = rightData edition98 (header .kind) (header .present) in
     let read : HeaderAnswer = record { header = header; next = p + headerWidth } in
     cond (ltb (8 * length s) (p + headerWidth)) (refuseAt (p / 8) endsEarly)
     (cond right (done read) (refuseAt (p / 8) wrongData))

@@ -4,13 +4,14 @@ use Prim.Native.Nat.{_-_}
 use lib.ListN.{length}
 use lib.Dec.{leb}
 use borrow.Author.Needs.{needs}
+use Rattle.packets.specs.Edition.{edition98}
 use Rattle.packets.specs.Packet.{typesLimit}
 use Rattle.packets.proofs.Laws.{EveryLeft, evers}
 use Rattle.packet_writer.proofs.sizes.all_types.Statement.{statement}
 use Rattle.packet_writer.proofs.sizes.all_types.Tie as tie
 
 abbrev Inv-loop : tie.InvT-loop
-Inv-loop types i₀ i = EveryLeft (λ t. leb t typesLimit) types i
+Inv-loop types i₀ i = EveryLeft (λ t. leb t (typesLimit edition98)) types i
 
 abbrev μ-loop : tie.MeasureT-loop
 μ-loop types i₀ i = length types - i

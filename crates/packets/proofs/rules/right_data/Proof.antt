@@ -15,5 +15,11 @@ returns-3 c = search tests
 returns-4 : tie.Need-returns-4
 returns-4 c = search tests
 
+returns-5 : tie.Need-returns-5
+returns-5 c = search tests
+
+returns-6 : tie.Need-returns-6
+returns-6 c = search tests
+
 pub right-data-spec : {M : Type 1} → statement M
-right-data-spec = tie.close (tie.spec returns returns-2 returns-3 returns-4)
+right-data-spec = tie.close (tie.spec returns returns-2 returns-3 returns-4 returns-5 returns-6)
