@@ -1,0 +1,68 @@
+-- Document 02, request 12: "takes two traces .. Empty lines are skipped but counted. .. Traces hold up to 512 lines each. .. Refusals: 22,
+-- a trace with too many lines, before the reading refusals, first trace first, which name trace and line, from 1". A trace is a text, cut
+-- into lines as the program cuts its input, and a line is read as the program reads it (`lines`). Definitions only.
+use Prim.Native.Nat.{ℕ, suc}
+use mathlib.Core.List.{List, [], _∷_}
+use mathlib.Core.Option.{Option}
+use lib.ListN.{length}
+use lib.Dec.{ltb}
+use Rattle.lengths.specs.Refusals.{tooManyLines}
+use Rattle.lengths.specs.Answers as answers
+use Rattle.lengths.specs.Answers.{Answer}
+use Rattle.lengths.specs.Tables.{when, unless}
+use Rattle.datagrams.specs.Carried.{Carried}
+use Rattle.datagrams.specs.Read.{DatagramParts, readDatagram, carriedBy}
+use Rattle.lines.specs.Hex.{lineOctets}
+use Rattle.lines.specs.Lines.{linesFrom}
+use Rattle.comparisons.specs.Pairing.{TraceLine}
+use Rattle.comparisons.specs.Entries.{Entry, entries}
+use Rattle.comparisons.specs.Told.{Told, told, stopped, at, nowhere, _>>=_}
+
+-- "Traces hold up to 512 lines each"
+abbrev pub linesLimit : ℕ
+linesLimit = 512
+
+abbrev pub firstTrace : ℕ
+firstTrace = 1
+
+abbrev pub secondTrace : ℕ
+secondTrace = 2
+
+-- ---- reading
+
+-- the datagram that some octets are
+unfoldable pub carriedIn : List ℕ → Answer Carried
+carriedIn octets = answers.mapped (carriedBy octets) (readDatagram octets)
+
+-- the datagram that a line holds
+unfoldable pub datagramIn : List ℕ → Answer Carried
+datagramIn line = answers._>>=_ (lineOctets line) carriedIn
+
+-- the lines of a trace that hold datagrams, of which the next is line n: "Empty lines are skipped but counted"
+unfoldable pub linesRead : ℕ → ℕ → List (List ℕ) → Told (List TraceLine)
+linesRead trace n [] = told []
+linesRead trace n ([] ∷ lines) = linesRead trace (suc n) lines
+linesRead trace n ((c ∷ line) ∷ lines) = do
+  datagram ← at (record { trace = trace; line = n }) (datagramIn (c ∷ line))
+  more ← linesRead trace (suc n) lines
+  told (record { line = n; datagram = datagram } ∷ more)
+
+-- "which name trace and line, from 1"
+unfoldable pub traceRead : ℕ → List ℕ → Told (List TraceLine)
+traceRead trace text = linesRead trace 1 (linesFrom [] text)
+
+-- ---- the comparison
+
+-- "22, a trace with too many lines, before the reading refusals, first trace first"
+abbrev pub tooManyRows : List ℕ → List ℕ → List (Option ℕ)
+tooManyRows first second =
+    when (ltb linesLimit (length (linesFrom [] first))) tooManyLines
+    ∷ when (ltb linesLimit (length (linesFrom [] second))) tooManyLines
+    ∷ []
+
+unfoldable pub comparison : List ℕ → List ℕ → Told (List Entry)
+comparison first second = do
+  few ← at nowhere (unless (tooManyRows first second) (tt {0}))
+  a ← traceRead firstTrace first
+  b ← traceRead secondTrace second
+  told (entries a b)
