@@ -1,0 +1,7 @@
+mod First
+mod Sums
+mod Tests
+mod Owners
+mod Solving
+pub mod Laws
+pub mod Claims

@@ -1,0 +1,4 @@
+pub mod First
+pub mod Sums
+pub mod Systems
+pub mod Claims
