@@ -5,6 +5,7 @@ pub use Rattle.linear.proofs.First.{first-passes, first-least, first-mo
 -- ---- sums over the columns of a row
 pub use Rattle.linear.proofs.Sums.{sum-same, sum-none, sum-combined, sum-alone, sum-small}
 -- ---- the tests of a row
-pub use Rattle.linear.proofs.Tests.{empty-says, empty-of, alone-says, alone-of, alone-only, alone-found, alone-no-later, alone-or-not}
+pub use Rattle.linear.proofs.Tests.{empty-says, empty-of, alone-says, alone-of, alone-only}
+pub use Rattle.linear.proofs.Tests.{alone-found, alone-no-later, alone-or-not}
 -- ---- what a reduced table tells
 pub use Rattle.linear.proofs.Solving.{solved, solved-satisfies, solved-small, Hangs, hangs, alone-value, satisfied-consistent}
