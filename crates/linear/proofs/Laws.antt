@@ -3,7 +3,7 @@
 -- ---- the first place that passes a test
 pub use Rattle.linear.proofs.First.{first-passes, first-least, first-most, first-before, first-is}
 -- ---- sums over the columns of a row
-pub use Rattle.linear.proofs.Sums.{sum-same, sum-none, sum-combined, sum-alone, sum-small}
+pub use Rattle.linear.proofs.Sums.{xor-false, sum-same, sum-none, sum-combined, sum-alone, sum-small}
 -- ---- the tests of a row
 pub use Rattle.linear.proofs.Tests.{empty-says, empty-of, alone-says, alone-of, alone-only}
 pub use Rattle.linear.proofs.Tests.{alone-found, alone-no-later, alone-or-not}

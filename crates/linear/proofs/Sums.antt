@@ -57,6 +57,11 @@ sum-zeros (suc n) row = ap₂ bitXor (sum-zeros n row) (either (row n))
     either false = refl
 
 -- ---- two rows combined: a column that both have is gone
+pub xor-false : (t : Bool) → xor t false ≡ t
+unfolding xor
+xor-false true = refl
+xor-false false = refl
+
 one-column : (a b : Bool) (v : ℕ) → cond (xor a b) v 0 ≡ bitXor (cond a v 0) (cond b v 0)
 unfolding xor
 one-column true true v = sym (xor-self v)

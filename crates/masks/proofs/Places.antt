@@ -1,6 +1,6 @@
 -- The first place of a mask and the one that stands alone, as the code finds them, on plain values. Assumes nothing.
 use Prim.Native.Nat.{ℕ, _+_, _^_, _≤_, _<_}
-use mathlib.Core.Path.{_≡_, refl, sym, ap, ap₂, _∙_}
+use mathlib.Core.Path.{_≡_, sym, ap, ap₂, _∙_}
 use mathlib.Core.Logic.{⊎-elim}
 use mathlib.Core.Bool.{Bool, true, false, xor, false≢true}
 use lib.Bits.{bitXor}
@@ -9,7 +9,7 @@ use borrow.Author.Tests.{eq-eqb, ne-eqb}
 use native.Mathlib.Omega.{arith}
 use Rattle.octets.proofs.Laws.{same-or-not, true-or-false}
 use Rattle.linear.specs.Systems.{Alone, aloneTest}
-use Rattle.linear.proofs.Laws.{first-passes, first-before, first-is, alone-says, alone-of, alone-only}
+use Rattle.linear.proofs.Laws.{xor-false, first-passes, first-before, first-is, alone-says, alone-of, alone-only}
 use Rattle.masks.specs.Masks.{places, bit, firstPlace, lonePlace}
 use Rattle.masks.specs.Promise.{HasTold, OneMade, FirstFound, LoneFound}
 use Rattle.masks.proofs.Bits.{bit-xor}
@@ -28,7 +28,8 @@ pub looking-turn : {mask p : ℕ} {there : Bool} → Looking mask p → p < plac
 looking-turn {mask} {p} l more told none =
     record {
       most = omega arith;
-      before = λ q below. ⊎-elim (λ same. ap (bit mask) same ∙ sym (told .answer) ∙ none) (λ other. l .before q (omega arith)) (same-or-not q p);
+      before = λ q below.
+          ⊎-elim (λ same. ap (bit mask) same ∙ sym (told .answer) ∙ none) (λ other. l .before q (omega arith)) (same-or-not q p);
     }
 
 pub looking-found : {mask p : ℕ} {there : Bool} → Looking mask p → HasTold mask p there → there ≡ true → FirstFound mask p
@@ -78,11 +79,6 @@ lone-none {mask} {place} f past =
           none-alone mask
           (λ p inside alone. false≢true (sym (first-before places (bit mask) p (omega (arith, f .answer))) ∙ alone .has));
     }
-
-xor-false : (t : Bool) → xor t false ≡ t
-unfolding xor
-xor-false true = refl
-xor-false false = refl
 
 -- the first place taken out: what is left has another place, or has none
 module _ {mask place single other : ℕ} (f : FirstFound mask place) (inside : place < places) (made : OneMade place single)

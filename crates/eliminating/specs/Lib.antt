@@ -1,0 +1,4 @@
+pub mod Rows
+pub mod Eliminated
+pub mod Promise
+pub mod Claims
