@@ -1,5 +1,6 @@
 -- The datagram reader goes from item to item: of octets within the limit it tells what the walk over their items tells, place and all.
--- Each of its pieces is a step of the walk or two, at a place of the octets; what is left from there on is what the walk meets. Assumes nothing.
+-- Each of its pieces is a step of the walk or two, at a place of the octets; what is left from there on is what the walk meets.
+-- Assumes nothing.
 use Prim.Native.Nat.{ℕ, zero, suc, _+_, _-_, _*_, _%_, _≤_}
 use mathlib.Core.Path.{_≡_, refl, sym, ap, subst, _∙_}
 use mathlib.Core.Logic.{⊎-elim}

@@ -31,7 +31,8 @@ use Rattle.demands.proofs.ImageCalls.{wrote-image, to-write, read-same,
 
 -- ---- demand 2 goes on
 -- some calls and then others are one chain, and so is what left by them
-chain-on : {first t u : Session} {before after : Calls} → Called first before t → Called t after u → Called first (followedBy before after) u
+chain-on : {first t u : Session} {before after : Calls} → Called first before t → Called t after u
+    → Called first (followedBy before after) u
 unfolding followedBy
 chain-on c atStart = c
 chain-on c (offered rest owes) = offered (chain-on c rest) owes

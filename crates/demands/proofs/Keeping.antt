@@ -36,7 +36,8 @@ use Rattle.demands.proofs.Calling.{seen-ranges, left-is, called-went, c
 -- ---- one call
 data Does (view : View) : List Left → View → Type 0 where
   stays : {last : View} → ((p : ℕ) → Known (view .cells) p → cellAt (last .cells) p ≡ cellAt (view .cells) p) → Does view [] last
-  leaves : (counts : Counts) → Does view (leftAs ((atBase view) .state) (view .base) ((atBase view) .note) ((atBase view) .octets) ∷ []) (goneOn counts view)
+  leaves : (counts : Counts)
+      → Does view (leftAs ((atBase view) .state) (view .base) ((atBase view) .note) ((atBase view) .octets) ∷ []) (goneOn counts view)
 
 does : (move : Move) (view : View) → Does view (leaving move view) (afterMove move view)
 unfolding afterMove leaving
@@ -70,7 +71,8 @@ module _ {view : View} {p : ℕ} (small : p < keptNumbers) (known : Known (view 
     keeps-stays same = record { stays = λ low. same (p - length left) (still low) ∙ k .stays low; leaves = k .leaves }
 
     -- the number at the base left, as it stood there
-    module _ (r : ViewInRanges held) (x : Left) (is : x ≡ leftAs ((atBase held) .state) (held .base) ((atBase held) .note) ((atBase held) .octets))
+    module _ (r : ViewInRanges held) (x : Left)
+        (is : x ≡ leftAs ((atBase held) .state) (held .base) ((atBase held) .note) ((atBase held) .octets))
         (base : held .base ≡ (view .base + length left) % numbers) where
       long : length (left ++ (x ∷ [])) ≡ length left + 1
       long = length-append left (x ∷ [])

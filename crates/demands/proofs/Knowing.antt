@@ -45,7 +45,8 @@ module _ (datagram : Carried) (d : ℕ) (view : View) (long : length (view .cell
     ⊎-elim (known-grown (grown-extra (datagram .number) (keptBefore + d) (spares copies) arrived) p)
         (λ t.
         rw (t .2)
-        (known-spares (datagram .number) (keptBefore + d) copies arrived (let long = arrived-long in omega arith) (let long = arrived-long in omega arith)
+        (known-spares (datagram .number) (keptBefore + d) copies arrived (let long = arrived-long in omega arith)
+        (let long = arrived-long in omega arith)
         (t .0)
         (t .1))),
   )
@@ -89,7 +90,8 @@ accept-known d datagram view distinct p = (
       (rw (accept-cells d datagram view) at k),
   λ t.
       rw (accept-cells d datagram view)
-      (reached-known (makes-repaired (datagram .number)) (filled d datagram view) (heldMessages ((accept d datagram view) .held)) distinct p t),
+      (reached-known (makes-repaired (datagram .number)) (filled d datagram view) (heldMessages ((accept d datagram view) .held)) distinct p
+      t),
 )
 
 -- ---- from the start

@@ -146,7 +146,8 @@ module _ {row datagrams : List (List ℕ)} {view : View} (s : Sound row datagram
   mid-brings : (p : ℕ) → Brings c d p → Known (mid .cells) p
   unfolding accept
   mid-brings p b =
-      known-grown (grown-repair (c .number) (filled d c view) (heldMessages (mid .held))) p (brought c d view (s .ranges .kept) low p .1 (inr b))
+      known-grown (grown-repair (c .number) (filled d c view) (heldMessages (mid .held))) p
+      (brought c d view (s .ranges .kept) low p .1 (inr b))
 
   mid-new : Marked row datagrams mid d
   unfolding accept

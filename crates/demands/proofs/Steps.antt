@@ -101,7 +101,8 @@ step (release leave room) view r = pick (releases.release leave room view) refl 
   pick (done a) e =
       let o = release-leaves leave room view a e in
       let other : a .kind ≡ blank → ⊥ = λ is. r .noBlank keptBefore (omega arith) (omega arith) (sym (o .kind) ∙ is) in
-      leaves (leftAs (a .kind) (a .number) (a .note) (a .octets)) refl (o .number) (one-kind (a .kind) other (a .number) (a .note) (a .octets))
+      leaves (leftAs (a .kind) (a .number) (a .note) (a .octets)) refl (o .number)
+      (one-kind (a .kind) other (a .number) (a .note) (a .octets))
       (ap (λ (x : View). x .counts) (o .after)
       ∙ gone-counts _ view
       ∙ ap (λ (st : State). counted st (view .counts)) (sym (o .kind))

@@ -37,7 +37,8 @@ right-set sent cells p cell low is right q inside k =
     (right q (rw (length-set cells p cell) at inside) (sym (same-unknown cells (set cells p cell) q as-was) ∙ k)))
     (same-or-not q p)
 
-right-keep : (sent : ℕ → List ℕ) (S : ℕ) (state : State) (p : ℕ) (octets : List ℕ) (cells : List Cell) → octets ≡ sent p → TrueCells sent cells
+right-keep : (sent : ℕ → List ℕ) (S : ℕ) (state : State) (p : ℕ) (octets : List ℕ) (cells : List Cell) → octets ≡ sent p
+    → TrueCells sent cells
     → TrueCells sent (keep S state p octets cells)
 right-keep sent S state p octets cells is right =
     ⊎-elim
@@ -67,6 +68,8 @@ pub right-filled : (sent : ℕ → List ℕ) (d : ℕ) (c : Carried) (view : Vie
     → TrueCells sent (filled d c view)
 right-filled sent d c view v right =
     let first = right-keep sent (c .number) received (keptBefore + d) (c .packet) (view .cells) (v .packet) right in
-    subst (λ (x : Extra). TrueCells sent (keepExtra (c .number) (keptBefore + d) x (keep (c .number) received (keptBefore + d) (c .packet) (view .cells))))
+    subst
+    (λ (x : Extra).
+    TrueCells sent (keepExtra (c .number) (keptBefore + d) x (keep (c .number) received (keptBefore + d) (c .packet) (view .cells))))
     (sym (v .extra))
     (right-from (c .number) (v .settings) (v .before) sent (keptBefore + d) _ first)

@@ -111,7 +111,8 @@ view-at-end s t v begun =
     cond-view (eqb (length begun) 0) (now s) (lineDone (now s)) (now t) (lineDone (now t)) refl refl
 
 -- the last line is done and handed over
-pub complete : {first : View} {session : Lent} {l : List ℕ} {begun : ℕ} {out : List ℕ} {taken handed : ℕ} → SoFar first session l begun taken handed
+pub complete : {first : View} {session : Lent} {l : List ℕ} {begun : ℕ} {out : List ℕ} {taken handed : ℕ}
+    → SoFar first session l begun taken handed
     → {later : Lent} {new : List ℕ} {end after : ℕ} → Ends (goingIn session l begun out 0) out later new end
     → after ≡ (handed + end) % 2 ^ 64 → Complete first later taken after
 complete {first} {session} {l} {begun} {out} far {new = new} {end} e on =
