@@ -72,14 +72,14 @@ pub fn read_first(s: &[u8]) -> FirstRead
     }
     let kind = kind_of(octet);
     let value = octet / 2 % 16;
-    if packets::assigned(kind) <= value {
+    if packet_rules::assigned(kind) <= value {
         return FirstRead::Refused(Refusal::new(Refusal::NOT_ASSIGNED));
     }
     if 0 < octet % 2 {
         return FirstRead::Refused(Refusal::new(Refusal::SPARE_BIT));
     }
     let present = 0 < octet / 128 % 2;
-    if packets::right_fields(kind, present) {
+    if packet_rules::right_fields(kind, present) {
         return FirstRead::First(kind, value, present);
     }
     FirstRead::Refused(Refusal::new(Refusal::WRONG_DATA))
@@ -116,7 +116,7 @@ fn read_header(s: &[u8], p: usize) -> HeaderRead
     let header = bits(s, HEADER_WIDTH, p);
     let kind = (header % 8) as u8;
     let present = 0 < header / 8 % 2;
-    if packets::right_data(kind, present) {
+    if packet_rules::right_data(kind, present) {
         return HeaderRead::Header(kind, present, next);
     }
     HeaderRead::Refused(Refusal::at(Refusal::WRONG_DATA, p / 8))

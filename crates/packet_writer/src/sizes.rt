@@ -106,7 +106,7 @@ fn right_types(types: &[u8], lengths: &[u16]) -> bool
     while i < types.len() {
         let size = wide(lengths[i]);
         let present = 0 < size;
-        if !packets::right_data(types[i], present) {
+        if !packet_rules::right_data(types[i], present) {
             return false;
         }
         i += 1;
@@ -129,7 +129,7 @@ fn one_each(types: &[u8], lengths: &[u16], data: &[u8]) -> bool
 fn all_assigned(kind: Kind, value: u8, types: &[u8]) -> bool
     ensures { λ r. ⌜ r ≡ allAssigned edition98 kind value (now (types .entry)) ⌝ }
 {
-    if value < packets::assigned(kind) {
+    if value < packet_rules::assigned(kind) {
         return all_types(types);
     }
     false
@@ -141,7 +141,7 @@ fn all_right(kind: Kind, types: &[u8], lengths: &[u16]) -> bool
     ensures { λ r. ⌜ r ≡ allRight edition98 kind (now (types .entry)) (now (lengths .entry)) ⌝ }
 {
     let some = 0 < types.len();
-    if packets::right_fields(kind, some) {
+    if packet_rules::right_fields(kind, some) {
         return right_types(types, lengths);
     }
     false

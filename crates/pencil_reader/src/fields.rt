@@ -53,7 +53,7 @@ pub fn header(s: &[u8], at: usize) -> HeaderRead
             Number::Refused(refusal) => HeaderRead::Refused(refusal),
             Number::Found(kind, end) => {
                 let small = (kind % 256) as u8;
-                if packets::right_data(small, present) {
+                if packet_rules::right_data(small, present) {
                     return HeaderRead::Found(small, present, end);
                 }
                 HeaderRead::Refused(Refusal::at(Refusal::WRONG_DATA, item))

@@ -79,7 +79,7 @@ pub fn start(s: &[u8], at: usize) -> First
         First::Found(kind, value, present, next) => match align(s, next) {
             Edge::Refused(refusal) => First::Refused(refusal),
             Edge::Found(edge) => {
-                if packets::right_fields(kind, present) {
+                if packet_rules::right_fields(kind, present) {
                     return First::Found(kind, value, present, edge);
                 }
                 First::Refused(Refusal::at(Refusal::WRONG_DATA, item))

@@ -1,9 +1,9 @@
-// Document 01, 'The packet': what a packet may hold, to the reader and the writer alike.
-use crate::types::Kind;
+// Document 01, 'The packet': what a packet may hold, to the readers, the writer and the joiner alike.
+use packets::Kind;
 ghost use mathlib.Core.Path.{_≡_};
 ghost use Rattle.packets.specs.Edition.{edition98};
 ghost use Rattle.packets.specs.Packet as packet;
 ghost use Rattle.packets.specs.Packet.{rightFields, rightData};
 
 // How many values of a kind are assigned.
 pub fn assigned(kind: Kind) -> u8

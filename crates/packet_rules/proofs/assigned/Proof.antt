@@ -1,7 +1,7 @@
--- `packets::rules::assigned` meets its contract: each arm is one of the definition's cases. Assumes nothing.
+-- `packet_rules::assigned` meets its contract: each arm is one of the definition's cases. Assumes nothing.
 use borrow.Author.Needs.{needs}
-use Rattle.packets.proofs.rules.assigned.Statement.{statement}
-use Rattle.packets.proofs.rules.assigned.Tie as tie
+use Rattle.packet_rules.proofs.assigned.Statement.{statement}
+use Rattle.packet_rules.proofs.assigned.Tie as tie
 
 enum-told : tie.Need-enum-told
 enum-told c = search needs

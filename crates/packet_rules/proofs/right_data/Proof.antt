@@ -1,7 +1,7 @@
--- `packets::rules::right_data` meets its contract. The tests of the type are the definition's. Assumes nothing.
-use Rattle.packets.proofs.Tests.{tests}
-use Rattle.packets.proofs.rules.right_data.Statement.{statement}
-use Rattle.packets.proofs.rules.right_data.Tie as tie
+-- `packet_rules::right_data` meets its contract. The tests of the type are the definition's. Assumes nothing.
+use Rattle.packets.proofs.Laws.{tests}
+use Rattle.packet_rules.proofs.right_data.Statement.{statement}
+use Rattle.packet_rules.proofs.right_data.Tie as tie
 
 returns : tie.Need-returns
 returns c = search tests
