@@ -1,5 +1,6 @@
 #!/usr/bin/env python3
-"""The independent program: answers `calls` lines, or with the argument `program`, `notes` or `handover` does what that program does."""
+"""The independent program: answers `calls` lines, or with the argument `program`, `notes` or `handover` does what that program does;
+`notes` can begin behind so many numbers that were given up."""
 
 import argparse
 import sys
@@ -44,8 +45,8 @@ def main():
     out = sys.stdout.buffer
     if sys.argv[1:] == ['program']:
         play(Program())
-    elif sys.argv[1:] == ['notes']:
-        notes = Notes()
+    elif sys.argv[1:2] == ['notes'] and len(sys.argv) <= 3:
+        notes = Notes(*map(int, sys.argv[2:]))
         play(notes)
         out.writelines(words + b'\n' for words in notes.table())
     elif sys.argv[1:2] == ['handover']:
@@ -56,7 +57,7 @@ def main():
             if line:
                 out.write(calls.answer(line) + b'\n')
     else:
-        sys.exit('usage: independent.py [program | notes | handover [--load FILE] [--save FILE]]')
+        sys.exit('usage: independent.py [program | notes [GIVEN-UP] | handover [--load FILE] [--save FILE]]')
 
 
 if __name__ == '__main__':

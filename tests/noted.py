@@ -139,11 +139,20 @@ def missing(made):
     return [words.strip().decode() for words in every if words not in lines]
 
 
-def found(command, made):
-    """What an input says of a wrong program; nothing if none tells it apart."""
+def behind_give_ups(given, report, results):
+    """How many numbers are given up first, and an input without them, if they are many: one by one they take long."""
+    given_up = len(given) - len(given.lstrip(b'\n'))
+    if given_up < LINES_EACH:
+        return 0, given, report, results
+    return given_up, given[given_up:], text_of(lines_of(report)[given_up:]), results[given_up:]
+
+
+def found(independently, made):
+    """What an input says of a wrong independent program; nothing if none tells it apart."""
     for one in made:
+        given_up, *rest = behind_give_ups(*one)
         try:
-            check(command, *one)
+            check('%s notes %d 2> /dev/null' % (independently, given_up), *rest)
         except Wrong as wrong:
             return str(wrong)
     return ''
@@ -188,8 +197,7 @@ def self_test():
         test.fails('the program, ' + name, words, check, command, given, report, results)
     for name, *edit in REPORT_MUTANTS:
         with tempfile.TemporaryDirectory() as directory:
-            command = make_mutant(pathlib.Path(directory), *edit) + ' notes 2> /dev/null'
-            test.says('a wrong program, ' + name, 'is not the expected one', found(command, made))
+            test.says('a wrong program, ' + name, 'is not the expected one', found(make_mutant(pathlib.Path(directory), *edit), made))
     test.ends('a wrong program', 1, '0 passed, 1 failed', [sys.executable, __file__, '--notes', right + ' | tac'])
     test.ends('no command', 2, 'a command is needed', [sys.executable, __file__])
     test.end()
