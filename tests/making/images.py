@@ -552,7 +552,7 @@ def no_edition(script):
     r = script.random
     any_session(script)
     for _ in range(8):
-        text = changed(script, *r.choice(((), (r.choice(BY_ROWS),), (r.choice(NO_SESSION),), (r.choice(BY_ROWS), r.choice(NO_SESSION)))))
+        text = changed(script, *r.choice(((), (r.choice(BY_ROWS),), (r.choice(NO_SESSION),), (r.choice(NO_SESSION), r.choice(BY_ROWS)))))
         if text is not None:
             edition = r.choice(NO_EDITIONS)
             damage = r.choice((line_missing, line_extra, not_ended, carriage_return, no_digit, odd_digits))
