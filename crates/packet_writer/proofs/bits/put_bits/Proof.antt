@@ -3,8 +3,8 @@
 use native.Mathlib.Omega.{arith}
 use borrow.Author.Needs.{needs}
 use Rattle.packet_writer.proofs.Putting.{puts, power-some, bits-room, bits-small}
-use Rattle.packet_writer.proofs.writer.put_bits.Statement.{statement}
-use Rattle.packet_writer.proofs.writer.put_bits.Tie as tie
+use Rattle.packet_writer.proofs.bits.put_bits.Statement.{statement}
+use Rattle.packet_writer.proofs.bits.put_bits.Tie as tie
 
 power-requires : tie.Need-power-requires
 power-requires c κs = search needs

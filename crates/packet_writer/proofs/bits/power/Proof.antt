@@ -1,8 +1,8 @@
 -- `packet_writer::power` meets its contract. Nothing is shifted out. Assumes nothing.
 use borrow.Author.Needs.{needs}
 use Rattle.packet_writer.proofs.Putting.{numbers}
-use Rattle.packet_writer.proofs.writer.power.Statement.{statement}
-use Rattle.packet_writer.proofs.writer.power.Tie as tie
+use Rattle.packet_writer.proofs.bits.power.Statement.{statement}
+use Rattle.packet_writer.proofs.bits.power.Tie as tie
 
 shl-result : tie.Need-shl-result
 shl-result c = search needs

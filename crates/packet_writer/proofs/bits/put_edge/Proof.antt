@@ -2,8 +2,8 @@
 use native.Mathlib.Omega.{arith}
 use borrow.Author.Needs.{needs}
 use Rattle.packet_writer.proofs.Putting.{puts, edge-room, edge-octet}
-use Rattle.packet_writer.proofs.writer.put_edge.Statement.{statement}
-use Rattle.packet_writer.proofs.writer.put_edge.Tie as tie
+use Rattle.packet_writer.proofs.bits.put_edge.Statement.{statement}
+use Rattle.packet_writer.proofs.bits.put_edge.Tie as tie
 
 returns : tie.Need-returns
 returns c = search puts
