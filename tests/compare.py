@@ -48,10 +48,10 @@ def compare_calls(name, command, script, expected):
 
 
 def never_longer(name, calls, answers):
-    """No packet written (06) is longer than it was while each header had an octet of its own (02, request 2)."""
+    """No packet written (06) in the old edition is longer than it was while each header had an octet of its own (02, request 2)."""
     for call, answer in zip(calls, answers):
-        if call.startswith(b'06') and answer.startswith(b'00'):
-            arguments = Arguments(bytes.fromhex(call.decode())[3:])
+        if call.startswith(b'0600') and answer.startswith(b'00'):
+            arguments = Arguments(bytes.fromhex(call.decode())[4:])
             types, lengths = arguments.numbers(1), arguments.numbers(2)
             before = 1 + (types != []) + sum(1 + (2 + length if length else 0) for length in lengths)
             if int(answer[2:6], 16) > before:
@@ -205,9 +205,9 @@ def self_test():
         running.PATIENCE = patience
     test.fails('a stored answer altered', 'the independent program differs from stored one: answer 2',
                check_stored, 'one', b'00\n01\n', b'00\n02\n')
-    bare = b'06010002020202000000000000000A'
+    bare = b'0600010002020202000000000000000A'
     test.passes('a packet as long as before', never_longer, 'one', [bare], [b'000004C0022020'])
-    test.fails('a packet longer than before', 'longer one: 0601', never_longer, 'one', [b'10', bare], [b'00', b'000005C002202000'])
+    test.fails('a packet longer than before', 'longer one: 060001', never_longer, 'one', [b'10', bare], [b'00', b'000005C002202000'])
     test.ends('a wrong program', 1, '1 passed, 1 failed', [sys.executable, __file__, '--calls', altered('calls 03 -1')])
     test.ends('no command', 2, 'a command is needed', [sys.executable, __file__])
     test.end()

@@ -14,43 +14,48 @@ from joined import put_together
 from making.pieces import damaged, packet_items
 from making.script import Script
 from real import UNLIMITED, Wrong, corpus, must
+from rules.editions import EDITIONS, NEW, OLD
 from rules.packets import PACKET_LIMIT, read_packet, written_packet
 from rules.refusals import Refusal
 from running import around, lines_of, run, text_of
 
 # All that is known of the program's words: the last line of a block, refused or read, with its fields; an item; bits past the end.
+# A packet of the new edition stands behind the word new; of one that only the other edition reads a refusal's words say so.
 REFUSED = re.compile(rb'refused with (?P<number>[0-9]+)( at octet (?P<place>[0-9]+))?: \S.*')
 READS = re.compile(rb'reads as (?P<kind>indicator|data) (?P<value>[0-9]+)\b[^,]*, (?P<count>[0-9]+) fields?(?P<fields>(;.*)?)')
 FIELD = re.compile(rb'; type ([0-9]+)\b[^,]*, ([0-9]+) octets?')
 ITEM = re.compile(rb'octet (?P<octet>[0-9]+) +bit (?P<bit>[0-7]) +(?P<bits>[01]+-*|-+|octets) +\S.*')
 KINDS, REPAIRED, WHOLE, PAST = (b'indicator', b'data'), b'repaired ', b'octets', b'-'
+NAMED = {OLD: b'', NEW: b'new '}
+OTHER = {OLD: b'in the new edition', NEW: b'in the old edition'}
 
 REAL, MADE = 'tt_v17_ecm_v0.a2b', 1000
 
 
 def packets():
-    """Pairs of octets and whether they were repaired: those of the stored cases, made ones, and real ones put together, also damaged."""
+    """Edition, octets and whether they were repaired: those of the stored cases, made ones, and real ones put together, also damaged."""
     script = Script('explain', UNLIMITED)
-    for packet in put_together([read_packet(octets, False) for octets in corpus(REAL)]):
-        script.read(written_packet(packet), 0)
-        script.read(damaged(script.random, packet_items(packet)), script.random.randrange(2))
+    for packet in put_together([read_packet(OLD, octets, False) for octets in corpus(REAL)]):
+        for edition in EDITIONS:
+            script.read(edition, written_packet(edition, packet), 0)
+            script.read(edition, damaged(script.random, packet_items(edition, packet)), script.random.randrange(2))
     lines = [line for _, given, _ in stored('.calls', '.answers') for line in lines_of(given)] + script.lines
     lines += make_script('explain', MADE, PACKETS).lines
-    matches = (re.fullmatch(b'07(00|01)(([0-9A-Fa-f]{2})+)', line) for line in lines)
-    return list(dict.fromkeys((bytes.fromhex(match[2].decode()), match[1] == b'01') for match in matches if match))
+    matches = (re.fullmatch(b'07(00|01)(00|01)(([0-9A-Fa-f]{2})+)', line) for line in lines)
+    return list(dict.fromkeys((int(match[1]), bytes.fromhex(match[3].decode()), match[2] == b'01') for match in matches if match))
 
 
-def line_of(octets, repaired):
+def line_of(edition, octets, repaired):
     """The line that asks for a packet."""
-    return (REPAIRED if repaired else b'') + octets.hex().upper().encode()
+    return NAMED[edition] + (REPAIRED if repaired else b'') + octets.hex().upper().encode()
 
 
-def meant(octets, repaired):
+def meant(edition, octets, repaired):
     """What the independent program answers: kind, value, and type and length of each field, or a refusal's number and place.
 
     A refusal that is not met in reading order, over the packet limit, has none."""
     try:
-        packet = read_packet(octets, repaired)
+        packet = read_packet(edition, octets, repaired)
     except Refusal as refusal:
         return refusal.number, None if len(octets) > PACKET_LIMIT else refusal.place
     return packet.kind, packet.value, [(field_type, len(data)) for field_type, data in packet.fields]
@@ -98,7 +103,10 @@ def judged(written, given):
             ours, theirs = meant(*packet), said(last)
             must(ours == theirs, 'expected %s, told %s', ours, theirs)
             must(items, 'no item')
-            check_items(packet[0], items, is_refusal(ours))
+            check_items(packet[1], items, is_refusal(ours))
+            elsewhere = is_refusal(ours) and not is_refusal(meant(1 - packet[0], *packet[1:]))
+            must((OTHER[packet[0]] in last) == elsewhere, '%s the other edition reads it: %s', 'unsaid that' if elsewhere else 'said that',
+                 around(last, 0))
         except Wrong as wrong:
             raise Wrong('block %d, %s: %s' % (number, around(line_of(*packet), 0), wrong))
     must(len(blocks) == len(given), '%d blocks in place of %d', len(blocks), len(given))
@@ -116,8 +124,9 @@ def check(command, given):
 def self_test():
     """Wrong explanations, and what is said of each; the right ones pass."""
     test = Cases('explained.py')
-    given = [(b'\x06', False), (b'\xC0\x80\x01', False), (b'\x06\0\0', True), (b'\xC0\x01\x80\0\0\xAA', True),
-             (b'\x06' * (PACKET_LIMIT + 1), False)]
+    given = [(OLD, b'\x06', False), (OLD, b'\xC0\x80\x01', False), (OLD, b'\x06\0\0', True), (OLD, b'\xC0\x01\x80\0\0\xAA', True),
+             (OLD, b'\x06' * (PACKET_LIMIT + 1), False), (NEW, b'\x20\0', False), (OLD, b'\x20\0', False),
+             (NEW, b'\xC0\x01\xE0\0\0\xAA', True)]
     right = b'''octet 0   bit 0  0000011           all but the last
 octet 0   bit 7  0                 the last
 reads as indicator 3 (one), 0 fields
@@ -138,6 +147,17 @@ reads as data 0 (another), 1 field; type 0 (one), 1 octet
 
 octet 0   bit 0  octets            the packet
 refused with 4: others
+
+octet 0   bit 0  0010000000        an added value
+octet 1   bit 2  000000            up to the edge
+reads as indicator 16 (one), 0 fields
+
+octet 0   bit 0  001               an extension
+refused with 12 at octet 0: words; it reads in the new edition
+
+octet 0   bit 0  octets            all
+octet 2   bit 0  111               a header
+refused with 12 at octet 2: words; it reads in the old edition
 '''
     test.passes('as it should be', judged, right, given)
     for name, old, new, words in (
@@ -167,11 +187,17 @@ refused with 4: others
             ('an item further on', b'octet 1   bit 0  octets            the rest', b'octet 2   bit 0  octets  rest', 'does not follow on'),
             ('an item within an octet', b'octet 5   bit 0  10101010', b'octet 5   bit 1  0101010', 'does not follow on'),
             ('another bit', b'1000000000000001', b'1000000000000000', 'block 2, C08001: other bits than the packet: octet 1   bit 0'),
+            ('the other edition not told', b'; it reads in the new edition', b'', 'block 7, 2000: unsaid that the other edition reads'),
+            ('the other edition not told of a new one', b'; it reads in the old edition', b'',
+             'block 8, new repaired C001E00000AA: unsaid that the other edition reads it: '),
+            ('the other edition told though it refuses', b'1: words', b'1: in the new edition', 'block 2, C08001: said that the other'),
+            ('the other edition told though this one reads', b'indicator 16 (one)', b'indicator 16 (in the old edition)',
+             'block 6, new 2000: said that the other'),
             ('a bit past the end', b'  10101010  ', b'  101010100  ', 'block 4, repaired C001800000AA: other bits than the packet'),
             ('the end left out', b'  10101010  ', b'  1010101  ', 'ends at bit 47 of 48: octet 5   bit 0')):
         assert right.count(old) == 1, name
         test.fails(name, words, judged, right.replace(old, new), given)
-    test.fails('a block more', '5 blocks in place of 4', judged, right, given[:4])
+    test.fails('a block more', '8 blocks in place of 4', judged, right, given[:4])
     test.fails('no last line feed', 'the last line has no line feed', judged, right[:-1], given)
     test.fails('status 3', 'it does not end well: status 3', check, 'exit 3', given)
     test.ends('a wrong program', 1, '0 passed, 1 failed', [sys.executable, __file__, '--explain', 'echo refused with 1'])

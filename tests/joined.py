@@ -11,6 +11,7 @@ from making.script import Script
 from real import UNLIMITED, as_expected, conversation, corpus, must, octets_of, settings_text, written_by
 from rules.datagrams import PARITY, SPARES
 from rules.joining import ADDING, ENDING_A_TAINT, FRAME_LIMIT, GOOD, HANDED_OUT
+from rules.editions import OLD
 from rules.packets import FIELDS_LIMIT, PACKET_LIMIT, Packet, read_packet, written_packet
 
 RECORDED = ('tt_v17_ecm_v0.a2b', 'tt_v17_ecm_v0.b2a')  # calls whose frames were recorded where the fax machine sent them
@@ -56,7 +57,7 @@ def put_together(packets):
     for packet in packets:
         if changed and packet.fields and changed[-1].fields and packet.value == changed[-1].value:
             both = packet._replace(fields=changed[-1].fields + packet.fields)
-            if len(both.fields) <= FIELDS_LIMIT and len(written_packet(both)) <= PACKET_LIMIT:
+            if len(both.fields) <= FIELDS_LIMIT and len(written_packet(OLD, both)) <= PACKET_LIMIT:
                 changed[-1] = both
                 continue
         changed.append(packet)
@@ -126,7 +127,7 @@ def as_recorded(name, sent):
 
 def clean_call(command, name, checked):
     """A call of which nothing is lost: its frames are those that were recorded, if any were."""
-    packets = [read_packet(octets, False) for octets in corpus(name)]
+    packets = [read_packet(OLD, octets, False) for octets in corpus(name)]
     rows = [packet.fields for packet in (with_checks(packets) if checked else packets)]
     lost = set()
     if name in CUT_OFF:
@@ -139,7 +140,7 @@ def clean_call(command, name, checked):
 
 def bad_line(command, name, settings, loss, packed=lambda packets: packets):
     """A call with frame checks through both sessions; what is released is read and joined, and what is given up is a lost number."""
-    packets = packed(with_checks([read_packet(octets, False) for octets in corpus(name)]))
+    packets = packed(with_checks([read_packet(OLD, octets, False) for octets in corpus(name)]))
     lost, released = set(), []
 
     def taken(script, answer):
@@ -150,11 +151,11 @@ def bad_line(command, name, settings, loss, packed=lambda packets: packets):
         else:
             repaired = answer[1] == REPAIRED
             octets = answer[8:8 + int.from_bytes(answer[6:8], 'big')]
-            script.read(octets, repaired)
-            feed(script, [read_packet(octets, repaired).fields], ())
+            script.read(OLD, octets, repaired)
+            feed(script, [read_packet(OLD, octets, repaired).fields], ())
         released.append(answer)
 
-    script = conversation(name, [written_packet(packet) for packet in packets], settings, loss, taken)
+    script = conversation(name, [written_packet(OLD, packet) for packet in packets], settings, loss, taken)
     said = check_frames(command, script, frames_left([packet.fields for packet in packets], lost), True)
     return '%s, %d numbers lost' % (said, len(lost))
 

@@ -20,6 +20,7 @@ import running
 
 from compare import (CALL_SEEDS, FRAME_SEEDS, IMAGE_SEEDS, PACKET_SEEDS, PROGRAM_SEEDS, REPLAY_SEEDS, Failed, made_calls, made_frames,
                      made_images, made_lines, made_packets, made_replays, stored)
+from edition_mutants import EDITION_MUTANTS
 from failing import Cases
 from format_mutants import DATAGRAM_MUTANTS, PACKET_MUTANTS
 from image_mutants import IMAGE_MUTANTS
@@ -33,8 +34,8 @@ from session_mutants import SESSION_MUTANTS
 
 HERE = pathlib.Path(__file__).resolve().parent
 MUTANTS = {kind: rows + PLACE_MUTANTS.get(kind, ()) + NOTE_MUTANTS.get(kind, ()) for kind, rows in (
-    ('calls', DATAGRAM_MUTANTS + SESSION_MUTANTS), ('packets', PACKET_MUTANTS + PENCIL_MUTANTS), ('joiner', JOINER_MUTANTS),
-    ('replays', REPLAY_MUTANTS), ('images', IMAGE_MUTANTS), ('program', PROGRAM_MUTANTS))}
+    ('calls', DATAGRAM_MUTANTS + SESSION_MUTANTS), ('packets', PACKET_MUTANTS + PENCIL_MUTANTS + EDITION_MUTANTS),
+    ('joiner', JOINER_MUTANTS), ('replays', REPLAY_MUTANTS), ('images', IMAGE_MUTANTS), ('program', PROGRAM_MUTANTS))}
 SEEDS = {'calls': CALL_SEEDS, 'packets': PACKET_SEEDS, 'joiner': FRAME_SEEDS, 'replays': REPLAY_SEEDS, 'images': IMAGE_SEEDS,
          'program': PROGRAM_SEEDS}
 
@@ -204,7 +205,8 @@ def self_test():
     SEEDS.update(dict.fromkeys(SEEDS, 1))
     test.passes('a wrong program', try_all, {'calls': DATAGRAM_MUTANTS[:1]})
     for kind, name, old, new in (('calls', 'lengths', 'first >= 0xC0', 'first > 0xBF'),
-                                 ('packets', 'packets', 'items.bits(count) for count in (1, 3)', 'items.bits(1 + 2 * at) for at in (0, 1)'),
+                                 ('packets', 'packets', 'items.bits(count) for count in (1, 1)', 'items.bits(1) for _ in range(2)'),
+                                 ('packets', 'editions', 'self.last > self.last_of_root', 'self.last != self.last_of_root'),
                                  ('packets', 'pencil', 'self.place >= len(self.row)', 'self.place == len(self.row)'),
                                  ('joiner', 'joining', 'len(whole) > FRAME_LIMIT', 'len(whole) >= FRAME_LIMIT + 1'),
                                  ('replays', 'replaying', 'number in numbers', 'number in set(numbers)'),

@@ -30,7 +30,7 @@ REFUSED = re.compile(rb'line (?P<line>[0-9]+): refused with (?P<number>[0-9]+)( 
 TOTAL = re.compile(rb'saved by spares (?P<spares>[0-9]+), by parity (?P<parity>[0-9]+)')
 ROW = re.compile(rb'(?P<name>distance (?P<distance>[0-9]+)|behind): spares (?P<spares>[0-9]+), parity (?P<parity>[0-9]+)')
 KINDS = b'received', b'spare, from', b'repaired, with', b'lost'
-SEEDS, WRAP, LIMIT = 2, 65536 - 20, 1000000 - 50
+SEEDS, WRAP, LIMIT = 3, 65536 - 20, 1000000 - 50
 
 
 def late_line(name, loss):

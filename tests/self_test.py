@@ -69,11 +69,11 @@ def of_generate(test):
             ('the joiner', FRAMES, 20, '3000 310000 310001 310002 31FF0C 31FF0D 31FF0E 31FF11 31FF12 3200 32FF11 330000 330001 3400 34EE'),
             ('datagrams', (single.datagrams_read, placed.datagrams), 40,
              '0300 03FF01 03FF01+ 03FF02 03FF03+ 03FF04+ 03FF05+ 03FF06+ 1000 11FF01 11FF01+ 11FF03+ 11FF04+ 11FF05+ 11FF06+'),
-            ('packets', PACKETS, 60, '0500 05FF01 05FF01+ 05FF03+ 05FF04 05FF04+ 05FF05 05FF05+ 05FF06+ 05FF0C 05FF0E 05FF0E+ '
-             '0600 06FF04 06FF0C 06FF0D 06FF0E 06FF0F '
-             '0700 07FF01 07FF01+ 07FF03+ 07FF04 07FF04+ 07FF05 07FF05+ 07FF06+ 07FF0C 07FF0E 07FF0E+'),
+            ('packets', PACKETS, 60, '0500 05FF01 05FF01+ 05FF03+ 05FF04 05FF04+ 05FF05 05FF05+ 05FF06+ 05FF0C 05FF0C+ 05FF0E 05FF0E+ '
+             '05FF0F 0600 06FF04 06FF0C 06FF0D 06FF0E 06FF0F '
+             '0700 07FF01 07FF01+ 07FF03+ 07FF04 07FF04+ 07FF05 07FF05+ 07FF06+ 07FF0C 07FF0C+ 07FF0E 07FF0E+ 07FF0F'),
             ('replays', REPLAYS, 5, '4000 40EE 40FF0D'), ('images', IMAGES, 30, '1800 18EE 18FF0D 18FF11 1900 19EE 19FF11 19FF14 19FF15')):
-        test.says('every answer on ' + name, every, answers_met(scenes, {REPLAYS: 300, IMAGES: 1000}.get(scenes, 1500)))
+        test.says('every answer on ' + name, every, answers_met(scenes, {REPLAYS: 300}.get(scenes, 1500)))
         test.fails('a short script on ' + name, 'NOT CAUGHT by inner: one: ' + every, Cases('inner').says, 'one', every,
                    answers_met(scenes, short))
     every = ('received: own | repaired: ahead | repaired: ahead over 65,535 | repaired: behind | repaired: behind over 65,535 | '
@@ -82,7 +82,7 @@ def of_generate(test):
     test.fails('a short script on notes', 'NOT CAUGHT by inner: one: ' + every, Cases('inner').says, 'one', every, notes_met(60))
     script = Script('0', 2)
     script.calls.by_first_octet[0x07] = lambda arguments: Refusal(SPARE_BIT).octets()
-    test.fails('two readers that differ', "b'050006' is read as b'00000300', by 07 as b'FF050000'", script.read, b'\x06', 0)
+    test.fails('two readers that differ', "b'05000006' is read as b'00000300', by 07 as b'FF050000'", script.read, 0, b'\x06', 0)
     test.fails('a refusal at another place', 'answered ff010003, and the items tell ff010002', placed.met,
                Refusal(ENDS, 3).octets(), Refusal(ENDS, 2))
     script = Script('0', UNLIMITED)

@@ -14,6 +14,7 @@ from real import UNLIMITED, Wrong, as_expected, conversation, corpus, must, octe
 from released import check_conversation, check_results, heard, replayed, through_the_program
 from rules.arguments import shown, sized
 from rules.datagrams import PARITY, SPARES, read_datagram
+from rules.editions import EDITIONS, OLD
 from rules.packets import read_packet, written_packet
 from running import left_out
 
@@ -39,12 +40,10 @@ def datagram_back(script, octets):
                 b''.join(shown(len(item), 2) for item in given.items), sized(b''.join(given.items)), shown(len(octets), 2))
 
 
-def packet_back(script, octets):
+def packet_back(script, octets, edition=OLD):
     """A packet is read by both readers (05, 07) and written again (06)."""
-    kind, value, fields = read_packet(octets, False)
-    script.read(octets, 0)
-    script.call(0x06, bytes([kind, value, len(fields)] + [field_type for field_type, _ in fields] + [len(fields)]),
-                b''.join(shown(len(data), 2) for _, data in fields), sized(b''.join(data for _, data in fields)), shown(len(octets), 2))
+    script.read(edition, octets, 0)
+    script.write(edition, read_packet(edition, octets, False), len(octets))
 
 
 def datagrams_back(command, name):
@@ -61,28 +60,32 @@ def packets_back(command, name):
 
 
 def put_together_back(command, name):
-    """The same of real packets put together, as many fields in each as it holds."""
-    packets = joined.put_together([read_packet(octets, False) for octets in corpus(name)])
-    all_back(command, name, [written_packet(packet) for packet in packets])
+    """The same of real packets put together, as many fields in each as it holds, in each edition."""
+    packets = joined.put_together([read_packet(OLD, octets, False) for octets in corpus(name)])
+    for edition in EDITIONS:
+        all_back(command, name, [written_packet(edition, packet) for packet in packets], edition)
     return '%d packets in place of %d' % (len(packets), len(corpus(name)))
 
 
 def damaged_read(command, name):
-    """Real packets put together and then damaged, read by both readers as received and as repaired; how many of them still read."""
+    """Real packets put together and then damaged, read by both readers as received and as repaired, in each edition.
+
+    How many of them still read."""
     script = Script(name, UNLIMITED)
-    for packet in joined.put_together([read_packet(octets, False) for octets in corpus(name)]):
-        octets = damaged(script.random, packet_items(packet))
-        script.read(octets, 0)
-        script.read(octets, 1)
+    for packet in joined.put_together([read_packet(OLD, octets, False) for octets in corpus(name)]):
+        for edition in EDITIONS:
+            octets = damaged(script.random, packet_items(edition, packet))
+            script.read(edition, octets, 0)
+            script.read(edition, octets, 1)
     as_expected(script.answers, written_by(command, script.lines, script.answers))
     return '%d of %d calls refused' % (sum(answer.startswith(b'FF') for answer in script.answers), len(script.answers))
 
 
-def all_back(command, name, packets):
+def all_back(command, name, packets, edition=OLD):
     """Packets are read and written back as the same octets."""
     script = Script(name, UNLIMITED)
     for octets in packets:
-        packet_back(script, octets)
+        packet_back(script, octets, edition)
     written_back(script, command, packets)
 
 

@@ -1,25 +1,26 @@
 """Scenes with the joiner: rows of fields with losses, frames near 300 octets, wrong fields, joiners outside their ranges."""
 
 from rules.joining import ADDING, ENDING_A_TAINT, FRAME_LIMIT
-from rules.packets import PACKET_LIMIT, WITH_DATA
+from rules.packets import PACKET_LIMIT
 
 from . import pieces
 
+DROPPING, ADDED_TOO = (6, 7), (6, 7, 8, 9, 10, 11)  # types that drop what is open and end no taint, without and with the added ones
 ANY_LENGTH = (1, 1, 2, 3, 7, 255, PACKET_LIMIT - 1, PACKET_LIMIT, PACKET_LIMIT + 1, 299, 300, 301, 400, 556)
 
 
 def data_for(r, field_type, small=0.8):
     """Data as a field of this type must have it, of a field within a packet or longer."""
-    if field_type not in WITH_DATA and (field_type != 7 or r.random() < 0.5):
+    if not pieces.may_have_data(r, field_type):
         return b''
     return pieces.octets(r, r.randrange(1, 9) if r.random() < small else r.choice(ANY_LENGTH))
 
 
-def frame(r, small):
+def frame(r, small, dropping=DROPPING):
     """The fields of one frame as a sender gives them: data, now and then what drops it, and its end."""
     fields = [(ADDING, data_for(r, ADDING, small)) for _ in range(r.choice((0, 1, 1, 2, 3, 6)))]
     if r.random() < 0.15:
-        other = r.choice((6, 7))
+        other = r.choice(dropping)
         fields.insert(r.randrange(len(fields) + 1), (other, data_for(r, other, small)))
     return fields + [(r.choice((1, 2, 2, 2, 3, 4, 4, 5)), b'')]
 
@@ -50,7 +51,7 @@ def honest_row(script):
     r = script.random
     script.call(0x30)
     small, loss = r.choice((1.0, 0.9, 0.6)), r.choice((0, 0.1, 0.3))
-    fields = [field for _ in range(r.choice((3, 6, 10))) for field in frame(r, small)]
+    fields = [field for _ in range(r.choice((3, 6, 10))) for field in frame(r, small, ADDED_TOO)]
     for packet in packets_of(r, fields):
         if script.chance(loss):
             script.lost()
@@ -67,7 +68,7 @@ def any_fields(script):
     for _ in range(14):
         if script.chance(0.15):
             script.lost()
-        field_type = r.choice((0, 0, 0, 1, 2, 3, 4, 5, 6, 7, 7, 8, 9, 15, 128, 130, 255))
+        field_type = r.choice((0, 0, 0, 1, 2, 3, 4, 5, 6, 7, 7, 8, 9, 10, 11, 11, 12, 15, 128, 130, 255))
         data = r.choice((data_for(r, field_type), b'', pieces.octets(r, r.choice(ANY_LENGTH))))
         script.field(field_type, data, r.choice((0, 0, 1, 8, FRAME_LIMIT)))
         script.look_at_joiner(0.4)
@@ -84,8 +85,8 @@ def near_the_limit(script):
         left -= size
     script.look_at_joiner()
     for _ in range(r.randrange(3)):
-        field_type = r.choice((0, 0, 6, 7))
-        script.field(field_type, pieces.octets(r, r.choice((1, 2, 300, 301, 600))) if field_type != 7 else b'', 0)
+        field_type = r.choice((0, 0) + ADDED_TOO)
+        script.field(field_type, pieces.octets(r, r.choice((1, 2, 300, 301, 600))) if field_type not in (7, 11) else b'', 0)
         script.look_at_joiner(0.5)
     end = r.choice((1, 2, 3, 4, 5))
     length = script.joiner.frame.length
@@ -112,7 +113,7 @@ def tainted(script):
         script.field(ADDING, pieces.octets(r, r.choice((1, 5, 300))))
     script.lost()
     for _ in range(r.choice((0, 2, 4, 8))):
-        field_type = r.choice((0, 0, 0, 6, 6, 7, 8, 255) + ENDING_A_TAINT)
+        field_type = r.choice((0, 0, 0, 6, 12, 255) + ADDED_TOO + ENDING_A_TAINT)
         if field_type in ENDING_A_TAINT:
             data = b'\x00'
         else:
@@ -161,7 +162,7 @@ def outside(script):
         wrong, right = broken(script)
         script.overwrite_joiner(*wrong)
         assert not script.joiner.in_ranges()
-        for field_type in r.sample((0, 0, 1, 2, 3, 4, 5, 6, 7, 8, 255), 2):
+        for field_type in r.sample((0, 0, 1, 2, 3, 4, 5, 6, 7, 8, 11, 12, 255), 2):
             script.field(field_type, r.choice((data_for(r, field_type), b'', pieces.octets(r, 301))), r.choice((0, 2, FRAME_LIMIT)))
         script.lost()
         script.look_at_joiner()

@@ -2,8 +2,9 @@
 
 from rules.arguments import shown
 from rules.datagrams import DATAGRAM_LIMIT, PARITY, SPARES, Datagram
+from rules.editions import DATA_PACKET, EDITIONS, INDICATOR, WITH_DATA, WITHOUT_DATA
 from rules.lengths import written_length
-from rules.packets import DATA_PACKET, INDICATOR, PACKET_LIMIT, WITH_DATA, Packet, written_packet
+from rules.packets import PACKET_LIMIT, Packet, in_bits, to_edge, written_packet, written_value
 
 EDGES = (1, 2, 3, 126, 127, 128, 129, 160, 161, PACKET_LIMIT - 2, PACKET_LIMIT - 1, PACKET_LIMIT)  # 160 was the limit before request 10
 LENGTH_FORMS = tuple(bytes.fromhex(text) for text in (
@@ -30,15 +31,31 @@ def opaque(r, small=0.6):
     return octets(r, length(r, small))
 
 
-def packet(r):
-    """A packet within its rules."""
+def edition(r):
+    """An edition, the old or the new."""
+    return r.choice(tuple(EDITIONS))
+
+
+def assigned(r, values):
+    """One of the values that are assigned; half of the time an added one, if there is any."""
+    return r.randrange(values.last_of_root + 1, values.last + 1) if values.extended and r.random() < 0.5 else r.randrange(values.last + 1)
+
+
+def may_have_data(r, field_type):
+    """Whether a field of this type has data: if it must, and half of the time if it may."""
+    return field_type in WITH_DATA or field_type not in WITHOUT_DATA and r.random() < 0.5
+
+
+def packet(r, named):
+    """A packet within the rules of the edition that is named."""
+    values, types = EDITIONS[named]
     if r.random() < 0.25:
-        return Packet(INDICATOR, r.randrange(16), ())
-    given = Packet(DATA_PACKET, r.randrange(9), ())
+        return Packet(INDICATOR, assigned(r, values[INDICATOR]), ())
+    given = Packet(DATA_PACKET, assigned(r, values[DATA_PACKET]), ())
     for _ in range(r.choice((0, 1, 1, 1, 2, 2, 3, 4, 8, 15, 16))):
-        kind = r.randrange(8)
-        has_data = kind in WITH_DATA or kind == 7 and r.random() < 0.5
-        room = PACKET_LIMIT - len(written_packet(with_field(given, kind, bytes(has_data))))
+        kind = assigned(r, types)
+        has_data = may_have_data(r, kind)
+        room = PACKET_LIMIT - len(written_packet(named, with_field(given, kind, bytes(has_data))))
         if room < 0:
             break
         most = min(room, r.choice((2, 8, PACKET_LIMIT)))
@@ -52,9 +69,10 @@ def with_field(given, kind, data):
     return given._replace(fields=given.fields + ((kind, data),))
 
 
-def fax_packet(r):
-    """The octets of a packet within its rules."""
-    return written_packet(packet(r))
+def fax_packet(r, named=None):
+    """The octets of a packet within the rules of an edition, of either if none is named."""
+    named = edition(r) if named is None else named
+    return written_packet(named, packet(r, named))
 
 
 def datagram(r, number, small=0.6, packet_of=opaque):
@@ -72,34 +90,41 @@ def message(r, small=0.6):
 
 
 def datagram_items(given):
-    """A datagram as a row of pairs: what an item is, and its hexadecimal digits."""
-    row = [('number', b'%04X' % given.number)] + sized_items(given.packet) + [('kind', b'%02X' % given.kind)]
+    """A datagram as a row of pairs: what an item is, and its bits."""
+    row = [('number', in_bits(shown(given.number, 2)))] + sized_items(given.packet) + [('kind', in_bits([given.kind]))]
     if given.kind == PARITY:
-        row += [('one', b'01'), ('n', b'%02X' % given.n)]
-    row.append(('length', digits(written_length(len(given.items)))))
+        row += [('one', in_bits([1])), ('n', in_bits([given.n]))]
+    row.append(('length', in_bits(written_length(len(given.items)))))
     return row + [item for piece in given.items for item in sized_items(piece)]
 
 
 def sized_items(piece):
     """A length and the octets that it promises."""
-    return [('length', digits(written_length(len(piece)))), ('octets', digits(piece))]
+    return [('length', in_bits(written_length(len(piece)))), ('octets', in_bits(piece))]
 
 
-def packet_items(given):
-    """A packet as a row of pairs, likewise; a header is one digit, and padding, which goes to an octet's edge, another."""
-    row = [('first', digits(written_packet(given)[:1]))]
+def packet_items(named, given):
+    """A packet of an edition as a row of pairs, likewise; padding, which goes to an octet's edge, is an item of its own."""
+    values, types = EDITIONS[named]
+    row = padded([('first', '{:b}{:b}'.format(given.fields != (), given.kind) + written_value(given.value, values[given.kind]))])
     if given.fields:
-        row.append(('count', digits(written_length(len(given.fields)))))
+        row.append(('count', in_bits(written_length(len(given.fields)))))
     for kind, data in given.fields:
-        row.append(('header', b'%X' % (8 * (data != b'') + kind)))
+        row.append(('header', header(types, kind, data != b'')))
         if data:
-            row = to_edge(row) + [('size', b'%04X' % (len(data) - 1)), ('octets', digits(data))]
-    return to_edge(row)
+            row = padded(row) + [('size', in_bits(shown(len(data) - 1, 2))), ('octets', in_bits(data))]
+    return padded(row)
 
 
-def to_edge(row):
+def header(types, field_type, has_data):
+    """The bits of a field's header."""
+    return '{:b}'.format(has_data) + written_value(field_type, types)
+
+
+def padded(row):
     """A row with padding, if it ends within an octet."""
-    return row + [('padding', b'0')] * (len(joined(row)) % 2)
+    left = -len(joined(row)) % 8
+    return row + [('padding', '0' * left)] if left else row
 
 
 def digits(given):
@@ -107,19 +132,36 @@ def digits(given):
     return given.hex().upper().encode()
 
 
+def octets_of(bits):
+    """Bits as octets; what is missing to an octet is zeros."""
+    bits = to_edge(bits)
+    return bytes(int(bits[at:at + 8], 2) for at in range(0, len(bits), 8))
+
+
 def joined(row):
-    """The digits of a row."""
-    return b''.join(item for _, item in row)
+    """The bits of a row."""
+    return ''.join(item for _, item in row)
+
+
+def flipped(bits, *places):
+    """Bits, those at these places the other way round."""
+    return ''.join(str(1 - int(bit)) if at in places else bit for at, bit in enumerate(bits))
 
 
 def changed(r, role, item):
-    """An item's digits with something changed, mostly so that it meets an edge of its own rule."""
+    """An item's bits with something changed, mostly so that it meets an edge of its own rule."""
+    if role == 'first':
+        anything = ''.join(r.choice('01') for _ in item)
+        return r.choice((flipped(item, r.randrange(len(item))), flipped(item, r.randrange(len(item))), flipped(item, 2), anything))
     if role == 'header':
-        header = b'%X' % (int(item, 16) ^ r.choice((8, 8, 8, 7, 1, 2, 6, 9, 15)))
-        return r.choice((header, header, header, item + b'0', b''))
+        places = r.choice(((0,), (0,), (0,), (1,), (2,), (1, 2), range(1, len(item)), (0, r.randrange(len(item))), range(len(item))))
+        other = flipped(item, *places)
+        return r.choice((other, other, other, item + '0000', item + '0', item[:-1], '', flipped(item, r.randrange(len(item)))))
     if role == 'padding':
-        return r.choice((b'1', b'2', b'4', b'8', b'F', b'%X' % r.randrange(1, 16), b'', b'000'))
-    return digits(changed_octets(r, role, bytes.fromhex(item.decode())))
+        anything = ''.join(r.choice('01') for _ in item)
+        one = flipped(item, r.randrange(len(item)))
+        return r.choice((flipped(item, 0), flipped(item, len(item) - 1), one, anything, '', item + '0' * 8))
+    return in_bits(changed_octets(r, role, octets_of(item)))
 
 
 def changed_octets(r, role, item):
@@ -135,8 +177,6 @@ def changed_octets(r, role, item):
     if role == 'size':
         return r.choice((b'\xFF\xFF', b'\x00\x00', item[:1], bytes([item[0], (item[1] + 1) % 256]), bytes([item[0], (item[1] - 1) % 256]),
                          *(shown(PACKET_LIMIT + step, 2) for step in (-1, 0, 1))))
-    if role == 'first':
-        return bytes([item[0] ^ 1 << r.randrange(8)]) if r.random() < 0.7 else bytes([r.randrange(256)])
     return r.choice((item[:-1], item + b'\x00', item[:len(item) // 2], b''))
 
 
@@ -148,7 +188,9 @@ def damaged(r, row):
         row[at] = row[at][0], changed(r, *row[at])
         if r.random() < 0.2:
             row = row[:at + 1]
-    whole = bytes.fromhex((joined(row) + r.choice((b'0', b'0', b'%X' % r.randrange(16))) * (len(joined(row)) % 2)).decode())
+    bits = joined(row)
+    ending = ''.join(r.choice('01') for _ in range(-len(bits) % 8)) if r.random() < 0.4 else ''
+    whole = octets_of(bits + ending)
     ending = r.random()
     if ending < 0.15:
         return whole[:r.randrange(len(whole) + 1)]

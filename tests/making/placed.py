@@ -4,67 +4,76 @@ The row of items tells which refusal is met, and at which octet its item begins;
 
 from rules.arguments import shown
 from rules.datagrams import DATAGRAM_LIMIT, PARITY
+from rules.editions import EDITIONS, INDICATOR, WITH_DATA, WITHOUT_DATA
 from rules.lengths import written_length
-from rules.packets import PACKET_LIMIT
+from rules.packets import PACKET_LIMIT, in_bits, written_value
 from rules.refusals import DATA, ENDS, FORM, LEFT_OVER, NOT_ASSIGNED, SIZE, SPARE_BIT, Refusal
 
 from . import pieces
 from .packed import packet_in_runs
 
-WRONG_FORMS = (b'C0', b'FF', b'8000', b'807F')
-TOO_LONG = pieces.digits(written_length(PACKET_LIMIT + 1))
-FIRST_TOO_LONG = pieces.digits(shown(PACKET_LIMIT, 2))  # where a length minus one stands
-WRONG_FIRST = (b'D2', NOT_ASSIGNED), (b'D3', NOT_ASSIGNED), (b'A1', NOT_ASSIGNED), (b'81', SPARE_BIT), (b'8C', DATA)
-WITH_DATA_MISPLACED, DATA_MISSING = (0x9, 0xA, 0xB, 0xC, 0xD), (0x0, 0x6)
+WRONG_FORMS = (b'\xC0', b'\xFF', b'\x80\x00', b'\x80\x7F')
+TOO_LONG = written_length(PACKET_LIMIT + 1)
+FIRST_TOO_LONG = shown(PACKET_LIMIT, 2)  # where a length minus one stands
+UNASSIGNED_KIND = '1101001'  # data 9, in either edition
 
 
 def placed(row):
-    """A row of items as triples: role, digits, and how many digits stand before."""
+    """A row of items as triples: role, bits, and how many bits stand before."""
     at = 0
     for role, item in row:
         yield role, item, at
         at += len(item)
 
 
-def octets_of(text):
-    """Digits as octets; half an octet at the end is filled up with zeros."""
-    return bytes.fromhex((text + b'0' * (len(text) % 2)).decode())
-
-
 def cut(row, length):
     """The first octets of a row, so many, and what is met there: 1 at the item that does not end within them."""
-    begins = next(at for _, item, at in placed(row) if at + len(item) > 2 * length)
-    return octets_of(pieces.joined(row))[:length], Refusal(ENDS, begins // 2)
+    begins = next(at for _, item, at in placed(row) if at + len(item) > 8 * length)
+    return pieces.octets_of(pieces.joined(row))[:length], Refusal(ENDS, begins // 8)
 
 
 def with_wrong(row, at, wrong, number):
-    """The octets of a row with other digits for an item, and what is met there: the refusal of this number at its first octet."""
+    """The octets of a row with other bits for an item, and what is met there: the refusal of this number at its first octet."""
     before = pieces.joined(row[:at])
-    return octets_of(before + wrong + pieces.joined(row[at + 1:])), Refusal(number, len(before) // 2)
+    return pieces.octets_of(before + wrong + pieces.joined(row[at + 1:])), Refusal(number, len(before) // 8)
 
 
 def wrong_in_datagram(r, row, at, most):
-    """Wrong digits for an item of a datagram, and the refusal's number; None if the item cannot be wrong. A count may be so many."""
+    """Wrong octets for an item of a datagram, and the refusal's number. A count may be so many."""
     role = row[at][0]
     if role == 'length':
         count = sum(other == 'length' for other, _ in row[:at]) == 1
-        too_great = b'%02X' % r.choice((most + 1, 0x7F)) if count else TOO_LONG
-        return r.choice(((r.choice(WRONG_FORMS), FORM), (r.choice((too_great, b'BFFF')), SIZE)))
+        too_great = bytes([r.choice((most + 1, 0x7F))]) if count else TOO_LONG
+        return r.choice(((r.choice(WRONG_FORMS), FORM), (r.choice((too_great, b'\xBF\xFF')), SIZE)))
     if role == 'kind':
-        return b'%02X' % (int(row[at][1], 16) | r.choice((0x01, 0x40, 0x7F))), SPARE_BIT
-    return {'one': (r.choice((b'00', b'02', b'81')), SIZE), 'n': (r.choice((b'00', b'09', b'80', b'FF')), SIZE)}.get(role)
+        return bytes([int(row[at][1], 2) | r.choice((0x01, 0x40, 0x7F))]), SPARE_BIT
+    return bytes([r.choice((0, 2, 0x81) if role == 'one' else (0, 9, 0x80, 0xFF))]), SIZE
 
 
-def wrong_in_packet(r, row, at):
-    """Wrong digits for an item of a packet, and the refusal's number; None if the item cannot be wrong."""
+def wrong_in_packet(r, named, row, at):
+    """Wrong bits for an item of a packet of an edition, and the refusal's number."""
     role, item = row[at]
+    values, types = EDITIONS[named]
     if role == 'first':
-        first = int(item, 16)
-        return r.choice(((b'%02X' % (first | 0x20), NOT_ASSIGNED), (b'%02X' % (first | 1), SPARE_BIT)) + WRONG_FIRST)
+        indicator = '10' + written_value(pieces.assigned(r, values[INDICATOR]), values[INDICATOR])
+        indicator += '0' * (-len(indicator) % 8)
+        added = item[:2] + not_assigned(r, values[int(item[1])])
+        return r.choice(((UNASSIGNED_KIND, NOT_ASSIGNED), (indicator, DATA), (added, NOT_ASSIGNED)))
     if role == 'header':
-        return b'%X' % r.choice(WITH_DATA_MISPLACED + DATA_MISSING), DATA
-    return {'count': r.choice(((r.choice(WRONG_FORMS), FORM), (r.choice((b'00', b'11', b'8080')), SIZE))),
-            'padding': (b'%X' % r.randrange(1, 16), SPARE_BIT), 'size': (r.choice((FIRST_TOO_LONG, b'FFFF')), SIZE)}.get(role)
+        field_type, has_data = r.choice([(one, one in WITHOUT_DATA) for one in WITHOUT_DATA + WITH_DATA if one <= types.last])
+        wrong = pieces.header(types, field_type, has_data), DATA
+        return r.choice((wrong, (r.choice('01') + not_assigned(r, types), NOT_ASSIGNED))) if types.extended else wrong
+    if role == 'padding':
+        return '{:0{}b}'.format(r.randrange(1, 1 << len(item)), len(item)), SPARE_BIT
+    octets, number = {'count': r.choice(((r.choice(WRONG_FORMS), FORM), (r.choice((b'\x00', b'\x11', b'\x80\x80')), SIZE))),
+                      'size': (r.choice((FIRST_TOO_LONG, b'\xFF\xFF')), SIZE)}[role]
+    return in_bits(octets), number
+
+
+def not_assigned(r, values):
+    """The bits of an added value that is none: in the old edition any, else with a one where the zero stands, or past the last."""
+    last = values.last - values.last_of_root
+    return r.choice(('11' + '{:06b}'.format(r.randrange(64)), '10{:06b}'.format(r.choice((last, last + 1, r.randrange(last, 64), 63)))))
 
 
 def met(answer, refusal):
@@ -79,11 +88,12 @@ def datagrams(script):
     for _ in range(3):
         given = pieces.datagram(r, r.randrange(32), 0.9)
         row = pieces.datagram_items(given)
-        whole = octets_of(pieces.joined(row))
+        whole = pieces.octets_of(pieces.joined(row))
         tries = [cut(row, length) for length in r.sample(range(len(whole)), min(len(whole), 4))]
         places = [at for at, (role, _) in enumerate(row) if role not in ('number', 'octets')]
         for at in r.sample(places, min(len(places), 4)):
-            tries.append(with_wrong(row, at, *wrong_in_datagram(r, row, at, 4 if given.kind == PARITY else 8)))
+            octets, number = wrong_in_datagram(r, row, at, 4 if given.kind == PARITY else 8)
+            tries.append(with_wrong(row, at, in_bits(octets), number))
         tries.append((whole + r.choice((b'\x00', b'\x01', bytes(9))), Refusal(LEFT_OVER, len(whole))))
         for octets, refusal in tries:
             if len(octets) <= DATAGRAM_LIMIT:
@@ -93,16 +103,17 @@ def datagrams(script):
 
 
 def packets(script):
-    """The same of packets, read by both readers; a repaired one that goes on does so with zeros first."""
+    """The same of packets of each edition, read by both readers; a repaired one that goes on does so with zeros first."""
     r = script.random
     for _ in range(4):
-        row = pieces.packet_items(r.choice((packet_in_runs(r), packet_in_runs(r), pieces.packet(r))))
-        whole = octets_of(pieces.joined(row))
+        named = pieces.edition(r)
+        row = pieces.packet_items(named, r.choice((packet_in_runs(r, named), packet_in_runs(r, named), pieces.packet(r, named))))
+        whole = pieces.octets_of(pieces.joined(row))
         tries = [cut(row, length) for length in r.sample(range(len(whole)), min(len(whole), 3))]
         places = [at for at, (role, _) in enumerate(row) if role != 'octets']
         for at in r.sample(places, min(len(places), 4)):
-            tries.append(with_wrong(row, at, *wrong_in_packet(r, row, at)))
+            tries.append(with_wrong(row, at, *wrong_in_packet(r, named, row, at)))
         tries.append((whole + bytes(r.choice((0, 0, 1, 5))) + b'\x01', Refusal(LEFT_OVER, len(whole))))
         for octets, refusal in tries:
             if len(octets) <= PACKET_LIMIT:
-                met(script.read(octets, r.randrange(2)), refusal)
+                met(script.read(named, octets, r.randrange(2)), refusal)

@@ -54,13 +54,20 @@ class Script:
         text = text if self.random.random() < 0.05 else text.upper()
         return bytes.fromhex(self.line(text.encode()).decode())
 
-    def read(self, octets, ending):
+    def read(self, edition, octets, ending):
         """05, and 07 with the rest of the line the same, which must be answered alike; the answer."""
-        answer = self.call(0x05, bytes([ending]), octets)
+        answer = self.call(0x05, bytes([edition, ending]), octets)
         line, first = self.lines[-1], self.answers[-1]
         second = self.line(b'07' + line[2:])
         assert second == first, '%s is read as %s, by 07 as %s' % (line, first, second)
         return answer
+
+    def write(self, edition, packet, cap):
+        """06: the answer, and the packet's octets if it was written."""
+        kind, value, fields = packet
+        answer = self.call(0x06, bytes([edition, kind, value, len(fields)] + [one for one, _ in fields] + [len(fields)]),
+                           b''.join(shown(len(data), 2) for _, data in fields), sized(b''.join(data for _, data in fields)), shown(cap, 2))
+        return answer, answer[3:3 + int.from_bytes(answer[1:3], 'big')] if answer[0] == 0 else None
 
     def offer(self, octets):
         """11."""

@@ -27,7 +27,7 @@ def shown_counts(counts):
 
 def packet_read(reader, arguments):
     """The answer of a reader of packets."""
-    repaired = arguments.one_of(0, 1)
-    packet = reader(arguments.rest(), repaired)
+    edition, repaired = arguments.number(1), arguments.one_of(0, 1)
+    packet = reader(edition, arguments.rest(), repaired)
     return (bytes([0, packet.kind, packet.value, len(packet.fields)])
             + b''.join(shown(field_type, 1) + sized(data) for field_type, data in packet.fields))

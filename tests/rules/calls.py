@@ -5,11 +5,12 @@ import binascii
 from .answers import lent, packet_read, shown_counts, stored
 from .arguments import Arguments, NoCall, shown, sized
 from .datagrams import M_LIMIT, PARITY, SPARES, read_datagram, write_datagram
+from .editions import DATA_PACKET, INDICATOR
 from .images import read_image, write_image
 from .joining import Joiner
 from .lengths import read_length, write_length
 from .overwriting import overwrite_joiner, overwrite_receiving, overwrite_sending
-from .packets import DATA_PACKET, INDICATOR, read_packet, write_packet
+from .packets import read_packet, write_packet
 from .pencil import read_by_bits
 from .receiving import AFTER, BEFORE, RECEIVED, Receiving
 from .refusals import Refusal
@@ -93,10 +94,10 @@ class Calls:
 
     def write_packet(self, arguments):
         """06."""
-        kind, value = arguments.one_of(INDICATOR, DATA_PACKET), arguments.number(1)
+        edition, kind, value = arguments.number(1), arguments.one_of(INDICATOR, DATA_PACKET), arguments.number(1)
         types, lengths, data = arguments.numbers(1), arguments.numbers(2), arguments.sized()
         cap = arguments.last_cap()
-        return lent(cap, lambda: (b'', write_packet(kind, value, types, lengths, data, cap)))
+        return lent(cap, lambda: (b'', write_packet(edition, kind, value, types, lengths, data, cap)))
 
     def fresh_receiving(self, arguments):
         """10."""

@@ -1,11 +1,12 @@
 """The joiner (02, request 1): fields and lost numbers in, one at a time; whole HDLC frames out."""
 
-from .packets import LAST_TYPE, data_misplaced
+from .editions import EDITIONS, NEW, data_misplaced
 from .refusals import DATA, FRAME, NOT_ASSIGNED, RANGES, Refusal, must_fit, refuse_if
 from .stored import Stored
 
 FRAME_LIMIT = 300
 NOTHING, GOOD, BAD = range(3)
+LAST_TYPE = EDITIONS[NEW].types.last  # those that the new edition has added are as 6 (02, request 11)
 ADDING = 0
 HANDED_OUT = {2: GOOD, 3: BAD, 4: GOOD, 5: BAD}
 ENDING_A_TAINT = (1, 2, 3, 4, 5)

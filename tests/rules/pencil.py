@@ -1,8 +1,10 @@
 """The second reader (02, request 4): a packet taken one bit at a time, with a function for each production of the ASN.1.
 
-Of the first reader it has the sizes, the values assigned, and where data must and may be; it reads no octet as a whole."""
+Of the first reader it has the sizes, the values assigned in each edition, and where data must and may be; it reads no octet as a
+whole."""
 
-from .packets import FIELDS_LIMIT, INDICATOR, LAST_VALUE, PACKET_LIMIT, Packet, data_misplaced
+from .editions import INDICATOR, data_misplaced, edition_of
+from .packets import FIELDS_LIMIT, PACKET_LIMIT, Packet
 from .refusals import DATA, ENDS, FORM, LEFT_OVER, NOT_ASSIGNED, SIZE, SPARE_BIT, refuse_if
 
 
@@ -42,15 +44,16 @@ class Bits:
             self.refuse_if(self.bit(), SPARE_BIT)
 
 
-def read_by_bits(octets, repaired):
+def read_by_bits(edition, octets, repaired):
     """IFPPacket: a bit that tells whether the data-field is there, type-of-msg, data-field; a repaired one may go on with zeros."""
+    assigned = edition_of(edition)
     refuse_if(len(octets) > PACKET_LIMIT, SIZE)
     bits = Bits(octets)
     present = bits.bit()
-    kind, value = type_of_msg(bits)
+    kind, value = type_of_msg(bits, assigned.values)
     bits.align()
-    bits.refuse_if(present and kind == INDICATOR, DATA)
-    fields = data_field(bits) if present else ()
+    refuse_if(present and kind == INDICATOR, DATA)
+    fields = data_field(bits, assigned.types) if present else ()
     bits.align()
     bits.item()
     while bits.place < len(bits.row):
@@ -58,20 +61,32 @@ def read_by_bits(octets, repaired):
     return Packet(kind, value, fields)
 
 
-def type_of_msg(bits):
-    """Type-of-msg: a bit that chooses t30-indicator or t30-data, then an extension bit and the value in four."""
+def type_of_msg(bits, values):
+    """Type-of-msg: a bit that chooses t30-indicator or t30-data, then its value."""
     kind = bits.bit()
+    return kind, enumerated(bits, values[kind])
+
+
+def enumerated(bits, assigned):
+    """ENUMERATED: where there is an extension marker, a bit that tells whether the value stands behind it; before it, a few bits.
+
+    Behind it the number is a small one, a zero bit and six bits, counted from the marker; the old edition has nothing there."""
+    if not assigned.extensible or not bits.bit():
+        value = bits.bits(assigned.bits)
+        bits.refuse_if(value > assigned.last_of_root, NOT_ASSIGNED)
+        return value
+    bits.refuse_if(not assigned.extended, NOT_ASSIGNED)
     bits.refuse_if(bits.bit(), NOT_ASSIGNED)
-    value = bits.bits(4)
-    bits.refuse_if(value > LAST_VALUE[kind], NOT_ASSIGNED)
-    return kind, value
+    value = assigned.added(bits.bits(6))
+    bits.refuse_if(value > assigned.last, NOT_ASSIGNED)
+    return value
 
 
-def data_field(bits):
+def data_field(bits, types):
     """Data-Field: a count at an octet's edge, then that many fields."""
     count = count_of_fields(bits)
     bits.refuse_if(not 1 <= count <= FIELDS_LIMIT, SIZE)
-    return tuple(field(bits) for _ in range(count))
+    return tuple(field(bits, types) for _ in range(count))
 
 
 def count_of_fields(bits):
@@ -85,11 +100,11 @@ def count_of_fields(bits):
     return value
 
 
-def field(bits):
-    """A field: a header, which is a bit that tells whether field-data is there and field-type in three bits; then field-data."""
+def field(bits, types):
+    """A field: a header, which is a bit that tells whether field-data is there and field-type; then field-data."""
     bits.item()
     present = bits.bit()
-    field_type = bits.bits(3)
+    field_type = enumerated(bits, types)
     bits.refuse_if(data_misplaced(field_type, present), DATA)
     return field_type, field_data(bits) if present else b''
 

@@ -132,16 +132,16 @@ fn kind_octet(kind: packets::Kind) -> usize {
     }
 }
 
-// What a reader finds in a packet: the quick one for line 05, the second one for 07.
-fn packet_found(call: u8, s: &[u8], ending: Ending) -> PacketRead {
+// What a reader finds in a packet of the edition that an octet names: the quick one for line 05, the second one for 07.
+fn packet_found(call: u8, edition: u8, s: &[u8], ending: Ending) -> PacketRead {
     if call == 0x05 {
-        return packet_reader::read(s, ending);
+        return packet_reader::read(edition, s, ending);
     }
-    pencil_reader::read(s, ending)
+    pencil_reader::read(edition, s, ending)
 }
 
-fn say_packet(call: u8, s: &[u8], ending: Ending) {
-    let found = packet_found(call, s, ending);
+fn say_packet(call: u8, edition: u8, s: &[u8], ending: Ending) {
+    let found = packet_found(call, edition, s, ending);
     let fields = found.fields;
     let reading = found.reading;
     match reading {
@@ -154,17 +154,18 @@ fn say_packet(call: u8, s: &[u8], ending: Ending) {
     }
 }
 
-// 05 and 07: a packet, as it was received or repaired.
+// 05 and 07: a packet, by its edition and as it was received or repaired.
 fn read_packet(call: u8, s: &[u8]) {
     let mut at = 0;
+    let edition = octet(s, &mut at);
     let ending = octet(s, &mut at);
     if s.len() < at {
         return say_no_call();
     }
     let packet = part(s, at, s.len() - at);
     match ending {
-        0 => say_packet(call, packet, Ending::Whole),
-        1 => say_packet(call, packet, Ending::Repaired),
+        0 => say_packet(call, edition, packet, Ending::Whole),
+        1 => say_packet(call, edition, packet, Ending::Repaired),
         _ => say_no_call(),
     }
 }
@@ -176,10 +177,11 @@ fn packet_kind(kind: u8) -> packets::Kind {
     packets::Kind::Data
 }
 
-// 06: a packet.
+// 06: a packet, by its edition.
 fn write_packet(s: &[u8], lent: &mut [u8]) {
     let mut lengths = [0u16; 256];
     let mut at = 0;
+    let edition = octet(s, &mut at);
     let kind = octet(s, &mut at);
     let value = octet(s, &mut at);
     let types = sized(s, &mut at, 1);
@@ -187,7 +189,15 @@ fn write_packet(s: &[u8], lent: &mut [u8]) {
     let data = sized(s, &mut at, 2);
     if (kind < 2) & (at == s.len()) {
         let listed = first(&lengths, count);
-        let answer = packet_writer::write(packet_kind(kind), value, types, listed, data, lent);
+        let answer = packet_writer::write(
+            edition,
+            packet_kind(kind),
+            value,
+            types,
+            listed,
+            data,
+            lent,
+        );
         return say_written(answer, 2, lent);
     }
     say_no_call()

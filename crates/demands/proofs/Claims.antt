@@ -1,4 +1,5 @@
 -- The demands, each proved in its file. Assumes nothing.
+use Rattle.packets.proofs.Claims as packets
 use Rattle.sending.proofs.Claims as sending
 use Rattle.frames.proofs.Claims as frames
 use Rattle.frame_feed.proofs.Claims as frameFeed
@@ -41,4 +42,5 @@ claims =
       handover = handover.handover;
       editions = editions.editions;
       fits = fits.fits;
+      bothEditions = packets.claims .plainAlike;
     }

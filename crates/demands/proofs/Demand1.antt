@@ -12,9 +12,11 @@ use Rattle.lengths.specs.Length.{lengthOctets, lengthWriterRows, lengthToWrite}
 use Rattle.lengths.proofs.Laws.{fitted-first, puts-refusal, size-refusal}
 use Rattle.datagrams.specs.Write.{carriedOf, datagramOctets, datagramWriterRows, datagramToWrite}
 use Rattle.datagrams.specs.declared.kind.Kind.{Kind}
-use Rattle.packets.specs.Edition.{edition98}
+use Rattle.packets.specs.Edition.{Edition, editionOf, ofChoice}
 use Rattle.packets.specs.Write.{packetOctets, packetWriterRows, packetToWrite}
+use Rattle.packets.specs.declared.types.Choice.{Choice}
 use Rattle.packets.specs.declared.types.Kind as packets
+use Rattle.packets.specs.declared.types.Named.{Named}
 use Rattle.sending.specs.Sending.{Sending}
 use Rattle.sending.specs.Send.{carriedNext}
 use Rattle.sending.specs.Sender.{sendingOf}
@@ -22,6 +24,7 @@ use Rattle.sending.specs.Promise.{senderRows, toSend, StateAfter}
 use Rattle.sending.specs.declared.Sender.{Sender}
 use Rattle.sending.specs.declared.Settings.{Settings}
 use Rattle.lines.specs.Hex.{octetsIn, lineRows, lineOctets}
+use Rattle.demands.specs.NamedEdition.{Names, packetBy}
 use Rattle.demands.specs.Demand1 as demand
 use Rattle.demands.specs.Demand1.{Unchanged, Writers, Demand1}
 use Rattle.demands.proofs.OfferReads.{offer-reads}
@@ -42,13 +45,23 @@ unfolding datagramToWrite
 datagram-writer number packet kind lengths run old =
     fitted-first (datagramWriterRows packet kind lengths run) (datagramOctets (carriedOf number packet kind lengths run)) old
 
-packet-writer : (kind : packets.Kind) (value : ℕ) (types lengths octets old : List ℕ)
-    → refusalIn (fitted (packetToWrite edition98 kind value types lengths octets) old)
+packet-writer : (edition : Edition) (kind : packets.Kind) (value : ℕ) (types lengths octets old : List ℕ)
+    → refusalIn (fitted (packetToWrite edition kind value types lengths octets) old)
     ≡ first
-    (packetWriterRows edition98 kind value types lengths octets ++ roomRow (packetOctets edition98 kind value types lengths octets) old)
+    (packetWriterRows edition kind value types lengths octets ++ roomRow (packetOctets edition kind value types lengths octets) old)
 unfolding packetToWrite
-packet-writer kind value types lengths octets old =
-    fitted-first (packetWriterRows edition98 kind value types lengths octets) (packetOctets edition98 kind value types lengths octets) old
+packet-writer edition kind value types lengths octets old =
+    fitted-first (packetWriterRows edition kind value types lengths octets) (packetOctets edition kind value types lengths octets) old
+
+-- of an octet that names an edition
+packet-by : (octet : ℕ) (named : Named) → Names octet named → (kind : packets.Kind) (value : ℕ) (types lengths octets old : List ℕ)
+    → refusalIn (fitted (packetBy octet kind value types lengths octets) old)
+    ≡ first
+    (packetWriterRows (editionOf named) kind value types lengths octets
+    ++ roomRow (packetOctets (editionOf named) kind value types lengths octets) old)
+packet-by octet named names kind value types lengths octets old =
+    ap (λ (c : Choice). refusalIn (fitted (ofChoice c (λ (e : Edition). packetToWrite e kind value types lengths octets)) old)) names
+    ∙ packet-writer (editionOf named) kind value types lengths octets old
 
 line-writer : (line old : List ℕ) → refusalIn (fitted (lineOctets line) old) ≡ first (lineRows line ++ roomRow (octetsIn line) old)
 unfolding lineOctets
@@ -67,11 +80,12 @@ writers =
     record {
       length = λ n {old} p. puts-refusal p ∙ length-writer n old;
       datagram = λ number packet kind lengths run {old} p. puts-refusal p ∙ datagram-writer number packet kind lengths run old;
-      packet = λ kind value types lengths octets {old} p. puts-refusal p ∙ packet-writer kind value types lengths octets old;
+      packet = λ octet named names kind value types lengths octets {old} p.
+          puts-refusal p ∙ packet-by octet named names kind value types lengths octets old;
       line = λ line {old} p. puts-refusal p ∙ line-writer line old;
       lengthUnchanged = λ n. puts-unchanged (lengthToWrite n);
       datagramUnchanged = λ number packet kind lengths run. puts-unchanged (datagramToWrite number packet kind lengths run);
-      packetUnchanged = λ kind value types lengths octets. puts-unchanged (packetToWrite edition98 kind value types lengths octets);
+      packetUnchanged = λ octet kind value types lengths octets. puts-unchanged (packetBy octet kind value types lengths octets);
       lineUnchanged = λ line. puts-unchanged (lineOctets line);
     }
 

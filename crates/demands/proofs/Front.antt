@@ -18,10 +18,12 @@ use Rattle.lengths.specs.Claims.{Octets}
 use Rattle.lengths.proofs.Laws.{octets-cons, octets-none}
 use Rattle.formats.specs.Places.{Place}
 use Rattle.datagrams.specs.Sizes.{packetLimit}
-use Rattle.packets.specs.Edition.{edition98}
+use Rattle.packets.specs.Edition.{Edition, editionOf}
 use Rattle.packets.specs.Packet.{every, allZero, readPacket}
+use Rattle.packets.specs.declared.types.Named.{Named}
 use Rattle.packets.specs.declared.types.Ending.{Ending}
 use Rattle.packets.specs.declared.types.Ending.the-variants.{Whole, Repaired}
+use Rattle.packets.proofs.Laws.{narrow}
 use Rattle.demands.specs.PacketItems.{end, octetsFrom, Due}
 use Rattle.demands.specs.PacketRefusals.{FirstWrong}
 use Rattle.demands.proofs.PacketRows.{not-both}
@@ -41,29 +43,29 @@ octets-front [] more octets = octets-none
 octets-front (a ∷ w) more octets = octets-cons a w (octets 0) (octets-front w more (λ i. octets (suc i)))
 
 -- the octets up to the packet's end, and so many zeros
-pub record InFront (s : List ℕ) : Type 0 where
+pub record InFront (edition : Edition) (s : List ℕ) : Type 0 where
   pub front : List ℕ
   pub zeros : ℕ
   pub is : s ≡ front ++ replicate zeros 0
   pub fits : length s ≤ packetLimit
   pub octets : Octets s → Octets front
-  pub reads : refusalIn (readPacket edition98 Whole front) ≡ none
+  pub reads : refusalIn (readPacket edition Whole front) ≡ none
 
-within-limit : (ending : Ending) (s : List ℕ) → refusalIn (readPacket edition98 ending s) ≡ none → length s ≤ packetLimit
-within-limit ending s e = by (below-or-not packetLimit (length s)) where
+within-limit : (edition : Edition) (ending : Ending) (s : List ℕ) → refusalIn (readPacket edition ending s) ≡ none → length s ≤ packetLimit
+within-limit edition ending s e = by (below-or-not packetLimit (length s)) where
   by : (packetLimit < length s) ⊎ (length s ≤ packetLimit) → length s ≤ packetLimit
-  by (inl over) = absurd (not-both e (over-limit ending s over))
+  by (inl over) = absurd (not-both e (over-limit edition ending s over))
   by (inr fits) = fits
 
-ends-there : (w : List ℕ) → Due w (8 * length w) end → Ended Whole w
+ends-there : {edition : Edition} (w : List ℕ) → Due edition w (8 * length w) end → Ended edition Whole w
 ends-there w due =
     let nothing : length (octetsFrom w (8 * length w)) ≡ 0 = omega (arith, length-drop (8 * length w / 8) w) in
     record { place = 8 * length w; due = due; follows = eq-eqb (length (octetsFrom w (8 * length w))) 0 nothing }
 
-pub repaired-front : (s : List ℕ) → refusalIn (readPacket edition98 Repaired s) ≡ none → InFront s
-repaired-front s e =
-    let fits = within-limit Repaired s e in
-    let t = passed-ended Repaired s fits .0 e in
+pub repaired-front : (named : Named) (s : List ℕ) → refusalIn (readPacket (editionOf named) Repaired s) ≡ none → InFront (editionOf named) s
+repaired-front named s e =
+    let fits = within-limit (editionOf named) Repaired s e in
+    let t = passed-ended named Repaired s fits .0 e in
     let p = t .place in
     let edge = due-end (t .due) in
     let inside = due-inside (t .due) in
@@ -72,18 +74,20 @@ repaired-front s e =
     let whole : take (p / 8) s ++ drop (p / 8) s ≡ s = take-append-drop (p / 8) s in
     let long : length (take (p / 8) s) ≡ p / 8 = length-take-le (p / 8) s (omega arith) in
     let there : p ≡ 8 * length (take (p / 8) s) = omega arith in
-    let due : Due w (8 * length w) end =
-    subst (λ (q : Place). Due w q end) there
-    (kept w more p (omega arith) (in-front Whole w more (subst (λ (l : List ℕ). Due l p end) (sym whole) (t .due)))) in
+    let due : Due (editionOf named) w (8 * length w) end =
+    subst (λ (q : Place). Due (editionOf named) w q end) there
+    (kept w more p (omega arith)
+    (in-front (narrow named) Whole w more (subst (λ (l : List ℕ). Due (editionOf named) l p end) (sym whole) (t .due)))) in
     record {
       front = w;
       zeros = length more;
       is = sym whole ∙ ap (λ (l : List ℕ). w ++ l) (zeros-only more (t .follows));
       fits = fits;
       octets = λ octets. octets-front w more (subst Octets (sym whole) octets);
-      reads = passed-ended Whole w (omega arith) .1 (ends-there w due);
+      reads = passed-ended named Whole w (omega arith) .1 (ends-there w due);
     } where
-      kept : (w more : List ℕ) (p : Place) → p ≤ 8 * length w → Due w p end ⊎ ((8 * length w < p) × FirstWrong Whole w endsEarly)
-          → Due w p end
+      kept : (w more : List ℕ) (p : Place) → p ≤ 8 * length w
+          → Due (editionOf named) w p end ⊎ ((8 * length w < p) × FirstWrong (editionOf named) Whole w endsEarly)
+          → Due (editionOf named) w p end
       kept w more p low (inl due) = due
       kept w more p low (inr behind) = absurd (omega (arith, behind .0))

@@ -4,8 +4,6 @@ use mathlib.Core.List.{List}
 use Rattle.lengths.specs.Answers.{Answer}
 use Rattle.lengths.specs.Length.{lengthToWrite}
 use Rattle.datagrams.specs.Write.{datagramToWrite}
-use Rattle.packets.specs.Edition.{edition98}
-use Rattle.packets.specs.Write.{packetToWrite}
 use Rattle.images.specs.Layout.{editionWritten}
 use Rattle.images.specs.Image.{imageToWrite}
 use Rattle.lengths.proofs.Claims as lengths
@@ -17,6 +15,7 @@ use Rattle.lines.proofs.Claims as lines
 use Rattle.frames.proofs.Claims as frames
 use Rattle.frame_feed.proofs.Claims as frameFeed
 use Rattle.replays.proofs.Claims as replays
+use Rattle.demands.specs.NamedEdition.{packetBy}
 use Rattle.demands.specs.OneOutcome.{OneWrite, OneOutcome}
 use Rattle.demands.proofs.OneTold.{one-told}
 use Rattle.demands.proofs.OneInside.{one-inside}
@@ -31,12 +30,12 @@ one-outcome =
       lengths = lengths.claims .oneOutcome;
       datagrams = datagrams.claims .oneOutcome;
       packets = packets.claims .oneOutcome;
-      secondReader = λ ending s r q a b. packets.claims .oneOutcome .read a b;
+      secondReader = λ octet ending s r q a b. packets.claims .oneOutcome .read a b;
       writers =
           record {
             length = λ n. one-write (lengthToWrite n);
             datagram = λ number packet kind lengths run. one-write (datagramToWrite number packet kind lengths run);
-            packet = λ kind value types lengths octets. one-write (packetToWrite edition98 kind value types lengths octets);
+            packet = λ octet kind value types lengths octets. one-write (packetBy octet kind value types lengths octets);
             image = λ session. one-write (imageToWrite editionWritten session);
           };
       receiver = sessions.claims .oneOutcome;

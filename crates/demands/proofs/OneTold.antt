@@ -54,7 +54,9 @@ by-packets =
       fieldsLeast = told-one;
       fieldsLimit = told-one;
       typesLimit = told-one;
-      assigned = λ kind. told-one;
+      choiceOf = λ octet. told-one;
+      values = λ named kind. told-one;
+      types = λ named. told-one;
       rightFields = λ kind present. told-one;
       rightData = λ kind present. told-one;
     }

@@ -7,65 +7,33 @@ use mathlib.Core.Logic.{_⊎_, inl, inr, _≢_}
 use mathlib.Core.Bool.{Bool, true, false, not, _&&_}
 use mathlib.Core.List.{List, [], _∷_, _++_}
 use mathlib.Core.Option.{Option, none, some}
-use lib.ListN.{length, getD, length-append, length-drop, List·getD-append}
-use lib.Seq.{drop-append-le}
+use lib.ListN.{length, getD, length-drop}
 use lib.Dec.{leb, ltb}
 use native.Mathlib.Omega.{arith}
-use borrow.Author.Tests.{lt-ltb, le-ltb}
+use borrow.Author.Tests.{lt-ltb, le-ltb, ltb-false}
 use Rattle.octets.proofs.Laws.{below-or-not}
-use Rattle.lengths.specs.Refusals.{endsEarly, badForm, outsideSizes}
+use Rattle.lengths.specs.Refusals.{endsEarly, badForm, outsideSizes, wrongData}
 use Rattle.lengths.specs.Length.{ofTwo, within}
 use Rattle.lengths.specs.Tables.{when, first}
-use Rattle.formats.specs.Spelling.{gap}
 use Rattle.formats.specs.Places.{Place}
-use Rattle.formats.proofs.Laws.{bits-more, gap-past}
+use Rattle.packets.specs.Edition.{Edition, values}
 use Rattle.packets.specs.Packet.{fieldsLeast, fieldsLimit}
-use Rattle.packets.specs.Inner.Octets.{headerWidth}
+use Rattle.packets.specs.Inner.Octets.{NarrowEdition, kindOf}
+use Rattle.packets.specs.declared.types.Kind.{Kind}
 use Rattle.packets.specs.declared.types.Ending.{Ending}
 use Rattle.packets.specs.declared.types.Ending.the-variants.{Whole}
 use Rattle.demands.specs.Refusals.{lengthRows}
-use Rattle.demands.specs.PacketItems.{Item, firstOctet, countOfFields, header, padding, dataLength, fieldData, end, rows}
-use Rattle.demands.specs.PacketItems.{octetsFrom, ends, dueAfter, Due, begins, goesOn}
-use Rattle.demands.specs.PacketRefusals.{FirstWrong}
-use Rattle.demands.proofs.PacketRows.{given-row, not-both}
-use Rattle.demands.proofs.PacketPlaces.{Standing, stands, ends-on, countRows, count-rows, passed-count, count-passes, due-inside}
-use Rattle.demands.proofs.PacketPlaces.{ends-inside}
-
--- ---- an item in a front
-module _ (w more : List ℕ) (p : Place) where
-  pub from-front : p ≤ 8 * length w → octetsFrom (w ++ more) p ≡ octetsFrom w p ++ more
-  from-front inside = drop-append-le (p / 8) w more (omega arith)
-
-  octet-front : (i : ℕ) → p + 8 * i + 8 ≤ 8 * length w → getD (octetsFrom (w ++ more) p) i 0 ≡ getD (octetsFrom w p) i 0
-  octet-front i inside =
-      ap (λ (l : List ℕ). getD l i 0) (from-front (omega arith))
-      ∙ List·getD-append (octetsFrom w p) more 0 i (omega (arith, length-drop (p / 8) w))
-
-  cut-front : (q : Place) → q ≤ 8 * length w → ltb (8 * length (w ++ more)) q ≡ ltb (8 * length w) q
-  cut-front q inside = le-ltb (8 * length (w ++ more)) q (omega (arith, length-append w more)) ∙ sym (le-ltb (8 * length w) q inside)
-
-  pub after-front : (item : Item) → p ≤ 8 * length w → ends item p ≤ 8 * length w → dueAfter item (w ++ more) p ≡ dueAfter item w p
-  after-front firstOctet begun inside = rw (octet-front 0 (omega arith))
-  after-front countOfFields begun inside = rw (octet-front 0 (omega arith))
-  after-front (header left) begun inside = rw (bits-more headerWidth w more p (omega arith) (omega arith))
-  after-front (padding next) begun inside = refl
-  after-front (dataLength left) begun inside = rw (octet-front 0 (omega arith), octet-front 1 (omega arith))
-  after-front (fieldData size left) begun inside = refl
-  after-front end begun inside = refl
-
-  -- the count and the end look further
-  rows-front : (ending : Ending) (item : Item) → p ≤ 8 * length w → ends item p ≤ 8 * length w
-      → (item ≡ end) ⊎ ((item ≡ countOfFields) ⊎ (rows ending item (w ++ more) p ≡ rows ending item w p))
-  unfolding rows
-  rows-front ending firstOctet begun inside = inr (inr (rw (cut-front (p + 8) inside, octet-front 0 (omega arith))))
-  rows-front ending countOfFields begun inside = inr (inl refl)
-  rows-front ending (header left) begun inside =
-      inr (inr (rw (cut-front (p + 4) inside, bits-more headerWidth w more p (omega arith) (omega arith))))
-  rows-front ending (padding next) begun inside = inr (inr (rw (bits-more (gap p) w more p (omega arith) (omega (arith, gap-past p)))))
-  rows-front ending (dataLength left) begun inside =
-      inr (inr (rw (cut-front (p + 16) inside, octet-front 0 (omega arith), octet-front 1 (omega arith))))
-  rows-front ending (fieldData size left) begun inside = inr (inr (rw (cut-front (p + 8 * size) inside)))
-  rows-front ending end begun inside = inl refl
+use Rattle.demands.specs.PacketItems.{Item, firstValue, fieldsAllowed, countOfFields, header, padding, dataLength, fieldData, end}
+use Rattle.demands.specs.PacketItems.{rows, valueEnds, valueRows, octetsFrom, firstValues, dataFits, ends, dueAfter, Due, begins}
+use Rattle.demands.specs.PacketItems.{goesOn}
+use Rattle.demands.specs.PacketRefusals.{FirstWrong, CutValue}
+use Rattle.demands.proofs.PacketRows.{not-both, given-row, not-cut, first-front, first-later, both-none}
+use Rattle.demands.proofs.PacketPlaces.{Standing, stands, value-inside, ends-on, countRows, count-rows, passed-count, count-passes}
+use Rattle.demands.proofs.PacketPlaces.{due-inside}
+use Rattle.demands.proofs.PacketValues.{cut-rows}
+use Rattle.demands.proofs.PacketCutValues.{short-cut, whole-cut, value-stays}
+use Rattle.demands.proofs.PacketInFront.{from-front, octet-front, kind-front, ends-there, ends-here, after-front, fits-front}
+use Rattle.demands.proofs.PacketInFront.{item-rows}
 
 -- ---- more octets after an item that is not cut short
 -- a count cut after its first octet: if that is not refused with 1, the second octet does not matter
@@ -94,95 +62,180 @@ count-stays (a ∷ b ∷ rest) more apart =
       le-ltb (length (a ∷ b ∷ rest)) 2 (omega arith),
     )
 
--- an item in a front that is not cut short there: its table gives the same with octets more. (The end is never cut short)
-pub same-first : (ending : Ending) (item : Item) (w more : List ℕ) (p : Place) → Standing item p → p ≤ 8 * length w
-    → first (rows ending item w p) ≢ some endsEarly
-    → (item ≡ end) ⊎ (first (rows ending item (w ++ more) p) ≡ first (rows ending item w p))
-same-first ending item w more p at begun apart =
-    by (rows-front w more p ending item begun (ends-inside ending item w p at begun apart)) where
-      count : (item ≡ countOfFields) → first (rows ending item (w ++ more) p) ≡ first (rows ending item w p)
-      count is =
-          let there : first (countRows (octetsFrom w p)) ≢ some endsEarly =
-          λ e. apart (ap (λ (i : Item). first (rows ending i w p)) is ∙ ap first (count-rows ending w p) ∙ e) in
-          ap (λ (i : Item). first (rows ending i (w ++ more) p)) is ∙ ap first (count-rows ending (w ++ more) p)
-          ∙ ap (λ (l : List ℕ). first (countRows l)) (from-front w more p begun)
-          ∙ count-stays (octetsFrom w p) more there
-          ∙ sym (ap (λ (i : Item). first (rows ending i w p)) is ∙ ap first (count-rows ending w p))
+-- a value, and a header
+first-stays : {edition : Edition} → NarrowEdition edition → (ending : Ending) (w more : List ℕ) (p : Place)
+    → first (rows edition ending firstValue w p) ≢ some endsEarly
+    → first (rows edition ending firstValue (w ++ more) p) ≡ first (rows edition ending firstValue w p)
+unfolding rows
+first-stays {edition} narrow ending w more p apart = by (below-or-not 1 (8 * length w)) where
+  by : (1 < 8 * length w) ⊎ (8 * length w ≤ 1)
+      → first (valueRows (firstValues edition (w ++ more)) (w ++ more) (p + 2)) ≡ first (valueRows (firstValues edition w) w (p + 2))
+  by (inl there) =
+      ap (λ (k : Kind). first (valueRows (values edition k) (w ++ more) (p + 2))) (kind-front w more there)
+      ∙ value-stays (firstValues edition w) (narrow .ofKind (kindOf w)) w more (p + 2) apart
+  by (inr none-there) =
+      absurd (apart (cut-rows (firstValues edition w) w (p + 2)
+      (short-cut (firstValues edition w) (narrow .ofKind (kindOf w)) w (p + 2) (omega arith))))
 
-      by : (item ≡ end) ⊎ ((item ≡ countOfFields) ⊎ (rows ending item (w ++ more) p ≡ rows ending item w p))
-          → (item ≡ end) ⊎ (first (rows ending item (w ++ more) p) ≡ first (rows ending item w p))
-      by (inl is-end) = inl is-end
-      by (inr (inl is-count)) = inr (count is-count)
-      by (inr (inr same)) = inr (ap first same)
+header-stays : {edition : Edition} → NarrowEdition edition → (ending : Ending) (left : ℕ) (w more : List ℕ) (p : Place)
+    → first (rows edition ending (header left) w p) ≢ some endsEarly
+    → first (rows edition ending (header left) (w ++ more) p) ≡ first (rows edition ending (header left) w p)
+unfolding rows
+header-stays {edition} narrow ending left w more p apart = by (first (valueRows (edition .types) w (p + 1))) refl where
+  same : first (valueRows (edition .types) (w ++ more) (p + 1)) ≡ first (valueRows (edition .types) w (p + 1))
+  same = value-stays (edition .types) (narrow .ofTypes) w more (p + 1) (λ cut. apart (first-front _ _ endsEarly cut))
 
--- the end stays where it is
-at-end : {s : List ℕ} {p : Place} {item : Item} → item ≡ end → Due s p item → (t : List ℕ) → Due s (ends item p) (dueAfter item t p)
-at-end {s} {p} is-end due t =
-    subst (λ (i : Item). Due s (ends i p) (dueAfter i t p)) (sym is-end) (subst (λ (i : Item). Due s p i) is-end due)
+  by : (o : Option ℕ) → first (valueRows (edition .types) w (p + 1)) ≡ o
+      → first (valueRows (edition .types) (w ++ more) (p + 1) ++ (when (not (dataFits edition (w ++ more) p)) wrongData ∷ []))
+      ≡ first (valueRows (edition .types) w (p + 1) ++ (when (not (dataFits edition w p)) wrongData ∷ []))
+  by (some n) given = first-front _ _ n (same ∙ given) ∙ sym (first-front _ _ n given)
+  by none passed =
+      first-later _ _ (same ∙ passed)
+      ∙ ap (λ (b : Bool). first (when (not b) wrongData ∷ [])) (fits-front narrow w more p (value-inside (edition .types) w (p + 1) passed))
+      ∙ sym (first-later _ _ passed)
 
-pub due-more : {w : List ℕ} {p : Place} {item : Item} → Due w p item → (more : List ℕ) → Due (w ++ more) p item
-due-more begins more = begins
-due-more {w} (goesOn {p} {item} due passed) more =
-    by (due-more due more) (same-first Whole item w more p (stands due) (due-inside due) (λ cut. not-both passed cut)) where
-      by : Due (w ++ more) p item → (item ≡ end) ⊎ (first (rows Whole item (w ++ more) p) ≡ first (rows Whole item w p))
-          → Due (w ++ more) (ends item p) (dueAfter item w p)
-      by d (inl is-end) = at-end is-end d w
-      by d (inr same) =
-          subst (λ (i : Item). Due (w ++ more) (ends item p) i)
-          (after-front w more p item (due-inside due) (due-inside (goesOn due passed)))
-          (goesOn d (same ∙ passed))
+-- an item in a front that is not refused with 1 there: its table gives the same with octets more. (The end is never cut short)
+module _ {edition : Edition} (narrow : NarrowEdition edition) where
+  inside-same : (ending : Ending) (item : Item) (w more : List ℕ) (p : Place) → Standing item p → p ≤ 8 * length w
+      → ends edition item w p ≤ 8 * length w → first (rows edition ending item w p) ≢ some endsEarly
+      → (item ≡ end) ⊎ (first (rows edition ending item (w ++ more) p) ≡ first (rows edition ending item w p))
+  inside-same ending item w more p at begun inside apart = by (item-rows narrow w more p ending item at begun inside) where
+    count : (item ≡ countOfFields) → first (rows edition ending item (w ++ more) p) ≡ first (rows edition ending item w p)
+    count is =
+        let there : first (countRows (octetsFrom w p)) ≢ some endsEarly =
+        λ e. apart (ap (λ (i : Item). first (rows edition ending i w p)) is ∙ ap first (count-rows edition ending w p) ∙ e) in
+        ap (λ (i : Item). first (rows edition ending i (w ++ more) p)) is ∙ ap first (count-rows edition ending (w ++ more) p)
+        ∙ ap (λ (l : List ℕ). first (countRows l)) (from-front w more p begun)
+        ∙ count-stays (octetsFrom w p) more there
+        ∙ sym (ap (λ (i : Item). first (rows edition ending i w p)) is ∙ ap first (count-rows edition ending w p))
 
--- ---- the items that lie in a front
--- one that does not is cut short there
-pub cut-given : (ending : Ending) (item : Item) (s : List ℕ) (p : Place) → Standing item p → p ≤ 8 * length s → 8 * length s < ends item p
-    → first (rows ending item s p) ≡ some endsEarly
-unfolding rows lengthRows Standing
-cut-given ending firstOctet s p at begun over = given-row _ endsEarly _ (lt-ltb (8 * length s) (p + 8) over)
-cut-given ending countOfFields s p at begun over =
-    given-row _ endsEarly _ (lt-ltb (length (octetsFrom s p)) 1 (omega (arith, length-drop (p / 8) s)))
-cut-given ending (header left) s p at begun over = given-row _ endsEarly _ (lt-ltb (8 * length s) (p + 4) over)
-cut-given ending (padding next) s p at begun over = absurd (omega arith)
-cut-given ending (dataLength left) s p at begun over = given-row _ endsEarly _ (lt-ltb (8 * length s) (p + 16) over)
-cut-given ending (fieldData size left) s p at begun over = given-row _ endsEarly _ (lt-ltb (8 * length s) (p + 8 * size) over)
-cut-given ending end s p at begun over = absurd (omega arith)
+    by : (item ≡ end) ⊎ ((item ≡ countOfFields) ⊎ (rows edition ending item (w ++ more) p ≡ rows edition ending item w p))
+        → (item ≡ end) ⊎ (first (rows edition ending item (w ++ more) p) ≡ first (rows edition ending item w p))
+    by (inl is-end) = inl is-end
+    by (inr (inl is-count)) = inr (count is-count)
+    by (inr (inr same)) = inr (ap first same)
 
--- and one that does is there as in the whole
-passes-front : (item : Item) (w more : List ℕ) (p : Place) → Standing item p → p ≤ 8 * length w → ends item p ≤ 8 * length w
-    → first (rows Whole item (w ++ more) p) ≡ none → (item ≡ end) ⊎ (first (rows Whole item w p) ≡ none)
-unfolding Standing
-passes-front item w more p at begun inside passed = by (rows-front w more p Whole item begun inside) where
-  count : item ≡ countOfFields → first (rows Whole item w p) ≡ none
-  count is =
-      let whole : first (countRows (octetsFrom (w ++ more) p)) ≡ none =
-      sym (ap (λ (i : Item). first (rows Whole i (w ++ more) p)) is ∙ ap first (count-rows Whole (w ++ more) p)) ∙ passed in
-      let inside-there : p + 8 ≤ 8 * length w = subst (λ (i : Item). ends i p ≤ 8 * length w) is inside in
-      let sizes = ap (λ (o : ℕ). within fieldsLeast fieldsLimit o) (sym (octet-front w more p 0 (omega arith)))
-      ∙ passed-count (octetsFrom (w ++ more) p) whole .sizes in
-      ap (λ (i : Item). first (rows Whole i w p)) is ∙ ap first (count-rows Whole w p)
-      ∙ count-passes (octetsFrom w p) (record { some = omega (arith, length-drop (p / 8) w); sizes = sizes })
+  pub same-first : (ending : Ending) (item : Item) (w more : List ℕ) (p : Place) → Standing item p → p ≤ 8 * length w
+      → first (rows edition ending item w p) ≢ some endsEarly
+      → (item ≡ end) ⊎ (first (rows edition ending item (w ++ more) p) ≡ first (rows edition ending item w p))
+  unfolding rows countRows lengthRows Standing
+  same-first ending firstValue w more p at begun apart = inr (first-stays narrow ending w more p apart)
+  same-first ending fieldsAllowed w more p at begun apart = inside-same ending fieldsAllowed w more p at begun begun apart
+  same-first ending countOfFields w more p at begun apart =
+      let some = ltb-false (length (octetsFrom w p)) 1 (not-cut (ltb (length (octetsFrom w p)) 1) _ apart) in
+      inside-same ending countOfFields w more p at begun (omega (arith, length-drop (p / 8) w)) apart
+  same-first ending (header left) w more p at begun apart = inr (header-stays narrow ending left w more p apart)
+  same-first ending (padding next) w more p at begun apart = inside-same ending (padding next) w more p at begun (omega arith) apart
+  same-first ending (dataLength left) w more p at begun apart =
+      inside-same ending (dataLength left) w more p at begun
+      (ltb-false (8 * length w) (p + 16) (not-cut (ltb (8 * length w) (p + 16)) _ apart)) apart
+  same-first ending (fieldData size left) w more p at begun apart =
+      inside-same ending (fieldData size left) w more p at begun
+      (ltb-false (8 * length w) (p + 8 * size) (not-cut (ltb (8 * length w) (p + 8 * size)) _ apart)) apart
+  same-first ending end w more p at begun apart = inl refl
 
-  by : (item ≡ end) ⊎ ((item ≡ countOfFields) ⊎ (rows Whole item (w ++ more) p ≡ rows Whole item w p))
-      → (item ≡ end) ⊎ (first (rows Whole item w p) ≡ none)
-  by (inl is-end) = inl is-end
-  by (inr (inl is-count)) = inr (count is-count)
-  by (inr (inr same)) = inr (sym (ap first same) ∙ passed)
+  -- the end stays where it is
+  at-end : {s : List ℕ} {p : Place} {item : Item} → item ≡ end → Due edition s p item → (t u : List ℕ)
+      → Due edition s (ends edition item u p) (dueAfter item t p)
+  at-end {s} {p} is-end due t u =
+      subst (λ (i : Item). Due edition s (ends edition i u p) (dueAfter i t p)) (sym is-end)
+      (subst (λ (i : Item). Due edition s p i) is-end due)
 
--- an item that is due in the whole is due in the front too, or lies behind an item that is cut short there
-pub in-front : (ending : Ending) (w more : List ℕ) {q : Place} {item : Item} → Due (w ++ more) q item
-    → Due w q item ⊎ ((8 * length w < q) × FirstWrong ending w endsEarly)
-in-front ending w more begins = inl begins
-in-front ending w more (goesOn {p} {item} due passed) = by (in-front ending w more due) where
-  here : Due w p item → (8 * length w < ends item p) ⊎ (ends item p ≤ 8 * length w)
-      → Due w (ends item p) (dueAfter item (w ++ more) p) ⊎ ((8 * length w < ends item p) × FirstWrong ending w endsEarly)
-  here d (inl over) =
-      inr (over, record { item = item; place = p; due = d; wrong = cut-given ending item w p (stands d) (due-inside d) over })
-  here d (inr inside) = inl (on (passes-front item w more p (stands d) (due-inside d) inside passed)) where
-    on : (item ≡ end) ⊎ (first (rows Whole item w p) ≡ none) → Due w (ends item p) (dueAfter item (w ++ more) p)
-    on (inl is-end) = at-end is-end d (w ++ more)
-    on (inr there) =
-        subst (λ (i : Item). Due w (ends item p) i) (sym (after-front w more p item (due-inside d) inside)) (goesOn d there)
+  pub due-more : {w : List ℕ} {p : Place} {item : Item} → Due edition w p item → (more : List ℕ) → Due edition (w ++ more) p item
+  due-more begins more = begins
+  due-more {w} (goesOn {p} {item} due passed) more =
+      by (due-more due more) (same-first Whole item w more p (stands due) (due-inside due) (λ cut. not-both passed cut)) where
+        by : Due edition (w ++ more) p item
+            → (item ≡ end) ⊎ (first (rows edition Whole item (w ++ more) p) ≡ first (rows edition Whole item w p))
+            → Due edition (w ++ more) (ends edition item w p) (dueAfter item w p)
+        by d (inl is-end) = at-end is-end d w w
+        by d (inr same) =
+            let inside = due-inside (goesOn due passed) in
+            subst (λ (q : Place). Due edition (w ++ more) q (dueAfter item w p)) (ends-there narrow w more p item inside)
+            (subst (λ (i : Item). Due edition (w ++ more) (ends edition item (w ++ more) p) i)
+            (after-front narrow w more p item (stands due) (due-inside due) inside)
+            (goesOn d (same ∙ passed)))
 
-  by : Due w p item ⊎ ((8 * length w < p) × FirstWrong ending w endsEarly)
-      → Due w (ends item p) (dueAfter item (w ++ more) p) ⊎ ((8 * length w < ends item p) × FirstWrong ending w endsEarly)
-  by (inl d) = here d (below-or-not (8 * length w) (ends item p))
-  by (inr cut) = inr (omega (arith, cut .0, ends-on item p), cut .1)
+  -- ---- the items that lie in a front
+  -- one that is not refused in the whole and does not lie in the front is cut short there
+  cut-given : (ending : Ending) (item : Item) (w more : List ℕ) (p : Place) → Standing item p → p ≤ 8 * length w
+      → first (rows edition Whole item (w ++ more) p) ≡ none → 8 * length w < ends edition item (w ++ more) p
+      → first (rows edition ending item w p) ≡ some endsEarly
+  unfolding rows lengthRows Standing
+  cut-given ending firstValue w more p at begun passed over =
+      cut-rows (firstValues edition w) w (p + 2) (by (below-or-not 1 (8 * length w))) where
+        by : (1 < 8 * length w) ⊎ (8 * length w ≤ 1) → CutValue (firstValues edition w) w (p + 2)
+        by (inl there) =
+            let same = kind-front w more there in
+            whole-cut (firstValues edition w) (narrow .ofKind (kindOf w)) w more (p + 2)
+            (ap (λ (k : Kind). first (valueRows (values edition k) (w ++ more) (p + 2))) (sym same) ∙ passed)
+            (subst (λ (k : Kind). 8 * length w < valueEnds (values edition k) (w ++ more) (p + 2)) same over)
+        by (inr none-there) = short-cut (firstValues edition w) (narrow .ofKind (kindOf w)) w (p + 2) (omega arith)
+  cut-given ending fieldsAllowed w more p at begun passed over = absurd (omega arith)
+  cut-given ending countOfFields w more p at begun passed over =
+      given-row _ endsEarly _ (lt-ltb (length (octetsFrom w p)) 1 (omega (arith, length-drop (p / 8) w)))
+  cut-given ending (header left) w more p at begun passed over =
+      let e = edition .types in
+      first-front _ _ endsEarly
+      (cut-rows e w (p + 1)
+      (whole-cut e (narrow .ofTypes) w more (p + 1) (both-none (valueRows e (w ++ more) (p + 1)) _ passed .0) over))
+  cut-given ending (padding next) w more p at begun passed over = absurd (omega arith)
+  cut-given ending (dataLength left) w more p at begun passed over = given-row _ endsEarly _ (lt-ltb (8 * length w) (p + 16) over)
+  cut-given ending (fieldData size left) w more p at begun passed over =
+      given-row _ endsEarly _ (lt-ltb (8 * length w) (p + 8 * size) over)
+  cut-given ending end w more p at begun passed over = absurd (omega arith)
+
+  -- and one that does is there as in the whole
+  passes-front : (item : Item) (w more : List ℕ) (p : Place) → Standing item p → p ≤ 8 * length w → ends edition item w p ≤ 8 * length w
+      → first (rows edition Whole item (w ++ more) p) ≡ none → (item ≡ end) ⊎ (first (rows edition Whole item w p) ≡ none)
+  passes-front item w more p at begun inside passed = by (item-rows narrow w more p Whole item at begun inside) where
+    count : item ≡ countOfFields → first (rows edition Whole item w p) ≡ none
+    count is =
+        let whole : first (countRows (octetsFrom (w ++ more) p)) ≡ none =
+        sym (ap (λ (i : Item). first (rows edition Whole i (w ++ more) p)) is ∙ ap first (count-rows edition Whole (w ++ more) p))
+        ∙ passed in
+        let inside-there : p + 8 ≤ 8 * length w = subst (λ (i : Item). ends edition i w p ≤ 8 * length w) is inside in
+        let sizes = ap (λ (o : ℕ). within fieldsLeast fieldsLimit o) (sym (octet-front w more p 0 (omega arith)))
+        ∙ passed-count (octetsFrom (w ++ more) p) whole .sizes in
+        ap (λ (i : Item). first (rows edition Whole i w p)) is ∙ ap first (count-rows edition Whole w p)
+        ∙ count-passes (octetsFrom w p) (record { some = there inside-there; sizes = sizes }) where
+          there : p + 8 ≤ 8 * length w → 1 ≤ length (octetsFrom w p)
+          there inside = omega (arith, length-drop (p / 8) w)
+
+    by : (item ≡ end) ⊎ ((item ≡ countOfFields) ⊎ (rows edition Whole item (w ++ more) p ≡ rows edition Whole item w p))
+        → (item ≡ end) ⊎ (first (rows edition Whole item w p) ≡ none)
+    by (inl is-end) = inl is-end
+    by (inr (inl is-count)) = inr (count is-count)
+    by (inr (inr same)) = inr (sym (ap first same) ∙ passed)
+
+  -- an item that is due in the whole is due in the front too, or lies behind an item that is cut short there
+  pub in-front : (ending : Ending) (w more : List ℕ) {q : Place} {item : Item} → Due edition (w ++ more) q item
+      → Due edition w q item ⊎ ((8 * length w < q) × FirstWrong edition ending w endsEarly)
+  in-front ending w more begins = inl begins
+  in-front ending w more (goesOn {p} {item} due passed) = by (in-front ending w more due) where
+    After : Type 0
+    After = Due edition w (ends edition item (w ++ more) p) (dueAfter item (w ++ more) p)
+
+    on : Due edition w p item → ends edition item (w ++ more) p ≤ 8 * length w → After
+    on d inside = go (passes-front item w more p (stands d) (due-inside d) within-w passed) where
+      within-w : ends edition item w p ≤ 8 * length w
+      within-w = subst (λ (q : Place). q ≤ 8 * length w) (sym (ends-here narrow w more p item inside)) inside
+
+      go : (item ≡ end) ⊎ (first (rows edition Whole item w p) ≡ none) → After
+      go (inl is-end) = at-end is-end d (w ++ more) (w ++ more)
+      go (inr there) =
+          subst (λ (q : Place). Due edition w q (dueAfter item (w ++ more) p)) (ends-here narrow w more p item inside)
+          (subst (λ (i : Item). Due edition w (ends edition item w p) i)
+          (sym (after-front narrow w more p item (stands d) (due-inside d) within-w)) (goesOn d there))
+
+    here : Due edition w p item → (8 * length w < ends edition item (w ++ more) p) ⊎ (ends edition item (w ++ more) p ≤ 8 * length w)
+        → After ⊎ ((8 * length w < ends edition item (w ++ more) p) × FirstWrong edition ending w endsEarly)
+    here d (inl over) =
+        inr
+        (over, record { item = item; place = p; due = d; wrong = cut-given ending item w more p (stands d) (due-inside d) passed over })
+    here d (inr inside) = inl (on d inside)
+
+    by : Due edition w p item ⊎ ((8 * length w < p) × FirstWrong edition ending w endsEarly)
+        → After ⊎ ((8 * length w < ends edition item (w ++ more) p) × FirstWrong edition ending w endsEarly)
+    by (inl d) = here d (below-or-not (8 * length w) (ends edition item (w ++ more) p))
+    by (inr cut) = inr (omega (arith, cut .0, ends-on edition item (w ++ more) p), cut .1)

@@ -13,14 +13,17 @@ use borrow.Author.Tests.{ne-eqb}
 use Rattle.lengths.specs.Refusals.{endsEarly}
 use Rattle.lengths.specs.Tables.{first}
 use Rattle.formats.specs.Places.{Place}
+use Rattle.packets.specs.Edition.{Edition}
 use Rattle.packets.specs.Packet.{every, allZero, mayFollow}
+use Rattle.packets.specs.Inner.Octets.{NarrowEdition}
 use Rattle.packets.specs.declared.types.Ending.{Ending}
 use Rattle.packets.specs.declared.types.Ending.the-variants.{Whole, Repaired}
 use Rattle.demands.specs.PacketItems.{Item, end, octetsFrom, rows}
 use Rattle.demands.specs.PacketRefusals.{FirstWrong}
 use Rattle.demands.proofs.PacketRows.{same-number, end-wrong, wrong-end}
 use Rattle.demands.proofs.PacketPlaces.{stands, due-inside}
-use Rattle.demands.proofs.PacketFronts.{from-front, same-first, due-more}
+use Rattle.demands.proofs.PacketInFront.{from-front}
+use Rattle.demands.proofs.PacketFronts.{same-first, due-more}
 
 -- ---- what is left over
 zeros-fewer : (rest more : List ℕ) → allZero rest ≡ false → allZero (rest ++ more) ≡ false
@@ -37,28 +40,31 @@ left-more Whole [] more e = let z : _≡_ {A = ℕ} 0 1 = cc in absurd (omega ar
 left-more Whole (x ∷ rest) more e = ne-eqb (suc (length (rest ++ more))) 0 (λ same. omega arith)
 left-more Repaired rest more e = zeros-fewer rest more e
 
-end-stays : (ending : Ending) (w more : List ℕ) (p : Place) (n : ℕ) → p ≤ 8 * length w → first (rows ending end w p) ≡ some n
-    → first (rows ending end (w ++ more) p) ≡ some n
-end-stays ending w more p n inside e =
-    let left = end-wrong ending w p n e in
-    wrong-end ending (w ++ more) p
+end-stays : (edition : Edition) (ending : Ending) (w more : List ℕ) (p : Place) (n : ℕ) → p ≤ 8 * length w
+    → first (rows edition ending end w p) ≡ some n
+    → first (rows edition ending end (w ++ more) p) ≡ some n
+end-stays edition ending w more p n inside e =
+    let left = end-wrong edition ending w p n e in
+    wrong-end edition ending (w ++ more) p
     (ap (λ (l : List ℕ). mayFollow ending l) (from-front w more p inside) ∙ left-more ending (octetsFrom w p) more (left .0))
     ∙ ap (λ (k : ℕ). some k) (left .1)
 
 -- ---- the first wrong item
-pub wrong-more : (ending : Ending) (w more : List ℕ) (n : ℕ) → n ≢ endsEarly → FirstWrong ending w n → FirstWrong ending (w ++ more) n
-wrong-more ending w more n apart f =
+pub wrong-more : {edition : Edition} → NarrowEdition edition → (ending : Ending) (w more : List ℕ) (n : ℕ) → n ≢ endsEarly
+    → FirstWrong edition ending w n → FirstWrong edition ending (w ++ more) n
+wrong-more {edition} narrow ending w more n apart f =
     record {
       item = f .item;
       place = f .place;
-      due = due-more (f .due) more;
-      wrong = by (same-first ending (f .item) w more (f .place)
+      due = due-more narrow (f .due) more;
+      wrong = by (same-first narrow ending (f .item) w more (f .place)
           (stands (f .due)) (due-inside (f .due)) (λ cut. apart (same-number (sym (f .wrong) ∙ cut))));
     } where
-      by : (f .item ≡ end) ⊎ (first (rows ending (f .item) (w ++ more) (f .place)) ≡ first (rows ending (f .item) w (f .place)))
-          → first (rows ending (f .item) (w ++ more) (f .place)) ≡ some n
+      by : (f .item ≡ end)
+          ⊎ (first (rows edition ending (f .item) (w ++ more) (f .place)) ≡ first (rows edition ending (f .item) w (f .place)))
+          → first (rows edition ending (f .item) (w ++ more) (f .place)) ≡ some n
       by (inl is-end) =
-          ap (λ (i : Item). first (rows ending i (w ++ more) (f .place))) is-end
-          ∙ end-stays ending w more (f .place) n (due-inside (f .due))
-          (ap (λ (i : Item). first (rows ending i w (f .place))) (sym is-end) ∙ f .wrong)
+          ap (λ (i : Item). first (rows edition ending i (w ++ more) (f .place))) is-end
+          ∙ end-stays edition ending w more (f .place) n (due-inside (f .due))
+          (ap (λ (i : Item). first (rows edition ending i w (f .place))) (sym is-end) ∙ f .wrong)
       by (inr same) = same ∙ f .wrong

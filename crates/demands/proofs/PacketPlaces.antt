@@ -1,8 +1,7 @@
--- The places at which items of a packet are due: the first octet at the packet's begin, the count behind it, headers at half octets,
--- data lengths, data and the end at octet edges; and each inside the octets. Assumes nothing.
+-- The places at which items of a packet are due: the first value at the packet's begin, headers anywhere, the count, data lengths, data and
+-- the end at octet edges; and each inside the octets. Assumes nothing.
 use Prim.Native.Nat.{ℕ, zero, suc, _+_, _*_, _/_, _%_, _≤_}
 use mathlib.Core.Path.{_≡_, refl, ap}
-use mathlib.Core.Logic.{_≢_}
 use mathlib.Core.Bool.{Bool, true, false, not, cond, _&&_}
 use mathlib.Core.List.{List, [], _∷_, _++_}
 use mathlib.Core.Option.{Option, none, some}
@@ -10,25 +9,40 @@ use lib.ListN.{length, getD, length-drop}
 use lib.Dec.{leb, ltb}
 use native.Mathlib.Omega.{arith}
 use borrow.Author.Tests.{le-ltb, lt-leb, ltb-false, not-false}
-use Rattle.lengths.specs.Refusals.{endsEarly, badForm, outsideSizes}
+use Rattle.lengths.specs.Refusals.{endsEarly, badForm, outsideSizes, notAssigned}
 use Rattle.lengths.specs.Length.{ofTwo, within}
 use Rattle.lengths.specs.Tables.{when, first}
 use Rattle.lengths.proofs.Laws.{within-true}
 use Rattle.formats.specs.Places.{Place, edge}
+use Rattle.packets.specs.Edition.{addedWidth, Edition}
 use Rattle.packets.specs.Packet.{fieldsLeast, fieldsLimit}
+use Rattle.packets.specs.Inner.Octets.{bitAt}
+use Rattle.packets.specs.declared.types.Enumerated.{Enumerated}
 use Rattle.packets.specs.declared.types.Ending.{Ending}
 use Rattle.packets.specs.declared.types.Ending.the-variants.{Whole}
 use Rattle.demands.specs.Refusals.{lengthRows}
-use Rattle.demands.specs.PacketItems.{Item, firstOctet, countOfFields, header, padding, dataLength, fieldData, end, fields, rows}
-use Rattle.demands.specs.PacketItems.{octetsFrom, octetHere, hasFields, headerIn, ends, dueAfter, Due, begins, goesOn}
-use Rattle.demands.proofs.PacketRows.{not-given, none-given, no-rows, not-both}
+use Rattle.demands.specs.PacketItems.{Item, firstValue, fieldsAllowed, countOfFields, header, padding, dataLength, fieldData, end}
+use Rattle.demands.specs.PacketItems.{fields, rows, isAdded, behindMark, valueEnds, addedRows, rootRows, valueRows, octetsFrom}
+use Rattle.demands.specs.PacketItems.{octetHere, hasFields, firstValues, ends, dueAfter, Due, begins, goesOn}
+use Rattle.demands.proofs.PacketRows.{not-given, none-given, no-rows, both-none}
+
+-- a value never ends before it begins, nor does an item
+either-least : (b : Bool) (p q r : ℕ) → p ≤ q → p ≤ r → p ≤ cond b q r
+either-least true p q r here there = here
+either-least false p q r here there = there
+
+pub value-on : (e : Enumerated) (s : List ℕ) (p : Place) → p ≤ valueEnds e s p
+value-on e s p =
+    let behind = either-least (e .extensible) p (p + 1) p (omega arith) (omega arith) in
+    either-least (isAdded e s p) p (p + 1 + 1 + addedWidth) (behindMark e p + e .width) (omega arith) (omega (arith, behind))
 
 -- ---- where an item stands
 unfoldable pub Standing : Item → Place → Type 0
-Standing firstOctet p = p ≡ 0
-Standing countOfFields p = p ≡ 8
-Standing (header left) p = p % 4 ≡ 0
-Standing (padding next) p = (p % 4 ≡ 0) × Standing next (8 * edge p)
+Standing firstValue p = p ≡ 0
+Standing fieldsAllowed p = (p % 8 ≡ 0) × (1 ≤ p)
+Standing countOfFields p = p % 8 ≡ 0
+Standing (header left) p = p ≤ p
+Standing (padding next) p = Standing next (8 * edge p)
 Standing (dataLength left) p = p % 8 ≡ 0
 Standing (fieldData size left) p = p % 8 ≡ 0
 Standing end p = p % 8 ≡ 0
@@ -36,67 +50,66 @@ Standing end p = p % 8 ≡ 0
 at-edge : (p : Place) → 8 * edge p % 8 ≡ 0
 at-edge p = omega arith
 
-fields-stand : (n : ℕ) (p : Place) → p % 4 ≡ 0 → Standing (fields n) p
+fields-stand : (n : ℕ) (p : Place) → Standing (fields n) p
 unfolding Standing
-fields-stand zero p half = (half, at-edge p)
-fields-stand (suc n) p half = half
+fields-stand zero p = at-edge p
+fields-stand (suc n) p = omega arith
 
 either-stands : (b : Bool) (one other : Item) (p : Place) → Standing one p → Standing other p → Standing (cond b one other) p
 either-stands true one other p here there = here
 either-stands false one other p here there = there
 
-after-stands : (item : Item) (s : List ℕ) (p : Place) → Standing item p → Standing (dueAfter item s p) (ends item p)
+after-stands : (edition : Edition) (item : Item) (s : List ℕ) (p : Place) → Standing item p
+    → Standing (dueAfter item s p) (ends edition item s p)
 unfolding Standing
-after-stands firstOctet s p at =
-    either-stands (hasFields (octetHere s p)) countOfFields (fields 0) (p + 8) (omega arith) (fields-stand 0 (p + 8) (omega arith))
-after-stands countOfFields s p at = fields-stand (octetHere s p) (p + 8) (omega arith)
-after-stands (header left) s p at =
-    let half : (p + 4) % 4 ≡ 0 = omega arith in
-    either-stands ((headerIn s p) .present) (padding (dataLength left)) (fields left) (p + 4) (half, at-edge (p + 4))
-    (fields-stand left (p + 4) half)
-after-stands (padding next) s p at = at .1
-after-stands (dataLength left) s p at = omega arith
-after-stands (fieldData size left) s p at = fields-stand left (p + 8 * size) (omega arith)
-after-stands end s p at = at
+after-stands edition firstValue s p at =
+    let q = valueEnds (firstValues edition s) s (p + 2) in
+    (at-edge q, omega (arith, value-on (firstValues edition s) s (p + 2)))
+after-stands edition fieldsAllowed s p at = either-stands (hasFields s) countOfFields (fields 0) p (at .0) (fields-stand 0 p)
+after-stands edition countOfFields s p at = fields-stand (octetHere s p) (p + 8)
+after-stands edition (header left) s p at =
+    let q = valueEnds (edition .types) s (p + 1) in
+    either-stands (bitAt s p) (padding (dataLength left)) (fields left) q (at-edge q) (fields-stand left q)
+after-stands edition (padding next) s p at = at
+after-stands edition (dataLength left) s p at = omega arith
+after-stands edition (fieldData size left) s p at = fields-stand left (p + 8 * size)
+after-stands edition end s p at = at
 
-pub stands : {s : List ℕ} {p : Place} {item : Item} → Due s p item → Standing item p
+pub stands : {edition : Edition} {s : List ℕ} {p : Place} {item : Item} → Due edition s p item → Standing item p
 unfolding Standing
 stands begins = refl
-stands {s} (goesOn {p} {item} due passed) = after-stands item s p (stands due)
+stands {edition} {s} (goesOn {p} {item} due passed) = after-stands edition item s p (stands due)
 
-pub due-first : {s : List ℕ} {p : Place} → Due s p firstOctet → p ≡ 0
-unfolding Standing
-due-first due = stands due
+module _ {edition : Edition} {s : List ℕ} {p : Place} where
+  pub due-first : Due edition s p firstValue → p ≡ 0
+  unfolding Standing
+  due-first due = stands due
 
-pub due-count : {s : List ℕ} {p : Place} → Due s p countOfFields → p ≡ 8
-unfolding Standing
-due-count due = stands due
+  pub due-count : Due edition s p countOfFields → p % 8 ≡ 0
+  unfolding Standing
+  due-count due = stands due
 
-pub due-header : {s : List ℕ} {p : Place} (left : ℕ) → Due s p (header left) → p % 4 ≡ 0
-unfolding Standing
-due-header left due = stands due
+  pub due-length : (left : ℕ) → Due edition s p (dataLength left) → p % 8 ≡ 0
+  unfolding Standing
+  due-length left due = stands due
 
-pub due-length : {s : List ℕ} {p : Place} (left : ℕ) → Due s p (dataLength left) → p % 8 ≡ 0
-unfolding Standing
-due-length left due = stands due
+  pub due-data : (size left : ℕ) → Due edition s p (fieldData size left) → p % 8 ≡ 0
+  unfolding Standing
+  due-data size left due = stands due
 
-pub due-data : {s : List ℕ} {p : Place} (size left : ℕ) → Due s p (fieldData size left) → p % 8 ≡ 0
-unfolding Standing
-due-data size left due = stands due
+  pub due-end : Due edition s p end → p % 8 ≡ 0
+  unfolding Standing
+  due-end due = stands due
 
-pub due-end : {s : List ℕ} {p : Place} → Due s p end → p % 8 ≡ 0
-unfolding Standing
-due-end due = stands due
-
--- an item never ends before it begins
-pub ends-on : (item : Item) (p : Place) → p ≤ ends item p
-ends-on firstOctet p = omega arith
-ends-on countOfFields p = omega arith
-ends-on (header left) p = omega arith
-ends-on (padding next) p = omega arith
-ends-on (dataLength left) p = omega arith
-ends-on (fieldData size left) p = omega arith
-ends-on end p = omega arith
+pub ends-on : (edition : Edition) (item : Item) (s : List ℕ) (p : Place) → p ≤ ends edition item s p
+ends-on edition firstValue s p = omega (arith, value-on (firstValues edition s) s (p + 2))
+ends-on edition fieldsAllowed s p = omega arith
+ends-on edition countOfFields s p = omega arith
+ends-on edition (header left) s p = omega (arith, value-on (edition .types) s (p + 1))
+ends-on edition (padding next) s p = omega arith
+ends-on edition (dataLength left) s p = omega arith
+ends-on edition (fieldData size left) s p = omega arith
+ends-on edition end s p = omega arith
 
 -- ---- the count
 pub record CountPassed (rest : List ℕ) : Type 0 where
@@ -106,9 +119,10 @@ pub record CountPassed (rest : List ℕ) : Type 0 where
 unfoldable pub countRows : List ℕ → List (Option ℕ)
 countRows rest = lengthRows rest ++ (when (not (within fieldsLeast fieldsLimit (getD rest 0 0))) outsideSizes ∷ [])
 
-pub count-rows : (ending : Ending) (s : List ℕ) (p : Place) → rows ending countOfFields s p ≡ countRows (octetsFrom s p)
+pub count-rows : (edition : Edition) (ending : Ending) (s : List ℕ) (p : Place)
+    → rows edition ending countOfFields s p ≡ countRows (octetsFrom s p)
 unfolding rows countRows
-count-rows ending s p = refl
+count-rows edition ending s p = refl
 
 pub passed-count : (rest : List ℕ) → first (countRows rest) ≡ none → CountPassed rest
 unfolding countRows lengthRows
@@ -134,32 +148,38 @@ count-passes rest c =
     (not-given (not (within fieldsLeast fieldsLimit o)) outsideSizes _ (ap not (c .sizes)) no-rows))))
 
 -- ---- inside the octets
--- an item that is not cut short ends there
-not-cut : (b : Bool) (table : List (Option ℕ)) → first (when b endsEarly ∷ table) ≢ some endsEarly → b ≡ false
-unfolding first
-not-cut true table apart = absurd (apart refl)
-not-cut false table apart = refl
+-- a value that is not refused ends there, and so does each item
+pub value-inside : (e : Enumerated) (s : List ℕ) (p : Place) → first (valueRows e s p) ≡ none → valueEnds e s p ≤ 8 * length s
+unfolding valueRows
+value-inside e s p = by (isAdded e s p) where
+  by : (b : Bool) → first (cond b (addedRows e s (p + 1)) (rootRows e s (behindMark e p))) ≡ none
+      → cond b (p + 1 + 1 + addedWidth) (behindMark e p + e .width) ≤ 8 * length s
+  by true given =
+      let r₁ = none-given (ltb (e .added) 1) notAssigned _ given in
+      let r₂ = none-given (bitAt s (p + 1)) notAssigned _ (r₁ .1) in
+      let r₃ = none-given (ltb (8 * length s) (p + 1 + 1 + addedWidth)) endsEarly _ (r₂ .1) in
+      ltb-false (8 * length s) (p + 1 + 1 + addedWidth) (r₃ .0)
+  by false given =
+      ltb-false (8 * length s) (behindMark e p + e .width)
+      (none-given (ltb (8 * length s) (behindMark e p + e .width)) endsEarly _ given .0)
 
-count-there : (rest : List ℕ) → first (countRows rest) ≢ some endsEarly → 1 ≤ length rest
-unfolding countRows lengthRows
-count-there rest apart = ltb-false (length rest) 1 (not-cut (ltb (length rest) 1) _ apart)
-
-pub ends-inside : (ending : Ending) (item : Item) (s : List ℕ) (p : Place) → Standing item p → p ≤ 8 * length s
-    → first (rows ending item s p) ≢ some endsEarly → ends item p ≤ 8 * length s
+pub ends-inside : (edition : Edition) (ending : Ending) (item : Item) (s : List ℕ) (p : Place) → Standing item p → p ≤ 8 * length s
+    → first (rows edition ending item s p) ≡ none → ends edition item s p ≤ 8 * length s
 unfolding Standing rows countRows
-ends-inside ending firstOctet s p at inside apart = ltb-false (8 * length s) (p + 8) (not-cut (ltb (8 * length s) (p + 8)) _ apart)
-ends-inside ending countOfFields s p at inside apart =
-    let some = count-there (octetsFrom s p) apart in
+ends-inside edition ending firstValue s p at inside passed = value-inside (firstValues edition s) s (p + 2) passed
+ends-inside edition ending fieldsAllowed s p at inside passed = inside
+ends-inside edition ending countOfFields s p at inside passed =
+    let some = passed-count (octetsFrom s p) passed .some in
     omega (arith, length-drop (p / 8) s)
-ends-inside ending (header left) s p at inside apart = ltb-false (8 * length s) (p + 4) (not-cut (ltb (8 * length s) (p + 4)) _ apart)
-ends-inside ending (padding next) s p at inside apart = omega arith
-ends-inside ending (dataLength left) s p at inside apart =
-    ltb-false (8 * length s) (p + 16) (not-cut (ltb (8 * length s) (p + 16)) _ apart)
-ends-inside ending (fieldData size left) s p at inside apart =
-    ltb-false (8 * length s) (p + 8 * size) (not-cut (ltb (8 * length s) (p + 8 * size)) _ apart)
-ends-inside ending end s p at inside apart = inside
+ends-inside edition ending (header left) s p at inside passed =
+    value-inside (edition .types) s (p + 1) (both-none (valueRows (edition .types) s (p + 1)) _ passed .0)
+ends-inside edition ending (padding next) s p at inside passed = omega arith
+ends-inside edition ending (dataLength left) s p at inside passed =
+    ltb-false (8 * length s) (p + 16) (none-given (ltb (8 * length s) (p + 16)) endsEarly _ passed .0)
+ends-inside edition ending (fieldData size left) s p at inside passed =
+    ltb-false (8 * length s) (p + 8 * size) (none-given (ltb (8 * length s) (p + 8 * size)) endsEarly _ passed .0)
+ends-inside edition ending end s p at inside passed = inside
 
-pub due-inside : {s : List ℕ} {p : Place} {item : Item} → Due s p item → p ≤ 8 * length s
+pub due-inside : {edition : Edition} {s : List ℕ} {p : Place} {item : Item} → Due edition s p item → p ≤ 8 * length s
 due-inside begins = omega arith
-due-inside {s} (goesOn {p} {item} due passed) =
-    ends-inside Whole item s p (stands due) (due-inside due) (λ cut. not-both passed cut)
+due-inside {edition} {s} (goesOn {p} {item} due passed) = ends-inside edition Whole item s p (stands due) (due-inside due) passed

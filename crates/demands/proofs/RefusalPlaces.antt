@@ -6,7 +6,7 @@ use mathlib.Core.Bool.{Bool, true, false, not, cond, _&&_}
 use mathlib.Core.List.{List}
 use lib.ListN.{length}
 use lib.Dec.{leb, ltb}
-use Rattle.lengths.specs.Refusals.{refusal, repeated, tooFar, late, baseUnknown, noRoom, allPassed, outsideRanges}
+use Rattle.lengths.specs.Refusals.{refusal, repeated, tooFar, late, baseUnknown, noRoom, wrongSettings, allPassed, outsideRanges}
 use Rattle.lengths.specs.Answers.{Answer, done, refused, refuse, _>>=_, fitted}
 use Rattle.lengths.specs.Tables.{placeIn}
 use Rattle.lengths.specs.Length.{lengthAt, lengthToWrite}
@@ -17,8 +17,10 @@ use Rattle.datagrams.specs.Carried.{Carried}
 use Rattle.datagrams.specs.Read.{readDatagram, carriedBy}
 use Rattle.datagrams.specs.Write.{datagramToWrite}
 use Rattle.datagrams.specs.declared.kind.Kind.{Kind}
-use Rattle.packets.specs.Edition.{edition98}
+use Rattle.packets.specs.Edition.{Edition, choiceOf, ofChoice}
 use Rattle.packets.specs.Write.{packetToWrite}
+use Rattle.packets.specs.declared.types.Choice.{Choice}
+use Rattle.packets.specs.declared.types.Choice.the-variants as choice
 use Rattle.packets.specs.declared.types.Kind as packets
 use Rattle.views.specs.Cells.{unknownAt, keptBefore, keptAhead}
 use Rattle.views.specs.View.{View, sum, distance, sessionLimit}
@@ -37,6 +39,7 @@ use Rattle.frames.specs.Promise.{fieldAnswer, lossAnswer}
 use Rattle.frames.specs.declared.Joiner.{Joiner}
 use Rattle.images.specs.Layout.{edition02}
 use Rattle.images.specs.Image.{readText, imageToWrite}
+use Rattle.demands.specs.NamedEdition.{packetBy}
 use Rattle.demands.specs.Demand1.{Places}
 use Rattle.demands.proofs.ImageTexts.{refused-only}
 
@@ -85,10 +88,13 @@ datagram-writer : (number : ℕ) (packet : List ℕ) (kind : Kind) (lengths run 
 unfolding datagramToWrite
 datagram-writer number packet kind lengths run = unless-front _ _
 
-packet-writer : (kind : packets.Kind) (value : ℕ) (types lengths octets : List ℕ)
-    → AtFront (packetToWrite edition98 kind value types lengths octets)
+packet-writer : (octet : ℕ) (kind : packets.Kind) (value : ℕ) (types lengths octets : List ℕ)
+    → AtFront (packetBy octet kind value types lengths octets)
 unfolding packetToWrite
-packet-writer kind value types lengths octets = unless-front _ _
+packet-writer octet kind value types lengths octets = by (choiceOf octet) where
+  by : (c : Choice) → AtFront (ofChoice c (λ (e : Edition). packetToWrite e kind value types lengths octets))
+  by (choice.Edition named) = unless-front _ _
+  by choice.Neither = refuse-front wrongSettings
 
 line-front : (line : List ℕ) → AtFront (lineOctets line)
 unfolding lineOctets
@@ -133,7 +139,8 @@ places =
           ap placeIn (p .answer) ∙ mapped-place _ (releaseOf leave (length old) s) ∙ front-place _ (release-front leave (length old) s);
       lengthWriter = λ n old new r p. puts-place (length-writer n) p;
       datagramWriter = λ number packet kind lengths run old new r p. puts-place (datagram-writer number packet kind lengths run) p;
-      packetWriter = λ kind value types lengths octets old new r p. puts-place (packet-writer kind value types lengths octets) p;
+      packetWriter = λ octet kind value types lengths octets old new r p.
+          puts-place (packet-writer octet kind value types lengths octets) p;
       line = λ line old new r p. puts-place (line-front line) p;
       send = λ {s} {settings} {packet} {old} p.
           ap placeIn (p .answer) ∙ mapped-place _ (fitted (toSend s settings packet) old)

@@ -19,14 +19,16 @@ use Rattle.lengths.specs.Claims.{Octets}
 use Rattle.datagrams.specs.Read.{octetsOf, readDatagram}
 use Rattle.datagrams.specs.Claims.{lengthsOf, runOf}
 use Rattle.datagrams.proofs.Claims as datagrams
-use Rattle.packets.specs.Edition.{edition98}
+use Rattle.packets.specs.Edition.{editionOf}
 use Rattle.packets.specs.Packet.{allData, readPacket}
 use Rattle.packets.specs.declared.types.Ending.the-variants.{Whole, Repaired}
+use Rattle.packets.specs.declared.types.Named.{Named}
 use Rattle.packets.proofs.Claims as packet-claims
 use Rattle.demands.specs.Refusals.{lengthRows}
 use Rattle.demands.specs.Demand1.{IsDatagram, IsPacket, IsRepaired, Readers}
 use Rattle.demands.proofs.Front.{repaired-front}
 use Rattle.demands.proofs.PacketRefusals.{packet-refusals}
+use Rattle.demands.proofs.NamedEdition.{sound, read-as, another-edition}
 use Rattle.demands.proofs.DatagramRefusals.{datagram-refusals}
 
 -- ---- lengths
@@ -73,34 +75,36 @@ is-datagram s octets = (
   λ is. ap refusalIn (datagrams.claims .writtenReads (is .number) (is .packet) (is .kind) (is .lengths) (is .run) s (is .written) .read),
 )
 
-is-packet : (s : List ℕ) → Octets s → (refusalIn (readPacket edition98 Whole s) ≡ none) ↔ IsPacket s
-is-packet s octets = (
+is-packet : (named : Named) (s : List ℕ) → Octets s
+    → (refusalIn (readPacket (editionOf named) Whole s) ≡ none) ↔ IsPacket (editionOf named) s
+is-packet named s octets = (
   λ e.
-      let p = done-none (readPacket edition98 Whole s) e in
+      let p = done-none (readPacket (editionOf named) Whole s) e in
       record {
         kind = p .0 .kind;
         value = p .0 .value;
         types = map (λ f. f .kind) (p .0 .fields);
         lengths = map (λ f. f .size) (p .0 .fields);
         octets = allData s (p .0 .fields);
-        written = packet-claims.claims .readWrites edition98 s (p .0) octets (p .1);
+        written = packet-claims.claims .readWrites (editionOf named) s (p .0) octets (p .1);
       },
   λ is.
       ap refusalIn
-      (packet-claims.claims .writtenReads edition98 (packet-claims.claims .sound98) (is .kind) (is .value) (is .types) (is .lengths)
+      (packet-claims.claims .writtenReads (editionOf named) (sound named) (is .kind) (is .value) (is .types) (is .lengths)
       (is .octets) s (is .written) .reads),
 )
 
-is-repaired : (s : List ℕ) → Octets s → (refusalIn (readPacket edition98 Repaired s) ≡ none) ↔ IsRepaired s
-is-repaired s octets = (
+is-repaired : (named : Named) (s : List ℕ) → Octets s
+    → (refusalIn (readPacket (editionOf named) Repaired s) ≡ none) ↔ IsRepaired (editionOf named) s
+is-repaired named s octets = (
   λ e.
-      let f = repaired-front s e in
+      let f = repaired-front named s e in
       record {
         packet = f .front;
         zeros = f .zeros;
         is = f .is;
         fits = f .fits;
-        written = is-packet (f .front) (f .octets octets) .0 (f .reads);
+        written = is-packet named (f .front) (f .octets octets) .0 (f .reads);
       },
   λ is.
       let w = is .written in
@@ -108,10 +112,10 @@ is-repaired s octets = (
       = ap length (is .is) ∙ length-append (is .packet) (replicate (is .zeros) 0)
       ∙ ap (λ (n : ℕ). length (is .packet) + n) (length-replicate {A = ℕ} (is .zeros) 0) in
       let reads =
-      packet-claims.claims .repairedReads edition98 (packet-claims.claims .sound98) (w .kind) (w .value) (w .types) (w .lengths)
+      packet-claims.claims .repairedReads (editionOf named) (sound named) (w .kind) (w .value) (w .types) (w .lengths)
       (w .octets) (is .packet) (is .zeros) (w .written)
       (omega (arith, is .fits)) .reads in
-      ap (λ (l : List ℕ). refusalIn (readPacket edition98 Repaired l)) (is .is) ∙ ap refusalIn reads,
+      ap (λ (l : List ℕ). refusalIn (readPacket (editionOf named) Repaired l)) (is .is) ∙ ap refusalIn reads,
 )
 
 -- the same of a call with that refusal
@@ -123,10 +127,13 @@ readers =
     record {
       length = λ {s} {r} p. ap refusalIn (p .answer) ∙ length-rows s;
       datagram = λ p. ap refusalIn (p .answer);
-      packet = λ p. ap refusalIn (p .answer);
+      packet = λ octet ending s p. ap refusalIn (p .answer);
       isDatagram = λ {s} octets p. of-call (ap refusalIn (p .answer)) (is-datagram s octets);
-      isPacket = λ {s} octets p. of-call (ap refusalIn (p .answer)) (is-packet s octets);
-      isRepaired = λ {s} octets p. of-call (ap refusalIn (p .answer)) (is-repaired s octets);
+      isPacket = λ octet named names s octets p.
+          of-call (ap refusalIn (read-as octet named Whole s names p .answer)) (is-packet named s octets);
+      isRepaired = λ octet named names s octets p.
+          of-call (ap refusalIn (read-as octet named Repaired s names p .answer)) (is-repaired named s octets);
       packetRefusals = packet-refusals;
+      anotherEdition = another-edition;
       datagramRefusals = datagram-refusals;
     }

@@ -9,8 +9,8 @@ use lib.Dec.{leb, ltb}
 use native.Mathlib.Omega.{arith}
 use borrow.Author.Tests.{le-leb, le-ltb, ltb-false}
 use Rattle.lengths.specs.Tables.{unless}
-use Rattle.lengths.specs.Refusals.{noRoom, outsideSizes}
-use Rattle.lengths.specs.Answers.{Answer, done, refused, LengthAnswer, lengthOutcome, writtenOutcome, fitted, sizeOf}
+use Rattle.lengths.specs.Refusals.{noRoom, outsideSizes, wrongSettings}
+use Rattle.lengths.specs.Answers.{Answer, done, refused, refuse, LengthAnswer, lengthOutcome, writtenOutcome, fitted, sizeOf}
 use Rattle.lengths.specs.Length.{lengthAt, lengthOctets, lengthLimit, lengthWriterRows, lengthToWrite}
 use Rattle.lengths.specs.Promise.{Puts}
 use Rattle.lengths.specs.Claims.{Octets}
@@ -31,22 +31,28 @@ use Rattle.datagrams.specs.declared.reader.DatagramRead.{DatagramRead}
 use Rattle.datagrams.specs.declared.reader.Reading.{Reading}
 use Rattle.datagrams.specs.declared.reader.Reading.the-variants as reading
 use Rattle.datagrams.proofs.Claims as datagrams
-use Rattle.packets.specs.Edition.{edition98}
+use Rattle.packets.specs.Edition.{Edition, editionOf, choiceOf, ofChoice, byEdition}
 use Rattle.packets.specs.Packet.{allData, fieldsLimit, noField, PacketAnswer, readPacket}
+use Rattle.packets.specs.Write.{packetToWrite}
 use Rattle.packets.specs.Promise as packetPromise
 use Rattle.packets.specs.Promise.{PacketTold, packetRead, padded}
 use Rattle.packets.specs.Claims as packetClaims
+use Rattle.packets.specs.declared.types.Choice.{Choice}
+use Rattle.packets.specs.declared.types.Choice.the-variants as choice
 use Rattle.packets.specs.declared.types.Kind as packets
+use Rattle.packets.specs.declared.types.Named.{Named}
 use Rattle.packets.specs.declared.types.Field.{Field}
 use Rattle.packets.specs.declared.types.Ending.{Ending}
-use Rattle.packets.specs.declared.types.Ending.the-variants.{Whole}
+use Rattle.packets.specs.declared.types.Ending.the-variants.{Whole, Repaired}
 use Rattle.packets.specs.declared.types.PacketRead.{PacketRead}
 use Rattle.packets.specs.declared.types.Reading as packetReadings
 use Rattle.packets.proofs.Claims as packetProofs
 use Rattle.sending.proofs.Laws.{size-done}
 use Rattle.sending.proofs.Claims as sending
+use Rattle.demands.specs.NamedEdition.{Names}
 use Rattle.demands.specs.RoundTrips.{WrittenBack, LengthTrips, DatagramSame, DatagramTrips, PacketSame, PacketTrips, SendTrips}
-use Rattle.demands.specs.RoundTrips.{RoundTrips}
+use Rattle.demands.specs.RoundTrips.{RoundTrips, typesOf, sizesOf, dataRead}
+use Rattle.demands.proofs.NamedEdition.{sound, read-as}
 
 -- ---- what a write says
 -- what fitted was to be written
@@ -162,11 +168,11 @@ datagram-trips =
     }
 
 -- ---- packets
-packet-told : {ending : Ending} {s : List ℕ} {kind : packets.Kind} {value : ℕ} {types lengths octets : List ℕ} {r : PacketRead}
-    → packetClaims.ReadsAs edition98 ending s kind value types lengths octets → PacketTold edition98 ending s r
+packet-told : {edition : Edition} {ending : Ending} {s : List ℕ} {kind : packets.Kind} {value : ℕ} {types lengths octets : List ℕ}
+    {r : PacketRead} → packetClaims.ReadsAs edition ending s kind value types lengths octets → PacketTold (readPacket edition ending s) r
     → PacketSame s kind value types lengths octets r
 unfolding padded
-packet-told {ending} {s} {kind} {value} {types} {lengths} {octets} {r} reads told =
+packet-told {edition} {ending} {s} {kind} {value} {types} {lengths} {octets} {r} reads told =
     let p = reads .packet in
     let whole : r ≡ packetRead (done p) = told .whole ∙ ap packetRead (reads .reads) in
     let long : length types ≡ length (p .fields) = ap length (sym (reads .typesSame)) ∙ length-map (p .fields) (λ (f : Field). f .kind) in
@@ -180,28 +186,44 @@ packet-told {ending} {s} {kind} {value} {types} {lengths} {octets} {r} reads tol
       unused = rw (whole, long) (drop-append-seam (p .fields) unused);
     }
 
+-- a call that is not refused names an edition
+chosen : {A : Type 0} (octet : ℕ) (answer : Edition → Answer A) (a : A) → byEdition octet answer ≡ done a
+    → (named : Named) × Names octet named × (answer (editionOf named) ≡ done a)
+chosen {A} octet answer a e = by (choiceOf octet) refl where
+  by : (c : Choice) → choiceOf octet ≡ c → (named : Named) × Names octet named × (answer (editionOf named) ≡ done a)
+  by (choice.Edition named) is = (named, is, sym (ap (λ (c : Choice). ofChoice c answer) is) ∙ e)
+  by choice.Neither is =
+      let clash : refuse wrongSettings ≡ done a = sym (ap (λ (c : Choice). ofChoice c answer) is) ∙ e in
+      let z : _≡_ {A = ℕ} 0 1 = cc in
+      absurd (omega arith)
+
 packet-trips : PacketTrips
 packet-trips =
     record {
       readsBack =
-          λ kind value types lengths octets {old} {new} {w} {n} puts e {r} told.
+          λ octet kind value types lengths octets {old} {new} {w} {n} puts e {r} told.
+          let c = chosen octet _ (take n new) (puts-octets puts e .0) in
           packet-told
-          (packetProofs.claims .writtenReads edition98 (packetProofs.claims .sound98) kind value types lengths octets (take n new)
-          (puts-octets puts e .0))
-          told;
+          (packetProofs.claims .writtenReads (editionOf (c .0)) (sound (c .0)) kind value types lengths octets (take n new) (c .2))
+          (read-as octet (c .0) Whole (take n new) (c .1) told);
       readsRepaired =
-          λ kind value types lengths octets {old} {new} {w} {n} puts e zeros room {r} told.
+          λ octet kind value types lengths octets {old} {new} {w} {n} puts e zeros room {r} told.
           let t = puts-octets puts e in
+          let c = chosen octet _ (take n new) (t .0) in
           let reads =
-          packetProofs.claims .repairedReads edition98 (packetProofs.claims .sound98) kind value types lengths octets (take n new) zeros
-          (t .0) (omega (arith, t .1)) in
-          packet-told reads told;
+          packetProofs.claims .repairedReads (editionOf (c .0)) (sound (c .0)) kind value types lengths octets (take n new) zeros
+          (c .2) (omega (arith, t .1)) in
+          packet-told reads (read-as octet (c .0) Repaired (take n new ++ replicate zeros 0) (c .1) told);
       writesBack =
-          λ {s} {r} {kind} {value} {count} octets told e {old} {new} {w} puts room.
+          λ octet s {r} {kind} {value} {count} octets told e {old} {new} {w} puts room.
           let p : PacketAnswer = record { kind = kind; value = value; fields = take count (r .fields) } in
-          let is : readPacket edition98 Whole s ≡ done p =
+          let is : byEdition octet (λ (e : Edition). readPacket e Whole s) ≡ done p =
           sym (told .answer) ∙ ap (λ (x : packetReadings.Reading). packetPromise.readingOutcome x (r .fields)) e in
-          puts-back puts (packetProofs.claims .readWrites edition98 s p octets is) refl room;
+          let c = chosen octet (λ (e : Edition). readPacket e Whole s) p is in
+          let back = packetProofs.claims .readWrites (editionOf (c .0)) s p octets (c .2) in
+          let write : Edition → Answer (List ℕ) =
+          λ e. packetToWrite e kind value (typesOf count r) (sizesOf count r) (dataRead s count r) in
+          puts-back puts (ap (λ (x : Choice). ofChoice x write) (c .1) ∙ back) refl room;
     }
 
 -- ---- the sending session

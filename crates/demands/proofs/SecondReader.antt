@@ -3,4 +3,4 @@ use mathlib.Core.Path.{sym, _∙_}
 use Rattle.demands.specs.SecondReader.{SecondReader}
 
 pub second-reader : SecondReader
-second-reader ending s quick second a b = record { answer = a .answer ∙ sym (b .answer); whole = a .whole ∙ sym (b .whole) }
+second-reader octet ending s quick second a b = record { answer = a .answer ∙ sym (b .answer); whole = a .whole ∙ sym (b .whole) }

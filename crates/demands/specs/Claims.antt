@@ -1,4 +1,5 @@
 -- The demands on the whole, each under its name: what the library is proved to do. Definitions only.
+use Rattle.packets.specs.Claims as packets
 use Rattle.sending.specs.Claims as sending
 use Rattle.frames.specs.Claims as frames
 use Rattle.frame_feed.specs.Claims as frameFeed
@@ -49,3 +50,6 @@ pub record Claims : Type 0 where
   -- document 02, request 10: images in two editions, and what fits a datagram under the raised limits
   pub editions : Editions
   pub fits : Fits
+  -- document 02, request 11: newer peers. What is refused by each edition stands in demand 1, what reads back in demand 2; this is what is
+  -- true of a packet in both
+  pub bothEditions : packets.PlainAlike

@@ -27,13 +27,14 @@ use Rattle.datagrams.specs.Write.{carriedOf, datagramOctets, datagramWriterRows
 use Rattle.datagrams.specs.Promise.{DatagramReads, readOutcome}
 use Rattle.datagrams.specs.declared.kind.Kind.{Kind}
 use Rattle.datagrams.specs.declared.reader.DatagramRead.{DatagramRead}
-use Rattle.packets.specs.Edition.{edition98}
+use Rattle.packets.specs.Edition.{Edition, editionOf, byEdition}
 use Rattle.packets.specs.Packet.{readPacket}
 use Rattle.packets.specs.Write.{packetOctets, packetWriterRows, packetToWrite}
-use Rattle.packets.specs.Promise.{PacketTold, packetOutcome}
+use Rattle.packets.specs.Promise.{packetOutcome}
 use Rattle.packets.specs.declared.types.Kind as packets
 use Rattle.packets.specs.declared.types.Ending.{Ending}
 use Rattle.packets.specs.declared.types.Ending.the-variants.{Whole, Repaired}
+use Rattle.packets.specs.declared.types.Named.{Named}
 use Rattle.packets.specs.declared.types.PacketRead.{PacketRead}
 use Rattle.leaving.specs.Outcome.{releasedOutcome}
 use Rattle.offering.specs.Outcome.{offeredOutcome}
@@ -58,11 +59,12 @@ use Rattle.images.specs.Image.{imageToWrite}
 use Rattle.images.specs.Promise.{ImageRead, restoredOutcome}
 use Rattle.images.specs.declared.Restored.{Restored}
 use Rattle.demands.specs.Refusals.{lengthRows, offerRows, releaseRows}
+use Rattle.demands.specs.NamedEdition.{Names, ReadBy, packetBy, AnotherEdition}
 use Rattle.demands.specs.PacketRefusals.{PacketRefusals}
 use Rattle.demands.specs.DatagramRefusals.{DatagramRefusals}
 
 -- ---- readers
--- some octets are what the datagram writer writes of some fields; or the packet writer
+-- some octets are what the datagram writer writes of some fields; or the packet writer, by an edition
 pub record IsDatagram (s : List ℕ) : Type 0 where
   pub number : ℕ
   pub packet : List ℕ
@@ -71,35 +73,37 @@ pub record IsDatagram (s : List ℕ) : Type 0 where
   pub run : List ℕ
   pub written : datagramToWrite number packet kind lengths run ≡ done s
 
-pub record IsPacket (s : List ℕ) : Type 0 where
+pub record IsPacket (edition : Edition) (s : List ℕ) : Type 0 where
   pub kind : packets.Kind
   pub value : ℕ
   pub types : List ℕ
   pub lengths : List ℕ
   pub octets : List ℕ
-  pub written : packetToWrite edition98 kind value types lengths octets ≡ done s
+  pub written : packetToWrite edition kind value types lengths octets ≡ done s
 
 -- or the packet writer, and zeros only after it, within the packet limit
-pub record IsRepaired (s : List ℕ) : Type 0 where
+pub record IsRepaired (edition : Edition) (s : List ℕ) : Type 0 where
   pub packet : List ℕ
   pub zeros : ℕ
   pub is : s ≡ packet ++ replicate zeros 0
   pub fits : length s ≤ packetLimit
-  pub written : IsPacket packet
+  pub written : IsPacket edition packet
 
 pub record Readers : Type 0 where
   pub length : {s : List ℕ} {r : Length} → LengthRead s r → refusalIn (lengthOutcome r) ≡ first (lengthRows s)
   pub datagram : {s : List ℕ} {r : DatagramRead} → DatagramReads s r → refusalIn (readOutcome r) ≡ refusalIn (readDatagram s)
-  pub packet : {ending : Ending} {s : List ℕ} {r : PacketRead} → PacketTold edition98 ending s r
-      → refusalIn (packetOutcome r) ≡ refusalIn (readPacket edition98 ending s)
-  -- a datagram reads exactly if it is one, and so does a packet as received; one as repaired "may go on with zeros only". That
-  -- octets are below 256 (`Octets`) is so of every slice of octets
+  pub packet : (octet : ℕ) (ending : Ending) (s : List ℕ) {r : PacketRead} → ReadBy octet ending s r
+      → refusalIn (packetOutcome r) ≡ refusalIn (byEdition octet (λ edition. readPacket edition ending s))
+  -- a datagram reads exactly if it is one, and so does a packet of the named edition as received; one as repaired "may go on with zeros
+  -- only". That octets are below 256 (`Octets`) is so of every slice of octets
   pub isDatagram : {s : List ℕ} {r : DatagramRead} → Octets s → DatagramReads s r → (refusalIn (readOutcome r) ≡ none) ↔ IsDatagram s
-  pub isPacket : {s : List ℕ} {r : PacketRead} → Octets s → PacketTold edition98 Whole s r
-      → (refusalIn (packetOutcome r) ≡ none) ↔ IsPacket s
-  pub isRepaired : {s : List ℕ} {r : PacketRead} → Octets s → PacketTold edition98 Repaired s r
-      → (refusalIn (packetOutcome r) ≡ none) ↔ IsRepaired s
-  pub packetRefusals : PacketRefusals
+  pub isPacket : (octet : ℕ) (named : Named) → Names octet named → (s : List ℕ) {r : PacketRead} → Octets s → ReadBy octet Whole s r
+      → (refusalIn (packetOutcome r) ≡ none) ↔ IsPacket (editionOf named) s
+  pub isRepaired : (octet : ℕ) (named : Named) → Names octet named → (s : List ℕ) {r : PacketRead} → Octets s
+      → ReadBy octet Repaired s r → (refusalIn (packetOutcome r) ≡ none) ↔ IsRepaired (editionOf named) s
+  pub packetRefusals : (octet : ℕ) (named : Named) → Names octet named → PacketRefusals octet named
+  -- document 02, request 11: "15 for another edition, first", of the packet readers and of the packet writer
+  pub anotherEdition : AnotherEdition
   pub datagramRefusals : DatagramRefusals
 
 -- ---- writers
@@ -114,19 +118,20 @@ pub record Writers : Type 0 where
       → Puts (datagramToWrite number packet kind lengths run) old new r
       → refusalIn (writtenOutcome r)
       ≡ first (datagramWriterRows packet kind lengths run ++ roomRow (datagramOctets (carriedOf number packet kind lengths run)) old)
-  pub packet : (kind : packets.Kind) (value : ℕ) (types lengths octets : List ℕ) {old new : List ℕ} {r : Written}
-      → Puts (packetToWrite edition98 kind value types lengths octets) old new r
+  pub packet : (octet : ℕ) (named : Named) → Names octet named → (kind : packets.Kind) (value : ℕ) (types lengths octets : List ℕ)
+      {old new : List ℕ} {r : Written} → Puts (packetBy octet kind value types lengths octets) old new r
       → refusalIn (writtenOutcome r)
       ≡ first
-      (packetWriterRows edition98 kind value types lengths octets ++ roomRow (packetOctets edition98 kind value types lengths octets) old)
+      (packetWriterRows (editionOf named) kind value types lengths octets
+      ++ roomRow (packetOctets (editionOf named) kind value types lengths octets) old)
   -- the octets of a line of hexadecimal: "line over [its limit] (before 15)", "a line not of paired hexadecimal digits", 13
   pub line : (line : List ℕ) {old new : List ℕ} {r : Written} → Puts (lineOctets line) old new r
       → refusalIn (writtenOutcome r) ≡ first (lineRows line ++ roomRow (octetsIn line) old)
   pub lengthUnchanged : (n : ℕ) → Unchanged (lengthToWrite n)
   pub datagramUnchanged : (number : ℕ) (packet : List ℕ) (kind : Kind) (lengths run : List ℕ)
       → Unchanged (datagramToWrite number packet kind lengths run)
-  pub packetUnchanged : (kind : packets.Kind) (value : ℕ) (types lengths octets : List ℕ)
-      → Unchanged (packetToWrite edition98 kind value types lengths octets)
+  pub packetUnchanged : (octet : ℕ) (kind : packets.Kind) (value : ℕ) (types lengths octets : List ℕ)
+      → Unchanged (packetBy octet kind value types lengths octets)
   pub lineUnchanged : (line : List ℕ) → Unchanged (lineOctets line)
 
 -- ---- the receiving session
@@ -165,8 +170,8 @@ pub record Places : Type 0 where
   pub lengthWriter : (n : ℕ) → Unplaced (lengthToWrite n)
   pub datagramWriter : (number : ℕ) (packet : List ℕ) (kind : Kind) (lengths run : List ℕ)
       → Unplaced (datagramToWrite number packet kind lengths run)
-  pub packetWriter : (kind : packets.Kind) (value : ℕ) (types lengths octets : List ℕ)
-      → Unplaced (packetToWrite edition98 kind value types lengths octets)
+  pub packetWriter : (octet : ℕ) (kind : packets.Kind) (value : ℕ) (types lengths octets : List ℕ)
+      → Unplaced (packetBy octet kind value types lengths octets)
   pub line : (line : List ℕ) → Unplaced (lineOctets line)
   pub send : {s : Sender} {settings : Settings} {packet old new : List ℕ} {r : Sent} → Sends s settings packet old new r
       → placeIn (writtenOutcome (r .answer)) ≡ 0

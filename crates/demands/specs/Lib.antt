@@ -1,3 +1,4 @@
+pub mod NamedEdition
 pub mod OneTold
 pub mod OnePencil
 pub mod OneInside

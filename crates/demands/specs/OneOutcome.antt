@@ -9,9 +9,6 @@ use Rattle.lengths.specs.Promise.{Puts}
 use Rattle.lengths.specs.declared.Written.{Written}
 use Rattle.datagrams.specs.Write.{datagramToWrite}
 use Rattle.datagrams.specs.declared.kind.Kind.{Kind}
-use Rattle.packets.specs.Edition.{edition98}
-use Rattle.packets.specs.Write.{packetToWrite}
-use Rattle.packets.specs.Promise.{PacketTold}
 use Rattle.packets.specs.declared.types.Kind as packetKinds
 use Rattle.packets.specs.declared.types.Ending.{Ending}
 use Rattle.held.specs.Table.{Lent}
@@ -27,6 +24,7 @@ use Rattle.lines.specs.Claims as lines
 use Rattle.frames.specs.Claims as frames
 use Rattle.frame_feed.specs.Claims as frameFeed
 use Rattle.replays.specs.Claims as replays
+use Rattle.demands.specs.NamedEdition.{ReadBy, packetBy}
 use Rattle.demands.specs.OneTold.{One, OneTold}
 use Rattle.demands.specs.OneInside.{OneInside}
 
@@ -39,8 +37,8 @@ pub record Writers : Type 0 where
   pub length : (n : ℕ) → OneWrite (lengthToWrite n)
   pub datagram : (number : ℕ) (packet : List ℕ) (kind : Kind) (lengths run : List ℕ)
       → OneWrite (datagramToWrite number packet kind lengths run)
-  pub packet : (kind : packetKinds.Kind) (value : ℕ) (types lengths octets : List ℕ)
-      → OneWrite (packetToWrite edition98 kind value types lengths octets)
+  pub packet : (octet : ℕ) (kind : packetKinds.Kind) (value : ℕ) (types lengths octets : List ℕ)
+      → OneWrite (packetBy octet kind value types lengths octets)
   -- `write` of `image_writer`, and its `write_core`, of a session that is lent
   pub image : (session : Lent) → OneWrite (imageToWrite editionWritten session)
 
@@ -53,7 +51,7 @@ pub record OneOutcome : Type 0 where
   pub lengths : lengths.OneOutcome
   pub datagrams : datagrams.OneOutcome
   pub packets : packets.OneOutcome
-  pub secondReader : (ending : Ending) (s : List ℕ) → One (PacketTold edition98 ending s)
+  pub secondReader : (octet : ℕ) (ending : Ending) (s : List ℕ) → One (ReadBy octet ending s)
   pub writers : Writers
   pub receiver : sessions.OneOutcome
   pub sender : sending.OneOutcome

@@ -15,10 +15,14 @@ use Rattle.datagrams.specs.Sizes as sizes
 use Rattle.datagrams.specs.Write as write
 use Rattle.datagrams.specs.Inner.Heads.{LengthSize, kindHead}
 use Rattle.datagrams.specs.declared.kind.Kind.{Kind}
-use Rattle.packets.specs.Edition.{edition98}
+use Rattle.packets.specs.Edition as edition
+use Rattle.packets.specs.Edition.{edition02, editionOf, carries, allows}
 use Rattle.packets.specs.Packet as packet
 use Rattle.packets.specs.Promise.{padded, packetRead}
+use Rattle.packets.specs.declared.types.Choice.{Choice}
+use Rattle.packets.specs.declared.types.Enumerated.{Enumerated}
 use Rattle.packets.specs.declared.types.Kind as packets
+use Rattle.packets.specs.declared.types.Named.{Named}
 use Rattle.packets.specs.declared.types.Ending as endings
 use Rattle.packets.specs.declared.types.Field.{Field}
 use Rattle.packets.specs.declared.types.PacketRead.{PacketRead}
@@ -77,14 +81,16 @@ pub record ToldByDatagrams : Type 0 where
   pub lengthSize : (n : ℕ) → One (LengthSize n)
   pub wide : (n : ℕ) → One (λ (r : ℕ). r ≡ n)
 
--- `packets`: `least`, `limit` and `types_limit` of `Field`, `assigned`, `right_fields`, `right_data`
+-- `packets`: `least`, `limit` and `types_limit` of `Field`; `packet_rules`: `choice_of`, `values`, `types`, `right_fields`, `right_data`
 pub record ToldByPackets : Type 0 where
   pub fieldsLeast : One (λ (r : ℕ). r ≡ packet.fieldsLeast)
   pub fieldsLimit : One (λ (r : ℕ). r ≡ packet.fieldsLimit)
-  pub typesLimit : One (λ (r : ℕ). r ≡ packet.typesLimit edition98)
-  pub assigned : (kind : packets.Kind) → One (λ (r : ℕ). r ≡ packet.assigned edition98 kind)
+  pub typesLimit : One (λ (r : ℕ). r ≡ packet.typesLimit edition02)
+  pub choiceOf : (octet : ℕ) → One (λ (r : Choice). r ≡ edition.choiceOf octet)
+  pub values : (named : Named) (kind : packets.Kind) → One (λ (r : Enumerated). r ≡ edition.values (editionOf named) kind)
+  pub types : (named : Named) → One (λ (r : Enumerated). r ≡ (editionOf named) .types)
   pub rightFields : (kind : packets.Kind) (present : Bool) → One (λ (r : Bool). r ≡ packet.rightFields kind present)
-  pub rightData : (kind : ℕ) (present : Bool) → One (λ (r : Bool). r ≡ packet.rightData edition98 kind present)
+  pub rightData : (kind : ℕ) (present : Bool) → One (λ (r : Bool). r ≡ allows (carries kind) present)
 
 -- `packet_reader`: what its `read` and the second reader share, `may_follow`, `no_fields` and `refused`
 pub record ToldByPacketReader : Type 0 where

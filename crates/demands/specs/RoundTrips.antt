@@ -21,15 +21,13 @@ use Rattle.datagrams.specs.declared.kind.Kind.the-variants as kind
 use Rattle.datagrams.specs.declared.reader.Part.{Part}
 use Rattle.datagrams.specs.declared.reader.DatagramRead.{DatagramRead}
 use Rattle.datagrams.specs.declared.reader.Reading.the-variants as reading
-use Rattle.packets.specs.Edition.{edition98}
 use Rattle.packets.specs.Packet.{allData, fieldsLimit, noField}
-use Rattle.packets.specs.Write.{packetToWrite}
-use Rattle.packets.specs.Promise.{PacketTold}
 use Rattle.packets.specs.declared.types.Kind as packets
 use Rattle.packets.specs.declared.types.Field.{Field}
 use Rattle.packets.specs.declared.types.Ending.the-variants.{Whole, Repaired}
 use Rattle.packets.specs.declared.types.PacketRead.{PacketRead}
 use Rattle.packets.specs.declared.types.Reading.the-variants as packetReading
+use Rattle.demands.specs.NamedEdition.{ReadBy, packetBy}
 use Rattle.views.specs.View.{numbers}
 use Rattle.sending.specs.Sending.{historyKept}
 use Rattle.sending.specs.Carries.{sparesFrom, messagesFrom}
@@ -103,18 +101,19 @@ pub record PacketSame (s : List ℕ) (kind : packets.Kind) (value : ℕ) (types 
   pub octetsSame : dataRead s (length types) r ≡ octets
   pub unused : drop (length types) (r .fields) ≡ replicate (fieldsLimit - length types) noField
 
+-- in the edition that the caller names at both calls (document 02, request 11)
 pub record PacketTrips : Type 0 where
-  pub readsBack : (kind : packets.Kind) (value : ℕ) (types lengths octets : List ℕ) {old new : List ℕ} {w : Written} {n : ℕ}
-      → Puts (packetToWrite edition98 kind value types lengths octets) old new w → w ≡ written.Octets n
-      → {r : PacketRead} → PacketTold edition98 Whole (take n new) r → PacketSame (take n new) kind value types lengths octets r
+  pub readsBack : (octet : ℕ) (kind : packets.Kind) (value : ℕ) (types lengths octets : List ℕ) {old new : List ℕ} {w : Written} {n : ℕ}
+      → Puts (packetBy octet kind value types lengths octets) old new w → w ≡ written.Octets n
+      → {r : PacketRead} → ReadBy octet Whole (take n new) r → PacketSame (take n new) kind value types lengths octets r
   -- "A repaired one may go on with zeros only"
-  pub readsRepaired : (kind : packets.Kind) (value : ℕ) (types lengths octets : List ℕ) {old new : List ℕ} {w : Written} {n : ℕ}
-      → Puts (packetToWrite edition98 kind value types lengths octets) old new w → w ≡ written.Octets n
-      → (zeros : ℕ) → n + zeros ≤ packetLimit → {r : PacketRead} → PacketTold edition98 Repaired (take n new ++ replicate zeros 0) r
+  pub readsRepaired : (octet : ℕ) (kind : packets.Kind) (value : ℕ) (types lengths octets : List ℕ) {old new : List ℕ} {w : Written} {n : ℕ}
+      → Puts (packetBy octet kind value types lengths octets) old new w → w ≡ written.Octets n
+      → (zeros : ℕ) → n + zeros ≤ packetLimit → {r : PacketRead} → ReadBy octet Repaired (take n new ++ replicate zeros 0) r
       → PacketSame (take n new ++ replicate zeros 0) kind value types lengths octets r
-  pub writesBack : {s : List ℕ} {r : PacketRead} {kind : packets.Kind} {value count : ℕ} → Octets s → PacketTold edition98 Whole s r
+  pub writesBack : (octet : ℕ) (s : List ℕ) {r : PacketRead} {kind : packets.Kind} {value count : ℕ} → Octets s → ReadBy octet Whole s r
       → r .reading ≡ packetReading.Packet kind value count → {old new : List ℕ} {w : Written}
-      → Puts (packetToWrite edition98 kind value (typesOf count r) (sizesOf count r) (dataRead s count r)) old new w
+      → Puts (packetBy octet kind value (typesOf count r) (sizesOf count r) (dataRead s count r)) old new w
       → length s ≤ length old → WrittenBack (length s) s old new w
 
 -- ---- the sending session

@@ -4,19 +4,19 @@
 use Prim.Native.Nat.{ℕ}
 use mathlib.Core.Path.{_≡_}
 use mathlib.Core.List.{List}
-use Rattle.packets.specs.Edition.{edition98}
-use Rattle.packets.specs.Promise.{PacketTold, packetOutcome}
+use Rattle.packets.specs.Promise.{packetOutcome}
 use Rattle.packets.specs.declared.types.Ending.{Ending}
 use Rattle.packets.specs.declared.types.PacketRead.{PacketRead}
+use Rattle.demands.specs.NamedEdition.{ReadBy}
 
 -- two answers are the same: in fields or refusal, and in the places that are left
 pub record SameAnswer (quick second : PacketRead) : Type 0 where
   pub answer : packetOutcome quick ≡ packetOutcome second
   pub whole : quick ≡ second
 
--- whatever `packet_reader::read` answers, `pencil_reader::read` answers
+-- whatever `packet_reader::read` answers, `pencil_reader::read` answers, whichever octet names the edition
 abbrev pub SecondReader : Type 0
-SecondReader = (ending : Ending) (s : List ℕ) (quick second : PacketRead)
-    → PacketTold edition98 ending s quick
-    → PacketTold edition98 ending s second
+SecondReader = (octet : ℕ) (ending : Ending) (s : List ℕ) (quick second : PacketRead)
+    → ReadBy octet ending s quick
+    → ReadBy octet ending s second
     → SameAnswer quick second

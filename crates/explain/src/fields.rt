@@ -1,6 +1,4 @@
 // Data-Field ::= SEQUENCE OF SEQUENCE { field-type ENUMERATED .., field-data OCTET STRING (SIZE (1..65535)) OPTIONAL }
-use crate::names::say_type;
-use crate::names::say_typed;
 use crate::text::On;
 use crate::text::part;
 use crate::text::row;
@@ -13,6 +11,9 @@ use crate::text::say_number;
 use crate::text::say_octets;
 use crate::text::say_refused;
 use crate::text::stopped;
+use crate::values::Which;
+use crate::values::enumerated;
+use packets::Named;
 use pencil_reader::Edge;
 use pencil_reader::HeaderRead;
 use pencil_reader::Marked;
@@ -21,7 +22,6 @@ use pencil_reader::Part;
 use pencil_reader::align;
 use pencil_reader::count;
 use pencil_reader::field_data;
-use pencil_reader::field_type;
 use pencil_reader::flag;
 use pencil_reader::header;
 use pencil_reader::octet;
@@ -83,12 +83,18 @@ fn sized(s: &[u8], edge: usize) -> On
     }
 }
 
-// field-data OCTET STRING (SIZE (1..65535)) OPTIONAL, behind a header at a place that is right.
-fn optional(s: &[u8], at: usize) -> On
+// field-data OCTET STRING (SIZE (1..65535)) OPTIONAL, behind a header from a place up to another.
+fn optional(named: Named, s: &[u8], at: usize, end: usize) -> On
     requires { ⌜ length (now s) ≤ packetLimit ⌝ }
 {
-    match header(s, at) {
-        HeaderRead::Refused(why) => stopped(s, at, 4, b"field-data OPTIONAL", why),
+    match header(named, s, at) {
+        HeaderRead::Refused(why) => stopped(
+            s,
+            at,
+            std::num::wrapping_sub_usize(end, at),
+            b"field-data OPTIONAL",
+            why,
+        ),
         HeaderRead::Found(_, present, next) => {
             if !present {
                 return On::At(next);
@@ -102,7 +108,7 @@ fn optional(s: &[u8], at: usize) -> On
 }
 
 // SEQUENCE { field-type, field-data OPTIONAL }
-fn field(s: &[u8], at: usize) -> On
+fn field(named: Named, s: &[u8], at: usize) -> On
     requires { ⌜ length (now s) ≤ packetLimit ⌝ }
 {
     let item = at / 8;
@@ -111,28 +117,22 @@ fn field(s: &[u8], at: usize) -> On
         Marked::Found(present, next) => {
             row(s, at, next, b"field-data present");
             say_flag(present);
-            match field_type(s, item, next) {
-                Number::Refused(why) => stopped(s, next, 3, b"field-type", why),
-                Number::Found(kind, end) => {
-                    row(s, next, end, b"field-type");
-                    say_type(kind);
-                    say_typed(kind);
-                    say(b"\n");
-                    optional(s, at)
-                }
+            match enumerated(named, s, item, next, Which::Type, b"field-type") {
+                On::Stopped => On::Stopped,
+                On::At(end) => optional(named, s, at, end),
             }
         }
     }
 }
 
 // SEQUENCE OF: so many fields.
-fn sequence(s: &[u8], from: usize, count: usize) -> On
+fn sequence(named: Named, s: &[u8], from: usize, count: usize) -> On
     requires { ⌜ length (now s) ≤ packetLimit ⌝ }
 {
     let mut at = from;
     let mut i = 0;
     while i < count {
-        match field(s, at) {
+        match field(named, s, at) {
             On::Stopped => {
                 return On::Stopped;
             }
@@ -161,7 +161,7 @@ fn count_bits(s: &[u8], at: usize) -> usize
 }
 
 // Data-Field: the count of fields, and the fields.
-pub fn data_field(s: &[u8], at: usize) -> On
+pub fn data_field(named: Named, s: &[u8], at: usize) -> On
     requires { ⌜ length (now s) ≤ packetLimit ⌝ }
 {
     match count(s, at) {
@@ -170,7 +170,7 @@ pub fn data_field(s: &[u8], at: usize) -> On
             row(s, at, next, b"Data-Field");
             say_fields(n);
             say(b"\n");
-            sequence(s, next, n)
+            sequence(named, s, next, n)
         }
     }
 }

@@ -1,7 +1,8 @@
 // Standard input, line by line.
+use datagrams::Datagram;
 
-// What is kept of a line: more than a line of hexadecimal has.
-pub const KEPT: usize = 3016;
+// What is kept of a line: more than two words and a line of hexadecimal have.
+pub const KEPT: usize = 2 * Datagram::LIMIT + 16;
 
 // The next character of the input, and whether there is none.
 fn character(ended: &mut bool) -> u8 {
@@ -36,8 +37,24 @@ pub fn read_line(line: &mut [u8; KEPT], ended: &mut bool) -> usize {
     size
 }
 
-// Whether a line begins with the word repaired.
-pub fn is_repaired(line: &[u8; KEPT]) -> bool {
+// The words that may stand before the digits.
+pub const NEW: usize = 3;
+
+pub const REPAIRED: usize = 8;
+
+// Whether some characters begin with the word new.
+pub fn is_new(line: &[u8]) -> bool {
+    if line.len() < NEW {
+        return false;
+    }
+    (line[0] == b'n') & (line[1] == b'e') & (line[2] == b'w')
+}
+
+// Whether they begin with the word repaired.
+pub fn is_repaired(line: &[u8]) -> bool {
+    if line.len() < REPAIRED {
+        return false;
+    }
     let front = (line[0] == b'r') & (line[1] == b'e') & (line[2] == b'p') & (line[3] == b'a');
     let back = (line[4] == b'i') & (line[5] == b'r') & (line[6] == b'e') & (line[7] == b'd');
     front & back

@@ -1,19 +1,25 @@
-// The program for the support desk: a packet in hexadecimal a line; it is told item by item, in the names of Annex A. Where each item
-// ends, what it holds and why it is refused is what the functions of `pencil_reader` answer, and the last line is its `read`.
+// The program for the support desk: a packet in hexadecimal a line; it is told item by item, in the names of Annex A, of 06/98 or, behind
+// the word new, of 2002. Where each item ends, what it holds and why it is refused is what the functions of `pencil_reader` answer, and the
+// last line is its `read`.
 mod fields;
 mod input;
 mod last;
 mod names;
 mod start;
 mod text;
+mod values;
 
 use datagrams::Datagram;
 use datagrams::Packet;
 use input::KEPT;
+use input::NEW;
+use input::REPAIRED;
+use input::is_new;
 use input::is_repaired;
 use input::read_line;
 use lengths::Written;
 use packets::Ending;
+use packets::Named;
 use text::part;
 use text::row_of_octets;
 use text::say;
@@ -32,37 +38,54 @@ fn too_long(size: usize) {
     say(b"\n");
 }
 
-// A packet: its items, then what it reads as.
-fn explain(s: &[u8], ending: Ending) {
+// A packet: its items by the edition, then what it reads as.
+fn explain(named: Named, s: &[u8], ending: Ending) {
     let fits = s.len() <= Packet::LIMIT;
     if fits {
-        start::packet(s, ending);
+        start::packet(named, s, ending);
     } else {
         too_long(s.len());
     }
-    last::told(pencil_reader::read(s, ending), fits);
+    last::told(named, s, ending, fits);
 }
 
 // The packet in some digits.
-fn packet(digits: &[u8], ending: Ending) {
+fn packet(named: Named, digits: &[u8], ending: Ending) {
     let mut octets = [0u8; OCTETS];
     match hexadecimal::hex_to_octets(digits, &mut octets) {
         Written::Refused(_) => say(
-            b"no packet in hexadecimal: two digits an octet, at most 4,800; the word repaired may stand first\n",
+            b"no packet in hexadecimal: two digits an octet, at most 4,800; the words new and repaired may stand first\n",
         ),
-        Written::Octets(count) => explain(part(&octets, 0, count), ending),
+        Written::Octets(count) => explain(named, part(&octets, 0, count), ending),
     }
 }
 
-// A line of so many characters.
-fn explain_line(line: &[u8; KEPT], size: usize) {
+// What follows a word of so many characters.
+fn behind(line: &[u8], word: usize) -> &[u8] {
+    part(line, word, std::num::wrapping_sub_usize(line.len(), word))
+}
+
+// A line behind the word for its edition, if there was one.
+fn by_edition(named: Named, line: &[u8]) {
     if is_repaired(line) {
-        return packet(
-            part(line, 8, std::num::wrapping_sub_usize(size, 8)),
-            Ending::Repaired,
-        );
+        return packet(named, behind(line, REPAIRED), Ending::Repaired);
     }
-    packet(part(line, 0, size), Ending::Whole)
+    packet(named, line, Ending::Whole)
+}
+
+// A line of so many characters: the words new and repaired may stand first, in either order.
+fn explain_line(kept: &[u8; KEPT], size: usize) {
+    let line = part(kept, 0, size);
+    if is_new(line) {
+        return by_edition(Named::New, behind(line, NEW));
+    }
+    if is_repaired(line) {
+        let rest = behind(line, REPAIRED);
+        if is_new(rest) {
+            return packet(Named::New, behind(rest, NEW), Ending::Repaired);
+        }
+    }
+    by_edition(Named::Old, line)
 }
 
 // One line of the input; an empty line stands before all but the first, and empty lines of the input are passed over.

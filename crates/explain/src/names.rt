@@ -1,5 +1,14 @@
-// Annex A's names, and what they mean in plain words.
+// Annex A's names, those that were added in 2002 too, and what they mean in plain words.
 use crate::text::say;
+use packets::Named;
+
+// The edition that a line names.
+pub fn say_edition(named: Named) {
+    match named {
+        Named::Old => say(b"the old edition (06/98)"),
+        Named::New => say(b"the new edition (2002)"),
+    }
+}
 
 // data, and the modulation of an indicator of training
 fn say_modulation(n: usize) {
@@ -12,7 +21,13 @@ fn say_modulation(n: usize) {
         5 => say(b"v17-7200"),
         6 => say(b"v17-9600"),
         7 => say(b"v17-12000"),
-        _ => say(b"v17-14400"),
+        8 => say(b"v17-14400"),
+        9 => say(b"v8"),
+        10 => say(b"v34-pri-rate"),
+        11 => say(b"v34-CC-1200"),
+        12 => say(b"v34-pri-ch"),
+        13 => say(b"v33-12000"),
+        _ => say(b"v33-14400"),
     }
 }
 
@@ -26,21 +41,31 @@ fn say_modem(n: usize) {
         5 => say(b"V.17 at 7200 bit/s"),
         6 => say(b"V.17 at 9600 bit/s"),
         7 => say(b"V.17 at 12000 bit/s"),
-        _ => say(b"V.17 at 14400 bit/s"),
+        8 => say(b"V.17 at 14400 bit/s"),
+        9 => say(b"V.8"),
+        10 => say(b"V.34"),
+        11 => say(b"V.34, control channel at 1200 bit/s"),
+        12 => say(b"V.34, primary channel"),
+        13 => say(b"V.33 at 12000 bit/s"),
+        _ => say(b"V.33 at 14400 bit/s"),
     }
 }
 
-// The modulation of an indicator from v27-2400-training on: from 8 on each has two, short and long.
+// The modulation of an indicator of training, v27-2400-training to v17-14400-long-training, of which from 8 on each has two, short and
+// long; then v33-12000-training and v33-14400-training.
 fn trained(value: usize) -> usize {
     if value < 8 {
         return (value + 5) % 8;
     }
-    value / 2 % 8 + 1
+    if value < 16 {
+        return value / 2 % 8 + 1;
+    }
+    14 - value % 2
 }
 
 fn say_training(value: usize) {
     say_modulation(trained(value));
-    if value < 8 {
+    if (value < 8) | (16 <= value) {
         return say(b"-training");
     }
     if value % 2 == 0 {
@@ -55,6 +80,11 @@ pub fn say_indicator(value: usize) {
         1 => say(b"cng"),
         2 => say(b"ced"),
         3 => say(b"v21-preamble"),
+        16 => say(b"v8-ansam"),
+        17 => say(b"v8-signal"),
+        18 => say(b"v34-cntl-channel-1200"),
+        19 => say(b"v34-pri-channel"),
+        20 => say(b"v34-CC-retrain"),
         _ => say_training(value),
     }
 }
@@ -65,6 +95,11 @@ pub fn say_indicated(value: usize) {
         1 => say(b", calling tone, 1100 Hz"),
         2 => say(b", answering tone, 2100 Hz"),
         3 => say(b", flags before V.21 frames"),
+        16 => say(b", answering tone of V.8"),
+        17 => say(b", signal of V.8"),
+        18 => say(b", control channel of V.34 at 1200 bit/s"),
+        19 => say(b", primary channel of V.34"),
+        20 => say(b", the control channel of V.34 is trained again"),
         _ => {
             say(b", training signal of ");
             say_modem(trained(value));
@@ -91,7 +126,11 @@ pub fn say_type(kind: usize) {
         4 => say(b"hdlc-fcs-OK-sig-end"),
         5 => say(b"hdlc-fcs-BAD-sig-end"),
         6 => say(b"t4-non-ecm-data"),
-        _ => say(b"t4-non-ecm-sig-end"),
+        7 => say(b"t4-non-ecm-sig-end"),
+        8 => say(b"cm-message"),
+        9 => say(b"jm-message"),
+        10 => say(b"ci-message"),
+        _ => say(b"v34rate"),
     }
 }
 
@@ -104,7 +143,11 @@ pub fn say_typed(kind: usize) {
         4 => say(b", a good frame ends, the last"),
         5 => say(b", a bad frame ends, the last"),
         6 => say(b", octets of a page without error correction"),
-        _ => say(b", the page without error correction ends"),
+        7 => say(b", the page without error correction ends"),
+        8 => say(b", the fax profile in a CM signal of V.8"),
+        9 => say(b", the answer to a CM signal of V.8"),
+        10 => say(b", what a CI signal of V.8 calls for"),
+        _ => say(b", the rate of the primary channel of V.34"),
     }
 }
 

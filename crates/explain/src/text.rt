@@ -68,27 +68,22 @@ pub fn say_flag(set: bool) {
     say(b"no\n")
 }
 
-// The end of a refusal's line: our words for it.
-fn say_why(why: Refusal) {
+// A refusal: its number, with the octet at which the refused item begins where it was met in reading order, and our words for it.
+pub fn say_refusal(why: Refusal, met: bool) {
+    say(b"refused with ");
+    say_number(why.number as usize);
+    if met {
+        say(b" at octet ");
+        say_number(why.place);
+    }
     say(b": ");
     say_words(why.number);
-    say(b"\n");
 }
 
-// A refusal: its number, and our words for it.
+// The end of a refused item's line.
 pub fn say_refused(why: Refusal) {
-    say(b"refused with ");
-    say_number(why.number as usize);
-    say_why(why);
-}
-
-// The same with the octet at which the refused item begins.
-pub fn say_refused_at(why: Refusal) {
-    say(b"refused with ");
-    say_number(why.number as usize);
-    say(b" at octet ");
-    say_number(why.place);
-    say_why(why);
+    say_refusal(why, false);
+    say(b"\n");
 }
 
 // A place, in octets and bits.

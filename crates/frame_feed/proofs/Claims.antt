@@ -1,6 +1,6 @@
 -- The claims of this crate. Assumes nothing.
 use mathlib.Core.Path.{_≡_, refl, sym, ap, _∙_}
-use mathlib.Core.List.{List}
+use mathlib.Core.List.{List, [], _∷_}
 use lib.ListN.{getElem?}
 use mathlib.Core.Option.{Option, none, some}
 use Prim.Native.Nat.{ℕ}
@@ -10,6 +10,11 @@ use Rattle.formats.specs.Format.{octetsFront, twoFront}
 use Rattle.packets.specs.Packet.{every, root, addition, enumerated, typeOfMsg, start, count, header, size, fieldData, field}
 use Rattle.packets.specs.Packet.{dataField, packet}
 use Rattle.packets.specs.Packet as description
+use Rattle.packets.specs.Edition.{choiceOf, ofChoice}
+use Rattle.packets.specs.declared.types.Choice.{Choice}
+use Rattle.packets.specs.declared.types.Choice.the-variants as choice
+use Rattle.packets.specs.declared.types.Named.the-variants.{Old, New}
+use Rattle.packets.specs.declared.types.Ending.the-variants.{Whole}
 use Rattle.frames.specs.Frame.{Joining, freshJoining, withAdded, goodFrame, onOpen, fieldStep}
 use Rattle.frames.specs.Joiner.{heldAs, joiningOf}
 use Rattle.frames.specs.Line.{Event, aField, aLoss, eventStep, handedBy}
@@ -18,9 +23,9 @@ use Rattle.frames.specs.declared.Joiner.{Joiner}
 use Rattle.frames.specs.declared.Joined.{Joined}
 use Rattle.frames.proofs.Laws.{held-joining}
 use Rattle.frames.proofs.Claims as joiner
-use Rattle.frame_feed.specs.Feed.{Heard, eventsOf, eventsFrom, framesFrom, released}
+use Rattle.frame_feed.specs.Feed.{Heard, eventsOf, eventsRead, eventsFrom, framesFrom, released}
 use Rattle.frame_feed.specs.Promise.{EventOwes}
-use Rattle.frame_feed.specs.Claims.{Claims, exampleHeard}
+use Rattle.frame_feed.specs.Claims.{Claims, exampleHeard, newHeard}
 
 one-event : (event : Option Event) (j : Joiner) (old new other : List ℕ) (r q : Joined) → EventOwes event j old new r
     → EventOwes event j old other q → (r ≡ q) × (new ≡ other)
@@ -38,13 +43,18 @@ claims =
       oneOutcome =
           record {
             turns = λ m n. m .answer ∙ sym (n .answer);
-            feed = λ {j} {kind} {packet} {turn} {old} {new} {other} {r} {q} m n.
-                one-event (getElem? (eventsOf (released kind packet)) turn) j old new other r q (m .owes) (n .owes);
+            feed = λ {j} {edition} {kind} {packet} {turn} {old} {new} {other} {r} {q} m n.
+                one-event (getElem? (eventsOf (released edition kind packet)) turn) j old new other r q (m .owes) (n .owes);
           };
       frames =
           λ heard {j} {frames} fresh fed.
           joiner.claims .anyEvents .handed (HandedOut.fresh fresh) fed
           ∙ ap (λ (v : Joining). handedBy v (eventsFrom heard)) (ap joiningOf (fresh .state) ∙ held-joining freshJoining);
-      lostAlike = refl;
+      lostAlike = λ edition. by (choiceOf edition);
       example = refl;
-    }
+      newExample = refl;
+    } where
+      by : (c : Choice) → eventsRead [] (ofChoice c (λ e. description.readPacket e Whole [])) ≡ aLoss ∷ []
+      by (choice.Edition Old) = refl
+      by (choice.Edition New) = refl
+      by choice.Neither = refl

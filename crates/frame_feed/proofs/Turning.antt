@@ -8,9 +8,11 @@ use native.Mathlib.Nat.{not-suc-le-zero, le-of-suc-le-suc}
 use native.Mathlib.Omega.{arith}
 use Rattle.lengths.specs.Answers.{Answer, done, refused}
 use Rattle.lengths.specs.declared.Refusal.{Refusal}
-use Rattle.packets.specs.Edition.{edition98}
+use Rattle.packets.specs.Edition.{editionOf, choiceOf, ofChoice, byEdition}
 use Rattle.packets.specs.Packet.{fieldsLimit, PacketAnswer, readPacket, noField, dataOf}
 use Rattle.packets.specs.Promise.{padded, packetRead, PacketTold}
+use Rattle.packets.specs.declared.types.Choice.{Choice}
+use Rattle.packets.specs.declared.types.Choice.the-variants as choice
 use Rattle.packets.specs.declared.types.Ending.{Ending}
 use Rattle.packets.specs.declared.types.Kind.{Kind}
 use Rattle.packets.specs.declared.types.Field as packets
@@ -79,16 +81,26 @@ mapped-long f (x ∷ l) zero e = absurd (omega arith)
 mapped-long f (x ∷ l) (suc n) e = ap suc (mapped-long f l n (omega arith))
 
 -- ---- the turns
-module _ (kind : State) {s : List ℕ} {e : Ending} {read : PacketRead} (by-kind : e ≡ endingOf kind)
-    (told : PacketTold edition98 e s read) where
-  whole-by-kind : read ≡ packetRead (readPacket edition98 (endingOf kind) s)
-  whole-by-kind = told .whole ∙ ap (λ (x : Ending). packetRead (readPacket edition98 x s)) by-kind
+-- the parts of a packet that reads in the edition of its octet lie within its octets
+parts-within : (c : Choice) (ending : Ending) (s : List ℕ) (p : PacketAnswer) → ofChoice c (λ e. readPacket e ending s) ≡ done p
+    → (i : ℕ) → getD (p .fields) i noField .start + getD (p .fields) i noField .size ≤ length s
+parts-within (choice.Edition named) ending s p is i = packetClaims.claims .partsWithin (editionOf named) ending s p is i
+parts-within choice.Neither ending s p is i = let z : _≡_ {A = ℕ} 0 1 = cc in absurd (omega arith)
+
+-- what a packet reads as, by the octet and by its kind
+abbrev readAs : ℕ → State → List ℕ → Answer PacketAnswer
+readAs edition kind s = byEdition edition (λ d. readPacket d (endingOf kind) s)
+
+module _ (edition : ℕ) (kind : State) (s : List ℕ) {e : Ending} {read : PacketRead} (by-kind : e ≡ endingOf kind)
+    (told : PacketTold (byEdition edition (λ d. readPacket d e s)) read) where
+  whole-by-kind : read ≡ packetRead (readAs edition kind s)
+  whole-by-kind = told .whole ∙ ap (λ (x : Ending). packetRead (byEdition edition (λ d. readPacket d x s))) by-kind
 
   module _ {k : Kind} {v n : ℕ} (is : read .reading ≡ reading.Packet k v n) where
-    packet-as : DoneAs (readPacket edition98 (endingOf kind) s) read n
-    packet-as = done-as (readPacket edition98 (endingOf kind) s) whole-by-kind is
+    packet-as : DoneAs (readAs edition kind s) read n
+    packet-as = done-as (readAs edition kind s) whole-by-kind is
 
-    pub turns-packet : TurnsTold kind s n
+    pub turns-packet : TurnsTold edition kind s n
     unfolding eventsOf
     turns-packet =
         record {
@@ -106,7 +118,7 @@ module _ (kind : State) {s : List ℕ} {e : Ending} {read : PacketRead} (by-kind
         let padding = length-append fields (replicate (fieldsLimit - length fields) noField) in
         omega (arith, packet-as .many, ap length (packet-as .fields), padding)
 
-    pub turn-field : {turn : ℕ} → turn < n → TurnTold kind s turn (turns.Field (getD (read .fields) turn noField))
+    pub turn-field : {turn : ℕ} → turn < n → TurnTold edition kind s turn (turns.Field (getD (read .fields) turn noField))
     unfolding eventsOf padded
     turn-field {turn} below =
         let fields = packet-as .packet .fields in
@@ -120,10 +132,10 @@ module _ (kind : State) {s : List ℕ} {e : Ending} {read : PacketRead} (by-kind
               ∙ sym
               (ap (λ (a : Answer PacketAnswer). getElem? (eventsRead s a) turn) (packet-as .is)
               ∙ element (λ (f : packets.Field). aField (fieldIn s f)) fields turn noField inside);
-          inside = rw same (packetClaims.claims .partsWithin edition98 (endingOf kind) s (packet-as .packet) (packet-as .is) turn);
+          inside = rw same (parts-within (choiceOf edition) (endingOf kind) s (packet-as .packet) (packet-as .is) turn);
         }
 
-    pub turn-over : {turn : ℕ} → n ≤ turn → TurnTold kind s turn turns.Over
+    pub turn-over : {turn : ℕ} → n ≤ turn → TurnTold edition kind s turn turns.Over
     unfolding eventsOf
     turn-over {turn} end =
         let fields = packet-as .packet .fields in
@@ -136,19 +148,19 @@ module _ (kind : State) {s : List ℕ} {e : Ending} {read : PacketRead} (by-kind
         }
 
   module _ {why : Refusal} (is : read .reading ≡ reading.Refused why) where
-    loss-as : eventsRead s (readPacket edition98 (endingOf kind) s) ≡ aLoss ∷ []
-    loss-as = refused-events s (readPacket edition98 (endingOf kind) s) whole-by-kind is
+    loss-as : eventsRead s (readAs edition kind s) ≡ aLoss ∷ []
+    loss-as = refused-events s (readAs edition kind s) whole-by-kind is
 
-    pub turns-refused : TurnsTold kind s 1
+    pub turns-refused : TurnsTold edition kind s 1
     unfolding eventsOf
     turns-refused = record { answer = sym (ap length loss-as) }
 
-    pub turn-loss : {turn : ℕ} → turn ≡ 0 → TurnTold kind s turn turns.Loss
+    pub turn-loss : {turn : ℕ} → turn ≡ 0 → TurnTold edition kind s turn turns.Loss
     unfolding eventsOf
     turn-loss {turn} first =
         record { event = sym (ap (λ (l : List Event). getElem? l turn) loss-as ∙ ap (getElem? (aLoss ∷ [])) first); inside = omega arith }
 
-    pub turn-past : {turn : ℕ} → (turn ≡ 0 → ⊥) → TurnTold kind s turn turns.Over
+    pub turn-past : {turn : ℕ} → (turn ≡ 0 → ⊥) → TurnTold edition kind s turn turns.Over
     unfolding eventsOf
     turn-past {turn} later =
         record { event = sym (ap (λ (l : List Event). getElem? l turn) loss-as ∙ none-left turn later); inside = omega arith }
@@ -160,27 +172,28 @@ module _ (kind : State) {s : List ℕ} {e : Ending} {read : PacketRead} (by-kind
 pub ruleset turnings = (turns-packet, turns-refused, turn-field, turn-over, turn-loss, turn-past)
 
 -- ---- a turn, fed
-module _ {kind : State} {s : List ℕ} {turn : ℕ} {t : Turn} (told : TurnTold kind s turn t) where
+module _ {edition : ℕ} {kind : State} {s : List ℕ} {turn : ℕ} {t : Turn} (told : TurnTold edition kind s turn t) where
   pub feed-inside : {f : packets.Field} → t ≡ turns.Field f → f .start + f .size ≤ length s
   feed-inside {f} is = rw is at (told .inside)
 
   -- what is owed, by the turn
   fed-as : {j : Joiner} {old new : List ℕ} {r : Joined} (event : Option Event) → eventIn s t ≡ event → EventOwes event j old new r
-      → FeedOwes j kind s turn old new r
+      → FeedOwes j edition kind s turn old new r
   fed-as {j} {old} {new} {r} event is owes =
       record { owes = subst (λ (ev : Option Event). EventOwes ev j old new r) (sym is ∙ told .event) owes }
 
   pub feed-field : {f : packets.Field} {j : Joiner} {old new : List ℕ} {r : Joined} → t ≡ turns.Field f
-      → FieldOwes j (f .kind) (take (f .start + f .size - f .start) (drop (f .start) s)) old new r → FeedOwes j kind s turn old new r
+      → FieldOwes j (f .kind) (take (f .start + f .size - f .start) (drop (f .start) s)) old new r
+      → FeedOwes j edition kind s turn old new r
   feed-field {f} {j} {old} {new} {r} is owes =
       let size : f .start + f .size - f .start ≡ f .size = omega arith in
       fed-as (some (aField (fieldIn s f))) (ap (eventIn s) is) (rw size at owes)
 
-  pub feed-loss : {j : Joiner} {old : List ℕ} {r : Joined} → t ≡ turns.Loss → LossOwes j r → FeedOwes j kind s turn old old r
+  pub feed-loss : {j : Joiner} {old : List ℕ} {r : Joined} → t ≡ turns.Loss → LossOwes j r → FeedOwes j edition kind s turn old old r
   feed-loss is owes = fed-as (some aLoss) (ap (eventIn s) is) (record { owes = owes; lent = refl })
 
   pub feed-over : {j : Joiner} {old : List ℕ} → t ≡ turns.Over
-      → FeedOwes j kind s turn old old (record { joiner = j; answer = handed.Nothing })
+      → FeedOwes j edition kind s turn old old (record { joiner = j; answer = handed.Nothing })
   feed-over is = fed-as none (ap (eventIn s) is) (record { answer = refl; lent = refl })
 
 pub ruleset feedings = (feed-field, feed-loss, feed-over)

@@ -1,11 +1,12 @@
 -- Document 02, request 1, over the receiving session: the numbers that left it, released or lost, as a joiner is fed with them. A packet
--- is read by its kind, as received or as repaired, and its fields are fed one by one; a packet that is refused counts as a loss, since
--- nothing in it can be trusted. Definitions only.
+-- is read by its kind, as received or as repaired, and by request 11 in the edition that the caller names for it; its fields are fed one by
+-- one. If it does not read, in the named edition or since the octet names none, it counts as one lost number, since nothing in it can be
+-- trusted. Definitions only.
 use Prim.Native.Nat.{ℕ}
 use mathlib.Core.List.{List, [], _∷_, _++_, map}
 use lib.ListN.{take}
 use Rattle.lengths.specs.Answers.{Answer, done, refused}
-use Rattle.packets.specs.Edition.{edition98}
+use Rattle.packets.specs.Edition.{byEdition}
 use Rattle.packets.specs.Packet.{PacketAnswer, readPacket, dataOf}
 use Rattle.packets.specs.declared.types.Ending.{Ending}
 use Rattle.packets.specs.declared.types.Ending.the-variants.{Whole, Repaired}
@@ -18,21 +19,22 @@ use Rattle.leaving.specs.declared.Released.the-variants as answer
 use Rattle.frames.specs.Frame.{Frame, freshJoining}
 use Rattle.frames.specs.Line.{Field, Event, aField, aLoss, handedBy}
 
--- a number that left a session: its packet, with its kind, or lost
+-- a number that left a session: its packet, with the octet that names its edition and with its kind, or lost
 pub data Heard : Type 0 where
-  released : State → List ℕ → Heard
+  released : ℕ → State → List ℕ → Heard
   lost : Heard
 
--- what an answer of release hands out, its packet at the front of the lent buffer; a refusal is nothing
-abbrev pub heardAs : Kind → List ℕ → Heard
-heardAs kinds.Received octets = released received octets
-heardAs kinds.Spare octets = released spare octets
-heardAs kinds.Repaired octets = released repaired octets
-heardAs kinds.Lost octets = lost
+-- what an answer of release hands out, its packet at the front of the lent buffer; a refusal is nothing. "The caller names the edition, old
+-- or new, at each packet read"
+abbrev pub heardAs : ℕ → Kind → List ℕ → Heard
+heardAs edition kinds.Received octets = released edition received octets
+heardAs edition kinds.Spare octets = released edition spare octets
+heardAs edition kinds.Repaired octets = released edition repaired octets
+heardAs edition kinds.Lost octets = lost
 
-abbrev pub heardFrom : Released → List ℕ → List Heard
-heardFrom (answer.Number kind number note size) buffer = heardAs kind (take size buffer) ∷ []
-heardFrom (answer.Refused why) buffer = []
+abbrev pub heardFrom : ℕ → Released → List ℕ → List Heard
+heardFrom edition (answer.Number kind number note size) buffer = heardAs edition kind (take size buffer) ∷ []
+heardFrom edition (answer.Refused why) buffer = []
 
 -- "A received or spare packet ends at its last field. A repaired one may go on with zeros only"
 abbrev pub endingOf : State → Ending
@@ -52,7 +54,7 @@ eventsRead s (done p) = map (λ f. aField (fieldIn s f)) (p .fields)
 eventsRead s (refused why) = aLoss ∷ []
 
 unfoldable pub eventsOf : Heard → List Event
-eventsOf (released kind octets) = eventsRead octets (readPacket edition98 (endingOf kind) octets)
+eventsOf (released edition kind octets) = eventsRead octets (byEdition edition (λ e. readPacket e (endingOf kind) octets))
 eventsOf lost = aLoss ∷ []
 
 -- all that left, in order

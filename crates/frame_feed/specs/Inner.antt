@@ -21,6 +21,6 @@ endIn (turns.Field f) = f .start + f .size
 endIn turns.Loss = 0
 endIn turns.Over = 0
 
-pub record TurnTold (kind : State) (packet : List ℕ) (turn : ℕ) (r : Turn) : Type 0 where
-  pub event : eventIn packet r ≡ getElem? (eventsOf (released kind packet)) turn
+pub record TurnTold (edition : ℕ) (kind : State) (packet : List ℕ) (turn : ℕ) (r : Turn) : Type 0 where
+  pub event : eventIn packet r ≡ getElem? (eventsOf (released edition kind packet)) turn
   pub inside : endIn r ≤ length packet

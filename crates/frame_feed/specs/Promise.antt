@@ -13,8 +13,8 @@ use Rattle.frames.specs.declared.Handed.the-variants as handed
 use Rattle.frame_feed.specs.Feed.{released, eventsOf}
 
 -- what `turns` owes: a turn for each event
-pub record TurnsTold (kind : State) (packet : List ℕ) (r : ℕ) : Type 0 where
-  pub answer : r ≡ length (eventsOf (released kind packet))
+pub record TurnsTold (edition : ℕ) (kind : State) (packet : List ℕ) (r : ℕ) : Type 0 where
+  pub answer : r ≡ length (eventsOf (released edition kind packet))
 
 -- a lost number is lent a buffer that it leaves; past the last event nothing is done
 pub record LossFed (j : Joiner) (old new : List ℕ) (r : Joined) : Type 0 where
@@ -31,5 +31,5 @@ EventOwes (some aLoss) j old new r = LossFed j old new r
 EventOwes none j old new r = NothingFed j old new r
 
 -- what `feed` owes: the event of that turn, fed to the joiner
-pub record FeedOwes (j : Joiner) (kind : State) (packet : List ℕ) (turn : ℕ) (old new : List ℕ) (r : Joined) : Type 0 where
-  pub owes : EventOwes (getElem? (eventsOf (released kind packet)) turn) j old new r
+pub record FeedOwes (j : Joiner) (edition : ℕ) (kind : State) (packet : List ℕ) (turn : ℕ) (old new : List ℕ) (r : Joined) : Type 0 where
+  pub owes : EventOwes (getElem? (eventsOf (released edition kind packet)) turn) j old new r

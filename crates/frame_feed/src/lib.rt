@@ -1,5 +1,6 @@
-// From a receiving session to frames: document 02, request 1, over what release answers. A packet that reads is fed to the joiner field
-// by field, one that does not read is fed to it as one lost number. A lost number, which has no octets, is fed alike.
+// From a receiving session to frames: document 02, request 1, over what release answers. The caller names the edition of the ASN.1 at each
+// packet. One that reads in it is fed to the joiner field by field. One that does not, or for which no edition is named, is fed to it as
+// one lost number. A lost number, which has no octets, is fed alike.
 mod turn;
 
 use frame_joiner::field;
@@ -19,10 +20,17 @@ pub use turn::turns;
 
 // The turn-th thing that a number of this kind and packet is to the joiner, from 0: one of its fields, or a loss. Past the last one
 // nothing is done. A frame that ends is written to the front of out.
-pub fn feed(joiner: Joiner, kind: Kind, packet: &[u8], turn: usize, out: &mut [u8]) -> Joined
-    ensures { λ r. ⌜ FeedOwes joiner (stateOf kind) (now (packet .entry)) turn (now (out .entry)) (now (out .exit)) r ⌝ }
+pub fn feed(
+    joiner: Joiner,
+    edition: u8,
+    kind: Kind,
+    packet: &[u8],
+    turn: usize,
+    out: &mut [u8],
+) -> Joined
+    ensures { λ r. ⌜ FeedOwes joiner edition (stateOf kind) (now (packet .entry)) turn (now (out .entry)) (now (out .exit)) r ⌝ }
 {
-    let event = turn_of(kind, packet, turn);
+    let event = turn_of(edition, kind, packet, turn);
     match event {
         Turn::Field(f) => {
             let number = f.kind;

@@ -29,12 +29,12 @@ fn ending_of(kind: Kind) -> Ending
     }
 }
 
-// How many turns a released packet of this kind takes.
-pub fn turns(kind: Kind, packet: &[u8]) -> usize
-    ensures { λ r. ⌜ TurnsTold (stateOf kind) (now (packet .entry)) r ⌝ }
+// How many turns a released packet of this kind takes, in the edition that an octet names.
+pub fn turns(edition: u8, kind: Kind, packet: &[u8]) -> usize
+    ensures { λ r. ⌜ TurnsTold edition (stateOf kind) (now (packet .entry)) r ⌝ }
 {
     let ending = ending_of(kind);
-    let read = packet_reader::read(packet, ending);
+    let read = packet_reader::read(edition, packet, ending);
     let reading = read.reading;
     match reading {
         Reading::Packet {
@@ -47,11 +47,11 @@ pub fn turns(kind: Kind, packet: &[u8]) -> usize
 }
 
 // One of them.
-pub fn turn_of(kind: Kind, packet: &[u8], turn: usize) -> Turn
-    ensures { λ r. ⌜ TurnTold (stateOf kind) (now (packet .entry)) turn r ⌝ }
+pub fn turn_of(edition: u8, kind: Kind, packet: &[u8], turn: usize) -> Turn
+    ensures { λ r. ⌜ TurnTold edition (stateOf kind) (now (packet .entry)) turn r ⌝ }
 {
     let ending = ending_of(kind);
-    let read = packet_reader::read(packet, ending);
+    let read = packet_reader::read(edition, packet, ending);
     let reading = read.reading;
     match reading {
         Reading::Packet {

@@ -17,9 +17,8 @@ use Rattle.lengths.specs.Answers.{Answer, done, refuse}
 use Rattle.lengths.specs.Tables.{when, unless}
 use Rattle.lengths.specs.Promise.{Put}
 use Rattle.lengths.proofs.Laws.{put-next}
-use Rattle.packets.specs.Edition.{edition98}
 use Rattle.packets.specs.Packet.{typesLimit, rightData}
-use Rattle.frames.specs.Frame.{frameLimit, Joining, tainted, opened, Frame, good, bad, adds, handsGood, handsBad, endsFrame}
+use Rattle.frames.specs.Frame.{joinerEdition, frameLimit, Joining, tainted, opened, Frame, good, bad, adds, handsGood, handsBad, endsFrame}
 use Rattle.frames.specs.Frame.{Step, passes, withAdded, goodFrame, onOpen, fieldStep, wouldPass}
 use Rattle.frames.specs.Joiner.{inStorage, heldAs, joiningOf, rangesOf}
 use Rattle.frames.specs.Promise.{frameOctets, fieldAnswer, FieldOwes, lossAnswer, joinerAfterLoss, LossOwes}
@@ -123,7 +122,7 @@ module _ {size type : ℕ} {octets storage : List ℕ} (g : Admitted size type o
       ∷ [])
       ((onOpen type octets (take size storage)) .handed)
   unfolding fieldAnswer unless fieldStep wouldPass joiningOf
-  answer-open room = rw (g .inside, le-ltb (typesLimit edition98) type (g .assigned), g .right)
+  answer-open room = rw (g .inside, le-ltb (typesLimit joinerEdition) type (g .assigned), g .right)
 
   passes-told : passes (take size storage) octets ≡ ltb (frameLimit - size) (length octets)
   passes-told =

@@ -12,9 +12,8 @@ use Rattle.octets.proofs.Laws.{and-left, and-right}
 use Rattle.lengths.specs.Refusals.{notAssigned, wrongData, outsideRanges}
 use Rattle.lengths.specs.Answers.{done}
 use Rattle.lengths.specs.Tables.{unless}
-use Rattle.packets.specs.Edition.{edition98}
 use Rattle.packets.specs.Packet.{typesLimit, rightData}
-use Rattle.frames.specs.Frame.{frameLimit, tainted, opened, endsFrame, fieldStep, wouldPass}
+use Rattle.frames.specs.Frame.{joinerEdition, frameLimit, tainted, opened, endsFrame, fieldStep, wouldPass}
 use Rattle.frames.specs.Joiner.{inStorage, heldAs, joiningOf, rangesOf, zerosAfter}
 use Rattle.frames.specs.Promise.{fieldAnswer, lossAnswer, joinerAfterLoss}
 use Rattle.frame_joiner.specs.Inner.{LaidOut, joinerOf, unchanged, waited, Drops, Admitted, FieldFed, Taints}
@@ -42,11 +41,11 @@ after-waits : (size type : ℕ) (octets storage : List ℕ)
 unfolding fieldStep joiningOf
 after-waits size type octets storage = waits (endsFrame type)
 
-answer-waits : (room size type : ℕ) (octets storage : List ℕ) → rangesOf true size storage ≡ true → type ≤ typesLimit edition98
-    → rightData edition98 type (ltb 0 (length octets)) ≡ true → fieldAnswer room type octets (joinerOf true size storage) ≡ done none
+answer-waits : (room size type : ℕ) (octets storage : List ℕ) → rangesOf true size storage ≡ true → type ≤ typesLimit joinerEdition
+    → rightData joinerEdition type (ltb 0 (length octets)) ≡ true → fieldAnswer room type octets (joinerOf true size storage) ≡ done none
 unfolding fieldAnswer unless fieldStep wouldPass joiningOf
 answer-waits room size type octets storage inside known right =
-    rw (inside, le-ltb (typesLimit edition98) type known, right, le-ltb room 0 (omega arith))
+    rw (inside, le-ltb (typesLimit joinerEdition) type known, right, le-ltb room 0 (omega arith))
 
 -- ---- a field
 module _ {taint ok : Bool} {size type : ℕ} {octets storage old : List ℕ} (e : ok ≡ rangesOf taint size storage) where
@@ -58,21 +57,21 @@ module _ {taint ok : Bool} {size type : ℕ} {octets storage old : List ℕ} (e 
       record { owes = rw told (owes-stays outsideRanges (rw outside) refl) }
 
   module _ (within : not ok ≡ false) where
-    pub feed-unassigned : {r : Kept} → typesLimit edition98 < type → r ≡ unchanged taint size notAssigned
+    pub feed-unassigned : {r : Kept} → typesLimit joinerEdition < type → r ≡ unchanged taint size notAssigned
         → FieldFed taint size type octets storage storage old old r
     unfolding fieldAnswer unless
     feed-unassigned over told =
         let inside : rangesOf taint size storage ≡ true = sym e ∙ not-false ok within in
-        record { owes = rw told (owes-stays notAssigned (rw (inside, lt-ltb (typesLimit edition98) type over)) refl) }
+        record { owes = rw told (owes-stays notAssigned (rw (inside, lt-ltb (typesLimit joinerEdition) type over)) refl) }
 
-    module _ {b : Bool} (known : type ≤ typesLimit edition98) (rule : b ≡ rightData edition98 type (ltb 0 (length octets))) where
+    module _ {b : Bool} (known : type ≤ typesLimit joinerEdition) (rule : b ≡ rightData joinerEdition type (ltb 0 (length octets))) where
       pub feed-wrong : {r : Kept} → not b ≡ true → r ≡ unchanged taint size wrongData
           → FieldFed taint size type octets storage storage old old r
       unfolding fieldAnswer unless
       feed-wrong wrong told =
           let inside : rangesOf taint size storage ≡ true = sym e ∙ not-false ok within in
-          let bad-data : rightData edition98 type (ltb 0 (length octets)) ≡ false = sym rule ∙ not-true b wrong in
-          record { owes = rw told (owes-stays wrongData (rw (inside, le-ltb (typesLimit edition98) type known, bad-data)) refl) }
+          let bad-data : rightData joinerEdition type (ltb 0 (length octets)) ≡ false = sym rule ∙ not-true b wrong in
+          record { owes = rw told (owes-stays wrongData (rw (inside, le-ltb (typesLimit joinerEdition) type known, bad-data)) refl) }
 
       -- while tainted nothing is open
       pub feed-waits : {r : Kept} → not b ≡ false → taint ≡ true → length storage ≡ frameLimit → r ≡ waited type
@@ -91,7 +90,7 @@ module _ {taint ok : Bool} {size type : ℕ} {octets storage old : List ℕ} (e 
 
 -- ---- a field that reaches the open frame
 pub reached : {taint ok b : Bool} {size type : ℕ} {octets storage : List ℕ} → ok ≡ rangesOf taint size storage → not ok ≡ false
-    → type ≤ typesLimit edition98 → b ≡ rightData edition98 type (ltb 0 (length octets)) → not b ≡ false → taint ≡ false
+    → type ≤ typesLimit joinerEdition → b ≡ rightData joinerEdition type (ltb 0 (length octets)) → not b ≡ false → taint ≡ false
     → length storage ≡ frameLimit
     → Admitted size type octets storage
 reached {taint} {ok} {b} {size} {type} {octets} {storage} e within known rule right clean long =

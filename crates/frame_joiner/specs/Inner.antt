@@ -6,9 +6,8 @@ use mathlib.Core.List.{List, [], _++_}
 use lib.ListN.{length, take, drop}
 use lib.Dec.{ltb}
 use Rattle.lengths.specs.Refusals.{refusal, noRoom, frameTooLong}
-use Rattle.packets.specs.Edition.{edition98}
 use Rattle.packets.specs.Packet.{typesLimit, rightData}
-use Rattle.frames.specs.Frame.{frameLimit, endsFrame}
+use Rattle.frames.specs.Frame.{joinerEdition, frameLimit, endsFrame}
 use Rattle.frames.specs.Joiner.{inStorage, rangesOf}
 use Rattle.frames.specs.Promise.{FieldOwes, LossOwes}
 use Rattle.frames.specs.declared.Joiner.{Joiner}
@@ -76,8 +75,8 @@ pub record Drops (taint : Bool) (new : List ℕ) (r : Kept) : Type 0 where
 pub record Admitted (size type : ℕ) (octets storage : List ℕ) : Type 0 where
   pub frame : LaidOut size storage
   pub inside : rangesOf false size storage ≡ true
-  pub assigned : type ≤ typesLimit edition98
-  pub right : rightData edition98 type (ltb 0 (length octets)) ≡ true
+  pub assigned : type ≤ typesLimit joinerEdition
+  pub right : rightData joinerEdition type (ltb 0 (length octets)) ≡ true
 
 -- the two calls, on what is lent
 pub record FieldFed (taint : Bool) (size type : ℕ) (octets storage newStorage old new : List ℕ) (r : Kept) : Type 0 where

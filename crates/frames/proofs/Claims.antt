@@ -47,10 +47,15 @@ cases =
       drop-1 = rw (fits (0xFF ∷ []) (omega arith));
       drop-6 = rw (fits (0xFF ∷ []) (omega arith));
       drop-7 = rw (fits (0xFF ∷ []) (omega arith));
+      drop-8 = rw (fits (0xFF ∷ []) (omega arith));
+      drop-11 = rw (fits (0xFF ∷ []) (omega arith));
+      drop-11-bare = rw (fits (0xFF ∷ []) (omega arith));
+      bare-10 = rw (fits [] (omega arith));
       loss-taints = rw (fits (0xFF ∷ []) (omega arith));
       tainted-quiet = rw (held-ranges tainted 0);
       tainted-ends = rw (held-ranges tainted 0);
       tainted-goes-on = rw (held-ranges tainted 0);
+      tainted-goes-on-11 = rw (held-ranges tainted 0);
       tainted-adds = rw (held-ranges tainted 0);
       tainted-14 = rw (held-ranges tainted 0);
       tainted-12 = rw (held-ranges tainted 0);
@@ -64,7 +69,7 @@ cases =
       octets-tainted = past-tainted;
       octets-past = rw not-zero;
       ranges-first = rw not-zero;
-      type-8 = rw (fits [] (omega arith));
+      type-12 = rw (fits [] (omega arith));
     }
 
 pub claims : Claims

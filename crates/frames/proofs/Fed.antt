@@ -14,10 +14,9 @@ use Rattle.octets.proofs.Laws.{true-or-false, and-left, and-right}
 use Rattle.lengths.specs.Refusals.{refusal, notAssigned, noRoom, wrongData, outsideRanges, frameTooLong}
 use Rattle.lengths.specs.Answers.{Answer, done, refused, refuse, mapped, over}
 use Rattle.lengths.specs.Tables.{when, unless}
-use Rattle.packets.specs.Edition.{edition98}
 use Rattle.packets.specs.Packet.{typesLimit, rightData}
-use Rattle.frames.specs.Frame.{frameLimit, Joining, tainted, opened, Frame, good, bad, adds, handsGood, handsBad, endsFrame}
-use Rattle.frames.specs.Frame.{Step, passes, withAdded, goodFrame, onOpen, fieldStep, wouldPass}
+use Rattle.frames.specs.Frame.{joinerEdition, frameLimit, Joining, tainted, opened, Frame, good, bad, adds, handsGood, handsBad}
+use Rattle.frames.specs.Frame.{endsFrame, Step, passes, withAdded, goodFrame, onOpen, fieldStep, wouldPass}
 use Rattle.frames.specs.Joiner.{heldAs, joiningOf, rangesOf, joinerInRanges}
 use Rattle.frames.specs.Promise.{Told, handedOutcome, frameOctets, toldIn, changes, fieldAnswer, joinerAfter, FieldOwes}
 use Rattle.frames.specs.Promise.{lossAnswer, joinerAfterLoss, LossOwes, FreshMade}
@@ -87,15 +86,15 @@ answer-held : (room : ℕ) (f : Field) (v : Joining) → Fitting v → rightFiel
     ≡ cond (wouldPass (f .type) (f .octets) v) (refuse frameTooLong) (done ((fieldStep (f .type) (f .octets) v) .handed))
 unfolding fieldAnswer unless
 answer-held room f v fits right wide =
-    let known : ltb (typesLimit edition98) (f .type) ≡ false =
-    le-ltb (typesLimit edition98) (f .type)
-    (leb-true (f .type) (typesLimit edition98) (and-left (leb (f .type) (typesLimit edition98)) _ right)) in
+    let known : ltb (typesLimit joinerEdition) (f .type) ≡ false =
+    le-ltb (typesLimit joinerEdition) (f .type)
+    (leb-true (f .type) (typesLimit joinerEdition) (and-left (leb (f .type) (typesLimit joinerEdition)) _ right)) in
     let enough : ltb room (length (frameOctets ((fieldStep (f .type) (f .octets) v) .handed))) ≡ false =
     le-ltb room _ (omega (arith, handed-fits (f .type) (f .octets) v fits)) in
     rw (
       held-ranges v fits,
       known,
-      and-right (leb (f .type) (typesLimit edition98)) _ right,
+      and-right (leb (f .type) (typesLimit joinerEdition)) _ right,
       held-joining v,
       enough,
     )

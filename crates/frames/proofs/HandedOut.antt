@@ -13,9 +13,8 @@ use Rattle.octets.proofs.Laws.{and-left, and-right}
 use Rattle.lengths.specs.Refusals.{refusal, notAssigned, noRoom, wrongData, outsideRanges, frameTooLong}
 use Rattle.lengths.specs.Answers.{Answer, done, refused, refuse}
 use Rattle.lengths.specs.Tables.{when, unless}
-use Rattle.packets.specs.Edition.{edition98}
 use Rattle.packets.specs.Packet.{typesLimit, rightData}
-use Rattle.frames.specs.Frame.{frameLimit, Joining, tainted, freshJoining, Frame, Step, fieldStep, wouldPass}
+use Rattle.frames.specs.Frame.{joinerEdition, frameLimit, Joining, tainted, freshJoining, Frame, Step, fieldStep, wouldPass}
 use Rattle.frames.specs.Joiner.{heldAs, joiningOf, joinerInRanges}
 use Rattle.frames.specs.Promise.{Told, handedOutcome, frameOctets, toldIn, changes, fieldAnswer, joinerAfter, FieldOwes}
 use Rattle.frames.specs.Promise.{lossAnswer, joinerAfterLoss, LossOwes}
@@ -76,7 +75,8 @@ field-never : {j : Joiner} {type : ℕ} {octets old new : List ℕ} {r : Joined}
     → r .answer ≡ handed.Refused (refusal outsideRanges) → ⊥
 unfolding fieldAnswer unless
 field-never {j} {type} {octets} {old} {new} {r} inside m is =
-    others (ltb (typesLimit edition98) type) (not (rightData edition98 type (ltb 0 (length octets)))) (wouldPass type octets (joiningOf j))
+    others (ltb (typesLimit joinerEdition) type) (not (rightData joinerEdition type (ltb 0 (length octets))))
+    (wouldPass type octets (joiningOf j))
     (ltb (length old) (length (frameOctets ((fieldStep type octets (joiningOf j)) .handed))))
     ((fieldStep type octets (joiningOf j)) .handed)
     (rw inside at (ap numberIn (sym (ap handedOutcome is) ∙ m .answer)))
@@ -100,16 +100,16 @@ never-17 =
 wrong-answer : (room : ℕ) (f : Field) (v : Joining) → Fitting v → rightField f ≡ false
     → (number : ℕ) × (fieldAnswer room (f .type) (f .octets) (heldAs v) ≡ refuse number) × (eqb number frameTooLong ≡ false)
 unfolding fieldAnswer unless
-wrong-answer room f v fits wrong = by (leb (f .type) (typesLimit edition98)) refl where
-  by : (b : Bool) → leb (f .type) (typesLimit edition98) ≡ b
+wrong-answer room f v fits wrong = by (leb (f .type) (typesLimit joinerEdition)) refl where
+  by : (b : Bool) → leb (f .type) (typesLimit joinerEdition) ≡ b
       → (number : ℕ) × (fieldAnswer room (f .type) (f .octets) (heldAs v) ≡ refuse number) × (eqb number frameTooLong ≡ false)
   by false e =
-      let over = leb-false (f .type) (typesLimit edition98) e in
-      (notAssigned, rw (held-ranges v fits, lt-ltb (typesLimit edition98) (f .type) over), refl)
+      let over = leb-false (f .type) (typesLimit joinerEdition) e in
+      (notAssigned, rw (held-ranges v fits, lt-ltb (typesLimit joinerEdition) (f .type) over), refl)
   by true e =
-      let bad-data : rightData edition98 (f .type) (ltb 0 (length (f .octets))) ≡ false = rw e at wrong in
-      let known = leb-true (f .type) (typesLimit edition98) e in
-      (wrongData, rw (held-ranges v fits, le-ltb (typesLimit edition98) (f .type) known, bad-data), refl)
+      let bad-data : rightData joinerEdition (f .type) (ltb 0 (length (f .octets))) ≡ false = rw e at wrong in
+      let known = leb-true (f .type) (typesLimit joinerEdition) e in
+      (wrongData, rw (held-ranges v fits, le-ltb (typesLimit joinerEdition) (f .type) known, bad-data), refl)
 
 wrong-field : (v : Joining) {f : Field} {old new : List ℕ} {r : Joined} → Fitting v → rightField f ≡ false
     → FieldOwes (heldAs v) (f .type) (f .octets) old new r → FedBy v none new r

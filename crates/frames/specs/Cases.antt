@@ -42,15 +42,21 @@ pub record Cases : Type 0 where
   pub drop-1 : joinerAfter 0 1 [] (with (0xFF ∷ [])) ≡ with []
   pub drop-6 : joinerAfter 0 6 (0x11 ∷ []) (with (0xFF ∷ [])) ≡ with []
   pub drop-7 : joinerAfter 0 7 [] (with (0xFF ∷ [])) ≡ with []
+  -- the added types: "to the joiner they are as type 6", v34rate with data or without
+  pub drop-8 : joinerAfter 0 8 (0x11 ∷ []) (with (0xFF ∷ [])) ≡ with []
+  pub drop-11 : joinerAfter 0 11 (0x11 ∷ []) (with (0xFF ∷ [])) ≡ with []
+  pub drop-11-bare : fieldAnswer 0 11 [] (with (0xFF ∷ [])) ≡ done none
+  pub bare-10 : fieldAnswer 0 10 [] (with []) ≡ refuse wrongData
   -- "A loss taints everything up to and including the next field of types 1 to 5, whose frame is dropped"
   pub loss-taints : joinerAfterLoss (with (0xFF ∷ [])) ≡ heldAs tainted
   pub tainted-quiet : fieldAnswer 300 2 [] (heldAs tainted) ≡ done none
   pub tainted-ends : joinerAfter 300 2 [] (heldAs tainted) ≡ with []
   pub tainted-goes-on : joinerAfter 0 6 (0x11 ∷ []) (heldAs tainted) ≡ heldAs tainted
+  pub tainted-goes-on-11 : joinerAfter 0 11 [] (heldAs tainted) ≡ heldAs tainted
   -- "While tainted nothing is kept and 18 isn't given"; 12 and 14 are, and end nothing
   pub tainted-adds : fieldAnswer 0 0 (0x11 ∷ fullFrame) (heldAs tainted) ≡ done none
   pub tainted-14 : fieldAnswer 0 0 [] (heldAs tainted) ≡ refuse wrongData
-  pub tainted-12 : joinerAfter 0 8 [] (heldAs tainted) ≡ heldAs tainted
+  pub tainted-12 : joinerAfter 0 12 [] (heldAs tainted) ≡ heldAs tainted
   -- "18, the frame would pass 300; it is then tainted in the same way"; data over the packet limit may come
   pub adds-over-packet : joinerAfter 0 0 (replicate (packetLimit + 1) 0x55) (with []) ≡ with (replicate (packetLimit + 1) 0x55)
   pub adds-300 : fieldAnswer 0 0 fullFrame (with []) ≡ done none
@@ -63,6 +69,6 @@ pub record Cases : Type 0 where
   pub octets-301 : lossAnswer saved301 ≡ refuse outsideRanges
   pub octets-tainted : lossAnswer savedTainted ≡ refuse outsideRanges
   pub octets-past : lossAnswer savedPast ≡ refuse outsideRanges
-  pub ranges-first : fieldAnswer 0 8 [] savedPast ≡ refuse outsideRanges
-  -- 12
-  pub type-8 : fieldAnswer 0 8 [] (with []) ≡ refuse notAssigned
+  pub ranges-first : fieldAnswer 0 12 [] savedPast ≡ refuse outsideRanges
+  -- 12: "a type over 11"
+  pub type-12 : fieldAnswer 0 12 [] (with []) ≡ refuse notAssigned

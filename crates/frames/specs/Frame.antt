@@ -2,17 +2,23 @@
 -- a time, a joiner keeps an open frame of up to 300 octets. Type 0 adds; 2 and 4 hand out a good frame; 3 and 5 a bad one; 1, 6
 -- or 7 drop what is open. A loss taints everything up to and including the next field of types 1 to 5, whose frame is dropped;
 -- after that the frames are the sender's again, and nothing false comes out before. A good frame of no octets is dropped. While
--- tainted nothing is kept and 18 isn't given." Definitions only.
+-- tainted nothing is kept and 18 isn't given." And request 11, of the field types that the 2002 edition added: "to the joiner they are as
+-- type 6". Definitions only.
 use Prim.Native.Nat.{ℕ, _+_}
 use mathlib.Core.Bool.{Bool, true, false, cond, _&&_, _||_}
 use mathlib.Core.List.{List, [], _++_}
 use mathlib.Core.Option.{Option, none, some}
 use lib.ListN.{length}
 use lib.Dec.{leb, ltb, eqb}
+use Rattle.packets.specs.Edition.{Edition, edition02}
 
 -- "up to 300 octets"
 abbrev pub frameLimit : ℕ
 frameLimit = 300
+
+-- the edition whose field types it takes: the newer one, which has all types of the older one, by the same rule
+abbrev pub joinerEdition : Edition
+joinerEdition = edition02
 
 -- what a joiner keeps: the octets of the frame that is open; or nothing, while tainted
 pub data Joining : Type 0 where

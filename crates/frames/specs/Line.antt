@@ -5,9 +5,9 @@ use mathlib.Core.List.{List, [], _∷_, _++_, map, flatten}
 use mathlib.Core.Option.{Option, none, some}
 use lib.ListN.{length}
 use lib.Dec.{leb, ltb}
-use Rattle.packets.specs.Edition.{edition98}
 use Rattle.packets.specs.Packet.{typesLimit, rightData}
-use Rattle.frames.specs.Frame.{Joining, tainted, Frame, good, bad, adds, handsGood, handsBad, endsFrame, passes, Step, fieldStep}
+use Rattle.frames.specs.Frame.{joinerEdition, Joining, tainted, Frame, good, bad, adds, handsGood, handsBad, endsFrame, passes}
+use Rattle.frames.specs.Frame.{Step, fieldStep}
 
 -- a field as the sender gave it: its type, and its data, of which there are no octets if it has none
 pub record Field : Type 0 where
@@ -16,7 +16,7 @@ pub record Field : Type 0 where
 
 -- a packet may hold it: neither 12 nor 14
 abbrev pub rightField : Field → Bool
-rightField f = leb (f .type) (typesLimit edition98) && rightData edition98 (f .type) (ltb 0 (length (f .octets)))
+rightField f = leb (f .type) (typesLimit joinerEdition) && rightData joinerEdition (f .type) (ltb 0 (length (f .octets)))
 
 unfoldable pub rowRight : List Field → Bool
 rowRight [] = true
@@ -26,7 +26,7 @@ rowRight (f ∷ row) = rightField f && rowRight row
 -- a row of fields falls into stretches: each goes on from the field of types 1 to 5 before it, or from the start, up to and
 -- including its own field of types 1 to 5
 pub record Stretch : Type 0 where
-  -- the fields before the one that ends it: types 0, 6 and 7
+  -- the fields before the one that ends it: types 0 and 6 to 11
   pub inside : List Field
   -- the type of the one that ends it
   pub end : ℕ
@@ -36,7 +36,7 @@ stretches begun [] = []
 stretches begun (f ∷ row) =
     cond (endsFrame (f .type)) (record { inside = begun; end = f .type } ∷ stretches [] row) (stretches (begun ++ (f ∷ [])) row)
 
--- the octets that are open after some fields of a stretch: type 0 adds, 6 and 7 drop what is open; nothing more is kept in a stretch
+-- the octets that are open after some fields of a stretch: type 0 adds, 6 to 11 drop what is open; nothing more is kept in a stretch
 -- once its frame would have passed the limit
 abbrev pub gather : Option (List ℕ) → Field → Option (List ℕ)
 gather none f = none

@@ -11,9 +11,8 @@ use lib.Dec.{ltb, eqb}
 use Rattle.lengths.specs.Refusals.{notAssigned, noRoom, wrongData, outsideRanges, frameTooLong}
 use Rattle.lengths.specs.Answers.{Answer, done, refused, mapped, over}
 use Rattle.lengths.specs.Tables.{when, unless}
-use Rattle.packets.specs.Edition.{edition98}
 use Rattle.packets.specs.Packet.{typesLimit, rightData}
-use Rattle.frames.specs.Frame.{Joining, tainted, freshJoining, Frame, good, bad, fieldStep, wouldPass}
+use Rattle.frames.specs.Frame.{joinerEdition, Joining, tainted, freshJoining, Frame, good, bad, fieldStep, wouldPass}
 use Rattle.frames.specs.Joiner.{heldAs, joiningOf, joinerInRanges}
 use Rattle.frames.specs.declared.Joiner.{Joiner}
 use Rattle.frames.specs.declared.Joined.{Joined}
@@ -57,8 +56,8 @@ changes (refused r) = eqb (r .number) frameTooLong
 abbrev pub fieldRows : ℕ → ℕ → List ℕ → Joiner → List (Option ℕ)
 fieldRows room type octets j =
     when (not (joinerInRanges j)) outsideRanges
-    ∷ when (ltb (typesLimit edition98) type) notAssigned
-    ∷ when (not (rightData edition98 type (ltb 0 (length octets)))) wrongData
+    ∷ when (ltb (typesLimit joinerEdition) type) notAssigned
+    ∷ when (not (rightData joinerEdition type (ltb 0 (length octets)))) wrongData
     ∷ when (wouldPass type octets (joiningOf j)) frameTooLong
     ∷ when (ltb room (length (frameOctets ((fieldStep type octets (joiningOf j)) .handed)))) noRoom
     ∷ []

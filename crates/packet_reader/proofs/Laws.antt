@@ -2,3 +2,5 @@
 
 -- ---- fields in the places that there are
 pub use Rattle.packet_reader.proofs.FieldsTurn.{set-padded}
+-- ---- an octet that names no edition
+pub use Rattle.packet_reader.proofs.ReadPacket.{packet-other}

@@ -1,4 +1,6 @@
 mod ReadPlaces
+mod ReadValues
+mod ReadHeads
 mod ReadItems
 mod ReadFields
 mod FieldsTurn

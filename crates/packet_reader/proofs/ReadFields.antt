@@ -12,6 +12,8 @@ use Rattle.lengths.specs.Answers.{done, refused}
 use Rattle.lengths.specs.declared.Refusal.{Refusal}
 use Rattle.formats.specs.Places.{Place}
 use Rattle.datagrams.specs.Sizes.{packetLimit}
+use Rattle.packets.specs.Edition.{editionOf}
+use Rattle.packets.specs.declared.types.Named.{Named}
 use Rattle.packets.specs.Inner.Octets.{headerAt, sizeAt, afterHeader, fieldAt}
 use Rattle.packet_reader.specs.Items.{InPacket, EdgeTold, edgeOutcome, HeaderTold, headerOutcome, SizeTold, sizeOutcome, DataTold}
 use Rattle.packet_reader.specs.Items.{FieldTold}
@@ -70,25 +72,23 @@ module _ {s : List ℕ} {p : Place} {e : EdgeRead} (told : EdgeTold s p e) where
 pub ruleset datas = (edge-within, data-spare, data-place, data-cut, data-read, start-fits, end-fits, next-fits)
 
 -- ---- a field: its header, and what follows
-module _ {s : List ℕ} {p : Place} {r : HeaderRead} (told : HeaderTold s p r) where
-  pub field-refused : {x : Refusal} → r ≡ header.Refused x → FieldTold s p (field.Refused x)
+module _ {named : Named} {s : List ℕ} {p : Place} {r : HeaderRead} (told : HeaderTold named s p r) where
+  pub field-refused : {x : Refusal} → r ≡ header.Refused x → FieldTold named s p (field.Refused x)
   unfolding fieldAt
   field-refused is = record { answer = rw (sym (told .answer) ∙ ap headerOutcome is) }
 
   module _ {k : ℕ} {b : Bool} {n : ℕ} (is : r ≡ header.Header k b n) where
-    header-is : headerAt s p ≡ done (record { header = record { kind = k; present = b }; next = n })
+    header-is : headerAt (editionOf named) s p ≡ done (record { header = record { kind = k; present = b }; next = n })
     header-is = sym (told .answer) ∙ ap headerOutcome is
 
     pub header-inside : InPacket s p → InPacket s n
-    header-inside inside =
-        let f = header-form s p _ header-is in
-        record { few = inside .few; here = omega (arith, f .inside, f .next) }
+    header-inside inside = record { few = inside .few; here = header-form (editionOf named) s p _ header-is .inside }
 
-    pub field-bare : b ≡ false → FieldTold s p (field.Field (record { kind = k; start = 0; size = 0 }) n)
+    pub field-bare : b ≡ false → FieldTold named s p (field.Field (record { kind = k; start = 0; size = 0 }) n)
     unfolding fieldAt afterHeader
     field-bare absent = record { answer = rw (header-is, absent) }
 
-    pub field-full : {f : FieldRead} → b ≡ true → DataTold s k n f → FieldTold s p f
+    pub field-full : {f : FieldRead} → b ≡ true → DataTold s k n f → FieldTold named s p f
     unfolding fieldAt
     field-full present read = record { answer = read .answer ∙ sym (rw (header-is, present)) }
 

@@ -1,15 +1,15 @@
--- One law for each answer of the functions that read an item of a packet, in the words of the code: the tests that led
--- there give the promise. Assumes nothing.
-use Prim.Native.Nat.{ℕ, _+_, _-_, _*_, _/_, _%_, _≤_, _<_, _^_}
+-- One law for each answer of the functions that read the count of fields and a length of data, in the words of the code: the tests that
+-- led there give the promise. Assumes nothing.
+use Prim.Native.Nat.{ℕ, _+_, _-_, _*_, _≤_, _<_, _^_}
 use mathlib.Core.Path.{_≡_, sym, ap, _∙_}
 use mathlib.Core.Bool.{Bool, true, false, not, cond}
 use mathlib.Core.List.{List}
 use lib.ListN.{length, getD}
 use lib.Dec.{ltb}
 use native.Mathlib.Omega.{arith}
-use borrow.Author.Tests.{lt-ltb, le-ltb, le-leb, lt-leb, not-true, not-false}
+use borrow.Author.Tests.{lt-ltb, le-ltb, not-true, not-false}
 use Rattle.packets.proofs.Laws.{rest, rest-is}
-use Rattle.lengths.specs.Refusals.{further, endsEarly, outsideSizes, spareBit, notAssigned, wrongData}
+use Rattle.lengths.specs.Refusals.{further, endsEarly, outsideSizes}
 use Rattle.lengths.specs.Answers.{Answer, done, refused, refuse, refuseAt, lengthOutcome, refusalOf}
 use Rattle.lengths.specs.Length.{lengthWithin}
 use Rattle.lengths.specs.Promise.{Octet, RefusalMade, RefusalPlaced, RefusalTold, WithinRead}
@@ -18,81 +18,11 @@ use Rattle.lengths.specs.declared.Length.{Length}
 use Rattle.lengths.specs.declared.Refusal.{Refusal}
 use Rattle.lengths.specs.declared.Length.the-variants as length
 use Rattle.datagrams.specs.Sizes.{packetLimit}
-use Rattle.formats.specs.Places.{Place}
-use Rattle.packets.specs.Edition.{edition98}
-use Rattle.packets.specs.Packet.{fieldsLeast, fieldsLimit, assigned, rightFields, rightData}
-use Rattle.packets.specs.Inner.Octets.{kindOf, firstAt, countAt, headerWidth, headerAt, sizeAt}
-use Rattle.packet_reader.specs.Items.{BitsTold, FirstTold, CountTold, HeaderTold, SizeTold}
-use Rattle.packets.specs.declared.types.Kind.{Kind}
-use Rattle.packet_reader.specs.declared.items.FirstRead.the-variants as first
+use Rattle.packets.specs.Packet.{fieldsLeast, fieldsLimit}
+use Rattle.packets.specs.Inner.Octets.{countAt, sizeAt}
+use Rattle.packet_reader.specs.Items.{OctetIn, CountTold, SizeTold}
 use Rattle.packet_reader.specs.declared.items.CountRead.the-variants as count
-use Rattle.packet_reader.specs.declared.items.HeaderRead.the-variants as header
 use Rattle.packet_reader.specs.declared.items.SizeRead.the-variants as size
-
--- ---- the first octet
-module _ {s : List ℕ} where
-  pub first-empty : {r : Refusal} → RefusalMade endsEarly r → length s < 1 → FirstTold s (first.Refused r)
-  unfolding firstAt
-  first-empty made short = record { answer = rw (made .answer, lt-ltb _ _ short) }
-
-  pub first-extended : {r : Refusal} → RefusalMade notAssigned r → 1 ≤ length s → 0 < getD s 0 0 / 32 % 2
-      → FirstTold s (first.Refused r)
-  unfolding firstAt
-  first-extended made some set = record { answer = rw (made .answer, le-ltb (length s) 1 some, lt-ltb 0 (getD s 0 0 / 32 % 2) set) }
-
-  pub first-value : {r : Refusal} {k : Kind} {n : ℕ} → RefusalMade notAssigned r → 1 ≤ length s → getD s 0 0 / 32 % 2 ≤ 0
-      → k ≡ kindOf (getD s 0 0) → n ≡ assigned edition98 k → n ≤ getD s 0 0 / 2 % 16 → FirstTold s (first.Refused r)
-  unfolding firstAt
-  first-value made some plain kind values over =
-      let h : assigned edition98 (kindOf (getD s 0 0)) ≤ getD s 0 0 / 2 % 16 = rw (values, kind) at over in
-      record { answer = rw (made .answer, le-ltb (length s) 1 some, le-ltb 0 (getD s 0 0 / 32 % 2) plain, le-leb _ _ h) }
-
-  pub first-spare : {r : Refusal} {k : Kind} {n : ℕ} → RefusalMade spareBit r → 1 ≤ length s → getD s 0 0 / 32 % 2 ≤ 0
-      → k ≡ kindOf (getD s 0 0) → n ≡ assigned edition98 k → getD s 0 0 / 2 % 16 < n → 0 < getD s 0 0 % 2 → FirstTold s (first.Refused r)
-  unfolding firstAt
-  first-spare made some plain kind values known set =
-      let h : getD s 0 0 / 2 % 16 < assigned edition98 (kindOf (getD s 0 0)) = rw (values, kind) at known in
-      record {
-        answer =
-            rw
-            (made .answer, le-ltb (length s) 1 some, le-ltb 0 (getD s 0 0 / 32 % 2) plain, lt-leb _ _ h, lt-ltb 0 (getD s 0 0 % 2) set);
-      }
-
-  pub first-wrong : {r : Refusal} {k : Kind} {n : ℕ} {b : Bool} → RefusalMade wrongData r → 1 ≤ length s → getD s 0 0 / 32 % 2 ≤ 0
-      → k ≡ kindOf (getD s 0 0) → n ≡ assigned edition98 k → getD s 0 0 / 2 % 16 < n → getD s 0 0 % 2 ≤ 0
-      → b ≡ rightFields k (ltb 0 (getD s 0 0 / 128 % 2)) → b ≡ false → FirstTold s (first.Refused r)
-  unfolding firstAt
-  first-wrong made some plain kind values known spare fields wrong =
-      let h : getD s 0 0 / 2 % 16 < assigned edition98 (kindOf (getD s 0 0)) = rw (values, kind) at known in
-      let w : rightFields (kindOf (getD s 0 0)) (ltb 0 (getD s 0 0 / 128 % 2)) ≡ false = rw (fields, kind) at wrong in
-      record {
-        answer =
-            rw (
-              made .answer,
-              le-ltb (length s) 1 some,
-              le-ltb 0 (getD s 0 0 / 32 % 2) plain,
-              lt-leb _ _ h,
-              le-ltb 0
-                  (getD s 0 0 % 2) spare,
-              w,
-            );
-      }
-
-  pub first-read : {k : Kind} {n : ℕ} {b : Bool} → 1 ≤ length s → getD s 0 0 / 32 % 2 ≤ 0
-      → k ≡ kindOf (getD s 0 0) → n ≡ assigned edition98 k → getD s 0 0 / 2 % 16 < n → getD s 0 0 % 2 ≤ 0
-      → b ≡ rightFields k (ltb 0 (getD s 0 0 / 128 % 2)) → b ≡ true
-      → FirstTold s (first.First k (getD s 0 0 / 2 % 16) (ltb 0 (getD s 0 0 / 128 % 2)))
-  unfolding firstAt
-  first-read some plain kind values known spare fields right =
-      let h : getD s 0 0 / 2 % 16 < assigned edition98 (kindOf (getD s 0 0)) = rw (values, kind) at known in
-      let w : rightFields (kindOf (getD s 0 0)) (ltb 0 (getD s 0 0 / 128 % 2)) ≡ true = rw (fields, kind) at right in
-      record {
-        answer =
-            rw
-            (kind, le-ltb (length s) 1 some, le-ltb 0 (getD s 0 0 / 32 % 2) plain, lt-leb _ _ h, le-ltb 0 (getD s 0 0 % 2) spare, w);
-      }
-
-pub ruleset firsts = (first-empty, first-extended, first-value, first-spare, first-wrong, first-read)
 
 -- ---- the count of fields
 -- a count that reads, from the answer and its case
@@ -105,56 +35,38 @@ module _ {s : List ℕ} {r : Length} {n k : ℕ} (read : WithinRead fieldsLeast 
   count-fits : k ≤ 2
   count-fits = within-done fieldsLeast fieldsLimit s _ (within-is read is) .sizes .few
 
-  pub octets-fit : 1 + k < 2 ^ 64
-  octets-fit = omega (arith, count-fits)
+  module _ {t : List ℕ} {at : ℕ} (inside : OctetIn t at) where
+    pub octets-fit : at + k < 2 ^ 64
+    octets-fit = omega (arith, count-fits, inside .few, inside .here)
 
-  pub place-fits : 8 * (1 + k) < 2 ^ 64
-  place-fits = omega (arith, count-fits)
+    pub place-fits : 8 * (at + k) < 2 ^ 64
+    place-fits = omega (arith, count-fits, inside .few, inside .here)
 
 -- a count that is refused begins at the front, so that its place fits
-pub count-place : {s : List ℕ} {r : Length} {why x : Refusal} → WithinRead fieldsLeast fieldsLimit s r → r ≡ length.Refused why
-    → RefusalTold r x → 1 + x .place < 2 ^ 64
-count-place {s} {r} {why} {x} read is told =
+pub count-place : {s t : List ℕ} {at : ℕ} {r : Length} {why x : Refusal} → OctetIn t at → WithinRead fieldsLeast fieldsLimit s r
+    → r ≡ length.Refused why → RefusalTold r x → at + x .place < 2 ^ 64
+count-place {s} {t} {at} {r} {why} {x} inside read is told =
     let same : x ≡ why = told .answer ∙ ap refusalOf is in
     let front = within-front fieldsLeast fieldsLimit s .front why (sym (read .answer) ∙ ap lengthOutcome is) in
-    omega (arith, ap (λ (y : Refusal). y .place) same)
+    omega (arith, ap (λ (y : Refusal). y .place) same, inside .few, inside .here)
 
-module _ {s : List ℕ} {b : Bool} where
-  pub count-none : not b ≡ true → CountTold s b (count.Count 0 8)
+module _ {s : List ℕ} {at : ℕ} {b : Bool} where
+  pub count-none : not b ≡ true → CountTold s at b (count.Count 0 (8 * at))
   unfolding countAt
   count-none absent = record { answer = rw (not-true b absent) }
 
-  pub count-refused : {r : Length} {why x y : Refusal} → not b ≡ false → WithinRead fieldsLeast fieldsLimit (rest 1 s) r
-      → r ≡ length.Refused why → RefusalTold r x → y ≡ further 1 x → CountTold s b (count.Refused y)
+  pub count-refused : {r : Length} {why x y : Refusal} → not b ≡ false → WithinRead fieldsLeast fieldsLimit (rest at s) r
+      → r ≡ length.Refused why → RefusalTold r x → y ≡ further at x → CountTold s at b (count.Refused y)
   unfolding countAt
   count-refused present read is told on =
-      record { answer = rw (on, told .answer, is, not-false b present, ← rest-is 1 s, sym (read .answer) ∙ ap lengthOutcome is) }
+      record { answer = rw (on, told .answer, is, not-false b present, ← rest-is at s, sym (read .answer) ∙ ap lengthOutcome is) }
 
-  pub count-read : {r : Length} {n k : ℕ} → not b ≡ false → WithinRead fieldsLeast fieldsLimit (rest 1 s) r
-      → r ≡ length.Value n k → CountTold s b (count.Count n (8 * (1 + k)))
+  pub count-read : {r : Length} {n k : ℕ} → not b ≡ false → WithinRead fieldsLeast fieldsLimit (rest at s) r
+      → r ≡ length.Value n k → CountTold s at b (count.Count n (8 * (at + k)))
   unfolding countAt
-  count-read present read is = record { answer = rw (not-false b present, ← rest-is 1 s, within-is read is) }
+  count-read present read is = record { answer = rw (not-false b present, ← rest-is at s, within-is read is) }
 
 pub ruleset counts = (octets-fit, place-fits, count-place, count-none, count-refused, count-read)
-
--- ---- a field's header
-module _ {s : List ℕ} {p : Place} where
-  pub header-short : {r : Refusal} → RefusalPlaced endsEarly (p / 8) r → 8 * length s < p + headerWidth → HeaderTold s p (header.Refused r)
-  unfolding headerAt
-  header-short made short = record { answer = rw (made .answer, lt-ltb (8 * length s) (p + headerWidth) short) }
-
-  module _ {bits : ℕ} {b : Bool} (inside : p + headerWidth ≤ 8 * length s) (is : BitsTold headerWidth s p bits)
-      (test : b ≡ rightData edition98 (bits % 8) (ltb 0 (bits / 8 % 2))) where
-    pub header-wrong : {r : Refusal} → RefusalPlaced wrongData (p / 8) r → b ≡ false → HeaderTold s p (header.Refused r)
-    unfolding headerAt
-    header-wrong made wrong =
-        record { answer = rw (made .answer, le-ltb (8 * length s) (p + headerWidth) inside, ← is .answer, ← test, wrong) }
-
-    pub header-read : b ≡ true → HeaderTold s p (header.Header (bits % 8) (ltb 0 (bits / 8 % 2)) (p + headerWidth))
-    unfolding headerAt
-    header-read right = record { answer = rw (le-ltb (8 * length s) (p + headerWidth) inside, ← is .answer, ← test, right) }
-
-pub ruleset headers = (header-short, header-wrong, header-read)
 
 -- ---- the length of its data
 module _ {s : List ℕ} where

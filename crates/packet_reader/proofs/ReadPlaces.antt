@@ -4,7 +4,9 @@ use Prim.Native.Nat.{ℕ, _+_, _-_, _*_, _/_, _%_, _^_, _≤_, _<_}
 use mathlib.Core.Path.{_≡_, sym, ap, ap₂, _∙_}
 use mathlib.Core.List.{List}
 use lib.ListN.{length, getD, List·getD-eq-default}
-use lib.Pow.{pow-pos, shl-exact}
+use lib.Pow.{pow-pos, shl-exact, shr-shr}
+use lib.Dec.{ltb}
+use native.Mathlib.Nat.{mod-lt}
 use native.Mathlib.Omega.{arith}
 use borrow.Author.Tests.{lt-ltb, le-ltb}
 use Rattle.lengths.specs.Refusals.{spareBit}
@@ -13,7 +15,7 @@ use Rattle.lengths.specs.Promise.{Octet, RefusalPlaced}
 use Rattle.lengths.specs.declared.Refusal.{Refusal}
 use Rattle.packets.proofs.Laws.{edge-inside}
 use Rattle.formats.specs.Places.{Place, edgeAt}
-use Rattle.packet_reader.specs.Items.{InPacket, Power, OctetAt, BitsTold, EdgeTold, edgeOutcome}
+use Rattle.packet_reader.specs.Items.{InPacket, Power, OctetAt, BitTold, BitsTold, EdgeTold, edgeOutcome}
 use Rattle.packet_reader.specs.declared.places.EdgeRead.{EdgeRead}
 use Rattle.packet_reader.specs.declared.places.EdgeRead.the-variants as edge
 
@@ -27,6 +29,17 @@ octet-some octet = record { same = octet .same; small = octet .small }
 
 pub octet-none : {s : List ℕ} {at : ℕ} → length s ≤ at → OctetAt s at 0
 octet-none {s} past = record { same = sym (List·getD-eq-default s 0 past); small = omega arith }
+
+-- a bit by the one octet that holds it
+bit-high : (a b m : ℕ) → (a * 256 + b % 256) / 2 ^ (8 + m) ≡ a / 2 ^ m
+bit-high a b m =
+    let top : (a * 256 + b % 256) / 2 ^ 8 ≡ a = omega arith in
+    sym (shr-shr (a * 256 + b % 256) 8 m) ∙ ap (λ (x : ℕ). x / 2 ^ m) top
+
+pub bit-told : {s : List ℕ} {p a : ℕ} → OctetAt s (p / 8) a → BitTold s p (ltb 0 (a / 2 ^ (7 - p % 8) % 2))
+bit-told {s} {p} octet =
+    let below : 16 - (p % 8 + 1) ≡ 8 + (7 - p % 8) = omega (arith, mod-lt p {m = 8} (omega arith)) in
+    record { answer = rw (octet .same, below, bit-high (getD s (p / 8) 0) (getD s (p / 8 + 1) 0) (7 - p % 8)) }
 
 pub bits-told : {s : List ℕ} {n p a b v : ℕ} → OctetAt s (p / 8) a → OctetAt s (p / 8 + 1) b → Power n v
     → BitsTold n s p ((a * 256 + b) / 2 ^ (16 - (p % 8 + n)) % v)
@@ -56,4 +69,4 @@ module _ {s : List ℕ} {p : Place} {r : EdgeRead} {at : ℕ} (told : EdgeTold s
   pub edge-within : InPacket s p → at ≤ length s
   edge-within inside = edge-inside s p at (inside .here) edge-is
 
-pub ruleset places = (power-told, octet-some, octet-none, bits-told, edge-set, edge-told)
+pub ruleset places = (power-told, octet-some, octet-none, bit-told, bits-told, edge-set, edge-told)

@@ -1,20 +1,29 @@
 -- What the functions of this crate owe each other: for each item's reader the answer's cases in the words of packets' `Octets`.
 -- Definitions only.
-use Prim.Native.Nat.{ℕ, _*_, _^_, _≤_, _<_}
+use Prim.Native.Nat.{ℕ, _+_, _*_, _^_, _≤_, _<_}
 use mathlib.Core.Path.{_≡_}
-use mathlib.Core.Bool.{Bool, true}
+use mathlib.Core.Bool.{Bool, true, cond}
 use mathlib.Core.List.{List, []}
 use lib.ListN.{length, getD}
-use Rattle.lengths.specs.Answers.{Answer, done, refused}
+use Rattle.lengths.specs.Refusals.{wrongData}
+use Rattle.lengths.specs.Answers.{Answer, done, refused, refuse, refuseAt, _>>=_}
 use Rattle.formats.specs.Places.{Place, bitsAt, edgeAt}
 use Rattle.datagrams.specs.Sizes.{packetLimit}
-use Rattle.packets.specs.Packet.{First}
-use Rattle.packets.specs.Inner.Octets.{firstAt, Count, countAt, HeaderAnswer, headerAt, sizeAt, FieldAnswer, afterHeader, fieldAt}
+use Rattle.packets.specs.Edition.{editionOf, carries, allows}
+use Rattle.packets.specs.declared.types.Enumerated.{Enumerated}
+use Rattle.packets.specs.Inner.Octets.{bitAt, kindOf, Narrow, Value, plainWidth, rootAt, addedAt, valueAt, FirstAnswer, firstAt}
+use Rattle.packets.specs.Inner.Octets.{Count, countAt, HeaderAnswer, headerAt, sizeAt, FieldAnswer, afterHeader, fieldAt}
 use Rattle.packets.specs.Inner.Octets.{FieldsAnswer, fieldsAt, endAt}
-use Rattle.packets.specs.Promise.{padded}
+use Rattle.packets.specs.Packet.{rightFields, readPacket}
+use Rattle.packets.specs.Promise.{PacketTold, padded}
 use Rattle.packets.specs.declared.types.Ending.{Ending}
+use Rattle.packets.specs.declared.types.Kind.{Kind}
+use Rattle.packets.specs.declared.types.Named.{Named}
+use Rattle.packets.specs.declared.types.PacketRead.{PacketRead}
 use Rattle.packet_reader.specs.declared.places.EdgeRead.{EdgeRead}
 use Rattle.packet_reader.specs.declared.places.EdgeRead.the-variants as edge
+use Rattle.packet_reader.specs.declared.values.ValueRead.{ValueRead}
+use Rattle.packet_reader.specs.declared.values.ValueRead.the-variants as value
 use Rattle.packet_reader.specs.declared.items.FirstRead.{FirstRead}
 use Rattle.packet_reader.specs.declared.items.FirstRead.the-variants as first
 use Rattle.packet_reader.specs.declared.items.CountRead.{CountRead}
@@ -36,6 +45,16 @@ pub record InPacket (s : List ℕ) (p : Place) : Type 0 where
   pub few : length s ≤ packetLimit
   pub here : p ≤ 8 * length s
 
+-- a place in them, or at most so many bits after their end
+pub record NearPacket (over : ℕ) (s : List ℕ) (p : Place) : Type 0 where
+  pub few : length s ≤ packetLimit
+  pub near : p ≤ 8 * length s + over
+
+-- an octet of them, or their end
+pub record OctetIn (s : List ℕ) (at : ℕ) : Type 0 where
+  pub few : length s ≤ packetLimit
+  pub here : at ≤ length s
+
 -- a power of two
 pub record Power (n r : ℕ) : Type 0 where
   pub is : r ≡ 2 ^ n
@@ -45,6 +64,9 @@ pub record Power (n r : ℕ) : Type 0 where
 pub record OctetAt (s : List ℕ) (at r : ℕ) : Type 0 where
   pub same : r ≡ getD s at 0
   pub small : r < 256
+
+pub record BitTold (s : List ℕ) (p : Place) (r : Bool) : Type 0 where
+  pub answer : r ≡ bitAt s p
 
 pub record BitsTold (n : ℕ) (s : List ℕ) (p : Place) (r : ℕ) : Type 0 where
   pub answer : r ≡ bitsAt n s p
@@ -56,27 +78,71 @@ edgeOutcome (edge.Refused r) = refused r
 pub record EdgeTold (s : List ℕ) (p : Place) (r : EdgeRead) : Type 0 where
   pub answer : edgeOutcome r ≡ edgeAt s p
 
+-- ---- a value
+abbrev pub valueOutcome : ValueRead → Answer Value
+valueOutcome (value.Value v next) = done (record { value = v; next = next })
+valueOutcome (value.Refused r) = refused r
+
+pub record PlainTold (e : Enumerated) (r : ℕ) : Type 0 where
+  pub narrow : Narrow e
+  pub few : r ≤ 7
+  pub answer : r ≡ plainWidth e
+
+pub record RootTold (e : Enumerated) (item : ℕ) (s : List ℕ) (p : Place) (r : ValueRead) : Type 0 where
+  pub answer : valueOutcome r ≡ rootAt e item s p
+
+pub record AddedTold (e : Enumerated) (item : ℕ) (s : List ℕ) (p : Place) (r : ValueRead) : Type 0 where
+  pub answer : valueOutcome r ≡ addedAt e item s p
+
+pub record ValueTold (e : Enumerated) (item : ℕ) (s : List ℕ) (p : Place) (r : ValueRead) : Type 0 where
+  pub answer : valueOutcome r ≡ valueAt e item s p
+
 -- ---- items
-abbrev pub firstOutcome : FirstRead → Answer First
-firstOutcome (first.First k v p) = done (record { kind = k; value = v; present = p })
+abbrev pub firstOutcome : FirstRead → Answer FirstAnswer
+firstOutcome (first.First k v p at) = done (record { first = record { kind = k; value = v; present = p }; octets = at })
 firstOutcome (first.Refused r) = refused r
 
-pub record FirstTold (s : List ℕ) (r : FirstRead) : Type 0 where
-  pub answer : firstOutcome r ≡ firstAt s
+-- what follows the first value
+abbrev pub afterFirst : List ℕ → Kind → Value → Answer FirstAnswer
+afterFirst s kind v = do
+  at ← edgeAt s (v .next)
+  cond (rightFields kind (bitAt s 0))
+      (done (record { first = record { kind = kind; value = v .value; present = bitAt s 0 }; octets = at }))
+      (refuse wrongData)
+
+pub record AfterFirst (s : List ℕ) (kind : Kind) (value : ℕ) (p : Place) (r : FirstRead) : Type 0 where
+  pub answer : firstOutcome r ≡ afterFirst s kind (record { value = value; next = p })
+
+-- the kind of the first item of a packet
+pub record FirstHere (s : List ℕ) (kind : Kind) : Type 0 where
+  pub few : length s ≤ packetLimit
+  pub is : kind ≡ kindOf s
+
+pub record FirstTold (named : Named) (s : List ℕ) (r : FirstRead) : Type 0 where
+  pub answer : firstOutcome r ≡ firstAt (editionOf named) s
 
 abbrev pub countOutcome : CountRead → Answer Count
 countOutcome (count.Count n next) = done (record { value = n; next = next })
 countOutcome (count.Refused r) = refused r
 
-pub record CountTold (s : List ℕ) (present : Bool) (r : CountRead) : Type 0 where
-  pub answer : countOutcome r ≡ countAt s present
+pub record CountTold (s : List ℕ) (at : ℕ) (present : Bool) (r : CountRead) : Type 0 where
+  pub answer : countOutcome r ≡ countAt s at present
 
 abbrev pub headerOutcome : HeaderRead → Answer HeaderAnswer
 headerOutcome (header.Header k p next) = done (record { header = record { kind = k; present = p }; next = next })
 headerOutcome (header.Refused r) = refused r
 
-pub record HeaderTold (s : List ℕ) (p : Place) (r : HeaderRead) : Type 0 where
-  pub answer : headerOutcome r ≡ headerAt s p
+-- what follows a field's type
+abbrev pub afterType : ℕ → ℕ → Bool → Place → Answer HeaderAnswer
+afterType item kind present p =
+    cond (allows (carries kind) present) (done (record { header = record { kind = kind; present = present }; next = p }))
+    (refuseAt item wrongData)
+
+pub record AfterType (item kind : ℕ) (present : Bool) (p : Place) (r : HeaderRead) : Type 0 where
+  pub answer : headerOutcome r ≡ afterType item kind present p
+
+pub record HeaderTold (named : Named) (s : List ℕ) (p : Place) (r : HeaderRead) : Type 0 where
+  pub answer : headerOutcome r ≡ headerAt (editionOf named) s p
 
 abbrev pub sizeOutcome : SizeRead → Answer ℕ
 sizeOutcome (size.Size n) = done n
@@ -93,16 +159,16 @@ fieldOutcome (field.Refused r) = refused r
 pub record DataTold (s : List ℕ) (kind : ℕ) (p : Place) (r : FieldRead) : Type 0 where
   pub answer : fieldOutcome r ≡ afterHeader s (record { header = record { kind = kind; present = true }; next = p })
 
-pub record FieldTold (s : List ℕ) (p : Place) (r : FieldRead) : Type 0 where
-  pub answer : fieldOutcome r ≡ fieldAt s p
+pub record FieldTold (named : Named) (s : List ℕ) (p : Place) (r : FieldRead) : Type 0 where
+  pub answer : fieldOutcome r ≡ fieldAt (editionOf named) s p
 
 -- ---- all fields, and the end
 abbrev pub fieldsRead : Answer FieldsAnswer → FieldsRead
 fieldsRead (done a) = record { end = end.Next (a .next); fields = padded (a .fields) }
 fieldsRead (refused r) = record { end = end.Refused r; fields = padded [] }
 
-pub record FieldsTold (count : ℕ) (s : List ℕ) (p : Place) (r : FieldsRead) : Type 0 where
-  pub answer : r ≡ fieldsRead (fieldsAt count s p)
+pub record FieldsTold (named : Named) (count : ℕ) (s : List ℕ) (p : Place) (r : FieldsRead) : Type 0 where
+  pub answer : r ≡ fieldsRead (fieldsAt (editionOf named) count s p)
 
 abbrev pub endOutcome : EndRead → Answer (Unit {0})
 endOutcome ends.Ends = done tt
@@ -110,3 +176,7 @@ endOutcome (ends.Refused r) = refused r
 
 pub record EndTold (ending : Ending) (s : List ℕ) (p : Place) (r : EndRead) : Type 0 where
   pub answer : endOutcome r ≡ endAt ending s p tt
+
+-- ---- the packet, in the edition that was named
+pub record NamedTold (named : Named) (ending : Ending) (s : List ℕ) (r : PacketRead) : Type 0 where
+  pub told : PacketTold (readPacket (editionOf named) ending s) r

@@ -1,24 +1,32 @@
-// Document 01, 'The packet', item by item: the first octet, the count of fields, a field. Each item has a function of its own, which
-// answers with the item or with the refusal that is the whole packet's, at the octet at which the item begins.
+// Document 01, 'The packet', item by item, in a named edition: the first item, the count of fields, a field. Each item has a function of
+// its own, which answers with the item or with the refusal that is the whole packet's, at the octet at which the item begins.
 
 use crate::places::EdgeRead;
+use crate::places::bit;
 use crate::places::bits;
+use crate::places::power;
 use crate::places::read_edge;
+use crate::values::ValueRead;
+use crate::values::plain_width;
+use crate::values::read_value;
 use datagrams::Packet;
 use lengths::Length;
 use lengths::Refusal;
 use lengths::wide;
 use packets::Field;
 use packets::Kind;
+use packets::Named;
 ghost use mathlib.Core.Path.{_≡_};
 ghost use Prim.Native.Nat.{_≤_};
 ghost use lib.ListN.{length};
+ghost use Rattle.datagrams.specs.Sizes.{packetLimit};
 ghost use Rattle.packets.specs.Inner.Octets.{kindOf};
-ghost use Rattle.packet_reader.specs.Items.{InPacket, FirstTold, CountTold, HeaderTold, SizeTold, DataTold, FieldTold};
+ghost use Rattle.packet_reader.specs.Items.{InPacket, OctetIn, FirstHere, AfterFirst, FirstTold, CountTold};
+ghost use Rattle.packet_reader.specs.Items.{AfterType, HeaderTold, SizeTold, DataTold, FieldTold};
 
-// What the first octet says.
+// What the first item says, and the octets up to the edge after it.
 pub enum FirstRead {
-    First(Kind, u8, bool),
+    First(Kind, u8, bool, usize),
     Refused(Refusal),
 }
 
@@ -46,80 +54,135 @@ pub enum FieldRead {
     Refused(Refusal),
 }
 
-// How many bits a field header takes.
-const HEADER_WIDTH: usize = 4;
-
-// The kind that a first octet says.
-fn kind_of(octet: u8) -> Kind
-    ensures { λ r. ⌜ r ≡ kindOf octet ⌝ }
+// The kind that the first two bits say.
+fn kind_of(s: &[u8]) -> Kind
+    ensures { λ r. ⌜ r ≡ kindOf (now (s .entry)) ⌝ }
 {
-    if 0 < octet / 64 % 2 {
+    if bit(s, 1) {
         return Kind::Data;
     }
     Kind::Indicator
 }
 
-// The first octet of s.
-pub fn read_first(s: &[u8]) -> FirstRead
-    ensures { λ r. ⌜ FirstTold (now (s .entry)) r ⌝ }
+// What follows the first value: zero bits to an octet edge, and whether fields may be present or not.
+fn after_first(s: &[u8], kind: Kind, value: u8, p: usize) -> FirstRead
+    requires { ⌜ InPacket (now s) p ⌝ }
+    ensures { λ r. ⌜ AfterFirst (now (s .entry)) kind value p r ⌝ }
 {
-    if s.len() < 1 {
-        return FirstRead::Refused(Refusal::new(Refusal::ENDS_EARLY));
+    match read_edge(s, p) {
+        EdgeRead::Refused(refusal) => FirstRead::Refused(refusal),
+        EdgeRead::Edge(at) => {
+            let present = bit(s, 0);
+            if packet_rules::right_fields(kind, present) {
+                return FirstRead::First(kind, value, present, at);
+            }
+            FirstRead::Refused(Refusal::new(Refusal::WRONG_DATA))
+        }
     }
-    let octet = s[0];
-    if 0 < octet / 32 % 2 {
-        return FirstRead::Refused(Refusal::new(Refusal::NOT_ASSIGNED));
-    }
-    let kind = kind_of(octet);
-    let value = octet / 2 % 16;
-    if packet_rules::assigned(kind) <= value {
-        return FirstRead::Refused(Refusal::new(Refusal::NOT_ASSIGNED));
-    }
-    if 0 < octet % 2 {
-        return FirstRead::Refused(Refusal::new(Refusal::SPARE_BIT));
-    }
-    let present = 0 < octet / 128 % 2;
-    if packet_rules::right_fields(kind, present) {
-        return FirstRead::First(kind, value, present);
-    }
-    FirstRead::Refused(Refusal::new(Refusal::WRONG_DATA))
 }
 
-// The count of fields, where the first octet says that they are present.
-pub fn read_count(s: &[u8], present: bool) -> CountRead
-    requires { ⌜ 1 ≤ length (now s) ⌝ }
-    ensures { λ r. ⌜ CountTold (now (s .entry)) present r ⌝ }
+// The first item of s, its value part by part.
+fn first_by_parts(s: &[u8], named: Named, kind: Kind) -> FirstRead
+    requires { ⌜ FirstHere (now s) kind ⌝ }
+    ensures { λ r. ⌜ FirstTold named (now (s .entry)) r ⌝ }
+{
+    let e = packet_rules::values(named, kind);
+    match read_value(s, 0, 2, e) {
+        ValueRead::Refused(refusal) => FirstRead::Refused(refusal),
+        ValueRead::Value(value, next) => after_first(s, kind, value, next),
+    }
+}
+
+// The first item of s: bits for fields present and for the kind, the value, and zero bits to an octet edge. A value before the extension
+// mark is cut at once.
+pub fn read_first(s: &[u8], named: Named) -> FirstRead
+    requires { ⌜ length (now s) ≤ packetLimit ⌝ }
+    ensures { λ r. ⌜ FirstTold named (now (s .entry)) r ⌝ }
+{
+    let kind = kind_of(s);
+    let e = packet_rules::values(named, kind);
+    let width = plain_width(e);
+    let all = 8 * s.len();
+    let next = 2 + width;
+    if all < next {
+        return first_by_parts(s, named, kind);
+    }
+    let value = bits(s, width, 2);
+    if e.assigned <= value {
+        return first_by_parts(s, named, kind);
+    }
+    let octet = value as u8;
+    after_first(s, kind, octet, next)
+}
+
+// The count of fields from the octet `at` on, where the first item says that they are present.
+pub fn read_count(s: &[u8], at: usize, present: bool) -> CountRead
+    requires { ⌜ OctetIn (now s) at ⌝ }
+    ensures { λ r. ⌜ CountTold (now (s .entry)) at present r ⌝ }
 {
     if !present {
-        return CountRead::Count(0, 8);
+        let start = 8 * at;
+        return CountRead::Count(0, start);
     }
-    let found = lengths::read_within(&s[1..], Field::LEAST, Field::LIMIT);
+    let found = lengths::read_within(&s[at..], Field::LEAST, Field::LIMIT);
     let Length::Value(value, size) = found else {
         let why = found.refusal();
-        return CountRead::Refused(why.further(1));
+        return CountRead::Refused(why.further(at));
     };
-    let octets = 1 + size;
+    let octets = at + size;
     let next = 8 * octets;
     CountRead::Count(value, next)
 }
 
-// The field header at a place.
-fn read_header(s: &[u8], p: usize) -> HeaderRead
-    requires { ⌜ InPacket (now s) p ⌝ }
-    ensures { λ r. ⌜ HeaderTold (now (s .entry)) p r ⌝ }
+// What follows a field's type, which ends at a place: whether it may have data or not. The header begins at the octet `item`.
+fn after_type(item: usize, kind: u8, present: bool, p: usize) -> HeaderRead
+    ensures { λ r. ⌜ AfterType item kind present p r ⌝ }
 {
-    let all = 8 * s.len();
-    let next = p + HEADER_WIDTH;
-    if all < next {
-        return HeaderRead::Refused(Refusal::at(Refusal::ENDS_EARLY, p / 8));
-    }
-    let header = bits(s, HEADER_WIDTH, p);
-    let kind = (header % 8) as u8;
-    let present = 0 < header / 8 % 2;
     if packet_rules::right_data(kind, present) {
-        return HeaderRead::Header(kind, present, next);
+        return HeaderRead::Header(kind, present, p);
     }
-    HeaderRead::Refused(Refusal::at(Refusal::WRONG_DATA, p / 8))
+    HeaderRead::Refused(Refusal::at(Refusal::WRONG_DATA, item))
+}
+
+// The field header at a place, its type part by part.
+fn header_by_parts(s: &[u8], p: usize, named: Named) -> HeaderRead
+    requires { ⌜ InPacket (now s) p ⌝ }
+    ensures { λ r. ⌜ HeaderTold named (now (s .entry)) p r ⌝ }
+{
+    let e = packet_rules::types(named);
+    let start = p + 1;
+    match read_value(s, p / 8, start, e) {
+        ValueRead::Refused(refusal) => HeaderRead::Refused(refusal),
+        ValueRead::Value(kind, next) => {
+            let present = bit(s, p);
+            after_type(p / 8, kind, present, next)
+        }
+    }
+}
+
+// The field header at a place: a bit for data present, and the field's type. With a type before the extension mark it is cut at once.
+fn read_header(s: &[u8], p: usize, named: Named) -> HeaderRead
+    requires { ⌜ InPacket (now s) p ⌝ }
+    ensures { λ r. ⌜ HeaderTold named (now (s .entry)) p r ⌝ }
+{
+    let e = packet_rules::types(named);
+    let below = plain_width(e);
+    let width = below + 1;
+    let all = 8 * s.len();
+    let next = p + width;
+    if all < next {
+        return header_by_parts(s, p, named);
+    }
+    let header = bits(s, width, p);
+    let values = power(below);
+    let value = header % values;
+    if e.assigned <= value {
+        return header_by_parts(s, p, named);
+    }
+    let top = header >> below;
+    let present = 0 < top % 2;
+    let kind = value as u8;
+    after_type(p / 8, kind, present, next)
 }
 
 // The length of the data that begins after the two octets at the front of s.
@@ -161,11 +224,11 @@ fn read_data(s: &[u8], kind: u8, p: usize) -> FieldRead
 }
 
 // The field at a place: its header, and what follows it.
-pub fn read_field(s: &[u8], p: usize) -> FieldRead
+pub fn read_field(s: &[u8], p: usize, named: Named) -> FieldRead
     requires { ⌜ InPacket (now s) p ⌝ }
-    ensures { λ r. ⌜ FieldTold (now (s .entry)) p r ⌝ }
+    ensures { λ r. ⌜ FieldTold named (now (s .entry)) p r ⌝ }
 {
-    match read_header(s, p) {
+    match read_header(s, p, named) {
         HeaderRead::Refused(refusal) => FieldRead::Refused(refusal),
         HeaderRead::Header(kind, present, next) => {
             if present {

@@ -1,7 +1,8 @@
-// The quick reader of packets: document 01, 'The packet', and document 02, request 2, as `packets` defines them.
+// The quick reader of packets: document 01, 'The packet', and document 02, requests 2 and 11, as `packets` defines them.
 mod items;
 mod places;
 mod reader;
+mod values;
 
 // What may follow the last field, the places with no field and the answer of a refused packet are the second reader's too.
 pub use reader::may_follow;

@@ -1,10 +1,9 @@
-// Places in bits: the number in some bits from a place on, and the octet edge at a place or after it. A field header stands at any bit,
-// and no bit is read by itself.
+// Places in bits: a bit, the number in some bits from a place on, and the octet edge at a place or after it. No bits are read one by one.
 
 use lengths::Refusal;
 use lengths::wide;
 ghost use Prim.Native.Nat.{_≤_};
-ghost use Rattle.packet_reader.specs.Items.{InPacket, Power, OctetAt, BitsTold, EdgeTold};
+ghost use Rattle.packet_reader.specs.Items.{InPacket, Power, OctetAt, BitTold, BitsTold, EdgeTold};
 
 // How many octets there are up to an octet edge.
 pub enum EdgeRead {
@@ -13,7 +12,7 @@ pub enum EdgeRead {
 }
 
 // 2 to the power n.
-fn power(n: usize) -> usize
+pub fn power(n: usize) -> usize
     requires { ⌜ n ≤ 8 ⌝ }
     ensures { λ r. ⌜ Power n r ⌝ }
 {
@@ -28,6 +27,16 @@ fn octet_at(s: &[u8], at: usize) -> usize
         return wide(s[at]);
     }
     0
+}
+
+// Whether the bit at a place is set.
+pub fn bit(s: &[u8], p: usize) -> bool
+    ensures { λ r. ⌜ BitTold (now (s .entry)) p r ⌝ }
+{
+    let octet = octet_at(s, p / 8);
+    let below = 7 - p % 8;
+    let front = octet >> below;
+    0 < front % 2
 }
 
 // The number in n bits from a place on: the two octets from there on hold them.

@@ -1,4 +1,4 @@
-// Document 01, 'The packet', read in reading order: the first octet, the count of fields, each field, the end.
+// Document 01, 'The packet', read in reading order: the first item, the count of fields, each field, the end.
 
 use crate::items::CountRead;
 use crate::items::FieldRead;
@@ -10,16 +10,18 @@ use crate::places::EdgeRead;
 use crate::places::read_edge;
 use datagrams::Packet;
 use lengths::Refusal;
+use packets::Choice;
 use packets::Ending;
 use packets::Field;
+use packets::Named;
 use packets::PacketRead;
 use packets::Reading;
 ghost use mathlib.Core.Path.{_≡_};
 ghost use Prim.Native.Nat.{_≤_};
 ghost use mathlib.Core.List.{[]};
-ghost use Rattle.packets.specs.Edition.{edition98};
-ghost use Rattle.packets.specs.Packet.{fieldsLimit, allZero, mayFollow};
-ghost use Rattle.packet_reader.specs.Items.{InPacket, FieldsTold, EndTold};
+ghost use Rattle.packets.specs.Edition.{byEdition};
+ghost use Rattle.packets.specs.Packet.{fieldsLimit, allZero, mayFollow, readPacket};
+ghost use Rattle.packet_reader.specs.Items.{InPacket, FieldsTold, EndTold, NamedTold};
 ghost use Rattle.packets.specs.Promise.{PacketTold, packetRead, padded};
 ghost use Rattle.lengths.specs.Answers as answers;
 
@@ -53,16 +55,16 @@ pub fn no_fields() -> [Field; Field::LIMIT]
 }
 
 // So many fields, the first of which begins at `from`.
-fn read_fields(s: &[u8], count: usize, from: usize) -> FieldsRead
+fn read_fields(s: &[u8], count: usize, from: usize, named: Named) -> FieldsRead
     requires { ⌜ count ≤ fieldsLimit ⌝ }
     requires { ⌜ InPacket (now s) from ⌝ }
-    ensures { λ r. ⌜ FieldsTold count (now (s .entry)) from r ⌝ }
+    ensures { λ r. ⌜ FieldsTold named count (now (s .entry)) from r ⌝ }
 {
     let mut fields = no_fields();
     let mut p = from;
     let mut i: usize = 0;
     while i < count {
-        match read_field(s, p) {
+        match read_field(s, p, named) {
             FieldRead::Refused(refusal) => {
                 let none = no_fields();
                 return FieldsRead {
@@ -134,19 +136,19 @@ pub fn refused(refusal: Refusal) -> PacketRead
     }
 }
 
-// A packet's kind, value and fields, or the first refusal in reading order.
-pub fn read(s: &[u8], ending: Ending) -> PacketRead
-    ensures { λ r. ⌜ PacketTold edition98 ending (now (s .entry)) r ⌝ }
+// A packet's kind, value and fields in the named edition, or the first refusal in reading order.
+fn read_named(named: Named, s: &[u8], ending: Ending) -> PacketRead
+    ensures { λ r. ⌜ NamedTold named ending (now (s .entry)) r ⌝ }
 {
     if Packet::LIMIT < s.len() {
         return refused(Refusal::new(Refusal::OUTSIDE_SIZES));
     }
-    match read_first(s) {
+    match read_first(s, named) {
         FirstRead::Refused(refusal) => refused(refusal),
-        FirstRead::First(kind, value, present) => match read_count(s, present) {
+        FirstRead::First(kind, value, present, at) => match read_count(s, at, present) {
             CountRead::Refused(refusal) => refused(refusal),
             CountRead::Count(count, from) => {
-                let all = read_fields(s, count, from);
+                let all = read_fields(s, count, from, named);
                 let end = all.end;
                 match end {
                     FieldsEnd::Refused(refusal) => refused(refusal),
@@ -163,5 +165,15 @@ pub fn read(s: &[u8], ending: Ending) -> PacketRead
                 }
             }
         },
+    }
+}
+
+// A packet's kind, value and fields in the edition that an octet names, or the first refusal in reading order: another octet first.
+pub fn read(edition: u8, s: &[u8], ending: Ending) -> PacketRead
+    ensures { λ r. ⌜ PacketTold (byEdition edition (λ e. readPacket e ending (now (s .entry)))) r ⌝ }
+{
+    match packet_rules::choice_of(edition) {
+        Choice::Edition(named) => read_named(named, s, ending),
+        Choice::Neither => refused(Refusal::new(Refusal::WRONG_SETTINGS)),
     }
 }

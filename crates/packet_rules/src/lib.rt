@@ -1,17 +1,79 @@
-// Document 01, 'The packet': what a packet may hold, to the readers, the writer and the joiner alike.
+// What a packet may hold, to the readers, the writer and the joiner alike: document 01, 'The packet', and what an edition decides.
+use packets::Choice;
+use packets::Enumerated;
 use packets::Kind;
+use packets::Named;
 ghost use mathlib.Core.Path.{_≡_};
-ghost use Rattle.packets.specs.Edition.{edition98};
-ghost use Rattle.packets.specs.Packet as packet;
-ghost use Rattle.packets.specs.Packet.{rightFields, rightData};
+ghost use Rattle.packets.specs.Edition as edition;
+ghost use Rattle.packets.specs.Edition.{editionOf, choiceOf, carries, allows};
+ghost use Rattle.packets.specs.Packet.{rightFields};
 
-// How many values of a kind are assigned.
-pub fn assigned(kind: Kind) -> u8
-    ensures { λ r. ⌜ r ≡ packet.assigned edition98 kind ⌝ }
+// What an octet names.
+pub fn choice_of(octet: u8) -> Choice
+    ensures { λ r. ⌜ r ≡ choiceOf octet ⌝ }
 {
-    match kind {
-        Kind::Indicator => 16,
-        Kind::Data => 9,
+    if octet == 0 {
+        return Choice::Edition(Named::Old);
+    }
+    if octet == 1 {
+        return Choice::Edition(Named::New);
+    }
+    Choice::Neither
+}
+
+// The values of a kind.
+pub fn values(named: Named, kind: Kind) -> Enumerated
+    ensures { λ r. ⌜ r ≡ edition.values (editionOf named) kind ⌝ }
+{
+    match named {
+        Named::Old => match kind {
+            Kind::Indicator => Enumerated {
+                extensible: true,
+                width: 4,
+                assigned: 16,
+                added: 0,
+            },
+            Kind::Data => Enumerated {
+                extensible: true,
+                width: 4,
+                assigned: 9,
+                added: 0,
+            },
+        },
+        Named::New => match kind {
+            Kind::Indicator => Enumerated {
+                extensible: true,
+                width: 4,
+                assigned: 16,
+                added: 7,
+            },
+            Kind::Data => Enumerated {
+                extensible: true,
+                width: 4,
+                assigned: 9,
+                added: 6,
+            },
+        },
+    }
+}
+
+// The field types.
+pub fn types(named: Named) -> Enumerated
+    ensures { λ r. ⌜ r ≡ editionOf named .types ⌝ }
+{
+    match named {
+        Named::Old => Enumerated {
+            extensible: false,
+            width: 3,
+            assigned: 8,
+            added: 0,
+        },
+        Named::New => Enumerated {
+            extensible: true,
+            width: 3,
+            assigned: 8,
+            added: 4,
+        },
     }
 }
 
@@ -27,7 +89,7 @@ pub fn right_fields(kind: Kind, present: bool) -> bool
 
 // Whether a field of this type may be so, with or without data.
 pub fn right_data(kind: u8, present: bool) -> bool
-    ensures { λ r. ⌜ r ≡ rightData edition98 kind present ⌝ }
+    ensures { λ r. ⌜ r ≡ allows (carries kind) present ⌝ }
 {
     if kind == 0 {
         return present;

@@ -1,6 +1,6 @@
 -- What the writer decides before it writes: one law for each answer, in the words of the code; and the size of what is
 -- to be written. Assumes nothing.
-use Prim.Native.Nat.{ℕ, _+_, _/_, _≤_, _<_}
+use Prim.Native.Nat.{ℕ, _+_, _-_, _≤_, _<_}
 use mathlib.Core.Path.{_≡_, refl, sym, ap, ap₂, _∙_}
 use mathlib.Core.Bool.{Bool, true, false, not, _&&_}
 use mathlib.Core.List.{List, [], _∷_}
@@ -13,20 +13,22 @@ use Rattle.lengths.specs.Tables.{when, unless}
 use Rattle.lengths.specs.Promise.{RefusalMade}
 use Rattle.lengths.specs.declared.Refusal.{Refusal}
 use Rattle.lengths.specs.declared.Written.the-variants as written
-use Rattle.datagrams.specs.Sizes.{packetLimit}
-use Rattle.packets.specs.Edition.{edition98}
-use Rattle.packets.specs.Packet.{fieldsLimit, typesLimit, assigned, rightFields, rightData, every}
+use Rattle.packets.specs.Edition.{many, allows, Edition, values, carries, editionOf}
+use Rattle.packets.specs.Packet.{fieldsLimit, assigned, rightFields, rightData, every}
 use Rattle.packets.specs.Write.{withData, packetOctets, sum, oneEach, allAssigned, rightTypes, allRight, inSizes, packetToWrite}
-use Rattle.packets.specs.Inner.Laid.{packetSize}
-use Rattle.packets.specs.Inner.Items.{Wide, FieldsPast, Measured}
+use Rattle.packets.specs.Inner.Items.{Wide, TypesRight, AllAssigned, AllRight, PacketSized, Measured}
+use Rattle.packets.specs.declared.types.Enumerated.{Enumerated}
 use Rattle.packets.specs.declared.types.Kind.{Kind}
-use Rattle.packets.proofs.Laws.{drop-next, each-length, packet-size}
+use Rattle.packets.specs.declared.types.Named.{Named}
+use Rattle.packets.specs.declared.types.Named.the-variants.{Old, New}
+use Rattle.packets.proofs.Laws.{drop-next, each-length, packet-size, narrow-of}
+use Rattle.packet_writer.proofs.Values.{values-narrow, types-narrow}
 
 -- ---- both of two tests
-both-left : (a b : Bool) → a ≡ false → false ≡ (a && b)
+pub both-left : (a b : Bool) → a ≡ false → false ≡ (a && b)
 both-left a b no-a = rw no-a
 
-both-right : (a b c : Bool) → a ≡ true → c ≡ b → c ≡ (a && b)
+pub both-right : (a b c : Bool) → a ≡ true → c ≡ b → c ≡ (a && b)
 both-right a b c yes-a same = rw (yes-a) same
 
 -- ---- 15
@@ -50,77 +52,79 @@ module _ (ts ns d : List ℕ) where
 pub few-same : (ts ns : List ℕ) → length ts ≤ fieldsLimit → length ts ≡ length ns → length ns ≤ fieldsLimit
 few-same ts ns few same = omega arith
 
--- ---- 12
-module _ (k : Kind) (v : ℕ) (ts : List ℕ) where
-  pub assigned-not : {n : ℕ} → n ≡ assigned edition98 k → n ≤ v → false ≡ allAssigned edition98 k v ts
-  unfolding allAssigned
-  assigned-not {n} is over = both-left (ltb v (assigned edition98 k)) _ (le-ltb v (assigned edition98 k) (rw is at over))
+-- ---- which types carry data does not depend on the edition
+rule-of : (named : Named) (t : ℕ) (b : Bool) → rightData (editionOf named) t b ≡ allows (carries t) b
+rule-of Old t b = refl
+rule-of New t b = refl
 
-  pub assigned-is : {n : ℕ} {b : Bool} → n ≡ assigned edition98 k → v < n → b ≡ every (λ t. leb t (typesLimit edition98)) ts
-      → b ≡ allAssigned edition98 k v ts
+-- ---- 12
+module _ {named : Named} {k : Kind} {v : ℕ} {ts : List ℕ} {e : Enumerated} (is : e ≡ values (editionOf named) k) where
+  pub assigned-not : e .assigned + e .added ≤ v → AllAssigned named k v ts false
   unfolding allAssigned
-  assigned-is {n} {b} is known same = both-right (ltb v (assigned edition98 k)) _ b (lt-ltb v (assigned edition98 k) (rw is at known)) same
+  assigned-not over =
+      let n = assigned (editionOf named) k in
+      record { so = both-left (ltb v n) _ (le-ltb v n (rw is at over)) }
+
+  pub assigned-is : {types : Enumerated} {b : Bool} → v < e .assigned + e .added → types ≡ editionOf named .types
+      → b ≡ every (λ t. leb t (many types - 1)) ts
+      → AllAssigned named k v ts b
+  unfolding allAssigned
+  assigned-is {types} {b} known isTypes same =
+      let n = assigned (editionOf named) k in
+      record { so = both-right (ltb v n) _ b (lt-ltb v n (rw is at known)) (rw isTypes at same) }
 
 -- ---- 14
 pub record RightLeft (ts ns : List ℕ) (i : ℕ) : Type 0 where
-  pub so : rightTypes edition98 ts ns ≡ rightTypes edition98 (drop i ts) (drop i ns)
+  pub so : (named : Named) → rightTypes (editionOf named) ts ns ≡ rightTypes (editionOf named) (drop i ts) (drop i ns)
 
-right-next : (ts ns : List ℕ) (i : ℕ) → i < length ts → length ts ≡ length ns
-    → rightTypes edition98 (drop i ts) (drop i ns) ≡
-    (rightData edition98 (getD ts i 0) (withData (getD ns i 0)) && rightTypes edition98 (drop (i + 1) ts) (drop (i + 1) ns))
+right-next : (edition : Edition) (ts ns : List ℕ) (i : ℕ) → i < length ts → length ts ≡ length ns
+    → rightTypes edition (drop i ts) (drop i ns) ≡
+    (rightData edition (getD ts i 0) (withData (getD ns i 0)) && rightTypes edition (drop (i + 1) ts) (drop (i + 1) ns))
 unfolding rightTypes
-right-next ts ns i h same = ap₂ (rightTypes edition98) (drop-next ts i h) (drop-next ns i (omega arith))
+right-next edition ts ns i h same = ap₂ (rightTypes edition) (drop-next ts i h) (drop-next ns i (omega arith))
 
 pub right-start : {ts ns : List ℕ} → RightLeft ts ns 0
-right-start = record { so = refl }
+right-start = record { so = λ (named : Named). refl }
 
-module _ {ts ns : List ℕ} {i n : ℕ} {b : Bool} where
-  pub right-turn : RightLeft ts ns i → length ts ≡ length ns → i < length ts → Wide (getD ns i 0) n
-      → b ≡ rightData edition98 (getD ts i 0) (ltb 0 n)
-      → not b ≡ false → RightLeft ts ns (i + 1)
-  right-turn left same h wide is fine =
-      let e : rightData edition98 (getD ts i 0) (withData (getD ns i 0)) ≡ true
-      = ap (λ (k : ℕ). rightData edition98 (getD ts i 0) (ltb 0 k)) (sym (wide .same)) ∙ sym is ∙ not-false b fine in
-      let rest = rightTypes edition98 (drop (i + 1) ts) (drop (i + 1) ns) in
-      record { so = left .so ∙ right-next ts ns i h same ∙ ap (λ (c : Bool). c && rest) e }
+module _ {ts ns : List ℕ} {i n : ℕ} {b : Bool} (left : RightLeft ts ns i) (same : length ts ≡ length ns) (h : i < length ts)
+    (wide : Wide (getD ns i 0) n) (is : b ≡ allows (carries (getD ts i 0)) (ltb 0 n)) where
+  -- the field at hand decides, or what is left after it
+  right-one : (named : Named)
+      → rightTypes (editionOf named) ts ns ≡ (b && rightTypes (editionOf named) (drop (i + 1) ts) (drop (i + 1) ns))
+  right-one named =
+      let t = getD ts i 0 in
+      let e : rightData (editionOf named) (getD ts i 0) (withData (getD ns i 0)) ≡ b
+      = rule-of named t (withData (getD ns i 0)) ∙ ap (λ (k : ℕ). allows (carries t) (ltb 0 k)) (sym (wide .same)) ∙ sym is in
+      let rest = rightTypes (editionOf named) (drop (i + 1) ts) (drop (i + 1) ns) in
+      left .so named ∙ right-next (editionOf named) ts ns i h same ∙ ap (λ (c : Bool). c && rest) e
 
-  pub right-not : RightLeft ts ns i → length ts ≡ length ns → i < length ts → Wide (getD ns i 0) n
-      → b ≡ rightData edition98 (getD ts i 0) (ltb 0 n)
-      → not b ≡ true → false ≡ rightTypes edition98 ts ns
-  right-not left same h wide is wrong =
-      let e : rightData edition98 (getD ts i 0) (withData (getD ns i 0)) ≡ false
-      = ap (λ (k : ℕ). rightData edition98 (getD ts i 0) (ltb 0 k)) (sym (wide .same)) ∙ sym is ∙ not-true b wrong in
-      sym (left .so ∙ right-next ts ns i h same ∙ ap (λ (c : Bool). c && rightTypes edition98 (drop (i + 1) ts) (drop (i + 1) ns)) e)
+  pub right-turn : not b ≡ false → RightLeft ts ns (i + 1)
+  right-turn fine = record {
+    so = λ (named : Named).
+        right-one named ∙ ap (λ (c : Bool). c && rightTypes (editionOf named) (drop (i + 1) ts) (drop (i + 1) ns)) (not-false b fine);
+  }
 
-pub right-done : {ts ns : List ℕ} {i : ℕ} → RightLeft ts ns i → length ts ≤ i → true ≡ rightTypes edition98 ts ns
+  pub right-not : not b ≡ true → TypesRight ts ns false
+  right-not wrong = record {
+    so = λ (named : Named). sym (right-one named
+        ∙ ap (λ (c : Bool). c && rightTypes (editionOf named) (drop (i + 1) ts) (drop (i + 1) ns)) (not-true b wrong));
+  }
+
+pub right-done : {ts ns : List ℕ} {i : ℕ} → RightLeft ts ns i → length ts ≤ i → TypesRight ts ns true
 unfolding rightTypes
-right-done {ts} {ns} {i} left all = sym (left .so ∙ ap (λ (l : List ℕ). rightTypes edition98 l (drop i ns)) (drop-of-length-le ts all))
+right-done {ts} {ns} {i} left all = record {
+  so = λ (named : Named).
+      sym (left .so named ∙ ap (λ (l : List ℕ). rightTypes (editionOf named) l (drop i ns)) (drop-of-length-le ts all));
+}
 
-module _ (k : Kind) (ts ns : List ℕ) where
-  pub all-not : {b : Bool} → b ≡ rightFields k (ltb 0 (length ts)) → b ≡ false → false ≡ allRight edition98 k ts ns
+module _ {named : Named} {k : Kind} {ts ns : List ℕ} {b : Bool} (is : b ≡ rightFields k (ltb 0 (length ts))) where
+  pub all-not : b ≡ false → AllRight named k ts ns false
   unfolding allRight
-  all-not {b} is wrong = both-left (rightFields k (ltb 0 (length ts))) _ (sym is ∙ wrong)
+  all-not wrong = record { so = both-left (rightFields k (ltb 0 (length ts))) _ (sym is ∙ wrong) }
 
-  pub all-is : {b c : Bool} → b ≡ rightFields k (ltb 0 (length ts)) → b ≡ true → c ≡ rightTypes edition98 ts ns
-      → c ≡ allRight edition98 k ts ns
+  pub all-is : {c : Bool} → b ≡ true → TypesRight ts ns c → AllRight named k ts ns c
   unfolding allRight
-  all-is {b} {c} is right same = both-right (rightFields k (ltb 0 (length ts))) _ c (sym is ∙ right) same
-
--- ---- 4
-module _ (ns : List ℕ) (size : ℕ) where
-  pub sizes-not : {b : Bool} → b ≡ every (λ n. leb n packetLimit) ns → b ≡ false → false ≡ inSizes ns size
-  unfolding inSizes
-  sizes-not {b} is wrong = both-left (every (λ n. leb n packetLimit) ns) _ (sym is ∙ wrong)
-
-  pub sizes-is : {b : Bool} → b ≡ every (λ n. leb n packetLimit) ns → b ≡ true → leb size packetLimit ≡ inSizes ns size
-  unfolding inSizes
-  sizes-is {b} is right = both-right (every (λ n. leb n packetLimit) ns) _ _ (sym is ∙ right) refl
-
-pub size-some : {ns : List ℕ} {n : ℕ} → FieldsPast 16 ns n → 0 < length ns → (n + 7) / 8 ≡ packetSize ns
-size-some {ns} past some = rw (lt-ltb 0 (length ns) some, past .answer)
-
-pub size-none : (ns : List ℕ) → length ns ≤ 0 → 1 ≡ packetSize ns
-size-none ns none = rw (le-ltb 0 (length ns) none)
+  all-is {c} right each = record { so = both-right (rightFields k (ltb 0 (length ts))) _ c (sym is ∙ right) (each .so named) }
 
 pub ruleset decided = (
   each-not,
@@ -133,85 +137,77 @@ pub ruleset decided = (
   right-done,
   all-not,
   all-is,
-  sizes-not,
-  sizes-is,
-  size-some,
-  size-none,
   few-same,
+  values-narrow,
+  types-narrow,
 )
 
 -- ---- the answers
-size-is : (k : Kind) (v : ℕ) (ts ns d : List ℕ) {each known : Bool} {size : ℕ} → length ts ≤ fieldsLimit → each ≡ oneEach ts ns d
-    → not each ≡ false → known ≡ allAssigned edition98 k v ts → not known ≡ false → size ≡ packetSize ns
-    → length (packetOctets edition98 k v ts ns d) ≡ size
-size-is k v ts ns d {each} {known} few isEach so isKnown soKnown isSize =
-    packet-size k v ts ns d few (sym isEach ∙ not-false each so) (sym isKnown ∙ not-false known soKnown) ∙ sym isSize
+module _ (named : Named) (k : Kind) (v : ℕ) (ts ns d : List ℕ) {each known : Bool} {size : ℕ} (few : length ts ≤ fieldsLimit)
+    (isEach : each ≡ oneEach ts ns d) (so : not each ≡ false) (isKnown : AllAssigned named k v ts known) (soKnown : not known ≡ false)
+    (isSize : PacketSized named k v ts ns size) where
+  size-is : length (packetOctets (editionOf named) k v ts ns d) ≡ size
+  size-is =
+      packet-size (editionOf named) (narrow-of named) k v ts ns d few (sym isEach ∙ not-false each so)
+      (sym (isKnown .so) ∙ not-false known soKnown)
+      ∙ sym (isSize .so)
 
--- where all tests before that of the sizes are passed
-passed : (k : Kind) (v : ℕ) (ts ns d : List ℕ) {each known right fits : Bool} {size : ℕ} → length ts ≤ fieldsLimit → each ≡ oneEach ts ns d
-    → not each ≡ false → known ≡ allAssigned edition98 k v ts → not known ≡ false → right ≡ allRight edition98 k ts ns → not right ≡ false
-    → size ≡ packetSize ns → fits ≡ inSizes ns size
-    → packetToWrite edition98 k v ts ns d ≡ unless (when (not fits) outsideSizes ∷ []) (packetOctets edition98 k v ts ns d)
-unfolding packetToWrite unless
-passed k v ts ns d few isEach so isKnown soKnown isRight soRight isSize isFits =
-    let size = size-is k v ts ns d few isEach so isKnown soKnown isSize in
-    rw (
-      le-ltb fieldsLimit (length ts) few,
-      ← isEach,
-      so,
-      ← isKnown,
-      soKnown,
-      ← isRight,
-      soRight,
-      size,
-      ← isFits,
-    )
+  -- where all tests before that of the sizes are passed
+  passed : {right fits : Bool} → AllRight named k ts ns right → not right ≡ false → fits ≡ inSizes ns size
+      → packetToWrite (editionOf named) k v ts ns d
+      ≡ unless (when (not fits) outsideSizes ∷ []) (packetOctets (editionOf named) k v ts ns d)
+  unfolding packetToWrite unless
+  passed isRight soRight isFits =
+      rw (le-ltb fieldsLimit (length ts) few, ← isEach, so, ← isKnown .so, soKnown, ← isRight .so, soRight, size-is, ← isFits)
 
-module _ {k : Kind} {v : ℕ} {ts ns d : List ℕ} where
-  pub measured-many : {x : Refusal} → fieldsLimit < length ts → RefusalMade outsideSizes x → Measured k v ts ns d (written.Refused x)
+module _ {named : Named} {k : Kind} {v : ℕ} {ts ns d : List ℕ} where
+  pub measured-many : {x : Refusal} → fieldsLimit < length ts → RefusalMade outsideSizes x → Measured named k v ts ns d (written.Refused x)
   unfolding packetToWrite unless
   measured-many many made = record { answer = rw (lt-ltb fieldsLimit (length ts) many, made .answer) }
 
   module _ {each : Bool} (few : length ts ≤ fieldsLimit) (isEach : each ≡ oneEach ts ns d) where
-    pub measured-each : {x : Refusal} → not each ≡ true → RefusalMade wrongSettings x → Measured k v ts ns d (written.Refused x)
+    pub measured-each : {x : Refusal} → not each ≡ true → RefusalMade wrongSettings x → Measured named k v ts ns d (written.Refused x)
     unfolding packetToWrite unless
     measured-each not-so made = record { answer = rw (le-ltb fieldsLimit (length ts) few, ← isEach, not-so, made .answer) }
 
-    module _ {known : Bool} (so : not each ≡ false) (isKnown : known ≡ allAssigned edition98 k v ts) where
-      pub measured-known : {x : Refusal} → not known ≡ true → RefusalMade notAssigned x → Measured k v ts ns d (written.Refused x)
+    module _ {known : Bool} (so : not each ≡ false) (isKnown : AllAssigned named k v ts known) where
+      pub measured-known : {x : Refusal} → not known ≡ true → RefusalMade notAssigned x → Measured named k v ts ns d (written.Refused x)
       unfolding packetToWrite unless
       measured-known not-so made =
-          record { answer = rw (le-ltb fieldsLimit (length ts) few, ← isEach, so, ← isKnown, not-so, made .answer) }
+          record { answer = rw (le-ltb fieldsLimit (length ts) few, ← isEach, so, ← isKnown .so, not-so, made .answer) }
 
-      module _ {right : Bool} (soKnown : not known ≡ false) (isRight : right ≡ allRight edition98 k ts ns) where
-        pub measured-right : {x : Refusal} → not right ≡ true → RefusalMade wrongData x → Measured k v ts ns d (written.Refused x)
+      module _ {right : Bool} (soKnown : not known ≡ false) (isRight : AllRight named k ts ns right) where
+        pub measured-right : {x : Refusal} → not right ≡ true → RefusalMade wrongData x → Measured named k v ts ns d (written.Refused x)
         unfolding packetToWrite unless
         measured-right not-so made =
             record {
               answer =
-                  rw (le-ltb fieldsLimit (length ts) few, ← isEach, so, ← isKnown, soKnown, ← isRight, not-so, made .answer);
+                  rw (le-ltb fieldsLimit (length ts) few, ← isEach, so, ← isKnown .so, soKnown, ← isRight .so, not-so, made .answer);
             }
 
-        module _ {size : ℕ} {fits : Bool} (soRight : not right ≡ false) (isSize : size ≡ packetSize ns)
+        module _ {size : ℕ} {fits : Bool} (soRight : not right ≡ false) (isSize : PacketSized named k v ts ns size)
             (isFits : fits ≡ inSizes ns size) where
-          pub measured-sizes : {x : Refusal} → not fits ≡ true → RefusalMade outsideSizes x → Measured k v ts ns d (written.Refused x)
+          pub measured-sizes : {x : Refusal} → not fits ≡ true → RefusalMade outsideSizes x
+              → Measured named k v ts ns d (written.Refused x)
           unfolding unless
           measured-sizes not-so made = record {
-            answer = rw
-                (passed k v ts ns d few isEach so isKnown soKnown isRight soRight isSize isFits, not-so, made .answer);
+            answer = rw (
+              passed named k v ts ns d few isEach so isKnown soKnown isSize isRight soRight isFits,
+              not-so,
+              made .answer,
+            );
           }
 
-          pub measured-size : not fits ≡ false → Measured k v ts ns d (written.Octets size)
+          pub measured-size : not fits ≡ false → Measured named k v ts ns d (written.Octets size)
           unfolding unless
-          measured-size soFits =
-              record {
-                answer =
-                    rw (
-                      passed k v ts ns d few isEach so isKnown soKnown isRight soRight isSize isFits,
-                      soFits,
-                      size-is k v ts ns d few isEach so isKnown soKnown isSize,
-                    );
-              }
+          measured-size soFits = record {
+            answer =
+                rw (
+                  passed named k v ts ns d few isEach so isKnown soKnown isSize isRight soRight isFits,
+                  soFits,
+                  size-is named k v ts ns d few isEach so isKnown soKnown isSize,
+                );
+          }
 
 pub ruleset measures =
     (each-same, each-few, measured-many, measured-each, measured-known, measured-right, measured-sizes, measured-size)

@@ -15,11 +15,12 @@ use Rattle.lengths.specs.Promise.{Put}
 use Rattle.lengths.proofs.Laws.{put-none, put-next, put-long, room-left, both}
 use Rattle.formats.specs.Waiting.{Waiting, waiting, noneWait, Waits, closed}
 use Rattle.formats.proofs.Laws.{none-waits}
-use Rattle.packets.specs.Edition.{edition98}
-use Rattle.packets.specs.Packet.{typesLimit, every}
+use Rattle.packets.specs.Edition.{many}
+use Rattle.packets.specs.Packet.{every}
 use Rattle.packets.specs.Write.{sum}
 use Rattle.packets.specs.Inner.Laid.{fieldOctets, afterField, fieldsOctets}
 use Rattle.packets.specs.Inner.Items.{Wide, EdgeFits, FieldFits, FieldPut, FieldsFit}
+use Rattle.packets.specs.declared.types.Enumerated.{Enumerated}
 use Rattle.packets.proofs.Laws.{rest, drop-next, sum-next, after-waits}
 
 -- what holds of every element holds of one
@@ -29,24 +30,24 @@ every-at test [] i all h = absurd (omega arith)
 every-at test (x ∷ s) zero all h = both (test x) (every test s) all .0
 every-at test (x ∷ s) (suc i) all h = every-at test s i (both (test x) (every test s) all .1) (omega arith)
 
-fields-next : (w : Waiting) (ts ns d : List ℕ) (i : ℕ) → i < length ts → length ts ≡ length ns
-    → fieldsOctets w (drop i ts) (drop i ns) d
-    ≡ fieldOctets w (getD ts i 0) (take (getD ns i 0) d)
-    ++ fieldsOctets (afterField w (getD ts i 0) (take (getD ns i 0) d)) (drop (i + 1) ts) (drop (i + 1) ns) (drop (getD ns i 0) d)
+fields-next : (e : Enumerated) (w : Waiting) (ts ns d : List ℕ) (i : ℕ) → i < length ts → length ts ≡ length ns
+    → fieldsOctets e w (drop i ts) (drop i ns) d
+    ≡ fieldOctets e w (getD ts i 0) (take (getD ns i 0) d)
+    ++ fieldsOctets e (afterField e w (getD ts i 0) (take (getD ns i 0) d)) (drop (i + 1) ts) (drop (i + 1) ns) (drop (getD ns i 0) d)
 unfolding fieldsOctets
-fields-next w ts ns d i h same = ap₂ (λ (a b : List ℕ). fieldsOctets w a b d) (drop-next ts i h) (drop-next ns i (omega arith))
+fields-next e w ts ns d i h same = ap₂ (λ (a b : List ℕ). fieldsOctets e w a b d) (drop-next ts i h) (drop-next ns i (omega arith))
 
 -- ---- the loop
-pub record Filling (ts ns d old out : List ℕ) (i from at k v : ℕ) : Type 0 where
+pub record Filling (e : Enumerated) (ts ns d old out : List ℕ) (i from at k v : ℕ) : Type 0 where
   pub inside : i ≤ length ts
   pub long : length out ≡ length old
   pub left : from + sum (drop i ns) ≡ length d
   pub waits : Waits (waiting k v)
   pub front : List ℕ
   pub put : Put front old out at
-  pub whole : front ++ fieldsOctets (waiting k v) (drop i ts) (drop i ns) (drop from d) ≡ fieldsOctets noneWait ts ns d
+  pub whole : front ++ fieldsOctets e (waiting k v) (drop i ts) (drop i ns) (drop from d) ≡ fieldsOctets e noneWait ts ns d
 
-pub fill-start : {ts ns d old : List ℕ} → FieldsFit ts ns d old → Filling ts ns d old old 0 0 0 0 0
+pub fill-start : {e : Enumerated} {ts ns d old : List ℕ} → FieldsFit e ts ns d old → Filling e ts ns d old old 0 0 0 0 0
 fill-start fits =
     record {
       inside = omega arith;
@@ -58,37 +59,37 @@ fill-start fits =
       whole = refl;
     }
 
-pub fill-at : {ts ns d old out : List ℕ} {i from at k v : ℕ} → Filling ts ns d old out i from at k v → at ≤ length out
+pub fill-at : {e : Enumerated} {ts ns d old out : List ℕ} {i from at k v : ℕ} → Filling e ts ns d old out i from at k v → at ≤ length out
 fill-at g = omega (arith, g .put .inside, g .put .answer, g .long)
 
 -- one turn: its data, its field, those after it, and their room
 abbrev partOf : List ℕ → ℕ → ℕ → List ℕ
 partOf d from n = take (from + n - from) (drop from d)
 
-record Step (ts ns d old : List ℕ) (front : List ℕ) (i from at k v n : ℕ) : Type 0 where
+record Step (e : Enumerated) (ts ns d old : List ℕ) (front : List ℕ) (i from at k v n : ℕ) : Type 0 where
   left : from + n + sum (drop (i + 1) ns) ≡ length d
-  whole : (front ++ fieldOctets (waiting k v) (getD ts i 0) (partOf d from n))
-      ++ fieldsOctets (afterField (waiting k v) (getD ts i 0) (partOf d from n)) (drop (i + 1) ts) (drop (i + 1) ns) (drop (from + n) d)
-      ≡ fieldsOctets noneWait ts ns d
-  room : at + length (fieldOctets (waiting k v) (getD ts i 0) (partOf d from n)) ≤ length old
+  whole : (front ++ fieldOctets e (waiting k v) (getD ts i 0) (partOf d from n))
+      ++ fieldsOctets e (afterField e (waiting k v) (getD ts i 0) (partOf d from n)) (drop (i + 1) ts) (drop (i + 1) ns) (drop (from + n) d)
+      ≡ fieldsOctets e noneWait ts ns d
+  room : at + length (fieldOctets e (waiting k v) (getD ts i 0) (partOf d from n)) ≤ length old
 
-module _ {ts ns d old out : List ℕ} {i from at k v n : ℕ} (fits : FieldsFit ts ns d old) (g : Filling ts ns d old out i from at k v)
-    (h : i < length ts) (size : Wide (getD ns i 0) n) where
-  step : Step ts ns d old (g .front) i from at k v n
+module _ {e : Enumerated} {ts ns d old out : List ℕ} {i from at k v n : ℕ} (fits : FieldsFit e ts ns d old)
+    (g : Filling e ts ns d old out i from at k v) (h : i < length ts) (size : Wide (getD ns i 0) n) where
+  step : Step e ts ns d old (g .front) i from at k v n
   step =
       let next = sum-next ns i (omega (arith, fits .right .same)) in
       let part : from + n - from ≡ getD ns i 0 = omega (arith, size .same) in
       let w : Waiting = waiting k v in
       let t = getD ts i 0 in
-      let here = fieldOctets (waiting k v) (getD ts i 0) (partOf d from n) in
-      let more = fieldsOctets (afterField (waiting k v) (getD ts i 0) (partOf d from n)) (drop (i + 1) ts) (drop (i + 1) ns)
+      let here = fieldOctets e (waiting k v) (getD ts i 0) (partOf d from n) in
+      let more = fieldsOctets e (afterField e (waiting k v) (getD ts i 0) (partOf d from n)) (drop (i + 1) ts) (drop (i + 1) ns)
       (drop (from + n) d) in
-      let both : fieldsOctets w (drop i ts) (drop i ns) (drop from d) ≡ here ++ more
-      = fields-next w ts ns (drop from d) i h (fits .right .same)
-      ∙ ap₂ (λ (a b : List ℕ). fieldOctets w t a ++ fieldsOctets (afterField w t a) (drop (i + 1) ts) (drop (i + 1) ns) b)
+      let both : fieldsOctets e w (drop i ts) (drop i ns) (drop from d) ≡ here ++ more
+      = fields-next e w ts ns (drop from d) i h (fits .right .same)
+      ∙ ap₂ (λ (a b : List ℕ). fieldOctets e w t a ++ fieldsOctets e (afterField e w t a) (drop (i + 1) ts) (drop (i + 1) ns) b)
       (ap (λ (m : ℕ). take m (drop from d)) (sym part))
       (drop-drop (getD ns i 0) from d ∙ ap (λ (m : ℕ). drop (from + m) d) (sym (size .same))) in
-      let whole : (g .front ++ here) ++ more ≡ fieldsOctets noneWait ts ns d
+      let whole : (g .front ++ here) ++ more ≡ fieldsOctets e noneWait ts ns d
       = append-assoc (g .front) here more ∙ ap (λ (l : List ℕ). g .front ++ l) (sym both) ∙ g .whole in
       record {
         left = omega (arith, g .left, size .same);
@@ -107,14 +108,16 @@ module _ {ts ns d old out : List ℕ} {i from at k v n : ℕ} (fits : FieldsFit 
   pub fill-data : from + n ≤ length d
   fill-data = omega (arith, step .left)
 
-  pub fill-fits : FieldFits (waiting k v) (getD ts i 0) (take (from + n - from) (drop from d)) (rest at out)
+  pub fill-fits : FieldFits e (waiting k v) (getD ts i 0) (take (from + n - from) (drop from d)) (rest at out)
   fill-fits =
       let s = step in
       let part : from + n - from ≡ getD ns i 0 = omega (arith, size .same) in
       let within : from + n - from ≤ length (drop from d) = omega (arith, length-drop from d, s .left) in
+      let low : getD ts i 0 ≤ many e - 1
+      = leb-true (getD ts i 0) (many e - 1) (every-at (λ t. leb t (many e - 1)) ts i (fits .right .known) h) in
       record {
         waits = g .waits;
-        type = leb-true _ _ (every-at (λ t. leb t (typesLimit edition98)) ts i (fits .right .known) h);
+        type = record { narrow = fits .right .narrow; known = omega (arith, low, fits .right .narrow .sound .some) };
         short =
             omega (
               arith,
@@ -126,8 +129,8 @@ module _ {ts ns d old out : List ℕ} {i from at k v n : ℕ} (fits : FieldsFit 
       }
 
   module _ {part : List ℕ} {r x y : ℕ}
-      (fills : FieldPut (waiting k v) (getD ts i 0) (take (from + n - from) (drop from d)) (rest at out) part r x y) where
-    pub fill-turn : Filling ts ns d old (putMid at (length out - at) out part) (i + 1) (from + n) (at + r) x y
+      (fills : FieldPut e (waiting k v) (getD ts i 0) (take (from + n - from) (drop from d)) (rest at out) part r x y) where
+    pub fill-turn : Filling e ts ns d old (putMid at (length out - at) out part) (i + 1) (from + n) (at + r) x y
     fill-turn =
         let s = step in
         let one = fill-fits in
@@ -136,19 +139,21 @@ module _ {ts ns d old out : List ℕ} {i from at k v n : ℕ} (fits : FieldsFit 
           inside = omega arith;
           long = put-long both;
           left = s .left;
-          waits = rw (fills .waits) (after-waits (waiting k v) (one .waits) (getD ts i 0) (partOf d from n) (one .type));
-          front = g .front ++ fieldOctets (waiting k v) (getD ts i 0) (partOf d from n);
+          waits =
+              rw (fills .waits)
+              (after-waits e (one .type .narrow) (waiting k v) (one .waits) (getD ts i 0) (partOf d from n) (one .type .known));
+          front = g .front ++ fieldOctets e (waiting k v) (getD ts i 0) (partOf d from n);
           put = both;
           whole = rw (fills .waits) (s .whole);
         }
 
 -- ---- the octet edge after the last field
-module _ {ts ns d old out : List ℕ} {i from at k v : ℕ} (fits : FieldsFit ts ns d old) (g : Filling ts ns d old out i from at k v)
-    (all : length ts ≤ i) where
-  end-is : g .front ++ closed (waiting k v) ≡ fieldsOctets noneWait ts ns d
+module _ {e : Enumerated} {ts ns d old out : List ℕ} {i from at k v : ℕ} (fits : FieldsFit e ts ns d old)
+    (g : Filling e ts ns d old out i from at k v) (all : length ts ≤ i) where
+  end-is : g .front ++ closed (waiting k v) ≡ fieldsOctets e noneWait ts ns d
   unfolding fieldsOctets
   end-is =
-      ap (λ (l : List ℕ). g .front ++ fieldsOctets (waiting k v) l (drop i ns) (drop from d)) (sym (drop-of-length-le ts all)) ∙ g .whole
+      ap (λ (l : List ℕ). g .front ++ fieldsOctets e (waiting k v) l (drop i ns) (drop from d)) (sym (drop-of-length-le ts all)) ∙ g .whole
 
   pub end-fits : EdgeFits (waiting k v) (rest at out)
   end-fits =
@@ -160,7 +165,7 @@ module _ {ts ns d old out : List ℕ} {i from at k v : ℕ} (fits : FieldsFit ts
       }
 
   pub end-put : {part : List ℕ} {r : ℕ} → Put (closed (waiting k v)) (rest at out) part r
-      → Put (fieldsOctets noneWait ts ns d) old (putMid at (length out - at) out part) (at + r)
+      → Put (fieldsOctets e noneWait ts ns d) old (putMid at (length out - at) out part) (at + r)
   end-put put = rw end-is at (put-next (g .put) put)
 
 -- the laws of the loop that puts the fields

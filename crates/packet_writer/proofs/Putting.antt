@@ -1,39 +1,39 @@
--- What the writer puts into the lent buffer for one field, after the bits that wait: one law for each answer. Assumes nothing.
+-- What the writer puts into the lent buffer, after the bits that wait: bits, an octet edge, and some data; one law for each answer.
+-- Assumes nothing.
 use Prim.Native.Nat.{ℕ, _+_, _-_, _*_, _/_, _%_, _^_, _≤_, _<_}
-use mathlib.Core.Path.{_≡_, sym, ap, _∙_}
-use mathlib.Core.Bool.{Bool, true, false}
-use mathlib.Core.List.{List, [], _∷_, _++_, append-assoc}
-use lib.ListN.{length, set, length-append}
+use mathlib.Core.Path.{_≡_, ap, _∙_}
+use mathlib.Core.Bool.{Bool, true, false, cond}
+use mathlib.Core.List.{List, [], _∷_, _++_}
+use lib.ListN.{length, set}
 use lib.Pow.{pow-pos, pow-mono, shl-lt, shl-exact, shr-lt}
+use lib.Dec.{ltb}
 use native.Mathlib.Nat.{mod-eq-of-lt, one-mul, lt-of-lt-of-le}
 use native.Mathlib.Omega.{arith}
 use borrow.Rule.Slice.PartMut.{putMid}
 use borrow.Author.Tests.{lt-ltb, le-ltb}
-use Rattle.formats.specs.Waiting.{waiting, joined, fullOctets, left, closed}
-use Rattle.formats.proofs.Laws.{joined-small, waits-left}
-use Rattle.packets.specs.Inner.Laid.{headerBits, sizeOctets, fieldOctets}
-use Rattle.packets.specs.Inner.Items.{BitsFit, BitsPut, EdgeFits, DataFits, FieldFits, FieldPut}
-use Rattle.packets.proofs.Laws.{rest, field-bare, after-bare, field-full, after-full, header-small}
+use Rattle.formats.specs.Waiting.{Waiting, waiting, joined, fullOctets, left, closed}
+use Rattle.formats.proofs.Laws.{joined-small}
+use Rattle.packets.specs.Inner.Laid.{sizeOctets}
+use Rattle.packets.specs.Inner.Items.{BitIs, BitsFit, BitsPut, EdgeFits, DataFits}
+use Rattle.packets.proofs.Laws.{rest}
 use Rattle.lengths.specs.Promise.{Put}
-use Rattle.lengths.proofs.Laws.{put-none, put-one, put-next, put-long, room-left}
+use Rattle.lengths.proofs.Laws.{put-none, put-one, put-next}
 
--- ---- powers of two, and a header's bits
+-- ---- powers of two, and a bit
 pub power-is : (k : ℕ) → k ≤ 8 → 1 * 2 ^ k % 2 ^ 64 ≡ 2 ^ k
 power-is k few = shl-exact 1 k 64 (omega arith) (omega arith) ∙ one-mul (2 ^ k)
 
 pub power-some : (k : ℕ) {a : ℕ} → a ≡ 2 ^ k → 0 < a
 power-some k is = rw is (pow-pos k)
 
-pub header-some : (k : ℕ) (b : Bool) → b ≡ true → 8 + k ≡ headerBits (record { kind = k; present = b })
-unfolding headerBits
-header-some k b is = rw is
+pub bit-set : {b : Bool} → b ≡ true → BitIs b 1
+bit-set is = record { same = rw is; few = omega arith }
 
-pub header-none : (k : ℕ) (b : Bool) → b ≡ false → k ≡ headerBits (record { kind = k; present = b })
-unfolding headerBits
-header-none k b is = rw is (omega arith)
+pub bit-clear : {b : Bool} → b ≡ false → BitIs b 0
+bit-clear is = record { same = rw is; few = omega arith }
 
--- the laws of powers and headers
-pub ruleset numbers = (power-is, header-some, header-none)
+-- the laws of powers and of a bit
+pub ruleset numbers = (power-is, bit-set, bit-clear)
 
 -- ---- bits after those that wait
 pub bits-room : {k v n bits : ℕ} {old : List ℕ} → BitsFit (waiting k v) n bits old → 8 ≤ k + n → 1 ≤ length old
@@ -71,6 +71,17 @@ module _ {k v n bits : ℕ} {old : List ℕ} {a : ℕ} where
           put = rw (le-ltb (k + n) 8 over, is, part) (put-one ((v * 2 ^ n + bits) / 2 ^ (k + n - 8)) put-none (bits-room fits over));
           waits = rw (le-ltb (k + n) 8 over, is, part);
         }
+
+-- at most one octet is filled
+full-few : (w : Waiting) → length (fullOctets w) ≤ 1
+unfolding fullOctets
+full-few w = by (ltb (w .width) 8) where
+  by : (b : Bool) → length (cond b [] ((w .value / 2 ^ (w .width - 8)) ∷ [])) ≤ 1
+  by true = omega arith
+  by false = omega arith
+
+pub bits-few : (w : Waiting) (n bits : ℕ) {old new : List ℕ} {r k v : ℕ} → BitsPut w n bits old new r k v → r ≤ 1
+bits-few w n bits fills = omega (arith, full-few (joined w n bits), fills .put .answer)
 
 -- ---- the octet edge after them
 module _ {k v : ℕ} {old : List ℕ} where
@@ -113,93 +124,3 @@ data-put {d} {old} {part} {n} fits put =
 
 -- the laws of putting bits, an edge and data
 pub ruleset puts = (bits-none, bits-one, bits-octet, edge-none, edge-one, edge-octet, data-put)
-
--- ---- a field
-module _ {k v t b : ℕ} {d old : List ℕ} (fits : FieldFits (waiting k v) t d old) where
-  -- without data it is its header
-  module _ (none : length d < 1) (is : b ≡ headerBits (record { kind = t; present = false })) where
-    pub bare-bits : BitsFit (waiting k v) 4 b old
-    bare-bits =
-        record {
-          waits = fits .waits;
-          few = omega arith;
-          small = rw is (header-small t false (fits .type));
-          room = rw is (omega (arith, fits .room, ap length (field-bare (waiting k v) t d none)));
-        }
-
-    pub bare-fills : {new : List ℕ} {r x y : ℕ}
-        → BitsPut (waiting k v) 4 b old new r x y
-        → FieldPut (waiting k v) t d old new r x y
-    bare-fills fills = rw (field-bare (waiting k v) t d none, after-bare (waiting k v) t d none, ← is) fills
-
-  -- with data an octet edge, the length and the data follow
-  module _ (some : 1 ≤ length d) (is : b ≡ headerBits (record { kind = t; present = true })) where
-    full-is : fullOctets (joined (waiting k v) 4 b) ++ (closed (left (joined (waiting k v) 4 b)) ++ (sizeOctets (length d) ++ d))
-        ≡ fieldOctets (waiting k v) t d
-    full-is = rw is (sym (field-full (waiting k v) t d some))
-
-    full-long : length (fullOctets (joined (waiting k v) 4 b)) + (length (closed (left (joined (waiting k v) 4 b))) + (2 + length d))
-        ≤ length old
-    full-long =
-        let all = joined (waiting k v) 4 b in
-        omega (
-          arith,
-          fits .room,
-          ap length full-is,
-          length-append (fullOctets all) (closed (left all) ++ (sizeOctets (length d) ++ d)),
-          length-append (closed (left all)) (sizeOctets (length d) ++ d),
-        )
-
-    pub full-bits : BitsFit (waiting k v) 4 b old
-    full-bits =
-        record {
-          waits = fits .waits;
-          few = omega arith;
-          small = rw is (header-small t true (fits .type));
-          room = omega (arith, full-long);
-        }
-
-    module _ {mid : List ℕ} {r x y : ℕ}
-        (header : BitsPut (waiting k v) 4 b old mid r x y) where
-      pub full-edge : EdgeFits (waiting x y) (rest r mid)
-      full-edge =
-          rw (header .waits)
-          (record {
-            waits = waits-left (waiting k v) (fits .waits) 4 b (omega arith) (full-bits .small);
-            room = room-left mid r _ (omega (arith, full-long, header .put .answer, put-long (header .put)));
-          })
-
-      module _ {part : List ℕ} {e : ℕ} (edge : Put (closed (waiting x y)) (rest r mid) part e) where
-        edged : Put (fullOctets (joined (waiting k v) 4 b) ++ closed (left (joined (waiting k v) 4 b))) old
-            (putMid r (length mid - r) mid part) (r + e)
-        edged = put-next (header .put) (rw (header .waits) at edge)
-
-        pub full-data : DataFits d (rest (r + e) (putMid r (length mid - r) mid part))
-        full-data =
-            record {
-              some = some;
-              short = fits .short;
-              room =
-                  room-left (putMid r (length mid - r) mid part) (r + e) (2 + length d)
-                  (omega (
-                    arith,
-                    full-long,
-                    edged .answer,
-                    length-append (fullOctets (joined (waiting k v) 4 b)) (closed (left (joined (waiting k v) 4 b))),
-                    put-long edged,
-                  ));
-            }
-
-        pub full-fills : {end : List ℕ} {n : ℕ}
-            → Put (sizeOctets (length d) ++ d) (rest (r + e) (putMid r (length mid - r) mid part)) end n
-            → FieldPut (waiting k v) t d old
-            (putMid (r + e) (length (putMid r (length mid - r) mid part) - (r + e)) (putMid r (length mid - r) mid part) end) (r + e + n)
-            0 0
-        full-fills {end} {n} put =
-            let all = joined (waiting k v) 4 b in
-            let whole : (fullOctets all ++ closed (left all)) ++ (sizeOctets (length d) ++ d) ≡ fieldOctets (waiting k v) t d
-            = append-assoc (fullOctets all) (closed (left all)) (sizeOctets (length d) ++ d) ∙ full-is in
-            record { put = rw whole at (put-next edged put); waits = sym (after-full (waiting k v) t d some) }
-
--- the laws of putting a field
-pub ruleset fields = (bare-bits, bare-fills, full-bits, full-edge, full-data, full-fills)

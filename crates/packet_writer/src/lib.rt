@@ -1,4 +1,5 @@
 // The writer of packets: document 01, 'The packet', as `packets` defines it.
+mod bits;
 mod sizes;
 mod writer;
 

@@ -3,17 +3,20 @@
 use datagrams::Packet;
 use lengths::Refusal;
 use lengths::Written;
+use packets::Enumerated;
 use packets::Field;
 use packets::Kind;
+use packets::Named;
 ghost use mathlib.Core.Path.{_≡_};
-ghost use Prim.Native.Nat.{_^_, _≤_, _<_};
+ghost use Prim.Native.Nat.{_-_, _^_, _≤_, _<_};
 ghost use lib.ListN.{length};
 ghost use lib.Dec.{leb};
-ghost use Rattle.packets.specs.Edition.{edition98};
-ghost use Rattle.packets.specs.Packet.{fieldsLimit, typesLimit, every};
-ghost use Rattle.packets.specs.Write.{sum, oneEach, allAssigned, rightTypes, allRight, inSizes};
-ghost use Rattle.packets.specs.Inner.Laid.{packetSize};
-ghost use Rattle.packets.specs.Inner.Items.{Wide, FieldPast, FieldsPast, Measured};
+ghost use Rattle.packets.specs.Edition.{many};
+ghost use Rattle.packets.specs.Packet.{fieldsLimit, every};
+ghost use Rattle.packets.specs.Write.{sum, oneEach, inSizes};
+ghost use Rattle.packets.specs.Inner.Laid.{Narrow, valueBits};
+ghost use Rattle.packets.specs.Inner.Items.{Wide, ValueWide, TypesRight, PastFits, FieldPast, FieldsPast, AllAssigned, AllRight};
+ghost use Rattle.packets.specs.Inner.Items.{PacketSized, Measured};
 ghost use Rattle.datagrams.specs.Sizes.{packetLimit};
 
 // A length as a size.
@@ -38,12 +41,41 @@ fn sum_of(lengths: &[u16]) -> usize
     sum
 }
 
-// The place after a field at a place, whose data has this length: its header, and with data an octet edge, two octets and the data.
-fn past_field(place: usize, size: usize) -> usize
-    requires { ⌜ (place < 2 ^ 24) × (size < 65536) ⌝ }
-    ensures { λ r. ⌜ FieldPast place size r ⌝ }
+// In how many bits a value stands: behind the bit for extension, where there is a mark; or a 1, a 0 and six bits, if it was added.
+pub fn value_width(known: Enumerated, value: u8) -> usize
+    requires { ⌜ Narrow known ⌝ }
+    ensures { λ r. ⌜ ValueWide known value r ⌝ }
 {
-    let next = place + 4;
+    let number = value as usize;
+    if known.assigned <= number {
+        return 8;
+    }
+    if known.extensible {
+        return 1 + known.width;
+    }
+    known.width
+}
+
+// And the number that they make.
+pub fn value_bits(known: Enumerated, value: u8) -> usize
+    requires { ⌜ Narrow known ⌝ }
+    ensures { λ r. ⌜ r ≡ valueBits known value ⌝ }
+{
+    let number = value as usize;
+    if known.assigned <= number {
+        let added = number - known.assigned;
+        return 128 + added;
+    }
+    number
+}
+
+// The place after a field at a place, whose data has this length: its header, and with data an octet edge, two octets and the data.
+fn past_field(known: Enumerated, place: usize, kind: u8, size: usize) -> usize
+    requires { ⌜ Narrow known × (place < 2 ^ 24) × (size < 65536) ⌝ }
+    ensures { λ r. ⌜ FieldPast known place kind size r ⌝ }
+{
+    let width = value_width(known, kind);
+    let next = place + 1 + width;
     if 0 < size {
         let edge = (next + 7) / 8;
         let octets = edge + 2 + size;
@@ -52,29 +84,32 @@ fn past_field(place: usize, size: usize) -> usize
     next
 }
 
-// The place after at most 16 fields, the first of which is at the third octet.
-fn past_fields(lengths: &[u16]) -> usize
-    requires { ⌜ length (now lengths) ≤ fieldsLimit ⌝ }
-    ensures { λ r. ⌜ FieldsPast 16 (now (lengths .entry)) r ⌝ }
+// The place after at most 16 fields, the first of which is at this place.
+fn past_fields(known: Enumerated, from: usize, types: &[u8], lengths: &[u16]) -> usize
+    requires { ⌜ PastFits known from (now types) (now lengths) ⌝ }
+    ensures { λ r. ⌜ FieldsPast known from (now (types .entry)) (now (lengths .entry)) r ⌝ }
 {
-    let mut place: usize = 16;
+    let mut place: usize = from;
     let mut i: usize = 0;
-    while i < lengths.len() {
+    while i < types.len() {
         let size = wide(lengths[i]);
-        let next = past_field(place, size);
+        let next = past_field(known, place, types[i], size);
         place = next;
         i += 1;
     }
     place
 }
 
-// Whether each type is one of 0 to 7.
-fn all_types(types: &[u8]) -> bool
-    ensures { λ r. ⌜ r ≡ every (λ t. leb t (typesLimit edition98)) (now (types .entry)) ⌝ }
+// Whether each type is one of those that there are.
+fn all_types(known: Enumerated, types: &[u8]) -> bool
+    requires { ⌜ Narrow known ⌝ }
+    ensures { λ r. ⌜ r ≡ every (λ t. leb t (many known - 1)) (now (types .entry)) ⌝ }
 {
+    let count = known.assigned + known.added;
+    let last = (count - 1) as u8;
     let mut i: usize = 0;
     while i < types.len() {
-        if Field::TYPES < types[i] {
+        if last < types[i] {
             return false;
         }
         i += 1;
@@ -100,7 +135,7 @@ fn all_short(lengths: &[u16]) -> bool
 // Whether each of as many fields as there are types has data or not, as its type may.
 fn right_types(types: &[u8], lengths: &[u16]) -> bool
     requires { ⌜ length (now types) ≡ length (now lengths) ⌝ }
-    ensures { λ r. ⌜ r ≡ rightTypes edition98 (now (types .entry)) (now (lengths .entry)) ⌝ }
+    ensures { λ r. ⌜ TypesRight (now (types .entry)) (now (lengths .entry)) r ⌝ }
 {
     let mut i: usize = 0;
     while i < types.len() {
@@ -126,19 +161,23 @@ fn one_each(types: &[u8], lengths: &[u16], data: &[u8]) -> bool
 }
 
 // Not 12: the value and each type are assigned.
-fn all_assigned(kind: Kind, value: u8, types: &[u8]) -> bool
-    ensures { λ r. ⌜ r ≡ allAssigned edition98 kind value (now (types .entry)) ⌝ }
+fn all_assigned(named: Named, kind: Kind, value: u8, types: &[u8]) -> bool
+    ensures { λ r. ⌜ AllAssigned named kind value (now (types .entry)) r ⌝ }
 {
-    if value < packet_rules::assigned(kind) {
-        return all_types(types);
+    let values = packet_rules::values(named, kind);
+    let count = values.assigned + values.added;
+    let number = value as usize;
+    if number < count {
+        let known = packet_rules::types(named);
+        return all_types(known, types);
     }
     false
 }
 
 // Not 14: data where it must be, and none where none may be.
-fn all_right(kind: Kind, types: &[u8], lengths: &[u16]) -> bool
+fn all_right(named: Named, kind: Kind, types: &[u8], lengths: &[u16]) -> bool
     requires { ⌜ length (now types) ≡ length (now lengths) ⌝ }
-    ensures { λ r. ⌜ r ≡ allRight edition98 kind (now (types .entry)) (now (lengths .entry)) ⌝ }
+    ensures { λ r. ⌜ AllRight named kind (now (types .entry)) (now (lengths .entry)) r ⌝ }
 {
     let some = 0 < types.len();
     if packet_rules::right_fields(kind, some) {
@@ -157,21 +196,33 @@ fn in_sizes(lengths: &[u16], size: usize) -> bool
     false
 }
 
-// The octets of a packet with at most 16 fields.
-fn packet_size(lengths: &[u16]) -> usize
-    requires { ⌜ length (now lengths) ≤ fieldsLimit ⌝ }
-    ensures { λ r. ⌜ r ≡ packetSize (now (lengths .entry)) ⌝ }
+// The octets of a packet with at most 16 fields, of these types and lengths.
+fn packet_size(named: Named, kind: Kind, value: u8, types: &[u8], lengths: &[u16]) -> usize
+    requires { ⌜ (length (now types) ≤ fieldsLimit) × (length (now types) ≡ length (now lengths)) ⌝ }
+    ensures { λ r. ⌜ PacketSized named kind value (now (types .entry)) (now (lengths .entry)) r ⌝ }
 {
-    if 0 < lengths.len() {
-        let end = past_fields(lengths);
+    let values = packet_rules::values(named, kind);
+    let bits = 2 + value_width(values, value);
+    let first = (bits + 7) / 8;
+    if 0 < types.len() {
+        let known = packet_rules::types(named);
+        let from = 8 * (first + 1);
+        let end = past_fields(known, from, types, lengths);
         return (end + 7) / 8;
     }
-    1
+    first
 }
 
 // How many octets a packet has, or why it is refused, but for room.
-pub fn measure(kind: Kind, value: u8, types: &[u8], lengths: &[u16], data: &[u8]) -> Written
-    ensures { λ r. ⌜ Measured kind value (now (types .entry)) (now (lengths .entry)) (now («data» .entry)) r ⌝ }
+pub fn measure(
+    named: Named,
+    kind: Kind,
+    value: u8,
+    types: &[u8],
+    lengths: &[u16],
+    data: &[u8],
+) -> Written
+    ensures { λ r. ⌜ Measured named kind value (now (types .entry)) (now (lengths .entry)) (now («data» .entry)) r ⌝ }
 {
     if Field::LIMIT < types.len() {
         return Written::Refused(Refusal::new(Refusal::OUTSIDE_SIZES));
@@ -179,13 +230,13 @@ pub fn measure(kind: Kind, value: u8, types: &[u8], lengths: &[u16], data: &[u8]
     if !one_each(types, lengths, data) {
         return Written::Refused(Refusal::new(Refusal::WRONG_SETTINGS));
     }
-    if !all_assigned(kind, value, types) {
+    if !all_assigned(named, kind, value, types) {
         return Written::Refused(Refusal::new(Refusal::NOT_ASSIGNED));
     }
-    if !all_right(kind, types, lengths) {
+    if !all_right(named, kind, types, lengths) {
         return Written::Refused(Refusal::new(Refusal::WRONG_DATA));
     }
-    let size = packet_size(lengths);
+    let size = packet_size(named, kind, value, types, lengths);
     if !in_sizes(lengths, size) {
         return Written::Refused(Refusal::new(Refusal::OUTSIDE_SIZES));
     }

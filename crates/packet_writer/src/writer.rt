@@ -1,78 +1,29 @@
 // Document 01, 'The packet', written with request 2's headers. Everything is decided first; then each item is put at the front of the
-// part of the buffer that is still free. A header may leave bits that wait for the rest of their octet: `width` is how many they are,
-// and `value` the number that they make.
+// part of the buffer that is still free. A header may leave bits that wait for the rest of their octet.
+use crate::bits::Filled;
+use crate::bits::bit;
+use crate::bits::put_bits;
+use crate::bits::put_edge;
 use crate::sizes::measure;
+use crate::sizes::value_bits;
+use crate::sizes::value_width;
 use crate::sizes::wide;
 use lengths::Refusal;
 use lengths::Written;
+use packets::Choice;
+use packets::Enumerated;
 use packets::Kind;
-ghost use mathlib.Core.Path.{_≡_};
+use packets::Named;
 ghost use mathlib.Core.List.{_++_};
-ghost use Prim.Native.Nat.{_^_, _≤_};
 ghost use lib.ListN.{length};
 ghost use Rattle.lengths.specs.Promise.{Puts, Put};
-ghost use Rattle.formats.specs.Waiting.{waiting, noneWait, closed};
-ghost use Rattle.packets.specs.Edition.{edition98};
-ghost use Rattle.packets.specs.Packet.{typesLimit};
+ghost use Rattle.formats.specs.Waiting.{waiting, noneWait};
+ghost use Rattle.packets.specs.Edition.{editionOf, byEdition};
+ghost use Rattle.packets.specs.Packet.{isData};
 ghost use Rattle.packets.specs.Write.{packetToWrite};
-ghost use Rattle.packets.specs.Inner.Laid.{ofFlag, ofKind, firstOctet, headerBits, sizeOctets, fieldsOctets, laidOctets};
-ghost use Rattle.packets.specs.Inner.Items.{BitsFit, BitsPut, EdgeFits, DataFits, FieldFits, FieldPut, FieldsFit, CountedFit};
-ghost use Rattle.packets.specs.Inner.Items.{countedFields, Mark, PacketFits};
-
-// How many octets were filled, and what waits then.
-struct Filled {
-    octets: usize,
-    width: usize,
-    value: usize,
-}
-
-// A power of two.
-fn power(k: usize) -> usize
-    requires { ⌜ k ≤ 8 ⌝ }
-    ensures { λ r. ⌜ r ≡ 2 ^ k ⌝ }
-{
-    1 << k
-}
-
-// So many bits after those that wait.
-fn put_bits(width: usize, value: usize, count: usize, bits: usize, out: &mut [u8]) -> Filled
-    requires { ⌜ BitsFit (waiting width value) count bits (now out) ⌝ }
-    ensures { λ r. ⌜ BitsPut (waiting width value) count bits (now (out .entry)) (now (out .exit)) (r .octets) (r .width) (r .value) ⌝ }
-{
-    let above = value * power(count);
-    let all = above + bits;
-    let long = width + count;
-    if long < 8 {
-        return Filled {
-            octets: 0,
-            width: long,
-            value: all,
-        };
-    }
-    let rest = long - 8;
-    let part = power(rest);
-    let octet = all / part;
-    out[0] = octet as u8;
-    let less = all % part;
-    Filled {
-        octets: 1,
-        width: rest,
-        value: less,
-    }
-}
-
-// Zero bits to an octet edge after those that wait, and how many octets are filled.
-fn put_edge(width: usize, value: usize, out: &mut [u8]) -> usize
-    requires { ⌜ EdgeFits (waiting width value) (now out) ⌝ }
-    ensures { λ r. ⌜ Put (closed (waiting width value)) (now (out .entry)) (now (out .exit)) r ⌝ }
-{
-    if width < 1 {
-        return 0;
-    }
-    let octet = value * power(8 - width);
-    out[0] = octet as u8;
-    1
-}
+ghost use Rattle.packets.specs.Inner.Laid.{firstOctets, sizeOctets, fieldsOctets, countedFields, laidOctets};
+ghost use Rattle.packets.specs.Inner.Items.{BitIs, DataFits, FirstFits, HeaderFits, HeaderPut, FieldFits};
+ghost use Rattle.packets.specs.Inner.Items.{FieldPut, FieldsFit, CountedFit, PacketFits};
 
 // The length of some data and the data at the front of out, and how many octets they took.
 fn put_data(data: &[u8], out: &mut [u8]) -> usize
@@ -86,28 +37,49 @@ fn put_data(data: &[u8], out: &mut [u8]) -> usize
     2 + datagram_items::put_octets(data, &mut out[2..])
 }
 
-// The four bits of a header: data present, and the type.
-fn header_bits(kind: u8, present: bool) -> usize
-    requires { ⌜ kind ≤ typesLimit edition98 ⌝ }
-    ensures { λ r. ⌜ r ≡ headerBits (record { kind = kind; present = present }) ⌝ }
+// A header after the bits that wait: data present, and the type.
+fn put_header(
+    known: Enumerated,
+    kind: u8,
+    present: bool,
+    width: usize,
+    value: usize,
+    out: &mut [u8],
+) -> Filled
+    requires { ⌜ HeaderFits known (waiting width value) kind present (now out) ⌝ }
+    ensures { λ r. ⌜ HeaderPut known (waiting width value) kind present (now (out .entry)) (now (out .exit)) (r .octets) (r .width)
+        (r .value) ⌝ }
 {
-    let low = kind as usize;
-    if present {
-        return 8 + low;
+    let flag = put_bits(width, value, 1, bit(present), &mut *out);
+    let at = flag.octets;
+    let count = value_width(known, kind);
+    let bits = value_bits(known, kind);
+    let all = put_bits(flag.width, flag.value, count, bits, &mut out[at..]);
+    let octets = at + all.octets;
+    Filled {
+        octets: octets,
+        width: all.width,
+        value: all.value,
     }
-    low
 }
 
 // A field after the bits that wait.
-fn put_field(kind: u8, data: &[u8], width: usize, value: usize, out: &mut [u8]) -> Filled
-    requires { ⌜ FieldFits (waiting width value) kind (now «data») (now out) ⌝ }
-    ensures { λ r. ⌜ FieldPut (waiting width value) kind (now («data» .entry)) (now (out .entry)) (now (out .exit)) (r .octets)
+fn put_field(
+    known: Enumerated,
+    kind: u8,
+    data: &[u8],
+    width: usize,
+    value: usize,
+    out: &mut [u8],
+) -> Filled
+    requires { ⌜ FieldFits known (waiting width value) kind (now «data») (now out) ⌝ }
+    ensures { λ r. ⌜ FieldPut known (waiting width value) kind (now («data» .entry)) (now (out .entry)) (now (out .exit)) (r .octets)
         (r .width) (r .value) ⌝ }
 {
     if data.len() < 1 {
-        return put_bits(width, value, 4, header_bits(kind, false), out);
+        return put_header(known, kind, false, width, value, out);
     }
-    let header = put_bits(width, value, 4, header_bits(kind, true), &mut *out);
+    let header = put_header(known, kind, true, width, value, &mut *out);
     let at = header.octets;
     let from = at + put_edge(header.width, header.value, &mut out[at..]);
     let octets = from + put_data(data, &mut out[from..]);
@@ -119,9 +91,15 @@ fn put_field(kind: u8, data: &[u8], width: usize, value: usize, out: &mut [u8]) 
 }
 
 // As many fields as there are types at the front of out, the data of each the next part of data, and how many octets they took.
-fn put_fields(types: &[u8], lengths: &[u16], data: &[u8], out: &mut [u8]) -> usize
-    requires { ⌜ FieldsFit (now types) (now lengths) (now «data») (now out) ⌝ }
-    ensures { λ r. ⌜ Put (fieldsOctets noneWait (now (types .entry)) (now (lengths .entry)) (now («data» .entry)))
+fn put_fields(
+    known: Enumerated,
+    types: &[u8],
+    lengths: &[u16],
+    data: &[u8],
+    out: &mut [u8],
+) -> usize
+    requires { ⌜ FieldsFit known (now types) (now lengths) (now «data») (now out) ⌝ }
+    ensures { λ r. ⌜ Put (fieldsOctets known noneWait (now (types .entry)) (now (lengths .entry)) (now («data» .entry)))
         (now (out .entry)) (now (out .exit)) r ⌝ }
 {
     let mut i: usize = 0;
@@ -132,7 +110,14 @@ fn put_fields(types: &[u8], lengths: &[u16], data: &[u8], out: &mut [u8]) -> usi
     while i < types.len() {
         let size = wide(lengths[i]);
         let to = from + size;
-        let field = put_field(types[i], &data[from..to], width, value, &mut out[at..]);
+        let field = put_field(
+            known,
+            types[i],
+            &data[from..to],
+            width,
+            value,
+            &mut out[at..],
+        );
         at += field.octets;
         width = field.width;
         value = field.value;
@@ -144,9 +129,15 @@ fn put_fields(types: &[u8], lengths: &[u16], data: &[u8], out: &mut [u8]) -> usi
 }
 
 // The count of fields and the fields at the front of out, and how many octets they took.
-fn put_counted(types: &[u8], lengths: &[u16], data: &[u8], out: &mut [u8]) -> usize
-    requires { ⌜ CountedFit (now types) (now lengths) (now «data») (now out) ⌝ }
-    ensures { λ r. ⌜ Put (countedFields (now (types .entry)) (now (lengths .entry)) (now («data» .entry)))
+fn put_counted(
+    known: Enumerated,
+    types: &[u8],
+    lengths: &[u16],
+    data: &[u8],
+    out: &mut [u8],
+) -> usize
+    requires { ⌜ CountedFit known (now types) (now lengths) (now «data») (now out) ⌝ }
+    ensures { λ r. ⌜ Put (countedFields known (now (types .entry)) (now (lengths .entry)) (now («data» .entry)))
         (now (out .entry)) (now (out .exit)) r ⌝ }
 {
     let count = lengths::write(types.len(), &mut *out);
@@ -154,42 +145,38 @@ fn put_counted(types: &[u8], lengths: &[u16], data: &[u8], out: &mut [u8]) -> us
     let Written::Octets(at) = count else {
         return 0;
     };
-    let size = put_fields(types, lengths, data, &mut out[at..]);
+    let size = put_fields(known, types, lengths, data, &mut out[at..]);
     at + size
 }
 
-// The top bit of the first octet: data field present.
-fn present_bit(present: bool) -> u8
-    ensures { λ r. ⌜ Mark (ofFlag 128 present) 128 r ⌝ }
-{
-    if present {
-        return 128;
-    }
-    0
-}
-
-// The bit after it: indicator or data.
-fn kind_bit(kind: Kind) -> u8
-    ensures { λ r. ⌜ Mark (ofKind kind) 64 r ⌝ }
+// The bit for indicator or data.
+fn kind_bit(kind: Kind) -> usize
+    ensures { λ r. ⌜ BitIs (isData kind) r ⌝ }
 {
     match kind {
         Kind::Indicator => 0,
-        Kind::Data => 64,
+        Kind::Data => 1,
     }
 }
 
-// The first octet.
-fn first_octet(kind: Kind, value: u8, present: bool) -> u8
-    requires { ⌜ value ≤ 15 ⌝ }
-    ensures { λ r. ⌜ r ≡ firstOctet (record { kind = kind; value = value; present = present }) ⌝ }
+// The first item at the front of out, and how many octets it took: fields present, indicator or data, the value, and an octet edge.
+fn put_first(known: Enumerated, kind: Kind, value: u8, present: bool, out: &mut [u8]) -> usize
+    requires { ⌜ FirstFits known (record { kind = kind; value = value; present = present }) (now out) ⌝ }
+    ensures { λ r. ⌜ Put (firstOctets known (record { kind = kind; value = value; present = present })) (now (out .entry))
+        (now (out .exit)) r ⌝ }
 {
-    let high = present_bit(present) + kind_bit(kind);
-    let low = value * 2;
-    high + low
+    let lead = 2 * bit(present) + kind_bit(kind);
+    let count = value_width(known, value);
+    let bits = value_bits(known, value);
+    let all = put_bits(2, lead, count, bits, &mut *out);
+    let at = all.octets;
+    let end = put_edge(all.width, all.value, &mut out[at..]);
+    at + end
 }
 
 // A packet at the front of out, and how many octets it took.
 fn put_packet(
+    named: Named,
     kind: Kind,
     value: u8,
     types: &[u8],
@@ -197,20 +184,24 @@ fn put_packet(
     data: &[u8],
     out: &mut [u8],
 ) -> usize
-    requires { ⌜ PacketFits kind value (now types) (now lengths) (now «data») (now out) ⌝ }
-    ensures { λ r. ⌜ Put (laidOctets kind value (now (types .entry)) (now (lengths .entry)) (now («data» .entry)))
+    requires { ⌜ PacketFits named kind value (now types) (now lengths) (now «data») (now out) ⌝ }
+    ensures { λ r. ⌜ Put (laidOctets (editionOf named) kind value (now (types .entry)) (now (lengths .entry)) (now («data» .entry)))
         (now (out .entry)) (now (out .exit)) r ⌝ }
 {
     let present = 0 < types.len();
-    out[0] = first_octet(kind, value, present);
+    let values = packet_rules::values(named, kind);
+    let at = put_first(values, kind, value, present, &mut *out);
     if !present {
-        return 1;
+        return at;
     }
-    1 + put_counted(types, lengths, data, &mut out[1..])
+    let known = packet_rules::types(named);
+    let size = put_counted(known, types, lengths, data, &mut out[at..]);
+    at + size
 }
 
-// A packet, written to the front of out. A refusal writes nothing.
-pub fn write(
+// A packet of an edition, written to the front of out. A refusal writes nothing.
+fn write_named(
+    named: Named,
     kind: Kind,
     value: u8,
     types: &[u8],
@@ -218,16 +209,37 @@ pub fn write(
     data: &[u8],
     out: &mut [u8],
 ) -> Written
-    ensures { λ r. ⌜ Puts (packetToWrite edition98 kind value (now (types .entry)) (now (lengths .entry)) (now («data» .entry)))
+    ensures { λ r. ⌜ Puts
+        (packetToWrite (editionOf named) kind value (now (types .entry)) (now (lengths .entry)) (now («data» .entry)))
         (now (out .entry)) (now (out .exit)) r ⌝ }
 {
-    match measure(kind, value, types, lengths, data) {
+    match measure(named, kind, value, types, lengths, data) {
         Written::Refused(refusal) => Written::Refused(refusal),
         Written::Octets(size) => {
             if out.len() < size {
                 return Written::Refused(Refusal::new(Refusal::NO_ROOM));
             }
-            Written::Octets(put_packet(kind, value, types, lengths, data, out))
+            Written::Octets(put_packet(named, kind, value, types, lengths, data, out))
         }
+    }
+}
+
+// And by the edition that the caller names: "15 for another edition, first".
+pub fn write(
+    edition: u8,
+    kind: Kind,
+    value: u8,
+    types: &[u8],
+    lengths: &[u16],
+    data: &[u8],
+    out: &mut [u8],
+) -> Written
+    ensures { λ r. ⌜ Puts
+        (byEdition edition (λ e. packetToWrite e kind value (now (types .entry)) (now (lengths .entry)) (now («data» .entry))))
+        (now (out .entry)) (now (out .exit)) r ⌝ }
+{
+    match packet_rules::choice_of(edition) {
+        Choice::Neither => Written::Refused(Refusal::new(Refusal::WRONG_SETTINGS)),
+        Choice::Edition(named) => write_named(named, kind, value, types, lengths, data, out),
     }
 }

@@ -1,4 +1,4 @@
--- What the description reads of the items after the first octet, each from its place on, is what stands there octet by octet.
+-- What the description reads of the items after the first, each from its place on, is what stands there octet by octet.
 -- Assumes nothing.
 use Prim.Native.Nat.{ℕ, _+_, _-_, _*_, _/_, _%_, _≤_, _<_}
 use mathlib.Core.Path.{_≡_, refl, ap}
@@ -6,63 +6,61 @@ use mathlib.Core.Bool.{Bool, true, false}
 use mathlib.Core.List.{List, [], _∷_}
 use lib.ListN.{length, getD, take, drop, length-drop}
 use lib.Dec.{leb, ltb}
-use native.Mathlib.Nat.{mod-lt}
 use native.Mathlib.Omega.{arith}
-use borrow.Author.Tests.{lt-ltb, le-leb, lt-leb, ltb-true, ltb-false}
+use borrow.Author.Tests.{le-leb, lt-leb, ltb-true, ltb-false}
 use Rattle.lengths.specs.Refusals.{refusalAt, endsEarly}
 use Rattle.lengths.specs.Answers.{Answer, done, refused, readFrom, _>>=_, LengthAnswer}
 use Rattle.lengths.specs.Length.{lengthOctets, lengthLimit, within, lengthWithin}
 use Rattle.formats.specs.Format.{lengthFound, twoFront, octetsFront, twoOctets, octets}
 use Rattle.datagrams.specs.Sizes.{packetLimit}
 use Rattle.formats.specs.Reading.{Finding, found, stopped, andThen, foundFrom}
-use Rattle.formats.specs.Places.{Place, bitsAt, edgeAt}
-use Rattle.formats.proofs.Laws.{onward, flag-some, flag-cut, bits-at, bits-cut, parted, octetwise-at, octetwise-edge}
-use Rattle.packets.specs.Edition.{edition98}
-use Rattle.packets.specs.Packet.{root, enumerated, count, header, size, fieldData, rightData, fieldsLeast, fieldsLimit}
-use Rattle.packets.specs.Inner.Octets.{Count, countAt, headerWidth, headerOf, headerAt, sizeAt}
+use Rattle.formats.specs.Places.{Place, edgeAt}
+use Rattle.formats.proofs.Laws.{onward, flag-cut, octetwise-at, octetwise-edge}
+use Rattle.packets.specs.Edition.{Edition}
+use Rattle.packets.specs.Packet.{count, header, size, fieldData, rightData, fieldsLeast, fieldsLimit}
+use Rattle.packets.specs.Inner.Octets.{bitAt, NarrowEdition, Value, valueAt, Count, countAt, headerAt, sizeAt}
+use Rattle.packets.proofs.AtValue.{bit-here, value-cut, value-at}
 
 -- ---- the count of fields
-pub count-at : (s : List ℕ) (i : ℕ) → count .read s i 8 ≡ onward (countAt s true) (λ c. found (c .value) (c .next))
+pub count-at : (s : List ℕ) (i at : ℕ) → count .read s i (8 * at) ≡ onward (countAt s at true) (λ c. found (c .value) (c .next))
 unfolding count countAt
-count-at s i =
+count-at s i at =
     rw (octetwise-edge (λ t. lengthFound (lengthWithin fieldsLeast fieldsLimit t)) lengthOctets
-    (λ n. (n ≤ lengthLimit) × (within fieldsLeast fieldsLimit n ≡ true)) s i 1)
-    (by (lengthWithin fieldsLeast fieldsLimit (drop 1 s))) where
+    (λ n. (n ≤ lengthLimit) × (within fieldsLeast fieldsLimit n ≡ true)) s i at)
+    (by (lengthWithin fieldsLeast fieldsLimit (drop at s))) where
       by : (x : Answer LengthAnswer)
-          → andThen (foundFrom 1 (lengthFound x)) (λ a n. found a (8 * n + 8))
-          ≡ onward {A = Count} (_>>=_ (readFrom 1 x) (λ n. done (record { value = n .value; next = 8 * (1 + n .size) })))
+          → andThen (foundFrom at (lengthFound x)) (λ a n. found a (8 * n + 8 * at))
+          ≡ onward {A = Count} (_>>=_ (readFrom at x) (λ n. done (record { value = n .value; next = 8 * (at + n .size) })))
           (λ c. found (c .value) (c .next))
-      by (done a) = let next : 8 * a .size + 8 ≡ 8 * (1 + a .size) = omega arith in rw next
+      by (done a) = let next : 8 * a .size + 8 * at ≡ 8 * (at + a .size) = omega arith in rw next
       by (refused r) = refl
 
 -- ---- a field's header
--- inside the item that begins with it
-pub header-at : (s : List ℕ) (p : Place) → header edition98 .read s (p / 8) p ≡ onward (headerAt s p) (λ h. found (h .header) (h .next))
-unfolding header enumerated root headerAt
-header-at s p = by (ltb (8 * length s) (p + headerWidth)) refl where
-  -- all its bits are there: the first is for data, the others are the type
-  told : p + headerWidth ≤ 8 * length s → (r : Bool)
-      → rightData edition98 (headerOf (bitsAt headerWidth s p) .kind) (headerOf (bitsAt headerWidth s p) .present) ≡ r
-      → ltb (8 * length s) (p + headerWidth) ≡ false
-      → header edition98 .read s (p / 8) p ≡ onward (headerAt s p) (λ h. found (h .header) (h .next))
-  told inside true right e =
-      let all = parted 3 s (p / 8) p (bitsAt 4 s p) (4 + p) (bits-at 4 s (p / 8) p (omega arith) (omega arith)) in
-      let next : 4 + p ≡ p + 4 = omega arith in
-      rw (e, all .first, all .others, lt-ltb (bitsAt 4 s p % 8) 8 (mod-lt (bitsAt 4 s p) (omega arith)), right, next)
-  told inside false wrong e =
-      let all = parted 3 s (p / 8) p (bitsAt 4 s p) (4 + p) (bits-at 4 s (p / 8) p (omega arith) (omega arith)) in
-      rw (e, all .first, all .others, lt-ltb (bitsAt 4 s p % 8) 8 (mod-lt (bitsAt 4 s p) (omega arith)), wrong)
+module _ (edition : Edition) (narrow : NarrowEdition edition) (s : List ℕ) (p : Place) where
+  -- inside the item that begins with it
+  pub header-at : header edition .read s (p / 8) p ≡ onward (headerAt edition s p) (λ h. found (h .header) (h .next))
+  unfolding header headerAt
+  header-at = by (ltb p (8 * length s)) refl where
+    right : p < 8 * length s → (v : Value) → valueAt (edition .types) (p / 8) s (p + 1) ≡ done v
+        → (r : Bool) → rightData edition (v .value) (bitAt s p) ≡ r
+        → header edition .read s (p / 8) p ≡ onward (headerAt edition s p) (λ h. found (h .header) (h .next))
+    right here v ve true re =
+        rw (bit-here s (p / 8) p here, value-at (edition .types) (narrow .ofTypes) s (p / 8) (p + 1), ve, re)
+    right here v ve false re =
+        rw (bit-here s (p / 8) p here, value-at (edition .types) (narrow .ofTypes) s (p / 8) (p + 1), ve, re)
 
-  cut : 8 * length s < p + headerWidth → (b : Bool) → ltb p (8 * length s) ≡ b → ltb (8 * length s) (p + headerWidth) ≡ true
-      → header edition98 .read s (p / 8) p ≡ onward (headerAt s p) (λ h. found (h .header) (h .next))
-  cut short true some e =
-      rw (e, flag-some s (p / 8) p (ltb-true p (8 * length s) some), bits-cut 2 s (p / 8) (1 + p) (omega arith))
-  cut short false none e = rw (e, flag-cut s (p / 8) p (ltb-false p (8 * length s) none))
+    value : p < 8 * length s → (x : Answer Value) → valueAt (edition .types) (p / 8) s (p + 1) ≡ x
+        → header edition .read s (p / 8) p ≡ onward (headerAt edition s p) (λ h. found (h .header) (h .next))
+    value here (done v) ve = right here v ve _ refl
+    value here (refused r) ve =
+        rw (bit-here s (p / 8) p here, value-at (edition .types) (narrow .ofTypes) s (p / 8) (p + 1), ve)
 
-  by : (b : Bool) → ltb (8 * length s) (p + headerWidth) ≡ b
-      → header edition98 .read s (p / 8) p ≡ onward (headerAt s p) (λ h. found (h .header) (h .next))
-  by true e = cut (ltb-true (8 * length s) (p + headerWidth) e) (ltb p (8 * length s)) refl e
-  by false e = told (ltb-false (8 * length s) (p + headerWidth) e) _ refl e
+    by : (b : Bool) → ltb p (8 * length s) ≡ b
+        → header edition .read s (p / 8) p ≡ onward (headerAt edition s p) (λ h. found (h .header) (h .next))
+    by true some = value (ltb-true p (8 * length s) some) (valueAt (edition .types) (p / 8) s (p + 1)) refl
+    by false none =
+        let past = ltb-false p (8 * length s) none in
+        rw (flag-cut s (p / 8) p past, value-cut (edition .types) (narrow .ofTypes) s (p / 8) (p + 1) (omega arith))
 
 -- ---- the data of a field
 two-at : (s : List ℕ) (i : ℕ) (p : Place) → p ≤ 8 * length s

@@ -1,6 +1,6 @@
 -- The loops that test or sum every element, one turn each: what is left decides. Assumes nothing.
 use Prim.Native.Nat.{ℕ, _+_, _*_, _/_, _≤_, _<_}
-use mathlib.Core.Path.{_≡_, refl, sym, ap, _∙_}
+use mathlib.Core.Path.{_≡_, refl, sym, ap, ap₂, _∙_}
 use mathlib.Core.Bool.{Bool, true, false, _&&_}
 use mathlib.Core.List.{List, _∷_}
 use lib.ListN.{length, getD, drop, drop-of-length-le}
@@ -9,9 +9,10 @@ use lib.Dec.{eqb, leb}
 use native.Mathlib.Numerals.{add-one}
 use native.Mathlib.Omega.{arith}
 use borrow.Author.Tests.{lt-ltb, le-ltb, le-leb, lt-leb, eq-eqb, ne-eqb}
+use Rattle.packets.specs.Edition.{Enumerated}
 use Rattle.packets.specs.Packet.{fieldsLimit, every}
 use Rattle.packets.specs.Write.{total, sum}
-use Rattle.packets.specs.Inner.Laid.{pastField, pastFields}
+use Rattle.packets.specs.Inner.Laid.{valueWidth, headerWidth, pastField, pastFields}
 use Rattle.packets.specs.Inner.Items.{Wide, FieldPast, FieldsPast}
 
 pub drop-next : (s : List ℕ) (i : ℕ) → i < length s → drop i s ≡ getD s i 0 ∷ drop (i + 1) s
@@ -83,35 +84,46 @@ module _ {s : List ℕ} {i all : ℕ} where
 pub ruleset sums = (sum-start, sum-turn, sum-done)
 
 -- ---- the place after each field
-pub past-some : {p n : ℕ} → n < 65536 → 0 < n → FieldPast p n (8 * ((p + 4 + 7) / 8 + 2 + n))
-past-some {p} {n} small some = record { answer = rw (lt-ltb 0 n some); small = omega arith }
+module _ {e : Enumerated} {p k n h : ℕ} (is : h ≡ valueWidth e k) (few : h ≤ 8) where
+  pub past-some : n < 65536 → 0 < n → FieldPast e p k n (8 * ((p + 1 + h + 7) / 8 + 2 + n))
+  past-some small some =
+      let same : p + 1 + h ≡ p + headerWidth e k = omega arith in
+      record { answer = rw (lt-ltb 0 n some, ← same); small = omega arith }
 
-pub past-none : {p n : ℕ} → n ≤ 0 → FieldPast p n (p + 4)
-past-none {p} {n} none = record { answer = rw (le-ltb 0 n none); small = omega arith }
+  pub past-none : n ≤ 0 → FieldPast e p k n (p + 1 + h)
+  past-none none =
+      let same : p + 1 + h ≡ p + headerWidth e k = omega arith in
+      record { answer = rw (le-ltb 0 n none, ← same); small = omega arith }
 
-pub record Passing (from : ℕ) (s : List ℕ) (i p : ℕ) : Type 0 where
-  pub inside : i ≤ length s
-  pub few : p ≤ from + i * 524320
-  pub so : pastFields p (drop i s) ≡ pastFields from s
+pub record Passing (e : Enumerated) (from : ℕ) (ts ns : List ℕ) (i p : ℕ) : Type 0 where
+  pub inside : i ≤ length ts
+  pub few : p ≤ from + i * 524328
+  pub so : pastFields e p (drop i ts) (drop i ns) ≡ pastFields e from ts ns
 
-pub pass-start : (from : ℕ) (s : List ℕ) → Passing from s 0 from
-pass-start from s = record { inside = omega arith; few = omega arith; so = refl }
+pub pass-start : (e : Enumerated) (from : ℕ) (ts ns : List ℕ) → Passing e from ts ns 0 from
+pass-start e from ts ns = record { inside = omega arith; few = omega arith; so = refl }
 
-module _ {from : ℕ} {s : List ℕ} {i p : ℕ} where
-  pub pass-turn : {n q : ℕ} → Passing from s i p → i < length s → Wide (getD s i 0) n → FieldPast p n q → Passing from s (i + 1) q
+module _ {e : Enumerated} {from : ℕ} {ts ns : List ℕ} {i p : ℕ} where
+  pub pass-turn : {n q : ℕ} → Passing e from ts ns i p → length ts ≡ length ns → i < length ts → Wide (getD ns i 0) n
+      → FieldPast e p (getD ts i 0) n q
+      → Passing e from ts ns (i + 1) q
   unfolding pastFields
-  pass-turn {n} {q} g h wide past =
-      let is : q ≡ pastField p (getD s i 0) = past .answer ∙ ap (pastField p) (wide .same) in
+  pass-turn {n} {q} g same h wide past =
+      let is : q ≡ pastField e p (getD ts i 0) (getD ns i 0) = past .answer ∙ ap (pastField e p (getD ts i 0)) (wide .same) in
       record {
         inside = omega arith;
         few = omega (arith, past .small, g .few);
-        so = ap (λ (k : ℕ). pastFields k (drop (i + 1) s)) is ∙ sym (ap (pastFields p) (drop-next s i h)) ∙ g .so;
+        so = ap (λ (k : ℕ). pastFields e k (drop (i + 1) ts) (drop (i + 1) ns)) is
+            ∙ sym (ap₂ (pastFields e p) (drop-next ts i h) (drop-next ns i (omega arith))) ∙ g .so;
       }
 
-  pub pass-done : Passing from s i p → length s ≤ i → length s ≤ fieldsLimit → FieldsPast from s p
+  pub pass-done : Passing e from ts ns i p → length ts ≤ i → length ts ≤ fieldsLimit → FieldsPast e from ts ns p
   unfolding pastFields
   pass-done g end few =
-      record { answer = sym (ap (pastFields p) (drop-of-length-le s end)) ∙ g .so; small = omega (arith, g .few, g .inside) }
+      record {
+        answer = sym (ap (λ (l : List ℕ). pastFields e p l (drop i ns)) (drop-of-length-le ts end)) ∙ g .so;
+        small = omega (arith, g .few, g .inside);
+      }
 
 -- the laws of a loop over the places of fields
 pub ruleset passes = (past-some, past-none, pass-start, pass-turn, pass-done)

@@ -1,121 +1,129 @@
--- What the description spells for the first octet and for a field, packed into octets after the bits that wait, is what is laid there.
--- Assumes nothing.
-use Prim.Native.Nat.{ℕ, _+_, _-_, _*_, _/_, _%_, _^_, _≤_, _<_}
+-- What the description spells for a field, packed into octets after the bits that wait, is what is laid there. Assumes nothing.
+use Prim.Native.Nat.{ℕ, _+_, _-_, _*_, _/_, _%_, _<_}
 use mathlib.Core.Path.{_≡_, refl, sym, ap, _∙_}
 use mathlib.Core.Bool.{Bool, true, false, cond}
-use mathlib.Core.List.{List, [], _∷_, _++_, append-assoc}
+use mathlib.Core.List.{List, [], _++_, append-assoc}
 use lib.ListN.{length, length-append}
 use lib.Dec.{ltb}
 use native.Mathlib.Omega.{arith}
-use borrow.Author.Tests.{lt-leb}
 use Rattle.formats.specs.Spelling.{Letter, spelt, whole, wide, packed, gap}
 use Rattle.formats.specs.Places.{edge}
 use Rattle.formats.specs.Waiting.{Waiting, noneWait, Waits, fullOctets, left, closed}
-use Rattle.formats.specs.Format.{known}
-use Rattle.formats.proofs.Laws.{wide-append, wide-spelt, wide-whole, gap-past, none-waits, waits-left, left-at, spelt-join, packed-spelt}
+use Rattle.formats.specs.Format.{flagBit, known}
+use Rattle.formats.proofs.Laws.{wide-append, wide-spelt, wide-whole, gap-past, none-waits, waits-left, left-at, packed-spelt}
 use Rattle.formats.proofs.Laws.{packed-closed, packed-whole, fullOctets-long, closed-long}
-use Rattle.packets.specs.Edition.{edition98}
-use Rattle.packets.specs.Packet.{assigned, typesLimit, Content, root, enumerated, typeOfMsg, start, header, size}
-use Rattle.packets.specs.Packet.{fieldData, field}
+use Rattle.packets.specs.Edition.{Enumerated, many, Edition}
+use Rattle.packets.specs.Packet.{Content, header, size, fieldData, field}
 use Rattle.packets.specs.Write.{withData}
-use Rattle.packets.specs.Inner.Octets.{headerWidth}
-use Rattle.packets.specs.Inner.Laid.{firstOctet, headerBits, sizeOctets, withHeader, fieldOctets, afterField, pastField}
-use Rattle.packets.specs.declared.types.Kind.{Kind}
-use Rattle.packets.specs.declared.types.Kind.the-variants.{Indicator, Data}
+use Rattle.packets.specs.Inner.Laid.{Narrow, valueWidth, valueBits, sizeOctets, withFlag, withType, headerOctets}
+use Rattle.packets.specs.Inner.Laid.{headerLeft, fieldOctets, afterField, headerWidth, pastField}
+use Rattle.packets.proofs.ValueLaid.{flag-small, value-few, value-small, value-spelt}
 
--- a number below 16 by its four bits, and one below 8 by its three
-three-bits : (v : ℕ) → v / 4 % 2 * 4 + v / 2 % 2 * 2 + v / 1 % 2 ≡ v % 8
-three-bits v =
-    let b : v / 8 * 2 + v / 4 % 2 ≡ v / 4 = omega arith in
-    let c : v / 4 * 2 + v / 2 % 2 ≡ v / 2 = omega arith in
-    let d : v / 2 * 2 + v / 1 % 2 ≡ v = omega arith in
-    omega arith
-
-four-bits : (v : ℕ) → v < 16 → v / 8 % 2 * 8 + (v / 4 % 2 * 4 + v / 2 % 2 * 2 + v / 1 % 2) ≡ v
-four-bits v small = omega (arith, three-bits v)
-
--- ---- the first octet
-pub start-packed : (k : Kind) (v : ℕ) (b : Bool) (more : List Letter) → v < assigned edition98 k
-    → packed 0 0 (start edition98 .spelling (record { kind = k; value = v; present = b }) 0 ++ more)
-    ≡ firstOctet (record { kind = k; value = v; present = b }) ∷ packed 0 0 more
-unfolding start typeOfMsg enumerated root spelt wide packed firstOctet
-start-packed Indicator v true more known = rw (lt-leb 16 v known)
-    (ap (λ (o : ℕ). o ∷ packed 0 0 more) (omega (arith, four-bits v (omega arith))))
-start-packed Indicator v false more known = rw (lt-leb 16 v known)
-    (ap (λ (o : ℕ). o ∷ packed 0 0 more) (omega (arith, four-bits v (omega arith))))
-start-packed Data v true more known = rw (lt-leb 9 v known) (ap (λ (o : ℕ). o ∷ packed 0 0 more) (omega (arith, four-bits v (omega arith))))
-start-packed Data v false more known = rw (lt-leb 9 v known)
-    (ap (λ (o : ℕ). o ∷ packed 0 0 more) (omega (arith, four-bits v (omega arith))))
-
-pub start-wide : (k : Kind) (v : ℕ) (b : Bool) → v < assigned edition98 k
-    → wide (start edition98 .spelling (record { kind = k; value = v; present = b }) 0) ≡ 8
-unfolding start typeOfMsg enumerated root spelt wide
-start-wide Indicator v b known' = rw (lt-leb 16 v known')
-start-wide Data v b known' = rw (lt-leb 9 v known')
-
--- ---- a field
-pub header-small : (k : ℕ) (b : Bool) → k ≤ typesLimit edition98 → headerBits (record { kind = k; present = b }) < 2 ^ headerWidth
-unfolding headerBits
-header-small k true known' = omega arith
-header-small k false known' = omega arith
-
+-- ---- a field as it is laid
 -- what waits after it, and how many octets it fills, from a place on
-module _ (w : Waiting) (waits : Waits w) where
-  pub after-waits : (k : ℕ) (l : List ℕ) → k ≤ typesLimit edition98 → Waits (afterField w k l)
+pub flag-waits : (w : Waiting) → Waits w → (b : Bool) → Waits (left (withFlag w b))
+flag-waits w waits b = waits-left w waits 1 (flagBit b) (omega arith) (flag-small b)
+
+module _ (e : Enumerated) (narrow : Narrow e) (w : Waiting) (waits : Waits w) where
+  pub header-waits : (k : ℕ) (b : Bool) → k < many e → Waits (headerLeft e w k b)
+  unfolding headerLeft
+  header-waits k b right =
+      waits-left (left (withFlag w b)) (flag-waits w waits b) (valueWidth e k) (valueBits e k) (value-few e narrow k)
+      (value-small e narrow k right)
+
+  pub after-waits : (k : ℕ) (l : List ℕ) → k < many e → Waits (afterField e w k l)
   unfolding afterField
-  after-waits k l known' = by (withData (length l)) where
-    by : (b : Bool) → Waits (cond b noneWait (left (withHeader w k b)))
+  after-waits k l right = by (withData (length l)) where
+    by : (b : Bool) → Waits (cond b noneWait (headerLeft e w k b))
     by true = none-waits
-    by false = waits-left w waits headerWidth _ (omega arith) (header-small k false known')
+    by false = header-waits k false right
 
-  module _ (p : ℕ) (at : p % 8 ≡ w .width) (k : ℕ) (l : List ℕ) where
-    header-at : (b : Bool) → (p + headerWidth) % 8 ≡ left (withHeader w k b) .width
+  module _ (p : ℕ) (at : p % 8 ≡ w .width) (k : ℕ) where
+    flag-at : (b : Bool) → (1 + p) % 8 ≡ left (withFlag w b) .width
+    flag-at b = left-at w waits p at 1 (flagBit b) (omega arith)
+
+    pub header-at : (b : Bool) → (p + headerWidth e k) % 8 ≡ headerLeft e w k b .width
+    unfolding headerLeft
     header-at b =
-        let swap : p + headerWidth ≡ headerWidth + p = omega arith in
-        ap (λ (n : ℕ). n % 8) swap ∙ left-at w waits p at headerWidth _ (omega arith)
+        let swap : p + headerWidth e k ≡ valueWidth e k + (1 + p) = omega arith in
+        ap (λ (n : ℕ). n % 8) swap
+        ∙ left-at (left (withFlag w b)) (flag-waits w waits b) (1 + p) (flag-at b) (valueWidth e k) (valueBits e k) (value-few e narrow k)
 
-    pub after-at : pastField p (length l) % 8 ≡ afterField w k l .width
-    unfolding afterField
-    after-at = by (withData (length l)) where
-      by : (b : Bool) → (cond b (8 * (edge (p + headerWidth) + 2 + length l)) (p + headerWidth)) % 8
-          ≡ (cond b noneWait (left (withHeader w k b))) .width
-      by true = omega arith
-      by false = header-at false
+    pub header-long : (b : Bool) → p / 8 + length (headerOctets e w k b) ≡ (p + headerWidth e k) / 8
+    unfolding headerOctets
+    header-long b =
+        omega (
+          arith,
+          length-append (fullOctets (withFlag w b)) (fullOctets (withType e w k b)),
+          fullOctets-long w waits p at 1 (flagBit b) (omega arith),
+          fullOctets-long (left (withFlag w b)) (flag-waits w waits b) (1 + p) (flag-at b) (valueWidth e k) (valueBits e k)
+              (value-few e narrow k),
+        )
 
-    pub field-long : k ≤ typesLimit edition98 → p / 8 + length (fieldOctets w k l) ≡ pastField p (length l) / 8
-    unfolding fieldOctets
-    field-long known' = by (withData (length l)) where
-      by : (b : Bool)
-          → p / 8 + length (fullOctets (withHeader w k b) ++ cond b (closed (left (withHeader w k b)) ++ (sizeOctets (length l) ++ l)) [])
-          ≡ (cond b (8 * (edge (p + headerWidth) + 2 + length l)) (p + headerWidth)) / 8
-      by true =
-          let all = withHeader w k true in
-          let rest = closed (left all) ++ (sizeOctets (length l) ++ l) in
-          let next = waits-left w waits headerWidth _ (omega arith) (header-small k true known') in
-          omega (
-            arith,
-            fullOctets-long w waits p at headerWidth (headerBits (record { kind = k; present = true })) (omega arith),
-            closed-long (left all) next (p + headerWidth) (header-at true),
-            length-append (fullOctets all) rest,
-            length-append (closed (left all)) (sizeOctets (length l) ++ l),
-          )
-      by false =
-          omega (
-            arith,
-            fullOctets-long w waits p at headerWidth (headerBits (record { kind = k; present = false })) (omega arith),
-            length-append (fullOctets (withHeader w k false)) [],
-          )
+    module _ (l : List ℕ) where
+      pub after-at : pastField e p k (length l) % 8 ≡ afterField e w k l .width
+      unfolding afterField
+      after-at = by (withData (length l)) where
+        by : (b : Bool) → (cond b (8 * (edge (p + headerWidth e k) + 2 + length l)) (p + headerWidth e k)) % 8
+            ≡ (cond b noneWait (headerLeft e w k b)) .width
+        by true = omega arith
+        by false = header-at false
 
--- as the description spells it
-header-spelt : (k : ℕ) (b : Bool) (p : ℕ) → k ≤ typesLimit edition98
-    → header edition98 .spelling (record { kind = k; present = b }) p ≡ spelt headerWidth (headerBits (record { kind = k; present = b }))
-unfolding header enumerated root spelt headerBits
-header-spelt k true p known' = rw (lt-leb 8 k (omega arith)) (sym (spelt-join 1 3 1 k (omega arith)))
-header-spelt k false p known' = rw (lt-leb 8 k (omega arith)) (sym (spelt-join 1 3 0 k (omega arith)))
+      pub field-long : k < many e → p / 8 + length (fieldOctets e w k l) ≡ pastField e p k (length l) / 8
+      unfolding fieldOctets
+      field-long right = by (withData (length l)) where
+        by : (b : Bool)
+            → p / 8 + length (headerOctets e w k b ++ cond b (closed (headerLeft e w k b) ++ (sizeOctets (length l) ++ l)) [])
+            ≡ (cond b (8 * (edge (p + headerWidth e k) + 2 + length l)) (p + headerWidth e k)) / 8
+        by true =
+            let rest = closed (headerLeft e w k true) ++ (sizeOctets (length l) ++ l) in
+            omega (
+              arith,
+              header-long true,
+              closed-long (headerLeft e w k true) (header-waits k true right) (p + headerWidth e k) (header-at true),
+              length-append (headerOctets e w k true) rest,
+              length-append (closed (headerLeft e w k true)) (sizeOctets (length l) ++ l),
+            )
+        by false = omega (arith, header-long false, length-append (headerOctets e w k false) [])
 
-pub header-wide : (k : ℕ) (b : Bool) (p : ℕ) → k ≤ typesLimit edition98
-    → wide (header edition98 .spelling (record { kind = k; present = b }) p) ≡ headerWidth
-header-wide k b p known' = ap wide (header-spelt k b p known') ∙ wide-spelt headerWidth (headerBits (record { kind = k; present = b }))
+-- ---- as the description spells it
+module _ (edition : Edition) (narrow : Narrow (edition .types)) (k : ℕ) (right : k < many (edition .types)) (p : ℕ) where
+  header-spelt : (b : Bool)
+      → header edition .spelling (record { kind = k; present = b }) p
+      ≡ spelt 1 (flagBit b) ++ spelt (valueWidth (edition .types) k) (valueBits (edition .types) k)
+  unfolding header spelt
+  header-spelt true = ap (λ (l : List Letter). spelt 1 1 ++ l) (value-spelt (edition .types) narrow k right _)
+  header-spelt false = ap (λ (l : List Letter). spelt 1 0 ++ l) (value-spelt (edition .types) narrow k right _)
+
+  pub header-wide : (b : Bool) → wide (header edition .spelling (record { kind = k; present = b }) p) ≡ headerWidth (edition .types) k
+  header-wide b =
+      let e = edition .types in
+      ap wide (header-spelt b)
+      ∙ omega (
+        arith,
+        wide-append (spelt 1 (flagBit b)) (spelt (valueWidth (edition .types) k) (valueBits (edition .types) k)),
+        wide-spelt 1 (flagBit b),
+        wide-spelt (valueWidth (edition .types) k) (valueBits (edition .types) k),
+      )
+
+  module _ (w : Waiting) (waits : Waits w) where
+    header-packed : (b : Bool) (more : List Letter)
+        → packed (w .value) (w .width) (header edition .spelling (record { kind = k; present = b }) p ++ more)
+        ≡ headerOctets (edition .types) w k b
+        ++ packed (headerLeft (edition .types) w k b .value) (headerLeft (edition .types) w k b .width) more
+    unfolding headerOctets headerLeft
+    header-packed b more =
+        let n = valueWidth (edition .types) k in
+        let x = valueBits (edition .types) k in
+        let f = withFlag w b in
+        let all = withType (edition .types) w k b in
+        ap (λ (l : List Letter). packed (w .value) (w .width) (l ++ more)) (header-spelt b)
+        ∙ ap (packed (w .value) (w .width)) (append-assoc (spelt 1 (flagBit b)) (spelt n x) more)
+        ∙ packed-spelt w waits 1 (flagBit b) (spelt n x ++ more) (omega arith) (flag-small b)
+        ∙ ap (λ (l : List ℕ). fullOctets f ++ l)
+        (packed-spelt (left (withFlag w b)) (flag-waits w waits b) n x more (value-few (edition .types) narrow k)
+        (value-small (edition .types) narrow k right))
+        ∙ sym (append-assoc (fullOctets f) (fullOctets all) _)
 
 -- no padding at an edge
 pub edge-whole : (p : ℕ) → p % 8 ≡ 0 → (l : List ℕ) → spelt (gap p) 0 ++ whole l ≡ whole l
@@ -173,38 +181,38 @@ module _ (from : ℕ) (l : List ℕ) (p : ℕ) where
       ∙ sym (append-assoc (closed w) (n ++ l) end)
   rest-packed w waits at false more = refl
 
-module _ (c : Content) (p : ℕ) (known' : c .kind ≤ typesLimit edition98) where
-  pub field-wide : wide (field edition98 .spelling c p) + p ≡ pastField p (length (c .octets))
+module _ (edition : Edition) (narrow : Narrow (edition .types)) (c : Content) (p : ℕ) (right : c .kind < many (edition .types)) where
+  pub field-wide : wide (field edition .spelling c p) + p ≡ pastField (edition .types) p (c .kind) (length (c .octets))
   unfolding field
   field-wide =
       let b = ltb 0 (length (c .octets)) in
-      let h = header edition98 .spelling (record { kind = c .kind; present = b }) p in
+      let h = header edition .spelling (record { kind = c .kind; present = b }) p in
       let q = wide h + p in
       let rest = (cond b fieldData (known (0, []))) .spelling (c .start, c .octets) (wide h + p) in
-      let four : wide h + p ≡ p + headerWidth = omega (arith, header-wide (c .kind) b p known') in
+      let on : wide h + p ≡ p + headerWidth (edition .types) (c .kind)
+      = omega (arith, header-wide edition narrow (c .kind) right p b) in
       let all : wide (h ++ rest) + p ≡ wide rest + q = omega (arith, wide-append h rest) in
       all ∙ rest-wide (c .start) (c .octets) q b
-      ∙ ap (λ (r : ℕ). cond b (8 * (edge r + 2 + length (c .octets))) r) four
+      ∙ ap (λ (r : ℕ). cond b (8 * (edge r + 2 + length (c .octets))) r) on
 
   module _ (w : Waiting) (waits : Waits w) (at : p % 8 ≡ w .width) where
     pub field-packed : (more : List Letter)
-        → packed (w .value) (w .width) (field edition98 .spelling c p ++ more)
-        ≡ fieldOctets w (c .kind) (c .octets)
-        ++ packed (afterField w (c .kind) (c .octets) .value) (afterField w (c .kind) (c .octets) .width) more
+        → packed (w .value) (w .width) (field edition .spelling c p ++ more)
+        ≡ fieldOctets (edition .types) w (c .kind) (c .octets)
+        ++ packed (afterField (edition .types) w (c .kind) (c .octets) .value) (afterField (edition .types) w (c .kind) (c .octets) .width)
+        more
     unfolding field fieldOctets afterField
     field-packed more =
+        let e = edition .types in
         let b = ltb 0 (length (c .octets)) in
-        let bits = headerBits (record { kind = c .kind; present = b }) in
-        let small = header-small (c .kind) b known' in
-        let h = header edition98 .spelling (record { kind = c .kind; present = b }) p in
+        let h = header edition .spelling (record { kind = c .kind; present = b }) p in
         let rest = (cond b fieldData (known (0, []))) .spelling (c .start, c .octets) (wide h + p) in
-        let all = withHeader w (c .kind) b in
-        let four = header-wide (c .kind) b p known' in
-        let on : (wide h + p) % 8 ≡ left (withHeader w (c .kind) b) .width
-        = ap (λ (n : ℕ). (n + p) % 8) four ∙ left-at w waits p at headerWidth _ (omega arith) in
+        let next = headerLeft (edition .types) w (c .kind) b in
+        let on : wide h + p ≡ p + headerWidth (edition .types) (c .kind)
+        = omega (arith, header-wide edition narrow (c .kind) right p b) in
         ap (packed (w .value) (w .width)) (append-assoc h rest more)
-        ∙ ap (λ (l : List Letter). packed (w .value) (w .width) (l ++ (rest ++ more))) (header-spelt (c .kind) b p known')
-        ∙ packed-spelt w waits headerWidth bits (rest ++ more) (omega arith) small
-        ∙ ap (λ (l : List ℕ). fullOctets all ++ l)
-        (rest-packed (c .start) (c .octets) (wide h + p) (left all) (waits-left w waits headerWidth bits (omega arith) small) on b more)
-        ∙ sym (append-assoc (fullOctets all) _ _)
+        ∙ header-packed edition narrow (c .kind) right p w waits b (rest ++ more)
+        ∙ ap (λ (l : List ℕ). headerOctets (edition .types) w (c .kind) b ++ l)
+        (rest-packed (c .start) (c .octets) (wide h + p) next (header-waits (edition .types) narrow w waits (c .kind) b right)
+        (ap (λ (n : ℕ). n % 8) on ∙ header-at (edition .types) narrow w waits p at (c .kind) b) b more)
+        ∙ sym (append-assoc (headerOctets (edition .types) w (c .kind) b) _ _)

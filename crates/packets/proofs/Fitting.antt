@@ -12,13 +12,15 @@ use Rattle.formats.specs.Spelling.{wide}
 use Rattle.formats.specs.Places.{edge}
 use Rattle.formats.specs.Format.{flag, known, sequenceFits}
 use Rattle.datagrams.specs.Sizes.{packetLimit}
-use Rattle.packets.specs.Edition.{Enumerated, many, Sound, Edition, SoundEdition, values, edition98, edition02}
+use Rattle.packets.specs.Edition.{Enumerated, many, Sound, Edition, SoundEdition, values, edition98, edition02, editionOf}
 use Rattle.packets.specs.Packet.{assigned, typesLimit, fieldsLimit, rightFields, rightData, every, root, addition, enumerated}
 use Rattle.packets.specs.Packet.{typeOfMsg, start, count, header, size, Content, fieldData, field, dataField, packet}
 use Rattle.packets.specs.Write.{withData, rightTypes}
-use Rattle.packets.specs.Inner.Laid.{sizeOctets}
+use Rattle.packets.specs.Inner.Laid.{Narrow, NarrowEdition, sizeOctets}
 use Rattle.packets.specs.declared.types.Kind.{Kind}
 use Rattle.packets.specs.declared.types.Kind.the-variants.{Indicator, Data}
+use Rattle.packets.specs.declared.types.Named.{Named}
+use Rattle.packets.specs.declared.types.Named.the-variants.{Old, New}
 use Rattle.packets.proofs.FieldLaid.{edge-wide}
 
 -- ---- a value of an ENUMERATED type
@@ -69,6 +71,17 @@ sound02 = record { ofKind = by; ofTypes = types } where
   by : (k : Kind) → Sound (values edition02 k)
   by Indicator = record { some = omega arith; wide = omega arith; few = omega arith; marked = λ h. refl }
   by Data = record { some = omega arith; wide = omega arith; few = omega arith; marked = λ h. refl }
+
+-- and stand in at most eight bits each
+pub narrow-of : (named : Named) → NarrowEdition (editionOf named)
+narrow-of Old = record { ofKind = by; ofTypes = record { sound = sound98 .ofTypes; narrow = omega arith; few = omega arith } } where
+  by : (k : Kind) → Narrow (values edition98 k)
+  by Indicator = record { sound = sound98 .ofKind Indicator; narrow = omega arith; few = omega arith }
+  by Data = record { sound = sound98 .ofKind Data; narrow = omega arith; few = omega arith }
+narrow-of New = record { ofKind = by; ofTypes = record { sound = sound02 .ofTypes; narrow = omega arith; few = omega arith } } where
+  by : (k : Kind) → Narrow (values edition02 k)
+  by Indicator = record { sound = sound02 .ofKind Indicator; narrow = omega arith; few = omega arith }
+  by Data = record { sound = sound02 .ofKind Data; narrow = omega arith; few = omega arith }
 
 -- ---- the data of a field
 data-fits : (l : List ℕ) (p : ℕ) → 0 < length l → length l ≤ packetLimit → fieldData .fits (edge p + 2, l) p

@@ -1,5 +1,5 @@
--- What the description spells by the edition of 06/98, packed into octets, is the packet octet by octet. Assumes nothing.
-use Prim.Native.Nat.{ℕ, suc, _+_, _-_, _%_, _≤_, _<_}
+-- What the description spells by an edition, packed into octets, is the packet octet by octet. Assumes nothing.
+use Prim.Native.Nat.{ℕ, suc, _+_, _-_, _%_, _<_}
 use mathlib.Core.Path.{_≡_, refl, sym, ap, _∙_}
 use mathlib.Core.Bool.{Bool, true, false, cond}
 use mathlib.Core.List.{List, [], _∷_, _++_, append-assoc, append-nil}
@@ -14,13 +14,14 @@ use Rattle.formats.specs.Waiting.{Waiting, noneWait, Waits}
 use Rattle.formats.specs.Format.{known, sequenceSpelt}
 use Rattle.formats.proofs.Laws.{wide-append, wide-spelt, wide-whole, gap-past, none-waits}
 use Rattle.formats.proofs.Laws.{packed-closed, packed-whole}
-use Rattle.packets.specs.Edition.{Edition, edition98}
+use Rattle.packets.specs.Edition.{Enumerated, many, Sound, Edition, values}
 use Rattle.packets.specs.Write.{contentsOf, packetOctets}
 use Rattle.packets.specs.Packet.{assigned, typesLimit, every, Content, start, count}
 use Rattle.packets.specs.Packet.{field, dataField, IfpPacket, packet}
-use Rattle.packets.specs.Inner.Laid.{firstOctet, fieldOctets, afterField, fieldsOctets, laidOctets}
+use Rattle.packets.specs.Inner.Laid.{NarrowEdition, firstOctets, fieldOctets, afterField, fieldsOctets, laidOctets}
 use Rattle.packets.specs.declared.types.Kind.{Kind}
-use Rattle.packets.proofs.FieldLaid.{start-wide, start-packed, edge-whole, after-waits, after-at, field-wide, field-packed}
+use Rattle.packets.proofs.ValueLaid.{start-packed, start-edge}
+use Rattle.packets.proofs.FieldLaid.{edge-whole, after-waits, after-at, field-wide, field-packed}
 
 -- ---- the fields
 pub contents-long : (ts ns d : List ℕ) → length ts ≡ length ns → length (contentsOf ts ns d) ≡ length ts
@@ -29,90 +30,94 @@ contents-long [] ns d same = refl
 contents-long (t ∷ ts) [] d same = absurd (omega arith)
 contents-long (t ∷ ts) (n ∷ ns) d same = ap suc (contents-long ts ns (drop n d) (omega arith))
 
-pub type-known : (t : ℕ) (ts : List ℕ) → every (λ k. leb k (typesLimit edition98)) (t ∷ ts) ≡ true → (t ≤ typesLimit edition98)
-    × (every (λ k. leb k (typesLimit edition98)) ts ≡ true)
+pub type-known : (e : Enumerated) → Sound e → (t : ℕ) (ts : List ℕ) → every (λ k. leb k (many e - 1)) (t ∷ ts) ≡ true
+    → (t < many e) × (every (λ k. leb k (many e - 1)) ts ≡ true)
 unfolding every
-type-known t ts all =
-    let parts = both (leb t (typesLimit edition98)) (every (λ k. leb k (typesLimit edition98)) ts) all in
-    (leb-true t (typesLimit edition98) (parts .0), parts .1)
+type-known e sound t ts all =
+    let parts = both (leb t (many e - 1)) (every (λ k. leb k (many e - 1)) ts) all in
+    let some = sound .some in
+    (omega (arith, leb-true t (many e - 1) (parts .0)), parts .1)
 
-fields-packed : (ts ns d : List ℕ) (w : Waiting) (p : ℕ) (more : List Letter) → every (λ t. leb t (typesLimit edition98)) ts ≡ true
-    → Waits w → p % 8 ≡ w .width
-    → packed (w .value) (w .width)
-    (sequenceSpelt (field edition98) (contentsOf ts ns d) p
-    ++ (spelt (gap (wide (sequenceSpelt (field edition98) (contentsOf ts ns d) p) + p)) 0 ++ more))
-    ≡ fieldsOctets w ts ns d ++ packed 0 0 more
-unfolding contentsOf sequenceSpelt fieldsOctets wide
-fields-packed [] ns d w p more all waits at =
-    let e : 0 + p ≡ p = omega arith in
-    rw e (packed-closed w waits p at more)
-fields-packed (t ∷ ts) [] d w p more all waits at =
-    let e : 0 + p ≡ p = omega arith in
-    rw e (packed-closed w waits p at more)
-fields-packed (t ∷ ts) (n ∷ ns) d w p more all waits at =
-    let c : Content = record { kind = t; start = 0; octets = take n d } in
-    let letters = field edition98 .spelling (record { kind = t; start = 0; octets = take n d }) p in
-    let known' = type-known t ts all in
-    let q = wide letters + p in
-    let rest = sequenceSpelt (field edition98) (contentsOf ts ns (drop n d)) (wide letters + p) in
-    let octets = fieldOctets w t (take n d) in
-    let next = afterField w t (take n d) in
-    let same : wide (letters ++ rest) + p ≡ wide rest + q = omega (arith, wide-append letters rest) in
-    let on : q % 8 ≡ next .width
-    = ap (λ (k : ℕ). k % 8) (field-wide c p (known' .0)) ∙ after-at w waits p at t (take n d) in
-    ap (λ (k : ℕ). packed (w .value) (w .width) ((letters ++ rest) ++ (spelt (gap k) 0 ++ more))) same
-    ∙ ap (packed (w .value) (w .width)) (append-assoc letters rest (spelt (gap (wide rest + q)) 0 ++ more))
-    ∙ field-packed c p (known' .0) w waits at (rest ++ (spelt (gap (wide rest + q)) 0 ++ more))
-    ∙ ap (λ (l : List ℕ). octets ++ l)
-    (fields-packed ts ns (drop n d) next q more (known' .1) (after-waits w waits t (take n d) (known' .0)) on)
-    ∙ sym (append-assoc octets (fieldsOctets next ts ns (drop n d)) (packed 0 0 more))
+module _ (edition : Edition) (narrow : NarrowEdition edition) where
+  fields-packed : (ts ns d : List ℕ) (w : Waiting) (p : ℕ) (more : List Letter) → every (λ t. leb t (typesLimit edition)) ts ≡ true
+      → Waits w → p % 8 ≡ w .width
+      → packed (w .value) (w .width)
+      (sequenceSpelt (field edition) (contentsOf ts ns d) p
+      ++ (spelt (gap (wide (sequenceSpelt (field edition) (contentsOf ts ns d) p) + p)) 0 ++ more))
+      ≡ fieldsOctets (edition .types) w ts ns d ++ packed 0 0 more
+  unfolding contentsOf sequenceSpelt fieldsOctets wide
+  fields-packed [] ns d w p more all waits at =
+      let e : 0 + p ≡ p = omega arith in
+      rw e (packed-closed w waits p at more)
+  fields-packed (t ∷ ts) [] d w p more all waits at =
+      let e : 0 + p ≡ p = omega arith in
+      rw e (packed-closed w waits p at more)
+  fields-packed (t ∷ ts) (n ∷ ns) d w p more all waits at =
+      let c : Content = record { kind = t; start = 0; octets = take n d } in
+      let letters = field edition .spelling (record { kind = t; start = 0; octets = take n d }) p in
+      let known' = type-known (edition .types) (narrow .ofTypes .sound) t ts all in
+      let q = wide letters + p in
+      let rest = sequenceSpelt (field edition) (contentsOf ts ns (drop n d)) (wide letters + p) in
+      let octets = fieldOctets (edition .types) w t (take n d) in
+      let next = afterField (edition .types) w t (take n d) in
+      let same : wide (letters ++ rest) + p ≡ wide rest + q = omega (arith, wide-append letters rest) in
+      let on : q % 8 ≡ next .width
+      = ap (λ (k : ℕ). k % 8) (field-wide edition (narrow .ofTypes) c p (known' .0))
+      ∙ after-at (edition .types) (narrow .ofTypes) w waits p at t (take n d) in
+      ap (λ (k : ℕ). packed (w .value) (w .width) ((letters ++ rest) ++ (spelt (gap k) 0 ++ more))) same
+      ∙ ap (packed (w .value) (w .width)) (append-assoc letters rest (spelt (gap (wide rest + q)) 0 ++ more))
+      ∙ field-packed edition (narrow .ofTypes) c p (known' .0) w waits at (rest ++ (spelt (gap (wide rest + q)) 0 ++ more))
+      ∙ ap (λ (l : List ℕ). octets ++ l)
+      (fields-packed ts ns (drop n d) next q more (known' .1)
+      (after-waits (edition .types) (narrow .ofTypes) w waits t (take n d) (known' .0)) on)
+      ∙ sym (append-assoc octets (fieldsOctets (edition .types) next ts ns (drop n d)) (packed 0 0 more))
 
--- ---- the packet
-module _ (ts ns d : List ℕ) (all : every (λ t. leb t (typesLimit edition98)) ts ≡ true) (same : length ts ≡ length ns) where
-  -- the count and the fields, from an edge on
-  counted-spelt : (p : ℕ) → p % 8 ≡ 0 → dataField edition98 .spelling (contentsOf ts ns d) p
-      ≡ whole (lengthOctets (length ts)) ++ sequenceSpelt (field edition98) (contentsOf ts ns d)
-      (wide (whole (lengthOctets (length ts))) + p)
-  unfolding dataField count
-  counted-spelt p edge =
-      rw (contents-long ts ns d same, edge-whole p edge (lengthOctets (length ts)))
+  -- ---- the packet
+  module _ (ts ns d : List ℕ) (all : every (λ t. leb t (typesLimit edition)) ts ≡ true) (same : length ts ≡ length ns) where
+    -- the count and the fields, from an edge on
+    counted-spelt : (p : ℕ) → p % 8 ≡ 0 → dataField edition .spelling (contentsOf ts ns d) p
+        ≡ whole (lengthOctets (length ts)) ++ sequenceSpelt (field edition) (contentsOf ts ns d)
+        (wide (whole (lengthOctets (length ts))) + p)
+    unfolding dataField count
+    counted-spelt p edge =
+        rw (contents-long ts ns d same, edge-whole p edge (lengthOctets (length ts)))
 
-  -- all that follows the first octet, up to the packet's end
-  after-start : (b : Bool) (p : ℕ) → p % 8 ≡ 0
-      → packed 0 0 ((cond b (dataField edition98) (known [])) .spelling (contentsOf ts ns d) p
-      ++ spelt (gap (wide ((cond b (dataField edition98) (known [])) .spelling (contentsOf ts ns d) p) + p)) 0)
-      ≡ cond b (lengthOctets (length ts) ++ fieldsOctets noneWait ts ns d) []
-  unfolding packed wide spelt
-  after-start true p edge =
-      let w = lengthOctets (length ts) in
-      let q = wide (whole w) + p in
-      let letters = sequenceSpelt (field edition98) (contentsOf ts ns d) (wide (whole w) + p) in
-      let end = spelt (gap (wide letters + q)) 0 in
-      let on : (wide (whole w) + p) % 8 ≡ 0 = omega (arith, wide-whole w) in
-      let same : wide (whole w ++ letters) + p ≡ wide letters + q = omega (arith, wide-append (whole w) letters) in
-      ap (λ (l : List Letter). packed 0 0 (l ++ spelt (gap (wide l + p)) 0)) (counted-spelt p edge)
-      ∙ ap (λ (k : ℕ). packed 0 0 ((whole w ++ letters) ++ spelt (gap k) 0)) same
-      ∙ ap (packed 0 0) (append-assoc (whole w) letters end) ∙ packed-whole w (letters ++ end)
-      ∙ ap (λ (l : List ℕ). w ++ l)
-      (ap (λ (l : List Letter). packed 0 0 (letters ++ l)) (sym (append-nil end))
-      ∙ fields-packed ts ns d noneWait q [] all none-waits on ∙ append-nil (fieldsOctets noneWait ts ns d))
-  after-start false p edge =
-      let none : (8 - (0 + p) % 8) % 8 ≡ 0 = omega arith in
-      rw none
+    -- all that follows the first item, up to the packet's end
+    after-start : (b : Bool) (p : ℕ) → p % 8 ≡ 0
+        → packed 0 0 ((cond b (dataField edition) (known [])) .spelling (contentsOf ts ns d) p
+        ++ spelt (gap (wide ((cond b (dataField edition) (known [])) .spelling (contentsOf ts ns d) p) + p)) 0)
+        ≡ cond b (lengthOctets (length ts) ++ fieldsOctets (edition .types) noneWait ts ns d) []
+    unfolding packed wide spelt
+    after-start true p edge =
+        let w = lengthOctets (length ts) in
+        let q = wide (whole w) + p in
+        let letters = sequenceSpelt (field edition) (contentsOf ts ns d) (wide (whole w) + p) in
+        let end = spelt (gap (wide letters + q)) 0 in
+        let on : (wide (whole w) + p) % 8 ≡ 0 = omega (arith, wide-whole w) in
+        let same : wide (whole w ++ letters) + p ≡ wide letters + q = omega (arith, wide-append (whole w) letters) in
+        ap (λ (l : List Letter). packed 0 0 (l ++ spelt (gap (wide l + p)) 0)) (counted-spelt p edge)
+        ∙ ap (λ (k : ℕ). packed 0 0 ((whole w ++ letters) ++ spelt (gap k) 0)) same
+        ∙ ap (packed 0 0) (append-assoc (whole w) letters end) ∙ packed-whole w (letters ++ end)
+        ∙ ap (λ (l : List ℕ). w ++ l)
+        (ap (λ (l : List Letter). packed 0 0 (letters ++ l)) (sym (append-nil end))
+        ∙ fields-packed ts ns d noneWait q [] all none-waits on ∙ append-nil (fieldsOctets (edition .types) noneWait ts ns d))
+    after-start false p edge =
+        let none : (8 - (0 + p) % 8) % 8 ≡ 0 = omega arith in
+        rw none
 
-  module _ (k : Kind) (v : ℕ) (known' : v < assigned edition98 k) where
-    -- the packet's octets are those laid one after the other
-    pub packet-laid : packetOctets edition98 k v ts ns d ≡ laidOctets k v ts ns d
-    unfolding packetOctets packet laidOctets
-    packet-laid =
-        let b = ltb 0 (length ts) in
-        let letters = start edition98 .spelling (record { kind = k; value = v; present = b }) 0 in
-        let rest = (cond b (dataField edition98) (known [])) .spelling (contentsOf ts ns d) (wide letters + 0) in
-        let eight = start-wide k v b known' in
-        rw (contents-long ts ns d same)
-        (start-packed k v b (rest ++ spelt (gap (wide rest + (wide letters + 0))) 0) known'
-        ∙ ap (λ (l : List ℕ). firstOctet (record { kind = k; value = v; present = b }) ∷ l)
-        (after-start b (wide letters + 0) (omega arith)))
+    module _ (k : Kind) (v : ℕ) (known' : v < assigned edition k) where
+      -- the packet's octets are those laid one after the other
+      pub packet-laid : packetOctets edition k v ts ns d ≡ laidOctets edition k v ts ns d
+      unfolding packetOctets packet laidOctets
+      packet-laid =
+          let b = ltb 0 (length ts) in
+          let letters = start edition .spelling (record { kind = k; value = v; present = b }) 0 in
+          let rest = (cond b (dataField edition) (known [])) .spelling (contentsOf ts ns d) (wide letters + 0) in
+          let edge = start-edge edition (record { kind = k; value = v; present = b }) in
+          rw (contents-long ts ns d same)
+          (start-packed edition v (rest ++ spelt (gap (wide rest + (wide letters + 0))) 0) k b (narrow .ofKind k) known'
+          ∙ ap (λ (l : List ℕ). firstOctets (values edition k) (record { kind = k; value = v; present = b }) ++ l)
+          (after-start b (wide letters + 0) (omega arith)))
 
 -- in any edition its end is at an octet edge
 pub packet-edge : (edition : Edition) (x : IfpPacket) → wide (packet edition .spelling x 0) % 8 ≡ 0

@@ -6,10 +6,13 @@ mod ReadLaws
 mod ReadEnds
 mod Described
 mod Steady
+mod AtValue
+mod AtOnce
 mod AtFirst
 mod AtOctets
 mod ReadAt
 mod Inside
+mod ValueLaid
 mod FieldLaid
 mod Laid
 mod Written

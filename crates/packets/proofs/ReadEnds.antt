@@ -7,35 +7,32 @@ use lib.ListN.{length, getD, drop, length-drop}
 use native.Mathlib.Omega.{arith}
 use Rattle.lengths.specs.Answers.{Answer, done, refused}
 use Rattle.lengths.proofs.Laws.{within-done}
-use Rattle.formats.specs.Places.{Place, edgeAt}
+use Rattle.formats.specs.Places.{Place}
+use Rattle.packets.specs.Edition.{Edition}
 use Rattle.packets.specs.Packet.{fieldsLeast, fieldsLimit, noField, PacketAnswer}
 use Rattle.packets.specs.Promise.{packetOutcome, packetRead, padded}
 use lib.Seq.{take-at}
 use Rattle.packets.specs.Inner.Octets.{Count, countAt, FieldAnswer, fieldAt, FieldsAnswer, fieldsAt}
 use Rattle.packets.specs.declared.types.Field.{Field}
-use Rattle.packets.proofs.ReadLaws.{stepped, edge-form, count-form, header-form, size-form, FieldForm, bare, full, field-form}
+use Rattle.packets.proofs.ReadLaws.{stepped, edge-inside, count-form, header-form, size-form, FieldForm, bare, full, field-form}
 
 -- ---- where the items of a packet end
--- the octet edge at a place inside the octets, or after it
-pub edge-inside : (s : List ℕ) (p : Place) (at : ℕ) → p ≤ 8 * length s → edgeAt s p ≡ done at → at ≤ length s
-edge-inside s p at inside e = omega (arith, edge-form s p at e .is)
-
 -- what holds of a field that reads: its part and the place after it lie inside the octets
 pub record FieldInside (s : List ℕ) (f : FieldAnswer) : Type 0 where
   pub part : f .field .start + f .field .size ≤ length s
   pub next : f .next ≤ 8 * length s
 
-pub form-inside : (s : List ℕ) (p : Place) (f : FieldAnswer) → FieldForm s p f → FieldInside s f
-form-inside s p f (bare k head is) =
-    let inside = header-form s p _ head .inside in
+pub form-inside : (edition : Edition) (s : List ℕ) (p : Place) (f : FieldAnswer) → FieldForm edition s p f → FieldInside s f
+form-inside edition s p f (bare k q head is) =
+    let inside = header-form edition s p _ head .inside in
     rw is (record { part = omega arith; next = inside })
-form-inside s p f (full k at n head edges size is) =
-    let edge = edge-inside s _ at (header-form s p _ head .inside) edges in
+form-inside edition s p f (full k q at n head edges size is) =
+    let edge = edge-inside s q at (header-form edition s p _ head .inside) edges in
     let all : at + 2 + n ≤ length s = omega (arith, size-form (drop at s) n size .inside, length-drop at s) in
     rw is (record { part = all; next = omega arith })
 
-pub field-inside : (s : List ℕ) (p : Place) (f : FieldAnswer) → fieldAt s p ≡ done f → FieldInside s f
-field-inside s p f e = form-inside s p f (field-form s p f e)
+pub field-inside : (edition : Edition) (s : List ℕ) (p : Place) (f : FieldAnswer) → fieldAt edition s p ≡ done f → FieldInside s f
+field-inside edition s p f e = form-inside edition s p f (field-form edition s p f e)
 
 -- what holds of fields that read
 pub record FieldsInside (n : ℕ) (s : List ℕ) (a : FieldsAnswer) : Type 0 where
@@ -49,17 +46,18 @@ pub parts-cons : (s : List ℕ) (f : Field) (l : List Field) → f .start + f .s
 parts-cons s f l here more zero = here
 parts-cons s f l here more (suc i) = more i
 
-pub fields-inside : (n : ℕ) (s : List ℕ) (p : Place) (a : FieldsAnswer) → p ≤ 8 * length s → fieldsAt n s p ≡ done a → FieldsInside n s a
+pub fields-inside : (edition : Edition) (n : ℕ) (s : List ℕ) (p : Place) (a : FieldsAnswer) → p ≤ 8 * length s
+    → fieldsAt edition n s p ≡ done a → FieldsInside n s a
 unfolding fieldsAt
-fields-inside zero s p a inside e =
+fields-inside edition zero s p a inside e =
     let is : a ≡ record { fields = []; next = p } = cc in
     rw is (record { many = refl; next = inside; parts = λ i. omega arith })
-fields-inside (suc n) s p a inside e =
-    let f = stepped (fieldAt s p) _ a e in
-    let more = stepped (fieldsAt n s (f .value .next)) _ a (f .gave) in
+fields-inside edition (suc n) s p a inside e =
+    let f = stepped (fieldAt edition s p) _ a e in
+    let more = stepped (fieldsAt edition n s (f .value .next)) _ a (f .gave) in
     let is : a ≡ record { fields = f .value .field ∷ more .value .fields; next = more .value .next } = cc (more .gave) in
-    let here = field-inside s p (f .value) (f .was) in
-    let all = fields-inside n s (f .value .next) (more .value) (here .next) (more .was) in
+    let here = field-inside edition s p (f .value) (f .was) in
+    let all = fields-inside edition n s (f .value .next) (more .value) (here .next) (more .was) in
     rw is (record {
       many = ap suc (all .many);
       next = all .next;
@@ -68,24 +66,25 @@ fields-inside (suc n) s p a inside e =
     })
 
 -- a count that reads: at most as many as a packet may have, and the place after it lies inside the octets
-pub count-limit : (s : List ℕ) (b : Bool) (c : Count) → countAt s b ≡ done c → c .value ≤ fieldsLimit
-unfolding countAt
-count-limit s true c e =
-    let f = count-form s c e in
-    rw (f .is) (within-done fieldsLeast fieldsLimit (drop 1 s) (f .length) (f .reads) .high)
-count-limit s false c e =
-    let is : c ≡ record { value = 0; next = 8 } = cc in
-    omega (arith, ap (λ (x : Count). x .value) is)
+module _ (s : List ℕ) (at : ℕ) where
+  pub count-limit : (b : Bool) (c : Count) → countAt s at b ≡ done c → c .value ≤ fieldsLimit
+  unfolding countAt
+  count-limit true c e =
+      let f = count-form s at c e in
+      rw (f .is) (within-done fieldsLeast fieldsLimit (drop at s) (f .length) (f .reads) .high)
+  count-limit false c e =
+      let is : c ≡ record { value = 0; next = 8 * at } = cc in
+      omega (arith, ap (λ (x : Count). x .value) is)
 
-pub count-within : (s : List ℕ) (b : Bool) (c : Count) → 1 ≤ length s → countAt s b ≡ done c → c .next ≤ 8 * length s
-unfolding countAt
-count-within s true c some e =
-    let f = count-form s c e in
-    let sizes = within-done fieldsLeast fieldsLimit (drop 1 s) (f .length) (f .reads) .sizes in
-    rw (f .is) (omega (arith, sizes .inside, length-drop 1 s))
-count-within s false c some e =
-    let is : c ≡ record { value = 0; next = 8 } = cc in
-    omega (arith, ap (λ (x : Count). x .next) is)
+  pub count-within : (b : Bool) (c : Count) → at ≤ length s → countAt s at b ≡ done c → c .next ≤ 8 * length s
+  unfolding countAt
+  count-within true c inside e =
+      let f = count-form s at c e in
+      let sizes = within-done fieldsLeast fieldsLimit (drop at s) (f .length) (f .reads) .sizes in
+      rw (f .is) (omega (arith, sizes .inside, length-drop at s))
+  count-within false c inside e =
+      let is : c ≡ record { value = 0; next = 8 * at } = cc in
+      omega (arith, ap (λ (x : Count). x .next) is)
 
 -- ---- the answer's cases are the definition's
 pub read-outcome : (x : Answer PacketAnswer) → packetOutcome (packetRead x) ≡ x

@@ -1,13 +1,13 @@
--- Laws of a packet of the edition of 06/98 as the code reads it, for this crate and those above: what it says of the octets that an item
--- reads, each test of its definition that was passed and the answer. Assumes nothing.
+-- Laws of a packet as the code reads it, in any edition, for this crate and those above: what it says of the octets that an item reads,
+-- each test of its definition that was passed and the answer. Assumes nothing.
 use Prim.Native.Nat.{ℕ, _+_, _-_, _*_, _/_, _%_, _^_, _≤_, _<_}
-use mathlib.Core.Path.{_≡_, refl, sym, ap, _∙_}
-use mathlib.Core.Bool.{Bool, true, false}
+use mathlib.Core.Path.{_≡_, refl}
+use mathlib.Core.Bool.{Bool, true, false, cond}
 use mathlib.Core.List.{List}
 use lib.ListN.{length, getD, drop}
-use lib.Dec.{leb, ltb}
+use lib.Dec.{ltb}
 use native.Mathlib.Omega.{arith}
-use borrow.Author.Tests.{ltb-false, leb-false}
+use borrow.Author.Tests.{ltb-true, ltb-false}
 use Rattle.lengths.specs.Refusals.{refusalAt, endsEarly, outsideSizes, spareBit, notAssigned, wrongData}
 use Rattle.lengths.specs.Answers.{Answer, done, refused, readFrom, _>>=_, LengthAnswer}
 use Rattle.lengths.specs.Length.{lengthWithin}
@@ -15,10 +15,10 @@ use Rattle.lengths.proofs.Laws.{cond-past, cond-done, cond-kept, cond-met, from
 use Rattle.formats.specs.Spelling.{gap}
 use Rattle.formats.specs.Places.{Place, bitsAt, edge, edgeAt}
 use Rattle.datagrams.specs.Sizes.{packetLimit}
-use Rattle.packets.specs.Edition.{edition98}
-use Rattle.packets.specs.Packet.{First, assigned, rightFields, rightData, fieldsLeast, fieldsLimit}
-use Rattle.packets.specs.Inner.Octets.{firstOf, headerOf, isSet, firstAt, Count, countAt, headerWidth, HeaderAnswer, headerAt}
-use Rattle.packets.specs.Inner.Octets.{sizeAt, FieldAnswer, afterHeader, fieldAt}
+use Rattle.packets.specs.Edition.{Enumerated, many, addedWidth, Edition, values}
+use Rattle.packets.specs.Packet.{assigned, rightFields, rightData, fieldsLeast, fieldsLimit}
+use Rattle.packets.specs.Inner.Octets.{bitAt, Value, rootAt, addedAt, valueAt, kindOf, FirstAnswer, firstAt, Count, countAt}
+use Rattle.packets.specs.Inner.Octets.{HeaderAnswer, headerAt, sizeAt, FieldAnswer, afterHeader, fieldAt}
 
 -- ---- steps
 module _ {A B : Type 0} where
@@ -32,34 +32,43 @@ module _ {A B : Type 0} where
   stepped (done a) next b e = record { value = a; was = refl; gave = e }
   stepped (refused r) next b e = let z : _≡_ {A = ℕ} 0 1 = cc in absurd (omega arith)
 
--- ---- the first octet
-pub record FirstForm (s : List ℕ) (f : First) : Type 0 where
-  pub some : 1 ≤ length s
-  pub plain : isSet 5 (getD s 0 0) ≡ false
-  pub known : f .value < assigned edition98 (f .kind)
-  pub spare : ltb 0 (getD s 0 0 % 2) ≡ false
-  pub right : rightFields (f .kind) (f .present) ≡ true
-  pub is : f ≡ firstOf (getD s 0 0)
+-- ---- a value of an ENUMERATED type
+pub record ValueForm (e : Enumerated) (s : List ℕ) (v : Value) : Type 0 where
+  pub inside : v .next ≤ 8 * length s
+  pub known : v .value < many e
 
-pub first-form : (s : List ℕ) (f : First) → firstAt s ≡ done f → FirstForm s f
-unfolding firstAt
-first-form s f e =
-    let octet = getD s 0 0 in
-    let o = firstOf (getD s 0 0) in
-    let some = cond-done (ltb (length s) 1) endsEarly _ f e in
-    let plain = cond-done (isSet 5 octet) notAssigned _ f (some .1) in
-    let known = cond-done (leb (assigned edition98 (o .kind)) (o .value)) notAssigned _ f (plain .1) in
-    let spare = cond-done (ltb 0 (octet % 2)) spareBit _ f (known .1) in
-    let right = cond-met (rightFields (o .kind) (o .present)) wrongData (done o) f (spare .1) in
-    let is : f ≡ o = cc (right .1) in
-    record {
-      some = ltb-false _ _ (some .0);
-      plain = plain .0;
-      known = rw is (leb-false _ _ (known .0));
-      spare = spare .0;
-      right = rw is (right .0);
-      is = is;
-    }
+module _ (e : Enumerated) (i : ℕ) (s : List ℕ) where
+  root-form : (p : Place) (v : Value) → rootAt e i s p ≡ done v → ValueForm e s v
+  unfolding rootAt
+  root-form p v was =
+      let value = bitsAt (e .width) s p in
+      let inside = cond-past (ltb (8 * length s) (p + e .width)) (refusalAt i endsEarly) _ v was in
+      let known = cond-kept (ltb value (e .assigned)) (refusalAt i notAssigned) _ v (inside .1) in
+      let is : v ≡ record { value = value; next = p + e .width } = cc (known .1) in
+      let here = ltb-false (8 * length s) (p + e .width) (inside .0) in
+      let low = ltb-true value (e .assigned) (known .0) in
+      rw is (record { inside = here; known = omega arith })
+
+  added-form : (p : Place) (v : Value) → addedAt e i s p ≡ done v → ValueForm e s v
+  unfolding addedAt
+  added-form p v was =
+      let value = bitsAt addedWidth s (p + 1) in
+      let some = cond-past (ltb (e .added) 1) (refusalAt i notAssigned) _ v was in
+      let bit = cond-past (bitAt s p) (refusalAt i notAssigned) _ v (some .1) in
+      let inside = cond-past (ltb (8 * length s) (p + 1 + addedWidth)) (refusalAt i endsEarly) _ v (bit .1) in
+      let known = cond-kept (ltb value (e .added)) (refusalAt i notAssigned) _ v (inside .1) in
+      let is : v ≡ record { value = e .assigned + value; next = p + 1 + addedWidth } = cc (known .1) in
+      let here = ltb-false (8 * length s) (p + 1 + addedWidth) (inside .0) in
+      let low = ltb-true value (e .added) (known .0) in
+      rw is (record { inside = here; known = omega arith })
+
+  pub value-form : (p : Place) (v : Value) → valueAt e i s p ≡ done v → ValueForm e s v
+  unfolding valueAt
+  value-form p v was = by (e .extensible) (bitAt s p) was where
+    by : (x b : Bool) → cond x (cond b (addedAt e i s (p + 1)) (rootAt e i s (p + 1))) (rootAt e i s p) ≡ done v → ValueForm e s v
+    by true true was = added-form (p + 1) v was
+    by true false was = root-form (p + 1) v was
+    by false b was = root-form p v was
 
 -- ---- an octet edge
 pub record EdgeForm (s : List ℕ) (p : Place) (at : ℕ) : Type 0 where
@@ -72,38 +81,58 @@ edge-form s p at e =
     let zeros = cond-past (ltb 0 (getD s (p / 8) 0 % 2 ^ gap p)) (refusalAt (p / 8) spareBit) _ at e in
     record { zeros = ltb-false _ _ (zeros .0); is = cc (zeros .1) }
 
--- ---- the count of fields
-pub record CountForm (s : List ℕ) (c : Count) : Type 0 where
-  pub length : LengthAnswer
-  pub reads : lengthWithin fieldsLeast fieldsLimit (drop 1 s) ≡ done length
-  pub is : c ≡ record { value = length .value; next = 8 * (1 + length .size) }
+-- the octet edge at a place inside the octets, or after it
+pub edge-inside : (s : List ℕ) (p : Place) (at : ℕ) → p ≤ 8 * length s → edgeAt s p ≡ done at → at ≤ length s
+edge-inside s p at inside e = omega (arith, edge-form s p at e .is)
 
-pub count-form : (s : List ℕ) (c : Count) → countAt s true ≡ done c → CountForm s c
+-- ---- the first item
+pub record FirstForm (edition : Edition) (s : List ℕ) (f : FirstAnswer) : Type 0 where
+  pub inside : f .octets ≤ length s
+  pub known : f .first .value < assigned edition (f .first .kind)
+  pub right : rightFields (f .first .kind) (f .first .present) ≡ true
+
+pub first-form : (edition : Edition) (s : List ℕ) (f : FirstAnswer) → firstAt edition s ≡ done f → FirstForm edition s f
+unfolding firstAt
+first-form edition s f e =
+    let value = stepped (valueAt (values edition (kindOf s)) 0 s 2) _ f e in
+    let form = value-form (values edition (kindOf s)) 0 s 2 (value .value) (value .was) in
+    let at = stepped (edgeAt s (value .value .next)) _ f (value .gave) in
+    let right = cond-met (rightFields (kindOf s) (bitAt s 0)) wrongData _ f (at .gave) in
+    let is : f ≡ record { first = record { kind = kindOf s; value = value .value .value; present = bitAt s 0 }; octets = at .value }
+    = cc (right .1) in
+    rw is (record {
+      inside = edge-inside s (value .value .next) (at .value) (form .inside) (at .was);
+      known = form .known;
+      right = right .0;
+    })
+
+-- ---- the count of fields
+pub record CountForm (s : List ℕ) (at : ℕ) (c : Count) : Type 0 where
+  pub length : LengthAnswer
+  pub reads : lengthWithin fieldsLeast fieldsLimit (drop at s) ≡ done length
+  pub is : c ≡ record { value = length .value; next = 8 * (at + length .size) }
+
+pub count-form : (s : List ℕ) (at : ℕ) (c : Count) → countAt s at true ≡ done c → CountForm s at c
 unfolding countAt
-count-form s c e =
-    let n = stepped (readFrom 1 (lengthWithin fieldsLeast fieldsLimit (drop 1 s))) _ c e in
-    record { length = n .value; reads = from-done 1 _ _ (n .was); is = cc (n .gave) }
+count-form s at c e =
+    let n = stepped (readFrom at (lengthWithin fieldsLeast fieldsLimit (drop at s))) _ c e in
+    record { length = n .value; reads = from-done at _ _ (n .was); is = cc (n .gave) }
 
 -- ---- a field
-pub record HeaderForm (s : List ℕ) (p : Place) (h : HeaderAnswer) : Type 0 where
-  pub inside : p + headerWidth ≤ 8 * length s
-  pub right : rightData edition98 (h .header .kind) (h .header .present) ≡ true
-  pub header : h .header ≡ headerOf (bitsAt headerWidth s p)
-  pub next : h .next ≡ p + headerWidth
+pub record HeaderForm (edition : Edition) (s : List ℕ) (h : HeaderAnswer) : Type 0 where
+  pub inside : h .next ≤ 8 * length s
+  pub known : h .header .kind < many (edition .types)
+  pub right : rightData edition (h .header .kind) (h .header .present) ≡ true
 
-pub header-form : (s : List ℕ) (p : Place) (h : HeaderAnswer) → headerAt s p ≡ done h → HeaderForm s p h
+pub header-form : (edition : Edition) (s : List ℕ) (p : Place) (h : HeaderAnswer) → headerAt edition s p ≡ done h → HeaderForm edition s h
 unfolding headerAt
-header-form s p h e =
-    let o = headerOf (bitsAt headerWidth s p) in
-    let inside = cond-past (ltb (8 * length s) (p + headerWidth)) (refusalAt (p / 8) endsEarly) _ h e in
-    let right = cond-kept (rightData edition98 (o .kind) (o .present)) (refusalAt (p / 8) wrongData) _ h (inside .1) in
-    let is : h ≡ record { header = o; next = p + headerWidth } = cc (right .1) in
-    record {
-      inside = ltb-false _ _ (inside .0);
-      right = rw is (right .0);
-      header = ap (λ (x : HeaderAnswer). x .header) is;
-      next = ap (λ (x : HeaderAnswer). x .next) is;
-    }
+header-form edition s p h e =
+    let value = stepped (valueAt (edition .types) (p / 8) s (p + 1)) _ h e in
+    let form = value-form (edition .types) (p / 8) s (p + 1) (value .value) (value .was) in
+    let right = cond-kept (rightData edition (value .value .value) (bitAt s p)) (refusalAt (p / 8) wrongData) _ h (value .gave) in
+    let is : h ≡ record { header = record { kind = value .value .value; present = bitAt s p }; next = value .value .next }
+    = cc (right .1) in
+    rw is (record { inside = form .inside; known = form .known; right = right .0 })
 
 pub record SizeForm (s : List ℕ) (n : ℕ) : Type 0 where
   pub inside : n + 2 ≤ length s
@@ -124,30 +153,25 @@ size-form s n e =
     record { inside = omega arith; few = omega arith; is = is }
 
 -- what a field that reads is: one of these two
-pub data FieldForm (s : List ℕ) (p : Place) (f : FieldAnswer) : Type 0 where
-  bare : (k : ℕ) → headerAt s p ≡ done (record { header = record { kind = k; present = false }; next = p + headerWidth })
-      → f ≡ record { field = record { kind = k; start = 0; size = 0 }; next = p + headerWidth } → FieldForm s p f
-  full : (k at n : ℕ) → headerAt s p ≡ done (record { header = record { kind = k; present = true }; next = p + headerWidth })
-      → edgeAt s (p + headerWidth) ≡ done at → sizeAt (drop at s) ≡ done n
-      → f ≡ record { field = record { kind = k; start = at + 2; size = n }; next = 8 * (at + 2 + n) } → FieldForm s p f
+pub data FieldForm (edition : Edition) (s : List ℕ) (p : Place) (f : FieldAnswer) : Type 0 where
+  bare : (k : ℕ) (q : Place) → headerAt edition s p ≡ done (record { header = record { kind = k; present = false }; next = q })
+      → f ≡ record { field = record { kind = k; start = 0; size = 0 }; next = q } → FieldForm edition s p f
+  full : (k : ℕ) (q : Place) (at n : ℕ) → headerAt edition s p ≡ done (record { header = record { kind = k; present = true }; next = q })
+      → edgeAt s q ≡ done at → sizeAt (drop at s) ≡ done n
+      → f ≡ record { field = record { kind = k; start = at + 2; size = n }; next = 8 * (at + 2 + n) } → FieldForm edition s p f
 
-after-form : (s : List ℕ) (p : Place) (k : ℕ) (b : Bool) (f : FieldAnswer)
-    → headerAt s p ≡ done (record { header = record { kind = k; present = b }; next = p + headerWidth })
-    → afterHeader s (record { header = record { kind = k; present = b }; next = p + headerWidth }) ≡ done f → FieldForm s p f
-unfolding afterHeader
-after-form s p k true f head e =
-    let at = stepped (edgeAt s (p + headerWidth)) _ f e in
-    let n = stepped (readFrom (at .value) (sizeAt (drop (at .value) s))) _ f (at .gave) in
-    full k (at .value) (n .value) head (at .was) (from-done (at .value) _ _ (n .was)) (cc (n .gave))
-after-form s p k false f head e = bare k head (cc)
+module _ (edition : Edition) (s : List ℕ) (p : Place) (f : FieldAnswer) where
+  after-form : (k : ℕ) (b : Bool) (q : Place) → headerAt edition s p ≡ done (record { header = record { kind = k; present = b }; next = q })
+      → afterHeader s (record { header = record { kind = k; present = b }; next = q }) ≡ done f → FieldForm edition s p f
+  unfolding afterHeader
+  after-form k true q head e =
+      let at = stepped (edgeAt s q) _ f e in
+      let n = stepped (readFrom (at .value) (sizeAt (drop (at .value) s))) _ f (at .gave) in
+      full k q (at .value) (n .value) head (at .was) (from-done (at .value) _ _ (n .was)) (cc (n .gave))
+  after-form k false q head e = bare k q head (cc)
 
-pub field-form : (s : List ℕ) (p : Place) (f : FieldAnswer) → fieldAt s p ≡ done f → FieldForm s p f
-unfolding fieldAt
-field-form s p f e =
-    let h = stepped (headerAt s p) (afterHeader s) f e in
-    let form = header-form s p (h .value) (h .was) in
-    let k = h .value .header .kind in
-    let b = h .value .header .present in
-    let is : h .value ≡ record { header = record { kind = k; present = b }; next = p + headerWidth } = ap
-    (λ (n : ℕ). record { header = h .value .header; next = n }) (form .next) in
-    after-form s p k b f (h .was ∙ ap (λ (x : HeaderAnswer). done x) is) (ap (λ (x : HeaderAnswer). afterHeader s x) (sym is) ∙ h .gave)
+  pub field-form : fieldAt edition s p ≡ done f → FieldForm edition s p f
+  unfolding fieldAt
+  field-form e =
+      let h = stepped (headerAt edition s p) (afterHeader s) f e in
+      after-form (h .value .header .kind) (h .value .header .present) (h .value .next) (h .was) (h .gave)

@@ -6,7 +6,7 @@ use mathlib.Core.Bool.{cond}
 use mathlib.Core.List.{List, [], _++_, map}
 use lib.ListN.{length, getD, replicate}
 use lib.Dec.{ltb}
-use Rattle.lengths.specs.Answers.{done}
+use Rattle.lengths.specs.Answers.{Answer, done}
 use Rattle.lengths.specs.Claims.{Octets}
 use Rattle.datagrams.specs.Sizes.{packetLimit}
 use Rattle.packets.specs.Edition.{Edition, SoundEdition, edition98, edition02}
@@ -97,9 +97,7 @@ PlainAlike = (ending : Ending) (s : List ℕ) (p : PacketAnswer)
 
 -- two outcomes that a promise allows are equal
 pub record OneOutcome : Type 0 where
-  pub read : {edition : Edition} {ending : Ending} {s : List ℕ} {r q : PacketRead} → PacketTold edition ending s r
-      → PacketTold edition ending s q
-      → r ≡ q
+  pub read : {due : Answer PacketAnswer} {r q : PacketRead} → PacketTold due r → PacketTold due q → r ≡ q
 
 -- of every edition whose values can be told apart, as those of both can
 pub record Claims : Type 0 where

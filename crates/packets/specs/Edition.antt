@@ -4,16 +4,15 @@ use Prim.Native.Nat.{ℕ, _+_, _^_, _≤_, _<_}
 use mathlib.Core.Path.{_≡_}
 use mathlib.Core.Bool.{Bool, true, false, not, cond}
 use lib.Dec.{ltb, eqb}
+use Rattle.lengths.specs.Refusals.{wrongSettings}
+use Rattle.lengths.specs.Answers.{Answer, refuse}
+use Rattle.packets.specs.declared.types.Choice.{Choice}
+use Rattle.packets.specs.declared.types.Choice.the-variants as choice
+pub use Rattle.packets.specs.declared.types.Enumerated.{Enumerated}
 use Rattle.packets.specs.declared.types.Kind.{Kind}
 use Rattle.packets.specs.declared.types.Kind.the-variants.{Indicator, Data}
-
--- an ENUMERATED type: whether it has an extension mark `...`, in how many bits a value before it stands, how many values stand before
--- it, and how many were added after it
-pub record Enumerated : Type 0 where
-  pub extensible : Bool
-  pub width : ℕ
-  pub assigned : ℕ
-  pub added : ℕ
+use Rattle.packets.specs.declared.types.Named.{Named}
+use Rattle.packets.specs.declared.types.Named.the-variants.{Old, New}
 
 -- how many values it has, from 0 on: "numbered on after the old"
 abbrev pub many : Enumerated → ℕ
@@ -94,3 +93,19 @@ edition02 = record {
   types = record { extensible = true; width = 3; assigned = 8; added = 4 };
   rule = carries;
 }
+
+-- "The caller names the edition, old or new, at each packet read or written": by the octet 0 or 1
+abbrev pub editionOf : Named → Edition
+editionOf Old = edition98
+editionOf New = edition02
+
+abbrev pub choiceOf : ℕ → Choice
+choiceOf octet = cond (eqb octet 0) (choice.Edition Old) (cond (eqb octet 1) (choice.Edition New) choice.Neither)
+
+-- "15 for another edition, first"
+abbrev pub ofChoice : {A : Type 0} → Choice → (Edition → Answer A) → Answer A
+ofChoice (choice.Edition named) answer = answer (editionOf named)
+ofChoice choice.Neither answer = refuse wrongSettings
+
+abbrev pub byEdition : {A : Type 0} → ℕ → (Edition → Answer A) → Answer A
+byEdition octet answer = ofChoice (choiceOf octet) answer

@@ -5,10 +5,8 @@ use mathlib.Core.Path.{_≡_}
 use mathlib.Core.List.{List, [], _++_}
 use lib.ListN.{length, take, replicate}
 use Rattle.lengths.specs.Answers.{Answer, done, refused}
-use Rattle.packets.specs.Edition.{Edition}
-use Rattle.packets.specs.Packet.{fieldsLimit, noField, PacketAnswer, readPacket}
+use Rattle.packets.specs.Packet.{fieldsLimit, noField, PacketAnswer}
 use Rattle.packets.specs.declared.types.Field.{Field}
-use Rattle.packets.specs.declared.types.Ending.{Ending}
 use Rattle.packets.specs.declared.types.Reading.{Reading}
 use Rattle.packets.specs.declared.types.Reading.the-variants as reading
 use Rattle.packets.specs.declared.types.PacketRead.{PacketRead}
@@ -30,7 +28,7 @@ abbrev pub packetRead : Answer PacketAnswer → PacketRead
 packetRead (done p) = record { reading = reading.Packet (p .kind) (p .value) (length (p .fields)); fields = padded (p .fields) }
 packetRead (refused r) = record { reading = reading.Refused r; fields = padded [] }
 
--- what `packet_reader::read` owes of the octets s, by an edition: its outcome, and the whole of what it hands back
-pub record PacketTold (edition : Edition) (ending : Ending) (s : List ℕ) (r : PacketRead) : Type 0 where
-  pub answer : packetOutcome r ≡ readPacket edition ending s
-  pub whole : r ≡ packetRead (readPacket edition ending s)
+-- what a reading of a packet owes, whose answer is known: its outcome, and the whole of what it hands back
+pub record PacketTold (due : Answer PacketAnswer) (r : PacketRead) : Type 0 where
+  pub answer : packetOutcome r ≡ due
+  pub whole : r ≡ packetRead due

@@ -1,7 +1,7 @@
 // Document 01, 'The packet': what a packet is to those who read and write it.
 use lengths::Refusal;
 ghost use mathlib.Core.Path.{_≡_};
-ghost use Rattle.packets.specs.Edition.{edition98};
+ghost use Rattle.packets.specs.Edition.{edition02};
 ghost use Rattle.packets.specs.Packet.{fieldsLeast, fieldsLimit, typesLimit};
 
 // A packet is an indicator or data.
@@ -10,13 +10,35 @@ pub enum Kind {
     Data,
 }
 
+// An ENUMERATED type of the ASN.1: whether it has an extension mark `...`, in how many bits a value before it stands, how many values
+// stand before it, and how many were added after it.
+pub struct Enumerated {
+    pub extensible: bool,
+    pub width: usize,
+    pub assigned: usize,
+    pub added: usize,
+}
+
+// The edition of the ASN.1 that a caller names: that of 06/98, or that of 2002.
+pub enum Named {
+    Old,
+    New,
+}
+
+// What an octet names: an edition, or none.
+pub enum Choice {
+    Edition(Named),
+    Neither,
+}
+
 // How a packet came: received or as a spare it is whole, and ends at its last field; repaired it may go on with zeros.
 pub enum Ending {
     Whole,
     Repaired,
 }
 
-// A field of a packet: its type, 0 to 7, and its data as a part of the packet. Without data its size is 0, and so is start.
+// A field of a packet: its type, 0 to 7 or 0 to 11 by edition, and its data as a part of the packet. Without data its size is 0, and so
+// is start.
 pub struct Field {
     pub kind: u8,
     pub start: usize,
@@ -28,8 +50,8 @@ impl Field {
 
     pub const LIMIT: usize = 16;
 
-    // The highest field type.
-    pub const TYPES: u8 = 7;
+    // The highest field type, that of the newer edition.
+    pub const TYPES: u8 = 11;
 
     pub fn least() -> usize
         ensures { λ r. ⌜ r ≡ fieldsLeast ⌝ }
@@ -44,7 +66,7 @@ impl Field {
     }
 
     pub fn types_limit() -> u8
-        ensures { λ r. ⌜ r ≡ typesLimit edition98 ⌝ }
+        ensures { λ r. ⌜ r ≡ typesLimit edition02 ⌝ }
     {
         Field::TYPES
     }

@@ -9,11 +9,12 @@ use Rattle.lengths.specs.declared.Refusal.{Refusal}
 use Rattle.formats.specs.Reading.{Finding, found, stopped, andThen}
 use Rattle.formats.specs.Reading as reading
 use Rattle.formats.specs.Places.{Place}
-use Rattle.packets.specs.Edition.{edition98}
+use Rattle.packets.specs.Edition.{editionOf}
 use Rattle.packets.specs.Packet.{Content, fieldOf, fieldsLimit}
 use Rattle.packets.specs.Packet as description
 use Rattle.packets.specs.Promise.{padded}
 use Rattle.packets.specs.declared.types.Field.{Field}
+use Rattle.packets.specs.declared.types.Named.{Named}
 use Rattle.packet_reader.proofs.Laws.{set-padded}
 use Rattle.pencil_reader.specs.Bits.{foundAs}
 use Rattle.pencil_reader.specs.Items.{CountTaken}
@@ -38,42 +39,43 @@ after-after pre more (found l p) = ap (λ (k : List Field). found k p) (sym (app
 after-after pre more (stopped r) = refl
 
 -- one field more, and those that follow it
-fields-step : (n : ℕ) (s : List ℕ) (i p : ℕ) (f : Field) (q : ℕ) → fieldFound s i p ≡ found f q
-    → fieldsFound (suc n) s i p ≡ after (f ∷ []) (fieldsFound n s i q)
+fields-step : (named : Named) (n : ℕ) (s : List ℕ) (i p : ℕ) (f : Field) (q : ℕ) → fieldFound named s i p ≡ found f q
+    → fieldsFound named (suc n) s i p ≡ after (f ∷ []) (fieldsFound named n s i q)
 unfolding reading.sequenceOf
-fields-step n s i p f q is = by (description.field edition98 .read s i p) refl is where
+fields-step named n s i p f q is = by (description.field (editionOf named) .read s i p) refl is where
   more : (c : Content) (y : Finding (List Content))
       → foundAs (map fieldOf) (andThen {B = List Content} y (λ l z. found (c ∷ l) z)) ≡ after (fieldOf c ∷ []) (foundAs (map fieldOf) y)
   more c (found l z) = refl
   more c (stopped r) = refl
 
-  by : (x : Finding Content) → description.field edition98 .read s i p ≡ x → foundAs fieldOf x ≡ found f q
-      → fieldsFound (suc n) s i p ≡ after (f ∷ []) (fieldsFound n s i q)
+  by : (x : Finding Content) → description.field (editionOf named) .read s i p ≡ x → foundAs fieldOf x ≡ found f q
+      → fieldsFound named (suc n) s i p ≡ after (f ∷ []) (fieldsFound named n s i q)
   by (found c z) e same =
       let one : fieldOf c ≡ f = cc in
       let at : z ≡ q = cc in
-      rw e (more c (reading.sequenceOf n (description.field edition98 .read) s i z))
-      ∙ ap₂ (λ (g : Field) (k : ℕ). after (g ∷ []) (fieldsFound n s i k)) one at
+      rw e (more c (reading.sequenceOf n (description.field (editionOf named) .read) s i z))
+      ∙ ap₂ (λ (g : Field) (k : ℕ). after (g ∷ []) (fieldsFound named n s i k)) one at
   by (stopped r) e same = let z : _≡_ {A = ℕ} 0 1 = cc in absurd (omega arith)
 
-fields-stop : (n : ℕ) (s : List ℕ) (i p : ℕ) (x : Refusal) → fieldFound s i p ≡ stopped x → fieldsFound (suc n) s i p ≡ stopped x
+fields-stop : (named : Named) (n : ℕ) (s : List ℕ) (i p : ℕ) (x : Refusal) → fieldFound named s i p ≡ stopped x
+    → fieldsFound named (suc n) s i p ≡ stopped x
 unfolding reading.sequenceOf
-fields-stop n s i p x is = by (description.field edition98 .read s i p) refl is where
-  by : (y : Finding Content) → description.field edition98 .read s i p ≡ y → foundAs fieldOf y ≡ stopped x
-      → fieldsFound (suc n) s i p ≡ stopped x
+fields-stop named n s i p x is = by (description.field (editionOf named) .read s i p) refl is where
+  by : (y : Finding Content) → description.field (editionOf named) .read s i p ≡ y → foundAs fieldOf y ≡ stopped x
+      → fieldsFound named (suc n) s i p ≡ stopped x
   by (found c z) e same = let z : _≡_ {A = ℕ} 0 1 = cc in absurd (omega arith)
   by (stopped r) e same = let why : r ≡ x = cc in rw e (ap (λ (k : Refusal). stopped k) why)
 
 -- ---- the loop
-pub record Going (s : List ℕ) (from : Place) (count : ℕ) (fields : List Field) (p k : ℕ) : Type 0 where
+pub record Going (named : Named) (s : List ℕ) (from : Place) (count : ℕ) (fields : List Field) (p k : ℕ) : Type 0 where
   pub few : k ≤ count
   pub pre : List Field
   pub has : length pre ≡ k
   pub here : fields ≡ padded pre
-  pub whole : (i : ℕ) → fieldsFound count s i from ≡ after pre (fieldsFound (count - k) s i p)
+  pub whole : (i : ℕ) → fieldsFound named count s i from ≡ after pre (fieldsFound named (count - k) s i p)
 
-module _ {s : List ℕ} {from : Place} {count : ℕ} where
-  pub going-start : {fields : List Field} → fields ≡ padded [] → Going s from count fields from 0
+module _ {named : Named} {s : List ℕ} {from : Place} {count : ℕ} where
+  pub going-start : {fields : List Field} → fields ≡ padded [] → Going named s from count fields from 0
   going-start here =
       let all : count ≡ count - 0 = omega arith in
       record {
@@ -81,39 +83,39 @@ module _ {s : List ℕ} {from : Place} {count : ℕ} where
         pre = [];
         has = refl;
         here = here;
-        whole = λ i. after-none (fieldsFound count s i from) ∙ ap (λ (n : ℕ). after [] (fieldsFound n s i from)) all;
+        whole = λ i. after-none (fieldsFound named count s i from) ∙ ap (λ (n : ℕ). after [] (fieldsFound named n s i from)) all;
       }
 
-  module _ {fields : List Field} {p k : ℕ} (g : Going s from count fields p k) where
-    pub going-done : count ≤ k → SequenceTaken count s from (record { all = all.Found count p; fields = fields })
+  module _ {fields : List Field} {p k : ℕ} (g : Going named s from count fields p k) where
+    pub going-done : count ≤ k → SequenceTaken named count s from (record { all = all.Found count p; fields = fields })
     unfolding reading.sequenceOf
     going-done none =
         let left : count - k ≡ 0 = omega arith in
         let many : length (g .pre) ≡ count = g .has ∙ omega (arith, g .few) in
-        let is : (i : ℕ) → fieldsFound count s i from ≡ found (g .pre) p
-        = λ i. g .whole i ∙ ap (λ (n : ℕ). after (g .pre) (fieldsFound n s i p)) left
+        let is : (i : ℕ) → fieldsFound named count s i from ≡ found (g .pre) p
+        = λ i. g .whole i ∙ ap (λ (n : ℕ). after (g .pre) (fieldsFound named n s i p)) left
         ∙ ap (λ (l : List Field). found l p) (append-nil (g .pre)) in
         record { answer = λ i. rw (is i, many, ← g .here) }
 
-    module _ {r : One} (more : k < count) (told : FieldTaken s p r) where
+    module _ {r : One} (more : k < count) (told : FieldTaken named s p r) where
       -- the field that is taken now, and those after it
-      next-of : (i : ℕ) → fieldsFound count s i from ≡ after (g .pre) (fieldsFound (suc (count - (k + 1))) s i p)
+      next-of : (i : ℕ) → fieldsFound named count s i from ≡ after (g .pre) (fieldsFound named (suc (count - (k + 1))) s i p)
       next-of i =
           let left : count - k ≡ suc (count - (k + 1)) = omega arith in
-          g .whole i ∙ ap (λ (n : ℕ). after (g .pre) (fieldsFound n s i p)) left
+          g .whole i ∙ ap (λ (n : ℕ). after (g .pre) (fieldsFound named n s i p)) left
 
       pub going-refused : {x : Refusal} {none : Fields} → r ≡ one.Refused x → none ≡ fieldsTaken (stopped x)
-          → SequenceTaken count s from none
+          → SequenceTaken named count s from none
       going-refused {x} is refused =
           record {
             answer =
                 λ i.
                 refused
                 ∙ ap fieldsTaken
-                (sym (next-of i ∙ ap (after (g .pre)) (fields-stop (count - (k + 1)) s i p x (told .answer i ∙ ap oneFound is))));
+                (sym (next-of i ∙ ap (after (g .pre)) (fields-stop named (count - (k + 1)) s i p x (told .answer i ∙ ap oneFound is))));
           }
 
-      pub going-turn : {f : Field} {q : ℕ} → count ≤ fieldsLimit → r ≡ one.Found f q → Going s from count (set fields k f) q (k + 1)
+      pub going-turn : {f : Field} {q : ℕ} → count ≤ fieldsLimit → r ≡ one.Found f q → Going named s from count (set fields k f) q (k + 1)
       going-turn {f} {q} limit is =
           record {
             few = omega arith;
@@ -123,8 +125,8 @@ module _ {s : List ℕ} {from : Place} {count : ℕ} where
             whole =
                 λ i.
                 next-of i
-                ∙ ap (after (g .pre)) (fields-step (count - (k + 1)) s i p f q (told .answer i ∙ ap oneFound is))
-                ∙ after-after (g .pre) (f ∷ []) (fieldsFound (count - (k + 1)) s i q);
+                ∙ ap (after (g .pre)) (fields-step named (count - (k + 1)) s i p f q (told .answer i ∙ ap oneFound is))
+                ∙ after-after (g .pre) (f ∷ []) (fieldsFound named (count - (k + 1)) s i q);
           }
 
 pub ruleset goings = (going-start, going-turn, going-refused, going-done)
@@ -137,20 +139,20 @@ behind-count : (n : ℕ) (x : Finding (List Content))
 behind-count n (found l z) = refl
 behind-count n (stopped r) = refl
 
-module _ {s : List ℕ} {p : Place} {n : Number} (told : CountTaken s p n) where
-  pub fields-refused : {x : Refusal} {none : Fields} → n ≡ number.Refused x → none ≡ fieldsTaken (stopped x) → FieldsTaken s p none
+module _ {named : Named} {s : List ℕ} {p : Place} {n : Number} (told : CountTaken s p n) where
+  pub fields-refused : {x : Refusal} {none : Fields} → n ≡ number.Refused x → none ≡ fieldsTaken (stopped x) → FieldsTaken named s p none
   unfolding description.dataField
   fields-refused is refused = record { answer = λ i. rw (told .answer i, is) refused }
 
   module _ {k q : ℕ} (is : n ≡ number.Found k q) where
-    pub fields-few : k ≤ fieldsLimit
-    fields-few = let low : k < 1 + fieldsLimit = rw is at (told .small) in omega arith
-
-    pub fields-read : {r : Fields} → SequenceTaken k s q r → FieldsTaken s p r
+    pub fields-read : {r : Fields} → SequenceTaken named k s q r → FieldsTaken named s p r
     unfolding description.dataField
     fields-read all =
-        let is : (i : ℕ) → foundAs (map fieldOf) (description.dataField edition98 .read s i p) ≡ fieldsFound k s i q
-        = λ i. rw (told .answer i, is) (behind-count k (reading.sequenceOf k (description.field edition98 .read) s i q)) in
+        let is : (i : ℕ) → foundAs (map fieldOf) (description.dataField (editionOf named) .read s i p) ≡ fieldsFound named k s i q
+        = λ i. rw (told .answer i, is) (behind-count k (reading.sequenceOf k (description.field (editionOf named) .read) s i q)) in
         record { answer = λ i. all .answer i ∙ ap fieldsTaken (sym (is i)) }
+
+pub fields-few : {s : List ℕ} {p : Place} {n : Number} {k q : ℕ} → CountTaken s p n → n ≡ number.Found k q → k ≤ fieldsLimit
+fields-few {k = k} told is = let low : k < 1 + fieldsLimit = rw is at (told .small) in omega arith
 
 pub ruleset counted = (fields-refused, fields-few, fields-read)

@@ -15,16 +15,18 @@ use Rattle.formats.specs.Reading.{Finding, found, stopped}
 use Rattle.formats.specs.Format.{known}
 use Rattle.formats.specs.Places.{Place}
 use Rattle.datagrams.specs.Sizes.{packetLimit}
-use Rattle.packets.specs.Edition.{edition98}
+use Rattle.packets.specs.Edition.{editionOf}
 use Rattle.packets.specs.Packet.{Content, fieldOf, PacketAnswer, mayFollow, readPacket}
 use Rattle.packets.specs.Packet as description
-use Rattle.packets.specs.Promise.{PacketTold, packetOutcome, packetRead, padded}
+use Rattle.packets.specs.Promise.{packetOutcome, packetRead, padded}
 use Rattle.packets.proofs.Laws.{rest, rest-is, read-outcome}
 use Rattle.packets.specs.declared.types.Kind.{Kind}
 use Rattle.packets.specs.declared.types.Ending.{Ending}
 use Rattle.packets.specs.declared.types.Field.{Field}
+use Rattle.packets.specs.declared.types.Named.{Named}
 use Rattle.packets.specs.declared.types.PacketRead.{PacketRead}
 use Rattle.packets.specs.declared.types.Reading.the-variants as reading
+use Rattle.packet_reader.specs.Items.{NamedTold}
 use Rattle.pencil_reader.specs.Bits.{EdgeTaken, foundAs}
 use Rattle.pencil_reader.specs.Items.{OctetTaken}
 use Rattle.pencil_reader.specs.Fields.{fieldsTaken, FieldsTaken}
@@ -37,19 +39,20 @@ use Rattle.pencil_reader.specs.declared.packet.First as declared
 use Rattle.pencil_reader.specs.declared.packet.First.the-variants as first
 
 -- ---- the data field, if there is one
-module _ {s : List ℕ} {p : Place} {b : Bool} where
-  pub after-data : {r : Fields} → b ≡ true → FieldsTaken s p r → AfterTaken b s p r
+module _ {named : Named} {s : List ℕ} {p : Place} {b : Bool} where
+  pub after-data : {r : Fields} → b ≡ true → FieldsTaken named s p r → AfterTaken named b s p r
   after-data is told = record { answer = λ i. rw is (told .answer i) }
 
-  pub after-none : {none : List Field} → b ≡ false → none ≡ padded [] → AfterTaken b s p (record { all = all.Found 0 p; fields = none })
+  pub after-none : {none : List Field} → b ≡ false → none ≡ padded []
+      → AfterTaken named b s p (record { all = all.Found 0 p; fields = none })
   after-none is none = record { answer = λ i. rw (is, none) }
 
 pub ruleset optionals = (after-data, after-none)
 
 -- ---- the packet
 -- the data field as the description reads it
-abbrev after : Bool → List ℕ → Place → Finding (List Content)
-after b s p = (cond b (description.dataField edition98) (known [])) .read s 0 p
+abbrev after : Named → Bool → List ℕ → Place → Finding (List Content)
+after named b s p = (cond b (description.dataField (editionOf named)) (known [])) .read s 0 p
 
 -- contents that were found, from the answer
 record Contents (x : Finding (List Content)) (n : ℕ) (p : Place) (fields : List Field) : Type 0 where
@@ -58,10 +61,11 @@ record Contents (x : Finding (List Content)) (n : ℕ) (p : Place) (fields : Lis
   many : n ≡ length (map fieldOf contents)
   here : fields ≡ padded (map fieldOf contents)
 
-module _ {b : Bool} {s : List ℕ} {p : Place} {r : Fields} (told : AfterTaken b s p r) where
-  contents-of : {n q : ℕ} → r .all ≡ all.Found n q → Contents (after b s p) n q (r .fields)
-  contents-of {n} {q} is = by (after b s p) refl (told .answer 0) where
-    by : (x : Finding (List Content)) → after b s p ≡ x → r ≡ fieldsTaken (foundAs (map fieldOf) x) → Contents (after b s p) n q (r .fields)
+module _ {named : Named} {b : Bool} {s : List ℕ} {p : Place} {r : Fields} (told : AfterTaken named b s p r) where
+  contents-of : {n q : ℕ} → r .all ≡ all.Found n q → Contents (after named b s p) n q (r .fields)
+  contents-of {n} {q} is = by (after named b s p) refl (told .answer 0) where
+    by : (x : Finding (List Content)) → after named b s p ≡ x → r ≡ fieldsTaken (foundAs (map fieldOf) x)
+        → Contents (after named b s p) n q (r .fields)
     by (found contents z) e whole =
         let same : all.Found (length (map fieldOf contents)) z ≡ all.Found n q = sym (ap (λ (y : Fields). y .all) whole) ∙ is in
         let at : z ≡ q = cc in
@@ -77,9 +81,9 @@ module _ {b : Bool} {s : List ℕ} {p : Place} {r : Fields} (told : AfterTaken b
         let z : _≡_ {A = ℕ} 0 1 = cc in
         absurd (omega arith)
 
-  after-stopped : {x : Refusal} → r .all ≡ all.Refused x → after b s p ≡ stopped x
-  after-stopped {x} is = by (after b s p) refl (told .answer 0) where
-    by : (y : Finding (List Content)) → after b s p ≡ y → r ≡ fieldsTaken (foundAs (map fieldOf) y) → after b s p ≡ stopped x
+  after-stopped : {x : Refusal} → r .all ≡ all.Refused x → after named b s p ≡ stopped x
+  after-stopped {x} is = by (after named b s p) refl (told .answer 0) where
+    by : (y : Finding (List Content)) → after named b s p ≡ y → r ≡ fieldsTaken (foundAs (map fieldOf) y) → after named b s p ≡ stopped x
     by (found contents z) e whole =
         let same : all.Found (length (map fieldOf contents)) z ≡ all.Refused x = sym (ap (λ (y : Fields). y .all) whole) ∙ is in
         let z : _≡_ {A = ℕ} 0 1 = cc in
@@ -94,29 +98,29 @@ follows : (e : Ending) {s : List ℕ} {p : Place} {from : ℕ} {t : Bool} → Oc
     → mayFollow e (drop (p / 8) s) ≡ t
 follows e {s} {p} {from} octet test = ap (mayFollow e) (sym (octet .rest) ∙ sym (rest-is from s)) ∙ sym test
 
-module _ {e : Ending} {s : List ℕ} where
-  told-of : {r : PacketRead} (x : Answer PacketAnswer) → readPacket edition98 e s ≡ x → r ≡ packetRead x → PacketTold edition98 e s r
+module _ {named : Named} {e : Ending} {s : List ℕ} where
+  told-of : {r : PacketRead} (x : Answer PacketAnswer) → readPacket (editionOf named) e s ≡ x → r ≡ packetRead x → NamedTold named e s r
   told-of x is image =
-      record { answer = ap packetOutcome image ∙ read-outcome x ∙ sym is; whole = image ∙ ap packetRead (sym is) }
+      record { told = record { answer = ap packetOutcome image ∙ read-outcome x ∙ sym is; whole = image ∙ ap packetRead (sym is) } }
 
   pub packet-over : {x : Refusal} {r : PacketRead} → packetLimit < length s → RefusalMade outsideSizes x → r ≡ packetRead (refused x)
-      → PacketTold edition98 e s r
+      → NamedTold named e s r
   unfolding readPacket
   packet-over {x} over made = told-of (refused x) (rw (lt-ltb packetLimit (length s) over, made .answer))
 
-  module _ {f : declared.First} (fits : length s ≤ packetLimit) (told : StartTaken s 0 f) where
-    pub packet-start : {x : Refusal} {r : PacketRead} → f ≡ first.Refused x → r ≡ packetRead (refused x) → PacketTold edition98 e s r
+  module _ {f : declared.First} (fits : length s ≤ packetLimit) (told : StartTaken named s 0 f) where
+    pub packet-start : {x : Refusal} {r : PacketRead} → f ≡ first.Refused x → r ≡ packetRead (refused x) → NamedTold named e s r
     unfolding readPacket description.wholePacket description.packet
     packet-start {x} is = told-of (refused x) (rw (le-ltb packetLimit (length s) fits, told .answer 0, is))
 
-    module _ {k : Kind} {v q : ℕ} {b : Bool} {g : Fields} (is : f ≡ first.Found k v b q) (fields : AfterTaken b s q g) where
-      pub packet-fields : {x : Refusal} {r : PacketRead} → g .all ≡ all.Refused x → r ≡ packetRead (refused x) → PacketTold edition98 e s r
+    module _ {k : Kind} {v q : ℕ} {b : Bool} {g : Fields} (is : f ≡ first.Found k v b q) (fields : AfterTaken named b s q g) where
+      pub packet-fields : {x : Refusal} {r : PacketRead} → g .all ≡ all.Refused x → r ≡ packetRead (refused x) → NamedTold named e s r
       unfolding readPacket description.wholePacket description.packet
       packet-fields {x} why =
           told-of (refused x) (rw (le-ltb packetLimit (length s) fits, told .answer 0, is, after-stopped fields why))
 
       module _ {n m : ℕ} {d : Edge} (read : g .all ≡ all.Found n m) (aligned : EdgeTaken s m d) where
-        pub packet-edge : {x : Refusal} {r : PacketRead} → d ≡ edge.Refused x → r ≡ packetRead (refused x) → PacketTold edition98 e s r
+        pub packet-edge : {x : Refusal} {r : PacketRead} → d ≡ edge.Refused x → r ≡ packetRead (refused x) → NamedTold named e s r
         unfolding readPacket description.wholePacket description.packet
         packet-edge {x} why =
             let c = contents-of fields read in
@@ -126,7 +130,7 @@ module _ {e : Ending} {s : List ℕ} where
         module _ {z from : ℕ} {t : Bool} (on : d ≡ edge.Found z) (octet : OctetTaken s z from)
             (test : t ≡ mayFollow e (rest from s)) where
           pub packet-left : {x : Refusal} {r : PacketRead} → t ≡ false → RefusalPlaced leftOver (z / 8) x → r ≡ packetRead (refused x)
-              → PacketTold edition98 e s r
+              → NamedTold named e s r
           unfolding readPacket description.wholePacket description.packet
           packet-left {x} not-so made =
               let c = contents-of fields read in
@@ -134,7 +138,7 @@ module _ {e : Ending} {s : List ℕ} where
               told-of (refused x)
               (rw (le-ltb packetLimit (length s) fits, told .answer 0, is, c .was, aligned .answer 0, on, may, made .answer))
 
-          pub packet-read : t ≡ true → PacketTold edition98 e s (record { reading = reading.Packet k v n; fields = g .fields })
+          pub packet-read : t ≡ true → NamedTold named e s (record { reading = reading.Packet k v n; fields = g .fields })
           unfolding readPacket description.wholePacket description.packet
           packet-read so =
               let c = contents-of fields read in

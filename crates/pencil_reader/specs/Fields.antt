@@ -6,11 +6,12 @@ use lib.ListN.{length}
 use Rattle.formats.specs.Reading.{Finding, found, stopped}
 use Rattle.formats.specs.Reading as reading
 use Rattle.formats.specs.Places.{Place}
-use Rattle.packets.specs.Edition.{edition98}
+use Rattle.packets.specs.Edition.{editionOf}
 use Rattle.packets.specs.Packet.{fieldOf}
 use Rattle.packets.specs.Packet as description
 use Rattle.packets.specs.Promise.{padded}
 use Rattle.packets.specs.declared.types.Field.{Field}
+use Rattle.packets.specs.declared.types.Named.{Named}
 use Rattle.pencil_reader.specs.Bits.{foundAs}
 use Rattle.pencil_reader.specs.declared.fields.HeaderRead.{HeaderRead}
 use Rattle.pencil_reader.specs.declared.fields.HeaderRead.the-variants as header
@@ -24,31 +25,31 @@ headerFound (header.Found k b p) = found (record { kind = k; present = b }) p
 headerFound (header.Refused r) = stopped r
 
 -- the item that begins with it
-pub record HeaderTaken (s : List ℕ) (p : Place) (r : HeaderRead) : Type 0 where
-  pub answer : description.header edition98 .read s (p / 8) p ≡ headerFound r
+pub record HeaderTaken (named : Named) (s : List ℕ) (p : Place) (r : HeaderRead) : Type 0 where
+  pub answer : description.header (editionOf named) .read s (p / 8) p ≡ headerFound r
 
 -- a field, told by where its data begins and how long it is
 abbrev pub oneFound : One → Finding Field
 oneFound (one.Found f p) = found f p
 oneFound (one.Refused r) = stopped r
 
-abbrev pub fieldFound : List ℕ → ℕ → Place → Finding Field
-fieldFound s i p = foundAs fieldOf (description.field edition98 .read s i p)
+abbrev pub fieldFound : Named → List ℕ → ℕ → Place → Finding Field
+fieldFound named s i p = foundAs fieldOf (description.field (editionOf named) .read s i p)
 
-pub record FieldTaken (s : List ℕ) (p : Place) (r : One) : Type 0 where
-  pub answer : (i : ℕ) → fieldFound s i p ≡ oneFound r
+pub record FieldTaken (named : Named) (s : List ℕ) (p : Place) (r : One) : Type 0 where
+  pub answer : (i : ℕ) → fieldFound named s i p ≡ oneFound r
 
 -- so many fields
-abbrev pub fieldsFound : ℕ → List ℕ → ℕ → Place → Finding (List Field)
-fieldsFound n s i p = foundAs (map fieldOf) (reading.sequenceOf n (description.field edition98 .read) s i p)
+abbrev pub fieldsFound : Named → ℕ → List ℕ → ℕ → Place → Finding (List Field)
+fieldsFound named n s i p = foundAs (map fieldOf) (reading.sequenceOf n (description.field (editionOf named) .read) s i p)
 
 -- fields that were found stand in the places that there are, one after the other; those of a refused packet are all zero
 abbrev pub fieldsTaken : Finding (List Field) → Fields
 fieldsTaken (found fields p) = record { all = all.Found (length fields) p; fields = padded fields }
 fieldsTaken (stopped r) = record { all = all.Refused r; fields = padded [] }
 
-pub record SequenceTaken (n : ℕ) (s : List ℕ) (p : Place) (r : Fields) : Type 0 where
-  pub answer : (i : ℕ) → r ≡ fieldsTaken (fieldsFound n s i p)
+pub record SequenceTaken (named : Named) (n : ℕ) (s : List ℕ) (p : Place) (r : Fields) : Type 0 where
+  pub answer : (i : ℕ) → r ≡ fieldsTaken (fieldsFound named n s i p)
 
-pub record FieldsTaken (s : List ℕ) (p : Place) (r : Fields) : Type 0 where
-  pub answer : (i : ℕ) → r ≡ fieldsTaken (foundAs (map fieldOf) (description.dataField edition98 .read s i p))
+pub record FieldsTaken (named : Named) (s : List ℕ) (p : Place) (r : Fields) : Type 0 where
+  pub answer : (i : ℕ) → r ≡ fieldsTaken (foundAs (map fieldOf) (description.dataField (editionOf named) .read s i p))

@@ -1,34 +1,52 @@
 -- What the readers of Annex A's small productions owe: what the description finds there. Definitions only.
 use Prim.Native.Nat.{ℕ, _+_, _/_, _%_, _≤_, _<_}
 use mathlib.Core.Path.{_≡_}
-use mathlib.Core.Bool.{Bool}
 use mathlib.Core.List.{List}
 use lib.ListN.{length, drop}
+use lib.Dec.{ltb}
+use Rattle.lengths.specs.Refusals.{notAssigned}
 use Rattle.formats.specs.Reading.{Finding, found, stopped}
 use Rattle.formats.specs.Places.{Place}
+use Rattle.formats.specs.Format.{Format, bits, guarded}
 use Rattle.datagrams.specs.Sizes.{packetLimit}
-use Rattle.packets.specs.Edition.{Enumerated}
+use Rattle.packets.specs.Edition.{many, addedWidth}
 use Rattle.packets.specs.Packet.{fieldsLimit}
 use Rattle.packets.specs.Packet as description
+use Rattle.packets.specs.declared.types.Enumerated.{Enumerated}
 use Rattle.pencil_reader.specs.Bits.{numberFound, foundAs}
 use Rattle.pencil_reader.specs.declared.bits.Number.{Number}
 use Rattle.pencil_reader.specs.declared.bits.Number.the-variants as number
 use Rattle.pencil_reader.specs.declared.items.Part.{Part}
 use Rattle.pencil_reader.specs.declared.items.Part.the-variants as part
 
--- an ENUMERATED type to which no value was added
-abbrev pub enumeratedOf : Bool → ℕ → ℕ → Enumerated
-enumeratedOf extensible width assigned = record { extensible = extensible; width = width; assigned = assigned; added = 0 }
-
 -- a number that was found lies below a limit
 abbrev pub Below : ℕ → Number → Type 0
 Below limit (number.Found v p) = v < limit
 Below limit (number.Refused r) = Unit {0}
 
--- a value, which is one of those that are assigned
+-- a value before the extension mark
+pub record RootTaken (e : Enumerated) (s : List ℕ) (i : ℕ) (p : Place) (r : Number) : Type 0 where
+  pub answer : description.root e .read s i p ≡ numberFound r
+  pub small : Below (many e) r
+
+-- which of the added values, in their six bits
+abbrev pub six : Enumerated → Format ℕ
+six e = guarded notAssigned (λ v. ltb v (e .added)) (bits addedWidth)
+
+-- an added value, from them on
+pub record AddedTaken (e : Enumerated) (s : List ℕ) (i : ℕ) (p : Place) (r : Number) : Type 0 where
+  pub answer : foundAs (λ v. e .assigned + v) (six e .read s i p) ≡ numberFound r
+  pub small : Below (many e) r
+
+-- and from behind the bit for extension
+pub record AdditionTaken (e : Enumerated) (s : List ℕ) (i : ℕ) (p : Place) (r : Number) : Type 0 where
+  pub answer : description.addition e .read s i p ≡ numberFound r
+  pub small : Below (many e) r
+
+-- a value, which is one of those that there are
 pub record ValueTaken (e : Enumerated) (s : List ℕ) (i : ℕ) (p : Place) (r : Number) : Type 0 where
   pub answer : description.enumerated e .read s i p ≡ numberFound r
-  pub small : Below (e .assigned) r
+  pub small : Below (many e) r
 
 -- the octet at a place, past the end the end: what stands from there on is the same
 pub record OctetTaken (s : List ℕ) (p : Place) (r : ℕ) : Type 0 where

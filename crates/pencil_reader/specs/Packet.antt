@@ -1,5 +1,5 @@
 -- What the readers of a packet's start owe: what the description finds there. What `read` owes is the quick reader's own promise,
--- `PacketTold`. Definitions only.
+-- `PacketTold`, and by one edition its `NamedTold`. Definitions only.
 use Prim.Native.Nat.{ℕ}
 use mathlib.Core.Path.{_≡_}
 use mathlib.Core.Bool.{Bool, cond}
@@ -7,9 +7,10 @@ use mathlib.Core.List.{List, [], map}
 use Rattle.formats.specs.Reading.{Finding, found, stopped}
 use Rattle.formats.specs.Format.{known}
 use Rattle.formats.specs.Places.{Place}
-use Rattle.packets.specs.Edition.{edition98, values}
+use Rattle.packets.specs.Edition.{editionOf, values}
 use Rattle.packets.specs.Packet.{First, chosen, fieldOf}
 use Rattle.packets.specs.Packet as description
+use Rattle.packets.specs.declared.types.Named.{Named}
 use Rattle.pencil_reader.specs.Bits.{foundAs}
 use Rattle.pencil_reader.specs.Fields.{fieldsTaken}
 use Rattle.pencil_reader.specs.declared.fields.Fields.{Fields}
@@ -24,16 +25,17 @@ firstFound (first.Refused r) = stopped r
 abbrev pub firstWith : Bool → Bool → ℕ → First
 firstWith present isData v = record { kind = chosen isData; value = v; present = present }
 
-pub record ChosenTaken (present isData : Bool) (s : List ℕ) (i : ℕ) (p : Place) (r : declared.First) : Type 0 where
-  pub answer : foundAs (firstWith present isData) (description.enumerated (values edition98 (chosen isData)) .read s i p)
+pub record ChosenTaken (named : Named) (present isData : Bool) (s : List ℕ) (i : ℕ) (p : Place) (r : declared.First) : Type 0 where
+  pub answer : foundAs (firstWith present isData) (description.enumerated (values (editionOf named) (chosen isData)) .read s i p)
       ≡ firstFound r
 
-pub record TypeTaken (s : List ℕ) (i : ℕ) (p : Place) (r : declared.First) : Type 0 where
-  pub answer : description.typeOfMsg edition98 .read s i p ≡ firstFound r
+pub record TypeTaken (named : Named) (s : List ℕ) (i : ℕ) (p : Place) (r : declared.First) : Type 0 where
+  pub answer : description.typeOfMsg (editionOf named) .read s i p ≡ firstFound r
 
-pub record StartTaken (s : List ℕ) (p : Place) (r : declared.First) : Type 0 where
-  pub answer : (i : ℕ) → description.start edition98 .read s i p ≡ firstFound r
+pub record StartTaken (named : Named) (s : List ℕ) (p : Place) (r : declared.First) : Type 0 where
+  pub answer : (i : ℕ) → description.start (editionOf named) .read s i p ≡ firstFound r
 
 -- the data field, if there is one
-pub record AfterTaken (present : Bool) (s : List ℕ) (p : Place) (r : Fields) : Type 0 where
-  pub answer : (i : ℕ) → r ≡ fieldsTaken (foundAs (map fieldOf) ((cond present (description.dataField edition98) (known [])) .read s i p))
+pub record AfterTaken (named : Named) (present : Bool) (s : List ℕ) (p : Place) (r : Fields) : Type 0 where
+  pub answer : (i : ℕ)
+      → r ≡ fieldsTaken (foundAs (map fieldOf) ((cond present (description.dataField (editionOf named)) (known [])) .read s i p))

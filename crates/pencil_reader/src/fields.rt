@@ -9,6 +9,7 @@ use crate::items::field_type;
 use lengths::Refusal;
 use packet_reader::no_fields;
 use packets::Field;
+use packets::Named;
 ghost use mathlib.Core.Path.{_≡_};
 ghost use Prim.Native.Nat.{_≤_};
 ghost use lib.ListN.{length};
@@ -41,15 +42,15 @@ pub struct Fields {
     pub fields: [Field; Field::LIMIT],
 }
 
-// The bit for field-data OPTIONAL, and the field type: one item.
-pub fn header(s: &[u8], at: usize) -> HeaderRead
+// The bit for field-data OPTIONAL, and the field type: one item. Both editions carry data by one rule.
+pub fn header(named: Named, s: &[u8], at: usize) -> HeaderRead
     requires { ⌜ length (now s) ≤ packetLimit ⌝ }
-    ensures { λ r. ⌜ HeaderTaken (now (s .entry)) at r ⌝ }
+    ensures { λ r. ⌜ HeaderTaken named (now (s .entry)) at r ⌝ }
 {
     let item = at / 8;
     match flag(s, item, at) {
         Marked::Refused(refusal) => HeaderRead::Refused(refusal),
-        Marked::Found(present, next) => match field_type(s, item, next) {
+        Marked::Found(present, next) => match field_type(named, s, item, next) {
             Number::Refused(refusal) => HeaderRead::Refused(refusal),
             Number::Found(kind, end) => {
                 let small = (kind % 256) as u8;
@@ -63,11 +64,11 @@ pub fn header(s: &[u8], at: usize) -> HeaderRead
 }
 
 // SEQUENCE { field-type, field-data OPTIONAL }
-pub fn field(s: &[u8], at: usize) -> One
+pub fn field(named: Named, s: &[u8], at: usize) -> One
     requires { ⌜ length (now s) ≤ packetLimit ⌝ }
-    ensures { λ r. ⌜ FieldTaken (now (s .entry)) at r ⌝ }
+    ensures { λ r. ⌜ FieldTaken named (now (s .entry)) at r ⌝ }
 {
-    match header(s, at) {
+    match header(named, s, at) {
         HeaderRead::Refused(refusal) => One::Refused(refusal),
         HeaderRead::Found(kind, present, next) => {
             if !present {
@@ -100,15 +101,15 @@ fn refused(refusal: Refusal) -> Fields
 }
 
 // SEQUENCE OF: so many fields, one after the other.
-fn sequence(s: &[u8], from: usize, count: usize) -> Fields
+fn sequence(named: Named, s: &[u8], from: usize, count: usize) -> Fields
     requires { ⌜ (length (now s) ≤ packetLimit) × (count ≤ fieldsLimit) ⌝ }
-    ensures { λ r. ⌜ SequenceTaken count (now (s .entry)) from r ⌝ }
+    ensures { λ r. ⌜ SequenceTaken named count (now (s .entry)) from r ⌝ }
 {
     let mut fields = no_fields();
     let mut at = from;
     let mut i: usize = 0;
     while i < count {
-        match field(s, at) {
+        match field(named, s, at) {
             One::Refused(refusal) => {
                 return refused(refusal);
             }
@@ -126,12 +127,12 @@ fn sequence(s: &[u8], from: usize, count: usize) -> Fields
 }
 
 // Data-Field: the count of fields, and the fields.
-pub fn data_field(s: &[u8], at: usize) -> Fields
+pub fn data_field(named: Named, s: &[u8], at: usize) -> Fields
     requires { ⌜ length (now s) ≤ packetLimit ⌝ }
-    ensures { λ r. ⌜ FieldsTaken (now (s .entry)) at r ⌝ }
+    ensures { λ r. ⌜ FieldsTaken named (now (s .entry)) at r ⌝ }
 {
     match count(s, at) {
         Number::Refused(refusal) => refused(refusal),
-        Number::Found(n, next) => sequence(s, next, n),
+        Number::Found(n, next) => sequence(named, s, next, n),
     }
 }

@@ -9,13 +9,20 @@ use datagrams::Packet;
 use lengths::Length;
 use lengths::Refusal;
 use lengths::wide;
+use packets::Enumerated;
 use packets::Field;
-ghost use mathlib.Core.Bool.{true, false};
+use packets::Kind;
+use packets::Named;
 ghost use Prim.Native.Nat.{_≤_};
 ghost use lib.ListN.{length};
 ghost use Rattle.datagrams.specs.Sizes.{packetLimit};
-ghost use Rattle.packets.specs.Edition.{edition98};
-ghost use Rattle.pencil_reader.specs.Items.{ValueTaken, OctetTaken, CountTaken, SizeTaken, PartTaken, enumeratedOf};
+ghost use Rattle.packets.specs.Edition.{editionOf};
+ghost use Rattle.packets.specs.Inner.Octets.{Narrow};
+ghost use Rattle.pencil_reader.specs.Items.{RootTaken, AddedTaken, AdditionTaken, ValueTaken};
+ghost use Rattle.pencil_reader.specs.Items.{OctetTaken, CountTaken, SizeTaken, PartTaken};
+
+// In how many bits an added value is told.
+const ADDED_WIDTH: usize = 6;
 
 // Where a field's data begins, how many octets it has, and the place after it.
 pub enum Part {
@@ -23,15 +30,15 @@ pub enum Part {
     Refused(Refusal),
 }
 
-// A value before the extension mark, in so many bits.
-fn root(s: &[u8], item: usize, at: usize, width: usize, assigned: usize) -> Number
-    requires { ⌜ (length (now s) ≤ packetLimit) × (width ≤ 16) ⌝ }
-    ensures { λ r. ⌜ ValueTaken (enumeratedOf false width assigned) (now (s .entry)) item at r ⌝ }
+// One of the values before the extension mark, in as many bits as they have.
+fn root(s: &[u8], item: usize, at: usize, values: Enumerated) -> Number
+    requires { ⌜ (length (now s) ≤ packetLimit) × Narrow values ⌝ }
+    ensures { λ r. ⌜ RootTaken values (now (s .entry)) item at r ⌝ }
 {
-    match bits(s, item, at, width) {
+    match bits(s, item, at, values.width) {
         Number::Refused(refusal) => Number::Refused(refusal),
         Number::Found(value, next) => {
-            if value < assigned {
+            if value < values.assigned {
                 return Number::Found(value, next);
             }
             Number::Refused(Refusal::at(Refusal::NOT_ASSIGNED, item))
@@ -39,44 +46,90 @@ fn root(s: &[u8], item: usize, at: usize, width: usize, assigned: usize) -> Numb
     }
 }
 
-// A value with the bit for extension before it. In this edition none was added after the mark.
-fn marked(s: &[u8], item: usize, at: usize, width: usize, assigned: usize) -> Number
-    requires { ⌜ (length (now s) ≤ packetLimit) × (width ≤ 16) ⌝ }
-    ensures { λ r. ⌜ ValueTaken (enumeratedOf true width assigned) (now (s .entry)) item at r ⌝ }
+// Which of the added values, in six bits counted from zero.
+fn counted(s: &[u8], item: usize, at: usize, values: Enumerated) -> Number
+    requires { ⌜ (length (now s) ≤ packetLimit) × Narrow values ⌝ }
+    ensures { λ r. ⌜ AddedTaken values (now (s .entry)) item at r ⌝ }
 {
-    match flag(s, item, at) {
-        Marked::Refused(refusal) => Number::Refused(refusal),
-        Marked::Found(extended, next) => {
-            if extended {
-                return Number::Refused(Refusal::at(Refusal::NOT_ASSIGNED, item));
+    match bits(s, item, at, ADDED_WIDTH) {
+        Number::Refused(refusal) => Number::Refused(refusal),
+        Number::Found(which, next) => {
+            if which < values.added {
+                let value = values.assigned + which;
+                return Number::Found(value, next);
             }
-            root(s, item, next, width, assigned)
+            Number::Refused(Refusal::at(Refusal::NOT_ASSIGNED, item))
         }
     }
 }
 
-// T30-indicator ::= ENUMERATED { no-signal, .. v17-14400-long-training, ... }
-pub fn t30_indicator(s: &[u8], item: usize, at: usize) -> Number
-    requires { ⌜ length (now s) ≤ packetLimit ⌝ }
-    ensures { λ r. ⌜ ValueTaken (edition98 .indicators) (now (s .entry)) item at r ⌝ }
+// One of the values added after the extension mark, if there are any, behind the 1 bit for extension: one 0 bit, then which of them.
+fn addition(s: &[u8], item: usize, at: usize, values: Enumerated) -> Number
+    requires { ⌜ (length (now s) ≤ packetLimit) × Narrow values ⌝ }
+    ensures { λ r. ⌜ AdditionTaken values (now (s .entry)) item at r ⌝ }
 {
-    marked(s, item, at, 4, 16)
+    if values.added == 0 {
+        return Number::Refused(Refusal::at(Refusal::NOT_ASSIGNED, item));
+    }
+    match flag(s, item, at) {
+        Marked::Refused(refusal) => Number::Refused(refusal),
+        Marked::Found(large, next) => {
+            if large {
+                return Number::Refused(Refusal::at(Refusal::NOT_ASSIGNED, item));
+            }
+            counted(s, item, next, values)
+        }
+    }
 }
 
-// T30-data ::= ENUMERATED { v21, .. v17-14400, ... }
-pub fn t30_data(s: &[u8], item: usize, at: usize) -> Number
-    requires { ⌜ length (now s) ≤ packetLimit ⌝ }
-    ensures { λ r. ⌜ ValueTaken (edition98 .kinds) (now (s .entry)) item at r ⌝ }
+// ENUMERATED { .., ..., .. }: where there is an extension mark, the bit for extension; then a value before the mark or after it.
+fn enumerated(s: &[u8], item: usize, at: usize, values: Enumerated) -> Number
+    requires { ⌜ (length (now s) ≤ packetLimit) × Narrow values ⌝ }
+    ensures { λ r. ⌜ ValueTaken values (now (s .entry)) item at r ⌝ }
 {
-    marked(s, item, at, 4, 9)
+    if !values.extensible {
+        return root(s, item, at, values);
+    }
+    match flag(s, item, at) {
+        Marked::Refused(refusal) => Number::Refused(refusal),
+        Marked::Found(extended, next) => {
+            if extended {
+                return addition(s, item, next, values);
+            }
+            root(s, item, next, values)
+        }
+    }
 }
 
-// field-type ENUMERATED { hdlc-data, .. t4-non-ecm-sig-end }
-pub fn field_type(s: &[u8], item: usize, at: usize) -> Number
+// 06/98: t30-indicator ENUMERATED { no-signal, .. v17-14400-long-training, ... }
+// 2002:  t30-indicator ENUMERATED { no-signal, .. v17-14400-long-training, ..., v8-ansam, v8-signal, v34-cntl-channel-1200,
+//            v34-pri-channel, v34-CC-retrain, v33-12000-training, v33-14400-training }
+pub fn t30_indicator(named: Named, s: &[u8], item: usize, at: usize) -> Number
     requires { ⌜ length (now s) ≤ packetLimit ⌝ }
-    ensures { λ r. ⌜ ValueTaken (edition98 .types) (now (s .entry)) item at r ⌝ }
+    ensures { λ r. ⌜ ValueTaken (editionOf named .indicators) (now (s .entry)) item at r ⌝ }
 {
-    root(s, item, at, 3, 8)
+    let values = packet_rules::values(named, Kind::Indicator);
+    enumerated(s, item, at, values)
+}
+
+// 06/98: data ENUMERATED { v21, .. v17-14400, ... }
+// 2002:  t30-data ENUMERATED { v21, .. v17-14400, ..., v8, v34-pri-rate, v34-CC-1200, v34-pri-ch, v33-12000, v33-14400 }
+pub fn t30_data(named: Named, s: &[u8], item: usize, at: usize) -> Number
+    requires { ⌜ length (now s) ≤ packetLimit ⌝ }
+    ensures { λ r. ⌜ ValueTaken (editionOf named .kinds) (now (s .entry)) item at r ⌝ }
+{
+    let values = packet_rules::values(named, Kind::Data);
+    enumerated(s, item, at, values)
+}
+
+// 06/98: field-type ENUMERATED { hdlc-data, .. t4-non-ecm-sig-end }
+// 2002:  field-type ENUMERATED { hdlc-data, .. t4-non-ecm-sig-end, ..., cm-message, jm-message, ci-message, v34rate }
+pub fn field_type(named: Named, s: &[u8], item: usize, at: usize) -> Number
+    requires { ⌜ length (now s) ≤ packetLimit ⌝ }
+    ensures { λ r. ⌜ ValueTaken (editionOf named .types) (now (s .entry)) item at r ⌝ }
+{
+    let values = packet_rules::types(named);
+    enumerated(s, item, at, values)
 }
 
 // The octet at a place; past the end, the end.

@@ -14,15 +14,20 @@ use datagrams::Packet;
 use lengths::Refusal;
 use packet_reader::may_follow;
 use packet_reader::no_fields;
+use packet_rules::choice_of;
+use packets::Choice;
 use packets::Ending;
 use packets::Kind;
+use packets::Named;
 use packets::PacketRead;
 use packets::Reading;
 ghost use Prim.Native.Nat.{_≤_};
 ghost use lib.ListN.{length};
 ghost use Rattle.datagrams.specs.Sizes.{packetLimit};
-ghost use Rattle.packets.specs.Edition.{edition98};
+ghost use Rattle.packets.specs.Edition.{byEdition};
+ghost use Rattle.packets.specs.Packet.{readPacket};
 ghost use Rattle.packets.specs.Promise.{PacketTold};
+ghost use Rattle.packet_reader.specs.Items.{NamedTold};
 ghost use Rattle.pencil_reader.specs.Packet.{ChosenTaken, TypeTaken, StartTaken, AfterTaken};
 
 // A packet's kind and value, whether it has a data field, and the place after them.
@@ -31,13 +36,14 @@ pub enum First {
     Refused(Refusal),
 }
 
-// CHOICE { t30-indicator T30-indicator, data T30-data }: the one that was chosen.
-fn chosen(s: &[u8], item: usize, at: usize, present: bool, is_data: bool) -> First
+// 06/98: CHOICE { t30-indicator ENUMERATED .., data ENUMERATED .. }: the one that was chosen.
+// 2002:  CHOICE { t30-indicator ENUMERATED .., t30-data ENUMERATED .. }
+fn chosen(named: Named, s: &[u8], item: usize, at: usize, present: bool, is_data: bool) -> First
     requires { ⌜ length (now s) ≤ packetLimit ⌝ }
-    ensures { λ r. ⌜ ChosenTaken present «is_data» (now (s .entry)) item at r ⌝ }
+    ensures { λ r. ⌜ ChosenTaken named present «is_data» (now (s .entry)) item at r ⌝ }
 {
     if is_data {
-        return match t30_data(s, item, at) {
+        return match t30_data(named, s, item, at) {
             Number::Refused(refusal) => First::Refused(refusal),
             Number::Found(value, next) => {
                 let small = (value % 256) as u8;
@@ -45,7 +51,7 @@ fn chosen(s: &[u8], item: usize, at: usize, present: bool, is_data: bool) -> Fir
             }
         };
     }
-    match t30_indicator(s, item, at) {
+    match t30_indicator(named, s, item, at) {
         Number::Refused(refusal) => First::Refused(refusal),
         Number::Found(value, next) => {
             let small = (value % 256) as u8;
@@ -55,26 +61,26 @@ fn chosen(s: &[u8], item: usize, at: usize, present: bool, is_data: bool) -> Fir
 }
 
 // The bit for data-field OPTIONAL, and the Type-of-msg.
-pub fn type_of_msg(s: &[u8], item: usize, at: usize) -> First
+pub fn type_of_msg(named: Named, s: &[u8], item: usize, at: usize) -> First
     requires { ⌜ length (now s) ≤ packetLimit ⌝ }
-    ensures { λ r. ⌜ TypeTaken (now (s .entry)) item at r ⌝ }
+    ensures { λ r. ⌜ TypeTaken named (now (s .entry)) item at r ⌝ }
 {
     match flag(s, item, at) {
         Marked::Refused(refusal) => First::Refused(refusal),
         Marked::Found(present, next) => match flag(s, item, next) {
             Marked::Refused(refusal) => First::Refused(refusal),
-            Marked::Found(is_data, value_at) => chosen(s, item, value_at, present, is_data),
+            Marked::Found(is_data, value_at) => chosen(named, s, item, value_at, present, is_data),
         },
     }
 }
 
 // The start of a packet: its type, zero bits to an octet edge, and no data field on an indicator.
-pub fn start(s: &[u8], at: usize) -> First
+pub fn start(named: Named, s: &[u8], at: usize) -> First
     requires { ⌜ length (now s) ≤ packetLimit ⌝ }
-    ensures { λ r. ⌜ StartTaken (now (s .entry)) at r ⌝ }
+    ensures { λ r. ⌜ StartTaken named (now (s .entry)) at r ⌝ }
 {
     let item = at / 8;
-    match type_of_msg(s, item, at) {
+    match type_of_msg(named, s, item, at) {
         First::Refused(refusal) => First::Refused(refusal),
         First::Found(kind, value, present, next) => match align(s, next) {
             Edge::Refused(refusal) => First::Refused(refusal),
@@ -89,12 +95,12 @@ pub fn start(s: &[u8], at: usize) -> First
 }
 
 // data-field Data-Field OPTIONAL
-fn optional(s: &[u8], at: usize, present: bool) -> Fields
+fn optional(named: Named, s: &[u8], at: usize, present: bool) -> Fields
     requires { ⌜ length (now s) ≤ packetLimit ⌝ }
-    ensures { λ r. ⌜ AfterTaken present (now (s .entry)) at r ⌝ }
+    ensures { λ r. ⌜ AfterTaken named present (now (s .entry)) at r ⌝ }
 {
     if present {
-        return data_field(s, at);
+        return data_field(named, s, at);
     }
     let fields = no_fields();
     Fields {
@@ -103,17 +109,17 @@ fn optional(s: &[u8], at: usize, present: bool) -> Fields
     }
 }
 
-// A packet's kind, value and fields, or the first refusal in reading order.
-pub fn read(s: &[u8], ending: Ending) -> PacketRead
-    ensures { λ r. ⌜ PacketTold edition98 ending (now (s .entry)) r ⌝ }
+// A packet of this edition: its kind, value and fields, or the first refusal in reading order.
+fn read_named(named: Named, s: &[u8], ending: Ending) -> PacketRead
+    ensures { λ r. ⌜ NamedTold named ending (now (s .entry)) r ⌝ }
 {
     if Packet::LIMIT < s.len() {
         return packet_reader::refused(Refusal::new(Refusal::OUTSIDE_SIZES));
     }
-    match start(s, 0) {
+    match start(named, s, 0) {
         First::Refused(refusal) => packet_reader::refused(refusal),
         First::Found(kind, value, present, at) => {
-            let found = optional(s, at, present);
+            let found = optional(named, s, at, present);
             let all = found.all;
             match all {
                 All::Refused(refusal) => packet_reader::refused(refusal),
@@ -133,5 +139,15 @@ pub fn read(s: &[u8], ending: Ending) -> PacketRead
                 },
             }
         }
+    }
+}
+
+// A packet of the edition that an octet names, 0 that of 06/98 and 1 that of 2002; another octet is refused first.
+pub fn read(edition: u8, s: &[u8], ending: Ending) -> PacketRead
+    ensures { λ r. ⌜ PacketTold (byEdition edition (λ e. readPacket e ending (now (s .entry)))) r ⌝ }
+{
+    match choice_of(edition) {
+        Choice::Neither => packet_reader::refused(Refusal::new(Refusal::WRONG_SETTINGS)),
+        Choice::Edition(named) => read_named(named, s, ending),
     }
 }

@@ -3,7 +3,7 @@ use Prim.Native.Nat.{ℕ}
 use mathlib.Core.Path.{_≡_, refl, sym, ap, _∙_}
 use mathlib.Core.Bool.{Bool, true, false, cond}
 use Rattle.lengths.specs.Refusals.{refusalAt}
-use Rattle.lengths.specs.Answers.{Answer, done, refused, refuse, refuseAt, readFrom, _>>=_}
+use Rattle.lengths.specs.Answers.{Answer, done, refused, refuse, refuseAt, readFrom, _>>=_, mapped}
 use Rattle.lengths.proofs.Laws.{AtFront}
 use Rattle.unplaced.specs.Forgetting.{forgetting, Forgets}
 
@@ -27,6 +27,21 @@ pub forget-bind : {A B : Type 0} {m n : Answer A} {f g : A → Answer B} → For
     → Forgets (_>>=_ m f) (_>>=_ n g)
 forget-bind {m = m} {f = f} {g} first next =
     record { same = bind-same m f g next ∙ ap (λ (a : Answer _). _>>=_ a g) (first .same) }
+
+-- a step whose value is told in another way
+mapped-bind : {A B C : Type 0} (to : A → B) (m : Answer A) (f : B → Answer C) → _>>=_ (mapped to m) f ≡ _>>=_ m (λ a. f (to a))
+mapped-bind to (done a) f = refl
+mapped-bind to (refused why) f = refl
+
+pub forget-mapped : {A B C : Type 0} (to : A → B) (f : B → Answer C) {k : Answer B} {m n : Answer A} {g : A → Answer C} → k ≡ mapped to m
+    → Forgets m n → ((a : A) → Forgets (f (to a)) (g a)) → Forgets (_>>=_ k f) (_>>=_ n g)
+forget-mapped {A} {B} {C} to f {m = m} {g = g} is first next =
+    record {
+      same =
+          ap (λ (a : Answer C). forgetting a) (ap (λ (a : Answer B). _>>=_ a f) is ∙ mapped-bind to m f)
+          ∙ bind-same m (λ a. f (to a)) g next
+          ∙ ap (λ (a : Answer A). _>>=_ a g) (first .same);
+    }
 
 -- wherever it is read from
 from-same : {A : Type 0} (start : ℕ) (m : Answer A) → forgetting (readFrom start m) ≡ forgetting m

@@ -1,4 +1,5 @@
 mod Forgetting
 mod Datagram
+mod FourBits
 mod Packet
 pub mod Claims

@@ -16,20 +16,24 @@ use Rattle.packets.specs.Edition.{edition98}
 use Rattle.packets.specs.Packet.{First, PacketAnswer, rightData, rightFields, assigned, fieldsLeast, fieldsLimit, mayFollow}
 use Rattle.packets.specs.Packet.{readPacket}
 use Rattle.packets.specs.Inner.Octets as today
-use Rattle.packets.specs.Inner.Octets.{isSet, firstOf, headerOf, headerWidth, Count, HeaderAnswer, FieldAnswer, FieldsAnswer}
+use Rattle.packets.specs.Inner.Octets.{Count, HeaderAnswer, FieldAnswer, FieldsAnswer}
 use Rattle.packets.specs.declared.types.Ending.{Ending}
-use Rattle.packets.proofs.Laws.{read-at}
+use Rattle.packets.specs.declared.types.Named.the-variants.{Old}
+use Rattle.packets.proofs.Laws.{narrow, read-at}
 use Rattle.unplaced.specs.Forgetting.{forgetting, Forgets}
 use Rattle.unplaced.specs.PacketBefore as before
-use Rattle.unplaced.proofs.Forgetting.{forget-done, forget-refusal, forget-cond, forget-bind, forget-from, forget-front}
+use Rattle.unplaced.specs.PacketBefore.{isSet, firstOf, headerOf, headerWidth}
+use Rattle.unplaced.proofs.Forgetting.{forget-done, forget-refusal, forget-cond, forget-bind, forget-mapped, forget-from}
+use Rattle.unplaced.proofs.Forgetting.{forget-front}
+use Rattle.unplaced.proofs.FourBits.{withEdge, first-then, headerThen, header-was}
 
 module _ (s : List ℕ) where
   edge-same : (p : Place) → Forgets (places.edgeAt s p) (before.edgeAt s p)
   unfolding places.edgeAt before.edgeAt
   edge-same p = forget-cond (ltb 0 (getD s (p / 8) 0 % 2 ^ gap p)) (forget-refusal (p / 8) spareBit) (forget-done _)
 
-  first-same : Forgets (today.firstAt s) (today.firstAt s)
-  unfolding today.firstAt
+  first-same : Forgets (before.firstAt s) (before.firstAt s)
+  unfolding before.firstAt
   first-same =
       let first = firstOf (getD s 0 0) in
       forget-cond (ltb (length s) 1) (forget-refusal 0 endsEarly)
@@ -38,19 +42,22 @@ module _ (s : List ℕ) where
       (forget-cond (ltb 0 (getD s 0 0 % 2)) (forget-refusal 0 spareBit)
       (forget-cond (rightFields (first .kind) (first .present)) (forget-done _) (forget-refusal 0 wrongData)))))
 
-  count-same : (present : Bool) → Forgets (today.countAt s present) (before.countAt s present)
+  count-same : (present : Bool) → Forgets (today.countAt s 1 present) (before.countAt s present)
   unfolding today.countAt before.countAt
   count-same present =
       forget-cond present
       (forget-bind (forget-from 1 (forget-front (within-front fieldsLeast fieldsLimit (drop 1 s)))) (λ (n : LengthAnswer). forget-done _))
       (forget-done _)
 
-  header-same : (p : Place) → Forgets (today.headerAt s p) (before.headerAt s p)
-  unfolding today.headerAt before.headerAt
-  header-same p =
+  then-same : (p : Place) → Forgets (headerThen s p) (before.headerAt s p)
+  unfolding headerThen before.headerAt
+  then-same p =
       let header = headerOf (bitsAt headerWidth s p) in
       forget-cond (ltb (8 * length s) (p + headerWidth)) (forget-refusal (p / 8) endsEarly)
       (forget-cond (rightData edition98 (header .kind) (header .present)) (forget-done _) (forget-refusal (p / 8) wrongData))
+
+  header-same : (p : Place) → Forgets (today.headerAt edition98 s p) (before.headerAt s p)
+  header-same p = record { same = ap (λ (a : Answer HeaderAnswer). forgetting a) (header-was s p) ∙ then-same p .same }
 
 size-same : (s : List ℕ) → Forgets (today.sizeAt s) (before.sizeAt s)
 unfolding today.sizeAt before.sizeAt
@@ -69,11 +76,11 @@ module _ (s : List ℕ) where
       (λ (at : ℕ). forget-bind (forget-from at (size-same (drop at s))) (λ (size : ℕ). forget-done _)))
       (forget-done _)
 
-  field-same : (p : Place) → Forgets (today.fieldAt s p) (before.fieldAt s p)
+  field-same : (p : Place) → Forgets (today.fieldAt edition98 s p) (before.fieldAt s p)
   unfolding today.fieldAt before.fieldAt
   field-same p = forget-bind (header-same s p) (λ (h : HeaderAnswer). after-same h)
 
-  fields-same : (count : ℕ) (p : Place) → Forgets (today.fieldsAt count s p) (before.fieldsAt count s p)
+  fields-same : (count : ℕ) (p : Place) → Forgets (today.fieldsAt edition98 count s p) (before.fieldsAt count s p)
   unfolding today.fieldsAt before.fieldsAt
   fields-same zero p = forget-done _
   fields-same (suc n) p =
@@ -85,16 +92,16 @@ module _ (s : List ℕ) where
   end-same ending p a =
       forget-bind (edge-same s p) (λ (at : ℕ). forget-cond (mayFollow ending (drop at s)) (forget-done a) (forget-refusal at leftOver))
 
-  octets-same : (ending : Ending) → Forgets (today.packetByOctets ending s) (before.readPacket ending s)
+  octets-same : (ending : Ending) → Forgets (today.packetByOctets edition98 ending s) (before.readPacket ending s)
   unfolding today.packetByOctets before.readPacket
   octets-same ending =
       forget-cond (ltb packetLimit (length s)) (forget-refusal 0 outsideSizes)
-      (forget-bind (first-same s)
+      (forget-mapped withEdge _ (first-then s) (first-same s)
       (λ (first : First). forget-bind (count-same s (first .present))
       (λ (count : Count). forget-bind (fields-same (count .value) (count .next))
       (λ (all : FieldsAnswer). end-same ending (all .next) _))))
 
   pub packet-same : (ending : Ending) → Forgets (readPacket edition98 ending s) (before.readPacket ending s)
   packet-same ending =
-      let said : readPacket edition98 ending s ≡ today.packetByOctets ending s = read-at ending s in
+      let said : readPacket edition98 ending s ≡ today.packetByOctets edition98 ending s = read-at edition98 (narrow Old) ending s in
       record { same = ap (λ (a : Answer PacketAnswer). forgetting a) said ∙ octets-same ending .same }

@@ -1,21 +1,54 @@
--- The packet reader's definition, octet by octet, as it was before document 02's request 5, word for word where it has changed since; the
--- pieces that have not are today's. It was proved then to be what the description of a packet reads, and so is today's (`packets`,
--- `read-at`). Every refusal is a number alone. Definitions only.
+-- The packet reader's definition, octet by octet, as it was before document 02's request 5, word for word where it has changed since, by
+-- that request or by request 11, which named another edition; the pieces that have not are today's. It was proved then to be what the
+-- description of a packet reads, and so is today's (`packets`, `read-at`). Every refusal is a number alone. Definitions only.
 use Prim.Native.Nat.{ℕ, zero, suc, _+_, _-_, _*_, _/_, _%_, _^_}
 use mathlib.Core.Bool.{Bool, cond}
 use mathlib.Core.List.{List, [], _∷_}
 use lib.ListN.{length, getD, drop}
-use lib.Dec.{ltb}
-use Rattle.lengths.specs.Refusals.{endsEarly, outsideSizes, spareBit, leftOver, wrongData}
+use lib.Dec.{leb, ltb}
+use Rattle.lengths.specs.Refusals.{endsEarly, outsideSizes, spareBit, leftOver, notAssigned, wrongData}
 use Rattle.lengths.specs.Answers.{Answer, done, refuse, _>>=_}
 use Rattle.lengths.specs.Length.{lengthWithin}
 use Rattle.formats.specs.Spelling.{gap}
 use Rattle.formats.specs.Places.{Place, bitsAt, edge}
 use Rattle.datagrams.specs.Sizes.{packetLimit}
 use Rattle.packets.specs.Edition.{edition98}
-use Rattle.packets.specs.Packet.{PacketAnswer, rightData, fieldsLeast, fieldsLimit, mayFollow}
-use Rattle.packets.specs.Inner.Octets.{headerOf, firstAt, Count, headerWidth, HeaderAnswer, FieldAnswer, FieldsAnswer}
+use Rattle.packets.specs.Packet.{First, Header, PacketAnswer, assigned, rightFields, rightData, fieldsLeast, fieldsLimit, mayFollow}
+use Rattle.packets.specs.Inner.Octets.{Count, HeaderAnswer, FieldAnswer, FieldsAnswer}
+use Rattle.packets.specs.declared.types.Kind.{Kind}
+use Rattle.packets.specs.declared.types.Kind.the-variants.{Indicator, Data}
 use Rattle.packets.specs.declared.types.Ending.{Ending}
+
+-- ---- an octet's bits
+-- whether the bit of an octet is set that stands k places above the lowest
+abbrev pub isSet : ℕ → ℕ → Bool
+isSet k octet = ltb 0 (octet / 2 ^ k % 2)
+
+-- what a first octet says
+abbrev pub kindOf : ℕ → Kind
+kindOf octet = cond (isSet 6 octet) Data Indicator
+
+abbrev pub firstOf : ℕ → First
+firstOf octet = record { kind = kindOf octet; value = octet / 2 % 16; present = isSet 7 octet }
+
+-- "without an extension it takes four bits": what the four bits of a header say, one for data present, three for the field type
+abbrev pub headerWidth : ℕ
+headerWidth = 4
+
+abbrev pub headerOf : ℕ → Header
+headerOf bits = record { kind = bits % 8; present = isSet 3 bits }
+
+-- ---- the items
+-- "in the first octet extension 12, value 12, spare bit 5, indicator with data 14"
+unfoldable pub firstAt : List ℕ → Answer First
+firstAt s =
+    let octet = getD s 0 0 in
+    let first = firstOf (getD s 0 0) in
+    cond (ltb (length s) 1) (refuse endsEarly)
+    (cond (isSet 5 octet) (refuse notAssigned)
+    (cond (leb (assigned edition98 (first .kind)) (first .value)) (refuse notAssigned)
+    (cond (ltb 0 (octet % 2)) (refuse spareBit)
+    (cond (rightFields (first .kind) (first .present)) (done first) (refuse wrongData)))))
 
 -- to an octet edge, by zero bits: the octets up to it, or 5 for a bit that is set before it
 unfoldable pub edgeAt : List ℕ → Place → Answer ℕ

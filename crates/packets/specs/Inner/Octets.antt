@@ -1,51 +1,90 @@
--- A packet of the edition of 06/98 as the code reads it: a place is a number of bits, and what is read there is told by the one or two
--- octets that hold it. The tables of refusals go by this too; it is proved to be what the description of `Packet` says. No part of the
--- meaning. Definitions only.
-use Prim.Native.Nat.{ℕ, zero, suc, _+_, _-_, _*_, _/_, _%_, _^_}
+-- A packet of an edition as the code reads it: a place is a number of bits, and what is read there is told by the octets that hold it.
+-- Bits past the end are 0. The tables of refusals go by this too; it is proved to be what the description of `Packet` says. No part of
+-- the meaning. Definitions only.
+use Prim.Native.Nat.{ℕ, zero, suc, _+_, _-_, _*_, _/_, _^_, _≤_}
 use mathlib.Core.Bool.{Bool, cond}
 use mathlib.Core.List.{List, [], _∷_}
 use lib.ListN.{length, getD, drop}
-use lib.Dec.{leb, ltb}
+use lib.Dec.{ltb}
 use Rattle.lengths.specs.Refusals.{endsEarly, outsideSizes, spareBit, leftOver, notAssigned, wrongData}
 use Rattle.lengths.specs.Answers.{Answer, done, refuse, refuseAt, readFrom, _>>=_}
 use Rattle.lengths.specs.Length.{lengthWithin}
 use Rattle.formats.specs.Places.{Place, bitsAt, edgeAt}
 use Rattle.datagrams.specs.Sizes.{packetLimit}
-use Rattle.packets.specs.Edition.{edition98}
-use Rattle.packets.specs.Packet.{First, Header, PacketAnswer, assigned, rightFields, rightData, fieldsLeast, fieldsLimit}
-use Rattle.packets.specs.Packet.{mayFollow}
+use Rattle.packets.specs.Edition.{Enumerated, many, addedWidth, Edition, values}
+use Rattle.packets.specs.Packet.{First, Header, PacketAnswer, chosen, rightFields, rightData, fieldsLeast, fieldsLimit, mayFollow}
 use Rattle.packets.specs.declared.types.Kind.{Kind}
-use Rattle.packets.specs.declared.types.Kind.the-variants.{Indicator, Data}
 use Rattle.packets.specs.declared.types.Ending.{Ending}
 use Rattle.packets.specs.declared.types.Field.{Field}
 
--- ---- an octet's bits
--- whether the bit of an octet is set that stands k places above the lowest
-abbrev pub isSet : ℕ → ℕ → Bool
-isSet k octet = ltb 0 (octet / 2 ^ k % 2)
+-- whether the bit at a place is set
+abbrev pub bitAt : List ℕ → Place → Bool
+bitAt s p = ltb 0 (bitsAt 1 s p)
 
--- what a first octet says
-abbrev pub kindOf : ℕ → Kind
-kindOf octet = cond (isSet 6 octet) Data Indicator
+-- ---- a value of an ENUMERATED type, of the item that begins at an octet
+-- its bits are at most six, so that with a bit before them and the bit for extension two octets hold them wherever they stand; they hold
+-- the values before the extension mark, and all values fit an octet
+pub record Narrow (e : Enumerated) : Type 0 where
+  pub some : 1 ≤ e .width
+  pub few : e .width ≤ 6
+  pub wide : e .assigned ≤ 2 ^ e .width
+  pub values : many e ≤ 256
 
-abbrev pub firstOf : ℕ → First
-firstOf octet = record { kind = kindOf octet; value = octet / 2 % 16; present = isSet 7 octet }
+pub record NarrowEdition (edition : Edition) : Type 0 where
+  pub ofKind : (kind : Kind) → Narrow (values edition kind)
+  pub ofTypes : Narrow (edition .types)
 
--- what the four bits of a header say: one for data present, three for the field type
-abbrev pub headerOf : ℕ → Header
-headerOf bits = record { kind = bits % 8; present = isSet 3 bits }
+pub record Value : Type 0 where
+  pub value : ℕ
+  pub next : Place
 
--- ---- the first octet
--- "in the first octet extension 12, value 12, spare bit 5, indicator with data 14"
-unfoldable pub firstAt : List ℕ → Answer First
-firstAt s =
-    let octet = getD s 0 0 in
-    let first = firstOf (getD s 0 0) in
-    cond (ltb (length s) 1) (refuse endsEarly)
-    (cond (isSet 5 octet) (refuse notAssigned)
-    (cond (leb (assigned edition98 (first .kind)) (first .value)) (refuse notAssigned)
-    (cond (ltb 0 (octet % 2)) (refuse spareBit)
-    (cond (rightFields (first .kind) (first .present)) (done first) (refuse wrongData)))))
+-- one of those before the extension mark
+unfoldable pub rootAt : Enumerated → ℕ → List ℕ → Place → Answer Value
+rootAt e item s p =
+    let value = bitsAt (e .width) s p in
+    cond (ltb (8 * length s) (p + e .width)) (refuseAt item endsEarly)
+    (cond (ltb value (e .assigned)) (done (record { value = value; next = p + e .width })) (refuseAt item notAssigned))
+
+-- one of those added after it, behind the 1 bit for extension: "12 for added values under the old one, for a 1 where the 0 bit stands, and
+-- past the last added value"
+unfoldable pub addedAt : Enumerated → ℕ → List ℕ → Place → Answer Value
+addedAt e item s p =
+    let value = bitsAt addedWidth s (p + 1) in
+    let read : Value = record { value = e .assigned + bitsAt addedWidth s (p + 1); next = p + 1 + addedWidth } in
+    cond (ltb (e .added) 1) (refuseAt item notAssigned)
+    (cond (bitAt s p) (refuseAt item notAssigned)
+    (cond (ltb (8 * length s) (p + 1 + addedWidth)) (refuseAt item endsEarly)
+    (cond (ltb value (e .added)) (done read) (refuseAt item notAssigned))))
+
+unfoldable pub valueAt : Enumerated → ℕ → List ℕ → Place → Answer Value
+valueAt e item s p =
+    cond (e .extensible)
+    (cond (bitAt s p) (addedAt e item s (p + 1)) (rootAt e item s (p + 1)))
+    (rootAt e item s p)
+
+-- how many bits a value before the extension mark takes, with the bit for extension where there is a mark: as one number they are the
+-- value itself, since that bit is 0
+abbrev pub plainWidth : Enumerated → ℕ
+plainWidth e = cond (e .extensible) (e .width + 1) (e .width)
+
+-- ---- the first value
+-- what the first two bits say
+abbrev pub kindOf : List ℕ → Kind
+kindOf s = chosen (bitAt s 1)
+
+-- kind, value and whether fields are present, and the octets up to the edge after them
+pub record FirstAnswer : Type 0 where
+  pub first : First
+  pub octets : ℕ
+
+-- "order at the first value 1, 12, 5, 14"
+unfoldable pub firstAt : Edition → List ℕ → Answer FirstAnswer
+firstAt edition s = do
+  v ← valueAt (values edition (kindOf s)) 0 s 2
+  at ← edgeAt s (v .next)
+  cond (rightFields (kindOf s) (bitAt s 0))
+      (done (record { first = record { kind = kindOf s; value = v .value; present = bitAt s 0 }; octets = at }))
+      (refuse wrongData)
 
 -- ---- the count of fields
 pub record Count : Type 0 where
@@ -53,31 +92,27 @@ pub record Count : Type 0 where
   pub next : Place
 
 -- "If present, a count of fields follows, 1 to 16 (else refusal 4)": without it there is none to read
-unfoldable pub countAt : List ℕ → Bool → Answer Count
-countAt s present =
+unfoldable pub countAt : List ℕ → ℕ → Bool → Answer Count
+countAt s at present =
     cond present
     (do
-      n ← readFrom 1 (lengthWithin fieldsLeast fieldsLimit (drop 1 s))
-      done (record { value = n .value; next = 8 * (1 + n .size) }))
-    (done (record { value = 0; next = 8 }))
+      n ← readFrom at (lengthWithin fieldsLeast fieldsLimit (drop at s))
+      done (record { value = n .value; next = 8 * (at + n .size) }))
+    (done (record { value = 0; next = 8 * at }))
 
 -- ---- a field
--- "without an extension it takes four bits"
-abbrev pub headerWidth : ℕ
-headerWidth = 4
-
 -- a field's header, and the place after it
 pub record HeaderAnswer : Type 0 where
   pub header : Header
   pub next : Place
 
-unfoldable pub headerAt : List ℕ → Place → Answer HeaderAnswer
-headerAt s p =
-    let header = headerOf (bitsAt headerWidth s p) in
-    let right = rightData edition98 (header .kind) (header .present) in
-    let read : HeaderAnswer = record { header = header; next = p + headerWidth } in
-    cond (ltb (8 * length s) (p + headerWidth)) (refuseAt (p / 8) endsEarly)
-    (cond right (done read) (refuseAt (p / 8) wrongData))
+-- "a header across an octet edge: at its first bit's octet"
+unfoldable pub headerAt : Edition → List ℕ → Place → Answer HeaderAnswer
+headerAt edition s p = do
+  v ← valueAt (edition .types) (p / 8) s (p + 1)
+  cond (rightData edition (v .value) (bitAt s p))
+      (done (record { header = record { kind = v .value; present = bitAt s p }; next = v .next }))
+      (refuseAt (p / 8) wrongData)
 
 -- "two octets hold its length minus one, then the data": the data's length, at the front of octets that must hold it all. The
 -- two octets have no form to refuse, so it is 1, then 4, then 1 for missing octets, which begin behind the two
@@ -104,9 +139,9 @@ afterHeader s h =
       done (record { field = record { kind = h .header .kind; start = at + 2; size = size }; next = 8 * (at + 2 + size) }))
     (done (record { field = record { kind = h .header .kind; start = 0; size = 0 }; next = h .next }))
 
-unfoldable pub fieldAt : List ℕ → Place → Answer FieldAnswer
-fieldAt s p = do
-  h ← headerAt s p
+unfoldable pub fieldAt : Edition → List ℕ → Place → Answer FieldAnswer
+fieldAt edition s p = do
+  h ← headerAt edition s p
   afterHeader s h
 
 -- ---- all fields, and the place after them
@@ -115,11 +150,11 @@ pub record FieldsAnswer : Type 0 where
   pub next : Place
 
 -- so many fields from a place on
-unfoldable pub fieldsAt : ℕ → List ℕ → Place → Answer FieldsAnswer
-fieldsAt zero s p = done (record { fields = []; next = p })
-fieldsAt (suc n) s p = do
-  f ← fieldAt s p
-  rest ← fieldsAt n s (f .next)
+unfoldable pub fieldsAt : Edition → ℕ → List ℕ → Place → Answer FieldsAnswer
+fieldsAt edition zero s p = done (record { fields = []; next = p })
+fieldsAt edition (suc n) s p = do
+  f ← fieldAt edition s p
+  rest ← fieldsAt edition n s (f .next)
   done (record { fields = f .field ∷ rest .fields; next = rest .next })
 
 -- ---- the packet
@@ -129,11 +164,11 @@ endAt ending s p a = do
   at ← edgeAt s p
   cond (mayFollow ending (drop at s)) (done a) (refuseAt at leftOver)
 
-unfoldable pub packetByOctets : Ending → List ℕ → Answer PacketAnswer
-packetByOctets ending s =
+unfoldable pub packetByOctets : Edition → Ending → List ℕ → Answer PacketAnswer
+packetByOctets edition ending s =
     cond (ltb packetLimit (length s)) (refuse outsideSizes)
     (do
-      first ← firstAt s
-      count ← countAt s (first .present)
-      all ← fieldsAt (count .value) s (count .next)
-      endAt ending s (all .next) (record { kind = first .kind; value = first .value; fields = all .fields }))
+      first ← firstAt edition s
+      count ← countAt s (first .octets) (first .first .present)
+      all ← fieldsAt edition (count .value) s (count .next)
+      endAt ending s (all .next) (record { kind = first .first .kind; value = first .first .value; fields = all .fields }))

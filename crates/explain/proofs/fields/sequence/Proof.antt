@@ -6,10 +6,10 @@ use Rattle.explain.proofs.fields.sequence.Statement.{statement}
 use Rattle.explain.proofs.fields.sequence.Tie as tie
 
 abbrev Inv-loop : tie.InvT-loop
-Inv-loop s from count at₀ i₀ at i = Unit {0}
+Inv-loop named s from count at₀ i₀ at i = Unit {0}
 
 abbrev μ-loop : tie.MeasureT-loop
-μ-loop s from count at₀ i₀ at i = count - i
+μ-loop named s from count at₀ i₀ at i = count - i
 
 loop-holds : tie.Need-loop-holds Inv-loop μ-loop
 loop-holds c = search needs

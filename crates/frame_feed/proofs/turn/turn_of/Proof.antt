@@ -24,7 +24,7 @@ mul-f c =
     let start = read .before .before .before in
     let long : length (read .read .result .fields) ≡ fieldsLimit = search mapped-long in
     let there =
-    turn-there (stateOf (start .args .kind)) (read .before .ending-of .ensures) (read .read .ensures)
+    turn-there (start .args .edition) (stateOf (start .args .kind)) _ (read .before .ending-of .ensures) (read .read .ensures)
     (c .before .before .before .reading .given .1)
     (c .before .if1 .taken) long in
     omega arith
@@ -35,7 +35,7 @@ array-copy-out-f c =
     let start = read .before .before .before in
     let long : length (read .read .result .fields) ≡ fieldsLimit = search mapped-long in
     let there =
-    turn-there (stateOf (start .args .kind)) (read .before .ending-of .ensures) (read .read .ensures)
+    turn-there (start .args .edition) (stateOf (start .args .kind)) _ (read .before .ending-of .ensures) (read .read .ensures)
     (c .before .before .before .reading .given .1)
     (c .before .if1 .taken) long in
     omega arith

@@ -4,6 +4,9 @@ use Rattle.packet_reader.proofs.ReadItems.{counts}
 use Rattle.packet_reader.proofs.items.read_count.Statement.{statement}
 use Rattle.packet_reader.proofs.items.read_count.Tie as tie
 
+mul-start : tie.Need-mul-start
+mul-start c = search needs
+
 returns : tie.Need-returns
 returns c = search counts
 
@@ -47,6 +50,7 @@ pub read-count-spec : {M : Type 1} → statement M
 read-count-spec =
     tie.close
     (tie.spec
+    mul-start
     returns
     sub-read-within
     part-read-within-start

@@ -1,9 +1,22 @@
--- `packet_reader::read` meets its contract. Each answer is a law of `ReadPacket`, from the answers of the items' readers.
--- Assumes nothing.
+-- `packet_reader::read` meets its contract. What the octet names decides between the named edition's
+-- answer and refusal 15. Assumes nothing.
+use mathlib.Core.Path.{sym, _∙_}
 use borrow.Author.Needs.{needs}
-use Rattle.packet_reader.proofs.ReadPacket.{packets}
+use Rattle.packet_reader.proofs.ReadPacket.{packet-other}
 use Rattle.packet_reader.proofs.reader.read.Statement.{statement}
 use Rattle.packet_reader.proofs.reader.read.Tie as tie
+
+choice-of-requires : tie.Need-choice-of-requires
+choice-of-requires c κs = search needs
+
+enum-known-named : tie.Need-enum-known-named
+enum-known-named c = search needs
+
+read-named-requires : tie.Need-read-named-requires
+read-named-requires c κs = search needs
+
+enum-told : tie.Need-enum-told
+enum-told c = search needs
 
 new-requires : tie.Need-new-requires
 new-requires c κs = search needs
@@ -12,96 +25,23 @@ refused-requires : tie.Need-refused-requires
 refused-requires c κs = search needs
 
 returns : tie.Need-returns
-returns c = search packets
-
-read-first-requires : tie.Need-read-first-requires
-read-first-requires c κs = search needs
-
-enum-known-refusal : tie.Need-enum-known-refusal
-enum-known-refusal c = search needs
-
-refused-requires-2 : tie.Need-refused-requires-2
-refused-requires-2 c κs = search needs
-
-enum-known-kind : tie.Need-enum-known-kind
-enum-known-kind c = search needs
-
-read-count-requires : tie.Need-read-count-requires
-read-count-requires c κs = search packets
-
-enum-known-refusal-2 : tie.Need-enum-known-refusal-2
-enum-known-refusal-2 c = search needs
-
-refused-requires-3 : tie.Need-refused-requires-3
-refused-requires-3 c κs = search needs
-
-enum-known-count : tie.Need-enum-known-count
-enum-known-count c = search needs
-
-read-fields-requires : tie.Need-read-fields-requires
-read-fields-requires c κs = search packets
-
-enum-known-end : tie.Need-enum-known-end
-enum-known-end c = search needs
-
-refused-requires-4 : tie.Need-refused-requires-4
-refused-requires-4 c κs = search needs
-
-enum-known-end-2 : tie.Need-enum-known-end-2
-enum-known-end-2 c = search needs
-
-read-end-requires : tie.Need-read-end-requires
-read-end-requires c κs = search packets
-
-enum-known-refusal-3 : tie.Need-enum-known-refusal-3
-enum-known-refusal-3 c = search needs
-
-refused-requires-5 : tie.Need-refused-requires-5
-refused-requires-5 c κs = search needs
-
-enum-told : tie.Need-enum-told
-enum-told c = search packets
+returns c =
+    rw (sym (c .before .before .before .before .choice-of .ensures) ∙ c .before .before .named .given .1) (c .read-named .ensures .told)
 
 returns-2 : tie.Need-returns-2
-returns-2 c = search packets
-
-returns-3 : tie.Need-returns-3
-returns-3 c = search packets
-
-returns-4 : tie.Need-returns-4
-returns-4 c = search packets
-
-returns-5 : tie.Need-returns-5
-returns-5 c = search packets
-
-returns-6 : tie.Need-returns-6
-returns-6 c = search packets
+returns-2 c =
+    rw (sym (c .before .before .before .before .choice-of .ensures) ∙ c .before .before .enum-told .given .1)
+    (packet-other (c .before .new .ensures) (c .refused .ensures))
 
 pub read-spec : {M : Type 1} → statement M
 read-spec =
     tie.close
     (tie.spec
+    choice-of-requires
+    enum-known-named
+    read-named-requires
+    enum-told
     new-requires
     refused-requires
     returns
-    read-first-requires
-    enum-known-refusal
-    refused-requires-2
-    enum-known-kind
-    read-count-requires
-    enum-known-refusal-2
-    refused-requires-3
-    enum-known-count
-    read-fields-requires
-    enum-known-end
-    refused-requires-4
-    enum-known-end-2
-    read-end-requires
-    enum-known-refusal-3
-    refused-requires-5
-    enum-told
-    returns-2
-    returns-3
-    returns-4
-    returns-5
-    returns-6)
+    returns-2)

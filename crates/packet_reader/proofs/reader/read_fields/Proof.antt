@@ -7,10 +7,10 @@ use Rattle.packet_reader.proofs.reader.read_fields.Statement.{statement
 use Rattle.packet_reader.proofs.reader.read_fields.Tie as tie
 
 abbrev Inv-loop : tie.InvT-loop
-Inv-loop s count from fields₀ at₀ i₀ fields at i = Going s count from fields at i
+Inv-loop s count from named fields₀ at₀ i₀ fields at i = Going named s count from fields at i
 
 abbrev μ-loop : tie.MeasureT-loop
-μ-loop s count from fields₀ at₀ i₀ fields at i = count - i
+μ-loop s count from named fields₀ at₀ i₀ fields at i = count - i
 
 no-fields-requires : tie.Need-no-fields-requires Inv-loop μ-loop
 no-fields-requires c κs = search needs

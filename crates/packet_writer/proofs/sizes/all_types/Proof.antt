@@ -4,17 +4,24 @@ use Prim.Native.Nat.{_-_}
 use lib.ListN.{length}
 use lib.Dec.{leb}
 use borrow.Author.Needs.{needs}
-use Rattle.packets.specs.Edition.{edition98}
-use Rattle.packets.specs.Packet.{typesLimit}
 use Rattle.packets.proofs.Laws.{EveryLeft, evers}
 use Rattle.packet_writer.proofs.sizes.all_types.Statement.{statement}
 use Rattle.packet_writer.proofs.sizes.all_types.Tie as tie
 
 abbrev Inv-loop : tie.InvT-loop
-Inv-loop types i₀ i = EveryLeft (λ t. leb t (typesLimit edition98)) types i
+Inv-loop types count last i₀ i = EveryLeft (λ t. leb t last) types i
 
 abbrev μ-loop : tie.MeasureT-loop
-μ-loop types i₀ i = length types - i
+μ-loop types count last i₀ i = length types - i
+
+add-count : tie.Need-add-count Inv-loop μ-loop
+add-count c = search needs
+
+sub-last : tie.Need-sub-last Inv-loop μ-loop
+sub-last c = search needs
+
+cast-last : tie.Need-cast-last Inv-loop μ-loop
+cast-last c = search needs
 
 loop-holds : tie.Need-loop-holds Inv-loop μ-loop
 loop-holds c = search evers
@@ -43,6 +50,9 @@ all-types-spec =
     (tie.spec
     Inv-loop
     μ-loop
+    add-count
+    sub-last
+    cast-last
     loop-holds
     shared-slice-read-if1
     returns

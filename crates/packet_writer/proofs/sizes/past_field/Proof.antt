@@ -4,8 +4,14 @@ use Rattle.packets.proofs.Laws.{passes}
 use Rattle.packet_writer.proofs.sizes.past_field.Statement.{statement}
 use Rattle.packet_writer.proofs.sizes.past_field.Tie as tie
 
+value-width-requires : tie.Need-value-width-requires
+value-width-requires c κs = search needs
+
 add-next : tie.Need-add-next
 add-next c = search needs
+
+add-next-2 : tie.Need-add-next-2
+add-next-2 c = search needs
 
 add-edge : tie.Need-add-edge
 add-edge c = search needs
@@ -27,4 +33,14 @@ returns-2 c = search passes
 
 pub past-field-spec : {M : Type 1} → statement M
 past-field-spec =
-    tie.close (tie.spec add-next add-edge add-octets add-octets-2 mul-result returns returns-2)
+    tie.close
+    (tie.spec
+    value-width-requires
+    add-next
+    add-next-2
+    add-edge
+    add-octets
+    add-octets-2
+    mul-result
+    returns
+    returns-2)

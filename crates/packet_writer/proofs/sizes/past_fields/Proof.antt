@@ -8,10 +8,10 @@ use Rattle.packet_writer.proofs.sizes.past_fields.Statement.{statement}
 use Rattle.packet_writer.proofs.sizes.past_fields.Tie as tie
 
 abbrev Inv-loop : tie.InvT-loop
-Inv-loop lengths place₀ i₀ place i = Passing 16 lengths i place
+Inv-loop known from types lengths place₀ i₀ place i = Passing known from types lengths i place
 
 abbrev μ-loop : tie.MeasureT-loop
-μ-loop lengths place₀ i₀ place i = length lengths - i
+μ-loop known from types lengths place₀ i₀ place i = length types - i
 
 loop-holds : tie.Need-loop-holds Inv-loop μ-loop
 loop-holds c = search passes
@@ -24,6 +24,9 @@ shared-slice-read-wide c = search needs
 
 wide-requires : tie.Need-wide-requires Inv-loop μ-loop
 wide-requires c κs = search needs
+
+shared-slice-read-past-field : tie.Need-shared-slice-read-past-field Inv-loop μ-loop
+shared-slice-read-past-field c = search needs
 
 past-field-requires : tie.Need-past-field-requires Inv-loop μ-loop
 past-field-requires c κs = search needs
@@ -50,6 +53,7 @@ past-fields-spec =
     mul-wide
     shared-slice-read-wide
     wide-requires
+    shared-slice-read-past-field
     past-field-requires
     add-i
     loop-less

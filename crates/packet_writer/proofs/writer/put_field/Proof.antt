@@ -1,15 +1,12 @@
 -- `packet_writer::put_field` meets its contract. A header after what waits, and with data an octet edge, the length and the data, are
 -- the field. Assumes nothing.
 use borrow.Author.Needs.{needs}
-use Rattle.packet_writer.proofs.Putting.{fields}
+use Rattle.packet_writer.proofs.PutItems.{fields}
 use Rattle.packet_writer.proofs.writer.put_field.Statement.{statement}
 use Rattle.packet_writer.proofs.writer.put_field.Tie as tie
 
-header-bits-requires : tie.Need-header-bits-requires
-header-bits-requires c κs = search needs
-
-put-bits-requires : tie.Need-put-bits-requires
-put-bits-requires c κs = search fields
+put-header-requires : tie.Need-put-header-requires
+put-header-requires c κs = search fields
 
 same-length : tie.Need-same-length
 same-length c = search needs
@@ -17,11 +14,8 @@ same-length c = search needs
 returns : tie.Need-returns
 returns c = search fields
 
-header-bits-requires-2 : tie.Need-header-bits-requires-2
-header-bits-requires-2 c κs = search needs
-
-put-bits-requires-2 : tie.Need-put-bits-requires-2
-put-bits-requires-2 c κs = search fields
+put-header-requires-2 : tie.Need-put-header-requires-2
+put-header-requires-2 c κs = search fields
 
 sub-put-edge : tie.Need-sub-put-edge
 sub-put-edge c = search needs
@@ -63,12 +57,10 @@ pub put-field-spec : {M : Type 1} → statement M
 put-field-spec =
     tie.close
     (tie.spec
-    header-bits-requires
-    put-bits-requires
+    put-header-requires
     same-length
     returns
-    header-bits-requires-2
-    put-bits-requires-2
+    put-header-requires-2
     sub-put-edge
     part-put-edge-start
     part-put-edge-end

@@ -9,11 +9,11 @@ use Rattle.packet_writer.proofs.writer.put_fields.Statement.{statement}
 use Rattle.packet_writer.proofs.writer.put_fields.Tie as tie
 
 abbrev Inv-loop : tie.InvT-loop
-Inv-loop types lengths «data» out₀ i₀ from₀ at₀ width₀ value₀ out i from at width value =
-    Filling types lengths «data» out₀ out i from at width value
+Inv-loop known types lengths «data» out₀ i₀ from₀ at₀ width₀ value₀ out i from at width value =
+    Filling known types lengths «data» out₀ out i from at width value
 
 abbrev μ-loop : tie.MeasureT-loop
-μ-loop types lengths «data» out₀ i₀ from₀ at₀ width₀ value₀ out i from at width value = length types - i
+μ-loop known types lengths «data» out₀ i₀ from₀ at₀ width₀ value₀ out i from at width value = length types - i
 
 loop-holds : tie.Need-loop-holds Inv-loop μ-loop
 loop-holds c = search fills

@@ -1,47 +1,45 @@
--- `packet_writer::write` meets its contract. Each answer is a law of `WritePacket`: what was measured is what is put.
--- Assumes nothing.
+-- `packet_writer::write` meets its contract: what the octet names decides. Assumes nothing.
 use borrow.Author.Needs.{needs}
-use Rattle.packet_writer.proofs.WritePacket.{writes}
+use Rattle.packet_writer.proofs.WritePacket.{settings-puts}
 use Rattle.packet_writer.proofs.writer.write.Statement.{statement}
 use Rattle.packet_writer.proofs.writer.write.Tie as tie
 
-measure-requires : tie.Need-measure-requires
-measure-requires c κs = search needs
+choice-of-requires : tie.Need-choice-of-requires
+choice-of-requires c κs = search needs
 
-enum-known-refusal : tie.Need-enum-known-refusal
-enum-known-refusal c = search needs
-
-enum-known-size : tie.Need-enum-known-size
-enum-known-size c = search needs
+enum-told : tie.Need-enum-told
+enum-told c = search needs
 
 new-requires : tie.Need-new-requires
 new-requires c κs = search needs
 
+enum-known-named : tie.Need-enum-known-named
+enum-known-named c = search needs
+
+write-named-requires : tie.Need-write-named-requires
+write-named-requires c κs = search needs
+
 returns : tie.Need-returns
-returns c = search writes
-
-put-packet-requires : tie.Need-put-packet-requires
-put-packet-requires c κs = search writes
-
-returns-2 : tie.Need-returns-2
-returns-2 c = search writes
+returns c =
+    rw (← (c .before .before .before .choice-of .ensures), c .before .enum-told .given .1) (settings-puts (c .new .ensures))
 
 same-length : tie.Need-same-length
 same-length c = search needs
 
-returns-3 : tie.Need-returns-3
-returns-3 c = search writes
+returns-2 : tie.Need-returns-2
+returns-2 c =
+    let told = c .before .before .before .before .before in
+    rw (← (told .before .before .choice-of .ensures), told .named .given .1) (c .before .before .write-named .ensures)
 
 pub write-spec : {M : Type 1} → statement M
 write-spec =
     tie.close
     (tie.spec
-    measure-requires
-    enum-known-refusal
-    enum-known-size
+    choice-of-requires
+    enum-told
     new-requires
+    enum-known-named
+    write-named-requires
     returns
-    put-packet-requires
-    returns-2
     same-length
-    returns-3)
+    returns-2)

@@ -7,10 +7,10 @@ use Rattle.pencil_reader.proofs.fields.sequence.Statement.{statement}
 use Rattle.pencil_reader.proofs.fields.sequence.Tie as tie
 
 abbrev Inv-loop : tie.InvT-loop
-Inv-loop s from count fields₀ at₀ i₀ fields at i = Going s from count fields at i
+Inv-loop named s from count fields₀ at₀ i₀ fields at i = Going named s from count fields at i
 
 abbrev μ-loop : tie.MeasureT-loop
-μ-loop s from count fields₀ at₀ i₀ fields at i = count - i
+μ-loop named s from count fields₀ at₀ i₀ fields at i = count - i
 
 no-fields-requires : tie.Need-no-fields-requires Inv-loop μ-loop
 no-fields-requires c κs = search needs

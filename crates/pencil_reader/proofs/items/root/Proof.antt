@@ -1,6 +1,6 @@
 -- `pencil_reader::items::root` meets its contract. Each answer is a law of `ReadValues`. Assumes nothing.
 use borrow.Author.Needs.{needs}
-use Rattle.pencil_reader.proofs.ReadValues.{values}
+use Rattle.pencil_reader.proofs.ReadValues.{roots}
 use Rattle.pencil_reader.proofs.items.root.Statement.{statement}
 use Rattle.pencil_reader.proofs.items.root.Tie as tie
 
@@ -14,16 +14,16 @@ enum-known-value : tie.Need-enum-known-value
 enum-known-value c = search needs
 
 returns : tie.Need-returns
-returns c = search values
+returns c = search roots
 
 at-requires : tie.Need-at-requires
 at-requires c κs = search needs
 
 returns-2 : tie.Need-returns-2
-returns-2 c = search values
+returns-2 c = search roots
 
 returns-3 : tie.Need-returns-3
-returns-3 c = search values
+returns-3 c = search roots
 
 pub root-spec : {M : Type 1} → statement M
 root-spec =

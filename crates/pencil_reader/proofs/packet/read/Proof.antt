@@ -1,9 +1,16 @@
--- `pencil_reader::packet::read` meets its contract. Each answer is a law of `ReadPacket`, from what the readers of the packet's
--- parts answered. Assumes nothing.
+-- `pencil_reader::packet::read` meets its contract. What the octet names decides between the named edition's answer and refusal 15.
+-- Assumes nothing.
+use mathlib.Core.Path.{sym, _∙_}
 use borrow.Author.Needs.{needs}
-use Rattle.pencil_reader.proofs.ReadPacket.{packets}
+use Rattle.packet_reader.proofs.Laws.{packet-other}
 use Rattle.pencil_reader.proofs.packet.read.Statement.{statement}
 use Rattle.pencil_reader.proofs.packet.read.Tie as tie
+
+choice-of-requires : tie.Need-choice-of-requires
+choice-of-requires c κs = search needs
+
+enum-told : tie.Need-enum-told
+enum-told c = search needs
 
 new-requires : tie.Need-new-requires
 new-requires c κs = search needs
@@ -11,109 +18,32 @@ new-requires c κs = search needs
 refused-requires : tie.Need-refused-requires
 refused-requires c κs = search needs
 
+enum-known-named : tie.Need-enum-known-named
+enum-known-named c = search needs
+
+read-named-requires : tie.Need-read-named-requires
+read-named-requires c κs = search needs
+
 returns : tie.Need-returns
-returns c = search packets
-
-start-requires : tie.Need-start-requires
-start-requires c κs = search needs
-
-enum-known-refusal : tie.Need-enum-known-refusal
-enum-known-refusal c = search needs
-
-refused-requires-2 : tie.Need-refused-requires-2
-refused-requires-2 c κs = search needs
-
-enum-known-kind : tie.Need-enum-known-kind
-enum-known-kind c = search needs
-
-optional-requires : tie.Need-optional-requires
-optional-requires c κs = search needs
-
-enum-known-all : tie.Need-enum-known-all
-enum-known-all c = search needs
-
-refused-requires-3 : tie.Need-refused-requires-3
-refused-requires-3 c κs = search needs
-
-enum-known-all-2 : tie.Need-enum-known-all-2
-enum-known-all-2 c = search needs
-
-align-requires : tie.Need-align-requires
-align-requires c κs = search needs
-
-enum-known-refusal-2 : tie.Need-enum-known-refusal-2
-enum-known-refusal-2 c = search needs
-
-refused-requires-4 : tie.Need-refused-requires-4
-refused-requires-4 c κs = search needs
-
-enum-known-edge : tie.Need-enum-known-edge
-enum-known-edge c = search needs
-
-octet-requires : tie.Need-octet-requires
-octet-requires c κs = search needs
-
-sub-may-follow : tie.Need-sub-may-follow
-sub-may-follow c = search needs
-
-part-may-follow-start : tie.Need-part-may-follow-start
-part-may-follow-start c = search needs
-
-part-may-follow-end : tie.Need-part-may-follow-end
-part-may-follow-end c = search needs
-
-may-follow-requires : tie.Need-may-follow-requires
-may-follow-requires c κs = search needs
+returns c =
+    let told = c .before .before in
+    rw (sym (told .before .before .choice-of .ensures) ∙ told .enum-told .given .1)
+    (packet-other (c .before .new .ensures) (c .refused .ensures))
 
 returns-2 : tie.Need-returns-2
-returns-2 c = search packets
-
-at-requires : tie.Need-at-requires
-at-requires c κs = search needs
-
-refused-requires-5 : tie.Need-refused-requires-5
-refused-requires-5 c κs = search needs
-
-returns-3 : tie.Need-returns-3
-returns-3 c = search packets
-
-returns-4 : tie.Need-returns-4
-returns-4 c = search packets
-
-returns-5 : tie.Need-returns-5
-returns-5 c = search packets
-
-returns-6 : tie.Need-returns-6
-returns-6 c = search packets
+returns-2 c =
+    let known = c .before .before in
+    rw (sym (known .before .before .choice-of .ensures) ∙ known .named .given .1) (c .read-named .ensures .told)
 
 pub read-spec : {M : Type 1} → statement M
 read-spec =
     tie.close
     (tie.spec
+    choice-of-requires
+    enum-told
     new-requires
     refused-requires
+    enum-known-named
+    read-named-requires
     returns
-    start-requires
-    enum-known-refusal
-    refused-requires-2
-    enum-known-kind
-    optional-requires
-    enum-known-all
-    refused-requires-3
-    enum-known-all-2
-    align-requires
-    enum-known-refusal-2
-    refused-requires-4
-    enum-known-edge
-    octet-requires
-    sub-may-follow
-    part-may-follow-start
-    part-may-follow-end
-    may-follow-requires
-    returns-2
-    at-requires
-    refused-requires-5
-    returns-3
-    returns-4
-    returns-5
-    returns-6)
+    returns-2)

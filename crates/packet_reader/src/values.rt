@@ -1,0 +1,93 @@
+// A value of an ENUMERATED type of the ASN.1, in whatever bit it begins: the bit for extension where there is an extension mark, then
+// one of the values before the mark or one of those added after it. It answers with the refusal that is the whole packet's, at the octet
+// at which its item begins.
+
+use crate::places::bit;
+use crate::places::bits;
+use lengths::Refusal;
+use packets::Enumerated;
+ghost use Rattle.packets.specs.Inner.Octets.{Narrow};
+ghost use Rattle.packet_reader.specs.Items.{NearPacket, PlainTold, RootTold, AddedTold, ValueTold};
+
+// The value, and the place after it.
+pub enum ValueRead {
+    Value(u8, usize),
+    Refused(Refusal),
+}
+
+// How many bits an added value takes, behind the bit for extension and a bit that is 0.
+const ADDED_WIDTH: usize = 6;
+
+// One of those before the extension mark.
+fn read_root(s: &[u8], item: usize, p: usize, e: Enumerated) -> ValueRead
+    requires { ⌜ NearPacket 3 (now s) p ⌝ }
+    requires { ⌜ Narrow e ⌝ }
+    ensures { λ r. ⌜ RootTold e item (now (s .entry)) p r ⌝ }
+{
+    let all = 8 * s.len();
+    let next = p + e.width;
+    if all < next {
+        return ValueRead::Refused(Refusal::at(Refusal::ENDS_EARLY, item));
+    }
+    let value = bits(s, e.width, p);
+    if value < e.assigned {
+        let octet = value as u8;
+        return ValueRead::Value(octet, next);
+    }
+    ValueRead::Refused(Refusal::at(Refusal::NOT_ASSIGNED, item))
+}
+
+// One of those added after it.
+fn read_added(s: &[u8], item: usize, p: usize, e: Enumerated) -> ValueRead
+    requires { ⌜ NearPacket 3 (now s) p ⌝ }
+    requires { ⌜ Narrow e ⌝ }
+    ensures { λ r. ⌜ AddedTold e item (now (s .entry)) p r ⌝ }
+{
+    if e.added < 1 {
+        return ValueRead::Refused(Refusal::at(Refusal::NOT_ASSIGNED, item));
+    }
+    if bit(s, p) {
+        return ValueRead::Refused(Refusal::at(Refusal::NOT_ASSIGNED, item));
+    }
+    let all = 8 * s.len();
+    let start = p + 1;
+    let next = start + ADDED_WIDTH;
+    if all < next {
+        return ValueRead::Refused(Refusal::at(Refusal::ENDS_EARLY, item));
+    }
+    let index = bits(s, ADDED_WIDTH, start);
+    if index < e.added {
+        let value = e.assigned + index;
+        let octet = value as u8;
+        return ValueRead::Value(octet, next);
+    }
+    ValueRead::Refused(Refusal::at(Refusal::NOT_ASSIGNED, item))
+}
+
+// A value of the item that begins at the octet `item`.
+pub fn read_value(s: &[u8], item: usize, p: usize, e: Enumerated) -> ValueRead
+    requires { ⌜ NearPacket 2 (now s) p ⌝ }
+    requires { ⌜ Narrow e ⌝ }
+    ensures { λ r. ⌜ ValueTold e item (now (s .entry)) p r ⌝ }
+{
+    if e.extensible {
+        let start = p + 1;
+        if bit(s, p) {
+            return read_added(s, item, start, e);
+        }
+        return read_root(s, item, start, e);
+    }
+    read_root(s, item, p, e)
+}
+
+// How many bits a value before the extension mark takes, with the bit for extension where there is a mark. Cut from the octets at once they
+// are the value, since that bit is 0.
+pub fn plain_width(e: Enumerated) -> usize
+    requires { ⌜ Narrow e ⌝ }
+    ensures { λ r. ⌜ PlainTold e r ⌝ }
+{
+    if e.extensible {
+        return e.width + 1;
+    }
+    e.width
+}
