@@ -21,7 +21,10 @@ from rules.datagrams import read_datagram
 from rules.program import lines_of, octets_of
 from running import PATIENCE, text_of
 
-# All that is known of the script's words: what differs, in a row behind its number and its lines; a refusal; a trace cut into parts.
+# All that is known of the script's words: a row begins with its number, in hexadecimal too or not, and its lines; what differs behind them;
+# a packet with its first differing octet marked; a refusal; a trace cut into parts.
+MARKED = '{before}[{octet}]{after}'
+NUMBER, LINE = r'\W*{number}\b( \({number:04X}\))?', r'\D*\b{line}\b'
 DIFFERS = {1: 'only in the first', 2: 'only in the second', 3: 'packet', 4: 'spares', 5: 'parity'}
 REFUSED = r'(?s)\b{trace}\b.*\bline {line}\b.*'
 PLACED = r'octet {place}\b'
@@ -65,11 +68,18 @@ def line_text(given):
     return line_of(Script('0', UNLIMITED).random, given)
 
 
+def marked(packet, packets):
+    """A packet as it is shown beside another: the first octet in which they differ is marked, or where it would be."""
+    same = next((at for at, (one, other) in enumerate(zip(*packets)) if one != other), min(map(len, packets)))
+    shown = packet.hex().upper()
+    return MARKED.format(before=shown[:2 * same], octet=shown[2 * same:2 * same + 2], after=shown[2 * same + 2:])
+
+
 def check_table(name, written, first, second):
     """Each row is there, in order; both packets stand behind a row that needs them."""
     lines, at = written.splitlines(), 0
     for number, places, what, packets in rows_told(first, second):
-        begins = r'\W*%s\b' % r'\b\D*\b'.join(map(str, [number] + places))
+        begins = NUMBER.format(number=number) + ''.join(LINE.format(line=line) for line in places)
         found = next((i for i in range(at, len(lines)) if re.match(begins, lines[i])), None)
         must(found is not None, '%s: no row for number %d, lines %s', name, number, places)
         for one in what:
@@ -78,7 +88,7 @@ def check_table(name, written, first, second):
             must(DIFFERS[one] not in lines[found], '%s: it is said that %s: %s', name, DIFFERS[one], lines[found])
         behind = ''.join(lines[found:found + 8]).replace(' ', '').upper()
         for packet in packets:
-            must(packet.hex().upper() in behind, '%s: packet %s of number %d is not shown', name, packet.hex(), number)
+            must(marked(packet, packets) in behind, '%s: packet %s of number %d is not shown', name, packet.hex(), number)
         at = found + 1
 
 
@@ -157,7 +167,7 @@ def stand_in(how, first, second):
         places = ' '.join(str(line + (how == 'lines')) for line in lines)
         print('%5d %s  %s' % (number, places, words[:7] if how == 'less' else words))
         for packet in packets[how == 'packet':]:
-            print('      ', packet.hex(' ').upper())
+            print('      ', packet.hex().upper() if how == 'mark' else marked(packet, packets))
     sys.exit(0 if how == 'zero' else 1 if how == 'one' else bool(rows))
 
 
@@ -175,6 +185,7 @@ def self_test():
             ('order', 'made 0', 'no row for number'), ('lines', 'made 0', 'no row for number'),
             ('what', 'made 0', 'it is said that parity'),
             ('less', 'an empty trace', 'it is not said that only in the first'), ('packet', 'made 1', ' is not shown'),
+            ('mark', 'made 1', ' is not shown'),
             ('refusal', 'no digits', 'status 1 for a refusal'), ('trace', 'no digits', 'trace and line are not said'),
             ('line', 'no digits', 'trace and line are not said'), ('place', 'a second that does not read', 'the place is not said')):
         test.fails('wrong in ' + how, words, check, python('two_traces.py', '--stand-in', how), name, *made[name])
