@@ -11,7 +11,7 @@ import tempfile
 
 import running
 from failing import Cases, altered, independent
-from generate import FRAMES, IMAGES, PACKETS, REPLAYS, make_script
+from generate import FRAMES, IMAGES, PACKETS, REPLAYS, TRACES, make_script
 from making.images import every_octet
 from making.lines import across_the_wrap, at_the_limit, program_lines
 from making.script import UNLIMITED, Script
@@ -26,6 +26,7 @@ FRAME_SEEDS, FRAMES_EACH = 3, 1500
 PACKET_SEEDS, PACKETS_EACH = 3, 2000
 REPLAY_SEEDS, REPLAYS_EACH = 3, 400
 IMAGE_SEEDS, IMAGES_EACH = 3, 1500
+TRACE_SEEDS, TRACES_EACH = 3, 300
 PROGRAM_SEEDS, LINES_EACH = 4, 1000
 
 
@@ -91,6 +92,8 @@ def comparisons(arguments):
         yield 'replays of seed ' + seed, arguments.calls, compare_calls, lambda s=seed: made_replays(s)
     for seed in seeds[:IMAGE_SEEDS]:
         yield 'images of seed ' + seed, arguments.calls, compare_calls, lambda s=seed: made_images(s)
+    for seed in seeds[:TRACE_SEEDS]:
+        yield 'traces compared of seed ' + seed, arguments.calls, compare_calls, lambda s=seed: made_traces(s)
     yield 'an image with each octet changed in turn', arguments.calls, compare_calls, made_octets
     for seed in seeds[:PROGRAM_SEEDS]:
         yield 'program lines of seed ' + seed, arguments.program, compare_program, lambda s=seed: made_lines(s)
@@ -122,6 +125,11 @@ def made_replays(seed):
 def made_images(seed):
     """The same of sessions written as images and read back."""
     return with_answers(make_script(seed, IMAGES_EACH, IMAGES))
+
+
+def made_traces(seed):
+    """The same of traces compared."""
+    return with_answers(make_script(seed, TRACES_EACH, TRACES))
 
 
 def made_octets():

@@ -5,7 +5,7 @@ import argparse
 import collections
 import sys
 
-from making import conversations, edges, frames, images, notes, outside, packed, placed, replays, single
+from making import conversations, edges, frames, images, notes, outside, packed, placed, replays, single, traces
 from making.lines import program_lines
 from making.script import Full, Script
 
@@ -23,7 +23,10 @@ PACKETS = (packed.runs_read, packed.runs_written, packed.padding_damaged, packed
 REPLAYS = (replays.recorded, replays.crowded, replays.crowded, replays.edges, replays.no_calls)
 IMAGES = (images.written, images.read_back, images.handed_over, images.misshapen, images.misshapen, images.no_session,
           images.no_session, images.another, images.no_edition, images.moved, images.texts, images.great, outside.receiving_outside)
-SCENES = 2 * SINGLE + (placed.datagrams,) + SESSIONS + FRAMES + PACKETS[:7] + REPLAYS[:1] + REPLAYS[2:] + IMAGES[:5] + IMAGES[7:11]
+TRACES = (traces.told, traces.told, traces.told, traces.repeated, traces.repeated, traces.recorded, traces.unreadable, traces.long_ones,
+          traces.edges, traces.no_calls)
+SCENES = (2 * SINGLE + (placed.datagrams,) + SESSIONS + FRAMES + PACKETS[:7] + REPLAYS[:1] + REPLAYS[2:] + IMAGES[:5] + IMAGES[7:11]
+          + TRACES[2:])
 
 
 def make_script(seed, count, scenes=SCENES):

@@ -18,8 +18,8 @@ import types
 
 import running
 
-from compare import (CALL_SEEDS, FRAME_SEEDS, IMAGE_SEEDS, PACKET_SEEDS, PROGRAM_SEEDS, REPLAY_SEEDS, Failed, made_calls, made_frames,
-                     made_images, made_lines, made_packets, made_replays, stored)
+from compare import (CALL_SEEDS, FRAME_SEEDS, IMAGE_SEEDS, PACKET_SEEDS, PROGRAM_SEEDS, REPLAY_SEEDS, TRACE_SEEDS, Failed, made_calls,
+                     made_frames, made_images, made_lines, made_packets, made_replays, made_traces, stored)
 from edition_mutants import EDITION_MUTANTS
 from failing import Cases
 from format_mutants import DATAGRAM_MUTANTS, PACKET_MUTANTS
@@ -31,13 +31,15 @@ from place_mutants import PLACE_MUTANTS
 from program_mutants import PROGRAM_MUTANTS
 from replay_mutants import REPLAY_MUTANTS
 from session_mutants import SESSION_MUTANTS
+from trace_mutants import TRACE_MUTANTS
 
 HERE = pathlib.Path(__file__).resolve().parent
 MUTANTS = {kind: rows + PLACE_MUTANTS.get(kind, ()) + NOTE_MUTANTS.get(kind, ()) for kind, rows in (
     ('calls', DATAGRAM_MUTANTS + SESSION_MUTANTS), ('packets', PACKET_MUTANTS + PENCIL_MUTANTS + EDITION_MUTANTS),
-    ('joiner', JOINER_MUTANTS), ('replays', REPLAY_MUTANTS), ('images', IMAGE_MUTANTS), ('program', PROGRAM_MUTANTS))}
+    ('joiner', JOINER_MUTANTS), ('replays', REPLAY_MUTANTS), ('images', IMAGE_MUTANTS), ('traces', TRACE_MUTANTS),
+    ('program', PROGRAM_MUTANTS))}
 SEEDS = {'calls': CALL_SEEDS, 'packets': PACKET_SEEDS, 'joiner': FRAME_SEEDS, 'replays': REPLAY_SEEDS, 'images': IMAGE_SEEDS,
-         'program': PROGRAM_SEEDS}
+         'traces': TRACE_SEEDS, 'program': PROGRAM_SEEDS}
 
 
 class Different(BaseException):
@@ -148,7 +150,7 @@ def input_at(kind, number):
     """The inputs that mutants are tried with, one after the other: a name, what is given, what is expected; None past the last."""
     name, made = {'calls': ('script', made_calls), 'packets': ('packet script', made_packets), 'joiner': ('joiner script', made_frames),
                   'replays': ('replay script', made_replays), 'images': ('image script', made_images),
-                  'program': ('lines', made_lines)}[kind]
+                  'traces': ('trace script', made_traces), 'program': ('lines', made_lines)}[kind]
     cases = list(stored('.lines', '.results')) if kind == 'program' and number else []
     if 0 < number <= len(cases):
         return cases[number - 1]
@@ -210,7 +212,8 @@ def self_test():
                                  ('packets', 'pencil', 'self.place >= len(self.row)', 'self.place == len(self.row)'),
                                  ('joiner', 'joining', 'len(whole) > FRAME_LIMIT', 'len(whole) >= FRAME_LIMIT + 1'),
                                  ('replays', 'replaying', 'number in numbers', 'number in set(numbers)'),
-                                 ('images', 'images', 'value > most', 'value >= most + 1')):
+                                 ('images', 'images', 'value > most', 'value >= most + 1'),
+                                 ('traces', 'comparing', '2 * len(entries) > room', 'len(entries) > room // 2')):
         test.fails('an edit of %s that changes no answer' % name, 'NOT FOUND: same\n1 passed, 1 failed\nSystemExit: 1', try_all,
                    {kind: MUTANTS[kind][:1] + (('same', name, old, new),)})
     test.fails('an edit of the program that changes no result', 'NOT FOUND: same\n0 passed, 1 failed\nSystemExit: 1', try_all,

@@ -15,7 +15,7 @@ import tempfile
 import running
 from cutting import cut_calls, cut_lines
 from failing import HERE, Cases, altered, independent
-from generate import FRAMES, IMAGES, NOTES, PACKETS, REPLAYS, make_script
+from generate import FRAMES, IMAGES, NOTES, PACKETS, REPLAYS, TRACES, make_script
 from making import images, placed, single
 from making.lines import program_lines
 from making.script import UNLIMITED, Script
@@ -52,7 +52,7 @@ def of_running(test):
 
 def of_cutting(test):
     """The lines that a difference does not need are dropped, and no others."""
-    calls, lines = text_of(make_script('cutting', 200).lines), text_of(lines_of(program_lines('cutting', 200)))
+    calls, lines = text_of(make_script('cutting', 199).lines + [b'14']), text_of(lines_of(program_lines('cutting', 200)))
     test.says('a right program', '200 lines', '%d lines' % len(cut_calls(independent(), calls)))
     test.says('a right program of lines', '200 lines', '%d lines' % len(cut_lines(independent('program'), lines)))
     test.says('a wrong count', "[b'14']", str(cut_calls(altered('calls 14 9'), calls)))
@@ -72,8 +72,10 @@ def of_generate(test):
             ('packets', PACKETS, 60, '0500 05FF01 05FF01+ 05FF03+ 05FF04 05FF04+ 05FF05 05FF05+ 05FF06+ 05FF0C 05FF0C+ 05FF0E 05FF0E+ '
              '05FF0F 0600 06FF04 06FF0C 06FF0D 06FF0E 06FF0F '
              '0700 07FF01 07FF01+ 07FF03+ 07FF04 07FF04+ 07FF05 07FF05+ 07FF06+ 07FF0C 07FF0C+ 07FF0E 07FF0E+ 07FF0F'),
-            ('replays', REPLAYS, 5, '4000 40EE 40FF0D'), ('images', IMAGES, 30, '1800 18EE 18FF0D 18FF11 1900 19EE 19FF11 19FF14 19FF15')):
-        test.says('every answer on ' + name, every, answers_met(scenes, {REPLAYS: 300}.get(scenes, 1500)))
+            ('replays', REPLAYS, 5, '4000 40EE 40FF0D'),
+            ('traces', TRACES, 10, '5000 50EE 50FF01 50FF01+ 50FF02 50FF03+ 50FF04+ 50FF05+ 50FF06+ 50FF0D 50FF0F 50FF16'),
+            ('images', IMAGES, 30, '1800 18EE 18FF0D 18FF11 1900 19EE 19FF11 19FF14 19FF15')):
+        test.says('every answer on ' + name, every, answers_met(scenes, {REPLAYS: 300, TRACES: 600}.get(scenes, 1500)))
         test.fails('a short script on ' + name, 'NOT CAUGHT by inner: one: ' + every, Cases('inner').says, 'one', every,
                    answers_met(scenes, short))
     every = ('received: own | repaired: ahead | repaired: ahead over 65,535 | repaired: behind | repaired: behind over 65,535 | '

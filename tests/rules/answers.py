@@ -1,6 +1,7 @@
 """The answers of the calls program: what several of its calls show."""
 
 from .arguments import shown, sized
+from .comparing import compare
 from .refusals import Refusal
 
 FILLING = b'\xA5'
@@ -13,6 +14,17 @@ def lent(cap, call, size_width=2):
     except Refusal as refusal:
         return refusal.octets() + FILLING * cap
     return b'\x00' + before + shown(len(octets), size_width) + octets.ljust(cap, FILLING)
+
+
+def compared(arguments):
+    """50: the count of entries, and the lent list, all of it."""
+    first, second = arguments.sized(4), arguments.sized(4)
+    cap = arguments.last_cap()
+    try:
+        entries = compare(first, second, cap)
+    except Refusal as refusal:
+        return refusal.octets() + 2 * FILLING * cap
+    return b'\x00' + shown(len(entries), 2) + b''.join(shown(one, 2) for entry in entries for one in entry).ljust(2 * cap, FILLING)
 
 
 def stored(item):

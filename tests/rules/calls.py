@@ -2,7 +2,7 @@
 
 import binascii
 
-from .answers import lent, packet_read, shown_counts, stored
+from .answers import compared, lent, packet_read, shown_counts, stored
 from .arguments import Arguments, NoCall, shown, sized
 from .datagrams import M_LIMIT, PARITY, SPARES, read_datagram, write_datagram
 from .editions import DATA_PACKET, INDICATOR
@@ -33,7 +33,8 @@ class Calls:
             0x11: self.offer, 0x12: self.next, 0x14: self.counts, 0x15: self.view, 0x16: self.many_given_up,
             0x17: self.overwrite_receiving, 0x18: self.write_image, 0x19: self.read_image, 0x20: self.fresh_sending, 0x21: self.send,
             0x22: self.many_sent, 0x23: self.overwrite_sending, 0x30: self.fresh_joiner, 0x31: self.field, 0x32: self.lost,
-            0x33: self.show_joiner, 0x34: self.overwrite_joiner, 0x40: self.replay}
+            0x33: self.show_joiner, 0x34: self.overwrite_joiner, 0x40: self.replay,
+            0x50: compared}
 
     def answer(self, line):
         """The answer to a line that is not empty, without its line feed."""

@@ -35,6 +35,31 @@ pub fn say_long(lent: &[u8]) {
     }
 }
 
+// Numbers as two octets each, high octet first, as many as out has room for.
+fn put_numbers(numbers: &[u16], out: &mut [u8]) {
+    let mut i = 0;
+    while i < numbers.len() {
+        let n = numbers[i];
+        let high = 2 * i;
+        let low = high + 1;
+        i += 1;
+        if low < out.len() {
+            out[high] = (n / 256 % 256) as u8;
+            out[low] = (n % 256) as u8;
+        }
+    }
+}
+
+// A lent list, at most so many numbers.
+pub fn say_numbers(numbers: &[u16]) {
+    let mut octets = [0u8; 2 * CAP];
+    let count = numbers.len();
+    if count <= CAP {
+        put_numbers(numbers, &mut octets);
+        say_long(part(&octets, 0, 2 * count));
+    }
+}
+
 // A number of one, two or four octets, high octet first.
 pub fn say(n: u32, width: usize) {
     let octets = [

@@ -12,6 +12,7 @@ pub use answers::say_all;
 pub use answers::say_done;
 pub use answers::say_long;
 pub use answers::say_no_call;
+pub use answers::say_numbers;
 pub use answers::say_refused;
 pub use answers::say_sized;
 pub use answers::say_written;

@@ -1,5 +1,6 @@
 // The calls program: every public call on one line of hexadecimal, one answer a line, so that any other
 // program can be compared with it call by call. It holds one receiving and one sending session and one joiner, all fresh at the start.
+mod compare;
 mod image;
 mod input;
 mod joiner;
@@ -42,7 +43,7 @@ fn shape_of(call: u8) -> Shape {
     match call {
         0x01 | 0x03 | 0x05 | 0x07 | 0x11 | 0x19 => Shape(ANY, 0),
         0x02 => Shape(2, 2),
-        0x04 | 0x06 | 0x21 | 0x31 => Shape(ANY, 2),
+        0x04 | 0x06 | 0x21 | 0x31 | 0x50 => Shape(ANY, 2),
         0x40 => Shape(ANY, 4),
         0x10 | 0x14 | 0x15 | 0x20 | 0x30 | 0x32 | 0x33 => Shape(0, 0),
         0x12 => Shape(1, 2),
@@ -123,6 +124,10 @@ fn answered(held: Held, line: &[u8; KEPT], count: usize, all: &mut [u8]) -> Held
     if size != NONE {
         if call == 0x40 {
             replay::answer(part(octets, 1, size), cap);
+            return held;
+        }
+        if call == 0x50 {
+            compare::answer(part(octets, 1, size), cap);
             return held;
         }
         if call == 0x18 {

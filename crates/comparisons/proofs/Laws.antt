@@ -8,6 +8,7 @@ pub use Rattle.comparisons.proofs.Sameness.{same-refl, same-true, each-
 pub use Rattle.comparisons.proofs.Spelling.{parts-of, carried-octets, extras-same}
 -- ---- the lines of a trace, one after the other
 pub use Rattle.comparisons.proofs.Reading.{behind, behind-none, behind-behind, read-none, read-empty, read-done, read-refused}
+pub use Rattle.comparisons.proofs.Reading.{empty-or-some}
 -- ---- the call, by what was found
 pub use Rattle.comparisons.proofs.Refusing.{compared, too-many-first, too-many-second, few-compared}
 pub use Rattle.comparisons.proofs.Calls.{numbers-twice}

@@ -67,7 +67,7 @@ read-refused trace n line lines why some is =
     read-some trace n line lines some ∙ ap (λ (a : Answer Carried). told-so trace n a (linesRead trace (suc n) lines)) is
 
 -- empty, or not
-empty-or-some : (line : List ℕ) → (line ≡ []) ⊎ (1 ≤ length line)
+pub empty-or-some : (line : List ℕ) → (line ≡ []) ⊎ (1 ≤ length line)
 empty-or-some [] = inl refl
 empty-or-some (c ∷ line) = inr (omega arith)
 

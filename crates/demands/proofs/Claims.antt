@@ -4,6 +4,7 @@ use Rattle.sending.proofs.Claims as sending
 use Rattle.frames.proofs.Claims as frames
 use Rattle.frame_feed.proofs.Claims as frameFeed
 use Rattle.replays.proofs.Claims as replays
+use Rattle.comparisons.proofs.Claims as comparisons
 use Rattle.demands.specs.Claims.{Claims}
 use Rattle.demands.proofs.Demand1.{demand-1}
 use Rattle.demands.proofs.Demand2.{demand-2}
@@ -43,4 +44,5 @@ claims =
       editions = editions.editions;
       fits = fits.fits;
       bothEditions = packets.claims .plainAlike;
+      comparison = comparisons.claims;
     }

@@ -16,6 +16,7 @@ use Rattle.frames.proofs.Claims as frames
 use Rattle.frame_feed.proofs.Claims as frameFeed
 use Rattle.replays.proofs.Claims as replays
 use Rattle.demands.specs.NamedEdition.{packetBy}
+use Rattle.comparisons.proofs.Claims as comparisons
 use Rattle.demands.specs.OneOutcome.{OneWrite, OneOutcome}
 use Rattle.demands.proofs.OneTold.{one-told}
 use Rattle.demands.proofs.OneInside.{one-inside}
@@ -44,6 +45,7 @@ one-outcome =
       joiner = frames.claims .oneOutcome;
       frameFeed = frameFeed.claims .oneOutcome;
       replay = replays.claims .oneOutcome;
+      comparison = comparisons.claims .oneOutcome;
       imageReader = λ text r q. read-one (r .session) (q .session) (r .answer) (q .answer);
       told = one-told;
       inside = one-inside;

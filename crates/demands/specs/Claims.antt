@@ -4,6 +4,7 @@ use Rattle.sending.specs.Claims as sending
 use Rattle.frames.specs.Claims as frames
 use Rattle.frame_feed.specs.Claims as frameFeed
 use Rattle.replays.specs.Claims as replays
+use Rattle.comparisons.specs.Claims as comparisons
 use Rattle.demands.specs.Demand1.{Demand1}
 use Rattle.demands.specs.Demand2.{Demand2}
 use Rattle.demands.specs.Demand3.{Demand3}
@@ -53,3 +54,5 @@ pub record Claims : Type 0 where
   -- document 02, request 11: newer peers. What is refused by each edition stands in demand 1, what reads back in demand 2; this is what is
   -- true of a packet in both
   pub bothEditions : packets.PlainAlike
+  -- document 02, request 12: two traces compared, when nothing is listed, a trace with itself, and both exchanged; each refusal exactly
+  pub comparison : comparisons.Claims

@@ -25,6 +25,7 @@ use Rattle.frames.specs.Claims as frames
 use Rattle.frame_feed.specs.Claims as frameFeed
 use Rattle.replays.specs.Claims as replays
 use Rattle.demands.specs.NamedEdition.{ReadBy, packetBy}
+use Rattle.comparisons.specs.Claims as comparisons
 use Rattle.demands.specs.OneTold.{One, OneTold}
 use Rattle.demands.specs.OneInside.{OneInside}
 
@@ -45,8 +46,8 @@ pub record Writers : Type 0 where
 -- all public calls of the library: `read`, `read_within` and `write` of `lengths`, `read` and `write` of `datagram_reader` and
 -- `datagram_writer`, of `packet_reader` and `packet_writer`, `read` of `pencil_reader`; `Session::fresh`, `offer` and `release`;
 -- `Sender::fresh`, `in_ranges` and `send`; the program's `hex_to_octets`, `step`, `take_block` and `finish`; `Joiner::fresh`, `field` and
--- `lost` of `frame_joiner`, `turns` and `feed` of `frame_feed`; `replay` of `replaying`; `write` of `image_writer` and
--- `read` of `image_reader`; those that only tell; and those that serve callers inside this repository
+-- `lost` of `frame_joiner`, `turns` and `feed` of `frame_feed`; `replay` of `replaying`; `compare` of `comparing`; `write` of
+-- `image_writer` and `read` of `image_reader`; those that only tell; and those that serve callers inside this repository
 pub record OneOutcome : Type 0 where
   pub lengths : lengths.OneOutcome
   pub datagrams : datagrams.OneOutcome
@@ -59,6 +60,7 @@ pub record OneOutcome : Type 0 where
   pub joiner : frames.OneOutcome
   pub frameFeed : frameFeed.OneOutcome
   pub replay : replays.OneOutcome
+  pub comparison : comparisons.OneOutcome
   pub imageReader : (text : List ℕ) → One (ImageRead text)
   pub told : OneTold
   pub inside : OneInside

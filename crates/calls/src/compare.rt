@@ -1,0 +1,47 @@
+// Line 50: two traces compared.
+use call_lines::CAP;
+use call_lines::first;
+use call_lines::say;
+use call_lines::say_done;
+use call_lines::say_no_call;
+use call_lines::say_numbers;
+use call_lines::say_refused;
+use call_lines::sized;
+use comparisons::Compared;
+
+// What stands in the lent list before the call.
+const FILLED: u16 = 0xA5A5;
+
+fn say_compared(answer: Compared) {
+    match answer {
+        Compared::Entries(count) => say_done(count, 2),
+        Compared::Refused { why, trace, line } => {
+            say_refused(why);
+            say(trace as u32, 1);
+            say((line % 65536) as u32, 2);
+        }
+    }
+}
+
+// The comparison with the front of a list to lend.
+fn compared(one: &[u8], other: &[u8], cap: usize, all: &mut [u16]) {
+    if cap <= all.len() {
+        let start = 0;
+        let answer = comparing::compare(one, other, &mut all[start..cap]);
+        say_compared(answer);
+        return say_numbers(first(all, cap));
+    }
+    say_no_call()
+}
+
+// The two traces, each behind its length.
+pub fn answer(s: &[u8], cap: usize) {
+    let mut all = [FILLED; CAP];
+    let mut at = 0;
+    let one = sized(s, &mut at, 4);
+    let other = sized(s, &mut at, 4);
+    if at == s.len() {
+        return compared(one, other, cap, &mut all);
+    }
+    say_no_call()
+}

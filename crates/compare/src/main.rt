@@ -1,0 +1,98 @@
+// The program for two captures that differ, document 02, request 12: `compare FIRST SECOND` compares two recorded traces and writes what
+// `comparing::compare` lists, an entry a line: the number in four hexadecimal digits, then 1 to 5. Where that is refused it writes why:
+// `refused`, the refusal's number and place, the trace and the line. `./compare` makes a table of it.
+mod telling;
+
+use comparisons::Compared;
+use comparisons::Entry;
+use comparisons::Trace;
+use lines::Line;
+use telling::say;
+
+// The characters of a trace: of a line that is too long no more need stand there than shows it.
+const TEXT: usize = Trace::LINES * (Line::KEPT + 1);
+
+// Three entries at most for a line of the first trace, and one for a line of the second.
+const ENTRIES: usize = 4 * Trace::LINES;
+
+// No text: a file is not read.
+const NONE: usize = usize::MAX;
+
+fn usage() {
+    say(b"usage: compare FIRST SECOND\n");
+    say(b"FIRST and SECOND are files of up to 512 lines in hexadecimal, one datagram a line\n");
+}
+
+// The text of a file, to the front of a buffer: how many characters, or NONE, and why is said. One octet more is asked for, which tells
+// whether the file ended there.
+fn read_text(path: &[u8], text: &mut [u8]) -> usize {
+    let file = os::open_read(path);
+    if file < 0 {
+        os::fail(path);
+        return NONE;
+    }
+    let size = io::read_full(file, text);
+    let mut next = [0u8; 1];
+    let more = libc::read(file, &mut next);
+    if more < 0 {
+        os::fail(path);
+        return NONE;
+    }
+    libc::close(file);
+    if more > 0 {
+        say(b"compare: ");
+        say(path);
+        say(b" is longer than 512 lines can be\n");
+        return NONE;
+    }
+    size
+}
+
+// The file that an argument names.
+fn read_argument(at: usize, text: &mut [u8]) -> usize {
+    let mut path = io::buffer();
+    let size = os::arg(at, &mut path);
+    if os::errno() != 0 {
+        usage();
+        return NONE;
+    }
+    read_text(&path[..size], text)
+}
+
+// So many characters from the front, or none where there are fewer.
+fn front(text: &[u8], size: usize) -> &[u8] {
+    if size <= text.len() {
+        let start = 0;
+        return &text[start..size];
+    }
+    &text[..0]
+}
+
+// The list has room for all entries that there can be.
+fn tell(first: &[u8], second: &[u8]) {
+    let mut list = [0u16; Entry::SIZE * ENTRIES];
+    let answer = comparing::compare(first, second, &mut list);
+    match answer {
+        Compared::Entries(count) => telling::tell_entries(&list, count),
+        Compared::Refused { why, trace, line } => telling::tell_refused(why, trace, line),
+    }
+}
+
+// Both files, with room for the text of each.
+fn run(first: &mut [u8], second: &mut [u8]) {
+    let size = read_argument(1, first);
+    if size == NONE {
+        return;
+    }
+    let other = read_argument(2, second);
+    if other == NONE {
+        return;
+    }
+    tell(front(first, size), front(second, other))
+}
+
+fn main() {
+    let mut first = [0u8; TEXT];
+    let mut second = [0u8; TEXT];
+    run(&mut first, &mut second)
+}

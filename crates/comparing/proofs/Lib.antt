@@ -1,0 +1,5 @@
+mod Rereading
+mod Mates
+mod FirstLines
+mod SecondLines
+mod Whole

@@ -1,0 +1,7 @@
+mod Often
+mod Alike
+mod Listing
+mod Shapes
+mod Telling
+pub mod Laws
+pub mod Claims

@@ -1,0 +1,6 @@
+mod Cutting
+mod Holding
+mod Keeping
+mod Turning
+pub mod Laws
+pub mod Claims
