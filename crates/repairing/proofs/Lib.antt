@@ -7,3 +7,4 @@ mod Totals
 mod First
 mod Sums
 mod Fills
+pub mod Laws

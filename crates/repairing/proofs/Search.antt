@@ -109,7 +109,7 @@ module _ {t : List ℕ} (s : Searchable t) (base d : ℕ) (near : d < keptAhead)
       (omega (arith, m-near s base d)) (omega (arith, one, unknown-count o g))
 
 -- the messages held at a distance are those that the code goes through
-message-is : (base : ℕ) (t g : List ℕ) (d i : ℕ) → i < mAt base t d
+pub message-is : (base : ℕ) (t g : List ℕ) (d i : ℕ) → i < mAt base t d
     → messageAt (keptBefore + d) (heldIn t g (heardSlotAt base d)) i ≡ messageHeld base t g d i
 unfolding heldIn messageHeld
 message-is base t g d i low =
@@ -117,7 +117,7 @@ message-is base t g d i low =
     (length-tab (mAt base t d) (messageIn t g (heardSlotAt base d)))
     (tab-at (mAt base t d) (messageIn t g (heardSlotAt base d)) i [] low)
 
-messages-long : (base : ℕ) (t g : List ℕ) (d : ℕ) → length ((heldIn t g (heardSlotAt base d)) .messages) ≡ mAt base t d
+pub messages-long : (base : ℕ) (t g : List ℕ) (d : ℕ) → length ((heldIn t g (heardSlotAt base d)) .messages) ≡ mAt base t d
 unfolding heldIn
 messages-long base t g d = length-tab (mAt base t d) (messageIn t g (heardSlotAt base d))
 

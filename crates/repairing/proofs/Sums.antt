@@ -2,16 +2,18 @@
 -- sum is what document 01 fills with. Assumes nothing.
 use Prim.Native.Nat.{ℕ, suc, _+_, _-_, _*_, _%_, _≤_, _<_}
 use mathlib.Core.Path.{_≡_, refl, sym, ap, ap₂, _∙_}
-use mathlib.Core.List.{List, _++_}
-use lib.ListN.{length, getD, take, drop, length-append, length-drop}
-use lib.Seq.{take-at, ext-getD}
+use mathlib.Core.List.{List, _++_, map}
+use mathlib.Core.Logic.{⊎-elim}
+use lib.ListN.{length, getD, take, drop, length-append, length-drop, List·getD-append, List·getD-eq-default}
+use lib.Seq.{take-at, ext-getD, getD-append-add, getD-drop}
 use lib.Bits.{bitXor, xor-zero-r}
 use native.Mathlib.Omega.{arith}
-use Rattle.octets.proofs.Laws.{xor-assoc, xorAt-cons, exclusiveOr-at}
+use Rattle.octets.specs.ExclusiveOr.{xorAt}
+use Rattle.octets.proofs.Laws.{xor-assoc, xorAt-cons, exclusiveOr-at, below-or-not}
 use Rattle.datagrams.specs.Sizes.{packetLimit, messagesLimit}
-use Rattle.views.specs.Cells.{keptBefore, keptAhead}
+use Rattle.views.specs.Cells.{cellAt, keptBefore, keptAhead}
 use Rattle.views.specs.Members.{membersOf}
-use Rattle.views.specs.Repair.{Message, mended}
+use Rattle.views.specs.Repair.{Message, otherMembers, mended}
 use Rattle.views.proofs.Laws.{length-mended}
 use Rattle.stores.specs.Store.{added, part}
 use Rattle.stores.proofs.Laws.{length-added, added-at}
@@ -20,7 +22,7 @@ use Rattle.held.specs.Slots.{heardSlotAt, messageSlot, slotsHeard}
 use Rattle.held.specs.Table.{Lent, nIn, mIn, messageSizeIn, messageIn, cellsOf}
 use Rattle.held.specs.Laid.{InRanges}
 use Rattle.repairing.specs.Back.{slotOf, xorBack, Summed}
-use Rattle.repairing.specs.Promise.{nAt, mAt, messageSizeAt, messageHeld, MendedOctets}
+use Rattle.repairing.specs.Promise.{nAt, mAt, messageSizeAt, messageHeld, MendedOctets, AskedOctets}
 use Rattle.repairing.proofs.Members.{summed}
 use Rattle.repairing.proofs.Search.{searchable, m-near, reach-near, size-near, octets-long}
 
@@ -84,13 +86,13 @@ pub size-small : {l : Lent} → InRanges l → (d i : ℕ) → i < mAt (l .base)
 size-small {l} w d i low e-at e-slot e-size =
     rw (size-read (l .base) (l .table) d i e-at e-slot e-size) (size-near (searchable w) (l .base) d i low)
 
--- ---- the front of the sum
+-- ---- the sum of a message and its members
 module _ {l : Lent} (w : InRanges l) (d i : ℕ) (near : d < keptAhead) (low : i < mAt (l .base) (l .table) d)
-    {at slot n count m place size first index : ℕ} (start : List ℕ) (whole : length start ≡ packetLimit) {copied front : List ℕ}
+    {at slot n count m place size first index : ℕ} (start : List ℕ) (whole : length start ≡ packetLimit) {copied : List ℕ}
     (e-at : at ≡ (l .base + d) % numbers) (e-slot : slot ≡ at % slotsHeard) (e-n : n ≡ nIn (l .table) slot)
     (e-count : count ≡ mIn (l .table) slot) (e-m : m ≡ count) (e-place : place ≡ slot * messagesLimit + i)
     (e-size : size ≡ messageSizeIn (l .table) place) (e-copied : copied ≡ part (l .messages) place size ++ drop size start)
-    (e-index : index ≡ i) (e-first : first ≡ (at + index) % numbers) (s : Summed (l .octets) first n m (take size copied) front) where
+    (e-index : index ≡ i) (e-first : first ≡ (at + index) % numbers) where
   message : Message
   message = messageHeld (l .base) (l .table) (l .messages) d i
 
@@ -130,35 +132,76 @@ module _ {l : Lent} (w : InRanges l) (d i : ℕ) (near : d < keptAhead) (low : i
       ap (λ (x : List ℕ). length x) e-copied ∙ length-append (part (l .messages) place size) (drop size start)
       ∙ omega (arith, part-long, length-drop size start, small, whole)
 
-  -- what is summed up to is the message
-  taken : take size copied ≡ message .octets
-  taken = ap (take size) e-copied ∙ take-at (part (l .messages) place size) (drop size start) size part-long ∙ part-is
-
-  front-long : length front ≡ size
-  front-long = s .long ∙ ap (λ (x : List ℕ). length x) taken ∙ sym size-is
-
-  octet-is : (j : ℕ) → j < size → getD front j 0 ≡ getD (mended (cellsOf (l .base) (l .table) (l .octets)) message) j 0
-  unfolding mended message messageHeld membersOf
-  octet-is j below =
+  -- what is added is what the other members have
+  members-sum : (j : ℕ) → j < packetLimit
+      → xorBack (l .octets) first n m j
+      ≡ xorAt
+      (map (λ p. (cellAt (cellsOf (l .base) (l .table) (l .octets)) p) .octets)
+      (otherMembers (cellsOf (l .base) (l .table) (l .octets)) message))
+      j
+  unfolding message messageHeld membersOf
+  members-sum j below =
       let N = nAt (l .base) (l .table) d in
       let M = mAt (l .base) (l .table) d in
-      s .each j (rw (taken, ← size-is) below)
-      ∙ ap₂ bitXor (ap (λ (x : List ℕ). getD x j 0) taken)
-      (ap₂ (λ (x k : ℕ). xorBack (l .octets) x k m j) first-is n-is
+      ap₂ (λ (x k : ℕ). xorBack (l .octets) x k m j) first-is n-is
       ∙ ap (λ (k : ℕ). xorBack (l .octets) (numberAt (l .base) (keptBefore + d + i)) N k j) m-is
       ∙ summed w N (keptBefore + d + i) M j (omega (arith, reach-near (searchable w) (l .base) d)) (omega arith)
-      (omega (arith, m-near (searchable w) (l .base) d)) (omega (arith, small)))
-      ∙ sym (xorAt-cons _ _ j)
-      ∙ sym (exclusiveOr-at (length (message .octets)) _ j (rw (← size-is) below))
+      (omega (arith, m-near (searchable w) (l .base) d)) below
 
-  pub mended-front : MendedOctets (l .base) (l .table) (l .octets) (l .messages) d i (front ++ drop size copied)
-  unfolding message
-  mended-front =
-      record {
-        long = length-append front (drop size copied) ∙ omega (arith, front-long, length-drop size copied, small, copied-long);
-        front =
-            rw (← size-is, take-at front (drop size copied) size front-long)
-            (ext-getD 0 front (mended (cellsOf (l .base) (l .table) (l .octets)) message)
-            (front-long ∙ size-is ∙ sym (length-mended (cellsOf (l .base) (l .table) (l .octets)) message))
-            (λ j below. octet-is j (rw front-long at below)));
-      }
+  -- ---- over the message's length: the front of the sum
+  module _ {front : List ℕ} (s : Summed (l .octets) first n m (take size copied) front) where
+    -- what is summed up to is the message
+    taken : take size copied ≡ message .octets
+    taken = ap (take size) e-copied ∙ take-at (part (l .messages) place size) (drop size start) size part-long ∙ part-is
+
+    front-long : length front ≡ size
+    front-long = s .long ∙ ap (λ (x : List ℕ). length x) taken ∙ sym size-is
+
+    octet-is : (j : ℕ) → j < size → getD front j 0 ≡ getD (mended (cellsOf (l .base) (l .table) (l .octets)) message) j 0
+    unfolding mended
+    octet-is j below =
+        s .each j (rw (taken, ← size-is) below)
+        ∙ ap₂ bitXor (ap (λ (x : List ℕ). getD x j 0) taken) (members-sum j (omega (arith, small)))
+        ∙ sym (xorAt-cons _ _ j)
+        ∙ sym (exclusiveOr-at (length (message .octets)) _ j (rw (← size-is) below))
+
+    pub mended-front : MendedOctets (l .base) (l .table) (l .octets) (l .messages) d i (front ++ drop size copied)
+    unfolding message
+    mended-front =
+        record {
+          long = length-append front (drop size copied) ∙ omega (arith, front-long, length-drop size copied, small, copied-long);
+          front =
+              rw (← size-is, take-at front (drop size copied) size front-long)
+              (ext-getD 0 front (mended (cellsOf (l .base) (l .table) (l .octets)) message)
+              (front-long ∙ size-is ∙ sym (length-mended (cellsOf (l .base) (l .table) (l .octets)) message))
+              (λ j below. octet-is j (rw front-long at below)));
+        }
+
+  -- ---- over the limit's length, where there were zeros: past its end the message has zeros too
+  module _ (empty : (k : ℕ) → getD start k 0 ≡ 0) {sum : List ℕ} (s : Summed (l .octets) first n m copied sum) where
+    copied-at : (k : ℕ) → getD copied k 0 ≡ getD (message .octets) k 0
+    copied-at k =
+        ap (λ (x : List ℕ). getD x k 0) e-copied
+        ∙ ⊎-elim
+        (λ below.
+        List·getD-append (part (l .messages) place size) (drop size start) 0 k (rw part-long below)
+        ∙ ap (λ (x : List ℕ). getD x k 0) part-is)
+        (λ past.
+        let there : k ≡ length (part (l .messages) place size) + (k - size) = omega (arith, part-long) in
+        ap (λ (j : ℕ). getD (part (l .messages) place size ++ drop size start) j 0) there
+        ∙ getD-append-add (part (l .messages) place size) (drop size start) (k - size) 0
+        ∙ getD-drop size start (k - size) 0
+        ∙ empty (size + (k - size))
+        ∙ sym (List·getD-eq-default (message .octets) 0 {n = k} (rw (← size-is) past)))
+        (below-or-not k size)
+
+    pub asked-whole : AskedOctets (l .base) (l .table) (l .octets) (l .messages) d i sum
+    unfolding message
+    asked-whole =
+        record {
+          long = s .long ∙ copied-long;
+          each = λ k inside.
+              s .each k (rw copied-long inside)
+              ∙ ap₂ bitXor (copied-at k) (members-sum k inside)
+              ∙ sym (xorAt-cons _ _ k);
+        }

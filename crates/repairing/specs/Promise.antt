@@ -3,14 +3,15 @@
 use Prim.Native.Nat.{ℕ, _+_, _%_, _≤_, _<_}
 use mathlib.Core.Path.{_≡_}
 use mathlib.Core.Bool.{cond}
-use mathlib.Core.List.{List}
+use mathlib.Core.List.{List, _∷_, map}
 use mathlib.Core.Option.{Option, none, some}
 use lib.ListN.{length, getD, take}
 use lib.Dec.{eqb}
+use Rattle.octets.specs.ExclusiveOr.{xorAt}
 use Rattle.datagrams.specs.Sizes.{packetLimit, coveredLimit, messagesLimit}
-use Rattle.views.specs.Cells.{repaired, filledCell, keptBefore, keptAhead}
+use Rattle.views.specs.Cells.{repaired, filledCell, cellAt, keptBefore, keptAhead}
 use Rattle.views.specs.Members.{membersOf}
-use Rattle.views.specs.Repair.{Message, unknownMembers, firstUsable, mended, fill, repair}
+use Rattle.views.specs.Repair.{Message, unknownMembers, otherMembers, firstUsable, mended, fill, repair}
 use Rattle.views.specs.Held.{messagesOf, heldMessages}
 use Rattle.views.specs.View.{View, numbers}
 use Rattle.held.specs.Slots.{slotAt, heardSlotAt, messageSlot, slotsKept, slotsHeard, messageOctets}
@@ -100,6 +101,16 @@ pub record UsableFound (base : ℕ) (t : List ℕ) (r : Usable) : Type 0 where
 pub record MendedOctets (base : ℕ) (t o g : List ℕ) (d i : ℕ) (r : List ℕ) : Type 0 where
   pub long : length r ≡ packetLimit
   pub front : take (length ((messageHeld base t g d i) .octets)) r ≡ mended (cellsOf base t o) (messageHeld base t g d i)
+
+-- what a message asks of its unknown members, over the limit's length: the exclusive or of the message and its other members
+pub record AskedOctets (base : ℕ) (t o g : List ℕ) (d i : ℕ) (r : List ℕ) : Type 0 where
+  pub long : length r ≡ packetLimit
+  pub each : (k : ℕ) → k < packetLimit
+      → getD r k 0
+      ≡ xorAt
+      ((messageHeld base t g d i) .octets
+      ∷ map (λ p. (cellAt (cellsOf base t o) p) .octets) (otherMembers (cellsOf base t o) (messageHeld base t g d i)))
+      k
 
 -- of the table only states, sizes and notes of kept numbers have changed: marks, n, m and sizes of messages are as they were
 pub record SameBeside (before after : List ℕ) : Type 0 where

@@ -1,12 +1,12 @@
 -- The laws of a session's meaning that others use; each is proved in the file that it is passed on from. Assumes nothing.
 
 -- ---- the members that pass a test
-pub use Rattle.views.proofs.Passing.{passing-yes, passing-no}
+pub use Rattle.views.proofs.Passing.{passing-yes, passing-no, passing-among, passing-append, xorAt-parted}
 -- ---- known and unknown, usable messages, fills
 pub use Rattle.views.proofs.Fill.{missing, unknown-inside, known-not-unknown, same-unknown, usable-says, length-mended}
-pub use Rattle.views.proofs.Fill.{makes-repaired}
+pub use Rattle.views.proofs.Fill.{makes-repaired, Usable, usable-of}
 -- ---- the first usable message
-pub use Rattle.views.proofs.Search.{firstUsable-front, firstUsable-rest, found-usable}
+pub use Rattle.views.proofs.Search.{firstUsable-front, firstUsable-rest, found-usable, none-found}
 -- ---- the messages from a number on, as a search goes
 pub use Rattle.views.proofs.Turns.{heldFrom, heldFrom-start, heldFrom-turn, heldFrom-end}
 -- ---- what repair keeps
@@ -28,7 +28,7 @@ pub use Rattle.views.proofs.Sizes.{unknown-size, mark-sizes, held-sizes
 -- ---- the ranges: the test and the record
 pub use Rattle.views.proofs.Ranges.{base-small, size-fits, sound-of, inRanges-of}
 -- ---- the ranges: a number is filled
-pub use Rattle.views.proofs.Filled.{filledAt, filled-sound}
+pub use Rattle.views.proofs.Filled.{fill-size, held-known, filledAt, filled-sound}
 -- ---- the ranges: a datagram is held
 pub use Rattle.views.proofs.Holding.{heldThere, held-none, accepted-right, held-sound}
 -- ---- the ranges: the base goes on

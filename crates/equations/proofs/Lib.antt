@@ -1,0 +1,11 @@
+pub mod Padded
+pub mod After
+pub mod Twice
+pub mod Keeping
+pub mod Honest
+pub mod Together
+pub mod CaseParts
+pub mod FilledCases
+pub mod Cases
+pub mod Claims
+pub mod Laws

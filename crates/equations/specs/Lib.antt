@@ -1,0 +1,4 @@
+pub mod Equations
+pub mod Solved
+pub mod Claims
+pub mod Cases

@@ -1,0 +1,7 @@
+mod Siding
+mod Summing
+mod Fitting
+mod Filling
+mod Whole
+pub mod Claims
+pub mod Laws

@@ -1,0 +1,4 @@
+pub mod Outcome
+pub mod Steps
+pub mod Promise
+pub mod Claims
