@@ -72,7 +72,7 @@ module _ {sent : ℕ} {sizes o : List ℕ} (inside : Within sent sizes o) where
       (and-both (le-leb 0 (longest (membersIn sent sizes o n m j)) (omega arith))
       (le-leb (longest (membersIn sent sizes o n m j)) messageLimit short))
 
-  next-fit : (s : Settings) (packet octets : List ℕ) → Accepted s packet (sendingIn sent sizes o) octets
+  pub next-fit : (s : Settings) (packet octets : List ℕ) → Accepted s packet (sendingIn sent sizes o) octets
       → Fit packet (kindAsked s) (itemsNext s (sendingIn sent sizes o))
   next-fit s packet octets a =
       let items = itemsNext s (sendingIn sent sizes o) in
@@ -88,7 +88,7 @@ module _ {sent : ℕ} {sizes o : List ℕ} (inside : Within sent sizes o) where
       }
 
 -- what is carried, as the writer and the reader have it
-extra-next : (s : Settings) (session : Sending)
+pub extra-next : (s : Settings) (session : Sending)
     → extraFrom s (session .sent) (packetOf (session .history)) historyKept ≡ extraOf (kindAsked s) (itemsNext s session)
 extra-next (settings.Spares k) session = refl
 extra-next (settings.Parity n m) session = refl

@@ -11,3 +11,7 @@ pub use Rattle.sending.proofs.Kept.{packet-fits, sent-limit, size-limit
 pub use Rattle.sending.proofs.Accepted.{accepted, size-done, size-refused}
 -- ---- honest senders
 pub use Rattle.sending.proofs.HonestLaws.{before-length, extra-same}
+-- ---- a chain of sends, what an accepted or refused send says, and when one is accepted
+pub use Rattle.sending.proofs.Chain.{sendingAfter, RunHolds, run-holds}
+pub use Rattle.sending.proofs.Outcome.{SentSays, sent-says, refused-says}
+pub use Rattle.sending.proofs.Takes.{send-takes}

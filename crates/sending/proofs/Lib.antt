@@ -9,6 +9,7 @@ mod Outcome
 mod Chain
 mod Faithful
 mod Back
+mod Takes
 mod About
 pub mod Laws
 pub mod Claims

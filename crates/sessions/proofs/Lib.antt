@@ -1,3 +1,5 @@
 mod Called
 mod Outcomes
+mod Seen
+pub mod Laws
 pub mod Claims

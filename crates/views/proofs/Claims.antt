@@ -7,6 +7,7 @@ use Rattle.views.proofs.Enough.{repair-closed}
 use Rattle.views.proofs.Least.{known-within, known-reached, reached-known, known-any-order, known-more}
 use Rattle.views.proofs.Honest.{repair-right}
 use Rattle.views.proofs.Burst.{burst-mended, burst-repaired}
+use Rattle.views.proofs.Spares.{spares-exact}
 use Rattle.views.proofs.Pair.{as-the-pair}
 use Rattle.views.proofs.Forgotten.{notes-apart}
 
@@ -28,6 +29,7 @@ claims =
       staysTrue = λ made. repair-right;
       burstMended = burst-mended;
       burstRepaired = burst-repaired;
+      sparesExact = spares-exact;
       asThePair = as-the-pair;
       notesApart = notes-apart;
     }

@@ -78,19 +78,19 @@ module _ {A : Type 0} where
 
 -- ---- the ranges, on the view alone
 module _ {v : View} (counts : views.Counts) (s : Sound v) (more : sum counts ≡ sum (v .counts) + 1) (fits : sum counts ≤ sessionLimit) where
-  cell-next : (p : ℕ) → p < lastPlace → cellAt ((goneOn counts v) .cells) p ≡ cellAt (v .cells) (suc p)
+  pub cell-next : (p : ℕ) → p < lastPlace → cellAt ((goneOn counts v) .cells) p ≡ cellAt (v .cells) (suc p)
   unfolding goneOn
   cell-next p low = further (v .cells) unknownCell blankCell lastPlace p (s .kept) low
 
-  cell-last : cellAt ((goneOn counts v) .cells) lastPlace ≡ unknownCell
+  pub cell-last : cellAt ((goneOn counts v) .cells) lastPlace ≡ unknownCell
   unfolding goneOn
   cell-last = at-end (v .cells) unknownCell blankCell lastPlace (s .kept)
 
-  held-next : (d : ℕ) → d < lastAhead → heldAt ((goneOn counts v) .held) d ≡ heldAt (v .held) (suc d)
+  pub held-next : (d : ℕ) → d < lastAhead → heldAt ((goneOn counts v) .held) d ≡ heldAt (v .held) (suc d)
   unfolding goneOn
   held-next d low = further (v .held) nothingHeld nothingHeld lastAhead d (s .ahead) low
 
-  held-last : heldAt ((goneOn counts v) .held) lastAhead ≡ nothingHeld
+  pub held-last : heldAt ((goneOn counts v) .held) lastAhead ≡ nothingHeld
   unfolding goneOn
   held-last = at-end (v .held) nothingHeld nothingHeld lastAhead (s .ahead)
 

@@ -23,6 +23,8 @@ pub use Rattle.views.proofs.Zeros.{up-to-zeros-same}
 pub use Rattle.views.proofs.Honest.{repair-right}
 -- ---- a burst
 pub use Rattle.views.proofs.Burst.{burst-mended}
+-- ---- what a packet and its spares fill, with no parity held
+pub use Rattle.views.proofs.Spares.{keep-unknown, keep-known, keep-other, keep-stays, spares-exact, repair-no-parity}
 -- ---- the ranges: lengths, n and m
 pub use Rattle.views.proofs.Sizes.{unknown-size, mark-sizes, held-sizes, reach-kept}
 -- ---- the ranges: the test and the record
@@ -32,7 +34,7 @@ pub use Rattle.views.proofs.Filled.{fill-size, held-known, filledAt, fi
 -- ---- the ranges: a datagram is held
 pub use Rattle.views.proofs.Holding.{heldThere, held-none, accepted-right, held-sound}
 -- ---- the ranges: the base goes on
-pub use Rattle.views.proofs.GoesOn.{lastPlace, lastAhead, sound-goes-on}
+pub use Rattle.views.proofs.GoesOn.{lastPlace, lastAhead, cell-next, cell-last, held-next, held-last, sound-goes-on}
 -- ---- the ranges: every call keeps them
 pub use Rattle.views.proofs.Stays.{fresh-sound, offer-sound, sum-counted, release-sound}
 -- ---- a release

@@ -12,6 +12,7 @@ pub mod Held
 pub mod Zeros
 pub mod Honest
 pub mod Burst
+pub mod Spares
 pub mod Turns
 pub mod Sizes
 pub mod Filled

@@ -16,6 +16,7 @@ use Rattle.views.specs.Honest.{HonestMessages, HonestHeld, TrueCells}
 use Rattle.views.specs.View.{View}
 use Rattle.views.specs.Ranges.{Sound}
 use Rattle.views.specs.Offer.{offer}
+use Rattle.views.specs.Spares.{SparesExact}
 use Rattle.views.specs.Release.{release}
 use Rattle.views.specs.Pair.{next, giveUp, lossReleased}
 use Rattle.views.specs.Forgotten.{forgotten, releaseForgotten}
@@ -139,5 +140,7 @@ pub record Claims : Type 1 where
   pub staysTrue : StaysTrue
   pub burstMended : BurstMended
   pub burstRepaired : BurstRepaired
+  -- what spares fill
+  pub sparesExact : SparesExact
   pub asThePair : AsThePair
   pub notesApart : NotesApart

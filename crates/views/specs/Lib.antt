@@ -7,6 +7,7 @@ pub mod Honest
 pub mod View
 pub mod Ranges
 pub mod Offer
+pub mod Spares
 pub mod Release
 pub mod Pair
 pub mod Forgotten

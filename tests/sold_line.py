@@ -1,0 +1,236 @@
+#!/usr/bin/env python3
+"""A line we can sell (02, request 14): a fresh sender with k spares throughout, a fresh receiver, datagrams in order, never more than k
+lost in a row, the last one arriving, releases drained after each. Every packet is released once, octet for octet, and none is lost.
+
+What must be answered is told here from the request alone, without the rules; short runs are held to the independent program too."""
+
+import argparse
+import contextlib
+import random
+import subprocess
+import sys
+import threading
+from typing import Callable, NamedTuple
+
+from failing import Cases, altered, independent
+from real import UNLIMITED, Wrong, corpus, must
+from running import around, left_out
+
+MOST_SPARES, NUMBERS, LIMIT = 8, 65536, 1000000
+REAL = 'tt_v17_ecm_v0.a2b'
+BASE_UNKNOWN, NUMBERS_PASSED = b'FF0A0000', b'FF100000'
+CHUNK = 1000  # packets that are written at once
+
+
+class Run(NamedTuple):
+    """A run: k spares, so many packets, how the line loses, and how a packet is made from a random source and its number."""
+
+    k: int
+    length: int
+    loses: str
+    packet: Callable = None
+
+    @property
+    def name(self):
+        """In words."""
+        return '%d spares, %d packets%s, %s' % (self.k, self.length, ' of a real call' if self.packet else '', LOSSES[self.loses])
+
+    def source(self):
+        """A random source, the same each time."""
+        return random.Random('%d %d %s' % (self.k, self.length, self.loses))
+
+
+LOSSES = {'none': 'none lost', 'most': 'as many lost as may be', 'some': 'some lost', 'many': 'many lost', 'over': 'one too many lost'}
+
+
+def arrivals(run, r):
+    """For each packet whether its datagram arrives: never more than k are lost in a row, and the last one arrives."""
+    chance, in_a_row = {'none': 0, 'most': 1, 'some': 0.2, 'many': 0.7, 'over': 1}[run.loses], 0
+    for number in range(run.length):
+        lost = number < run.length - 1 and in_a_row < run.k + (run.loses == 'over') and r.random() < chance
+        in_a_row = in_a_row + 1 if lost else 0
+        yield not lost
+
+
+def short_packet(r):
+    """A packet of one to eight octets, zeros among them."""
+    return bytes(r.choice((0, 0, r.randrange(256))) for _ in range(r.choice((1, 2, 2, 3, 8))))
+
+
+def length_of(octets):
+    """A length as a datagram has it."""
+    return b'%02X' % len(octets) if len(octets) < 128 else b'%04X' % (0x8000 + len(octets))
+
+
+def digits(octets):
+    """Octets in hexadecimal."""
+    return octets.hex().upper().encode()
+
+
+def steps(run):
+    """For each packet: number, packet, its datagram in hexadecimal, whether it arrives, and what is then released, as pairs."""
+    r, last, waiting = run.source(), [], []
+    for number, arrives in enumerate(arrivals(run, run.source())):
+        packet = run.packet(number) if run.packet else short_packet(r)
+        spares = b''.join(length_of(spare) + digits(spare) for spare in last)
+        datagram = b'%04X' % (number % NUMBERS) + length_of(packet) + digits(packet) + b'00%02X' % len(last) + spares
+        last = [packet] + last[:run.k - 1]
+        waiting.append((number, packet))
+        yield number, packet, datagram, arrives, waiting if arrives else []
+        if arrives:
+            waiting = []
+
+
+def as_calls(run):
+    """The run as lines of the calls program, each with the answer that it must have; at the end the counts."""
+    received = spares = 0
+    for number, packet, datagram, arrives, released in steps(run):
+        size = len(datagram) // 2
+        yield b'21%04X' % len(packet) + digits(packet) + b'00%02X00%04X' % (run.k, size + 1), b'00%04X' % size + datagram + b'A5'
+        if not arrives:
+            continue
+        yield b'11' + datagram, b'00'
+        for at, sent in released:
+            received, spares = received + (at == number), spares + (at != number)
+            yield (b'1200%04X' % (len(sent) + 1),
+                   b'00%02X%04X%04X%04X' % (at != number, at % NUMBERS, number % NUMBERS, len(sent)) + digits(sent) + b'A5')
+        yield b'12000000', NUMBERS_PASSED if number + 1 == LIMIT else BASE_UNKNOWN
+    yield b'14', b'00%08X%08X%08X%08X' % (received, spares, 0, 0)
+
+
+def one_too_many(run):
+    """k and one more lost in a row: when the next arrives, the first of them is still waiting, and nothing is released."""
+    for number, packet, datagram, arrives, _ in steps(run):
+        size = len(datagram) // 2
+        yield b'21%04X' % len(packet) + digits(packet) + b'00%02X00%04X' % (run.k, size), b'00%04X' % size + datagram
+        if arrives:
+            yield b'11' + datagram, b'00'
+            yield b'12000000', BASE_UNKNOWN
+    yield b'14', b'00' + bytes(16).hex().encode()
+
+
+def as_lines(run):
+    """The run as lines of the program, each with its results as one text."""
+    for number, _, datagram, arrives, released in steps(run):
+        if arrives:
+            yield datagram, b'\n'.join(b'%02X%04X' % (at != number, at % NUMBERS) + digits(sent) for at, sent in released)
+
+
+def check(command, made, run):
+    """A program over a run: what it writes is what must be, to the last character, and it ends well."""
+    process = subprocess.Popen(command, shell=True, stdin=subprocess.PIPE, stdout=subprocess.PIPE)
+    writer = threading.Thread(target=write_all, args=(process.stdin, made, run), daemon=True)
+    writer.start()
+    try:
+        for at, (line, expected) in enumerate(made(run), 1):
+            for one in expected.split(b'\n'):
+                told = process.stdout.readline()
+                must(told == one + b'\n', '%s, line %d, %s: expected %s, written %s', run.name, at, around(line, 0), around(one, 0),
+                     around(told.rstrip(b'\n'), 0) or 'nothing')
+        must(not process.stdout.read(1), '%s: more is written', run.name)
+        writer.join()
+        must(process.wait() == 0, '%s: status %d', run.name, process.returncode)
+    except Wrong:
+        while process.stdout.read(1 << 16):  # so that the program can end by itself
+            pass
+        raise
+    finally:
+        process.kill()
+        process.stdout.close()
+        process.wait()
+    return at
+
+
+def write_all(stream, made, run):
+    """Writes all lines, in pieces."""
+    piece = []
+    with contextlib.suppress(BrokenPipeError), stream:
+        for line, _ in made(run):
+            piece.append(line + b'\n')
+            if len(piece) == CHUNK:
+                stream.write(b''.join(piece))
+                piece.clear()
+        stream.write(b''.join(piece))
+
+
+def runs():
+    """The runs: short ones and a real call for each k, and some around 65,536 packets."""
+    real = corpus(REAL)
+    for k in range(1, MOST_SPARES + 1):
+        for length, loses in ((1, 'none'), (k + 1, 'most'), (2 * k + 3, 'most'), (300, 'some'), (300, 'many'), (300, 'most')):
+            yield Run(k, length, loses)
+        yield Run(k, len(real), 'many', real.__getitem__)
+    for k, length, loses in ((1, NUMBERS - 1, 'many'), (8, NUMBERS, 'most'), (3, NUMBERS + 1, 'many')):
+        yield Run(k, length, loses)
+
+
+def checks(arguments):
+    """All checks: a name, and what does it."""
+    given = list(runs()) + ([Run(3, LIMIT, 'many')] if arguments.limit else [])
+    for run in given:
+        if arguments.calls:
+            yield 'calls: ' + run.name, lambda r=run: check(arguments.calls, as_calls, r)
+        if arguments.program:
+            yield 'program: ' + run.name, lambda r=run: check(arguments.program, as_lines, r)
+    for k in range(1, MOST_SPARES + 1):
+        if arguments.calls:
+            run = Run(k, k + 2, 'over')
+            yield 'calls: ' + run.name, lambda r=run: check(arguments.calls, one_too_many, r)
+
+
+def self_test():
+    """Wrong programs, and what is said of each; the independent one passes all short runs."""
+    test, calls, program = Cases('sold_line.py'), independent(), independent('program')
+    short = [run for run in runs() if run.length < 1000]
+    for run in short[-7:] + short[:7]:
+        test.passes('calls: ' + run.name, check, calls, as_calls, run)
+        test.passes('program: ' + run.name, check, program, as_lines, run)
+    for k in (1, MOST_SPARES):
+        test.passes('one too many lost of %d' % k, check, calls, one_too_many, Run(k, k + 2, 'over'))
+    line = Run(3, 40, 'many')
+    test.fails('one too many lost, and nothing waits', 'expected 00010000', check, calls, as_calls, Run(2, 4, 'over'))
+    for how, words in (('calls 21 -1', 'line 1, 21'), ('calls 11 1', 'expected 00, written 01'), ('calls spares', 'expected 0001'),
+                       ('calls 12 2', 'expected 0000'), ('calls 12 7', 'expected 0000'), ('calls 12 16', 'expected 0000'),
+                       ('calls 14 9', 'expected 00000000')):
+        test.fails('calls, ' + how, words, check, altered(how), as_calls, line)
+    for how in ('program spares', 'program 00 5', 'program 01 6'):
+        test.fails(how, 'expected 0', check, altered(how), as_lines, line)
+    for how, words in ((' | head -n 20', 'written nothing'), ('; echo 00', 'more is written'), ('; exit 3', 'status 3')):
+        test.fails('calls' + how, words, check, calls + how, as_calls, line)
+    marks = list(arrivals(Run(2, UNLIMITED // 10 ** 4, 'many'), random.Random(1)))
+    test.says('never more than k lost in a row, the last one arrives', '2 True',
+              '%d %s' % (max(map(len, ''.join('.x'[not one] for one in marks).split('.'))), marks[-1]))
+    test.ends('a wrong program', 1, '0 passed, 1 failed', [sys.executable, __file__, '--calls', altered('calls 14 9')])
+    test.ends('no command', 2, 'a command is needed', [sys.executable, __file__])
+    test.end()
+
+
+def main():
+    """Does each check; ends with status 1 at the first that is wrong."""
+    parser = argparse.ArgumentParser(description=__doc__)
+    parser.add_argument('--calls', help='shell command of the calls program under test')
+    parser.add_argument('--program', help='shell command of the program under test')
+    parser.add_argument('--limit', action='store_true', help='also a run of 1,000,000 packets')
+    parser.add_argument('--self-test', action='store_true', help='check that wrong programs are reported')
+    arguments = parser.parse_args()
+    if arguments.self_test:
+        self_test()
+        return
+    if not (arguments.calls or arguments.program):
+        parser.error('a command is needed: --calls, --program or both')
+    passed = 0
+    for name, one in checks(arguments):
+        try:
+            print('ok %s; %d lines' % (name, one()), flush=True)
+        except Wrong as wrong:
+            print('wrong %s' % wrong)
+            print('%d passed, 1 failed' % passed)
+            sys.exit(1)
+        passed += 1
+    for line in left_out(arguments):
+        print(line)
+    print('%d passed, 0 failed' % passed)
+
+
+if __name__ == '__main__':
+    main()
