@@ -5,7 +5,7 @@ import argparse
 import collections
 import sys
 
-from making import conversations, edges, frames, images, notes, outside, packed, placed, replays, single, traces
+from making import conversations, edges, frames, images, mendings, notes, outside, packed, placed, replays, single, traces
 from making.lines import program_lines
 from making.script import Full, Script
 
@@ -25,8 +25,11 @@ IMAGES = (images.written, images.read_back, images.handed_over, images.misshapen
           images.no_session, images.another, images.no_edition, images.moved, images.texts, images.great, outside.receiving_outside)
 TRACES = (traces.told, traces.told, traces.told, traces.repeated, traces.repeated, traces.recorded, traces.unreadable, traces.long_ones,
           traces.edges, traces.no_calls)
+MENDINGS = (mendings.honest, mendings.honest, mendings.crossed, mendings.crossed, mendings.crossed, mendings.crossed,
+            mendings.crossed_altered, mendings.contradicting, mendings.contradicting, mendings.any_messages, mendings.far_apart,
+            mendings.full_table, mendings.outside, mendings.no_calls)
 SCENES = (2 * SINGLE + (placed.datagrams,) + SESSIONS + FRAMES + PACKETS[:7] + REPLAYS[:1] + REPLAYS[2:] + IMAGES[:5] + IMAGES[7:11]
-          + TRACES[2:])
+          + TRACES[2:8:2] + MENDINGS[5:7] + MENDINGS[8:12:2])
 
 
 def make_script(seed, count, scenes=SCENES):

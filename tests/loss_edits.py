@@ -4,6 +4,7 @@ PLAYING, LOSS, PICTURE = 'playing.py', 'loss.py', 'picture.py'
 TABLE, BURSTS, GIVE_UPS, SEED = 'the table as replay answered', 'bursts', 'give-ups', 'the seed'
 DRAWN, ODD, PROVED = 'the picture', 'odd traces', 'programs proved first'
 TRACES, RECEIVE, REPLAY = 'traces that are refused', 'a wrong receive', 'a wrong replay'
+SOLVED, CALLS = 'what only solving brings back', 'a wrong calls'
 EDITS = (
     ('columns in another order', LOSS, '(row.dropped, *row.counts)', '(row.dropped, *row.counts[::-1])', TABLE, 'spares, 0 %: [0, 0, '),
     ('other heads', LOSS, "'received', 'spare', ", "'spare', 'received', ", TABLE, 'spares: no head'),
@@ -32,14 +33,14 @@ EDITS = (
     ('no percents', PICTURE, '[percent_text(row.percent) for row in rows]', '[]', DRAWN, 'not shown: dropped by the line, '),
     ('areas that are not stacked', PICTURE, 'below = above', 'pass', DRAWN, 'the area of '),
     ('an area too high', PICTURE, 'for x, count in zip(places, above)', 'for x, count in zip(places, above[::-1])', DRAWN, 'the area of '),
-    ('an area left out', PICTURE, 'for kind, colour in enumerate(COLOURS):', 'for kind, colour in enumerate(COLOURS[:3]):', DRAWN, 'area'),
+    ('an area left out', PICTURE, 'for kind, colour in enumerate(COLOURS):', 'for kind, colour in enumerate(COLOURS[:4]):', DRAWN, 'area'),
     ('empty lines as they are', LOSS, " if line]", ']', ODD, 'replay released or lost 121 numbers of 120'),
     ('a datagram too far ahead does not read', PLAYING, '(REPEATED, AHEAD, LATE)', '(REPEATED, LATE)', ODD, 'not 120 numbers'),
     ('what does not read is a datagram', PLAYING, 'not in (REPEATED, AHEAD, LATE)', '< 0', ODD, 'it begins with number 128'),
     ('numbers told for datagrams', LOSS, 'sum(number in dropped for number in trace.numbers)', 'len(dropped)', ODD, ' listed'),
     ('a call from its middle', LOSS, 'VIEW <= first < 32768', 'False', TRACES, 'the middle of a call: status 0'),
     ('no call', LOSS, 'first is None', 'False', TRACES, 'no trace: status 1, Traceback'),
-    ('an end without a word', PLAYING, "raise Wrong('receive ended before its time')", 'raise SystemExit(1)', RECEIVE,
+    ('an end without a word', PLAYING, "raise Wrong('%s ended before its time' % self.name)", 'raise SystemExit(1)', RECEIVE,
      'receive that ends: status 1, '),
     ('a give-up that is not seen', PLAYING, "raise Wrong('receive does not give up", "return str('receive does not give up", RECEIVE,
      'receive that does not give up: status'),
@@ -49,4 +50,20 @@ EDITS = (
     ('counts of no trace passed on', LOSS, 'if not COUNTS.fullmatch(line)', 'if line', PROVED, 'received 0, spare 0'),
     ('nothing passed on', LOSS, 'if not COUNTS.fullmatch(line)', 'if not line', PROVED, 'status 0, loss: the picture'),
     ('a program that is not proved', LOSS, 'if made.returncode:', 'if False:', PROVED, 'status 0, receive: 1 of 1'),
-    ('numbers that did not leave', LOSS, 'sum(counts) != trace.last + 1', 'False', REPLAY, 'too few numbers: status'))
+    ('numbers that did not leave', LOSS, 'sum(counts) != trace.last + 1', 'False', REPLAY, 'too few numbers: status'),
+    ('lost as if nothing were solved', LOSS, 'lost - lost_even_so, lost_even_so)', 'lost - lost_even_so, lost)', TABLE, ', answered ['),
+    ('solved told as lost', LOSS, 'lost - lost_even_so, lost_even_so)', '0, lost)', SOLVED, ': solved and lost [0, '),
+    ('dropped datagrams are heard', LOSS, 'number is not None and number not in dropped', 'number is not None', SOLVED,
+     'another trace is heard'),
+    ('solved too late', LOSS, 'Solver(commands.calls, patience)', 'Solver(commands.calls, patience + 1)', SOLVED, ': not given up in time'),
+    ('solved too early', LOSS, 'Solver(commands.calls, patience)', 'Solver(commands.calls, patience - 1)', SOLVED, ': too early'),
+    ('not solved to the end', LOSS, 'solver.give_up_to(trace.last)', 'pass', SOLVED, 'calls released or lost '),
+    ('nothing solved', PLAYING, "self.must('solve', self.written(b'1A'), DONE, CONTRADICTION)", 'pass', SOLVED,
+     'given up before all is solved'),
+    ('a known number given up', PLAYING, '            self.release()\n            if', '            if', SOLVED, ': the base is known'),
+    ('any answer', PLAYING, 'if answer not in right and answer[:4] not in right:', 'if False:', CALLS,
+     'calls that does not begin: status 0'),
+    ('counts that are not held to the releases', PLAYING, "if self.written(b'14') != DONE + ", "if self.written(b'14') == ", CALLS,
+     'other counts: status 0'),
+    ('calls that is not proved', LOSS, "proved('calls')", "'tests/run calls'", PROVED,
+     'receive: 1 of 1 proved: receive\nloss: the picture'))

@@ -1,5 +1,5 @@
 #!/usr/bin/env python3
-"""The desk tool ../loss: its table must be what the program replay answered, and its picture must show the table.
+"""The desk tool ../loss: its table must be what the programs answered, and its picture must show the table.
 
 Also looks at what it has replay play: the trace, the datagrams that it drops, and where it gives up."""
 
@@ -17,14 +17,15 @@ import xml.etree.ElementTree
 from desk import TOOLS, edited
 from failing import Cases
 from loss_edits import EDITS
-from loss_tool import NAME, PYTHON, SPARES, Loss, without_progress
+from loss_solved import solved_together, wrong_calls
+from loss_tool import NAME, PYTHON, SPARES, Loss, refused, without_progress
 from real import Wrong, must
 from running import text_of
 from standing_in import StandingIn, number_of, quick_program
 
 KINDS = b'00', b'01', b'02', b'03'
-WORDS = 'received', 'from a spare copy', 'repaired by parity', 'lost'
-HEAD = re.compile(r' +dropped +datagrams +received +spare +repaired +lost\n')
+WORDS = 'received', 'from a spare copy', 'repaired by parity', 'only by solving', 'lost'
+HEAD = re.compile(r' +dropped +datagrams +received +spare +repaired +solved +lost\n')
 SVG = '{http://www.w3.org/2000/svg}'
 NO_TRACE = 'no line of it is a datagram in hexadecimal; tools/lines-of makes a trace of a capture\n'
 PLAYED = 'datagrams sent, 0 to 30 % of them dropped in bursts of 1 to 5 (seed 1); a number is given up when one 8 later was heard'
@@ -41,6 +42,7 @@ def counted(loss):
         for (percent, dropped, *counts), call in zip(ran.rows, ran.calls):
             where = '%s, %g %%' % (name, percent)
             told = [sum(result[:2] == kind for result in call.results) for kind in KINDS]
+            counts[3:] = [sum(counts[3:])]  # lost where nothing is solved
             must(counts == told, '%s: %s, answered %s', where, counts, told)
             program = quick_program()
             for line in call.lines:
@@ -65,7 +67,7 @@ def nothing_dropped(loss):
     """With nothing dropped all is received and nothing lost."""
     for lines in (loss.spares, loss.parity):
         first = loss.table(lines, '--steps', '1').rows[0]
-        must(first == [0, 0, len(lines), 0, 0, 0], 'at 0 %%: %s', first)
+        must(first == [0, 0, len(lines), 0, 0, 0, 0], 'at 0 %%: %s', first)
 
 
 def dropped_in_bursts(loss):
@@ -115,7 +117,7 @@ def pictured(loss):
     texts = [(float(text.get('y')), float(text.get('x')), text.text) for text in svg.iter(SVG + 'text')]
     shown = [[words for y, x, words in sorted(texts) if y == height] for height in sorted({y for y, _, _ in texts})]
     heads = ('dropped by the line', 'datagrams dropped', *WORDS)
-    columns = [['%g %%' % row[0] for row in ran.rows]] + [[str(row[at]) for row in ran.rows] for at in range(1, 6)]
+    columns = [['%g %%' % row[0] for row in ran.rows]] + [[str(row[at]) for row in ran.rows] for at in range(1, 7)]
     for head, column in zip(heads, columns):
         must([head, *column] in shown, 'not shown: %s, %s', head, column)
     must('share of all %d packets' % len(loss.parity) in (words for _, _, words in texts), 'the axis is not named')
@@ -125,7 +127,7 @@ def pictured(loss):
     for kind, area in enumerate(areas):
         for row, above, below in zip(ran.rows, area[:len(ran.rows)], reversed(area[len(ran.rows):])):
             must(abs((below[1] - above[1]) - scale * row[2 + kind]) < 0.2, 'the area of %s at %g %%: %s', WORDS[kind], row[0], area)
-    must(len(areas) == 4 and scale > 1, '%d areas', len(areas))
+    must(len(areas) == 5 and scale > 1, '%d areas', len(areas))
 
 
 def odd_traces(loss):
@@ -138,14 +140,7 @@ def odd_traces(loss):
         must(sum(result.startswith(b'FF0F') for result in call.results) == 1, 'a line that does not read is not played')
         listed = sum(number_of(line) in call.numbers for line in lines)
         must(listed == dropped, '%d dropped, %d listed', dropped, listed)
-    must(ran.rows[0][1:] == [0, 78, 4, 0, 38], 'as recorded: %s', ran.rows[0])
-
-
-def refused(name, loss, lines, words):
-    """What cannot be played is told in words, with status 1."""
-    ran = loss.ran(lines, '--steps', '1')
-    right = ran.status == 1 and not ran.written and words in ran.said and ran.said.count('\n') == 1
-    must(right, '%s: status %d, %s%s', name, ran.status, ran.written, ran.said)
+    must(ran.rows[0][1:] == [0, 78, 4, 0, 0, 38], 'as recorded: %s', ran.rows[0])
 
 
 def wrong_traces(loss):
@@ -161,7 +156,7 @@ def wrong_receive(loss):
             ('receive that ends', SPARES, 'sed -u 5q | ' + loss.receive, 'receive ended before its time\n'),
             ('receive that is not there', SPARES, 'exit 3', 'receive ended before its time\n'),
             ('receive that does not give up', SPARES[8:31], loss.receive + ' | sed -u s/^03/FF/', 'receive does not give up: FF0000\n')):
-        refused(name, Loss(receive, loss.replay, loss.tools), lines, words)
+        refused(name, Loss(receive, loss.replay, loss.calls, loss.tools), lines, words)
 
 
 def wrong_replay(loss):
@@ -172,7 +167,7 @@ def wrong_replay(loss):
             ('replay without counts', 'true', 'replay ended with status 0: \n'),
             ('other counts', loss.replay + ' /dev/null; echo 000000; true', 'replay tells other counts than its lines have\n'),
             ('too few numbers', loss.replay + ' /dev/null; true', 'replay released or lost 0 numbers of 160\n')):
-        refused(name, Loss(loss.receive, replay, loss.tools), SPARES, words)
+        refused(name, Loss(loss.receive, replay, loss.calls, loss.tools), SPARES, words)
 
 
 def proved_first(loss):
@@ -182,13 +177,15 @@ def proved_first(loss):
         shutil.copytree(loss.tools, folder / 'tools', ignore=shutil.ignore_patterns('__pycache__'))
         for name, text in (('receive', 'echo receive: 1 of 1 proved: receive >&2; exit ${RECEIVE-0}'),
                            ('replay', '[ "$*" = /dev/null ] && echo received 0, spare 0, repaired 0, lost 0 >&2'),
-                           ('run', 'name=$1; shift; case $name in receive) %s ;; replay) %s "$@" ;; esac' % (loss.receive, loss.replay))):
+                           ('calls', 'echo calls: 1 of 1 proved: calls >&2'),
+                           ('run', 'name=$1; shift; case $name in receive) %s ;; replay) %s "$@" ;; calls) %s ;; esac'
+                            % (loss.receive, loss.replay, loss.calls))):
             path = folder / ('tests/run' if name == 'run' else name)
             path.parent.mkdir(exist_ok=True)
             path.write_text('#!/bin/sh\n%s\n' % text)
             path.chmod(0o755)
         (folder / 'a.hex').write_bytes(text_of(SPARES[:9]))
-        for status, said in (('0', 'receive: 1 of 1 proved: receive\nloss: the picture is in a.svg\n'),
+        for status, said in (('0', 'receive: 1 of 1 proved: receive\ncalls: 1 of 1 proved: calls\nloss: the picture is in a.svg\n'),
                              ('3', 'receive: 1 of 1 proved: receive\nloss: a.hex: receive cannot be run\n')):
             ended = subprocess.run([*PYTHON, 'tools/loss.py', '--steps', '1', 'a.hex'], cwd=directory, stdout=subprocess.PIPE,
                                    stderr=subprocess.PIPE, text=True, env={**os.environ, 'RECEIVE': status})
@@ -201,7 +198,7 @@ CHECKS = {
     'the table as replay answered': counted, 'without options': without_options, 'nothing dropped': nothing_dropped,
     'bursts': dropped_in_bursts, 'give-ups': given_up, 'the seed': seeded, 'the picture': pictured, 'odd traces': odd_traces,
     'traces that are refused': wrong_traces, 'a wrong receive': wrong_receive, 'a wrong replay': wrong_replay,
-    'programs proved first': proved_first}
+    'what only solving brings back': solved_together, 'a wrong calls': wrong_calls, 'programs proved first': proved_first}
 
 
 def self_test():
@@ -215,8 +212,9 @@ def self_test():
             with tempfile.TemporaryDirectory() as directory:
                 test.fails(name, words, CHECKS[check], Loss(*commands, edited(directory, part, old, new), 60))
         command = [sys.executable, __file__]
-        test.ends('a wrong tool', 1, '0 passed, 1 failed', [*command, '--receive', commands[0], '--replay', 'false'])
-        test.ends('no command', 2, 'two commands are needed', command)
+        test.ends('a wrong tool', 1, '0 passed, 1 failed',
+                  [*command, '--receive', commands[0], '--replay', 'false', '--calls', commands[2]])
+        test.ends('no command', 2, 'three commands are needed', command)
     test.end()
 
 
@@ -225,16 +223,18 @@ def main():
     parser = argparse.ArgumentParser(description=__doc__)
     parser.add_argument('--receive', help='shell command of the program receive')
     parser.add_argument('--replay', help='shell command of the program replay, before a trace and numbers')
+    parser.add_argument('--calls', help='shell command of the program calls')
     parser.add_argument('--tools', type=pathlib.Path, default=TOOLS, help='the folder of the tool under test')
     parser.add_argument('--self-test', action='store_true', help='check that wrong tools are reported')
     arguments = parser.parse_args()
     if arguments.self_test:
         self_test()
         return
-    if not (arguments.receive and arguments.replay):
-        parser.error('two commands are needed: --receive and --replay')
+    if not (arguments.receive and arguments.replay and arguments.calls):
+        parser.error('three commands are needed: --receive, --replay and --calls')
     here = 'cd %s && ' % shlex.quote(os.getcwd())
-    loss = Loss('(%s%s)' % (here, arguments.receive), here + arguments.replay, arguments.tools)
+    receive, calls = ('(%s%s)' % (here, command) for command in (arguments.receive, arguments.calls))
+    loss = Loss(receive, here + arguments.replay, calls, arguments.tools)
     for passed, (name, check) in enumerate(CHECKS.items()):
         try:
             remark = check(loss)

@@ -1,4 +1,4 @@
-"""The desk tool ../loss, run over a trace, with what it has replay play. A part of loss_table.py."""
+"""The desk tool ../loss, run over a trace, with what it has replay play and what it asks calls. A part of loss_table.py."""
 
 import pathlib
 import re
@@ -15,7 +15,7 @@ from running import lines_of, text_of
 SPARES, PARITY = (lines_of((CORPUS / ('tt_v17_ecm_v0.a2b.%s.hex' % name)).read_bytes()) for name in ('k3', 'n3m2'))
 NAME = 'a & b.hex'
 PYTHON = sys.executable, '-E', '-S'  # it starts sooner so
-ROW = re.compile(r' *([0-9.]+) %' + r' +([0-9]+)' * 5)
+ROW = re.compile(r' *([0-9.]+) %' + r' +(-?[0-9]+)' * 6)
 # A shell command that runs another before a trace and numbers, and keeps what that was given and what it answered.
 KEEPING = '''keep() {
     folder=%s; count=0; [ ! -f "$folder/count" ] || read -r count <"$folder/count"
@@ -25,6 +25,10 @@ KEEPING = '''keep() {
     status=$?; cat "$at.results"; return $status
 }
 keep'''
+# A shell command that runs another, and keeps what that was asked and what it answered.
+LISTENING = '''folder=%s; count=0; [ ! -f "$folder/talks" ] || read -r count <"$folder/talks"
+at=$folder/$count; echo $((count + 1)) >"$folder/talks"
+tee "$at.asked" | (%s) | tee "$at.answered"'''
 
 
 def without_progress(said):
@@ -39,46 +43,69 @@ class Call(typing.NamedTuple):
     results: list
 
 
+class Talk(typing.NamedTuple):
+    """What calls was asked, line by line, and what it answered."""
+    asked: list
+    answered: list
+
+
 def kept(path):
     """A call of replay, from the file with its results."""
     given, numbers = path.with_suffix('.trace').read_bytes(), path.with_suffix('.numbers').read_text()
     return Call(lines_of(given), list(map(int, numbers.split())), lines_of(path.read_bytes()))
 
 
+def in_order(folder, ending):
+    """The files with this ending, which have the names 0, 1, 2 .."""
+    return sorted(folder.glob('*' + ending), key=lambda path: int(path.stem))
+
+
 class Ran(typing.NamedTuple):
-    """A run of loss: its status, the rows of its table, all that it wrote and said, its picture, and the calls of replay."""
+    """A run of loss: its status, its rows, all that it wrote and said, its picture, the calls of replay, and the talks with calls."""
     status: int
     rows: list
     written: str
     said: str
     picture: str
     calls: list
+    talks: list
 
 
 class Loss:
     """../loss as its parts stand in a folder, with the programs that it drives, and so many lines of the traces that it is given."""
 
-    def __init__(self, receive, replay, tools=TOOLS, most=None):
-        self.receive, self.replay, self.tools = receive, replay, tools
+    def __init__(self, receive, replay, calls, tools=TOOLS, most=None):
+        self.receive, self.replay, self.calls, self.tools = receive, replay, calls, tools
         self.spares, self.parity = SPARES[:most], PARITY[:most]
 
-    def ran(self, lines, *options):
-        """One run over a trace of these lines."""
+    def ran(self, lines, *options, listens=True):
+        """One run over a trace of these lines. A program calls that ends too soon is not listened to: its end would not be seen."""
         with tempfile.TemporaryDirectory() as directory:
             folder = pathlib.Path(directory)
             (folder / NAME).write_bytes(text_of(lines))
             keeping = KEEPING % (shlex.quote(directory), self.replay)
-            command = [*PYTHON, str(self.tools / 'loss.py'), '--receive', self.receive, '--replay', keeping, *options, NAME]
+            listening = LISTENING % (shlex.quote(directory), self.calls) if listens else self.calls
+            programs = '--receive', self.receive, '--replay', keeping, '--calls', listening
+            command = [*PYTHON, str(self.tools / 'loss.py'), *programs, *options, NAME]
             ended = subprocess.run(command, cwd=directory, stdout=subprocess.PIPE, stderr=subprocess.PIPE, text=True)
             matches = map(ROW.fullmatch, ended.stdout.splitlines())
             rows = [[float(match[1]), *map(int, match.groups()[1:])] for match in matches if match]
             picture = folder / NAME.replace('.hex', '.svg')
-            calls = [kept(path) for path in sorted(folder.glob('*.results'), key=lambda path: int(path.stem))]
+            calls = [kept(path) for path in in_order(folder, '.results')]
+            talks = [Talk(*(lines_of(path.with_suffix(end).read_bytes()) for end in ('.asked', '.answered')))
+                     for path in in_order(folder, '.asked')]
             said = without_progress(ended.stderr)
-            return Ran(ended.returncode, rows, ended.stdout, said, picture.read_text() if picture.exists() else '', calls)
+            return Ran(ended.returncode, rows, ended.stdout, said, picture.read_text() if picture.exists() else '', calls, talks)
 
     def table(self, lines, *options):
         """One run that must end well."""
         ran = self.ran(lines, *options)
         must(ran.status == 0, 'status %d: %s', ran.status, ran.said)
         return ran
+
+
+def refused(name, loss, lines, words):
+    """What cannot be played is told in words, with status 1."""
+    ran = loss.ran(lines, '--steps', '1', listens=False)
+    right = ran.status == 1 and not ran.written and words in ran.said and ran.said.count('\n') == 1
+    must(right, '%s: status %d, %s%s', name, ran.status, ran.written, ran.said)

@@ -25,6 +25,8 @@ from failing import Cases
 from format_mutants import DATAGRAM_MUTANTS, PACKET_MUTANTS
 from image_mutants import IMAGE_MUTANTS
 from joiner_mutants import JOINER_MUTANTS
+from mend_mutants import MEND_MUTANTS
+from mended import MENDING_SEEDS, made_mendings
 from note_mutants import NOTE_MUTANTS
 from pencil_mutants import PENCIL_MUTANTS
 from place_mutants import PLACE_MUTANTS
@@ -37,9 +39,9 @@ HERE = pathlib.Path(__file__).resolve().parent
 MUTANTS = {kind: rows + PLACE_MUTANTS.get(kind, ()) + NOTE_MUTANTS.get(kind, ()) for kind, rows in (
     ('calls', DATAGRAM_MUTANTS + SESSION_MUTANTS), ('packets', PACKET_MUTANTS + PENCIL_MUTANTS + EDITION_MUTANTS),
     ('joiner', JOINER_MUTANTS), ('replays', REPLAY_MUTANTS), ('images', IMAGE_MUTANTS), ('traces', TRACE_MUTANTS),
-    ('program', PROGRAM_MUTANTS))}
+    ('mendings', MEND_MUTANTS), ('program', PROGRAM_MUTANTS))}
 SEEDS = {'calls': CALL_SEEDS, 'packets': PACKET_SEEDS, 'joiner': FRAME_SEEDS, 'replays': REPLAY_SEEDS, 'images': IMAGE_SEEDS,
-         'traces': TRACE_SEEDS, 'program': PROGRAM_SEEDS}
+         'traces': TRACE_SEEDS, 'mendings': MENDING_SEEDS, 'program': PROGRAM_SEEDS}
 
 
 class Different(BaseException):
@@ -150,7 +152,8 @@ def input_at(kind, number):
     """The inputs that mutants are tried with, one after the other: a name, what is given, what is expected; None past the last."""
     name, made = {'calls': ('script', made_calls), 'packets': ('packet script', made_packets), 'joiner': ('joiner script', made_frames),
                   'replays': ('replay script', made_replays), 'images': ('image script', made_images),
-                  'traces': ('trace script', made_traces), 'program': ('lines', made_lines)}[kind]
+                  'traces': ('trace script', made_traces), 'mendings': ('mending script', made_mendings),
+                  'program': ('lines', made_lines)}[kind]
     cases = list(stored('.lines', '.results')) if kind == 'program' and number else []
     if 0 < number <= len(cases):
         return cases[number - 1]
@@ -213,7 +216,8 @@ def self_test():
                                  ('joiner', 'joining', 'len(whole) > FRAME_LIMIT', 'len(whole) >= FRAME_LIMIT + 1'),
                                  ('replays', 'replaying', 'number in numbers', 'number in set(numbers)'),
                                  ('images', 'images', 'value > most', 'value >= most + 1'),
-                                 ('traces', 'comparing', '2 * len(entries) > room', 'len(entries) > room // 2')):
+                                 ('traces', 'comparing', '2 * len(entries) > room', 'len(entries) > room // 2'),
+                                 ('mendings', 'mending', 'len(change & equation.unknown) % 2', 'len(change & equation.unknown) & 1')):
         test.fails('an edit of %s that changes no answer' % name, 'NOT FOUND: same\n1 passed, 1 failed\nSystemExit: 1', try_all,
                    {kind: MUTANTS[kind][:1] + (('same', name, old, new),)})
     test.fails('an edit of the program that changes no result', 'NOT FOUND: same\n0 passed, 1 failed\nSystemExit: 1', try_all,

@@ -1,4 +1,4 @@
-"""The independent program in place of receive and replay, for the self-test of loss_table.py.
+"""The independent program in place of receive, replay and calls, for the self-test of loss_table.py.
 
 Their shell commands ask threads of this process through pipes in a folder: so no run of a program has to start Python."""
 
@@ -11,12 +11,13 @@ import sys
 import threading
 
 from independent import lines_of
+from rules.calls import Calls
 from rules.datagrams import read_datagram
 from rules.program import Program
 from rules.refusals import Refusal
 from running import text_of
 
-RECEIVE = '''cd %s && mkfifo $$.in $$.out && echo receive $$ >asked
+TALKING = '''cd %s && mkfifo $$.in $$.out && echo NAME $$ >asked
 cat $$.out & cat >$$.in
 wait; rm $$.in $$.out
 '''
@@ -42,35 +43,53 @@ def quick_program():
     return program
 
 
+class QuickCalls(Calls):
+    """The calls, from a fresh session on, likewise."""
+
+    def fresh_receiving(self, arguments):
+        done = super().fresh_receiving(arguments)
+        self.receiving.in_ranges = lambda: True
+        return done
+
+
 class StandingIn:
-    """Both programs as shell commands, in a folder. This process answers them before it ends, where it is told to end too."""
+    """The programs as shell commands, in a folder. This process answers them before it ends, where it is told to end too."""
 
     def __init__(self, folder):
         signal.signal(signal.SIGTERM, lambda *_: sys.exit(1))
         self.folder = pathlib.Path(folder)
-        for name, text in (('receive', RECEIVE), ('replay', REPLAY)):
-            (self.folder / name).write_text(text % shlex.quote(folder))
+        for name, text in (('receive', TALKING), ('replay', REPLAY), ('calls', TALKING)):
+            (self.folder / name).write_text((text % shlex.quote(folder)).replace('NAME', name))
         os.mkfifo(self.folder / 'asked')
         threading.Thread(target=self.answer_all, daemon=True).start()
 
     def commands(self):
-        """The shell commands of receive and of replay."""
-        return tuple('sh %s' % shlex.quote(str(self.folder / name)) for name in ('receive', 'replay'))
+        """The shell commands of receive, of replay and of calls."""
+        return tuple('sh %s' % shlex.quote(str(self.folder / name)) for name in ('receive', 'replay', 'calls'))
 
     def answer_all(self):
         """Has each command answered that asks: a line with the program, the name of its pipes, and its arguments."""
         with os.fdopen(os.open(self.folder / 'asked', os.O_RDWR)) as asked:
             for line in asked:
                 program, *arguments = line.split()
-                threading.Thread(target={'receive': self.receive, 'replay': self.replay}[program], args=arguments).start()
+                answers = {'receive': self.receive, 'replay': self.replay, 'calls': self.calls}
+                threading.Thread(target=answers[program], args=arguments).start()
 
     def receive(self, name):
         """The program's results, line by line."""
-        program = quick_program()
+        self.talk(name, quick_program().results)
+
+    def calls(self, name):
+        """The answers of calls, line by line."""
+        calls = QuickCalls()
+        self.talk(name, lambda line: [calls.answer(line)])
+
+    def talk(self, name, answers):
+        """Answers each line through the pipes of this name."""
         with open(self.folder / (name + '.in'), 'rb') as given, open(self.folder / (name + '.out'), 'wb', buffering=0) as out:
             with contextlib.suppress(BrokenPipeError):
                 for line in lines_of(given):
-                    out.write(text_of(program.results(line)))
+                    out.write(text_of(answers(line)))
 
     def replay(self, name, trace, *numbers):
         """The program's lines for the trace without the datagrams of these numbers, and the four counts on standard error."""

@@ -3,11 +3,14 @@
 
 TRACE has a datagram a line in hexadecimal, from the start of the call on; tools/lines-of makes one of a capture. Datagrams are dropped in
 bursts of 1 to 5, with one that arrives between two; with each step the same ones are dropped, and more. What was released as received,
-from a spare copy or repaired, and what was lost, is what the proved program `replay` answers.
+from a spare copy or repaired, and what was lost, is what the proved program `replay` answers. Of these losses, `solved` are those that
+a host would bring back that has all parity messages solved together before it gives up a number; `lost` are lost even so.
 
 A host does not wait for ever. Here it gives up a number when one so many later (--patience) was heard: spares come within 8 numbers, so
 it waits for 8; parity may come later. Where that is so it learns from the proved program `receive`, line by line; then `replay` plays
-the trace with an empty line at each such place. Empty lines of TRACE itself, the give-ups of another host, are left out."""
+the trace with an empty line at each such place. Empty lines of TRACE itself, the give-ups of another host, are left out. The host that
+solves hears the same, as patiently, with the proved program `calls`. Its numbers leave sooner, and what comes for them later is refused:
+should it ever lose more for that, `solved` is below 0."""
 
 import argparse
 import os
@@ -21,18 +24,18 @@ import time
 import typing
 
 from picture import percent_text, picture
-from playing import COUNTS, Host, Wrong, replayed
+from playing import COUNTS, Host, Solver, Wrong, replayed
 
 TOP = pathlib.Path(__file__).resolve().parent.parent
 WORST, BURST = 30, 5  # percent of the datagrams dropped in the last step; datagrams in a row
 VIEW = 32             # numbers from the base on that a session takes
-HEADS = 'received', 'spare', 'repaired', 'lost'
+HEADS = 'received', 'spare', 'repaired', 'solved', 'lost'
 LONGEST = 48          # characters of a name in the picture
 QUIET = 3             # seconds without a word
 
 
 class Row(typing.NamedTuple):
-    """A step: how much was to be dropped, how many datagrams were, and what `replay` counts."""
+    """A step: how much was to be dropped, how many datagrams were, and how many numbers left in each way."""
     percent: float
     dropped: int
     counts: tuple
@@ -80,10 +83,31 @@ def played(trace, dropped, commands, patience):
             else:
                 host.hear(line)
         host.give_up_to(trace.last)
-    counts = replayed(commands.replay, host.lines, sorted(dropped))
+    return all_left(trace, 'replay', replayed(commands.replay, host.lines, sorted(dropped)))
+
+
+def solved(trace, dropped, commands, patience):
+    """The trace without these numbers, heard to its end by a host that solves: the four counts."""
+    with Solver(commands.calls, patience) as solver:
+        for line, number in zip(trace.lines, trace.numbers):
+            if number is not None and number not in dropped:
+                solver.hear(line, number)
+        solver.give_up_to(trace.last)
+        return all_left(trace, 'calls', solver.told())
+
+
+def all_left(trace, name, counts):
+    """The counts of a program, if all numbers have left."""
     if sum(counts) != trace.last + 1:
-        raise Wrong('replay released or lost %d numbers of %d' % (sum(counts), trace.last + 1))
+        raise Wrong('%s released or lost %d numbers of %d' % (name, sum(counts), trace.last + 1))
     return counts
+
+
+def counted(*played_as):
+    """What is received, spare and repaired as `replay` has it, then what only solving brings back, and what is lost even so."""
+    *known, lost = played(*played_as)
+    lost_even_so = solved(*played_as)[-1]
+    return (*known, lost - lost_even_so, lost_even_so)
 
 
 def rows_of(trace, chosen):
@@ -93,7 +117,7 @@ def rows_of(trace, chosen):
     for step in range(chosen.steps + 1):
         percent = WORST * step / chosen.steps
         dropped = {numbers[place] for place in order[:round(len(numbers) * percent / 100)]}
-        yield Row(percent, sum(number in dropped for number in trace.numbers), played(trace, dropped, chosen, chosen.patience))
+        yield Row(percent, sum(number in dropped for number in trace.numbers), counted(trace, dropped, chosen, chosen.patience))
         if time.monotonic() - said > QUIET:
             said = time.monotonic()
             say('%d of %d steps done' % (step + 1, chosen.steps + 1))
@@ -132,6 +156,7 @@ def options():
     parser.add_argument('--svg', metavar='FILE', type=pathlib.Path, help="the picture; without it TRACE's name with .svg, in this folder")
     parser.add_argument('--receive', metavar='COMMAND', help='of the program receive; without it that is proved and built first')
     parser.add_argument('--replay', metavar='COMMAND', help='of the program replay, before trace and numbers; without it likewise')
+    parser.add_argument('--calls', metavar='COMMAND', help='of the program calls; without it likewise')
     return parser
 
 
@@ -161,6 +186,7 @@ def main():
         lines = [line for line in chosen.trace.read_bytes().split(b'\n') if line]
         chosen.receive = chosen.receive or proved('receive')
         chosen.replay = chosen.replay or proved('replay', os.devnull)
+        chosen.calls = chosen.calls or proved('calls')
         trace = recorded(lines, chosen.receive, chosen.patience)
         rows = list(rows_of(trace, chosen))
         print('\n'.join([remark(trace, chosen), '', *table(rows)]), flush=True)

@@ -2,8 +2,8 @@
 
 from html import escape
 
-COLOURS = '#9DBAD5', '#2E9E6B', '#F0A030', '#C62F1C'
-WORDS = 'received', 'from a spare copy', 'repaired by parity', 'lost'
+COLOURS = '#9DBAD5', '#2E9E6B', '#F0A030', '#7B4FA8', '#C62F1C'
+WORDS = 'received', 'from a spare copy', 'repaired by parity', 'only by solving', 'lost'
 LEFT, TOP, WIDTH, HEIGHT = 190, 84, 800, 320  # where the areas begin, and their least size
 MARGIN, LINE, DIGIT = 20, 24, 9               # at the edges; the height of a row of numbers; the width of a digit
 GREY, DARK = '#D0D0D0', '#505050'
@@ -39,7 +39,7 @@ class Svg:
 
 
 def picture(title, remark, rows):
-    """The picture; a row has the percent to be dropped, the datagrams dropped and the four counts."""
+    """The picture; a row has the percent to be dropped, the datagrams dropped and the five counts."""
     whole = sum(rows[0].counts)
     column = max(WIDTH / len(rows), DIGIT * (len(str(whole)) + 2))
     places = [LEFT + column * (at + 0.5) for at in range(len(rows))]

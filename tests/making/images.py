@@ -591,7 +591,7 @@ def texts(script):
     for text in r.sample(TEXTS, 12):
         restore(script, text, misshapen_as(text))
     odd = [b'18', b'1800', b'180000', b'18000000', b'1800000000', b'180000000000', b'1800000005FF', b'180001D4C1', b'18FFFFFFFF', b'19',
-           b'190', b'1901', b'190A', b'193031', b'19 ', b'1A', b'1B', b'1C']
+           b'190', b'1901', b'190A', b'193031', b'19 ', b'1B', b'1C']
     for line in r.sample(odd, 9):
         script.line(line)
     if script.chance(0.2):

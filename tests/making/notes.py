@@ -102,7 +102,7 @@ def into_view(script):
 
 
 def overwritten(script):
-    """For each state there is, notes as a caller could set them: 0, the number's own, its neighbour's, any; those outside are mended."""
+    """For each state there is, notes as a caller could set them: 0, the number's own, one near, any; those outside are mended."""
     r = script.random
     furnish(script)
     if script.chance(0.5):
@@ -116,7 +116,8 @@ def overwritten(script):
         numbers = [(held.base + d) % 65536 for d in range(-BEFORE, AFTER) if held.place(held.base + d).state == state]
         for number in r.sample(numbers, min(2, len(numbers))):
             before = script.receiving.place(number).note
-            script.overwrite(13, number, value=r.choice(ANY_NOTE + 4 * (number, (number + 1) % 65536, (number - 1) % 65536)))
+            others = [(number + step) % 65536 for step in (0, 1, -1, 64, 256)]
+            script.overwrite(13, number, value=r.choice(ANY_NOTE + 4 * tuple(others)))
             if script.receiving.in_ranges():
                 script.next(r.choice((0, PACKET_LIMIT)))
                 script.call(0x15)

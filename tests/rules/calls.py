@@ -9,6 +9,7 @@ from .editions import DATA_PACKET, INDICATOR
 from .images import read_image, write_image
 from .joining import Joiner
 from .lengths import read_length, write_length
+from .mending import mend
 from .overwriting import overwrite_joiner, overwrite_receiving, overwrite_sending
 from .packets import read_packet, write_packet
 from .pencil import read_by_bits
@@ -31,9 +32,9 @@ class Calls:
             0x01: self.read_length, 0x02: self.write_length, 0x03: self.read_datagram, 0x04: self.write_datagram,
             0x05: self.read_packet, 0x06: self.write_packet, 0x07: self.read_by_bits, 0x10: self.fresh_receiving,
             0x11: self.offer, 0x12: self.next, 0x14: self.counts, 0x15: self.view, 0x16: self.many_given_up,
-            0x17: self.overwrite_receiving, 0x18: self.write_image, 0x19: self.read_image, 0x20: self.fresh_sending, 0x21: self.send,
-            0x22: self.many_sent, 0x23: self.overwrite_sending, 0x30: self.fresh_joiner, 0x31: self.field, 0x32: self.lost,
-            0x33: self.show_joiner, 0x34: self.overwrite_joiner, 0x40: self.replay,
+            0x17: self.overwrite_receiving, 0x18: self.write_image, 0x19: self.read_image, 0x1A: self.mend, 0x20: self.fresh_sending,
+            0x21: self.send, 0x22: self.many_sent, 0x23: self.overwrite_sending, 0x30: self.fresh_joiner, 0x31: self.field,
+            0x32: self.lost, 0x33: self.show_joiner, 0x34: self.overwrite_joiner, 0x40: self.replay,
             0x50: compared}
 
     def answer(self, line):
@@ -159,6 +160,12 @@ class Calls:
     def read_image(self, arguments):
         """19: nothing is restored if it is refused."""
         self.receiving = read_image(arguments.rest())
+        return b'\x00'
+
+    def mend(self, arguments):
+        """1A."""
+        arguments.end()
+        mend(self.receiving)
         return b'\x00'
 
     def fresh_sending(self, arguments):

@@ -20,6 +20,7 @@ FRAME = 18          # the frame would pass 300 octets
 MISSHAPEN = 20      # an image: a line missing, extra or misshapen
 OTHER_EDITION = 21  # an image of neither edition
 TOO_MANY = 22       # a trace to compare has over 512 lines
+CONTRADICTION = 23  # no octets satisfy all equations
 
 
 class Refusal(Exception):

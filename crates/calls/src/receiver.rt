@@ -1,4 +1,4 @@
-// Lines 10 to 17 and 19, on the receiving session.
+// Lines 10 to 17, 19 and 1A, on the receiving session.
 use crate::image::restored;
 use crate::session::base_of;
 use crate::session::gone_on;
@@ -19,6 +19,7 @@ use sessions::Kind;
 use sessions::Offered;
 use sessions::Released;
 use sessions::Session;
+use sessions::Solved;
 
 fn say_offered(answer: Offered) {
     match answer {
@@ -120,6 +121,22 @@ fn overwrite(session: Session, s: &[u8]) -> Session {
     session
 }
 
+fn say_solved(answer: Solved) {
+    match answer {
+        Solved::Filled => say(0, 1),
+        Solved::Refused(why) => say_refused(why),
+    }
+}
+
+// 1A: losses that no single message mends.
+fn solve(session: Session) -> Session {
+    let after = sessions::solve(session);
+    let answer = after.answer;
+    say_solved(answer);
+    let held = after.session;
+    held
+}
+
 fn fresh() -> Session {
     say(0, 1);
     Session::fresh()
@@ -143,6 +160,7 @@ pub fn answer(session: Session, call: u8, s: &[u8], lent: &mut [u8]) -> Session 
             many(at_most(number(s, &mut at, 4)))
         }
         0x19 => restored(session, s),
+        0x1A => solve(session),
         _ => overwrite(session, s),
     }
 }

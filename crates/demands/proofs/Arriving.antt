@@ -3,7 +3,7 @@
 use Prim.Native.Nat.{ℕ, _+_, _-_, _%_, _≤_, _<_}
 use mathlib.Core.Path.{_≡_, refl, sym, ap, ap₂, subst, _∙_}
 use mathlib.Core.Logic.{⊎-elim}
-use mathlib.Core.Bool.{true≢false}
+use mathlib.Core.Bool.{true, true≢false}
 use mathlib.Core.List.{List, [], _++_, append-nil}
 use mathlib.Core.Option.{some, Option·some-injective}
 use lib.ListN.{length}
@@ -18,7 +18,7 @@ use Rattle.views.specs.Held.{Held, heldAt}
 use Rattle.views.specs.View.{View, numbers, distance}
 use Rattle.views.specs.Offer.{heldBy, accept}
 use Rattle.demands.specs.History.{Left}
-use Rattle.demands.specs.Calls.{Call, Calls, _then_, acceptedIn, leftIn, leftBy}
+use Rattle.demands.specs.Calls.{Call, Calls, _then_, acceptedIn, fillsIn, leftIn, leftBy}
 use Rattle.demands.specs.ReachedBy.{gone, placeNumber, sparesIn, Accepts, Arrived, now, before}
 use Rattle.demands.proofs.Ranges.{ViewInRanges}
 use Rattle.demands.proofs.InRanges.{read-held, accept-in-ranges, held-accepted, held-beside}
@@ -32,6 +32,7 @@ pub record Took (calls : Calls) (call : Call) (g d : ℕ) (c : Carried) (view : 
   pub near : d < keptAhead
   pub few : sparesIn (c .extra) ≤ sparesLimit
   pub left : gone (calls then call) ≡ g
+  pub unfilled : fillsIn call ≡ true → ⊥
   -- the call accepts this datagram at this place, and no other
   pub here : Accepts calls call (g + (keptBefore + d)) c
   pub one : {S : ℕ} {x : Carried} → Accepts calls call S x → (S ≡ g + (keptBefore + d)) × (x ≡ c)
@@ -43,7 +44,7 @@ pub record Took (calls : Calls) (call : Call) (g d : ℕ) (c : Carried) (view : 
       → (e < keptAhead) × (heldAt ((accept d c view) .held) e ≡ heldBy (x .extra))
 
 module _ {calls : Calls} {g : ℕ} {view last : View} (k : Knows calls g view) {octets : List ℕ} (o : OfferDone octets view last)
-    (call : Call) (taken : acceptedIn call ≡ some octets) (stays : leftIn call ≡ []) where
+    (call : Call) (taken : acceptedIn call ≡ some octets) (unfilled : fillsIn call ≡ true → ⊥) (stays : leftIn call ≡ []) where
   abbrev d : ℕ
   d = distance (view .base) (o .parts .number)
 
@@ -136,6 +137,7 @@ module _ {calls : Calls} {g : ℕ} {view last : View} (k : Knows calls g view) {
         near = o .near;
         few = few-spares octets (o .parts) (o .read);
         left = left-is;
+        unfilled = unfilled;
         here = here;
         one = one;
         ranges = mid-ranges;

@@ -31,13 +31,19 @@ use Rattle.leaving.specs.Outcome.{Handed, releasedOutcome, handedOf, octetsHand
 use Rattle.leaving.specs.declared.Released.{Released}
 use Rattle.leaving.specs.declared.Released.the-variants as answer
 use Rattle.offering.specs.Outcome.{acceptedOf}
+use Rattle.solutions.specs.Solve as solutions
+use Rattle.solutions.proofs.Laws.{means-it}
+use Rattle.equations.specs.Solved.{Solves}
+use Rattle.solving.specs.Outcome.{filledOf}
 use Rattle.sessions.specs.Receiver.{SeenAs, After, inRangesThen, offerOf, OfferOwes, releaseOf, ReleaseOwes}
+use Rattle.sessions.specs.Solver.{solveOf, SolveOwes}
 use Rattle.sessions.specs.declared.receiver.AfterOffer.{AfterOffer}
 use Rattle.sessions.specs.declared.receiver.AfterRelease.{AfterRelease}
+use Rattle.sessions.specs.declared.solver.AfterSolve.{AfterSolve}
 use Rattle.demands.specs.History as moves
 use Rattle.demands.specs.History.{afterMove}
-use Rattle.demands.specs.Calls.{Call, offer, release, Calls, handedOut, leftIn}
-use Rattle.demands.specs.Calls.{Called, atStart, offered, released}
+use Rattle.demands.specs.Calls.{Call, offer, release, solve, Calls, handedOut, leftIn}
+use Rattle.demands.specs.Calls.{Called, atStart, offered, released, solved}
 use Rattle.demands.specs.GoesOn.{moveOf, Says, GoesOn, from, by}
 use Rattle.demands.specs.Demand2.{Saved, Begins, fresh, saved}
 use Rattle.demands.proofs.Ranges.{ViewInRanges}
@@ -112,6 +118,10 @@ module _ {view : View} {s : Session} (seen : SeenAs view s) where
   unfolding releaseOf
   release-is leave room = in-ranges-then (releases.release leave room) seen
 
+  pub solve-is : solveOf s ≡ solutions.solve view
+  unfolding solveOf
+  solve-is = in-ranges-then solutions.solve seen
+
   -- the session after it
   after-offer : (a : Answer View) (t : Session) → After a s t → SeenAs (afterwards a view) t
   after-offer (done v) t state = state
@@ -134,6 +144,11 @@ module _ {view : View} {s : Session} (seen : SeenAs view s) where
       after-release (releases.release leave (length old) view) (r .session)
       (subst (λ (a : Answer Release). After (viewAfterRelease a) s (r .session)) (release-is leave (length old)) (owes .state))
 
+  pub solved-seen : {r : AfterSolve} → SolveOwes s r → SeenAs (afterMove moves.solve view) (r .session)
+  unfolding afterMove
+  solved-seen {r} owes =
+      after-offer (solutions.solve view) (r .session) (subst (λ (a : Answer View). After a s (r .session)) solve-is (owes .state))
+
 -- ---- what the answers hand out
 handed-out : (a : Answer Release) (r : Released) (old : List ℕ) → releasedOutcome r ≡ handedOf a
     → handedOut r (over (octetsHanded a) old) ≡ releasedBy a
@@ -155,6 +170,7 @@ unfolding leaving
 left-is view (offer octets r) says = refl
 left-is view (release leave old new r) says =
     ap (handedOut r) (says .1) ∙ handed-out (releases.release leave (length old) view) r old (says .0)
+left-is view (solve r) says = refl
 
 -- ---- chains
 module _ {view : View} {s : Session} (seen : SeenAs view s) where
@@ -166,6 +182,12 @@ module _ {view : View} {s : Session} (seen : SeenAs view s) where
   released-says {leave} {old} owes = (
     owes .answer ∙ ap handedOf (release-is seen leave (length old)),
     owes .lent ∙ ap (λ (a : Answer Release). over (octetsHanded a) old) (release-is seen leave (length old)),
+  )
+
+  solved-says : {r : AfterSolve} → SolveOwes s r → Says view (solve (r .answer))
+  solved-says owes = (
+    owes .answer ∙ ap filledOf (solve-is seen),
+    subst (λ (v : View). Solves v (solutions.solve v)) (seen .view) (means-it (viewOf s) (seen .within .sound)),
   )
 
 -- a chain of calls goes on from what the first session holds
@@ -189,6 +211,13 @@ called-went seen (released {leave = leave} {old = old} rest owes) =
       held = afterMove (moves.release leave (length old)) (w .held);
       seen = released-seen (w .seen) owes;
       on = by (w .on) (released-says (w .seen) owes);
+    }
+called-went seen (solved rest owes) =
+    let w = called-went seen rest in
+    record {
+      held = afterMove moves.solve (w .held);
+      seen = solved-seen (w .seen) owes;
+      on = by (w .on) (solved-says (w .seen) owes);
     }
 
 -- so the last session holds what document 01 says

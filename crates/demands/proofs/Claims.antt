@@ -20,6 +20,7 @@ use Rattle.demands.proofs.OneCall.{one-call}
 use Rattle.demands.proofs.Handover as handover
 use Rattle.demands.proofs.Editions as editions
 use Rattle.demands.proofs.Fits as fits
+use Rattle.demands.proofs.Losses.{losses}
 
 pub claims : Claims
 claims =
@@ -45,4 +46,5 @@ claims =
       fits = fits.fits;
       bothEditions = packets.claims .plainAlike;
       comparison = comparisons.claims;
+      losses = losses;
     }

@@ -4,7 +4,8 @@ use Rattle.demands.proofs.Calling.{fresh-seen, saved-seen, begins-seen,
 use Rattle.demands.proofs.Leaving.{saved-leaves, fresh-leaves}
 use Rattle.demands.proofs.Keeping.{called-keeps}
 use Rattle.demands.proofs.KnownReached.{known-reached-by}
-use Rattle.demands.proofs.Noting.{one-note, noted-by, left-noted}
+use Rattle.demands.proofs.OneNote.{one-note}
+use Rattle.demands.proofs.Noting.{noted-by, left-noted}
 use Rattle.demands.proofs.Never17.{never-17}
 use Rattle.demands.proofs.SendNever17.{send-never-17}
 use Rattle.demands.proofs.RoundTrips.{round-trips}

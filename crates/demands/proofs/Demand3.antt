@@ -38,19 +38,19 @@ repeated-of (done mid) e = let z : _≡_ {A = ℕ} 0 1 = cc in absurd (omega ari
 repeated-of (refused why) e = cc
 
 -- ---- sessions and views
-record SeenFed (row datagrams : List (List ℕ)) (s : Session) : Type 0 where
-  view : View
-  seen : SeenAs view s
-  fed : FedView row datagrams view
+pub record SeenFed (row datagrams : List (List ℕ)) (s : Session) : Type 0 where
+  pub view : View
+  pub seen : SeenAs view s
+  pub fed : FedView row datagrams view
 
-record SeenTaken (row datagrams : List (List ℕ)) (places : List ℕ) (view : View) (t : Session) : Type 0 where
-  last : View
-  seen : SeenAs last t
-  takes : TakesViews row datagrams places view last
+pub record SeenTaken (row datagrams : List (List ℕ)) (places : List ℕ) (view : View) (t : Session) : Type 0 where
+  pub last : View
+  pub seen : SeenAs last t
+  pub takes : TakesViews row datagrams places view last
 
 module _ {row datagrams : List (List ℕ)} where
   -- a session that the sender feeds
-  fed-seen : {s : Session} → Fed row datagrams s → SeenFed row datagrams s
+  pub fed-seen : {s : Session} → Fed row datagrams s → SeenFed row datagrams s
   fed-seen (fresh {s} f) = record { view = freshView; seen = fresh-seen s f; fed = views.fresh }
   fed-seen (offered {S = S} f o) =
       let b = fed-seen f in
@@ -76,7 +76,7 @@ module _ {row datagrams : List (List ℕ)} where
     answer-is : acceptedOf (offers.offer (datagramAt datagrams S) view) ≡ offeredOutcome (r .answer)
     answer-is = sym (call-of o .answer ∙ ap acceptedOf (offer-is seen (datagramAt datagrams S)))
 
-  takes-seen : {places : List ℕ} {view : View} {s t : Session} → SeenAs view s → Takes row datagrams places s t
+  pub takes-seen : {places : List ℕ} {view : View} {s t : Session} → SeenAs view s → Takes row datagrams places s t
       → SeenTaken row datagrams places view t
   takes-seen {view = view} seen none = record { last = view; seen = seen; takes = views.none }
   takes-seen {view = view} seen (accepted {S = S} o is rest) =
@@ -88,7 +88,7 @@ module _ {row datagrams : List (List ℕ)} where
       let b = takes-seen (came-to seen o (refuse refusals.repeated) again) rest in
       record { last = b .last; seen = b .seen; takes = views.repeated (o .sent) (near-seen seen o) again (b .takes) }
 
-  takes-fed : {places : List ℕ} {s t : Session} → Fed row datagrams s → Takes row datagrams places s t → Fed row datagrams t
+  pub takes-fed : {places : List ℕ} {s t : Session} → Fed row datagrams s → Takes row datagrams places s t → Fed row datagrams t
   takes-fed f none = f
   takes-fed f (accepted o is rest) = takes-fed (offered f o) rest
   takes-fed f (repeated o is rest) = takes-fed (offered f o) rest

@@ -17,7 +17,7 @@ use Rattle.images.specs.Layout.{Edition, edition02}
 use Rattle.images.specs.Image.{editionNamed, readText, readImage, LentOctets}
 use Rattle.images.proofs.Claims as images
 use Rattle.demands.specs.History.{Left}
-use Rattle.demands.specs.Calls.{Calls, start, _then_, Called, atStart, offered, released, leftIn, leftBy}
+use Rattle.demands.specs.Calls.{Calls, start, _then_, Called, atStart, offered, released, solved, leftIn, leftBy}
 use Rattle.demands.specs.Demand2.{Saved, Begins, fresh, saved, FreshLeaves, SavedLeaves}
 use Rattle.demands.specs.Feeding.{Fed}
 use Rattle.demands.specs.GoesOn.{GoesOn}
@@ -37,6 +37,7 @@ unfolding followedBy
 chain-on c atStart = c
 chain-on c (offered rest owes) = offered (chain-on c rest) owes
 chain-on c (released rest owes) = released (chain-on c rest) owes
+chain-on c (solved rest owes) = solved (chain-on c rest) owes
 
 left-on : (before after : Calls) → leftBy (followedBy before after) ≡ leftBy before ++ leftBy after
 unfolding followedBy leftBy

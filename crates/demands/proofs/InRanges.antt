@@ -111,7 +111,7 @@ grown-accept d datagram view =
     grown-twice (grown-filled d datagram view)
     (grown-repair (datagram .number) (filled d datagram view) (heldMessages (set (view .held) d (heldBy (datagram .extra)))))
 
-fills-not-blank : {st : State} → Fills st → st ≡ blank → ⊥
+pub fills-not-blank : {st : State} → Fills st → st ≡ blank → ⊥
 fills-not-blank asReceived e = let z : _≡_ {A = ℕ} 0 1 = cc in omega arith
 fills-not-blank asSpare e = let z : _≡_ {A = ℕ} 0 1 = cc in omega arith
 fills-not-blank asRepaired e = let z : _≡_ {A = ℕ} 0 1 = cc in omega arith

@@ -16,6 +16,7 @@ use Rattle.views.specs.Offer as offers
 use Rattle.views.specs.Release as releases
 use Rattle.views.specs.Release.{Release, atBase, viewAfterRelease}
 use Rattle.views.proofs.Laws.{release-leaves}
+use Rattle.solutions.specs.Solve as solutions
 use Rattle.held.specs.Table.{viewOf}
 use Rattle.held.specs.declared.Session.{Session}
 use Rattle.sessions.specs.Receiver.{SeenAs}
@@ -30,6 +31,7 @@ use Rattle.demands.proofs.Shifted.{cell-on}
 use Rattle.demands.proofs.InRanges.{grown-accept}
 use Rattle.demands.proofs.Steps.{leaving, releasedBy}
 use Rattle.demands.proofs.Taken.{offer-done}
+use Rattle.demands.proofs.SolveDone.{solve-done}
 use Rattle.demands.proofs.Leaving.{on-ranges, went}
 use Rattle.demands.proofs.Calling.{seen-ranges, left-is, called-went, called-on}
 
@@ -39,17 +41,21 @@ data Does (view : View) : List Left → View → Type 0 where
   leaves : (counts : Counts)
       → Does view (leftAs ((atBase view) .state) (view .base) ((atBase view) .note) ((atBase view) .octets) ∷ []) (goneOn counts view)
 
-does : (move : Move) (view : View) → Does view (leaving move view) (afterMove move view)
+does : (move : Move) (view : View) → ViewInRanges view → Does view (leaving move view) (afterMove move view)
 unfolding afterMove leaving
-does (moves.offer octets) view = pick (offers.offer octets view) refl where
+does (moves.offer octets) view ranges = pick (offers.offer octets view) refl where
   pick : (a : Answer View) → offers.offer octets view ≡ a → Does view [] (afterwards a view)
   pick (done last) e =
       let o = offer-done octets view last e in
       subst (Does view []) (o .is) (stays (grown-known (grown-accept _ _ view)))
   pick (refused why) e = stays (λ p known. refl)
-does (moves.release leave room) view = pick (releases.release leave room view) refl where
+does (moves.release leave room) view ranges = pick (releases.release leave room view) refl where
   pick : (a : Answer Release) → releases.release leave room view ≡ a → Does view (releasedBy a) (afterwards (viewAfterRelease a) view)
   pick (done a) e = let o = release-leaves leave room view a e in rw (o .kind, o .number, o .note, o .octets, o .after) (leaves _)
+  pick (refused why) e = stays (λ p known. refl)
+does moves.solve view ranges = pick (solutions.solve view) refl where
+  pick : (a : Answer View) → solutions.solve view ≡ a → Does view [] (afterwards a view)
+  pick (done last) e = stays (grown-known (solve-done view last e .grown (ranges .kept)))
   pick (refused why) e = stays (λ p known. refl)
 
 -- ---- one number, from call to call
@@ -120,7 +126,7 @@ module _ {view : View} {p : ℕ} (small : p < keptNumbers) (known : Known (view 
   unfolding leftBy
   keeps r from = keeps-none
   keeps r (by {calls = calls} {call = call} {held = held} on says) =
-      rw (left-is held call says) (keeps-by (keeps r on) (on-ranges r on) (went r on .reached) (does (moveOf call) held))
+      rw (left-is held call says) (keeps-by (keeps r on) (on-ranges r on) (went r on .reached) (does (moveOf call) held (on-ranges r on)))
 
 pub called-keeps : {s t u : Session} {calls more : Calls} {view : View} → SeenAs view s → Called s calls t → Called t more u
     → (p : ℕ) → p < keptNumbers → Known ((viewOf t) .cells) p → StaysKnown (viewOf t) (leftBy more) (viewOf u) p

@@ -8,6 +8,7 @@ pub mod Growing
 pub mod Shifted
 pub mod InRanges
 pub mod Taken
+pub mod SolveDone
 pub mod Steps
 pub mod Leaving
 pub mod Knowing
@@ -17,7 +18,10 @@ pub mod Places
 pub mod Reaching
 pub mod Arriving
 pub mod Repairing
+pub mod ViewMessages
+pub mod Solving
 pub mod KnownReached
+pub mod OneNote
 pub mod Noting
 pub mod Never17
 pub mod SendNever17
@@ -78,4 +82,5 @@ pub mod ImageCalls
 pub mod Handover
 pub mod Editions
 pub mod Fits
+pub mod Losses
 pub mod Claims

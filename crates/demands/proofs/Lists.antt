@@ -64,7 +64,7 @@ module _ {row datagrams : List (List ℕ)} {view two : View} (s : Sound row data
       let b = t .marked d low (marks d low m) in
       a .held ∙ ap (λ (c : Carried). offers.heldBy (c .extra)) (same-carried d a b) ∙ sym (b .held)
 
-  messages-among : (message : Message) → Among message (heldMessages (view .held)) → Among message (heldMessages (two .held))
+  pub messages-among : (message : Message) → Among message (heldMessages (view .held)) → Among message (heldMessages (two .held))
   unfolding heldMessages messagesOf
   messages-among message among =
       let at = held-at keptBefore (view .held) message among in
@@ -226,19 +226,24 @@ module _ {row datagrams : List (List ℕ)} (honest : HonestSender row datagrams)
       takes-within rest s t less (λ S among. all S (further among))
 
 -- ---- two lists from one view
+pub views-less : {row datagrams : List (List ℕ)} → HonestSender row datagrams → {view : View} → FedView row datagrams view
+    → {first second : List ℕ} {one two : View} → TakesViews row datagrams first view one → TakesViews row datagrams second view two
+    → ((S : ℕ) → Among S first → Among S second) → Less one two
+views-less honest f takes-one takes-two all =
+    let s = fed-sound honest f in
+    let s-two = takes-sound honest takes-two s in
+    takes-within honest takes-one s s-two (takes-less honest takes-two s) (λ S among. takes-again honest takes-two s S (all S among))
+
 pub views-no-less : {row datagrams : List (List ℕ)} → HonestSender row datagrams → {view : View} → FedView row datagrams view
     → {first second : List ℕ} {one two : View} → TakesViews row datagrams first view one → TakesViews row datagrams second view two
     → ((S : ℕ) → Among S first → Among S second) → TwoLists row one two
 views-no-less honest f takes-one takes-two all =
     let s = fed-sound honest f in
-    let s-one = takes-sound honest takes-one s in
-    let s-two = takes-sound honest takes-two s in
-    let less =
-    takes-within honest takes-one s s-two (takes-less honest takes-two s) (λ S among. takes-again honest takes-two s S (all S among)) in
+    let less = views-less honest f takes-one takes-two all in
     record {
       known = λ p small. less .known p;
-      firstRight = s-one .right;
-      secondRight = s-two .right;
+      firstRight = takes-sound honest takes-one s .right;
+      secondRight = takes-sound honest takes-two s .right;
       sameBase = less .base;
       sameCounts = less .counts;
     }

@@ -1,7 +1,7 @@
 -- No session that the library handed out is refused with 17: a session in a chain of calls is within its ranges, and document
--- 01's calls on what it holds have lower refusals only. Assumes nothing.
+-- 01's calls on what it holds have lower refusals only, and the call of request 13 has 23. Assumes nothing.
 use Prim.Native.Nat.{ℕ, zero, suc, _+_, _-_, _%_, _<_}
-use mathlib.Core.Path.{_≡_, refl, sym, subst}
+use mathlib.Core.Path.{_≡_, refl, sym, ap, subst, _∙_}
 use mathlib.Core.Bool.{Bool, true, false, not, cond, _&&_}
 use mathlib.Core.List.{List}
 use mathlib.Core.Option.{some, Option·none-ne-some, Option·some-injective}
@@ -10,7 +10,7 @@ use lib.Dec.{leb, ltb, eqb}
 use native.Mathlib.Omega.{arith}
 use borrow.Author.Tests.{ltb-true}
 use Rattle.lengths.specs.Refusals.{endsEarly, tooLong, badForm, outsideSizes, spareBit, leftOver}
-use Rattle.lengths.specs.Refusals.{repeated, tooFar, late, baseUnknown, noRoom, allPassed, outsideRanges}
+use Rattle.lengths.specs.Refusals.{repeated, tooFar, late, baseUnknown, noRoom, allPassed, outsideRanges, noSolution}
 use Rattle.lengths.specs.Answers.{Answer, done, refused, refuse, refuseAt, readFrom, _>>=_, LengthAnswer}
 use Rattle.lengths.specs.Length.{ofTwo, lengthAt, within, allowed, lengthWithin}
 use Rattle.lengths.specs.declared.Refusal.{Refusal}
@@ -30,7 +30,9 @@ use Rattle.held.specs.declared.Session.{Session}
 use Rattle.leaving.specs.Outcome.{handedOf}
 use Rattle.offering.specs.Outcome.{acceptedOf}
 use Rattle.lengths.specs.Tables.{refusalIn}
-use Rattle.demands.specs.Calls.{Call, offer, release, Calls, _then_, Called, callRefusal}
+use Rattle.solutions.specs.Solve as solutions
+use Rattle.solving.specs.Outcome.{filledOf}
+use Rattle.demands.specs.Calls.{Call, offer, release, solve, Calls, _then_, Called, callRefusal}
 use Rattle.demands.specs.GoesOn.{Says, GoesOn, by}
 use Rattle.demands.specs.Demand2.{Begins}
 use Rattle.demands.proofs.Calling.{begins-seen, called-on}
@@ -157,9 +159,19 @@ lower-handed : {a : Answer Release} → Lower a → Lower (handedOf a)
 lower-handed (value a) = value _
 lower-handed (below low) = below low
 
+-- the call of request 13 is refused with 23 alone
+refused-23 : (b : Bool) (v : View) → refusalIn (filledOf (cond b (done v) (refuse noSolution))) ≡ some outsideRanges → ⊥
+refused-23 true v e = Option·none-ne-some outsideRanges e
+refused-23 false v e = let same = Option·some-injective noSolution outsideRanges e in omega arith
+
+solve-not-17 : (view : View) → refusalIn (filledOf (solutions.solve view)) ≡ some outsideRanges → ⊥
+unfolding solutions.solve
+solve-not-17 view = refused-23 (solutions.allFit (view .cells) (view .held) (solutions.reducedRows view)) _
+
 says-lower : (view : View) (call : Call) → Says view call → callRefusal call ≡ some outsideRanges → ⊥
 says-lower view (offer octets r) says = not-17 (subst Lower (sym says) (lower-accepted (lower-offer octets view)))
 says-lower view (release leave old new r) says = not-17 (subst Lower (sym (says .0)) (lower-handed (lower-release leave (length old) view)))
+says-lower view (solve r) says = λ e. solve-not-17 view (ap refusalIn (sym (says .0)) ∙ e)
 
 -- ---- chains
 last-says : {view held : View} {calls : Calls} {call : Call} → GoesOn view (calls then call) held → callRefusal call ≡ some outsideRanges

@@ -1,31 +1,27 @@
 -- In a session fresh at its start the note of a known number is the number of the datagram by whose offer the number was reached first, and
--- so it leaves: call by call, each of which did nothing, took a datagram, or made a number leave. Assumes nothing.
+-- so it leaves; one that the held messages fixed together has none. Call by call, each of which did nothing, took a datagram, made a
+-- number leave, or solved the held messages. Assumes nothing.
 use Prim.Native.Nat.{ℕ, suc, _+_, _-_, _≤_, _<_}
-use mathlib.Core.Path.{_≡_, refl, sym, ap, ap₂, subst, _∙_}
+use mathlib.Core.Path.{_≡_, refl, sym, ap, subst, _∙_}
 use mathlib.Core.Logic.{⊎-elim}
-use mathlib.Core.Bool.{true, false, false≢true, true≢false}
+use mathlib.Core.Bool.{true, false, false≢true}
 use mathlib.Core.List.{List, [], _∷_, _++_, append-nil}
-use mathlib.Core.Option.{none, some, Option·some-injective}
-use lib.ListN.{length, getD, length-append, List·getD-append}
+use lib.ListN.{length, length-append, List·getD-append}
 use lib.Seq.{getD-at}
 use native.Mathlib.Omega.{arith}
 use Rattle.octets.proofs.Laws.{below-or-not}
-use Rattle.lengths.proofs.Laws.{done-same}
 use Rattle.datagrams.specs.Carried.{Carried}
-use Rattle.datagrams.specs.Read.{readDatagram, carriedBy}
 use Rattle.views.specs.Cells.{unknown, Cell, isUnknown, cellAt, keptBefore, keptNumbers}
 use Rattle.views.specs.Reached.{Known, Unknown}
-use Rattle.views.specs.View.{View, Counts, sum, freshView, goneOn}
+use Rattle.views.specs.View.{View, Counts, freshView, goneOn}
 use Rattle.views.specs.Release.{atBase}
 use Rattle.views.specs.Offer.{accept}
 use Rattle.views.proofs.Laws.{known-not-unknown, same-unknown}
 use Rattle.demands.specs.History.{Left, leftAs, isLost, afterMove}
-use Rattle.demands.specs.Calls.{Call, Calls, start, _then_, leftIn, leftBy}
+use Rattle.demands.specs.Calls.{Call, Calls, start, _then_, fillsIn, leftIn, leftBy}
 use Rattle.demands.specs.GoesOn.{moveOf, GoesOn, from, by}
-use Rattle.demands.specs.ReachedBy as reached
-use Rattle.demands.specs.ReachedBy.{gone, Accepts, ReachedBy}
-use Rattle.demands.specs.NotedBy.{NotedBy, beforeFirst, filled, earlier, leftAt, LeftNoted}
-use Rattle.demands.proofs.Ranges.{ViewInRanges}
+use Rattle.demands.specs.ReachedBy.{gone}
+use Rattle.demands.specs.NotedBy.{NotedBy, beforeFirst, filled, together, earlier, leftAt, LeftNoted}
 use Rattle.demands.proofs.Growing.{fills-known}
 use Rattle.demands.proofs.InRanges.{fresh-before, fresh-ahead, grown-accept}
 use Rattle.demands.proofs.Shifted.{cell-on, cell-last, unknown-on}
@@ -33,31 +29,9 @@ use Rattle.demands.proofs.Knowing.{fresh-known, left-known}
 use Rattle.demands.proofs.Reaching.{Knows, knows-start, knows-stays, knows-left}
 use Rattle.demands.proofs.Arriving.{Took, took-of}
 use Rattle.demands.proofs.Repairing.{knows-mid}
-use Rattle.demands.proofs.KnownReached.{Did, nothing, took, leaves, did}
-
--- ---- a place has one note
-noted-reached : {calls : Calls} {P note : ℕ} → NotedBy calls P note → ReachedBy calls P
-noted-reached (beforeFirst low) = reached.beforeFirst low
-noted-reached (filled a new r) = r
-noted-reached (earlier n) = reached.earlier (noted-reached n)
-
--- an offer is of one datagram
-accepts-one : {calls : Calls} {call : Call} {S T : ℕ} {c x : Carried} → Accepts calls call S c → Accepts calls call T x → c ≡ x
-accepts-one a b =
-    let same : a .octets ≡ b .octets = Option·some-injective (a .octets) (b .octets) (sym (a .accepted) ∙ b .accepted) in
-    let parts : a .reads .parts ≡ b .reads .parts = done-same (sym (a .reads .read) ∙ ap readDatagram same ∙ b .reads .read) in
-    sym (a .reads .carried) ∙ ap₂ carriedBy same parts ∙ b .reads .carried
-
-pub one-note : {calls : Calls} {P n m : ℕ} → NotedBy calls P n → NotedBy calls P m → n ≡ m
-one-note (beforeFirst low) (beforeFirst less) = refl
-one-note (beforeFirst low) (filled b new r) = absurd (new (reached.beforeFirst low))
-one-note (beforeFirst low) (earlier m) = one-note (beforeFirst low) m
-one-note (filled a new r) (beforeFirst low) = absurd (new (reached.beforeFirst low))
-one-note (filled a new r) (filled b other s) = ap (λ (c : Carried). c .number) (accepts-one a b)
-one-note (filled a new r) (earlier m) = absurd (new (noted-reached m))
-one-note (earlier n) (beforeFirst low) = one-note n (beforeFirst low)
-one-note (earlier n) (filled b new r) = absurd (new (noted-reached n))
-one-note (earlier n) (earlier m) = one-note n m
+use Rattle.demands.proofs.KnownReached.{Did, nothing, took, leaves, solves, did, took-unfilled, left-unfilled}
+use Rattle.demands.proofs.SolveDone.{SolveDone}
+use Rattle.demands.proofs.Solving.{knows-solved}
 
 -- ---- what holds after some calls
 record Notes (calls : Calls) (g : ℕ) (view : View) : Type 0 where
@@ -117,6 +91,29 @@ notes-took {calls} {call} {g} {d} {c} {view} t n stays =
           (λ same. ap note-of same ∙ n .unknown p small (sym (same-unknown (view .cells) (mid .cells) p same) ∙ u))
           (λ new. absurd (false≢true (sym (fills-known (new .1)) ∙ u)))
           (grown-accept d c view .each p);
+      left = left-stays (n .left) stays;
+    }
+
+-- ---- the held messages were solved together
+notes-solved : {calls : Calls} {call : Call} {g : ℕ} {view last : View} → Knows calls g view → Knows (calls then call) g last
+    → Notes calls g view → fillsIn call ≡ true → leftIn call ≡ [] → SolveDone view last → Notes (calls then call) g last
+unfolding note-of
+notes-solved {calls} {call} {g} {view} {last} k now n fills stays o =
+    record {
+      known = λ p small known.
+          ⊎-elim
+          (λ same.
+          subst (NotedBy (calls then call) (g + p)) (sym (ap note-of same))
+          (earlier (n .known p small (sym (same-unknown (view .cells) (last .cells) p same) ∙ known))))
+          (λ new.
+          subst (NotedBy (calls then call) (g + p)) (sym (new .2))
+          (together fills (λ r. known-not-unknown (view .cells) p (k .seen (g + p) r .1 p refl) (new .0)) (now .reached p small known)))
+          (o .grown (k .ranges .kept) .each p);
+      unknown = λ p small u.
+          ⊎-elim
+          (λ same. ap note-of same ∙ n .unknown p small (sym (same-unknown (view .cells) (last .cells) p same) ∙ u))
+          (λ new. absurd (false≢true (sym (fills-known (new .1)) ∙ u)))
+          (o .grown (k .ranges .kept) .each p);
       left = left-stays (n .left) stays;
     }
 
@@ -204,10 +201,10 @@ both (by {calls = calls} {call = call} {held = held} on says) = step (both on) w
   step : Both calls held → Both (calls then call) (afterMove (moveOf call) held)
   step b = pick (did held call (b .knows .ranges) says) where
     pick : {last : View} → Did held call last → Both (calls then call) last
-    pick (nothing stays none-taken) =
-        record { g = b .g; knows = knows-stays (b .knows) call none-taken stays; notes = notes-stays (b .notes) call stays }
+    pick (nothing stays none-taken unfilled) =
+        record { g = b .g; knows = knows-stays (b .knows) call none-taken unfilled stays; notes = notes-stays (b .notes) call stays }
     pick (took octets stays taken o) =
-        let t = took-of (b .knows) o call taken stays in
+        let t = took-of (b .knows) o call taken (took-unfilled call taken) stays in
         record {
           g = b .g;
           knows = subst (Knows (calls then call) (b .g)) (o .is) (knows-mid t);
@@ -216,9 +213,12 @@ both (by {calls = calls} {call = call} {held = held} on says) = step (both on) w
     pick (leaves x counts left kind note none-taken more) =
         record {
           g = suc (b .g);
-          knows = knows-left (b .knows) call none-taken counts more x left;
+          knows = knows-left (b .knows) call none-taken (left-unfilled call left) counts more x left;
           notes = notes-left (b .knows) (b .notes) call counts x left kind note;
         }
+    pick (solves stays none-taken fills o s) =
+        let now = knows-solved (b .knows) call none-taken stays fills o s in
+        record { g = b .g; knows = now; notes = notes-solved (b .knows) now (b .notes) fills stays o }
 
 pub noted-by : {calls : Calls} {held : View} → GoesOn freshView calls held → (p : ℕ) → p < keptNumbers → Known (held .cells) p
     → NotedBy calls (gone calls + p) ((cellAt (held .cells) p) .note)

@@ -1,15 +1,15 @@
 -- Places of the view and of the session, which are g further on where g numbers have left: members of messages, and the place
 -- that a datagram's number tells. And what a datagram that was read carries. Assumes nothing.
-use Prim.Native.Nat.{ℕ, _+_, _*_, _%_, _≤_, _<_}
-use mathlib.Core.Path.{_≡_, refl, sym, subst}
+use Prim.Native.Nat.{ℕ, suc, _+_, _*_, _%_, _≤_, _<_}
+use mathlib.Core.Path.{_≡_, refl, sym, subst, _∙_}
 use mathlib.Core.Bool.{true}
 use mathlib.Core.List.{List, map, List·Memᴰ as Among}
 use lib.ListN.{length, length-map}
-use native.Mathlib.Nat.{suc-mul}
+use native.Mathlib.Nat.{suc-mul, mul-le-mul-right}
 use native.Mathlib.Omega.{arith}
 use borrow.Author.Tests.{leb-true}
 use Rattle.octets.specs.Place.{tab}
-use Rattle.octets.proofs.Laws.{tab-among}
+use Rattle.octets.proofs.Laws.{tab-among, tab-ext, map-tab}
 use Rattle.lengths.specs.Answers.{done}
 use Rattle.datagrams.specs.Sizes.{sparesLimit}
 use Rattle.datagrams.specs.Carried.{Extra, spares, parity}
@@ -45,6 +45,15 @@ members-down g S n m i P reach low among =
   where
     down : (t : ℕ) → P ≡ memberAt (g + S) m i t → t * m + m ≤ n * m → P ≡ g + memberAt S m i t
     down t is few = let step = suc-mul t m in omega arith
+
+pub members-on : (g S n m i : ℕ) → n * m ≤ S → membersOf (g + S) n m i ≡ map (λ (q : ℕ). g + q) (membersOf S n m i)
+unfolding membersOf
+members-on g S n m i reach =
+    tab-ext n (memberAt (g + S) m i) (λ t. g + memberAt S m i t) (λ t below. on t (mul-le-mul-right m below))
+    ∙ sym (map-tab (λ (q : ℕ). g + q) n (memberAt S m i))
+  where
+    on : (t : ℕ) → suc t * m ≤ n * m → memberAt (g + S) m i t ≡ g + memberAt S m i t
+    on t few = let step = suc-mul t m in omega arith
 
 -- ---- a number within reach of the base tells its place, and a place its number
 pub number-there : (n base d g : ℕ) → base ≡ g % numbers → d ≡ distance base n → d < keptAhead

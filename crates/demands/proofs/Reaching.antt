@@ -4,6 +4,7 @@
 use Prim.Native.Nat.{ℕ, suc, _+_, _-_, _≤_, _<_}
 use mathlib.Core.Path.{_≡_, sym, ap, subst, _∙_}
 use mathlib.Core.Logic.{⊎-elim}
+use mathlib.Core.Bool.{Bool, true}
 use mathlib.Core.List.{List, [], _∷_, _++_, append-nil, List·Memᴰ as Among}
 use mathlib.Core.Option.{none, Option·none-ne-some}
 use lib.ListN.{length, length-append}
@@ -17,9 +18,9 @@ use Rattle.views.specs.Reached.{Known}
 use Rattle.views.specs.View.{View, Counts, sum, freshView, goneOn}
 use Rattle.views.specs.Offer.{heldBy}
 use Rattle.demands.specs.History.{Left}
-use Rattle.demands.specs.Calls.{Call, Calls, start, _then_, acceptedIn, leftIn, leftBy}
+use Rattle.demands.specs.Calls.{Call, Calls, start, _then_, acceptedIn, fillsIn, leftIn, leftBy}
 use Rattle.demands.specs.ReachedBy.{gone, spareAt, HasSpare, Accepts, Arrived, now, before, HeldBy}
-use Rattle.demands.specs.ReachedBy.{ReachedBy, beforeFirst, packet, spare, repaired, earlier}
+use Rattle.demands.specs.ReachedBy.{InView, OneValueBy, ReachedBy, beforeFirst, packet, spare, repaired, together, earlier}
 use Rattle.demands.proofs.Ranges.{ViewInRanges}
 use Rattle.demands.proofs.Shifted.{held-on, held-last}
 use Rattle.demands.proofs.InRanges.{fresh-in-ranges, fresh-held, on-in-ranges}
@@ -27,14 +28,17 @@ use Rattle.demands.proofs.Steps.{gone-counts}
 use Rattle.demands.proofs.Knowing.{fresh-known, left-known}
 
 -- ---- one call more
--- what holds of all that was reached, of what the call brings, and of what a message then held mends, holds of all
+-- what holds of all that was reached, of what the call brings, of what a message then held mends, and of what the held messages fix
+-- together, holds of all
 module _ (K : ℕ → Type 0) (calls : Calls) (call : Call) (old : (P : ℕ) → ReachedBy calls P → K P)
     (first : (S : ℕ) (c : Carried) → Accepts calls call S c → K S)
     (copies : (S : ℕ) (c : Carried) → Accepts calls call S c → (j : ℕ) → HasSpare c j → K (spareAt S j))
     (mends : (S : ℕ) (c : Carried) → Accepts calls call S c → (message : Message) → HeldBy (calls then call) message
     → 1 ≤ length (message .octets) → (P : ℕ) → Among P (message .members)
     → ((q : ℕ) → Among q (message .members) → (q ≡ P → ⊥) → K q)
-    → K P) where
+    → K P)
+    (fixes : fillsIn call ≡ true → (P : ℕ) → InView calls P → (marked : ℕ → Bool) → ((q : ℕ) → marked q ≡ true → ReachedBy calls q)
+    → OneValueBy calls marked P → K P) where
   by-packet : {S : ℕ} {c : Carried} → Arrived (calls then call) S c → K S
   by-packet (now a) = first _ _ a
   by-packet (before a) = old _ (packet a)
@@ -49,6 +53,7 @@ module _ (K : ℕ → Type 0) (calls : Calls) (call : Call) (old : (P : ℕ) →
   reached-then (spare a j has) = by-spare a j has
   reached-then (repaired a message held long at others) =
       mends _ _ a message held long _ at (λ q member other. reached-then (others q member other))
+  reached-then (together fills inside marked reach one) = fixes fills _ inside marked reach one
   reached-then (earlier r) = old _ r
 
 -- ---- what holds after some calls
@@ -101,7 +106,8 @@ knows-start =
     }
 
 -- ---- a call that is no accepted offer
-module _ {calls : Calls} {g : ℕ} {view : View} (k : Knows calls g view) (call : Call) (nothing : acceptedIn call ≡ none) where
+module _ {calls : Calls} {g : ℕ} {view : View} (k : Knows calls g view) (call : Call) (nothing : acceptedIn call ≡ none)
+    (unfilled : fillsIn call ≡ true → ⊥) where
   no-accepts : {S : ℕ} {c : Carried} → Accepts calls call S c → ⊥
   no-accepts a = Option·none-ne-some (a .octets) (sym nothing ∙ a .accepted)
 
@@ -114,6 +120,7 @@ module _ {calls : Calls} {g : ℕ} {view : View} (k : Knows calls g view) (call 
   was-reached =
       reached-then (ReachedBy calls) calls call (λ P r. r) (λ S c a. absurd (no-accepts a)) (λ S c a j has. absurd (no-accepts a))
       (λ S c a message held long P at others. absurd (no-accepts a))
+      (λ fills. absurd (unfilled fills))
 
   -- it was refused
   pub knows-stays : leftIn call ≡ [] → Knows (calls then call) g view

@@ -193,7 +193,8 @@ module _ {calls : Calls} {call : Call} {g d : ℕ} {c : Carried} {view : View} (
             (λ Q r. let was = t .so-far .seen Q r in (was .0, λ p same. known-grown (grown-accept d c view) p (was .1 p same)))
             first-seen
             spare-seen
-            (λ S x a. mend-seen);
+            (λ S x a. mend-seen)
+            (λ fills. absurd (t .unfilled fills));
         marked = t .marked;
         holds = t .holds;
       }

@@ -13,11 +13,13 @@ use Rattle.views.specs.Offer.{accept}
 use Rattle.views.specs.Release as releases
 use Rattle.views.specs.Release.{Release, counted, atBase, viewAfterRelease}
 use Rattle.views.proofs.Laws.{release-leaves}
-use Rattle.demands.specs.History.{Move, offer, release, Left, leftAs, afterMove, many, historyCounts}
+use Rattle.solutions.specs.Solve as solutions
+use Rattle.demands.specs.History.{Move, offer, release, solve, Left, leftAs, afterMove, many, historyCounts}
 use Rattle.demands.specs.Demand2.{OneKind, grown}
 use Rattle.demands.proofs.Ranges.{ViewInRanges}
 use Rattle.demands.proofs.InRanges.{read-held, accept-in-ranges, on-in-ranges}
 use Rattle.demands.proofs.Taken.{offer-done}
+use Rattle.demands.proofs.SolveDone.{solve-done, solved-in-ranges}
 
 -- ---- what a call does
 -- what a release makes leave: one number, or none
@@ -28,6 +30,7 @@ releasedBy (refused why) = []
 unfoldable pub leaving : Move → View → List Left
 leaving (offer octets) view = []
 leaving (release leave room) view = releasedBy (releases.release leave room view)
+leaving solve view = []
 
 pub data Step (view after : View) (left : List Left) : Type 0 where
   stays : after .counts ≡ view .counts → after .base ≡ view .base → left ≡ [] → Step view after left
@@ -109,6 +112,10 @@ step (release leave room) view r = pick (releases.release leave room view) refl 
       ∙ kind-grown (a .kind) other (a .number) (a .note) (a .octets) (view .counts))
       (ap (λ (x : View). x .base) (o .after) ∙ gone-base _ view)
   pick (refused why) e = stays refl refl refl
+step solve view r = pick (solutions.solve view) refl where
+  pick : (a : Answer View) → solutions.solve view ≡ a → Step view (afterwards a view) []
+  pick (done v) e = let o = solve-done view v e in stays (o .counts) (o .base) refl
+  pick (refused why) e = stays refl refl refl
 
 -- every call keeps the ranges
 pub after-in-ranges : (move : Move) (view : View) → ViewInRanges view → ViewInRanges (afterMove move view)
@@ -126,4 +133,8 @@ after-in-ranges (release leave room) view r = pick (releases.release leave room 
   pick (done a) e =
       let o = release-leaves leave room view a e in
       subst ViewInRanges (sym (o .after)) (on-in-ranges _ view r (moved-sum view r))
+  pick (refused why) e = r
+after-in-ranges solve view r = pick (solutions.solve view) refl where
+  pick : (a : Answer View) → solutions.solve view ≡ a → ViewInRanges (afterwards a view)
+  pick (done v) e = solved-in-ranges (solve-done view v e) r
   pick (refused why) e = r

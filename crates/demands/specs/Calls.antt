@@ -2,7 +2,7 @@
 -- answer that its promise allows. What the calls brought and what left by them is told by the calls and their answers alone.
 -- Definitions only.
 use Prim.Native.Nat.{ℕ}
-use mathlib.Core.Bool.{Bool}
+use mathlib.Core.Bool.{Bool, true, false}
 use mathlib.Core.List.{List, [], _∷_, _++_}
 use mathlib.Core.Option.{Option, none, some}
 use lib.ListN.{take}
@@ -14,9 +14,14 @@ use Rattle.leaving.specs.declared.Released.the-variants as answer
 use Rattle.offering.specs.Outcome.{offeredOutcome}
 use Rattle.offering.specs.declared.Offered.{Offered}
 use Rattle.offering.specs.declared.Offered.the-variants as outcome
+use Rattle.solving.specs.Outcome.{solvedOutcome}
+use Rattle.solving.specs.declared.Solved.{Solved}
+use Rattle.solving.specs.declared.Solved.the-variants as filling
 use Rattle.sessions.specs.Receiver.{OfferOwes, ReleaseOwes}
+use Rattle.sessions.specs.Solver.{SolveOwes}
 use Rattle.sessions.specs.declared.receiver.AfterOffer.{AfterOffer}
 use Rattle.sessions.specs.declared.receiver.AfterRelease.{AfterRelease}
+use Rattle.sessions.specs.declared.solver.AfterSolve.{AfterSolve}
 use Rattle.demands.specs.History.{Left, leftAs}
 use Rattle.lengths.specs.Tables.{refusalIn}
 
@@ -26,6 +31,8 @@ pub data Call : Type 0 where
   offer : List ℕ → Offered → Call
   -- a release, with leave to skip or without, and with this lent buffer before the call and after it
   release : Bool → List ℕ → List ℕ → Released → Call
+  -- the call of document 02, request 13: the stored messages were solved together
+  solve : Solved → Call
 
 -- calls one after the other, the latest last
 infixl 10 _then_
@@ -41,6 +48,8 @@ pub data Called (s : Session) : Calls → Session → Type 0 where
   released : {t : Session} {calls : Calls} {leave : Bool} {old new : List ℕ} {r : AfterRelease} → Called s calls t
       → ReleaseOwes t leave old new r
       → Called s (calls then release leave old new (r .answer)) (r .session)
+  solved : {t : Session} {calls : Calls} {r : AfterSolve} → Called s calls t → SolveOwes t r
+      → Called s (calls then solve (r .answer)) (r .session)
 
 -- ---- what a call brought
 -- the octets of an offer that was accepted; a refused offer brings nothing
@@ -48,11 +57,20 @@ abbrev pub acceptedIn : Call → Option (List ℕ)
 acceptedIn (offer octets outcome.Accepted) = some octets
 acceptedIn (offer octets (outcome.Refused why)) = none
 acceptedIn (release leave old new r) = none
+acceptedIn (solve r) = none
+
+-- it solved the stored messages together, and was not refused
+abbrev pub fillsIn : Call → Bool
+fillsIn (offer octets r) = false
+fillsIn (release leave old new r) = false
+fillsIn (solve filling.Filled) = true
+fillsIn (solve (filling.Refused why)) = false
 
 -- the number of the refusal that it was answered with, or none
 abbrev pub callRefusal : Call → Option ℕ
 callRefusal (offer octets r) = refusalIn (offeredOutcome r)
 callRefusal (release leave old new r) = refusalIn (releasedOutcome r)
+callRefusal (solve r) = refusalIn (solvedOutcome r)
 
 -- ---- what left by a call
 -- the number that an answer of release hands out, its octets at the front of the lent buffer
@@ -63,6 +81,7 @@ handedOut (answer.Refused why) buffer = []
 abbrev pub leftIn : Call → List Left
 leftIn (offer octets r) = []
 leftIn (release leave old new r) = handedOut r new
+leftIn (solve r) = []
 
 -- what left by some calls, in order
 unfoldable pub leftBy : Calls → List Left

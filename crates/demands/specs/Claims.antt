@@ -19,6 +19,7 @@ use Rattle.demands.specs.OneCall.{OneCall}
 use Rattle.demands.specs.Handover.{Handover}
 use Rattle.demands.specs.Editions.{Editions}
 use Rattle.demands.specs.Fits.{Fits}
+use Rattle.demands.specs.Losses.{Losses}
 
 pub record Claims : Type 0 where
   pub demand1 : Demand1
@@ -56,3 +57,5 @@ pub record Claims : Type 0 where
   pub bothEditions : packets.PlainAlike
   -- document 02, request 12: two traces compared, when nothing is listed, a trace with itself, and both exchanged; each refusal exactly
   pub comparison : comparisons.Claims
+  -- document 02, request 13: losses that no single message mends
+  pub losses : Losses

@@ -99,11 +99,13 @@ pub record Demand2 : Type 0 where
   -- "What you write reads back to the same fields, and what you read as received writes back to the same octets."
   pub roundTrips : RoundTrips
   -- "In a session fresh at its start, the known numbers are exactly those reached from arrived, spare and parity octets by 01's
-  -- repair rule." What stands at place p in view is the session's place `gone calls + p`
+  -- repair rule." Document 02, request 13: "Demand 2's known set gains these fills." What stands at place p in view is the session's place
+  -- `gone calls + p`
   pub knownNumbers : {s t : Session} {calls : Calls} → Fresh s → Called s calls t → (p : ℕ) → p < keptNumbers
       → Known ((viewOf t) .cells) p ↔ ReachedBy calls (gone calls + p)
   -- document 02, request 8: "each known number shall also keep the number of the datagram whose offer filled it, and each release gives
-  -- it": the one by whose offer the number was reached, and before which it was not. The calls tell one note for a place
+  -- it": the one by whose offer the number was reached, and before which it was not; zero if the stored messages fixed it together (request
+  -- 13). The calls tell one note for a place
   pub notes : {s t : Session} {calls : Calls} → Fresh s → Called s calls t → (p : ℕ) → p < keptNumbers → Known ((viewOf t) .cells) p
       → NotedBy calls (gone calls + p) ((cellAt ((viewOf t) .cells) p) .note)
   pub leftNotes : {s t : Session} {calls : Calls} → Fresh s → Called s calls t → LeftNoted calls (leftBy calls)

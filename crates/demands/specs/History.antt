@@ -10,6 +10,7 @@ use Rattle.views.specs.View.{View, Counts}
 use Rattle.views.specs.Offer as offers
 use Rattle.views.specs.Release as releases
 use Rattle.views.specs.Release.{viewAfterRelease}
+use Rattle.solutions.specs.Solve as solutions
 
 -- one call
 pub data Move : Type 0 where
@@ -17,6 +18,8 @@ pub data Move : Type 0 where
   offer : List ℕ → Move
   -- a release, with leave to skip or without, and with a lent buffer of so many octets
   release : Bool → ℕ → Move
+  -- the stored messages are solved together
+  solve : Move
 
 -- a number that left: released as received, spare or repaired, with its note and its octets; or lost, which is unknown
 pub record Left : Type 0 where
@@ -32,6 +35,7 @@ leftAs kind number note octets = record { kind = kind; number = number; note = n
 unfoldable pub afterMove : Move → View → View
 afterMove (offer octets) view = afterwards (offers.offer octets view) view
 afterMove (release leave room) view = afterwards (viewAfterRelease (releases.release leave room view)) view
+afterMove solve view = afterwards (solutions.solve view) view
 
 -- ---- "Four counts: received, spare, repaired (each released) and lost. Each equals the number of such moves since the start"
 

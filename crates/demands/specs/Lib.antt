@@ -30,4 +30,5 @@ pub mod OneCall
 pub mod Handover
 pub mod Editions
 pub mod Fits
+pub mod Losses
 pub mod Claims

@@ -8,7 +8,7 @@ use lib.ListN.{length, getD}
 use Rattle.datagrams.specs.Carried.{Carried}
 use Rattle.views.specs.Cells.{unknown, keptBefore}
 use Rattle.demands.specs.History.{Left, leftAs, isLost}
-use Rattle.demands.specs.Calls.{Call, Calls, _then_}
+use Rattle.demands.specs.Calls.{Call, Calls, _then_, fillsIn}
 use Rattle.demands.specs.ReachedBy.{Accepts, ReachedBy}
 
 -- the note of the number at a place, after these calls
@@ -19,6 +19,9 @@ pub data NotedBy : Calls → ℕ → ℕ → Type 0 where
   filled : {calls : Calls} {call : Call} {S P : ℕ} {datagram : Carried} → Accepts calls call S datagram
       → (ReachedBy calls P → ⊥) → ReachedBy (calls then call) P
       → NotedBy (calls then call) P (datagram .number)
+  -- request 13: "filled, as repaired, at the limit's length with note zero"
+  together : {calls : Calls} {call : Call} {P : ℕ} → fillsIn call ≡ true → (ReachedBy calls P → ⊥) → ReachedBy (calls then call) P
+      → NotedBy (calls then call) P 0
   -- a note stays
   earlier : {calls : Calls} {call : Call} {P note : ℕ} → NotedBy calls P note → NotedBy (calls then call) P note
 

@@ -1,21 +1,24 @@
 -- Which numbers some calls reach in a session fresh at its start: "the known numbers are exactly those reached from arrived,
--- spare and parity octets by 01's repair rule". It is told by the calls and their answers, and by what the offered octets read
--- as, with no word of what the session holds. Numbers repeat after 65,536, so a number is named here by its place: the first
--- number of the session has the place keptBefore, each later one the next, and the places below are those before the first.
--- Definitions only.
+-- spare and parity octets by 01's repair rule"; and document 02, request 13: "Demand 2's known set gains these fills." It is told by the
+-- calls and their answers, and by what the offered octets read as, with no word of what the session holds. Numbers repeat after 65,536,
+-- so a number is named here by its place: the first number of the session has the place keptBefore, each later one the next, and the
+-- places below are those before the first. Definitions only.
 use Prim.Native.Nat.{ℕ, _+_, _-_, _%_, _≤_, _<_}
 use mathlib.Core.Path.{_≡_}
-use mathlib.Core.List.{List, List·Memᴰ as Among}
+use mathlib.Core.Bool.{Bool, true}
+use mathlib.Core.List.{List, map, List·Memᴰ as Among}
 use mathlib.Core.Option.{some}
 use lib.ListN.{length}
+use Rattle.octets.specs.ExclusiveOr.{exclusiveOr}
+use Rattle.datagrams.specs.Sizes.{packetLimit}
 use Rattle.datagrams.specs.Carried.{Carried, Extra, spares, parity}
 use Rattle.datagrams.specs.Claims.{ReadsAs}
-use Rattle.views.specs.Cells.{keptBefore, keptAhead}
+use Rattle.views.specs.Cells.{keptBefore, keptAhead, keptNumbers}
 use Rattle.views.specs.Held.{messageAt}
 use Rattle.views.specs.Repair.{Message}
 use Rattle.views.specs.View.{numbers}
 use Rattle.views.specs.Offer.{heldBy}
-use Rattle.demands.specs.Calls.{Call, Calls, _then_, acceptedIn, leftBy}
+use Rattle.demands.specs.Calls.{Call, Calls, _then_, acceptedIn, fillsIn, leftBy}
 
 -- how many numbers have left by these calls: "the base's whole advance"
 abbrev pub gone : Calls → ℕ
@@ -70,6 +73,23 @@ pub record HeldBy (calls : Calls) (message : Message) : Type 0 where
   pub low : i < length ((heldBy (datagram .extra)) .messages)
   pub is : message ≡ messageAt S (heldBy (datagram .extra)) i
 
+-- octets x q and y q for every place q, as many as the limit: they agree at the marked places, and each message that is held after these
+-- calls is the same for both
+pub record Alike (calls : Calls) (marked : ℕ → Bool) (x y : ℕ → List ℕ) : Type 0 where
+  pub firstLong : (q : ℕ) → length (x q) ≡ packetLimit
+  pub secondLong : (q : ℕ) → length (y q) ≡ packetLimit
+  pub agree : (q : ℕ) → marked q ≡ true → x q ≡ y q
+  pub messages : (message : Message) → HeldBy calls message
+      → exclusiveOr packetLimit (map x (message .members)) ≡ exclusiveOr packetLimit (map y (message .members))
+
+-- the held messages and the octets at the marked places allow one value for the place p
+abbrev pub OneValueBy : Calls → (ℕ → Bool) → ℕ → Type 0
+OneValueBy calls marked p = (x y : ℕ → List ℕ) → Alike calls marked x y → x p ≡ y p
+
+-- the place p is among the 64 in view after these calls
+abbrev pub InView : Calls → ℕ → Type 0
+InView calls p = (gone calls ≤ p) × (p < gone calls + keptNumbers)
+
 -- the number at a place is reached by these calls
 pub data ReachedBy : Calls → ℕ → Type 0 where
   -- "Numbers before the first are blank: known"
@@ -84,6 +104,11 @@ pub data ReachedBy : Calls → ℕ → Type 0 where
   repaired : {calls : Calls} {call : Call} {S p : ℕ} {datagram : Carried} → Accepts calls call S datagram
       → (message : Message) → HeldBy (calls then call) message → 1 ≤ length (message .octets) → Among p (message .members)
       → ((q : ℕ) → Among q (message .members) → (q ≡ p → ⊥) → ReachedBy (calls then call) q)
+      → ReachedBy (calls then call) p
+  -- "the messages together fix them": the call solved the stored messages, the place is in view, and the messages held and some places
+  -- reached by then allow one value for it
+  together : {calls : Calls} {call : Call} {p : ℕ} → fillsIn call ≡ true → InView calls p → (marked : ℕ → Bool)
+      → ((q : ℕ) → marked q ≡ true → ReachedBy calls q) → OneValueBy calls marked p
       → ReachedBy (calls then call) p
   -- what was reached stays so
   earlier : {calls : Calls} {call : Call} {p : ℕ} → ReachedBy calls p → ReachedBy (calls then call) p

@@ -31,11 +31,11 @@ abbrev pub sessionOf : ℕ → Counts → List ℕ → List ℕ → List ℕ →
 sessionOf b c t o g = record { base = b; counts = c; table = t; octets = o; messages = g }
 
 -- the session that a core hands back
-same-session : {s : Session} {b : ℕ} {c : Counts} {t o g : List ℕ} → lent b c t o g ≡ lentBy s → sessionOf b c t o g ≡ s
+pub same-session : {s : Session} {b : ℕ} {c : Counts} {t o g : List ℕ} → lent b c t o g ≡ lentBy s → sessionOf b c t o g ≡ s
 same-session e = ap (λ (x : Lent). sessionOf (x .base) (x .counts) (x .table) (x .octets) (x .messages)) e
 
 -- the state after a call: by what it came to
-stands : {A : Type 0} (a : Answer A) (seen : A → View) (viewed : Answer View) (s r : Session)
+pub stands : {A : Type 0} (a : Answer A) (seen : A → View) (viewed : Answer View) (s r : Session)
     → ((x : A) → a ≡ done x → SeenAs (seen x) r) → ((x : Refusal) → a ≡ refused x → r ≡ s)
     → ((x : A) → a ≡ done x → viewed ≡ done (seen x)) → ((x : Refusal) → a ≡ refused x → viewed ≡ refused x)
     → After viewed s r

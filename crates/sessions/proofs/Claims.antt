@@ -168,7 +168,7 @@ accepted-offer octets view after e =
     }
 
 -- ---- within the ranges
-after-ranges : (a : Answer View) (s r : Session) → After a s r → sessionInRanges s ≡ true → sessionInRanges r ≡ true
+pub after-ranges : (a : Answer View) (s r : Session) → After a s r → sessionInRanges s ≡ true → sessionInRanges r ≡ true
 after-ranges (done v) s r x inside = in-ranges-true (x .within)
 after-ranges (refused why) s r x inside = ap (λ (q : Session). sessionInRanges q) x ∙ inside
 

@@ -3,3 +3,5 @@ mod Outcomes
 mod Seen
 pub mod Laws
 pub mod Claims
+mod Solved
+pub mod SolverClaims

@@ -1,2 +1,4 @@
 pub mod Receiver
 pub mod Claims
+pub mod Solver
+pub mod SolverClaims

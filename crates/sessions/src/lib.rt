@@ -2,6 +2,7 @@
 // A session goes in by value and comes back by value with the answer; a refusal returns the session unchanged and does not touch
 // a lent buffer.
 mod receiver;
+mod solver;
 
 pub use held::Counts;
 pub use held::Kind;
@@ -12,3 +13,6 @@ pub use receiver::AfterOffer;
 pub use receiver::AfterRelease;
 pub use receiver::offer;
 pub use receiver::release;
+pub use solver::AfterSolve;
+pub use solver::solve;
+pub use solving::Solved;

@@ -84,7 +84,8 @@ transferred k few (loses {line = line} hosted newest room sends) good fits =
     let took = line-sold .takes k few _ (before .ran) (omega arith) newest room sends in
     record { modem = before .modem; arrivals = before .arrivals; ran = transfers.loses (before .ran) sends (took .1) }
 transferred k few
-    (brings {line = line} {packets = packets} {t = t} {u = u} {packet = packet} {new = new} {o = o} hosted newest room sends owes called) good
+    (brings {line = line} {packets = packets} {t = t} {u = u} {packet = packet} {new = new} {o = o} hosted newest room sends owes called)
+    good
     fits =
     let longer = length-append line (arrives ∷ []) in
     let good-before = steady-before k line arrives good in

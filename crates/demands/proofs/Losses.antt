@@ -1,0 +1,183 @@
+-- Document 02, request 13, of sessions and the public calls. What an honest sender sent satisfies all equations, so that the call is never
+-- refused; of two sessions the one that knows and holds more allows no more values. Assumes nothing.
+use Prim.Native.Nat.{ℕ, _+_, _-_, _≤_}
+use mathlib.Core.Path.{_≡_, refl, sym, ap, _∙_, subst}
+use mathlib.Core.Logic.{⊎-elim}
+use mathlib.Core.List.{List, []}
+use lib.ListN.{length, getD, List·getD-eq-default}
+use native.Mathlib.Omega.{arith}
+use Rattle.octets.proofs.Laws.{below-or-not}
+use Rattle.lengths.specs.Answers.{Answer, done, refused}
+use Rattle.datagrams.specs.Sizes.{packetLimit}
+use Rattle.views.specs.Cells.{Cell, keptNumbers}
+use Rattle.views.specs.Held.{heldMessages}
+use Rattle.views.specs.Honest.{HonestMessages, TrueCells}
+use Rattle.views.specs.View.{View, sum}
+use Rattle.views.proofs.Laws.{held-honest}
+use Rattle.held.specs.Table.{viewOf}
+use Rattle.held.specs.declared.Session.{Session}
+use Rattle.held.proofs.Laws.{in-ranges-true}
+use Rattle.equations.specs.Equations.{padded, Solvable}
+use Rattle.equations.specs.Solved.{SolvedTo, Solves}
+use Rattle.equations.specs.Claims.{Wider, HonestView}
+use Rattle.equations.proofs.Laws.{padded-same, one-known, sent, sent-solution, honest-fill, solved-right, no-less, together-one}
+use Rattle.solving.specs.Outcome.{filledOf}
+use Rattle.solving.specs.declared.Solved.the-variants as answer
+use Rattle.solving.proofs.Laws.{solved-told}
+use Rattle.sending.specs.Sending.{historyKept}
+use Rattle.sending.specs.Honest.{HonestSender, packetAt}
+use Rattle.sessions.specs.Receiver.{SeenAs, After}
+use Rattle.sessions.specs.Solver.{solveOf, SolveOwes}
+use Rattle.sessions.specs.declared.solver.AfterSolve.{AfterSolve}
+use Rattle.sessions.proofs.SolverClaims as solver
+use Rattle.demands.specs.Feeding.{placeOf, sentAt, Fed}
+use Rattle.demands.specs.Demand3.{TwoLists}
+use Rattle.demands.specs.Losses.{Losses}
+use Rattle.demands.proofs.Sent.{packetAt-before, packetAt-sent, packet-sized}
+use Rattle.demands.proofs.Sound.{Sound, held-sound}
+use Rattle.demands.proofs.Fed.{fed-sound}
+use Rattle.demands.proofs.Lists.{Less, messages-among, views-less}
+use Rattle.demands.proofs.Demand3.{fed-seen, takes-seen, takes-fed}
+
+-- ---- what the call came to, where some octets satisfy all equations
+record Came (s : Session) (r : AfterSolve) : Type 0 where
+  filled : r .answer ≡ answer.Filled
+  solved : SolvedTo (viewOf s) (viewOf (r .session))
+
+came : (s : Session) (r : AfterSolve) → SeenAs (viewOf s) s → SolveOwes s r
+    → Solvable ((viewOf s) .cells) (heldMessages ((viewOf s) .held)) → Came s r
+came s r seen owes some = pick (solveOf s) refl
+  where
+    pick : (a : Answer View) → solveOf s ≡ a → Came s r
+    pick (done v) is =
+        let after : SeenAs v (r .session) = subst (λ (x : Answer View). After x s (r .session)) is (owes .state) in
+        record {
+          filled = solved-told (r .answer) answer.Filled (owes .answer ∙ ap filledOf is);
+          solved =
+              subst (SolvedTo (viewOf s)) (sym (after .view))
+              (subst (Solves (viewOf s)) is (solver.claims .meansIt s (in-ranges-true (seen .within))));
+        }
+    pick (refused why) is =
+        absurd (subst (Solves (viewOf s)) is (solver.claims .meansIt s (in-ranges-true (seen .within))) .0 (some .0) (some .1))
+
+-- ---- an honest sender
+module _ {row datagrams : List (List ℕ)} (honest : HonestSender row datagrams) where
+  -- no packet is over the limit, and before the first and past the last there is none
+  packet-short : (p : ℕ) → length (packetAt row p) ≤ packetLimit
+  packet-short p =
+      ⊎-elim (λ before. rw (packetAt-before row p before) (omega arith))
+      (λ past.
+      let place : p ≡ historyKept + (p - historyKept) = omega arith in
+      subst (λ (x : ℕ). length (packetAt row x) ≤ packetLimit) (sym place)
+      (subst (λ (l : List ℕ). length l ≤ packetLimit) (sym (packetAt-sent row (p - historyKept))) (sized (p - historyKept))))
+      (below-or-not p historyKept)
+    where
+      sized : (S : ℕ) → length (getD row S []) ≤ packetLimit
+      sized S =
+          ⊎-elim (λ low. packet-sized honest S low .1)
+          (λ past. subst (λ (l : List ℕ). length l ≤ packetLimit) (sym (List·getD-eq-default row [] {n = S} past)) (omega arith))
+          (below-or-not S (length row))
+
+  honest-view : {view : View} → Sound row datagrams view → HonestView (sentAt row view) (view .cells) (heldMessages (view .held))
+  honest-view {view} s =
+      record {
+        messagesHonest =
+            subst (λ (n : ℕ). HonestMessages (sentAt row view) n (heldMessages (view .held))) (sym (s .ranges .kept))
+            (held-honest (sentAt row view) (view .held) (omega (arith, s .ranges .heard))
+            (λ j inside. held-sound s j (omega (arith, s .ranges .heard))));
+        cellsTrue = s .right;
+        short = λ p inside. packet-short (placeOf view + p);
+      }
+
+  -- a session that it alone feeds
+  record SeenSound (s : Session) : Type 0 where
+    seen : SeenAs (viewOf s) s
+    sound : Sound row datagrams (viewOf s)
+
+  seen-sound : {s : Session} → Fed row datagrams s → SeenSound s
+  seen-sound f =
+      let b = fed-seen f in
+      record {
+        seen = record { within = b .seen .within; view = refl };
+        sound = subst (Sound row datagrams) (sym (b .seen .view)) (fed-sound honest (b .fed));
+      }
+
+  fed-came : {s : Session} {r : AfterSolve} → SeenSound s → SolveOwes s r → Came s r
+  fed-came {s} {r} b owes =
+      let h = honest-view (b .sound) in
+      came s r (b .seen) owes
+      (sent (sentAt row (viewOf s)) _ _ h, sent-solution (sentAt row (viewOf s)) _ _ h)
+
+  -- the base has not moved, so that the sender's packets stand where they stood
+  same-sent : {s : Session} {r : AfterSolve} → Came s r → sentAt row (viewOf (r .session)) ≡ sentAt row (viewOf s)
+  same-sent c = ap (λ n. λ (p : ℕ). packetAt row (sum n + p)) (c .solved .counts)
+
+  -- ---- two lists that the call ends
+  module _ {one two : Session} {r q : AfterSolve} (a : SeenSound one) (b : SeenSound two) (less : Less (viewOf one) (viewOf two))
+      (c : Came one r) (d : Came two q) where
+    place-same : placeOf (viewOf one) ≡ placeOf (viewOf two)
+    place-same = ap sum (less .counts)
+
+    wider : Wider ((viewOf one) .cells) ((viewOf two) .cells)
+    wider =
+        record {
+          known = less .known;
+          same = λ p k.
+              ⊎-elim
+              (λ inside.
+              padded-same _ _
+              (λ j.
+              b .sound .right p (rw (b .sound .ranges .kept) inside) (less .known p k) .same j
+              ∙ sym (ap (λ (n : ℕ). getD (packetAt row (n + p)) j 0) place-same)
+              ∙ sym (a .sound .right p (rw (a .sound .ranges .kept) inside) k .same j)))
+              (λ outside.
+              ap (λ (x : Cell). padded (x .octets))
+              (List·getD-eq-default ((viewOf two) .cells) _ {n = p} (rw (b .sound .ranges .kept) outside)
+              ∙ sym (List·getD-eq-default ((viewOf one) .cells) _ {n = p} (rw (a .sound .ranges .kept) outside))))
+              (below-or-not p keptNumbers);
+        }
+
+    two-lists : TwoLists row (viewOf (r .session)) (viewOf (q .session))
+    two-lists =
+        record {
+          known = λ p small.
+              no-less _ _ _ _ _ _ wider (messages-among (a .sound) (b .sound) place-same (less .marks)) (c .solved .cells)
+              (d .solved .cells)
+              p;
+          firstRight =
+              subst (λ (f : ℕ → List ℕ). TrueCells f ((viewOf (r .session)) .cells)) (sym (same-sent c))
+              (solved-right (sentAt row (viewOf one)) _ _ (honest-view (a .sound)) _ (c .solved .cells));
+          secondRight =
+              subst (λ (f : ℕ → List ℕ). TrueCells f ((viewOf (q .session)) .cells)) (sym (same-sent d))
+              (solved-right (sentAt row (viewOf two)) _ _ (honest-view (b .sound)) _ (d .solved .cells));
+          sameBase = c .solved .base ∙ less .base ∙ sym (d .solved .base);
+          sameCounts = c .solved .counts ∙ less .counts ∙ sym (d .solved .counts);
+        }
+
+-- ---- each claim
+pub losses : Losses
+losses =
+    record {
+      call = solver.claims;
+      neverRefused = λ row datagrams honest s f r owes. fed-came honest (seen-sound honest f) owes .filled;
+      fills = λ row datagrams honest s f r owes p unknown known.
+          let b = seen-sound honest f in
+          honest-fill (sentAt row (viewOf s)) _ _ (honest-view honest (b .sound)) _ (fed-came honest b owes .solved .cells) p unknown known;
+      noLessKnown = λ row datagrams honest s f first second one two takes-one takes-two all r q owes also.
+          let start = fed-seen f in
+          let a = takes-seen (start .seen) takes-one in
+          let b = takes-seen (start .seen) takes-two in
+          let less : Less (viewOf one) (viewOf two) =
+          rw (a .seen .view, b .seen .view) (views-less honest (start .fed) (a .takes) (b .takes) all) in
+          let here = seen-sound honest (takes-fed f takes-one) in
+          let there = seen-sound honest (takes-fed f takes-two) in
+          two-lists honest here there less (fed-came honest here owes) (fed-came honest there also);
+      broughtBack = λ row datagrams honest s f r owes p small together.
+          let b = seen-sound honest f in
+          one-known (fed-came honest b owes .solved .cells) p
+          (together-one ((viewOf s) .cells) (heldMessages ((viewOf s) .held)) p small
+          (λ message q held member.
+          let h = honest-view honest (b .sound) in
+          rw (b .sound .ranges .kept) at (h .messagesHonest message held .inside q member))
+          together);
+    }

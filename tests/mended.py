@@ -1,0 +1,147 @@
+#!/usr/bin/env python3
+"""Losses that no single message mends (02, request 13): scripts made from seeds, and real packets over a bad line with a call before
+each number is given up. Every answer must be the independent program's; what is released must be what was sent, with zeros behind."""
+
+import argparse
+import pathlib
+import sys
+import tempfile
+
+from compare import Failed, compare_calls, with_answers
+from failing import Cases, altered, independent
+from generate import MENDINGS, make_script
+from making.script import UNLIMITED, Script
+from making.sums import DONE
+from real import Wrong, as_expected, corpus, must, octets_of, written_by
+from released import LOST, check_released, counts_text
+from rules.arguments import shown
+from rules.datagrams import PARITY
+from rules.packets import PACKET_LIMIT
+from rules.receiving import REPAIRED, UNKNOWN
+
+MENDING_SEEDS, MENDINGS_EACH = 3, 1500
+PATIENCE = 24
+LINES = (('tt_v17_ecm_v0.a2b', 0.45), ('tt_v17_ecm_v0.a2b', 0.6), ('tt_v29_ecm_v0.a2b', 0.5), ('gt_v17_nonecm_v0.a2b', 0.55))
+
+
+def made_mendings(seed):
+    """A script of calls from a seed, and its answers."""
+    return with_answers(make_script(seed, MENDINGS_EACH, MENDINGS))
+
+
+def bad_line(name, loss):
+    """Real packets sent with parity, its settings free at each, some lost; before a number is given up, all that can be mended is.
+
+    The script, and how many numbers only the new call brought back."""
+    script, saved = Script(name + str(loss), UNLIMITED), 0
+    r, session = script.random, script.receiving
+    for packet in corpus(name):
+        _, octets = script.send(packet, PARITY, r.randrange(2, 9), r.choice((1, 1, 2, 3)))
+        if not script.chance(loss):
+            script.offer(octets)
+        saved += leave(script, PATIENCE)
+    saved += leave(script, 0)
+    must(session.total() == len(corpus(name)), 'not all numbers have left')
+    script.call(0x14)
+    return script, saved
+
+
+def leave(script, patience):
+    """Numbers leave while the base is known; if the sender is so far ahead of an unknown one, it is mended or given up."""
+    session, saved = script.receiving, 0
+    while session.total() < script.sending.sent:
+        if session.place(session.base).state == UNKNOWN:
+            if script.sending.sent - session.total() <= patience:
+                break
+            before = [place.state for place in session.places]
+            script.call(0x1A)
+            saved += sum(old != place.state for old, place in zip(before, session.places))
+        script.next(PACKET_LIMIT, skip=True)
+    return saved
+
+
+def check_line(command, script, packets):
+    """Every mending is done, and what is released is what was sent; one that the new call filled has the limit's length and note 0."""
+    answers, number, counts = written_by(command, script.lines, script.answers), 0, [0, 0, 0, 0]
+    for line, theirs in zip(script.lines, octets_of(answers)):
+        if line == b'1A':
+            must(theirs == DONE, 'not mended: %s before number %d', theirs.hex(), number)
+        if line[:2] == b'12':
+            must(theirs[0] == 0, 'not released: %s at number %d', theirs.hex(), number)
+            kind, note, size = theirs[1], int.from_bytes(theirs[4:6], 'big'), int.from_bytes(theirs[6:8], 'big')
+            if kind != LOST:
+                check_released(kind, number, int.from_bytes(theirs[2:4], 'big'), theirs[8:8 + size], packets)
+                must(kind != REPAIRED - 1 or note or size == PACKET_LIMIT, 'number %d is filled with %d octets', number, size)
+            counts[kind] += 1
+            number += 1
+    must(number == len(packets), '%d of %d numbers released', number, len(packets))
+    must(theirs == DONE + b''.join(shown(count, 4) for count in counts), 'the counts are %s', theirs.hex())
+    as_expected(script.answers, answers)
+    return counts
+
+
+def real_line(command, name, loss):
+    """One recorded call; what came of it."""
+    script, saved = bad_line(name, loss)
+    must(saved, 'nothing is mended')
+    return '%s; %d by it alone' % (counts_text(check_line(command, script, corpus(name))), saved)
+
+
+def checks(command, seed=''):
+    """All checks: a name, and what does it."""
+    for number in range(MENDING_SEEDS):
+        name = 'mendings of seed %s%d' % (seed, number)
+        yield name, lambda n=name, s=number: compare_calls(n, command, *made_mendings('%s%d' % (seed, s)))
+    for name, loss in LINES:
+        yield '%s, %d %% lost' % (name, 100 * loss), lambda n=name, l=loss: real_line(command, n, l)
+
+
+def self_test():
+    """Wrong programs, and what is said of each; the right one passes."""
+    from mend_mutants import MEND_MUTANTS
+    from mutants import make_mutant
+    test, right = Cases('mended.py'), independent()
+    for name, check in checks(right):
+        test.passes(name, check)
+    for name, words in (('a place filled that two solutions give differently', 'not mended: ff170000'),
+                        ('nothing filled', 'not the expected one'), ('23 as 17', ''), ('the fill cut of its zeros', 'is filled with'), ('filled as a spare', ' was sent as '),
+                        ('an equation that says nothing new is 23', 'not mended: ff170000'), ('1A: no call', 'not mended: ee')):
+        with tempfile.TemporaryDirectory() as directory:
+            wrong = make_mutant(pathlib.Path(directory), *next(row[1:] for row in MEND_MUTANTS if row[0] == name))
+            test.fails('made, ' + name, 'differs made: script line ', compare_calls, 'made', wrong, *made_mendings('0'))
+            if words:
+                test.fails('a real line, ' + name, words, real_line, wrong, *LINES[1])
+    test.fails('a number left out', 'not released: ', real_line, altered('calls 12 0'), *LINES[0])
+    test.fails('the counts', 'the counts are ', real_line, altered('calls 14 9'), *LINES[0])
+    test.ends('a wrong program', 1, '0 passed, 1 failed', [sys.executable, __file__, '--calls', altered('calls 14 9')])
+    test.ends('no command', 2, 'a command is needed', [sys.executable, __file__])
+    test.end()
+
+
+def main():
+    """Does each check; ends with status 1 at the first that is wrong."""
+    parser = argparse.ArgumentParser(description=__doc__)
+    parser.add_argument('--calls', help='shell command of the calls program under test')
+    parser.add_argument('--seed', default='', help='put before the numbers of the seeds, for others than the usual ones')
+    parser.add_argument('--self-test', action='store_true', help='check that wrong programs are reported')
+    arguments = parser.parse_args()
+    if arguments.self_test:
+        self_test()
+        return
+    if not arguments.calls:
+        parser.error('a command is needed: --calls')
+    passed = 0
+    for name, check in checks(arguments.calls, arguments.seed):
+        try:
+            remark = check()
+        except (Failed, Wrong) as wrong:
+            print('wrong %s: %s' % (name, wrong))
+            print('%d passed, 1 failed' % passed)
+            sys.exit(1)
+        passed += 1
+        print('ok %s%s' % (name, '; ' + remark if remark else ''), flush=True)
+    print('%d passed, 0 failed' % passed)
+
+
+if __name__ == '__main__':
+    main()
