@@ -5,6 +5,7 @@ use Rattle.frames.proofs.Claims as frames
 use Rattle.frame_feed.proofs.Claims as frameFeed
 use Rattle.replays.proofs.Claims as replays
 use Rattle.comparisons.proofs.Claims as comparisons
+use Rattle.sold_line.proofs.Claims as soldLine
 use Rattle.demands.specs.Claims.{Claims}
 use Rattle.demands.proofs.Demand1.{demand-1}
 use Rattle.demands.proofs.Demand2.{demand-2}
@@ -47,4 +48,5 @@ claims =
       bothEditions = packets.claims .plainAlike;
       comparison = comparisons.claims;
       losses = losses;
+      lineSold = soldLine.claims;
     }

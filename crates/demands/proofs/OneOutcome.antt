@@ -10,6 +10,7 @@ use Rattle.lengths.proofs.Claims as lengths
 use Rattle.datagrams.proofs.Claims as datagrams
 use Rattle.packets.proofs.Claims as packets
 use Rattle.sessions.proofs.Claims as sessions
+use Rattle.sessions.proofs.SolverClaims as solver
 use Rattle.sending.proofs.Claims as sending
 use Rattle.lines.proofs.Claims as lines
 use Rattle.frames.proofs.Claims as frames
@@ -40,6 +41,7 @@ one-outcome =
             image = λ session. one-write (imageToWrite editionWritten session);
           };
       receiver = sessions.claims .oneOutcome;
+      solver = solver.claims .oneOutcome;
       sender = sending.claims .oneOutcome;
       program = lines.claims .oneOutcome;
       joiner = frames.claims .oneOutcome;

@@ -5,6 +5,7 @@ use Rattle.frames.specs.Claims as frames
 use Rattle.frame_feed.specs.Claims as frameFeed
 use Rattle.replays.specs.Claims as replays
 use Rattle.comparisons.specs.Claims as comparisons
+use Rattle.sold_line.specs.Claims as soldLine
 use Rattle.demands.specs.Demand1.{Demand1}
 use Rattle.demands.specs.Demand2.{Demand2}
 use Rattle.demands.specs.Demand3.{Demand3}
@@ -59,3 +60,5 @@ pub record Claims : Type 0 where
   pub comparison : comparisons.Claims
   -- document 02, request 13: losses that no single message mends
   pub losses : Losses
+  -- document 02, request 14: a line we can sell
+  pub lineSold : soldLine.Claims

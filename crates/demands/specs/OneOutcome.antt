@@ -20,6 +20,8 @@ use Rattle.datagrams.specs.Claims as datagrams
 use Rattle.packets.specs.Claims as packets
 use Rattle.sending.specs.Claims as sending
 use Rattle.sessions.specs.Claims as sessions
+use Rattle.sessions.specs.Solver.{SolveOwes}
+use Rattle.held.specs.declared.Session.{Session}
 use Rattle.lines.specs.Claims as lines
 use Rattle.frames.specs.Claims as frames
 use Rattle.frame_feed.specs.Claims as frameFeed
@@ -44,7 +46,7 @@ pub record Writers : Type 0 where
   pub image : (session : Lent) → OneWrite (imageToWrite editionWritten session)
 
 -- all public calls of the library: `read`, `read_within` and `write` of `lengths`, `read` and `write` of `datagram_reader` and
--- `datagram_writer`, of `packet_reader` and `packet_writer`, `read` of `pencil_reader`; `Session::fresh`, `offer` and `release`;
+-- `datagram_writer`, of `packet_reader` and `packet_writer`, `read` of `pencil_reader`; `Session::fresh`, `offer`, `release` and `solve`;
 -- `Sender::fresh`, `in_ranges` and `send`; the program's `hex_to_octets`, `step`, `take_block` and `finish`; `Joiner::fresh`, `field` and
 -- `lost` of `frame_joiner`, `turns` and `feed` of `frame_feed`; `replay` of `replaying`; `compare` of `comparing`; `write` of
 -- `image_writer` and `read` of `image_reader`; those that only tell; and those that serve callers inside this repository
@@ -55,6 +57,7 @@ pub record OneOutcome : Type 0 where
   pub secondReader : (octet : ℕ) (ending : Ending) (s : List ℕ) → One (ReadBy octet ending s)
   pub writers : Writers
   pub receiver : sessions.OneOutcome
+  pub solver : (s : Session) → One (SolveOwes s)
   pub sender : sending.OneOutcome
   pub program : lines.OneOutcome
   pub joiner : frames.OneOutcome
