@@ -26,7 +26,7 @@ pub const PARITY: u8 = 128;
 
 // 01: a length.
 fn read_length(s: &[u8]) {
-    match lengths::read(s) {
+    match length_reader::read(s) {
         Length::Refused(why) => say_refused(why),
         Length::Value(value, size) => {
             say_done(value, 2);
@@ -39,7 +39,7 @@ fn read_length(s: &[u8]) {
 fn write_length(s: &[u8], lent: &mut [u8]) {
     let mut at = 0;
     let value = number(s, &mut at, 2) as usize;
-    let answer = lengths::write(value, lent);
+    let answer = length_writer::write(value, lent);
     say_written(answer, 1, lent);
 }
 

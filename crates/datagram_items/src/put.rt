@@ -40,7 +40,7 @@ pub fn put_length(n: usize, out: &mut [u8]) -> usize
     requires { ⌜ (n ≤ lengthLimit) × (length (lengthOctets n) ≤ length (now out)) ⌝ }
     ensures { λ r. ⌜ Put (lengthOctets n) (now (out .entry)) (now (out .exit)) r ⌝ }
 {
-    let written = lengths::write(n, out);
+    let written = length_writer::write(n, out);
     match written {
         Written::Octets(size) => size,
         Written::Refused(_) => 0,

@@ -58,7 +58,7 @@ fn length_at(s: &[u8], at: usize, least: usize, most: usize) -> Length
     requires { ⌜ at ≤ length (now s) ⌝ }
     ensures { λ r. ⌜ LengthTold least most (now (s .entry)) at r ⌝ }
 {
-    match lengths::read_within(&s[at..], least, most) {
+    match length_reader::read_within(&s[at..], least, most) {
         Length::Value(value, size) => Length::Value(value, size),
         Length::Refused(why) => Length::Refused(why.further(at)),
     }

@@ -2,15 +2,14 @@
 mod kind;
 mod reader;
 mod rules;
-mod sizes;
 
+pub use datagram_sizes::Datagram;
+pub use datagram_sizes::Message;
+pub use datagram_sizes::Packet;
+pub use datagram_sizes::Parity;
+pub use datagram_sizes::Spares;
 pub use kind::Kind;
 pub use reader::DatagramRead;
 pub use reader::Part;
 pub use reader::Reading;
 pub use rules::count_inside;
-pub use sizes::Datagram;
-pub use sizes::Message;
-pub use sizes::Packet;
-pub use sizes::Parity;
-pub use sizes::Spares;

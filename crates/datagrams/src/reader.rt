@@ -1,7 +1,7 @@
 // What the datagram reader answers: document 01, 'The datagram'. None of the octets is copied: what was read is told as parts of
 // the input.
 use crate::kind::Kind;
-use crate::sizes::Spares;
+use datagram_sizes::Spares;
 use lengths::Refusal;
 
 // A packet, spare or message as a part of the datagram.

@@ -1,7 +1,7 @@
 // Document 01, 'Sizes': whether a number is inside them.
 use crate::kind::Kind;
-use crate::sizes::Parity;
-use crate::sizes::Spares;
+use datagram_sizes::Parity;
+use datagram_sizes::Spares;
 use lengths::within;
 ghost use mathlib.Core.Path.{_≡_};
 ghost use Rattle.datagrams.specs.Write.{countInside};

@@ -23,7 +23,7 @@ use Rattle.packets.specs.Packet.{every, allZero, readPacket}
 use Rattle.packets.specs.declared.types.Named.{Named}
 use Rattle.packets.specs.declared.types.Ending.{Ending}
 use Rattle.packets.specs.declared.types.Ending.the-variants.{Whole, Repaired}
-use Rattle.packets.proofs.Laws.{narrow}
+use Rattle.packet_laws.proofs.Laws.{narrow}
 use Rattle.demands.specs.PacketItems.{end, octetsFrom, Due}
 use Rattle.demands.specs.PacketRefusals.{FirstWrong}
 use Rattle.demands.proofs.PacketRows.{not-both}

@@ -18,7 +18,7 @@ use Rattle.formats.specs.Places.{Place, bitsAt}
 use Rattle.datagrams.specs.Sizes.{packetLimit}
 use Rattle.packets.specs.Edition.{Edition, editionOf}
 use Rattle.packets.specs.Packet.{fieldsLeast, fieldsLimit, rightFields, mayFollow}
-use Rattle.packets.specs.Inner.Octets.{kindOf}
+use Rattle.packet_laws.specs.Octets.{kindOf}
 use Rattle.packets.specs.declared.types.Kind.{Kind}
 use Rattle.packets.specs.declared.types.Kind.the-variants.{Indicator, Data}
 use Rattle.packets.specs.declared.types.Named.{Named}

@@ -14,7 +14,7 @@ use Rattle.lengths.specs.Length.{lengthAt, lengthWithin, allowed, within, ofTwo
 use Rattle.lengths.specs.Tables.{when, first}
 use Rattle.packets.specs.Edition.{Edition}
 use Rattle.packets.specs.Packet.{fieldsLeast, fieldsLimit}
-use Rattle.packets.specs.Inner.Octets.{Count, countAt}
+use Rattle.packet_laws.specs.Octets.{Count, countAt}
 use Rattle.packets.specs.declared.types.Ending.{Ending}
 use Rattle.demands.specs.Refusals.{lengthRows}
 use Rattle.demands.specs.PacketItems.{countOfFields, rows, octetHere}

@@ -14,9 +14,9 @@ use Rattle.octets.proofs.Laws.{below-or-not}
 use Rattle.lengths.specs.Refusals.{endsEarly, notAssigned}
 use Rattle.lengths.specs.Tables.{first}
 use Rattle.formats.specs.Places.{Place}
-use Rattle.packets.specs.Inner.Octets.{bitAt, Narrow}
+use Rattle.packet_laws.specs.Octets.{bitAt, Narrow}
 use Rattle.packets.specs.declared.types.Enumerated.{Enumerated}
-use Rattle.packets.proofs.Laws.{bit-past}
+use Rattle.packet_laws.proofs.Laws.{bit-past}
 use Rattle.demands.specs.PacketItems.{isAdded, behindMark, valueEnds, valueRows}
 use Rattle.demands.specs.PacketRefusals.{CutValue, Unassigned, noneAdded, notZero}
 use Rattle.demands.proofs.PacketRows.{none-given}

@@ -14,10 +14,10 @@ use Rattle.lengths.specs.Refusals.{endsEarly}
 use Rattle.lengths.specs.Tables.{first}
 use Rattle.formats.specs.Places.{Place}
 use Rattle.packets.specs.Edition.{Edition, editionOf}
-use Rattle.packets.specs.Inner.Octets.{NarrowEdition}
+use Rattle.packet_laws.specs.Octets.{NarrowEdition}
 use Rattle.packets.specs.declared.types.Ending.{Ending}
 use Rattle.packets.specs.declared.types.Named.{Named}
-use Rattle.packets.proofs.Laws.{narrow}
+use Rattle.packet_laws.proofs.Laws.{narrow}
 use Rattle.demands.specs.Refusals.{lengthRows}
 use Rattle.demands.specs.PacketItems.{Item, firstValue, countOfFields, header, dataLength, fieldData, end, rows, firstValues}
 use Rattle.demands.specs.PacketItems.{octetsFrom, octetHere, Due, begins}

@@ -15,7 +15,7 @@ use Rattle.formats.specs.Places.{bitsAt}
 use Rattle.datagrams.specs.Sizes.{packetLimit}
 use Rattle.packets.specs.Edition.{Edition}
 use Rattle.packets.specs.Packet.{fieldsLeast, fieldsLimit, rightFields}
-use Rattle.packets.specs.Inner.Octets.{kindOf}
+use Rattle.packet_laws.specs.Octets.{kindOf}
 use Rattle.packets.specs.declared.types.Ending.{Ending}
 use Rattle.demands.specs.Refusals.{lengthRows}
 use Rattle.demands.specs.PacketItems.{firstValue, fieldsAllowed, countOfFields, header, padding, dataLength, rows, valueRows}

@@ -17,11 +17,11 @@ use Rattle.formats.specs.Places.{Place, bitsAt}
 use Rattle.datagrams.specs.Sizes.{packetLimit}
 use Rattle.packets.specs.Edition.{Edition, editionOf}
 use Rattle.packets.specs.Packet.{rightData}
-use Rattle.packets.specs.Inner.Octets.{bitAt}
+use Rattle.packet_laws.specs.Octets.{bitAt}
 use Rattle.packets.specs.declared.types.Ending.the-variants.{Whole}
 use Rattle.packets.specs.declared.types.Named.{Named}
 use Rattle.packets.specs.declared.types.Named.the-variants.{Old, New}
-use Rattle.packets.proofs.Laws.{narrow}
+use Rattle.packet_laws.proofs.Laws.{narrow}
 use Rattle.demands.specs.PacketItems.{Item, countOfFields, header, padding, dataLength, fieldData, end, fields, rows}
 use Rattle.demands.specs.PacketItems.{isAdded, behindMark, valueEnds, valueRows, typeIn, octetsFrom, dataFits, dataSize, Due, begins}
 use Rattle.demands.specs.PacketItems.{goesOn, Packet}

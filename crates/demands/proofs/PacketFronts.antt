@@ -18,7 +18,7 @@ use Rattle.lengths.specs.Tables.{when, first}
 use Rattle.formats.specs.Places.{Place}
 use Rattle.packets.specs.Edition.{Edition, values}
 use Rattle.packets.specs.Packet.{fieldsLeast, fieldsLimit}
-use Rattle.packets.specs.Inner.Octets.{NarrowEdition, kindOf}
+use Rattle.packet_laws.specs.Octets.{NarrowEdition, kindOf}
 use Rattle.packets.specs.declared.types.Kind.{Kind}
 use Rattle.packets.specs.declared.types.Ending.{Ending}
 use Rattle.packets.specs.declared.types.Ending.the-variants.{Whole}

@@ -15,7 +15,7 @@ use Rattle.formats.specs.Places.{Place}
 use Rattle.formats.proofs.Laws.{bits-more, gap-past}
 use Rattle.packets.specs.Edition.{Edition, values}
 use Rattle.packets.specs.Packet.{rightData, rightFields}
-use Rattle.packets.specs.Inner.Octets.{NarrowEdition, bitAt, kindOf}
+use Rattle.packet_laws.specs.Octets.{NarrowEdition, bitAt, kindOf}
 use Rattle.packets.specs.declared.types.Kind.{Kind}
 use Rattle.packets.specs.declared.types.Kind.the-variants.{Indicator, Data}
 use Rattle.packets.specs.declared.types.Ending.{Ending}

@@ -15,7 +15,7 @@ use Rattle.lengths.specs.Tables.{first}
 use Rattle.formats.specs.Places.{Place}
 use Rattle.packets.specs.Edition.{Edition}
 use Rattle.packets.specs.Packet.{every, allZero, mayFollow}
-use Rattle.packets.specs.Inner.Octets.{NarrowEdition}
+use Rattle.packet_laws.specs.Octets.{NarrowEdition}
 use Rattle.packets.specs.declared.types.Ending.{Ending}
 use Rattle.packets.specs.declared.types.Ending.the-variants.{Whole, Repaired}
 use Rattle.demands.specs.PacketItems.{Item, end, octetsFrom, rows}

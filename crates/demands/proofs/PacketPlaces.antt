@@ -16,7 +16,7 @@ use Rattle.lengths.proofs.Laws.{within-true}
 use Rattle.formats.specs.Places.{Place, edge}
 use Rattle.packets.specs.Edition.{addedWidth, Edition}
 use Rattle.packets.specs.Packet.{fieldsLeast, fieldsLimit}
-use Rattle.packets.specs.Inner.Octets.{bitAt}
+use Rattle.packet_laws.specs.Octets.{bitAt}
 use Rattle.packets.specs.declared.types.Enumerated.{Enumerated}
 use Rattle.packets.specs.declared.types.Ending.{Ending}
 use Rattle.packets.specs.declared.types.Ending.the-variants.{Whole}

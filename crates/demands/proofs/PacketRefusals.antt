@@ -25,7 +25,7 @@ use Rattle.packets.specs.declared.types.Ending.{Ending}
 use Rattle.packets.specs.declared.types.Ending.the-variants.{Whole, Repaired}
 use Rattle.packets.specs.declared.types.PacketRead.{PacketRead}
 use Rattle.lengths.specs.Tables.{first, refusalIn}
-use Rattle.packets.proofs.Laws.{narrow}
+use Rattle.packet_laws.proofs.Laws.{narrow}
 use Rattle.demands.specs.NamedEdition.{Names, ReadBy}
 use Rattle.demands.specs.PacketItems.{Item, end, octetOf, rows, octetsFrom, Due, Packet}
 use Rattle.demands.specs.PacketRefusals.{FirstWrong, PacketThen}

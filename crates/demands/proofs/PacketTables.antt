@@ -16,7 +16,7 @@ use Rattle.formats.specs.Places.{Place, bitsAt, edge, edgeAt}
 use Rattle.datagrams.specs.Sizes.{packetLimit}
 use Rattle.packets.specs.Edition.{addedWidth, Edition}
 use Rattle.packets.specs.Packet.{rightFields, rightData, mayFollow}
-use Rattle.packets.specs.Inner.Octets.{bitAt, kindOf, Value, rootAt, addedAt, valueAt, HeaderAnswer, headerAt, sizeAt}
+use Rattle.packet_laws.specs.Octets.{bitAt, kindOf, Value, rootAt, addedAt, valueAt, HeaderAnswer, headerAt, sizeAt}
 use Rattle.packets.specs.declared.types.Enumerated.{Enumerated}
 use Rattle.packets.specs.declared.types.Ending.{Ending}
 use Rattle.demands.specs.PacketItems.{Item, firstValue, fieldsAllowed, header, padding, dataLength, fieldData, end}

@@ -16,9 +16,9 @@ use Rattle.lengths.specs.Tables.{when, first}
 use Rattle.formats.specs.Places.{Place, bitsAt}
 use Rattle.formats.proofs.Laws.{bits-more}
 use Rattle.packets.specs.Edition.{addedWidth}
-use Rattle.packets.specs.Inner.Octets.{bitAt, Narrow}
+use Rattle.packet_laws.specs.Octets.{bitAt, Narrow}
 use Rattle.packets.specs.declared.types.Enumerated.{Enumerated}
-use Rattle.packets.proofs.Laws.{bit-past}
+use Rattle.packet_laws.proofs.Laws.{bit-past}
 use Rattle.demands.specs.PacketItems.{isAdded, behindMark, valueIn, valueEnds, addedRows, rootRows, valueRows}
 use Rattle.demands.specs.PacketRefusals.{CutValue, Unassigned, noneAdded, notZero, pastAdded, pastRoot}
 use Rattle.demands.proofs.PacketRows.{past-row, given-row, row, last}

@@ -17,11 +17,11 @@ use Rattle.formats.specs.Places.{Place, edge, edgeAt}
 use Rattle.datagrams.specs.Sizes.{packetLimit}
 use Rattle.packets.specs.Edition.{Edition, editionOf}
 use Rattle.packets.specs.Packet.{PacketAnswer, readPacket, rightFields, mayFollow}
-use Rattle.packets.specs.Inner.Octets.{bitAt, kindOf, Value, valueAt, FirstAnswer, firstAt, countAt, HeaderAnswer, headerAt, sizeAt}
-use Rattle.packets.specs.Inner.Octets.{FieldAnswer, afterHeader, fieldAt, FieldsAnswer, fieldsAt, endAt, packetByOctets}
+use Rattle.packet_laws.specs.Octets.{bitAt, kindOf, Value, valueAt, FirstAnswer, firstAt, countAt, HeaderAnswer, headerAt, sizeAt}
+use Rattle.packet_laws.specs.Octets.{FieldAnswer, afterHeader, fieldAt, FieldsAnswer, fieldsAt, endAt, packetByOctets}
 use Rattle.packets.specs.declared.types.Ending.{Ending}
 use Rattle.packets.specs.declared.types.Named.{Named}
-use Rattle.packets.proofs.Laws.{narrow, read-at}
+use Rattle.packet_laws.proofs.Laws.{narrow, read-at}
 use Rattle.demands.specs.PacketItems.{Item, firstValue, fieldsAllowed, countOfFields, header, padding, dataLength, fieldData, end}
 use Rattle.demands.specs.PacketItems.{fields, octetOf, rows, valueIn, valueEnds, octetHere, hasFields, firstValues, typeIn, dataSize}
 use Rattle.demands.specs.PacketItems.{ends}

@@ -19,7 +19,7 @@ use Rattle.formats.specs.Places.{Place, bitsAt, edge}
 use Rattle.datagrams.specs.Sizes.{packetLimit}
 use Rattle.packets.specs.Edition.{addedWidth, Edition, values}
 use Rattle.packets.specs.Packet.{fieldsLeast, fieldsLimit, rightFields, rightData, mayFollow}
-use Rattle.packets.specs.Inner.Octets.{bitAt, kindOf}
+use Rattle.packet_laws.specs.Octets.{bitAt, kindOf}
 use Rattle.packets.specs.declared.types.Enumerated.{Enumerated}
 use Rattle.packets.specs.declared.types.Ending.{Ending}
 use Rattle.packets.specs.declared.types.Ending.the-variants.{Whole}

@@ -17,7 +17,7 @@ use Rattle.formats.specs.Places.{Place, bitsAt}
 use Rattle.datagrams.specs.Sizes.{packetLimit}
 use Rattle.packets.specs.Edition.{addedWidth, Edition, editionOf}
 use Rattle.packets.specs.Packet.{fieldsLeast, fieldsLimit, allZero}
-use Rattle.packets.specs.Inner.Octets.{bitAt, kindOf}
+use Rattle.packet_laws.specs.Octets.{bitAt, kindOf}
 use Rattle.packets.specs.Promise.{packetOutcome}
 use Rattle.packets.specs.declared.types.Kind.the-variants.{Indicator}
 use Rattle.packets.specs.declared.types.Named.{Named}

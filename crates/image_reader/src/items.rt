@@ -27,7 +27,7 @@ pub fn item_at(s: &[u8], at: usize, limit: usize) -> Item
     requires { ⌜ at ≤ length (now s) ⌝ }
     ensures { λ r. ⌜ ItemTold limit (now (s .entry)) at r ⌝ }
 {
-    let found = lengths::read_within(&s[at..], Message::LEAST, limit);
+    let found = length_reader::read_within(&s[at..], Message::LEAST, limit);
     let Length::Value(size, took) = found else {
         return Item::Misshapen;
     };

@@ -1,4 +1,5 @@
--- What each public call of this crate owes, a record for each, which its contract cites. Definitions only.
+-- What each public call of this crate owes, and of the length reader and the length writer, a record for each, which its contract
+-- cites. Definitions only.
 use Prim.Native.Nat.{ℕ, _≤_, _<_}
 use mathlib.Core.Path.{_≡_}
 use mathlib.Core.List.{List, _++_}

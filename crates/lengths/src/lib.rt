@@ -1,10 +1,10 @@
-// A length or count at the front of some octets, read and written: document 01, 'The datagram'. One rule serves packets,
+// A length or count at the front of some octets, what it is: document 01, 'The datagram'. One rule serves packets,
 // spares, messages and counts. The project's refusal type lives here too, below every layer that gives one.
-ghost use Rattle.lengths.specs.Promise.{LengthRead, Octet, Puts, RefusalMade, RefusalPlaced, RefusalTold, WithinRead};
+ghost use Rattle.lengths.specs.Promise.{Octet, RefusalMade, RefusalPlaced, RefusalTold};
 ghost use mathlib.Core.Path.{_≡_};
 ghost use Prim.Native.Nat.{_+_, _^_, _<_};
 ghost use Rattle.lengths.specs.Refusals.{further as isFurther};
-ghost use Rattle.lengths.specs.Length.{twoFrom, lengthLimit, lengthToWrite};
+ghost use Rattle.lengths.specs.Length.{twoFrom, lengthLimit};
 ghost use Rattle.lengths.specs.Length.{within as isWithin};
 
 // Why a call was refused: document 01's number, and where: the octet at which the refused item begins, from the start of the octets
@@ -135,32 +135,6 @@ pub fn wide(octet: u8) -> usize
     octet as usize
 }
 
-// The length or count at the front of s.
-pub fn read(s: &[u8]) -> Length
-    ensures { λ r. ⌜ LengthRead (now (s .entry)) r ⌝ }
-{
-    if s.len() < 1 {
-        return Length::Refused(Refusal::new(Refusal::ENDS_EARLY));
-    }
-    let first = wide(s[0]);
-    if first < Length::TWO_FROM {
-        return Length::Value(first, 1);
-    }
-    if 192 <= first {
-        return Length::Refused(Refusal::new(Refusal::BAD_FORM));
-    }
-    if s.len() < 2 {
-        return Length::Refused(Refusal::new(Refusal::ENDS_EARLY));
-    }
-    let second = wide(s[1]);
-    let high = (first - 128) * 256;
-    let value = high + second;
-    if value < Length::TWO_FROM {
-        return Length::Refused(Refusal::new(Refusal::BAD_FORM));
-    }
-    Length::Value(value, 2)
-}
-
 // From least to most.
 pub fn within(least: usize, most: usize, n: usize) -> bool
     ensures { λ r. ⌜ r ≡ isWithin least most n ⌝ }
@@ -169,41 +143,4 @@ pub fn within(least: usize, most: usize, n: usize) -> bool
         return false;
     }
     n <= most
-}
-
-// The length or count at the front of s, from least to most.
-pub fn read_within(s: &[u8], least: usize, most: usize) -> Length
-    ensures { λ r. ⌜ WithinRead least most (now (s .entry)) r ⌝ }
-{
-    let found = read(s);
-    let Length::Value(value, size) = found else {
-        return found;
-    };
-    if within(least, most, value) {
-        return Length::Value(value, size);
-    }
-    Length::Refused(Refusal::new(Refusal::OUTSIDE_SIZES))
-}
-
-// The length n, written to the front of out. A refusal writes nothing.
-pub fn write(n: usize, out: &mut [u8]) -> Written
-    ensures { λ r. ⌜ Puts (lengthToWrite n) (now (out .entry)) (now (out .exit)) r ⌝ }
-{
-    if Length::LIMIT < n {
-        return Written::Refused(Refusal::new(Refusal::OUTSIDE_SIZES));
-    }
-    if n < Length::TWO_FROM {
-        if out.len() < 1 {
-            return Written::Refused(Refusal::new(Refusal::NO_ROOM));
-        }
-        out[0] = (n % 256) as u8;
-        return Written::Octets(1);
-    }
-    if out.len() < 2 {
-        return Written::Refused(Refusal::new(Refusal::NO_ROOM));
-    }
-    let high = n / 256 + 128;
-    out[0] = (high % 256) as u8;
-    out[1] = (n % 256) as u8;
-    Written::Octets(2)
 }

@@ -12,9 +12,9 @@ use Rattle.formats.specs.Places.{Place}
 use Rattle.packets.specs.Edition.{Edition, editionOf}
 use Rattle.packets.specs.declared.types.Named.{Named}
 use Rattle.packets.specs.Packet.{fieldsLimit, noField}
-use Rattle.packets.specs.Inner.Octets.{FieldAnswer, fieldAt, FieldsAnswer, fieldsAt}
+use Rattle.packet_laws.specs.Octets.{FieldAnswer, fieldAt, FieldsAnswer, fieldsAt}
 use Rattle.packets.specs.Promise.{padded}
-use Rattle.packets.proofs.Laws.{field-inside}
+use Rattle.packet_laws.proofs.Laws.{field-inside}
 use Rattle.packet_reader.specs.Items.{InPacket, FieldTold, FieldsTold, fieldOutcome}
 use Rattle.packets.specs.declared.types.Field.{Field}
 use Rattle.packet_reader.specs.declared.items.FieldRead.{FieldRead}

@@ -6,7 +6,7 @@ use mathlib.Core.Bool.{Bool, true, false}
 use mathlib.Core.List.{List}
 use lib.ListN.{drop, length-drop}
 use native.Mathlib.Omega.{arith}
-use Rattle.packets.proofs.Laws.{rest, rest-is, header-form, size-form}
+use Rattle.packet_laws.proofs.Laws.{rest, rest-is, header-ends, size-form}
 use Rattle.lengths.specs.Refusals.{further}
 use Rattle.lengths.specs.Answers.{done, refused}
 use Rattle.lengths.specs.declared.Refusal.{Refusal}
@@ -14,7 +14,7 @@ use Rattle.formats.specs.Places.{Place}
 use Rattle.datagrams.specs.Sizes.{packetLimit}
 use Rattle.packets.specs.Edition.{editionOf}
 use Rattle.packets.specs.declared.types.Named.{Named}
-use Rattle.packets.specs.Inner.Octets.{headerAt, sizeAt, afterHeader, fieldAt}
+use Rattle.packet_laws.specs.Octets.{headerAt, sizeAt, afterHeader, fieldAt}
 use Rattle.packet_reader.specs.Items.{InPacket, EdgeTold, edgeOutcome, HeaderTold, headerOutcome, SizeTold, sizeOutcome, DataTold}
 use Rattle.packet_reader.specs.Items.{FieldTold}
 use Rattle.packet_reader.proofs.ReadPlaces.{edge-is, edge-within}
@@ -82,7 +82,7 @@ module _ {named : Named} {s : List ℕ} {p : Place} {r : HeaderRead} (told : Hea
     header-is = sym (told .answer) ∙ ap headerOutcome is
 
     pub header-inside : InPacket s p → InPacket s n
-    header-inside inside = record { few = inside .few; here = header-form (editionOf named) s p _ header-is .inside }
+    header-inside inside = record { few = inside .few; here = header-ends (editionOf named) s p _ header-is }
 
     pub field-bare : b ≡ false → FieldTold named s p (field.Field (record { kind = k; start = 0; size = 0 }) n)
     unfolding fieldAt afterHeader

@@ -7,7 +7,7 @@ use mathlib.Core.List.{List}
 use lib.ListN.{length}
 use lib.Dec.{ltb}
 use native.Mathlib.Omega.{arith}
-use Rattle.packets.proofs.Laws.{narrow, value-form, parted-at}
+use Rattle.packet_laws.proofs.Laws.{narrow, value-ends, parted-at}
 use Rattle.lengths.specs.Refusals.{wrongData}
 use Rattle.lengths.specs.Answers.{Answer, done, refused, refuseAt, _>>=_}
 use Rattle.lengths.specs.Promise.{RefusalMade, RefusalPlaced}
@@ -16,7 +16,7 @@ use Rattle.datagrams.specs.Sizes.{packetLimit}
 use Rattle.formats.specs.Places.{Place, bitsAt}
 use Rattle.packets.specs.Edition.{values, editionOf, carries, allows}
 use Rattle.packets.specs.Packet.{rightFields}
-use Rattle.packets.specs.Inner.Octets.{bitAt, Narrow, Value, valueAt, kindOf, firstAt, HeaderAnswer, headerAt}
+use Rattle.packet_laws.specs.Octets.{bitAt, Narrow, Value, valueAt, kindOf, firstAt, HeaderAnswer, headerAt}
 use Rattle.packets.specs.declared.types.Enumerated.{Enumerated}
 use Rattle.packets.specs.declared.types.Kind.{Kind}
 use Rattle.packets.specs.declared.types.Named.{Named}
@@ -69,7 +69,7 @@ first-narrow named k is = subst Narrow (sym is) (narrow named .ofKind k)
 pub first-inside : {e : Enumerated} {s : List ℕ} {k : Kind} {x : ValueRead} {v n : ℕ} → FirstHere s k → ValueTold e 0 s 2 x
     → x ≡ value.Value v n → InPacket s n
 first-inside {e} {s} here told is =
-    record { few = here .few; here = value-form e 0 s 2 _ (sym (told .answer) ∙ ap valueOutcome is) .inside }
+    record { few = here .few; here = value-ends e 0 s 2 _ (sym (told .answer) ∙ ap valueOutcome is) }
 
 module _ {named : Named} {s : List ℕ} {k : Kind} {e : Enumerated} where
   -- part by part

@@ -8,7 +8,7 @@ use lib.ListN.{length, getD}
 use lib.Dec.{ltb}
 use native.Mathlib.Omega.{arith}
 use borrow.Author.Tests.{lt-ltb, le-ltb, not-true, not-false}
-use Rattle.packets.proofs.Laws.{rest, rest-is}
+use Rattle.packet_laws.proofs.Laws.{rest, rest-is}
 use Rattle.lengths.specs.Refusals.{further, endsEarly, outsideSizes}
 use Rattle.lengths.specs.Answers.{Answer, done, refused, refuse, refuseAt, lengthOutcome, refusalOf}
 use Rattle.lengths.specs.Length.{lengthWithin}
@@ -19,7 +19,7 @@ use Rattle.lengths.specs.declared.Refusal.{Refusal}
 use Rattle.lengths.specs.declared.Length.the-variants as length
 use Rattle.datagrams.specs.Sizes.{packetLimit}
 use Rattle.packets.specs.Packet.{fieldsLeast, fieldsLimit}
-use Rattle.packets.specs.Inner.Octets.{countAt, sizeAt}
+use Rattle.packet_laws.specs.Octets.{countAt, sizeAt}
 use Rattle.packet_reader.specs.Items.{OctetIn, CountTold, SizeTold}
 use Rattle.packet_reader.specs.declared.items.CountRead.the-variants as count
 use Rattle.packet_reader.specs.declared.items.SizeRead.the-variants as size

@@ -15,7 +15,7 @@ use Rattle.datagrams.specs.Sizes.{packetLimit}
 use Rattle.packets.specs.Edition.{editionOf}
 use Rattle.packets.specs.Packet.{fieldsLimit, PacketAnswer, mayFollow, readPacket}
 use Rattle.formats.specs.Places.{Place, edgeAt}
-use Rattle.packets.specs.Inner.Octets.{firstAt, countAt, FieldsAnswer, fieldsAt, endAt, packetByOctets}
+use Rattle.packet_laws.specs.Octets.{firstAt, countAt, FieldsAnswer, fieldsAt, endAt, packetByOctets}
 use Rattle.packets.specs.Promise.{PacketTold, packetOutcome, packetRead, padded}
 use Rattle.packet_reader.specs.Items.{InPacket, OctetIn, EdgeTold, edgeOutcome, FirstTold, CountTold, FieldsTold, EndTold, NamedTold}
 use Rattle.packet_reader.specs.Items.{firstOutcome, countOutcome, fieldsRead, endOutcome}
@@ -36,7 +36,7 @@ use Rattle.packet_reader.specs.declared.items.CountRead.the-variants as 
 use Rattle.packet_reader.specs.declared.reader.FieldsEnd.the-variants as end
 use Rattle.packet_reader.specs.declared.reader.EndRead.the-variants as ends
 use Rattle.packet_reader.proofs.ReadPlaces.{edge-is, edge-within}
-use Rattle.packets.proofs.Laws.{narrow, first-form, read-at, rest, rest-is, read-outcome, fields-inside, count-limit, count-within}
+use Rattle.packet_laws.proofs.Laws.{narrow, first-ends, read-at, rest, rest-is, read-outcome, fields-inside, count-limit, count-within}
 
 -- ---- from the items' answers to the definitions
 module _ {named : Named} {s : List ℕ} where
@@ -47,7 +47,7 @@ module _ {named : Named} {s : List ℕ} where
   pub first-within : {r : FirstRead} {k : Kind} {v at : ℕ} {p : Bool} → length s ≤ packetLimit → FirstTold named s r
       → r ≡ first.First k v p at
       → OctetIn s at
-  first-within fits told is = record { few = fits; here = first-form (editionOf named) s _ (first-is told is) .inside }
+  first-within fits told is = record { few = fits; here = first-ends (editionOf named) s _ (first-is told is) }
 
 module _ {s : List ℕ} {at : ℕ} {p : Bool} {c : CountRead} {n from : ℕ} (told : CountTold s at p c) (is : c ≡ count.Count n from) where
   count-is : countAt s at p ≡ done (record { value = n; next = from })

@@ -13,7 +13,7 @@ use Rattle.lengths.specs.Refusals.{spareBit}
 use Rattle.lengths.specs.Answers.{done}
 use Rattle.lengths.specs.Promise.{Octet, RefusalPlaced}
 use Rattle.lengths.specs.declared.Refusal.{Refusal}
-use Rattle.packets.proofs.Laws.{edge-inside}
+use Rattle.packet_laws.proofs.Laws.{edge-inside}
 use Rattle.formats.specs.Places.{Place, edgeAt}
 use Rattle.packet_reader.specs.Items.{InPacket, Power, OctetAt, BitTold, BitsTold, EdgeTold, edgeOutcome}
 use Rattle.packet_reader.specs.declared.places.EdgeRead.{EdgeRead}

@@ -14,8 +14,8 @@ use Rattle.lengths.specs.declared.Refusal.{Refusal}
 use Rattle.formats.specs.Places.{Place, bitsAt}
 use Rattle.packets.specs.Edition.{addedWidth}
 use Rattle.packets.specs.declared.types.Enumerated.{Enumerated}
-use Rattle.packets.specs.Inner.Octets.{Narrow, rootAt, addedAt, valueAt, plainWidth}
-use Rattle.packets.proofs.Laws.{plain-at}
+use Rattle.packet_laws.specs.Octets.{Narrow, rootAt, addedAt, valueAt, plainWidth}
+use Rattle.packet_laws.proofs.Laws.{plain-at}
 use Rattle.packet_reader.specs.Items.{BitTold, BitsTold, PlainTold, RootTold, AddedTold, ValueTold}
 use Rattle.packet_reader.specs.declared.values.ValueRead.{ValueRead}
 use Rattle.packet_reader.specs.declared.values.ValueRead.the-variants as value

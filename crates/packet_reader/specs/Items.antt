@@ -11,9 +11,9 @@ use Rattle.formats.specs.Places.{Place, bitsAt, edgeAt}
 use Rattle.datagrams.specs.Sizes.{packetLimit}
 use Rattle.packets.specs.Edition.{editionOf, carries, allows}
 use Rattle.packets.specs.declared.types.Enumerated.{Enumerated}
-use Rattle.packets.specs.Inner.Octets.{bitAt, kindOf, Narrow, Value, plainWidth, rootAt, addedAt, valueAt, FirstAnswer, firstAt}
-use Rattle.packets.specs.Inner.Octets.{Count, countAt, HeaderAnswer, headerAt, sizeAt, FieldAnswer, afterHeader, fieldAt}
-use Rattle.packets.specs.Inner.Octets.{FieldsAnswer, fieldsAt, endAt}
+use Rattle.packet_laws.specs.Octets.{bitAt, kindOf, Narrow, Value, plainWidth, rootAt, addedAt, valueAt, FirstAnswer, firstAt}
+use Rattle.packet_laws.specs.Octets.{Count, countAt, HeaderAnswer, headerAt, sizeAt, FieldAnswer, afterHeader, fieldAt}
+use Rattle.packet_laws.specs.Octets.{FieldsAnswer, fieldsAt, endAt}
 use Rattle.packets.specs.Packet.{rightFields, readPacket}
 use Rattle.packets.specs.Promise.{PacketTold, padded}
 use Rattle.packets.specs.declared.types.Ending.{Ending}

@@ -20,7 +20,7 @@ ghost use mathlib.Core.Path.{_≡_};
 ghost use Prim.Native.Nat.{_≤_};
 ghost use lib.ListN.{length};
 ghost use Rattle.datagrams.specs.Sizes.{packetLimit};
-ghost use Rattle.packets.specs.Inner.Octets.{kindOf};
+ghost use Rattle.packet_laws.specs.Octets.{kindOf};
 ghost use Rattle.packet_reader.specs.Items.{InPacket, OctetIn, FirstHere, AfterFirst, FirstTold, CountTold};
 ghost use Rattle.packet_reader.specs.Items.{AfterType, HeaderTold, SizeTold, DataTold, FieldTold};
 
@@ -124,7 +124,7 @@ pub fn read_count(s: &[u8], at: usize, present: bool) -> CountRead
         let start = 8 * at;
         return CountRead::Count(0, start);
     }
-    let found = lengths::read_within(&s[at..], Field::LEAST, Field::LIMIT);
+    let found = length_reader::read_within(&s[at..], Field::LEAST, Field::LIMIT);
     let Length::Value(value, size) = found else {
         let why = found.refusal();
         return CountRead::Refused(why.further(at));

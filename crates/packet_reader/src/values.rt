@@ -6,7 +6,7 @@ use crate::places::bit;
 use crate::places::bits;
 use lengths::Refusal;
 use packets::Enumerated;
-ghost use Rattle.packets.specs.Inner.Octets.{Narrow};
+ghost use Rattle.packet_laws.specs.Octets.{Narrow};
 ghost use Rattle.packet_reader.specs.Items.{NearPacket, PlainTold, RootTold, AddedTold, ValueTold};
 
 // The value, and the place after it.

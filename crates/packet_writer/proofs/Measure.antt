@@ -16,12 +16,13 @@ use Rattle.lengths.specs.declared.Written.the-variants as written
 use Rattle.packets.specs.Edition.{many, allows, Edition, values, carries, editionOf}
 use Rattle.packets.specs.Packet.{fieldsLimit, assigned, rightFields, rightData, every}
 use Rattle.packets.specs.Write.{withData, packetOctets, sum, oneEach, allAssigned, rightTypes, allRight, inSizes, packetToWrite}
-use Rattle.packets.specs.Inner.Items.{Wide, TypesRight, AllAssigned, AllRight, PacketSized, Measured}
+use Rattle.packet_laws.specs.Items.{Wide, TypesRight, AllAssigned, AllRight, PacketSized, Measured}
 use Rattle.packets.specs.declared.types.Enumerated.{Enumerated}
 use Rattle.packets.specs.declared.types.Kind.{Kind}
 use Rattle.packets.specs.declared.types.Named.{Named}
 use Rattle.packets.specs.declared.types.Named.the-variants.{Old, New}
-use Rattle.packets.proofs.Laws.{drop-next, each-length, packet-size, narrow-of}
+use Rattle.packets.proofs.Laws.{each-length}
+use Rattle.packet_laws.proofs.Laws.{drop-next, packet-size, narrow}
 use Rattle.packet_writer.proofs.Values.{values-narrow, types-narrow}
 
 -- ---- both of two tests
@@ -148,7 +149,7 @@ module _ (named : Named) (k : Kind) (v : ℕ) (ts ns d : List ℕ) {each known :
     (isSize : PacketSized named k v ts ns size) where
   size-is : length (packetOctets (editionOf named) k v ts ns d) ≡ size
   size-is =
-      packet-size (editionOf named) (narrow-of named) k v ts ns d few (sym isEach ∙ not-false each so)
+      packet-size (editionOf named) (narrow named) k v ts ns d few (sym isEach ∙ not-false each so)
       (sym (isKnown .so) ∙ not-false known soKnown)
       ∙ sym (isSize .so)
 

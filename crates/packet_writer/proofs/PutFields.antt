@@ -18,10 +18,10 @@ use Rattle.formats.proofs.Laws.{none-waits}
 use Rattle.packets.specs.Edition.{many}
 use Rattle.packets.specs.Packet.{every}
 use Rattle.packets.specs.Write.{sum}
-use Rattle.packets.specs.Inner.Laid.{fieldOctets, afterField, fieldsOctets}
-use Rattle.packets.specs.Inner.Items.{Wide, EdgeFits, FieldFits, FieldPut, FieldsFit}
+use Rattle.packet_laws.specs.Laid.{fieldOctets, afterField, fieldsOctets}
+use Rattle.packet_laws.specs.Items.{Wide, EdgeFits, FieldFits, FieldPut, FieldsFit}
 use Rattle.packets.specs.declared.types.Enumerated.{Enumerated}
-use Rattle.packets.proofs.Laws.{rest, drop-next, sum-next, after-waits}
+use Rattle.packet_laws.proofs.Laws.{rest, drop-next, sum-next, after-waits}
 
 -- what holds of every element holds of one
 every-at : (test : ℕ → Bool) (s : List ℕ) (i : ℕ) → every test s ≡ true → i < length s → test (getD s i 0) ≡ true

@@ -12,14 +12,14 @@ use Rattle.lengths.proofs.Laws.{put-next, put-long, room-left}
 use Rattle.formats.specs.Waiting.{Waiting, waiting, joined, fullOctets, left, closed}
 use Rattle.formats.proofs.Laws.{waits-left}
 use Rattle.packets.specs.Packet.{isData}
-use Rattle.packets.specs.Inner.Laid.{valueBits, firstLead, firstBits, firstOctets, sizeOctets, withFlag, withType}
-use Rattle.packets.specs.Inner.Laid.{headerOctets, headerLeft, fieldOctets}
-use Rattle.packets.specs.Inner.Items.{BitIs, ValueWide, BitsFit, BitsPut, EdgeFits, DataFits, FirstFits, HeaderFits, HeaderPut}
-use Rattle.packets.specs.Inner.Items.{FieldFits, FieldPut}
+use Rattle.packet_laws.specs.Laid.{valueBits, firstLead, firstBits, firstOctets, sizeOctets, withFlag, withType}
+use Rattle.packet_laws.specs.Laid.{headerOctets, headerLeft, fieldOctets}
+use Rattle.packet_laws.specs.Items.{BitIs, ValueWide, BitsFit, BitsPut, EdgeFits, DataFits, FirstFits, HeaderFits, HeaderPut}
+use Rattle.packet_laws.specs.Items.{FieldFits, FieldPut}
 use Rattle.packets.specs.declared.types.Enumerated.{Enumerated}
 use Rattle.packets.specs.declared.types.Kind.{Kind}
-use Rattle.packets.proofs.Laws.{rest, flag-small, value-small, lead-small, lead-waits, flag-waits, header-waits}
-use Rattle.packets.proofs.Laws.{field-bare, after-bare, field-full, after-full}
+use Rattle.packet_laws.proofs.Laws.{rest, flag-small, value-small, lead-small, lead-waits, flag-waits, header-waits}
+use Rattle.packet_laws.proofs.Laws.{field-bare, after-bare, field-full, after-full}
 use Rattle.packet_writer.proofs.Putting.{bits-few}
 
 -- ---- the first item

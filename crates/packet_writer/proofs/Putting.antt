@@ -13,9 +13,9 @@ use borrow.Rule.Slice.PartMut.{putMid}
 use borrow.Author.Tests.{lt-ltb, le-ltb}
 use Rattle.formats.specs.Waiting.{Waiting, waiting, joined, fullOctets, left, closed}
 use Rattle.formats.proofs.Laws.{joined-small}
-use Rattle.packets.specs.Inner.Laid.{sizeOctets}
-use Rattle.packets.specs.Inner.Items.{BitIs, BitsFit, BitsPut, EdgeFits, DataFits}
-use Rattle.packets.proofs.Laws.{rest}
+use Rattle.packet_laws.specs.Laid.{sizeOctets}
+use Rattle.packet_laws.specs.Items.{BitIs, BitsFit, BitsPut, EdgeFits, DataFits}
+use Rattle.packet_laws.proofs.Laws.{rest}
 use Rattle.lengths.specs.Promise.{Put}
 use Rattle.lengths.proofs.Laws.{put-none, put-one, put-next}
 

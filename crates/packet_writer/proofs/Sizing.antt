@@ -12,8 +12,8 @@ use Rattle.datagrams.specs.Sizes.{packetLimit}
 use Rattle.packets.specs.Edition.{values, editionOf}
 use Rattle.packets.specs.Packet.{fieldsLimit, every}
 use Rattle.packets.specs.Write.{inSizes}
-use Rattle.packets.specs.Inner.Laid.{pastFields, valueWidth}
-use Rattle.packets.specs.Inner.Items.{ValueWide, PastFits, FieldsPast, PacketSized}
+use Rattle.packet_laws.specs.Laid.{pastFields, valueWidth}
+use Rattle.packet_laws.specs.Items.{ValueWide, PastFits, FieldsPast, PacketSized}
 use Rattle.packets.specs.declared.types.Enumerated.{Enumerated}
 use Rattle.packets.specs.declared.types.Kind.{Kind}
 use Rattle.packets.specs.declared.types.Named.{Named}

@@ -6,20 +6,21 @@ use mathlib.Core.Bool.{true, false}
 use native.Mathlib.Omega.{arith}
 use borrow.Author.Tests.{le-leb, lt-leb}
 use Rattle.packets.specs.Edition.{values, editionOf}
-use Rattle.packets.specs.Inner.Laid.{Narrow, valueWidth, valueBits}
-use Rattle.packets.specs.Inner.Items.{ValueWide}
+use Rattle.packet_laws.specs.Octets.{Narrow}
+use Rattle.packet_laws.specs.Laid.{valueWidth, valueBits}
+use Rattle.packet_laws.specs.Items.{ValueWide}
 use Rattle.packets.specs.declared.types.Enumerated.{Enumerated}
 use Rattle.packets.specs.declared.types.Kind.{Kind}
 use Rattle.packets.specs.declared.types.Named.{Named}
-use Rattle.packets.proofs.Laws.{narrow-of}
+use Rattle.packet_laws.proofs.Laws as packets
 
 -- ---- what an edition names
 module _ (named : Named) where
   pub values-narrow : (k : Kind) {e : Enumerated} → e ≡ values (editionOf named) k → Narrow e
-  values-narrow k is = rw is (narrow-of named .ofKind k)
+  values-narrow k is = rw is (packets.narrow named .ofKind k)
 
   pub types-narrow : {e : Enumerated} → e ≡ editionOf named .types → Narrow e
-  types-narrow is = rw is (narrow-of named .ofTypes)
+  types-narrow is = rw is (packets.narrow named .ofTypes)
 
 -- ---- in how many bits a value stands, and the number that they make
 module _ {e : Enumerated} {v : ℕ} (narrow : Narrow e) where
@@ -29,11 +30,11 @@ module _ {e : Enumerated} {v : ℕ} (narrow : Narrow e) where
 
   pub wide-marked : v < e .assigned → e .extensible ≡ true → ValueWide e v (1 + e .width)
   unfolding valueWidth
-  wide-marked low marked = record { same = rw (lt-leb (e .assigned) v low, marked); few = omega (arith, narrow .narrow) }
+  wide-marked low marked = record { same = rw (lt-leb (e .assigned) v low, marked); few = omega (arith, narrow .few) }
 
   pub wide-plain : v < e .assigned → e .extensible ≡ false → ValueWide e v (e .width)
   unfolding valueWidth
-  wide-plain low marked = record { same = rw (lt-leb (e .assigned) v low, marked) (omega arith); few = omega (arith, narrow .narrow) }
+  wide-plain low marked = record { same = rw (lt-leb (e .assigned) v low, marked) (omega arith); few = omega (arith, narrow .few) }
 
   pub bits-added : e .assigned ≤ v → 128 + (v - e .assigned) ≡ valueBits e v
   unfolding valueBits

@@ -21,12 +21,13 @@ use Rattle.lengths.proofs.Laws.{put-next, put-long, put-puts, full-puts, room-l
 use Rattle.packets.specs.Edition.{values, editionOf}
 use Rattle.packets.specs.Write.{packetToWrite}
 use Rattle.formats.specs.Waiting.{noneWait}
-use Rattle.packets.specs.Inner.Laid.{firstOctets, fieldsOctets, countedFields, laidOctets}
-use Rattle.packets.specs.Inner.Items.{FirstFits, FieldsFit, CountedFit, PacketFits, Measured}
+use Rattle.packet_laws.specs.Laid.{firstOctets, fieldsOctets, countedFields, laidOctets}
+use Rattle.packet_laws.specs.Items.{FirstFits, FieldsFit, CountedFit, PacketFits, Measured}
 use Rattle.packets.specs.declared.types.Enumerated.{Enumerated}
 use Rattle.packets.specs.declared.types.Kind.{Kind}
 use Rattle.packets.specs.declared.types.Named.{Named}
-use Rattle.packets.proofs.Laws.{rest, WriteForm, write-form, write-laid, packet-bare, packet-full, narrow-of}
+use Rattle.packets.proofs.Laws.{WriteForm, write-form}
+use Rattle.packet_laws.proofs.Laws.{rest, write-laid, packet-bare, packet-full, narrow}
 
 -- ---- the count, then the fields
 module _ {e : Enumerated} {ts ns d old mid : List ℕ} {r : Written} (fits : CountedFit e ts ns d old)
@@ -95,7 +96,7 @@ module _ {named : Named} {k : Kind} {v : ℕ} {ts ns d old : List ℕ} (fits : P
     packet-first =
         rw is
         (record {
-          value = record { narrow = narrow-of named .ofKind k; known = form .known };
+          value = record { narrow = narrow named .ofKind k; known = form .known };
           room =
               omega (
                 arith,
@@ -130,7 +131,7 @@ module _ {named : Named} {k : Kind} {v : ℕ} {ts ns d old : List ℕ} (fits : P
             record {
               few = form .few;
               right = rw isTypes (record {
-                narrow = narrow-of named .ofTypes;
+                narrow = narrow named .ofTypes;
                 same = form .same;
                 all = form .all;
                 known = form .types;
@@ -164,7 +165,7 @@ write-is {named} {k} {v} {ts} {ns} {d} {r} {n} measured is = by (packetToWrite (
     (sym (measured .answer) ∙ ap writtenOutcome is) where
       by : (a : Answer (List ℕ)) → packetToWrite (editionOf named) k v ts ns d ≡ a → sizeOf a ≡ done n → ToWrite named k v ts ns d n
       by (done w) e size =
-          let is : w ≡ laidOctets (editionOf named) k v ts ns d = write-laid (editionOf named) (narrow-of named) k v ts ns d w e in
+          let is : w ≡ laidOctets (editionOf named) k v ts ns d = write-laid (editionOf named) (narrow named) k v ts ns d w e in
           let long : length w ≡ n = cc in
           record { allowed = e ∙ ap (λ (l : List ℕ). done l) is; long = ap length (sym is) ∙ long }
       by (refused x) e size = let z : _≡_ {A = ℕ} 0 1 = cc in absurd (omega arith)

@@ -3,7 +3,7 @@ ghost use mathlib.Core.Path.{_≡_};
 ghost use Prim.Native.Nat.{_^_, _≤_};
 ghost use Rattle.lengths.specs.Promise.{Put};
 ghost use Rattle.formats.specs.Waiting.{waiting, closed};
-ghost use Rattle.packets.specs.Inner.Items.{BitIs, BitsFit, BitsPut, EdgeFits};
+ghost use Rattle.packet_laws.specs.Items.{BitIs, BitsFit, BitsPut, EdgeFits};
 
 // How many octets were filled, and what waits then.
 pub struct Filled {

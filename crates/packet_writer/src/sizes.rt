@@ -14,9 +14,10 @@ ghost use lib.Dec.{leb};
 ghost use Rattle.packets.specs.Edition.{many};
 ghost use Rattle.packets.specs.Packet.{fieldsLimit, every};
 ghost use Rattle.packets.specs.Write.{sum, oneEach, inSizes};
-ghost use Rattle.packets.specs.Inner.Laid.{Narrow, valueBits};
-ghost use Rattle.packets.specs.Inner.Items.{Wide, ValueWide, TypesRight, PastFits, FieldPast, FieldsPast, AllAssigned, AllRight};
-ghost use Rattle.packets.specs.Inner.Items.{PacketSized, Measured};
+ghost use Rattle.packet_laws.specs.Octets.{Narrow};
+ghost use Rattle.packet_laws.specs.Laid.{valueBits};
+ghost use Rattle.packet_laws.specs.Items.{Wide, ValueWide, TypesRight, PastFits, FieldPast, FieldsPast, AllAssigned, AllRight};
+ghost use Rattle.packet_laws.specs.Items.{PacketSized, Measured};
 ghost use Rattle.datagrams.specs.Sizes.{packetLimit};
 
 // A length as a size.

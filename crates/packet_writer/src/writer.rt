@@ -21,9 +21,9 @@ ghost use Rattle.formats.specs.Waiting.{waiting, noneWait};
 ghost use Rattle.packets.specs.Edition.{editionOf, byEdition};
 ghost use Rattle.packets.specs.Packet.{isData};
 ghost use Rattle.packets.specs.Write.{packetToWrite};
-ghost use Rattle.packets.specs.Inner.Laid.{firstOctets, sizeOctets, fieldsOctets, countedFields, laidOctets};
-ghost use Rattle.packets.specs.Inner.Items.{BitIs, DataFits, FirstFits, HeaderFits, HeaderPut, FieldFits};
-ghost use Rattle.packets.specs.Inner.Items.{FieldPut, FieldsFit, CountedFit, PacketFits};
+ghost use Rattle.packet_laws.specs.Laid.{firstOctets, sizeOctets, fieldsOctets, countedFields, laidOctets};
+ghost use Rattle.packet_laws.specs.Items.{BitIs, DataFits, FirstFits, HeaderFits, HeaderPut, FieldFits};
+ghost use Rattle.packet_laws.specs.Items.{FieldPut, FieldsFit, CountedFit, PacketFits};
 
 // The length of some data and the data at the front of out, and how many octets they took.
 fn put_data(data: &[u8], out: &mut [u8]) -> usize
@@ -140,7 +140,7 @@ fn put_counted(
     ensures { λ r. ⌜ Put (countedFields known (now (types .entry)) (now (lengths .entry)) (now («data» .entry)))
         (now (out .entry)) (now (out .exit)) r ⌝ }
 {
-    let count = lengths::write(types.len(), &mut *out);
+    let count = length_writer::write(types.len(), &mut *out);
     // at most 16 fields, and room for their count: it is never refused
     let Written::Octets(at) = count else {
         return 0;

@@ -2,7 +2,6 @@
 -- Assumes nothing.
 use mathlib.Core.Path.{sym, _∙_}
 use Rattle.packets.specs.Claims.{Claims, OneOutcome}
-use Rattle.packets.proofs.WriteLaws.{never-longer}
 use Rattle.packets.proofs.RoundTrips.{packet-written-reads, packet-repaired-reads}
 use Rattle.packets.proofs.ReadBack.{packet-read-writes}
 use Rattle.packets.proofs.Follow.{parts-within, zeros-follow, zeros-alike}
@@ -21,7 +20,6 @@ claims =
       sound02 = sound02;
       writtenReads = packet-written-reads;
       repairedReads = packet-repaired-reads;
-      neverLonger = never-longer;
       readWrites = packet-read-writes;
       partsWithin = parts-within;
       zerosFollow = zeros-follow;

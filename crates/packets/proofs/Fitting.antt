@@ -1,27 +1,24 @@
 -- What passes the writer's tests fits the description of an edition, each field's data at its place. Assumes nothing.
-use Prim.Native.Nat.{ℕ, suc, _+_, _-_, _/_, _≤_, _<_}
+use Prim.Native.Nat.{ℕ, suc, _+_, _-_, _*_, _/_, _%_, _≤_, _<_}
 use mathlib.Core.Path.{_≡_, refl, sym, ap, subst, _∙_}
 use mathlib.Core.Bool.{Bool, true, false, cond}
-use mathlib.Core.List.{List, [], _∷_}
+use mathlib.Core.List.{List, [], _∷_, _++_}
 use lib.ListN.{length, take, drop}
 use lib.Dec.{leb, ltb}
 use native.Mathlib.Omega.{arith}
 use borrow.Author.Tests.{lt-ltb, le-leb, ltb-true, ltb-false, leb-true, leb-false}
 use Rattle.lengths.proofs.Laws.{both}
-use Rattle.formats.specs.Spelling.{wide}
+use Rattle.formats.specs.Spelling.{spelt, whole, wide, gap}
 use Rattle.formats.specs.Places.{edge}
 use Rattle.formats.specs.Format.{flag, known, sequenceFits}
+use Rattle.formats.proofs.Laws.{wide-append, wide-whole, wide-spelt, gap-past}
 use Rattle.datagrams.specs.Sizes.{packetLimit}
-use Rattle.packets.specs.Edition.{Enumerated, many, Sound, Edition, SoundEdition, values, edition98, edition02, editionOf}
+use Rattle.packets.specs.Edition.{Enumerated, many, Sound, Edition, SoundEdition, values, edition98, edition02}
 use Rattle.packets.specs.Packet.{assigned, typesLimit, fieldsLimit, rightFields, rightData, every, root, addition, enumerated}
 use Rattle.packets.specs.Packet.{typeOfMsg, start, count, header, size, Content, fieldData, field, dataField, packet}
 use Rattle.packets.specs.Write.{withData, rightTypes}
-use Rattle.packets.specs.Inner.Laid.{Narrow, NarrowEdition, sizeOctets}
 use Rattle.packets.specs.declared.types.Kind.{Kind}
 use Rattle.packets.specs.declared.types.Kind.the-variants.{Indicator, Data}
-use Rattle.packets.specs.declared.types.Named.{Named}
-use Rattle.packets.specs.declared.types.Named.the-variants.{Old, New}
-use Rattle.packets.proofs.FieldLaid.{edge-wide}
 
 -- ---- a value of an ENUMERATED type
 mark-fits : (m b : Bool) (p : ℕ) → (b ≡ true → m ≡ true) → (cond m flag (known false)) .fits b p
@@ -72,22 +69,16 @@ sound02 = record { ofKind = by; ofTypes = types } where
   by Indicator = record { some = omega arith; wide = omega arith; few = omega arith; marked = λ h. refl }
   by Data = record { some = omega arith; wide = omega arith; few = omega arith; marked = λ h. refl }
 
--- and stand in at most eight bits each
-pub narrow-of : (named : Named) → NarrowEdition (editionOf named)
-narrow-of Old = record { ofKind = by; ofTypes = record { sound = sound98 .ofTypes; narrow = omega arith; few = omega arith } } where
-  by : (k : Kind) → Narrow (values edition98 k)
-  by Indicator = record { sound = sound98 .ofKind Indicator; narrow = omega arith; few = omega arith }
-  by Data = record { sound = sound98 .ofKind Data; narrow = omega arith; few = omega arith }
-narrow-of New = record { ofKind = by; ofTypes = record { sound = sound02 .ofTypes; narrow = omega arith; few = omega arith } } where
-  by : (k : Kind) → Narrow (values edition02 k)
-  by Indicator = record { sound = sound02 .ofKind Indicator; narrow = omega arith; few = omega arith }
-  by Data = record { sound = sound02 .ofKind Data; narrow = omega arith; few = omega arith }
-
 -- ---- the data of a field
+-- whole octets go on from the next octet edge
+pub edge-wide : (p : ℕ) (l : List ℕ) → wide (spelt (gap p) 0 ++ whole l) + p ≡ 8 * (edge p + length l)
+edge-wide p l = omega (arith, wide-append (spelt (gap p) 0) (whole l), wide-spelt (gap p) 0, wide-whole l, gap-past p)
+
 data-fits : (l : List ℕ) (p : ℕ) → 0 < length l → length l ≤ packetLimit → fieldData .fits (edge p + 2, l) p
 unfolding fieldData size
 data-fits l p some few =
-    let at : edge p + 2 ≡ (wide (size .spelling (length l) p) + p) / 8 = omega (arith, edge-wide p (sizeOctets (length l))) in
+    let two : List ℕ = ((length l - 1) / 256) ∷ ((length l - 1) % 256) ∷ [] in
+    let at : edge p + 2 ≡ (wide (size .spelling (length l) p) + p) / 8 = omega (arith, edge-wide p two) in
     (((omega arith, omega arith), (at, refl)), refl)
 
 rest-fits : (l : List ℕ) (p : ℕ) (b : Bool) → ltb 0 (length l) ≡ b → length l ≤ packetLimit

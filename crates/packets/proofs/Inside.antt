@@ -1,32 +1,30 @@
 -- A packet that reads, in any edition, lies inside the octets: it ends at an octet edge there, and its data is where its fields say.
 -- Assumes nothing.
-use Prim.Native.Nat.{ℕ, zero, suc, _+_, _*_, _/_, _≤_}
+use Prim.Native.Nat.{ℕ, zero, suc, _+_, _-_, _*_, _/_, _%_, _≤_}
 use mathlib.Core.Path.{_≡_, refl, sym, ap, ap₂, subst, _∙_}
 use mathlib.Core.Bool.{Bool, true, false, cond}
 use mathlib.Core.List.{List, [], _∷_, _++_, map}
 use lib.ListN.{length, getD, take, drop, length-drop}
 use lib.Seq.{length-take-le}
-use lib.Dec.{ltb}
+use lib.Dec.{leb, ltb}
 use native.Mathlib.Omega.{arith}
 use borrow.Author.Tests.{le-ltb, ltb-false}
-use Rattle.lengths.specs.Refusals.{outsideSizes, leftOver}
-use Rattle.lengths.specs.Answers.{Answer, done, refused, readFrom}
+use Rattle.lengths.specs.Refusals.{refusal, endsEarly, outsideSizes, leftOver}
+use Rattle.lengths.specs.Answers.{Answer, done, refused}
 use Rattle.lengths.proofs.Laws.{cond-done}
-use Rattle.formats.specs.Reading.{Finding, found, stopped, andThen}
+use Rattle.formats.specs.Reading.{Finding, found, stopped, andThen, foundFrom}
 use Rattle.formats.specs.Reading as reading
-use Rattle.formats.specs.Format.{Format, align, known, item, _⊳_, sequenceOf}
+use Rattle.formats.specs.Format.{Format, align, here, octetsFront, octets, twoFront, twoOctets, known, item, _⊳_, sequenceOf}
 use Rattle.formats.specs.Places.{edgeAt}
-use Rattle.formats.proofs.Laws.{onward, stepped, then-found, made-found, steady-item, steady-align, align-edge}
+use Rattle.formats.proofs.Laws.{onward, octetwise-at, octetwise-edge, stepped, then-found, made-found, steady-item, steady-align}
+use Rattle.formats.proofs.Laws.{align-edge}
 use Rattle.datagrams.specs.Sizes.{packetLimit}
 use Rattle.packets.specs.Edition.{Edition}
-use Rattle.packets.specs.Packet.{First, Header, header, Content, fieldData, field, dataField, count, start, IfpPacket, packet}
+use Rattle.packets.specs.Packet.{First, Header, header, Content, size, fieldData, field, dataField, count, start, IfpPacket, packet}
 use Rattle.packets.specs.Packet.{fieldOf}
+use Rattle.packets.specs.declared.types.Field.{Field}
 use Rattle.packets.specs.Packet.{noField, allData, mayFollow, wholePacket, PacketAnswer, answerOf, readPacket}
-use Rattle.packets.specs.Inner.Octets.{sizeAt}
 use Rattle.packets.specs.declared.types.Ending.{Ending}
-use Rattle.packets.proofs.AtOctets.{dataFrom, data-at}
-use Rattle.packets.proofs.ReadLaws.{size-form}
-use Rattle.packets.proofs.ReadEnds.{parts-cons}
 use Rattle.packets.proofs.Steady.{steady-start, steady-header, steady-field, steady-count, steady-fields}
 
 -- ---- the data of a field
@@ -34,25 +32,66 @@ record DataIn (s : List ℕ) (start : ℕ) (octets : List ℕ) : Type 0 where
   within : start + length octets ≤ length s
   is : take (length octets) (drop start s) ≡ octets
 
-module _ (s : List ℕ) (start : ℕ) (l : List ℕ) (q : ℕ) where
-  sized-in : (at : ℕ) (x : Answer ℕ) → sizeAt (drop at s) ≡ x
-      → onward {B = ℕ × List ℕ} (readFrom at x) (λ n. found (at + 2, take n (drop (at + 2) s)) (8 * (at + 2 + n))) ≡ found (start, l) q
-      → DataIn s start l
-  sized-in at (done n) was e =
-      let inside = size-form (drop at s) n was .inside in
-      let long : length (take n (drop (at + 2) s)) ≡ n
-      = length-take-le n (drop (at + 2) s) (omega (arith, length-drop at s, length-drop (at + 2) s)) in
-      let here : DataIn s (at + 2) (take n (drop (at + 2) s))
-      = record { within = omega (arith, length-drop at s); is = ap (λ (k : ℕ). take k (drop (at + 2) s)) long } in
-      let is : _≡_ {A = ℕ × List ℕ} (at + 2, take n (drop (at + 2) s)) (start, l) = cc in
-      subst (λ (x : ℕ × List ℕ). DataIn s (x .0) (x .1)) is here
-  sized-in at (refused r) was e = let z : _≡_ {A = ℕ} 0 1 = cc in absurd (omega arith)
+-- some octets from an octet edge on
+octets-in : (s : List ℕ) (n i at : ℕ) (l : List ℕ) (q : ℕ) → 1 ≤ n → octets n .read s i (8 * at) ≡ found l q → DataIn s at l
+unfolding octetsFront
+octets-in s n i at l q some e =
+    by (ltb (length (drop at s)) n) refl (sym (octetwise-edge (octetsFront n) (λ x. x) (λ x. length x ≡ n) s i at) ∙ e) where
+      by : (b : Bool) → ltb (length (drop at s)) n ≡ b
+          → andThen (foundFrom at (cond b (stopped (refusal endsEarly)) (found (take n (drop at s)) n))) (λ x k. found x (8 * k + 8 * at))
+          ≡ found l q
+          → DataIn s at l
+      by true short e = let z : _≡_ {A = ℕ} 0 1 = cc in absurd (omega arith)
+      by false all e =
+          let room = ltb-false (length (drop at s)) n all in
+          let long : length (take n (drop at s)) ≡ n = length-take-le n (drop at s) room in
+          let is : take n (drop at s) ≡ l = cc in
+          subst (DataIn s at) is
+          (record { within = omega (arith, length-drop at s); is = ap (λ (k : ℕ). take k (drop at s)) long })
 
+-- the two octets of the length end at an octet edge
+record AtEdge (p : ℕ) : Type 0 where
+  at : ℕ
+  is : p ≡ 8 * at
+
+two-edge : (s : List ℕ) (most i p v q : ℕ) → p ≤ 8 * length s → twoOctets most .read s i p ≡ found v q → AtEdge q
+unfolding twoFront
+two-edge s most i p v q from e =
+    by (edgeAt s p) (sym (octetwise-at (twoFront most) (λ v. (v / 256) ∷ (v % 256) ∷ []) (λ v. v ≤ most) s i p from) ∙ e) where
+      told : (at : ℕ) (a b : Bool)
+          → andThen (foundFrom at
+          (cond a (stopped (refusal endsEarly))
+          (cond b (found (getD (drop at s) 0 0 * 256 + getD (drop at s) 1 0) 2) (stopped (refusal outsideSizes)))))
+          (λ x k. found x (8 * k + 8 * at))
+          ≡ found v q
+          → AtEdge q
+      told at true b e = let z : _≡_ {A = ℕ} 0 1 = cc in absurd (omega arith)
+      told at false true e = let is : 8 * 2 + 8 * at ≡ q = cc in record { at = 2 + at; is = omega arith }
+      told at false false e = let z : _≡_ {A = ℕ} 0 1 = cc in absurd (omega arith)
+
+      by : (x : Answer ℕ)
+          → onward x (λ at. andThen (foundFrom at (twoFront most (drop at s))) (λ x k. found x (8 * k + 8 * at))) ≡ found v q → AtEdge q
+      by (done at) e = told at (ltb (length (drop at s)) 2) (leb (getD (drop at s) 0 0 * 256 + getD (drop at s) 1 0) most) e
+      by (refused r) e = let z : _≡_ {A = ℕ} 0 1 = cc in absurd (omega arith)
+
+module _ (s : List ℕ) (start : ℕ) (l : List ℕ) (q : ℕ) where
   data-in : (i p : ℕ) → p ≤ 8 * length s → fieldData .read s i p ≡ found (start, l) q → DataIn s start l
-  data-in i p from e = by (edgeAt s p) (sym (data-at s i p from) ∙ e) where
-    by : (x : Answer ℕ) → onward x (dataFrom s) ≡ found (start, l) q → DataIn s start l
-    by (done at) e = sized-in at (sizeAt (drop at s)) refl e
-    by (refused r) e = let z : _≡_ {A = ℕ} 0 1 = cc in absurd (omega arith)
+  unfolding fieldData size
+  data-in i p from e =
+      let rest : ℕ → Format (ℕ × List ℕ) = λ n. here ⊳ λ _. octets n in
+      let m = made-found {A = ℕ × (ℕ × List ℕ)} (λ x. x .1) (size ⊳ rest) s i p (start, l) q e in
+      let t = then-found size rest s i p (m .part) q (m .was) in
+      let n = made-found {A = ℕ} (λ v. v + 1) (twoOctets (packetLimit - 1)) s i p (m .part .0) (t .middle) (t .first) in
+      let edge = two-edge s (packetLimit - 1) i p (n .part) (t .middle) from (n .was) in
+      let u = then-found here (λ _. octets (m .part .0)) s i (t .middle) (m .part .1) q (t .second) in
+      let first : found (t .middle / 8) (t .middle) ≡ found (m .part .1 .0) (u .middle) = u .first in
+      let same : t .middle ≡ u .middle = cc in
+      let begins : t .middle / 8 ≡ m .part .1 .0 = cc in
+      let there : u .middle ≡ 8 * m .part .1 .0 = omega (arith, edge .is) in
+      let read : octets (m .part .0) .read s i (8 * m .part .1 .0) ≡ found (m .part .1 .1) q
+      = subst (λ (k : ℕ). octets (m .part .0) .read s i k ≡ found (m .part .1 .1) q) there (u .second) in
+      subst (λ (x : ℕ × List ℕ). DataIn s (x .0) (x .1)) (m .is)
+      (octets-in s (m .part .0) i (m .part .1 .0) (m .part .1 .1) q (omega (arith, n .is)) read)
 
   -- without data there is nothing
   rest-in : (b : Bool) (i p : ℕ) → p ≤ 8 * length s → (cond b fieldData (known (0, []))) .read s i p ≡ found (start, l) q → DataIn s start l
@@ -71,6 +110,13 @@ allOctets (c ∷ cs) = c .octets ++ allOctets cs
 pub record ContentsIn (s : List ℕ) (cs : List Content) : Type 0 where
   pub parts : (j : ℕ) → getD (map fieldOf cs) j noField .start + getD (map fieldOf cs) j noField .size ≤ length s
   pub octets : allData s (map fieldOf cs) ≡ allOctets cs
+
+-- the parts of one more field
+pub parts-cons : (s : List ℕ) (f : Field) (l : List Field) → f .start + f .size ≤ length s
+    → ((i : ℕ) → getD l i noField .start + getD l i noField .size ≤ length s)
+    → (i : ℕ) → getD (f ∷ l) i noField .start + getD (f ∷ l) i noField .size ≤ length s
+parts-cons s f l here more zero = here
+parts-cons s f l here more (suc i) = more i
 
 none-in : (s : List ℕ) → ContentsIn s []
 unfolding allData allOctets

@@ -1,5 +1,5 @@
 -- What is written reads back, received and repaired, in any edition: from the laws of the description. Assumes nothing.
-use Prim.Native.Nat.{ℕ, zero, suc, _+_, _*_, _/_, _≤_}
+use Prim.Native.Nat.{ℕ, zero, suc, _+_, _*_, _/_, _%_, _≤_}
 use mathlib.Core.Path.{_≡_, refl, sym, ap, ap₂, _∙_}
 use mathlib.Core.Bool.{Bool, true, false, cond}
 use mathlib.Core.List.{List, [], _∷_, _++_, map, append-nil}
@@ -11,7 +11,7 @@ use borrow.Author.Tests.{le-ltb}
 use Rattle.formats.specs.Spelling.{Letter, spelt, wide, gap, inOctets}
 use Rattle.formats.specs.Reading.{found}
 use Rattle.formats.specs.Format.{known, sequenceSpelt}
-use Rattle.formats.proofs.Laws.{written-found}
+use Rattle.formats.proofs.Laws.{wide-append, wide-spelt, gap-past, written-found}
 use Rattle.datagrams.specs.Sizes.{packetLimit}
 use Rattle.packets.specs.Edition.{Edition, SoundEdition}
 use Rattle.packets.specs.Packet.{every, Content, start, count, header, fieldData, field, dataField, IfpPacket, packet}
@@ -22,10 +22,19 @@ use Rattle.packets.specs.declared.types.Kind.{Kind}
 use Rattle.packets.specs.declared.types.Ending.{Ending}
 use Rattle.packets.specs.declared.types.Ending.the-variants.{Whole, Repaired}
 use Rattle.packets.proofs.Described.{lawful-packet}
-use Rattle.packets.proofs.Laid.{packet-edge}
 use Rattle.packets.proofs.Written.{WriteForm, write-form}
 use Rattle.packets.proofs.Inside.{allOctets, packet-in}
 use Rattle.packets.proofs.Fitting.{placedAt, placed, Cut, firstField, packet-fits}
+
+-- in any edition the end of a packet is at an octet edge
+packet-edge : (edition : Edition) (x : IfpPacket) → wide (packet edition .spelling x 0) % 8 ≡ 0
+unfolding packet
+packet-edge edition x =
+    let b = ltb 0 (length (x .contents)) in
+    let letters = start edition .spelling (record { kind = x .kind; value = x .value; present = b }) 0 in
+    let rest = (cond b (dataField edition) (known [])) .spelling (x .contents) (wide letters + 0) in
+    let q = wide rest + (wide letters + 0) in
+    omega (arith, wide-append letters (rest ++ spelt (gap q) 0), wide-append rest (spelt (gap q) 0), wide-spelt (gap q) 0, gap-past q)
 
 -- a field without the place of its data
 abbrev pub bare : Content → Content

@@ -2,16 +2,14 @@
 use Prim.Native.Nat.{ℕ, _+_, _≤_, _<_}
 use mathlib.Core.Path.{_≡_}
 use mathlib.Core.Logic.{_↔_}
-use mathlib.Core.Bool.{cond}
 use mathlib.Core.List.{List, [], _++_, map}
 use lib.ListN.{length, getD, replicate}
-use lib.Dec.{ltb}
 use Rattle.lengths.specs.Answers.{Answer, done}
 use Rattle.lengths.specs.Claims.{Octets}
 use Rattle.datagrams.specs.Sizes.{packetLimit}
 use Rattle.packets.specs.Edition.{Edition, SoundEdition, edition98, edition02}
 use Rattle.packets.specs.Packet.{assigned, noField, allData, readPacket, PacketAnswer}
-use Rattle.packets.specs.Write.{withData, total, packetToWrite}
+use Rattle.packets.specs.Write.{packetToWrite}
 use Rattle.packets.specs.Promise.{PacketTold}
 use Rattle.packets.specs.Cases.{ReadCases, WriteCases}
 use Rattle.packets.specs.NewCases.{NewReadCases, NewWriteCases}
@@ -46,16 +44,6 @@ RepairedReads = (edition : Edition) → SoundEdition edition
     → packetToWrite edition kind value types lengths octets ≡ done w
     → length w + n ≤ packetLimit
     → ReadsAs edition Repaired (w ++ replicate n 0) kind value types lengths octets
-
--- no packet of the edition of 06/98 is longer than by document 01's first rule, "Each field begins on an octet of its own": how many octets
--- a field took
-abbrev pub ownSize : ℕ → ℕ
-ownSize size = cond (withData size) (3 + size) 1
-
-abbrev pub NeverLonger : Type 0
-NeverLonger = (kind : Kind) (value : ℕ) (types lengths octets w : List ℕ)
-    → packetToWrite edition98 kind value types lengths octets ≡ done w
-    → length w ≤ cond (ltb 0 (length lengths)) (2 + total ownSize lengths) 1
 
 -- what reads as received writes back to the same octets
 abbrev pub ReadWrites : Type 0
@@ -105,7 +93,6 @@ pub record Claims : Type 0 where
   pub sound02 : SoundEdition edition02
   pub writtenReads : WrittenReads
   pub repairedReads : RepairedReads
-  pub neverLonger : NeverLonger
   pub readWrites : ReadWrites
   pub partsWithin : PartsWithin
   pub zerosFollow : ZerosFollow

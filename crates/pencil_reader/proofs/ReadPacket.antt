@@ -19,7 +19,7 @@ use Rattle.packets.specs.Edition.{editionOf}
 use Rattle.packets.specs.Packet.{Content, fieldOf, PacketAnswer, mayFollow, readPacket}
 use Rattle.packets.specs.Packet as description
 use Rattle.packets.specs.Promise.{packetOutcome, packetRead, padded}
-use Rattle.packets.proofs.Laws.{rest, rest-is, read-outcome}
+use Rattle.packet_laws.proofs.Laws.{rest, rest-is, read-outcome}
 use Rattle.packets.specs.declared.types.Kind.{Kind}
 use Rattle.packets.specs.declared.types.Ending.{Ending}
 use Rattle.packets.specs.declared.types.Field.{Field}

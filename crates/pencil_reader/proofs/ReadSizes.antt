@@ -19,7 +19,7 @@ use Rattle.formats.specs.Places.{Place}
 use Rattle.formats.specs.Format.{lengthFound}
 use Rattle.packets.specs.Packet.{fieldsLeast, fieldsLimit}
 use Rattle.packets.specs.Packet as description
-use Rattle.packets.proofs.Laws.{rest, rest-is}
+use Rattle.packet_laws.proofs.Laws.{rest, rest-is}
 use Rattle.pencil_reader.specs.Bits.{EdgeTaken}
 use Rattle.pencil_reader.specs.Items.{OctetTaken, CountTaken}
 use Rattle.pencil_reader.specs.declared.bits.Number.the-variants as number

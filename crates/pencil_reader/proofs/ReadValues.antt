@@ -17,8 +17,8 @@ use Rattle.formats.specs.Places.{Place}
 use Rattle.packets.specs.Edition.{many, addedWidth, editionOf}
 use Rattle.packets.specs.Edition as edition
 use Rattle.packets.specs.Packet as description
-use Rattle.packets.specs.Inner.Octets.{Narrow}
-use Rattle.packets.proofs.Laws.{narrow}
+use Rattle.packet_laws.specs.Octets.{Narrow}
+use Rattle.packet_laws.proofs.Laws.{narrow}
 use Rattle.packets.specs.declared.types.Enumerated.{Enumerated}
 use Rattle.packets.specs.declared.types.Kind.{Kind}
 use Rattle.packets.specs.declared.types.Named.{Named}

@@ -17,7 +17,7 @@ ghost use Prim.Native.Nat.{_≤_};
 ghost use lib.ListN.{length};
 ghost use Rattle.datagrams.specs.Sizes.{packetLimit};
 ghost use Rattle.packets.specs.Edition.{editionOf};
-ghost use Rattle.packets.specs.Inner.Octets.{Narrow};
+ghost use Rattle.packet_laws.specs.Octets.{Narrow};
 ghost use Rattle.pencil_reader.specs.Items.{RootTaken, AddedTaken, AdditionTaken, ValueTaken};
 ghost use Rattle.pencil_reader.specs.Items.{OctetTaken, CountTaken, SizeTaken, PartTaken};
 
@@ -152,7 +152,7 @@ pub fn count(s: &[u8], at: usize) -> Number
         Edge::Refused(refusal) => Number::Refused(refusal),
         Edge::Found(edge) => {
             let from = octet(s, edge);
-            match lengths::read_within(&s[from..], Field::LEAST, Field::LIMIT) {
+            match length_reader::read_within(&s[from..], Field::LEAST, Field::LIMIT) {
                 Length::Refused(refusal) => Number::Refused(refusal.further(edge / 8)),
                 Length::Value(value, size) => {
                     let next = edge + 8 * size;

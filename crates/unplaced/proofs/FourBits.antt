@@ -18,10 +18,10 @@ use Rattle.formats.proofs.Laws.{onward, flag-some, flag-cut, bits-in, bits-at, 
 use Rattle.packets.specs.Edition.{edition98, values}
 use Rattle.packets.specs.Packet.{root, addition, enumerated, First, Header, typeOfMsg, start, header, rightFields, rightData}
 use Rattle.packets.specs.Packet.{assigned, chosen}
-use Rattle.packets.specs.Inner.Octets as today
-use Rattle.packets.specs.Inner.Octets.{FirstAnswer, HeaderAnswer}
+use Rattle.packet_laws.specs.Octets as today
+use Rattle.packet_laws.specs.Octets.{FirstAnswer, HeaderAnswer}
 use Rattle.packets.specs.declared.types.Named.the-variants.{Old}
-use Rattle.packets.proofs.Laws.{narrow, start-at, header-at}
+use Rattle.packet_laws.proofs.Laws.{narrow, start-at, header-at}
 use Rattle.unplaced.specs.PacketBefore as before
 use Rattle.unplaced.specs.PacketBefore.{isSet, headerOf, headerWidth}
 

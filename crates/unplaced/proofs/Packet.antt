@@ -15,11 +15,11 @@ use Rattle.datagrams.specs.Sizes.{packetLimit}
 use Rattle.packets.specs.Edition.{edition98}
 use Rattle.packets.specs.Packet.{First, PacketAnswer, rightData, rightFields, assigned, fieldsLeast, fieldsLimit, mayFollow}
 use Rattle.packets.specs.Packet.{readPacket}
-use Rattle.packets.specs.Inner.Octets as today
-use Rattle.packets.specs.Inner.Octets.{Count, HeaderAnswer, FieldAnswer, FieldsAnswer}
+use Rattle.packet_laws.specs.Octets as today
+use Rattle.packet_laws.specs.Octets.{Count, HeaderAnswer, FieldAnswer, FieldsAnswer}
 use Rattle.packets.specs.declared.types.Ending.{Ending}
 use Rattle.packets.specs.declared.types.Named.the-variants.{Old}
-use Rattle.packets.proofs.Laws.{narrow, read-at}
+use Rattle.packet_laws.proofs.Laws.{narrow, read-at}
 use Rattle.unplaced.specs.Forgetting.{forgetting, Forgets}
 use Rattle.unplaced.specs.PacketBefore as before
 use Rattle.unplaced.specs.PacketBefore.{isSet, firstOf, headerOf, headerWidth}

@@ -14,7 +14,7 @@ use Rattle.formats.specs.Places.{Place, bitsAt, edge}
 use Rattle.datagrams.specs.Sizes.{packetLimit}
 use Rattle.packets.specs.Edition.{edition98}
 use Rattle.packets.specs.Packet.{First, Header, PacketAnswer, assigned, rightFields, rightData, fieldsLeast, fieldsLimit, mayFollow}
-use Rattle.packets.specs.Inner.Octets.{Count, HeaderAnswer, FieldAnswer, FieldsAnswer}
+use Rattle.packet_laws.specs.Octets.{Count, HeaderAnswer, FieldAnswer, FieldsAnswer}
 use Rattle.packets.specs.declared.types.Kind.{Kind}
 use Rattle.packets.specs.declared.types.Kind.the-variants.{Indicator, Data}
 use Rattle.packets.specs.declared.types.Ending.{Ending}

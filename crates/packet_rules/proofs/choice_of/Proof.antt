@@ -1,5 +1,5 @@
 -- `packet_rules::choice_of` meets its contract. The tests of the octet are the definition's. Assumes nothing.
-use Rattle.packets.proofs.Laws.{tests}
+use Rattle.packet_rules.proofs.Tests.{tests}
 use Rattle.packet_rules.proofs.choice_of.Statement.{statement}
 use Rattle.packet_rules.proofs.choice_of.Tie as tie
 

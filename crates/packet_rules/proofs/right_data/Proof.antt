@@ -1,5 +1,5 @@
 -- `packet_rules::right_data` meets its contract. The tests of the type are the definition's. Assumes nothing.
-use Rattle.packets.proofs.Laws.{tests}
+use Rattle.packet_rules.proofs.Tests.{tests}
 use Rattle.packet_rules.proofs.right_data.Statement.{statement}
 use Rattle.packet_rules.proofs.right_data.Tie as tie
 

@@ -4,7 +4,7 @@ use Prim.Native.Nat.{_-_}
 use lib.Dec.{eqb}
 use lib.ListN.{length}
 use borrow.Author.Needs.{needs}
-use Rattle.packets.proofs.Laws.{EveryLeft, evers}
+use Rattle.packet_laws.proofs.Laws.{EveryLeft, evers}
 use Rattle.packet_reader.proofs.reader.all_zero.Statement.{statement}
 use Rattle.packet_reader.proofs.reader.all_zero.Tie as tie
 

@@ -13,7 +13,7 @@ add-count : tie.Need-add-count
 add-count c =
     let start = c .before .before .before in
     let narrow = values-narrow (start .args .named) (start .args .kind) (c .before .values .ensures) in
-    omega (arith, narrow .few, narrow .sound .few)
+    omega (arith, narrow .values)
 
 types-requires : tie.Need-types-requires
 types-requires c κs = search needs

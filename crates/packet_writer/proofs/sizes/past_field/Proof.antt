@@ -1,6 +1,6 @@
 -- `packet_writer::past_field` meets its contract. Each answer is a case of the definition. Assumes nothing.
 use borrow.Author.Needs.{needs}
-use Rattle.packets.proofs.Laws.{passes}
+use Rattle.packet_laws.proofs.Laws.{passes}
 use Rattle.packet_writer.proofs.sizes.past_field.Statement.{statement}
 use Rattle.packet_writer.proofs.sizes.past_field.Tie as tie
 

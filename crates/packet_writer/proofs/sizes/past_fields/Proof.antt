@@ -3,7 +3,7 @@
 use Prim.Native.Nat.{_-_}
 use lib.ListN.{length}
 use borrow.Author.Needs.{needs}
-use Rattle.packets.proofs.Laws.{Passing, passes}
+use Rattle.packet_laws.proofs.Laws.{Passing, passes}
 use Rattle.packet_writer.proofs.sizes.past_fields.Statement.{statement}
 use Rattle.packet_writer.proofs.sizes.past_fields.Tie as tie
 

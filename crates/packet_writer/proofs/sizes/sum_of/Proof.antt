@@ -3,7 +3,7 @@
 use Prim.Native.Nat.{_-_}
 use lib.ListN.{length}
 use borrow.Author.Needs.{needs}
-use Rattle.packets.proofs.Laws.{Summing, sums}
+use Rattle.packet_laws.proofs.Laws.{Summing, sums}
 use Rattle.packet_writer.proofs.sizes.sum_of.Statement.{statement}
 use Rattle.packet_writer.proofs.sizes.sum_of.Tie as tie
 

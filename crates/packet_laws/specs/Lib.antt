@@ -1,0 +1,4 @@
+pub mod Octets
+pub mod Laid
+pub mod Items
+pub mod Claims
