@@ -1,13 +1,8 @@
 // The calls program: every public call on one line of hexadecimal, one answer a line, so that any other
 // program can be compared with it call by call. It holds one receiving and one sending session and one joiner, all fresh at the start.
 mod compare;
-mod image;
 mod input;
-mod joiner;
-mod receiver;
 mod replay;
-mod sender;
-mod session;
 
 use call_lines::CAP;
 use call_lines::FILLING;
@@ -15,52 +10,41 @@ use call_lines::number;
 use call_lines::octet;
 use call_lines::part;
 use call_lines::say_no_call;
-use frames::Joiner;
+use call_sessions::Held;
 use input::KEPT;
 use input::octets_of;
 use input_lines::BLOCK;
 use input_lines::read_line;
-use sending::Sender;
-use sessions::Session;
-
-// Both sessions, and the joiner.
-struct Held {
-    receiver: Session,
-    sender: Sender,
-    joiner: Joiner,
-}
-
-// Of a line: how many octets of arguments it has beside its cap, and how many its cap has, which is its last argument.
-struct Shape(usize, usize);
 
 // As many octets of arguments as the line itself tells.
-const ANY: usize = usize::MAX;
+const ANY: usize = 15;
 
 // More than a line has: no call.
 const NONE: usize = KEPT;
 
-fn shape_of(call: u8) -> Shape {
+// Of a line: 16 times how many octets of arguments it has beside its cap, and how many its cap has, which is its last argument.
+fn shape_of(call: u8) -> usize {
     match call {
-        0x01 | 0x03 | 0x05 | 0x07 | 0x11 | 0x19 => Shape(ANY, 0),
-        0x02 => Shape(2, 2),
-        0x04 | 0x06 | 0x21 | 0x31 | 0x50 => Shape(ANY, 2),
-        0x40 => Shape(ANY, 4),
-        0x10 | 0x14 | 0x15 | 0x1A | 0x20 | 0x30 | 0x32 | 0x33 => Shape(0, 0),
-        0x12 => Shape(1, 2),
-        0x16 | 0x22 => Shape(4, 0),
-        0x17 => Shape(10, 0),
-        0x18 => Shape(0, 4),
-        0x23 => Shape(9, 0),
-        0x34 => Shape(5, 0),
-        _ => Shape(NONE, 0),
+        0x01 | 0x03 | 0x05 | 0x07 | 0x11 | 0x19 => 16 * ANY,
+        0x02 => 0x22,
+        0x04 | 0x06 | 0x21 | 0x31 | 0x50 => 16 * ANY + 2,
+        0x40 => 16 * ANY + 4,
+        0x10 | 0x14 | 0x15 | 0x1A | 0x20 | 0x30 | 0x32 | 0x33 => 0x00,
+        0x12 => 0x12,
+        0x16 | 0x22 => 0x40,
+        0x17 => 0xA0,
+        0x18 => 0x04,
+        0x23 => 0x90,
+        0x34 => 0x50,
+        _ => 16 * NONE,
     }
 }
 
 // How many octets of arguments a line of so many octets has in front of its cap: NONE, where it is no call.
 fn size_of(call: u8, length: usize) -> usize {
     let shape = shape_of(call);
-    let fixed = shape.0;
-    let behind = 1 + shape.1 % 8;
+    let fixed = shape / 16;
+    let behind = 1 + shape % 16;
     if length < behind {
         return NONE;
     }
@@ -81,63 +65,45 @@ fn cap_of(octets: &[u8], size: usize) -> usize {
     number(octets, &mut at, width) as usize
 }
 
-// The call that a line is, by its group, and the sessions after it.
+// The call that a line is, and what is held after it.
 fn called(held: Held, call: u8, s: &[u8], lent: &mut [u8]) -> Held {
-    let receiver = held.receiver;
-    let sender = held.sender;
-    let joiner = held.joiner;
     if call < 0x10 {
         call_lines::answer(call, s, lent);
         return held;
     }
-    if call < 0x20 {
-        let after = receiver::answer(receiver, call, s, lent);
-        return Held {
-            receiver: after,
-            sender,
-            joiner,
-        };
+    call_sessions::answer(held, call, s, lent)
+}
+
+// The calls that lend more than the others, and change nothing that is held.
+fn called_apart(held: Held, call: u8, s: &[u8], cap: usize) {
+    match call {
+        0x40 => replay::answer(s, cap),
+        0x50 => compare::answer(s, cap),
+        _ => call_sessions::write_image(held, cap),
     }
-    if call < 0x30 {
-        let after = sender::answer(sender, call, s, lent);
-        return Held {
-            receiver,
-            sender: after,
-            joiner,
-        };
-    }
-    let after = joiner::answer(joiner, call, s, lent);
-    Held {
-        receiver,
-        sender,
-        joiner: after,
-    }
+}
+
+// The octet that a line begins with.
+fn call_of(octets: &[u8]) -> u8 {
+    let mut at = 0;
+    octet(octets, &mut at)
 }
 
 // A line of so many octets, answered, with the front of a buffer to lend.
 fn answered(held: Held, line: &[u8; KEPT], count: usize, all: &mut [u8]) -> Held {
     let octets = part(line, 0, count);
-    let mut at = 0;
-    let call = octet(octets, &mut at);
+    let call = call_of(octets);
     let size = size_of(call, octets.len());
-    let cap = cap_of(octets, size);
     if size != NONE {
-        if call == 0x40 {
-            replay::answer(part(octets, 1, size), cap);
-            return held;
-        }
-        if call == 0x50 {
-            compare::answer(part(octets, 1, size), cap);
-            return held;
-        }
-        if call == 0x18 {
-            let receiver = held.receiver;
-            image::write(receiver, cap);
+        let cap = cap_of(octets, size);
+        let s = part(octets, 1, size);
+        if (call == 0x18) | (call == 0x40) | (call == 0x50) {
+            called_apart(held, call, s, cap);
             return held;
         }
         if cap <= all.len() {
             let start = 0;
-            return called(held, call, part(octets, 1, size), &mut all[start..cap]);
+            return called(held, call, s, &mut all[start..cap]);
         }
     }
     say_no_call();
@@ -165,14 +131,7 @@ fn turn(
 }
 
 fn main() {
-    let receiver = Session::fresh();
-    let sender = Sender::fresh();
-    let joiner = Joiner::fresh();
-    let mut held = Held {
-        receiver,
-        sender,
-        joiner,
-    };
+    let mut held = Held::fresh();
     let mut block = [0u8; BLOCK];
     let mut line = [0u8; KEPT];
     let mut octets = [0u8; KEPT];

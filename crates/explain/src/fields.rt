@@ -4,7 +4,7 @@ use crate::text::part;
 use crate::text::row;
 use crate::text::row_of_octets;
 use crate::text::say;
-use crate::text::say_fields;
+use crate::text::say_count;
 use crate::text::say_flag;
 use crate::text::say_hex;
 use crate::text::say_number;
@@ -13,6 +13,9 @@ use crate::text::say_refused;
 use crate::text::stopped;
 use crate::values::Which;
 use crate::values::enumerated;
+use crate::wording;
+use crate::wording::end_line;
+use crate::wording::say_word;
 use packets::Named;
 use pencil_reader::Edge;
 use pencil_reader::HeaderRead;
@@ -30,16 +33,30 @@ ghost use Prim.Native.Nat.{_≤_};
 ghost use lib.ListN.{length};
 ghost use Rattle.datagrams.specs.Sizes.{packetLimit};
 
+// The bit for something OPTIONAL.
+pub fn marked(s: &[u8], item: usize, at: usize, name: usize) -> On
+    requires { ⌜ length (now s) ≤ packetLimit ⌝ }
+{
+    match flag(s, item, at) {
+        Marked::Refused(why) => stopped(s, at, 1, name, why),
+        Marked::Found(present, next) => {
+            row(s, at, next, name);
+            say_flag(present);
+            On::At(next)
+        }
+    }
+}
+
 // Zero bits to an octet edge, where there are some.
 pub fn padding(s: &[u8], at: usize) -> On
     requires { ⌜ length (now s) ≤ packetLimit ⌝ }
 {
     match align(s, at) {
-        Edge::Refused(why) => stopped(s, at, 8 - at % 8, b"padding", why),
+        Edge::Refused(why) => stopped(s, at, 8 - at % 8, wording::PADDING, why),
         Edge::Found(edge) => {
             if at < edge {
-                row(s, at, edge, b"padding");
-                say(b"zero bits to an octet edge\n");
+                row(s, at, edge, wording::PADDING);
+                end_line(wording::ZERO_BITS);
             }
             On::At(edge)
         }
@@ -50,13 +67,13 @@ pub fn padding(s: &[u8], at: usize) -> On
 fn octets(s: &[u8], edge: usize, begin: usize, size: usize) -> On
     requires { ⌜ length (now s) ≤ packetLimit ⌝ }
 {
-    row_of_octets(begin, b"field-data");
+    row_of_octets(begin, wording::FIELD_DATA);
     match field_data(s, edge) {
         Part::Refused(why) => {
             say_octets(size);
-            say(b" due, ");
+            say_word(wording::DUE);
             say_number(std::num::wrapping_sub_usize(s.len(), octet(s, begin)));
-            say(b" there: ");
+            say_word(wording::THERE);
             say_refused(why);
             On::Stopped
         }
@@ -73,11 +90,11 @@ fn sized(s: &[u8], edge: usize) -> On
     requires { ⌜ length (now s) ≤ packetLimit ⌝ }
 {
     match size(s, edge) {
-        Number::Refused(why) => stopped(s, edge, 16, b"field-data, length", why),
+        Number::Refused(why) => stopped(s, edge, 16, wording::LENGTH, why),
         Number::Found(length, begin) => {
-            row(s, edge, begin, b"field-data, length");
+            row(s, edge, begin, wording::LENGTH);
             say_octets(length);
-            say(b", one more than the bits\n");
+            end_line(wording::ONE_MORE);
             octets(s, edge, begin, length)
         }
     }
@@ -92,7 +109,7 @@ fn optional(named: Named, s: &[u8], at: usize, end: usize) -> On
             s,
             at,
             std::num::wrapping_sub_usize(end, at),
-            b"field-data OPTIONAL",
+            wording::DATA_OPTIONAL,
             why,
         ),
         HeaderRead::Found(_, present, next) => {
@@ -111,17 +128,12 @@ fn optional(named: Named, s: &[u8], at: usize, end: usize) -> On
 fn field(named: Named, s: &[u8], at: usize) -> On
     requires { ⌜ length (now s) ≤ packetLimit ⌝ }
 {
-    let item = at / 8;
-    match flag(s, item, at) {
-        Marked::Refused(why) => stopped(s, at, 1, b"field-data present", why),
-        Marked::Found(present, next) => {
-            row(s, at, next, b"field-data present");
-            say_flag(present);
-            match enumerated(named, s, item, next, Which::Type, b"field-type") {
-                On::Stopped => On::Stopped,
-                On::At(end) => optional(named, s, at, end),
-            }
-        }
+    match marked(s, at / 8, at, wording::DATA_PRESENT) {
+        On::Stopped => On::Stopped,
+        On::At(next) => match enumerated(named, s, at / 8, next, Which::Type, wording::FIELD_TYPE) {
+            On::Stopped => On::Stopped,
+            On::At(end) => optional(named, s, at, end),
+        },
     }
 }
 
@@ -165,10 +177,10 @@ pub fn data_field(named: Named, s: &[u8], at: usize) -> On
     requires { ⌜ length (now s) ≤ packetLimit ⌝ }
 {
     match count(s, at) {
-        Number::Refused(why) => stopped(s, at, count_bits(s, at), b"Data-Field", why),
+        Number::Refused(why) => stopped(s, at, count_bits(s, at), wording::DATA_FIELD, why),
         Number::Found(n, next) => {
-            row(s, at, next, b"Data-Field");
-            say_fields(n);
+            row(s, at, next, wording::DATA_FIELD);
+            say_count(n, wording::FIELD);
             say(b"\n");
             sequence(named, s, next, n)
         }

@@ -1,13 +1,15 @@
 // The last line: what the packet reads as.
+use crate::names::NAME;
 use crate::names::say_data;
-use crate::names::say_edition;
 use crate::names::say_indicator;
 use crate::names::say_type;
 use crate::text::say;
-use crate::text::say_fields;
+use crate::text::say_count;
 use crate::text::say_number;
 use crate::text::say_octets;
 use crate::text::say_refusal;
+use crate::wording;
+use crate::wording::say_word;
 use packets::Ending;
 use packets::Field;
 use packets::Kind;
@@ -15,35 +17,36 @@ use packets::Named;
 use packets::PacketRead;
 use packets::Reading;
 
+// A number, and behind it what opens its name.
+fn say_value(word: usize, value: usize) {
+    say_word(word);
+    say_number(value);
+    say_word(wording::OPENS);
+}
+
 fn say_kind(kind: Kind, value: usize) {
     match kind {
         Kind::Indicator => {
-            say(b"reads as indicator ");
-            say_number(value);
-            say(b" (");
-            say_indicator(value);
+            say_value(wording::READS_AS_INDICATOR, value);
+            say_indicator(value, NAME);
         }
         Kind::Data => {
-            say(b"reads as data ");
-            say_number(value);
-            say(b" (");
-            say_data(value);
+            say_value(wording::READS_AS_DATA, value);
+            say_data(value, NAME);
         }
     }
-    say(b"), ");
+    say_word(wording::CLOSES);
 }
 
 fn say_field(kind: usize, size: usize) {
-    say(b"; type ");
-    say_number(kind);
-    say(b" (");
-    say_type(kind);
-    say(b"), ");
+    say_value(wording::TYPE, kind);
+    say_type(kind, NAME);
+    say_word(wording::CLOSES);
     say_octets(size);
 }
 
 fn all_fields(fields: [Field; Field::LIMIT], count: usize) {
-    say_fields(count);
+    say_count(count, wording::FIELD);
     let mut i = 0;
     while i < Field::LIMIT {
         let field = fields[i];
@@ -62,8 +65,8 @@ pub fn read_by(named: Named, s: &[u8], ending: Ending) -> PacketRead {
     }
 }
 
-// A packet that this edition refuses: whether the other reads it.
-fn say_other(other: Named, s: &[u8], ending: Ending) {
+// A packet that this edition refuses: whether the other reads it, and the words for that.
+fn say_other(other: Named, s: &[u8], ending: Ending, word: usize) {
     let found = read_by(other, s, ending);
     let reading = found.reading;
     match reading {
@@ -72,17 +75,14 @@ fn say_other(other: Named, s: &[u8], ending: Ending) {
             kind: _,
             value: _,
             count: _,
-        } => {
-            say(b"; it reads only in ");
-            say_edition(other);
-        }
+        } => say_word(word),
     }
 }
 
 fn say_elsewhere(named: Named, s: &[u8], ending: Ending) {
     match named {
-        Named::Old => say_other(Named::New, s, ending),
-        Named::New => say_other(Named::Old, s, ending),
+        Named::Old => say_other(Named::New, s, ending, wording::READS_ONLY_IN_NEW),
+        Named::New => say_other(Named::Old, s, ending, wording::READS_ONLY_IN_OLD),
     }
     say(b"\n");
 }

@@ -8,6 +8,7 @@ mod names;
 mod start;
 mod text;
 mod values;
+mod wording;
 
 use datagrams::Datagram;
 use datagrams::Packet;
@@ -25,15 +26,17 @@ use text::row_of_octets;
 use text::say;
 use text::say_number;
 use text::say_octets;
+use wording::end_line;
+use wording::say_word;
 
 // The octets that a line holds at most.
 const OCTETS: usize = Datagram::LIMIT;
 
 // More octets than a packet has.
 fn too_long(size: usize) {
-    row_of_octets(0, b"IFPPacket");
+    row_of_octets(0, wording::IFP_PACKET);
     say_octets(size);
-    say(b", at most ");
+    say_word(wording::AT_MOST);
     say_number(Packet::LIMIT);
     say(b"\n");
 }
@@ -53,9 +56,7 @@ fn explain(named: Named, s: &[u8], ending: Ending) {
 fn packet(named: Named, digits: &[u8], ending: Ending) {
     let mut octets = [0u8; OCTETS];
     match hexadecimal::hex_to_octets(digits, &mut octets) {
-        Written::Refused(_) => say(
-            b"no packet in hexadecimal: two digits an octet, at most 4,800; the words new and repaired may stand first\n",
-        ),
+        Written::Refused(_) => end_line(wording::NO_PACKET),
         Written::Octets(count) => explain(named, part(&octets, 0, count), ending),
     }
 }

@@ -1,25 +1,26 @@
 // IFPPacket ::= SEQUENCE { type-of-msg Type-of-msg, data-field Data-Field OPTIONAL }, and what follows its end.
 use crate::fields::data_field;
+use crate::fields::marked;
 use crate::fields::padding;
 use crate::last::read_by;
+use crate::text::Bit;
 use crate::text::On;
 use crate::text::part;
-use crate::text::row;
+use crate::text::row_of_bit;
 use crate::text::row_of_octets;
-use crate::text::say;
-use crate::text::say_flag;
 use crate::text::say_hex;
 use crate::text::say_octets;
 use crate::text::say_refused;
 use crate::text::stopped;
 use crate::values::Which;
 use crate::values::enumerated;
+use crate::wording;
+use crate::wording::end_line;
+use crate::wording::say_word;
 use packets::Ending;
 use packets::Named;
 use packets::Reading;
 use pencil_reader::First;
-use pencil_reader::Marked;
-use pencil_reader::flag;
 use pencil_reader::octet;
 use pencil_reader::start;
 ghost use Prim.Native.Nat.{_≤_};
@@ -31,34 +32,34 @@ const FIRST: usize = 0;
 
 // 06/98: Type-of-msg ::= CHOICE { t30-indicator ENUMERATED .., data ENUMERATED .. }
 // 2002:  Type-of-msg ::= CHOICE { t30-indicator ENUMERATED .., t30-data ENUMERATED .. }
-fn data_value(named: Named, s: &[u8], at: usize) -> On
+fn data_name(named: Named) -> usize {
+    match named {
+        Named::Old => wording::DATA,
+        Named::New => wording::T30_DATA,
+    }
+}
+
+fn chosen(named: Named, s: &[u8], at: usize, which: Which, name: usize) -> On
     requires { ⌜ length (now s) ≤ packetLimit ⌝ }
 {
-    match named {
-        Named::Old => {
-            say(b"data\n");
-            enumerated(named, s, FIRST, at, Which::Data, b"data")
-        }
-        Named::New => {
-            say(b"t30-data\n");
-            enumerated(named, s, FIRST, at, Which::Data, b"t30-data")
-        }
-    }
+    end_line(name);
+    enumerated(
+        named,
+        s,
+        FIRST,
+        std::num::wrapping_add_usize(at, 1),
+        which,
+        name,
+    )
 }
 
 fn type_of_msg(named: Named, s: &[u8], at: usize) -> On
     requires { ⌜ length (now s) ≤ packetLimit ⌝ }
 {
-    match flag(s, FIRST, at) {
-        Marked::Refused(why) => stopped(s, at, 1, b"Type-of-msg", why),
-        Marked::Found(is_data, next) => {
-            row(s, at, next, b"Type-of-msg");
-            if is_data {
-                return data_value(named, s, next);
-            }
-            say(b"t30-indicator\n");
-            enumerated(named, s, FIRST, next, Which::Indicator, b"t30-indicator")
-        }
+    match row_of_bit(s, FIRST, at, wording::TYPE_OF_MSG) {
+        Bit::Stopped => On::Stopped,
+        Bit::Set => chosen(named, s, at, Which::Data, data_name(named)),
+        Bit::Clear => chosen(named, s, at, Which::Indicator, wording::INDICATOR),
     }
 }
 
@@ -66,16 +67,12 @@ fn type_of_msg(named: Named, s: &[u8], at: usize) -> On
 fn first_item(named: Named, s: &[u8]) -> On
     requires { ⌜ length (now s) ≤ packetLimit ⌝ }
 {
-    match flag(s, FIRST, 0) {
-        Marked::Refused(why) => stopped(s, 0, 1, b"data-field present", why),
-        Marked::Found(present, next) => {
-            row(s, 0, next, b"data-field present");
-            say_flag(present);
-            match type_of_msg(named, s, next) {
-                On::Stopped => On::Stopped,
-                On::At(at) => padding(s, at),
-            }
-        }
+    match marked(s, FIRST, 0, wording::PRESENT) {
+        On::Stopped => On::Stopped,
+        On::At(next) => match type_of_msg(named, s, next) {
+            On::Stopped => On::Stopped,
+            On::At(at) => padding(s, at),
+        },
     }
 }
 
@@ -85,11 +82,11 @@ fn after_end(named: Named, s: &[u8], at: usize, from: usize, ending: Ending) {
         return;
     }
     let size = s.len() - from;
-    row_of_octets(at, b"after the end");
+    row_of_octets(at, wording::AFTER_END);
     say_octets(size);
-    say(b", ");
+    say_word(wording::COMMA);
     say_hex(part(s, from, size));
-    say(b": ");
+    say_word(wording::COLON);
     let found = read_by(named, s, ending);
     let reading = found.reading;
     match reading {
@@ -98,7 +95,7 @@ fn after_end(named: Named, s: &[u8], at: usize, from: usize, ending: Ending) {
             kind: _,
             value: _,
             count: _,
-        } => say(b"zeros, as a repaired packet may have\n"),
+        } => end_line(wording::ZEROS),
     }
 }
 
@@ -117,7 +114,7 @@ fn rest(named: Named, s: &[u8], ending: Ending)
 {
     match start(named, s, 0) {
         First::Refused(why) => {
-            stopped(s, 0, 1, b"data-field OPTIONAL", why);
+            stopped(s, 0, 1, wording::OPTIONAL, why);
         }
         First::Found(_, _, present, at) => {
             if !present {

@@ -1,9 +1,13 @@
 // What is written, piece by piece, to standard output.
-use crate::names::say_words;
+use crate::wording;
+use crate::wording::end_line;
+use crate::wording::say_word;
 use datagrams::Packet;
 use lengths::Refusal;
+use pencil_reader::Marked;
 use pencil_reader::Number;
 use pencil_reader::bit;
+use pencil_reader::flag;
 ghost use Prim.Native.Nat.{_≤_};
 ghost use lib.ListN.{length};
 ghost use Rattle.datagrams.specs.Sizes.{packetLimit};
@@ -33,6 +37,26 @@ pub fn part(s: &[u8], start: usize, size: usize) -> &[u8] {
     &s[..0]
 }
 
+// A line of a table, counted from 0, up to a character or its end.
+pub fn say_line(table: &[u8], line: usize, last: u8) {
+    let mut left = line;
+    let mut start = 0;
+    let mut i = 0;
+    while i < table.len() {
+        let c = table[i];
+        if left == 0 {
+            if (c == last) | (c == b'\n') {
+                return say(part(table, start, std::num::wrapping_sub_usize(i, start)));
+            }
+        }
+        i += 1;
+        if c == b'\n' {
+            left = std::num::wrapping_sub_usize(left, 1);
+            start = i;
+        }
+    }
+}
+
 // Octets in hexadecimal, at most as many as a packet has.
 pub fn say_hex(octets: &[u8]) {
     let mut text = [0u8; 2 * Packet::LIMIT];
@@ -43,41 +67,50 @@ pub fn say_hex(octets: &[u8]) {
     }
 }
 
-fn say_plural(n: usize) {
-    if n != 1 {
-        say(b"s");
+// A count of what a word names; its plural stands behind it in the table.
+pub fn say_count(n: usize, word: usize) {
+    say_number(n);
+    if n == 1 {
+        return say_word(word);
     }
+    say_word(std::num::wrapping_add_usize(word, 1))
 }
 
 pub fn say_octets(n: usize) {
-    say_number(n);
-    say(b" octet");
-    say_plural(n);
-}
-
-pub fn say_fields(n: usize) {
-    say_number(n);
-    say(b" field");
-    say_plural(n);
+    say_count(n, wording::OCTET)
 }
 
 pub fn say_flag(set: bool) {
     if set {
-        return say(b"yes\n");
+        return end_line(wording::YES);
     }
-    say(b"no\n")
+    end_line(wording::NO)
+}
+
+// Our words for a refusal, those of README's table that a packet can meet.
+fn words_for(number: u8) -> usize {
+    match number {
+        Refusal::ENDS_EARLY => wording::ENDS_EARLY,
+        Refusal::BAD_FORM => wording::BAD_FORM,
+        Refusal::OUTSIDE_SIZES => wording::OUTSIDE_SIZES,
+        Refusal::SPARE_BIT => wording::SPARE_BIT,
+        Refusal::LEFT_OVER => wording::LEFT_OVER,
+        Refusal::NOT_ASSIGNED => wording::NOT_ASSIGNED,
+        Refusal::WRONG_DATA => wording::WRONG_DATA,
+        _ => wording::IN_README,
+    }
 }
 
 // A refusal: its number, with the octet at which the refused item begins where it was met in reading order, and our words for it.
 pub fn say_refusal(why: Refusal, met: bool) {
-    say(b"refused with ");
+    say_word(wording::REFUSED);
     say_number(why.number as usize);
     if met {
-        say(b" at octet ");
+        say_word(wording::AT_OCTET);
         say_number(why.place);
     }
-    say(b": ");
-    say_words(why.number);
+    say_word(wording::COLON);
+    say_word(words_for(why.number));
 }
 
 // The end of a refused item's line.
@@ -86,20 +119,30 @@ pub fn say_refused(why: Refusal) {
     say(b"\n");
 }
 
+fn say_blanks(n: usize) {
+    say(part(b"                  ", 0, n));
+}
+
+// The blanks behind the number of an octet.
+fn blanks_behind(octet: usize) -> usize {
+    if octet < 10 {
+        return 2;
+    }
+    if octet < 100 {
+        return 1;
+    }
+    0
+}
+
 // A place, in octets and bits.
 fn say_place(at: usize) {
     let octet = at / 8;
-    say(b"octet ");
+    say_word(wording::PLACE);
     say_number(octet);
-    if octet < 100 {
-        say(b" ");
-    }
-    if octet < 10 {
-        say(b" ");
-    }
-    say(b" bit ");
+    say_blanks(blanks_behind(octet));
+    say_word(wording::BIT);
     say_number(at % 8);
-    say(b"  ");
+    say_word(wording::GAP);
 }
 
 // The bit at a place; a dash where the octets have ended.
@@ -108,12 +151,7 @@ fn say_bit(s: &[u8], at: usize)
 {
     match bit(s, at / 8, at) {
         Number::Refused(_) => say(b"-"),
-        Number::Found(one, _) => {
-            if one == 0 {
-                return say(b"0");
-            }
-            say(b"1")
-        }
+        Number::Found(one, _) => say_number(one),
     }
 }
 
@@ -129,34 +167,56 @@ fn say_bits(s: &[u8], at: usize, end: usize)
 }
 
 // The front of an item's line: its place, its bits, its name.
-pub fn row(s: &[u8], at: usize, end: usize, name: &[u8])
+pub fn row(s: &[u8], at: usize, end: usize, name: usize)
     requires { ⌜ length (now s) ≤ packetLimit ⌝ }
 {
     say_place(at);
     say_bits(s, at, end);
     let bits = std::num::wrapping_sub_usize(end, at);
-    say(part(
-        b"                  ",
-        0,
-        std::num::wrapping_sub_usize(18, bits),
-    ));
-    say(name);
-    say(b": ");
+    say_blanks(std::num::wrapping_sub_usize(18, bits));
+    say_word(name);
+    say_word(wording::COLON);
 }
 
 // The same of an item that is octets as they are: they are told behind the name.
-pub fn row_of_octets(at: usize, name: &[u8]) {
+pub fn row_of_octets(at: usize, name: usize) {
     say_place(at);
-    say(b"octets            ");
-    say(name);
-    say(b": ");
+    say_word(wording::AS_OCTETS);
+    say_word(name);
+    say_word(wording::COLON);
 }
 
 // The line of a refused item of so many bits.
-pub fn stopped(s: &[u8], at: usize, bits: usize, name: &[u8], why: Refusal) -> On
+pub fn stopped(s: &[u8], at: usize, bits: usize, name: usize, why: Refusal) -> On
     requires { ⌜ length (now s) ≤ packetLimit ⌝ }
 {
     row(s, at, std::num::wrapping_add_usize(at, bits), name);
     say_refused(why);
     On::Stopped
+}
+
+// What a bit says, or that it was refused.
+pub enum Bit {
+    Clear,
+    Set,
+    Stopped,
+}
+
+// A single bit, with the front of its line, or all of it where it is refused. The next place follows on it.
+pub fn row_of_bit(s: &[u8], item: usize, at: usize, name: usize) -> Bit
+    requires { ⌜ length (now s) ≤ packetLimit ⌝ }
+{
+    match flag(s, item, at) {
+        Marked::Refused(why) => {
+            stopped(s, at, 1, name, why);
+            Bit::Stopped
+        }
+        Marked::Found(set, next) => {
+            row(s, at, next, name);
+            if set {
+                return Bit::Set;
+            }
+            Bit::Clear
+        }
+    }
 }

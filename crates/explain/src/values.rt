@@ -1,21 +1,22 @@
 // ENUMERATED { .., ..., .. }: the bit for extension, where the edition has an extension mark there, and the value.
-use crate::names::say_carried;
+use crate::names::LINE;
 use crate::names::say_data;
-use crate::names::say_indicated;
 use crate::names::say_indicator;
 use crate::names::say_type;
-use crate::names::say_typed;
+use crate::text::Bit;
 use crate::text::On;
 use crate::text::row;
+use crate::text::row_of_bit;
 use crate::text::say;
+use crate::text::say_refused;
 use crate::text::stopped;
+use crate::wording;
+use crate::wording::end_line;
 use packets::Enumerated;
 use packets::Kind;
 use packets::Named;
-use pencil_reader::Marked;
 use pencil_reader::Number;
 use pencil_reader::field_type;
-use pencil_reader::flag;
 use pencil_reader::t30_data;
 use pencil_reader::t30_indicator;
 ghost use Prim.Native.Nat.{_≤_};
@@ -52,24 +53,15 @@ fn value_at(named: Named, s: &[u8], item: usize, at: usize, which: Which) -> Num
 
 fn say_value(which: Which, value: usize) {
     match which {
-        Which::Indicator => {
-            say_indicator(value);
-            say_indicated(value);
-        }
-        Which::Data => {
-            say_data(value);
-            say_carried(value);
-        }
-        Which::Type => {
-            say_type(value);
-            say_typed(value);
-        }
+        Which::Indicator => say_indicator(value, LINE),
+        Which::Data => say_data(value, LINE),
+        Which::Type => say_type(value, LINE),
     }
     say(b"\n");
 }
 
 // The last bits of a value, from a place on: the value that they are, or why they are refused.
-fn last_bits(s: &[u8], at: usize, bits: usize, which: Which, name: &[u8], found: Number) -> On
+fn last_bits(s: &[u8], at: usize, bits: usize, which: Which, name: usize, found: Number) -> On
     requires { ⌜ length (now s) ≤ packetLimit ⌝ }
 {
     match found {
@@ -82,56 +74,51 @@ fn last_bits(s: &[u8], at: usize, bits: usize, which: Which, name: &[u8], found:
     }
 }
 
-// A single bit that is refused: a bit for extension where no value was added, or a 1 where an added value has its 0 bit.
-fn refused_bit(s: &[u8], at: usize, name: &[u8], found: Number) -> On
-    requires { ⌜ length (now s) ≤ packetLimit ⌝ }
-{
+// A single bit that is refused, behind the front of its line: a bit for extension where no value was added, or a 1 where an added value
+// has its 0 bit.
+fn refused_bit(found: Number) -> On {
     match found {
-        Number::Refused(why) => stopped(s, at, 1, name, why),
+        Number::Refused(why) => {
+            say_refused(why);
+            On::Stopped
+        }
         Number::Found(_, end) => On::At(end),
     }
 }
 
 // An added value, behind its bit for extension: one 0 bit, then six bits.
-fn added(s: &[u8], item: usize, at: usize, which: Which, name: &[u8], found: Number) -> On
+fn added(s: &[u8], item: usize, at: usize, which: Which, name: usize, found: Number) -> On
     requires { ⌜ length (now s) ≤ packetLimit ⌝ }
 {
-    match flag(s, item, at) {
-        Marked::Refused(why) => stopped(s, at, 1, name, why),
-        Marked::Found(large, next) => {
-            if large {
-                return refused_bit(s, at, name, found);
-            }
-            row(s, at, next, name);
-            say(b"six bits follow\n");
-            last_bits(s, next, ADDED_WIDTH, which, name, found)
+    end_line(wording::EXTENSION);
+    match row_of_bit(s, item, at, name) {
+        Bit::Stopped => On::Stopped,
+        Bit::Set => refused_bit(found),
+        Bit::Clear => {
+            end_line(wording::SIX_BITS);
+            last_bits(
+                s,
+                std::num::wrapping_add_usize(at, 1),
+                ADDED_WIDTH,
+                which,
+                name,
+                found,
+            )
         }
     }
 }
 
-// The bit for extension is 1: an added value, or the bit itself is refused where none was added.
-fn extended(
-    s: &[u8],
-    item: usize,
-    at: usize,
-    next: usize,
-    values: Enumerated,
-    which: Which,
-    name: &[u8],
-    found: Number,
-) -> On
+// A value behind the bit for extension, which is 0: the bits of a value that was there before.
+fn plain(s: &[u8], at: usize, width: usize, which: Which, name: usize, found: Number) -> On
     requires { ⌜ length (now s) ≤ packetLimit ⌝ }
 {
-    if values.added == 0 {
-        return refused_bit(s, at, name, found);
-    }
-    row(s, at, next, name);
-    say(b"extension\n");
-    added(s, item, next, which, name, found)
+    end_line(wording::NO_EXTENSION);
+    last_bits(s, at, width, which, name, found)
 }
 
-// A value of an item that begins at an octet, from a place on.
-pub fn enumerated(named: Named, s: &[u8], item: usize, at: usize, which: Which, name: &[u8]) -> On
+// A value of an item that begins at an octet, from a place on. Where the bit for extension is 1 and no value was added, the bit itself is
+// refused.
+pub fn enumerated(named: Named, s: &[u8], item: usize, at: usize, which: Which, name: usize) -> On
     requires { ⌜ length (now s) ≤ packetLimit ⌝ }
 {
     let values = values_of(named, which);
@@ -139,15 +126,15 @@ pub fn enumerated(named: Named, s: &[u8], item: usize, at: usize, which: Which, 
     if !values.extensible {
         return last_bits(s, at, values.width, which, name, found);
     }
-    match flag(s, item, at) {
-        Marked::Refused(why) => stopped(s, at, 1, name, why),
-        Marked::Found(set, next) => {
-            if set {
-                return extended(s, item, at, next, values, which, name, found);
+    let next = std::num::wrapping_add_usize(at, 1);
+    match row_of_bit(s, item, at, name) {
+        Bit::Stopped => On::Stopped,
+        Bit::Set => {
+            if values.added == 0 {
+                return refused_bit(found);
             }
-            row(s, at, next, name);
-            say(b"no extension\n");
-            last_bits(s, next, values.width, which, name, found)
+            added(s, item, next, which, name, found)
         }
+        Bit::Clear => plain(s, next, values.width, which, name, found),
     }
 }

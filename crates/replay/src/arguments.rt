@@ -16,12 +16,16 @@ const NO_DIGIT: u32 = 16;
 const NO_NUMBER: u32 = 65536;
 
 fn digit(c: u8) -> u32 {
-    match c {
-        b'0'..=b'9' => (c - b'0') as u32,
-        b'A'..=b'F' => (c - b'A') as u32 + 10,
-        b'a'..=b'f' => (c - b'a') as u32 + 10,
-        _ => NO_DIGIT,
+    let n = std::num::wrapping_sub_u8(c, b'0') as u32;
+    if n < 10 {
+        return n;
     }
+    // A capital letter and its small one differ in this bit alone.
+    let letter = std::num::wrapping_sub_u8(c | 0x20, b'a') as u32;
+    if letter < 6 {
+        return letter + 10;
+    }
+    NO_DIGIT
 }
 
 // A number with one digit more; more than a number is none.

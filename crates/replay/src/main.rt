@@ -13,12 +13,11 @@ use held::Session;
 use telling::say;
 
 fn usage() {
-    say(b"usage: replay TRACE NUMBER..\n");
     say(
-        b"TRACE is a file of lines in hexadecimal, one datagram a line, an empty line a give-up;\n",
-    );
-    say(
-        b"NUMBER is a datagram's number to drop, 0 to 65535 in decimal, or 0x and hexadecimal digits\n",
+        b"usage: replay TRACE NUMBER..
+TRACE is a file of lines in hexadecimal, one datagram a line, an empty line a give-up;
+NUMBER is a datagram's number to drop, 0 to 65535 in decimal, or 0x and hexadecimal digits
+",
     );
 }
 

@@ -12,12 +12,6 @@ abbrev μ-loop : tie.MeasureT-loop
 fresh-requires : tie.Need-fresh-requires Inv-loop μ-loop
 fresh-requires c κs = search needs
 
-fresh-requires-2 : tie.Need-fresh-requires-2 Inv-loop μ-loop
-fresh-requires-2 c κs = search needs
-
-fresh-requires-3 : tie.Need-fresh-requires-3 Inv-loop μ-loop
-fresh-requires-3 c κs = search needs
-
 loop-holds : tie.Need-loop-holds Inv-loop μ-loop
 loop-holds c = search needs
 
@@ -46,8 +40,6 @@ main-spec =
     Inv-loop
     μ-loop
     fresh-requires
-    fresh-requires-2
-    fresh-requires-3
     loop-holds
     sub-turns
     turn-requires

@@ -11,8 +11,8 @@ Inv-loop count fields i₀ i = Unit {0}
 abbrev μ-loop : tie.MeasureT-loop
 μ-loop count fields i₀ i = 16 - i
 
-say-fields-requires : tie.Need-say-fields-requires Inv-loop μ-loop
-say-fields-requires c κs = search needs
+say-count-requires : tie.Need-say-count-requires Inv-loop μ-loop
+say-count-requires c κs = search needs
 
 loop-holds : tie.Need-loop-holds Inv-loop μ-loop
 loop-holds c = search needs
@@ -53,7 +53,7 @@ all-fields-spec =
     (tie.spec
     Inv-loop
     μ-loop
-    say-fields-requires
+    say-count-requires
     loop-holds
     mul-field
     array-copy-out-field

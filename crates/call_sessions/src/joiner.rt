@@ -61,13 +61,6 @@ fn one_lost(joiner: Joiner) -> Joiner {
     held
 }
 
-fn flag(tainted: bool) -> u32 {
-    if tainted {
-        return 1;
-    }
-    0
-}
-
 // As many octets as the size says, or those that there are.
 fn there(size: usize) -> usize {
     if size < Joiner::LIMIT {
@@ -81,7 +74,7 @@ fn say_joiner(joiner: Joiner) {
     let frame = joiner.frame;
     let size = joiner.size as usize;
     say(0, 1);
-    say(flag(joiner.tainted), 1);
+    say(joiner.tainted as u32, 1);
     say(size as u32, 2);
     say_all(part(&frame, 0, there(size)));
 }
@@ -130,14 +123,12 @@ fn overwrite(joiner: Joiner, s: &[u8]) -> Joiner {
     joiner
 }
 
-fn fresh() -> Joiner {
-    say(0, 1);
-    Joiner::fresh()
-}
-
 pub fn answer(joiner: Joiner, call: u8, s: &[u8], lent: &mut [u8]) -> Joiner {
     match call {
-        0x30 => fresh(),
+        0x30 => {
+            say(0, 1);
+            Joiner::fresh()
+        }
         0x31 => one_field(joiner, s, lent),
         0x32 => one_lost(joiner),
         0x33 => {

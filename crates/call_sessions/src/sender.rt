@@ -102,14 +102,12 @@ fn overwrite(sender: Sender, s: &[u8]) -> Sender {
     sender
 }
 
-fn fresh() -> Sender {
-    say(0, 1);
-    Sender::fresh()
-}
-
 pub fn answer(sender: Sender, call: u8, s: &[u8], lent: &mut [u8]) -> Sender {
     match call {
-        0x20 => fresh(),
+        0x20 => {
+            say(0, 1);
+            Sender::fresh()
+        }
         0x21 => send(sender, s, lent),
         0x22 => {
             let mut at = 0;

@@ -66,10 +66,6 @@ fn counts_with(counts: Counts, field: u8, value: u32) -> Counts {
     c
 }
 
-pub fn base_of(session: Session) -> u16 {
-    session.base
-}
-
 // A session that has given up so many numbers, where it has given up as many before as change what it keeps.
 pub fn gone_on(session: Session, lost: u32) -> Session {
     let mut r = session;

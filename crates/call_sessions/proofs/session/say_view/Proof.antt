@@ -1,8 +1,8 @@
--- `calls::session::say_view` is safe and ends. The numbers left are the measure of each loop, and nothing has to hold from
+-- `call_sessions::session::say_view` is safe and ends. The numbers left are the measure of each loop, and nothing has to hold from
 -- turn to turn. Assumes nothing.
 use borrow.Author.Needs.{needs}
-use Rattle.calls.proofs.session.say_view.Statement.{statement}
-use Rattle.calls.proofs.session.say_view.Tie as tie
+use Rattle.call_sessions.proofs.session.say_view.Statement.{statement}
+use Rattle.call_sessions.proofs.session.say_view.Tie as tie
 
 abbrev Inv-loop : tie.InvT-loop
 Inv-loop base table octets messages number₀ left₀ number left = Unit {0}

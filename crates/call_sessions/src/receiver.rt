@@ -1,6 +1,5 @@
 // Lines 10 to 17, 19 and 1A, on the receiving session.
 use crate::image::restored;
-use crate::session::base_of;
 use crate::session::gone_on;
 use crate::session::overwritten;
 use crate::session::say_counts;
@@ -21,18 +20,14 @@ use sessions::Released;
 use sessions::Session;
 use sessions::Solved;
 
-fn say_offered(answer: Offered) {
-    match answer {
-        Offered::Accepted => say(0, 1),
-        Offered::Refused(why) => say_refused(why),
-    }
-}
-
 // 11: offer.
 fn offer(session: Session, s: &[u8]) -> Session {
     let after = sessions::offer(session, s);
     let answer = after.answer;
-    say_offered(answer);
+    match answer {
+        Offered::Accepted => say(0, 1),
+        Offered::Refused(why) => say_refused(why),
+    }
     let held = after.session;
     held
 }
@@ -113,7 +108,7 @@ fn many(times: u32) -> Session {
 fn overwrite(session: Session, s: &[u8]) -> Session {
     let t = target_of(s);
     let row = row_of(0x1700 + (t.field as u16));
-    if fits(row, base_of(session), t) {
+    if fits(row, session.base, t) {
         say(0, 1);
         return overwritten(session, t);
     }
@@ -121,30 +116,24 @@ fn overwrite(session: Session, s: &[u8]) -> Session {
     session
 }
 
-fn say_solved(answer: Solved) {
-    match answer {
-        Solved::Filled => say(0, 1),
-        Solved::Refused(why) => say_refused(why),
-    }
-}
-
 // 1A: losses that no single message mends.
 fn solve(session: Session) -> Session {
     let after = sessions::solve(session);
     let answer = after.answer;
-    say_solved(answer);
+    match answer {
+        Solved::Filled => say(0, 1),
+        Solved::Refused(why) => say_refused(why),
+    }
     let held = after.session;
     held
 }
 
-fn fresh() -> Session {
-    say(0, 1);
-    Session::fresh()
-}
-
 pub fn answer(session: Session, call: u8, s: &[u8], lent: &mut [u8]) -> Session {
     match call {
-        0x10 => fresh(),
+        0x10 => {
+            say(0, 1);
+            Session::fresh()
+        }
         0x11 => offer(session, s),
         0x12 => release(session, s, lent),
         0x14 => {
