@@ -71,10 +71,8 @@ class Deaf(Calls):
         return b'\x00'
 
 
-def main():
-    """Answers standard input line by line, with the alteration."""
-    out, stream = sys.stdout.buffer, sys.stdin.buffer
-    program, how, *at = sys.argv[1:]
+def altered_lines(lines, program, how, *at):
+    """The answers to these lines, with the alteration."""
     if at:
         alter = digit_changed(how.encode(), int(at[0]))
     else:
@@ -83,10 +81,14 @@ def main():
                  'program spares': spares_released}[program + ' ' + how]
     if program == 'program':
         session = Program()
-        out.writelines(alter(result[:2], result) + b'\n' for line in lines_of(stream) for result in session.results(line))
-    else:
-        calls = Deaf() if how == 'deaf' else Calls()
-        out.writelines(alter(line[:2], calls.answer(line)) + b'\n' for line in lines_of(stream) if line)
+        return (alter(result[:2], result) + b'\n' for line in lines for result in session.results(line))
+    calls = Deaf() if how == 'deaf' else Calls()
+    return (alter(line[:2], calls.answer(line)) + b'\n' for line in lines if line)
+
+
+def main():
+    """Answers standard input line by line, with the alteration."""
+    sys.stdout.buffer.writelines(altered_lines(lines_of(sys.stdin.buffer), *sys.argv[1:]))
 
 
 if __name__ == '__main__':

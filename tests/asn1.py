@@ -5,15 +5,13 @@ What is read must be written back as the same octets. The lines stand in corpus/
 corpus/asn1-02.txt for the new one; corpus/README.md has their form."""
 
 import argparse
-import pathlib
+import functools
 import sys
-import tempfile
 from typing import NamedTuple, Optional
 
 from edition_mutants import EDITION_MUTANTS
-from failing import Cases, altered, independent
+from failing import Cases, altered, altered_here, independent, independent_here
 from format_mutants import PACKET_MUTANTS
-from mutants import make_mutant
 from pencil_mutants import PENCIL_MUTANTS
 from real import CORPUS, Wrong, as_expected, must, written_by
 from rules.arguments import shown, sized
@@ -21,6 +19,7 @@ from rules.calls import answer_all
 from rules.editions import DATA_PACKET, INDICATOR, NEW, OLD, data_misplaced
 from rules.packets import Packet
 from running import around
+from within import Mutant
 
 EDITIONS = {'asn1-98.txt': OLD, 'asn1-02.txt': NEW}
 LINES = 400
@@ -104,6 +103,7 @@ def read_and_written(edition, octets, said):
         (writing.hex().upper().encode(), ((b'\x00' + sized(octets)).hex().upper().encode() + b'\n',))]
 
 
+@functools.lru_cache(None)
 def calls_of(edition, line):
     """The calls that a line gives rise to, each with what its answer, with its line feed, may begin with."""
     given = decoded(line)
@@ -122,11 +122,17 @@ def read_alike(script, answers):
              around(first, 0))
 
 
+@functools.lru_cache(None)
+def answers_to(script):
+    """The independent program's answers."""
+    return answer_all(script)
+
+
 def check(command, edition, lines):
     """All lines of an edition by one program: what each says, and every answer the independent program's; how many packets are accepted."""
     calls = [(number, *call) for number, line in enumerate(lines, 1) for call in calls_of(edition, line)]
     script = [call for _, call, _ in calls]
-    expected = answer_all(script)
+    expected = answers_to(tuple(script))
     answers = written_by(command, script, expected)
     for (number, call, allowed), answer in zip(calls, answers):
         must((answer + b'\n').startswith(allowed), 'line %d: %s is answered %s, and not %s', number, around(call, 0), around(answer, 0),
@@ -145,23 +151,22 @@ def lines_in(name):
 
 def self_test():
     """Wrong programs and wrong lines, and what is said of each."""
-    test, right = Cases('asn1.py'), independent()
+    test, right = Cases('asn1.py'), independent_here()
     old, new = lines_in('asn1-98.txt'), lines_in('asn1-02.txt')
     test.passes('the lines of the old edition as they stand', check, right, OLD, old)
     test.passes('the lines of the new edition as they stand', check, right, NEW, new)
     test.fails('the new lines in the old edition', ' is answered FF0E0002', check, right, OLD, new)
     test.fails('the old lines in the new edition', ' is answered ', check, right, NEW, old)
-    test.fails('a packet read otherwise', 'is answered 0001040', check, altered('calls 05 -1'), OLD, old)
-    test.fails('a packet read otherwise by 07', ': 070000', check, altered('calls 07 -1'), OLD, old)
+    test.fails('a packet read otherwise', 'is answered 0001040', check, altered_here('calls 05 -1'), OLD, old)
+    test.fails('a packet read otherwise by 07', ': 070000', check, altered_here('calls 07 -1'), OLD, old)
     test.fails('two readers that differ', '07000048 is answered 00010400, and by 05 FF010001', read_alike, [b'05000048', b'07000048'],
                [b'FF010001', b'00010400'])
-    test.fails('a packet written otherwise', 'line 2: 06000104', check, altered('calls 06 -1'), OLD, old)
-    test.fails('status 3', 'it does not end well: status 3', check, right + '; exit 3', OLD, old)
+    test.fails('a packet written otherwise', 'line 2: 06000104', check, altered_here('calls 06 -1'), OLD, old)
+    test.fails('status 3', 'it does not end well: status 3', check, independent() + '; exit 3', OLD, old)
     for name in WRONG_PROGRAMS:
         edit = next(row[1:] for row in PACKET_MUTANTS + PENCIL_MUTANTS + EDITION_MUTANTS if row[0] == name)
-        with tempfile.TemporaryDirectory() as directory:
-            edition, lines = (NEW, new) if name in WRONG_IN_THE_NEW else (OLD, old)
-            test.fails(name, ' is answered ', check, make_mutant(pathlib.Path(directory), *edit), edition, lines)
+        edition, lines = (NEW, new) if name in WRONG_IN_THE_NEW else (OLD, old)
+        test.fails(name, ' is answered ', check, Mutant(*edit).command(), edition, lines)
     for name, edition, line, words in (
             ('one to be accepted', OLD, 'C8 A OK dat 4', 'line 1: 050000C8 is answered FF010001, and not 00010400'),
             ('one to be refused', OLD, '48 R OK dat 4', 'line 1: 05000048 is answered 00010400, and not refused'),

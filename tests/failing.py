@@ -7,6 +7,10 @@ import shlex
 import subprocess
 import sys
 
+from altered import altered_lines
+from running import lines_of
+from within import Mutant
+
 HERE = pathlib.Path(__file__).resolve().parent
 
 
@@ -23,6 +27,16 @@ def independent(*arguments):
 def altered(how):
     """The shell command of a wrong program; altered.py says which there are."""
     return python('altered.py', *how.split())
+
+
+def independent_here(*arguments):
+    """What stands in place of the independent program's command, and runs it in this process."""
+    return Mutant().command(*arguments)
+
+
+def altered_here(how):
+    """What stands in place of a wrong program's command, and runs it in this process."""
+    return lambda given: (b''.join(altered_lines(lines_of(given), *how.split())), '')
 
 
 class Cases:

@@ -5,19 +5,19 @@ What the parts write must together be what the program writes for the whole trac
 has there. An image that does not read, or a file that is not usable, must end it in words."""
 
 import argparse
+import functools
 import itertools
 import pathlib
 import random
 import shlex
-import subprocess
 import sys
 import tempfile
 
 import running
-from failing import Cases, independent
+from adapter import Adapter, of_mutant
+from failing import Cases, independent, independent_here
 from image_mutants import FILE_MUTANTS, HANDOVER_MUTANTS
 from making.lines import Recording, program_lines
-from mutants import make_mutant
 from real import Wrong, corpus, must
 from released import worse_line
 from rules.handing import Handover
@@ -26,6 +26,7 @@ from rules.program import results_of
 from rules.receiving import AFTER, BEFORE, RECEIVED, REPAIRED, SPARE, UNKNOWN
 from running import described, difference, lines_of, run, text_of
 from traffic import DATAGRAMS
+from within import Mutant
 
 EACH = 50  # lines of a part
 SEEDS, MADE = 2, 400
@@ -33,56 +34,28 @@ KINDS = {RECEIVED: 'received', SPARE: 'spare', REPAIRED: 'repaired'}
 LOSSES = 0, 0.3, 0.6  # with many lost, something is waited for where a trace is cut
 
 
-class Adapter:
-    """The program handover, with a folder for its images."""
-
-    def __init__(self, command, folder):
-        self.command = command
-        self.folder = pathlib.Path(folder)
-
-    def image(self, name):
-        """Where an image of this name is kept."""
-        return self.folder / name
-
-    def run(self, given, load=None, save=None):
-        """Plays octets, from an image and to one, if they are given: its status, what it writes, what it says."""
-        words = [word for option, path in (('--load', load), ('--save', save)) if path for word in (option, str(path))]
-        command = ' '.join([self.command, *map(shlex.quote, words)])
-        try:
-            ended = subprocess.run(command, shell=True, input=given, capture_output=True, timeout=running.PATIENCE)
-        except subprocess.TimeoutExpired:
-            raise Wrong('no end within %d seconds' % running.PATIENCE)
-        return ended.returncode, ended.stdout, ended.stderr.decode('utf-8', 'backslashreplace')
-
-    def play(self, given, load=None, save=None):
-        """The same, to a good end: what it writes."""
-        if save and save != load:
-            save.unlink(missing_ok=True)
-        status, written, said = self.run(given, load, save)
-        must(status == 0, 'it does not end well: status %d, %s', status, said.strip())
-        must(not save or save.is_file(), 'no image is saved')
-        return written
-
-
-def session_after(lines):
-    """The session that the independent program has after these lines."""
+def sessions_at(lines):
+    """The session that the independent program has at each cut and at the end, with the number of lines before it."""
     handover = Handover()
-    for line in lines:
+    for at, line in enumerate(lines, 1):
         handover.results(line)
-    return handover.session
+        if at % EACH == 0 or at == len(lines):
+            yield at, handover.session
 
 
-def image_after(lines):
-    """Its image."""
-    return written_image(session_after(lines))
+@functools.lru_cache(None)
+def expected_of(lines):
+    """The results of lines, and the image at each cut and at the end."""
+    return text_of(results_of(lines)), {at: written_image(session) for at, session in sessions_at(lines)}
 
 
 def held_at_cuts(traces):
     """What sessions hold where traces are cut: from the base on kinds, accepted numbers and messages, and before it unknown numbers."""
     held = set()
     for lines in traces:
-        for at in range(EACH, len(lines), EACH):
-            session = session_after(lines[:at])
+        for at, session in sessions_at(lines):
+            if at == len(lines):
+                break
             ahead = range(session.base, session.base + AFTER)
             held.update(KINDS[session.place(number).state] for number in ahead if session.place(number).state in KINDS)
             held.update(['accepted'] * any(session.mark(number).accepted for number in ahead))
@@ -98,7 +71,7 @@ def same(what, expected, written):
         raise Wrong('\n'.join(['%s, line %d' % (what, at + 1)] + described(expected, written, at)))
 
 
-def cut_in_two(adapter, lines, whole):
+def cut_in_two(adapter, lines, whole, images):
     """At every 50th line: two parts, and the image between them, which stays as it is if nothing is played.
 
     The first part's last line has its line feed or not."""
@@ -107,15 +80,15 @@ def cut_in_two(adapter, lines, whole):
         front = adapter.play(first, save=image)
         back = adapter.play(text_of(lines[at:]), load=image)
         same('cut behind line %d: the results are not those of the whole trace' % at, whole, front + back)
-        same('cut behind line %d: the image is not the expected one' % at, image_after(lines[:at]), image.read_bytes())
+        same('cut behind line %d: the image is not the expected one' % at, images[at], image.read_bytes())
         adapter.play(b'', load=image, save=adapter.image('again'))
         same('cut behind line %d: loaded and saved, the image is another' % at, image.read_bytes(), adapter.image('again').read_bytes())
         if lines[at - 1]:
             same('cut behind line %d, without its line feed: other results' % at, front, adapter.play(first[:-1], save=image))
-            same('cut behind line %d, without its line feed: another image' % at, image_after(lines[:at]), image.read_bytes())
+            same('cut behind line %d, without its line feed: another image' % at, images[at], image.read_bytes())
 
 
-def in_parts(adapter, lines, whole):
+def in_parts(adapter, lines, whole, last):
     """Parts of 50 lines, each from the image of the one before, in a file of its own and all in one file; and all in one part."""
     for name, images in (('from file to file', [adapter.image('image %d' % at) for at in range(-(-len(lines) // EACH))]),
                          ('in one file', [adapter.image('image')] * -(-len(lines) // EACH))):
@@ -124,26 +97,26 @@ def in_parts(adapter, lines, whole):
             written += adapter.play(text_of(lines[EACH * at:EACH * (at + 1)]), load=before, save=image)
             before = image
         same('%s: the results are not those of the whole trace' % name, whole, written)
-        same('%s: the last image is not the expected one' % name, image_after(lines), before.read_bytes())
+        same('%s: the last image is not the expected one' % name, last, before.read_bytes())
     same('uncut: the results are not those of the program', whole, adapter.play(text_of(lines)))
 
 
 def check(program, handover, lines):
     """One trace, whole and cut."""
-    whole = text_of(results_of(lines))
+    whole, images = expected_of(tuple(lines))
     written, remark = run(program, text_of(lines))
     must(not remark, 'the program does not end well: %s', remark)
     same('the program differs from the independent one', whole, written)
     with tempfile.TemporaryDirectory() as folder:
         adapter = Adapter(handover, folder)
-        cut_in_two(adapter, lines, whole)
-        in_parts(adapter, lines, whole)
+        cut_in_two(adapter, lines, whole, images)
+        in_parts(adapter, lines, whole, images[len(lines)])
     return '%d lines, %d cuts' % (len(lines), (len(lines) - 1) // EACH)
 
 
 def unusable(adapter):
     """Files that cannot be loaded: a name, what is in it, or None where nothing is written, and its path."""
-    image = image_after([b'000001060000', b'000201000001' + b'01C0'])
+    image = expected_of((b'000001060000', b'000201000001' + b'01C0'))[1][2]
     yield 'no file', None, adapter.image('nowhere')
     yield 'no file in a folder that is not there', None, adapter.image('nowhere') / 'image'
     yield 'a folder', None, adapter.folder
@@ -213,25 +186,25 @@ def checks(arguments):
 def self_test():
     """Programs that lose something, and what is said of each; the right one passes."""
     test, program, right = Cases('handed_over.py'), independent('program'), independent('handover')
+    here = of_mutant(Mutant())
     lines = [twice_and_late(name, LOSSES[-1]) for name in DATAGRAMS]
 
     def over_traces(handover):
         """Two traces."""
         for trace in lines:
-            check(program, handover, trace)
+            check(independent_here('program'), handover, trace)
 
     every = 'accepted messages received repaired spare unknown before'
     test.says('what is held at cuts', every, held_at_cuts(make() for _, make in traces()))
     test.fails('what is held with nothing lost', 'NOT CAUGHT by inner: one: ' + every, Cases('inner').says, 'one', every,
                held_at_cuts(worse_line(name, 0)[0].lines for name in DATAGRAMS))
-    test.passes('as it should be, over traces', over_traces, right)
+    test.passes('as it should be, over traces', over_traces, here)
     test.passes('as it should be, over files', refused, right)
-    test.fails('a wrong program', 'the program differs from the independent one, line ', check, program + " | sed '$d'", right, lines[0])
-    test.fails('a program with status 3', 'the program does not end well: status 3', check, program + '; exit 3', right, lines[0])
+    test.fails('a wrong program', 'the program differs from the independent one, line ', check, program + " | sed '$d'", here, lines[0])
+    test.fails('a program with status 3', 'the program does not end well: status 3', check, program + '; exit 3', here, lines[0])
     for check_one, mutants in ((over_traces, HANDOVER_MUTANTS), (refused, FILE_MUTANTS)):
         for name, words, *edit in mutants:
-            with tempfile.TemporaryDirectory() as directory:
-                test.fails(name, words, check_one, make_mutant(pathlib.Path(directory), *edit) + ' handover')
+            test.fails(name, words, check_one, of_mutant(Mutant(*edit)))
     with tempfile.TemporaryDirectory() as directory:
         quiet = pathlib.Path(directory, 'quiet')
         quiet.write_text('#!/bin/sh\n%s "$@" 2>/dev/null\n' % right)

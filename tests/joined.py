@@ -5,7 +5,7 @@ check out of its packets, so they are put behind each frame here, as a sender th
 
 import binascii
 
-from failing import altered, independent
+from failing import altered_here, independent_here
 from making.frames import frame, packets_of
 from making.script import Script
 from real import UNLIMITED, as_expected, conversation, corpus, must, octets_of, settings_text, written_by
@@ -189,7 +189,7 @@ def checks(command):
 
 def self_test(test):
     """Wrong programs and wrong frames, and what is said of each."""
-    right, call, line = independent(), RECORDED[1], LINES[1]
+    right, call, line = independent_here(), RECORDED[1], LINES[1]
     test.says('the check of 123456789', '906e', other_order(frame_check(other_order(b'123456789')))[::-1].hex())
     for name, check in (('a call', lambda c: clean_call(c, call, True)), ('a bad line', lambda c: bad_line(c, *line)),
                         ('packets put together', lambda c: bad_line(c, *TOGETHER[1], put_together)),
@@ -205,7 +205,7 @@ def self_test(test):
             ('losses not heard', lambda c: bad_line(c, *line), 'calls deaf', 'has a wrong frame check: '),
             ('put together, read otherwise', lambda c: bad_line(c, *TOGETHER[1], put_together), 'calls 05 -1', 'not the expected one'),
             ('losses not heard, made rows', lambda c: made_rows(c, 'short'), 'calls deaf', ' was sent as ')):
-        test.fails('frames, ' + name, words, check, altered(how))
+        test.fails('frames, ' + name, words, check, altered_here(how))
     script, sent = script_of('one frame', [((ADDING, b'\x01\x02' + frame_check(b'\x01\x02')), (2, b''))], set())
     test.passes('frames, one with its check', check_frames, right, script, sent, True)
     test.fails('frames, one less', '1 frames are handed out in place of 2', check_frames, right, script, 2 * sent, True)

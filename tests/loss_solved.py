@@ -3,8 +3,9 @@ loss_table.py."""
 
 from loss_tool import SPARES, Loss, refused
 from real import must
+from rules.calls import Calls
 from rules.receiving import LOST, UNKNOWN
-from standing_in import QuickCalls, number_of
+from standing_in import number_of
 
 
 def solved_together(loss):
@@ -29,7 +30,7 @@ def talked(where, talk, heard, patience):
     """The session after a talk with calls: what was heard, and in due time solved and then given up; all answered as it must be."""
     must([line[2:] for line in talk.asked if line[:2] == b'11'] == heard, '%s: another trace is heard', where)
     last = max(at for at, line in enumerate(talk.asked) if line[:2] == b'11')
-    calls, highest, solved = QuickCalls(), -1, False
+    calls, highest, solved = Calls(), -1, False
     for at, asked in enumerate(talk.asked):
         session = calls.receiving
         late = highest - session.total() >= patience

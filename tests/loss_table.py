@@ -17,11 +17,13 @@ import xml.etree.ElementTree
 from desk import TOOLS, edited
 from failing import Cases
 from loss_edits import EDITS
+from loss_here import Here
 from loss_solved import solved_together, wrong_calls
 from loss_tool import NAME, PYTHON, SPARES, Loss, refused, without_progress
 from real import Wrong, must
+from rules.program import Program
 from running import text_of
-from standing_in import StandingIn, number_of, quick_program
+from standing_in import StandingIn, number_of
 
 KINDS = b'00', b'01', b'02', b'03'
 WORDS = 'received', 'from a spare copy', 'repaired by parity', 'only by solving', 'lost'
@@ -44,7 +46,7 @@ def counted(loss):
             told = [sum(result[:2] == kind for result in call.results) for kind in KINDS]
             counts[3:] = [sum(counts[3:])]  # lost where nothing is solved
             must(counts == told, '%s: %s, answered %s', where, counts, told)
-            program = quick_program()
+            program = Program()
             for line in call.lines:
                 if number_of(line) not in call.numbers:
                     program.results(line)
@@ -87,7 +89,7 @@ def given_up(loss):
         for call in loss.table(lines, '--steps', '2', '--patience', str(patience)).calls:
             must([line for line in call.lines if line] == lines, 'another trace is played')
             last = max(at for at, line in enumerate(call.lines) if line)
-            program, highest = quick_program(), -1
+            program, highest = Program(), -1
             for at, line in enumerate(call.lines):
                 late = highest - program.session.total() >= patience
                 must(late or line or at > last, 'patience %d, line %d: given up too early', patience, at)
@@ -207,13 +209,12 @@ def self_test():
     with tempfile.TemporaryDirectory() as folder:
         commands = StandingIn(folder).commands()
         for name, check in CHECKS.items():
-            test.passes(name, check, Loss(*commands, most=60))
+            test.passes(name, check, Here(*commands, most=60))
         for name, part, old, new, check, words in EDITS:
             with tempfile.TemporaryDirectory() as directory:
-                test.fails(name, words, CHECKS[check], Loss(*commands, edited(directory, part, old, new), 60))
-        command = [sys.executable, __file__]
-        test.ends('a wrong tool', 1, '0 passed, 1 failed',
-                  [*command, '--receive', commands[0], '--replay', 'false', '--calls', commands[2]])
+                test.fails(name, words, CHECKS[check], Here(*commands, edited(directory, part, old, new), 60))
+        command, programs = [sys.executable, __file__], ['--receive', commands[0], '--replay', 'false', '--calls', commands[2]]
+        test.ends('a wrong tool', 1, '0 passed, 1 failed', command + programs)
         test.ends('no command', 2, 'three commands are needed', command)
     test.end()
 
@@ -233,8 +234,7 @@ def main():
     if not (arguments.receive and arguments.replay and arguments.calls):
         parser.error('three commands are needed: --receive, --replay and --calls')
     here = 'cd %s && ' % shlex.quote(os.getcwd())
-    receive, calls = ('(%s%s)' % (here, command) for command in (arguments.receive, arguments.calls))
-    loss = Loss(receive, here + arguments.replay, calls, arguments.tools)
+    loss = Loss('(%s%s)' % (here, arguments.receive), here + arguments.replay, '(%s%s)' % (here, arguments.calls), arguments.tools)
     for passed, (name, check) in enumerate(CHECKS.items()):
         try:
             remark = check(loss)

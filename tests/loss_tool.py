@@ -71,6 +71,14 @@ class Ran(typing.NamedTuple):
     talks: list
 
 
+def told_by(folder, status, written, said, calls, talks):
+    """A run that has ended, its picture in this folder."""
+    matches = map(ROW.fullmatch, written.splitlines())
+    rows = [[float(match[1]), *map(int, match.groups()[1:])] for match in matches if match]
+    picture = folder / NAME.replace('.hex', '.svg')
+    return Ran(status, rows, written, without_progress(said), picture.read_text() if picture.exists() else '', calls, talks)
+
+
 class Loss:
     """../loss as its parts stand in a folder, with the programs that it drives, and so many lines of the traces that it is given."""
 
@@ -88,14 +96,10 @@ class Loss:
             programs = '--receive', self.receive, '--replay', keeping, '--calls', listening
             command = [*PYTHON, str(self.tools / 'loss.py'), *programs, *options, NAME]
             ended = subprocess.run(command, cwd=directory, stdout=subprocess.PIPE, stderr=subprocess.PIPE, text=True)
-            matches = map(ROW.fullmatch, ended.stdout.splitlines())
-            rows = [[float(match[1]), *map(int, match.groups()[1:])] for match in matches if match]
-            picture = folder / NAME.replace('.hex', '.svg')
             calls = [kept(path) for path in in_order(folder, '.results')]
             talks = [Talk(*(lines_of(path.with_suffix(end).read_bytes()) for end in ('.asked', '.answered')))
                      for path in in_order(folder, '.asked')]
-            said = without_progress(ended.stderr)
-            return Ran(ended.returncode, rows, ended.stdout, said, picture.read_text() if picture.exists() else '', calls, talks)
+            return told_by(folder, ended.returncode, ended.stdout, ended.stderr, calls, talks)
 
     def table(self, lines, *options):
         """One run that must end well."""

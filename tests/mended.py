@@ -3,21 +3,21 @@
 each number is given up. Every answer must be the independent program's; what is released must be what was sent, with zeros behind."""
 
 import argparse
-import pathlib
 import sys
-import tempfile
 
 from compare import Failed, compare_calls, with_answers
-from failing import Cases, altered, independent
+from failing import Cases, altered, altered_here, independent_here
 from generate import MENDINGS, make_script
 from making.script import UNLIMITED, Script
 from making.sums import DONE
+from mend_mutants import MEND_MUTANTS
 from real import Wrong, as_expected, corpus, must, octets_of, written_by
 from released import LOST, check_released, counts_text
 from rules.arguments import shown
 from rules.datagrams import PARITY
 from rules.packets import PACKET_LIMIT
 from rules.receiving import REPAIRED, UNKNOWN
+from within import Mutant
 
 MENDING_SEEDS, MENDINGS_EACH = 3, 1500
 PATIENCE = 24
@@ -98,21 +98,20 @@ def checks(command, seed=''):
 
 def self_test():
     """Wrong programs, and what is said of each; the right one passes."""
-    from mend_mutants import MEND_MUTANTS
-    from mutants import make_mutant
-    test, right = Cases('mended.py'), independent()
+    test, right = Cases('mended.py'), independent_here()
+    made = made_mendings('0')
     for name, check in checks(right):
         test.passes(name, check)
     for name, words in (('a place filled that two solutions give differently', 'not mended: ff170000'),
-                        ('nothing filled', 'not the expected one'), ('23 as 17', ''), ('the fill cut of its zeros', 'is filled with'), ('filled as a spare', ' was sent as '),
+                        ('nothing filled', 'not the expected one'), ('23 as 17', ''),
+                        ('the fill cut of its zeros', 'is filled with'), ('filled as a spare', ' was sent as '),
                         ('an equation that says nothing new is 23', 'not mended: ff170000'), ('1A: no call', 'not mended: ee')):
-        with tempfile.TemporaryDirectory() as directory:
-            wrong = make_mutant(pathlib.Path(directory), *next(row[1:] for row in MEND_MUTANTS if row[0] == name))
-            test.fails('made, ' + name, 'differs made: script line ', compare_calls, 'made', wrong, *made_mendings('0'))
-            if words:
-                test.fails('a real line, ' + name, words, real_line, wrong, *LINES[1])
-    test.fails('a number left out', 'not released: ', real_line, altered('calls 12 0'), *LINES[0])
-    test.fails('the counts', 'the counts are ', real_line, altered('calls 14 9'), *LINES[0])
+        wrong = Mutant(*next(row[1:] for row in MEND_MUTANTS if row[0] == name)).command()
+        test.fails('made, ' + name, 'differs made: script line ', compare_calls, 'made', wrong, *made)
+        if words:
+            test.fails('a real line, ' + name, words, real_line, wrong, *LINES[1])
+    test.fails('a number left out', 'not released: ', real_line, altered_here('calls 12 0'), *LINES[0])
+    test.fails('the counts', 'the counts are ', real_line, altered_here('calls 14 9'), *LINES[0])
     test.ends('a wrong program', 1, '0 passed, 1 failed', [sys.executable, __file__, '--calls', altered('calls 14 9')])
     test.ends('no command', 2, 'a command is needed', [sys.executable, __file__])
     test.end()

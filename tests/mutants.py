@@ -3,23 +3,15 @@
 
 import argparse
 import functools
-import importlib
-import importlib.machinery
-import io
 import itertools
 import multiprocessing
 import os
-import pathlib
-import shlex
-import shutil
-import signal
 import sys
-import types
 
 import running
 
-from compare import (CALL_SEEDS, FRAME_SEEDS, IMAGE_SEEDS, PACKET_SEEDS, PROGRAM_SEEDS, REPLAY_SEEDS, TRACE_SEEDS, Failed, made_calls,
-                     made_frames, made_images, made_lines, made_packets, made_replays, made_traces, stored)
+from compare import (CALL_SEEDS, FRAME_SEEDS, IMAGE_SEEDS, PACKET_SEEDS, PROGRAM_SEEDS, REPLAY_SEEDS, TRACE_SEEDS, made_calls, made_frames,
+                     made_images, made_lines, made_packets, made_replays, made_traces, stored)
 from edition_mutants import EDITION_MUTANTS
 from failing import Cases
 from format_mutants import DATAGRAM_MUTANTS, PACKET_MUTANTS
@@ -34,117 +26,14 @@ from program_mutants import PROGRAM_MUTANTS
 from replay_mutants import REPLAY_MUTANTS
 from session_mutants import SESSION_MUTANTS
 from trace_mutants import TRACE_MUTANTS
+from within import Failed, Mutant
 
-HERE = pathlib.Path(__file__).resolve().parent
 MUTANTS = {kind: rows + PLACE_MUTANTS.get(kind, ()) + NOTE_MUTANTS.get(kind, ()) for kind, rows in (
     ('calls', DATAGRAM_MUTANTS + SESSION_MUTANTS), ('packets', PACKET_MUTANTS + PENCIL_MUTANTS + EDITION_MUTANTS),
     ('joiner', JOINER_MUTANTS), ('replays', REPLAY_MUTANTS), ('images', IMAGE_MUTANTS), ('traces', TRACE_MUTANTS),
     ('mendings', MEND_MUTANTS), ('program', PROGRAM_MUTANTS))}
 SEEDS = {'calls': CALL_SEEDS, 'packets': PACKET_SEEDS, 'joiner': FRAME_SEEDS, 'replays': REPLAY_SEEDS, 'images': IMAGE_SEEDS,
          'traces': TRACE_SEEDS, 'mendings': MENDING_SEEDS, 'program': PROGRAM_SEEDS}
-
-
-class Different(BaseException):
-    """Something else is written than what is expected, or there is no end."""
-
-
-class Expected:
-    """Standard output that holds what is written against what is expected."""
-
-    def __init__(self, expected):
-        self.left = memoryview(expected)
-
-    def write(self, octets):
-        """The next octets."""
-        if self.left[:len(octets)] != octets:
-            raise Different
-        self.left = self.left[len(octets):]
-
-    def writelines(self, lines):
-        """The same of several."""
-        for line in lines:
-            self.write(line)
-
-
-@functools.lru_cache(None)
-def modules():
-    """The modules of the independent program: the path, the text and the code of each."""
-    paths = {'rules.' + path.stem: path for path in (HERE / 'rules').glob('*.py')}
-    paths['independent'], paths['rules'] = HERE / 'independent.py', paths.pop('rules.__init__')
-    return {name: (path, path.read_text(), compile(path.read_text(), str(path), 'exec')) for name, path in paths.items()}
-
-
-def edited(module, old, new):
-    """A module of the independent program with one edit: its name, path, text and code."""
-    name = module if module == 'independent' else 'rules.' + module
-    path, text, _ = modules()[name]
-    if text.count(old) != 1:
-        raise Failed('%s: the text to edit occurs %d times: %r' % (module, text.count(old), old))
-    text = text.replace(old, new)
-    try:
-        return name, path, text, compile(text, str(path), 'exec')
-    except SyntaxError as wrong:
-        raise Failed('%s: with the edit it is no program: %s' % (module, wrong))
-
-
-def make_mutant(directory, *edit):
-    """A copy of the independent program with one edit, in a folder of its own; its shell command."""
-    shutil.copy(HERE / 'independent.py', directory)
-    shutil.copytree(HERE / 'rules', directory / 'rules', ignore=shutil.ignore_patterns('__pycache__'))
-    _, path, text, _ = edited(*edit)
-    (directory / path.relative_to(HERE)).write_text(text)
-    return ' '.join(map(shlex.quote, (sys.executable, str(directory / 'independent.py'))))
-
-
-class Mutant:
-    """The independent program with one edit, for Python to import: only the module that is edited is read anew."""
-
-    def __init__(self, *edit):
-        self.name, _, _, self.code = edited(*edit)
-
-    def find_spec(self, name, path=None, target=None):
-        """Its modules are made here."""
-        return importlib.machinery.ModuleSpec(name, self, is_package=name == 'rules') if name in modules() else None
-
-    def create_module(self, spec):
-        """A module as usual."""
-
-    def exec_module(self, module):
-        """One of its modules."""
-        exec(self.code if module.__name__ == self.name else modules()[module.__name__][2], module.__dict__)
-
-    def run(self):
-        """Runs it, all its modules new."""
-        kept = {name: sys.modules.pop(name) for name in modules() if name in sys.modules}
-        sys.meta_path.insert(0, self)
-        try:
-            importlib.import_module('independent').main()
-        finally:
-            sys.meta_path.remove(self)
-            for name in modules():
-                sys.modules.pop(name, None)
-            sys.modules.update(kept)
-
-    def differs(self, kind, given, expected):
-        """Whether it writes something else than expected, breaks off, or does not end."""
-        kept, out = (sys.argv, sys.stdin, sys.stdout), Expected(expected)
-        sys.argv = ['independent.py'] + ['program'] * (kind == 'program')
-        sys.stdin, sys.stdout = types.SimpleNamespace(buffer=io.BytesIO(given)), types.SimpleNamespace(buffer=out)
-        signal.signal(signal.SIGVTALRM, no_end)
-        signal.setitimer(signal.ITIMER_VIRTUAL, running.PATIENCE)
-        try:
-            self.run()
-        except (Exception, SystemExit, Different):
-            return True
-        finally:
-            signal.setitimer(signal.ITIMER_VIRTUAL, 0)
-            sys.argv, sys.stdin, sys.stdout = kept
-        return len(out.left) > 0
-
-
-def no_end(number, frame):
-    """The processor's time for it is used up."""
-    raise Different
 
 
 @functools.lru_cache(None)
@@ -165,7 +54,7 @@ def tried(kind, *edit):
     """One wrong program: the name of the first input that tells it apart, or None."""
     mutant = Mutant(*edit)
     for name, given, expected in iter(map(functools.partial(input_at, kind), itertools.count()).__next__, None):
-        if mutant.differs(kind, given, expected):
+        if mutant.differs(['program'] * (kind == 'program'), given, expected):
             return name
     return None
 

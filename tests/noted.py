@@ -5,16 +5,13 @@ What it writes must be what the independent program writes. Of that, the lines m
 with the lines."""
 
 import argparse
-import pathlib
 import random
 import re
 import sys
-import tempfile
 
 from compare import CASES, LINES_EACH, stored
-from failing import Cases, independent
+from failing import Cases, independent, independent_here
 from making.lines import Recording, program_lines
-from mutants import make_mutant
 from note_mutants import REPORT_MUTANTS
 from real import Wrong, corpus, must
 from released import worse_line
@@ -23,6 +20,7 @@ from rules.noting import Notes, report_of
 from rules.program import Program, results_of
 from running import around, described, difference, lines_of, run, text_of
 from traffic import REPLAYED
+from within import Mutant
 
 # The words of the program: of a number that has left, of a refused line, of the table.
 NUMBER = re.compile(rb'number (?P<number>[0-9]+): (?P<kind>received|lost|spare, from|repaired, with)( datagram (?P<note>[0-9]+))?')
@@ -139,23 +137,17 @@ def missing(made):
     return [words.strip().decode() for words in every if words not in lines]
 
 
-def behind_give_ups(given, report, results):
+def behind_give_ups(given, report):
     """How many numbers are given up first, and an input without them, if they are many: one by one they take long."""
     given_up = len(given) - len(given.lstrip(b'\n'))
     if given_up < LINES_EACH:
-        return 0, given, report, results
-    return given_up, given[given_up:], text_of(lines_of(report)[given_up:]), results[given_up:]
+        return 0, given, report
+    return given_up, given[given_up:], text_of(lines_of(report)[given_up:])
 
 
-def found(independently, made):
-    """What an input says of a wrong independent program; nothing if none tells it apart."""
-    for one in made:
-        given_up, *rest = behind_give_ups(*one)
-        try:
-            check('%s notes %d 2> /dev/null' % (independently, given_up), *rest)
-        except Wrong as wrong:
-            return str(wrong)
-    return ''
+def found(mutant, made):
+    """Whether an input tells a wrong independent program apart."""
+    return any(mutant.differs(['notes', str(given_up)], given, report) for given_up, given, report in made)
 
 
 def self_test():
@@ -168,7 +160,7 @@ def self_test():
     count = len(list(stored('.lines', '.results')))
     test.says('what the stored ones do not have', "'distance 14:', 'distance 15:']", str(missing(made[:count])))
     test.fails('a stored report altered', 'differs from stored whole-case.notes', as_stored, 'whole-case.lines', given, report, results)
-    test.passes('as it should be', check, independent('notes'), given, report, results)
+    test.passes('as it should be', check, independent_here('notes'), given, report, results)
     for name, old, new, words in (
             ('another kind', b'number 7: spare, from', b'number 7: repaired, with', 'told of 01000747: number 7: repaired'),
             ('another number', b'number 7: s', b'number 8: s', 'told of 01000747: number 8: spare'),
@@ -195,9 +187,10 @@ def self_test():
             ('the last line left out', right + " | sed '$d'", 'is not the expected one'),
             ('a line more', right + '; echo', 'is not the expected one')):
         test.fails('the program, ' + name, words, check, command, given, report, results)
+    short = [behind_give_ups(given, report) for given, report, _ in made]
+    test.says('the independent program', 'False', str(found(Mutant(), short)))
     for name, *edit in REPORT_MUTANTS:
-        with tempfile.TemporaryDirectory() as directory:
-            test.says('a wrong program, ' + name, 'is not the expected one', found(make_mutant(pathlib.Path(directory), *edit), made))
+        test.says('a wrong program, ' + name, 'True', str(found(Mutant(*edit), short)))
     test.ends('a wrong program', 1, '0 passed, 1 failed', [sys.executable, __file__, '--notes', right + ' | tac'])
     test.ends('no command', 2, 'a command is needed', [sys.executable, __file__])
     test.end()

@@ -10,7 +10,11 @@ SHOWN = 160     # characters of a line that are shown
 
 
 def run(command, given):
-    """What a shell command writes when it reads the octets given, and a remark if it did not end well."""
+    """What a shell command writes when it reads the octets given, and a remark if it did not end well.
+
+    In place of a command there may be a function that gives both."""
+    if callable(command):
+        return command(given)
     try:
         ended = subprocess.run(command, shell=True, input=given, stdout=subprocess.PIPE, timeout=PATIENCE)
     except subprocess.TimeoutExpired:

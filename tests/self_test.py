@@ -14,7 +14,7 @@ import tempfile
 
 import running
 from cutting import cut_calls, cut_lines
-from failing import HERE, Cases, altered, independent
+from failing import HERE, Cases, altered, altered_here, independent, independent_here
 from generate import FRAMES, IMAGES, MENDINGS, NOTES, PACKETS, REPLAYS, TRACES, make_script
 from making import images, placed, single
 from making.lines import program_lines
@@ -53,12 +53,12 @@ def of_running(test):
 def of_cutting(test):
     """The lines that a difference does not need are dropped, and no others."""
     calls, lines = text_of(make_script('cutting', 199).lines + [b'14']), text_of(lines_of(program_lines('cutting', 200)))
-    test.says('a right program', '200 lines', '%d lines' % len(cut_calls(independent(), calls)))
-    test.says('a right program of lines', '200 lines', '%d lines' % len(cut_lines(independent('program'), lines)))
-    test.says('a wrong count', "[b'14']", str(cut_calls(altered('calls 14 9'), calls)))
-    test.says('a wrong give-up', "[b'']", str(cut_lines(altered('program 03 5'), lines)))
+    test.says('a right program', '200 lines', '%d lines' % len(cut_calls(independent_here(), calls)))
+    test.says('a right program of lines', '200 lines', '%d lines' % len(cut_lines(independent_here('program'), lines)))
+    test.says('a wrong count', "[b'14']", str(cut_calls(altered_here('calls 14 9'), calls)))
+    test.says('a wrong give-up', "[b'']", str(cut_lines(altered_here('program 03 5'), lines)))
     script = [b'10', b'14', b'11000001060000', b'12000002', b'11000101070000', b'15', b'11000101080000']
-    test.says('FF07 as 00', "[b'11000101070000', b'11000101080000']", str(cut_calls(altered('calls repeated'), text_of(script))))
+    test.says('FF07 as 00', "[b'11000101070000', b'11000101080000']", str(cut_calls(altered_here('calls repeated'), text_of(script))))
 
 
 def of_generate(test):
@@ -93,6 +93,10 @@ def of_generate(test):
     test.fails('an image refused otherwise', 'answered ff110000, and the items tell ff140000', images.restore, script, b'', MISSHAPEN)
     test.fails('an image refused', 'answered ff110000, and the items tell a session', images.restore, script, b'')
     test.fails('another image written', 'answered ff110000, and the rows have ', images.image, script)
+    script = Script('0', UNLIMITED)
+    script.offer(b'\x00\x00\x01\x06\x00\x00')
+    script.receiving.base += 1
+    test.fails('a session led outside its ranges', 'line 1 has led outside the ranges', script.look_inside)
 
 
 def answers_met(scenes, count):

@@ -6,6 +6,8 @@ What must be answered is told here from the request alone, without the rules; sh
 
 import argparse
 import contextlib
+import itertools
+import queue
 import random
 import subprocess
 import sys
@@ -19,21 +21,25 @@ from running import around, left_out
 MOST_SPARES, NUMBERS, LIMIT = 8, 65536, 1000000
 REAL = 'tt_v17_ecm_v0.a2b'
 BASE_UNKNOWN, NUMBERS_PASSED = b'FF0A0000', b'FF100000'
-CHUNK = 1000  # packets that are written at once
+CHUNK = 1000  # lines that are written at once
 
 
 class Run(NamedTuple):
-    """A run: k spares, so many packets, how the line loses, and how a packet is made from a random source and its number."""
+    """A run: k spares, so many packets, how the line loses, how a packet is made from its number, and how many came before.
+
+    Those before were sent as packet 06 and given up (calls 22 and 16), so that a short run passes 65,535."""
 
     k: int
     length: int
     loses: str
     packet: Callable = None
+    before: int = 0
 
     @property
     def name(self):
         """In words."""
-        return '%d spares, %d packets%s, %s' % (self.k, self.length, ' of a real call' if self.packet else '', LOSSES[self.loses])
+        which = ' of a real call' if self.packet else ' behind %d' % self.before if self.before else ''
+        return '%d spares, %d packets%s, %s' % (self.k, self.length, which, LOSSES[self.loses])
 
     def source(self):
         """A random source, the same each time."""
@@ -62,19 +68,15 @@ def length_of(octets):
     return b'%02X' % len(octets) if len(octets) < 128 else b'%04X' % (0x8000 + len(octets))
 
 
-def digits(octets):
-    """Octets in hexadecimal."""
-    return octets.hex().upper().encode()
-
-
 def steps(run):
-    """For each packet: number, packet, its datagram in hexadecimal, whether it arrives, and what is then released, as pairs."""
-    r, last, waiting = run.source(), [], []
-    for number, arrives in enumerate(arrivals(run, run.source())):
-        packet = run.packet(number) if run.packet else short_packet(r)
-        spares = b''.join(length_of(spare) + digits(spare) for spare in last)
-        datagram = b'%04X' % (number % NUMBERS) + length_of(packet) + digits(packet) + b'00%02X' % len(last) + spares
-        last = [packet] + last[:run.k - 1]
+    """For each packet: number, packet and its datagram, both in hexadecimal, whether it arrives, and what is then released, as pairs."""
+    r, last, waiting = run.source(), [b'0106'] * min(run.k, run.before), []
+    for number, arrives in enumerate(arrivals(run, run.source()), run.before):
+        octets = run.packet(number) if run.packet else short_packet(r)
+        packet = octets.hex().upper().encode()
+        sized = length_of(octets) + packet
+        datagram = b'%04X' % (number % NUMBERS) + sized + b'00%02X' % len(last) + b''.join(last)
+        last = [sized] + last[:run.k - 1]
         waiting.append((number, packet))
         yield number, packet, datagram, arrives, waiting if arrives else []
         if arrives:
@@ -84,25 +86,28 @@ def steps(run):
 def as_calls(run):
     """The run as lines of the calls program, each with the answer that it must have; at the end the counts."""
     received = spares = 0
+    if run.before:
+        yield from ((first + b'%08X' % run.before, b'00') for first in (b'16', b'22'))
     for number, packet, datagram, arrives, released in steps(run):
         size = len(datagram) // 2
-        yield b'21%04X' % len(packet) + digits(packet) + b'00%02X00%04X' % (run.k, size + 1), b'00%04X' % size + datagram + b'A5'
+        yield b'21%04X' % (len(packet) // 2) + packet + b'00%02X00%04X' % (run.k, size + 1), b'00%04X' % size + datagram + b'A5'
         if not arrives:
             continue
         yield b'11' + datagram, b'00'
         for at, sent in released:
             received, spares = received + (at == number), spares + (at != number)
-            yield (b'1200%04X' % (len(sent) + 1),
-                   b'00%02X%04X%04X%04X' % (at != number, at % NUMBERS, number % NUMBERS, len(sent)) + digits(sent) + b'A5')
+            length = len(sent) // 2
+            told = b'00%02X%04X%04X%04X' % (at != number, at % NUMBERS, number % NUMBERS, length)
+            yield b'1200%04X' % (length + 1), told + sent + b'A5'
         yield b'12000000', NUMBERS_PASSED if number + 1 == LIMIT else BASE_UNKNOWN
-    yield b'14', b'00%08X%08X%08X%08X' % (received, spares, 0, 0)
+    yield b'14', b'00%08X%08X%08X%08X' % (received, spares, 0, run.before)
 
 
 def one_too_many(run):
     """k and one more lost in a row: when the next arrives, the first of them is still waiting, and nothing is released."""
     for number, packet, datagram, arrives, _ in steps(run):
         size = len(datagram) // 2
-        yield b'21%04X' % len(packet) + digits(packet) + b'00%02X00%04X' % (run.k, size), b'00%04X' % size + datagram
+        yield b'21%04X' % (len(packet) // 2) + packet + b'00%02X00%04X' % (run.k, size), b'00%04X' % size + datagram
         if arrives:
             yield b'11' + datagram, b'00'
             yield b'12000000', BASE_UNKNOWN
@@ -113,78 +118,85 @@ def as_lines(run):
     """The run as lines of the program, each with its results as one text."""
     for number, _, datagram, arrives, released in steps(run):
         if arrives:
-            yield datagram, b'\n'.join(b'%02X%04X' % (at != number, at % NUMBERS) + digits(sent) for at, sent in released)
+            yield datagram, b'\n'.join(b'%02X%04X' % (at != number, at % NUMBERS) + sent for at, sent in released)
 
 
 def check(command, made, run):
     """A program over a run: what it writes is what must be, to the last character, and it ends well."""
-    process = subprocess.Popen(command, shell=True, stdin=subprocess.PIPE, stdout=subprocess.PIPE)
-    writer = threading.Thread(target=write_all, args=(process.stdin, made, run), daemon=True)
+    process, pieces, count = subprocess.Popen(command, shell=True, stdin=subprocess.PIPE, stdout=subprocess.PIPE), queue.Queue(), 0
+    writer = threading.Thread(target=write_all, args=(process.stdin, made, run, pieces), daemon=True)
     writer.start()
     try:
-        for at, (line, expected) in enumerate(made(run), 1):
-            for one in expected.split(b'\n'):
-                told = process.stdout.readline()
-                must(told == one + b'\n', '%s, line %d, %s: expected %s, written %s', run.name, at, around(line, 0), around(one, 0),
-                     around(told.rstrip(b'\n'), 0) or 'nothing')
+        for piece in iter(pieces.get, None):
+            expected = b''.join(answer + b'\n' for _, answer in piece)
+            written = process.stdout.read(len(expected))
+            if written != expected:
+                differing(run.name, piece, count, written + process.stdout.readline())
+            count += len(piece)
         must(not process.stdout.read(1), '%s: more is written', run.name)
         writer.join()
         must(process.wait() == 0, '%s: status %d', run.name, process.returncode)
     except Wrong:
-        while process.stdout.read(1 << 16):  # so that the program can end by itself
-            pass
+        process.stdout.read()  # so that the program can end by itself
         raise
     finally:
         process.kill()
         process.stdout.close()
         process.wait()
-    return at
+    return count
 
 
-def write_all(stream, made, run):
-    """Writes all lines, in pieces."""
-    piece = []
-    with contextlib.suppress(BrokenPipeError), stream:
-        for line, _ in made(run):
-            piece.append(line + b'\n')
-            if len(piece) == CHUNK:
-                stream.write(b''.join(piece))
-                piece.clear()
-        stream.write(b''.join(piece))
+def differing(name, piece, before, written):
+    """Says at which line of a piece, behind so many, something else is written than expected."""
+    told = iter(written.splitlines(True))
+    for at, (line, answer) in enumerate(piece, before + 1):
+        for one in answer.split(b'\n'):
+            found = next(told, b'')
+            must(found == one + b'\n', '%s, line %d, %s: expected %s, written %s', name, at, around(line, 0), around(one, 0),
+                 around(found.rstrip(b'\n'), 0) or 'nothing')
+
+
+def write_all(stream, made, run, pieces):
+    """Hands on all lines with their answers, in pieces, and writes each piece; None at the end."""
+    lines = made(run)
+    try:
+        with contextlib.suppress(BrokenPipeError), stream:
+            for piece in iter(lambda: list(itertools.islice(lines, CHUNK)), []):
+                pieces.put(piece)
+                stream.write(b''.join(line + b'\n' for line, _ in piece))
+    finally:
+        pieces.put(None)
 
 
 def runs():
-    """The runs: short ones and a real call for each k, and some around 65,536 packets."""
+    """The short runs: some and a real call for each k."""
     real = corpus(REAL)
     for k in range(1, MOST_SPARES + 1):
         for length, loses in ((1, 'none'), (k + 1, 'most'), (2 * k + 3, 'most'), (300, 'some'), (300, 'many'), (300, 'most')):
             yield Run(k, length, loses)
         yield Run(k, len(real), 'many', real.__getitem__)
-    for k, length, loses in ((1, NUMBERS - 1, 'many'), (8, NUMBERS, 'most'), (3, NUMBERS + 1, 'many')):
-        yield Run(k, length, loses)
 
 
 def checks(arguments):
     """All checks: a name, and what does it."""
-    given = list(runs()) + ([Run(3, LIMIT, 'many')] if arguments.limit else [])
-    for run in given:
-        if arguments.calls:
-            yield 'calls: ' + run.name, lambda r=run: check(arguments.calls, as_calls, r)
-        if arguments.program:
-            yield 'program: ' + run.name, lambda r=run: check(arguments.program, as_lines, r)
-    for k in range(1, MOST_SPARES + 1):
-        if arguments.calls:
-            run = Run(k, k + 2, 'over')
-            yield 'calls: ' + run.name, lambda r=run: check(arguments.calls, one_too_many, r)
+    short, last = list(runs()), [Run(3, NUMBERS + 1, 'many')] + [Run(3, LIMIT, 'many')] * arguments.limit
+    behind = [Run(k, 300, loses, before=NUMBERS - 150) for k in range(1, MOST_SPARES + 1) for loses in ('many', 'most')]
+    too_many = [Run(k, k + 2, 'over') for k in range(1, MOST_SPARES + 1)]
+    for given, made in ((short + behind + last, as_calls), (too_many, one_too_many)):
+        for run in given if arguments.calls else ():
+            yield 'calls: ' + run.name, lambda r=run, m=made: check(arguments.calls, m, r)
+    for run in short + [Run(1, NUMBERS - 1, 'many'), Run(8, NUMBERS, 'most')] + last if arguments.program else ():
+        yield 'program: ' + run.name, lambda r=run: check(arguments.program, as_lines, r)
 
 
 def self_test():
     """Wrong programs, and what is said of each; the independent one passes all short runs."""
     test, calls, program = Cases('sold_line.py'), independent(), independent('program')
-    short = [run for run in runs() if run.length < 1000]
+    short = list(runs())
     for run in short[-7:] + short[:7]:
         test.passes('calls: ' + run.name, check, calls, as_calls, run)
         test.passes('program: ' + run.name, check, program, as_lines, run)
+    test.passes('calls behind others', check, calls, as_calls, Run(8, 40, 'many', before=NUMBERS - 20))
     for k in (1, MOST_SPARES):
         test.passes('one too many lost of %d' % k, check, calls, one_too_many, Run(k, k + 2, 'over'))
     line = Run(3, 40, 'many')
@@ -197,9 +209,8 @@ def self_test():
         test.fails(how, 'expected 0', check, altered(how), as_lines, line)
     for how, words in ((' | head -n 20', 'written nothing'), ('; echo 00', 'more is written'), ('; exit 3', 'status 3')):
         test.fails('calls' + how, words, check, calls + how, as_calls, line)
-    marks = list(arrivals(Run(2, UNLIMITED // 10 ** 4, 'many'), random.Random(1)))
-    test.says('never more than k lost in a row, the last one arrives', '2 True',
-              '%d %s' % (max(map(len, ''.join('.x'[not one] for one in marks).split('.'))), marks[-1]))
+    marks = ''.join('x.'[one] for one in arrivals(Run(2, UNLIMITED // 10 ** 4, 'many'), random.Random(1)))
+    test.says('never more than k lost in a row, the last one arrives', '2 .', '%d %s' % (max(map(len, marks.split('.'))), marks[-1]))
     test.ends('a wrong program', 1, '0 passed, 1 failed', [sys.executable, __file__, '--calls', altered('calls 14 9')])
     test.ends('no command', 2, 'a command is needed', [sys.executable, __file__])
     test.end()

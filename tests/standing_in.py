@@ -36,20 +36,11 @@ def number_of(line):
         return None
 
 
-def quick_program():
-    """The program, its session's ranges not looked at: it is never outside them, and they take most of the time."""
+def replayed(lines, dropped):
+    """What replay writes for lines without the datagrams of these numbers, and the four counts that it tells."""
     program = Program()
-    program.session.in_ranges = lambda: True
-    return program
-
-
-class QuickCalls(Calls):
-    """The calls, from a fresh session on, likewise."""
-
-    def fresh_receiving(self, arguments):
-        done = super().fresh_receiving(arguments)
-        self.receiving.in_ranges = lambda: True
-        return done
+    results = [result for line in lines if number_of(line) not in dropped for result in program.results(line)]
+    return results, 'received %d, spare %d, repaired %d, lost %d\n' % tuple(program.session.counts.values())
 
 
 class StandingIn:
@@ -77,11 +68,11 @@ class StandingIn:
 
     def receive(self, name):
         """The program's results, line by line."""
-        self.talk(name, quick_program().results)
+        self.talk(name, Program().results)
 
     def calls(self, name):
         """The answers of calls, line by line."""
-        calls = QuickCalls()
+        calls = Calls()
         self.talk(name, lambda line: [calls.answer(line)])
 
     def talk(self, name, answers):
@@ -93,10 +84,8 @@ class StandingIn:
 
     def replay(self, name, trace, *numbers):
         """The program's lines for the trace without the datagrams of these numbers, and the four counts on standard error."""
-        program, dropped = quick_program(), {int(number, 0) for number in numbers}
-        with open(self.folder / (name + '.counts'), 'w') as counts:
-            with open(trace, 'rb') as given, open(self.folder / (name + '.results'), 'wb') as out:
-                for line in lines_of(given):
-                    if number_of(line) not in dropped:
-                        out.write(text_of(program.results(line)))
-            counts.write('received %d, spare %d, repaired %d, lost %d\n' % tuple(program.session.counts.values()))
+        with open(self.folder / (name + '.counts'), 'w') as told:
+            with open(trace, 'rb') as given:
+                results, counts = replayed(lines_of(given), {int(number, 0) for number in numbers})
+            (self.folder / (name + '.results')).write_bytes(text_of(results))
+            told.write(counts)

@@ -11,7 +11,16 @@ RT = '''#!/bin/sh
 case $1 in
 version) echo "${RT_VERSION:-stub}" ;;
 fmt) exit "${RT_FMT:-0}" ;;
-ci) printf "${RT_SAYS:-7 passed, 0 failed\\n}"; exit "${RT_CI:-0}" ;;
+ci)
+    waited=0
+    until [ -z "$RT_BESIDE" ] || [ "$(cat begun 2>/dev/null | wc -l)" = "$RT_BESIDE" ]; do
+        sleep 0.1
+        waited=$((waited + 1))
+        [ "$waited" != 600 ] || exit 1
+    done
+    printf "${RT_SAYS:-7 passed, 0 failed\\n}"
+    exit "${RT_CI:-0}"
+    ;;
 check)
     waited=0
     until [ -z "$RT_WAITS" ] || [ -s errors ] || [ "$waited" = 300 ]; do sleep 1; waited=$((waited + 1)); done
@@ -21,9 +30,18 @@ check)
 esac
 '''
 PYTHON = '''#!/bin/sh
+[ -z "$RT_BESIDE" ] || echo "$*" >>begun
+[ "$RT_CI" != 9 ] || { bin/slow & trap 'echo ended >>ended; exit 1' TERM; wait; }
 [ "$*" = "$WRONG" ] || { echo 'ok one'; echo '2 passed, 0 failed'; exit 0; }
 printf "$SAYS"; exit "$STATUS"
 '''
+SLOW = '''#!/bin/sh
+trap 'echo ended >>ended; exit 1' TERM
+echo slow >>begun
+sleep 60 & wait
+'''
+# How many say within some seconds that they were ended.
+ENDED = 'until [ "$(cat ended | wc -l)" = %d ] || [ "$((waited += 1))" = 100 ]; do sleep 0.1; done; cat ended | wc -l'
 RUN_STUB = '''#!/bin/sh
 echo "$* ran"
 [ "$1" != explain ] || cat
@@ -32,8 +50,8 @@ echo "$* ran"
 
 def with_stubs(directory):
     """The scripts at the top in a folder of their own, with stubs in place of rt, python3 and tests/run; what to run them with."""
-    for name, text in (('bin/rt', RT), ('bin/python3', PYTHON), ('tests/run', RUN_STUB), ('toolchain', 'stub\n'), ('crates/one/src', ''),
-                       ('crates.txt', 'one:\nreceive: io one\n')):
+    for name, text in (('bin/rt', RT), ('bin/python3', PYTHON), ('bin/slow', SLOW), ('tests/run', RUN_STUB), ('toolchain', 'stub\n'),
+                       ('crates/one/src', ''), ('crates.txt', 'one:\nreceive: io one\n')):
         path = directory / name
         path.parent.mkdir(parents=True, exist_ok=True)
         path.write_text(text)
@@ -52,11 +70,12 @@ def of_test(test):
 
         def ends(name, status, words, **settings):
             """../test with these programs in place of the real ones: its status, and its last two lines."""
-            command = './test >out 2>&1; status=$?; tail -n 2 out; echo end; exit $status'
+            command = 'rm -f begun; ./test >out 2>&1; status=$?; tail -n 2 out; echo end; exit $status'
             test.ends(name, status, words + 'end\n', ['sh', '-c', command], cwd=directory, env={**environment, **settings})
 
         text = (HERE.parent / 'test').read_text().replace('\\\n', '')
-        steps = [line for line in text.splitlines() if line.startswith('compared ')]
+        steps = [line for line in text.splitlines() if line.startswith(('beside ', 'compared '))]
+        early = sum(line.startswith('beside ') for line in steps)
         ends('all right', 0, '%d passed, 0 failed\n' % (7 + 2 * len(steps)))
         ends('another toolchain', 1, 'than the one named in the file toolchain\n0 passed, 1 failed\n', RT_VERSION='other')
         ends('the layout', 1, 'rt fmt --check: a file is not in the layout\n0 passed, 1 failed\n', RT_FMT='1')
@@ -66,11 +85,17 @@ def of_test(test):
         for wrong, says in (('nothing said', '\\n'), ('a failure', '7 passed, 1 failed\\n'),
                             ('another last line', '7 passed, 0 failed\\nmore\\n')):
             ends('rt ci, ' + wrong, 1, no_last + '\n0 passed, 1 failed\n', RT_SAYS=says)
+        ends('begun beside rt ci', 0, '%d passed, 0 failed\n' % (7 + 2 * len(steps)), RT_BESIDE=str(early))
+        ends('one that fails beside rt ci', 1, '\n7 passed, 1 failed\n', RT_BESIDE=str(early), WRONG='tests/compare.py --self-test',
+             SAYS='2 passed, 0 failed\\n', STATUS='3')
+        test.ends('ended when rt ci fails', 1, 'a program\n0 passed, 1 failed\n%d\n' % (2 * early),
+                  ['sh', '-c', 'rm begun; ./test 2>&1; status=$?; %s; exit $status' % ENDED % (2 * early)], cwd=directory,
+                  env={**environment, 'RT_BESIDE': str(2 * early), 'RT_CI': '9'})
+        unsaid = (('nothing said', ''), ('a failure', '2 passed, 1 failed\\n'), ('another last line', '2 passed, 0 failed\\nmore\\n'))
         for at, line in enumerate(steps):
             arguments = line.split(' python3 ')[1].replace("'", '')
-            for wrong, status, says, words in (('status 3', '3', '2 passed, 0 failed\\n', ''), ('nothing said', '0', '', no_last),
-                                               ('a failure', '0', '2 passed, 1 failed\\n', no_last),
-                                               ('another last line', '0', '2 passed, 0 failed\\nmore\\n', no_last)):
+            wrong, last = unsaid[at % 3]
+            for wrong, status, says, words in (('status 3', '3', '2 passed, 0 failed\\n', ''), (wrong, '0', last, no_last)):
                 ends('%s of %s' % (wrong, arguments), 1, '%s\n%d passed, 1 failed\n' % (words, 7 + 2 * at),
                      WRONG=arguments, SAYS=says, STATUS=status)
 

@@ -7,7 +7,7 @@ import argparse
 import sys
 
 import joined
-from failing import Cases, altered, independent
+from failing import Cases, altered, altered_here, independent_here
 from making.pieces import damaged, packet_items
 from making.script import Script
 from real import UNLIMITED, Wrong, as_expected, conversation, corpus, must, octets_of, settings_text, written_by
@@ -16,7 +16,7 @@ from rules.arguments import shown, sized
 from rules.datagrams import PARITY, SPARES, read_datagram
 from rules.editions import EDITIONS, OLD
 from rules.packets import read_packet, written_packet
-from running import left_out
+from running import left_out, run
 
 CALLS = ('tt_v17_ecm_v0.a2b', 'tt_v17_ecm_v0.b2a', 'tt_v29_ecm_v0.a2b', 'gt_v17_nonecm_v0.a2b')
 DATAGRAMS = {'tt_v17_ecm_v0.a2b.k3': (SPARES, 3, 0), 'tt_v17_ecm_v0.a2b.n3m2': (PARITY, 3, 2)}
@@ -127,7 +127,7 @@ def checks(arguments):
 
 def self_test():
     """Wrong programs, and what is said of each."""
-    test, right, program = Cases('traffic.py'), independent(), independent('program')
+    test, right, program = Cases('traffic.py'), independent_here(), independent_here('program')
     spares, parity = DATAGRAMS
     call, settings = CALLS[1], (SPARES, 3, 0)
     packets = corpus(call)
@@ -145,7 +145,7 @@ def self_test():
             ('packets put together written otherwise', lambda c: put_together_back(c, call), 'calls 06 -1', 'line 3: written back as '),
             ('packets damaged read otherwise by 07', lambda c: damaged_read(c, call), 'calls 07 -1', 'is not the expected one'),
             ('a datagram sent otherwise', lambda c: sent_as_recorded(c, parity), 'calls 21 -1', 'datagram 0 is sent as ')):
-        test.fails(name, words, check, altered(how))
+        test.fails(name, words, check, altered_here(how))
     for name, how, loss, words in (
             ('spares as repaired', 'calls spares', 0.3, '  expected 0001'),
             ('FF07 as 00', 'calls repeated', 0.3, '  expected FF070000\n  answered 00'),
@@ -162,10 +162,10 @@ def self_test():
             ("a spare's note", 'calls own', 0.3, 'number 0 is a spare of datagram 0, and these came with it: [1]'),
             ('a give-up refused', 'calls 12 0', 0.99, 'not released: '),
             ('the counts', 'calls 14 9', 0.3, 'the counts are ')):
-        test.fails('conversation, ' + name, words, heard, altered(how), call, settings, loss)
-    test.fails("conversation, a received number's note", ' is received with datagram ', heard, altered('calls 12 11'), call,
+        test.fails('conversation, ' + name, words, heard, altered_here(how), call, settings, loss)
+    test.fails("conversation, a received number's note", ' is received with datagram ', heard, altered_here('calls 12 11'), call,
                (SPARES, 0, 0), 0.3)
-    test.fails("conversation, a repaired number's note", ' is repaired with datagram ', heard, altered('calls own'), call,
+    test.fails("conversation, a repaired number's note", ' is repaired with datagram ', heard, altered_here('calls own'), call,
                (PARITY, 3, 2), 0.3)
     script = conversation('short', packets, settings, 0)
     test.fails('conversation, one never released', '55 of 56 numbers released', check_conversation, right, script, packets + [b'\x06'])
@@ -176,14 +176,14 @@ def self_test():
             ('a number', 'program 00 5', 'released: 0 in place of 1'),
             ('a packet', 'program 00 6', ' was sent as '),
             ('a number given up', 'program 03 5', 'given up: ')):
-        test.fails('program, ' + name, words, through_the_program, altered(how), spares, 0.4)
+        test.fails('program, ' + name, words, through_the_program, altered_here(how), spares, 0.4)
     for name, how, words in (
             ('refused', 'calls 40 0', 'not replayed: 10000000'),
             ('a count', 'calls 40 9', 'the counts are 000000'),
             ('a kind', 'calls 40 43', 'result 11'),
             ('a number', 'calls 40 53', 'released: 1 in place of 0'),
             ('a packet', 'calls 40 55', 'number 0 was sent as ')):
-        test.fails('replay, ' + name, words, replayed, altered(how), spares, 0.4)
+        test.fails('replay, ' + name, words, replayed, altered_here(how), spares, 0.4)
     test.fails('program, a packet never released', '0 of 1 numbers released', check_results, [], packets[:1])
     test.fails('program, one too many', 'number 0 is released, and 0 were sent', check_results, [b'00000006'], [])
     joined.self_test(test)
@@ -193,16 +193,16 @@ def self_test():
 
 
 def badly_ended(test, name, check, right):
-    """The right program passes; one that ends badly, or writes more, less or not quite the same, does not."""
+    """The right program passes; one that ends badly, or writes more, less or not quite the same, does not: a command alters it."""
     test.passes(name, check, right)
     for wrong, how, words in (
-            ('status 3', '; exit 3', 'it does not end well: status 3'),
-            ('an answer left out', " | sed '$d'", 'answers in place of'),
-            ('an answer more', '; echo 00', 'answers in place of'),
-            ('no last line feed', ' | head -c -1', 'the last answer has no line feed'),
-            ('a character more', " | sed '2s/^/0/'", 'answer 2 is not of hexadecimal'),
-            ('small letters', ' | tr A-F a-f', 'is not the expected one')):
-        test.fails('%s, %s' % (name, wrong), words, check, right + how)
+            ('status 3', 'cat; exit 3', 'it does not end well: status 3'),
+            ('an answer left out', "sed '$d'", 'answers in place of'),
+            ('an answer more', 'cat; echo 00', 'answers in place of'),
+            ('no last line feed', 'head -c -1', 'the last answer has no line feed'),
+            ('a character more', "sed '2s/^/0/'", 'answer 2 is not of hexadecimal'),
+            ('small letters', 'tr A-F a-f', 'is not the expected one')):
+        test.fails('%s, %s' % (name, wrong), words, check, lambda given, h=how: run(h, right(given)[0]))
 
 
 def main():

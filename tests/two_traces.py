@@ -198,6 +198,7 @@ def main():
     """Checks the script; ends with status 1 if it is wrong."""
     parser = argparse.ArgumentParser(description=__doc__)
     parser.add_argument('--compare', help='shell command of the script compare')
+    parser.add_argument('--program', help='shell command of the program compare, so that the script proves it over the first pair alone')
     parser.add_argument('--self-test', action='store_true', help='check that wrong scripts are reported')
     parser.add_argument('--stand-in', nargs=3, metavar=('HOW', 'FIRST', 'SECOND'), help='stand in for the script')
     arguments = parser.parse_args()
@@ -208,12 +209,13 @@ def main():
         return
     if not arguments.compare:
         parser.error('a command is needed: --compare')
-    passed = 0
+    passed, command = 0, arguments.compare
     try:
         for name, *pair in inputs():
-            print('ok compare, %s; status %d' % (name, check(arguments.compare, name, *pair)), flush=True)
+            print('ok compare, %s; status %d' % (name, check(command, name, *pair)), flush=True)
             passed += 1
-        check_long(arguments.compare, 'a long trace', long_trace(), 600)
+            command = '%s --compare %s' % (arguments.compare, shlex.quote(arguments.program)) if arguments.program else command
+        check_long(command, 'a long trace', long_trace(), 600)
     except Wrong as wrong:
         print('wrong compare: %s' % wrong)
         print('%d passed, 1 failed' % passed)

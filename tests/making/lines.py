@@ -47,6 +47,7 @@ def record(seed, count, given_up=0):
     recording = Recording(seed, given_up)
     while len(recording.lines) < count:
         stretch(recording)
+    assert recording.program.session.all_in_ranges(), 'the lines have led outside the ranges'
     return recording
 
 

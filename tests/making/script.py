@@ -9,6 +9,7 @@ from rules.joining import FRAME_LIMIT
 from rules.packets import PACKET_LIMIT
 
 UNLIMITED = 10 ** 9  # lines of a script
+LOOKS = 50           # lines from one look at all ranges to the next
 
 
 class Full(Exception):
@@ -46,7 +47,14 @@ class Script:
             raise Full
         self.lines.append(text)
         self.answers.append(self.calls.answer(text) if text else b'')
+        if len(self.lines) % LOOKS == 0:
+            self.look_inside()
         return self.answers[-1]
+
+    def look_inside(self):
+        """A session that is taken to be inside its ranges is so."""
+        for session in (self.receiving, self.sending):
+            assert not session.inside or session.all_in_ranges(), 'line %d has led outside the ranges' % len(self.lines)
 
     def call(self, first, *parts):
         """Adds a call of octets; its answer as octets. Now and then the line has small letters."""

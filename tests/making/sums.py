@@ -52,7 +52,7 @@ def mend(script, told=None):
         assert after == before, 'a refusal changed something'
         return 0
     assert told != CONTRADICTION, 'the sums of messages contradict, and it is done'
-    assert marks == [(mark.accepted, mark.n, mark.m) for mark in session.marks] and session.in_ranges()
+    assert marks == [(mark.accepted, mark.n, mark.m) for mark in session.marks] and session.all_in_ranges()
     filled = [at for at in range(VIEW) if before[at] != after[at]]
     for at in filled:
         assert before[at][0] == UNKNOWN and after[at][:2] == (REPAIRED, 0) and len(after[at][2]) == PACKET_LIMIT

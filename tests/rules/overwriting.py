@@ -26,6 +26,7 @@ def overwrite_receiving(session, arguments):
     field, number, message = arguments.number(1), arguments.number(2), arguments.number(1)
     octet, value = arguments.number(2), arguments.number(4)
     arguments.end()
+    session.inside = False
     if field == 0x00:
         put_attribute(session, 'base', value, TWO_OCTETS)
     elif field in COUNT_FIELDS:
@@ -67,6 +68,7 @@ def overwrite_sending(session, arguments):
     field, number = arguments.number(1), arguments.number(2)
     octet, value = arguments.number(2), arguments.number(4)
     arguments.end()
+    session.inside = False
     if field == 0x00:
         put_attribute(session, 'sent', value, FOUR_OCTETS)
         return

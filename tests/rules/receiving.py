@@ -54,6 +54,7 @@ class Receiving:
         self.counts = {RECEIVED: 0, SPARE: 0, REPAIRED: 0, LOST: lost}
         self.places = [Place() for _ in range(BEFORE + AFTER)]
         self.marks = [Mark() for _ in range(AFTER)]
+        self.inside = False  # not looked at yet, or overwritten since
         for j in range(lost + 1, BEFORE + 1):
             self.place(self.base - j).state = BLANK
 
@@ -70,7 +71,12 @@ class Receiving:
         return sum(self.counts.values())
 
     def in_ranges(self):
-        """Whether the session is inside its ranges."""
+        """Whether the session is inside its ranges; the calls leave it so, and only once it is overwritten it is looked at anew."""
+        self.inside = self.inside or self.all_in_ranges()
+        return self.inside
+
+    def all_in_ranges(self):
+        """The same, everything looked at."""
         total = self.total()
         if total > NUMBERS_LIMIT or self.base != total % 65536:
             return False

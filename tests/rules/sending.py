@@ -15,6 +15,7 @@ class Sending:
     def __init__(self, sent=0, packet=b'\x06'):
         self.sent = min(sent, NUMBERS_LIMIT)
         self.history = [Stored() for _ in range(HISTORY)]
+        self.inside = False  # not looked at yet, or overwritten since
         for j in range(1, min(self.sent, HISTORY) + 1):
             self.history[(self.sent - j) % HISTORY] = Stored(packet)
 
@@ -23,7 +24,12 @@ class Sending:
         return self.history[(self.sent - j) % HISTORY]
 
     def in_ranges(self):
-        """Whether the session is inside its ranges."""
+        """Whether the session is inside its ranges; sending leaves it so, and only once it is overwritten it is looked at anew."""
+        self.inside = self.inside or self.all_in_ranges()
+        return self.inside
+
+    def all_in_ranges(self):
+        """The same, everything looked at."""
         return self.sent <= NUMBERS_LIMIT and all(
             self.sent_before(j).in_ranges(*((1, PACKET_LIMIT) if j <= self.sent else (0, 0)))
             for j in range(1, HISTORY + 1))
