@@ -51,7 +51,7 @@ echo "$* ran"
 def with_stubs(directory):
     """The scripts at the top in a folder of their own, with stubs in place of rt, python3 and tests/run; what to run them with."""
     for name, text in (('bin/rt', RT), ('bin/python3', PYTHON), ('bin/slow', SLOW), ('tests/run', RUN_STUB), ('toolchain', 'stub\n'),
-                       ('crates/one/src', ''), ('crates.txt', 'one:\nreceive: io one\n')):
+                       ('crates/one/src', ''), ('crates.txt', 'one:\ntwo: one\nreceive: io two\n')):
         path = directory / name
         path.parent.mkdir(parents=True, exist_ok=True)
         path.write_text(text)
@@ -74,7 +74,7 @@ def of_test(test):
             test.ends(name, status, words + 'end\n', ['sh', '-c', command], cwd=directory, env={**environment, **settings})
 
         text = (HERE.parent / 'test').read_text().replace('\\\n', '')
-        steps = [line for line in text.splitlines() if line.startswith(('beside ', 'compared '))]
+        steps = [line for line in text.splitlines() if line.startswith(('beside ', 'behind ', 'compared '))]
         early = sum(line.startswith('beside ') for line in steps)
         ends('all right', 0, '%d passed, 0 failed\n' % (7 + 2 * len(steps)))
         ends('another toolchain', 1, 'than the one named in the file toolchain\n0 passed, 1 failed\n', RT_VERSION='other')
@@ -112,13 +112,15 @@ def of_prove(test):
             test.ends(name, status, written, ['sh', '-c', command], cwd=directory, env={**environment, **settings})
 
         same = 'rt: one proved (unchanged since it was last proved)\\nrt: receive proved (unchanged since it was last proved)\\n'
-        begun = 'receive: proving what it needs, 2 crates, some minutes the first time ..\n'
+        begun = 'receive: proving what it needs, 3 crates, some minutes the first time ..\n'
         usage = 'usage: ./' + (HERE.parent / 'receive').read_text().splitlines()[1][2:] + '\n'
         ends('all proved', 0, 'receive ran\n', '', RT_SAYS=same)
-        ends('one proved anew', 0, 'receive ran\n', begun + 'receive: 2 of 2 proved: receive\n',
-             RT_SAYS='rt: one proved (unchanged since it was last proved)\\nmore\\nrt: receive proved (19 s)\\n')
-        ends('all proved anew', 0, 'receive ran\n', begun + 'receive: 1 of 2 proved: one\nreceive: 2 of 2 proved: receive\n',
-             RT_SAYS='rt: one proved (4 s)\\nrt: receive proved (19 s)\\nrt: ok, 2 crates proved\\n')
+        ends('one proved anew', 0, 'receive ran\n', begun + 'receive: 3 of 3 proved: receive\n',
+             RT_SAYS='rt: one proved (unchanged since it was last proved)\\nmore\\n'
+             'rt: two proved (unchanged since it was last proved)\\nrt: receive proved (19 s)\\n')
+        each = 'receive: 1 of 3 proved: one\nreceive: 2 of 3 proved: two\nreceive: 3 of 3 proved: receive\n'
+        ends('all proved anew', 0, 'receive ran\n', begun + each,
+             RT_SAYS='rt: one proved (4 s)\\nrt: two proved (5 s)\\nrt: receive proved (19 s)\\nrt: ok, 3 crates proved\\n')
         ends('a crate that takes long', 0, 'receive ran\n', begun, QUIET='1', RT_WAITS='1', RT_SAYS=same)
         failed = 'rt: one NOT PROVED (exit 1, 3 s)\n'
         for status in (1, 2, 3):

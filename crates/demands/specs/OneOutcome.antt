@@ -45,7 +45,7 @@ pub record Writers : Type 0 where
   -- `write` of `image_writer`, and its `write_core`, of a session that is lent
   pub image : (session : Lent) → OneWrite (imageToWrite editionWritten session)
 
--- all public calls of the library: `read`, `read_within` and `write` of `lengths`, `read` and `write` of `datagram_reader` and
+-- all public calls of the library: `read` and `read_within` of `length_reader`, `write` of `length_writer`, of `datagram_reader` and
 -- `datagram_writer`, of `packet_reader` and `packet_writer`, `read` of `pencil_reader`; `Session::fresh`, `offer`, `release` and `solve`;
 -- `Sender::fresh`, `in_ranges` and `send`; the program's `hex_to_octets`, `step`, `take_block` and `finish`; `Joiner::fresh`, `field` and
 -- `lost` of `frame_joiner`, `turns` and `feed` of `frame_feed`; `replay` of `replaying`; `compare` of `comparing`; `write` of
