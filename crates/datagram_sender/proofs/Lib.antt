@@ -1,2 +1,3 @@
 mod SendSteps
 mod SenderSteps
+pub mod Laws

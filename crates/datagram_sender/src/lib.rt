@@ -1,6 +1,7 @@
 // The calls on a sending session: document 01, 'The sending session', as `sending` defines it.
 mod inner;
 
+pub use inner::send_held;
 use lengths::Refusal;
 use lengths::Written;
 use sending::Sender;

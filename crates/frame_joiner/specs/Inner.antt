@@ -1,4 +1,5 @@
--- What the functions inside this crate owe each other: no part of the meaning. Definitions only.
+-- What the functions inside this crate owe each other and, the last two records, those that lend the open frame: no part of the meaning.
+-- Definitions only.
 use Prim.Native.Nat.{ℕ, _+_, _-_, _≤_}
 use mathlib.Core.Path.{_≡_}
 use mathlib.Core.Bool.{Bool, true, false, not, cond}

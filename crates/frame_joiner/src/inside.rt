@@ -1,5 +1,5 @@
-// How a joiner's storage is checked, filled and cleared. These functions serve this crate alone: the storage is lent, tainted and
-// size go by value.
+// How a joiner's storage is checked, filled and cleared: the storage is lent, tainted and size go by value. `feed` and `taint` take any
+// joiner; the others serve this crate alone.
 use datagram_items::put_octets;
 use frames::Handed;
 use frames::Joiner;

@@ -1,11 +1,12 @@
 // The calls of a joiner: document 02, request 1, as `frames` defines it. A joiner goes in by value and comes back by value with the
-// answer; any saved one may be handed in.
+// answer; any saved one may be handed in. `feed` and `taint` are the same calls with the open frame lent.
 mod inside;
 
 use frames::Joined;
 use frames::Joiner;
-use inside::feed;
-use inside::taint;
+pub use inside::Kept;
+pub use inside::feed;
+pub use inside::taint;
 ghost use Rattle.frames.specs.Promise.{FieldOwes, LossOwes};
 
 // One field of a packet: its type, and its data, of which there are no octets if it has none. A frame that it ends is written to

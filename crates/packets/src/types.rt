@@ -38,7 +38,8 @@ pub enum Ending {
 }
 
 // A field of a packet: its type, 0 to 7 or 0 to 11 by edition, and its data as a part of the packet. Without data its size is 0, and so
-// is start.
+// is start. It stands so in a C host's memory.
+#[repr(C)]
 pub struct Field {
     pub kind: u8,
     pub start: usize,

@@ -1,0 +1,24 @@
+# The library for a C program: target/host/libtubarexi.a, proved and built by `rt staticlib host`, with include/tubarexi.h and a pkg-config
+# file. `make` builds it; `make install PREFIX=/usr DESTDIR=/somewhere` installs the three. The version is the header's.
+PREFIX ?= /usr/local
+DESTDIR ?=
+VERSION := $(shell sed -n 's/^.define TBX_VERSION "\(.*\)"/\1/p' include/tubarexi.h)
+BUILT := target/host
+
+all: $(BUILT)/libtubarexi.a $(BUILT)/tubarexi.pc
+
+$(BUILT)/libtubarexi.a: FORCE
+	tests/host/build
+
+$(BUILT)/tubarexi.pc: FORCE
+	mkdir -p $(BUILT)
+	sed 's,@PREFIX@,$(PREFIX),; s,@VERSION@,$(VERSION),' tubarexi.pc.in >$@
+
+install: all
+	install -d $(DESTDIR)$(PREFIX)/lib/pkgconfig $(DESTDIR)$(PREFIX)/include
+	install -m 644 $(BUILT)/libtubarexi.a $(DESTDIR)$(PREFIX)/lib
+	install -m 644 $(BUILT)/tubarexi.pc $(DESTDIR)$(PREFIX)/lib/pkgconfig
+	install -m 644 include/tubarexi.h $(DESTDIR)$(PREFIX)/include
+
+FORCE:
+.PHONY: all install FORCE

@@ -1,0 +1,123 @@
+-- What the host's calls hand over: a text that a write put into a buffer reads back as the very session, and a buffer for the longest image
+-- is room for every one. Assumes nothing.
+use Prim.Native.Nat.{ℕ, _≤_}
+use mathlib.Core.Path.{_≡_, refl, sym, ap, ap₂, subst, _∙_}
+use mathlib.Core.Bool.{Bool, true, false}
+use mathlib.Core.List.{List, _++_}
+use lib.ListN.{length, take, drop}
+use lib.Seq.{take-append-seam}
+use lib.Dec.{leb}
+use native.Mathlib.Omega.{arith}
+use borrow.Author.Tests.{le-leb}
+use Rattle.lengths.specs.Refusals.{noRoom, outsideRanges}
+use Rattle.lengths.specs.Answers.{Answer, done, refuse, fitted, sizeOf, over}
+use Rattle.lengths.specs.Tables.{unless}
+use Rattle.datagrams.specs.Sizes.{packetLimit}
+use Rattle.views.specs.View.{View}
+use Rattle.held.specs.Table.{lentBy, viewOf}
+use Rattle.held.specs.Laid.{sessionInRanges, InRanges}
+use Rattle.held.specs.Promise.{Sized}
+use Rattle.held.specs.declared.Session.{Session}
+use Rattle.held.proofs.Laws.{session-in-ranges, session-same}
+use Rattle.images.specs.Layout.{edition02}
+use Rattle.images.specs.Image.{imageText, readText, imageToWrite, LentOctets, imageLimit}
+use Rattle.images.proofs.Laws.{lent-octets, reads02}
+use Rattle.images.proofs.Claims as images
+use Rattle.sessions.specs.Receiver.{SeenAs, After}
+use Rattle.host_answers.specs.Answers.{told, wroteTold}
+use Rattle.host.specs.Receiver.{sessionIn}
+use Rattle.host.specs.Image.{RestoreHosted}
+use Rattle.host.specs.ImageClaims.{HandedOver}
+use Rattle.host_answers.specs.declared.answers.Answered.{Answered}
+use Rattle.host_answers.specs.declared.answers.Wrote.{Wrote}
+use Rattle.host.specs.declared.receiver.Head.{Head}
+use Rattle.host.specs.declared.image.AfterRestore.{AfterRestore}
+
+-- ---- what a write tells
+-- by a session within its ranges, and by another
+to-write : (s : Session) → sessionInRanges s ≡ true → imageToWrite edition02 (lentBy s) ≡ done (imageText edition02 (viewOf s))
+unfolding imageToWrite unless
+to-write s inside = rw inside
+
+none-to-write : (s : Session) → sessionInRanges s ≡ false → imageToWrite edition02 (lentBy s) ≡ refuse outsideRanges
+unfolding imageToWrite unless
+none-to-write s outside = rw outside
+
+abbrev toldOf : Session → List ℕ → Wrote
+toldOf s old = wroteTold (sizeOf (fitted (imageToWrite edition02 (lentBy s)) old))
+
+-- told as done, the session is within its ranges, and there was room
+done-inside : (s : Session) (old : List ℕ) → (toldOf s old) .refusal ≡ 0 → sessionInRanges s ≡ true
+done-inside s old told-done = by (sessionInRanges s) refl
+  where
+    by : (b : Bool) → sessionInRanges s ≡ b → b ≡ true
+    by true e = refl
+    by false e = let z : _≡_ {A = ℕ} outsideRanges 0 = rw (none-to-write s e) at told-done in absurd (omega arith)
+
+done-fits : (a : Answer (List ℕ)) (text old : List ℕ) → a ≡ done text → (wroteTold (sizeOf (fitted a old))) .refusal ≡ 0
+    → fitted a old ≡ done text
+done-fits a text old is told-done = by (leb (length text) (length old)) refl
+  where
+    by : (b : Bool) → leb (length text) (length old) ≡ b → fitted a old ≡ done text
+    by true e = rw (is, e)
+    by false e = let z : _≡_ {A = ℕ} noRoom 0 = rw (is, e) at told-done in absurd (omega arith)
+
+module _ (s : Session) (old : List ℕ) {new : List ℕ} {w : Wrote} (answer : w ≡ toldOf s old)
+    (lent : new ≡ over (fitted (imageToWrite edition02 (lentBy s)) old) old) (ok : w .refusal ≡ 0) where
+  told-done : (toldOf s old) .refusal ≡ 0
+  told-done = sym (ap (λ (x : Wrote). x .refusal) answer) ∙ ok
+
+  inside : sessionInRanges s ≡ true
+  inside = done-inside s old told-done
+
+  front : take (w .size) new ≡ imageText edition02 (viewOf s)
+  front =
+      let text = imageText edition02 (viewOf s) in
+      let fits = done-fits (imageToWrite edition02 (lentBy s)) text old (to-write s inside) told-done in
+      let size : w .size ≡ length text =
+      ap (λ (x : Wrote). x .size) answer ∙ ap (λ (a : Answer (List ℕ)). (wroteTold (sizeOf a)) .size) fits in
+      let laid : new ≡ text ++ drop (length text) old = lent ∙ ap (λ (a : Answer (List ℕ)). over a old) fits in
+      ap₂ (λ (n : ℕ) (x : List ℕ). take n x) size laid ∙ take-append-seam text (drop (length text) old)
+
+-- ---- read back
+module _ (s : Session) (within : InRanges (lentBy s)) (small : LentOctets (lentBy s)) {text : List ℕ}
+    (is : text ≡ imageText edition02 (viewOf s)) where
+  reads : readText text ≡ done (viewOf s)
+  reads = ap readText is ∙ reads02 (viewOf s) (within .sound) (lent-octets small)
+
+  restored : {k : Head} {t o g t₂ o₂ g₂ : List ℕ} {r : AfterRestore} → RestoreHosted text k t o g t₂ o₂ g₂ r
+      → (r .answer .refusal ≡ 0) × (sessionIn (r .head) t₂ o₂ g₂ ≡ s)
+  restored {k} {t} {o} {g} {t₂} {o₂} {g₂} {r} read =
+      let after = sessionIn (r .head) t₂ o₂ g₂ in
+      let seen : SeenAs (viewOf s) after = subst (λ (a : Answer View). After a (sessionIn k t o g) after) reads (read .state) in (
+        ap (λ (x : Answered). x .refusal) (read .answer ∙ ap told reads),
+        session-same after s (seen .within) within (seen .view),
+      )
+
+-- ---- room for every image
+room-enough : (s : Session) (old : List ℕ) → Sized s → LentOctets (lentBy s) → imageLimit packetLimit ≤ length old
+    → (toldOf s old) .refusal ≡ noRoom → ⊥
+room-enough s old sized small room short = by (sessionInRanges s) refl
+  where
+    by : (b : Bool) → sessionInRanges s ≡ b → ⊥
+    by true e =
+        let within = session-in-ranges s e sized in
+        let text = imageText edition02 (viewOf s) in
+        let holds = images.claims .readBack .holds (viewOf s) (within .sound) (lent-octets small) in
+        let most = images.claims .sized .most packetLimit (viewOf s) holds in
+        let long = images.claims .sized .settled edition02 (viewOf s) in
+        let fits = le-leb (length text) (length old) (omega (arith, most, long, room)) in
+        let z : _≡_ {A = ℕ} 0 noRoom = rw (to-write s e, fits) at short in
+        omega arith
+    by false e = let z : _≡_ {A = ℕ} outsideRanges noRoom = rw (none-to-write s e) at short in omega arith
+
+pub handed-over : HandedOver
+handed-over =
+    record {
+      back = λ {h} {k} {t} {o} {g} {old} sized small put ok read.
+          let s = sessionIn h t o g in
+          let within = session-in-ranges s (inside s old (put .answer) (put .lent) ok) sized in
+          restored s within small (front s old (put .answer) (put .lent) ok) read;
+      room = λ {h} {t} {o} {g} {old} sized small put enough short.
+          room-enough (sessionIn h t o g) old sized small enough (sym (ap (λ (x : Wrote). x .refusal) (put .answer)) ∙ short);
+    }

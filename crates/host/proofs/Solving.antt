@@ -1,0 +1,64 @@
+-- The host's call that solves all held messages together, on plain values: what the library's call owes, told in numbers. Assumes nothing.
+use Prim.Native.Nat.{ℕ}
+use mathlib.Core.Path.{_≡_, refl, sym, ap, _∙_}
+use mathlib.Core.Bool.{Bool, true, false}
+use mathlib.Core.List.{List}
+use Rattle.lengths.specs.Refusals.{outsideRanges}
+use Rattle.lengths.specs.declared.Refusal.{Refusal}
+use Rattle.views.specs.View.{View}
+use Rattle.held.specs.Table.{lentBy}
+use Rattle.held.specs.Laid.{InRanges}
+use Rattle.held.proofs.Laws.{in-ranges-true}
+use Rattle.solving.specs.Outcome.{solvedOutcome}
+use Rattle.solving.specs.Promise.{Solving}
+use Rattle.solving.specs.declared.Solved.{Solved}
+use Rattle.solving.specs.declared.Solved.the-variants as solved
+use Rattle.sessions.specs.Solver.{solveOf}
+use Rattle.sessions.proofs.Laws.{solve-outside, solve-inside, after-same}
+use Rattle.host_answers.specs.Answers.{told}
+use Rattle.host_answers.proofs.Laws.{told-mapped}
+use Rattle.host.specs.Receiver.{sessionIn, RangesHosted}
+use Rattle.host.specs.Solver.{SolvedTold, SolveHosted, OneSolved}
+use Rattle.host_answers.specs.declared.answers.Answered.{Answered}
+use Rattle.host.specs.declared.receiver.Head.{Head}
+use Rattle.host.proofs.Memory.{same-memory}
+
+pub told-filled : {a : Solved} → a ≡ solved.Filled → SolvedTold a (record { refusal = 0; place = 0 })
+told-filled e = record { is = ap (λ (x : Solved). told (solvedOutcome x)) (sym e) }
+
+pub told-unsolved : {a : Solved} {why : Refusal} → a ≡ solved.Refused why
+    → SolvedTold a (record { refusal = why .number; place = why .place })
+told-unsolved e = record { is = ap (λ (x : Solved). told (solvedOutcome x)) (sym e) }
+
+pub ruleset telling = (told-filled, told-unsolved)
+
+pub solve-hosted : {h : Head} {t o g t₂ o₂ : List ℕ} {answer : Solved} {r : Answered}
+    → InRanges (lentBy (sessionIn h t o g))
+    → Solving (lentBy (sessionIn h t o g)) (lentBy (sessionIn h t₂ o₂ g)) answer
+    → SolvedTold answer r
+    → SolveHosted h t o g t₂ o₂ r
+solve-hosted {h} {t} {o} {g} within m from =
+    let owes = solve-inside {s = sessionIn h t o g} {ok = true} (sym (in-ranges-true within)) refl m in
+    record {
+      answer = from .is ∙ ap told (owes .answer) ∙ told-mapped (λ (view : View). tt) (solveOf (sessionIn h t o g));
+      state = owes .state;
+    }
+
+pub solve-refused : {h : Head} {t o g : List ℕ} {ok : Bool} → RangesHosted h t o g ok → ok ≡ false
+    → SolveHosted h t o g t o (record { refusal = outsideRanges; place = 0 })
+solve-refused {h} {t} {o} {g} e out =
+    let owes = solve-outside {s = sessionIn h t o g} (e .answer) (record { answer = refl }) out in
+    record {
+      answer = ap told (owes .answer) ∙ told-mapped (λ (view : View). tt) (solveOf (sessionIn h t o g));
+      state = owes .state;
+    }
+
+-- ---- two outcomes are equal
+pub one-solved : OneSolved
+one-solved =
+    record {
+      solve =
+          λ {h} {t} {o} {g} a b.
+          let one = same-memory h h (after-same (solveOf (sessionIn h t o g)) (sessionIn h t o g) (a .state) (b .state)) in
+          (a .answer ∙ sym (b .answer), one .1, one .2);
+    }

@@ -1,0 +1,14 @@
+-- `tbx_core_in_ranges` meets its contract. Assumes nothing.
+use Rattle.host.proofs.Receiving.{ranges-hosted}
+use borrow.Author.Needs.{needs}
+use Rattle.host.proofs.receiver.tbx_core_in_ranges.Statement.{statement}
+use Rattle.host.proofs.receiver.tbx_core_in_ranges.Tie as tie
+
+in-ranges-requires : tie.Need-in-ranges-requires
+in-ranges-requires c κs = search needs
+
+returns : tie.Need-returns
+returns c = ranges-hosted (c .in-ranges .ensures) (search needs) (search needs) (search needs)
+
+pub tbx-core-in-ranges-spec : {M : Type 1} → statement M
+tbx-core-in-ranges-spec = tie.close (tie.spec in-ranges-requires returns)

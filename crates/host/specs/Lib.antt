@@ -1,0 +1,10 @@
+pub mod Receiver
+pub mod Sender
+pub mod Joiner
+pub mod JoinerClaims
+pub mod Packet
+pub mod PacketClaims
+pub mod Solver
+pub mod Image
+pub mod ImageClaims
+pub mod Claims

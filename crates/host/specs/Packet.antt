@@ -1,0 +1,34 @@
+-- What the calls of a C host on packets owe: what `packet_reader::read` and `packet_writer::write` owe, told in numbers. No enum crosses
+-- to C: a kind is an octet, 0 for an indicator and 1 for data, and how a packet came is whether it was repaired. Definitions only.
+use Prim.Native.Nat.{ℕ}
+use mathlib.Core.Path.{_≡_}
+use mathlib.Core.Bool.{Bool, cond}
+use mathlib.Core.List.{List}
+use lib.Dec.{ltb}
+use Rattle.lengths.specs.Refusals.{wrongSettings}
+use Rattle.lengths.specs.Answers.{Answer, refuse, fitted, sizeOf, over}
+use Rattle.packets.specs.Edition.{byEdition}
+use Rattle.packets.specs.Packet.{readPacket}
+use Rattle.packets.specs.Write.{packetToWrite}
+use Rattle.packets.specs.declared.types.Kind.{Kind}
+use Rattle.host_answers.specs.Answers.{wroteTold}
+use Rattle.host_answers.specs.Packet.{endingOf, kindNamed, packetTold}
+use Rattle.host_answers.specs.declared.answers.Wrote.{Wrote}
+use Rattle.host_answers.specs.declared.packet.PacketFound.{PacketFound}
+
+-- 15, "settings outside the sizes", for an octet that names no kind, before all else; another edition is 15 too
+abbrev pub byKind : {A : Type 0} → ℕ → (Kind → Answer A) → Answer A
+byKind octet answer = cond (ltb 1 octet) (refuse wrongSettings) (answer (kindNamed octet))
+
+-- ---- read
+pub record PacketHosted (edition : ℕ) (repaired : Bool) (octets : List ℕ) (r : PacketFound) : Type 0 where
+  pub answer : r ≡ packetTold (byEdition edition (λ e. readPacket e (endingOf repaired) octets))
+
+-- ---- write: the octets of the packet that is asked for, or why it is refused, but for room
+unfoldable pub packetAsked : ℕ → ℕ → ℕ → List ℕ → List ℕ → List ℕ → Answer (List ℕ)
+packetAsked edition kind value types lengths octets =
+    byKind kind (λ k. byEdition edition (λ e. packetToWrite e k value types lengths octets))
+
+pub record WriteHosted (edition kind value : ℕ) (types lengths octets old new : List ℕ) (r : Wrote) : Type 0 where
+  pub answer : r ≡ wroteTold (sizeOf (fitted (packetAsked edition kind value types lengths octets) old))
+  pub lent : new ≡ over (fitted (packetAsked edition kind value types lengths octets) old) old

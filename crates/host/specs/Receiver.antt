@@ -1,0 +1,44 @@
+-- What the calls of a C host on a receiving session owe: what the library's own calls owe, of the session that stands in the lent memory.
+-- A call that takes any memory and one that requires the ranges owe the same. Definitions only.
+use Prim.Native.Nat.{ℕ}
+use mathlib.Core.Path.{_≡_}
+use mathlib.Core.Bool.{Bool}
+use mathlib.Core.List.{List}
+use lib.ListN.{length}
+use Rattle.lengths.specs.Answers.{over}
+use Rattle.views.specs.Release.{viewAfterRelease}
+use Rattle.held.specs.declared.Counts.{Counts}
+use Rattle.held.specs.declared.Session.{Session}
+use Rattle.held.specs.Laid.{sessionInRanges}
+use Rattle.held.specs.Promise.{Sized}
+use Rattle.leaving.specs.Outcome.{handedOf, octetsHanded}
+use Rattle.sessions.specs.Receiver.{After, offerOf, releaseOf}
+use Rattle.host_answers.specs.Answers.{told, numberTold}
+use Rattle.host_answers.specs.declared.answers.Answered.{Answered}
+use Rattle.host.specs.declared.receiver.Head.{Head}
+use Rattle.host.specs.declared.receiver.AfterRelease.{AfterRelease}
+
+-- the session that stands in the host's memory
+abbrev pub countsIn : Head → Counts
+countsIn h = record { received = h .received; spare = h .spare; repaired = h .repaired; lost = h .lost }
+
+abbrev pub sessionIn : Head → List ℕ → List ℕ → List ℕ → Session
+sessionIn h t o g = record { base = h .base; counts = countsIn h; table = t; octets = o; messages = g }
+
+-- ---- offer: t, o and g are the table and the stores before it, t₂, o₂ and g₂ after it
+pub record OfferHosted (octets : List ℕ) (h : Head) (t o g t₂ o₂ g₂ : List ℕ) (r : Answered) : Type 0 where
+  pub answer : r ≡ told (offerOf octets (sessionIn h t o g))
+  pub state : After (offerOf octets (sessionIn h t o g)) (sessionIn h t o g) (sessionIn h t₂ o₂ g₂)
+
+-- ---- release, with leave to skip or without
+pub record ReleaseHosted (leave : Bool) (h : Head) (t o g old t₂ o₂ g₂ new : List ℕ) (r : AfterRelease) : Type 0 where
+  pub answer : r .left ≡ numberTold (handedOf (releaseOf leave (length old) (sessionIn h t o g)))
+  pub lent : new ≡ over (octetsHanded (releaseOf leave (length old) (sessionIn h t o g))) old
+  pub state : After (viewAfterRelease (releaseOf leave (length old) (sessionIn h t o g))) (sessionIn h t o g)
+      (sessionIn (r .head) t₂ o₂ g₂)
+
+-- ---- the ranges
+-- whether the session in the lent memory is within its ranges; its arrays have their lengths
+pub record RangesHosted (h : Head) (t o g : List ℕ) (r : Bool) : Type 0 where
+  pub answer : r ≡ sessionInRanges (sessionIn h t o g)
+  pub sized : Sized (sessionIn h t o g)

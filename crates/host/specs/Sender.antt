@@ -1,0 +1,31 @@
+-- What the calls of a C host on a sending session owe: what the library's own calls owe, of the session that stands in the lent memory.
+-- Definitions only.
+use Prim.Native.Nat.{ℕ}
+use mathlib.Core.Path.{_≡_}
+use mathlib.Core.Bool.{Bool}
+use mathlib.Core.List.{List}
+use Rattle.lengths.specs.Answers.{fitted, sizeOf, over}
+use Rattle.sending.specs.Ranges.{senderInRanges}
+use Rattle.sending.specs.Promise.{toSend, StateAfter}
+use Rattle.sending.specs.declared.Sender.{Sender}
+use Rattle.sending.specs.Inner.Held.{Arrays}
+use Rattle.host_answers.specs.Answers.{wroteTold}
+use Rattle.host_answers.specs.Settings.{settingsOf}
+use Rattle.host.specs.declared.sender.AfterSend.{AfterSend}
+
+-- the session that stands in the host's memory
+abbrev pub senderIn : ℕ → List ℕ → List ℕ → Sender
+senderIn sent sizes o = record { sent = sent; sizes = sizes; octets = o }
+
+-- whether the session in the lent memory is within its ranges
+pub record SenderRanges (sent : ℕ) (sizes o : List ℕ) (r : Bool) : Type 0 where
+  pub answer : r ≡ senderInRanges (senderIn sent sizes o)
+  pub arrays : Arrays sizes o
+
+-- ---- send: sizes and o are the history before it, sizes₂ and o₂ after it
+pub record SendHosted (parity : Bool) (count n : ℕ) (packet : List ℕ) (sent : ℕ) (sizes o old sizes₂ o₂ new : List ℕ) (r : AfterSend)
+    : Type 0 where
+  pub answer : r .wrote ≡ wroteTold (sizeOf (fitted (toSend (senderIn sent sizes o) (settingsOf parity count n) packet) old))
+  pub lent : new ≡ over (fitted (toSend (senderIn sent sizes o) (settingsOf parity count n) packet) old) old
+  pub state : StateAfter (fitted (toSend (senderIn sent sizes o) (settingsOf parity count n) packet) old) (senderIn sent sizes o) packet
+      (senderIn (r .sent) sizes₂ o₂)

@@ -1,0 +1,69 @@
+// Losses that no single message mends, in a receiving session of a C host: document 02, request 13. Base, counts and messages stay.
+use crate::receiver::Head;
+use crate::receiver::tbx_core_in_ranges;
+use held::Counts;
+use held::Session;
+use host_answers::Answered;
+use lengths::Refusal;
+use solving::Solved;
+ghost use Rattle.held.specs.Table.{lentBy};
+ghost use Rattle.held.specs.Laid.{InRanges};
+ghost use Rattle.host.specs.Receiver.{sessionIn};
+ghost use Rattle.host.specs.Solver.{SolvedTold, SolveHosted};
+
+fn solved_told(answer: Solved) -> Answered
+    ensures { λ r. ⌜ SolvedTold answer r ⌝ }
+{
+    match answer {
+        Solved::Filled => Answered {
+            refusal: 0,
+            place: 0,
+        },
+        Solved::Refused(why) => Answered {
+            refusal: why.number,
+            place: why.place,
+        },
+    }
+}
+
+// The held messages of a session within its ranges as equations: each number is filled for which they and the known octets allow one value.
+#[no_mangle]
+pub extern "C" fn tbx_core_solve(
+    head: Head,
+    table: &mut [u16; Session::PLACES],
+    octets: &mut [u8; Session::PACKET_OCTETS],
+    messages: &[u8; Session::MESSAGE_OCTETS],
+) -> Answered
+    requires { ⌜ InRanges (lentBy (sessionIn head (now table) (now octets) (now messages))) ⌝ }
+    ensures { λ r. ⌜ SolveHosted head (now (table .entry)) (now (octets .entry)) (now (messages .entry)) (now (table .exit))
+        (now (octets .exit)) r ⌝ }
+{
+    let counts = Counts {
+        received: head.received,
+        spare: head.spare,
+        repaired: head.repaired,
+        lost: head.lost,
+    };
+    let answer = solving::solve_core(head.base, counts, table, octets, messages);
+    solved_told(answer)
+}
+
+// The same for any memory.
+#[no_mangle]
+pub extern "C" fn tbx_core_solve_checked(
+    head: Head,
+    table: &mut [u16; Session::PLACES],
+    octets: &mut [u8; Session::PACKET_OCTETS],
+    messages: &[u8; Session::MESSAGE_OCTETS],
+) -> Answered
+    ensures { λ r. ⌜ SolveHosted head (now (table .entry)) (now (octets .entry)) (now (messages .entry)) (now (table .exit))
+        (now (octets .exit)) r ⌝ }
+{
+    if tbx_core_in_ranges(head, table, octets, messages) {
+        return tbx_core_solve(head, table, octets, messages);
+    }
+    Answered {
+        refusal: Refusal::OUTSIDE_RANGES,
+        place: 0,
+    }
+}

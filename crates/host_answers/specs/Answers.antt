@@ -1,0 +1,37 @@
+-- What C is told of an answer: 0 where the call is done, or the refusal's number and place. Definitions only.
+use Prim.Native.Nat.{ℕ}
+use mathlib.Core.Path.{_≡_}
+use Rattle.lengths.specs.Answers.{Answer, done, refused, writtenOutcome}
+use Rattle.lengths.specs.declared.Written.{Written}
+use Rattle.lines.specs.Lines.{kindOctet}
+use Rattle.leaving.specs.Outcome.{Handed, releasedOutcome}
+use Rattle.leaving.specs.declared.Released.{Released}
+use Rattle.offering.specs.Outcome.{offeredOutcome}
+use Rattle.offering.specs.declared.Offered.{Offered}
+use Rattle.host_answers.specs.declared.answers.Answered.{Answered}
+use Rattle.host_answers.specs.declared.answers.Number.{Number}
+use Rattle.host_answers.specs.declared.answers.Wrote.{Wrote}
+
+abbrev pub told : {A : Type 0} → Answer A → Answered
+told (done a) = record { refusal = 0; place = 0 }
+told (refused why) = record { refusal = why .number; place = why .place }
+
+-- of a release: the kind as the program's lines name it, the number, the datagram that filled it, the size of its packet
+abbrev pub numberTold : Answer Handed → Number
+numberTold (done a) = record { refusal = 0; kind = kindOctet (a .kind); number = a .number; note = a .note; place = 0; size = a .size }
+numberTold (refused why) = record { refusal = why .number; kind = 0; number = 0; note = 0; place = why .place; size = 0 }
+
+-- of a call that writes: how many octets
+abbrev pub wroteTold : Answer ℕ → Wrote
+wroteTold (done n) = record { refusal = 0; place = 0; size = n }
+wroteTold (refused why) = record { refusal = why .number; place = why .place; size = 0 }
+
+-- what each is told from
+pub record OfferedTold (from : Offered) (r : Answered) : Type 0 where
+  pub is : r ≡ told (offeredOutcome from)
+
+pub record ReleasedTold (from : Released) (r : Number) : Type 0 where
+  pub is : r ≡ numberTold (releasedOutcome from)
+
+pub record WrittenTold (from : Written) (r : Wrote) : Type 0 where
+  pub is : r ≡ wroteTold (writtenOutcome from)

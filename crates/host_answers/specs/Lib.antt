@@ -1,0 +1,5 @@
+pub mod Answers
+pub mod Joiner
+pub mod Packet
+pub mod Settings
+pub mod Claims

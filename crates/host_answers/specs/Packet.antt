@@ -1,0 +1,32 @@
+-- What C is told of a packet, and how it names a kind and how a packet came. Definitions only.
+use Prim.Native.Nat.{ℕ}
+use mathlib.Core.Bool.{Bool, cond}
+use mathlib.Core.List.{[]}
+use lib.ListN.{length}
+use lib.Dec.{eqb}
+use Rattle.lengths.specs.Answers.{Answer, done, refused}
+use Rattle.packets.specs.Packet.{PacketAnswer}
+use Rattle.packets.specs.Promise.{padded}
+use Rattle.packets.specs.declared.types.Kind.{Kind}
+use Rattle.packets.specs.declared.types.Kind.the-variants.{Indicator, Data}
+use Rattle.packets.specs.declared.types.Ending.{Ending}
+use Rattle.packets.specs.declared.types.Ending.the-variants.{Whole, Repaired}
+use Rattle.host_answers.specs.declared.packet.PacketFound.{PacketFound}
+
+-- repaired, or received or a spare
+abbrev pub endingOf : Bool → Ending
+endingOf repaired = cond repaired Repaired Whole
+
+-- a kind as an octet, and back
+abbrev pub kindTold : Kind → ℕ
+kindTold Indicator = 0
+kindTold Data = 1
+
+abbrev pub kindNamed : ℕ → Kind
+kindNamed octet = cond (eqb octet 0) Indicator Data
+
+-- the fields that a packet does not have are zero, and so is all but the refusal and its place where it is refused
+abbrev pub packetTold : Answer PacketAnswer → PacketFound
+packetTold (done p) =
+    record { refusal = 0; kind = kindTold (p .kind); value = p .value; place = 0; count = length (p .fields); fields = padded (p .fields) }
+packetTold (refused why) = record { refusal = why .number; kind = 0; value = 0; place = why .place; count = 0; fields = padded [] }

@@ -1,0 +1,13 @@
+-- The settings of a send, as C names them. Definitions only.
+use Prim.Native.Nat.{ℕ}
+use mathlib.Core.Path.{_≡_}
+use mathlib.Core.Bool.{Bool, cond}
+use Rattle.sending.specs.declared.Settings.{Settings}
+use Rattle.sending.specs.declared.Settings.the-variants as settings
+
+-- m messages over n packets each, or so many spares
+abbrev pub settingsOf : Bool → ℕ → ℕ → Settings
+settingsOf parity count n = cond parity (settings.Parity n count) (settings.Spares count)
+
+pub record SettingsTold (parity : Bool) (count n : ℕ) (r : Settings) : Type 0 where
+  pub is : r ≡ settingsOf parity count n

@@ -1,0 +1,114 @@
+// The answer of a call in numbers.
+use held::Kind;
+use leaving::Released;
+use lengths::Written;
+use offering::Offered;
+ghost use mathlib.Core.Path.{_≡_};
+ghost use Rattle.held.specs.Table.{stateOf};
+ghost use Rattle.lines.specs.Lines.{kindOctet};
+ghost use Rattle.host_answers.specs.Answers.{OfferedTold, ReleasedTold, WrittenTold};
+
+// 0, or the number of the refusal and its place.
+#[repr(C)]
+pub struct Answered {
+    pub refusal: u8,
+    pub place: usize,
+}
+
+// What a call answers that writes to a lent buffer: 0 and how many octets it wrote, or the number of the refusal and its place.
+#[repr(C)]
+pub struct Wrote {
+    pub refusal: u8,
+    pub place: usize,
+    pub size: usize,
+}
+
+// What a release answers: 0, or the number of the refusal and its place; the kind of the number that left, as the program's lines name it,
+// the number, the datagram that filled it and the size of its packet. All are 0 with a refusal.
+#[repr(C)]
+pub struct Number {
+    pub refusal: u8,
+    pub kind: u8,
+    pub number: u16,
+    pub note: u16,
+    pub place: usize,
+    pub size: usize,
+}
+
+// What is told of an offer.
+pub fn offered_told(answer: Offered) -> Answered
+    ensures { λ r. ⌜ OfferedTold answer r ⌝ }
+{
+    match answer {
+        Offered::Accepted => Answered {
+            refusal: 0,
+            place: 0,
+        },
+        Offered::Refused(why) => Answered {
+            refusal: why.number,
+            place: why.place,
+        },
+    }
+}
+
+// The kind of a number that left.
+fn kind_told(kind: Kind) -> u8
+    ensures { λ r. ⌜ r ≡ kindOctet (stateOf kind) ⌝ }
+{
+    match kind {
+        Kind::Received => 0,
+        Kind::Spare => 1,
+        Kind::Repaired => 2,
+        Kind::Lost => 3,
+    }
+}
+
+// What is told of a release.
+pub fn number_told(answer: Released) -> Number
+    ensures { λ r. ⌜ ReleasedTold answer r ⌝ }
+{
+    match answer {
+        Released::Number {
+            kind,
+            number,
+            note,
+            size,
+        } => {
+            let octet = kind_told(kind);
+            Number {
+                refusal: 0,
+                kind: octet,
+                number,
+                note,
+                place: 0,
+                size,
+            }
+        }
+        Released::Refused(why) => Number {
+            refusal: why.number,
+            kind: 0,
+            number: 0,
+            note: 0,
+            place: why.place,
+            size: 0,
+        },
+    }
+}
+
+// What is told of a call that writes.
+pub fn written_told(answer: Written) -> Wrote
+    ensures { λ r. ⌜ WrittenTold answer r ⌝ }
+{
+    match answer {
+        Written::Octets(size) => Wrote {
+            refusal: 0,
+            place: 0,
+            size,
+        },
+        Written::Refused(why) => Wrote {
+            refusal: why.number,
+            place: why.place,
+            size: 0,
+        },
+    }
+}

@@ -1,0 +1,26 @@
+// How answers and choices cross to C: in numbers, since no enum crosses. The structs lie as C lays them, and each function here tells one
+// kind of answer, or reads one kind of choice.
+mod answers;
+mod joiner;
+mod packet;
+mod settings;
+
+pub use answers::Answered;
+pub use answers::Number;
+pub use answers::Wrote;
+pub use answers::number_told;
+pub use answers::offered_told;
+pub use answers::written_told;
+pub use joiner::AfterField;
+pub use joiner::HandedFrame;
+pub use joiner::JoinerHead;
+pub use joiner::flag;
+pub use joiner::frame_told;
+pub use joiner::no_flag;
+pub use joiner::no_joiner;
+pub use packet::PacketFound;
+pub use packet::ending_of;
+pub use packet::kind_named;
+pub use packet::kind_told;
+pub use packet::no_kind;
+pub use settings::settings_of;

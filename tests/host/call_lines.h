@@ -1,0 +1,79 @@
+/* Calls over the C interface, one a line, as the calls program takes and answers them (tests/README.md): numbers and octets taken from the
+   line, answers put, and all lines in turn. */
+#include "tubarexi.h"
+
+#include <stdio.h>
+#include <string.h>
+
+enum { LINE_LIMIT = 240000, FILLING = 0xA5 };
+
+/* The octets of a line, how many they are, and which comes next: past the size if the line ended early. */
+static uint8_t line[LINE_LIMIT / 2];
+static size_t size, at;
+
+/* The next octets; none if there are not so many, or of none. */
+static inline const uint8_t *octets(size_t count)
+{
+    const uint8_t *from = line + at;
+    if (at > size || count > size - at) at = size + 1;
+    else at += count;
+    return count && at <= size ? from : NULL;
+}
+
+/* The next number of so many octets, the high one first: 0 if there is none. */
+static inline unsigned long number(int width)
+{
+    const uint8_t *from = octets((size_t)width);
+    unsigned long value = 0;
+    while (from && width--) value = value << 8 | *from++;
+    return value;
+}
+
+static inline void put(unsigned long value, int width) { printf("%0*lX", 2 * width, value); }
+
+static inline void put_octets(const uint8_t *from, size_t count)
+{
+    for (size_t i = 0; i < count; i++) put(from[i], 1);
+}
+
+/* An answer's start, done or the refusal and its place; whether it is done. */
+static inline bool told(int why, size_t place)
+{
+    put(why ? 0xFF : 0, 1);
+    if (why) put((unsigned)why, 1), put(place, 2);
+    return !why;
+}
+
+static inline int digit(int c)
+{
+    return c >= '0' && c <= '9' ? c - '0' : c >= 'A' && c <= 'F' ? c - 'A' + 10 : c >= 'a' && c <= 'f' ? c - 'a' + 10 : -1;
+}
+
+/* A line that is not empty: the answer to it, which is EE where `answer` says before it puts anything that this is no call. */
+static inline void answer_line(const char *text, size_t length, bool (*answer)(void))
+{
+    bool good = length <= LINE_LIMIT && length % 2 == 0;
+    size = length / 2, at = 0;
+    for (size_t i = 0; good && i < size; i++) {
+        int high = digit((uint8_t)text[2 * i]), low = digit((uint8_t)text[2 * i + 1]);
+        good = high >= 0 && low >= 0;
+        line[i] = (uint8_t)(high * 16 + low);
+    }
+    puts(good && answer() ? "" : "EE");
+}
+
+static inline void answer_lines(bool (*answer)(void))
+{
+    static char text[LINE_LIMIT + 1];
+    size_t length = 0;
+    int c;
+    do {
+        c = getchar();
+        if (c != '\n' && c != EOF) {
+            if (length < sizeof text) text[length++] = (char)c;
+        } else {
+            if (length) answer_line(text, length, answer);
+            length = 0;
+        }
+    } while (c != EOF);
+}
