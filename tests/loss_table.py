@@ -192,7 +192,7 @@ def proved_first(loss):
             ended = subprocess.run([*PYTHON, 'tools/loss.py', '--steps', '1', 'a.hex'], cwd=directory, stdout=subprocess.PIPE,
                                    stderr=subprocess.PIPE, text=True, env={**os.environ, 'RECEIVE': status})
             told = without_progress(ended.stderr)
-            must(told == said and ended.returncode == int(status != '0'), 'status %d, %s', ended.returncode, ended.stderr)
+            must(told == said and ended.returncode == int(status != '0'), 'status %d, %s', ended.returncode, told)
             must(('30 %          3          6 ' in ended.stdout) == (status == '0'), 'written: %s', ended.stdout)
 
 
