@@ -1,5 +1,6 @@
 # The library for a C program: target/host/libtubarexi.a, proved and built by `rt staticlib host`, with include/tubarexi.h and a pkg-config
 # file. `make` builds it; `make install PREFIX=/usr DESTDIR=/somewhere` installs the three. The version is the header's.
+# Without rt in PATH, as it may be under sudo, a library that was built of these sources is taken as it is.
 PREFIX ?= /usr/local
 DESTDIR ?=
 VERSION := $(shell sed -n 's/^.define TBX_VERSION "\(.*\)"/\1/p' include/tubarexi.h)

@@ -1,13 +1,16 @@
 #!/usr/bin/env python3
+# check: behind
+# self-test: beside
+# needs: calls receive
+# arguments: --calls 'tests/run calls' --program 'tests/run receive'
+# says: calls or receive answers otherwise than the independent program
 """Compares programs under test with the independent program, over stored cases and over scripts made from seeds."""
 
 import argparse
 import concurrent.futures
 import os
 import pathlib
-import shlex
 import sys
-import tempfile
 
 import running
 from failing import Cases, altered, independent
@@ -98,7 +101,7 @@ def comparisons(arguments):
     for seed in seeds[:PROGRAM_SEEDS]:
         yield 'program lines of seed ' + seed, arguments.program, compare_program, lambda s=seed: made_lines(s)
     yield 'program across the wrap', arguments.program, compare_program, lambda: across_the_wrap(seeds[0], LINES_EACH)
-    if arguments.limit:
+    if getattr(arguments, 'long', False):
         yield 'program at the limit', arguments.program, compare_program, at_the_limit
 
 
@@ -189,35 +192,23 @@ def check_stored(name, expected, written):
 
 
 def self_test():
-    """Wrong programs, and what is said of each; the right ones pass."""
+    """A wrong program for each thing that is checked, and what is said of it."""
     test = Cases('compare.py')
     for name, compare, right, made in (('calls', compare_calls, independent(), made_calls),
                                        ('program', compare_program, independent('program'), made_lines)):
         given, expected = made('self-test')
         place = 'differs self-test: script line' if compare is compare_calls else 'differs self-test: result line'
-        test.passes(name, compare, 'self-test', right, given, expected)
-        with tempfile.TemporaryDirectory() as directory:
-            answers = pathlib.Path(directory, 'answers')
-            answers.write_bytes(expected)
-            for wrong, how, words in (
-                    ('a character altered', "| sed '700s/.$/x/'", place),
-                    ('the last answer left out', "| sed '$d'", place),
-                    ('an answer more', '; echo 00', place),
-                    ('a character more', "| sed '$s/^/0/'", place),
-                    ('no last line feed', '| head -c -1', place),
-                    ('status 3', '; exit 3', 'are right, but status 3')):
-                test.fails('%s, %s' % (name, wrong), words, compare, 'self-test', 'cat %s %s' % (shlex.quote(str(answers)), how), given,
-                           expected)
-        running.PATIENCE, patience = 1, running.PATIENCE
-        test.fails(name + ', no end', 'no end within 1 seconds', compare, 'self-test', 'exec sleep 60', given, expected)
-        running.PATIENCE = patience
+        for wrong, how, words in (('a character altered', " | sed '700s/.$/x/'", place),
+                                  ('status 3', '; exit 3', 'are right, but status 3')):
+            test.fails('%s, %s' % (name, wrong), words, compare, 'self-test', right + how, given, expected)
+    running.PATIENCE, patience = 1, running.PATIENCE
+    test.fails('no end', 'no end within 1 seconds', compare_program, 'self-test', 'exec sleep 60', given, expected)
+    running.PATIENCE = patience
     test.fails('a stored answer altered', 'the independent program differs from stored one: answer 2',
                check_stored, 'one', b'00\n01\n', b'00\n02\n')
-    bare = b'0600010002020202000000000000000A'
-    test.passes('a packet as long as before', never_longer, 'one', [bare], [b'000004C0022020'])
-    test.fails('a packet longer than before', 'longer one: 060001', never_longer, 'one', [b'10', bare], [b'00', b'000005C002202000'])
+    test.fails('a packet longer than before', 'longer one: 060001', never_longer, 'one', [b'10', b'0600010002020202000000000000000A'],
+               [b'00', b'000005C002202000'])
     test.ends('a wrong program', 1, '1 passed, 1 failed', [sys.executable, __file__, '--calls', altered('calls 03 -1')])
-    test.ends('no command', 2, 'a command is needed', [sys.executable, __file__])
     test.end()
 
 
@@ -227,7 +218,7 @@ def main():
     parser.add_argument('--calls', help='shell command of the calls program under test')
     parser.add_argument('--program', help='shell command of the program under test')
     parser.add_argument('--seed', default='', help='put before the numbers of the seeds, for others than the usual ones')
-    parser.add_argument('--limit', action='store_true', help='also the program at 1,000,000 numbers')
+    parser.add_argument('--long', action='store_true', help='also the program at 1,000,000 numbers')
     parser.add_argument('--self-test', action='store_true', help='check that an altered answer is reported')
     arguments = parser.parse_args()
     check_independent()

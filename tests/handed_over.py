@@ -1,4 +1,9 @@
 #!/usr/bin/env python3
+# check: behind
+# self-test: beside
+# needs: receive handover
+# arguments: --program 'tests/run receive' --handover 'tests/told handover'
+# says: a call that is handed over goes on otherwise than the whole call
 """The program handover: traces cut at every 50th line, the first part played to a saved image, the rest from it.
 
 What the parts write must together be what the program writes for the whole trace, and each image the one that the independent program
@@ -7,9 +12,7 @@ has there. An image that does not read, or a file that is not usable, must end i
 import argparse
 import functools
 import itertools
-import pathlib
 import random
-import shlex
 import sys
 import tempfile
 
@@ -31,6 +34,7 @@ from within import Mutant
 EACH = 50  # lines of a part
 SEEDS, MADE = 2, 400
 KINDS = {RECEIVED: 'received', SPARE: 'spare', REPAIRED: 'repaired'}
+HELD = {'accepted', 'messages', 'unknown before', *KINDS.values()}
 LOSSES = 0, 0.3, 0.6  # with many lost, something is waited for where a trace is cut
 
 
@@ -50,7 +54,7 @@ def expected_of(lines):
 
 
 def held_at_cuts(traces):
-    """What sessions hold where traces are cut: from the base on kinds, accepted numbers and messages, and before it unknown numbers."""
+    """Where traces are cut sessions hold, from the base on, every kind, accepted numbers and messages, and before it unknown numbers."""
     held = set()
     for lines in traces:
         for at, session in sessions_at(lines):
@@ -61,7 +65,9 @@ def held_at_cuts(traces):
             held.update(['accepted'] * any(session.mark(number).accepted for number in ahead))
             held.update(['messages'] * any(session.mark(number).m for number in ahead))
             held.update(['unknown before'] * any(session.place(session.base - j).state == UNKNOWN for j in range(1, BEFORE + 1)))
-    return ' '.join(sorted(held))
+    missing = HELD - held
+    must(not missing, '%s is held at no cut', ', '.join(sorted(missing)))
+    return ', '.join(sorted(held))
 
 
 def same(what, expected, written):
@@ -180,13 +186,13 @@ def checks(arguments):
     """All checks: a name, and what does it."""
     for name, make in traces():
         yield name, lambda m=make: check(arguments.program, arguments.handover, m())
+    yield 'what is held at cuts', lambda: held_at_cuts(make() for _, make in traces())
     yield 'files that cannot be used', lambda: refused(arguments.handover)
 
 
 def self_test():
-    """Programs that lose something, and what is said of each; the right one passes."""
-    test, program, right = Cases('handed_over.py'), independent('program'), independent('handover')
-    here = of_mutant(Mutant())
+    """Programs that lose something, each wrong in one way, and what is said of each."""
+    test, program = Cases('handed_over.py'), independent('program')
     lines = [twice_and_late(name, LOSSES[-1]) for name in DATAGRAMS]
 
     def over_traces(handover):
@@ -194,29 +200,17 @@ def self_test():
         for trace in lines:
             check(independent_here('program'), handover, trace)
 
-    every = 'accepted messages received repaired spare unknown before'
-    test.says('what is held at cuts', every, held_at_cuts(make() for _, make in traces()))
-    test.fails('what is held with nothing lost', 'NOT CAUGHT by inner: one: ' + every, Cases('inner').says, 'one', every,
-               held_at_cuts(worse_line(name, 0)[0].lines for name in DATAGRAMS))
-    test.passes('as it should be, over traces', over_traces, here)
-    test.passes('as it should be, over files', refused, right)
-    test.fails('a wrong program', 'the program differs from the independent one, line ', check, program + " | sed '$d'", here, lines[0])
-    test.fails('a program with status 3', 'the program does not end well: status 3', check, program + '; exit 3', here, lines[0])
+    test.fails('nothing lost', 'is held at no cut', held_at_cuts, [worse_line(name, 0)[0].lines for name in DATAGRAMS])
+    for name, how, words in (('a wrong program', " | sed '$d'", 'the program differs from the independent one, line '),
+                             ('a program with status 3', '; exit 3', 'the program does not end well: status 3')):
+        test.fails(name, words, check, program + how, of_mutant(Mutant()), lines[0])
     for check_one, mutants in ((over_traces, HANDOVER_MUTANTS), (refused, FILE_MUTANTS)):
         for name, words, *edit in mutants:
             test.fails(name, words, check_one, of_mutant(Mutant(*edit)))
-    with tempfile.TemporaryDirectory() as directory:
-        quiet = pathlib.Path(directory, 'quiet')
-        quiet.write_text('#!/bin/sh\n%s "$@" 2>/dev/null\n' % right)
-        loud = pathlib.Path(directory, 'loud')
-        loud.write_text('#!/bin/sh\n%s "$@"; status=$?; [ $status = 0 ] || echo again >&2; exit $status\n' % right)
-        test.fails('nothing said', 'no file to be loaded: this was said: ', refused, 'sh %s' % shlex.quote(str(quiet)))
-        test.fails('two lines said', 'again', refused, 'sh %s' % shlex.quote(str(loud)))
     running.PATIENCE, patience = 1, running.PATIENCE
     test.fails('no end', 'no end within 1 seconds', refused, 'exec sleep 60 #')
     running.PATIENCE = patience
     test.ends('a wrong handover', 1, '0 passed, 1 failed', [sys.executable, __file__, '--program', program, '--handover', 'exit 3 #'])
-    test.ends('no command', 2, 'both commands are needed', [sys.executable, __file__, '--program', program])
     test.end()
 
 

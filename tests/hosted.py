@@ -1,4 +1,8 @@
 #!/usr/bin/env python3
+# check: after
+# self-test: after
+# needs: host
+# says: a program over the C interface answers otherwise, or a sheet is booked wrongly
 """The library in C programs: builds it and them, and holds each program over the header against the independent program, on every stored
 and generated input; then some sheets of tests/thousand, the gateway, the header in C99, and the version where it is named."""
 
@@ -14,15 +18,18 @@ import subprocess
 import sys
 import tempfile
 
+from c_tools import native, toolchain, tools
 from compare import Failed, compare_calls, compare_program, comparisons
 from failing import Cases, altered, independent
 from header_edits import HEADER_EDITS, MISTAKES
-from packaged import TOP, VERSIONS, compiler, header_compiles, library_is_plain, numbers_agree, one_version
+from missing import of_machines
+from packaged import TOP, VERSIONS, header_compiles, library_is_plain, numbers_agree, one_version
 from running import expected_answers, lines_of, run, text_of
 
 HERE = pathlib.Path(__file__).resolve().parent
 RUN = shlex.quote(str(HERE / 'host/run'))
 SCRIPTS = 'stored ', 'calls of seed 0', 'calls of seed 1'
+LONG = 'stored ', 'calls of seed ', 'images of seed '
 # A C program of host/, with each of these arguments; the calls that it answers, none if it does what the program does; the inputs for it.
 PROGRAMS = (
     ('receive', ('', ' unchecked'), (), ''),
@@ -32,7 +39,8 @@ PROGRAMS = (
     ('sessions', ('', ' unchecked'), (0x10, 0x11, 0x12, 0x14, 0x16, 0x18, 0x19, 0x1A, 0x20, 0x21, 0x22), ('stored ', 'images of seed 0')),
 )
 ALONE = ('full',)  # C programs of host/ that look at their answers themselves
-THOUSAND = '%s 40 1 2>/dev/null' % shlex.quote(str(HERE / 'thousand'))
+THOUSAND = '%s %%d 1 2>/dev/null' % shlex.quote(str(HERE / 'thousand'))
+SHEETS, LONG_SHEETS = 40, 1000
 GATEWAY = (('-n 30 -t 1 -w 30 -l 20 -r 20 -k 3', 30), ('-n 50 -t 1 -w 30 -l 30 -r 20 -p 3,2', 50))
 COUNTS = re.compile(r'^(east|west): received (\d+), spare (\d+), repaired (\d+), lost (\d+),', re.MULTILINE)
 
@@ -105,24 +113,27 @@ def page_sent(command, packets):
     return '; '.join('%s received %s, spare %s, repaired %s, lost %s' % counts for counts in found)
 
 
-def checks(run_by):
-    """All checks: a name, and what does it."""
+def checks(run_by, long=False):
+    """All checks, in the long form with every script that is made and with more sheets: a name, and what does it."""
     yield 'the version', one_version
     yield 'sizes and refusals', numbers_agree
     yield 'the header compiles', header_compiles
     yield 'the library has no variables', library_is_plain
-    for program, arguments, *given in PROGRAMS:
+    for program, arguments, calls, beginnings in PROGRAMS:
+        given = calls, LONG + tuple(beginnings) if long and calls else beginnings
         yield program, lambda p=program, a=arguments, g=given: compared(['%s %s%s' % (run_by, p, each) for each in a], *g)
     for name in ALONE:
         yield name, lambda n=name: right_alone('%s %s' % (run_by, n))
-    yield 'sheets', lambda: sheets_booked(THOUSAND)
+    yield 'sheets', lambda: sheets_booked(THOUSAND % (LONG_SHEETS if long else SHEETS))
     for switches, packets in GATEWAY:
         yield 'gateway ' + switches, lambda s=switches, p=packets: page_sent('%s gateway %s' % (run_by, s), p)
 
 
 def build(*sources, **settings):
     """Builds the library, if it is not built, and the programs of these sources and names."""
-    subprocess.run([str(HERE / 'host/build'), *sources], check=True, env={**os.environ, **settings})
+    ended = subprocess.run([str(HERE / 'host/build'), *sources], env={**os.environ, **settings})
+    if ended.returncode:
+        sys.exit(ended.returncode)
 
 
 def build_all():
@@ -154,6 +165,7 @@ def module_of(name):
 def self_test():
     """Wrong programs, and what is said of each; the right ones pass."""
     test = Cases('hosted.py')
+    of_machines(test)
     calls, stored = PROGRAMS[1][2], ('stored star', 'stored both', 'stored whole', 'stored reading')
     test.passes('a right program', compared, [independent('program')], (), stored)
     test.fails('a wrong program', 'differs stored both-cases', compared, [independent('program'), altered('program 00 5')], (), stored)
@@ -193,7 +205,7 @@ def self_test():
         header.write_text(right + 'static int unused(void) { return 0; }\n')
         for name, text, words in (('a variable', 'static int kept; int f(void) { return kept++; }', "['b kept']"),
                                   ('a heap', 'void *malloc(unsigned long); void *f(void) { return malloc(9); }', "['U malloc']")):
-            subprocess.run([compiler(), '-c', '-x', 'c', '-o', str(top / 'made.o'), '-'], input=text.encode(), check=True)
+            subprocess.run([*tools('cc')[0], '-c', '-x', 'c', '-o', str(top / 'made.o'), '-'], input=text.encode(), check=True)
             test.fails('a library with ' + name, 'library: ' + words, library_is_plain, top / 'made.o')
         test.fails('no library', 'library: ', library_is_plain, top / 'nowhere')
         test.fails('a header with a warning', 'header: as c99 it does not compile', header_compiles, header.parent)
@@ -209,14 +221,18 @@ def main():
     """Does each check; ends with status 1 at the first that is wrong."""
     parser = argparse.ArgumentParser(description=__doc__)
     parser.add_argument('--run', default=RUN, help='shell command that runs a C program of tests/host, its name put behind')
+    parser.add_argument('--long', action='store_true', help='every script of calls that is made, and %d sheets' % LONG_SHEETS)
     parser.add_argument('--self-test', action='store_true', help='check that wrong programs are reported')
     arguments = parser.parse_args()
+    tools('cc', 'nm')
+    if not native():
+        toolchain()
     build_all()
     if arguments.self_test:
         self_test()
         return
     passed = 0
-    for name, check in checks(arguments.run):
+    for name, check in checks(arguments.run, arguments.long):
         try:
             remark = check()
         except Failed as failed:

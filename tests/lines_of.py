@@ -1,4 +1,7 @@
 #!/usr/bin/env python3
+# check: beside
+# self-test: beside
+# says: tools/lines-of does not write a capture as the lines it was made of
 """The desk tool ../tools/lines-of: captures that tshark's tools made of real traces, and captures made here, octet by octet.
 
 What it writes must be the trace, what it leaves out must be named, and whatever the file, it must end in words."""

@@ -1,4 +1,9 @@
 #!/usr/bin/env python3
+# check: behind
+# self-test: beside
+# needs: receive replay calls
+# arguments: --receive 'tests/run receive' --replay 'tests/run replay' --calls 'tests/run calls'
+# says: the table or the picture of loss is not what replay and calls answered
 """The desk tool ../loss: its table must be what the programs answered, and its picture must show the table.
 
 Also looks at what it has replay play: the trace, the datagrams that it drops, and where it gives up."""
@@ -208,14 +213,11 @@ def self_test():
     test = Cases('loss_table.py')
     with tempfile.TemporaryDirectory() as folder:
         commands = StandingIn(folder).commands()
-        for name, check in CHECKS.items():
-            test.passes(name, check, Here(*commands, most=60))
         for name, part, old, new, check, words in EDITS:
             with tempfile.TemporaryDirectory() as directory:
                 test.fails(name, words, CHECKS[check], Here(*commands, edited(directory, part, old, new), 60))
-        command, programs = [sys.executable, __file__], ['--receive', commands[0], '--replay', 'false', '--calls', commands[2]]
-        test.ends('a wrong tool', 1, '0 passed, 1 failed', command + programs)
-        test.ends('no command', 2, 'three commands are needed', command)
+        programs = ['--receive', commands[0], '--replay', 'false', '--calls', commands[2]]
+        test.ends('a wrong tool', 1, '0 passed, 1 failed', [sys.executable, __file__, *programs])
     test.end()
 
 

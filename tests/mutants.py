@@ -1,4 +1,7 @@
 #!/usr/bin/env python3
+# check: beside
+# says: the comparisons do not find a mistake in the independent program
+# counts: broken programs
 """Checks that the made scripts tell the independent program from wrong ones: each wrong program is one edit of its text."""
 
 import argparse
@@ -8,12 +11,9 @@ import multiprocessing
 import os
 import sys
 
-import running
-
 from compare import (CALL_SEEDS, FRAME_SEEDS, IMAGE_SEEDS, PACKET_SEEDS, PROGRAM_SEEDS, REPLAY_SEEDS, TRACE_SEEDS, made_calls, made_frames,
                      made_images, made_lines, made_packets, made_replays, made_traces, stored)
 from edition_mutants import EDITION_MUTANTS
-from failing import Cases
 from format_mutants import DATAGRAM_MUTANTS, PACKET_MUTANTS
 from image_mutants import IMAGE_MUTANTS
 from joiner_mutants import JOINER_MUTANTS
@@ -93,44 +93,10 @@ def try_all(mutants):
         sys.exit(1)
 
 
-def self_test():
-    """An edit that changes no answer is not found, and one of a text that is not there is not tried."""
-    test = Cases('mutants.py')
-    SEEDS.update(dict.fromkeys(SEEDS, 1))
-    test.passes('a wrong program', try_all, {'calls': DATAGRAM_MUTANTS[:1]})
-    for kind, name, old, new in (('calls', 'lengths', 'first >= 0xC0', 'first > 0xBF'),
-                                 ('packets', 'packets', 'items.bits(count) for count in (1, 1)', 'items.bits(1) for _ in range(2)'),
-                                 ('packets', 'editions', 'self.last > self.last_of_root', 'self.last != self.last_of_root'),
-                                 ('packets', 'pencil', 'self.place >= len(self.row)', 'self.place == len(self.row)'),
-                                 ('joiner', 'joining', 'len(whole) > FRAME_LIMIT', 'len(whole) >= FRAME_LIMIT + 1'),
-                                 ('replays', 'replaying', 'number in numbers', 'number in set(numbers)'),
-                                 ('images', 'images', 'value > most', 'value >= most + 1'),
-                                 ('traces', 'comparing', '2 * len(entries) > room', 'len(entries) > room // 2'),
-                                 ('mendings', 'mending', 'len(change & equation.unknown) % 2', 'len(change & equation.unknown) & 1')):
-        test.fails('an edit of %s that changes no answer' % name, 'NOT FOUND: same\n1 passed, 1 failed\nSystemExit: 1', try_all,
-                   {kind: MUTANTS[kind][:1] + (('same', name, old, new),)})
-    test.fails('an edit of the program that changes no result', 'NOT FOUND: same\n0 passed, 1 failed\nSystemExit: 1', try_all,
-               {'program': (('same', 'program', 'LINE_LIMIT = 4800', 'LINE_LIMIT = 4799 + 1'),)})
-    test.passes('a program that breaks off', try_all, {'calls': (('no such name', 'lengths', 'first >= 0xC0', 'first >= nothing'),)})
-    running.PATIENCE, patience = 1, running.PATIENCE
-    test.passes('a program that does not end', try_all, {'calls': (('no end', 'calls', 'arguments = Arguments(octets)',
-                                                                        'while True: arguments = Arguments(octets)'),)})
-    running.PATIENCE = patience
-    test.fails('an edit of a text that is not there', 'lengths: the text to edit occurs 0 times', try_all,
-               {'calls': (('nowhere', 'lengths', 'no such text', ''),)})
-    test.fails('an edit that makes it no program', 'lengths: with the edit it is no program', try_all,
-               {'calls': (('no program', 'lengths', 'first >= 0xC0', 'first >='),)})
-    test.end()
-
-
 def main():
-    """Tries all wrong programs, or the self-test."""
-    parser = argparse.ArgumentParser(description=__doc__)
-    parser.add_argument('--self-test', action='store_true', help='check that an edit that changes nothing is reported')
-    if parser.parse_args().self_test:
-        self_test()
-    else:
-        try_all(MUTANTS)
+    """Tries all wrong programs."""
+    argparse.ArgumentParser(description=__doc__).parse_args()
+    try_all(MUTANTS)
 
 
 if __name__ == '__main__':

@@ -1,4 +1,9 @@
 #!/usr/bin/env python3
+# check: behind
+# self-test: beside
+# needs: notes
+# arguments: --notes 'tests/run notes'
+# says: notes writes another report than the independent program
 """The program notes: a line for each result of the program, with the datagram that saved the number, and a table of distances.
 
 What it writes must be what the independent program writes. Of that, the lines must go with the results of the program, and the table
@@ -10,7 +15,7 @@ import re
 import sys
 
 from compare import CASES, LINES_EACH, stored
-from failing import Cases, independent, independent_here
+from failing import Cases, independent
 from making.lines import Recording, program_lines
 from note_mutants import REPORT_MUTANTS
 from real import Wrong, corpus, must
@@ -65,7 +70,7 @@ def after_give_ups(given_up, lines):
     return b'\n' * given_up + text_of(lines), text_of(report), results + [result for line in lines for result in program.results(line)]
 
 
-def inputs(limit=False):
+def inputs(whole=False):
     """Names, and what makes the program's input, the report that is expected, and the results that it goes with."""
     for name, given, _ in stored('.lines', '.results'):
         yield 'stored ' + name, lambda n=name, g=given: as_stored(n, *with_report(g))
@@ -75,7 +80,7 @@ def inputs(limit=False):
         yield '%s, %d %% lost' % (name, 100 * loss), lambda n=name, l=loss: with_report(text_of(worse_line(n, l)[0].lines))
         yield '%s, %d %% lost, many late' % (name, 100 * loss), lambda n=name, l=loss: with_report(text_of(late_line(n, l)))
     yield 'across the wrap', lambda: after_give_ups(WRAP, across_the_wrap())
-    if limit:
+    if whole:
         numbers = [number % 65536 for number in range(LIMIT, LIMIT + 70)]
         yield 'at the limit', lambda: after_give_ups(LIMIT, [b'%04X01060000' % number if number % 7 else b'' for number in numbers])
 
@@ -129,12 +134,13 @@ def check(command, given, report, results):
     return '%d by spares, %d by parity' % tuple(saved)
 
 
-def missing(made):
-    """What is in no report: kinds, refusals with a place and without, rows."""
-    lines = b'\n' + b''.join(report for _, report, _ in made)
+def every_kind(reports):
+    """The reports have every kind of line: kinds, refusals with a place and without, rows."""
+    lines = b'\n' + b''.join(reports)
     every = [b'received', b'spare, from', b'repaired, with', b'lost', b'behind'] + [b'\ndistance %d:' % row for row in (*range(1, 16), 31)]
     every += [b'with %d at octet' % number for number in (1, 3, 4, 5, 6)] + [b'with %d\n' % number for number in (2, 7, 8, 9, 15)]
-    return [words.strip().decode() for words in every if words not in lines]
+    missing = [words.strip().decode() for words in every if words not in lines]
+    must(not missing, 'in no report: %s', ', '.join(missing))
 
 
 def behind_give_ups(given, report):
@@ -151,48 +157,31 @@ def found(mutant, made):
 
 
 def self_test():
-    """Wrong reports and wrong programs, and what is said of each; the right ones pass."""
+    """A wrong report for each thing that is checked, and each wrong program of a table; what is said of each."""
     test = Cases('noted.py')
     made = [make() for _, make in inputs()]
     given, report, results = with_report(dict((name, text) for name, text, _ in stored('.lines', '.results'))['request-8-program.lines']
                                          + b'0\n0009\n')
-    test.says('what no input has', '[]', str(missing(made)))
     count = len(list(stored('.lines', '.results')))
-    test.says('what the stored ones do not have', "'distance 14:', 'distance 15:']", str(missing(made[:count])))
+    test.fails('the stored inputs alone', 'distance 14:, distance 15:', every_kind, [report for _, report, _ in made[:count]])
     test.fails('a stored report altered', 'differs from stored whole-case.notes', as_stored, 'whole-case.lines', given, report, results)
-    test.passes('as it should be', check, independent_here('notes'), given, report, results)
     for name, old, new, words in (
             ('another kind', b'number 7: spare, from', b'number 7: repaired, with', 'told of 01000747: number 7: repaired'),
-            ('another number', b'number 7: s', b'number 8: s', 'told of 01000747: number 8: spare'),
-            ('a number in other words', b'number 1: received', b'number 1: came', 'told of 00000102: number 1: came'),
-            ('another datagram', b'from datagram 8', b'from datagram 9', 'the table is '),
-            ('lost for received', b'number 1: received', b'number 1: lost', 'told of 00000102: number 1: lost'),
-            ('another refusal', b'line 9: refused with 15', b'line 9: refused with 1', 'told of FF0F0000: line 9'),
             ('another place', b'at octet 2', b'at octet 3', 'told of FF010002: line 10'),
-            ('no place', b' at octet 2', b'', 'told of FF010002: line 10'),
             ('no empty line', b'\n\n', b'\n', 'no empty line before the table'),
             ('a line less', b'number 6: lost\n', b'', '12 lines for 13 results'),
-            ('a line more', b'number 6: lost\n', 2 * b'number 6: lost\n', '14 lines for 13 results'),
-            ('another total', b'saved by spares 1', b'saved by spares 2', 'the table is '),
-            ('a row less', b'distance 1: spares 1, parity 0\n', b'', 'the table is '),
-            ('a row of zeros', b'distance 2:', b'distance 3: spares 0, parity 0\ndistance 2:', 'the table is '),
             ('another row', b'distance 2:', b'distance 3:', 'the table is ')):
         assert report.count(old) == 1, (name, report)
         test.fails(name, words, goes_with, report.replace(old, new), results)
     right = independent('notes')
     for name, command, words in (
             ('status 3', right + '; exit 3', 'it does not end well: status 3'),
-            ('no last line feed', right + ' | head -c -1', 'is not the expected one'),
-            ('a line number', right + " | sed 's/^line 9/line 8/'", 'line 12 of the report is not the expected one'),
-            ('the last line left out', right + " | sed '$d'", 'is not the expected one'),
-            ('a line more', right + '; echo', 'is not the expected one')):
+            ('a line number', right + " | sed 's/^line 9/line 8/'", 'line 12 of the report is not the expected one')):
         test.fails('the program, ' + name, words, check, command, given, report, results)
     short = [behind_give_ups(given, report) for given, report, _ in made]
-    test.says('the independent program', 'False', str(found(Mutant(), short)))
     for name, *edit in REPORT_MUTANTS:
         test.says('a wrong program, ' + name, 'True', str(found(Mutant(*edit), short)))
     test.ends('a wrong program', 1, '0 passed, 1 failed', [sys.executable, __file__, '--notes', right + ' | tac'])
-    test.ends('no command', 2, 'a command is needed', [sys.executable, __file__])
     test.end()
 
 
@@ -200,7 +189,7 @@ def main():
     """Checks the program; ends with status 1 if it is wrong."""
     parser = argparse.ArgumentParser(description=__doc__)
     parser.add_argument('--notes', help='shell command of the program notes')
-    parser.add_argument('--limit', action='store_true', help='also at 1,000,000 numbers')
+    parser.add_argument('--long', action='store_true', help='also at 1,000,000 numbers')
     parser.add_argument('--self-test', action='store_true', help='check that wrong reports are reported')
     arguments = parser.parse_args()
     if arguments.self_test:
@@ -208,10 +197,16 @@ def main():
         return
     if not arguments.notes:
         parser.error('a command is needed: --notes')
-    passed = 0
-    for name, make in inputs(arguments.limit):
+    passed, reports = 0, []
+    for name, make in [*inputs(arguments.long), ('every kind of line', None)]:
         try:
-            print('ok %s; %s' % (name, check(arguments.notes, *make())), flush=True)
+            if make:
+                given, report, results = make()
+                reports.append(report)
+                print('ok %s; %s' % (name, check(arguments.notes, given, report, results)), flush=True)
+            else:
+                every_kind(reports)
+                print('ok', name)
         except Wrong as wrong:
             print('wrong %s: %s' % (name, wrong))
             print('%d passed, 1 failed' % passed)

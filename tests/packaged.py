@@ -3,9 +3,9 @@
 import os
 import pathlib
 import re
-import shutil
 import subprocess
 
+from c_tools import tools
 from compare import Failed
 
 TOP = pathlib.Path(__file__).resolve().parents[1]
@@ -19,17 +19,13 @@ SIZES = (('PACKET_LIMIT', 'datagram_sizes/src/lib.rt', 'Packet', 'LIMIT'),
          ('NUMBERS', 'held/src/lib.rt', 'Session', 'LIMIT'), ('HISTORY', 'sending/src/lib.rt', 'Sender', 'HISTORY'))
 
 
-def compiler():
-    """A C compiler, for whatever processor."""
-    return os.environ.get('CC') or next(filter(None, map(shutil.which, ('gcc', 'clang', 'cc', 'x86_64-linux-gnu-gcc'))))
-
-
 def header_compiles(header=TOP / 'include'):
     """The header in C99, and in C++ 2011 where there is a compiler for it, without a warning."""
-    asked = [(compiler(), 'c99', 'c')] + [(name, 'c++11', 'c++') for name in [shutil.which('c++')] if name]
-    for name, standard, language in asked:
-        ran = subprocess.run([name, '-std=' + standard, '-x', language, '-Wall', '-Wextra', '-Wpedantic', '-Werror', '-c', '-o', os.devnull,
-                              '-I', str(header), '-'], input=b'#include "tubarexi.h"\n', stdout=subprocess.PIPE, stderr=subprocess.STDOUT)
+    asked = [each for each in zip(tools('cc', 'c++'), ('c99', 'c++11'), ('c', 'c++')) if each[0]]
+    for compiler, standard, language in asked:
+        ran = subprocess.run([*compiler, '-std=' + standard, '-x', language, '-Wall', '-Wextra', '-Wpedantic', '-Werror', '-c',
+                              '-o', os.devnull, '-I', str(header), '-'], input=b'#include "tubarexi.h"\n',
+                             stdout=subprocess.PIPE, stderr=subprocess.STDOUT)
         if ran.returncode:
             raise Failed('header: as %s it does not compile\n%s' % (standard, ran.stdout.decode()))
     return ' and '.join(standard for _, standard, _ in asked)
@@ -64,7 +60,7 @@ def numbers_agree(header=TOP / 'include/tubarexi.h'):
 
 def library_is_plain(library=TOP / 'target/host/libtubarexi.a'):
     """The library has no variables, and calls nothing of the C library but two that copy and clear."""
-    ran = subprocess.run([shutil.which('x86_64-linux-gnu-nm') or 'nm', str(library)], stdout=subprocess.PIPE, stderr=subprocess.PIPE)
+    ran = subprocess.run([*tools('nm')[0], str(library)], stdout=subprocess.PIPE, stderr=subprocess.PIPE)
     found = [line.split()[-2:] for line in ran.stdout.decode().splitlines() if re.search(' [A-Za-z] ', line)]
     odd = [' '.join(each) for each in found if each[0] in 'bBcCdDsS' or each[0] == 'U' and each[1] not in ('memcpy', 'memset')]
     if ran.returncode or odd or not found:

@@ -1,4 +1,9 @@
 #!/usr/bin/env python3
+# check: behind
+# self-test: beside
+# needs: calls receive
+# arguments: --calls 'tests/run calls' --program 'tests/run receive'
+# says: k spares do not bring back k lost in a row
 """A line we can sell (02, request 14): a fresh sender with k spares throughout, a fresh receiver, datagrams in order, never more than k
 lost in a row, the last one arriving, releases drained after each. Every packet is released once, octet for octet, and none is lost.
 
@@ -15,7 +20,7 @@ import threading
 from typing import Callable, NamedTuple
 
 from failing import Cases, altered, independent
-from real import UNLIMITED, Wrong, corpus, must
+from real import Wrong, corpus, must
 from running import around, left_out
 
 MOST_SPARES, NUMBERS, LIMIT = 8, 65536, 1000000
@@ -179,40 +184,27 @@ def runs():
 
 def checks(arguments):
     """All checks: a name, and what does it."""
-    short, last = list(runs()), [Run(3, NUMBERS + 1, 'many')] + [Run(3, LIMIT, 'many')] * arguments.limit
+    short, past, most = list(runs()), Run(3, NUMBERS + 1, 'many'), [Run(3, LIMIT, 'many')] * arguments.long
     behind = [Run(k, 300, loses, before=NUMBERS - 150) for k in range(1, MOST_SPARES + 1) for loses in ('many', 'most')]
     too_many = [Run(k, k + 2, 'over') for k in range(1, MOST_SPARES + 1)]
-    for given, made in ((short + behind + last, as_calls), (too_many, one_too_many)):
+    for given, made in ((short + behind + [past] * arguments.long + most, as_calls), (too_many, one_too_many)):
         for run in given if arguments.calls else ():
             yield 'calls: ' + run.name, lambda r=run, m=made: check(arguments.calls, m, r)
-    for run in short + [Run(1, NUMBERS - 1, 'many'), Run(8, NUMBERS, 'most')] + last if arguments.program else ():
+    for run in short + [Run(1, NUMBERS - 1, 'many'), Run(8, NUMBERS, 'most'), past] + most if arguments.program else ():
         yield 'program: ' + run.name, lambda r=run: check(arguments.program, as_lines, r)
 
 
 def self_test():
-    """Wrong programs, and what is said of each; the independent one passes all short runs."""
-    test, calls, program = Cases('sold_line.py'), independent(), independent('program')
-    short = list(runs())
-    for run in short[-7:] + short[:7]:
-        test.passes('calls: ' + run.name, check, calls, as_calls, run)
-        test.passes('program: ' + run.name, check, program, as_lines, run)
-    test.passes('calls behind others', check, calls, as_calls, Run(8, 40, 'many', before=NUMBERS - 20))
-    for k in (1, MOST_SPARES):
-        test.passes('one too many lost of %d' % k, check, calls, one_too_many, Run(k, k + 2, 'over'))
-    line = Run(3, 40, 'many')
-    test.fails('one too many lost, and nothing waits', 'expected 00010000', check, calls, as_calls, Run(2, 4, 'over'))
+    """A wrong program for each thing that is checked, and what is said of it."""
+    test, calls, line = Cases('sold_line.py'), independent(), Run(3, 40, 'many')
     for how, words in (('calls 21 -1', 'line 1, 21'), ('calls 11 1', 'expected 00, written 01'), ('calls spares', 'expected 0001'),
-                       ('calls 12 2', 'expected 0000'), ('calls 12 7', 'expected 0000'), ('calls 12 16', 'expected 0000'),
                        ('calls 14 9', 'expected 00000000')):
         test.fails('calls, ' + how, words, check, altered(how), as_calls, line)
-    for how in ('program spares', 'program 00 5', 'program 01 6'):
-        test.fails(how, 'expected 0', check, altered(how), as_lines, line)
-    for how, words in ((' | head -n 20', 'written nothing'), ('; echo 00', 'more is written'), ('; exit 3', 'status 3')):
+    test.fails('program 01 6', 'expected 0', check, altered('program 01 6'), as_lines, line)
+    test.fails('one too many lost, and nothing waits', 'expected 00010000', check, calls, as_calls, Run(2, 4, 'over'))
+    for how, words in ((" | sed '$d'", 'written nothing'), ('; echo 00', 'more is written'), ('; exit 3', 'status 3')):
         test.fails('calls' + how, words, check, calls + how, as_calls, line)
-    marks = ''.join('x.'[one] for one in arrivals(Run(2, UNLIMITED // 10 ** 4, 'many'), random.Random(1)))
-    test.says('never more than k lost in a row, the last one arrives', '2 .', '%d %s' % (max(map(len, marks.split('.'))), marks[-1]))
     test.ends('a wrong program', 1, '0 passed, 1 failed', [sys.executable, __file__, '--calls', altered('calls 14 9')])
-    test.ends('no command', 2, 'a command is needed', [sys.executable, __file__])
     test.end()
 
 
@@ -221,7 +213,7 @@ def main():
     parser = argparse.ArgumentParser(description=__doc__)
     parser.add_argument('--calls', help='shell command of the calls program under test')
     parser.add_argument('--program', help='shell command of the program under test')
-    parser.add_argument('--limit', action='store_true', help='also a run of 1,000,000 packets')
+    parser.add_argument('--long', action='store_true', help='also runs of 65,537 packets by calls and of 1,000,000 packets')
     parser.add_argument('--self-test', action='store_true', help='check that wrong programs are reported')
     arguments = parser.parse_args()
     if arguments.self_test:

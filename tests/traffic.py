@@ -1,4 +1,9 @@
 #!/usr/bin/env python3
+# check: behind
+# self-test: beside
+# needs: calls receive
+# arguments: --calls 'tests/run calls' --program 'tests/run receive'
+# says: real traffic is not released as it was sent
 """Real traffic: fax packets sent, put on a bad line, and released; datagrams and packets read and written back.
 
 What was sent must come back, and every answer must be the one that the independent program gives."""
@@ -126,83 +131,48 @@ def checks(arguments):
 
 
 def self_test():
-    """Wrong programs, and what is said of each."""
-    test, right, program = Cases('traffic.py'), independent_here(), independent_here('program')
+    """A wrong program for each thing that is checked, and what is said of it."""
+    test, right = Cases('traffic.py'), independent_here()
     spares, parity = DATAGRAMS
     call, settings = CALLS[1], (SPARES, 3, 0)
     packets = corpus(call)
-    for name, check in (('datagrams', lambda c: datagrams_back(c, parity)), ('packets', lambda c: packets_back(c, call)),
-                        ('sending', lambda c: sent_as_recorded(c, spares)), ('conversation', lambda c: heard(c, call, settings, 0.3))):
-        badly_ended(test, name, check, right)
-    badly_ended(test, 'program', lambda c: through_the_program(c, spares, 0.4), program)
-    test.passes('replay', replayed, right, spares, 0.4)
+    for name, how, words in (
+            ('status 3', 'cat; exit 3', 'it does not end well: status 3'),
+            ('an answer left out', "sed '$d'", 'answers in place of'),
+            ('no last line feed', 'head -c -1', 'the last answer has no line feed'),
+            ('a character more', "sed '2s/^/0/'", 'answer 2 is not of hexadecimal'),
+            ('small letters', 'tr A-F a-f', 'is not the expected one')):
+        test.fails(name, words, packets_back, lambda given, h=how: run(h, right(given)[0]), call)
     for name, check, how, words in (
-            ('a datagram read otherwise', lambda c: datagrams_back(c, spares), 'calls 03 -1', 'answer 1 is not the expected one'),
             ('a datagram written otherwise', lambda c: datagrams_back(c, spares), 'calls 04 -1', 'line 2: written back as '),
-            ('a packet read otherwise', lambda c: packets_back(c, call), 'calls 05 -1', 'answer 1 is not the expected one'),
-            ('a packet read otherwise by 07', lambda c: packets_back(c, call), 'calls 07 -1', 'answer 2 is not the expected one'),
             ('a packet written otherwise', lambda c: packets_back(c, call), 'calls 06 -1', 'line 3: written back as '),
             ('packets put together written otherwise', lambda c: put_together_back(c, call), 'calls 06 -1', 'line 3: written back as '),
             ('packets damaged read otherwise by 07', lambda c: damaged_read(c, call), 'calls 07 -1', 'is not the expected one'),
             ('a datagram sent otherwise', lambda c: sent_as_recorded(c, parity), 'calls 21 -1', 'datagram 0 is sent as ')):
         test.fails(name, words, check, altered_here(how))
-    for name, how, loss, words in (
-            ('spares as repaired', 'calls spares', 0.3, '  expected 0001'),
-            ('FF07 as 00', 'calls repeated', 0.3, '  expected FF070000\n  answered 00'),
-            ('offers', 'calls 11 1', 0.3, '  expected 00\n  answered 01'),
-            ('datagrams', 'calls 21 -1', 0.3, 'is not the expected one'),
-            ('the rest of the lent buffer', 'calls 12 -1', 0.3, 'A5A4'),
-            ('a packet', 'calls 12 16', 0.3, 'number 0 was sent as '),
-            ('a kind', 'calls 12 2', 0.3, 'number 0 is released with kind 17'),
-            ('a number', 'calls 12 7', 0.3, 'released: 1 in place of 0'),
-            ('nothing released', 'calls 12 0', 0.3, 'not released: '),
-            ('a number given up', 'calls 12 7', 0.99, 'given up: '),
-            ('a size given up', 'calls 12 15', 0.99, 'given up: '),
-            ('a note given up', 'calls 12 11', 0.99, 'given up: '),
-            ("a spare's note", 'calls own', 0.3, 'number 0 is a spare of datagram 0, and these came with it: [1]'),
-            ('a give-up refused', 'calls 12 0', 0.99, 'not released: '),
-            ('the counts', 'calls 14 9', 0.3, 'the counts are ')):
-        test.fails('conversation, ' + name, words, heard, altered_here(how), call, settings, loss)
-    test.fails("conversation, a received number's note", ' is received with datagram ', heard, altered_here('calls 12 11'), call,
-               (SPARES, 0, 0), 0.3)
-    test.fails("conversation, a repaired number's note", ' is repaired with datagram ', heard, altered_here('calls own'), call,
-               (PARITY, 3, 2), 0.3)
+    for name, how, given, words in (
+            ('a packet', 'calls 12 16', (settings, 0.3), 'number 0 was sent as '),
+            ('a kind', 'calls 12 2', (settings, 0.3), 'number 0 is released with kind 17'),
+            ('a number', 'calls 12 7', (settings, 0.3), 'released: 1 in place of 0'),
+            ('nothing released', 'calls 12 0', (settings, 0.3), 'not released: '),
+            ('a size given up', 'calls 12 15', (settings, 0.99), 'given up: '),
+            ("a spare's note", 'calls own', (settings, 0.3), 'number 0 is a spare of datagram 0, and these came with it: [1]'),
+            ("a received number's note", 'calls 12 11', ((SPARES, 0, 0), 0.3), ' is received with datagram '),
+            ("a repaired number's note", 'calls own', ((PARITY, 3, 2), 0.3), ' is repaired with datagram '),
+            ('the counts', 'calls 14 9', (settings, 0.3), 'the counts are ')):
+        test.fails('conversation, ' + name, words, heard, altered_here(how), call, *given)
     script = conversation('short', packets, settings, 0)
     test.fails('conversation, one never released', '55 of 56 numbers released', check_conversation, right, script, packets + [b'\x06'])
     test.fails('conversation, one too many', 'number 54 is released, and 54 were sent', check_conversation, right, script, packets[:-1])
-    for name, how, words in (
-            ('spares as repaired', 'program spares', '  expected 01'),
-            ('a kind', 'program 00 0', 'result 10'),
-            ('a number', 'program 00 5', 'released: 0 in place of 1'),
-            ('a packet', 'program 00 6', ' was sent as '),
-            ('a number given up', 'program 03 5', 'given up: ')):
+    for name, how, words in (('a kind', 'program 00 0', 'result 10'), ('a number given up', 'program 03 5', 'given up: '),
+                             ('a packet', 'program 00 6', ' was sent as ')):
         test.fails('program, ' + name, words, through_the_program, altered_here(how), spares, 0.4)
-    for name, how, words in (
-            ('refused', 'calls 40 0', 'not replayed: 10000000'),
-            ('a count', 'calls 40 9', 'the counts are 000000'),
-            ('a kind', 'calls 40 43', 'result 11'),
-            ('a number', 'calls 40 53', 'released: 1 in place of 0'),
-            ('a packet', 'calls 40 55', 'number 0 was sent as ')):
-        test.fails('replay, ' + name, words, replayed, altered_here(how), spares, 0.4)
     test.fails('program, a packet never released', '0 of 1 numbers released', check_results, [], packets[:1])
-    test.fails('program, one too many', 'number 0 is released, and 0 were sent', check_results, [b'00000006'], [])
+    for name, how, words in (('refused', 'calls 40 0', 'not replayed: 10000000'), ('a count', 'calls 40 9', 'the counts are 000000')):
+        test.fails('replay, ' + name, words, replayed, altered_here(how), spares, 0.4)
     joined.self_test(test)
     test.ends('a wrong program', 1, '1 passed, 1 failed', [sys.executable, __file__, '--program', altered('program 01 0')])
-    test.ends('no command', 2, 'a command is needed', [sys.executable, __file__])
     test.end()
-
-
-def badly_ended(test, name, check, right):
-    """The right program passes; one that ends badly, or writes more, less or not quite the same, does not: a command alters it."""
-    test.passes(name, check, right)
-    for wrong, how, words in (
-            ('status 3', 'cat; exit 3', 'it does not end well: status 3'),
-            ('an answer left out', "sed '$d'", 'answers in place of'),
-            ('an answer more', 'cat; echo 00', 'answers in place of'),
-            ('no last line feed', 'head -c -1', 'the last answer has no line feed'),
-            ('a character more', "sed '2s/^/0/'", 'answer 2 is not of hexadecimal'),
-            ('small letters', 'tr A-F a-f', 'is not the expected one')):
-        test.fails('%s, %s' % (name, wrong), words, check, lambda given, h=how: run(h, right(given)[0]))
 
 
 def main():

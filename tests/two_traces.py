@@ -1,4 +1,9 @@
 #!/usr/bin/env python3
+# check: behind
+# self-test: beside
+# needs: compare
+# arguments: --compare ./compare --program 'tests/run compare'
+# says: compare shows other differences than the independent program
 """The script ../compare: two traces side by side, as a table that a person reads.
 
 Its status is 0 if none differ, 1 if some do, 2 for a refusal. Each number that differs has a row, with the lines of both traces and what
@@ -148,49 +153,40 @@ def inputs():
 
 
 def stand_in(how, first, second):
-    """A script as it should be, or wrong in one way, for the self-test."""
+    """A script that is wrong in one way, for the self-test."""
     first, second = (pathlib.Path(path).read_bytes() for path in (first, second))
     long_ones = max(map(len, (lines_of(first), lines_of(second)))) > LINES_LIMIT
     try:
         for trace, text in enumerate((first, second), 1):
             datagrams_of(lines_of(text), trace)
     except Uncompared as refusal:
-        line = refusal.line + (how == 'line')
-        trace, place = 3 - refusal.trace if how == 'trace' else refusal.trace, '' if how == 'place' else ' at octet %d' % refusal.place
-        print('%s trace, line %d: refused with %d%s' % (TRACES[trace], line, refusal.number, place), file=sys.stderr)
+        line, place = refusal.line + (how == 'line'), '' if how == 'place' else ' at octet %d' % refusal.place
+        print('%s trace, line %d: refused with %d%s' % (TRACES[refusal.trace], line, refusal.number, place), file=sys.stderr)
         sys.exit(1 if how == 'refusal' else REFUSAL)
     if long_ones and how != 'parts':
         print('compared in 2 parts')
     rows = list(rows_told(first, second))
-    for number, lines, what, packets in rows[1:] if how == 'row' else rows[::-1] if how == 'order' else rows:
+    for number, lines, what, packets in rows[how == 'row':]:
         words = ', '.join(DIFFERS[one] for one in sorted(what | {5} if how == 'what' else what))
-        places = ' '.join(str(line + (how == 'lines')) for line in lines)
-        print('%5d %s  %s' % (number, places, words[:7] if how == 'less' else words))
-        for packet in packets[how == 'packet':]:
+        print('%5d %s  %s' % (number, ' '.join(map(str, lines)), words[:7] if how == 'less' else words))
+        for packet in packets:
             print('      ', packet.hex().upper() if how == 'mark' else marked(packet, packets))
     sys.exit(0 if how == 'zero' else 1 if how == 'one' else bool(rows))
 
 
 def self_test():
-    """Wrong scripts, and what is said of each; the right one passes."""
+    """A wrong script for each thing that is checked, and what is said of it."""
     test = Cases('two_traces.py')
     made = {name: pair for name, *pair in inputs()}
-    for name, pair in made.items():
-        test.passes(name, check, python('two_traces.py', '--stand-in', 'right'), name, *pair)
-    for how, judged, words in (('right', test.passes, ()), ('parts', test.fails, ('nothing is said of parts',)),
-                               ('one', test.fails, ('status 1 for equal traces',)), ('zero', test.fails, ('status 0 for a line',))):
-        judged('a long one, ' + how, *words, check_long, python('two_traces.py', '--stand-in', how), 'long', long_trace(), 600)
+    for how, words in (('parts', 'nothing is said of parts'), ('one', 'status 1 for equal traces'), ('zero', 'status 0 for a line')):
+        test.fails('a long one, ' + how, words, check_long, python('two_traces.py', '--stand-in', how), 'long', long_trace(), 600)
     for how, name, words in (
-            ('zero', 'made 0', 'status 0, and'), ('one', RECORDED[0], 'status 1, and 0 entries'), ('row', 'made 0', 'no row for number'),
-            ('order', 'made 0', 'no row for number'), ('lines', 'made 0', 'no row for number'),
-            ('what', 'made 0', 'it is said that parity'),
-            ('less', 'an empty trace', 'it is not said that only in the first'), ('packet', 'made 1', ' is not shown'),
-            ('mark', 'made 1', ' is not shown'),
-            ('refusal', 'no digits', 'status 1 for a refusal'), ('trace', 'no digits', 'trace and line are not said'),
-            ('line', 'no digits', 'trace and line are not said'), ('place', 'a second that does not read', 'the place is not said')):
+            ('zero', 'made 0', 'status 0, and'), ('row', 'made 0', 'no row for number'), ('what', 'made 0', 'it is said that parity'),
+            ('less', 'an empty trace', 'it is not said that only in the first'), ('mark', 'made 1', ' is not shown'),
+            ('refusal', 'no digits', 'status 1 for a refusal'), ('line', 'no digits', 'trace and line are not said'),
+            ('place', 'a second that does not read', 'the place is not said')):
         test.fails('wrong in ' + how, words, check, python('two_traces.py', '--stand-in', how), name, *made[name])
     test.ends('a wrong script', 1, '0 passed, 1 failed', [sys.executable, __file__, '--compare', 'exit 3;'])
-    test.ends('no command', 2, 'a command is needed', [sys.executable, __file__])
     test.end()
 
 

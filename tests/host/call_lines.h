@@ -1,4 +1,4 @@
-/* Calls over the C interface, one a line, as the calls program takes and answers them (tests/README.md): numbers and octets taken from the
+/* Calls over the C interface, one a line, as the calls program takes and answers them (tests/CALLS.md): numbers and octets taken from the
    line, answers put, and all lines in turn. */
 #include "tubarexi.h"
 

@@ -1,4 +1,4 @@
-/* Sessions whose memory is overwritten, over the C interface, in the lines of the calls program (tests/README.md): 10, 11, 12, 14, 15, 16,
+/* Sessions whose memory is overwritten, over the C interface, in the lines of the calls program (tests/CALLS.md): 10, 11, 12, 14, 15, 16,
    17, 20, 21, 22 and 23, with the checked calls. The lines must be whole calls: what is none is not looked for. Before each offer, release
    and send the same is asked of a session with a number that no session has: refused with 17, and left alone. */
 #include "call_lines.h"

@@ -8,20 +8,26 @@ import json
 import os
 import pathlib
 import re
-import shutil
 import subprocess
 import sys
+
+import sourced
+from c_tools import tools
 
 RUN = str(pathlib.Path(__file__).resolve().parents[1] / 'run')
 PLAIN_LOOPS = 'glibc.cpu.x86_rep_movsb_threshold=1000000000:glibc.cpu.x86_rep_stosb_threshold=1000000000'
 
 
+def built(crate, room, more=()):
+    """The path of a program built anew, whose functions can be counted: what counts them is looked for first."""
+    tools('valgrind', 'addr2line', 'objdump')
+    return sourced.built(crate, room, more)
+
+
 def watched(tool, program, lines, arguments=()):
     """Runs a program under valgrind's tool; what valgrind says."""
-    for needed in ('valgrind', 'addr2line', 'objdump'):
-        if not shutil.which(needed):
-            sys.exit('%s is not here' % needed)
-    environment = {**os.environ, 'COUNTER': 'valgrind ' + tool, 'GLIBC_TUNABLES': PLAIN_LOOPS, 'LD_BIND_NOW': '1'}
+    counter = ' '.join([*tools('valgrind')[0], tool])
+    environment = {**os.environ, 'COUNTER': counter, 'GLIBC_TUNABLES': PLAIN_LOOPS, 'LD_BIND_NOW': '1'}
     ran = subprocess.run([RUN, program, *arguments], input=lines, stdout=subprocess.DEVNULL, stderr=subprocess.PIPE, env=environment)
     if ran.returncode:
         sys.exit('not counted: %s ended with status %d' % (program, ran.returncode))
@@ -91,13 +97,15 @@ class Run:
     def chains_of(self, places):
         """For each instruction its function and those that it was inlined into, innermost first."""
         given = ''.join('%x\n' % place for place in places)
-        said = subprocess.run(['addr2line', '-e', self.program, '-f', '-i', '-a'], input=given.encode(), stdout=subprocess.PIPE, check=True)
+        said = subprocess.run([*tools('addr2line')[0], '-e', self.program, '-f', '-i', '-a'], input=given.encode(),
+                              stdout=subprocess.PIPE, check=True)
         parts = re.split(r'^0x[0-9a-f]+\n', said.stdout.decode(), flags=re.M)[1:]
         return {place: part.split('\n')[:-1:2] for place, part in zip(places, parts)}
 
     def imported(self):
         """For each call of the C library which of its functions that is."""
-        said = subprocess.run(['objdump', '-d', '--no-show-raw-insn', self.program], stdout=subprocess.PIPE, check=True).stdout.decode()
+        said = subprocess.run([*tools('objdump')[0], '-d', '--no-show-raw-insn', self.program], stdout=subprocess.PIPE,
+                              check=True).stdout.decode()
         return {int(at, 16): name for at, name in re.findall(r'^ *([0-9a-f]+):\t(?:call|jmp)\S* .*<(\w+)@plt>', said, re.M)}
 
     def all(self):

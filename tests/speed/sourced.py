@@ -3,24 +3,17 @@
 The program is built anew and without proof from what the toolchain's compiler is given, with its options: the same code as the
 program that `rt check` links, with debug information that names the functions. For x86-64, on x86-64."""
 
-import os
 import pathlib
-import platform
 import re
-import shutil
 import subprocess
 import sys
+
+from c_tools import missing, native, toolchain as kit
 
 TOP = pathlib.Path(__file__).resolve().parents[2]
 TARGET = 'x86_64-unknown-linux-gnu'
 # for a processor without vectors; gcc and clang take the same words
 WITHOUT_VECTORS = ('-mno-sse', '-mno-sse2', '-mno-mmx')
-
-
-def kit():
-    """The toolchain's folder."""
-    found = shutil.which('rt') or sys.exit('rt is not on the path')
-    return pathlib.Path(os.environ.get('RATTLE_HOME') or pathlib.Path(found).resolve().parent.parent)
 
 
 def crates_in(path):
@@ -86,8 +79,8 @@ def placed(text):
 
 def built(crate, room, more=()):
     """The path of the program, compiled with these options more."""
-    if platform.machine() not in ('x86_64', 'AMD64'):
-        sys.exit('functions are counted on x86-64 alone')
+    if not native():
+        missing('functions are counted on x86-64 alone')
     own = kit() / 'on' / 'x86_64'
     tools, program = own / 'toolchain', room / crate
     words = [str(own / 'bin' / 'rattle-cases'), '--toolchain', str(watching_compiler(tools, room)),
