@@ -16,7 +16,7 @@ pub fn say_all(octets: &[u8]) {
     let mut text = [0u8; 2 * CAP];
     let size = octets.len();
     if size <= CAP {
-        hexadecimal::put_octets(octets, &mut text, 0);
+        hexadecimal::put_digits(octets, &mut text, 0);
         io::write_all(1, part(&text, 0, 2 * size));
     }
 }

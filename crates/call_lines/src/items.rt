@@ -125,10 +125,10 @@ fn say_fields(s: &[u8], fields: [Field; Field::LIMIT], count: usize) {
     }
 }
 
-fn kind_octet(kind: packets::Kind) -> usize {
+fn kind_octet(kind: packets::PacketKind) -> usize {
     match kind {
-        packets::Kind::Indicator => 0,
-        packets::Kind::Data => 1,
+        packets::PacketKind::Indicator => 0,
+        packets::PacketKind::Data => 1,
     }
 }
 
@@ -145,8 +145,8 @@ fn say_packet(call: u8, edition: u8, s: &[u8], ending: Ending) {
     let fields = found.fields;
     let reading = found.reading;
     match reading {
-        packets::Reading::Refused(why) => say_refused(why),
-        packets::Reading::Packet { kind, value, count } => {
+        packets::PacketReading::Refused(why) => say_refused(why),
+        packets::PacketReading::Packet { kind, value, count } => {
             say_done(kind_octet(kind), 1);
             say(value as u32, 1);
             say_fields(s, fields, count);
@@ -170,11 +170,11 @@ fn read_packet(call: u8, s: &[u8]) {
     }
 }
 
-fn packet_kind(kind: u8) -> packets::Kind {
+fn packet_kind(kind: u8) -> packets::PacketKind {
     if kind == 0 {
-        return packets::Kind::Indicator;
+        return packets::PacketKind::Indicator;
     }
-    packets::Kind::Data
+    packets::PacketKind::Data
 }
 
 // 06: a packet, by its edition.

@@ -14,8 +14,8 @@ use call_lines::say_done;
 use call_lines::say_no_call;
 use call_lines::say_refused;
 use call_lines::target_of;
-use sessions::Kind;
 use sessions::Offered;
+use sessions::ReleaseKind;
 use sessions::Released;
 use sessions::Session;
 use sessions::Solved;
@@ -32,12 +32,12 @@ fn offer(session: Session, s: &[u8]) -> Session {
     held
 }
 
-fn kind_octet(kind: Kind) -> usize {
+fn kind_octet(kind: ReleaseKind) -> usize {
     match kind {
-        Kind::Received => 0,
-        Kind::Spare => 1,
-        Kind::Repaired => 2,
-        Kind::Lost => 3,
+        ReleaseKind::Received => 0,
+        ReleaseKind::Spare => 1,
+        ReleaseKind::Repaired => 2,
+        ReleaseKind::Lost => 3,
     }
 }
 

@@ -7,7 +7,7 @@ use Rattle.octets.proofs.Laws.{below-or-not}
 use Rattle.views.specs.Cells.{keptBefore, keptNumbers}
 use Rattle.held.specs.Slots.{slotsKept, slotAt}
 use Rattle.held.proofs.Laws.{slot-small, slot-apart}
-use Rattle.checking.specs.Pieces.{placeIn}
+use Rattle.checking.specs.Pieces.{placeOfSlot}
 
 module _ (b i : ℕ) (low : b < slotsKept) (small : i < slotsKept) where
   place-far : i + keptBefore < b → (i + (keptBefore + slotsKept - b)) % slotsKept ≡ i + 96 - b
@@ -19,10 +19,10 @@ module _ (b i : ℕ) (low : b < slotsKept) (small : i < slotsKept) where
   place-past : b + keptBefore ≤ i → (i + (keptBefore + slotsKept - b)) % slotsKept ≡ i - 32 - b
   place-past past = omega arith
 
-pub place-small : (base i : ℕ) → placeIn base i < keptNumbers
+pub place-small : (base i : ℕ) → placeOfSlot base i < keptNumbers
 place-small base i = omega arith
 
-pub slot-place : (base i : ℕ) → i < slotsKept → slotAt base (placeIn base i) ≡ i
+pub slot-place : (base i : ℕ) → i < slotsKept → slotAt base (placeOfSlot base i) ≡ i
 slot-place base i small =
     ⊎-elim (λ far. rw (place-far (base % slotsKept) i (omega arith) small far) (omega arith))
     (λ near.
@@ -31,7 +31,7 @@ slot-place base i small =
     (below-or-not i (base % slotsKept + keptBefore)))
     (below-or-not (i + keptBefore) (base % slotsKept))
 
-pub place-slot : (base p : ℕ) → p < keptNumbers → placeIn base (slotAt base p) ≡ p
+pub place-slot : (base p : ℕ) → p < keptNumbers → placeOfSlot base (slotAt base p) ≡ p
 place-slot base p below =
-    slot-apart base (placeIn base (slotAt base p)) p (place-small base (slotAt base p)) below
+    slot-apart base (placeOfSlot base (slotAt base p)) p (place-small base (slotAt base p)) below
     (slot-place base (slotAt base p) (slot-small base p))

@@ -21,7 +21,7 @@ use Rattle.held.specs.Laid.{lentInRanges, Laid, InRanges}
 use Rattle.held.specs.declared.Counts.{Counts}
 use Rattle.held.proofs.Laws.{slot-small, heard-small, heard-slot-of, length-cells, length-held, held-at, octets-long, cell-right}
 use Rattle.held.proofs.Laws.{held-right, message-fits, message-none, message-zeros, laid-message, in-ranges-of, in-ranges-true}
-use Rattle.checking.specs.Pieces.{stateRight, placeIn, stateTest, noteTest, packetTest, allKept, heardTest}
+use Rattle.checking.specs.Pieces.{stateRight, placeOfSlot, stateTest, noteTest, packetTest, allKept, heardTest}
 use Rattle.checking.proofs.Turns.{both-ways}
 use Rattle.checking.proofs.Places.{place-small, slot-place, place-slot}
 use Rattle.checking.proofs.SlotTests.{KeptSeen, kept-seen, HeardSeen, heard-seen, seen-heard, note-told, cell-told, held-of-mark}
@@ -44,12 +44,12 @@ heardAll l = allBelow keptAhead (heardTest (l .base) (l .table) (l .messages))
 module _ (l : Lent) (long : length (l .table) ≡ places) (octets : length (l .octets) ≡ keptOctets)
     (messages : length (l .messages) ≡ messageOctets) (summed : sumRight (viewIn l) ≡ true) (kept : keptAll l ≡ true)
     (noted : notedAll l ≡ true) (heard : heardAll l ≡ true) where
-  kept-in : (i : ℕ) → i < slotsKept → KeptSeen (l .table) (l .octets) i (blankAt (total l) (placeIn (l .base) i))
+  kept-in : (i : ℕ) → i < slotsKept → KeptSeen (l .table) (l .octets) i (blankAt (total l) (placeOfSlot (l .base) i))
   unfolding allKept stateTest packetTest
   kept-in i low =
       let states = allBelow slotsKept (stateTest (l .base) (total l) (l .table)) in
       let packets = allBelow slotsKept (packetTest (l .table) (l .octets)) in
-      kept-seen (l .table) (l .octets) i (blankAt (total l) (placeIn (l .base) i))
+      kept-seen (l .table) (l .octets) i (blankAt (total l) (placeOfSlot (l .base) i))
       (allBelow-at slotsKept (stateTest (l .base) (total l) (l .table)) (and-left states packets kept) i low)
       (allBelow-at slotsKept (packetTest (l .table) (l .octets)) (and-right states packets kept) i low)
 
@@ -83,7 +83,7 @@ module _ (l : Lent) (long : length (l .table) ≡ places) (octets : length (l .o
         messages = messages;
         state = λ i low. leb-true (stateIn t i) lastState (kept-in i low .number);
         size =
-            λ i low. size-fits (stateNumbered (stateIn t i)) (sizeIn t i) (blankAt (total l) (placeIn (l .base) i)) (kept-in i low .size);
+            λ i low. size-fits (stateNumbered (stateIn t i)) (sizeIn t i) (blankAt (total l) (placeOfSlot (l .base) i)) (kept-in i low .size);
         packet = λ i low. kept-in i low .zeros;
         mark = λ j low. leb-true (markIn t j) 1 (heard-in j low .1 .number);
         few = λ j low. mark-sizes (eqb (markIn t j) 1) (heard-in j low .0) (nIn t j) (mIn t j) (heard-in j low .1 .mark) .1;
@@ -127,10 +127,10 @@ module _ (l : Lent) (long : length (l .table) ≡ places) (octets : length (l .o
 -- and from the ranges to the tests
 module _ {l : Lent} (w : InRanges l) where
   size-there : (i : ℕ) → i < slotsKept
-      → sizeRight (stateNumbered (stateIn (l .table) i)) (sizeIn (l .table) i) (blankAt (total l) (placeIn (l .base) i)) ≡ true
+      → sizeRight (stateNumbered (stateIn (l .table) i)) (sizeIn (l .table) i) (blankAt (total l) (placeOfSlot (l .base) i)) ≡ true
   unfolding cellIn
   size-there i small =
-      let p = placeIn (l .base) i in
+      let p = placeOfSlot (l .base) i in
       rw (slot-place (l .base) i small) at
       (ap (λ (n : ℕ). sizeRight (stateNumbered (stateIn (l .table) (slotAt (l .base) p))) n (blankAt (total l) p))
       (sym (octets-long (w .laid) (slotAt (l .base) p) (slot-small (l .base) p)))
@@ -154,7 +154,7 @@ module _ {l : Lent} (w : InRanges l) where
   tests-noted =
       allBelow-of slotsKept _
       (λ i small.
-      let p = placeIn (l .base) i in
+      let p = placeOfSlot (l .base) i in
       let below = place-small (l .base) i in
       ap (λ (j : ℕ). noteRight (stateNumbered (stateIn (l .table) j)) (noteIn (l .table) j) (numberAt (l .base) p))
       (sym (slot-place (l .base) i small))

@@ -17,7 +17,7 @@ use Rattle.held.specs.Slots.{slotsKept, messageSlot}
 use Rattle.held.specs.Table.{lastState, stateIn, sizeIn, markIn, nIn, mIn, messageSizeIn, stateNumbered}
 use Rattle.held.specs.Laid.{messageLaid}
 use Rattle.held.proofs.Laws.{message-none}
-use Rattle.checking.specs.Pieces.{stateRight, placeIn, stateTest, packetTest, SizesFit, allKept}
+use Rattle.checking.specs.Pieces.{stateRight, placeOfSlot, stateTest, packetTest, SizesFit, allKept}
 use Rattle.checking.specs.Pieces.{markedRight, heardRight, sizeless, emptyAt}
 
 -- ---- a state with its length
@@ -111,7 +111,7 @@ module _ (base total : ℕ) (t o : List ℕ) {test : Bool} (so : test ≡ allBel
   pub sizes-right : test ≡ true → SizesFit t
   unfolding stateTest
   sizes-right passed i low =
-      size-right (stateIn t i) (sizeIn t i) (blankAt total (placeIn base i)) refl
+      size-right (stateIn t i) (sizeIn t i) (blankAt total (placeOfSlot base i)) refl
       (allBelow-at slotsKept (stateTest base total t) (sym so ∙ passed) i low)
 
   pub kept-passed : {right : Bool} → test ≡ true → right ≡ allBelow slotsKept (packetTest t o) → right ≡ allKept base total t o

@@ -19,7 +19,7 @@ use Rattle.views.specs.View.{numbers, numberAt}
 use Rattle.held.specs.Slots.{slotsKept, slotAt, heardSlotAt, messageSlot}
 use Rattle.held.specs.Table.{stateIn, sizeIn, noteIn, messageSizeIn, stateNumbered}
 use Rattle.held.specs.Laid.{messageLaid}
-use Rattle.checking.specs.Pieces.{stateRight, passedOf, placeIn, stateTest, noteTest, packetTest, SizesFit}
+use Rattle.checking.specs.Pieces.{stateRight, passedOf, placeOfSlot, stateTest, noteTest, packetTest, SizesFit}
 use Rattle.checking.specs.Pieces.{heardRight, heardTest, sizeless, emptyAt, heldOctets, octetZero}
 
 -- two tests that pass together
@@ -90,11 +90,11 @@ blank-told whole p =
 -- ---- kept numbers
 module _ (base total : ℕ) (t : List ℕ) {i state size gone place : ℕ} {ok right : Bool} where
   pub state-turn : Checked slotsKept (stateTest base total t) ok i → i < slotsKept → state ≡ stateIn t i → size ≡ sizeIn t i
-      → gone ≡ passedOf total → place ≡ placeIn base i → right ≡ stateRight state size (ltb (gone + place) keptBefore)
+      → gone ≡ passedOf total → place ≡ placeOfSlot base i → right ≡ stateRight state size (ltb (gone + place) keptBefore)
       → Checked slotsKept (stateTest base total t) (ok && right) (i + 1)
   unfolding stateTest
   state-turn c more state-is size-is gone-is place-is right-is =
-      checked-turn c more (rw (state-is, size-is, gone-is, place-is, blank-told total (placeIn base i)) at right-is)
+      checked-turn c more (rw (state-is, size-is, gone-is, place-is, blank-told total (placeOfSlot base i)) at right-is)
 
 -- the number at a place, counted from the first
 number-told : (base first place number : ℕ) → base < numbers → first < numbers → (first + keptBefore) % numbers ≡ base
@@ -103,7 +103,7 @@ number-told base first place number small low back number-is = omega arith
 
 pub note-turn : (base : ℕ) (t : List ℕ) {i state note first place number : ℕ} {ok right : Bool} → Checked slotsKept (noteTest base t) ok i
     → i < slotsKept → state ≡ stateIn t i → note ≡ noteIn t i → base < numbers → first < numbers → (first + keptBefore) % numbers ≡ base
-    → place ≡ placeIn base i → number ≡ (first + place) % numbers → right ≡ noteRight (stateNumbered state) note number
+    → place ≡ placeOfSlot base i → number ≡ (first + place) % numbers → right ≡ noteRight (stateNumbered state) note number
     → Checked slotsKept (noteTest base t) (ok && right) (i + 1)
 unfolding noteTest
 note-turn base t {i} {first = first} {place} {number} c more state-is note-is small low back place-is number-is right-is =

@@ -24,28 +24,28 @@ unfoldable pub passedOf : ℕ → ℕ
 passedOf total = cond (ltb total keptBefore) total keptBefore
 
 -- the place in the view of the number in slot i: number - base + 32
-abbrev pub placeIn : ℕ → ℕ → ℕ
-placeIn base i = (i + (keptBefore + slotsKept - base % slotsKept)) % slotsKept
+abbrev pub placeOfSlot : ℕ → ℕ → ℕ
+placeOfSlot base i = (i + (keptBefore + slotsKept - base % slotsKept)) % slotsKept
 
 -- the kept number in slot i: its state and its length
 unfoldable pub stateTest : ℕ → ℕ → List ℕ → ℕ → Bool
-stateTest base total t i = stateRight (stateIn t i) (sizeIn t i) (blankAt total (placeIn base i))
+stateTest base total table i = stateRight (stateIn table i) (sizeIn table i) (blankAt total (placeOfSlot base i))
 
 -- .. its note
 unfoldable pub noteTest : ℕ → List ℕ → ℕ → Bool
-noteTest base t i = noteRight (stateNumbered (stateIn t i)) (noteIn t i) (numberAt base (placeIn base i))
+noteTest base table i = noteRight (stateNumbered (stateIn table i)) (noteIn table i) (numberAt base (placeOfSlot base i))
 
 -- .. and its octets
 unfoldable pub packetTest : List ℕ → List ℕ → ℕ → Bool
-packetTest t o i = zerosPast o i (sizeIn t i)
+packetTest table octets i = zerosPast octets i (sizeIn table i)
 
 -- no length is more than a slot holds
 abbrev pub SizesFit : List ℕ → Type 0
-SizesFit t = (i : ℕ) → i < slotsKept → sizeIn t i ≤ packetLimit
+SizesFit table = (i : ℕ) → i < slotsKept → sizeIn table i ≤ packetLimit
 
 -- all kept numbers
 unfoldable pub allKept : ℕ → ℕ → List ℕ → List ℕ → Bool
-allKept base total t o = allBelow slotsKept (stateTest base total t) && allBelow slotsKept (packetTest t o)
+allKept base total table octets = allBelow slotsKept (stateTest base total table) && allBelow slotsKept (packetTest table octets)
 
 -- a number that stands for a mark, with n and m beside it
 unfoldable pub markedRight : ℕ → Bool → ℕ → ℕ → Bool
@@ -53,24 +53,24 @@ markedRight mark known n m = leb mark 1 && markRight (eqb mark 1) known n m
 
 -- slot j of numbers from the base on
 unfoldable pub heardRight : List ℕ → List ℕ → ℕ → Bool → Bool
-heardRight t g j known =
-    markedRight (markIn t j) known (nIn t j) (mIn t j) && allBelow messagesLimit (messageLaid t g j (mIn t j))
+heardRight table messages j known =
+    markedRight (markIn table j) known (nIn table j) (mIn table j) && allBelow messagesLimit (messageLaid table messages j (mIn table j))
 
 -- the number at distance d from the base
 unfoldable pub heardTest : ℕ → List ℕ → List ℕ → ℕ → Bool
-heardTest base t g d =
-    heardRight t g (heardSlotAt base d) (not (isUnknown (stateNumbered (stateIn t (slotAt base (keptBefore + d))))))
+heardTest base table messages d =
+    heardRight table messages (heardSlotAt base d) (not (isUnknown (stateNumbered (stateIn table (slotAt base (keptBefore + d))))))
 
 -- message place i of slot j without a length, and with zeros alone
 unfoldable pub sizeless : List ℕ → ℕ → ℕ → Bool
-sizeless t j i = eqb (messageSizeIn t (messageSlot j i)) 0
+sizeless table j i = eqb (messageSizeIn table (messageSlot j i)) 0
 
 unfoldable pub emptyAt : List ℕ → ℕ → ℕ → Bool
-emptyAt g j i = zerosPast g (messageSlot j i) 0
+emptyAt messages j i = zerosPast messages (messageSlot j i) 0
 
 -- octet k of those of all messages of slot j is zero
 abbrev pub heldOctets : ℕ
 heldOctets = messagesLimit * packetLimit
 
 unfoldable pub octetZero : List ℕ → ℕ → ℕ → Bool
-octetZero g j k = eqb (getD g (j * heldOctets + k) 0) 0
+octetZero messages j k = eqb (getD messages (j * heldOctets + k) 0) 0

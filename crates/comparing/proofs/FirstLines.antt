@@ -11,7 +11,7 @@ use Rattle.lengths.specs.Answers.{Answer, done}
 use Rattle.datagrams.specs.Carried.{Carried}
 use Rattle.lines.specs.Promise.{Appends}
 use Rattle.lines.proofs.Laws.{appends-none, appends-then, appends-long}
-use Rattle.comparisons.specs.Pairing.{TraceLine, numberIn, having, mate}
+use Rattle.comparisons.specs.Pairing.{TraceLine, numberOfLine, having, mate}
 use Rattle.comparisons.specs.Entries.{Entry, onlyFirst, numbersOf, entriesOf, given, differences, atFirst, lineByLine}
 use Rattle.comparisons.specs.Traces.{datagramIn}
 use Rattle.comparisons.proofs.Laws.{numbers-twice}
@@ -44,7 +44,7 @@ first-few l none = omega (arith, numbers-twice (atFirst l none))
 first-few l (some m) =
     let rows = differences (l .datagram) (m .datagram) in
     let few = rows-few rows in
-    let long = entries-long (numberIn l) (given rows) in
+    let long = entries-long (numberOfLine l) (given rows) in
     omega (arith, numbers-twice (atFirst l (some m)))
 
 -- ---- a line of a kept trace
@@ -58,7 +58,7 @@ module _ {trace : List ℕ} {lines : List TraceLine} {numbers starts : List ℕ}
   pub kept-at : (i : ℕ) → i < length numbers → (l : TraceLine) × (getElem? lines i ≡ some l)
   kept-at i inside = kth-some lines i (omega (arith, kept-long))
 
-  pub kept-number : (i : ℕ) (l : TraceLine) → getElem? lines i ≡ some l → getD numbers i 0 ≡ numberIn l
+  pub kept-number : (i : ℕ) (l : TraceLine) → getElem? lines i ≡ some l → getD numbers i 0 ≡ numberOfLine l
   kept-number i l is = ap (λ (n : List ℕ). getD n i 0) (x .each) ∙ number-at lines i l is
 
   pub kept-before : (number i : ℕ) → often number (take i numbers) ≡ length (having number (take i lines))
@@ -76,7 +76,7 @@ module _ {trace : List ℕ} {lines : List TraceLine} {numbers starts : List ℕ}
 -- ---- what is listed at it
 module _ {first second : List ℕ} {lines others : List TraceLine} {a from b to : List ℕ} (x : KeptTrace first lines a from)
     (y : KeptTrace second others b to) (i : ℕ) {k j : ℕ} (count : k ≡ often (getD a i 0) (take i a)) (p : KthPlace b (getD a i 0) k j) where
-  place : KthPlace (map numberIn others) (getD a i 0) k j
+  place : KthPlace (map numberOfLine others) (getD a i 0) k j
   place = rw (y .each) at p
 
   -- the line that it pairs with

@@ -7,7 +7,7 @@ use mathlib.Core.Option.{Option, none, some}
 use lib.ListN.{length, getD, getElem?, take, drop, take-append-drop}
 use native.Mathlib.Omega.{arith}
 use Rattle.octets.proofs.Laws.{same-or-not}
-use Rattle.comparisons.specs.Pairing.{TraceLine, numberIn, having}
+use Rattle.comparisons.specs.Pairing.{TraceLine, numberOfLine, having}
 use Rattle.comparisons.proofs.Laws.{having-hit, having-miss, having-none, having-append, kth-seam}
 use Rattle.differences.specs.Numbers.{often, KthPlace}
 use Rattle.differences.proofs.Laws.{often-none, often-hit, often-miss}
@@ -36,47 +36,47 @@ module _ {A : Type 0} where
   kth-take (b ∷ l) (suc k) a e = ap (λ (t : List A). b ∷ t) (kth-take l k a e)
 
 -- ---- the numbers of some lines
-pub numbers-long : (lines : List TraceLine) → length (map numberIn lines) ≡ length lines
+pub numbers-long : (lines : List TraceLine) → length (map numberOfLine lines) ≡ length lines
 numbers-long [] = refl
 numbers-long (l ∷ lines) = ap suc (numbers-long lines)
 
-pub numbers-take : (k : ℕ) (lines : List TraceLine) → take k (map numberIn lines) ≡ map numberIn (take k lines)
+pub numbers-take : (k : ℕ) (lines : List TraceLine) → take k (map numberOfLine lines) ≡ map numberOfLine (take k lines)
 numbers-take zero lines = refl
 numbers-take (suc k) [] = refl
-numbers-take (suc k) (l ∷ lines) = ap (λ (t : List ℕ). numberIn l ∷ t) (numbers-take k lines)
+numbers-take (suc k) (l ∷ lines) = ap (λ (t : List ℕ). numberOfLine l ∷ t) (numbers-take k lines)
 
-pub number-at : (lines : List TraceLine) (k : ℕ) (l : TraceLine) → getElem? lines k ≡ some l → getD (map numberIn lines) k 0 ≡ numberIn l
+pub number-at : (lines : List TraceLine) (k : ℕ) (l : TraceLine) → getElem? lines k ≡ some l → getD (map numberOfLine lines) k 0 ≡ numberOfLine l
 number-at [] k l e = let z : _≡_ {A = ℕ} 0 1 = cc in absurd (omega arith)
-number-at (m ∷ lines) zero l e = let same : m ≡ l = cc in ap numberIn same
+number-at (m ∷ lines) zero l e = let same : m ≡ l = cc in ap numberOfLine same
 number-at (m ∷ lines) (suc k) l e = number-at lines k l e
 
-pub often-having : (number : ℕ) (lines : List TraceLine) → often number (map numberIn lines) ≡ length (having number lines)
+pub often-having : (number : ℕ) (lines : List TraceLine) → often number (map numberOfLine lines) ≡ length (having number lines)
 often-having number [] = often-none number ∙ sym (ap length (having-none number))
 often-having number (l ∷ lines) =
     ⊎-elim
     (λ is.
-    often-hit number (numberIn l) (map numberIn lines) is
+    often-hit number (numberOfLine l) (map numberOfLine lines) is
     ∙ ap suc (often-having number lines)
     ∙ sym (ap length (having-hit number l lines is)))
     (λ other.
-    often-miss number (numberIn l) (map numberIn lines) other
+    often-miss number (numberOfLine l) (map numberOfLine lines) other
     ∙ often-having number lines
     ∙ sym (ap length (having-miss number l lines other)))
-    (same-or-not (numberIn l) number)
+    (same-or-not (numberOfLine l) number)
 
 -- ---- the line with k of its number before it
-module _ (lines : List TraceLine) (number : ℕ) {k j : ℕ} (p : KthPlace (map numberIn lines) number k j) where
-  pub mate-none : length (map numberIn lines) ≤ j → getElem? (having number lines) k ≡ none
+module _ (lines : List TraceLine) (number : ℕ) {k j : ℕ} (p : KthPlace (map numberOfLine lines) number k j) where
+  pub mate-none : length (map numberOfLine lines) ≤ j → getElem? (having number lines) k ≡ none
   mate-none past =
       let few = p .missing past in
       kth-none (having number lines) k (omega (arith, often-having number lines))
 
-  pub mate-some : j < length (map numberIn lines)
+  pub mate-some : j < length (map numberOfLine lines)
       → (m : TraceLine) × (getElem? lines j ≡ some m) × (getElem? (having number lines) k ≡ some m)
   mate-some there =
       let found = p .found there in
       let m = kth-some lines j (omega (arith, numbers-long lines)) in
-      let is : numberIn (m .0) ≡ number = sym (number-at lines j (m .0) (m .1)) ∙ found .0 in
+      let is : numberOfLine (m .0) ≡ number = sym (number-at lines j (m .0) (m .1)) ∙ found .0 in
       let front = having number (take j lines) in
       let behind = having number (drop (suc j) lines) in
       let count : length front ≡ k =

@@ -18,7 +18,7 @@ use Rattle.lines.specs.Promise.{Appends}
 use Rattle.lines.proofs.Laws.{appends-none}
 use Rattle.line_steps.proofs.Laws.{read-octets, read-refused}
 use Rattle.comparisons.specs.Entries.{same}
-use Rattle.comparisons.specs.Traces.{carriedIn, datagramIn}
+use Rattle.comparisons.specs.Traces.{datagramOf, datagramIn}
 use Rattle.comparisons.proofs.Laws.{same-true}
 use Rattle.differences.specs.Rows.{isDone, lineRoom, differenceNumbers}
 use Rattle.differences.proofs.Laws.{differences-none}
@@ -34,7 +34,7 @@ module _ (line : List ℕ) {old new : List ℕ} {r : Written} (work : datagramLi
       let octets = read-octets (lineOctets line) size old new (room-for line old work) (sym (ap writtenOutcome is) ∙ p .answer) (p .lent) in
       record {
         inside = octets .1;
-        carries = sym (ap (λ (a : Answer (List ℕ)). answers._>>=_ a carriedIn) (octets .0));
+        carries = sym (ap (λ (a : Answer (List ℕ)). answers._>>=_ a datagramOf) (octets .0));
       }
 
   -- a line that holds a datagram is not refused
@@ -42,7 +42,7 @@ module _ (line : List ℕ) {old new : List ℕ} {r : Written} (work : datagramLi
   unfolding datagramIn
   octets-never {why} is holds =
       let not : isDone (datagramIn line) ≡ false =
-      ap (λ (a : Answer (List ℕ)). isDone (answers._>>=_ a carriedIn))
+      ap (λ (a : Answer (List ℕ)). isDone (answers._>>=_ a datagramOf))
       (read-refused (lineOctets line) why old (room-for line old work) (sym (ap writtenOutcome is) ∙ p .answer)) in
       absurd (false≢true (sym not ∙ holds))
 
@@ -57,12 +57,12 @@ same-lines number a b is so room =
     rw none (appends-none (omega arith))
 
 pub read-holds : {line new : List ℕ} {size : ℕ} → OctetsRead line new size → isDone (datagramIn line) ≡ true
-    → isDone (carriedIn (take size new)) ≡ true
+    → isDone (datagramOf (take size new)) ≡ true
 read-holds o holds = ap isDone (o .carries) ∙ holds
 
 pub other-lines : (number : ℕ) {a b left right : List ℕ} {m n : ℕ} {old : List ℕ} {at : ℕ} {new : List ℕ} {end : ℕ}
     → OctetsRead a left m → OctetsRead b right n
-    → Appends (differenceNumbers number (carriedIn (take m left)) (carriedIn (take n right))) old at new end
+    → Appends (differenceNumbers number (datagramOf (take m left)) (datagramOf (take n right))) old at new end
     → Appends (differenceNumbers number (datagramIn a) (datagramIn b)) old at new end
 other-lines number x y puts = rw (x .carries, y .carries) at puts
 

@@ -14,7 +14,7 @@ use borrow.Author.Tests.{lt-ltb, le-ltb}
 use Rattle.octets.proofs.Laws.{below-or-not}
 use Rattle.lines.specs.Promise.{Appends}
 use Rattle.lines.proofs.Laws.{appends-none, appends-then, appends-long}
-use Rattle.comparisons.specs.Pairing.{TraceLine, numberIn, having, mate}
+use Rattle.comparisons.specs.Pairing.{TraceLine, numberOfLine, having, mate}
 use Rattle.comparisons.specs.Entries.{Entry, onlySecond, numbersOf, atSecond, lineByLine}
 use Rattle.differences.specs.Numbers.{often}
 use Rattle.differences.specs.Rows.{entryRoom}
@@ -96,31 +96,31 @@ module _ {a b old : List ℕ} {from j at : ℕ} {new : List ℕ} (s : SecondList
 
 -- ---- by the numbers is by the lines
 row-same : (first before : List TraceLine) (m : TraceLine)
-    → secondRow (map numberIn first) (map numberIn before) (numberIn m) ≡ numbersOf (atSecond m (mate before m first))
+    → secondRow (map numberOfLine first) (map numberOfLine before) (numberOfLine m) ≡ numbersOf (atSecond m (mate before m first))
 unfolding numbersOf
 row-same first before m =
-    let number = numberIn m in
+    let number = numberOfLine m in
     let k = length (having number before) in
-    let count : often number (map numberIn before) ≡ k = often-having number before in
-    let all : often number (map numberIn first) ≡ length (having number first) = often-having number first in
+    let count : often number (map numberOfLine before) ≡ k = often-having number before in
+    let all : often number (map numberOfLine first) ≡ length (having number first) = often-having number first in
     ⊎-elim
     (λ few.
     let l = kth-some (having number first) k few in
-    row-pairs (map numberIn first) (map numberIn before) number (omega arith)
+    row-pairs (map numberOfLine first) (map numberOfLine before) number (omega arith)
     ∙ sym (ap (λ (o : Option TraceLine). numbersOf (atSecond m o)) (l .1)))
     (λ past.
-    row-only (map numberIn first) (map numberIn before) number (omega arith)
+    row-only (map numberOfLine first) (map numberOfLine before) number (omega arith)
     ∙ sym (ap (λ (o : Option TraceLine). numbersOf (atSecond m o)) (kth-none (having number first) k past)))
     (below-or-not k (length (having number first)))
 
 pub rows-same : (first before lines : List TraceLine)
-    → secondRows (map numberIn first) (map numberIn before) (map numberIn lines) ≡ numbersOf (lineByLine atSecond before lines first)
+    → secondRows (map numberOfLine first) (map numberOfLine before) (map numberOfLine lines) ≡ numbersOf (lineByLine atSecond before lines first)
 unfolding secondRows lineByLine numbersOf
 rows-same first before [] = refl
 rows-same first before (m ∷ lines) =
     let row = atSecond m (mate before m first) in
     let rest = lineByLine atSecond (before ++ (m ∷ [])) lines first in
     ap₂ (λ (r l : List ℕ). r ++ l) (row-same first before m)
-    (ap (λ (t : List ℕ). secondRows (map numberIn first) t (map numberIn lines)) (sym (map-append numberIn before (m ∷ [])))
+    (ap (λ (t : List ℕ). secondRows (map numberOfLine first) t (map numberOfLine lines)) (sym (map-append numberOfLine before (m ∷ [])))
     ∙ rows-same first (before ++ (m ∷ [])) lines)
     ∙ sym (numbers-append row rest)

@@ -16,9 +16,9 @@ use Rattle.lengths.specs.declared.Refusal.{Refusal}
 use Rattle.lines.specs.Lines.{linesFrom}
 use Rattle.lines.specs.Promise.{Appends}
 use Rattle.lines.proofs.Laws.{appends-then, appends-front, appends-long}
-use Rattle.comparisons.specs.Pairing.{TraceLine, numberIn}
+use Rattle.comparisons.specs.Pairing.{TraceLine, numberOfLine}
 use Rattle.comparisons.specs.Entries.{Entry, numbersOf, atFirst, atSecond, lineByLine, entries}
-use Rattle.comparisons.specs.Told.{Told, told, stopped, Where, nowhere, at, mapped}
+use Rattle.comparisons.specs.Told.{PlacedAnswer, told, stopped, Where, noPlace, at, mappedPlaced}
 use Rattle.comparisons.specs.Traces.{linesLimit, firstTrace, secondTrace, traceRead, comparison}
 use Rattle.comparisons.specs.Promise.{comparedOutcome, fittedEntries, listAfter, Compares}
 use Rattle.comparisons.specs.Claims.{Few}
@@ -68,11 +68,11 @@ module _ (lines others : List TraceLine) {work found : List ℕ} {size : ℕ} (p
     list-full {old} {r} short is =
         let full : leb (length (numbersOf (entries lines others))) (length old) ≡ false =
         lt-leb (length (numbersOf (entries lines others))) (length old) (omega (arith, size-is)) in
-        let told-so : fittedEntries (told (entries lines others)) old ≡ stopped (refusal noRoom) nowhere =
-        ap (λ (t : Bool). at nowhere (cond t (done (entries lines others)) (refuse noRoom))) full in
+        let told-so : fittedEntries (told (entries lines others)) old ≡ stopped (refusal noRoom) noPlace =
+        ap (λ (t : Bool). at noPlace (cond t (done (entries lines others)) (refuse noRoom))) full in
         record {
-          answer = ap comparedOutcome (is .answer) ∙ sym (ap (mapped length) told-so);
-          lent = sym (ap (λ (t : Told (List Entry)). listAfter t old) told-so);
+          answer = ap comparedOutcome (is .answer) ∙ sym (ap (mappedPlaced length) told-so);
+          lent = sym (ap (λ (t : PlacedAnswer (List Entry)). listAfter t old) told-so);
         }
 
     pub list-put : {old new : List ℕ} {n : ℕ} → size ≤ length old → Put (take size found) old new n
@@ -82,15 +82,15 @@ module _ (lines others : List TraceLine) {work found : List ℕ} {size : ℕ} (p
         let fits : leb (length (numbersOf es)) (length old) ≡ true =
         le-leb (length (numbersOf es)) (length old) (omega (arith, size-is)) in
         let told-so : fittedEntries (told es) old ≡ told es =
-        ap (λ (t : Bool). at nowhere (cond t (done es) (refuse noRoom))) fits in
+        ap (λ (t : Bool). at noPlace (cond t (done es) (refuse noRoom))) fits in
         let front : take size found ≡ numbersOf es = appends-front p in
         let half : size / 2 ≡ length es = omega (arith, size-is, numbers-twice es) in
         record {
-          answer = ap (λ (n : ℕ). told n) half ∙ sym (ap (mapped length) told-so);
+          answer = ap (λ (n : ℕ). told n) half ∙ sym (ap (mappedPlaced length) told-so);
           lent =
               put .lent
               ∙ ap (λ (l : List ℕ). l ++ drop (length l) old) front
-              ∙ sym (ap (λ (t : Told (List Entry)). listAfter t old) told-so);
+              ∙ sym (ap (λ (t : PlacedAnswer (List Entry)). listAfter t old) told-so);
         }
 
 -- ---- too many lines
@@ -106,13 +106,13 @@ module _ (first second : List ℕ) {told-so : Bool} (is : told-so ≡ tooMany fi
   pub compares-too-many : {old : List ℕ} {r : Compared} → told-so ≡ true → RefusedNowhere tooManyLines r → Compares first second old old r
   unfolding tooMany
   compares-too-many {old} {r} so made =
-      let over : comparison first second ≡ stopped (refusal tooManyLines) nowhere =
+      let over : comparison first second ≡ stopped (refusal tooManyLines) noPlace =
       ⊎-elim (λ e. too-many-first first second (ltb-true linesLimit (length (linesFrom [] first)) e))
       (λ e. too-many-second first second (ltb-true linesLimit (length (linesFrom [] second)) e))
       (or-cases (ltb linesLimit (length (linesFrom [] first))) (ltb linesLimit (length (linesFrom [] second))) (sym is ∙ so)) in
       record {
-        answer = ap comparedOutcome (made .answer) ∙ sym (ap (λ (t : Told (List Entry)). mapped length (fittedEntries t old)) over);
-        lent = sym (ap (λ (t : Told (List Entry)). listAfter (fittedEntries t old) old) over);
+        answer = ap comparedOutcome (made .answer) ∙ sym (ap (λ (t : PlacedAnswer (List Entry)). mappedPlaced length (fittedEntries t old)) over);
+        lent = sym (ap (λ (t : PlacedAnswer (List Entry)). listAfter (fittedEntries t old) old) over);
       }
 
   pub few-lines : told-so ≡ false → Few first second
@@ -140,7 +140,7 @@ too-many-two first second is few other =
 
 -- ---- both traces read
 module _ (first second old : List ℕ) where
-  by-read : (x y : Told (List TraceLine)) → Few first second → traceRead firstTrace first ≡ x → traceRead secondTrace second ≡ y
+  by-read : (x y : PlacedAnswer (List TraceLine)) → Few first second → traceRead firstTrace first ≡ x → traceRead secondTrace second ≡ y
       → comparison first second ≡ both x y
   by-read x y few left right = few-compared first second few ∙ ap₂ both left right
 
@@ -148,8 +148,8 @@ module _ (first second old : List ℕ) where
   compares-first {r} few t =
       let is = by-read (stopped (t .why) (t .place)) (traceRead secondTrace second) few (t .read) refl in
       record {
-        answer = t .told ∙ sym (ap (λ (z : Told (List Entry)). mapped length (fittedEntries z old)) is);
-        lent = sym (ap (λ (z : Told (List Entry)). listAfter (fittedEntries z old) old) is);
+        answer = t .told ∙ sym (ap (λ (z : PlacedAnswer (List Entry)). mappedPlaced length (fittedEntries z old)) is);
+        lent = sym (ap (λ (z : PlacedAnswer (List Entry)). listAfter (fittedEntries z old) old) is);
       }
 
   module _ {a from : List ℕ} (f : FirstRead first second a from) where
@@ -157,8 +157,8 @@ module _ (first second old : List ℕ) where
     compares-second {r} t =
         let is = by-read (told (datagramLines firstTrace first)) (stopped (t .why) (t .place)) (f .few) (f .read) (t .read) in
         record {
-          answer = t .told ∙ sym (ap (λ (z : Told (List Entry)). mapped length (fittedEntries z old)) is);
-          lent = sym (ap (λ (z : Told (List Entry)). listAfter (fittedEntries z old) old) is);
+          answer = t .told ∙ sym (ap (λ (z : PlacedAnswer (List Entry)). mappedPlaced length (fittedEntries z old)) is);
+          lent = sym (ap (λ (z : PlacedAnswer (List Entry)). listAfter (fittedEntries z old) old) is);
         }
 
     pub compares-all : {new b to : List ℕ} {n : ℕ} {r : Compared} → TraceKept secondTrace second b to n
@@ -167,8 +167,8 @@ module _ (first second old : List ℕ) where
     compares-all t all =
         let is = by-read (told (datagramLines firstTrace first)) (told (datagramLines secondTrace second)) (f .few) (f .read) (t .read) in
         record {
-          answer = all .answer ∙ sym (ap (λ (z : Told (List Entry)). mapped length (fittedEntries z old)) is);
-          lent = all .lent ∙ sym (ap (λ (z : Told (List Entry)). listAfter (fittedEntries z old) old) is);
+          answer = all .answer ∙ sym (ap (λ (z : PlacedAnswer (List Entry)). mappedPlaced length (fittedEntries z old)) is);
+          lent = all .lent ∙ sym (ap (λ (z : PlacedAnswer (List Entry)). listAfter (fittedEntries z old) old) is);
         }
 
 -- what was kept of a trace, in the words of the next call

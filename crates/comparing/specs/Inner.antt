@@ -11,8 +11,8 @@ use Rattle.lines.specs.Lines.{linesFrom}
 use Rattle.lines.specs.Promise.{Appends}
 use Rattle.comparisons.specs.Pairing.{TraceLine, mate}
 use Rattle.comparisons.specs.Entries.{numbersOf, onlySecond, atFirst, entries}
-use Rattle.comparisons.specs.Told.{told, mapped}
-use Rattle.comparisons.specs.Traces.{linesLimit, firstTrace, carriedIn, datagramIn, traceRead}
+use Rattle.comparisons.specs.Told.{told, mappedPlaced}
+use Rattle.comparisons.specs.Traces.{linesLimit, firstTrace, datagramOf, datagramIn, traceRead}
 use Rattle.comparisons.specs.Promise.{comparedOutcome, fittedEntries, listAfter}
 use Rattle.comparisons.specs.Claims.{Few}
 use Rattle.comparisons.specs.declared.Compared.{Compared}
@@ -26,7 +26,7 @@ use Rattle.trace_lines.specs.Lines.{lineFrom, KeptTrace, datagramLines}
 -- the octets of a line that holds a datagram, in the front of some others
 pub record OctetsRead (line new : List ℕ) (size : ℕ) : Type 0 where
   pub inside : size ≤ length new
-  pub carries : carriedIn (take size new) ≡ datagramIn line
+  pub carries : datagramOf (take size new) ≡ datagramIn line
 
 -- a datagram stands in the line that begins at a place of a trace
 pub record HoldsDatagram (trace : List ℕ) (at : ℕ) : Type 0 where
@@ -64,5 +64,5 @@ pub record FirstRead (first second a from : List ℕ) : Type 0 where
 
 -- the entries of two traces that were read
 pub record ListsAll (first second : List TraceLine) (old new : List ℕ) (r : Compared) : Type 0 where
-  pub answer : comparedOutcome r ≡ mapped length (fittedEntries (told (entries first second)) old)
+  pub answer : comparedOutcome r ≡ mappedPlaced length (fittedEntries (told (entries first second)) old)
   pub lent : new ≡ listAfter (fittedEntries (told (entries first second)) old) old

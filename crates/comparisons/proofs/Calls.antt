@@ -15,7 +15,7 @@ use Rattle.lengths.specs.Answers.{done, refuse}
 use Rattle.lengths.specs.declared.Refusal.{Refusal}
 use Rattle.comparisons.specs.Pairing.{TraceLine}
 use Rattle.comparisons.specs.Entries.{Entry, numbersOf, entries}
-use Rattle.comparisons.specs.Told.{Told, told, stopped, Where, at, nowhere, mapped}
+use Rattle.comparisons.specs.Told.{PlacedAnswer, told, stopped, Where, at, noPlace, mappedPlaced}
 use Rattle.comparisons.specs.Traces.{firstTrace, secondTrace, linesRead, traceRead, comparison}
 use Rattle.comparisons.specs.Promise.{comparedOutcome, fittedEntries, listAfter, Compares}
 use Rattle.comparisons.specs.Claims.{TracesAlike, ListedIn, Mirrored, OneOutcome}
@@ -26,7 +26,7 @@ use Rattle.comparisons.proofs.Reading.{either-trace}
 use Rattle.comparisons.proofs.Refusing.{compared as both, few-compared, Listed, listed-traces}
 
 -- ---- an answer, by its outcome
-answerOf : Told ℕ → Compared
+answerOf : PlacedAnswer ℕ → Compared
 answerOf (told count) = compared.Entries count
 answerOf (stopped why place) = compared.Refused why (place .trace) (place .line)
 
@@ -49,10 +49,10 @@ numbers-twice [] = refl
 numbers-twice (e ∷ es) = let more = numbers-twice es in omega arith
 
 -- the entries by the test of the room
-abbrev byRoom : Bool → List Entry → Told (List Entry)
-byRoom fits es = at nowhere (cond fits (done es) (refuse noRoom))
+abbrev byRoom : Bool → List Entry → PlacedAnswer (List Entry)
+byRoom fits es = at noPlace (cond fits (done es) (refuse noRoom))
 
-room-told : (fits : Bool) (es : List Entry) (count : ℕ) → told count ≡ mapped length (byRoom fits es) → (fits ≡ true) × (count ≡ length es)
+room-told : (fits : Bool) (es : List Entry) (count : ℕ) → told count ≡ mappedPlaced length (byRoom fits es) → (fits ≡ true) × (count ≡ length es)
 room-told true es count e = let same : count ≡ length es = cc in (refl, same)
 room-told false es count e = let z : _≡_ {A = ℕ} 0 1 = cc in absurd (omega arith)
 
@@ -65,14 +65,14 @@ record Answered (first second old new : List ℕ) (count : ℕ) : Type 0 where
 answered : {first second old new : List ℕ} {count : ℕ} → Compares first second old new (compared.Entries count)
     → Answered first second old new count
 answered {first} {second} {old} {new} {count} c = by (comparison first second) refl where
-  by : (t : Told (List Entry)) → comparison first second ≡ t → Answered first second old new count
+  by : (t : PlacedAnswer (List Entry)) → comparison first second ≡ t → Answered first second old new count
   by (stopped why place) e =
-      let bad : told count ≡ stopped why place = c .answer ∙ ap (λ (t : Told (List Entry)). mapped length (fittedEntries t old)) e in
+      let bad : told count ≡ stopped why place = c .answer ∙ ap (λ (t : PlacedAnswer (List Entry)). mappedPlaced length (fittedEntries t old)) e in
       let z : _≡_ {A = ℕ} 0 1 = cc in
       absurd (omega arith)
   by (told es) e =
       let fits = leb (length (numbersOf es)) (length old) in
-      let so = room-told fits es count (c .answer ∙ ap (λ (t : Told (List Entry)). mapped length (fittedEntries t old)) e) in
+      let so = room-told fits es count (c .answer ∙ ap (λ (t : PlacedAnswer (List Entry)). mappedPlaced length (fittedEntries t old)) e) in
       record {
         listed = es;
         are = e;
@@ -80,17 +80,17 @@ answered {first} {second} {old} {new} {count} c = by (comparison first second) r
             record {
               lent =
                   c .lent
-                  ∙ ap (λ (t : Told (List Entry)). listAfter (fittedEntries t old) old) e
+                  ∙ ap (λ (t : PlacedAnswer (List Entry)). listAfter (fittedEntries t old) old) e
                   ∙ ap (λ (b : Bool). listAfter (byRoom b es) old) (so .0);
               counted = so .1;
             };
       }
 
 -- nothing listed always has room
-none-fits : (t : Told (List Entry)) (old : List ℕ) → t ≡ told [] → fittedEntries t old ≡ told []
+none-fits : (t : PlacedAnswer (List Entry)) (old : List ℕ) → t ≡ told [] → fittedEntries t old ≡ told []
 unfolding numbersOf
 none-fits t old e =
-    ap (λ (u : Told (List Entry)). fittedEntries u old) e ∙ ap (λ (b : Bool). byRoom b []) (le-leb 0 (length old) (omega arith))
+    ap (λ (u : PlacedAnswer (List Entry)). fittedEntries u old) e ∙ ap (λ (b : Bool). byRoom b []) (le-leb 0 (length old) (omega arith))
 
 length-none : (es : List Entry) → 0 ≡ length es → es ≡ []
 length-none [] e = refl
@@ -121,14 +121,14 @@ answer-of-alike {first} {second} {old} {r = r} c t =
     ∙ ap₂ both (t .read-first) (t .read-second)
     ∙ ap (λ (es : List Entry). told es) (empty-exactly (t .left) (t .right) .1 (t .alike)) in
     sym (answer-back r)
-    ∙ ap answerOf (c .answer ∙ ap (mapped length) (none-fits (comparison first second) old nothing))
+    ∙ ap answerOf (c .answer ∙ ap (mappedPlaced length) (none-fits (comparison first second) old nothing))
 
 pub empty-call : {first second old new : List ℕ} {r : Compared} → Compares first second old new r
     → (r ≡ compared.Entries 0) ↔ TracesAlike first second
 empty-call c = (alike-of-answer c, answer-of-alike c)
 
 -- ---- a trace with itself
-one-list : {a b : List TraceLine} → _≡_ {A = Told (List TraceLine)} (told a) (told b) → a ≡ b
+one-list : {a b : List TraceLine} → _≡_ {A = PlacedAnswer (List TraceLine)} (told a) (told b) → a ≡ b
 one-list e = cc
 
 pub itself-call : {trace old new : List ℕ} {count : ℕ} → Compares trace trace old new (compared.Entries count) → (count ≡ 0) × (new ≡ old)
@@ -173,18 +173,18 @@ pub room : {first second old new : List ℕ} {r : Compared} (listed : List Entry
     → (r ≡ compared.Refused (refusal noRoom) 0 0) ↔ (length old < 2 * length listed)
 unfolding answerOf
 room {first} {second} {old} {r = r} listed c e = (forth, back) where
-  outcome : (b : Bool) → leb (length (numbersOf listed)) (length old) ≡ b → comparedOutcome r ≡ mapped length (byRoom b listed)
+  outcome : (b : Bool) → leb (length (numbersOf listed)) (length old) ≡ b → comparedOutcome r ≡ mappedPlaced length (byRoom b listed)
   outcome b is =
       c .answer
-      ∙ ap (λ (t : Told (List Entry)). mapped length (fittedEntries t old)) e
-      ∙ ap (λ (x : Bool). mapped length (byRoom x listed)) is
+      ∙ ap (λ (t : PlacedAnswer (List Entry)). mappedPlaced length (fittedEntries t old)) e
+      ∙ ap (λ (x : Bool). mappedPlaced length (byRoom x listed)) is
 
   forth : r ≡ compared.Refused (refusal noRoom) 0 0 → length old < 2 * length listed
   forth is =
       ⊎-elim (λ full. omega (arith, numbers-twice listed))
       (λ enough.
       let there = outcome true (le-leb (length (numbersOf listed)) (length old) enough) in
-      let bad : stopped (refusal noRoom) nowhere ≡ told (length listed) = sym (ap comparedOutcome is) ∙ there in
+      let bad : stopped (refusal noRoom) noPlace ≡ told (length listed) = sym (ap comparedOutcome is) ∙ there in
       let z : _≡_ {A = ℕ} 0 1 = cc in
       absurd (omega arith))
       (below-or-not (length old) (length (numbersOf listed)))
@@ -195,7 +195,7 @@ room {first} {second} {old} {r = r} listed c e = (forth, back) where
       ∙ ap answerOf (outcome false (lt-leb (length (numbersOf listed)) (length old) (omega (arith, numbers-twice listed))))
 
 -- ---- "and the lent list stays"
-stays : (t : Told (List Entry)) (old : List ℕ) (why : Refusal) (place : Where) → stopped why place ≡ mapped length t
+stays : (t : PlacedAnswer (List Entry)) (old : List ℕ) (why : Refusal) (place : Where) → stopped why place ≡ mappedPlaced length t
     → listAfter t old ≡ old
 stays (told es) old why place e = let z : _≡_ {A = ℕ} 0 1 = cc in absurd (omega arith)
 stays (stopped r p) old why place e = refl

@@ -9,13 +9,13 @@ use Rattle.lines.specs.Lines.{linesFrom}
 use Rattle.lines.specs.Text.{characters}
 use Rattle.comparisons.specs.Pairing.{having}
 use Rattle.comparisons.specs.Entries.{numbersOf, same, sameEach, given, lineByLine, entries}
-use Rattle.comparisons.specs.Traces.{carriedIn, datagramIn, linesRead, traceRead, comparison}
+use Rattle.comparisons.specs.Traces.{datagramOf, datagramIn, linesRead, traceRead, comparison}
 use Rattle.comparisons.specs.Cases.{Cases}
 
 pub cases : Cases
 unfolding unless characters linesFrom lineOctets octetsIn allDigits digitOf readDatagram wholeOf numberOf extraAt sparesAt parityAt octetAt
     endOf itemsAt itemAt lengthWithin allowed carriedBy lengthAt tab allBelow having numbersOf same sameEach given lineByLine entries
-    carriedIn datagramIn linesRead traceRead comparison
+    datagramOf datagramIn linesRead traceRead comparison
 cases =
     record {
       alike = refl;

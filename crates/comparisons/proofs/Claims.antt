@@ -1,5 +1,5 @@
 -- The claims of this crate, each proved by a law. Assumes nothing.
-use Rattle.comparisons.specs.Claims.{Claims, Empty, Itself, Exchange, Refuses}
+use Rattle.comparisons.specs.Claims.{Claims, EmptyTraces, Itself, Exchange, ComparisonRefuses}
 use Rattle.comparisons.proofs.Having.{mates}
 use Rattle.comparisons.proofs.SideBySide.{by-number}
 use Rattle.comparisons.proofs.Listing.{empty-exactly, itself-none, number-exchanged, mirrored}
@@ -8,7 +8,7 @@ use Rattle.comparisons.proofs.Refusing.{too-many-exactly, first-unread,
 use Rattle.comparisons.proofs.Calls.{one-outcome, empty-call, itself-call, exchange-call, room, unchanged}
 use Rattle.comparisons.proofs.Cases.{cases}
 
-empty : Empty
+empty : EmptyTraces
 empty = record { entries = empty-exactly; call = empty-call }
 
 itself : Itself
@@ -17,7 +17,7 @@ itself = record { entries = itself-none; call = itself-call }
 exchange : Exchange
 exchange = record { number = number-exchanged; entries = mirrored; call = exchange-call }
 
-refuses : Refuses
+refuses : ComparisonRefuses
 refuses =
     record {
       tooMany = too-many-exactly;

@@ -10,21 +10,21 @@ use native.Mathlib.Nat.{add-zero}
 use native.Mathlib.Numerals.{add-one}
 use borrow.Author.Tests.{eq-eqb, ne-eqb}
 use Rattle.octets.proofs.Laws.{same-or-not}
-use Rattle.comparisons.specs.Pairing.{TraceLine, numberIn, having, mate, Pair}
+use Rattle.comparisons.specs.Pairing.{TraceLine, numberOfLine, having, mate, Pair}
 use Rattle.comparisons.specs.Claims.{Mates}
 
 -- ---- one line more
-pub having-hit : (number : ℕ) (l : TraceLine) (lines : List TraceLine) → numberIn l ≡ number
+pub having-hit : (number : ℕ) (l : TraceLine) (lines : List TraceLine) → numberOfLine l ≡ number
     → having number (l ∷ lines) ≡ l ∷ having number lines
 unfolding having
 having-hit number l lines is =
-    ap (λ (b : Bool). cond b (l ∷ having number lines) (having number lines)) (eq-eqb (numberIn l) number is)
+    ap (λ (b : Bool). cond b (l ∷ having number lines) (having number lines)) (eq-eqb (numberOfLine l) number is)
 
-pub having-miss : (number : ℕ) (l : TraceLine) (lines : List TraceLine) → (numberIn l ≡ number → ⊥)
+pub having-miss : (number : ℕ) (l : TraceLine) (lines : List TraceLine) → (numberOfLine l ≡ number → ⊥)
     → having number (l ∷ lines) ≡ having number lines
 unfolding having
 having-miss number l lines not =
-    ap (λ (b : Bool). cond b (l ∷ having number lines) (having number lines)) (ne-eqb (numberIn l) number not)
+    ap (λ (b : Bool). cond b (l ∷ having number lines) (having number lines)) (ne-eqb (numberOfLine l) number not)
 
 pub having-none : (number : ℕ) → having number [] ≡ []
 unfolding having
@@ -42,10 +42,10 @@ having-append number (l ∷ lines) more =
     having-miss number l (lines ++ more) not
     ∙ having-append number lines more
     ∙ ap (λ (h : List TraceLine). h ++ having number more) (sym (having-miss number l lines not)))
-    (same-or-not (numberIn l) number)
+    (same-or-not (numberOfLine l) number)
 
 -- one more at the end counts, if it has the number
-pub count-hit : (number : ℕ) (before : List TraceLine) (l : TraceLine) → numberIn l ≡ number
+pub count-hit : (number : ℕ) (before : List TraceLine) (l : TraceLine) → numberOfLine l ≡ number
     → length (having number (before ++ (l ∷ []))) ≡ suc (length (having number before))
 count-hit number before l is =
     ap length
@@ -55,7 +55,7 @@ count-hit number before l is =
     ∙ length-append (having number before) (l ∷ [])
     ∙ add-one (length (having number before))
 
-pub count-miss : (number : ℕ) (before : List TraceLine) (l : TraceLine) → (numberIn l ≡ number → ⊥)
+pub count-miss : (number : ℕ) (before : List TraceLine) (l : TraceLine) → (numberOfLine l ≡ number → ⊥)
     → length (having number (before ++ (l ∷ []))) ≡ length (having number before)
 count-miss number before l not =
     ap length
@@ -67,7 +67,7 @@ count-miss number before l not =
 -- ---- each of them has the number
 abbrev pub Of : ℕ → List TraceLine → Type 0
 Of number [] = Unit {0}
-Of number (l ∷ lines) = (numberIn l ≡ number) × Of number lines
+Of number (l ∷ lines) = (numberOfLine l ≡ number) × Of number lines
 
 pub having-of : (number : ℕ) (lines : List TraceLine) → Of number (having number lines)
 having-of number [] = rw (having-none number) tt
@@ -75,7 +75,7 @@ having-of number (l ∷ lines) =
     ⊎-elim
     (λ is. rw (having-hit number l lines is) (is, having-of number lines))
     (λ not. rw (having-miss number l lines not) (having-of number lines))
-    (same-or-not (numberIn l) number)
+    (same-or-not (numberOfLine l) number)
 
 -- ---- the k-th of some
 module _ {A : Type 0} where
@@ -95,7 +95,7 @@ module _ {A : Type 0} where
 -- ---- the line that is looked for is the one that pairs
 pub mates : Mates
 mates before after second l m e =
-    let number = numberIn l in
+    let number = numberOfLine l in
     record {
       number = number;
       k = length (having number before);

@@ -8,10 +8,10 @@ use mathlib.Core.Option.{Option, none, some}
 use lib.ListN.{length, getElem?}
 use native.Mathlib.Omega.{arith}
 use Rattle.datagrams.specs.Carried.{Carried}
-use Rattle.comparisons.specs.Pairing.{TraceLine, numberIn, having, Pair}
+use Rattle.comparisons.specs.Pairing.{TraceLine, numberOfLine, having, Pair}
 use Rattle.comparisons.specs.Entries.{Entry, entriesOf, same, sparesApart, parityApart, given, differences, onlyFirst, onlySecond}
 use Rattle.comparisons.specs.Entries.{entries}
-use Rattle.comparisons.specs.Claims.{about, sideBySide, Alike, Mirrored, times, otherCode, exchanged}
+use Rattle.comparisons.specs.Claims.{about, sideBySide, AlikeTraces, Mirrored, times, otherCode, exchanged}
 use Rattle.comparisons.proofs.Having.{Of, having-of}
 use Rattle.comparisons.proofs.Sameness.{rowsOf, given-alike, given-itself, given-sym}
 use Rattle.comparisons.proofs.SideBySide.{by-number, about-hit, about-none}
@@ -40,10 +40,10 @@ beside-none number [] (m ∷ second) left right e = let z : _≡_ {A = ℕ} 0 1 
 beside-none number (l ∷ first) [] left right e = let z : _≡_ {A = ℕ} 0 1 = cc in absurd (omega arith)
 beside-none number (l ∷ first) (m ∷ second) left right e =
     let codes = given (differences (l .datagram) (m .datagram)) in
-    let parts = append-none (entriesOf (numberIn l) codes) (sideBySide first second) e in
+    let parts = append-none (entriesOf (numberOfLine l) codes) (sideBySide first second) e in
     let rest = beside-none number first second (left .1) (right .1) (parts .1) in
     let here : l .datagram ≡ m .datagram =
-    given-alike (l .datagram) (m .datagram) (left .0 ∙ sym (right .0)) (entries-none (numberIn l) codes (parts .0)) in
+    given-alike (l .datagram) (m .datagram) (left .0 ∙ sym (right .0)) (entries-none (numberOfLine l) codes (parts .0)) in
     record { equal = by here (rest .equal); as-long = ap suc (rest .as-long) }
   where
     by : l .datagram ≡ m .datagram
@@ -64,7 +64,7 @@ none-beside (l ∷ first) (m ∷ second) all =
     let same : m .datagram ≡ l .datagram = sym (all .equal 0 l m refl refl) in
     let off : given (differences (l .datagram) (m .datagram)) ≡ [] =
     ap (λ (d : Carried). given (differences (l .datagram) d)) same ∙ given-itself (l .datagram) in
-    ap₂ (λ (codes : List ℕ) (es : List Entry). entriesOf (numberIn l) codes ++ es) off
+    ap₂ (λ (codes : List ℕ) (es : List Entry). entriesOf (numberOfLine l) codes ++ es) off
     (none-beside first second (record { equal = λ k a b. all .equal (suc k) a b; as-long = omega (arith, all .as-long) }))
 
 -- a list with nothing of any number is empty
@@ -76,7 +76,7 @@ about-empty (e ∷ es) nothing =
     absurd (omega arith)
 
 module _ (first second : List TraceLine) where
-  alike-of-none : entries first second ≡ [] → Alike first second
+  alike-of-none : entries first second ≡ [] → AlikeTraces first second
   alike-of-none e =
       let beside : (number : ℕ) → AllBeside (having number first) (having number second) = λ number.
       beside-none number (having number first) (having number second) (having-of number first) (having-of number second)
@@ -86,7 +86,7 @@ module _ (first second : List TraceLine) where
         none-left = λ number. (beside number) .as-long;
       }
 
-  none-of-alike : Alike first second → entries first second ≡ []
+  none-of-alike : AlikeTraces first second → entries first second ≡ []
   none-of-alike all =
       about-empty (entries first second)
       (λ number.
@@ -97,7 +97,7 @@ module _ (first second : List TraceLine) where
         as-long = all .none-left number;
       }))
 
-  pub empty-exactly : (entries first second ≡ []) ↔ Alike first second
+  pub empty-exactly : (entries first second ≡ []) ↔ AlikeTraces first second
   empty-exactly = (alike-of-none, none-of-alike)
 
 -- ---- itself
@@ -140,13 +140,13 @@ beside-exchanged : (number : ℕ) (first second : List TraceLine) → Of number 
 unfolding sideBySide
 beside-exchanged number [] [] left right = refl
 beside-exchanged number [] (m ∷ second) left right =
-    ap (λ (es : List Entry). record { number = numberIn m; code = onlyFirst } ∷ es) (beside-exchanged number [] second left (right .1))
+    ap (λ (es : List Entry). record { number = numberOfLine m; code = onlyFirst } ∷ es) (beside-exchanged number [] second left (right .1))
 beside-exchanged number (l ∷ first) [] left right =
-    ap (λ (es : List Entry). record { number = numberIn l; code = onlySecond } ∷ es) (beside-exchanged number first [] (left .1) right)
+    ap (λ (es : List Entry). record { number = numberOfLine l; code = onlySecond } ∷ es) (beside-exchanged number first [] (left .1) right)
 beside-exchanged number (l ∷ first) (m ∷ second) left right =
-    ap₂ (λ (x y : List Entry). x ++ y) (pair-exchanged (numberIn l) (numberIn m) (l .datagram) (m .datagram) (right .0 ∙ sym (left .0)))
+    ap₂ (λ (x y : List Entry). x ++ y) (pair-exchanged (numberOfLine l) (numberOfLine m) (l .datagram) (m .datagram) (right .0 ∙ sym (left .0)))
     (beside-exchanged number first second (left .1) (right .1))
-    ∙ sym (map-append (entriesOf (numberIn l) (given (differences (l .datagram) (m .datagram)))) (sideBySide first second))
+    ∙ sym (map-append (entriesOf (numberOfLine l) (given (differences (l .datagram) (m .datagram)))) (sideBySide first second))
 
 module _ (first second : List TraceLine) where
   pub number-exchanged : (number : ℕ) → about number (entries second first) ≡ map exchanged (about number (entries first second))

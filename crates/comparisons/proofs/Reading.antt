@@ -9,20 +9,20 @@ use Rattle.lengths.specs.Answers.{Answer, done, refused}
 use Rattle.lengths.specs.declared.Refusal.{Refusal}
 use Rattle.datagrams.specs.Carried.{Carried}
 use Rattle.comparisons.specs.Pairing.{TraceLine}
-use Rattle.comparisons.specs.Told.{Told, told, stopped, Where, at, _>>=_}
+use Rattle.comparisons.specs.Told.{PlacedAnswer, told, stopped, Where, at, _>>=_}
 use Rattle.comparisons.specs.Traces.{datagramIn, linesRead}
 use Rattle.comparisons.specs.Claims.{Readable, AllReadable}
 
 -- lines that were read before those that are still to be read
-abbrev pub behind : List TraceLine → Told (List TraceLine) → Told (List TraceLine)
+abbrev pub behind : List TraceLine → PlacedAnswer (List TraceLine) → PlacedAnswer (List TraceLine)
 behind front (told lines) = told (front ++ lines)
 behind front (stopped why place) = stopped why place
 
-pub behind-none : (t : Told (List TraceLine)) → behind [] t ≡ t
+pub behind-none : (t : PlacedAnswer (List TraceLine)) → behind [] t ≡ t
 behind-none (told lines) = refl
 behind-none (stopped why place) = refl
 
-pub behind-behind : (front more : List TraceLine) (t : Told (List TraceLine)) → behind front (behind more t) ≡ behind (front ++ more) t
+pub behind-behind : (front more : List TraceLine) (t : PlacedAnswer (List TraceLine)) → behind front (behind more t) ≡ behind (front ++ more) t
 behind-behind front more (told lines) = ap (λ (l : List TraceLine). told l) (sym (append-assoc front more lines))
 behind-behind front more (stopped why place) = refl
 
@@ -37,12 +37,12 @@ unfolding linesRead
 read-empty trace n line lines is = ap (λ (l : List ℕ). linesRead trace n (l ∷ lines)) is
 
 -- a line that is not empty, by what it holds
-abbrev told-so : ℕ → ℕ → Answer Carried → Told (List TraceLine) → Told (List TraceLine)
+abbrev told-so : ℕ → ℕ → Answer Carried → PlacedAnswer (List TraceLine) → PlacedAnswer (List TraceLine)
 told-so trace n held more =
     _>>=_ (at (record { trace = trace; line = n }) held)
     (λ (datagram : Carried). _>>=_ more (λ (l : List TraceLine). told (record { line = n; datagram = datagram } ∷ l)))
 
-one-behind : (l : TraceLine) (more : Told (List TraceLine))
+one-behind : (l : TraceLine) (more : PlacedAnswer (List TraceLine))
     → _>>=_ more (λ (lines : List TraceLine). told (l ∷ lines)) ≡ behind (l ∷ []) more
 one-behind l (told lines) = refl
 one-behind l (stopped why place) = refl
@@ -143,12 +143,12 @@ first-refused trace n before line after why all some is =
     ∙ ap (behind (steps .front)) (read-refused trace (n + length before) line after why some is)
 
 -- ---- whatever stops a trace names that trace
-stopped-behind : (front : List TraceLine) (t : Told (List TraceLine)) (why : Refusal) (place : Where) → behind front t ≡ stopped why place
+stopped-behind : (front : List TraceLine) (t : PlacedAnswer (List TraceLine)) (why : Refusal) (place : Where) → behind front t ≡ stopped why place
     → t ≡ stopped why place
 stopped-behind front (told lines) why place e = let z : _≡_ {A = ℕ} 0 1 = cc in absurd (omega arith)
 stopped-behind front (stopped r p) why place e = e
 
-stopped-so : (trace n : ℕ) (held : Answer Carried) (more : Told (List TraceLine)) (why : Refusal) (place : Where)
+stopped-so : (trace n : ℕ) (held : Answer Carried) (more : PlacedAnswer (List TraceLine)) (why : Refusal) (place : Where)
     → ((r : Refusal) (p : Where) → more ≡ stopped r p → p .trace ≡ trace)
     → told-so trace n held more ≡ stopped why place → place .trace ≡ trace
 stopped-so trace n (refused r) more why place later e =
@@ -167,12 +167,12 @@ stopped-trace trace n ((c ∷ line) ∷ lines) why place e =
     (λ r p is. stopped-trace trace (suc n) lines r p is) e
 
 -- ---- a trace reads the same as the first or as the second
-told-behind : (front : List TraceLine) (t : Told (List TraceLine)) (held : List TraceLine) → behind front t ≡ told held
+told-behind : (front : List TraceLine) (t : PlacedAnswer (List TraceLine)) (held : List TraceLine) → behind front t ≡ told held
     → (more : List TraceLine) × (t ≡ told more) × (held ≡ front ++ more)
 told-behind front (told more) held e = let same : front ++ more ≡ held = cc in (more, refl, sym same)
 told-behind front (stopped why place) held e = let z : _≡_ {A = ℕ} 0 1 = cc in absurd (omega arith)
 
-told-done : (trace n : ℕ) (a : Answer Carried) (more : Told (List TraceLine)) (held : List TraceLine) → told-so trace n a more ≡ told held
+told-done : (trace n : ℕ) (a : Answer Carried) (more : PlacedAnswer (List TraceLine)) (held : List TraceLine) → told-so trace n a more ≡ told held
     → (datagram : Carried) × (a ≡ done datagram)
 told-done trace n (done d) more held e = (d, refl)
 told-done trace n (refused why) more held e = let z : _≡_ {A = ℕ} 0 1 = cc in absurd (omega arith)

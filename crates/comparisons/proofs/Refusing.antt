@@ -16,21 +16,21 @@ use Rattle.lengths.specs.declared.Refusal.{Refusal}
 use Rattle.lines.specs.Lines.{linesFrom}
 use Rattle.comparisons.specs.Pairing.{TraceLine}
 use Rattle.comparisons.specs.Entries.{Entry, entries}
-use Rattle.comparisons.specs.Told.{Told, told, stopped, Where, at, nowhere, _>>=_}
+use Rattle.comparisons.specs.Told.{PlacedAnswer, told, stopped, Where, at, noPlace, _>>=_}
 use Rattle.comparisons.specs.Traces.{linesLimit, firstTrace, secondTrace, linesRead, traceRead, comparison}
 use Rattle.comparisons.specs.Claims.{Few, AllReadable, FirstUnread}
 use Rattle.comparisons.proofs.Reading.{all-read, first-refused, stopped-trace}
 
 -- ---- by what was found
 -- both traces as they were read
-abbrev pub compared : Told (List TraceLine) → Told (List TraceLine) → Told (List Entry)
+abbrev pub compared : PlacedAnswer (List TraceLine) → PlacedAnswer (List TraceLine) → PlacedAnswer (List Entry)
 compared first second =
     _>>=_ first (λ (a : List TraceLine). _>>=_ second (λ (b : List TraceLine). told (entries a b)))
 
 -- whether the traces are too long, and both as they were read
-abbrev asked : Bool → Bool → Told (List TraceLine) → Told (List TraceLine) → Told (List Entry)
+abbrev asked : Bool → Bool → PlacedAnswer (List TraceLine) → PlacedAnswer (List TraceLine) → PlacedAnswer (List Entry)
 asked long longer first second =
-    _>>=_ (at nowhere (unless (when long tooManyLines ∷ when longer tooManyLines ∷ []) (tt {0})))
+    _>>=_ (at noPlace (unless (when long tooManyLines ∷ when longer tooManyLines ∷ []) (tt {0})))
     (λ (few : Unit {0}). compared first second)
 
 module _ (first second : List ℕ) where
@@ -42,12 +42,12 @@ module _ (first second : List ℕ) where
   by-tests long longer one two =
       ap₂ (λ (p q : Bool). asked p q (traceRead firstTrace first) (traceRead secondTrace second)) one two
 
-  pub too-many-first : linesLimit < length (linesFrom [] first) → comparison first second ≡ stopped (refusal tooManyLines) nowhere
+  pub too-many-first : linesLimit < length (linesFrom [] first) → comparison first second ≡ stopped (refusal tooManyLines) noPlace
   unfolding unless
   too-many-first over =
       by-tests true (ltb linesLimit (length (linesFrom [] second))) (lt-ltb linesLimit (length (linesFrom [] first)) over) refl
 
-  pub too-many-second : linesLimit < length (linesFrom [] second) → comparison first second ≡ stopped (refusal tooManyLines) nowhere
+  pub too-many-second : linesLimit < length (linesFrom [] second) → comparison first second ≡ stopped (refusal tooManyLines) noPlace
   unfolding unless
   too-many-second over =
       ⊎-elim (λ first-over. too-many-first first-over)
@@ -62,18 +62,18 @@ module _ (first second : List ℕ) where
       (le-ltb linesLimit (length (linesFrom [] second)) (few .right))
 
   -- ---- 22 exactly
-  never-22 : (a b : Told (List TraceLine)) → ((why : Refusal) (place : Where) → a ≡ stopped why place → place .trace ≡ firstTrace)
+  never-22 : (a b : PlacedAnswer (List TraceLine)) → ((why : Refusal) (place : Where) → a ≡ stopped why place → place .trace ≡ firstTrace)
       → ((why : Refusal) (place : Where) → b ≡ stopped why place → place .trace ≡ secondTrace)
-      → compared a b ≡ stopped (refusal tooManyLines) nowhere → ⊥
+      → compared a b ≡ stopped (refusal tooManyLines) noPlace → ⊥
   never-22 (stopped r p) b left right e =
-      let same : p ≡ nowhere = cc in
+      let same : p ≡ noPlace = cc in
       absurd (omega (arith, left r p refl, ap (λ (w : Where). w .trace) same))
   never-22 (told a) (stopped r p) left right e =
-      let same : p ≡ nowhere = cc in
+      let same : p ≡ noPlace = cc in
       absurd (omega (arith, right r p refl, ap (λ (w : Where). w .trace) same))
   never-22 (told a) (told b) left right e = let z : _≡_ {A = ℕ} 0 1 = cc in absurd (omega arith)
 
-  few-never : Few first second → comparison first second ≡ stopped (refusal tooManyLines) nowhere → ⊥
+  few-never : Few first second → comparison first second ≡ stopped (refusal tooManyLines) noPlace → ⊥
   unfolding traceRead
   few-never few e =
       never-22 (traceRead firstTrace first) (traceRead secondTrace second)
@@ -81,10 +81,10 @@ module _ (first second : List ℕ) where
       (stopped-trace secondTrace 1 (linesFrom [] second))
       (sym (few-compared few) ∙ e)
 
-  pub too-many-exactly : (comparison first second ≡ stopped (refusal tooManyLines) nowhere)
+  pub too-many-exactly : (comparison first second ≡ stopped (refusal tooManyLines) noPlace)
       ↔ ((linesLimit < length (linesFrom [] first)) ⊎ (linesLimit < length (linesFrom [] second)))
   too-many-exactly = (forth, λ over. ⊎-elim too-many-first too-many-second over) where
-    forth : comparison first second ≡ stopped (refusal tooManyLines) nowhere
+    forth : comparison first second ≡ stopped (refusal tooManyLines) noPlace
         → (linesLimit < length (linesFrom [] first)) ⊎ (linesLimit < length (linesFrom [] second))
     forth e =
         ⊎-elim (λ over. inl over)
@@ -100,7 +100,7 @@ module _ (first second : List ℕ) where
   first-unread count why few u =
       let place : 1 + length (u .before) ≡ count + 1 = omega (arith, u .counted) in
       few-compared few
-      ∙ ap (λ (a : Told (List TraceLine)). compared a (traceRead secondTrace second))
+      ∙ ap (λ (a : PlacedAnswer (List TraceLine)). compared a (traceRead secondTrace second))
       (ap (linesRead firstTrace 1) (u .cut)
       ∙ first-refused firstTrace 1 (u .before) (u .line) (u .after) why (u .readable) (u .some) (u .refused)
       ∙ ap (λ (n : ℕ). stopped why (record { trace = firstTrace; line = n })) place)
@@ -135,7 +135,7 @@ module _ (first second : List ℕ) where
     pub read-second : traceRead secondTrace second ≡ told right
     pub are : listed ≡ entries left right
 
-  both-told : (a b : Told (List TraceLine)) (listed : List Entry) → compared a b ≡ told listed
+  both-told : (a b : PlacedAnswer (List TraceLine)) (listed : List Entry) → compared a b ≡ told listed
       → (left : List TraceLine) × (right : List TraceLine) × (a ≡ told left) × (b ≡ told right) × (listed ≡ entries left right)
   both-told (told a) (told b) listed e = let same : entries a b ≡ listed = cc in (a, b, refl, refl, sym same)
   both-told (told a) (stopped r p) listed e = let z : _≡_ {A = ℕ} 0 1 = cc in absurd (omega arith)
@@ -153,5 +153,5 @@ module _ (first second : List ℕ) where
       (below-or-not linesLimit (length (linesFrom [] second))))
       (below-or-not linesLimit (length (linesFrom [] first)))
     where
-      not-both : comparison first second ≡ stopped (refusal tooManyLines) nowhere → ⊥
+      not-both : comparison first second ≡ stopped (refusal tooManyLines) noPlace → ⊥
       not-both is = let z : _≡_ {A = ℕ} 0 1 = cc in omega arith

@@ -8,7 +8,7 @@ use mathlib.Core.Option.{Option, none, some}
 use lib.ListN.{length, drop, getElem?}
 use borrow.Author.Tests.{eq-eqb, ne-eqb}
 use Rattle.octets.proofs.Laws.{same-or-not}
-use Rattle.comparisons.specs.Pairing.{TraceLine, numberIn, having, mate}
+use Rattle.comparisons.specs.Pairing.{TraceLine, numberOfLine, having, mate}
 use Rattle.comparisons.specs.Entries.{Entry, entriesOf, given, differences, onlyFirst, onlySecond, atFirst, atSecond}
 use Rattle.comparisons.specs.Entries.{lineByLine, entries}
 use Rattle.comparisons.specs.Claims.{about, sideBySide, ByNumber}
@@ -57,23 +57,23 @@ abbrev Listing : Type 0
 Listing = TraceLine → Option TraceLine → List Entry
 
 record OfItsNumber (at : Listing) : Type 0 where
-  own : (number : ℕ) (l : TraceLine) (o : Option TraceLine) → numberIn l ≡ number → about number (at l o) ≡ at l o
-  other : (number : ℕ) (l : TraceLine) (o : Option TraceLine) → (numberIn l ≡ number → ⊥) → about number (at l o) ≡ []
+  own : (number : ℕ) (l : TraceLine) (o : Option TraceLine) → numberOfLine l ≡ number → about number (at l o) ≡ at l o
+  other : (number : ℕ) (l : TraceLine) (o : Option TraceLine) → (numberOfLine l ≡ number → ⊥) → about number (at l o) ≡ []
 
-first-own : (number : ℕ) (l : TraceLine) (o : Option TraceLine) → numberIn l ≡ number → about number (atFirst l o) ≡ atFirst l o
-first-own number l none is = about-own number (numberIn l) (onlyFirst ∷ []) is
-first-own number l (some m) is = about-own number (numberIn l) (given (differences (l .datagram) (m .datagram))) is
+first-own : (number : ℕ) (l : TraceLine) (o : Option TraceLine) → numberOfLine l ≡ number → about number (atFirst l o) ≡ atFirst l o
+first-own number l none is = about-own number (numberOfLine l) (onlyFirst ∷ []) is
+first-own number l (some m) is = about-own number (numberOfLine l) (given (differences (l .datagram) (m .datagram))) is
 
-first-other : (number : ℕ) (l : TraceLine) (o : Option TraceLine) → (numberIn l ≡ number → ⊥) → about number (atFirst l o) ≡ []
-first-other number l none not = about-other number (numberIn l) (onlyFirst ∷ []) not
-first-other number l (some m) not = about-other number (numberIn l) (given (differences (l .datagram) (m .datagram))) not
+first-other : (number : ℕ) (l : TraceLine) (o : Option TraceLine) → (numberOfLine l ≡ number → ⊥) → about number (atFirst l o) ≡ []
+first-other number l none not = about-other number (numberOfLine l) (onlyFirst ∷ []) not
+first-other number l (some m) not = about-other number (numberOfLine l) (given (differences (l .datagram) (m .datagram))) not
 
-second-own : (number : ℕ) (l : TraceLine) (o : Option TraceLine) → numberIn l ≡ number → about number (atSecond l o) ≡ atSecond l o
-second-own number l none is = about-own number (numberIn l) (onlySecond ∷ []) is
+second-own : (number : ℕ) (l : TraceLine) (o : Option TraceLine) → numberOfLine l ≡ number → about number (atSecond l o) ≡ atSecond l o
+second-own number l none is = about-own number (numberOfLine l) (onlySecond ∷ []) is
 second-own number l (some m) is = about-none number
 
-second-other : (number : ℕ) (l : TraceLine) (o : Option TraceLine) → (numberIn l ≡ number → ⊥) → about number (atSecond l o) ≡ []
-second-other number l none not = about-other number (numberIn l) (onlySecond ∷ []) not
+second-other : (number : ℕ) (l : TraceLine) (o : Option TraceLine) → (numberOfLine l ≡ number → ⊥) → about number (atSecond l o) ≡ []
+second-other number l none not = about-other number (numberOfLine l) (onlySecond ∷ []) not
 second-other number l (some m) not = about-none number
 
 firsts : OfItsNumber atFirst
@@ -110,7 +110,7 @@ walk-meet at k (l ∷ lines) other =
 
 module _ (at : Listing) (its : OfItsNumber at) (number : ℕ) where
   -- one line of this number, or of another
-  line-hit : (before : List TraceLine) (l : TraceLine) (lines other : List TraceLine) → numberIn l ≡ number
+  line-hit : (before : List TraceLine) (l : TraceLine) (lines other : List TraceLine) → numberOfLine l ≡ number
       → about number (lineByLine at (before ++ (l ∷ [])) lines other)
       ≡ walk at (length (having number (before ++ (l ∷ [])))) (having number lines) (having number other)
       → about number (lineByLine at before (l ∷ lines) other)
@@ -125,7 +125,7 @@ module _ (at : Listing) (its : OfItsNumber at) (number : ℕ) where
       is (count-hit number before l is)
       ∙ ap (λ (h : List TraceLine). walk at k h (having number other)) (sym (having-hit number l lines is))
 
-  line-miss : (before : List TraceLine) (l : TraceLine) (lines other : List TraceLine) → (numberIn l ≡ number → ⊥)
+  line-miss : (before : List TraceLine) (l : TraceLine) (lines other : List TraceLine) → (numberOfLine l ≡ number → ⊥)
       → about number (lineByLine at (before ++ (l ∷ [])) lines other)
       ≡ walk at (length (having number (before ++ (l ∷ [])))) (having number lines) (having number other)
       → about number (lineByLine at before (l ∷ lines) other)
@@ -146,7 +146,7 @@ module _ (at : Listing) (its : OfItsNumber at) (number : ℕ) where
       ⊎-elim
       (λ is. line-hit before l lines other is (by-lines (before ++ (l ∷ [])) lines other))
       (λ not. line-miss before l lines other not (by-lines (before ++ (l ∷ [])) lines other))
-      (same-or-not (numberIn l) number)
+      (same-or-not (numberOfLine l) number)
 
   by-meeting : (lines other : List TraceLine)
       → about number (lineByLine at [] lines other) ≡ meet at (having number lines) (having number other)
@@ -157,12 +157,12 @@ module _ (at : Listing) (its : OfItsNumber at) (number : ℕ) where
 join : (first second : List TraceLine) → meet atFirst first second ++ meet atSecond second first ≡ sideBySide first second
 unfolding meet sideBySide
 join [] [] = refl
-join [] (m ∷ second) = ap (λ (es : List Entry). entriesOf (numberIn m) (onlySecond ∷ []) ++ es) (join [] second)
-join (l ∷ first) [] = ap (λ (es : List Entry). entriesOf (numberIn l) (onlyFirst ∷ []) ++ es) (join first [])
+join [] (m ∷ second) = ap (λ (es : List Entry). entriesOf (numberOfLine m) (onlySecond ∷ []) ++ es) (join [] second)
+join (l ∷ first) [] = ap (λ (es : List Entry). entriesOf (numberOfLine l) (onlyFirst ∷ []) ++ es) (join first [])
 join (l ∷ first) (m ∷ second) =
-    append-assoc (entriesOf (numberIn l) (given (differences (l .datagram) (m .datagram)))) (meet atFirst first second)
+    append-assoc (entriesOf (numberOfLine l) (given (differences (l .datagram) (m .datagram)))) (meet atFirst first second)
     (meet atSecond second first)
-    ∙ ap (λ (es : List Entry). entriesOf (numberIn l) (given (differences (l .datagram) (m .datagram))) ++ es) (join first second)
+    ∙ ap (λ (es : List Entry). entriesOf (numberOfLine l) (given (differences (l .datagram) (m .datagram))) ++ es) (join first second)
 
 pub by-number : ByNumber
 unfolding entries

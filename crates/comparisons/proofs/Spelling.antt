@@ -15,7 +15,7 @@ use Rattle.datagrams.specs.Claims.{lengthsOf, runOf}
 use Rattle.datagrams.specs.declared.kind.Kind.{Kind}
 use Rattle.datagrams.proofs.Claims as datagrams
 use Rattle.datagrams.proofs.Laws.{Allowed, allowed-written, written-allowed}
-use Rattle.comparisons.specs.Traces.{carriedIn}
+use Rattle.comparisons.specs.Traces.{datagramOf}
 use Rattle.comparisons.specs.Claims.{OctetForOctet}
 
 mapped-done : {A B : Type 0} (f : A → B) (m : Answer A) (b : B) → answers.mapped f m ≡ done b → (a : A) × (m ≡ done a) × (f a ≡ b)
@@ -23,8 +23,8 @@ mapped-done f (done a) b e = (a, refl, done-same e)
 mapped-done f (refused why) b e = absurd (not-done e)
 
 -- what was read of octets that carry something
-pub parts-of : (s : List ℕ) (a : Carried) → carriedIn s ≡ done a → (d : DatagramParts) × (readDatagram s ≡ done d) × (carriedBy s d ≡ a)
-unfolding carriedIn
+pub parts-of : (s : List ℕ) (a : Carried) → datagramOf s ≡ done a → (d : DatagramParts) × (readDatagram s ≡ done d) × (carriedBy s d ≡ a)
+unfolding datagramOf
 parts-of s a e = mapped-done (carriedBy s) (readDatagram s) a e
 
 -- the octets are those that the writer writes
@@ -38,13 +38,13 @@ record Spelt (s : List ℕ) (a : Carried) : Type 0 where
 
 -- octets that the writer wrote carry what it was given
 written-carries : (number : ℕ) (packet : List ℕ) (k : Kind) (lengths run s : List ℕ) → datagramToWrite number packet k lengths run ≡ done s
-    → carriedIn s ≡ done (carriedOf number packet k lengths run)
-unfolding carriedIn
+    → datagramOf s ≡ done (carriedOf number packet k lengths run)
+unfolding datagramOf
 written-carries number packet k lengths run s e =
     let back = datagrams.claims .writtenReads number packet k lengths run s e in
     ap (answers.mapped (carriedBy s)) (back .read) ∙ ap (λ (c : Carried). done c) (back .carried)
 
-spelt : (s : List ℕ) (a : Carried) → Octets s → carriedIn s ≡ done a → Spelt s a
+spelt : (s : List ℕ) (a : Carried) → Octets s → datagramOf s ≡ done a → Spelt s a
 unfolding carriedBy
 spelt s a octets e =
     let read = parts-of s a e in
@@ -63,18 +63,18 @@ spelt s a octets e =
       octets = ap datagramOctets is ∙ sym (so .1);
     }
 
-pub carried-octets : (s : List ℕ) (a : Carried) → Octets s → carriedIn s ≡ done a → datagramOctets a ≡ s
+pub carried-octets : (s : List ℕ) (a : Carried) → Octets s → datagramOf s ≡ done a → datagramOctets a ≡ s
 carried-octets s a octets e = (spelt s a octets e) .octets
 
 -- so equal datagrams are equal octet for octet
 pub octet-for-octet : OctetForOctet
 octet-for-octet s t a b left right first second = (
   λ is. sym (carried-octets s a left first) ∙ ap datagramOctets is ∙ carried-octets t b right second,
-  λ is. done-same (sym first ∙ ap carriedIn is ∙ second),
+  λ is. done-same (sym first ∙ ap datagramOf is ∙ second),
 )
 
 -- what stands behind the packet tells the spares or messages: those of another datagram that end alike are the same
-pub extras-same : (s t : List ℕ) (a b : Carried) → Octets s → Octets t → carriedIn s ≡ done a → carriedIn t ≡ done b
+pub extras-same : (s t : List ℕ) (a b : Carried) → Octets s → Octets t → datagramOf s ≡ done a → datagramOf t ≡ done b
     → extraOctets (a .extra) ≡ extraOctets (b .extra) → a .extra ≡ b .extra
 unfolding datagramOctets
 extras-same s t a b left right first second alike =

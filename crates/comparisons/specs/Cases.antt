@@ -7,7 +7,7 @@ use Rattle.lengths.specs.Refusals.{refusal, refusalAt, endsEarly, tooManyLines,
 use Rattle.lines.specs.Lines.{lineFeed}
 use Rattle.lines.specs.Text.{characters}
 use Rattle.comparisons.specs.Entries.{Entry, onlyFirst, onlySecond, packetDiffers, sparesDiffer, parityDiffers}
-use Rattle.comparisons.specs.Told.{Told, told, stopped, nowhere}
+use Rattle.comparisons.specs.Told.{PlacedAnswer, told, stopped, noPlace}
 use Rattle.comparisons.specs.Traces.{comparison, firstTrace, secondTrace}
 use Rattle.comparisons.specs.Promise.{fittedEntries, listAfter}
 
@@ -54,10 +54,10 @@ pub record Cases : Type 0 where
   pub first-first : comparison (characters "000001060000\n0\n") (characters "0002\n")
       ≡ stopped (refusal wrongSettings) (record { trace = firstTrace; line = 2 })
   -- "22 .. before the reading refusals", of the second trace too; empty lines count towards it
-  pub too-many : comparison (characters "0\n") (empties 513) ≡ stopped (refusal tooManyLines) nowhere
+  pub too-many : comparison (characters "0\n") (empties 513) ≡ stopped (refusal tooManyLines) noPlace
   pub most : comparison (empties 512) (empties 512) ≡ told []
   -- "then 13, and the lent list stays"
-  pub full : fittedEntries (comparison two []) (7 ∷ 7 ∷ 7 ∷ []) ≡ stopped (refusal noRoom) nowhere
+  pub full : fittedEntries (comparison two []) (7 ∷ 7 ∷ 7 ∷ []) ≡ stopped (refusal noRoom) noPlace
   pub stays : listAfter (fittedEntries (comparison two []) (7 ∷ 7 ∷ 7 ∷ [])) (7 ∷ 7 ∷ 7 ∷ []) ≡ 7 ∷ 7 ∷ 7 ∷ []
   pub rest-stays : listAfter (fittedEntries (comparison two []) (7 ∷ 7 ∷ 7 ∷ 7 ∷ 7 ∷ [])) (7 ∷ 7 ∷ 7 ∷ 7 ∷ 7 ∷ [])
       ≡ 0 ∷ onlyFirst ∷ 1 ∷ onlyFirst ∷ 7 ∷ []

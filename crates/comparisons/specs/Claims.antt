@@ -13,10 +13,10 @@ use Rattle.lengths.specs.Claims.{Octets}
 use Rattle.lengths.specs.declared.Refusal.{Refusal}
 use Rattle.datagrams.specs.Carried.{Carried}
 use Rattle.lines.specs.Lines.{linesFrom}
-use Rattle.comparisons.specs.Pairing.{TraceLine, numberIn, having, mate, Pair}
+use Rattle.comparisons.specs.Pairing.{TraceLine, numberOfLine, having, mate, Pair}
 use Rattle.comparisons.specs.Entries.{Entry, onlyFirst, onlySecond, given, differences, entriesOf, numbersOf, entries}
-use Rattle.comparisons.specs.Told.{told, stopped, nowhere}
-use Rattle.comparisons.specs.Traces.{linesLimit, firstTrace, secondTrace, carriedIn, datagramIn, traceRead, comparison}
+use Rattle.comparisons.specs.Told.{told, stopped, noPlace}
+use Rattle.comparisons.specs.Traces.{linesLimit, firstTrace, secondTrace, datagramOf, datagramIn, traceRead, comparison}
 use Rattle.comparisons.specs.Promise.{Compares}
 use Rattle.comparisons.specs.Cases.{Cases}
 use Rattle.comparisons.specs.declared.Compared.{Compared}
@@ -32,9 +32,9 @@ about number (e ∷ entries) = cond (eqb (e .number) number) (e ∷ about number
 -- the lines of one number laid side by side: what each pair differs in, then those that have none beside them
 unfoldable pub sideBySide : List TraceLine → List TraceLine → List Entry
 sideBySide [] [] = []
-sideBySide [] (m ∷ second) = entriesOf (numberIn m) (onlySecond ∷ []) ++ sideBySide [] second
-sideBySide (l ∷ first) [] = entriesOf (numberIn l) (onlyFirst ∷ []) ++ sideBySide first []
-sideBySide (l ∷ first) (m ∷ second) = entriesOf (numberIn l) (given (differences (l .datagram) (m .datagram))) ++ sideBySide first second
+sideBySide [] (m ∷ second) = entriesOf (numberOfLine m) (onlySecond ∷ []) ++ sideBySide [] second
+sideBySide (l ∷ first) [] = entriesOf (numberOfLine l) (onlyFirst ∷ []) ++ sideBySide first []
+sideBySide (l ∷ first) (m ∷ second) = entriesOf (numberOfLine l) (given (differences (l .datagram) (m .datagram))) ++ sideBySide first second
 
 -- whatever else the traces hold, this is what is listed of one number
 abbrev pub ByNumber : Type 0
@@ -47,7 +47,7 @@ Mates = (before after second : List TraceLine) (l m : TraceLine) → mate before
 
 -- ---- "An empty list exactly if the datagrams of paired lines are all equal and none is left over"
 
-pub record Alike (first second : List TraceLine) : Type 0 where
+pub record AlikeTraces (first second : List TraceLine) : Type 0 where
   pub equal : (l m : TraceLine) → Pair first second l m → l .datagram ≡ m .datagram
   pub none-left : (number : ℕ) → length (having number first) ≡ length (having number second)
 
@@ -63,10 +63,10 @@ pub record TracesAlike (first second : List ℕ) : Type 0 where
   pub right : List TraceLine
   pub read-first : traceRead firstTrace first ≡ told left
   pub read-second : traceRead secondTrace second ≡ told right
-  pub alike : Alike left right
+  pub alike : AlikeTraces left right
 
-pub record Empty : Type 0 where
-  pub entries : (first second : List TraceLine) → (entries first second ≡ []) ↔ Alike first second
+pub record EmptyTraces : Type 0 where
+  pub entries : (first second : List TraceLine) → (entries first second ≡ []) ↔ AlikeTraces first second
   -- and of the call
   pub call : {first second old new : List ℕ} {r : Compared} → Compares first second old new r
       → (r ≡ compared.Entries 0) ↔ TracesAlike first second
@@ -113,8 +113,8 @@ pub record Exchange : Type 0 where
 
 -- ---- two datagrams are equal exactly if they are so octet for octet
 abbrev pub OctetForOctet : Type 0
-OctetForOctet = (octets others : List ℕ) (a b : Carried) → Octets octets → Octets others → carriedIn octets ≡ done a
-    → carriedIn others ≡ done b → (a ≡ b) ↔ (octets ≡ others)
+OctetForOctet = (octets others : List ℕ) (a b : Carried) → Octets octets → Octets others → datagramOf octets ≡ done a
+    → datagramOf others ≡ done b → (a ≡ b) ↔ (octets ≡ others)
 
 -- ---- refusals: one of these four is given, or the entries are
 
@@ -136,9 +136,9 @@ pub record FirstUnread (lines : List (List ℕ)) (count : ℕ) (why : Refusal) :
   pub some : 1 ≤ length line
   pub refused : datagramIn line ≡ refused why
 
-pub record Refuses : Type 0 where
+pub record ComparisonRefuses : Type 0 where
   -- "22, a trace with too many lines, before the reading refusals": of either trace, whatever the lines hold
-  pub tooMany : (first second : List ℕ) → (comparison first second ≡ stopped (refusal tooManyLines) nowhere)
+  pub tooMany : (first second : List ℕ) → (comparison first second ≡ stopped (refusal tooManyLines) noPlace)
       ↔ ((linesLimit < length (linesFrom [] first)) ⊎ (linesLimit < length (linesFrom [] second)))
   -- "first trace first, which name trace and line, from 1"
   pub firstUnread : (first second : List ℕ) (count : ℕ) (why : Refusal) → Few first second → FirstUnread (linesFrom [] first) count why
@@ -166,10 +166,10 @@ pub record OneOutcome : Type 0 where
 pub record Claims : Type 0 where
   pub byNumber : ByNumber
   pub mates : Mates
-  pub empty : Empty
+  pub empty : EmptyTraces
   pub itself : Itself
   pub exchange : Exchange
   pub octetForOctet : OctetForOctet
-  pub refuses : Refuses
+  pub refuses : ComparisonRefuses
   pub oneOutcome : OneOutcome
   pub cases : Cases

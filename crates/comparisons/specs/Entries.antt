@@ -9,7 +9,7 @@ use mathlib.Core.Option.{Option, none, some}
 use lib.Dec.{eqb}
 use Rattle.lengths.specs.Tables.{when}
 use Rattle.datagrams.specs.Carried.{Extra, spares, parity, Carried}
-use Rattle.comparisons.specs.Pairing.{TraceLine, numberIn, mate}
+use Rattle.comparisons.specs.Pairing.{TraceLine, numberOfLine, mate}
 
 -- ---- what an entry says
 
@@ -90,12 +90,12 @@ entriesOf number codes = map (λ (code : ℕ). record { number = number; code = 
 
 -- what is listed at a line of the first trace, with the line that it pairs with
 abbrev pub atFirst : TraceLine → Option TraceLine → List Entry
-atFirst l none = entriesOf (numberIn l) (onlyFirst ∷ [])
-atFirst l (some m) = entriesOf (numberIn l) (given (differences (l .datagram) (m .datagram)))
+atFirst l none = entriesOf (numberOfLine l) (onlyFirst ∷ [])
+atFirst l (some m) = entriesOf (numberOfLine l) (given (differences (l .datagram) (m .datagram)))
 
 -- and at a line of the second: one that pairs is listed with the first trace
 abbrev pub atSecond : TraceLine → Option TraceLine → List Entry
-atSecond m none = entriesOf (numberIn m) (onlySecond ∷ [])
+atSecond m none = entriesOf (numberOfLine m) (onlySecond ∷ [])
 atSecond m (some l) = []
 
 -- line after line of one trace, of which some have passed, with the other

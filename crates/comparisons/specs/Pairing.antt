@@ -14,18 +14,18 @@ pub record TraceLine : Type 0 where
   pub line : ℕ
   pub datagram : Carried
 
-abbrev pub numberIn : TraceLine → ℕ
-numberIn l = l .datagram .number
+abbrev pub numberOfLine : TraceLine → ℕ
+numberOfLine l = l .datagram .number
 
 -- the lines of one number, in their order
 unfoldable pub having : ℕ → List TraceLine → List TraceLine
 having number [] = []
-having number (l ∷ lines) = cond (eqb (numberIn l) number) (l ∷ having number lines) (having number lines)
+having number (l ∷ lines) = cond (eqb (numberOfLine l) number) (l ∷ having number lines) (having number lines)
 
 -- the line of the other trace that a line pairs with, if there is one: with k lines of its number before it, the line of that number in
 -- the other trace that has k before it
 abbrev pub mate : List TraceLine → TraceLine → List TraceLine → Option TraceLine
-mate before l other = getElem? (having (numberIn l) other) (length (having (numberIn l) before))
+mate before l other = getElem? (having (numberOfLine l) other) (length (having (numberOfLine l) before))
 
 -- the same as a relation: two lines pair if both are the k-th of one number
 pub record Pair (first second : List TraceLine) (l m : TraceLine) : Type 0 where

@@ -8,27 +8,27 @@ use lib.Dec.{leb}
 use Rattle.lengths.specs.Refusals.{noRoom}
 use Rattle.lengths.specs.Answers.{done, refuse}
 use Rattle.comparisons.specs.Entries.{Entry, numbersOf}
-use Rattle.comparisons.specs.Told.{Told, told, stopped, at, nowhere, mapped}
+use Rattle.comparisons.specs.Told.{PlacedAnswer, told, stopped, at, noPlace, mappedPlaced}
 use Rattle.comparisons.specs.Traces.{comparison}
 use Rattle.comparisons.specs.declared.Compared.{Compared}
 use Rattle.comparisons.specs.declared.Compared.the-variants as compared
 
 -- each case of the answer, in document 02's numbers and values
-abbrev pub comparedOutcome : Compared → Told ℕ
+abbrev pub comparedOutcome : Compared → PlacedAnswer ℕ
 comparedOutcome (compared.Entries count) = told count
 comparedOutcome (compared.Refused why trace line) = stopped why (record { trace = trace; line = line })
 
 -- "then 13": the entries are longer than the lent list
-abbrev pub fittedEntries : Told (List Entry) → List ℕ → Told (List Entry)
-fittedEntries (told entries) old = at nowhere (cond (leb (length (numbersOf entries)) (length old)) (done entries) (refuse noRoom))
+abbrev pub fittedEntries : PlacedAnswer (List Entry) → List ℕ → PlacedAnswer (List Entry)
+fittedEntries (told entries) old = at noPlace (cond (leb (length (numbersOf entries)) (length old)) (done entries) (refuse noRoom))
 fittedEntries (stopped why place) old = stopped why place
 
 -- the lent list after: the entries at its front; "and the lent list stays" where it is refused
-abbrev pub listAfter : Told (List Entry) → List ℕ → List ℕ
+abbrev pub listAfter : PlacedAnswer (List Entry) → List ℕ → List ℕ
 listAfter (told entries) old = numbersOf entries ++ drop (length (numbersOf entries)) old
 listAfter (stopped why place) old = old
 
 -- its answer, how many entries there are, and all of the lent list
 pub record Compares (first second old new : List ℕ) (r : Compared) : Type 0 where
-  pub answer : comparedOutcome r ≡ mapped length (fittedEntries (comparison first second) old)
+  pub answer : comparedOutcome r ≡ mappedPlaced length (fittedEntries (comparison first second) old)
   pub lent : new ≡ listAfter (fittedEntries (comparison first second) old) old

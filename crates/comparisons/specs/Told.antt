@@ -9,25 +9,25 @@ pub record Where : Type 0 where
   pub line : ℕ
 
 -- of a refusal that belongs to no line
-abbrev pub nowhere : Where
-nowhere = record { trace = 0; line = 0 }
+abbrev pub noPlace : Where
+noPlace = record { trace = 0; line = 0 }
 
 -- its values, or why it is refused and where
-pub data Told (A : Type 0) : Type 0 where
-  told : A → Told A
-  stopped : Refusal → Where → Told A
+pub data PlacedAnswer (A : Type 0) : Type 0 where
+  told : A → PlacedAnswer A
+  stopped : Refusal → Where → PlacedAnswer A
 
 -- an answer about one line, or about none
-abbrev pub at : {A : Type 0} → Where → Answer A → Told A
+abbrev pub at : {A : Type 0} → Where → Answer A → PlacedAnswer A
 at place (done a) = told a
 at place (refused why) = stopped why place
 
 -- one step after the other: the first refusal is the whole's
-abbrev pub _>>=_ : {A B : Type 0} → Told A → (A → Told B) → Told B
+abbrev pub _>>=_ : {A B : Type 0} → PlacedAnswer A → (A → PlacedAnswer B) → PlacedAnswer B
 _>>=_ (told a) next = next a
 _>>=_ (stopped why place) next = stopped why place
 
 -- the same of other values
-abbrev pub mapped : {A B : Type 0} → (A → B) → Told A → Told B
-mapped f (told a) = told (f a)
-mapped f (stopped why place) = stopped why place
+abbrev pub mappedPlaced : {A B : Type 0} → (A → B) → PlacedAnswer A → PlacedAnswer B
+mappedPlaced f (told a) = told (f a)
+mappedPlaced f (stopped why place) = stopped why place

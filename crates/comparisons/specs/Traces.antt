@@ -16,7 +16,7 @@ use Rattle.lines.specs.Hex.{lineOctets}
 use Rattle.lines.specs.Lines.{linesFrom}
 use Rattle.comparisons.specs.Pairing.{TraceLine}
 use Rattle.comparisons.specs.Entries.{Entry, entries}
-use Rattle.comparisons.specs.Told.{Told, told, stopped, at, nowhere, _>>=_}
+use Rattle.comparisons.specs.Told.{PlacedAnswer, told, stopped, at, noPlace, _>>=_}
 
 -- "Traces hold up to 512 lines each"
 abbrev pub linesLimit : ℕ
@@ -31,15 +31,15 @@ secondTrace = 2
 -- ---- reading
 
 -- the datagram that some octets are
-unfoldable pub carriedIn : List ℕ → Answer Carried
-carriedIn octets = answers.mapped (carriedBy octets) (readDatagram octets)
+unfoldable pub datagramOf : List ℕ → Answer Carried
+datagramOf octets = answers.mapped (carriedBy octets) (readDatagram octets)
 
 -- the datagram that a line holds
 unfoldable pub datagramIn : List ℕ → Answer Carried
-datagramIn line = answers._>>=_ (lineOctets line) carriedIn
+datagramIn line = answers._>>=_ (lineOctets line) datagramOf
 
 -- the lines of a trace that hold datagrams, of which the next is line n: "Empty lines are skipped but counted"
-unfoldable pub linesRead : ℕ → ℕ → List (List ℕ) → Told (List TraceLine)
+unfoldable pub linesRead : ℕ → ℕ → List (List ℕ) → PlacedAnswer (List TraceLine)
 linesRead trace n [] = told []
 linesRead trace n ([] ∷ lines) = linesRead trace (suc n) lines
 linesRead trace n ((c ∷ line) ∷ lines) = do
@@ -48,7 +48,7 @@ linesRead trace n ((c ∷ line) ∷ lines) = do
   told (record { line = n; datagram = datagram } ∷ more)
 
 -- "which name trace and line, from 1"
-unfoldable pub traceRead : ℕ → List ℕ → Told (List TraceLine)
+unfoldable pub traceRead : ℕ → List ℕ → PlacedAnswer (List TraceLine)
 traceRead trace text = linesRead trace 1 (linesFrom [] text)
 
 -- ---- the comparison
@@ -60,9 +60,9 @@ tooManyRows first second =
     ∷ when (ltb linesLimit (length (linesFrom [] second))) tooManyLines
     ∷ []
 
-unfoldable pub comparison : List ℕ → List ℕ → Told (List Entry)
+unfoldable pub comparison : List ℕ → List ℕ → PlacedAnswer (List Entry)
 comparison first second = do
-  few ← at nowhere (unless (tooManyRows first second) (tt {0}))
+  few ← at noPlace (unless (tooManyRows first second) (tt {0}))
   a ← traceRead firstTrace first
   b ← traceRead secondTrace second
   told (entries a b)

@@ -17,15 +17,15 @@ read-cases =
       packet-over = refl;
       packet-0 = refl;
       bit-40 = refl;
-      spares-9 = refl;
+      spares-over = refl;
       spare-0 = refl;
       spare-over = refl;
       octet-c0 = refl;
       octet-02 = refl;
       n-0 = refl;
-      n-9 = refl;
+      n-over = refl;
       m-0 = refl;
-      m-5 = refl;
+      m-over = refl;
       message-0 = refl;
     }
 
@@ -52,10 +52,10 @@ pub write-cases : WriteCases
 unfolding datagramToWrite datagramOctets numberOctets itemOctets itemsOctets countedOctets cut sumOf itemsInside lengthOctets unless
 write-cases =
     record {
-      spares-9 = refl;
-      n-9 = refl;
+      spares-over = refl;
+      n-over = refl;
       m-0 = refl;
-      m-5 = refl;
+      m-over = refl;
       count-first = refl;
       sum-before-size = refl;
       true-sum = refl;

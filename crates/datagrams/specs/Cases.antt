@@ -6,7 +6,7 @@ use mathlib.Core.List.{List, [], _∷_, _++_}
 use lib.ListN.{replicate}
 use Rattle.lengths.specs.Refusals.{endsEarly, tooLong, outsideSizes, spareBit, leftOver, wrongSettings}
 use Rattle.lengths.specs.Answers.{Answer, done, refuse, refuseAt}
-use Rattle.datagrams.specs.Sizes.{packetLimit, datagramLimit}
+use Rattle.datagrams.specs.Sizes.{packetLimit, datagramLimit, sparesLimit, coveredLimit, messagesLimit}
 use Rattle.datagrams.specs.Write.{datagramToWrite}
 use Rattle.datagrams.specs.Read.{DatagramParts, readDatagram}
 use Rattle.datagrams.specs.declared.kind.Kind.the-variants as kind
@@ -29,7 +29,7 @@ pub record ReadCases : Type 0 where
   pub packet-0 : readDatagram (0x00 ∷ 0x00 ∷ 0x00 ∷ []) ≡ refuseAt 2 outsideSizes
   -- "one octet, 00 for spares or 80 for parity; its low seven bits are zero"
   pub bit-40 : reads (0x40 ∷ []) ≡ refuseAt 4 spareBit
-  pub spares-9 : reads (0x00 ∷ 0x09 ∷ []) ≡ refuseAt 5 outsideSizes
+  pub spares-over : reads (0x00 ∷ 0x09 ∷ []) ≡ refuseAt 5 outsideSizes
   -- a spare is a packet: from one octet to the limit
   pub spare-0 : reads (0x00 ∷ 0x01 ∷ 0x00 ∷ []) ≡ refuseAt 6 outsideSizes
   pub spare-over : reads (0x00 ∷ 0x01 ∷ twoOctetLength (packetLimit + 1)) ≡ refuseAt 6 outsideSizes
@@ -37,9 +37,9 @@ pub record ReadCases : Type 0 where
   pub octet-c0 : reads (0x80 ∷ 0xC0 ∷ []) ≡ refuseAt 5 outsideSizes
   pub octet-02 : reads (0x80 ∷ 0x02 ∷ []) ≡ refuseAt 5 outsideSizes
   pub n-0 : reads (0x80 ∷ 0x01 ∷ 0x00 ∷ []) ≡ refuseAt 6 outsideSizes
-  pub n-9 : reads (0x80 ∷ 0x01 ∷ 0x09 ∷ []) ≡ refuseAt 6 outsideSizes
+  pub n-over : reads (0x80 ∷ 0x01 ∷ 0x09 ∷ []) ≡ refuseAt 6 outsideSizes
   pub m-0 : reads (0x80 ∷ 0x01 ∷ 0x02 ∷ 0x00 ∷ []) ≡ refuseAt 7 outsideSizes
-  pub m-5 : reads (0x80 ∷ 0x01 ∷ 0x02 ∷ 0x05 ∷ []) ≡ refuseAt 7 outsideSizes
+  pub m-over : reads (0x80 ∷ 0x01 ∷ 0x02 ∷ 0x05 ∷ []) ≡ refuseAt 7 outsideSizes
   -- a message may be empty
   pub message-0 : reads (0x80 ∷ 0x01 ∷ 0x02 ∷ 0x01 ∷ 0x00 ∷ [])
       ≡ done (record {
@@ -72,11 +72,11 @@ pub record PlaceCases : Type 0 where
 
 pub record WriteCases : Type 0 where
   -- "n or a count outside the sizes 4, then 15, 4"
-  pub spares-9 : datagramToWrite 0 (0x06 ∷ []) kind.Spares (replicate 9 1) (replicate 9 0x06) ≡ refuse outsideSizes
-  pub n-9 : datagramToWrite 0 (0x06 ∷ []) (kind.Parity 9) (1 ∷ []) (0xAA ∷ []) ≡ refuse outsideSizes
+  pub spares-over : datagramToWrite 0 (0x06 ∷ []) kind.Spares (replicate (sparesLimit + 1) 1) (replicate (sparesLimit + 1) 0x06) ≡ refuse outsideSizes
+  pub n-over : datagramToWrite 0 (0x06 ∷ []) (kind.Parity (coveredLimit + 1)) (1 ∷ []) (0xAA ∷ []) ≡ refuse outsideSizes
   pub m-0 : datagramToWrite 0 (0x06 ∷ []) (kind.Parity 2) [] [] ≡ refuse outsideSizes
-  pub m-5 : datagramToWrite 0 (0x06 ∷ []) (kind.Parity 2) (replicate 5 1) (replicate 5 0xAA) ≡ refuse outsideSizes
-  pub count-first : datagramToWrite 0 (0x06 ∷ []) kind.Spares (replicate 10 1) [] ≡ refuse outsideSizes
+  pub m-over : datagramToWrite 0 (0x06 ∷ []) (kind.Parity 2) (replicate (messagesLimit + 1) 1) (replicate (messagesLimit + 1) 0xAA) ≡ refuse outsideSizes
+  pub count-first : datagramToWrite 0 (0x06 ∷ []) kind.Spares (replicate (sparesLimit + 2) 1) [] ≡ refuse outsideSizes
   pub sum-before-size : datagramToWrite 0 [] kind.Spares (2 ∷ []) (0x06 ∷ []) ≡ refuse wrongSettings
   -- true sums: nothing wraps
   pub true-sum : datagramToWrite 0 (0x06 ∷ []) kind.Spares (65535 ∷ 1 ∷ []) [] ≡ refuse wrongSettings

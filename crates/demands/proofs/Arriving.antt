@@ -17,9 +17,9 @@ use Rattle.views.specs.Cells.{keptBefore, keptAhead}
 use Rattle.views.specs.Held.{Held, heldAt}
 use Rattle.views.specs.View.{View, numbers, distance}
 use Rattle.views.specs.Offer.{heldBy, accept}
-use Rattle.demands.specs.History.{Left}
-use Rattle.demands.specs.Calls.{Call, Calls, _then_, acceptedIn, fillsIn, leftIn, leftBy}
-use Rattle.demands.specs.ReachedBy.{gone, placeNumber, sparesIn, Accepts, Arrived, now, before}
+use Rattle.demands.specs.Common.History.{Left}
+use Rattle.demands.specs.Common.Calls.{Call, Calls, _then_, acceptedIn, fillsIn, leftIn, leftBy}
+use Rattle.demands.specs.Demand2.ReachedBy.{gone, placeNumber, sparesIn, Accepts, Arrived, now, before}
 use Rattle.demands.proofs.Ranges.{ViewInRanges}
 use Rattle.demands.proofs.InRanges.{read-held, accept-in-ranges, held-accepted, held-beside}
 use Rattle.demands.proofs.Taken.{OfferDone}

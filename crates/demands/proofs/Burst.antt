@@ -28,10 +28,10 @@ use Rattle.sending.specs.Carries as carries
 use Rattle.sending.specs.Honest.{packetAt, HonestAt, HonestSender}
 use Rattle.sending.specs.declared.Settings.the-variants as settings
 use Rattle.demands.specs.Sheet.{packet0, packet1, datagram0}
-use Rattle.demands.specs.Feeding as feeding
-use Rattle.demands.specs.Feeding.{Near}
-use Rattle.demands.specs.Demand3.{RestKnown}
-use Rattle.demands.specs.Burst.{packet2, burstRow, datagram3, burstMessages, datagram4, burstDatagrams, BurstOffered, BurstMet, Burst}
+use Rattle.demands.specs.Demand3.Feeding as feeding
+use Rattle.demands.specs.Demand3.Feeding.{Near}
+use Rattle.demands.specs.Demand3.Demand3.{RestKnown}
+use Rattle.demands.specs.Demand3.Burst.{packet2, burstRow, datagram3, burstMessages, datagram4, burstDatagrams, BurstOffered, BurstMet, Burst}
 use Rattle.demands.proofs.Calling.{fresh-seen}
 use Rattle.demands.proofs.OfferedTo.{then-seen, offers-of}
 

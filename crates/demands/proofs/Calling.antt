@@ -40,12 +40,12 @@ use Rattle.sessions.specs.Solver.{solveOf, SolveOwes}
 use Rattle.sessions.specs.declared.receiver.AfterOffer.{AfterOffer}
 use Rattle.sessions.specs.declared.receiver.AfterRelease.{AfterRelease}
 use Rattle.sessions.specs.declared.solver.AfterSolve.{AfterSolve}
-use Rattle.demands.specs.History as moves
-use Rattle.demands.specs.History.{afterMove}
-use Rattle.demands.specs.Calls.{Call, offer, release, solve, Calls, handedOut, leftIn}
-use Rattle.demands.specs.Calls.{Called, atStart, offered, released, solved}
-use Rattle.demands.specs.GoesOn.{moveOf, Says, GoesOn, from, by}
-use Rattle.demands.specs.Demand2.{Saved, Begins, fresh, saved}
+use Rattle.demands.specs.Common.History as moves
+use Rattle.demands.specs.Common.History.{afterMove}
+use Rattle.demands.specs.Common.Calls.{Call, offer, release, solve, Calls, handedOut, leftIn}
+use Rattle.demands.specs.Common.Calls.{Called, atStart, offered, released, solved}
+use Rattle.demands.specs.Demand2.GoesOn.{moveOf, Says, GoesOn, from, by}
+use Rattle.demands.specs.Demand2.Demand2.{Saved, Begins, fresh, saved}
 use Rattle.demands.proofs.Ranges.{ViewInRanges}
 use Rattle.demands.proofs.Steps.{leaving, releasedBy}
 

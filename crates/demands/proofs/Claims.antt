@@ -6,6 +6,7 @@ use Rattle.frame_feed.proofs.Claims as frameFeed
 use Rattle.replays.proofs.Claims as replays
 use Rattle.comparisons.proofs.Claims as comparisons
 use Rattle.sold_line.proofs.Claims as soldLine
+use Rattle.host.proofs.Claims as host
 use Rattle.demands.specs.Claims.{Claims}
 use Rattle.demands.proofs.Demand1.{demand-1}
 use Rattle.demands.proofs.Demand2.{demand-2}
@@ -49,4 +50,5 @@ claims =
       comparison = comparisons.claims;
       losses = losses;
       lineSold = soldLine.claims;
+      hostCalls = host.claims;
     }

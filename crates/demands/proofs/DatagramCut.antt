@@ -10,11 +10,11 @@ use Rattle.lengths.specs.Refusals.{endsEarly, badForm, outsideSizes}
 use Rattle.lengths.specs.Length.{lengthOctets, ofTwo}
 use Rattle.lengths.specs.Claims.{Octets}
 use Rattle.octets.proofs.Laws.{below-or-not}
-use Rattle.demands.specs.DatagramItems.{Item, number, packet, kind, spares, octet01, octetN, countM, message, inside, Form}
-use Rattle.demands.specs.DatagramItems.{many, sized, formOf, formDue}
-use Rattle.demands.specs.DatagramItems.{Right, rightOctets, rightSize, Due, passes}
-use Rattle.demands.specs.DatagramRefusals.{Wrong, cutSize, longSize, otherSize}
-use Rattle.demands.specs.DatagramRefusals.{FirstWrong, Front, CutOver}
+use Rattle.demands.specs.Demand1.DatagramItems.{Item, number, packet, kind, spares, octet01, octetN, countM, message, inside, Form}
+use Rattle.demands.specs.Demand1.DatagramItems.{many, sized, formOf, formDue}
+use Rattle.demands.specs.Demand1.DatagramItems.{Right, rightOctets, rightSize, Due, passes}
+use Rattle.demands.specs.Demand1.DatagramRefusals.{Wrong, cutSize, longSize, otherSize}
+use Rattle.demands.specs.Demand1.DatagramRefusals.{FirstWrong, Front, CutOver}
 use Rattle.demands.proofs.DatagramForms.{two-octets}
 use Rattle.demands.proofs.DatagramFronts.{octets-zero, octet-alone, Comes, comes-after, all-come}
 use Rattle.demands.proofs.DatagramNumbers.{Early, few, bare, cut}

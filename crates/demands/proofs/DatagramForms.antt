@@ -16,10 +16,10 @@ use Rattle.lengths.specs.Answers.{Answer, done, refuse, _>>=_, LengthAnswer}
 use Rattle.lengths.specs.Length.{lengthAt, lengthOctets, lengthLimit, ofTwo, allowed}
 use Rattle.lengths.specs.Claims.{Octets}
 use Rattle.lengths.proofs.Laws.{lengthOctets-one, lengthOctets-two, written-reads, allowed-sizes}
-use Rattle.demands.specs.DatagramItems.{Form, many, sized, plain, flag, nothing, Right, rightOctets, rightSize, rightOctet}
-use Rattle.demands.specs.DatagramItems.{rightSpares, rightParity}
-use Rattle.demands.specs.DatagramRefusals.{Wrong, fewOctets, noSize, cutSize, noOctet, noFlag, highSize, longSize, otherSize}
-use Rattle.demands.specs.DatagramRefusals.{otherOctet, lowBits, moreOctets}
+use Rattle.demands.specs.Demand1.DatagramItems.{Form, many, sized, plain, flag, nothing, Right, rightOctets, rightSize, rightOctet}
+use Rattle.demands.specs.Demand1.DatagramItems.{rightSpares, rightParity}
+use Rattle.demands.specs.Demand1.DatagramRefusals.{Wrong, fewOctets, noSize, cutSize, noOctet, noFlag, highSize, longSize, otherSize}
+use Rattle.demands.specs.Demand1.DatagramRefusals.{otherOctet, lowBits, moreOctets}
 
 -- ---- as the reader tells
 abbrev pub found : ℕ → ℕ → Answer LengthAnswer

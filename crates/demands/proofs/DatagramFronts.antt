@@ -9,10 +9,10 @@ use Rattle.lengths.specs.Length.{lengthOctets}
 use Rattle.lengths.specs.Claims.{Octets}
 use Rattle.lengths.proofs.Laws.{size-written, octets-cons, octets-none, octets-written}
 use Rattle.datagrams.specs.Sizes.{packetLimit, datagramLimit, sparesLimit, messagesLimit}
-use Rattle.demands.specs.DatagramItems.{Item, number, packet, kind, spares, octet01, octetN, countM, message, inside, many}
-use Rattle.demands.specs.DatagramItems.{sized, plain, flag, formOf, brings, Right, rightOctets, rightSize, rightOctet}
-use Rattle.demands.specs.DatagramItems.{rightSpares, rightParity, Due, begins, passes, WholeDatagram}
-use Rattle.demands.specs.DatagramRefusals.{CutOver}
+use Rattle.demands.specs.Demand1.DatagramItems.{Item, number, packet, kind, spares, octet01, octetN, countM, message, inside, many}
+use Rattle.demands.specs.Demand1.DatagramItems.{sized, plain, flag, formOf, brings, Right, rightOctets, rightSize, rightOctet}
+use Rattle.demands.specs.Demand1.DatagramItems.{rightSpares, rightParity, Due, begins, passes, WholeDatagram}
+use Rattle.demands.specs.Demand1.DatagramRefusals.{CutOver}
 
 -- ---- octets
 pub octets-join : (a b : List ℕ) → Octets a → Octets b → Octets (a ++ b)

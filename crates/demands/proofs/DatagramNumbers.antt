@@ -7,11 +7,11 @@ use lib.ListN.{length}
 use native.Mathlib.Omega.{arith}
 use Rattle.lengths.specs.Refusals.{endsEarly, tooLong, outsideSizes, leftOver}
 use Rattle.lengths.specs.Length.{lengthOctets}
-use Rattle.demands.specs.DatagramItems.{Item, number, packet, kind, spares, octet01, octetN, countM, message, inside, Form}
-use Rattle.demands.specs.DatagramItems.{many, sized, nothing, formOf, formDue}
-use Rattle.demands.specs.DatagramItems.{Due}
-use Rattle.demands.specs.DatagramRefusals.{Wrong, fewOctets, noSize, cutSize, noOctet, noFlag, highSize, longSize, otherSize}
-use Rattle.demands.specs.DatagramRefusals.{otherOctet, lowBits, moreOctets, FirstWrong, Followed}
+use Rattle.demands.specs.Demand1.DatagramItems.{Item, number, packet, kind, spares, octet01, octetN, countM, message, inside, Form}
+use Rattle.demands.specs.Demand1.DatagramItems.{many, sized, nothing, formOf, formDue}
+use Rattle.demands.specs.Demand1.DatagramItems.{Due}
+use Rattle.demands.specs.Demand1.DatagramRefusals.{Wrong, fewOctets, noSize, cutSize, noOctet, noFlag, highSize, longSize, otherSize}
+use Rattle.demands.specs.Demand1.DatagramRefusals.{otherOctet, lowBits, moreOctets, FirstWrong, Followed}
 
 -- ---- what the number says of the item
 pub never-over : {f : Form} {rest : List ℕ} {n : ℕ} → Wrong f rest n → n ≡ tooLong → ⊥

@@ -21,8 +21,8 @@ use Rattle.datagrams.specs.Read.{readDatagram}
 use Rattle.datagrams.specs.Promise.{DatagramReads, readOutcome}
 use Rattle.datagrams.specs.declared.reader.DatagramRead.{DatagramRead}
 use Rattle.lengths.specs.Tables.{refusalIn}
-use Rattle.demands.specs.DatagramItems.{packet, kind, formOf, brings, rightOctets, begins, passes, WholeDatagram}
-use Rattle.demands.specs.DatagramRefusals.{FirstWrong, Followed, Front, CutOver, RefusalOf, PlacedIn, DatagramRefusals}
+use Rattle.demands.specs.Demand1.DatagramItems.{packet, kind, formOf, brings, rightOctets, begins, passes, WholeDatagram}
+use Rattle.demands.specs.Demand1.DatagramRefusals.{FirstWrong, Followed, Front, CutOver, RefusalOf, PlacedIn, DatagramRefusals}
 use Rattle.demands.proofs.DatagramWalk.{whyIn, Walk, ends, stops, one-walk, start, walk-from, StopsAt, walk-ends, Ended}
 use Rattle.demands.proofs.DatagramSteps.{read-walk}
 use Rattle.demands.proofs.DatagramFronts.{all-come, cut-short, whole-short}

@@ -25,10 +25,10 @@ use Rattle.datagrams.specs.declared.reader.Part.{Part}
 use Rattle.datagrams.specs.declared.kind.Kind.the-variants as kinds
 use Rattle.datagrams.proofs.Laws.{rest-after}
 use Rattle.lengths.specs.Length.{allowed, lengthWithin}
-use Rattle.demands.specs.DatagramItems.{Item, number, packet, kind, spares, octet01, octetN, countM, message, inside, Form}
-use Rattle.demands.specs.DatagramItems.{many, sized, plain, flag, formOf, formDue, brings, Right, rightOctets, rightOctet}
-use Rattle.demands.specs.DatagramItems.{rightSpares, rightParity}
-use Rattle.demands.specs.DatagramRefusals.{Wrong, moreOctets}
+use Rattle.demands.specs.Demand1.DatagramItems.{Item, number, packet, kind, spares, octet01, octetN, countM, message, inside, Form}
+use Rattle.demands.specs.Demand1.DatagramItems.{many, sized, plain, flag, formOf, formDue, brings, Right, rightOctets, rightOctet}
+use Rattle.demands.specs.Demand1.DatagramItems.{rightSpares, rightParity}
+use Rattle.demands.specs.Demand1.DatagramRefusals.{Wrong, moreOctets}
 use Rattle.demands.proofs.DatagramForms.{formAt, found, Stands, right, wrong, octets-stand, octet-stands, size-stands, flag-stands}
 use Rattle.demands.proofs.DatagramWalk.{whyIn, Walk, ends, stops, steps, start}
 

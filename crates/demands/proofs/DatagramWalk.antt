@@ -13,9 +13,9 @@ use Rattle.lengths.specs.Answers.{Answer, done, refused, refuse, LengthAnswer}
 use Rattle.lengths.specs.Length.{lengthLimit}
 use Rattle.lengths.specs.declared.Refusal.{Refusal}
 use Rattle.lengths.proofs.Laws.{done-same}
-use Rattle.demands.specs.DatagramItems.{Item, number, packet, kind, spares, octet01, octetN, countM, message, inside, nothing}
-use Rattle.demands.specs.DatagramItems.{formOf, formDue, brings, Right, Due, begins, passes, WholeDatagram}
-use Rattle.demands.specs.DatagramRefusals.{Wrong, FirstWrong}
+use Rattle.demands.specs.Demand1.DatagramItems.{Item, number, packet, kind, spares, octet01, octetN, countM, message, inside, nothing}
+use Rattle.demands.specs.Demand1.DatagramItems.{formOf, formDue, brings, Right, Due, begins, passes, WholeDatagram}
+use Rattle.demands.specs.Demand1.DatagramRefusals.{Wrong, FirstWrong}
 use Rattle.demands.proofs.DatagramForms.{formAt, found, mostIn, right-at, wrong-at}
 
 -- ---- the walk

@@ -15,7 +15,7 @@ use Rattle.datagrams.specs.declared.kind.Kind.{Kind}
 use Rattle.packets.specs.Edition.{Edition, editionOf, ofChoice}
 use Rattle.packets.specs.Write.{packetOctets, packetWriterRows, packetToWrite}
 use Rattle.packets.specs.declared.types.Choice.{Choice}
-use Rattle.packets.specs.declared.types.Kind as packets
+use Rattle.packets.specs.declared.types.PacketKind as packets
 use Rattle.packets.specs.declared.types.Named.{Named}
 use Rattle.sending.specs.Sending.{Sending}
 use Rattle.sending.specs.Send.{carriedNext}
@@ -24,9 +24,9 @@ use Rattle.sending.specs.Promise.{senderRows, toSend, StateAfter}
 use Rattle.sending.specs.declared.Sender.{Sender}
 use Rattle.sending.specs.declared.Settings.{Settings}
 use Rattle.lines.specs.Hex.{octetsIn, lineRows, lineOctets}
-use Rattle.demands.specs.NamedEdition.{Names, packetBy}
-use Rattle.demands.specs.Demand1 as demand
-use Rattle.demands.specs.Demand1.{Unchanged, Writers, Demand1}
+use Rattle.demands.specs.Common.NamedEdition.{Names, packetBy}
+use Rattle.demands.specs.Demand1.Demand1 as demand
+use Rattle.demands.specs.Demand1.Demand1.{Unchanged, Writers, Demand1}
 use Rattle.demands.proofs.OfferReads.{offer-reads}
 use Rattle.demands.proofs.RefusedReads.{readers}
 use Rattle.demands.proofs.RefusedCalls.{receiving}
@@ -45,7 +45,7 @@ unfolding datagramToWrite
 datagram-writer number packet kind lengths run old =
     fitted-first (datagramWriterRows packet kind lengths run) (datagramOctets (carriedOf number packet kind lengths run)) old
 
-packet-writer : (edition : Edition) (kind : packets.Kind) (value : ℕ) (types lengths octets old : List ℕ)
+packet-writer : (edition : Edition) (kind : packets.PacketKind) (value : ℕ) (types lengths octets old : List ℕ)
     → refusalIn (fitted (packetToWrite edition kind value types lengths octets) old)
     ≡ first
     (packetWriterRows edition kind value types lengths octets ++ roomRow (packetOctets edition kind value types lengths octets) old)
@@ -54,7 +54,7 @@ packet-writer edition kind value types lengths octets old =
     fitted-first (packetWriterRows edition kind value types lengths octets) (packetOctets edition kind value types lengths octets) old
 
 -- of an octet that names an edition
-packet-by : (octet : ℕ) (named : Named) → Names octet named → (kind : packets.Kind) (value : ℕ) (types lengths octets old : List ℕ)
+packet-by : (octet : ℕ) (named : Named) → Names octet named → (kind : packets.PacketKind) (value : ℕ) (types lengths octets old : List ℕ)
     → refusalIn (fitted (packetBy octet kind value types lengths octets) old)
     ≡ first
     (packetWriterRows (editionOf named) kind value types lengths octets

@@ -1,5 +1,5 @@
 -- Demand 2, proved part by part. Assumes nothing.
-use Rattle.demands.specs.Demand2.{Demand2}
+use Rattle.demands.specs.Demand2.Demand2.{Demand2}
 use Rattle.demands.proofs.Calling.{fresh-seen, saved-seen, begins-seen, seen-ranges, called-on}
 use Rattle.demands.proofs.Leaving.{saved-leaves, fresh-leaves}
 use Rattle.demands.proofs.Keeping.{called-keeps}

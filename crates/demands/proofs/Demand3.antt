@@ -16,13 +16,14 @@ use Rattle.offering.specs.Outcome.{offeredOutcome, acceptedOf}
 use Rattle.sessions.specs.Receiver.{SeenAs, OfferOwes}
 use Rattle.sessions.specs.declared.receiver.AfterOffer.{AfterOffer}
 use Rattle.sending.specs.Honest.{HonestSender}
-use Rattle.demands.specs.History.{afterMove, offer}
-use Rattle.demands.specs.Feeding.{Near, sentAt, datagramAt, Offers, Fed, fresh, offered, released, Takes, none, accepted}
-use Rattle.demands.specs.Feeding.{repeated}
-use Rattle.demands.specs.Demand3.{TwoLists, BurstBack, Demand3}
+use Rattle.demands.specs.Common.History.{afterMove, offer}
+use Rattle.demands.specs.Demand3.Feeding.{Near, sentAt, datagramAt, Offers, Fed, fresh, offered, released, Takes, none, accepted}
+use Rattle.demands.specs.Demand3.Feeding.{repeated}
+use Rattle.demands.specs.Demand3.Demand3.{TwoLists, BurstBack, Demand3}
 use Rattle.demands.proofs.Calling.{fresh-seen, offer-is, offered-seen, released-seen}
 use Rattle.demands.proofs.FedViews as views
 use Rattle.demands.proofs.FedViews.{FedView, TakesViews, arrives, releases}
+use Rattle.demands.proofs.Sent.{one-origin}
 use Rattle.demands.proofs.Fed.{fed-sound}
 use Rattle.demands.proofs.FedCalls.{call-of, fed-calls, takes-calls}
 use Rattle.demands.proofs.Lists.{views-no-less}
@@ -116,6 +117,7 @@ module _ {row datagrams : List (List ℕ)} where
 pub demand-3 : Demand3
 demand-3 =
     record {
+      oneOrigin = one-origin;
       noLessKnown = λ row datagrams honest s f first second one two takes-one takes-two all. no-less-known honest f takes-one takes-two all;
       knownRight = λ row datagrams honest s f. known-right honest f;
       burstBack = λ row datagrams honest s f. burst-back honest f;

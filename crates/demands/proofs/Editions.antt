@@ -11,7 +11,7 @@ use Rattle.held.specs.Table.{lentBy, viewOf}
 use Rattle.held.specs.Laid.{InRanges}
 use Rattle.held.specs.declared.Session.{Session}
 use Rattle.held.proofs.Laws.{session-in-ranges}
-use Rattle.images.specs.Layout.{Edition, edition01, edition02}
+use Rattle.images.specs.Layout.{ImageVersion, imageVersion01, imageVersion02}
 use Rattle.images.specs.Image.{imageText, readText, LentOctets}
 use Rattle.images.specs.Promise.{ImageRead}
 use Rattle.images.specs.Claims.{Short}
@@ -19,17 +19,17 @@ use Rattle.images.specs.declared.Restore.{Restore}
 use Rattle.images.specs.declared.Restore.the-variants as restore
 use Rattle.images.proofs.Laws.{lent-octets}
 use Rattle.images.proofs.Claims as images
-use Rattle.demands.specs.Demand2.{Saved}
-use Rattle.demands.specs.Handover.{ReadAs, IsRead, Names}
-use Rattle.demands.specs.Editions.{HeldBy, OneImageIn, Editions}
+use Rattle.demands.specs.Demand2.Demand2.{Saved}
+use Rattle.demands.specs.Requests.Handover.{ReadAs, IsRead, Names}
+use Rattle.demands.specs.Requests.Editions.{HeldBy, OneImageIn, Editions}
 use Rattle.demands.proofs.ImageTexts.{octet-small, names-own, short-reads}
 use Rattle.demands.proofs.ImageCalls.{wrote-image, restores}
 use Rattle.demands.proofs.Handover.{edition-reads}
 
-held-within : {edition : Edition} {s : Session} → HeldBy edition s → InRanges (lentBy s)
+held-within : {edition : ImageVersion} {s : Session} → HeldBy edition s → InRanges (lentBy s)
 held-within {edition} {s} h = session-in-ranges s (h .saved .inRanges) (h .saved .sized)
 
-module _ (edition : Edition) (is : IsRead edition) where
+module _ (edition : ImageVersion) (is : IsRead edition) where
   held-reads : {s : Session} → HeldBy edition s → readText (imageText edition (viewOf s)) ≡ done (viewOf s)
   held-reads {s} h = short-reads edition is (viewOf s) (held-within h .sound) (lent-octets (h .lent)) (h .short)
 
@@ -54,7 +54,7 @@ module _ (edition : Edition) (is : IsRead edition) where
             sym (images.claims .oneImage .written edition text (viewOf t) small (edition-reads edition is n read));
       }
 
-holds-all : {s : Session} → Saved s → LentOctets (lentBy s) → HeldBy edition02 s
+holds-all : {s : Session} → Saved s → LentOctets (lentBy s) → HeldBy imageVersion02 s
 holds-all {s} v small =
     let within = session-in-ranges s (v .inRanges) (v .sized) in
     record { saved = v; lent = small; short = images.claims .editions .holdsAll (viewOf s) (within .sound) (lent-octets small) }
@@ -70,11 +70,11 @@ editions =
     record {
       written = λ {s} w.
           let is = wrote-image w .is in
-          (is, subst (Names edition02) (sym is) (names-own edition02 (inr refl) (viewOf s)));
+          (is, subst (Names imageVersion02) (sym is) (names-own imageVersion02 (inr refl) (viewOf s)));
       holdsAll = holds-all;
       oneImage = one-image-in;
       bothSame = λ h one two.
-          one-image-in edition01 (inl refl) .same h one
-          ∙ sym (one-image-in edition02 (inr refl) .same (holds-all (h .saved) (h .lent)) two);
-      older = λ {view} {r} s o short read. answered (short-reads edition01 (inl refl) view s o short) (r .session) (r .answer) read;
+          one-image-in imageVersion01 (inl refl) .same h one
+          ∙ sym (one-image-in imageVersion02 (inr refl) .same (holds-all (h .saved) (h .lent)) two);
+      older = λ {view} {r} s o short read. answered (short-reads imageVersion01 (inl refl) view s o short) (r .session) (r .answer) read;
     }

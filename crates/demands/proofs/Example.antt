@@ -30,9 +30,9 @@ use Rattle.sending.specs.Carries as carries
 use Rattle.sending.specs.Honest.{packetAt, HonestAt, HonestSender}
 use Rattle.sending.specs.declared.Settings.the-variants as settings
 use Rattle.demands.specs.Sheet.{packet0, packet1, message2, datagram1, datagram2}
-use Rattle.demands.specs.Feeding.{Near, fresh, none, accepted, repeated}
-use Rattle.demands.specs.Demand3.{RestKnown}
-use Rattle.demands.specs.Example.{exampleRow, exampleDatagrams, HandedBack, Met, Example}
+use Rattle.demands.specs.Demand3.Feeding.{Near, fresh, none, accepted, repeated}
+use Rattle.demands.specs.Demand3.Demand3.{RestKnown}
+use Rattle.demands.specs.Demand3.Example.{exampleRow, exampleDatagrams, HandedBack, Met, Example}
 use Rattle.demands.proofs.Calling.{fresh-seen}
 use Rattle.demands.proofs.OfferedTo.{call-accepted, call-refused, then-seen, offers-of}
 

@@ -21,9 +21,9 @@ use Rattle.views.specs.Offer.{accept, acceptedAt, offered, lateFrom}
 use Rattle.views.specs.Release.{Release, release, viewAfterRelease}
 use Rattle.views.proofs.Laws.{release-leaves}
 use Rattle.sending.specs.Honest.{HonestSender}
-use Rattle.demands.specs.History as moves
-use Rattle.demands.specs.History.{afterMove, offer}
-use Rattle.demands.specs.Feeding.{placeOf, Near, datagramAt}
+use Rattle.demands.specs.Common.History as moves
+use Rattle.demands.specs.Common.History.{afterMove, offer}
+use Rattle.demands.specs.Demand3.Feeding.{placeOf, Near, datagramAt}
 use Rattle.demands.proofs.Ranges.{ViewInRanges}
 use Rattle.demands.proofs.FedViews.{FedView, fresh, arrives, releases}
 use Rattle.demands.proofs.Taken.{offer-done}

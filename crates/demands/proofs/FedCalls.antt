@@ -6,11 +6,11 @@ use Rattle.held.specs.Promise.{Fresh}
 use Rattle.held.specs.declared.Session.{Session}
 use Rattle.sessions.specs.Receiver.{OfferOwes}
 use Rattle.sessions.specs.declared.receiver.AfterOffer.{AfterOffer}
-use Rattle.demands.specs.Calls as chain
-use Rattle.demands.specs.Calls.{Calls, start, _then_, Called, offer, leftBy}
-use Rattle.demands.specs.Feeding.{datagramAt, Offers, Fed, fresh, offered, released, Takes, none, accepted, repeated}
-use Rattle.demands.specs.FedCalls as fed
-use Rattle.demands.specs.FedCalls.{CameBy, Offering, CameOn}
+use Rattle.demands.specs.Common.Calls as chain
+use Rattle.demands.specs.Common.Calls.{Calls, start, _then_, Called, offer, leftBy}
+use Rattle.demands.specs.Demand3.Feeding.{datagramAt, Offers, Fed, fresh, offered, released, Takes, none, accepted, repeated}
+use Rattle.demands.specs.Demand3.FedCalls as fed
+use Rattle.demands.specs.Demand3.FedCalls.{CameBy, Offering, CameOn}
 use Rattle.demands.proofs.Calling.{fresh-seen, called-on}
 use Rattle.demands.proofs.KnownReached.{known-reached-by}
 

@@ -8,8 +8,8 @@ use Rattle.lengths.specs.Refusals as refusals
 use Rattle.lengths.specs.Answers.{done, refuse}
 use Rattle.views.specs.View.{View, freshView}
 use Rattle.views.specs.Offer as offers
-use Rattle.demands.specs.History.{afterMove, offer, release}
-use Rattle.demands.specs.Feeding.{Near, datagramAt}
+use Rattle.demands.specs.Common.History.{afterMove, offer, release}
+use Rattle.demands.specs.Demand3.Feeding.{Near, datagramAt}
 
 module _ (row datagrams : List (List ℕ)) where
   pub data FedView : View → Type 0 where

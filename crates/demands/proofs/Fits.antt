@@ -23,7 +23,7 @@ use Rattle.datagrams.proofs.Laws.{Allowed, datagram-length, allowed-written}
 use Rattle.datagrams.proofs.Claims as datagrams
 use Rattle.sending.specs.Promise.{toSend}
 use Rattle.sending.proofs.Claims as sending
-use Rattle.demands.specs.Fits.{fullSize, Fits}
+use Rattle.demands.specs.Requests.Fits.{fullSize, Fits}
 use Rattle.demands.proofs.RoundTrips.{puts-octets, puts-back}
 
 -- what reads is within the limit

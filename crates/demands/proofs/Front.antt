@@ -24,8 +24,8 @@ use Rattle.packets.specs.declared.types.Named.{Named}
 use Rattle.packets.specs.declared.types.Ending.{Ending}
 use Rattle.packets.specs.declared.types.Ending.the-variants.{Whole, Repaired}
 use Rattle.packet_laws.proofs.Laws.{narrow}
-use Rattle.demands.specs.PacketItems.{end, octetsFrom, Due}
-use Rattle.demands.specs.PacketRefusals.{FirstWrong}
+use Rattle.demands.specs.Demand1.PacketItems.{end, octetsFrom, Due}
+use Rattle.demands.specs.Demand1.PacketRefusals.{FirstWrong}
 use Rattle.demands.proofs.PacketRows.{not-both}
 use Rattle.demands.proofs.PacketPlaces.{due-end, due-inside}
 use Rattle.demands.proofs.PacketFronts.{in-front}

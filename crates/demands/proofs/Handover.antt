@@ -13,15 +13,15 @@ use Rattle.held.specs.Laid.{InRanges}
 use Rattle.held.specs.declared.Session.{Session}
 use Rattle.held.proofs.Laws.{session-in-ranges, in-ranges-true}
 use Rattle.sending.specs.Honest.{HonestSender}
-use Rattle.images.specs.Layout.{Edition, edition02}
+use Rattle.images.specs.Layout.{ImageVersion, imageVersion02}
 use Rattle.images.specs.Image.{editionNamed, readText, readImage, LentOctets}
 use Rattle.images.proofs.Claims as images
-use Rattle.demands.specs.History.{Left}
-use Rattle.demands.specs.Calls.{Calls, start, _then_, Called, atStart, offered, released, solved, leftIn, leftBy}
-use Rattle.demands.specs.Demand2.{Saved, Begins, fresh, saved, FreshLeaves, SavedLeaves}
-use Rattle.demands.specs.Feeding.{Fed}
-use Rattle.demands.specs.GoesOn.{GoesOn}
-use Rattle.demands.specs.Handover.{Wrote, ReadAs, IsRead, Names, followedBy, GoesOnFrom, StartsAt, Handover}
+use Rattle.demands.specs.Common.History.{Left}
+use Rattle.demands.specs.Common.Calls.{Calls, start, _then_, Called, atStart, offered, released, solved, leftIn, leftBy}
+use Rattle.demands.specs.Demand2.Demand2.{Saved, Begins, fresh, saved, FreshLeaves, SavedLeaves}
+use Rattle.demands.specs.Demand3.Feeding.{Fed}
+use Rattle.demands.specs.Demand2.GoesOn.{GoesOn}
+use Rattle.demands.specs.Requests.Handover.{Wrote, ReadAs, IsRead, Names, followedBy, GoesOnFrom, StartsAt, Handover}
 use Rattle.demands.proofs.Calling.{begins-seen, called-went}
 use Rattle.demands.proofs.RoundTrips.{puts-back}
 use Rattle.demands.proofs.Demand2.{demand-2}
@@ -96,7 +96,7 @@ starts-at row datagrams honest {s} {t} f small w read =
 
 -- ---- one image
 -- what was read of an edition is what that edition reads, and the session's image there
-module _ (edition : Edition) (is : IsRead edition) {text : List ℕ} {t : Session} (n : Names edition text) (read : ReadAs text t) where
+module _ (edition : ImageVersion) (is : IsRead edition) {text : List ℕ} {t : Session} (n : Names edition text) (read : ReadAs text t) where
   pub edition-reads : readImage edition text ≡ done (viewOf t)
   edition-reads = sym (reads-named text edition is n) ∙ sym (read .answer)
 
@@ -117,9 +117,9 @@ handover =
       everyOne = every-one;
       oneWritten = λ w v. wrote-image w .is ∙ sym (wrote-image v .is);
       writesBack = λ {t} {text} small n read put room.
-          let reads = edition-reads edition02 (inr refl) n read in
+          let reads = edition-reads imageVersion02 (inr refl) n read in
           puts-back put
-          (to-write (read .state) ∙ ap done (images.claims .oneImage .written edition02 text (viewOf t) small reads))
+          (to-write (read .state) ∙ ap done (images.claims .oneImage .written imageVersion02 text (viewOf t) small reads))
           refl
           room;
       oneRead = one-read;

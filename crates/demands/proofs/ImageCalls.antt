@@ -23,7 +23,7 @@ use Rattle.held.specs.Laid.{lentInRanges, sessionInRanges, InRanges}
 use Rattle.held.specs.Promise.{Sized}
 use Rattle.held.specs.declared.Session.{Session}
 use Rattle.held.proofs.Laws.{session-in-ranges, in-ranges-true, session-same, fresh-same}
-use Rattle.images.specs.Layout.{edition02}
+use Rattle.images.specs.Layout.{imageVersion02}
 use Rattle.images.specs.Image.{imageText, readText, imageRows, imageToWrite, LentOctets, imageLimit}
 use Rattle.images.specs.Promise.{ImageWritten, ImageRead, Restores}
 use Rattle.images.specs.declared.Restore.{Restore}
@@ -31,8 +31,8 @@ use Rattle.images.specs.declared.Restore.the-variants as restore
 use Rattle.images.specs.declared.Restored.{Restored}
 use Rattle.images.proofs.Laws.{lent-octets, reads02}
 use Rattle.images.proofs.Claims as images
-use Rattle.demands.specs.Demand2.{Saved}
-use Rattle.demands.specs.Handover.{Wrote, restoring, ReadAs, Refuses}
+use Rattle.demands.specs.Demand2.Demand2.{Saved}
+use Rattle.demands.specs.Requests.Handover.{Wrote, restoring, ReadAs, ImageRefuses}
 use Rattle.demands.proofs.RoundTrips.{done-fitted, puts-octets, puts-back}
 use Rattle.demands.proofs.Demand1.{puts-unchanged}
 use Rattle.demands.proofs.ImageTexts.{refused-only, another-exactly, misshapen-exactly, outside-exactly}
@@ -40,17 +40,17 @@ use Rattle.demands.proofs.ImageTexts.{refused-only, another-exactly, mi
 -- ---- what was written
 -- it is the image of the session, which is within its ranges
 pub record Image (s : Session) (text : List ℕ) : Type 0 where
-  pub is : text ≡ imageText edition02 (viewOf s)
+  pub is : text ≡ imageText imageVersion02 (viewOf s)
   pub ranges : sessionInRanges s ≡ true
 
-written-is : (s : Session) (text : List ℕ) → imageToWrite edition02 (lentBy s) ≡ done text → Image s text
+written-is : (s : Session) (text : List ℕ) → imageToWrite imageVersion02 (lentBy s) ≡ done text → Image s text
 unfolding imageToWrite
 written-is s text e =
     record {
-      is = unless-done (imageRows (lentBy s)) (imageText edition02 (viewOf s)) text e;
+      is = unless-done (imageRows (lentBy s)) (imageText imageVersion02 (viewOf s)) text e;
       ranges =
           not-false (lentInRanges (lentBy s))
-          (unless-past (not (lentInRanges (lentBy s))) outsideRanges [] (imageText edition02 (viewOf s)) text e .0);
+          (unless-past (not (lentInRanges (lentBy s))) outsideRanges [] (imageText imageVersion02 (viewOf s)) text e .0);
     }
 
 pub wrote-image : {s : Session} {text : List ℕ} → Wrote s text → Image s text
@@ -59,7 +59,7 @@ wrote-image {s} {text} w =
     written-is s text (put .0 ∙ ap done (sym (w .unaltered)))
 
 -- a session within its ranges is written as its image
-pub to-write : {s : Session} → InRanges (lentBy s) → imageToWrite edition02 (lentBy s) ≡ done (imageText edition02 (viewOf s))
+pub to-write : {s : Session} → InRanges (lentBy s) → imageToWrite imageVersion02 (lentBy s) ≡ done (imageText imageVersion02 (viewOf s))
 unfolding imageToWrite unless
 to-write within = rw (in-ranges-true within)
 
@@ -89,8 +89,8 @@ module _ {s : Session} {text : List ℕ} (within : InRanges (lentBy s)) (small :
 pub every-one : {s : Session} → Saved s → LentOctets (lentBy s) → (text : List ℕ) × Wrote s text × ReadAs text s
 every-one {s} v small =
     let within = session-in-ranges s (v .inRanges) (v .sized) in
-    let text = imageText edition02 (viewOf s) in
-    let fits : fitted (imageToWrite edition02 (lentBy s)) text ≡ done text = rw (to-write within) (done-fitted text text (omega arith)) in (
+    let text = imageText imageVersion02 (viewOf s) in
+    let fits : fitted (imageToWrite imageVersion02 (lentBy s)) text ≡ done text = rw (to-write within) (done-fitted text text (omega arith)) in (
       text,
       record {
         old = text;
@@ -116,7 +116,7 @@ room-enough {s} {old} {new} {w} sized small put room is = by (sessionInRanges s)
       let within = session-in-ranges s e sized in
       let holds = images.claims .readBack .holds (viewOf s) (within .sound) (lent-octets small) in
       let most = images.claims .sized .most packetLimit (viewOf s) holds in
-      let long = images.claims .sized .settled edition02 (viewOf s) in
+      let long = images.claims .sized .settled imageVersion02 (viewOf s) in
       let back = puts-back put (to-write within) refl (omega (arith, most, long, room)) in
       octets-refused (sym (back .answer) ∙ is)
   by false e =
@@ -136,11 +136,11 @@ refused-told t (restore.Refused x) why read = (
   λ e. ap restore.Refused (refused-same (read .answer ∙ e)),
 )
 
-pub refuses : Refuses
+pub refuses : ImageRefuses
 refuses =
     record {
-      write = λ s {old} put. puts-refusal put ∙ images.claims .writes edition02 (lentBy s) old;
-      writeUnchanged = λ s. puts-unchanged (imageToWrite edition02 (lentBy s));
+      write = λ s {old} put. puts-refusal put ∙ images.claims .writes imageVersion02 (lentBy s) old;
+      writeUnchanged = λ s. puts-unchanged (imageToWrite imageVersion02 (lentBy s));
       roomEnough = room-enough;
       anotherEdition = λ {text} {r} read.
           Iff·trans (refused-told (r .session) (r .answer) (refusal otherEdition) read) (another-exactly text);

@@ -16,38 +16,38 @@ use Rattle.lengths.proofs.Laws.{not-done, refused-same}
 use Rattle.lines.specs.Hex.{hexOf, digitOf, digitFor}
 use Rattle.views.specs.View.{View}
 use Rattle.views.specs.Ranges.{inRanges, Sound}
-use Rattle.images.specs.Parts.{numberIn}
-use Rattle.images.specs.Layout.{Edition, edition01, edition02}
+use Rattle.images.specs.Parts.{highFirstOctets}
+use Rattle.images.specs.Layout.{ImageVersion, imageVersion01, imageVersion02}
 use Rattle.images.specs.Octets.{imageLines}
 use Rattle.images.specs.Image.{imageText, readImage, namesEdition, editionNamed, readText, OfOctets}
 use Rattle.images.specs.Claims.{Short}
 use Rattle.images.proofs.Laws.{image-lines, reads01, reads02}
 use Rattle.images.proofs.Claims as images
-use Rattle.demands.specs.Handover.{IsRead, Names, ImageOf}
+use Rattle.demands.specs.Requests.Handover.{IsRead, Names, ImageOf}
 
 -- ---- the editions that are read
 -- what holds of 01 and of 02 holds of each
-of-each : (P : Edition → Type 0) → P edition01 → P edition02 → (edition : Edition) → IsRead edition → P edition
+of-each : (P : ImageVersion → Type 0) → P imageVersion01 → P imageVersion02 → (edition : ImageVersion) → IsRead edition → P edition
 of-each P one two edition (inl e) = subst P (sym e) one
 of-each P one two edition (inr e) = subst P (sym e) two
 
-pub octet-small : (edition : Edition) → IsRead edition → edition .octet < 256
+pub octet-small : (edition : ImageVersion) → IsRead edition → edition .octet < 256
 octet-small = of-each (λ edition. edition .octet < 256) (omega arith) (omega arith)
 
 -- each image names its edition
-names01 : (view : View) → Names edition01 (imageText edition01 view)
-unfolding imageLines numberIn hexOf digitFor digitOf namesEdition editionNamed
-names01 view = rw (image-lines edition01 view) (record { reads = refl; octet = refl })
+names01 : (view : View) → Names imageVersion01 (imageText imageVersion01 view)
+unfolding imageLines highFirstOctets hexOf digitFor digitOf namesEdition editionNamed
+names01 view = rw (image-lines imageVersion01 view) (record { reads = refl; octet = refl })
 
-names02 : (view : View) → Names edition02 (imageText edition02 view)
-unfolding imageLines numberIn hexOf digitFor digitOf namesEdition editionNamed
-names02 view = rw (image-lines edition02 view) (record { reads = refl; octet = refl })
+names02 : (view : View) → Names imageVersion02 (imageText imageVersion02 view)
+unfolding imageLines highFirstOctets hexOf digitFor digitOf namesEdition editionNamed
+names02 view = rw (image-lines imageVersion02 view) (record { reads = refl; octet = refl })
 
-pub names-own : (edition : Edition) → IsRead edition → (view : View) → Names edition (imageText edition view)
+pub names-own : (edition : ImageVersion) → IsRead edition → (view : View) → Names edition (imageText edition view)
 names-own = of-each (λ edition. (view : View) → Names edition (imageText edition view)) names01 names02
 
 -- and restores the session, if the edition can hold it
-pub short-reads : (edition : Edition) → IsRead edition → (view : View) → Sound view → OfOctets view → Short (edition .limit) view
+pub short-reads : (edition : ImageVersion) → IsRead edition → (view : View) → Sound view → OfOctets view → Short (edition .limit) view
     → readText (imageText edition view) ≡ done view
 short-reads =
     of-each
@@ -61,39 +61,39 @@ module _ (text : List ℕ) where
   unfolding readText
   reads-none n = rw n
 
-  by01 : Names edition01 text → readText text ≡ readImage edition01 text
+  by01 : Names imageVersion01 text → readText text ≡ readImage imageVersion01 text
   unfolding readText
   by01 n = rw (n .reads, n .octet)
 
-  by02 : Names edition02 text → readText text ≡ readImage edition02 text
+  by02 : Names imageVersion02 text → readText text ≡ readImage imageVersion02 text
   unfolding readText
   by02 n = rw (n .reads, n .octet)
 
-  pub reads-named : (edition : Edition) → IsRead edition → Names edition text → readText text ≡ readImage edition text
+  pub reads-named : (edition : ImageVersion) → IsRead edition → Names edition text → readText text ≡ readImage edition text
   reads-named = of-each (λ edition. Names edition text → readText text ≡ readImage edition text) by01 by02
 
 -- a text names none, one that is read, or another
 data Naming (text : List ℕ) : Type 0 where
   none : namesEdition text ≡ false → Naming text
-  ours : (edition : Edition) → IsRead edition → Names edition text → Naming text
+  ours : (edition : ImageVersion) → IsRead edition → Names edition text → Naming text
   other : readText text ≡ refuse otherEdition → Naming text
 
 naming : (text : List ℕ) → Naming text
 naming text = by _ _ _ refl refl refl where
-  by : (b c d : Bool) → namesEdition text ≡ b → eqb (editionNamed text) (edition01 .octet) ≡ c
-      → eqb (editionNamed text) (edition02 .octet) ≡ d
+  by : (b c d : Bool) → namesEdition text ≡ b → eqb (editionNamed text) (imageVersion01 .octet) ≡ c
+      → eqb (editionNamed text) (imageVersion02 .octet) ≡ d
       → Naming text
   by false c d n one two = none n
-  by true true d n one two = ours edition01 (inl refl) (record { reads = n; octet = eqb-true (editionNamed text) _ one })
-  by true false true n one two = ours edition02 (inr refl) (record { reads = n; octet = eqb-true (editionNamed text) _ two })
+  by true true d n one two = ours imageVersion01 (inl refl) (record { reads = n; octet = eqb-true (editionNamed text) _ one })
+  by true false true n one two = ours imageVersion02 (inr refl) (record { reads = n; octet = eqb-true (editionNamed text) _ two })
   by true false false n one two =
       other
       (images.claims .editions .other text .1 (n, eqb-false (editionNamed text) _ one, eqb-false (editionNamed text) _ two))
 
 -- what was restored is of an edition that is read
-pub done-named : (text : List ℕ) (view : View) → readText text ≡ done view → (edition : Edition) × IsRead edition × Names edition text
+pub done-named : (text : List ℕ) (view : View) → readText text ≡ done view → (edition : ImageVersion) × IsRead edition × Names edition text
 done-named text view e = by (naming text) where
-  by : Naming text → (edition : Edition) × IsRead edition × Names edition text
+  by : Naming text → (edition : ImageVersion) × IsRead edition × Names edition text
   by (none n) = absurd (not-done (sym (reads-none text n) ∙ e))
   by (ours edition is n) = (edition, is, n)
   by (other o) = absurd (not-done (sym o ∙ e))
@@ -112,7 +112,7 @@ refused-only text why e = by (naming text) where
   by (other o) = inl (refused-same (sym e ∙ o))
 
 pub another-exactly : (text : List ℕ) → (readText text ≡ refuse otherEdition)
-    ↔ ((namesEdition text ≡ true) × ((edition : Edition) → IsRead edition → Names edition text → ⊥))
+    ↔ ((namesEdition text ≡ true) × ((edition : ImageVersion) → IsRead edition → Names edition text → ⊥))
 another-exactly text =
     let says = images.claims .editions .other text in (
       λ e.
@@ -121,15 +121,15 @@ another-exactly text =
       λ y.
           says .1 (
             y .0,
-            λ o. y .1 edition01 (inl refl) (record { reads = y .0; octet = o }),
-            λ o. y .1 edition02 (inr refl) (record { reads = y .0; octet = o }),
+            λ o. y .1 imageVersion01 (inl refl) (record { reads = y .0; octet = o }),
+            λ o. y .1 imageVersion02 (inr refl) (record { reads = y .0; octet = o }),
           ),
     )
 
 module _ (text : List ℕ) (small : Octets text) where
   pub misshapen-exactly : (readText text ≡ refuse badImage)
       ↔ ((namesEdition text ≡ false)
-      ⊎ ((edition : Edition) × IsRead edition × Names edition text × ((view : View) → ImageOf edition text view → ⊥)))
+      ⊎ ((edition : ImageVersion) × IsRead edition × Names edition text × ((view : View) → ImageOf edition text view → ⊥)))
   misshapen-exactly = (
     λ e. by e (naming text),
     ⊎-elim (reads-none text)
@@ -140,7 +140,7 @@ module _ (text : List ℕ) (small : Octets text) where
   ) where
     by : readText text ≡ refuse badImage → Naming text
         → (namesEdition text ≡ false)
-        ⊎ ((edition : Edition) × IsRead edition × Names edition text × ((view : View) → ImageOf edition text view → ⊥))
+        ⊎ ((edition : ImageVersion) × IsRead edition × Names edition text × ((view : View) → ImageOf edition text view → ⊥))
     by e (none n) = inl n
     by e (ours edition is n) =
         let says = images.claims .reads .misshapen edition text (octet-small edition is) small in
@@ -149,7 +149,7 @@ module _ (text : List ℕ) (small : Octets text) where
     by e (other o) = let z : otherEdition ≡ badImage = number-same (sym o ∙ e) in absurd (omega arith)
 
   pub outside-exactly : (readText text ≡ refuse outsideRanges)
-      ↔ ((edition : Edition) × IsRead edition × (view : View) × ImageOf edition text view × (inRanges view ≡ false))
+      ↔ ((edition : ImageVersion) × IsRead edition × (view : View) × ImageOf edition text view × (inRanges view ≡ false))
   outside-exactly = (
     λ e. by e (naming text),
     λ x.
@@ -158,7 +158,7 @@ module _ (text : List ℕ) (small : Octets text) where
         ∙ images.claims .reads .outside (x .0) text (octet-small (x .0) (x .1)) small .1 (x .2, x .3 .holds, x .3 .written, x .4),
   ) where
     by : readText text ≡ refuse outsideRanges → Naming text
-        → (edition : Edition) × IsRead edition × (view : View) × ImageOf edition text view × (inRanges view ≡ false)
+        → (edition : ImageVersion) × IsRead edition × (view : View) × ImageOf edition text view × (inRanges view ≡ false)
     by e (none n) = let z : badImage ≡ outsideRanges = number-same (sym (reads-none text n) ∙ e) in absurd (omega arith)
     by e (ours edition is n) =
         let says = images.claims .reads .outside edition text (octet-small edition is) small in

@@ -20,11 +20,11 @@ use Rattle.solutions.specs.Solve as solutions
 use Rattle.held.specs.Table.{viewOf}
 use Rattle.held.specs.declared.Session.{Session}
 use Rattle.sessions.specs.Receiver.{SeenAs}
-use Rattle.demands.specs.History as moves
-use Rattle.demands.specs.History.{Move, Left, leftAs, afterMove}
-use Rattle.demands.specs.Calls.{Call, Calls, Called, leftIn, leftBy}
-use Rattle.demands.specs.GoesOn.{moveOf, GoesOn, from, by}
-use Rattle.demands.specs.Demand2.{StaysKnown}
+use Rattle.demands.specs.Common.History as moves
+use Rattle.demands.specs.Common.History.{Move, Left, leftAs, afterMove}
+use Rattle.demands.specs.Common.Calls.{Call, Calls, Called, leftIn, leftBy}
+use Rattle.demands.specs.Demand2.GoesOn.{moveOf, GoesOn, from, by}
+use Rattle.demands.specs.Demand2.Demand2.{StaysKnown}
 use Rattle.demands.proofs.Ranges.{ViewInRanges}
 use Rattle.demands.proofs.Growing.{grown-known}
 use Rattle.demands.proofs.Shifted.{cell-on}

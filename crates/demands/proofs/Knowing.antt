@@ -15,7 +15,7 @@ use Rattle.views.specs.Reached.{Known, Reached, DistinctMembers}
 use Rattle.views.proofs.Laws.{makes-repaired, known-reached, reached-known}
 use Rattle.views.specs.View.{View, Counts, freshView, goneOn}
 use Rattle.views.specs.Offer.{keep, keepExtra, accept}
-use Rattle.demands.specs.ReachedBy.{sparesIn}
+use Rattle.demands.specs.Demand2.ReachedBy.{sparesIn}
 use Rattle.demands.proofs.Ranges.{ViewInRanges}
 use Rattle.demands.proofs.Growing.{asReceived, grown-keep, grown-extra, known-grown, known-kept, kept-known, known-spares}
 use Rattle.demands.proofs.Growing.{spares-known}

@@ -28,10 +28,10 @@ use Rattle.solutions.specs.Solve as solutions
 use Rattle.solving.specs.Outcome.{solvedOutcome, filledOf}
 use Rattle.solving.specs.declared.Solved.{Solved}
 use Rattle.solving.specs.declared.Solved.the-variants as filling
-use Rattle.demands.specs.History.{Left, leftAs, afterMove}
-use Rattle.demands.specs.Calls.{Call, offer, release, solve, Calls, _then_, acceptedIn, fillsIn, leftIn}
-use Rattle.demands.specs.GoesOn.{moveOf, Says, GoesOn, from, by}
-use Rattle.demands.specs.ReachedBy.{gone, ReachedBy}
+use Rattle.demands.specs.Common.History.{Left, leftAs, afterMove}
+use Rattle.demands.specs.Common.Calls.{Call, offer, release, solve, Calls, _then_, acceptedIn, fillsIn, leftIn}
+use Rattle.demands.specs.Demand2.GoesOn.{moveOf, Says, GoesOn, from, by}
+use Rattle.demands.specs.Demand2.ReachedBy.{gone, ReachedBy}
 use Rattle.demands.proofs.Ranges.{ViewInRanges}
 use Rattle.demands.proofs.Taken.{OfferDone, offer-done}
 use Rattle.demands.proofs.Steps.{moved-sum}

@@ -12,11 +12,11 @@ use Rattle.octets.specs.Place.{tab}
 use Rattle.octets.proofs.Laws.{tab-ext, tab-more}
 use Rattle.views.specs.View.{View, Counts, sum, numbers, following, freshView}
 use Rattle.views.specs.Cells.{State, unknown, received, spare, repaired, blank}
-use Rattle.demands.specs.History.{Left, leftAs, isReceived, isSpare, isRepaired, isLost, afterMove, many}
-use Rattle.demands.specs.History.{historyCounts}
-use Rattle.demands.specs.Calls.{Calls, leftIn, leftBy}
-use Rattle.demands.specs.GoesOn.{moveOf, GoesOn, from, by}
-use Rattle.demands.specs.Demand2.{OneKind, grown, FreshLeaves, SavedLeaves}
+use Rattle.demands.specs.Common.History.{Left, leftAs, isReceived, isSpare, isRepaired, isLost, afterMove, howMany}
+use Rattle.demands.specs.Common.History.{historyCounts}
+use Rattle.demands.specs.Common.Calls.{Calls, leftIn, leftBy}
+use Rattle.demands.specs.Demand2.GoesOn.{moveOf, GoesOn, from, by}
+use Rattle.demands.specs.Demand2.Demand2.{OneKind, grown, FreshLeaves, SavedLeaves}
 use Rattle.demands.proofs.Ranges.{ViewInRanges}
 use Rattle.demands.proofs.InRanges.{fresh-in-ranges}
 use Rattle.demands.proofs.Steps.{Step, stays, leaves, leaving, step, after-in-ranges, counts-path}
@@ -28,8 +28,8 @@ on-ranges r from = r
 on-ranges r (by {call = call} {held = held} on says) = after-in-ranges (moveOf call) held (on-ranges r on)
 
 -- ---- the counts
-many-append : (test : State → Bool) (some more : List Left) → many test (some ++ more) ≡ many test some + many test more
-unfolding many
+many-append : (test : State → Bool) (some more : List Left) → howMany test (some ++ more) ≡ howMany test some + howMany test more
+unfolding howMany
 many-append test [] more = omega arith
 many-append test (x ∷ some) more = let rest = many-append test some more in omega arith
 
@@ -42,12 +42,12 @@ grown-append c some more =
     (omega (arith, many-append isLost some more))
 
 grown-none : (c : Counts) → c ≡ grown c (historyCounts [])
-unfolding many
+unfolding howMany
 grown-none c = counts-path (omega arith) (omega arith) (omega arith) (omega arith)
 
 kind-sum : (st : State) (number note : ℕ) (octets : List ℕ) → OneKind (leftAs st number note octets)
     → sum (historyCounts (leftAs st number note octets ∷ [])) ≡ 1
-unfolding many
+unfolding howMany
 kind-sum unknown number note octets one = refl
 kind-sum received number note octets one = refl
 kind-sum spare number note octets one = refl
@@ -126,13 +126,4 @@ saved-leaves r on =
     record { inOrder = w .inOrder; kinds = w .kinds; counts = w .counted; advance = w .advance; base = w .reached }
 
 pub fresh-leaves : {held : View} {calls : Calls} → GoesOn freshView calls held → FreshLeaves (leftBy calls) held
-unfolding freshView
-fresh-leaves {calls = calls} on =
-    let w = went fresh-in-ranges on in
-    record {
-      inOrder = w .inOrder ∙ tab-ext (length (leftBy calls)) _ _ (λ j low. omega arith);
-      kinds = w .kinds;
-      counts = w .counted ∙ counts-path (omega arith) (omega arith) (omega arith) (omega arith);
-      advance = let total = w .advance in omega arith;
-      base = let total = w .reached in omega arith;
-    }
+fresh-leaves on = saved-leaves fresh-in-ranges on

@@ -16,8 +16,8 @@ use Rattle.views.proofs.Laws.{known-not-unknown, usable-says, found-usable, fou
 use Rattle.views.specs.View.{View}
 use Rattle.sending.specs.Sending.{historyKept}
 use Rattle.sending.specs.Honest.{packetAt, HonestSender}
-use Rattle.demands.specs.Feeding.{placeOf, sentAt}
-use Rattle.demands.specs.Demand3.{BurstBack}
+use Rattle.demands.specs.Demand3.Feeding.{placeOf, sentAt}
+use Rattle.demands.specs.Demand3.Demand3.{BurstBack}
 use Rattle.demands.proofs.Sent.{packetAt-sent, packet-sized}
 use Rattle.demands.proofs.Sound.{Marked, Sound, held-sound}
 use Rattle.demands.proofs.FedViews.{FedView, none}

@@ -19,8 +19,8 @@ use Rattle.views.specs.View.{View, Counts, sum}
 use Rattle.views.specs.Offer as offers
 use Rattle.views.specs.Offer.{accept}
 use Rattle.sending.specs.Honest.{HonestSender}
-use Rattle.demands.specs.Feeding.{placeOf}
-use Rattle.demands.specs.Demand3.{TwoLists}
+use Rattle.demands.specs.Demand3.Feeding.{placeOf}
+use Rattle.demands.specs.Demand3.Demand3.{TwoLists}
 use Rattle.demands.proofs.Growing.{known-grown}
 use Rattle.demands.proofs.InRanges.{filled, grown-accept, held-beside}
 use Rattle.demands.proofs.Steps.{accept-base, accept-counts}

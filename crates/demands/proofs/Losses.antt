@@ -30,9 +30,9 @@ use Rattle.sessions.specs.Receiver.{SeenAs, After}
 use Rattle.sessions.specs.Solver.{solveOf, SolveOwes}
 use Rattle.sessions.specs.declared.solver.AfterSolve.{AfterSolve}
 use Rattle.sessions.proofs.SolverClaims as solver
-use Rattle.demands.specs.Feeding.{placeOf, sentAt, Fed}
-use Rattle.demands.specs.Demand3.{TwoLists}
-use Rattle.demands.specs.Losses.{Losses}
+use Rattle.demands.specs.Demand3.Feeding.{placeOf, sentAt, Fed}
+use Rattle.demands.specs.Demand3.Demand3.{TwoLists}
+use Rattle.demands.specs.Requests.Losses.{Losses}
 use Rattle.demands.proofs.Sent.{packetAt-before, packetAt-sent, packet-sized}
 use Rattle.demands.proofs.Sound.{Sound, held-sound}
 use Rattle.demands.proofs.Fed.{fed-sound}

@@ -23,7 +23,7 @@ use Rattle.packets.specs.declared.types.Named.{Named}
 use Rattle.packets.specs.declared.types.Named.the-variants.{Old, New}
 use Rattle.packets.specs.declared.types.PacketRead.{PacketRead}
 use Rattle.packets.proofs.Claims as packet-claims
-use Rattle.demands.specs.NamedEdition.{Names, ReadBy, AnotherEdition}
+use Rattle.demands.specs.Common.NamedEdition.{Names, ReadBy, AnotherEdition}
 use Rattle.demands.proofs.PacketRows.{same-number}
 use Rattle.demands.proofs.PacketStops.{over-limit, refused-wrong}
 use Rattle.demands.proofs.PacketCases.{case-of}

@@ -32,9 +32,9 @@ use Rattle.offering.specs.Outcome.{acceptedOf}
 use Rattle.lengths.specs.Tables.{refusalIn}
 use Rattle.solutions.specs.Solve as solutions
 use Rattle.solving.specs.Outcome.{filledOf}
-use Rattle.demands.specs.Calls.{Call, offer, release, solve, Calls, _then_, Called, callRefusal}
-use Rattle.demands.specs.GoesOn.{Says, GoesOn, by}
-use Rattle.demands.specs.Demand2.{Begins}
+use Rattle.demands.specs.Common.Calls.{Call, offer, release, solve, Calls, _then_, Called, callRefusal}
+use Rattle.demands.specs.Demand2.GoesOn.{Says, GoesOn, by}
+use Rattle.demands.specs.Demand2.Demand2.{Begins}
 use Rattle.demands.proofs.Calling.{begins-seen, called-on}
 
 -- ---- lower refusals only

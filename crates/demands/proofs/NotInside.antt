@@ -37,7 +37,7 @@ use Rattle.sending.specs.Sender.{sendingOf}
 use Rattle.sending.specs.Promise.{senderRows, toSend}
 use Rattle.sending.specs.declared.Sender.{Sender}
 use Rattle.sending.specs.declared.Settings.{Settings}
-use Rattle.demands.specs.NotInside.{Alike, NotInside}
+use Rattle.demands.specs.NotInside.{AlikeButOctets, NotInside}
 use Rattle.demands.proofs.AlikeReads.{alike-parts}
 
 -- ---- a writer with a table, of octets of one length
@@ -84,7 +84,7 @@ module _ (number : ℕ) (kind : Kind) (lengths packet otherPacket run otherRun :
       rw (← rows-same) (size-same (datagramWriterRows packet kind lengths run) _ _ old other long-same room)
 
 -- ---- the datagram reader
-read-same : {s t : List ℕ} → Alike s t → readDatagram s ≡ readDatagram t
+read-same : {s t : List ℕ} → AlikeButOctets s t → readDatagram s ≡ readDatagram t
 read-same {s} {t} a =
     alike-parts (a .number) (a .packet) (a .kind) (a .lengths) (a .run) s (a .one)
     ∙ rw (a .oneLength) refl
@@ -142,7 +142,7 @@ in-ranges-as : (inside : Bool) (a b : Answer View) → acceptedOf a ≡ accepted
 in-ranges-as true a b same = same
 in-ranges-as false a b same = refl
 
-offer-same : (session : Session) {s t : List ℕ} → Alike s t → acceptedOf (offerOf s session) ≡ acceptedOf (offerOf t session)
+offer-same : (session : Session) {s t : List ℕ} → AlikeButOctets s t → acceptedOf (offerOf s session) ≡ acceptedOf (offerOf t session)
 unfolding offerOf
 offer-same session {s} {t} a =
     let first = datagrams.claims .writtenReads (a .number) (a .packet) (a .kind) (a .lengths) (a .run) s (a .one) in

@@ -17,11 +17,11 @@ use Rattle.views.specs.View.{View, Counts, freshView, goneOn}
 use Rattle.views.specs.Release.{atBase}
 use Rattle.views.specs.Offer.{accept}
 use Rattle.views.proofs.Laws.{known-not-unknown, same-unknown}
-use Rattle.demands.specs.History.{Left, leftAs, isLost, afterMove}
-use Rattle.demands.specs.Calls.{Call, Calls, start, _then_, fillsIn, leftIn, leftBy}
-use Rattle.demands.specs.GoesOn.{moveOf, GoesOn, from, by}
-use Rattle.demands.specs.ReachedBy.{gone}
-use Rattle.demands.specs.NotedBy.{NotedBy, beforeFirst, filled, together, earlier, leftAt, LeftNoted}
+use Rattle.demands.specs.Common.History.{Left, leftAs, isLost, afterMove}
+use Rattle.demands.specs.Common.Calls.{Call, Calls, start, _then_, fillsIn, leftIn, leftBy}
+use Rattle.demands.specs.Demand2.GoesOn.{moveOf, GoesOn, from, by}
+use Rattle.demands.specs.Demand2.ReachedBy.{gone}
+use Rattle.demands.specs.Demand2.NotedBy.{NotedBy, beforeFirst, filled, together, earlier, leftAt, LeftNoted}
 use Rattle.demands.proofs.Growing.{fills-known}
 use Rattle.demands.proofs.InRanges.{fresh-before, fresh-ahead, grown-accept}
 use Rattle.demands.proofs.Shifted.{cell-on, cell-last, unknown-on}

@@ -15,8 +15,8 @@ use Rattle.offering.specs.declared.Offered as offering
 use Rattle.offering.specs.declared.Offered.the-variants as answer
 use Rattle.sessions.specs.Receiver.{SeenAs, OfferOwes}
 use Rattle.sessions.specs.declared.receiver.AfterOffer.{AfterOffer}
-use Rattle.demands.specs.History.{afterMove}
-use Rattle.demands.specs.Feeding.{Near, datagramAt, Offers}
+use Rattle.demands.specs.Common.History.{afterMove}
+use Rattle.demands.specs.Demand3.Feeding.{Near, datagramAt, Offers}
 use Rattle.demands.proofs.Calling.{offer-is, offered-seen}
 
 answer-accepted : (x : offering.Offered) → offeredOutcome x ≡ done tt → x ≡ answer.Accepted

@@ -27,8 +27,8 @@ use Rattle.lines.specs.Promise.{Appends}
 use Rattle.lines.specs.FeedPromise.{LineIn, LineKept}
 use Rattle.lines.proofs.Laws.{begun-length}
 use Rattle.lines.proofs.Claims as lines
-use Rattle.demands.specs.OneTold.{OneLent}
-use Rattle.demands.specs.OneInside.{Alike, InWords, InStores, InDatagrams, InSending, InLines, OneInside}
+use Rattle.demands.specs.OneOutcome.OneTold.{OneLent}
+use Rattle.demands.specs.OneOutcome.OneInside.{SameHistory, InWords, InStores, InDatagrams, InSending, InLines, OneInside}
 use Rattle.demands.proofs.OneTold.{told-one}
 use Rattle.demands.proofs.OneReceiving.{in-held, in-receiving}
 use Rattle.demands.proofs.OnePencil.{in-pencil-reader}
@@ -131,7 +131,7 @@ history-one (written.Refused why) number packet lengths o newS newO otherS other
 module _ {sent : ℕ} {settings : Settings} {packet lengths o old : List ℕ} {r q : Written} {newS newO new otherS otherO other : List ℕ}
     (a : SendsHeld sent settings packet lengths o old newS newO new r)
     (b : SendsHeld sent settings packet lengths o old otherS otherO other q) where
-  send-one : (Alike r q newS otherS newO otherO) × (new ≡ other)
+  send-one : (SameHistory r q newS otherS newO otherO) × (new ≡ other)
   send-one =
       let puts = puts-one new other r q (a .puts) (b .puts) in
       let after = subst (λ (w : Written). HistoryAfter w (sent % numbers) packet lengths o otherS otherO) (sym (puts .0)) (b .history) in

@@ -7,10 +7,10 @@ use mathlib.Core.Option.{Option·some-injective}
 use Rattle.lengths.proofs.Laws.{done-same}
 use Rattle.datagrams.specs.Carried.{Carried}
 use Rattle.datagrams.specs.Read.{readDatagram, carriedBy}
-use Rattle.demands.specs.Calls.{Call, Calls, fillsIn}
-use Rattle.demands.specs.ReachedBy as reached
-use Rattle.demands.specs.ReachedBy.{Accepts, ReachedBy}
-use Rattle.demands.specs.NotedBy.{NotedBy, beforeFirst, filled, together, earlier}
+use Rattle.demands.specs.Common.Calls.{Call, Calls, fillsIn}
+use Rattle.demands.specs.Demand2.ReachedBy as reached
+use Rattle.demands.specs.Demand2.ReachedBy.{Accepts, ReachedBy}
+use Rattle.demands.specs.Demand2.NotedBy.{NotedBy, beforeFirst, filled, together, earlier}
 use Rattle.demands.proofs.KnownReached.{took-unfilled}
 
 noted-reached : {calls : Calls} {P note : ℕ} → NotedBy calls P note → ReachedBy calls P

@@ -4,7 +4,7 @@ use mathlib.Core.List.{List}
 use Rattle.lengths.specs.Answers.{Answer}
 use Rattle.lengths.specs.Length.{lengthToWrite}
 use Rattle.datagrams.specs.Write.{datagramToWrite}
-use Rattle.images.specs.Layout.{editionWritten}
+use Rattle.images.specs.Layout.{versionWritten}
 use Rattle.images.specs.Image.{imageToWrite}
 use Rattle.lengths.proofs.Claims as lengths
 use Rattle.datagrams.proofs.Claims as datagrams
@@ -16,9 +16,9 @@ use Rattle.lines.proofs.Claims as lines
 use Rattle.frames.proofs.Claims as frames
 use Rattle.frame_feed.proofs.Claims as frameFeed
 use Rattle.replays.proofs.Claims as replays
-use Rattle.demands.specs.NamedEdition.{packetBy}
+use Rattle.demands.specs.Common.NamedEdition.{packetBy}
 use Rattle.comparisons.proofs.Claims as comparisons
-use Rattle.demands.specs.OneOutcome.{OneWrite, OneOutcome}
+use Rattle.demands.specs.OneOutcome.OneOutcome.{OneWrite, OneOutcome}
 use Rattle.demands.proofs.OneTold.{one-told}
 use Rattle.demands.proofs.OneInside.{one-inside}
 use Rattle.demands.proofs.ImageCalls.{read-one}
@@ -38,7 +38,7 @@ one-outcome =
             length = λ n. one-write (lengthToWrite n);
             datagram = λ number packet kind lengths run. one-write (datagramToWrite number packet kind lengths run);
             packet = λ octet kind value types lengths octets. one-write (packetBy octet kind value types lengths octets);
-            image = λ session. one-write (imageToWrite editionWritten session);
+            image = λ session. one-write (imageToWrite versionWritten session);
           };
       receiver = sessions.claims .oneOutcome;
       solver = solver.claims .oneOutcome;

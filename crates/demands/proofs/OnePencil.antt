@@ -23,7 +23,7 @@ use Rattle.pencil_reader.specs.declared.fields.HeaderRead.{HeaderRead}
 use Rattle.pencil_reader.specs.declared.fields.HeaderRead.the-variants as header
 use Rattle.pencil_reader.specs.declared.packet.First.{First}
 use Rattle.pencil_reader.specs.declared.packet.First.the-variants as first
-use Rattle.demands.specs.OnePencil.{InPencilReader}
+use Rattle.demands.specs.OneOutcome.OnePencil.{InPencilReader}
 
 -- an answer that what was found gives back
 found-one : {A B : Type 0} (seen : A → B) (back : B → A) → ((r : A) → back (seen r) ≡ r) → {told : B} (r q : A) → told ≡ seen r
@@ -65,7 +65,7 @@ part-back (part.Found start size p) = refl
 part-back (part.Refused why) = refl
 
 abbrev header-of : Finding description.Header → HeaderRead
-header-of (found h p) = header.Found (h .kind) (h .present) p
+header-of (found h p) = header.Found (h .type) (h .present) p
 header-of (stopped why) = header.Refused why
 
 header-back : (r : HeaderRead) → header-of (headerFound r) ≡ r

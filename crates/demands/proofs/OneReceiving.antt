@@ -23,8 +23,8 @@ use Rattle.leaving.proofs.Laws.{released-told}
 use Rattle.offering.specs.Promise.{Offers}
 use Rattle.offering.specs.declared.Offered.{Offered}
 use Rattle.offering.proofs.Laws.{offered-told}
-use Rattle.demands.specs.OneTold.{OneLent}
-use Rattle.demands.specs.OneInside.{InHeld, InReceiving}
+use Rattle.demands.specs.OneOutcome.OneTold.{OneLent}
+use Rattle.demands.specs.OneOutcome.OneInside.{InHeld, InReceiving}
 use Rattle.demands.proofs.OneTold.{told-one}
 
 -- ---- the receiving session

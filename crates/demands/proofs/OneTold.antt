@@ -7,8 +7,8 @@ use mathlib.Core.Logic.{⊎-elim}
 use native.Mathlib.Omega.{arith}
 use Rattle.octets.proofs.Laws.{below-or-not}
 use Rattle.lines.specs.FeedPromise.{Found}
-use Rattle.demands.specs.OneTold.{ToldByLengths, ToldByDatagrams, ToldByPackets, ToldByPacketReader, ToldByStores, ToldByHeld}
-use Rattle.demands.specs.OneTold.{ToldBySending, ToldByLines, ToldByFrames, ToldByImages, OneTold}
+use Rattle.demands.specs.OneOutcome.OneTold.{ToldByLengths, ToldByDatagrams, ToldByPackets, ToldByPacketReader, ToldByStores, ToldByHeld}
+use Rattle.demands.specs.OneOutcome.OneTold.{ToldBySending, ToldByLines, ToldByFrames, ToldByImages, OneTold}
 
 -- both are what is told
 pub told-one : {A : Type 0} {told : A} (r q : A) → r ≡ told → q ≡ told → r ≡ q

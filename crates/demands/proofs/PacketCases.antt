@@ -19,15 +19,15 @@ use Rattle.datagrams.specs.Sizes.{packetLimit}
 use Rattle.packets.specs.Edition.{Edition, editionOf}
 use Rattle.packets.specs.Packet.{fieldsLeast, fieldsLimit, rightFields, mayFollow}
 use Rattle.packet_laws.specs.Octets.{kindOf}
-use Rattle.packets.specs.declared.types.Kind.{Kind}
-use Rattle.packets.specs.declared.types.Kind.the-variants.{Indicator, Data}
+use Rattle.packets.specs.declared.types.PacketKind.{PacketKind}
+use Rattle.packets.specs.declared.types.PacketKind.the-variants.{Indicator, Data}
 use Rattle.packets.specs.declared.types.Named.{Named}
 use Rattle.packets.specs.declared.types.Ending.{Ending}
-use Rattle.demands.specs.Refusals.{lengthRows}
-use Rattle.demands.specs.PacketItems.{Item, firstValue, fieldsAllowed, countOfFields, header, padding, dataLength, fieldData, end}
-use Rattle.demands.specs.PacketItems.{rows, valueRows, octetsFrom, octetHere, hasFields, firstValues, dataFits, dataSize, Due}
-use Rattle.demands.specs.PacketRefusals.{FirstWrong, EndsEarly, NotAssigned, value, fieldType, BadForm, OutsideSizes, count, longData}
-use Rattle.demands.specs.PacketRefusals.{SpareBit, WrongData, indicator, field}
+use Rattle.demands.specs.Demand1.Refusals.{lengthRows}
+use Rattle.demands.specs.Demand1.PacketItems.{Item, firstValue, fieldsAllowed, countOfFields, header, padding, dataLength, fieldData, end}
+use Rattle.demands.specs.Demand1.PacketItems.{rows, valueRows, octetsFrom, octetHere, hasFields, firstValues, dataFits, dataSize, Due}
+use Rattle.demands.specs.Demand1.PacketRefusals.{FirstWrong, EndsEarly, NotAssigned, value, fieldType, BadForm, OutsideSizes, count, longData}
+use Rattle.demands.specs.Demand1.PacketRefusals.{SpareBit, WrongData, indicator, field}
 use Rattle.demands.proofs.PacketRows.{not-given, no-rows, past-row, given-row, first-front, first-later, row, last}
 use Rattle.demands.proofs.PacketPlaces.{due-first}
 use Rattle.demands.proofs.PacketValues.{value-wrong}
@@ -39,7 +39,7 @@ pub record LeftOver (edition : Edition) (ending : Ending) (s : List ℕ) : Type 
   pub due : Due edition s place end
   pub left : mayFollow ending (octetsFrom s place) ≡ false
 
-never-fields : (kind : Kind) (present : Bool) → rightFields kind present ≡ false → (kind ≡ Indicator) × (present ≡ true)
+never-fields : (kind : PacketKind) (present : Bool) → rightFields kind present ≡ false → (kind ≡ Indicator) × (present ≡ true)
 never-fields Indicator true e = (refl, refl)
 never-fields Indicator false e = let z : _≡_ {A = ℕ} 0 1 = cc in absurd (omega arith)
 never-fields Data present e = let z : _≡_ {A = ℕ} 0 1 = cc in absurd (omega arith)

@@ -16,8 +16,8 @@ use Rattle.packets.specs.Edition.{Edition}
 use Rattle.packets.specs.Packet.{fieldsLeast, fieldsLimit}
 use Rattle.packet_laws.specs.Octets.{Count, countAt}
 use Rattle.packets.specs.declared.types.Ending.{Ending}
-use Rattle.demands.specs.Refusals.{lengthRows}
-use Rattle.demands.specs.PacketItems.{countOfFields, rows, octetHere}
+use Rattle.demands.specs.Demand1.Refusals.{lengthRows}
+use Rattle.demands.specs.Demand1.PacketItems.{countOfFields, rows, octetHere}
 use Rattle.demands.proofs.PacketTables.{answered, bind-assoc}
 
 then-if : {A B : Type 0} (b : Bool) (n : ℕ) (x : A) (next : A → Answer B)

@@ -14,11 +14,11 @@ use Rattle.octets.proofs.Laws.{below-or-not}
 use Rattle.lengths.specs.Refusals.{endsEarly, notAssigned}
 use Rattle.lengths.specs.Tables.{first}
 use Rattle.formats.specs.Places.{Place}
-use Rattle.packet_laws.specs.Octets.{bitAt, Narrow}
+use Rattle.packet_laws.specs.Octets.{bitSetAt, Narrow}
 use Rattle.packets.specs.declared.types.Enumerated.{Enumerated}
 use Rattle.packet_laws.proofs.Laws.{bit-past}
-use Rattle.demands.specs.PacketItems.{isAdded, behindMark, valueEnds, valueRows}
-use Rattle.demands.specs.PacketRefusals.{CutValue, Unassigned, noneAdded, notZero}
+use Rattle.demands.specs.Demand1.PacketItems.{isAdded, behindMark, valueEnds, valueRows}
+use Rattle.demands.specs.Demand1.PacketRefusals.{CutValue, Unassigned, noneAdded, notZero}
 use Rattle.demands.proofs.PacketRows.{none-given}
 use Rattle.demands.proofs.PacketValues.{clash, endsBy, rowsBy, cut-rows, unassigned-rows, bit-front, bit-there, and-same, and-parts}
 use Rattle.demands.proofs.PacketValues.{rows-front}
@@ -37,18 +37,18 @@ behind-mark e p = by (e .extensible) where
 pub short-cut : (e : Enumerated) → Narrow e → (s : List ℕ) (p : Place) → 8 * length s ≤ p → CutValue e s p
 unfolding endsBy
 short-cut e narrow s p past =
-    let is : isAdded e s p ≡ false = and-off (e .extensible) (bitAt s p) (bit-past s 0 p past) in
+    let is : isAdded e s p ≡ false = and-off (e .extensible) (bitSetAt s p) (bit-past s 0 p past) in
     let over : 8 * length s < behindMark e p + e .width = omega (arith, narrow .some, behind-mark e p) in
     record { cut = subst (λ (q : Place). 8 * length s < q) (ap (endsBy e s p) (sym is)) over; rightSoFar = λ on. clash on is }
 
 -- an added value that is not refused
 passed-added : (e : Enumerated) (s : List ℕ) (p : Place) → first (valueRows e s p) ≡ none → isAdded e s p ≡ true
-    → (1 ≤ e .added) × (bitAt s (p + 1) ≡ false)
+    → (1 ≤ e .added) × (bitSetAt s (p + 1) ≡ false)
 unfolding valueRows rowsBy
 passed-added e s p passed is =
     let given = ap (λ (b : Bool). first (rowsBy e s p b)) (sym is) ∙ passed in
     let r₁ = none-given (ltb (e .added) 1) notAssigned _ given in
-    let r₂ = none-given (bitAt s (p + 1)) notAssigned _ (r₁ .1) in
+    let r₂ = none-given (bitSetAt s (p + 1)) notAssigned _ (r₁ .1) in
     (ltb-false (e .added) 1 (r₁ .0), r₂ .0)
 
 module _ (e : Enumerated) (narrow : Narrow e) (w more : List ℕ) (p : Place) where
@@ -56,7 +56,7 @@ module _ (e : Enumerated) (narrow : Narrow e) (w more : List ℕ) (p : Place) wh
   pub whole-cut : first (valueRows e (w ++ more) p) ≡ none → 8 * length w < valueEnds e (w ++ more) p → CutValue e w p
   unfolding endsBy
   whole-cut passed over = by (below-or-not p (8 * length w)) where
-    zero-there : bitAt (w ++ more) (p + 1) ≡ false → (p + 1 < 8 * length w) ⊎ (8 * length w ≤ p + 1) → bitAt w (p + 1) ≡ false
+    zero-there : bitSetAt (w ++ more) (p + 1) ≡ false → (p + 1 < 8 * length w) ⊎ (8 * length w ≤ p + 1) → bitSetAt w (p + 1) ≡ false
     zero-there off (inl there) = sym (bit-front w more (p + 1) there) ∙ off
     zero-there off (inr past) = bit-past w 0 (p + 1) past
 
@@ -64,7 +64,7 @@ module _ (e : Enumerated) (narrow : Narrow e) (w more : List ℕ) (p : Place) wh
     by (inr past) = short-cut e narrow w p past
     by (inl there) =
         let same : isAdded e w p ≡ isAdded e (w ++ more) p =
-        and-same (e .extensible) (bitAt w p) (bitAt (w ++ more) p) (λ _. sym (bit-front w more p there)) in
+        and-same (e .extensible) (bitSetAt w p) (bitSetAt (w ++ more) p) (λ _. sym (bit-front w more p there)) in
         record {
           cut = subst (λ (q : Place). 8 * length w < q) (ap (endsBy e w p) (sym same)) over;
           rightSoFar = λ on.
@@ -80,11 +80,11 @@ module _ (e : Enumerated) (narrow : Narrow e) (w more : List ℕ) (p : Place) wh
 
     added : isAdded e w p ≡ true → isAdded e (w ++ more) p ≡ true
     added on =
-        and-same (e .extensible) (bitAt (w ++ more) p) (bitAt w p)
-        (λ _. bit-front w more p (bit-there w p (and-parts (e .extensible) (bitAt w p) on .1)))
+        and-same (e .extensible) (bitSetAt (w ++ more) p) (bitSetAt w p)
+        (λ _. bit-front w more p (bit-there w p (and-parts (e .extensible) (bitSetAt w p) on .1)))
         ∙ on
 
-    cut : 8 * length w < valueEnds e w p → (few one : Bool) → ltb (e .added) 1 ≡ few → bitAt w (p + 1) ≡ one → (b : Bool)
+    cut : 8 * length w < valueEnds e w p → (few one : Bool) → ltb (e .added) 1 ≡ few → bitSetAt w (p + 1) ≡ one → (b : Bool)
         → isAdded e w p ≡ b → first (valueRows e (w ++ more) p) ≡ first (valueRows e w p)
     cut over true one few-is one-is true on =
         let few = ltb-true (e .added) 1 few-is in
@@ -98,5 +98,5 @@ module _ (e : Enumerated) (narrow : Narrow e) (w more : List ℕ) (p : Place) wh
 
     by : (8 * length w < valueEnds e w p) ⊎ (valueEnds e w p ≤ 8 * length w)
         → first (valueRows e (w ++ more) p) ≡ first (valueRows e w p)
-    by (inl over) = cut over (ltb (e .added) 1) (bitAt w (p + 1)) refl refl (isAdded e w p) refl
+    by (inl over) = cut over (ltb (e .added) 1) (bitSetAt w (p + 1)) refl refl (isAdded e w p) refl
     by (inr inside) = ap first (rows-front e narrow w more p inside)

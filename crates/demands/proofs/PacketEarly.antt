@@ -18,10 +18,10 @@ use Rattle.packet_laws.specs.Octets.{NarrowEdition}
 use Rattle.packets.specs.declared.types.Ending.{Ending}
 use Rattle.packets.specs.declared.types.Named.{Named}
 use Rattle.packet_laws.proofs.Laws.{narrow}
-use Rattle.demands.specs.Refusals.{lengthRows}
-use Rattle.demands.specs.PacketItems.{Item, firstValue, countOfFields, header, dataLength, fieldData, end, rows, firstValues}
-use Rattle.demands.specs.PacketItems.{octetsFrom, octetHere, Due, begins}
-use Rattle.demands.specs.PacketRefusals.{FirstWrong, CutValue, EndsEarly, front, inCount, inLength, inFirst, inHeader}
+use Rattle.demands.specs.Demand1.Refusals.{lengthRows}
+use Rattle.demands.specs.Demand1.PacketItems.{Item, firstValue, countOfFields, header, dataLength, fieldData, end, rows, firstValues}
+use Rattle.demands.specs.Demand1.PacketItems.{octetsFrom, octetHere, Due, begins}
+use Rattle.demands.specs.Demand1.PacketRefusals.{FirstWrong, CutValue, EndsEarly, front, inCount, inLength, inFirst, inHeader}
 use Rattle.demands.proofs.PacketRows.{given-row, first-front}
 use Rattle.demands.proofs.PacketPlaces.{due-count, due-length, due-data, due-inside, countRows, count-rows}
 use Rattle.demands.proofs.PacketValues.{cut-rows}

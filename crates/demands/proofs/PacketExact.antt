@@ -17,12 +17,12 @@ use Rattle.packets.specs.Edition.{Edition}
 use Rattle.packets.specs.Packet.{fieldsLeast, fieldsLimit, rightFields}
 use Rattle.packet_laws.specs.Octets.{kindOf}
 use Rattle.packets.specs.declared.types.Ending.{Ending}
-use Rattle.demands.specs.Refusals.{lengthRows}
-use Rattle.demands.specs.PacketItems.{firstValue, fieldsAllowed, countOfFields, header, padding, dataLength, rows, valueRows}
-use Rattle.demands.specs.PacketItems.{octetsFrom}
-use Rattle.demands.specs.PacketItems.{hasFields, firstValues, dataFits, dataSize, begins}
-use Rattle.demands.specs.PacketRefusals.{FirstWrong, NotAssigned, value, fieldType, BadForm, OutsideSizes, count, longData}
-use Rattle.demands.specs.PacketRefusals.{SpareBit, WrongData, indicator, field}
+use Rattle.demands.specs.Demand1.Refusals.{lengthRows}
+use Rattle.demands.specs.Demand1.PacketItems.{firstValue, fieldsAllowed, countOfFields, header, padding, dataLength, rows, valueRows}
+use Rattle.demands.specs.Demand1.PacketItems.{octetsFrom}
+use Rattle.demands.specs.Demand1.PacketItems.{hasFields, firstValues, dataFits, dataSize, begins}
+use Rattle.demands.specs.Demand1.PacketRefusals.{FirstWrong, NotAssigned, value, fieldType, BadForm, OutsideSizes, count, longData}
+use Rattle.demands.specs.Demand1.PacketRefusals.{SpareBit, WrongData, indicator, field}
 use Rattle.demands.proofs.PacketRows.{past-row, given-row, first-front, first-later}
 use Rattle.demands.proofs.PacketValues.{unassigned-rows}
 

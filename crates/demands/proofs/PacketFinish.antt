@@ -17,15 +17,15 @@ use Rattle.formats.specs.Places.{Place, bitsAt}
 use Rattle.datagrams.specs.Sizes.{packetLimit}
 use Rattle.packets.specs.Edition.{Edition, editionOf}
 use Rattle.packets.specs.Packet.{rightData}
-use Rattle.packet_laws.specs.Octets.{bitAt}
+use Rattle.packet_laws.specs.Octets.{bitSetAt}
 use Rattle.packets.specs.declared.types.Ending.the-variants.{Whole}
 use Rattle.packets.specs.declared.types.Named.{Named}
 use Rattle.packets.specs.declared.types.Named.the-variants.{Old, New}
 use Rattle.packet_laws.proofs.Laws.{narrow}
-use Rattle.demands.specs.PacketItems.{Item, countOfFields, header, padding, dataLength, fieldData, end, fields, rows}
-use Rattle.demands.specs.PacketItems.{isAdded, behindMark, valueEnds, valueRows, typeIn, octetsFrom, dataFits, dataSize, Due, begins}
-use Rattle.demands.specs.PacketItems.{goesOn, Packet}
-use Rattle.demands.specs.PacketRefusals.{EndsEarly, front}
+use Rattle.demands.specs.Demand1.PacketItems.{Item, countOfFields, header, padding, dataLength, fieldData, end, fields, rows}
+use Rattle.demands.specs.Demand1.PacketItems.{isAdded, behindMark, valueEnds, valueRows, typeIn, octetsFrom, dataFits, dataSize, Due, begins}
+use Rattle.demands.specs.Demand1.PacketItems.{goesOn, Packet}
+use Rattle.demands.specs.Demand1.PacketRefusals.{EndsEarly, front}
 use Rattle.demands.proofs.PacketBits.{bits-behind}
 use Rattle.demands.proofs.PacketRows.{not-given, no-rows, first-later}
 use Rattle.demands.proofs.PacketPlaces.{countRows, count-rows, count-passes}
@@ -95,7 +95,7 @@ behindHeader edition p = behindMark (edition .types) (p + 1) + edition .types .w
 
 -- a header of type 0 with data, whose padding ends the octets
 module _ {edition : Edition} (left : ℕ) (t : List ℕ) (p : Place) where
-  header-on : Due edition t p (header left) → isAdded (edition .types) t (p + 1) ≡ false → bitAt t p ≡ true
+  header-on : Due edition t p (header left) → isAdded (edition .types) t (p + 1) ≡ false → bitSetAt t p ≡ true
       → bitsAt (edition .types .width) t (behindMark (edition .types) (p + 1)) ≡ 0 → 1 ≤ edition .types .assigned
       → rightData edition 0 true ≡ true → behindHeader edition p ≤ 8 * length t
       → bitsAt (gap (behindHeader edition p)) t (behindHeader edition p) ≡ 0
@@ -108,7 +108,7 @@ module _ {edition : Edition} (left : ℕ) (t : List ℕ) (p : Place) where
       let type-0 : typeIn edition t p ≡ 0 =
       ap (λ (b : Bool). cond b (e .assigned + bitsAt 6 t (p + 1 + 1 + 1)) (bitsAt (e .width) t (behindMark e (p + 1)))) plain ∙ zero-type in
       let right : dataFits edition t p ≡ true =
-      ap (λ (v : ℕ). rightData edition v (bitAt t p)) type-0 ∙ ap (rightData edition 0) present ∙ fits in
+      ap (λ (v : ℕ). rightData edition v (bitSetAt t p)) type-0 ∙ ap (rightData edition 0) present ∙ fits in
       let assigned-there : ltb (bitsAt (e .width) t (behindMark e (p + 1))) (e .assigned) ≡ true =
       ap (λ (v : ℕ). ltb v (e .assigned)) zero-type ∙ lt-ltb 0 (e .assigned) least in
       let passed : first (valueRows e t (p + 1)) ≡ none =

@@ -19,14 +19,14 @@ use Rattle.formats.specs.Places.{Place}
 use Rattle.packets.specs.Edition.{Edition, values}
 use Rattle.packets.specs.Packet.{fieldsLeast, fieldsLimit}
 use Rattle.packet_laws.specs.Octets.{NarrowEdition, kindOf}
-use Rattle.packets.specs.declared.types.Kind.{Kind}
+use Rattle.packets.specs.declared.types.PacketKind.{PacketKind}
 use Rattle.packets.specs.declared.types.Ending.{Ending}
 use Rattle.packets.specs.declared.types.Ending.the-variants.{Whole}
-use Rattle.demands.specs.Refusals.{lengthRows}
-use Rattle.demands.specs.PacketItems.{Item, firstValue, fieldsAllowed, countOfFields, header, padding, dataLength, fieldData, end}
-use Rattle.demands.specs.PacketItems.{rows, valueEnds, valueRows, octetsFrom, firstValues, dataFits, ends, dueAfter, Due, begins}
-use Rattle.demands.specs.PacketItems.{goesOn}
-use Rattle.demands.specs.PacketRefusals.{FirstWrong, CutValue}
+use Rattle.demands.specs.Demand1.Refusals.{lengthRows}
+use Rattle.demands.specs.Demand1.PacketItems.{Item, firstValue, fieldsAllowed, countOfFields, header, padding, dataLength, fieldData, end}
+use Rattle.demands.specs.Demand1.PacketItems.{rows, valueEnds, valueRows, octetsFrom, firstValues, dataFits, ends, dueAfter, Due, begins}
+use Rattle.demands.specs.Demand1.PacketItems.{goesOn}
+use Rattle.demands.specs.Demand1.PacketRefusals.{FirstWrong, CutValue}
 use Rattle.demands.proofs.PacketRows.{not-both, given-row, not-cut, first-front, first-later, both-none}
 use Rattle.demands.proofs.PacketPlaces.{Standing, stands, value-inside, ends-on, countRows, count-rows, passed-count, count-passes}
 use Rattle.demands.proofs.PacketPlaces.{due-inside}
@@ -71,7 +71,7 @@ first-stays {edition} narrow ending w more p apart = by (below-or-not 1 (8 * len
   by : (1 < 8 * length w) ⊎ (8 * length w ≤ 1)
       → first (valueRows (firstValues edition (w ++ more)) (w ++ more) (p + 2)) ≡ first (valueRows (firstValues edition w) w (p + 2))
   by (inl there) =
-      ap (λ (k : Kind). first (valueRows (values edition k) (w ++ more) (p + 2))) (kind-front w more there)
+      ap (λ (k : PacketKind). first (valueRows (values edition k) (w ++ more) (p + 2))) (kind-front w more there)
       ∙ value-stays (firstValues edition w) (narrow .ofKind (kindOf w)) w more (p + 2) apart
   by (inr none-there) =
       absurd (apart (cut-rows (firstValues edition w) w (p + 2)
@@ -168,8 +168,8 @@ module _ {edition : Edition} (narrow : NarrowEdition edition) where
         by (inl there) =
             let same = kind-front w more there in
             whole-cut (firstValues edition w) (narrow .ofKind (kindOf w)) w more (p + 2)
-            (ap (λ (k : Kind). first (valueRows (values edition k) (w ++ more) (p + 2))) (sym same) ∙ passed)
-            (subst (λ (k : Kind). 8 * length w < valueEnds (values edition k) (w ++ more) (p + 2)) same over)
+            (ap (λ (k : PacketKind). first (valueRows (values edition k) (w ++ more) (p + 2))) (sym same) ∙ passed)
+            (subst (λ (k : PacketKind). 8 * length w < valueEnds (values edition k) (w ++ more) (p + 2)) same over)
         by (inr none-there) = short-cut (firstValues edition w) (narrow .ofKind (kindOf w)) w (p + 2) (omega arith)
   cut-given ending fieldsAllowed w more p at begun passed over = absurd (omega arith)
   cut-given ending countOfFields w more p at begun passed over =

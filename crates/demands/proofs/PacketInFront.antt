@@ -15,13 +15,13 @@ use Rattle.formats.specs.Places.{Place}
 use Rattle.formats.proofs.Laws.{bits-more, gap-past}
 use Rattle.packets.specs.Edition.{Edition, values}
 use Rattle.packets.specs.Packet.{rightData, rightFields}
-use Rattle.packet_laws.specs.Octets.{NarrowEdition, bitAt, kindOf}
-use Rattle.packets.specs.declared.types.Kind.{Kind}
-use Rattle.packets.specs.declared.types.Kind.the-variants.{Indicator, Data}
+use Rattle.packet_laws.specs.Octets.{NarrowEdition, bitSetAt, kindOf}
+use Rattle.packets.specs.declared.types.PacketKind.{PacketKind}
+use Rattle.packets.specs.declared.types.PacketKind.the-variants.{Indicator, Data}
 use Rattle.packets.specs.declared.types.Ending.{Ending}
-use Rattle.demands.specs.PacketItems.{Item, firstValue, fieldsAllowed, countOfFields, header, padding, dataLength, fieldData, end}
-use Rattle.demands.specs.PacketItems.{fields, rows, valueIn, valueEnds, valueRows, octetsFrom, hasFields, firstValues, dataFits, ends}
-use Rattle.demands.specs.PacketItems.{dueAfter}
+use Rattle.demands.specs.Demand1.PacketItems.{Item, firstValue, fieldsAllowed, countOfFields, header, padding, dataLength, fieldData, end}
+use Rattle.demands.specs.Demand1.PacketItems.{fields, rows, valueIn, valueEnds, valueRows, octetsFrom, hasFields, firstValues, dataFits, ends}
+use Rattle.demands.specs.Demand1.PacketItems.{dueAfter}
 use Rattle.demands.proofs.PacketPlaces.{Standing, value-on}
 use Rattle.demands.proofs.PacketValues.{bit-front, cut-front, ends-front, ends-whole, value-front, rows-front}
 
@@ -42,7 +42,7 @@ module _ {edition : Edition} (narrow : NarrowEdition edition) (w more : List ℕ
   -- where it ends, if that lies in the front or in the front's part of the whole
   pub ends-there : (item : Item) → ends edition item w p ≤ 8 * length w → ends edition item (w ++ more) p ≡ ends edition item w p
   ends-there firstValue inside =
-      ap (λ (k : Kind). valueEnds (values edition k) (w ++ more) (p + 2))
+      ap (λ (k : PacketKind). valueEnds (values edition k) (w ++ more) (p + 2))
       (kind-front w more (omega (arith, inside, value-on (firstValues edition w) w (p + 2))))
       ∙ ends-front (firstValues edition w) (narrow .ofKind (kindOf w)) w more (p + 2) inside
   ends-there fieldsAllowed inside = refl
@@ -56,7 +56,7 @@ module _ {edition : Edition} (narrow : NarrowEdition edition) (w more : List ℕ
   pub ends-here : (item : Item) → ends edition item (w ++ more) p ≤ 8 * length w → ends edition item w p ≡ ends edition item (w ++ more) p
   ends-here firstValue inside =
       let whole = firstValues edition (w ++ more) in
-      ap (λ (k : Kind). valueEnds (values edition k) w (p + 2))
+      ap (λ (k : PacketKind). valueEnds (values edition k) w (p + 2))
       (sym (kind-front w more (omega (arith, inside, value-on whole (w ++ more) (p + 2)))))
       ∙ ends-whole whole (narrow .ofKind (kindOf (w ++ more))) w more (p + 2) inside
   ends-here fieldsAllowed inside = refl
@@ -86,7 +86,7 @@ module _ {edition : Edition} (narrow : NarrowEdition edition) (w more : List ℕ
   fits-front inside =
       ap (λ (b : Bool). rightData edition (valueIn (edition .types) (w ++ more) (p + 1)) b)
       (bit-front w more p (omega (arith, inside, value-on (edition .types) w (p + 1))))
-      ∙ ap (λ (v : ℕ). rightData edition v (bitAt w p)) (value-front (edition .types) (narrow .ofTypes) w more (p + 1) inside)
+      ∙ ap (λ (v : ℕ). rightData edition v (bitSetAt w p)) (value-front (edition .types) (narrow .ofTypes) w more (p + 1) inside)
 
   -- the count and the end look further
   pub item-rows : (ending : Ending) (item : Item) → Standing item p → p ≤ 8 * length w → ends edition item w p ≤ 8 * length w
@@ -94,12 +94,12 @@ module _ {edition : Edition} (narrow : NarrowEdition edition) (w more : List ℕ
   unfolding rows Standing
   item-rows ending firstValue at begun inside =
       inr (inr
-      (ap (λ (k : Kind). valueRows (values edition k) (w ++ more) (p + 2))
+      (ap (λ (k : PacketKind). valueRows (values edition k) (w ++ more) (p + 2))
       (kind-front w more (omega (arith, inside, value-on (firstValues edition w) w (p + 2))))
       ∙ rows-front (firstValues edition w) (narrow .ofKind (kindOf w)) w more (p + 2) inside))
   item-rows ending fieldsAllowed at begun inside =
       inr (inr
-      (ap (λ (k : Kind). when (not (rightFields k (hasFields (w ++ more)))) wrongData ∷ [])
+      (ap (λ (k : PacketKind). when (not (rightFields k (hasFields (w ++ more)))) wrongData ∷ [])
       (kind-front w more (omega (arith, at, inside)))
       ∙ ap (λ (b : Bool). when (not (rightFields (kindOf w) b)) wrongData ∷ []) (bit-front w more 0 (omega (arith, at, inside)))))
   item-rows ending countOfFields at begun inside = inr (inl refl)

@@ -18,8 +18,8 @@ use Rattle.packets.specs.Packet.{every, allZero, mayFollow}
 use Rattle.packet_laws.specs.Octets.{NarrowEdition}
 use Rattle.packets.specs.declared.types.Ending.{Ending}
 use Rattle.packets.specs.declared.types.Ending.the-variants.{Whole, Repaired}
-use Rattle.demands.specs.PacketItems.{Item, end, octetsFrom, rows}
-use Rattle.demands.specs.PacketRefusals.{FirstWrong}
+use Rattle.demands.specs.Demand1.PacketItems.{Item, end, octetsFrom, rows}
+use Rattle.demands.specs.Demand1.PacketRefusals.{FirstWrong}
 use Rattle.demands.proofs.PacketRows.{same-number, end-wrong, wrong-end}
 use Rattle.demands.proofs.PacketPlaces.{stands, due-inside}
 use Rattle.demands.proofs.PacketInFront.{from-front}

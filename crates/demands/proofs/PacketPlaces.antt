@@ -16,14 +16,14 @@ use Rattle.lengths.proofs.Laws.{within-true}
 use Rattle.formats.specs.Places.{Place, edge}
 use Rattle.packets.specs.Edition.{addedWidth, Edition}
 use Rattle.packets.specs.Packet.{fieldsLeast, fieldsLimit}
-use Rattle.packet_laws.specs.Octets.{bitAt}
+use Rattle.packet_laws.specs.Octets.{bitSetAt}
 use Rattle.packets.specs.declared.types.Enumerated.{Enumerated}
 use Rattle.packets.specs.declared.types.Ending.{Ending}
 use Rattle.packets.specs.declared.types.Ending.the-variants.{Whole}
-use Rattle.demands.specs.Refusals.{lengthRows}
-use Rattle.demands.specs.PacketItems.{Item, firstValue, fieldsAllowed, countOfFields, header, padding, dataLength, fieldData, end}
-use Rattle.demands.specs.PacketItems.{fields, rows, isAdded, behindMark, valueEnds, addedRows, rootRows, valueRows, octetsFrom}
-use Rattle.demands.specs.PacketItems.{octetHere, hasFields, firstValues, ends, dueAfter, Due, begins, goesOn}
+use Rattle.demands.specs.Demand1.Refusals.{lengthRows}
+use Rattle.demands.specs.Demand1.PacketItems.{Item, firstValue, fieldsAllowed, countOfFields, header, padding, dataLength, fieldData, end}
+use Rattle.demands.specs.Demand1.PacketItems.{fields, rows, isAdded, behindMark, valueEnds, addedRows, rootRows, valueRows, octetsFrom}
+use Rattle.demands.specs.Demand1.PacketItems.{octetHere, hasFields, firstValues, ends, dueAfter, Due, begins, goesOn}
 use Rattle.demands.proofs.PacketRows.{not-given, none-given, no-rows, both-none}
 
 -- a value never ends before it begins, nor does an item
@@ -69,7 +69,7 @@ after-stands edition fieldsAllowed s p at = either-stands (hasFields s) countOfF
 after-stands edition countOfFields s p at = fields-stand (octetHere s p) (p + 8)
 after-stands edition (header left) s p at =
     let q = valueEnds (edition .types) s (p + 1) in
-    either-stands (bitAt s p) (padding (dataLength left)) (fields left) q (at-edge q) (fields-stand left q)
+    either-stands (bitSetAt s p) (padding (dataLength left)) (fields left) q (at-edge q) (fields-stand left q)
 after-stands edition (padding next) s p at = at
 after-stands edition (dataLength left) s p at = omega arith
 after-stands edition (fieldData size left) s p at = fields-stand left (p + 8 * size)
@@ -156,7 +156,7 @@ value-inside e s p = by (isAdded e s p) where
       → cond b (p + 1 + 1 + addedWidth) (behindMark e p + e .width) ≤ 8 * length s
   by true given =
       let r₁ = none-given (ltb (e .added) 1) notAssigned _ given in
-      let r₂ = none-given (bitAt s (p + 1)) notAssigned _ (r₁ .1) in
+      let r₂ = none-given (bitSetAt s (p + 1)) notAssigned _ (r₁ .1) in
       let r₃ = none-given (ltb (8 * length s) (p + 1 + 1 + addedWidth)) endsEarly _ (r₂ .1) in
       ltb-false (8 * length s) (p + 1 + 1 + addedWidth) (r₃ .0)
   by false given =

@@ -26,10 +26,10 @@ use Rattle.packets.specs.declared.types.Ending.the-variants.{Whole, Repaired}
 use Rattle.packets.specs.declared.types.PacketRead.{PacketRead}
 use Rattle.lengths.specs.Tables.{first, refusalIn}
 use Rattle.packet_laws.proofs.Laws.{narrow}
-use Rattle.demands.specs.NamedEdition.{Names, ReadBy}
-use Rattle.demands.specs.PacketItems.{Item, end, octetOf, rows, octetsFrom, Due, Packet}
-use Rattle.demands.specs.PacketRefusals.{FirstWrong, PacketThen}
-use Rattle.demands.specs.PacketRefusals.{PacketRefusals}
+use Rattle.demands.specs.Common.NamedEdition.{Names, ReadBy}
+use Rattle.demands.specs.Demand1.PacketItems.{Item, end, octetOf, rows, octetsFrom, Due, Packet}
+use Rattle.demands.specs.Demand1.PacketRefusals.{FirstWrong, PacketThen}
+use Rattle.demands.specs.Demand1.PacketRefusals.{PacketRefusals}
 use Rattle.demands.proofs.NamedEdition.{read-as}
 use Rattle.demands.proofs.PacketRows.{not-both, end-wrong, wrong-end, rows-alike}
 use Rattle.demands.proofs.PacketWalk.{whyIn}

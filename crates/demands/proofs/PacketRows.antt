@@ -13,9 +13,9 @@ use Rattle.formats.specs.Places.{Place}
 use Rattle.packets.specs.Edition.{Edition}
 use Rattle.packets.specs.Packet.{mayFollow}
 use Rattle.packets.specs.declared.types.Ending.{Ending}
-use Rattle.demands.specs.PacketItems.{Item, firstValue, fieldsAllowed, countOfFields, header, padding, dataLength, fieldData, end}
-use Rattle.demands.specs.PacketItems.{rows}
-use Rattle.demands.specs.PacketItems.{octetsFrom}
+use Rattle.demands.specs.Demand1.PacketItems.{Item, firstValue, fieldsAllowed, countOfFields, header, padding, dataLength, fieldData, end}
+use Rattle.demands.specs.Demand1.PacketItems.{rows}
+use Rattle.demands.specs.Demand1.PacketItems.{octetsFrom}
 
 -- ---- which row refuses
 -- a row that is not given, and what it says that a row is not

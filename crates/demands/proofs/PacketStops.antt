@@ -21,8 +21,8 @@ use Rattle.packets.specs.Packet.{mayFollow, PacketAnswer, readPacket}
 use Rattle.packets.specs.declared.types.Named.{Named}
 use Rattle.packets.specs.declared.types.Ending.{Ending}
 use Rattle.packets.specs.declared.types.Ending.the-variants.{Whole}
-use Rattle.demands.specs.PacketItems.{Item, firstValue, end, octetOf, octetsFrom, rows, ends, dueAfter, Due, begins, goesOn}
-use Rattle.demands.specs.PacketRefusals.{FirstWrong}
+use Rattle.demands.specs.Demand1.PacketItems.{Item, firstValue, end, octetOf, octetsFrom, rows, ends, dueAfter, Due, begins, goesOn}
+use Rattle.demands.specs.Demand1.PacketRefusals.{FirstWrong}
 use Rattle.demands.proofs.PacketRows.{same-number, not-both, end-passed, end-passes, rows-alike}
 use Rattle.demands.proofs.PacketWalk.{whyIn, Met, wrong, right, whole, packet-walk}
 

@@ -16,12 +16,12 @@ use Rattle.formats.specs.Places.{Place, bitsAt, edge, edgeAt}
 use Rattle.datagrams.specs.Sizes.{packetLimit}
 use Rattle.packets.specs.Edition.{addedWidth, Edition}
 use Rattle.packets.specs.Packet.{rightFields, rightData, mayFollow}
-use Rattle.packet_laws.specs.Octets.{bitAt, kindOf, Value, rootAt, addedAt, valueAt, HeaderAnswer, headerAt, sizeAt}
+use Rattle.packet_laws.specs.Octets.{bitSetAt, kindOf, Value, rootAt, addedAt, valueAt, HeaderAnswer, headerAt, sizeAt}
 use Rattle.packets.specs.declared.types.Enumerated.{Enumerated}
 use Rattle.packets.specs.declared.types.Ending.{Ending}
-use Rattle.demands.specs.PacketItems.{Item, firstValue, fieldsAllowed, header, padding, dataLength, fieldData, end}
-use Rattle.demands.specs.PacketItems.{rows, isAdded, behindMark, valueIn, valueEnds, addedRows, rootRows, valueRows, firstValues}
-use Rattle.demands.specs.PacketItems.{hasFields, typeIn, dataFits, dataSize}
+use Rattle.demands.specs.Demand1.PacketItems.{Item, firstValue, fieldsAllowed, header, padding, dataLength, fieldData, end}
+use Rattle.demands.specs.Demand1.PacketItems.{rows, isAdded, behindMark, valueIn, valueEnds, addedRows, rootRows, valueRows, firstValues}
+use Rattle.demands.specs.Demand1.PacketItems.{hasFields, typeIn, dataFits, dataSize}
 use Rattle.demands.proofs.PacketBits.{padding-bits}
 
 -- ---- a table as an answer
@@ -98,10 +98,10 @@ value-table e at s p =
     let q = behindMark e p in
     let added : Value = record { value = e .assigned + bitsAt addedWidth s (p + 1 + 1); next = p + 1 + 1 + addedWidth } in
     let root : Value = record { value = bitsAt (e .width) s (behindMark e p); next = behindMark e p + e .width } in
-    by-mark (e .extensible) (bitAt s p) p (addedAt e at s (p + 1)) (rootAt e at s)
+    by-mark (e .extensible) (bitSetAt s p) p (addedAt e at s (p + 1)) (rootAt e at s)
     ∙ either-table (isAdded e s p) at (addedAt e at s (p + 1)) (rootAt e at s q) (addedRows e s (p + 1)) (rootRows e s q) added root
     (refuses at (ltb (e .added) 1) notAssigned _ _ added
-    (refuses at (bitAt s (p + 1)) notAssigned _ _ added
+    (refuses at (bitSetAt s (p + 1)) notAssigned _ _ added
     (refuses at (ltb (8 * length s) (p + 1 + 1 + addedWidth)) endsEarly _ _ added
     (must at (ltb (bitsAt addedWidth s (p + 1 + 1)) (e .added)) notAssigned added))))
     (refuses at (ltb (8 * length s) (q + e .width)) endsEarly _ _ root
@@ -124,17 +124,17 @@ allowed-table edition ending s p x = must 0 (rightFields (kindOf s) (hasFields s
 pub header-table : (edition : Edition) (ending : Ending) (left : ℕ) (s : List ℕ) (p : Place)
     → headerAt edition s p
     ≡ answered (p / 8) (first (rows edition ending (header left) s p))
-    (record { header = record { kind = typeIn edition s p; present = bitAt s p }; next = valueEnds (edition .types) s (p + 1) })
+    (record { header = record { type = typeIn edition s p; present = bitSetAt s p }; next = valueEnds (edition .types) s (p + 1) })
 unfolding headerAt rows
 header-table edition ending left s p =
     let e = edition .types in
     let v : Value = record { value = valueIn (edition .types) s (p + 1); next = valueEnds (edition .types) s (p + 1) } in
     let read : HeaderAnswer =
-    record { header = record { kind = typeIn edition s p; present = bitAt s p }; next = valueEnds (edition .types) s (p + 1) } in
+    record { header = record { type = typeIn edition s p; present = bitSetAt s p }; next = valueEnds (edition .types) s (p + 1) } in
     let then : Value → Answer HeaderAnswer =
     λ v.
-    cond (rightData edition (v .value) (bitAt s p))
-    (done (record { header = record { kind = v .value; present = bitAt s p }; next = v .next })) (refuseAt (p / 8) wrongData) in
+    cond (rightData edition (v .value) (bitSetAt s p))
+    (done (record { header = record { type = v .value; present = bitSetAt s p }; next = v .next })) (refuseAt (p / 8) wrongData) in
     ap (λ (m : Answer Value). _>>=_ m then) (value-table e (p / 8) s (p + 1))
     ∙ then-table (p / 8) (valueRows e s (p + 1)) (when (not (dataFits edition s p)) wrongData ∷ []) v read then
     (must (p / 8) (dataFits edition s p) wrongData read)

@@ -16,11 +16,11 @@ use Rattle.lengths.specs.Tables.{when, first}
 use Rattle.formats.specs.Places.{Place, bitsAt}
 use Rattle.formats.proofs.Laws.{bits-more}
 use Rattle.packets.specs.Edition.{addedWidth}
-use Rattle.packet_laws.specs.Octets.{bitAt, Narrow}
+use Rattle.packet_laws.specs.Octets.{bitSetAt, Narrow}
 use Rattle.packets.specs.declared.types.Enumerated.{Enumerated}
 use Rattle.packet_laws.proofs.Laws.{bit-past}
-use Rattle.demands.specs.PacketItems.{isAdded, behindMark, valueIn, valueEnds, addedRows, rootRows, valueRows}
-use Rattle.demands.specs.PacketRefusals.{CutValue, Unassigned, noneAdded, notZero, pastAdded, pastRoot}
+use Rattle.demands.specs.Demand1.PacketItems.{isAdded, behindMark, valueIn, valueEnds, addedRows, rootRows, valueRows}
+use Rattle.demands.specs.Demand1.PacketRefusals.{CutValue, Unassigned, noneAdded, notZero, pastAdded, pastRoot}
 use Rattle.demands.proofs.PacketRows.{past-row, given-row, row, last}
 
 pub clash : {A : Type 0} {b : Bool} → b ≡ true → b ≡ false → A
@@ -46,7 +46,7 @@ module _ (e : Enumerated) (s : List ℕ) (p : Place) where
         let end : p + 1 + 1 + addedWidth ≡ valueEnds e s p = there (p + 1 + 1 + addedWidth) refl in
         row Case (ltb (e .added) 1) notAssigned n _ (λ few. wrong (noneAdded is (ltb-true (e .added) 1 few)))
         (λ some.
-        row Case (bitAt s (p + 1)) notAssigned n _ (λ one. wrong (notZero is one))
+        row Case (bitSetAt s (p + 1)) notAssigned n _ (λ one. wrong (notZero is one))
         (λ zero.
         row Case (ltb (8 * length s) (p + 1 + 1 + addedWidth)) endsEarly n _
         (λ short.
@@ -83,7 +83,7 @@ module _ (e : Enumerated) (s : List ℕ) (p : Place) where
         let right = c .rightSoFar is in
         let over = subst (λ (q : Place). 8 * length s < q) (ap endsBy is) (c .cut) in
         past-row (ltb (e .added) 1) notAssigned endsEarly _ (le-ltb (e .added) 1 (right .0))
-        (past-row (bitAt s (p + 1)) notAssigned endsEarly _ (right .1)
+        (past-row (bitSetAt s (p + 1)) notAssigned endsEarly _ (right .1)
         (given-row (ltb (8 * length s) (p + 1 + 1 + addedWidth)) endsEarly _ (lt-ltb (8 * length s) (p + 1 + 1 + addedWidth) over)))
     by false is =
         let over = subst (λ (q : Place). 8 * length s < q) (ap endsBy is) (c .cut) in
@@ -97,13 +97,13 @@ module _ (e : Enumerated) (s : List ℕ) (p : Place) where
   four false false b₃ b₄ else = rw (else refl refl .0, else refl refl .1)
 
   added-wrong : isAdded e s p ≡ true
-      → (ltb (e .added) 1 ≡ false → bitAt s (p + 1) ≡ false
+      → (ltb (e .added) 1 ≡ false → bitSetAt s (p + 1) ≡ false
       → (ltb (8 * length s) (p + 1 + 1 + addedWidth) ≡ false) × (not (ltb (bitsAt addedWidth s (p + 1 + 1)) (e .added)) ≡ true))
       → first (valueRows e s p) ≡ some notAssigned
   unfolding valueRows rowsBy
   added-wrong is else =
       ap (λ (b : Bool). first (rowsBy b)) is
-      ∙ four (ltb (e .added) 1) (bitAt s (p + 1)) (ltb (8 * length s) (p + 1 + 1 + addedWidth))
+      ∙ four (ltb (e .added) 1) (bitSetAt s (p + 1)) (ltb (8 * length s) (p + 1 + 1 + addedWidth))
       (not (ltb (bitsAt addedWidth s (p + 1 + 1)) (e .added))) else
 
   pub unassigned-rows : Unassigned e s p → first (valueRows e s p) ≡ some notAssigned
@@ -124,7 +124,7 @@ module _ (e : Enumerated) (s : List ℕ) (p : Place) where
       (ap not (le-ltb (bitsAt (e .width) s q) (e .assigned) past)))
 
 -- ---- in a front
-pub bit-front : (w more : List ℕ) (p : Place) → p < 8 * length w → bitAt (w ++ more) p ≡ bitAt w p
+pub bit-front : (w more : List ℕ) (p : Place) → p < 8 * length w → bitSetAt (w ++ more) p ≡ bitSetAt w p
 bit-front w more p inside = ap (ltb 0) (bits-more 1 w more p (omega arith) (omega arith))
 
 pub cut-front : (w more : List ℕ) (q : Place) → q ≤ 8 * length w → ltb (8 * length (w ++ more)) q ≡ ltb (8 * length w) q
@@ -132,7 +132,7 @@ cut-front w more q inside =
     le-ltb (8 * length (w ++ more)) q (omega (arith, length-append w more)) ∙ sym (le-ltb (8 * length w) q inside)
 
 -- a bit that is set is there
-pub bit-there : (s : List ℕ) (p : Place) → bitAt s p ≡ true → p < 8 * length s
+pub bit-there : (s : List ℕ) (p : Place) → bitSetAt s p ≡ true → p < 8 * length s
 bit-there s p on = by (below-or-not p (8 * length s)) where
   by : (p < 8 * length s) ⊎ (8 * length s ≤ p) → p < 8 * length s
   by (inl there) = there
@@ -140,7 +140,7 @@ bit-there s p on = by (below-or-not p (8 * length s)) where
 
 -- where there is a mark, its bit lies before the end
 marked-on : (e : Enumerated) (s : List ℕ) (p : Place) → e .extensible ≡ true → p < valueEnds e s p
-marked-on e s p = by (e .extensible) (bitAt s p) where
+marked-on e s p = by (e .extensible) (bitSetAt s p) where
   by : (x b : Bool) → x ≡ true → p < cond (x && b) (p + 1 + 1 + addedWidth) (cond x (p + 1) p + e .width)
   by true true is = omega arith
   by true false is = omega arith
@@ -157,7 +157,7 @@ and-parts false b is = clash is refl
 module _ (e : Enumerated) (narrow : Narrow e) (w more : List ℕ) (p : Place) where
   added-front : valueEnds e w p ≤ 8 * length w → isAdded e (w ++ more) p ≡ isAdded e w p
   added-front inside =
-      and-same (e .extensible) (bitAt (w ++ more) p) (bitAt w p)
+      and-same (e .extensible) (bitSetAt (w ++ more) p) (bitSetAt w p)
       (λ marked. bit-front w more p (omega (arith, inside, marked-on e w p marked)))
 
   pub ends-front : valueEnds e w p ≤ 8 * length w → valueEnds e (w ++ more) p ≡ valueEnds e w p
@@ -168,7 +168,7 @@ module _ (e : Enumerated) (narrow : Narrow e) (w more : List ℕ) (p : Place) wh
   unfolding endsBy
   ends-whole inside =
       ap (endsBy e w p)
-      (and-same (e .extensible) (bitAt w p) (bitAt (w ++ more) p)
+      (and-same (e .extensible) (bitSetAt w p) (bitSetAt (w ++ more) p)
       (λ marked. sym (bit-front w more p (omega (arith, inside, marked-on e (w ++ more) p marked)))))
 
   -- what its bits say, and its table

@@ -17,15 +17,15 @@ use Rattle.formats.specs.Places.{Place, edge, edgeAt}
 use Rattle.datagrams.specs.Sizes.{packetLimit}
 use Rattle.packets.specs.Edition.{Edition, editionOf}
 use Rattle.packets.specs.Packet.{PacketAnswer, readPacket, rightFields, mayFollow}
-use Rattle.packet_laws.specs.Octets.{bitAt, kindOf, Value, valueAt, FirstAnswer, firstAt, countAt, HeaderAnswer, headerAt, sizeAt}
+use Rattle.packet_laws.specs.Octets.{bitSetAt, kindOf, Value, valueAt, FirstAnswer, firstAt, countAt, HeaderAnswer, headerAt, sizeAt}
 use Rattle.packet_laws.specs.Octets.{FieldAnswer, afterHeader, fieldAt, FieldsAnswer, fieldsAt, endAt, packetByOctets}
 use Rattle.packets.specs.declared.types.Ending.{Ending}
 use Rattle.packets.specs.declared.types.Named.{Named}
 use Rattle.packet_laws.proofs.Laws.{narrow, read-at}
-use Rattle.demands.specs.PacketItems.{Item, firstValue, fieldsAllowed, countOfFields, header, padding, dataLength, fieldData, end}
-use Rattle.demands.specs.PacketItems.{fields, octetOf, rows, valueIn, valueEnds, octetHere, hasFields, firstValues, typeIn, dataSize}
-use Rattle.demands.specs.PacketItems.{ends}
-use Rattle.demands.specs.PacketItems.{dueAfter}
+use Rattle.demands.specs.Demand1.PacketItems.{Item, firstValue, fieldsAllowed, countOfFields, header, padding, dataLength, fieldData, end}
+use Rattle.demands.specs.Demand1.PacketItems.{fields, octetOf, rows, valueIn, valueEnds, octetHere, hasFields, firstValues, typeIn, dataSize}
+use Rattle.demands.specs.Demand1.PacketItems.{ends}
+use Rattle.demands.specs.Demand1.PacketItems.{dueAfter}
 use Rattle.demands.proofs.PacketTables.{answered, bind-assoc, first-table, allowed-table, header-table, padding-table}
 use Rattle.demands.proofs.PacketTables.{size-table, end-table}
 use Rattle.demands.proofs.PacketCount.{count-table}
@@ -107,14 +107,14 @@ module _ {B : Type 0} (edition : Edition) (ending : Ending) (s : List ℕ) where
       let kind = typeIn edition s p in
       let q = valueEnds (edition .types) s (p + 1) in
       let h : HeaderAnswer = record {
-        header = record { kind = typeIn edition s p; present = bitAt s p };
+        header = record { type = typeIn edition s p; present = bitSetAt s p };
         next = valueEnds (edition .types) s (p + 1);
       } in
       let made : ℕ → ℕ → FieldAnswer =
       λ at n. record { field = record { kind = typeIn edition s p; start = at + 2; size = n }; next = 8 * (at + 2 + n) } in
       subst (λ (m : Answer B). OnFrom (header left) p m) (sym (bind-assoc (headerAt edition s p) (afterHeader s) next))
       (step p (header left) (headerAt edition s p) h (λ h. _>>=_ (afterHeader s h) next) (header-table edition ending left s p)
-      (either (bitAt s p) q (padding (dataLength left)) (fields left) _ _ next
+      (either (bitSetAt s p) q (padding (dataLength left)) (fields left) _ _ next
       (data-walk left q made next
       (λ at n. subst (λ (q : Place). OnFrom (fields left) q (next (made at n))) (there at n) (on (made at n))))
       (on (record { field = record { kind = kind; start = 0; size = 0 }; next = q })))) where
@@ -172,7 +172,7 @@ module _ {B : Type 0} (edition : Edition) (ending : Ending) (s : List ℕ) where
       let v : Value = record { value = valueIn (firstValues edition s) s 2; next = valueEnds (firstValues edition s) s 2 } in
       let p = valueEnds (firstValues edition s) s 2 in
       let read : ℕ → FirstAnswer = λ at. record {
-        first = record { kind = kindOf s; value = valueIn (firstValues edition s) s 2; present = bitAt s 0 };
+        first = record { kind = kindOf s; value = valueIn (firstValues edition s) s 2; present = bitSetAt s 0 };
         octets = at;
       } in
       let allow : ℕ → Answer FirstAnswer = λ at. cond (rightFields (kindOf s) (hasFields s)) (done (read at)) (refuse wrongData) in

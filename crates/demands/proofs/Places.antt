@@ -23,7 +23,7 @@ use Rattle.views.specs.Members.{memberAt, membersOf}
 use Rattle.views.proofs.Laws.{member-says}
 use Rattle.views.specs.View.{numbers, distance}
 use Rattle.views.specs.Offer.{heldBy}
-use Rattle.demands.specs.ReachedBy.{placeNumber, sparesIn}
+use Rattle.demands.specs.Demand2.ReachedBy.{placeNumber, sparesIn}
 
 -- ---- members, g places further on
 pub members-up : (g S n m i q : ℕ) → n * m ≤ S → i < m → Among q (membersOf S n m i) → Among (g + q) (membersOf (g + S) n m i)

@@ -34,7 +34,6 @@ program-claims =
       wholeCase = lines.claims .wholeCase;
       cases = lines.claims .cases;
       writtenReads = lines.claims .writtenReads;
-      linesStay = lines.claims .linesStay;
       releasesAll = lines.claims .releasesAll;
       inTurn = lines.claims .inTurn;
       writes = λ run ends.

@@ -17,10 +17,10 @@ use Rattle.views.specs.Repair.{Message}
 use Rattle.views.specs.Reached.{Known}
 use Rattle.views.specs.View.{View, Counts, sum, freshView, goneOn}
 use Rattle.views.specs.Offer.{heldBy}
-use Rattle.demands.specs.History.{Left}
-use Rattle.demands.specs.Calls.{Call, Calls, start, _then_, acceptedIn, fillsIn, leftIn, leftBy}
-use Rattle.demands.specs.ReachedBy.{gone, spareAt, HasSpare, Accepts, Arrived, now, before, HeldBy}
-use Rattle.demands.specs.ReachedBy.{InView, OneValueBy, ReachedBy, beforeFirst, packet, spare, repaired, together, earlier}
+use Rattle.demands.specs.Common.History.{Left}
+use Rattle.demands.specs.Common.Calls.{Call, Calls, start, _then_, acceptedIn, fillsIn, leftIn, leftBy}
+use Rattle.demands.specs.Demand2.ReachedBy.{gone, spareAt, HasSpare, Accepts, Arrived, now, before, HeldBy}
+use Rattle.demands.specs.Demand2.ReachedBy.{InView, OneValueBy, ReachedBy, beforeFirst, packet, spare, repaired, together, earlier}
 use Rattle.demands.proofs.Ranges.{ViewInRanges}
 use Rattle.demands.proofs.Shifted.{held-on, held-last}
 use Rattle.demands.proofs.InRanges.{fresh-in-ranges, fresh-held, on-in-ranges}

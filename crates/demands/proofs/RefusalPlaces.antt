@@ -21,7 +21,7 @@ use Rattle.packets.specs.Edition.{Edition, choiceOf, ofChoice}
 use Rattle.packets.specs.Write.{packetToWrite}
 use Rattle.packets.specs.declared.types.Choice.{Choice}
 use Rattle.packets.specs.declared.types.Choice.the-variants as choice
-use Rattle.packets.specs.declared.types.Kind as packets
+use Rattle.packets.specs.declared.types.PacketKind as packets
 use Rattle.views.specs.Cells.{unknownAt, keptBefore, keptAhead}
 use Rattle.views.specs.View.{View, sum, distance, sessionLimit}
 use Rattle.views.specs.Offer as offers
@@ -37,10 +37,10 @@ use Rattle.sending.specs.declared.Settings.{Settings}
 use Rattle.lines.specs.Hex.{lineOctets}
 use Rattle.frames.specs.Promise.{fieldAnswer, lossAnswer}
 use Rattle.frames.specs.declared.Joiner.{Joiner}
-use Rattle.images.specs.Layout.{edition02}
+use Rattle.images.specs.Layout.{imageVersion02}
 use Rattle.images.specs.Image.{readText, imageToWrite}
-use Rattle.demands.specs.NamedEdition.{packetBy}
-use Rattle.demands.specs.Demand1.{Places}
+use Rattle.demands.specs.Common.NamedEdition.{packetBy}
+use Rattle.demands.specs.Demand1.Demand1.{Places}
 use Rattle.demands.proofs.ImageTexts.{refused-only}
 
 -- ---- offer
@@ -88,7 +88,7 @@ datagram-writer : (number : ℕ) (packet : List ℕ) (kind : Kind) (lengths run 
 unfolding datagramToWrite
 datagram-writer number packet kind lengths run = unless-front _ _
 
-packet-writer : (octet : ℕ) (kind : packets.Kind) (value : ℕ) (types lengths octets : List ℕ)
+packet-writer : (octet : ℕ) (kind : packets.PacketKind) (value : ℕ) (types lengths octets : List ℕ)
     → AtFront (packetBy octet kind value types lengths octets)
 unfolding packetToWrite
 packet-writer octet kind value types lengths octets = by (choiceOf octet) where
@@ -113,7 +113,7 @@ unfolding lossAnswer
 loss-front j = unless-front _ _
 
 -- ---- images
-image-writer : (s : Session) → AtFront (imageToWrite edition02 (lentBy s))
+image-writer : (s : Session) → AtFront (imageToWrite imageVersion02 (lentBy s))
 unfolding imageToWrite
 image-writer s = unless-front _ _
 

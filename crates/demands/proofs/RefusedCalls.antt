@@ -32,8 +32,8 @@ use Rattle.leaving.specs.Outcome.{handedOf}
 use Rattle.leaving.specs.Outcome as outcome
 use Rattle.offering.specs.Outcome.{acceptedOf}
 use Rattle.sessions.specs.Receiver.{After, offerOf, releaseOf}
-use Rattle.demands.specs.Refusals.{distanceTo, offerRows, releaseRows}
-use Rattle.demands.specs.Demand1.{Receiving}
+use Rattle.demands.specs.Demand1.Refusals.{distanceTo, offerRows, releaseRows}
+use Rattle.demands.specs.Demand1.Demand1.{Receiving}
 
 -- ---- offer
 -- 8 or 9, then 7

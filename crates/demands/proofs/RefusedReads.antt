@@ -24,8 +24,8 @@ use Rattle.packets.specs.Packet.{allData, readPacket}
 use Rattle.packets.specs.declared.types.Ending.the-variants.{Whole, Repaired}
 use Rattle.packets.specs.declared.types.Named.{Named}
 use Rattle.packets.proofs.Claims as packet-claims
-use Rattle.demands.specs.Refusals.{lengthRows}
-use Rattle.demands.specs.Demand1.{IsDatagram, IsPacket, IsRepaired, Readers}
+use Rattle.demands.specs.Demand1.Refusals.{lengthRows}
+use Rattle.demands.specs.Demand1.Demand1.{IsDatagram, IsPacket, IsRepaired, Readers}
 use Rattle.demands.proofs.Front.{repaired-front}
 use Rattle.demands.proofs.PacketRefusals.{packet-refusals}
 use Rattle.demands.proofs.NamedEdition.{sound, read-as, another-edition}

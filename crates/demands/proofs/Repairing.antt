@@ -18,8 +18,8 @@ use Rattle.views.specs.Reached.{Known, Closed, known, DistinctMembers}
 use Rattle.views.proofs.Laws.{member-in-reach, held-at, messagesOf-among, reached-within, makes-repaired, known-closed, reach-kept}
 use Rattle.views.specs.View.{View, sum}
 use Rattle.views.specs.Offer.{heldBy, accept}
-use Rattle.demands.specs.Calls.{Call, Calls, _then_}
-use Rattle.demands.specs.ReachedBy.{spareAt, sparesIn, HasSpare, Accepts, now, HeldBy, ReachedBy, packet, spare, repaired, earlier}
+use Rattle.demands.specs.Common.Calls.{Call, Calls, _then_}
+use Rattle.demands.specs.Demand2.ReachedBy.{spareAt, sparesIn, HasSpare, Accepts, now, HeldBy, ReachedBy, packet, spare, repaired, earlier}
 use Rattle.demands.proofs.Growing.{known-grown}
 use Rattle.demands.proofs.InRanges.{filled, grown-accept, distinct-held}
 use Rattle.demands.proofs.Steps.{accept-counts}

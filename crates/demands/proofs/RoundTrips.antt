@@ -35,23 +35,23 @@ use Rattle.packets.specs.Edition.{Edition, editionOf, choiceOf, ofChoice, byEdi
 use Rattle.packets.specs.Packet.{allData, fieldsLimit, noField, PacketAnswer, readPacket}
 use Rattle.packets.specs.Write.{packetToWrite}
 use Rattle.packets.specs.Promise as packetPromise
-use Rattle.packets.specs.Promise.{PacketTold, packetRead, padded}
+use Rattle.packets.specs.Promise.{PacketTold, packetRead, paddedFields}
 use Rattle.packets.specs.Claims as packetClaims
 use Rattle.packets.specs.declared.types.Choice.{Choice}
 use Rattle.packets.specs.declared.types.Choice.the-variants as choice
-use Rattle.packets.specs.declared.types.Kind as packets
+use Rattle.packets.specs.declared.types.PacketKind as packets
 use Rattle.packets.specs.declared.types.Named.{Named}
 use Rattle.packets.specs.declared.types.Field.{Field}
 use Rattle.packets.specs.declared.types.Ending.{Ending}
 use Rattle.packets.specs.declared.types.Ending.the-variants.{Whole, Repaired}
 use Rattle.packets.specs.declared.types.PacketRead.{PacketRead}
-use Rattle.packets.specs.declared.types.Reading as packetReadings
+use Rattle.packets.specs.declared.types.PacketReading as packetReadings
 use Rattle.packets.proofs.Claims as packetProofs
 use Rattle.sending.proofs.Laws.{size-done}
 use Rattle.sending.proofs.Claims as sending
-use Rattle.demands.specs.NamedEdition.{Names}
-use Rattle.demands.specs.RoundTrips.{WrittenBack, LengthTrips, DatagramSame, DatagramTrips, PacketSame, PacketTrips, SendTrips}
-use Rattle.demands.specs.RoundTrips.{RoundTrips, typesOf, sizesOf, dataRead}
+use Rattle.demands.specs.Common.NamedEdition.{Names}
+use Rattle.demands.specs.Demand2.RoundTrips.{WrittenBack, LengthTrips, DatagramSame, DatagramTrips, PacketSame, PacketTrips, SendTrips}
+use Rattle.demands.specs.Demand2.RoundTrips.{RoundTrips, typesOf, sizesOf, dataRead}
 use Rattle.demands.proofs.NamedEdition.{sound, read-as}
 
 -- ---- what a write says
@@ -168,10 +168,10 @@ datagram-trips =
     }
 
 -- ---- packets
-packet-told : {edition : Edition} {ending : Ending} {s : List ℕ} {kind : packets.Kind} {value : ℕ} {types lengths octets : List ℕ}
-    {r : PacketRead} → packetClaims.ReadsAs edition ending s kind value types lengths octets → PacketTold (readPacket edition ending s) r
+packet-told : {edition : Edition} {ending : Ending} {s : List ℕ} {kind : packets.PacketKind} {value : ℕ} {types lengths octets : List ℕ}
+    {r : PacketRead} → packetClaims.PacketReadsAs edition ending s kind value types lengths octets → PacketTold (readPacket edition ending s) r
     → PacketSame s kind value types lengths octets r
-unfolding padded
+unfolding paddedFields
 packet-told {edition} {ending} {s} {kind} {value} {types} {lengths} {octets} {r} reads told =
     let p = reads .packet in
     let whole : r ≡ packetRead (done p) = told .whole ∙ ap packetRead (reads .reads) in
@@ -218,7 +218,7 @@ packet-trips =
           λ octet s {r} {kind} {value} {count} octets told e {old} {new} {w} puts room.
           let p : PacketAnswer = record { kind = kind; value = value; fields = take count (r .fields) } in
           let is : byEdition octet (λ (e : Edition). readPacket e Whole s) ≡ done p =
-          sym (told .answer) ∙ ap (λ (x : packetReadings.Reading). packetPromise.readingOutcome x (r .fields)) e in
+          sym (told .answer) ∙ ap (λ (x : packetReadings.PacketReading). packetPromise.readingOutcome x (r .fields)) e in
           let c = chosen octet (λ (e : Edition). readPacket e Whole s) p is in
           let back = packetProofs.claims .readWrites (editionOf (c .0)) s p octets (c .2) in
           let write : Edition → Answer (List ℕ) =

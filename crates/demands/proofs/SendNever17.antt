@@ -21,7 +21,7 @@ use Rattle.sending.specs.Promise.{Proper, toSend, StateAfter, Sends}
 use Rattle.sending.specs.declared.Sender.{Sender}
 use Rattle.sending.specs.declared.Sent.{Sent}
 use Rattle.sending.specs.declared.Settings.{Settings}
-use Rattle.demands.specs.SendChain.{SenderBegins, fresh, saved, SentFrom, atStart, sent}
+use Rattle.demands.specs.Demand2.SendChain.{SenderBegins, fresh, saved, SentFrom, atStart, sent}
 use Rattle.demands.proofs.Demand1.{demand-1}
 
 -- within the ranges

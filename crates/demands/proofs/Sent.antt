@@ -35,13 +35,13 @@ use Rattle.sending.specs.Honest.{packetAt, carriedAt, HonestSender}
 use Rattle.sending.specs.declared.Settings.{Settings}
 use Rattle.sending.specs.declared.Settings.the-variants as settings
 use Rattle.sending.proofs.Laws.{before-length, extra-same}
-use Rattle.demands.specs.Feeding.{datagramAt}
-use Rattle.demands.specs.ReachedBy.{sparesIn}
+use Rattle.demands.specs.Demand3.Feeding.{OneOrigin, datagramAt}
+use Rattle.demands.specs.Demand2.ReachedBy.{sparesIn}
 
 -- ---- the row by places
 -- a row begins as many places before number 0 as the view has before the base: "the last 32 packets", "the 32 before the base"
-history-before : historyKept ≡ keptBefore
-history-before = refl
+pub one-origin : OneOrigin
+one-origin = refl
 
 pub packetAt-before : (row : List (List ℕ)) (p : ℕ) → p < historyKept → packetAt row p ≡ []
 unfolding packetAt
@@ -188,7 +188,7 @@ in-view {row} B d {c} f =
           ap (λ (x : Carried). x .extra) (f .is)
           ∙ extra-same (packetAt row) (historyKept + (B + d)) (λ p. packetAt row (B + p)) (keptBefore + d) (omega arith) (omega arith)
           (λ k some far.
-          let place : (historyKept + (B + d)) - k ≡ B + ((keptBefore + d) - k) = omega (arith, history-before) in
+          let place : (historyKept + (B + d)) - k ≡ B + ((keptBefore + d) - k) = omega (arith, one-origin) in
           ap (packetAt row) place)
           (f .settings)
           (B + d)
@@ -196,7 +196,7 @@ in-view {row} B d {c} f =
       packet =
           ap (λ (x : Carried). x .packet) (f .is)
           ∙ sym (packetAt-sent row (B + d))
-          ∙ ap (packetAt row) (let place : historyKept + (B + d) ≡ B + (keptBefore + d) = omega (arith, history-before) in place);
+          ∙ ap (packetAt row) (let place : historyKept + (B + d) ≡ B + (keptBefore + d) = omega (arith, one-origin) in place);
     }
 
 -- ---- what is held of it is honest

@@ -26,9 +26,9 @@ use Rattle.views.specs.View.{View, sum}
 use Rattle.equations.specs.Equations.{padded, Solution, OneValue}
 use Rattle.equations.specs.Solved.{SolvedTo}
 use Rattle.equations.proofs.Laws.{length-padded, stays-known, known-one, one-known}
-use Rattle.demands.specs.History.{Left}
-use Rattle.demands.specs.Calls.{Call, Calls, _then_, acceptedIn, fillsIn, leftIn, leftBy}
-use Rattle.demands.specs.ReachedBy.{Accepts, Arrived, now, before, Alike, OneValueBy, ReachedBy, together, earlier}
+use Rattle.demands.specs.Common.History.{Left}
+use Rattle.demands.specs.Common.Calls.{Call, Calls, _then_, acceptedIn, fillsIn, leftIn, leftBy}
+use Rattle.demands.specs.Demand2.ReachedBy.{Accepts, Arrived, now, before, AgreeAtMarked, OneValueBy, ReachedBy, together, earlier}
 use Rattle.demands.proofs.SolveDone.{SolveDone, solved-in-ranges}
 use Rattle.demands.proofs.Reaching.{reached-then, Seen, Knows}
 use Rattle.demands.proofs.ViewMessages.{xor-sums, adds-none, none-added, map-on, map-same, onBy, view-held, held-in-view, member-low}
@@ -57,7 +57,7 @@ module _ {calls : Calls} {g : ℕ} {view : View} (k : Knows calls g view) where
       (ap (λ (n : ℕ). not (unknownAt (view .cells) n)) place ∙ ap not known)
 
   -- two rows that the held messages do not tell apart, and a solution
-  module _ {x y s : ℕ → List ℕ} (a : Alike calls marked x y) (sol : Solution (view .cells) (heldMessages (view .held)) s) where
+  module _ {x y s : ℕ → List ℕ} (a : AgreeAtMarked calls marked x y) (sol : Solution (view .cells) (heldMessages (view .held)) s) where
     added : ℕ → List ℕ
     added q = tab packetLimit (λ j. bitXor (getD (s q) j 0) (bitXor (getD (x (g + q)) j 0) (getD (y (g + q)) j 0)))
 
@@ -176,7 +176,7 @@ module _ {calls : Calls} {g : ℕ} {view : View} (k : Knows calls g view) where
         → exclusiveOr packetLimit (map (spread w) ((onBy g was) .members)) ≡ padded (was .octets)
     spread-message {w} sw was among = ap (exclusiveOr packetLimit) (spread-map w (was .members)) ∙ sw .equation was among
 
-    solutions-alike : Alike calls some (spread u) (spread v)
+    solutions-alike : AgreeAtMarked calls some (spread u) (spread v)
     solutions-alike =
         record {
           firstLong = spread-long u (su .long);

@@ -18,7 +18,7 @@ use Rattle.views.proofs.Laws.{makes-repaired, known-closed, held-at, held-hones
 use Rattle.views.specs.View.{View, freshView}
 use Rattle.views.specs.Offer.{heldBy, accept}
 use Rattle.sending.specs.Honest.{packetAt}
-use Rattle.demands.specs.Feeding.{placeOf, sentAt}
+use Rattle.demands.specs.Demand3.Feeding.{placeOf, sentAt}
 use Rattle.demands.proofs.Ranges.{ViewInRanges}
 use Rattle.demands.proofs.Growing.{known-grown, grown-repair}
 use Rattle.demands.proofs.InRanges.{fresh-before, fresh-ahead, fresh-held, fresh-in-ranges, HeldInside, read-held, filled}

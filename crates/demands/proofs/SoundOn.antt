@@ -21,8 +21,8 @@ use Rattle.views.specs.Honest.{UpToZeros, TrueCells}
 use Rattle.views.proofs.Laws.{member-says, member-in-reach, held-at, messagesOf-among, reach-kept}
 use Rattle.views.specs.View.{View, Counts, sum, goneOn}
 use Rattle.sending.specs.Honest.{packetAt}
-use Rattle.demands.specs.ReachedBy.{sparesIn}
-use Rattle.demands.specs.Feeding.{placeOf, sentAt}
+use Rattle.demands.specs.Demand2.ReachedBy.{sparesIn}
+use Rattle.demands.specs.Demand3.Feeding.{placeOf, sentAt}
 use Rattle.demands.proofs.Ranges.{ViewInRanges}
 use Rattle.demands.proofs.Shifted.{cell-on, cell-last, held-on, held-last, unknown-on}
 use Rattle.demands.proofs.InRanges.{on-in-ranges}

@@ -14,8 +14,8 @@ use Rattle.views.specs.Release as releases
 use Rattle.views.specs.Release.{Release, counted, atBase, viewAfterRelease}
 use Rattle.views.proofs.Laws.{release-leaves}
 use Rattle.solutions.specs.Solve as solutions
-use Rattle.demands.specs.History.{Move, offer, release, solve, Left, leftAs, afterMove, many, historyCounts}
-use Rattle.demands.specs.Demand2.{OneKind, grown}
+use Rattle.demands.specs.Common.History.{Move, offer, release, solve, Left, leftAs, afterMove, howMany, historyCounts}
+use Rattle.demands.specs.Demand2.Demand2.{OneKind, grown}
 use Rattle.demands.proofs.Ranges.{ViewInRanges}
 use Rattle.demands.proofs.InRanges.{read-held, accept-in-ranges, on-in-ranges}
 use Rattle.demands.proofs.Taken.{offer-done}
@@ -55,7 +55,7 @@ counts-path p q r s = λ i. record { received = p i; spare = q i; repaired = r i
 
 kind-grown : (st : State) → (st ≡ blank → ⊥) → (number note : ℕ) (octets : List ℕ) (c : Counts)
     → counted st c ≡ grown c (historyCounts (leftAs st number note octets ∷ []))
-unfolding many
+unfolding howMany
 kind-grown unknown other number note octets c = counts-path (omega arith) (omega arith) (omega arith) (omega arith)
 kind-grown received other number note octets c = counts-path (omega arith) (omega arith) (omega arith) (omega arith)
 kind-grown spare other number note octets c = counts-path (omega arith) (omega arith) (omega arith) (omega arith)

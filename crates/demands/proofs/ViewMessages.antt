@@ -15,8 +15,8 @@ use Rattle.views.specs.Repair.{Message}
 use Rattle.views.specs.View.{View}
 use Rattle.views.specs.Offer.{heldBy}
 use Rattle.views.proofs.Laws.{member-in-reach, held-at, messagesOf-among, reach-kept}
-use Rattle.demands.specs.Calls.{Calls}
-use Rattle.demands.specs.ReachedBy.{HeldBy}
+use Rattle.demands.specs.Common.Calls.{Calls}
+use Rattle.demands.specs.Demand2.ReachedBy.{HeldBy}
 use Rattle.demands.proofs.Places.{members-on}
 use Rattle.demands.proofs.Reaching.{Knows}
 

@@ -6,21 +6,22 @@ use Rattle.frame_feed.specs.Claims as frameFeed
 use Rattle.replays.specs.Claims as replays
 use Rattle.comparisons.specs.Claims as comparisons
 use Rattle.sold_line.specs.Claims as soldLine
-use Rattle.demands.specs.Demand1.{Demand1}
-use Rattle.demands.specs.Demand2.{Demand2}
-use Rattle.demands.specs.Demand3.{Demand3}
-use Rattle.demands.specs.Example.{Example}
-use Rattle.demands.specs.Burst.{Burst}
+use Rattle.host.specs.Claims as host
+use Rattle.demands.specs.Demand1.Demand1.{Demand1}
+use Rattle.demands.specs.Demand2.Demand2.{Demand2}
+use Rattle.demands.specs.Demand3.Demand3.{Demand3}
+use Rattle.demands.specs.Demand3.Example.{Example}
+use Rattle.demands.specs.Demand3.Burst.{Burst}
 use Rattle.demands.specs.NotInside.{NotInside}
-use Rattle.demands.specs.OneOutcome.{OneOutcome}
+use Rattle.demands.specs.OneOutcome.OneOutcome.{OneOutcome}
 use Rattle.demands.specs.Sheet.{TwelveCases, MendedExample}
 use Rattle.demands.specs.Program.{Program}
-use Rattle.demands.specs.SecondReader.{SecondReader}
-use Rattle.demands.specs.OneCall.{OneCall}
-use Rattle.demands.specs.Handover.{Handover}
-use Rattle.demands.specs.Editions.{Editions}
-use Rattle.demands.specs.Fits.{Fits}
-use Rattle.demands.specs.Losses.{Losses}
+use Rattle.demands.specs.Requests.SecondReader.{SecondReader}
+use Rattle.demands.specs.Requests.OneCall.{OneCall}
+use Rattle.demands.specs.Requests.Handover.{Handover}
+use Rattle.demands.specs.Requests.Editions.{Editions}
+use Rattle.demands.specs.Requests.Fits.{Fits}
+use Rattle.demands.specs.Requests.Losses.{Losses}
 
 pub record Claims : Type 0 where
   pub demand1 : Demand1
@@ -62,3 +63,5 @@ pub record Claims : Type 0 where
   pub losses : Losses
   -- document 02, request 14: a line we can sell
   pub lineSold : soldLine.Claims
+  -- the calls for C programs over lent memory
+  pub hostCalls : host.Claims

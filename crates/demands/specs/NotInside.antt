@@ -21,7 +21,7 @@ use Rattle.sending.specs.declared.Settings.{Settings}
 
 -- two datagrams with one number and one kind (spares, or n), whose packets have one length, and whose spares or messages have the
 -- same lengths
-pub record Alike (s t : List ℕ) : Type 0 where
+pub record AlikeButOctets (s t : List ℕ) : Type 0 where
   pub number : ℕ
   pub kind : Kind
   pub lengths : List ℕ
@@ -42,9 +42,9 @@ pub record NotInside : Type 0 where
       → Puts (datagramToWrite number otherPacket kind lengths otherRun) otherOld otherNew q
       → r ≡ q
   -- the datagram reader: the same number and kind, and parts at the same places
-  pub read : {s t : List ℕ} → Alike s t → {r q : DatagramRead} → DatagramReads s r → DatagramReads t q → r ≡ q
+  pub read : {s t : List ℕ} → AlikeButOctets s t → {r q : DatagramRead} → DatagramReads s r → DatagramReads t q → r ≡ q
   -- offer: accepted, or refused with the same number
-  pub offer : {session : Session} {s t : List ℕ} → Alike s t → {r q : AfterOffer} → OfferOwes session s r → OfferOwes session t q
+  pub offer : {session : Session} {s t : List ℕ} → AlikeButOctets s t → {r q : AfterOffer} → OfferOwes session s r → OfferOwes session t q
       → r .answer ≡ q .answer
   -- send: the same refusal, or the same number of octets
   pub send : {s : Sender} {settings : Settings} {packet otherPacket : List ℕ} → length packet ≡ length otherPacket

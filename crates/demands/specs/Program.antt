@@ -27,8 +27,6 @@ pub record Program : Type 0 where
   pub cases : lines.Cases
   -- a line that was written reads back to the same octets
   pub writtenReads : lines.WrittenReads
-  -- document 02, request 8: "The program's lines stay"
-  pub linesStay : lines.LinesStay
   -- "after each releases all it can"
   pub releasesAll : lines.ReleasesAll
   -- each step alone; and with room for a line some of a block is always taken in

@@ -10,7 +10,7 @@ use Rattle.packets.specs.Edition.{edition98}
 use Rattle.packets.specs.Packet.{dataOf, readPacket}
 use Rattle.packets.specs.Write.{packetToWrite}
 use Rattle.packets.specs.Cases.{mendedPacket}
-use Rattle.packets.specs.declared.types.Kind.the-variants.{Indicator, Data}
+use Rattle.packets.specs.declared.types.PacketKind.the-variants.{Indicator, Data}
 use Rattle.packets.specs.declared.types.Ending.the-variants.{Whole, Repaired}
 use Rattle.views.specs.Members.{membersOf}
 use Rattle.views.specs.Cells.{repaired, filledCell, cellAt, keptBefore}

@@ -23,7 +23,7 @@ use Rattle.datagrams.specs.declared.reader.Part.{Part}
 use Rattle.datagrams.specs.declared.reader.Reading.the-variants as reading
 use Rattle.datagrams.specs.declared.reader.DatagramRead.{DatagramRead}
 use Rattle.datagrams.proofs.Laws.{read-done, item-done, read-inside, number-length, item-length, refused-read, accepted-read}
-use Rattle.comparisons.specs.Traces.{carriedIn}
+use Rattle.comparisons.specs.Traces.{datagramOf}
 use Rattle.comparisons.proofs.Laws.{carried-octets}
 use Rattle.differences.specs.Rows.{isSpares, hasSpares, Shaped, ShapeOf}
 use Rattle.differences.specs.declared.differing.Shape.{Shape}
@@ -35,8 +35,8 @@ spares-told (kind.Parity n) items = refl
 -- ---- octets that read
 module _ (s : List ℕ) (octets : Octets s) (d : DatagramParts) (read : readDatagram s ≡ done d) where
   -- what they carry
-  carries : (a : Carried) → carriedIn s ≡ done a → carriedBy s d ≡ a
-  unfolding carriedIn
+  carries : (a : Carried) → datagramOf s ≡ done a → carriedBy s d ≡ a
+  unfolding datagramOf
   carries a e = done-same (sym (ap (answers.mapped (carriedBy s)) read) ∙ e)
 
   -- the octets before what stands behind the packet
@@ -60,7 +60,7 @@ module _ (s : List ℕ) (octets : Octets s) (d : DatagramParts) (read : readData
       length-take-le (d .packet .size) (drop (d .packet .start) s)
       (omega (arith, inside, lib.ListN.length-drop (d .packet .start) s))
 
-  shaped : (told : Bool) → told ≡ isSpares (d .kind) → (a : Carried) → carriedIn s ≡ done a
+  shaped : (told : Bool) → told ≡ isSpares (d .kind) → (a : Carried) → datagramOf s ≡ done a
       → Shaped s a (record { start = d .packet .start; end = after (d .packet); spares = told })
   unfolding carriedBy datagramOctets
   shaped told is a e =
@@ -99,7 +99,7 @@ module _ {s : List ℕ} {r : DatagramRead} (reads : DatagramReads s r) (octets :
         }
 
   pub shape-refused : {why : Refusal} → r .reading ≡ reading.Refused why → ShapeOf s (record { start = 0; end = 0; spares = true })
-  unfolding carriedIn
+  unfolding datagramOf
   shape-refused {why} is =
       record {
         low = omega arith;

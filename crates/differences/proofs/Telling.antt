@@ -16,7 +16,7 @@ use Rattle.datagrams.specs.Write.{extraOctets}
 use Rattle.lines.specs.Promise.{Appends}
 use Rattle.comparisons.specs.Entries.{same, sameEach, sparesApart, parityApart, differences, given, entriesOf, numbersOf}
 use Rattle.comparisons.specs.Entries.{packetDiffers, sparesDiffer, parityDiffers}
-use Rattle.comparisons.specs.Traces.{carriedIn}
+use Rattle.comparisons.specs.Traces.{datagramOf}
 use Rattle.comparisons.proofs.Laws.{same-refl, same-true, each-refl, each-true, rowsOf, spares-itself, parity-itself, extras-same}
 use Rattle.differences.specs.Rows.{isDone, hasSpares, Shaped, ShapeOf, rowNumbers, rowsTold, differenceNumbers}
 use Rattle.differences.specs.declared.differing.Shape.{Shape}
@@ -99,7 +99,7 @@ rows-told number a b extras is =
 
 -- ---- two datagrams by their octets
 module _ {s t : List ℕ} {left right : Shape} (small : Octets s) (few : Octets t) (x : ShapeOf s left) (y : ShapeOf t right) where
-  rows-are : (number : ℕ) (a b : Carried) (packets extras : Bool) → carriedIn s ≡ done a → carriedIn t ≡ done b
+  rows-are : (number : ℕ) (a b : Carried) (packets extras : Bool) → datagramOf s ≡ done a → datagramOf t ≡ done b
       → packets ≡ same (take (left .end - left .start) (drop (left .start) s)) (take (right .end - right .start) (drop (right .start) t))
       → extras ≡ same (drop (left .end) s) (drop (right .end) t)
       → rowsTold number packets extras (left .spares) (right .spares) ≡ numbersOf (entriesOf number (given (differences a b)))
@@ -118,15 +118,15 @@ module _ {s t : List ℕ} {left right : Shape} (small : Octets s) (few : Octets 
       ∙ rows-told number a b extras told
 
   pub differences-put : (number : ℕ) {packets extras : Bool} {old : List ℕ} {at : ℕ} {new : List ℕ} {end : ℕ}
-      → isDone (carriedIn s) ≡ true → isDone (carriedIn t) ≡ true
+      → isDone (datagramOf s) ≡ true → isDone (datagramOf t) ≡ true
       → packets ≡ same (take (left .end - left .start) (drop (left .start) s)) (take (right .end - right .start) (drop (right .start) t))
       → extras ≡ same (take (length s - left .end) (drop (left .end) s)) (take (length t - right .end) (drop (right .end) t))
       → Appends (rowsTold number packets extras (left .spares) (right .spares)) old at new end
-      → Appends (differenceNumbers number (carriedIn s) (carriedIn t)) old at new end
+      → Appends (differenceNumbers number (datagramOf s) (datagramOf t)) old at new end
   unfolding differenceNumbers
   differences-put number {packets} {extras} {old} {at} {new} {end} first second newest behind puts =
-      let a = done-of (carriedIn s) first in
-      let b = done-of (carriedIn t) second in
+      let a = done-of (datagramOf s) first in
+      let b = done-of (datagramOf t) second in
       let rest : extras ≡ same (drop (left .end) s) (drop (right .end) t) =
       behind ∙ ap₂ same (rest-of s (left .end)) (rest-of t (right .end)) in
       let are = rows-are number (a .0) (b .0) packets extras (a .1) (b .1) newest rest in

@@ -10,7 +10,7 @@ use Rattle.datagrams.specs.Write.{extraOctets}
 use Rattle.datagrams.specs.declared.kind.Kind.{Kind}
 use Rattle.datagrams.specs.declared.kind.Kind.the-variants as kind
 use Rattle.comparisons.specs.Entries.{numbersOf, packetDiffers, sparesDiffer, parityDiffers, differences, given, entriesOf}
-use Rattle.comparisons.specs.Traces.{carriedIn}
+use Rattle.comparisons.specs.Traces.{datagramOf}
 use Rattle.differences.specs.declared.differing.Shape.{Shape}
 
 -- whether a call was done
@@ -42,7 +42,7 @@ pub record Shaped (s : List ℕ) (a : Carried) (r : Shape) : Type 0 where
 pub record ShapeOf (s : List ℕ) (r : Shape) : Type 0 where
   pub low : r .start ≤ r .end
   pub high : r .end ≤ length s
-  pub shaped : (a : Carried) → carriedIn s ≡ done a → Shaped s a r
+  pub shaped : (a : Carried) → datagramOf s ≡ done a → Shaped s a r
 
 -- an entry as it stands in the list, if it applies
 unfoldable pub rowNumbers : Bool → ℕ → ℕ → List ℕ

@@ -10,7 +10,7 @@ ghost use Prim.Native.Nat.{_+_, _≤_};
 ghost use lib.ListN.{length};
 ghost use Rattle.lines.specs.Promise.{Appends};
 ghost use Rattle.comparisons.specs.Entries.{same as isSame};
-ghost use Rattle.comparisons.specs.Traces.{carriedIn};
+ghost use Rattle.comparisons.specs.Traces.{datagramOf};
 ghost use Rattle.differences.specs.Rows.{isDone, entryRoom, lineRoom, isSpares, ShapeOf, rowNumbers, rowsTold};
 ghost use Rattle.differences.specs.Rows.{differenceNumbers};
 
@@ -129,10 +129,10 @@ fn put_rows(
 
 // What two datagrams of one number differ in: their packets, their spares, their parity, in this order.
 pub fn put_differences(number: u16, a: &[u8], b: &[u8], list: &mut [u16], at: usize) -> usize
-    requires { ⌜ isDone (carriedIn (now a)) ≡ true ⌝ }
-    requires { ⌜ isDone (carriedIn (now b)) ≡ true ⌝ }
+    requires { ⌜ isDone (datagramOf (now a)) ≡ true ⌝ }
+    requires { ⌜ isDone (datagramOf (now b)) ≡ true ⌝ }
     requires { ⌜ at + lineRoom ≤ length (now list) ⌝ }
-    ensures { λ r. ⌜ Appends (differenceNumbers number (carriedIn (now (a .entry))) (carriedIn (now (b .entry)))) (now (list .entry)) at
+    ensures { λ r. ⌜ Appends (differenceNumbers number (datagramOf (now (a .entry))) (datagramOf (now (b .entry)))) (now (list .entry)) at
         (now (list .exit)) r ⌝ }
 {
     let left = shape_of(a);

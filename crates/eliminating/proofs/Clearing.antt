@@ -10,8 +10,8 @@ use lib.Dec.{eqb}
 use borrow.Author.Tests.{eq-eqb, ne-eqb}
 use Rattle.octets.proofs.Laws.{tab-at, length-tab, same-or-not, true-or-false}
 use Rattle.linear.proofs.Laws.{xor-false}
-use Rattle.masks.specs.Masks.{bit}
-use Rattle.eliminating.specs.Rows.{tableRows, noRow, rowAt, columnsOf, Holds, AllHold}
+use Rattle.masks.specs.Masks.{hasPlace}
+use Rattle.eliminating.specs.Rows.{tableRows, noRow, rowAt, columnsOf, RowHolds, AllHold}
 use Rattle.eliminating.specs.Eliminated.{combinedRow, clearedRow, clearedRows}
 use Rattle.eliminating.specs.declared.Row.{Row}
 use Rattle.eliminating.proofs.Combining.{mask-combined, holds-combined, holds-parted}
@@ -54,10 +54,10 @@ module _ (rows : List Row) (at c : ℕ) where
   cleared-gone own j below other =
       ⊎-elim
       (λ has.
-      ap (λ (r : Row). bit (r .mask) c) (cleared-combined j below other has)
+      ap (λ (r : Row). hasPlace (r .mask) c) (cleared-combined j below other has)
       ∙ mask-combined (rowAt rows j) (rowAt rows at) c
       ∙ ap₂ xor has own)
-      (λ has-not. ap (λ (r : Row). bit (r .mask) c) (cleared-without j below has-not) ∙ has-not)
+      (λ has-not. ap (λ (r : Row). hasPlace (r .mask) c) (cleared-without j below has-not) ∙ has-not)
       (true-or-false (columnsOf rows j c))
 
   -- a column that the kept row has not stays as it was in every row
@@ -67,16 +67,16 @@ module _ (rows : List Row) (at c : ℕ) where
       ⊎-elim
       (λ same.
       ap (λ (k : ℕ). columnsOf (clearedRows rows at c) k p) same
-      ∙ ap (λ (r : Row). bit (r .mask) p) (cleared-own small)
+      ∙ ap (λ (r : Row). hasPlace (r .mask) p) (cleared-own small)
       ∙ ap (λ (k : ℕ). columnsOf rows k p) (sym same))
       (λ other.
       ⊎-elim
       (λ has.
-      ap (λ (r : Row). bit (r .mask) p) (cleared-combined j below other has)
+      ap (λ (r : Row). hasPlace (r .mask) p) (cleared-combined j below other has)
       ∙ mask-combined (rowAt rows j) (rowAt rows at) p
       ∙ ap (xor (columnsOf rows j p)) none
       ∙ xor-false (columnsOf rows j p))
-      (λ has-not. ap (λ (r : Row). bit (r .mask) p) (cleared-without j below has-not))
+      (λ has-not. ap (λ (r : Row). hasPlace (r .mask) p) (cleared-without j below has-not))
       (true-or-false (columnsOf rows j c)))
       (same-or-not j at)
 
@@ -87,28 +87,28 @@ module _ (rows : List Row) (at c : ℕ) where
       there all j below =
           ⊎-elim
           (λ same.
-          subst (λ (k : ℕ). Holds asked values (rowAt (clearedRows rows at c) k)) (sym same)
-          (subst (Holds asked values) (sym (cleared-own small)) (all at small)))
+          subst (λ (k : ℕ). RowHolds asked values (rowAt (clearedRows rows at c) k)) (sym same)
+          (subst (RowHolds asked values) (sym (cleared-own small)) (all at small)))
           (λ other.
           ⊎-elim
           (λ has.
-          subst (Holds asked values) (sym (cleared-combined j below other has))
+          subst (RowHolds asked values) (sym (cleared-combined j below other has))
           (holds-combined asked values (rowAt rows j) (rowAt rows at) (all j below) (all at small)))
-          (λ has-not. subst (Holds asked values) (sym (cleared-without j below has-not)) (all j below))
+          (λ has-not. subst (RowHolds asked values) (sym (cleared-without j below has-not)) (all j below))
           (true-or-false (columnsOf rows j c)))
           (same-or-not j at)
 
       back : AllHold asked values (clearedRows rows at c) → AllHold asked values rows
       back all j below =
-          let own : Holds asked values (rowAt rows at) = subst (Holds asked values) (cleared-own small) (all at small) in
+          let own : RowHolds asked values (rowAt rows at) = subst (RowHolds asked values) (cleared-own small) (all at small) in
           ⊎-elim
-          (λ same. subst (λ (k : ℕ). Holds asked values (rowAt rows k)) (sym same) own)
+          (λ same. subst (λ (k : ℕ). RowHolds asked values (rowAt rows k)) (sym same) own)
           (λ other.
           ⊎-elim
           (λ has.
           holds-parted asked values (rowAt rows j) (rowAt rows at)
-          (subst (Holds asked values) (cleared-combined j below other has) (all j below)) own)
-          (λ has-not. subst (Holds asked values) (cleared-without j below has-not) (all j below))
+          (subst (RowHolds asked values) (cleared-combined j below other has) (all j below)) own)
+          (λ has-not. subst (RowHolds asked values) (cleared-without j below has-not) (all j below))
           (true-or-false (columnsOf rows j c)))
           (same-or-not j at)
 

@@ -8,33 +8,33 @@ use lib.Dec.{ltb}
 use Rattle.octets.proofs.Laws.{xor-cancel-right}
 use Rattle.linear.specs.Sums.{sumOver}
 use Rattle.linear.proofs.Laws.{sum-same, sum-combined}
-use Rattle.masks.specs.Masks.{places, bit}
+use Rattle.masks.specs.Masks.{maskPlaces, hasPlace}
 use Rattle.masks.proofs.Laws.{bit-xor}
-use Rattle.eliminating.specs.Rows.{tableRows, columns, sourceIn, askedBy, Holds}
+use Rattle.eliminating.specs.Rows.{tableRows, columns, sourceIn, askedBy, RowHolds}
 use Rattle.eliminating.specs.Eliminated.{combinedRow}
 use Rattle.eliminating.specs.declared.Row.{Row}
 
-pub mask-combined : (a b : Row) (c : ℕ) → bit ((combinedRow a b) .mask) c ≡ xor (bit (a .mask) c) (bit (b .mask) c)
+pub mask-combined : (a b : Row) (c : ℕ) → hasPlace ((combinedRow a b) .mask) c ≡ xor (hasPlace (a .mask) c) (hasPlace (b .mask) c)
 unfolding combinedRow
 mask-combined a b c = bit-xor (a .mask) (b .mask) c
 
 source-combined : (a b : Row) (e : ℕ) → sourceIn (combinedRow a b) e ≡ xor (sourceIn a e) (sourceIn b e)
 unfolding combinedRow sourceIn
-source-combined a b e = pick (ltb e places)
+source-combined a b e = pick (ltb e maskPlaces)
   where
     pick : (t : Bool)
-        → cond t (bit (bitXor (a .low) (b .low)) e) (bit (bitXor (a .high) (b .high)) (e - places))
-        ≡ xor (cond t (bit (a .low) e) (bit (a .high) (e - places))) (cond t (bit (b .low) e) (bit (b .high) (e - places)))
+        → cond t (hasPlace (bitXor (a .low) (b .low)) e) (hasPlace (bitXor (a .high) (b .high)) (e - maskPlaces))
+        ≡ xor (cond t (hasPlace (a .low) e) (hasPlace (a .high) (e - maskPlaces))) (cond t (hasPlace (b .low) e) (hasPlace (b .high) (e - maskPlaces)))
     pick true = bit-xor (a .low) (b .low) e
-    pick false = bit-xor (a .high) (b .high) (e - places)
+    pick false = bit-xor (a .high) (b .high) (e - maskPlaces)
 
 module _ (asked values : ℕ → ℕ) (a b : Row) where
-  sum-of-combined : sumOver columns (bit ((combinedRow a b) .mask)) values
-      ≡ bitXor (sumOver columns (bit (a .mask)) values) (sumOver columns (bit (b .mask)) values)
+  sum-of-combined : sumOver columns (hasPlace ((combinedRow a b) .mask)) values
+      ≡ bitXor (sumOver columns (hasPlace (a .mask)) values) (sumOver columns (hasPlace (b .mask)) values)
   sum-of-combined =
-      sum-same columns (bit ((combinedRow a b) .mask)) (λ c. xor (bit (a .mask) c) (bit (b .mask) c)) values values
+      sum-same columns (hasPlace ((combinedRow a b) .mask)) (λ c. xor (hasPlace (a .mask) c) (hasPlace (b .mask) c)) values values
       (λ c inside. mask-combined a b c) (λ c inside e. refl)
-      ∙ sum-combined columns (bit (a .mask)) (bit (b .mask)) values
+      ∙ sum-combined columns (hasPlace (a .mask)) (hasPlace (b .mask)) values
 
   asked-of-combined : askedBy asked (combinedRow a b) ≡ bitXor (askedBy asked a) (askedBy asked b)
   unfolding askedBy
@@ -43,12 +43,12 @@ module _ (asked values : ℕ → ℕ) (a b : Row) where
       (λ e inside. source-combined a b e) (λ e inside h. refl)
       ∙ sum-combined tableRows (sourceIn a) (sourceIn b) asked
 
-  pub holds-combined : Holds asked values a → Holds asked values b → Holds asked values (combinedRow a b)
+  pub holds-combined : RowHolds asked values a → RowHolds asked values b → RowHolds asked values (combinedRow a b)
   holds-combined ha hb = sum-of-combined ∙ ap₂ bitXor ha hb ∙ sym asked-of-combined
 
-  pub holds-parted : Holds asked values (combinedRow a b) → Holds asked values b → Holds asked values a
+  pub holds-parted : RowHolds asked values (combinedRow a b) → RowHolds asked values b → RowHolds asked values a
   holds-parted hc hb =
-      sym (xor-cancel-right (sumOver columns (bit (a .mask)) values) (sumOver columns (bit (b .mask)) values))
-      ∙ ap (λ (x : ℕ). bitXor x (sumOver columns (bit (b .mask)) values)) (sym sum-of-combined ∙ hc ∙ asked-of-combined)
+      sym (xor-cancel-right (sumOver columns (hasPlace (a .mask)) values) (sumOver columns (hasPlace (b .mask)) values))
+      ∙ ap (λ (x : ℕ). bitXor x (sumOver columns (hasPlace (b .mask)) values)) (sym sum-of-combined ∙ hc ∙ asked-of-combined)
       ∙ ap (bitXor (bitXor (askedBy asked a) (askedBy asked b))) hb
       ∙ xor-cancel-right (askedBy asked a) (askedBy asked b)

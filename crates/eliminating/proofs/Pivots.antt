@@ -8,7 +8,7 @@ use lib.Dec.{leb}
 use borrow.Author.Tests.{le-leb, lt-leb, leb-true}
 use native.Mathlib.Omega.{arith}
 use Rattle.octets.proofs.Laws.{below-or-not, same-or-not, true-or-false, and-left, and-right, and-both}
-use Rattle.linear.specs.First.{first}
+use Rattle.linear.specs.First.{firstPassing}
 use Rattle.linear.proofs.Laws.{first-passes, first-least, first-is}
 use Rattle.masks.specs.Promise.{HasTold}
 use Rattle.eliminating.specs.Rows.{tableRows, rowAt, columnsOf}
@@ -25,13 +25,13 @@ module _ (rows : List Row) (from c : ℕ) where
   unfolding pivotIn test
   pivot-low few =
       ⊎-elim
-      (λ below. leb-true from (first tableRows test) (and-left (leb from (first tableRows test)) _ (first-passes tableRows test below)))
+      (λ below. leb-true from (firstPassing tableRows test) (and-left (leb from (firstPassing tableRows test)) _ (first-passes tableRows test below)))
       (λ past. omega arith)
-      (below-or-not (first tableRows test) tableRows)
+      (below-or-not (firstPassing tableRows test) tableRows)
 
   pub pivot-has : pivotIn rows from c < tableRows → columnsOf rows (pivotIn rows from c) c ≡ true
   unfolding pivotIn test
-  pivot-has below = and-right (leb from (first tableRows test)) _ (first-passes tableRows test below)
+  pivot-has below = and-right (leb from (firstPassing tableRows test)) _ (first-passes tableRows test below)
 
   pub pivot-before : (i : ℕ) → from ≤ i → i < pivotIn rows from c → columnsOf rows i c ≡ false
   unfolding pivotIn test

@@ -7,7 +7,7 @@ use lib.Dec.{eqb}
 use borrow.Author.Tests.{eq-eqb, ne-eqb, lt-ltb, le-ltb}
 use native.Mathlib.Omega.{arith}
 use Rattle.octets.proofs.Laws.{below-or-not, same-or-not}
-use Rattle.masks.specs.Masks.{places, bit}
+use Rattle.masks.specs.Masks.{maskPlaces, hasPlace}
 use Rattle.masks.specs.Promise.{HasTold, OneMade}
 use Rattle.masks.proofs.Laws.{bit-power, no-bit}
 use Rattle.eliminating.specs.Rows.{tableRows, sourceIn, startRow}
@@ -15,46 +15,46 @@ use Rattle.eliminating.specs.Promise.{RowStarted, SourceTold}
 use Rattle.eliminating.specs.declared.Row.{Row}
 
 -- ---- equations below 64, and those from there on
-source-low : (row : Row) (e : ℕ) → e < places → sourceIn row e ≡ bit (row .low) e
+source-low : (row : Row) (e : ℕ) → e < maskPlaces → sourceIn row e ≡ hasPlace (row .low) e
 unfolding sourceIn
-source-low row e low = ap (λ (t : Bool). cond t (bit (row .low) e) (bit (row .high) (e - places))) (lt-ltb e places low)
+source-low row e low = ap (λ (t : Bool). cond t (hasPlace (row .low) e) (hasPlace (row .high) (e - maskPlaces))) (lt-ltb e maskPlaces low)
 
-source-high : (row : Row) (e : ℕ) → places ≤ e → sourceIn row e ≡ bit (row .high) (e - places)
+source-high : (row : Row) (e : ℕ) → maskPlaces ≤ e → sourceIn row e ≡ hasPlace (row .high) (e - maskPlaces)
 unfolding sourceIn
-source-high row e high = ap (λ (t : Bool). cond t (bit (row .low) e) (bit (row .high) (e - places))) (le-ltb e places high)
+source-high row e high = ap (λ (t : Bool). cond t (hasPlace (row .low) e) (hasPlace (row .high) (e - maskPlaces))) (le-ltb e maskPlaces high)
 
-pub told-low : {row : Row} {e : ℕ} {there : Bool} → e < places → HasTold (row .low) e there → SourceTold row e there
+pub told-low : {row : Row} {e : ℕ} {there : Bool} → e < maskPlaces → HasTold (row .low) e there → SourceTold row e there
 told-low {row} {e} low told = record { answer = told .answer ∙ sym (source-low row e low) }
 
-pub told-high : {row : Row} {e past : ℕ} {there : Bool} → places ≤ e → past ≡ e - places → HasTold (row .high) past there
+pub told-high : {row : Row} {e past : ℕ} {there : Bool} → maskPlaces ≤ e → past ≡ e - maskPlaces → HasTold (row .high) past there
     → SourceTold row e there
 told-high {row} {e} high ep told =
-    record { answer = told .answer ∙ ap (bit (row .high)) ep ∙ sym (source-high row e high) }
+    record { answer = told .answer ∙ ap (hasPlace (row .high)) ep ∙ sym (source-high row e high) }
 
 pub ruleset sources = (told-low, told-high)
 
 -- ---- equation e as a row of its own
-started-low : (mask e : ℕ) → e < places → startRow mask e ≡ record { mask = mask; low = 2 ^ e; high = 0 }
+started-low : (mask e : ℕ) → e < maskPlaces → startRow mask e ≡ record { mask = mask; low = 2 ^ e; high = 0 }
 unfolding startRow
 started-low mask e small =
     ap
     (λ (t : Bool).
-    cond t (record { mask = mask; low = 2 ^ e; high = 0 }) (record { mask = mask; low = 0; high = 2 ^ (e - places) }))
-    (lt-ltb e places small)
+    cond t (record { mask = mask; low = 2 ^ e; high = 0 }) (record { mask = mask; low = 0; high = 2 ^ (e - maskPlaces) }))
+    (lt-ltb e maskPlaces small)
 
-started-high : (mask e : ℕ) → places ≤ e → startRow mask e ≡ record { mask = mask; low = 0; high = 2 ^ (e - places) }
+started-high : (mask e : ℕ) → maskPlaces ≤ e → startRow mask e ≡ record { mask = mask; low = 0; high = 2 ^ (e - maskPlaces) }
 unfolding startRow
 started-high mask e large =
     ap
     (λ (t : Bool).
-    cond t (record { mask = mask; low = 2 ^ e; high = 0 }) (record { mask = mask; low = 0; high = 2 ^ (e - places) }))
-    (le-ltb e places large)
+    cond t (record { mask = mask; low = 2 ^ e; high = 0 }) (record { mask = mask; low = 0; high = 2 ^ (e - maskPlaces) }))
+    (le-ltb e maskPlaces large)
 
-pub start-low : {mask e low : ℕ} → e < places → OneMade e low → RowStarted mask e (record { mask = mask; low = low; high = 0 })
+pub start-low : {mask e low : ℕ} → e < maskPlaces → OneMade e low → RowStarted mask e (record { mask = mask; low = low; high = 0 })
 start-low {mask} {e} small made =
     record { answer = ap (λ (x : ℕ). record { mask = mask; low = x; high = 0 }) (made .answer) ∙ sym (started-low mask e small) }
 
-pub start-high : {mask e past high : ℕ} → places ≤ e → past ≡ e - places → OneMade past high
+pub start-high : {mask e past high : ℕ} → maskPlaces ≤ e → past ≡ e - maskPlaces → OneMade past high
     → RowStarted mask e (record { mask = mask; low = 0; high = high })
 start-high {mask} {e} large ep made =
     record {
@@ -69,32 +69,32 @@ pub ruleset starts = (start-low, start-high)
 pub start-mask : (mask e : ℕ) → (startRow mask e) .mask ≡ mask
 start-mask mask e =
     ⊎-elim (λ small. ap (λ (r : Row). r .mask) (started-low mask e small)) (λ large. ap (λ (r : Row). r .mask) (started-high mask e large))
-    (below-or-not e places)
+    (below-or-not e maskPlaces)
 
-low-bits : (mask e f : ℕ) → f < places → bit ((startRow mask e) .low) f ≡ eqb f e
+low-bits : (mask e f : ℕ) → f < maskPlaces → hasPlace ((startRow mask e) .low) f ≡ eqb f e
 low-bits mask e f low =
-    ⊎-elim (λ small. ap (λ (r : Row). bit (r .low) f) (started-low mask e small) ∙ bit-power e f small low)
+    ⊎-elim (λ small. ap (λ (r : Row). hasPlace (r .low) f) (started-low mask e small) ∙ bit-power e f small low)
     (λ large.
-    ap (λ (r : Row). bit (r .low) f) (started-high mask e large) ∙ no-bit f ∙ sym (ne-eqb f e (λ same. omega arith)))
-    (below-or-not e places)
+    ap (λ (r : Row). hasPlace (r .low) f) (started-high mask e large) ∙ no-bit f ∙ sym (ne-eqb f e (λ same. omega arith)))
+    (below-or-not e maskPlaces)
 
-high-bits : (mask e f : ℕ) → e < tableRows → f < tableRows → places ≤ f → bit ((startRow mask e) .high) (f - places) ≡ eqb f e
+high-bits : (mask e f : ℕ) → e < tableRows → f < tableRows → maskPlaces ≤ f → hasPlace ((startRow mask e) .high) (f - maskPlaces) ≡ eqb f e
 high-bits mask e f inside below high =
     ⊎-elim
     (λ small.
-    ap (λ (r : Row). bit (r .high) (f - places)) (started-low mask e small)
-    ∙ no-bit (f - places)
+    ap (λ (r : Row). hasPlace (r .high) (f - maskPlaces)) (started-low mask e small)
+    ∙ no-bit (f - maskPlaces)
     ∙ sym (ne-eqb f e (λ same. omega arith)))
     (λ large.
-    ap (λ (r : Row). bit (r .high) (f - places)) (started-high mask e large)
-    ∙ bit-power (e - places) (f - places) (omega arith) (omega arith)
-    ∙ ⊎-elim (λ same. eq-eqb (f - places) (e - places) (omega arith) ∙ sym (eq-eqb f e same))
-    (λ apart. ne-eqb (f - places) (e - places) (λ h. apart (omega arith)) ∙ sym (ne-eqb f e apart))
+    ap (λ (r : Row). hasPlace (r .high) (f - maskPlaces)) (started-high mask e large)
+    ∙ bit-power (e - maskPlaces) (f - maskPlaces) (omega arith) (omega arith)
+    ∙ ⊎-elim (λ same. eq-eqb (f - maskPlaces) (e - maskPlaces) (omega arith) ∙ sym (eq-eqb f e same))
+    (λ apart. ne-eqb (f - maskPlaces) (e - maskPlaces) (λ h. apart (omega arith)) ∙ sym (ne-eqb f e apart))
     (same-or-not f e))
-    (below-or-not e places)
+    (below-or-not e maskPlaces)
 
 pub start-source : (mask e f : ℕ) → e < tableRows → f < tableRows → sourceIn (startRow mask e) f ≡ eqb f e
 start-source mask e f inside below =
     ⊎-elim (λ low. source-low (startRow mask e) f low ∙ low-bits mask e f low)
     (λ high. source-high (startRow mask e) f high ∙ high-bits mask e f inside below high)
-    (below-or-not f places)
+    (below-or-not f maskPlaces)

@@ -11,7 +11,7 @@ use borrow.Author.Tests.{ltb-true, ltb-false}
 use native.Mathlib.Omega.{arith}
 use Rattle.octets.proofs.Laws.{below-or-not, same-or-not}
 use Rattle.linear.specs.Systems.{Owns, Reduced}
-use Rattle.masks.specs.Masks.{bit}
+use Rattle.masks.specs.Masks.{hasPlace}
 use Rattle.eliminating.specs.Rows.{tableRows, columns, columnsOf, AllHold}
 use Rattle.eliminating.specs.Eliminated.{pivotIn, swappedRows, clearedRows, eliminatedF, eliminated}
 use Rattle.eliminating.specs.declared.Row.{Row}
@@ -52,11 +52,11 @@ swapped-keeps rows table rank next at s low high =
             inside = t .1 .inside;
             alone = record {
               has =
-                  ap (λ (r : Row). bit (r .mask) (t .0)) (swapped-other table at rank (s .long) high inside i (omega arith) (omega arith))
+                  ap (λ (r : Row). hasPlace (r .mask) (t .0)) (swapped-other table at rank (s .long) high inside i (omega arith) (omega arith))
                   ∙ t .1 .alone .has;
               others = λ j small other.
                   let st = stood table at rank (s .long) high inside j small in
-                  ap (λ (r : Row). bit (r .mask) (t .0)) (st .row)
+                  ap (λ (r : Row). hasPlace (r .mask) (t .0)) (st .row)
                   ∙ t .1 .alone .others (st .place) (st .inside) (apart j other (st .place) (st .moved));
             };
           },
@@ -71,7 +71,7 @@ swapped-keeps rows table rank next at s low high =
     clear : (i : ℕ) → rank ≤ i → i < tableRows → (c : ℕ) → c < next → columnsOf (swappedRows table at rank) i c ≡ false
     clear i least below c passed =
         let st = stood table at rank (s .long) high inside i below in
-        ap (λ (r : Row). bit (r .mask) c) (st .row)
+        ap (λ (r : Row). hasPlace (r .mask) c) (st .row)
         ∙ s .clear (st .place) (later (st .place) (st .moved)) (st .inside) c passed
       where
         later : (place : ℕ) → ((i ≡ at) × (place ≡ rank)) ⊎ (((i ≡ rank) × (place ≡ at)) ⊎ (place ≡ i)) → rank ≤ place
@@ -100,7 +100,7 @@ cleared-keeps rows table rank next s inside column has =
           alone = record {
             has =
                 ap (λ (k : ℕ). columnsOf (clearedRows table rank next) k next) same
-                ∙ ap (λ (r : Row). bit (r .mask) next) (cleared-own table rank next inside)
+                ∙ ap (λ (r : Row). hasPlace (r .mask) next) (cleared-own table rank next inside)
                 ∙ has;
             others = λ j below other. cleared-gone table rank next has j below (λ e. other (e ∙ sym same));
           };
@@ -139,7 +139,7 @@ underway-turn {rows} {table} {rank} {next} s column inside =
     let small : rank < tableRows = omega arith in
     cleared-keeps rows (swappedRows table (pivotIn table rank next) rank) rank next
     (swapped-keeps rows table rank next (pivotIn table rank next) s low inside) small column
-    (ap (λ (r : Row). bit (r .mask) next) (swapped-second table (pivotIn table rank next) rank (s .long) inside small)
+    (ap (λ (r : Row). hasPlace (r .mask) next) (swapped-second table (pivotIn table rank next) rank (s .long) inside small)
     ∙ pivot-has table rank next inside)
 
 underway-none : {rows table : List Row} {rank next : ℕ} → Underway rows table rank next → tableRows ≤ pivotIn table rank next

@@ -6,7 +6,7 @@ use mathlib.Core.List.{List}
 use lib.ListN.{length, set, length-set}
 use lib.Seq.{getD-set-same, getD-set-other}
 use Rattle.octets.proofs.Laws.{same-or-not}
-use Rattle.eliminating.specs.Rows.{tableRows, noRow, rowAt, Holds, AllHold}
+use Rattle.eliminating.specs.Rows.{tableRows, noRow, rowAt, RowHolds, AllHold}
 use Rattle.eliminating.specs.Eliminated.{swappedRows}
 use Rattle.eliminating.specs.declared.Row.{Row}
 
@@ -80,6 +80,6 @@ module _ (rows : List Row) (a b : ℕ) (long : length rows ≡ tableRows) (ha : 
 
   pub same-swapped : (asked values : ℕ → ℕ) → AllHold asked values rows ↔ AllHold asked values (swappedRows rows a b)
   same-swapped asked values = (
-    λ all j below. let s = stood j below in subst (Holds asked values) (sym (s .row)) (all (s .place) (s .inside)),
-    λ all j below. let s = stood j below in subst (Holds asked values) (s .back) (all (s .place) (s .inside)),
+    λ all j below. let s = stood j below in subst (RowHolds asked values) (sym (s .row)) (all (s .place) (s .inside)),
+    λ all j below. let s = stood j below in subst (RowHolds asked values) (s .back) (all (s .place) (s .inside)),
   )

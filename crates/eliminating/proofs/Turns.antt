@@ -12,7 +12,7 @@ use borrow.Author.Tests.{lt-ltb, le-ltb}
 use native.Mathlib.Omega.{arith}
 use Rattle.octets.specs.Place.{tab}
 use Rattle.octets.proofs.Laws.{tab-at, length-tab, same-or-not}
-use Rattle.masks.specs.Masks.{bit}
+use Rattle.masks.specs.Masks.{hasPlace}
 use Rattle.masks.specs.Promise.{HasTold}
 use Rattle.eliminating.specs.Rows.{tableRows, columns, noRow, rowAt}
 use Rattle.eliminating.specs.Eliminated.{combinedRow, pivotIn, swappedRows, clearedRow, clearedRows, eliminatedF, eliminated}
@@ -48,7 +48,7 @@ clear-combined {row} {own} {sum} {c} e told has made =
       answer =
           made .answer
           ∙ sym
-          (ap (λ (t : Bool). cond t row (cond (bit (row .mask) c) (combinedRow row own) row)) e
+          (ap (λ (t : Bool). cond t row (cond (hasPlace (row .mask) c) (combinedRow row own) row)) e
           ∙ ap (λ (t : Bool). cond t (combinedRow row own) row) (sym (told .answer) ∙ has));
     }
 
@@ -59,7 +59,7 @@ clear-other own {row} {c} e told has =
     record {
       answer =
           sym
-          (ap (λ (t : Bool). cond t row (cond (bit (row .mask) c) (combinedRow row own) row)) e
+          (ap (λ (t : Bool). cond t row (cond (hasPlace (row .mask) c) (combinedRow row own) row)) e
           ∙ ap (λ (t : Bool). cond t (combinedRow row own) row) (sym (told .answer) ∙ has));
     }
 

@@ -7,8 +7,8 @@ use lib.ListN.{set}
 use lib.Bits.{bitXor}
 use lib.Dec.{eqb, leb, ltb}
 use Rattle.octets.specs.Place.{tab}
-use Rattle.linear.specs.First.{first}
-use Rattle.masks.specs.Masks.{bit}
+use Rattle.linear.specs.First.{firstPassing}
+use Rattle.masks.specs.Masks.{hasPlace}
 use Rattle.eliminating.specs.Rows.{tableRows, columns, rowAt, columnsOf}
 use Rattle.eliminating.specs.declared.Row.{Row}
 
@@ -18,14 +18,14 @@ combinedRow a b = record { mask = bitXor (a .mask) (b .mask); low = bitXor (a .l
 
 -- the first row from `from` on that has column c; `tableRows` where none has
 unfoldable pub pivotIn : List Row → ℕ → ℕ → ℕ
-pivotIn rows from c = first tableRows (λ i. leb from i && columnsOf rows i c)
+pivotIn rows from c = firstPassing tableRows (λ i. leb from i && columnsOf rows i c)
 
 unfoldable pub swappedRows : List Row → ℕ → ℕ → List Row
 swappedRows rows a b = set (set rows a (rowAt rows b)) b (rowAt rows a)
 
 -- a row with column c taken out by the row that keeps it; that row itself stays
 unfoldable pub clearedRow : Row → Row → ℕ → Bool → Row
-clearedRow row own c keeps = cond keeps row (cond (bit (row .mask) c) (combinedRow row own) row)
+clearedRow row own c keeps = cond keeps row (cond (hasPlace (row .mask) c) (combinedRow row own) row)
 
 -- every row so, but the one at `at`, which keeps the column
 unfoldable pub clearedRows : List Row → ℕ → ℕ → List Row

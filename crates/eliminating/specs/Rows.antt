@@ -8,7 +8,7 @@ use mathlib.Core.List.{List}
 use lib.ListN.{getD}
 use lib.Dec.{ltb}
 use Rattle.linear.specs.Sums.{sumOver}
-use Rattle.masks.specs.Masks.{places, bit}
+use Rattle.masks.specs.Masks.{maskPlaces, hasPlace}
 use Rattle.eliminating.specs.declared.Row.{Row}
 
 abbrev pub tableRows : ℕ
@@ -16,7 +16,7 @@ tableRows = 128
 
 -- a row's columns are the places of a mask
 abbrev pub columns : ℕ
-columns = places
+columns = maskPlaces
 
 abbrev pub noRow : Row
 noRow = record { mask = 0; low = 0; high = 0 }
@@ -26,24 +26,24 @@ rowAt rows i = getD rows i noRow
 
 -- row i has column c
 abbrev pub columnsOf : List Row → ℕ → ℕ → Bool
-columnsOf rows i c = bit ((rowAt rows i) .mask) c
+columnsOf rows i c = hasPlace ((rowAt rows i) .mask) c
 
 -- equation e is in the row's sum
 unfoldable pub sourceIn : Row → ℕ → Bool
-sourceIn row e = cond (ltb e places) (bit (row .low) e) (bit (row .high) (e - places))
+sourceIn row e = cond (ltb e maskPlaces) (hasPlace (row .low) e) (hasPlace (row .high) (e - maskPlaces))
 
 -- equation e as a row of its own
 unfoldable pub startRow : ℕ → ℕ → Row
 startRow mask e =
-    cond (ltb e places) (record { mask = mask; low = 2 ^ e; high = 0 }) (record { mask = mask; low = 0; high = 2 ^ (e - places) })
+    cond (ltb e maskPlaces) (record { mask = mask; low = 2 ^ e; high = 0 }) (record { mask = mask; low = 0; high = 2 ^ (e - maskPlaces) })
 
 -- what is asked of a row, where equation e asks for `asked e`
 unfoldable pub askedBy : (ℕ → ℕ) → Row → ℕ
 askedBy asked row = sumOver tableRows (sourceIn row) asked
 
 -- the values satisfy the row, or all rows of the table
-abbrev pub Holds : (ℕ → ℕ) → (ℕ → ℕ) → Row → Type 0
-Holds asked values row = sumOver columns (bit (row .mask)) values ≡ askedBy asked row
+abbrev pub RowHolds : (ℕ → ℕ) → (ℕ → ℕ) → Row → Type 0
+RowHolds asked values row = sumOver columns (hasPlace (row .mask)) values ≡ askedBy asked row
 
 abbrev pub AllHold : (ℕ → ℕ) → (ℕ → ℕ) → List Row → Type 0
-AllHold asked values rows = (i : ℕ) → i < tableRows → Holds asked values (rowAt rows i)
+AllHold asked values rows = (i : ℕ) → i < tableRows → RowHolds asked values (rowAt rows i)

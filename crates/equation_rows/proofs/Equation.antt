@@ -45,7 +45,7 @@ module _ (base : ℕ) {e distance index near at slot count : ℕ} {t : List ℕ}
     from-is : from ≡ keptBefore + distance + index
     from-is = omega arith
 
-    pub back-fits : (n * m ≤ from) × (from < masks.places + m)
+    pub back-fits : (n * m ≤ from) × (from < masks.maskPlaces + m)
     back-fits =
         (rw (n-is, m-is) (omega (arith, reach-near s base distance, from-is)), omega (arith, from-is, close, low))
 

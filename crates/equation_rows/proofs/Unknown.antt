@@ -65,5 +65,5 @@ unknown-turn {base} {t} {mask} {p} {ahead} {near} {number} {slot} {single} {plac
 pub unknown-done : {base : ℕ} {t : List ℕ} {mask p : ℕ} → UnknownTo base t mask p → slotsKept ≤ p → UnknownMade base t mask
 unfolding unknownMask
 unknown-done {base} {t} {mask} {p} u all =
-    let e : p ≡ masks.places = omega (arith, u .few) in
+    let e : p ≡ masks.maskPlaces = omega (arith, u .few) in
     record { answer = λ o. u .made o ∙ ap (λ (n : ℕ). sumOver n (unknownAt (cellsOf base t o)) (λ q. 2 ^ q)) e }

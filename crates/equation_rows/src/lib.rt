@@ -15,7 +15,7 @@ ghost use Rattle.equation_rows.specs.Promise.{OneUnless, UnknownMade, Eq
 
 // The mask of a place, unless it is known.
 fn one_unless(known: bool, place: u64) -> u64
-    requires { ⌜ place < masks.places ⌝ }
+    requires { ⌜ place < masks.maskPlaces ⌝ }
     ensures { λ r. ⌜ OneUnless known place r ⌝ }
 {
     if known {

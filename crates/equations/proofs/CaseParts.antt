@@ -7,7 +7,7 @@ use mathlib.Core.List.{List, [], _∷_, map, List·Memᴰ as Among, List·Memᴰ
 use lib.ListN.{length, getD}
 use Rattle.octets.specs.ExclusiveOr.{exclusiveOr}
 use Rattle.datagrams.specs.Sizes.{packetLimit}
-use Rattle.masks.specs.Masks.{places}
+use Rattle.masks.specs.Masks.{maskPlaces}
 use Rattle.views.specs.Cells.{Cell, filledCell, repaired, cellAt}
 use Rattle.views.specs.Repair.{Message}
 use Rattle.views.specs.Reached.{Known, Unknown}
@@ -30,10 +30,10 @@ abbrev pub Satisfied : List (List ℕ) → Message → Type 0
 Satisfied octets message = exclusiveOr packetLimit (map (given octets) (message .members)) ≡ padded (message .octets)
 
 abbrev pub Within : Message → Type 0
-Within message = (q : ℕ) → Among q (message .members) → q < places
+Within message = (q : ℕ) → Among q (message .members) → q < maskPlaces
 
 abbrev pub Small : ℕ → Type 0
-Small q = q < places
+Small q = q < maskPlaces
 
 -- what a case says of an unknown number: it has one value, the given one; or it has not, and stays
 abbrev pub Told : List Cell → List Message → List Cell → (ℕ → List ℕ) → ℕ → Type 0

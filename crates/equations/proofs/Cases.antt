@@ -10,14 +10,14 @@ use native.Mathlib.Omega.{arith}
 use Rattle.octets.specs.Place.{tab}
 use Rattle.octets.specs.ExclusiveOr.{xorAt, exclusiveOr}
 use Rattle.datagrams.specs.Sizes.{packetLimit}
-use Rattle.masks.specs.Masks.{places, maskOf}
+use Rattle.masks.specs.Masks.{maskPlaces, maskOf}
 use Rattle.views.specs.Cells.{Cell, unknownCell, unknownAt, cellAt}
 use Rattle.views.specs.Repair.{Message, passing}
 use Rattle.views.specs.Reached.{Known, Unknown}
 use Rattle.equations.specs.Equations.{padded, Solution, Unsolvable}
 use Rattle.equations.specs.Solved.{Solved}
 use Rattle.equations.specs.Claims.{unknownIn, Together}
-use Rattle.equations.specs.Cases.{over, came, fixed, Cases}
+use Rattle.equations.specs.Cases.{overPlaces, cameWith, fixed, Cases}
 use Rattle.equations.proofs.Padded.{length-padded, known-at, equation-at}
 use Rattle.equations.proofs.Together.{together-one}
 use Rattle.equations.proofs.CaseParts.{given, none-of, each, Satisfied, Within, Small, Told, solved-by}
@@ -25,7 +25,7 @@ use Rattle.equations.proofs.FilledCases.{three-together, two-values, kn
 
 -- ---- an empty message
 abbrev nothing-said : Message
-nothing-said = over (0 ∷ []) []
+nothing-said = overPlaces (0 ∷ []) []
 
 empty-solution : Solution (unknownCell ∷ []) (nothing-said ∷ []) (given [])
 unfolding padded exclusiveOr xorAt tab
@@ -48,7 +48,7 @@ empty-message = solved-by (unknownCell ∷ []) (nothing-said ∷ []) _ (given []
     kept zero k = absurd (false≢true (sym k))
     kept (suc p) k = refl
 
-    within : (message : Message) (q : ℕ) → Among message (nothing-said ∷ []) → Among q (message .members) → q < places
+    within : (message : Message) (q : ℕ) → Among message (nothing-said ∷ []) → Among q (message .members) → q < maskPlaces
     within message q m = each Within nothing-said [] (each Small 0 [] (omega arith) (none-of Small)) (none-of Within) message m q
 
     told : (p : ℕ) → Unknown (unknownCell ∷ []) p → Told (unknownCell ∷ []) (nothing-said ∷ []) (fixed [] ∷ []) (given []) p
@@ -63,21 +63,21 @@ empty-message = solved-by (unknownCell ∷ []) (nothing-said ∷ []) _ (given []
 -- ---- nothing satisfies them
 -- a message over a known number alone is that number
 alone-fits : (octets message : List ℕ) (k : ℕ) → k < packetLimit → (x : ℕ → List ℕ)
-    → Solution (came octets ∷ []) (over (0 ∷ []) message ∷ []) x → getD octets k 0 ≡ getD message k 0
+    → Solution (cameWith octets ∷ []) (overPlaces (0 ∷ []) message ∷ []) x → getD octets k 0 ≡ getD message k 0
 unfolding xorAt
 alone-fits octets message k inside x s =
-    sym (known-at s 0 k inside refl) ∙ sym (xor-zero-r (getD (x 0) k 0)) ∙ equation-at s (over (0 ∷ []) message) (here refl) k inside
+    sym (known-at s 0 k inside refl) ∙ sym (xor-zero-r (getD (x 0) k 0)) ∙ equation-at s (overPlaces (0 ∷ []) message) (here refl) k inside
 
-misfit : Unsolvable (came (0x01 ∷ []) ∷ []) (over (0 ∷ []) (0x02 ∷ []) ∷ [])
+misfit : Unsolvable (cameWith (0x01 ∷ []) ∷ []) (overPlaces (0 ∷ []) (0x02 ∷ []) ∷ [])
 misfit x s = let e = alone-fits (0x01 ∷ []) (0x02 ∷ []) 0 (omega arith) x s in omega arith
 
-cut-short : Unsolvable (came (0xAA ∷ 0xBB ∷ []) ∷ []) (over (0 ∷ []) (0xAA ∷ []) ∷ [])
+cut-short : Unsolvable (cameWith (0xAA ∷ 0xBB ∷ []) ∷ []) (overPlaces (0 ∷ []) (0xAA ∷ []) ∷ [])
 cut-short x s = let e = alone-fits (0xAA ∷ 0xBB ∷ []) (0xAA ∷ []) 1 (omega arith) x s in omega arith
 
-differ : Unsolvable (unknownCell ∷ unknownCell ∷ []) (over (0 ∷ 1 ∷ []) (0x01 ∷ []) ∷ over (0 ∷ 1 ∷ []) (0x02 ∷ []) ∷ [])
+differ : Unsolvable (unknownCell ∷ unknownCell ∷ []) (overPlaces (0 ∷ 1 ∷ []) (0x01 ∷ []) ∷ overPlaces (0 ∷ 1 ∷ []) (0x02 ∷ []) ∷ [])
 differ x s =
-    let first = equation-at s (over (0 ∷ 1 ∷ []) (0x01 ∷ [])) (here refl) 0 (omega arith) in
-    let second = equation-at s (over (0 ∷ 1 ∷ []) (0x02 ∷ [])) (further (here refl)) 0 (omega arith) in
+    let first = equation-at s (overPlaces (0 ∷ 1 ∷ []) (0x01 ∷ [])) (here refl) 0 (omega arith) in
+    let second = equation-at s (overPlaces (0 ∷ 1 ∷ []) (0x02 ∷ [])) (further (here refl)) 0 (omega arith) in
     let e = sym first ∙ second in
     omega arith
 

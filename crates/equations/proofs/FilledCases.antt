@@ -9,14 +9,14 @@ use lib.ListN.{getD}
 use native.Mathlib.Omega.{arith}
 use Rattle.octets.specs.Place.{tab}
 use Rattle.octets.specs.ExclusiveOr.{xorAt, exclusiveOr}
-use Rattle.masks.specs.Masks.{places, maskOf}
+use Rattle.masks.specs.Masks.{maskPlaces, maskOf}
 use Rattle.views.specs.Cells.{Cell, unknownCell, cellAt}
 use Rattle.views.specs.Repair.{Message, passing}
 use Rattle.views.specs.Reached.{Known, Unknown}
 use Rattle.equations.specs.Equations.{padded, Solution, OneValue}
 use Rattle.equations.specs.Solved.{Solved}
 use Rattle.equations.specs.Claims.{unknownIn, Together}
-use Rattle.equations.specs.Cases.{over, came, fixed}
+use Rattle.equations.specs.Cases.{overPlaces, cameWith, fixed}
 use Rattle.equations.proofs.Padded.{length-padded}
 use Rattle.equations.proofs.Together.{together-one}
 use Rattle.equations.proofs.CaseParts.{given, none-of, each, Satisfied, Within, Small, Told, solved-by, two-differ}
@@ -26,13 +26,13 @@ abbrev three : List Cell
 three = unknownCell ∷ unknownCell ∷ unknownCell ∷ []
 
 abbrev a-b : Message
-a-b = over (0 ∷ 1 ∷ []) (0x03 ∷ [])
+a-b = overPlaces (0 ∷ 1 ∷ []) (0x03 ∷ [])
 
 abbrev b-c : Message
-b-c = over (1 ∷ 2 ∷ []) (0x06 ∷ [])
+b-c = overPlaces (1 ∷ 2 ∷ []) (0x06 ∷ [])
 
 abbrev a-b-c : Message
-a-b-c = over (0 ∷ 1 ∷ 2 ∷ []) (0x07 ∷ [])
+a-b-c = overPlaces (0 ∷ 1 ∷ 2 ∷ []) (0x07 ∷ [])
 
 abbrev threeMessages : List Message
 threeMessages = a-b ∷ b-c ∷ a-b-c ∷ []
@@ -58,7 +58,7 @@ three-solution =
     known (suc (suc zero)) k = absurd (false≢true (sym k))
     known (suc (suc (suc p))) k = refl
 
-three-within : (message : Message) (q : ℕ) → Among message threeMessages → Among q (message .members) → q < places
+three-within : (message : Message) (q : ℕ) → Among message threeMessages → Among q (message .members) → q < maskPlaces
 three-within message q m =
     each Within a-b (b-c ∷ a-b-c ∷ []) (each Small 0 (1 ∷ []) (omega arith) (each Small 1 [] (omega arith) (none-of Small)))
     (each Within b-c (a-b-c ∷ []) (each Small 1 (2 ∷ []) (omega arith) (each Small 2 [] (omega arith) (none-of Small)))
@@ -81,7 +81,7 @@ three-together =
     kept (suc (suc zero)) k = absurd (false≢true (sym k))
     kept (suc (suc (suc p))) k = refl
 
-    one : (p : ℕ) → p < places → Together three threeMessages p → OneValue three threeMessages p
+    one : (p : ℕ) → p < maskPlaces → Together three threeMessages p → OneValue three threeMessages p
     one p small = together-one three threeMessages p small three-within
 
     first : Among a-b threeMessages
@@ -172,7 +172,7 @@ two-values =
 
 -- ---- a known number stays
 abbrev oneKnown : List Cell
-oneKnown = came (0x01 ∷ []) ∷ unknownCell ∷ []
+oneKnown = cameWith (0x01 ∷ []) ∷ unknownCell ∷ []
 
 abbrev oneGiven : List (List ℕ)
 oneGiven = (0x01 ∷ []) ∷ (0x02 ∷ []) ∷ []
@@ -191,23 +191,23 @@ known-solution =
     known (suc zero) k = absurd (false≢true (sym k))
     known (suc (suc p)) k = refl
 
-pub known-stays : Solved oneKnown (a-b ∷ []) (came (0x01 ∷ []) ∷ fixed (0x02 ∷ []) ∷ [])
+pub known-stays : Solved oneKnown (a-b ∷ []) (cameWith (0x01 ∷ []) ∷ fixed (0x02 ∷ []) ∷ [])
 unfolding unknownIn passing maskOf
 known-stays = solved-by oneKnown (a-b ∷ []) _ (given oneGiven) known-solution refl kept told
   where
-    kept : (p : ℕ) → Known oneKnown p → cellAt (came (0x01 ∷ []) ∷ fixed (0x02 ∷ []) ∷ []) p ≡ cellAt oneKnown p
+    kept : (p : ℕ) → Known oneKnown p → cellAt (cameWith (0x01 ∷ []) ∷ fixed (0x02 ∷ []) ∷ []) p ≡ cellAt oneKnown p
     kept zero k = refl
     kept (suc zero) k = absurd (false≢true (sym k))
     kept (suc (suc p)) k = refl
 
-    within : (message : Message) (q : ℕ) → Among message (a-b ∷ []) → Among q (message .members) → q < places
+    within : (message : Message) (q : ℕ) → Among message (a-b ∷ []) → Among q (message .members) → q < maskPlaces
     within message q m =
         each Within a-b [] (each Small 0 (1 ∷ []) (omega arith) (each Small 1 [] (omega arith) (none-of Small))) (none-of Within) message
         m
         q
 
     told : (p : ℕ) → Unknown oneKnown p
-        → Told oneKnown (a-b ∷ []) (came (0x01 ∷ []) ∷ fixed (0x02 ∷ []) ∷ []) (given oneGiven) p
+        → Told oneKnown (a-b ∷ []) (cameWith (0x01 ∷ []) ∷ fixed (0x02 ∷ []) ∷ []) (given oneGiven) p
     told zero u = absurd (false≢true u)
     told (suc zero) u =
         inl (

@@ -16,7 +16,7 @@ use Rattle.octets.specs.ExclusiveOr.{xorAt}
 use Rattle.octets.proofs.Laws.{xor-assoc, xor-cancel-right, xorAt-same}
 use Rattle.datagrams.specs.Sizes.{packetLimit}
 use Rattle.linear.specs.Sums.{sumOver}
-use Rattle.masks.specs.Masks.{places, bit, maskOf}
+use Rattle.masks.specs.Masks.{maskPlaces, hasPlace, maskOf}
 use Rattle.masks.proofs.Laws.{sum-mask}
 use Rattle.views.specs.Cells.{Cell, cellAt, unknownAt}
 use Rattle.views.specs.Repair.{Message, unknownMembers, otherMembers}
@@ -65,8 +65,8 @@ module _ {cells : List Cell} {messages : List Message} {x y : ℕ → List ℕ} 
 
 -- their members are in view
 chosen-inside : (cells : List Cell) (chosen : List Message)
-    → ((message : Message) (p : ℕ) → Among message chosen → Among p (message .members) → p < places)
-    → (p : ℕ) → Among p (unknownIn cells chosen) → p < places
+    → ((message : Message) (p : ℕ) → Among message chosen → Among p (message .members) → p < maskPlaces)
+    → (p : ℕ) → Among p (unknownIn cells chosen) → p < maskPlaces
 unfolding unknownIn
 chosen-inside cells [] inside p m = absurd (List·Memᴰ·not-nil m)
 chosen-inside cells (message ∷ more) inside p m =
@@ -74,8 +74,8 @@ chosen-inside cells (message ∷ more) inside p m =
     (chosen-inside cells more (λ other q there. inside other q (further there)) p)
     (List·Memᴰ·append-cases (unknownMembers cells message) m)
 
-pub together-one : (cells : List Cell) (messages : List Message) (p : ℕ) → p < places
-    → ((message : Message) (q : ℕ) → Among message messages → Among q (message .members) → q < places)
+pub together-one : (cells : List Cell) (messages : List Message) (p : ℕ) → p < maskPlaces
+    → ((message : Message) (q : ℕ) → Among message messages → Among q (message .members) → q < maskPlaces)
     → Together cells messages p → OneValue cells messages p
 unfolding xorAt
 together-one cells messages p small inside t x y sx sy =
@@ -84,7 +84,7 @@ together-one cells messages p small inside t x y sx sy =
     let low : k < packetLimit = omega (arith, sx .long p) in
     sym (alone x k) ∙ unknown-same sx sy k low (t .chosen) (t .held) ∙ alone y k)
   where
-    ap-less : {q : ℕ} → q ≡ p → q < places
+    ap-less : {q : ℕ} → q ≡ p → q < maskPlaces
     ap-less e = rw e small
 
     alone : (z : ℕ → List ℕ) (k : ℕ) → xorAt (map z (unknownIn cells (t .chosen))) k ≡ getD (z p) k 0
@@ -92,6 +92,6 @@ together-one cells messages p small inside t x y sx sy =
         sym
         (sum-mask z k (unknownIn cells (t .chosen))
         (chosen-inside cells (t .chosen) (λ message q m. inside message q (t .held message m))))
-        ∙ ap (λ (mask : ℕ). sumOver places (bit mask) (λ q. getD (z q) k 0)) (t .alone)
+        ∙ ap (λ (mask : ℕ). sumOver maskPlaces (hasPlace mask) (λ q. getD (z q) k 0)) (t .alone)
         ∙ sum-mask z k (p ∷ []) (λ q m. ap-less (List·Memᴰ·eq-of-singleton m))
         ∙ xor-zero-r (getD (z p) k 0)

@@ -7,11 +7,11 @@ use Rattle.equations.specs.Equations.{padded, Unsolvable}
 use Rattle.equations.specs.Solved.{Solved}
 
 -- a message over some places; a number that came; one that the call fills
-abbrev pub over : List ℕ → List ℕ → Message
-over members octets = record { members = members; octets = octets }
+abbrev pub overPlaces : List ℕ → List ℕ → Message
+overPlaces members octets = record { members = members; octets = octets }
 
-abbrev pub came : List ℕ → Cell
-came octets = filledCell 0 received octets
+abbrev pub cameWith : List ℕ → Cell
+cameWith octets = filledCell 0 received octets
 
 abbrev pub fixed : List ℕ → Cell
 fixed octets = filledCell 0 repaired (padded octets)
@@ -19,18 +19,18 @@ fixed octets = filledCell 0 repaired (padded octets)
 pub record Cases : Type 0 where
   -- two numbers are missing in every message or more, yet the messages together fix them
   pub three-together : Solved (unknownCell ∷ unknownCell ∷ unknownCell ∷ [])
-      (over (0 ∷ 1 ∷ []) (0x03 ∷ []) ∷ over (1 ∷ 2 ∷ []) (0x06 ∷ []) ∷ over (0 ∷ 1 ∷ 2 ∷ []) (0x07 ∷ []) ∷ [])
+      (overPlaces (0 ∷ 1 ∷ []) (0x03 ∷ []) ∷ overPlaces (1 ∷ 2 ∷ []) (0x06 ∷ []) ∷ overPlaces (0 ∷ 1 ∷ 2 ∷ []) (0x07 ∷ []) ∷ [])
       (fixed (0x01 ∷ []) ∷ fixed (0x02 ∷ []) ∷ fixed (0x04 ∷ []) ∷ [])
   -- one message over two of them leaves both as they are
-  pub two-values : Solved (unknownCell ∷ unknownCell ∷ []) (over (0 ∷ 1 ∷ []) (0x03 ∷ []) ∷ []) (unknownCell ∷ unknownCell ∷ [])
+  pub two-values : Solved (unknownCell ∷ unknownCell ∷ []) (overPlaces (0 ∷ 1 ∷ []) (0x03 ∷ []) ∷ []) (unknownCell ∷ unknownCell ∷ [])
   -- a known number stays as it is, however long
-  pub known-stays : Solved (came (0x01 ∷ []) ∷ unknownCell ∷ []) (over (0 ∷ 1 ∷ []) (0x03 ∷ []) ∷ [])
-      (came (0x01 ∷ []) ∷ fixed (0x02 ∷ []) ∷ [])
+  pub known-stays : Solved (cameWith (0x01 ∷ []) ∷ unknownCell ∷ []) (overPlaces (0 ∷ 1 ∷ []) (0x03 ∷ []) ∷ [])
+      (cameWith (0x01 ∷ []) ∷ fixed (0x02 ∷ []) ∷ [])
   -- "messages of length 0 are equations like the others": this one says that the number is zeros
-  pub empty-message : Solved (unknownCell ∷ []) (over (0 ∷ []) [] ∷ []) (fixed [] ∷ [])
+  pub empty-message : Solved (unknownCell ∷ []) (overPlaces (0 ∷ []) [] ∷ []) (fixed [] ∷ [])
   -- "a message whose members are all known and that doesn't fit"
-  pub misfit : Unsolvable (came (0x01 ∷ []) ∷ []) (over (0 ∷ []) (0x02 ∷ []) ∷ [])
+  pub misfit : Unsolvable (cameWith (0x01 ∷ []) ∷ []) (overPlaces (0 ∷ []) (0x02 ∷ []) ∷ [])
   -- "or that was cut short against a longer known member"
-  pub cut-short : Unsolvable (came (0xAA ∷ 0xBB ∷ []) ∷ []) (over (0 ∷ []) (0xAA ∷ []) ∷ [])
+  pub cut-short : Unsolvable (cameWith (0xAA ∷ 0xBB ∷ []) ∷ []) (overPlaces (0 ∷ []) (0xAA ∷ []) ∷ [])
   -- two messages over the same unknown numbers that differ
-  pub differ : Unsolvable (unknownCell ∷ unknownCell ∷ []) (over (0 ∷ 1 ∷ []) (0x01 ∷ []) ∷ over (0 ∷ 1 ∷ []) (0x02 ∷ []) ∷ [])
+  pub differ : Unsolvable (unknownCell ∷ unknownCell ∷ []) (overPlaces (0 ∷ 1 ∷ []) (0x01 ∷ []) ∷ overPlaces (0 ∷ 1 ∷ []) (0x02 ∷ []) ∷ [])

@@ -7,7 +7,7 @@ use mathlib.Core.Option.{none}
 use lib.ListN.{length}
 use Rattle.lengths.specs.Answers.{Answer, done}
 use Rattle.datagrams.specs.Sizes.{packetLimit}
-use Rattle.masks.specs.Masks.{places, maskOf}
+use Rattle.masks.specs.Masks.{maskPlaces, maskOf}
 use Rattle.views.specs.Cells.{Cell, cellAt, filledCell, repaired}
 use Rattle.views.specs.Repair.{Message, unknownMembers, firstUsable}
 use Rattle.views.specs.Held.{heldMessages}
@@ -28,8 +28,8 @@ abbrev pub StaysSound : Type 0
 StaysSound = (view after : View) → Sound view → SolvedTo view after → Sound after
 
 -- a second call straight after fills nothing more, and is not refused
-abbrev pub NothingMore : Type 0
-NothingMore = (view after : View) (answer : Answer View) → SolvedTo view after → Solves after answer → answer ≡ done after
+abbrev pub SolvedNothingMore : Type 0
+SolvedNothingMore = (view after : View) (answer : Answer View) → SolvedTo view after → Solves after answer → answer ≡ done after
 
 -- ---- the numbers after it
 -- "exactly if the equations and known octets allow one value for it": a known number has one, its own octets
@@ -53,8 +53,8 @@ pub record Wider (cells wider : List Cell) : Type 0 where
   pub same : (p : ℕ) → Known cells p → padded ((cellAt wider p) .octets) ≡ padded ((cellAt cells p) .octets)
 
 -- with more known before and more messages, no less is known afterwards
-abbrev pub NoLess : Type 0
-NoLess = (cells wider : List Cell) (messages more : List Message) (after second : List Cell) → Wider cells wider
+abbrev pub SolvedNoLess : Type 0
+SolvedNoLess = (cells wider : List Cell) (messages more : List Message) (after second : List Cell) → Wider cells wider
     → ((message : Message) → Among message messages → Among message more) → Solved cells messages after → Solved wider more second
     → (p : ℕ) → Known after p → Known second p
 
@@ -72,8 +72,8 @@ pub record Together (cells : List Cell) (messages : List Message) (p : ℕ) : Ty
 
 -- then p has one value, whatever octets there are
 abbrev pub TogetherOne : Type 0
-TogetherOne = (cells : List Cell) (messages : List Message) (p : ℕ) → p < places
-    → ((message : Message) (q : ℕ) → Among message messages → Among q (message .members) → q < places)
+TogetherOne = (cells : List Cell) (messages : List Message) (p : ℕ) → p < maskPlaces
+    → ((message : Message) (q : ℕ) → Among message messages → Among q (message .members) → q < maskPlaces)
     → Together cells messages p → OneValue cells messages p
 
 -- ---- an honest sender, whose packets are within the limit
@@ -97,11 +97,11 @@ pub record FillsTrue : Type 0 where
 pub record Claims : Type 0 where
   pub oneOutcome : OneOutcome
   pub staysSound : StaysSound
-  pub nothingMore : NothingMore
+  pub nothingMore : SolvedNothingMore
   pub knownExactly : KnownExactly
   pub noneUsable : NoneUsable
   pub holdsReached : HoldsReached
-  pub noLess : NoLess
+  pub noLess : SolvedNoLess
   pub togetherOne : TogetherOne
   pub neverRefused : NeverRefused
   pub fillsTrue : FillsTrue

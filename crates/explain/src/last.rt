@@ -12,10 +12,10 @@ use crate::wording;
 use crate::wording::say_word;
 use packets::Ending;
 use packets::Field;
-use packets::Kind;
 use packets::Named;
+use packets::PacketKind;
 use packets::PacketRead;
-use packets::Reading;
+use packets::PacketReading;
 
 // A number, and behind it what opens its name.
 fn say_value(word: usize, value: usize) {
@@ -24,13 +24,13 @@ fn say_value(word: usize, value: usize) {
     say_word(wording::OPENS);
 }
 
-fn say_kind(kind: Kind, value: usize) {
+fn say_kind(kind: PacketKind, value: usize) {
     match kind {
-        Kind::Indicator => {
+        PacketKind::Indicator => {
             say_value(wording::READS_AS_INDICATOR, value);
             say_indicator(value, NAME);
         }
-        Kind::Data => {
+        PacketKind::Data => {
             say_value(wording::READS_AS_DATA, value);
             say_data(value, NAME);
         }
@@ -70,8 +70,8 @@ fn say_other(other: Named, s: &[u8], ending: Ending, word: usize) {
     let found = read_by(other, s, ending);
     let reading = found.reading;
     match reading {
-        Reading::Refused(_) => {}
-        Reading::Packet {
+        PacketReading::Refused(_) => {}
+        PacketReading::Packet {
             kind: _,
             value: _,
             count: _,
@@ -93,11 +93,11 @@ pub fn told(named: Named, s: &[u8], ending: Ending, met: bool) {
     let fields = found.fields;
     let reading = found.reading;
     match reading {
-        Reading::Refused(why) => {
+        PacketReading::Refused(why) => {
             say_refusal(why, met);
             say_elsewhere(named, s, ending);
         }
-        Reading::Packet { kind, value, count } => {
+        PacketReading::Packet { kind, value, count } => {
             say_kind(kind, value as usize);
             all_fields(fields, count);
             say(b"\n");

@@ -19,7 +19,7 @@ use crate::wording::end_line;
 use crate::wording::say_word;
 use packets::Ending;
 use packets::Named;
-use packets::Reading;
+use packets::PacketReading;
 use pencil_reader::First;
 use pencil_reader::octet;
 use pencil_reader::start;
@@ -90,8 +90,8 @@ fn after_end(named: Named, s: &[u8], at: usize, from: usize, ending: Ending) {
     let found = read_by(named, s, ending);
     let reading = found.reading;
     match reading {
-        Reading::Refused(why) => say_refused(why),
-        Reading::Packet {
+        PacketReading::Refused(why) => say_refused(why),
+        PacketReading::Packet {
             kind: _,
             value: _,
             count: _,

@@ -62,7 +62,7 @@ pub fn say_hex(octets: &[u8]) {
     let mut text = [0u8; 2 * Packet::LIMIT];
     let size = octets.len();
     if size <= Packet::LIMIT {
-        hexadecimal::put_octets(octets, &mut text, 0);
+        hexadecimal::put_digits(octets, &mut text, 0);
         say(part(&text, 0, 2 * size));
     }
 }

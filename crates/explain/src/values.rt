@@ -13,8 +13,8 @@ use crate::text::stopped;
 use crate::wording;
 use crate::wording::end_line;
 use packets::Enumerated;
-use packets::Kind;
 use packets::Named;
+use packets::PacketKind;
 use pencil_reader::Number;
 use pencil_reader::field_type;
 use pencil_reader::t30_data;
@@ -35,8 +35,8 @@ const ADDED_WIDTH: usize = 6;
 
 fn values_of(named: Named, which: Which) -> Enumerated {
     match which {
-        Which::Indicator => packet_rules::values(named, Kind::Indicator),
-        Which::Data => packet_rules::values(named, Kind::Data),
+        Which::Indicator => packet_rules::values(named, PacketKind::Indicator),
+        Which::Data => packet_rules::values(named, PacketKind::Data),
         Which::Type => packet_rules::types(named),
     }
 }

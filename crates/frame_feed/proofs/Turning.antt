@@ -10,14 +10,14 @@ use Rattle.lengths.specs.Answers.{Answer, done, refused}
 use Rattle.lengths.specs.declared.Refusal.{Refusal}
 use Rattle.packets.specs.Edition.{editionOf, choiceOf, ofChoice, byEdition}
 use Rattle.packets.specs.Packet.{fieldsLimit, PacketAnswer, readPacket, noField, dataOf}
-use Rattle.packets.specs.Promise.{padded, packetRead, PacketTold}
+use Rattle.packets.specs.Promise.{paddedFields, packetRead, PacketTold}
 use Rattle.packets.specs.declared.types.Choice.{Choice}
 use Rattle.packets.specs.declared.types.Choice.the-variants as choice
 use Rattle.packets.specs.declared.types.Ending.{Ending}
-use Rattle.packets.specs.declared.types.Kind.{Kind}
+use Rattle.packets.specs.declared.types.PacketKind.{PacketKind}
 use Rattle.packets.specs.declared.types.Field as packets
-use Rattle.packets.specs.declared.types.Reading.{Reading}
-use Rattle.packets.specs.declared.types.Reading.the-variants as reading
+use Rattle.packets.specs.declared.types.PacketReading.{PacketReading}
+use Rattle.packets.specs.declared.types.PacketReading.the-variants as reading
 use Rattle.packets.specs.declared.types.PacketRead.{PacketRead}
 use Rattle.packets.proofs.Claims as packetClaims
 use Rattle.views.specs.Cells.{State}
@@ -37,9 +37,9 @@ record DoneAs (a : Answer PacketAnswer) (read : PacketRead) (count : ℕ) : Type
   packet : PacketAnswer
   is : a ≡ done packet
   many : count ≡ length (packet .fields)
-  fields : read .fields ≡ padded (packet .fields)
+  fields : read .fields ≡ paddedFields (packet .fields)
 
-done-as : (a : Answer PacketAnswer) {read : PacketRead} {k : Kind} {v n : ℕ} → read ≡ packetRead a → read .reading ≡ reading.Packet k v n
+done-as : (a : Answer PacketAnswer) {read : PacketRead} {k : PacketKind} {v n : ℕ} → read ≡ packetRead a → read .reading ≡ reading.Packet k v n
     → DoneAs a read n
 done-as (done p) {read} {k} {v} {n} whole told =
     let same : reading.Packet k v n ≡ reading.Packet (p .kind) (p .value) (length (p .fields)) =
@@ -96,7 +96,7 @@ module _ (edition : ℕ) (kind : State) (s : List ℕ) {e : Ending} {read : Pack
   whole-by-kind : read ≡ packetRead (readAs edition kind s)
   whole-by-kind = told .whole ∙ ap (λ (x : Ending). packetRead (byEdition edition (λ d. readPacket d x s))) by-kind
 
-  module _ {k : Kind} {v n : ℕ} (is : read .reading ≡ reading.Packet k v n) where
+  module _ {k : PacketKind} {v n : ℕ} (is : read .reading ≡ reading.Packet k v n) where
     packet-as : DoneAs (readAs edition kind s) read n
     packet-as = done-as (readAs edition kind s) whole-by-kind is
 
@@ -112,14 +112,14 @@ module _ (edition : ℕ) (kind : State) (s : List ℕ) {e : Ending} {read : Pack
         }
 
     pub turn-there : {turn : ℕ} → turn < n → length (read .fields) ≡ fieldsLimit → turn < fieldsLimit
-    unfolding padded
+    unfolding paddedFields
     turn-there {turn} below long =
         let fields = packet-as .packet .fields in
         let padding = length-append fields (replicate (fieldsLimit - length fields) noField) in
         omega (arith, packet-as .many, ap length (packet-as .fields), padding)
 
     pub turn-field : {turn : ℕ} → turn < n → TurnTold edition kind s turn (turns.Field (getD (read .fields) turn noField))
-    unfolding eventsOf padded
+    unfolding eventsOf paddedFields
     turn-field {turn} below =
         let fields = packet-as .packet .fields in
         let inside : turn < length fields = omega (arith, packet-as .many) in

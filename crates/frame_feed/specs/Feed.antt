@@ -12,8 +12,8 @@ use Rattle.packets.specs.declared.types.Ending.{Ending}
 use Rattle.packets.specs.declared.types.Ending.the-variants.{Whole, Repaired}
 use Rattle.packets.specs.declared.types.Field as packets
 use Rattle.views.specs.Cells.{State, unknown, received, spare, repaired, blank}
-use Rattle.held.specs.declared.Kind.{Kind}
-use Rattle.held.specs.declared.Kind.the-variants as kinds
+use Rattle.held.specs.declared.ReleaseKind.{ReleaseKind}
+use Rattle.held.specs.declared.ReleaseKind.the-variants as kinds
 use Rattle.leaving.specs.declared.Released.{Released}
 use Rattle.leaving.specs.declared.Released.the-variants as answer
 use Rattle.frames.specs.Frame.{Frame, freshJoining}
@@ -26,7 +26,7 @@ pub data Heard : Type 0 where
 
 -- what an answer of release hands out, its packet at the front of the lent buffer; a refusal is nothing. "The caller names the edition, old
 -- or new, at each packet read"
-abbrev pub heardAs : ℕ → Kind → List ℕ → Heard
+abbrev pub heardAs : ℕ → ReleaseKind → List ℕ → Heard
 heardAs edition kinds.Received octets = released edition received octets
 heardAs edition kinds.Spare octets = released edition spare octets
 heardAs edition kinds.Repaired octets = released edition repaired octets

@@ -8,7 +8,7 @@ use frame_joiner::lost;
 use frames::Handed;
 use frames::Joined;
 use frames::Joiner;
-use held::Kind;
+use held::ReleaseKind;
 use turn::Turn;
 use turn::turn_of;
 ghost use mathlib.Core.Path.{_≡_};
@@ -23,7 +23,7 @@ pub use turn::turns;
 pub fn feed(
     joiner: Joiner,
     edition: u8,
-    kind: Kind,
+    kind: ReleaseKind,
     packet: &[u8],
     turn: usize,
     out: &mut [u8],

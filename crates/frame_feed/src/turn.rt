@@ -1,8 +1,8 @@
 // What a released packet is to the joiner, turn by turn.
-use held::Kind;
+use held::ReleaseKind;
 use packets::Ending;
 use packets::Field;
-use packets::Reading;
+use packets::PacketReading;
 ghost use mathlib.Core.Path.{_≡_};
 ghost use lib.ListN.{length};
 ghost use Rattle.held.specs.Table.{stateOf};
@@ -18,43 +18,43 @@ pub enum Turn {
 }
 
 // "packets read as received or as repaired by their kind".
-fn ending_of(kind: Kind) -> Ending
+fn ending_of(kind: ReleaseKind) -> Ending
     ensures { λ r. ⌜ r ≡ endingOf (stateOf kind) ⌝ }
 {
     match kind {
-        Kind::Received => Ending::Whole,
-        Kind::Spare => Ending::Whole,
-        Kind::Repaired => Ending::Repaired,
-        Kind::Lost => Ending::Whole,
+        ReleaseKind::Received => Ending::Whole,
+        ReleaseKind::Spare => Ending::Whole,
+        ReleaseKind::Repaired => Ending::Repaired,
+        ReleaseKind::Lost => Ending::Whole,
     }
 }
 
 // How many turns a released packet of this kind takes, in the edition that an octet names.
-pub fn turns(edition: u8, kind: Kind, packet: &[u8]) -> usize
+pub fn turns(edition: u8, kind: ReleaseKind, packet: &[u8]) -> usize
     ensures { λ r. ⌜ TurnsTold edition (stateOf kind) (now (packet .entry)) r ⌝ }
 {
     let ending = ending_of(kind);
     let read = packet_reader::read(edition, packet, ending);
     let reading = read.reading;
     match reading {
-        Reading::Packet {
+        PacketReading::Packet {
             kind: _,
             value: _,
             count,
         } => count,
-        Reading::Refused(_) => 1,
+        PacketReading::Refused(_) => 1,
     }
 }
 
 // One of them.
-pub fn turn_of(edition: u8, kind: Kind, packet: &[u8], turn: usize) -> Turn
+pub fn turn_of(edition: u8, kind: ReleaseKind, packet: &[u8], turn: usize) -> Turn
     ensures { λ r. ⌜ TurnTold edition (stateOf kind) (now (packet .entry)) turn r ⌝ }
 {
     let ending = ending_of(kind);
     let read = packet_reader::read(edition, packet, ending);
     let reading = read.reading;
     match reading {
-        Reading::Packet {
+        PacketReading::Packet {
             kind: _,
             value: _,
             count,
@@ -66,7 +66,7 @@ pub fn turn_of(edition: u8, kind: Kind, packet: &[u8], turn: usize) -> Turn
             }
             Turn::Over
         }
-        Reading::Refused(_) => {
+        PacketReading::Refused(_) => {
             if turn == 0 {
                 return Turn::Loss;
             }

@@ -12,7 +12,7 @@ use Rattle.octets.specs.Place.{allBelow}
 use Rattle.frames.specs.Frame.{frameLimit, tainted, opened, withAdded, goodFrame, onOpen, fieldStep, wouldPass}
 use Rattle.frames.specs.Joiner.{inStorage, heldAs, joiningOf, zerosAfter, rangesOf, joinerInRanges}
 use Rattle.frames.specs.Promise.{fieldAnswer, joinerAfter, lossAnswer, joinerAfterLoss}
-use Rattle.frames.specs.Cases.{fullFrame, saved301, savedTainted, savedPast, Cases}
+use Rattle.frames.specs.Cases.{fullFrame, savedOver, savedTainted, savedPast, Cases}
 use Rattle.frames.specs.Claims.{Claims}
 use Rattle.frames.proofs.Laws.{held-ranges}
 use Rattle.frames.proofs.Outcome.{one-outcome}
@@ -20,9 +20,9 @@ use Rattle.frames.proofs.HandedOut.{never-17, any-events}
 use Rattle.frames.proofs.Line.{honest-line}
 
 -- ---- the cases: what the calls keep is within its ranges, by the law; the ranges themselves are computed
-past-301 : lossAnswer saved301 ≡ refuse outsideRanges
+past-over : lossAnswer savedOver ≡ refuse outsideRanges
 unfolding lossAnswer rangesOf unless
-past-301 = refl
+past-over = refl
 
 past-tainted : lossAnswer savedTainted ≡ refuse outsideRanges
 unfolding lossAnswer rangesOf unless
@@ -60,16 +60,16 @@ cases =
       tainted-14 = rw (held-ranges tainted 0);
       tainted-12 = rw (held-ranges tainted 0);
       adds-over-packet = rw (fits [] (omega arith));
-      adds-300 = rw (fits [] (omega arith));
-      adds-301 = rw (fits fullFrame (omega arith));
+      adds-last = rw (fits [] (omega arith));
+      adds-over = rw (fits fullFrame (omega arith));
       too-long-taints = rw (fits fullFrame (omega arith));
       no-room = rw (fits (0xFF ∷ 0x13 ∷ []) (omega arith));
       no-room-stays = rw (fits (0xFF ∷ 0x13 ∷ []) (omega arith));
-      octets-301 = past-301;
+      octets-over = past-over;
       octets-tainted = past-tainted;
       octets-past = rw not-zero;
       ranges-first = rw not-zero;
-      type-12 = rw (fits [] (omega arith));
+      type-over = rw (fits [] (omega arith));
     }
 
 pub claims : Claims

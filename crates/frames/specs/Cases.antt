@@ -1,6 +1,6 @@
 -- Fields and lost numbers at which another reading of document 02's request 1 was possible, or a mistake would look right: each case
 -- says one answer, or the joiner after it. Definitions only.
-use Prim.Native.Nat.{ℕ, _+_}
+use Prim.Native.Nat.{ℕ, _+_, _-_}
 use mathlib.Core.Path.{_≡_}
 use mathlib.Core.Bool.{true, false}
 use mathlib.Core.List.{List, [], _∷_}
@@ -9,7 +9,7 @@ use lib.ListN.{replicate}
 use Rattle.lengths.specs.Refusals.{notAssigned, noRoom, wrongData, outsideRanges, frameTooLong}
 use Rattle.lengths.specs.Answers.{done, refuse}
 use Rattle.datagrams.specs.Sizes.{packetLimit}
-use Rattle.frames.specs.Frame.{tainted, opened, good, bad}
+use Rattle.frames.specs.Frame.{frameLimit, tainted, opened, good, bad}
 use Rattle.frames.specs.Joiner.{heldAs}
 use Rattle.frames.specs.Promise.{fieldAnswer, joinerAfter, lossAnswer, joinerAfterLoss}
 use Rattle.frames.specs.declared.Joiner.{Joiner}
@@ -19,16 +19,16 @@ abbrev pub with : List ℕ → Joiner
 with frame = heldAs (opened frame)
 
 abbrev pub fullFrame : List ℕ
-fullFrame = replicate 300 0x55
+fullFrame = replicate frameLimit 0x55
 
-abbrev pub saved301 : Joiner
-saved301 = record { tainted = false; size = 301; frame = replicate 300 0x55 }
+abbrev pub savedOver : Joiner
+savedOver = record { tainted = false; size = frameLimit + 1; frame = fullFrame }
 
 abbrev pub savedTainted : Joiner
-savedTainted = record { tainted = true; size = 1; frame = replicate 300 0 }
+savedTainted = record { tainted = true; size = 1; frame = replicate frameLimit 0 }
 
 abbrev pub savedPast : Joiner
-savedPast = record { tainted = false; size = 299; frame = replicate 300 0x55 }
+savedPast = record { tainted = false; size = frameLimit - 1; frame = fullFrame }
 
 pub record Cases : Type 0 where
   -- "2 and 4 hand out a good frame; 3 and 5 a bad one", and no frame is open after it
@@ -49,8 +49,8 @@ pub record Cases : Type 0 where
   pub bare-10 : fieldAnswer 0 10 [] (with []) ≡ refuse wrongData
   -- "A loss taints everything up to and including the next field of types 1 to 5, whose frame is dropped"
   pub loss-taints : joinerAfterLoss (with (0xFF ∷ [])) ≡ heldAs tainted
-  pub tainted-quiet : fieldAnswer 300 2 [] (heldAs tainted) ≡ done none
-  pub tainted-ends : joinerAfter 300 2 [] (heldAs tainted) ≡ with []
+  pub tainted-quiet : fieldAnswer frameLimit 2 [] (heldAs tainted) ≡ done none
+  pub tainted-ends : joinerAfter frameLimit 2 [] (heldAs tainted) ≡ with []
   pub tainted-goes-on : joinerAfter 0 6 (0x11 ∷ []) (heldAs tainted) ≡ heldAs tainted
   pub tainted-goes-on-11 : joinerAfter 0 11 [] (heldAs tainted) ≡ heldAs tainted
   -- "While tainted nothing is kept and 18 isn't given"; 12 and 14 are, and end nothing
@@ -59,16 +59,16 @@ pub record Cases : Type 0 where
   pub tainted-12 : joinerAfter 0 12 [] (heldAs tainted) ≡ heldAs tainted
   -- "18, the frame would pass 300; it is then tainted in the same way"; data over the packet limit may come
   pub adds-over-packet : joinerAfter 0 0 (replicate (packetLimit + 1) 0x55) (with []) ≡ with (replicate (packetLimit + 1) 0x55)
-  pub adds-300 : fieldAnswer 0 0 fullFrame (with []) ≡ done none
-  pub adds-301 : fieldAnswer 0 0 (0x11 ∷ []) (with fullFrame) ≡ refuse frameTooLong
+  pub adds-last : fieldAnswer 0 0 fullFrame (with []) ≡ done none
+  pub adds-over : fieldAnswer 0 0 (0x11 ∷ []) (with fullFrame) ≡ refuse frameTooLong
   pub too-long-taints : joinerAfter 0 0 (0x11 ∷ []) (with fullFrame) ≡ heldAs tainted
   -- "13 last", and the frame stays open
   pub no-room : fieldAnswer 1 2 [] (with (0xFF ∷ 0x13 ∷ [])) ≡ refuse noRoom
   pub no-room-stays : joinerAfter 1 2 [] (with (0xFF ∷ 0x13 ∷ [])) ≡ with (0xFF ∷ 0x13 ∷ [])
   -- "17, a saved joiner with over 300 octets, any while tainted, or octets not zero past its length", to a lost number too, and first
-  pub octets-301 : lossAnswer saved301 ≡ refuse outsideRanges
+  pub octets-over : lossAnswer savedOver ≡ refuse outsideRanges
   pub octets-tainted : lossAnswer savedTainted ≡ refuse outsideRanges
   pub octets-past : lossAnswer savedPast ≡ refuse outsideRanges
   pub ranges-first : fieldAnswer 0 12 [] savedPast ≡ refuse outsideRanges
   -- 12: "a type over 11"
-  pub type-12 : fieldAnswer 0 12 [] (with []) ≡ refuse notAssigned
+  pub type-over : fieldAnswer 0 12 [] (with []) ≡ refuse notAssigned

@@ -9,19 +9,19 @@ use Rattle.lengths.specs.Promise.{Puts}
 use Rattle.views.specs.View.{View}
 use Rattle.held.specs.Table.{Lent, lentBy, viewOf}
 use Rattle.held.specs.Laid.{InRanges}
-use Rattle.images.specs.Layout.{editionWritten}
+use Rattle.images.specs.Layout.{versionWritten}
 use Rattle.images.specs.Image.{readText, imageToWrite}
 use Rattle.serving.specs.Promise.{Serves}
 use Rattle.handover.specs.declared.loading.Begun.{Begun}
 use Rattle.handover.specs.declared.playing.Played.{Played}
 
 -- if all is well the text is an image, of this session; it may be served in any case
-pub record Begins (text : List ℕ) (r : Begun) : Type 0 where
+pub record BeginsWith (text : List ℕ) (r : Begun) : Type 0 where
   pub state : r .well ≡ true → readText text ≡ done (viewOf (r .session))
   pub within : InRanges (lentBy (r .session))
 
 -- the run from a session on, and the image of the very session that it ends with
-pub record Plays (first : View) (old new : List ℕ) (r : Played) : Type 0 where
+pub record RunsFrom (first : View) (old new : List ℕ) (r : Played) : Type 0 where
   pub last : Lent
   pub serves : Serves first last (r .taken) (r .handed) (r .whole)
-  pub image : Puts (imageToWrite editionWritten last) old new (r .image)
+  pub image : Puts (imageToWrite versionWritten last) old new (r .image)

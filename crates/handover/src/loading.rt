@@ -9,7 +9,7 @@ use images::Restore;
 use libc::PATH_MAX;
 ghost use Rattle.held.specs.Table.{lentBy};
 ghost use Rattle.held.specs.Laid.{InRanges};
-ghost use Rattle.handover.specs.Promise.{Begins};
+ghost use Rattle.handover.specs.Promise.{BeginsWith};
 
 // What is read of a file: one character more than an image has, by which a text that is too long is known.
 const TEXT: usize = Image::LIMIT + 1;
@@ -29,7 +29,7 @@ fn fresh(well: bool) -> Begun
 
 // The session that a text is an image of; a fresh one where it is none.
 fn restored(path: &[u8], text: &[u8]) -> Begun
-    ensures { λ r. ⌜ Begins (now (text .entry)) r ⌝ }
+    ensures { λ r. ⌜ BeginsWith (now (text .entry)) r ⌝ }
 {
     let found = image_reader::read(text);
     let session = found.session;

@@ -3,7 +3,7 @@ use held::Session;
 use lengths::Written;
 ghost use Rattle.held.specs.Table.{lentBy, viewOf};
 ghost use Rattle.held.specs.Laid.{InRanges};
-ghost use Rattle.handover.specs.Promise.{Plays};
+ghost use Rattle.handover.specs.Promise.{RunsFrom};
 
 // How many octets were read and how many handed over, whether the end was reached with all written, and what writing the image answers.
 pub struct Played {
@@ -15,7 +15,7 @@ pub struct Played {
 
 pub fn play(session: Session, out: &mut [u8]) -> Played
     requires { ⌜ InRanges (lentBy session) ⌝ }
-    ensures { λ r. ⌜ Plays (viewOf session) (now (out .entry)) (now (out .exit)) r ⌝ }
+    ensures { λ r. ⌜ RunsFrom (viewOf session) (now (out .entry)) (now (out .exit)) r ⌝ }
 {
     let base = session.base;
     let counts = session.counts;

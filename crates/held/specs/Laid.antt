@@ -16,17 +16,19 @@ use Rattle.held.specs.declared.Session.{Session}
 
 -- slot i of kept numbers
 unfoldable pub keptLaid : List ℕ → List ℕ → ℕ → Bool
-keptLaid t o i = (leb (stateIn t i) lastState && leb (sizeIn t i) packetLimit) && zerosPast o i (sizeIn t i)
+keptLaid table octets i = (leb (stateIn table i) lastState && leb (sizeIn table i) packetLimit) && zerosPast octets i (sizeIn table i)
 
 -- message i of slot j, of which m are held: "message places past m have length 0"
 unfoldable pub messageLaid : List ℕ → List ℕ → ℕ → ℕ → ℕ → Bool
-messageLaid t g j m i =
-    leb (messageSizeIn t (messageSlot j i)) (cond (ltb i m) messageLimit 0)
-    && zerosPast g (messageSlot j i) (messageSizeIn t (messageSlot j i))
+messageLaid table messages j m i =
+    leb (messageSizeIn table (messageSlot j i)) (cond (ltb i m) messageLimit 0)
+    && zerosPast messages (messageSlot j i) (messageSizeIn table (messageSlot j i))
 
 -- slot j of numbers from the base on
 unfoldable pub heardLaid : List ℕ → List ℕ → ℕ → Bool
-heardLaid t g j = (leb (markIn t j) 1 && leb (mIn t j) messagesLimit) && allBelow messagesLimit (messageLaid t g j (mIn t j))
+heardLaid table messages j =
+    (leb (markIn table j) 1 && leb (mIn table j) messagesLimit)
+    && allBelow messagesLimit (messageLaid table messages j (mIn table j))
 
 unfoldable pub laid : Lent → Bool
 laid l =
@@ -40,18 +42,19 @@ abbrev pub sessionInRanges : Session → Bool
 sessionInRanges s = lentInRanges (lentBy s)
 
 -- the same as the calls inside the session require and keep it: slot by slot
-pub record Laid (t o g : List ℕ) : Type 0 where
-  pub long : length t ≡ places
-  pub octets : length o ≡ keptOctets
-  pub messages : length g ≡ messageOctets
-  pub state : (i : ℕ) → i < slotsKept → stateIn t i ≤ lastState
-  pub size : (i : ℕ) → i < slotsKept → sizeIn t i ≤ packetLimit
-  pub packet : (i : ℕ) → i < slotsKept → zerosPast o i (sizeIn t i) ≡ true
-  pub mark : (j : ℕ) → j < slotsHeard → markIn t j ≤ 1
-  pub few : (j : ℕ) → j < slotsHeard → mIn t j ≤ messagesLimit
-  pub part : (j i : ℕ) → j < slotsHeard → i < messagesLimit → messageSizeIn t (messageSlot j i) ≤ packetLimit
-  pub past : (j i : ℕ) → j < slotsHeard → i < messagesLimit → mIn t j ≤ i → messageSizeIn t (messageSlot j i) ≡ 0
-  pub message : (j i : ℕ) → j < slotsHeard → i < messagesLimit → zerosPast g (messageSlot j i) (messageSizeIn t (messageSlot j i)) ≡ true
+pub record Laid (table kept heard : List ℕ) : Type 0 where
+  pub long : length table ≡ places
+  pub octets : length kept ≡ keptOctets
+  pub messages : length heard ≡ messageOctets
+  pub state : (i : ℕ) → i < slotsKept → stateIn table i ≤ lastState
+  pub size : (i : ℕ) → i < slotsKept → sizeIn table i ≤ packetLimit
+  pub packet : (i : ℕ) → i < slotsKept → zerosPast kept i (sizeIn table i) ≡ true
+  pub mark : (j : ℕ) → j < slotsHeard → markIn table j ≤ 1
+  pub few : (j : ℕ) → j < slotsHeard → mIn table j ≤ messagesLimit
+  pub part : (j i : ℕ) → j < slotsHeard → i < messagesLimit → messageSizeIn table (messageSlot j i) ≤ packetLimit
+  pub past : (j i : ℕ) → j < slotsHeard → i < messagesLimit → mIn table j ≤ i → messageSizeIn table (messageSlot j i) ≡ 0
+  pub message : (j i : ℕ) → j < slotsHeard → i < messagesLimit
+      → zerosPast heard (messageSlot j i) (messageSizeIn table (messageSlot j i)) ≡ true
 
 -- what is lent is within the ranges: how it is laid, and what document 01 sees in it
 pub record InRanges (l : Lent) : Type 0 where

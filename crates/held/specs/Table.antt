@@ -14,8 +14,8 @@ use Rattle.stores.specs.Store.{part}
 use Rattle.views.specs.View as views
 use Rattle.views.specs.View.{View}
 use Rattle.held.specs.Slots.{slotsKept, slotsHeard, slotsMessages, slotAt, heardSlotAt, messageSlot}
-use Rattle.held.specs.declared.Kind.{Kind}
-use Rattle.held.specs.declared.Kind.the-variants.{Received, Spare, Repaired, Lost}
+use Rattle.held.specs.declared.ReleaseKind.{ReleaseKind}
+use Rattle.held.specs.declared.ReleaseKind.the-variants.{Received, Spare, Repaired, Lost}
 use Rattle.held.specs.declared.Counts.{Counts}
 use Rattle.held.specs.declared.Session.{Session}
 
@@ -46,25 +46,25 @@ places = slotsKept + slotsKept + slotsKept + slotsHeard + slotsHeard + slotsHear
 
 -- what stands there
 abbrev pub stateIn : List ℕ → ℕ → ℕ
-stateIn t i = getD t (statePlace i) 0
+stateIn table i = getD table (statePlace i) 0
 
 abbrev pub sizeIn : List ℕ → ℕ → ℕ
-sizeIn t i = getD t (sizePlace i) 0
+sizeIn table i = getD table (sizePlace i) 0
 
 abbrev pub noteIn : List ℕ → ℕ → ℕ
-noteIn t i = getD t (notePlace i) 0
+noteIn table i = getD table (notePlace i) 0
 
 abbrev pub markIn : List ℕ → ℕ → ℕ
-markIn t j = getD t (markPlace j) 0
+markIn table j = getD table (markPlace j) 0
 
 abbrev pub nIn : List ℕ → ℕ → ℕ
-nIn t j = getD t (nPlace j) 0
+nIn table j = getD table (nPlace j) 0
 
 abbrev pub mIn : List ℕ → ℕ → ℕ
-mIn t j = getD t (mPlace j) 0
+mIn table j = getD table (mPlace j) 0
 
 abbrev pub messageSizeIn : List ℕ → ℕ → ℕ
-messageSizeIn t k = getD t (messagePlace k) 0
+messageSizeIn table k = getD table (messagePlace k) 0
 
 -- ---- the numbers that stand for states; what is over 4 is outside the ranges
 abbrev pub lastState : ℕ
@@ -75,7 +75,7 @@ stateNumbered n =
     cond (eqb n 0) cells.unknown (cond (eqb n 1) cells.received (cond (eqb n 2) cells.spare (cond (eqb n 3) cells.repaired cells.blank)))
 
 -- the state in which a number leaves, by the kind that an answer names: a lost one is unknown, and a blank one never leaves
-abbrev pub stateOf : Kind → cells.State
+abbrev pub stateOf : ReleaseKind → cells.State
 stateOf Received = cells.received
 stateOf Spare = cells.spare
 stateOf Repaired = cells.repaired
@@ -93,7 +93,8 @@ pub record Lent : Type 0 where
   pub messages : List ℕ
 
 abbrev pub lent : ℕ → Counts → List ℕ → List ℕ → List ℕ → Lent
-lent b c t o g = record { base = b; counts = c; table = t; octets = o; messages = g }
+lent base counts table octets messages =
+    record { base = base; counts = counts; table = table; octets = octets; messages = messages }
 
 abbrev pub lentBy : Session → Lent
 lentBy s = lent (s .base) (s .counts) (s .table) (s .octets) (s .messages)
@@ -101,22 +102,24 @@ lentBy s = lent (s .base) (s .counts) (s .table) (s .octets) (s .messages)
 -- ---- from slots to the session that document 01 sees
 -- the kept number in slot i, with its octets and its note
 unfoldable pub cellIn : List ℕ → List ℕ → ℕ → Cell
-cellIn t o i = record { state = stateNumbered (stateIn t i); octets = part o i (sizeIn t i); note = noteIn t i }
+cellIn table octets i =
+    record { state = stateNumbered (stateIn table i); octets = part octets i (sizeIn table i); note = noteIn table i }
 
 -- message i of the number whose slot is j
 unfoldable pub messageIn : List ℕ → List ℕ → ℕ → ℕ → List ℕ
-messageIn t g j i = part g (messageSlot j i) (messageSizeIn t (messageSlot j i))
+messageIn table messages j i = part messages (messageSlot j i) (messageSizeIn table (messageSlot j i))
 
 -- what is held in slot j: mark, n and messages
 unfoldable pub heldIn : List ℕ → List ℕ → ℕ → held.Held
-heldIn t g j = record { accepted = eqb (markIn t j) 1; n = nIn t j; messages = tab (mIn t j) (messageIn t g j) }
+heldIn table messages j =
+    record { accepted = eqb (markIn table j) 1; n = nIn table j; messages = tab (mIn table j) (messageIn table messages j) }
 
 -- the 64 numbers from 32 before the base upward, and the 32 from the base on
 unfoldable pub cellsOf : ℕ → List ℕ → List ℕ → List Cell
-cellsOf base t o = tab keptNumbers (λ p. cellIn t o (slotAt base p))
+cellsOf base table octets = tab keptNumbers (λ p. cellIn table octets (slotAt base p))
 
 unfoldable pub heldOf : ℕ → List ℕ → List ℕ → List held.Held
-heldOf base t g = tab keptAhead (λ d. heldIn t g (heardSlotAt base d))
+heldOf base table messages = tab keptAhead (λ d. heldIn table messages (heardSlotAt base d))
 
 -- the session as document 01 sees it
 unfoldable pub viewIn : Lent → View
@@ -133,14 +136,14 @@ viewOf s = viewIn (lentBy s)
 
 -- ---- the table with another number in a slot
 abbrev pub keptSet : List ℕ → ℕ → ℕ → ℕ → ℕ → List ℕ
-keptSet t i state size note = set (set (set t (statePlace i) state) (sizePlace i) size) (notePlace i) note
+keptSet table i state size note = set (set (set table (statePlace i) state) (sizePlace i) size) (notePlace i) note
 
 abbrev pub heardSet : List ℕ → ℕ → ℕ → ℕ → ℕ → List ℕ
-heardSet t j mark n m = set (set (set t (markPlace j) mark) (nPlace j) n) (mPlace j) m
+heardSet table j mark n m = set (set (set table (markPlace j) mark) (nPlace j) n) (mPlace j) m
 
 -- nothing heard of slot j
 abbrev pub sizesFreed : List ℕ → ℕ → List ℕ
-sizesFreed t at = set (set (set (set t at 0) (at + 1) 0) (at + 2) 0) (at + 3) 0
+sizesFreed table at = set (set (set (set table at 0) (at + 1) 0) (at + 2) 0) (at + 3) 0
 
 abbrev pub heardDropped : List ℕ → ℕ → List ℕ
-heardDropped t j = sizesFreed (heardSet t j 0 0 0) (messagePlace (j * messagesLimit))
+heardDropped table j = sizesFreed (heardSet table j 0 0 0) (messagePlace (j * messagesLimit))

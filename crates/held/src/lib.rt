@@ -28,7 +28,7 @@ ghost use Rattle.held.specs.Slots.{slotsKept, slotsHeard, keptOctets, me
 ghost use Rattle.held.specs.Table.{places};
 
 // The kind of a number that leaves, as the answers name it. In the table a state is a number.
-pub enum Kind {
+pub enum ReleaseKind {
     Received,
     Spare,
     Repaired,

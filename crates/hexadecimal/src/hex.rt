@@ -148,7 +148,7 @@ pub fn hex_to_octets(line: &[u8], out: &mut [u8]) -> Written
 }
 
 // Two digits for each octet, into out from place at on. Answers the place after them.
-pub fn put_octets(octets: &[u8], out: &mut [u8], at: usize) -> usize
+pub fn put_digits(octets: &[u8], out: &mut [u8], at: usize) -> usize
     requires { ⌜ at + 2 * length (now octets) ≤ length (now out) ⌝ }
     ensures { λ r. ⌜ Appends (hexOf (now (octets .entry))) (now (out .entry)) at (now (out .exit)) r ⌝ }
 {

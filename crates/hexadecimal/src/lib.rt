@@ -4,4 +4,4 @@ mod hex;
 pub use hex::all_digits;
 pub use hex::hex_to_octets;
 pub use hex::pair_up;
-pub use hex::put_octets;
+pub use hex::put_digits;

@@ -19,7 +19,7 @@ use Rattle.held.specs.Laid.{sessionInRanges, InRanges}
 use Rattle.held.specs.Promise.{Sized}
 use Rattle.held.specs.declared.Session.{Session}
 use Rattle.held.proofs.Laws.{session-in-ranges, session-same}
-use Rattle.images.specs.Layout.{edition02}
+use Rattle.images.specs.Layout.{imageVersion02}
 use Rattle.images.specs.Image.{imageText, readText, imageToWrite, LentOctets, imageLimit}
 use Rattle.images.proofs.Laws.{lent-octets, reads02}
 use Rattle.images.proofs.Claims as images
@@ -35,16 +35,16 @@ use Rattle.host.specs.declared.image.AfterRestore.{AfterRestore}
 
 -- ---- what a write tells
 -- by a session within its ranges, and by another
-to-write : (s : Session) → sessionInRanges s ≡ true → imageToWrite edition02 (lentBy s) ≡ done (imageText edition02 (viewOf s))
+to-write : (s : Session) → sessionInRanges s ≡ true → imageToWrite imageVersion02 (lentBy s) ≡ done (imageText imageVersion02 (viewOf s))
 unfolding imageToWrite unless
 to-write s inside = rw inside
 
-none-to-write : (s : Session) → sessionInRanges s ≡ false → imageToWrite edition02 (lentBy s) ≡ refuse outsideRanges
+none-to-write : (s : Session) → sessionInRanges s ≡ false → imageToWrite imageVersion02 (lentBy s) ≡ refuse outsideRanges
 unfolding imageToWrite unless
 none-to-write s outside = rw outside
 
 abbrev toldOf : Session → List ℕ → Wrote
-toldOf s old = wroteTold (sizeOf (fitted (imageToWrite edition02 (lentBy s)) old))
+toldOf s old = wroteTold (sizeOf (fitted (imageToWrite imageVersion02 (lentBy s)) old))
 
 -- told as done, the session is within its ranges, and there was room
 done-inside : (s : Session) (old : List ℕ) → (toldOf s old) .refusal ≡ 0 → sessionInRanges s ≡ true
@@ -63,17 +63,17 @@ done-fits a text old is told-done = by (leb (length text) (length old)) refl
     by false e = let z : _≡_ {A = ℕ} noRoom 0 = rw (is, e) at told-done in absurd (omega arith)
 
 module _ (s : Session) (old : List ℕ) {new : List ℕ} {w : Wrote} (answer : w ≡ toldOf s old)
-    (lent : new ≡ over (fitted (imageToWrite edition02 (lentBy s)) old) old) (ok : w .refusal ≡ 0) where
+    (lent : new ≡ over (fitted (imageToWrite imageVersion02 (lentBy s)) old) old) (ok : w .refusal ≡ 0) where
   told-done : (toldOf s old) .refusal ≡ 0
   told-done = sym (ap (λ (x : Wrote). x .refusal) answer) ∙ ok
 
   inside : sessionInRanges s ≡ true
   inside = done-inside s old told-done
 
-  front : take (w .size) new ≡ imageText edition02 (viewOf s)
+  front : take (w .size) new ≡ imageText imageVersion02 (viewOf s)
   front =
-      let text = imageText edition02 (viewOf s) in
-      let fits = done-fits (imageToWrite edition02 (lentBy s)) text old (to-write s inside) told-done in
+      let text = imageText imageVersion02 (viewOf s) in
+      let fits = done-fits (imageToWrite imageVersion02 (lentBy s)) text old (to-write s inside) told-done in
       let size : w .size ≡ length text =
       ap (λ (x : Wrote). x .size) answer ∙ ap (λ (a : Answer (List ℕ)). (wroteTold (sizeOf a)) .size) fits in
       let laid : new ≡ text ++ drop (length text) old = lent ∙ ap (λ (a : Answer (List ℕ)). over a old) fits in
@@ -81,7 +81,7 @@ module _ (s : Session) (old : List ℕ) {new : List ℕ} {w : Wrote} (answer : w
 
 -- ---- read back
 module _ (s : Session) (within : InRanges (lentBy s)) (small : LentOctets (lentBy s)) {text : List ℕ}
-    (is : text ≡ imageText edition02 (viewOf s)) where
+    (is : text ≡ imageText imageVersion02 (viewOf s)) where
   reads : readText text ≡ done (viewOf s)
   reads = ap readText is ∙ reads02 (viewOf s) (within .sound) (lent-octets small)
 
@@ -102,10 +102,10 @@ room-enough s old sized small room short = by (sessionInRanges s) refl
     by : (b : Bool) → sessionInRanges s ≡ b → ⊥
     by true e =
         let within = session-in-ranges s e sized in
-        let text = imageText edition02 (viewOf s) in
+        let text = imageText imageVersion02 (viewOf s) in
         let holds = images.claims .readBack .holds (viewOf s) (within .sound) (lent-octets small) in
         let most = images.claims .sized .most packetLimit (viewOf s) holds in
-        let long = images.claims .sized .settled edition02 (viewOf s) in
+        let long = images.claims .sized .settled imageVersion02 (viewOf s) in
         let fits = le-leb (length text) (length old) (omega (arith, most, long, room)) in
         let z : _≡_ {A = ℕ} 0 noRoom = rw (to-write s e, fits) at short in
         omega arith

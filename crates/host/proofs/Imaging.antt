@@ -8,7 +8,7 @@ use Rattle.lengths.specs.declared.Refusal.{Refusal}
 use Rattle.lengths.specs.declared.Written.{Written}
 use Rattle.views.specs.View.{View}
 use Rattle.held.specs.Table.{lentBy, viewOf}
-use Rattle.images.specs.Layout.{editionWritten}
+use Rattle.images.specs.Layout.{versionWritten}
 use Rattle.images.specs.Image.{imageToWrite, readText}
 use Rattle.images.specs.Promise.{restoreOutcome, Restores, ImageRead}
 use Rattle.images.specs.declared.Restore.{Restore}
@@ -24,7 +24,7 @@ use Rattle.host.proofs.Memory.{headOf}
 
 -- ---- write
 pub image-hosted : {h : Head} {t o g old new : List ℕ} {a : Written} {r : Wrote}
-    → Puts (imageToWrite editionWritten (lentBy (sessionIn h t o g))) old new a → WrittenTold a r → ImageHosted h t o g old new r
+    → Puts (imageToWrite versionWritten (lentBy (sessionIn h t o g))) old new a → WrittenTold a r → ImageHosted h t o g old new r
 image-hosted puts from = record { answer = from .is ∙ ap wroteTold (puts .answer); lent = puts .lent }
 
 -- ---- read

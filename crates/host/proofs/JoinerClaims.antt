@@ -20,7 +20,7 @@ use Rattle.frames.specs.Joiner.{heldAs, joiningOf, joinerInRanges}
 use Rattle.frames.specs.declared.Joiner.{Joiner}
 use Rattle.frames.specs.Promise.{frameOctets, toldIn, changes, fieldAnswer, joinerAfter, lossAnswer, joinerAfterLoss}
 use Rattle.host_answers.specs.Joiner.{flagOf, frameTold}
-use Rattle.host.specs.Joiner.{Memory, memoryOf, inMemory, joinerIn, noFlag, fieldIn, memoryAfter}
+use Rattle.host.specs.Joiner.{Memory, memoryOf, inMemory, joinerIn, noFlag, fieldJoined, memoryAfter}
 use Rattle.host.specs.Joiner.{lossIn, memoryAfterLoss}
 use Rattle.host.specs.JoinerClaims.{OneJoined, RefusalsLeave, JoinerClaims}
 use Rattle.host_answers.specs.declared.joiner.AfterField.{AfterField}
@@ -81,10 +81,10 @@ stays : (m : Memory) (b : Bool) (j : Joiner) → noFlag m ≡ false → b ≡ fa
 stays m b j low same = rw same (memory-back m low)
 
 module _ (room type : ℕ) (octets : List ℕ) (m : Memory) where
-  field-stays : ((frameTold (toldIn (fieldIn room type octets m))) .refusal ≡ 0 → ⊥)
-      → ((frameTold (toldIn (fieldIn room type octets m))) .refusal ≡ frameTooLong → ⊥)
+  field-stays : ((frameTold (toldIn (fieldJoined room type octets m))) .refusal ≡ 0 → ⊥)
+      → ((frameTold (toldIn (fieldJoined room type octets m))) .refusal ≡ frameTooLong → ⊥)
       → memoryAfter room type octets m ≡ m
-  unfolding fieldIn memoryAfter joinerAfter
+  unfolding fieldJoined memoryAfter joinerAfter
   field-stays more other =
       ⊎-elim (λ high. rw high)
       (λ low.
@@ -150,9 +150,9 @@ module _ (room type : ℕ) (octets : List ℕ) (m : Memory) where
       (not (rightData joinerEdition type (ltb 0 (length octets)))) (wouldPass type octets (joiningOf (joinerIn m)))
       (ltb room (length (frameOctets (step .handed)))) (step .handed) told
 
-  field-taints : (frameTold (toldIn (fieldIn room type octets m))) .refusal ≡ frameTooLong
+  field-taints : (frameTold (toldIn (fieldJoined room type octets m))) .refusal ≡ frameTooLong
       → memoryAfter room type octets m ≡ inMemory (heldAs tainted)
-  unfolding fieldIn memoryAfter joinerAfter
+  unfolding fieldJoined memoryAfter joinerAfter
   field-taints told =
       ⊎-elim (λ high. absurd (other-number refl (rw high at told)))
       (λ low.
@@ -168,13 +168,13 @@ refusals-leave =
           λ {type} {octets} {before} {old} h more other.
           let is = ap (λ (f : HandedFrame). f .refusal) (h .answer) in (
             h .state ∙ field-stays (length old) type octets before (λ e. more (is ∙ e)) (λ e. other (is ∙ e)),
-            h .lent ∙ no-writing (fieldIn (length old) type octets before) old (λ e. more (is ∙ e)),
+            h .lent ∙ no-writing (fieldJoined (length old) type octets before) old (λ e. more (is ∙ e)),
           );
       tooLong =
           λ {type} {octets} {before} {old} h told.
           let is = sym (ap (λ (f : HandedFrame). f .refusal) (h .answer)) ∙ told in (
             h .state ∙ field-taints (length old) type octets before is,
-            h .lent ∙ no-writing (fieldIn (length old) type octets before) old (λ e. other-number refl (sym e ∙ is)),
+            h .lent ∙ no-writing (fieldJoined (length old) type octets before) old (λ e. other-number refl (sym e ∙ is)),
           );
       lost = λ {before} h more. h .state ∙ loss-stays before (λ e. more (ap (λ (f : HandedFrame). f .refusal) (h .answer) ∙ e));
     }

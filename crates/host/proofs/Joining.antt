@@ -11,7 +11,7 @@ use Rattle.frame_joiner.specs.declared.inside.Kept.{Kept}
 use Rattle.host_answers.specs.Joiner.{flagOf, frameTold, outside, FrameTold}
 use Rattle.host_answers.specs.declared.joiner.AfterField.{AfterField}
 use Rattle.host_answers.specs.declared.joiner.HandedFrame.{HandedFrame}
-use Rattle.host.specs.Joiner.{memoryOf, inMemory, fieldIn, memoryAfter, lossIn, memoryAfterLoss}
+use Rattle.host.specs.Joiner.{memoryOf, inMemory, fieldJoined, memoryAfter, lossIn, memoryAfterLoss}
 use Rattle.host.specs.Joiner.{FieldHosted, LossHosted, JoinerMade, KeptTold}
 
 -- ---- what is told
@@ -33,7 +33,7 @@ module _ {tainted size : ℕ} {frame : List ℕ} {b : Bool} (e : b ≡ ltb 1 tai
   -- ---- a field
   pub field-outside : {type : ℕ} {octets old : List ℕ} {r : AfterField} → b ≡ true → r ≡ outside tainted size
       → FieldHosted type octets (memoryOf tainted size frame) old frame old r
-  unfolding fieldIn memoryAfter
+  unfolding fieldJoined memoryAfter
   field-outside over told =
       let high : ltb 1 tainted ≡ true = sym e ∙ over in
       rw told (record { answer = rw high; lent = rw high; state = rw high })
@@ -42,7 +42,7 @@ module _ {tainted size : ℕ} {frame : List ℕ} {b : Bool} (e : b ≡ ltb 1 tai
       → FieldFed (eqb tainted 1) size type octets frame after old new k
       → KeptTold k r
       → FieldHosted type octets (memoryOf tainted size frame) old after new r
-  unfolding fieldIn memoryAfter
+  unfolding fieldJoined memoryAfter
   field-hosted {after = after} flag fed told =
       let low : ltb 1 tainted ≡ false = sym e ∙ flag in
       record {

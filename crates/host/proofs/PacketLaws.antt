@@ -13,20 +13,20 @@ use Rattle.packets.specs.Edition.{byEdition}
 use Rattle.packets.specs.Packet.{PacketAnswer, readPacket}
 use Rattle.packets.specs.Write.{packetToWrite}
 use Rattle.packets.specs.Promise.{PacketTold, packetRead}
-use Rattle.packets.specs.declared.types.Kind.{Kind}
+use Rattle.packets.specs.declared.types.PacketKind.{PacketKind}
 use Rattle.packets.specs.declared.types.Ending.{Ending}
 use Rattle.packets.specs.declared.types.Field.{Field}
 use Rattle.packets.specs.declared.types.PacketRead.{PacketRead}
-use Rattle.packets.specs.declared.types.Reading.{Reading}
-use Rattle.packets.specs.declared.types.Reading.the-variants as reading
+use Rattle.packets.specs.declared.types.PacketReading.{PacketReading}
+use Rattle.packets.specs.declared.types.PacketReading.the-variants as reading
 use Rattle.host_answers.specs.Answers.{wroteTold, WrittenTold}
-use Rattle.host_answers.specs.Packet.{endingOf, kindTold, kindNamed, packetTold}
+use Rattle.host_answers.specs.Packet.{endingNamed, kindTold, kindNamed, packetTold}
 use Rattle.host.specs.Packet.{PacketHosted, packetAsked, WriteHosted}
 use Rattle.host_answers.specs.declared.answers.Wrote.{Wrote}
 use Rattle.host_answers.specs.declared.packet.PacketFound.{PacketFound}
 
 -- ---- read: each case of the reader's answer in numbers
-abbrev readingTold : Reading → List Field → PacketFound
+abbrev readingTold : PacketReading → List Field → PacketFound
 readingTold (reading.Packet k v n) fields = record { refusal = 0; kind = kindTold k; value = v; place = 0; count = n; fields = fields }
 readingTold (reading.Refused why) fields =
     record { refusal = why .number; kind = 0; value = 0; place = why .place; count = 0; fields = fields }
@@ -35,24 +35,24 @@ told-whole : (a : Answer PacketAnswer) → readingTold (packetRead a .reading) (
 told-whole (done p) = refl
 told-whole (refused why) = refl
 
-told-reading : (edition : ℕ) (repaired : Bool) (octets : List ℕ) {ending : Ending} {read : PacketRead} → ending ≡ endingOf repaired
+told-reading : (edition : ℕ) (repaired : Bool) (octets : List ℕ) {ending : Ending} {read : PacketRead} → ending ≡ endingNamed repaired
     → PacketTold (byEdition edition (λ e. readPacket e ending octets)) read
-    → readingTold (read .reading) (read .fields) ≡ packetTold (byEdition edition (λ e. readPacket e (endingOf repaired) octets))
+    → readingTold (read .reading) (read .fields) ≡ packetTold (byEdition edition (λ e. readPacket e (endingNamed repaired) octets))
 told-reading edition repaired octets {ending} is owes =
     ap (λ (x : PacketRead). readingTold (x .reading) (x .fields)) (owes .whole)
     ∙ told-whole (byEdition edition (λ e. readPacket e ending octets))
     ∙ ap (λ (way : Ending). packetTold (byEdition edition (λ e. readPacket e way octets))) is
 
-module _ {edition : ℕ} {repaired : Bool} {octets : List ℕ} {ending : Ending} {read : PacketRead} (is : ending ≡ endingOf repaired)
+module _ {edition : ℕ} {repaired : Bool} {octets : List ℕ} {ending : Ending} {read : PacketRead} (is : ending ≡ endingNamed repaired)
     (owes : PacketTold (byEdition edition (λ e. readPacket e ending octets)) read) where
-  pub packet-found : {kind : Kind} {value count octet : ℕ} → read .reading ≡ reading.Packet kind value count → octet ≡ kindTold kind
+  pub packet-found : {kind : PacketKind} {value count octet : ℕ} → read .reading ≡ reading.Packet kind value count → octet ≡ kindTold kind
       → PacketHosted edition repaired octets
       (record { refusal = 0; kind = octet; value = value; place = 0; count = count; fields = read .fields })
   packet-found {value = value} {count} e told =
       record {
         answer =
             ap (λ (k : ℕ). record { refusal = 0; kind = k; value = value; place = 0; count = count; fields = read .fields }) told
-            ∙ ap (λ (x : Reading). readingTold x (read .fields)) (sym e)
+            ∙ ap (λ (x : PacketReading). readingTold x (read .fields)) (sym e)
             ∙ told-reading edition repaired octets is owes;
       }
 
@@ -60,7 +60,7 @@ module _ {edition : ℕ} {repaired : Bool} {octets : List ℕ} {ending : Ending}
       → PacketHosted edition repaired octets
       (record { refusal = why .number; kind = 0; value = 0; place = why .place; count = 0; fields = read .fields })
   packet-refused e =
-      record { answer = ap (λ (x : Reading). readingTold x (read .fields)) (sym e) ∙ told-reading edition repaired octets is owes }
+      record { answer = ap (λ (x : PacketReading). readingTold x (read .fields)) (sym e) ∙ told-reading edition repaired octets is owes }
 
 -- ---- write
 -- an octet that names no kind
@@ -79,12 +79,12 @@ write-neither {edition} {kind} {value} {types} {lengths} {octets} {old} e many =
     }
 
 -- and one that names a kind
-asked-kind : (edition kind value : ℕ) (types lengths octets : List ℕ) {named : Kind} → ltb 1 kind ≡ false → named ≡ kindNamed kind
+asked-kind : (edition kind value : ℕ) (types lengths octets : List ℕ) {named : PacketKind} → ltb 1 kind ≡ false → named ≡ kindNamed kind
     → byEdition edition (λ e. packetToWrite e named value types lengths octets) ≡ packetAsked edition kind value types lengths octets
 unfolding packetAsked
 asked-kind edition kind value types lengths octets few is = rw (few, is)
 
-pub write-hosted : {edition kind value : ℕ} {types lengths octets old new : List ℕ} {named : Kind} {answer : Written} {r : Wrote} {b : Bool}
+pub write-hosted : {edition kind value : ℕ} {types lengths octets old new : List ℕ} {named : PacketKind} {answer : Written} {r : Wrote} {b : Bool}
     → b ≡ ltb 1 kind → b ≡ false → named ≡ kindNamed kind
     → Puts (byEdition edition (λ e. packetToWrite e named value types lengths octets)) old new answer → WrittenTold answer r
     → WriteHosted edition kind value types lengths octets old new r

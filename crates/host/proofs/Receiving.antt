@@ -16,7 +16,7 @@ use Rattle.offering.specs.Promise.{Offers}
 use Rattle.offering.specs.declared.Offered.{Offered}
 use Rattle.sessions.specs.Receiver.{offerOf}
 use Rattle.sessions.proofs.Laws.{offer-outside, offer-inside, release-outside, release-inside}
-use Rattle.host_answers.specs.Answers.{told, numberTold, OfferedTold, ReleasedTold}
+use Rattle.host_answers.specs.Answers.{told, releaseNumber, OfferedTold, ReleasedTold}
 use Rattle.host_answers.specs.declared.answers.Answered.{Answered}
 use Rattle.host_answers.specs.declared.answers.Number.{Number}
 use Rattle.host_answers.proofs.Laws.{told-mapped}
@@ -53,14 +53,14 @@ pub release-hosted : {leave : Bool} {h after : Head} {t o g t₂ o₂ g₂ old n
     → ReleaseHosted leave h t o g old t₂ o₂ g₂ new (record { head = after; left = left })
 release-hosted {leave} {h} {after} {t} {o} {g} {old = old} within m from =
     let owes = release-inside {s = sessionIn h t o g} {leave = leave} {old = old} {ok = true} (sym (in-ranges-true within)) refl m in
-    record { answer = from .is ∙ ap numberTold (owes .answer); lent = owes .lent; state = owes .state }
+    record { answer = from .is ∙ ap releaseNumber (owes .answer); lent = owes .lent; state = owes .state }
 
 pub release-refused : {leave : Bool} {h : Head} {t o g old : List ℕ} {ok : Bool} → RangesHosted h t o g ok → ok ≡ false
     → ReleaseHosted leave h t o g old t o g old
     (record { head = h; left = record { refusal = outsideRanges; kind = 0; number = 0; note = 0; place = 0; size = 0 } })
 release-refused {leave} {h} {t} {o} {g} {old} e out =
     let owes = release-outside {s = sessionIn h t o g} {leave = leave} {old = old} (e .answer) (record { answer = refl }) out in
-    record { answer = ap numberTold (owes .answer); lent = owes .lent; state = owes .state }
+    record { answer = ap releaseNumber (owes .answer); lent = owes .lent; state = owes .state }
 
 -- ---- what the calls require
 pub within-hosted : {h : Head} {t o g : List ℕ} {ok : Bool} → RangesHosted h t o g ok → ok ≡ true → InRanges (lentBy (sessionIn h t o g))

@@ -5,7 +5,7 @@ use mathlib.Core.Path.{_≡_}
 use mathlib.Core.List.{List}
 use Rattle.lengths.specs.Answers.{fitted, sizeOf, over}
 use Rattle.held.specs.Table.{lentBy}
-use Rattle.images.specs.Layout.{editionWritten}
+use Rattle.images.specs.Layout.{versionWritten}
 use Rattle.images.specs.Image.{imageToWrite, readText}
 use Rattle.sessions.specs.Receiver.{After}
 use Rattle.host_answers.specs.Answers.{told, wroteTold}
@@ -16,8 +16,8 @@ use Rattle.host.specs.declared.image.AfterRestore.{AfterRestore}
 
 -- ---- write: the session's image to the front of a lent buffer
 pub record ImageHosted (h : Head) (t o g old new : List ℕ) (r : Wrote) : Type 0 where
-  pub answer : r ≡ wroteTold (sizeOf (fitted (imageToWrite editionWritten (lentBy (sessionIn h t o g))) old))
-  pub lent : new ≡ over (fitted (imageToWrite editionWritten (lentBy (sessionIn h t o g))) old) old
+  pub answer : r ≡ wroteTold (sizeOf (fitted (imageToWrite versionWritten (lentBy (sessionIn h t o g))) old))
+  pub lent : new ≡ over (fitted (imageToWrite versionWritten (lentBy (sessionIn h t o g))) old) old
 
 -- ---- read: the session that the text is an image of, within its ranges; of a refused text the memory is as it was
 pub record RestoreHosted (text : List ℕ) (h : Head) (t o g t₂ o₂ g₂ : List ℕ) (r : AfterRestore) : Type 0 where

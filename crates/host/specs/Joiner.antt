@@ -42,15 +42,15 @@ abbrev pub noFlag : Memory → Bool
 noFlag m = ltb 1 (m .tainted)
 
 -- ---- one field: the memory and the lent buffer before it, the frame and the buffer after it
-unfoldable pub fieldIn : ℕ → ℕ → List ℕ → Memory → Answer (Option Frame)
-fieldIn room type octets m = cond (noFlag m) (refuse outsideRanges) (fieldAnswer room type octets (joinerIn m))
+unfoldable pub fieldJoined : ℕ → ℕ → List ℕ → Memory → Answer (Option Frame)
+fieldJoined room type octets m = cond (noFlag m) (refuse outsideRanges) (fieldAnswer room type octets (joinerIn m))
 
 unfoldable pub memoryAfter : ℕ → ℕ → List ℕ → Memory → Memory
 memoryAfter room type octets m = cond (noFlag m) m (inMemory (joinerAfter room type octets (joinerIn m)))
 
 pub record FieldHosted (type : ℕ) (octets : List ℕ) (before : Memory) (old frame new : List ℕ) (r : AfterField) : Type 0 where
-  pub answer : r .frame ≡ frameTold (toldIn (fieldIn (length old) type octets before))
-  pub lent : new ≡ over (mapped frameOctets (fieldIn (length old) type octets before)) old
+  pub answer : r .frame ≡ frameTold (toldIn (fieldJoined (length old) type octets before))
+  pub lent : new ≡ over (mapped frameOctets (fieldJoined (length old) type octets before)) old
   pub state : memoryOf (r .head .tainted) (r .head .size) frame ≡ memoryAfter (length old) type octets before
 
 -- ---- one lost number

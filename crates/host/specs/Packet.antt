@@ -10,19 +10,19 @@ use Rattle.lengths.specs.Answers.{Answer, refuse, fitted, sizeOf, over}
 use Rattle.packets.specs.Edition.{byEdition}
 use Rattle.packets.specs.Packet.{readPacket}
 use Rattle.packets.specs.Write.{packetToWrite}
-use Rattle.packets.specs.declared.types.Kind.{Kind}
+use Rattle.packets.specs.declared.types.PacketKind.{PacketKind}
 use Rattle.host_answers.specs.Answers.{wroteTold}
-use Rattle.host_answers.specs.Packet.{endingOf, kindNamed, packetTold}
+use Rattle.host_answers.specs.Packet.{endingNamed, kindNamed, packetTold}
 use Rattle.host_answers.specs.declared.answers.Wrote.{Wrote}
 use Rattle.host_answers.specs.declared.packet.PacketFound.{PacketFound}
 
 -- 15, "settings outside the sizes", for an octet that names no kind, before all else; another edition is 15 too
-abbrev pub byKind : {A : Type 0} → ℕ → (Kind → Answer A) → Answer A
+abbrev pub byKind : {A : Type 0} → ℕ → (PacketKind → Answer A) → Answer A
 byKind octet answer = cond (ltb 1 octet) (refuse wrongSettings) (answer (kindNamed octet))
 
 -- ---- read
 pub record PacketHosted (edition : ℕ) (repaired : Bool) (octets : List ℕ) (r : PacketFound) : Type 0 where
-  pub answer : r ≡ packetTold (byEdition edition (λ e. readPacket e (endingOf repaired) octets))
+  pub answer : r ≡ packetTold (byEdition edition (λ e. readPacket e (endingNamed repaired) octets))
 
 -- ---- write: the octets of the packet that is asked for, or why it is refused, but for room
 unfoldable pub packetAsked : ℕ → ℕ → ℕ → List ℕ → List ℕ → List ℕ → Answer (List ℕ)

@@ -13,7 +13,7 @@ use Rattle.held.specs.Laid.{sessionInRanges}
 use Rattle.held.specs.Promise.{Sized}
 use Rattle.leaving.specs.Outcome.{handedOf, octetsHanded}
 use Rattle.sessions.specs.Receiver.{After, offerOf, releaseOf}
-use Rattle.host_answers.specs.Answers.{told, numberTold}
+use Rattle.host_answers.specs.Answers.{told, releaseNumber}
 use Rattle.host_answers.specs.declared.answers.Answered.{Answered}
 use Rattle.host.specs.declared.receiver.Head.{Head}
 use Rattle.host.specs.declared.receiver.AfterRelease.{AfterRelease}
@@ -32,7 +32,7 @@ pub record OfferHosted (octets : List ℕ) (h : Head) (t o g t₂ o₂ g₂ : Li
 
 -- ---- release, with leave to skip or without
 pub record ReleaseHosted (leave : Bool) (h : Head) (t o g old t₂ o₂ g₂ new : List ℕ) (r : AfterRelease) : Type 0 where
-  pub answer : r .left ≡ numberTold (handedOf (releaseOf leave (length old) (sessionIn h t o g)))
+  pub answer : r .left ≡ releaseNumber (handedOf (releaseOf leave (length old) (sessionIn h t o g)))
   pub lent : new ≡ over (octetsHanded (releaseOf leave (length old) (sessionIn h t o g))) old
   pub state : After (viewAfterRelease (releaseOf leave (length old) (sessionIn h t o g))) (sessionIn h t o g)
       (sessionIn (r .head) t₂ o₂ g₂)

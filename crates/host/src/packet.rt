@@ -7,7 +7,7 @@ use host_answers::kind_told;
 use host_answers::no_kind;
 use host_answers::written_told;
 use lengths::Refusal;
-use packets::Reading;
+use packets::PacketReading;
 ghost use Rattle.host.specs.Packet.{PacketHosted, WriteHosted};
 
 // A packet in the edition that an octet names, repaired or not.
@@ -20,7 +20,7 @@ pub extern "C" fn tbx_core_packet_read(octets: &[u8], edition: u8, repaired: boo
     let reading = read.reading;
     let fields = read.fields;
     match reading {
-        Reading::Packet { kind, value, count } => {
+        PacketReading::Packet { kind, value, count } => {
             let told = kind_told(kind);
             PacketFound {
                 refusal: 0,
@@ -31,7 +31,7 @@ pub extern "C" fn tbx_core_packet_read(octets: &[u8], edition: u8, repaired: boo
                 fields,
             }
         }
-        Reading::Refused(why) => PacketFound {
+        PacketReading::Refused(why) => PacketFound {
             refusal: why.number,
             kind: 0,
             value: 0,

@@ -7,7 +7,7 @@ use Rattle.lengths.specs.declared.Refusal.{Refusal}
 use Rattle.lengths.specs.declared.Written.{Written}
 use Rattle.lengths.specs.declared.Written.the-variants as written
 use Rattle.held.specs.Table.{stateOf}
-use Rattle.held.specs.declared.Kind.{Kind}
+use Rattle.held.specs.declared.ReleaseKind.{ReleaseKind}
 use Rattle.lines.specs.Lines.{kindOctet}
 use Rattle.leaving.specs.Outcome.{releasedOutcome}
 use Rattle.leaving.specs.declared.Released.{Released}
@@ -19,7 +19,7 @@ use Rattle.frames.specs.Promise.{handedOutcome}
 use Rattle.frames.specs.declared.Handed.{Handed}
 use Rattle.frames.specs.declared.Handed.the-variants as handed
 use Rattle.sending.specs.declared.Settings.the-variants as settings
-use Rattle.host_answers.specs.Answers.{told, numberTold, wroteTold, OfferedTold, ReleasedTold, WrittenTold}
+use Rattle.host_answers.specs.Answers.{told, releaseNumber, wroteTold, OfferedTold, ReleasedTold, WrittenTold}
 use Rattle.host_answers.specs.Joiner.{frameTold, FrameTold}
 use Rattle.host_answers.specs.Settings.{SettingsTold}
 
@@ -37,19 +37,19 @@ pub told-refused : {a : Offered} {why : Refusal} → a ≡ offered.Refused why
 told-refused e = record { is = ap (λ (x : Offered). told (offeredOutcome x)) (sym e) }
 
 -- ---- release
-pub told-left : {a : Released} {kind : Kind} {number note size octet : ℕ} → a ≡ released.Number kind number note size
+pub told-left : {a : Released} {kind : ReleaseKind} {number note size octet : ℕ} → a ≡ released.Number kind number note size
     → octet ≡ kindOctet (stateOf kind)
     → ReleasedTold a (record { refusal = 0; kind = octet; number = number; note = note; place = 0; size = size })
 told-left {number = number} {note} {size} e is =
     record {
       is =
           ap (λ (k : ℕ). record { refusal = 0; kind = k; number = number; note = note; place = 0; size = size }) is
-          ∙ ap (λ (x : Released). numberTold (releasedOutcome x)) (sym e);
+          ∙ ap (λ (x : Released). releaseNumber (releasedOutcome x)) (sym e);
     }
 
 pub told-kept : {a : Released} {why : Refusal} → a ≡ released.Refused why
     → ReleasedTold a (record { refusal = why .number; kind = 0; number = 0; note = 0; place = why .place; size = 0 })
-told-kept e = record { is = ap (λ (x : Released). numberTold (releasedOutcome x)) (sym e) }
+told-kept e = record { is = ap (λ (x : Released). releaseNumber (releasedOutcome x)) (sym e) }
 
 pub ruleset telling = (told-accepted, told-refused, told-left, told-kept)
 

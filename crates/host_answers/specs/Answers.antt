@@ -17,9 +17,9 @@ told (done a) = record { refusal = 0; place = 0 }
 told (refused why) = record { refusal = why .number; place = why .place }
 
 -- of a release: the kind as the program's lines name it, the number, the datagram that filled it, the size of its packet
-abbrev pub numberTold : Answer Handed → Number
-numberTold (done a) = record { refusal = 0; kind = kindOctet (a .kind); number = a .number; note = a .note; place = 0; size = a .size }
-numberTold (refused why) = record { refusal = why .number; kind = 0; number = 0; note = 0; place = why .place; size = 0 }
+abbrev pub releaseNumber : Answer Handed → Number
+releaseNumber (done a) = record { refusal = 0; kind = kindOctet (a .kind); number = a .number; note = a .note; place = 0; size = a .size }
+releaseNumber (refused why) = record { refusal = why .number; kind = 0; number = 0; note = 0; place = why .place; size = 0 }
 
 -- of a call that writes: how many octets
 abbrev pub wroteTold : Answer ℕ → Wrote
@@ -31,7 +31,7 @@ pub record OfferedTold (from : Offered) (r : Answered) : Type 0 where
   pub is : r ≡ told (offeredOutcome from)
 
 pub record ReleasedTold (from : Released) (r : Number) : Type 0 where
-  pub is : r ≡ numberTold (releasedOutcome from)
+  pub is : r ≡ releaseNumber (releasedOutcome from)
 
 pub record WrittenTold (from : Written) (r : Wrote) : Type 0 where
   pub is : r ≡ wroteTold (writtenOutcome from)

@@ -6,27 +6,27 @@ use lib.ListN.{length}
 use lib.Dec.{eqb}
 use Rattle.lengths.specs.Answers.{Answer, done, refused}
 use Rattle.packets.specs.Packet.{PacketAnswer}
-use Rattle.packets.specs.Promise.{padded}
-use Rattle.packets.specs.declared.types.Kind.{Kind}
-use Rattle.packets.specs.declared.types.Kind.the-variants.{Indicator, Data}
+use Rattle.packets.specs.Promise.{paddedFields}
+use Rattle.packets.specs.declared.types.PacketKind.{PacketKind}
+use Rattle.packets.specs.declared.types.PacketKind.the-variants.{Indicator, Data}
 use Rattle.packets.specs.declared.types.Ending.{Ending}
 use Rattle.packets.specs.declared.types.Ending.the-variants.{Whole, Repaired}
 use Rattle.host_answers.specs.declared.packet.PacketFound.{PacketFound}
 
 -- repaired, or received or a spare
-abbrev pub endingOf : Bool → Ending
-endingOf repaired = cond repaired Repaired Whole
+abbrev pub endingNamed : Bool → Ending
+endingNamed repaired = cond repaired Repaired Whole
 
 -- a kind as an octet, and back
-abbrev pub kindTold : Kind → ℕ
+abbrev pub kindTold : PacketKind → ℕ
 kindTold Indicator = 0
 kindTold Data = 1
 
-abbrev pub kindNamed : ℕ → Kind
+abbrev pub kindNamed : ℕ → PacketKind
 kindNamed octet = cond (eqb octet 0) Indicator Data
 
 -- the fields that a packet does not have are zero, and so is all but the refusal and its place where it is refused
 abbrev pub packetTold : Answer PacketAnswer → PacketFound
 packetTold (done p) =
-    record { refusal = 0; kind = kindTold (p .kind); value = p .value; place = 0; count = length (p .fields); fields = padded (p .fields) }
-packetTold (refused why) = record { refusal = why .number; kind = 0; value = 0; place = why .place; count = 0; fields = padded [] }
+    record { refusal = 0; kind = kindTold (p .kind); value = p .value; place = 0; count = length (p .fields); fields = paddedFields (p .fields) }
+packetTold (refused why) = record { refusal = why .number; kind = 0; value = 0; place = why .place; count = 0; fields = paddedFields [] }

@@ -1,5 +1,5 @@
 // The answer of a call in numbers.
-use held::Kind;
+use held::ReleaseKind;
 use leaving::Released;
 use lengths::Written;
 use offering::Offered;
@@ -52,14 +52,14 @@ pub fn offered_told(answer: Offered) -> Answered
 }
 
 // The kind of a number that left.
-fn kind_told(kind: Kind) -> u8
+fn kind_told(kind: ReleaseKind) -> u8
     ensures { λ r. ⌜ r ≡ kindOctet (stateOf kind) ⌝ }
 {
     match kind {
-        Kind::Received => 0,
-        Kind::Spare => 1,
-        Kind::Repaired => 2,
-        Kind::Lost => 3,
+        ReleaseKind::Received => 0,
+        ReleaseKind::Spare => 1,
+        ReleaseKind::Repaired => 2,
+        ReleaseKind::Lost => 3,
     }
 }
 

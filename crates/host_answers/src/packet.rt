@@ -1,10 +1,10 @@
 // What a packet reads as, in numbers, and the choices of its calls. A kind is an octet, 0 for an indicator and 1 for data.
 use packets::Ending;
 use packets::Field;
-use packets::Kind;
+use packets::PacketKind;
 ghost use mathlib.Core.Path.{_≡_};
 ghost use lib.Dec.{ltb};
-ghost use Rattle.host_answers.specs.Packet.{endingOf, kindTold, kindNamed};
+ghost use Rattle.host_answers.specs.Packet.{endingNamed, kindTold, kindNamed};
 
 // What a packet reads as: 0, or the number of the refusal and its place; the kind, the value and how many fields it has. The first `count`
 // of the fields are the packet's, all others are zero. All are 0 with a refusal.
@@ -20,7 +20,7 @@ pub struct PacketFound {
 
 // How a packet came.
 pub fn ending_of(repaired: bool) -> Ending
-    ensures { λ r. ⌜ r ≡ endingOf repaired ⌝ }
+    ensures { λ r. ⌜ r ≡ endingNamed repaired ⌝ }
 {
     if repaired {
         return Ending::Repaired;
@@ -29,12 +29,12 @@ pub fn ending_of(repaired: bool) -> Ending
 }
 
 // A kind as an octet.
-pub fn kind_told(kind: Kind) -> u8
+pub fn kind_told(kind: PacketKind) -> u8
     ensures { λ r. ⌜ r ≡ kindTold kind ⌝ }
 {
     match kind {
-        Kind::Indicator => 0,
-        Kind::Data => 1,
+        PacketKind::Indicator => 0,
+        PacketKind::Data => 1,
     }
 }
 
@@ -46,11 +46,11 @@ pub fn no_kind(octet: u8) -> bool
 }
 
 // The kind that an octet of at most 1 names.
-pub fn kind_named(octet: u8) -> Kind
+pub fn kind_named(octet: u8) -> PacketKind
     ensures { λ r. ⌜ r ≡ kindNamed octet ⌝ }
 {
     if octet == 0 {
-        return Kind::Indicator;
+        return PacketKind::Indicator;
     }
-    Kind::Data
+    PacketKind::Data
 }

@@ -14,7 +14,7 @@ use Rattle.formats.specs.Format.{Format, _⊳_}
 use Rattle.views.specs.View.{View}
 use Rattle.images.specs.Parts.{upTo, readWhole, lineFront, line}
 use Rattle.images.specs.Layout as layout
-use Rattle.images.specs.Layout.{Edition, first, viewFrom, image}
+use Rattle.images.specs.Layout.{ImageVersion, firstImageLine, viewFrom, image}
 use Rattle.image_reader.specs.Laying.{Lengths}
 use Rattle.image_reader.specs.Whole.{FirstLineTold, NoFirst, firstTold, numberLines, LinesLaid, LinesTold, Cleared, CoreTold}
 use Rattle.image_reader.specs.declared.whole.First.{First}
@@ -41,9 +41,9 @@ never-done {A} f s never = by (f .read s 0 0) refl where
 abbrev linesOf : ℕ → Format (List layout.Number × List layout.Number)
 linesOf limit = numberLines limit false ⊳ λ _. numberLines limit true
 
-module _ (edition : Edition) (text : List ℕ) where
-  image-at : (f : layout.First) (p : ℕ) (b : List layout.Number) (q : ℕ) (a : List layout.Number)
-      → line (first edition) .read text 0 0 ≡ found f (8 * p)
+module _ (edition : ImageVersion) (text : List ℕ) where
+  image-at : (f : layout.FirstImageLine) (p : ℕ) (b : List layout.Number) (q : ℕ) (a : List layout.Number)
+      → line (firstImageLine edition) .read text 0 0 ≡ found f (8 * p)
       → numberLines (edition .limit) false .read text 0 (8 * p) ≡ found b (8 * q)
       → numberLines (edition .limit) true .read text 0 (8 * q) ≡ found a (8 * length text)
       → image edition .read text 0 0 ≡ found (viewFrom (f, (b, a))) (8 * length text)
@@ -51,13 +51,13 @@ module _ (edition : Edition) (text : List ℕ) where
   image-at f p b q a head before ahead = rw (head, before, ahead)
 
   -- the first line, at the front
-  head-at : (f : layout.First) (p : ℕ) → lineFront (first edition) text ≡ found f p → line (first edition) .read text 0 0 ≡ found f (8 * p)
+  head-at : (f : layout.FirstImageLine) (p : ℕ) → lineFront (firstImageLine edition) text ≡ found f p → line (firstImageLine edition) .read text 0 0 ≡ found f (8 * p)
   head-at f p e =
       let end : 0 + p ≡ p = omega arith in
-      line-at (first edition) text 0 f p e ∙ ap (λ (k : ℕ). found f (8 * k)) end
+      line-at (firstImageLine edition) text 0 f p e ∙ ap (λ (k : ℕ). found f (8 * k)) end
 
-  image-reads : (f : layout.First) (p : ℕ) (b : List layout.Number) (q : ℕ) (a : List layout.Number)
-      → lineFront (first edition) text ≡ found f p → numberLines (edition .limit) false .read text 0 (8 * p) ≡ found b (8 * q)
+  image-reads : (f : layout.FirstImageLine) (p : ℕ) (b : List layout.Number) (q : ℕ) (a : List layout.Number)
+      → lineFront (firstImageLine edition) text ≡ found f p → numberLines (edition .limit) false .read text 0 (8 * p) ≡ found b (8 * q)
       → numberLines (edition .limit) true .read text 0 (8 * q) ≡ found a (8 * length text)
       → readWhole (image edition) text ≡ done (viewFrom (f, (b, a)))
   image-reads f p b q a head before ahead =
@@ -65,20 +65,20 @@ module _ (edition : Edition) (text : List ℕ) where
 
   -- and what was read
   record ImageFound : Type 0 where
-    f : layout.First
+    f : layout.FirstImageLine
     p : ℕ
     b : List layout.Number
     q : ℕ
     a : List layout.Number
-    head : lineFront (first edition) text ≡ found f p
+    head : lineFront (firstImageLine edition) text ≡ found f p
     before : numberLines (edition .limit) false .read text 0 (8 * p) ≡ found b q
     ahead : numberLines (edition .limit) true .read text 0 q ≡ found a (8 * length text)
 
-  parts-found : (v : layout.First × (List layout.Number × List layout.Number))
-      → (line (first edition) ⊳ λ _. linesOf (edition .limit)) .read text 0 0 ≡ found v (8 * length text) → ImageFound
+  parts-found : (v : layout.FirstImageLine × (List layout.Number × List layout.Number))
+      → (line (firstImageLine edition) ⊳ λ _. linesOf (edition .limit)) .read text 0 0 ≡ found v (8 * length text) → ImageFound
   parts-found v e =
-      let x = then-found (line (first edition)) (λ _. linesOf (edition .limit)) text 0 0 v (8 * length text) e in
-      let h = line-back (first edition) text 0 (x .first) (x .at) (x .was) in
+      let x = then-found (line (firstImageLine edition)) (λ _. linesOf (edition .limit)) text 0 0 v (8 * length text) e in
+      let h = line-back (firstImageLine edition) text 0 (x .first) (x .at) (x .was) in
       let y = then-found (numberLines (edition .limit) false) (λ _. numberLines (edition .limit) true) text 0 (x .at) (x .second)
       (8 * length text) (x .then) in
       let end : x .at ≡ 8 * h .0 = omega (arith, h .2) in
@@ -96,7 +96,7 @@ module _ (edition : Edition) (text : List ℕ) where
   image-found : (view : View) → readWhole (image edition) text ≡ done view → ImageFound
   unfolding image
   image-found view e =
-      let all = stepped ((line (first edition) ⊳ λ _. linesOf (edition .limit)) .read text 0 0) (λ a p. found (viewFrom a) p) view
+      let all = stepped ((line (firstImageLine edition) ⊳ λ _. linesOf (edition .limit)) .read text 0 0) (λ a p. found (viewFrom a) p) view
       (8 * length text) (done-whole (image edition) text view e) in
       let end : all .at ≡ 8 * length text = cc in
       parts-found (all .value) (all .was ∙ ap (λ (n : ℕ). found (all .value) n) end)
@@ -108,7 +108,7 @@ same-found e d = (cc, cc)
 -- the first line ends within the text
 pub head-inside : {octet : ℕ} {text : List ℕ} {head : First} → FirstLineTold octet text head → head .read ≡ true → head .end ≤ length text
 head-inside {octet} {text} {head} told so =
-    front-inside (first (record { octet = octet; limit = 0 })) text (firstTold head) (head .end) (told .right so 0)
+    front-inside (firstImageLine (record { octet = octet; limit = 0 })) text (firstTold head) (head .end) (told .right so 0)
 
 module _ {octet limit : ℕ} {text : List ℕ} where
   none-told : {t o g : List ℕ} {r : First} → NoFirst r

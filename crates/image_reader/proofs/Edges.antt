@@ -15,7 +15,7 @@ use Rattle.formats.specs.Reading.{Finding, found, stopped, andThen, foundFrom}
 use Rattle.formats.specs.Reading as reading
 use Rattle.formats.specs.Format.{Format, guarded, _⊳_}
 use Rattle.formats.proofs.Laws.{octetwise-edge}
-use Rattle.images.specs.Parts.{upTo, readWhole, highFirst, numberIn, numberFront, number}
+use Rattle.images.specs.Parts.{upTo, readWhole, highFirst, highFirstOctets, numberFront, number}
 
 -- ---- steps
 pub record Stepped {A B : Type 0} (r : Finding A) (next : A → ℕ → Finding B) (b : B) (q : ℕ) : Type 0 where
@@ -70,7 +70,7 @@ module _ {A : Type 0} (f : Format A) (s : List ℕ) (a : A) where
 -- ---- numbers
 module _ (k : ℕ) (s : List ℕ) (i at : ℕ) where
   edge : number k .read s i (8 * at) ≡ andThen (foundFrom at (numberFront k (drop at s))) (λ v n. found v (8 * n + 8 * at))
-  edge = octetwise-edge (numberFront k) (numberIn k) (λ v. v < 256 ^ k) s i at
+  edge = octetwise-edge (numberFront k) (highFirstOctets k) (λ v. v < 256 ^ k) s i at
 
   pub number-at : k ≤ length s - at → (next : ℕ) → next ≡ at + k
       → number k .read s i (8 * at) ≡ found (highFirst k (drop at s)) (8 * next)

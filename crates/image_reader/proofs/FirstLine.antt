@@ -14,9 +14,9 @@ use Rattle.formats.specs.Reading.{found}
 use Rattle.formats.specs.Format.{Format, _⊳_}
 use Rattle.images.specs.Parts.{readWhole, highFirst, number, octetIs}
 use Rattle.images.specs.Layout as layout
-use Rattle.images.specs.Layout.{Edition, firstFrom, first}
-use Rattle.images.specs.Image.{firstSize}
-use Rattle.image_reader.specs.Whole.{FirstIs, FirstTold, NoFirst}
+use Rattle.images.specs.Layout.{ImageVersion, firstFrom, firstImageLine}
+use Rattle.images.specs.Image.{firstImageSize}
+use Rattle.image_reader.specs.Whole.{FirstIs, FirstImageTold, NoFirst}
 use Rattle.image_reader.specs.declared.whole.First.{First}
 use Rattle.image_reader.proofs.Edges.{stepped, then-found, whole-done, done-whole, number-at, number-found, octet-at, octet-found}
 use Rattle.image_reader.proofs.NumberSteps.{contrary}
@@ -34,9 +34,9 @@ four-octets s at a b high low =
     omega arith
 
 -- ---- what stands there is read
-module _ (edition : Edition) (s : List ℕ) where
-  first-at : (f : layout.First) → FirstIs (edition .octet) s f → first edition .read s 0 0 ≡ found f (8 * length s)
-  unfolding first
+module _ (edition : ImageVersion) (s : List ℕ) where
+  first-at : (f : layout.FirstImageLine) → FirstIs (edition .octet) s f → firstImageLine edition .read s 0 0 ≡ found f (8 * length s)
+  unfolding firstImageLine
   first-at f x =
       let long = x .long in
       let octet = octet-at (λ v. eqb v (edition .octet)) s 0 0 (omega arith) (eq-eqb (getD s 0 0) (edition .octet) (x .edition)) 1 refl in
@@ -55,8 +55,8 @@ module _ (edition : Edition) (s : List ℕ) where
         x .long,
       )
 
-  pub first-reads : (f : layout.First) → FirstIs (edition .octet) s f → readWhole (first edition) s ≡ done f
-  first-reads f x = whole-done (first edition) s f (first-at f x)
+  pub first-reads : (f : layout.FirstImageLine) → FirstIs (edition .octet) s f → readWhole (firstImageLine edition) s ≡ done f
+  first-reads f x = whole-done (firstImageLine edition) s f (first-at f x)
 
 -- ---- and what is read stands there
 -- a number, and what follows it
@@ -75,7 +75,7 @@ four = number 4
 
 counts-found : (s : List ℕ) (v : ℕ × (ℕ × (ℕ × ℕ))) → (four ⊳ λ _. four ⊳ λ _. four ⊳ λ _. four) .read s 0 (8 * 3) ≡ found v (8 * length s)
     → (v .0 ≡ highFirst 4 (drop 3 s)) × (v .1 .0 ≡ highFirst 4 (drop 7 s)) × (v .1 .1 .0 ≡ highFirst 4 (drop 11 s))
-    × (v .1 .1 .1 ≡ highFirst 4 (drop 15 s)) × (length s ≡ firstSize)
+    × (v .1 .1 .1 ≡ highFirst 4 (drop 15 s)) × (length s ≡ firstImageSize)
 counts-found s v e =
     let a = number-then 4 (four ⊳ λ _. four ⊳ λ _. four) s 3 7 v (8 * length s) refl e in
     let b = number-then 4 (four ⊳ λ _. four) s 7 11 (v .1) (8 * length s) refl (a .1) in
@@ -104,18 +104,18 @@ first-items octet s v e =
       lost = c .3;
     }
 
-pub first-back : (edition : Edition) (s : List ℕ) (f : layout.First) → readWhole (first edition) s ≡ done f → FirstIs (edition .octet) s f
-unfolding first
+pub first-back : (edition : ImageVersion) (s : List ℕ) (f : layout.FirstImageLine) → readWhole (firstImageLine edition) s ≡ done f → FirstIs (edition .octet) s f
+unfolding firstImageLine
 first-back edition s f e =
     let all = stepped ((octetIs (edition .octet) ⊳ λ _. number 2 ⊳ λ _. four ⊳ λ _. four ⊳ λ _. four ⊳ λ _. four) .read s 0 0)
-    (λ a p. found (firstFrom a) p) f (8 * length s) (done-whole (first edition) s f e) in
+    (λ a p. found (firstFrom a) p) f (8 * length s) (done-whole (firstImageLine edition) s f e) in
     let made : firstFrom (all .value) ≡ f = cc in
     let end : all .at ≡ 8 * length s = cc in
     rw made at (first-items (edition .octet) s (all .value) (all .was ∙ ap (λ (n : ℕ). found (all .value) n) end))
 
 -- ---- the answers of first_in
 module _ {octet : ℕ} {s : List ℕ} {end : ℕ} where
-  no-first : {r : First} → NoFirst r → ((f : layout.First) → FirstIs octet s f → ⊥) → FirstTold octet s end r
+  no-first : {r : First} → NoFirst r → ((f : layout.FirstImageLine) → FirstIs octet s f → ⊥) → FirstImageTold octet s end r
   no-first made never =
       record {
         right = λ so. contrary so (made .refused);
@@ -123,16 +123,16 @@ module _ {octet : ℕ} {s : List ℕ} {end : ℕ} where
         none = λ so f is. never f is;
       }
 
-  pub first-size : {r : First} → NoFirst r → (length s ≡ firstSize → ⊥) → FirstTold octet s end r
+  pub first-size : {r : First} → NoFirst r → (length s ≡ firstImageSize → ⊥) → FirstImageTold octet s end r
   first-size made other = no-first made (λ f is. other (is .long))
 
-  pub first-edition : {r : First} → NoFirst r → (getD s 0 0 ≡ octet → ⊥) → FirstTold octet s end r
+  pub first-edition : {r : First} → NoFirst r → (getD s 0 0 ≡ octet → ⊥) → FirstImageTold octet s end r
   first-edition made other = no-first made (λ f is. other (is .edition))
 
-  pub first-read : {base received spare repaired lost : ℕ} → length s ≡ firstSize → getD s 0 0 ≡ octet
+  pub first-read : {base received spare repaired lost : ℕ} → length s ≡ firstImageSize → getD s 0 0 ≡ octet
       → base ≡ getD s 1 0 * 256 + getD s 2 0 → received ≡ highFirst 4 (drop 3 s) → spare ≡ highFirst 4 (drop 7 s)
       → repaired ≡ highFirst 4 (drop 11 s) → lost ≡ highFirst 4 (drop 15 s)
-      → FirstTold octet s end
+      → FirstImageTold octet s end
       (record {
         read = true;
         base = base;

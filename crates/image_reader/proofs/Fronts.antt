@@ -22,11 +22,11 @@ use Rattle.formats.specs.Format.{Format}
 use Rattle.lines.specs.Hex.{octetsIn}
 use Rattle.images.specs.Parts.{readWhole, taking, lineAt, upperPairs, readLine, lineFront}
 use Rattle.images.specs.Layout as layout
-use Rattle.images.specs.Layout.{first}
-use Rattle.images.specs.Image.{firstSize, longestItem, lineLimit}
+use Rattle.images.specs.Layout.{firstImageLine}
+use Rattle.images.specs.Image.{firstImageSize, longestItem, numberLineLimit}
 use Rattle.image_reader.specs.Text.{LineTaken}
 use Rattle.image_reader.specs.Number.{NumberIs, LineParts}
-use Rattle.image_reader.specs.Whole.{FirstTold, FirstLineTold, NoFirst, firstTold}
+use Rattle.image_reader.specs.Whole.{FirstImageTold, FirstLineTold, NoFirst, firstTold}
 use Rattle.image_reader.specs.declared.text.Taken.{Taken}
 use Rattle.image_reader.specs.declared.text.Taken.the-variants as taken
 use Rattle.image_reader.specs.declared.whole.First.{First}
@@ -95,28 +95,28 @@ module _ {text old new : List ℕ} {r : Taken} (t : LineTaken text old new r) wh
 
 -- ---- the first line
 module _ {octet : ℕ} {text old new : List ℕ} {r : Taken} (t : LineTaken text old new r) where
-  pub first-none : {q : First} → r ≡ taken.Misshapen → length old ≡ firstSize → NoFirst q → FirstLineTold octet text q
+  pub first-none : {q : First} → r ≡ taken.Misshapen → length old ≡ firstImageSize → NoFirst q → FirstLineTold octet text q
   first-none is long made =
       record {
         right = λ so. contrary so (made .refused);
         none = λ so limit f n e.
-            let back = front-back (first (record { octet = octet; limit = limit })) text f n e in
+            let back = front-back (firstImageLine (record { octet = octet; limit = limit })) text f n e in
             let all = first-back (record { octet = octet; limit = limit }) (octetsIn (lineAt text)) f (back .read) in
-            taken-never t (first (record { octet = octet; limit = limit })) is f n e (omega (arith, all .long));
+            taken-never t (firstImageLine (record { octet = octet; limit = limit })) is f n e (omega (arith, all .long));
       }
 
-  pub first-told : {count next : ℕ} {q : First} → r ≡ taken.Octets count next → FirstTold octet (take count new) next q
+  pub first-told : {count next : ℕ} {q : First} → r ≡ taken.Octets count next → FirstImageTold octet (take count new) next q
       → FirstLineTold octet text q
   first-told {count} {next} {q} is told =
       record {
         right = λ so limit.
-            taken-found t (first (record { octet = octet; limit = limit })) is (firstTold q)
+            taken-found t (firstImageLine (record { octet = octet; limit = limit })) is (firstTold q)
             (first-reads (record { octet = octet; limit = limit }) (take count new) (firstTold q) (told .right so))
             ∙ ap (found (firstTold q)) (sym (told .after so));
         none = λ so limit f n e.
             told .none so f
             (first-back (record { octet = octet; limit = limit }) (take count new) f
-            (taken-back t (first (record { octet = octet; limit = limit })) is f n e));
+            (taken-back t (firstImageLine (record { octet = octet; limit = limit })) is f n e));
       }
 
 pub ruleset firstlines = (first-none, first-told)
@@ -139,7 +139,7 @@ items-longest limit s at (suc n) ps e =
     rw (← same) (omega (arith, item-longest limit s at (one .0) (one .1), suc-mul n (longestItem limit)))
 
 pub number-longest : {limit : ℕ} {ahead : Bool} {s : List ℕ} {x : LineParts} → limit ≤ packetLimit → NumberIs limit ahead s x
-    → length s ≤ lineLimit packetLimit
+    → length s ≤ numberLineLimit packetLimit
 number-longest {limit} {ahead} {s} {x} most is =
     let tail = is .tail in
     let packet = item-longest limit s 4 (x .packet) (is .packet) in

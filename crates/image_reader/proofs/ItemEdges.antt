@@ -17,7 +17,7 @@ use Rattle.formats.specs.Reading.{found, andThen, foundFrom}
 use Rattle.formats.specs.Reading as reading
 use Rattle.formats.specs.Format.{sequenceOf}
 use Rattle.formats.proofs.Laws.{octetwise-edge}
-use Rattle.images.specs.Parts.{partTaken, itemFront, item, Sendable}
+use Rattle.images.specs.Parts.{partTaken, itemFront, itemTo, Sendable}
 use Rattle.datagrams.specs.Write.{itemOctets}
 use Rattle.image_reader.proofs.Edges.{stepped}
 
@@ -71,11 +71,11 @@ module _ (limit : ℕ) (s : List ℕ) (at : ℕ) where
       )
 
   item-edge : (i : ℕ)
-      → item limit .read s i (8 * at) ≡ andThen (foundFrom at (itemFront limit (drop at s))) (λ x n. found x (8 * n + 8 * at))
+      → itemTo limit .read s i (8 * at) ≡ andThen (foundFrom at (itemFront limit (drop at s))) (λ x n. found x (8 * n + 8 * at))
   item-edge i = octetwise-edge (itemFront limit) itemOctets (Sendable limit) s i at
 
   pub item-at : (i : ℕ) (p : Part) → itemAt messageLeast limit s at ≡ done p
-      → item limit .read s i (8 * at) ≡ found (octetsOf s p) (8 * after p)
+      → itemTo limit .read s i (8 * at) ≡ found (octetsOf s p) (8 * after p)
   item-at i p e =
       let so = item-sized p e in
       let l = so .0 in
@@ -88,7 +88,7 @@ module _ (limit : ℕ) (s : List ℕ) (at : ℕ) where
     pub octets : x ≡ octetsOf s part
     pub end : q ≡ 8 * after part
 
-  pub item-found : (i : ℕ) (x : List ℕ) (q : ℕ) → item limit .read s i (8 * at) ≡ found x q → ItemFound x q
+  pub item-found : (i : ℕ) (x : List ℕ) (q : ℕ) → itemTo limit .read s i (8 * at) ≡ found x q → ItemFound x q
   unfolding itemFront
   item-found i x q e = by (itemAt messageLeast limit (drop at s) 0) refl (sym (item-edge i) ∙ e) where
     by : (r : Answer Part) → itemAt messageLeast limit (drop at s) 0 ≡ r
@@ -107,7 +107,7 @@ module _ (limit : ℕ) (s : List ℕ) (at : ℕ) where
 
 -- several
 pub items-at : (limit : ℕ) (s : List ℕ) (i at n : ℕ) (ps : List Part) → itemsAt messageLeast limit s at n ≡ done ps
-    → sequenceOf n (item limit) .read s i (8 * at) ≡ found (map (octetsOf s) ps) (8 * endOf at ps)
+    → sequenceOf n (itemTo limit) .read s i (8 * at) ≡ found (map (octetsOf s) ps) (8 * endOf at ps)
 unfolding itemsAt endOf reading.sequenceOf
 items-at limit s i at zero ps e = let same : [] ≡ ps = done-same e in rw (← same)
 items-at limit s i at (suc n) ps e =
@@ -123,18 +123,18 @@ pub record ItemsFound (limit : ℕ) (s : List ℕ) (at n : ℕ) (xs : List (List
   pub end : q ≡ 8 * endOf at parts
 
 pub items-found : (limit : ℕ) (s : List ℕ) (i at n : ℕ) (xs : List (List ℕ)) (q : ℕ)
-    → sequenceOf n (item limit) .read s i (8 * at) ≡ found xs q → ItemsFound limit s at n xs q
+    → sequenceOf n (itemTo limit) .read s i (8 * at) ≡ found xs q → ItemsFound limit s at n xs q
 unfolding itemsAt endOf reading.sequenceOf
 items-found limit s i at zero xs q e =
     let is : [] ≡ xs = cc in
     let end : 8 * at ≡ q = cc in
     record { parts = []; read = refl; octets = sym is; end = sym end }
 items-found limit s i at (suc n) xs q e =
-    let one = stepped (item limit .read s i (8 * at)) _ xs q e in
+    let one = stepped (itemTo limit .read s i (8 * at)) _ xs q e in
     let first = item-found limit s at i (one .value) (one .at) (one .was) in
-    let more = stepped (sequenceOf n (item limit) .read s i (one .at)) _ xs q (one .gave) in
+    let more = stepped (sequenceOf n (itemTo limit) .read s i (one .at)) _ xs q (one .gave) in
     let rest = items-found limit s i (after (first .part)) n (more .value) (more .at)
-    (ap (λ (k : ℕ). sequenceOf n (item limit) .read s i k) (sym (first .end)) ∙ more .was) in
+    (ap (λ (k : ℕ). sequenceOf n (itemTo limit) .read s i k) (sym (first .end)) ∙ more .was) in
     let is : (one .value ∷ more .value) ≡ xs = cc in
     let end : more .at ≡ q = cc in
     record {

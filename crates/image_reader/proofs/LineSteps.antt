@@ -9,10 +9,10 @@ use Rattle.datagrams.specs.Sizes.{packetLimit}
 use Rattle.lines.specs.Hex.{octetsIn}
 use Rattle.images.specs.Parts.{lineAt}
 use Rattle.images.specs.Layout.{numberLine}
-use Rattle.images.specs.Image.{lineLimit}
+use Rattle.images.specs.Image.{numberLineLimit}
 use Rattle.image_reader.specs.Text.{LineTaken}
 use Rattle.image_reader.specs.Number.{numberBy, partsOf, NumberTold}
-use Rattle.image_reader.specs.Laying.{LineFits, Lays}
+use Rattle.image_reader.specs.Laying.{LineFits, LaysNumber}
 use Rattle.image_reader.specs.Whole.{LineTold}
 use Rattle.image_reader.specs.declared.text.Taken.{Taken}
 use Rattle.image_reader.specs.declared.text.Taken.the-variants as taken
@@ -23,7 +23,7 @@ use Rattle.image_reader.proofs.NumberBack.{number-back}
 use Rattle.image_reader.proofs.Fronts.{front-back, taken-found, taken-back, taken-never, number-longest}
 
 module _ {limit : ℕ} {ahead : Bool} {base k : ℕ} {text old new : List ℕ} {r : Taken} (t : LineTaken text old new r) where
-  pub line-none : {a b c x y z : List ℕ} → r ≡ taken.Misshapen → limit ≤ packetLimit → length old ≡ lineLimit packetLimit
+  pub line-none : {a b c x y z : List ℕ} → r ≡ taken.Misshapen → limit ≤ packetLimit → length old ≡ numberLineLimit packetLimit
       → LineTold limit ahead base k text a b c x y z reached.Misshapen
   line-none is most long =
       record {
@@ -42,7 +42,7 @@ module _ {limit : ℕ} {ahead : Bool} {base k : ℕ} {text old new : List ℕ} {
               told .none so (all .parts) (all .is);
         }
 
-    pub line-read : {a b c x y z : List ℕ} → q .read ≡ true → Lays base ahead k (take count new) q a b c x y z
+    pub line-read : {a b c x y z : List ℕ} → q .read ≡ true → LaysNumber base ahead k (take count new) q a b c x y z
         → LineTold limit ahead base k text a b c x y z (reached.At next)
     line-read so laid =
         record {

@@ -18,7 +18,7 @@ use Rattle.stores.proofs.Laws.{length-pasted, part-pasted, part-pasted-other, z
 use Rattle.held.specs.Slots.{slotsHeard, slotsMessages, messageOctets, messageSlot}
 use Rattle.held.specs.Table.{places, messagePlace, keptSet}
 use Rattle.held.proofs.Laws.{message-small, message-apart, has-message-slot}
-use Rattle.image_reader.specs.Laying.{MessageIs, MessagesAre, PartPut, KeptLaid, MessageLaid, MessagesFit, MessagesLaid}
+use Rattle.image_reader.specs.Laying.{MessageIs, MessagesAre, PartLaid, KeptLaid, MessageLaid, MessagesFit, MessagesLaid}
 
 -- ---- a part has as many octets as it says
 pub length-octets : {s : List ℕ} {p : Part} → PartInside messageLeast messageLimit s p → length (octetsOf s p) ≡ p .size
@@ -27,7 +27,7 @@ length-octets {s} {p} inside =
 
 -- the part that the code cuts out ends its size past its start
 pub part-put : {slot : ℕ} {s : List ℕ} {p : Part} {old new : List ℕ} → PartInside messageLeast messageLimit s p
-    → new ≡ pasted old slot (take (p .start + p .size - p .start) (drop (p .start) s)) → PartPut slot s p old new (p .size)
+    → new ≡ pasted old slot (take (p .start + p .size - p .start) (drop (p .start) s)) → PartLaid slot s p old new (p .size)
 part-put {slot} {s} {p} {old} {new} inside e =
     let all : p .start + p .size - p .start ≡ p .size = omega arith in
     record { size = sym (length-octets inside); octets = rw all at e }
@@ -179,12 +179,12 @@ module _ {j : ℕ} {s : List ℕ} {parts : List Part} {count : ℕ} {t g newT ne
 pub ruleset layings = (laying-start, laying-long, laying-slot, laying-place, laying-part, laying-turn, laying-done)
 
 -- ---- a kept number, and one message
-pub kept-laid : {slot state note : ℕ} {s : List ℕ} {p : Part} {t o newT newO : List ℕ} {size : ℕ} → PartPut slot s p o newO size
+pub kept-laid : {slot state note : ℕ} {s : List ℕ} {p : Part} {t o newT newO : List ℕ} {size : ℕ} → PartLaid slot s p o newO size
     → newT ≡ keptSet t slot state size note → KeptLaid slot state note s p t o newT newO
 kept-laid {slot} {state} {note} {s} {p} {t} put e =
     record { table = e ∙ ap (λ (n : ℕ). keptSet t slot state n note) (put .size); octets = put .octets }
 
-pub message-laid : {slot : ℕ} {s : List ℕ} {p : Part} {t g newT newG : List ℕ} {size : ℕ} → PartPut slot s p g newG size
+pub message-laid : {slot : ℕ} {s : List ℕ} {p : Part} {t g newT newG : List ℕ} {size : ℕ} → PartLaid slot s p g newG size
     → newT ≡ set t (messagePlace slot) size → MessageLaid slot s p t g newT newG
 message-laid {slot} {s} {p} {t} put e =
     record { table = e ∙ ap (λ (n : ℕ). set t (messagePlace slot) n) (put .size); octets = put .octets }

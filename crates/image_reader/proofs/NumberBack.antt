@@ -16,7 +16,7 @@ use Rattle.formats.specs.Reading.{found}
 use Rattle.formats.specs.Format.{Format, _⊳_, sequenceOf}
 use Rattle.views.specs.Cells.{State}
 use Rattle.held.specs.Table.{lastState, stateNumbered}
-use Rattle.images.specs.Parts.{readWhole, number, octetTo, item}
+use Rattle.images.specs.Parts.{readWhole, number, octetTo, itemTo}
 use Rattle.images.specs.Layout as layout
 use Rattle.images.specs.Layout.{fromBase, numberFrom, state, accepted, messages, numberLine}
 use Rattle.image_reader.specs.Number.{TailIs, LineParts, NumberIs, numberBy}
@@ -38,11 +38,11 @@ messages-found : (limit : ℕ) (ahead : Bool) (s : List ℕ) (at : ℕ) (a : Lis
 unfolding messages
 messages-found limit ahead s at a p e =
     let both = stepped _ _ a p e in
-    let x = then-found (octetTo (fromBase ahead messagesLimit)) (λ m. sequenceOf m (item limit)) s 0 (8 * at) (both .value) (both .at)
+    let x = then-found (octetTo (fromBase ahead messagesLimit)) (λ m. sequenceOf m (itemTo limit)) s 0 (8 * at) (both .value) (both .at)
     (both .was) in
     let m = octet-found (λ v. leb v (fromBase ahead messagesLimit)) s 0 at (x .first) (x .at) (x .was) in
     let all = items-found limit s 0 (at + 1) (x .first) (x .second) (both .at)
-    (ap (λ (k : ℕ). sequenceOf (x .first) (item limit) .read s 0 k) (sym (m .end)) ∙ x .then) in
+    (ap (λ (k : ℕ). sequenceOf (x .first) (itemTo limit) .read s 0 k) (sym (m .end)) ∙ x .then) in
     let many = items-done messageLeast limit s (at + 1) (x .first) (all .parts) (all .read) .counted in
     let is : both .value .1 ≡ a = cc in
     let end : both .at ≡ p = cc in
@@ -62,7 +62,7 @@ module _ (limit : ℕ) (ahead : Bool) where
   fromN = octetTo (fromBase ahead coveredLimit) ⊳ λ _. messages limit ahead
 
   abbrev fromPacket : Format (List ℕ × (ℕ × List (List ℕ)))
-  fromPacket = item limit ⊳ λ _. fromN
+  fromPacket = itemTo limit ⊳ λ _. fromN
 
   abbrev fromNote : Format (ℕ × (List ℕ × (ℕ × List (List ℕ))))
   fromNote = number 2 ⊳ λ _. fromPacket
@@ -119,7 +119,7 @@ module _ (limit : ℕ) (ahead : Bool) (s : List ℕ) where
 
   from-packet : (v : List ℕ × (ℕ × List (List ℕ))) → fromPacket limit ahead .read s 0 (8 * 4) ≡ found v (8 * length s) → FromPacket v
   from-packet v e =
-      let x = then-found (item limit) (λ _. fromN limit ahead) s 0 (8 * 4) v (8 * length s) e in
+      let x = then-found (itemTo limit) (λ _. fromN limit ahead) s 0 (8 * 4) v (8 * length s) e in
       let p = item-found limit s 4 0 (x .first) (x .at) (x .was) in
       let t = tail-found (after (p .part)) (x .second) (ap (λ (k : ℕ). fromN limit ahead .read s 0 k) (sym (p .end)) ∙ x .then) in
       record {

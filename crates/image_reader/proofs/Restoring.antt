@@ -17,7 +17,7 @@ use Rattle.held.specs.Slots.{keptOctets, messageOctets}
 use Rattle.held.specs.Table.{Lent, lent, viewIn, places}
 use Rattle.held.specs.Laid.{lentInRanges, Laid, InRanges}
 use Rattle.held.proofs.Laws.{length-cells, length-held, in-ranges-of, in-ranges-true}
-use Rattle.images.specs.Layout.{Edition, edition01, edition02}
+use Rattle.images.specs.Layout.{ImageVersion, imageVersion01, imageVersion02}
 use Rattle.images.specs.Image.{inRangesOnly, readImage, namesEdition, editionNamed, readText}
 use Rattle.images.specs.Promise.{ImageRead}
 use Rattle.images.specs.declared.Restore.the-variants as restore
@@ -78,7 +78,7 @@ refused-read : {octet limit : ℕ} {text : List ℕ} {number : ℕ} {r : Restore
 refused-read made e = record { answer = rw (made .answer) (sym e); state = rw (made .answer) (made .state) }
 
 module _ {octet limit : ℕ} {text t o g : List ℕ} {found : First} (core : CoreTold octet limit text t o g found) where
-  abbrev edition : Edition
+  abbrev edition : ImageVersion
   edition = record { octet = octet; limit = limit }
 
   pub read-misshapen : {r : Restored} → found .read ≡ false → NothingRestored badImage r → EditionRead octet limit text r

@@ -24,7 +24,7 @@ use Rattle.images.specs.Layout as layout
 use Rattle.images.specs.Layout.{fromBase}
 use Rattle.image_reader.specs.Number.{numberBy, partsOf}
 use Rattle.image_reader.specs.Laying.{KeptIs, MessagesAre, HeldIs, notYet, Lengths, Filled, KeptLaid, MessagesFit, MessagesLaid}
-use Rattle.image_reader.specs.Laying.{LineFits, Lays}
+use Rattle.image_reader.specs.Laying.{LineFits, LaysNumber}
 use Rattle.image_reader.specs.declared.number.Number.{Number}
 use Rattle.image_reader.proofs.NumberSteps.{base-most}
 use Rattle.image_reader.proofs.Messages.{length-octets}
@@ -152,7 +152,7 @@ module _ (base : ℕ) {ahead : Bool} {k : ℕ} {s : List ℕ} {r : Number} {t o 
         (held-same marks-same (f .held d below))
 
   -- before the base nothing more is written
-  pub lay-before : ahead ≡ false → Lays base ahead k s r t o g newT newO g
+  pub lay-before : ahead ≡ false → LaysNumber base ahead k s r t o g newT newO g
   lay-before so =
       let low : fromBase ahead keptBefore ≡ 0 = ap (λ (x : Bool). fromBase x keptBefore) so in
       let size : Lengths newT newO g = record { table = table-long; octets = store-long; messages = sized .messages } in
@@ -193,7 +193,7 @@ module _ (base : ℕ) {ahead : Bool} {k : ℕ} {s : List ℕ} {r : Number} {t o 
         ∙ marks-past midT j (r .mark) (r .n) (r .m) i low
         ∙ laid-m .before i (omega arith)
 
-    pub lay-ahead : Lays base ahead k s r t o g lastT newO newG
+    pub lay-ahead : LaysNumber base ahead k s r t o g lastT newO newG
     lay-ahead =
         let size : Lengths lastT newO newG
         = record { table = last-long; octets = store-long; messages = laid-m .octets ∙ sized .messages } in

@@ -17,7 +17,7 @@ use Rattle.views.specs.Cells.{keptBefore, keptAhead}
 use Rattle.images.specs.Parts.{octetsFor, lineFront, line}
 use Rattle.images.specs.Layout as layout
 use Rattle.images.specs.Layout.{numberLine, fromBase}
-use Rattle.images.specs.Image.{lineLimit}
+use Rattle.images.specs.Image.{numberLineLimit}
 use Rattle.image_reader.specs.Laying.{Lengths, Filled}
 use Rattle.image_reader.specs.Whole.{LineTold, LinesTold}
 use Rattle.image_reader.specs.declared.whole.Reached.{Reached}
@@ -99,13 +99,13 @@ pub record Reading (limit : ℕ) (ahead : Bool) (base : ℕ) (text : List ℕ) (
   pub inside : at ≤ length text
   pub before : Lengths t o g
   pub sized : Lengths newT newO newG
-  pub long : lineLimit packetLimit ≡ length buffer
+  pub long : numberLineLimit packetLimit ≡ length buffer
   pub left : linesLeft limit ahead keptAhead text from ≡ prefixed numbers (linesLeft limit ahead (keptAhead - k) text at)
   pub lays : (rows : List layout.Number) → length rows ≡ fromBase ahead keptBefore → Filled base rows t o g
       → Filled base (rows ++ numbers) newT newO newG
 
 module _ {limit : ℕ} {ahead : Bool} {base : ℕ} {text : List ℕ} {from : ℕ} {t o g : List ℕ} where
-  pub reading-start : {buffer : List ℕ} → from ≤ length text → Lengths t o g → lineLimit packetLimit ≡ length buffer
+  pub reading-start : {buffer : List ℕ} → from ≤ length text → Lengths t o g → numberLineLimit packetLimit ≡ length buffer
       → Reading limit ahead base text from t o g t o g buffer from 0
   reading-start inside sized long =
       record {

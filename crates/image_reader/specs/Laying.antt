@@ -69,7 +69,7 @@ pub record Filled (base : ℕ) (rows : List layout.Number) (t o g : List ℕ) : 
 
 -- ---- what is owed
 -- the octets of the part at the front of the slot, and how many they are
-pub record PartPut (slot : ℕ) (s : List ℕ) (p : Part) (old new : List ℕ) (r : ℕ) : Type 0 where
+pub record PartLaid (slot : ℕ) (s : List ℕ) (p : Part) (old new : List ℕ) (r : ℕ) : Type 0 where
   pub size : r ≡ length (octetsOf s p)
   pub octets : new ≡ pasted old slot (octetsOf s p)
 
@@ -104,7 +104,7 @@ pub record LineFits (ahead : Bool) (s : List ℕ) (r : Number) : Type 0 where
   pub counted : length (take (r .m) (r .parts)) ≡ r .m
 
 -- one number more
-pub record Lays (base : ℕ) (ahead : Bool) (k : ℕ) (s : List ℕ) (r : Number) (t o g newT newO newG : List ℕ) : Type 0 where
+pub record LaysNumber (base : ℕ) (ahead : Bool) (k : ℕ) (s : List ℕ) (r : Number) (t o g newT newO newG : List ℕ) : Type 0 where
   pub sized : Lengths newT newO newG
   pub lays : (rows : List layout.Number) → length rows ≡ fromBase ahead keptBefore + k → Filled base rows t o g
       → Filled base (rows ++ (numberBy s (partsOf r) ∷ [])) newT newO newG

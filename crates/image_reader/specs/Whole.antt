@@ -15,7 +15,7 @@ use Rattle.held.specs.Promise.{Fresh}
 use Rattle.images.specs.Parts.{readWhole, highFirst, lineFront, line}
 use Rattle.images.specs.Layout as layout
 use Rattle.images.specs.Layout.{numberLine, image, fromBase}
-use Rattle.images.specs.Image.{firstSize, readImage}
+use Rattle.images.specs.Image.{firstImageSize, readImage}
 use Rattle.images.specs.Promise.{restoredOutcome, Restores}
 use Rattle.images.specs.declared.Restore.the-variants as restore
 use Rattle.images.specs.declared.Restored.{Restored}
@@ -26,8 +26,8 @@ use Rattle.image_reader.specs.declared.whole.Reached.the-variants as rea
 
 -- ---- the first line
 -- by its octets: "edition octet 01, base in two octets, the four counts in 01's order in four each, high first"
-pub record FirstIs (octet : ℕ) (s : List ℕ) (f : layout.First) : Type 0 where
-  pub long : length s ≡ firstSize
+pub record FirstIs (octet : ℕ) (s : List ℕ) (f : layout.FirstImageLine) : Type 0 where
+  pub long : length s ≡ firstImageSize
   pub edition : getD s 0 0 ≡ octet
   pub base : f .base ≡ highFirst 2 (drop 1 s)
   pub received : f .counts .received ≡ highFirst 4 (drop 3 s)
@@ -36,13 +36,13 @@ pub record FirstIs (octet : ℕ) (s : List ℕ) (f : layout.First) : Type 0 wher
   pub lost : f .counts .lost ≡ highFirst 4 (drop 15 s)
 
 -- as it is told
-abbrev pub firstTold : First → layout.First
+abbrev pub firstTold : First → layout.FirstImageLine
 firstTold r = record { base = r .base; counts = countsOf (r .counts) }
 
-pub record FirstTold (octet : ℕ) (s : List ℕ) (end : ℕ) (r : First) : Type 0 where
+pub record FirstImageTold (octet : ℕ) (s : List ℕ) (end : ℕ) (r : First) : Type 0 where
   pub right : r .read ≡ true → FirstIs octet s (firstTold r)
   pub after : r .read ≡ true → r .end ≡ end
-  pub none : r .read ≡ false → (f : layout.First) → FirstIs octet s f → ⊥
+  pub none : r .read ≡ false → (f : layout.FirstImageLine) → FirstIs octet s f → ⊥
 
 pub record NoFirst (r : First) : Type 0 where
   pub refused : r .read ≡ false
@@ -50,9 +50,9 @@ pub record NoFirst (r : First) : Type 0 where
 -- the first line of a text, whatever the limit of its edition
 pub record FirstLineTold (octet : ℕ) (text : List ℕ) (r : First) : Type 0 where
   pub right : r .read ≡ true → (limit : ℕ)
-      → lineFront (layout.first (record { octet = octet; limit = limit })) text ≡ found (firstTold r) (r .end)
-  pub none : r .read ≡ false → (limit : ℕ) (f : layout.First) (n : ℕ)
-      → lineFront (layout.first (record { octet = octet; limit = limit })) text ≡ found f n → ⊥
+      → lineFront (layout.firstImageLine (record { octet = octet; limit = limit })) text ≡ found (firstTold r) (r .end)
+  pub none : r .read ≡ false → (limit : ℕ) (f : layout.FirstImageLine) (n : ℕ)
+      → lineFront (layout.firstImageLine (record { octet = octet; limit = limit })) text ≡ found f n → ⊥
 
 -- ---- one line of a number
 pub record LineLaid (limit : ℕ) (ahead : Bool) (base k : ℕ) (text t o g newT newO newG : List ℕ) (next : ℕ) : Type 0 where

@@ -14,13 +14,13 @@ ghost use Rattle.views.specs.Cells.{keptBefore, keptAhead};
 ghost use Rattle.held.specs.Slots.{slotsKept, slotsHeard, slotsMessages, messageOctets};
 ghost use Rattle.held.specs.Table.{places, heardSet};
 ghost use Rattle.images.specs.Layout.{fromBase};
-ghost use Rattle.image_reader.specs.Laying.{PartPut, KeptLaid, MessageLaid, MessagesFit, MessagesLaid, LineFits, Lays, Lengths};
+ghost use Rattle.image_reader.specs.Laying.{PartLaid, KeptLaid, MessageLaid, MessagesFit, MessagesLaid, LineFits, LaysNumber, Lengths};
 
 // The octets of a part of the line s, laid at the front of a slot: hands back how many.
 fn put_part(o: &mut [u8], slot: usize, s: &[u8], part: Part) -> u16
     requires { ⌜ HasSlot slot (now o) ⌝ }
     requires { ⌜ PartInside messageLeast messageLimit (now s) part ⌝ }
-    ensures { λ r. ⌜ PartPut slot (now (s .entry)) part (now (o .entry)) (now (o .exit)) r ⌝ }
+    ensures { λ r. ⌜ PartLaid slot (now (s .entry)) part (now (o .entry)) (now (o .exit)) r ⌝ }
 {
     let start = part.start;
     let size = part.size;
@@ -114,7 +114,7 @@ pub fn lay(
     requires { ⌜ k < keptAhead ⌝ }
     requires { ⌜ LineFits ahead (now s) number ⌝ }
     requires { ⌜ Lengths (now t) (now o) (now g) ⌝ }
-    ensures { λ _. ⌜ Lays base ahead k (now (s .entry)) number (now (t .entry)) (now (o .entry)) (now (g .entry)) (now (t .exit))
+    ensures { λ _. ⌜ LaysNumber base ahead k (now (s .entry)) number (now (t .entry)) (now (o .entry)) (now (g .entry)) (now (t .exit))
         (now (o .exit)) (now (g .exit)) ⌝ }
 {
     let first = base as usize;

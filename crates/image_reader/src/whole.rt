@@ -14,9 +14,9 @@ ghost use lib.ListN.{length, drop};
 ghost use Rattle.datagrams.specs.Sizes.{packetLimit};
 ghost use Rattle.views.specs.Cells.{keptAhead};
 ghost use Rattle.images.specs.Parts.{highFirst};
-ghost use Rattle.images.specs.Image.{lineLimit};
+ghost use Rattle.images.specs.Image.{numberLineLimit};
 ghost use Rattle.image_reader.specs.Laying.{Lengths};
-ghost use Rattle.image_reader.specs.Whole.{FirstTold, FirstLineTold, LineTold, LinesTold, NoFirst, Cleared, CoreTold};
+ghost use Rattle.image_reader.specs.Whole.{FirstImageTold, FirstLineTold, LineTold, LinesTold, NoFirst, Cleared, CoreTold};
 
 // The first line, and whether it is right.
 pub struct First {
@@ -61,7 +61,7 @@ fn no_first() -> First
 
 // "edition octet 01, base in two octets, the four counts in 01's order in four each, high first".
 fn first_in(s: &[u8], edition: u8, end: usize) -> First
-    ensures { λ r. ⌜ FirstTold edition (now (s .entry)) end r ⌝ }
+    ensures { λ r. ⌜ FirstImageTold edition (now (s .entry)) end r ⌝ }
 {
     if s.len() != Image::FIRST {
         return no_first();
@@ -113,7 +113,7 @@ fn read_line(
 ) -> Reached
     requires { ⌜ limit ≤ packetLimit ⌝ }
     requires { ⌜ k < keptAhead ⌝ }
-    requires { ⌜ length (now line) ≡ lineLimit packetLimit ⌝ }
+    requires { ⌜ length (now line) ≡ numberLineLimit packetLimit ⌝ }
     requires { ⌜ Lengths (now t) (now o) (now g) ⌝ }
     ensures { λ r. ⌜ LineTold limit ahead base k (now (text .entry)) (now (t .entry)) (now (o .entry)) (now (g .entry)) (now (t .exit))
         (now (o .exit)) (now (g .exit)) r ⌝ }

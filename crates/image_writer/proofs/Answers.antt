@@ -18,8 +18,8 @@ use Rattle.held.specs.Laid.{lentInRanges}
 use Rattle.held.proofs.Laws.{in-ranges-of}
 use Rattle.lines.specs.Promise.{Appends}
 use Rattle.lines.proofs.Laws.{appends-then}
-use Rattle.images.specs.Layout.{editionWritten}
-use Rattle.images.specs.Image.{imageToWrite, lineSize, firstSize}
+use Rattle.images.specs.Layout.{versionWritten}
+use Rattle.images.specs.Image.{imageToWrite, lineSize, firstImageSize}
 use Rattle.image_writer.proofs.Whole.{first-long, image-same, rows-long}
 use Rattle.image_writer.specs.Rows.{Room, TableFits, rowsText, firstText, rowsSize, SizeWithin}
 
@@ -50,12 +50,12 @@ Lengths session =
 -- the whole image, by its lines
 abbrev wholeText : Lent → List ℕ
 wholeText session =
-    firstText (editionWritten .octet) (session .base) (session .counts)
+    firstText (versionWritten .octet) (session .base) (session .counts)
     ++ rowsText (session .base) (session .table) (session .octets) (session .messages)
 
 module _ (session : Lent) {ok : Bool} (told : ok ≡ lentInRanges session) where
   pub write-outside : {old : List ℕ} {why : Refusal} → RefusalMade outsideRanges why → not ok ≡ true
-      → Puts (imageToWrite editionWritten session) old old (written.Refused why)
+      → Puts (imageToWrite versionWritten session) old old (written.Refused why)
   unfolding imageToWrite unless
   write-outside made out =
       let outside : lentInRanges session ≡ false = sym told ∙ is-false ok out in
@@ -70,7 +70,7 @@ module _ (session : Lent) {ok : Bool} (told : ok ≡ lentInRanges session) where
         let laid = in-ranges-of session within (long .0) (long .1 .0) (long .1 .1) .laid in
         record { long = laid .long; state = laid .state; size = laid .size; few = laid .few; part = laid .part }
 
-    to-write : imageToWrite editionWritten session ≡ done (wholeText session)
+    to-write : imageToWrite versionWritten session ≡ done (wholeText session)
     unfolding imageToWrite unless
     to-write =
         rw (
@@ -79,26 +79,26 @@ module _ (session : Lent) {ok : Bool} (told : ok ≡ lentInRanges session) where
         )
 
     module _ {most size : ℕ} (sized : SizeWithin (rowsSize (session .base) (session .table)) most size) where
-      whole-long : length (wholeText session) ≡ lineSize firstSize + size
+      whole-long : length (wholeText session) ≡ lineSize firstImageSize + size
       whole-long =
-          length-append (firstText (editionWritten .octet) (session .base) (session .counts)) _
+          length-append (firstText (versionWritten .octet) (session .base) (session .counts)) _
           ∙ omega (
             arith,
-            first-long (editionWritten .octet) (session .base) (session .counts),
+            first-long (versionWritten .octet) (session .base) (session .counts),
             rows-long (session .base) (session .counts) (session .table) (session .octets) (session .messages) table-fits (long .1 .0)
                 (long .1 .1),
             sized .answer,
           )
 
-      pub write-full : {old : List ℕ} {why : Refusal} → RefusalMade noRoom why → length old < lineSize firstSize + size
-          → Puts (imageToWrite editionWritten session) old old (written.Refused why)
+      pub write-full : {old : List ℕ} {why : Refusal} → RefusalMade noRoom why → length old < lineSize firstImageSize + size
+          → Puts (imageToWrite versionWritten session) old old (written.Refused why)
       write-full made full = rw to-write (full-puts made (omega (arith, whole-long)))
 
-      pub write-room : {old : List ℕ} → lineSize firstSize + size ≤ length old → Room (wholeText session) old 0
+      pub write-room : {old : List ℕ} → lineSize firstImageSize + size ≤ length old → Room (wholeText session) old 0
       write-room enough = record { fits = omega (arith, whole-long) }
 
     pub write-done : {old middle new : List ℕ} {at end : ℕ}
-        → Appends (firstText (editionWritten .octet) (session .base) (session .counts)) old 0 middle at
+        → Appends (firstText (versionWritten .octet) (session .base) (session .counts)) old 0 middle at
         → Appends (rowsText (session .base) (session .table) (session .octets) (session .messages)) middle at new end
-        → Puts (imageToWrite editionWritten session) old new (written.Octets end)
+        → Puts (imageToWrite versionWritten session) old new (written.Octets end)
     write-done first rows = rw to-write (put-puts (front-put (appends-then first rows)))

@@ -23,10 +23,10 @@ use Rattle.lines.specs.Hex.{hexOf}
 use Rattle.lines.specs.Lines.{lineFeed}
 use Rattle.lines.specs.Promise.{Appends}
 use Rattle.lines.proofs.Laws.{appends-none, appends-one, appends-then, appends-long, length-hexOf}
-use Rattle.images.specs.Parts.{numberIn}
+use Rattle.images.specs.Parts.{highFirstOctets}
 use Rattle.images.specs.Image.{longestItem}
 use Rattle.images.proofs.Laws.{length-number}
-use Rattle.image_writer.specs.Rows.{Room, TableFits, rowAt, RowFits, RowTold, keptFront, keptText, countOctets, messageText}
+use Rattle.image_writer.specs.Rows.{Room, TableFits, imageRowAt, RowFits, ImageRowTold, keptFront, keptText, countOctets, messageText}
 use Rattle.image_writer.specs.Rows.{messagesText, rowText}
 use Rattle.image_writer.specs.declared.rows.Row.{Row}
 
@@ -47,13 +47,13 @@ feed-put room = appends-one (appends-none (omega (arith, room .fits))) lineFeed 
 
 -- ---- a count
 module _ (count : ℕ) {old : List ℕ} {at : ℕ} where
-  pub count-room : Room (hexOf (numberIn 4 count)) old at → at + 2 * 4 ≤ length old
-  count-room room = omega (arith, length-hexOf (numberIn 4 count), length-number 4 count, room .fits)
+  pub count-room : Room (hexOf (highFirstOctets 4 count)) old at → at + 2 * 4 ≤ length old
+  count-room room = omega (arith, length-hexOf (highFirstOctets 4 count), length-number 4 count, room .fits)
 
   pub count-put : {new : List ℕ} {end : ℕ}
       → Appends (hexOf (count / 256 / 256 / 256 % 256 ∷ count / 256 / 256 % 256 ∷ count / 256 % 256 ∷ count % 256 ∷ [])) old at new end
-      → Appends (hexOf (numberIn 4 count)) old at new end
-  unfolding numberIn
+      → Appends (hexOf (highFirstOctets 4 count)) old at new end
+  unfolding highFirstOctets
   count-put p = p
 
 -- ---- a packet or message, of which a line of octets is made
@@ -163,10 +163,10 @@ module _ (t o g : List ℕ) (row : Row) {old : List ℕ} {at : ℕ} where
         row-put feed = appends-then kept (appends-then counts (appends-then messages feed))
 
 -- a row that was told is the one at its place
-module _ {base place : ℕ} {t : List ℕ} {row : Row} (told : RowTold base t place row) (o g : List ℕ) {old : List ℕ} {at : ℕ} where
-  pub told-room : Room (rowText t o g (rowAt base t place)) old at → Room (rowText t o g row) old at
+module _ {base place : ℕ} {t : List ℕ} {row : Row} (told : ImageRowTold base t place row) (o g : List ℕ) {old : List ℕ} {at : ℕ} where
+  pub told-room : Room (rowText t o g (imageRowAt base t place)) old at → Room (rowText t o g row) old at
   told-room room = rw (told .answer) room
 
   pub told-put : {new : List ℕ} {end : ℕ} → Appends (rowText t o g row) old at new end
-      → Appends (rowText t o g (rowAt base t place)) old at new end
+      → Appends (rowText t o g (imageRowAt base t place)) old at new end
   told-put p = rw (told .answer) at p

@@ -25,14 +25,14 @@ use Rattle.lines.specs.Hex.{hexOf}
 use Rattle.lines.specs.Lines.{lineFeed}
 use Rattle.lines.proofs.Laws.{length-hexOf}
 use Rattle.images.specs.Octets.{inRow}
-use Rattle.images.specs.Image.{lineSize, longestItem, lineLimit}
-use Rattle.image_writer.specs.Rows.{TableFits, rowBefore, rowAt, RowFits, RowTold, keptFront, keptText, allTexts, messageText}
+use Rattle.images.specs.Image.{lineSize, longestItem, numberLineLimit}
+use Rattle.image_writer.specs.Rows.{TableFits, rowBefore, imageRowAt, RowFits, ImageRowTold, keptFront, keptText, allTexts, messageText}
 use Rattle.image_writer.specs.Rows.{messagesText, countOctets, rowText, messagesSize, rowSize, SizeWithin}
 use Rattle.image_writer.specs.declared.rows.Row.{Row}
 
 -- ---- the row of a place
-pub row-before : {base p : ℕ} {t : List ℕ} → p < keptBefore → RowTold base t p (rowBefore (slotAt base p))
-unfolding rowAt
+pub row-before : {base p : ℕ} {t : List ℕ} → p < keptBefore → ImageRowTold base t p (rowBefore (slotAt base p))
+unfolding imageRowAt
 row-before {base} {p} low =
     record {
       answer = rw (lt-ltb p keptBefore low);
@@ -42,9 +42,9 @@ row-before {base} {p} low =
 pub row-ahead : {base p : ℕ} {t : List ℕ} {accepted : Bool} {n m : ℕ} → TableFits t → keptBefore ≤ p
     → accepted ≡ eqb (markIn t (heardSlotAt base (p - keptBefore))) 1 → n ≡ nIn t (heardSlotAt base (p - keptBefore))
     → m ≡ mIn t (heardSlotAt base (p - keptBefore))
-    → RowTold base t p
+    → ImageRowTold base t p
     (record { slot = slotAt base p; heard = heardSlotAt base (p - keptBefore); accepted = accepted; n = n; m = m })
-unfolding rowAt
+unfolding imageRowAt
 row-ahead {base} {p} fits high is-accepted is-n is-m =
     let heard = heardSlotAt base (p - keptBefore) in
     let small = heard-small base (p - keptBefore) in
@@ -53,7 +53,7 @@ row-ahead {base} {p} fits high is-accepted is-n is-m =
       fits = record { slot = slot-small base p; heard = small; few = omega (arith, is-m, fits .few heard small) };
     }
 
-pub row-fits : (base p : ℕ) (t : List ℕ) → TableFits t → RowFits (rowAt base t p)
+pub row-fits : (base p : ℕ) (t : List ℕ) → TableFits t → RowFits (imageRowAt base t p)
 row-fits base p t fits =
     ⊎-elim (λ low. let told = row-before {base = base} {p = p} {t = t} low in rw (told .answer) at (told .fits))
     (λ high. let told = row-ahead {base = base} {p = p} {t = t} fits high refl refl refl in rw (told .answer) at (told .fits))
@@ -83,14 +83,14 @@ module _ (t : List ℕ) (row : Row) (fits : TableFits t) (x : RowFits row) {octe
 
   pub row-told : {r messages : ℕ} → r ≡ itemSize octets
       → SizeWithin (messagesSize t (row .heard) (row .m)) (messagesLimit * (2 * longestItem packetLimit)) messages
-      → SizeWithin (rowSize t row) (lineSize (lineLimit packetLimit)) (2 * (6 + r) + 1 + messages)
+      → SizeWithin (rowSize t row) (lineSize (numberLineLimit packetLimit)) (2 * (6 + r) + 1 + messages)
   row-told told rest =
       let same : _ ≡ itemSize (sizeIn t (row .slot)) = told ∙ ap itemSize is in
       record { answer = omega (arith, rest .answer); few = omega (arith, rest .few, packet-few told) }
 
 -- a row that was told is the one at its place
-pub told-size : {base place : ℕ} {t : List ℕ} {row : Row} {most r : ℕ} → RowTold base t place row → SizeWithin (rowSize t row) most r
-    → SizeWithin (rowSize t (rowAt base t place)) most r
+pub told-size : {base place : ℕ} {t : List ℕ} {row : Row} {most r : ℕ} → ImageRowTold base t place row → SizeWithin (rowSize t row) most r
+    → SizeWithin (rowSize t (imageRowAt base t place)) most r
 told-size told size = rw (told .answer) at size
 
 -- ---- the length of a line

@@ -19,14 +19,14 @@ use Rattle.held.specs.declared.Counts.{Counts}
 use Rattle.held.proofs.Laws.{cell-at, held-at}
 use Rattle.lines.specs.Hex.{hexOf, digitFor}
 use Rattle.lines.specs.Lines.{lineFeed, lineOf}
-use Rattle.images.specs.Parts.{numberIn}
-use Rattle.images.specs.Layout.{editionWritten, First, Number, stateNumber, firstOf, before, ahead}
-use Rattle.images.specs.Octets.{inRow, firstOctets, numberText, imageLines}
-use Rattle.images.specs.Image.{imageText, lineSize, firstSize}
+use Rattle.images.specs.Parts.{highFirstOctets}
+use Rattle.images.specs.Layout.{versionWritten, FirstImageLine, Number, stateNumber, firstOf, before, ahead}
+use Rattle.images.specs.Octets.{inRow, firstImageOctets, numberText, imageLines}
+use Rattle.images.specs.Image.{imageText, lineSize, firstImageSize}
 use Rattle.images.proofs.Laws.{image-lines}
 use Rattle.image_writer.proofs.Turns.{texts-more}
 use Rattle.image_writer.proofs.Sizing.{row-fits, texts-length, row-length}
-use Rattle.image_writer.specs.Rows.{TableFits, rowAt, keptFront, countOctets, allTexts, messagesText, rowText}
+use Rattle.image_writer.specs.Rows.{TableFits, imageRowAt, keptFront, countOctets, allTexts, messagesText, rowText}
 use Rattle.image_writer.specs.Rows.{rowsText, firstText, rowsSize}
 use Rattle.image_writer.specs.declared.rows.Row.{Row}
 
@@ -44,16 +44,16 @@ hex-row (suc n) items =
     ∙ ap (λ (l : List ℕ). hexOf (itemOctets (items 0)) ++ l) (hex-row n (λ i. items (suc i)))
 
 -- ---- the first line
-first-text : (f : First) → lineOf (firstOctets (editionWritten .octet) f)
-    ≡ hexOf (editionWritten .octet ∷ f .base / 256 % 256 ∷ f .base % 256 ∷ [])
-    ++ (hexOf (numberIn 4 (f .counts .received))
-    ++ (hexOf (numberIn 4 (f .counts .spare))
-    ++ (hexOf (numberIn 4 (f .counts .repaired)) ++ (hexOf (numberIn 4 (f .counts .lost)) ++ (lineFeed ∷ [])))))
-unfolding numberIn hexOf
+first-text : (f : FirstImageLine) → lineOf (firstImageOctets (versionWritten .octet) f)
+    ≡ hexOf (versionWritten .octet ∷ f .base / 256 % 256 ∷ f .base % 256 ∷ [])
+    ++ (hexOf (highFirstOctets 4 (f .counts .received))
+    ++ (hexOf (highFirstOctets 4 (f .counts .spare))
+    ++ (hexOf (highFirstOctets 4 (f .counts .repaired)) ++ (hexOf (highFirstOctets 4 (f .counts .lost)) ++ (lineFeed ∷ [])))))
+unfolding highFirstOctets hexOf
 first-text f = refl
 
-pub first-long : (octet base : ℕ) (counts : Counts) → length (firstText octet base counts) ≡ lineSize firstSize
-unfolding numberIn hexOf
+pub first-long : (octet base : ℕ) (counts : Counts) → length (firstText octet base counts) ≡ lineSize firstImageSize
+unfolding highFirstOctets hexOf
 first-long octet base counts = refl
 
 -- ---- the line of a number
@@ -86,7 +86,7 @@ regroup a b c d e =
 
 module _ (t o g : List ℕ) (row : Row) where
   row-number : stateIn t (row .slot) ≤ lastState → numberText (rowNumber t o g row) ≡ rowText t o g row
-  unfolding cellIn numberIn rowText
+  unfolding cellIn highFirstOctets rowText
   row-number low =
       let item = itemOctets (part o (row .slot) (sizeIn t (row .slot))) in
       let messages = inRow itemOctets (tab (row .m) (messageIn t g (row .heard))) in
@@ -105,12 +105,12 @@ module _ (t o g : List ℕ) (row : Row) where
 
 -- ---- the number at a place of the view
 module _ (base : ℕ) (counts : Counts) (t o g : List ℕ) where
-  row-before-base : (p : ℕ) → p < keptBefore → rowNumber t o g (rowAt base t p) ≡ before (viewIn (lent base counts t o g)) p
-  unfolding viewIn rowAt tab
+  row-before-base : (p : ℕ) → p < keptBefore → rowNumber t o g (imageRowAt base t p) ≡ before (viewIn (lent base counts t o g)) p
+  unfolding viewIn imageRowAt tab
   row-before-base p low = rw (lt-ltb p keptBefore low, cell-at base t o p (omega arith))
 
-  row-from-base : (d : ℕ) → d < keptAhead → rowNumber t o g (rowAt base t (keptBefore + d)) ≡ ahead (viewIn (lent base counts t o g)) d
-  unfolding viewIn rowAt heldIn
+  row-from-base : (d : ℕ) → d < keptAhead → rowNumber t o g (imageRowAt base t (keptBefore + d)) ≡ ahead (viewIn (lent base counts t o g)) d
+  unfolding viewIn imageRowAt heldIn
   row-from-base d low =
       let back : keptBefore + d - keptBefore ≡ d = omega arith in
       rw (
@@ -140,9 +140,9 @@ texts-same (suc n) text lines same =
     (texts-same n (λ k. text (suc k)) (λ k. lines (suc k)) (λ k low. same (suc k) (omega arith)))
 
 module _ (base : ℕ) (counts : Counts) (t o g : List ℕ) (fits : TableFits t) where
-  row-same : (p : ℕ) (k : Number) → rowNumber t o g (rowAt base t p) ≡ k → rowText t o g (rowAt base t p) ≡ numberText k
+  row-same : (p : ℕ) (k : Number) → rowNumber t o g (imageRowAt base t p) ≡ k → rowText t o g (imageRowAt base t p) ≡ numberText k
   row-same p k same =
-      let row = rowAt base t p in
+      let row = imageRowAt base t p in
       sym (row-number t o g row (fits .state (row .slot) (row-fits base p t fits .slot)))
       ∙ ap (λ (x : Number). numberText x) same
 
@@ -150,19 +150,19 @@ module _ (base : ℕ) (counts : Counts) (t o g : List ℕ) (fits : TableFits t) 
       ≡ inRow numberText (tab keptBefore (before (viewIn (lent base counts t o g))))
       ++ inRow numberText (tab keptAhead (ahead (viewIn (lent base counts t o g))))
   rows-same =
-      texts-split keptBefore keptAhead (λ p. rowText t o g (rowAt base t p))
+      texts-split keptBefore keptAhead (λ p. rowText t o g (imageRowAt base t p))
       ∙ ap₂ (λ (a b : List ℕ). a ++ b)
       (texts-same keptBefore _ _ (λ p low. row-same p _ (row-before-base base counts t o g p low)))
       (texts-same keptAhead _ _ (λ d low. row-same (keptBefore + d) _ (row-from-base base counts t o g d low)))
 
-  pub image-same : imageText editionWritten (viewIn (lent base counts t o g))
-      ≡ firstText (editionWritten .octet) base counts ++ rowsText base t o g
+  pub image-same : imageText versionWritten (viewIn (lent base counts t o g))
+      ≡ firstText (versionWritten .octet) base counts ++ rowsText base t o g
   unfolding imageLines viewIn
   image-same =
-      image-lines editionWritten (viewIn (lent base counts t o g))
+      image-lines versionWritten (viewIn (lent base counts t o g))
       ∙ ap₂ (λ (a b : List ℕ). a ++ b) (first-text (firstOf (viewIn (lent base counts t o g)))) (sym rows-same)
 
   pub rows-long : length o ≡ keptOctets → length g ≡ messageOctets → length (rowsText base t o g) ≡ rowsSize base t
   rows-long long far =
-      texts-length slotsKept (λ p. rowText t o g (rowAt base t p))
-      ∙ ap sumOf (tab-ext slotsKept _ _ (λ p low. row-length t o g fits long far (rowAt base t p) (row-fits base p t fits)))
+      texts-length slotsKept (λ p. rowText t o g (imageRowAt base t p))
+      ∙ ap sumOf (tab-ext slotsKept _ _ (λ p low. row-length t o g fits long far (imageRowAt base t p) (row-fits base p t fits)))

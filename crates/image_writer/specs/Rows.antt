@@ -18,7 +18,7 @@ use Rattle.held.specs.Table.{places, lastState, stateIn, sizeIn, noteIn, markIn
 use Rattle.held.specs.declared.Counts.{Counts}
 use Rattle.lines.specs.Hex.{hexOf}
 use Rattle.lines.specs.Lines.{lineFeed}
-use Rattle.images.specs.Parts.{numberIn}
+use Rattle.images.specs.Parts.{highFirstOctets}
 use Rattle.images.specs.Octets.{inRow}
 use Rattle.images.specs.Image.{lineSize}
 use Rattle.image_writer.specs.declared.rows.Row.{Row}
@@ -42,8 +42,8 @@ rowBefore slot = record { slot = slot; heard = 0; accepted = false; n = 0; m = 0
 abbrev pub rowAhead : List ℕ → ℕ → ℕ → Row
 rowAhead t slot heard = record { slot = slot; heard = heard; accepted = eqb (markIn t heard) 1; n = nIn t heard; m = mIn t heard }
 
-unfoldable pub rowAt : ℕ → List ℕ → ℕ → Row
-rowAt base t p =
+unfoldable pub imageRowAt : ℕ → List ℕ → ℕ → Row
+imageRowAt base t p =
     cond (ltb p keptBefore) (rowBefore (slotAt base p)) (rowAhead t (slotAt base p) (heardSlotAt base (p - keptBefore)))
 
 -- a row names slots that are there
@@ -52,8 +52,8 @@ pub record RowFits (row : Row) : Type 0 where
   pub heard : row .heard < slotsHeard
   pub few : row .m ≤ messagesLimit
 
-pub record RowTold (base : ℕ) (t : List ℕ) (p : ℕ) (r : Row) : Type 0 where
-  pub answer : r ≡ rowAt base t p
+pub record ImageRowTold (base : ℕ) (t : List ℕ) (p : ℕ) (r : Row) : Type 0 where
+  pub answer : r ≡ imageRowAt base t p
   pub fits : RowFits r
 
 -- ---- its line
@@ -87,15 +87,15 @@ rowText t o g row =
 
 -- all of them
 abbrev pub rowsText : ℕ → List ℕ → List ℕ → List ℕ → List ℕ
-rowsText base t o g = allTexts slotsKept (λ p. rowText t o g (rowAt base t p))
+rowsText base t o g = allTexts slotsKept (λ p. rowText t o g (imageRowAt base t p))
 
 -- the first line: the edition's octet, base, counts
 abbrev pub firstText : ℕ → ℕ → Counts → List ℕ
 firstText octet base counts =
     hexOf (octet ∷ base / 256 % 256 ∷ base % 256 ∷ [])
-    ++ (hexOf (numberIn 4 (counts .received))
-    ++ (hexOf (numberIn 4 (counts .spare))
-    ++ (hexOf (numberIn 4 (counts .repaired)) ++ (hexOf (numberIn 4 (counts .lost)) ++ (lineFeed ∷ [])))))
+    ++ (hexOf (highFirstOctets 4 (counts .received))
+    ++ (hexOf (highFirstOctets 4 (counts .spare))
+    ++ (hexOf (highFirstOctets 4 (counts .repaired)) ++ (hexOf (highFirstOctets 4 (counts .lost)) ++ (lineFeed ∷ [])))))
 
 -- ---- how long it is
 abbrev pub messagesSize : List ℕ → ℕ → ℕ → ℕ
@@ -105,7 +105,7 @@ abbrev pub rowSize : List ℕ → Row → ℕ
 rowSize t row = lineSize (6 + itemSize (sizeIn t (row .slot))) + messagesSize t (row .heard) (row .m)
 
 abbrev pub rowsSize : ℕ → List ℕ → ℕ
-rowsSize base t = sumOf (tab slotsKept (λ p. rowSize t (rowAt base t p)))
+rowsSize base t = sumOf (tab slotsKept (λ p. rowSize t (imageRowAt base t p)))
 
 -- a size that is told, and the most that it can be
 pub record SizeWithin (size most r : ℕ) : Type 0 where

@@ -15,7 +15,7 @@ ghost use lib.ListN.{length};
 ghost use Rattle.lengths.specs.Promise.{Puts};
 ghost use Rattle.held.specs.Slots.{keptOctets, messageOctets};
 ghost use Rattle.held.specs.Table.{places, lent};
-ghost use Rattle.images.specs.Layout.{editionWritten};
+ghost use Rattle.images.specs.Layout.{versionWritten};
 ghost use Rattle.images.specs.Image.{imageToWrite};
 ghost use Rattle.images.specs.Promise.{ImageWritten};
 
@@ -43,7 +43,7 @@ pub fn write_core(
     requires { ⌜ length (now t) ≡ places ⌝ }
     requires { ⌜ length (now o) ≡ keptOctets ⌝ }
     requires { ⌜ length (now g) ≡ messageOctets ⌝ }
-    ensures { λ r. ⌜ Puts (imageToWrite editionWritten (lent base counts (now (t .entry)) (now (o .entry)) (now (g .entry))))
+    ensures { λ r. ⌜ Puts (imageToWrite versionWritten (lent base counts (now (t .entry)) (now (o .entry)) (now (g .entry))))
         (now (out .entry)) (now (out .exit)) r ⌝ }
 {
     if !checking::in_ranges(base, counts, t, o, g) {

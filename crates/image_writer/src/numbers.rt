@@ -5,7 +5,7 @@ use datagrams::Packet;
 use datagrams::Parity;
 use held::Counts;
 use held::Session;
-use hexadecimal::put_octets;
+use hexadecimal::put_digits;
 use images::Image;
 use lines::Line;
 ghost use mathlib.Core.Path.{_≡_};
@@ -19,8 +19,8 @@ ghost use Rattle.held.specs.Slots.{slotsHeard, keptOctets, messageOctets};
 ghost use Rattle.lines.specs.Hex.{hexOf};
 ghost use Rattle.lines.specs.Lines.{lineFeed};
 ghost use Rattle.lines.specs.Promise.{Appends};
-ghost use Rattle.images.specs.Parts.{numberIn};
-ghost use Rattle.images.specs.Layout.{editionWritten};
+ghost use Rattle.images.specs.Parts.{highFirstOctets};
+ghost use Rattle.images.specs.Layout.{versionWritten};
 ghost use Rattle.image_writer.specs.Rows.{Room, TableFits, RowFits, keptText, messagesText, rowText, rowsText, firstText};
 
 // A line feed.
@@ -34,26 +34,26 @@ fn end_line(out: &mut [u8], at: usize) -> usize
 
 // A count: four octets, the high one first.
 fn put_count(count: u32, out: &mut [u8], at: usize) -> usize
-    requires { ⌜ Room (hexOf (numberIn 4 count)) (now out) at ⌝ }
-    ensures { λ r. ⌜ Appends (hexOf (numberIn 4 count)) (now (out .entry)) at (now (out .exit)) r ⌝ }
+    requires { ⌜ Room (hexOf (highFirstOctets 4 count)) (now out) at ⌝ }
+    ensures { λ r. ⌜ Appends (hexOf (highFirstOctets 4 count)) (now (out .entry)) at (now (out .exit)) r ⌝ }
 {
     let first = (count / 256 / 256 / 256 % 256) as u8;
     let second = (count / 256 / 256 % 256) as u8;
     let third = (count / 256 % 256) as u8;
     let fourth = (count % 256) as u8;
     let octets = [first, second, third, fourth];
-    put_octets(&octets, out, at)
+    put_digits(&octets, out, at)
 }
 
 // The first line: edition, base and counts.
 pub fn put_first(base: u16, counts: Counts, out: &mut [u8], at: usize) -> usize
-    requires { ⌜ Room (firstText (editionWritten .octet) base counts) (now out) at ⌝ }
-    ensures { λ r. ⌜ Appends (firstText (editionWritten .octet) base counts) (now (out .entry)) at (now (out .exit)) r ⌝ }
+    requires { ⌜ Room (firstText (versionWritten .octet) base counts) (now out) at ⌝ }
+    ensures { λ r. ⌜ Appends (firstText (versionWritten .octet) base counts) (now (out .entry)) at (now (out .exit)) r ⌝ }
 {
     let high = (base / 256 % 256) as u8;
     let low = (base % 256) as u8;
     let front = [Image::EDITION, high, low];
-    let one = put_octets(&front, out, at);
+    let one = put_digits(&front, out, at);
     let two = put_count(counts.received, out, one);
     let three = put_count(counts.spare, out, two);
     let four = put_count(counts.repaired, out, three);
@@ -72,7 +72,7 @@ fn put_item(store: &[u8], slot: usize, size: usize, out: &mut [u8], at: usize) -
     let to = from + size;
     let mut octets = [0u8; Image::ITEM];
     let count = datagram_items::put_item(&store[from..to], &mut octets);
-    put_octets(&octets[..count], out, at)
+    put_digits(&octets[..count], out, at)
 }
 
 // State, accepted, note and packet.
@@ -90,7 +90,7 @@ fn put_kept(t: &[u16], o: &[u8], row: Row, out: &mut [u8], at: usize) -> usize
     let high = (note / 256 % 256) as u8;
     let low = (note % 256) as u8;
     let front = [state, mark, high, low];
-    let next = put_octets(&front, out, at);
+    let next = put_digits(&front, out, at);
     let size = held::size_at(t, slot);
     put_item(o, slot, size, out, next)
 }
@@ -128,7 +128,7 @@ fn put_row(t: &[u16], o: &[u8], g: &[u8], row: Row, out: &mut [u8], at: usize) -
     let n = (row.n % 256) as u8;
     let m = (row.m % 256) as u8;
     let counts = [n, m];
-    let two = put_octets(&counts, out, one);
+    let two = put_digits(&counts, out, one);
     let end = put_messages(t, g, row.heard, row.m, out, two);
     end_line(out, end)
 }

@@ -5,8 +5,8 @@ use held::Session;
 ghost use Prim.Native.Nat.{_*_, _≤_, _<_};
 ghost use Rattle.datagrams.specs.Sizes.{packetLimit, messagesLimit};
 ghost use Rattle.held.specs.Slots.{slotsKept, slotsHeard};
-ghost use Rattle.images.specs.Image.{lineSize, longestItem, lineLimit};
-ghost use Rattle.image_writer.specs.Rows.{TableFits, RowFits, RowTold, SizeWithin, messagesSize, rowSize, rowsSize};
+ghost use Rattle.images.specs.Image.{lineSize, longestItem, numberLineLimit};
+ghost use Rattle.image_writer.specs.Rows.{TableFits, RowFits, ImageRowTold, SizeWithin, messagesSize, rowSize, rowsSize};
 
 // The slot of a kept number; of one from the base on its other slot too, and what is heard of it.
 pub struct Row {
@@ -21,7 +21,7 @@ pub struct Row {
 pub fn row_at(base: u16, t: &[u16], p: usize) -> Row
     requires { ⌜ TableFits (now t) ⌝ }
     requires { ⌜ p < slotsKept ⌝ }
-    ensures { λ r. ⌜ RowTold base (now (t .entry)) p r ⌝ }
+    ensures { λ r. ⌜ ImageRowTold base (now (t .entry)) p r ⌝ }
 {
     let base = base as usize;
     let slot = (base + Session::BEFORE + p) % Session::KEPT;
@@ -68,7 +68,7 @@ fn messages_size(t: &[u16], heard: usize, m: usize) -> usize
 fn row_size(t: &[u16], row: Row) -> usize
     requires { ⌜ TableFits (now t) ⌝ }
     requires { ⌜ RowFits row ⌝ }
-    ensures { λ r. ⌜ SizeWithin (rowSize (now (t .entry)) row) (lineSize (lineLimit packetLimit)) r ⌝ }
+    ensures { λ r. ⌜ SizeWithin (rowSize (now (t .entry)) row) (lineSize (numberLineLimit packetLimit)) r ⌝ }
 {
     let slot = row.slot;
     let octets = held::size_at(t, slot);
@@ -80,7 +80,7 @@ fn row_size(t: &[u16], row: Row) -> usize
 // The characters of all lines but the first.
 pub fn rows_size(base: u16, t: &[u16]) -> usize
     requires { ⌜ TableFits (now t) ⌝ }
-    ensures { λ r. ⌜ SizeWithin (rowsSize base (now (t .entry))) (slotsKept * lineSize (lineLimit packetLimit)) r ⌝ }
+    ensures { λ r. ⌜ SizeWithin (rowsSize base (now (t .entry))) (slotsKept * lineSize (numberLineLimit packetLimit)) r ⌝ }
 {
     let mut size = 0;
     let mut p = 0;

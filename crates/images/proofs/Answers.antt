@@ -18,8 +18,8 @@ use Rattle.formats.specs.Format.{Format}
 use Rattle.views.specs.View.{View}
 use Rattle.views.specs.Ranges.{inRanges}
 use Rattle.images.specs.Parts.{upTo, readWhole}
-use Rattle.images.specs.Layout.{Edition, image}
-use Rattle.images.specs.Image.{imageText, inRangesOnly, readImage, Holds}
+use Rattle.images.specs.Layout.{ImageVersion, image}
+use Rattle.images.specs.Image.{imageText, inRangesOnly, readImage, ImageHolds}
 use Rattle.images.proofs.Plain.{whole-reads, reads-whole}
 use Rattle.images.proofs.Whole.{plain-image}
 use Rattle.images.proofs.Holds.{holds-fits, fits-holds}
@@ -38,22 +38,22 @@ unfolding readWhole
 whole-refused f s why e = upTo-refused (length s) (f .read s 0 0) why e
 
 -- what an edition can hold reads back
-pub held-reads : (edition : Edition) (view : View) → edition .octet < 256 → Holds (edition .limit) view
-    → readWhole (image edition) (imageText edition view) ≡ done view
+pub held-reads : (version : ImageVersion) (view : View) → version .octet < 256 → ImageHolds (version .limit) view
+    → readWhole (image version) (imageText version view) ≡ done view
 unfolding imageText
-held-reads edition view small h = whole-reads (plain-image edition) view (holds-fits edition view small h)
+held-reads version view small h = whole-reads (plain-image version) view (holds-fits version view small h)
 
 -- and what reads is such a session's image
-pub record ImageOf (edition : Edition) (text : List ℕ) (view : View) : Type 0 where
-  pub holds : Holds (edition .limit) view
-  pub written : imageText edition view ≡ text
+pub record ImageOf (version : ImageVersion) (text : List ℕ) (view : View) : Type 0 where
+  pub holds : ImageHolds (version .limit) view
+  pub written : imageText version view ≡ text
 
-pub reads-held : (edition : Edition) (text : List ℕ) (view : View) → Octets text → readWhole (image edition) text ≡ done view
-    → ImageOf edition text view
+pub reads-held : (version : ImageVersion) (text : List ℕ) (view : View) → Octets text → readWhole (image version) text ≡ done view
+    → ImageOf version text view
 unfolding imageText
-reads-held edition text view small e =
-    let back = reads-whole (plain-image edition) text view small e in
-    record { holds = fits-holds edition view (back .0); written = back .1 }
+reads-held version text view small e =
+    let back = reads-whole (plain-image version) text view small e in
+    record { holds = fits-holds version view (back .0); written = back .1 }
 
 -- ---- then the ranges
 seventeen : {A : Type 0} → _≡_ {A = Answer A} (refuse outsideRanges) (refuse badImage) → ⊥
@@ -67,67 +67,67 @@ only-outside : (b : Bool) (view : View) (why : Refusal) → cond b (done view) (
 only-outside true view why e = absurd (not-done (sym e))
 only-outside false view why e = (refl, sym (refused-same e))
 
-module _ (edition : Edition) (text : List ℕ) where
-  pub read-lines : (view : View) → readWhole (image edition) text ≡ done view → readImage edition text ≡ inRangesOnly view
+module _ (version : ImageVersion) (text : List ℕ) where
+  pub read-lines : (view : View) → readWhole (image version) text ≡ done view → readImage version text ≡ inRangesOnly view
   unfolding readImage
   read-lines view e = rw e
 
-  read-none : (why : Refusal) → readWhole (image edition) text ≡ refused why → readImage edition text ≡ refuse badImage
+  read-none : (why : Refusal) → readWhole (image version) text ≡ refused why → readImage version text ≡ refuse badImage
   unfolding readImage
-  read-none why e = rw (e, whole-refused (image edition) text why e)
+  read-none why e = rw (e, whole-refused (image version) text why e)
 
-  pub read-only : (why : Refusal) → readImage edition text ≡ refused why → (why ≡ refusal badImage) ⊎ (why ≡ refusal outsideRanges)
-  read-only why e = by (readWhole (image edition) text) refl where
-    by : (r : Answer View) → readWhole (image edition) text ≡ r → (why ≡ refusal badImage) ⊎ (why ≡ refusal outsideRanges)
+  pub read-only : (why : Refusal) → readImage version text ≡ refused why → (why ≡ refusal badImage) ⊎ (why ≡ refusal outsideRanges)
+  read-only why e = by (readWhole (image version) text) refl where
+    by : (r : Answer View) → readWhole (image version) text ≡ r → (why ≡ refusal badImage) ⊎ (why ≡ refusal outsideRanges)
     by (done view) was = inr (only-outside (inRanges view) view why (sym (read-lines view was) ∙ e) .1)
     by (refused other) was = inl (sym (refused-same (sym (read-none other was) ∙ e)))
 
   module _ (small : Octets text) where
-    pub read-image : (view : View) → readImage edition text ≡ done view → ImageOf edition text view × (inRanges view ≡ true)
+    pub read-image : (view : View) → readImage version text ≡ done view → ImageOf version text view × (inRanges view ≡ true)
     unfolding readImage
     read-image view e =
-        let lines = bind-done (readWhole (image edition) text) inRangesOnly view e in
+        let lines = bind-done (readWhole (image version) text) inRangesOnly view e in
         let only = only-done (lines .0) view (lines .2) in
-        rw (← only .0) (reads-held edition text (lines .0) small (lines .1), only .1)
+        rw (← only .0) (reads-held version text (lines .0) small (lines .1), only .1)
 
-    module _ (octet : edition .octet < 256) where
-      image-lines : (view : View) → Holds (edition .limit) view → imageText edition view ≡ text → readWhole (image edition) text ≡ done view
-      image-lines view h e = rw (← e) (held-reads edition view octet h)
+    module _ (octet : version .octet < 256) where
+      image-lines : (view : View) → ImageHolds (version .limit) view → imageText version view ≡ text → readWhole (image version) text ≡ done view
+      image-lines view h e = rw (← e) (held-reads version view octet h)
 
-      pub session-exactly : (view : View) → (readImage edition text ≡ done view)
-          ↔ ((Holds (edition .limit) view) × (imageText edition view ≡ text) × (inRanges view ≡ true))
+      pub session-exactly : (view : View) → (readImage version text ≡ done view)
+          ↔ ((ImageHolds (version .limit) view) × (imageText version view ≡ text) × (inRanges view ≡ true))
       session-exactly view = (
         λ e. let so = read-image view e in (so .0 .holds, so .0 .written, so .1),
         λ x. read-lines view (image-lines view (x .0) (x .1)) ∙ ap (λ (b : Bool). cond b (done view) (refuse outsideRanges)) (x .2),
       )
 
-      pub misshapen-exactly : (readImage edition text ≡ refuse badImage)
-          ↔ ((view : View) → Holds (edition .limit) view → imageText edition view ≡ text → ⊥)
+      pub misshapen-exactly : (readImage version text ≡ refuse badImage)
+          ↔ ((view : View) → ImageHolds (version .limit) view → imageText version view ≡ text → ⊥)
       misshapen-exactly = (
         λ e view h is. never (inRanges view) view (sym (read-lines view (image-lines view h is)) ∙ e),
-        λ nobody. by nobody (readWhole (image edition) text) refl,
+        λ nobody. by nobody (readWhole (image version) text) refl,
       ) where
         never : (b : Bool) (view : View) → cond b (done view) (refuse outsideRanges) ≡ refuse badImage → ⊥
         never true view e = not-done (sym e)
         never false view e = seventeen e
 
-        by : ((view : View) → Holds (edition .limit) view → imageText edition view ≡ text → ⊥)
-            → (r : Answer View) → readWhole (image edition) text ≡ r → readImage edition text ≡ refuse badImage
+        by : ((view : View) → ImageHolds (version .limit) view → imageText version view ≡ text → ⊥)
+            → (r : Answer View) → readWhole (image version) text ≡ r → readImage version text ≡ refuse badImage
         by nobody (done view) was =
-            let is = reads-held edition text view small was in
+            let is = reads-held version text view small was in
             absurd (nobody view (is .holds) (is .written))
         by nobody (refused why) was = read-none why was
 
-      pub outside-exactly : (readImage edition text ≡ refuse outsideRanges)
-          ↔ ((view : View) × (Holds (edition .limit) view) × (imageText edition view ≡ text) × (inRanges view ≡ false))
+      pub outside-exactly : (readImage version text ≡ refuse outsideRanges)
+          ↔ ((view : View) × (ImageHolds (version .limit) view) × (imageText version view ≡ text) × (inRanges view ≡ false))
       outside-exactly = (
-        λ e. by e (readWhole (image edition) text) refl,
+        λ e. by e (readWhole (image version) text) refl,
         λ x.
             read-lines (x .0) (image-lines (x .0) (x .1) (x .2)) ∙ ap (λ (b : Bool). cond b (done (x .0)) (refuse outsideRanges)) (x .3),
       ) where
-        by : readImage edition text ≡ refuse outsideRanges → (r : Answer View) → readWhole (image edition) text ≡ r
-            → (view : View) × (Holds (edition .limit) view) × (imageText edition view ≡ text) × (inRanges view ≡ false)
+        by : readImage version text ≡ refuse outsideRanges → (r : Answer View) → readWhole (image version) text ≡ r
+            → (view : View) × (ImageHolds (version .limit) view) × (imageText version view ≡ text) × (inRanges view ≡ false)
         by e (done view) was =
-            let is = reads-held edition text view small was in
+            let is = reads-held version text view small was in
             (view, is .holds, is .written, only-outside (inRanges view) view (refusal outsideRanges) (sym (read-lines view was) ∙ e) .0)
         by e (refused why) was = absurd (seventeen (sym e ∙ read-none why was))

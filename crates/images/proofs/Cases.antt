@@ -12,20 +12,20 @@ use Rattle.views.specs.Ranges.{sumRight, inRanges}
 use Rattle.held.specs.Table.{stateNumbered}
 use Rattle.lines.specs.Hex.{digitOf, digitFor, octetsIn, hexOf}
 use Rattle.lines.specs.Text.{characters}
-use Rattle.images.specs.Parts.{readWhole, highFirst, numberIn, numberFront, itemFront, lineAt, upperPairs, readLine, lineFront}
-use Rattle.images.specs.Layout.{first, state, accepted, messages, numberLine, image}
+use Rattle.images.specs.Parts.{readWhole, highFirst, highFirstOctets, numberFront, itemFront, lineAt, upperPairs, readLine, lineFront}
+use Rattle.images.specs.Layout.{firstImageLine, state, accepted, messages, numberLine, image}
 use Rattle.images.specs.Image.{readImage, namesEdition, editionNamed, readText}
 use Rattle.images.specs.Cases.{Written, Lines, Texts, Cases}
 
 written : Written
 unfolding tab lengthOctets itemOctets spelt whole wide packed sequenceSpelt freshView digitFor hexOf characters
-    numberIn first state accepted messages numberLine
+    highFirstOctets firstImageLine state accepted messages numberLine
 written = record { fresh-first = refl; fresh-blank = refl; fresh-unknown = refl; counts = refl; number = refl }
 
 lines : Lines
 unfolding tab allBelow lengthAt allowed lengthWithin itemAt reading.octetwise reading.align reading.bits reading.sequenceOf
     stateNumbered digitOf octetsIn characters readWhole highFirst numberFront itemFront upperPairs readLine
-    first state accepted messages numberLine hexOf digitFor
+    firstImageLine state accepted messages numberLine hexOf digitFor
 lines =
     record {
       counts = refl;
@@ -37,12 +37,12 @@ lines =
       unknown = refl;
       missing = refl;
       left-over = refl;
-      state-5 = refl;
-      accepted-02 = refl;
-      n-8 = refl;
-      n-9 = refl;
-      m-4 = refl;
-      m-5 = refl;
+      state-over = refl;
+      accepted-over = refl;
+      n-last = refl;
+      n-over = refl;
+      m-last = refl;
+      m-over = refl;
       at-limit = refl;
       packet-over = refl;
       message-over = refl;
@@ -62,7 +62,7 @@ lines =
 texts : Texts
 unfolding tab allBelow lengthAt allowed lengthWithin itemAt reading.octetwise reading.align reading.bits reading.sequenceOf
     stateNumbered digitOf octetsIn characters readWhole highFirst numberFront itemFront lineAt upperPairs readLine lineFront
-    first state accepted messages numberLine image readImage readText namesEdition editionNamed
+    firstImageLine state accepted messages numberLine image readImage readText namesEdition editionNamed
 texts =
     record {
       no-feed = refl;

@@ -3,7 +3,7 @@ use mathlib.Core.Path.{refl, sym, _∙_}
 use Rattle.lengths.proofs.Laws.{fitted-first}
 use Rattle.held.specs.Table.{viewIn}
 use Rattle.images.specs.Image.{imageText, imageRows, imageToWrite}
-use Rattle.images.specs.Claims.{Writes, Claims}
+use Rattle.images.specs.Claims.{ImageWrites, Claims}
 use Rattle.images.proofs.Whole.{image-lines}
 use Rattle.images.proofs.Holds.{sound-holds}
 use Rattle.images.proofs.Sizes.{image-length, image-most}
@@ -12,9 +12,9 @@ use Rattle.images.proofs.Editions.{editions, reads02}
 use Rattle.images.proofs.Lent.{lent-back, struct-back}
 use Rattle.images.proofs.Cases.{cases}
 
-writes : Writes
+writes : ImageWrites
 unfolding imageToWrite
-writes edition session old = fitted-first (imageRows session) (imageText edition (viewIn session)) old
+writes version session old = fitted-first (imageRows session) (imageText version (viewIn session)) old
 
 pub claims : Claims
 claims =
@@ -23,19 +23,19 @@ claims =
           record { held = held-reads; holds = sound-holds; session = reads02; lent = lent-back; struct = struct-back };
       oneImage =
           record {
-            written = λ edition text view small e. read-image edition text small view e .0 .written;
+            written = λ version text view small e. read-image version text small view e .0 .written;
             one =
-                λ edition text other view small few e again.
-                sym (read-image edition text small view e .0 .written) ∙ read-image edition other few view again .0 .written;
+                λ version text other view small few e again.
+                sym (read-image version text small view e .0 .written) ∙ read-image version other few view again .0 .written;
           };
       lines = image-lines;
       sized = record { settled = image-length; most = image-most; lent = refl };
       reads =
           record {
-            session = λ edition text view octet small. session-exactly edition text small octet view;
-            misshapen = λ edition text octet small. misshapen-exactly edition text small octet;
-            outside = λ edition text octet small. outside-exactly edition text small octet;
-            only = λ edition text why e. read-only edition text why e;
+            session = λ version text view octet small. session-exactly version text small octet view;
+            misshapen = λ version text octet small. misshapen-exactly version text small octet;
+            outside = λ version text octet small. outside-exactly version text small octet;
+            only = λ version text why e. read-only version text why e;
           };
       editions = editions;
       writes = writes;

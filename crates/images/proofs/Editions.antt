@@ -17,11 +17,11 @@ use Rattle.lines.specs.Hex.{hexOf, digitOf, digitFor}
 use Rattle.views.specs.View.{View}
 use Rattle.views.specs.Ranges.{Sound}
 use Rattle.views.proofs.Laws.{inRanges-of}
-use Rattle.images.specs.Parts.{numberIn}
-use Rattle.images.specs.Layout.{Edition, oldLimit, edition01, edition02}
+use Rattle.images.specs.Parts.{highFirstOctets}
+use Rattle.images.specs.Layout.{ImageVersion, oldLimit, imageVersion01, imageVersion02}
 use Rattle.images.specs.Octets.{imageLines}
-use Rattle.images.specs.Image.{imageText, readImage, namesEdition, editionNamed, readBy, readText, Holds, OfOctets}
-use Rattle.images.specs.Claims.{Short, Editions}
+use Rattle.images.specs.Image.{imageText, readImage, namesEdition, editionNamed, readBy, readText, ImageHolds, OfOctets}
+use Rattle.images.specs.Claims.{Short, ImageVersions}
 use Rattle.images.proofs.Whole.{image-lines}
 use Rattle.images.proofs.Holds.{sound-holds}
 use Rattle.images.proofs.Answers.{held-reads, read-lines, read-only, read-image}
@@ -32,51 +32,51 @@ pub record Names (octet : ℕ) (text : List ℕ) : Type 0 where
   pub named : editionNamed text ≡ octet
 
 -- as each image names its own
-names01 : (view : View) → Names 1 (imageText edition01 view)
-unfolding imageLines numberIn hexOf digitFor digitOf namesEdition editionNamed
-names01 view = rw (image-lines edition01 view) (record { reads = refl; named = refl })
+names01 : (view : View) → Names 1 (imageText imageVersion01 view)
+unfolding imageLines highFirstOctets hexOf digitFor digitOf namesEdition editionNamed
+names01 view = rw (image-lines imageVersion01 view) (record { reads = refl; named = refl })
 
-names02 : (view : View) → Names 2 (imageText edition02 view)
-unfolding imageLines numberIn hexOf digitFor digitOf namesEdition editionNamed
-names02 view = rw (image-lines edition02 view) (record { reads = refl; named = refl })
+names02 : (view : View) → Names 2 (imageText imageVersion02 view)
+unfolding imageLines highFirstOctets hexOf digitFor digitOf namesEdition editionNamed
+names02 view = rw (image-lines imageVersion02 view) (record { reads = refl; named = refl })
 
 -- and is read by it
-pub by01 : (text : List ℕ) → Names 1 text → readText text ≡ readImage edition01 text
+pub by01 : (text : List ℕ) → Names 1 text → readText text ≡ readImage imageVersion01 text
 unfolding readText
 by01 text n = rw (n .reads, n .named)
 
-pub by02 : (text : List ℕ) → Names 2 text → readText text ≡ readImage edition02 text
+pub by02 : (text : List ℕ) → Names 2 text → readText text ≡ readImage imageVersion02 text
 unfolding readText
 by02 text n = rw (n .reads, n .named)
 
-pub text01 : (view : View) → readText (imageText edition01 view) ≡ readImage edition01 (imageText edition01 view)
-text01 view = by01 (imageText edition01 view) (names01 view)
+pub text01 : (view : View) → readText (imageText imageVersion01 view) ≡ readImage imageVersion01 (imageText imageVersion01 view)
+text01 view = by01 (imageText imageVersion01 view) (names01 view)
 
-pub text02 : (view : View) → readText (imageText edition02 view) ≡ readImage edition02 (imageText edition02 view)
-text02 view = by02 (imageText edition02 view) (names02 view)
+pub text02 : (view : View) → readText (imageText imageVersion02 view) ≡ readImage imageVersion02 (imageText imageVersion02 view)
+text02 view = by02 (imageText imageVersion02 view) (names02 view)
 
 -- ---- what is restored is what one of them reads as
 module _ (text : List ℕ) (view : View) where
   pub either-reads : Octets text
-      → (readText text ≡ done view) ↔ ((readImage edition01 text ≡ done view) ⊎ (readImage edition02 text ≡ done view))
+      → (readText text ≡ done view) ↔ ((readImage imageVersion01 text ≡ done view) ⊎ (readImage imageVersion02 text ≡ done view))
   unfolding readText
   either-reads small = (
     λ e.
         let names = cond-met (namesEdition text) badImage (readBy (editionNamed text) text) view e in
         by (eqb (editionNamed text) 1) (eqb (editionNamed text) 2) (names .1),
     ⊎-elim
-        (λ e. let is = read-image edition01 text small view e .0 .written in rw (← is) (text01 view ∙ rw is e))
-        (λ e. let is = read-image edition02 text small view e .0 .written in rw (← is) (text02 view ∙ rw is e)),
+        (λ e. let is = read-image imageVersion01 text small view e .0 .written in rw (← is) (text01 view ∙ rw is e))
+        (λ e. let is = read-image imageVersion02 text small view e .0 .written in rw (← is) (text02 view ∙ rw is e)),
   ) where
-    by : (b c : Bool) → cond b (readImage edition01 text) (cond c (readImage edition02 text) (refuse otherEdition)) ≡ done view
-        → (readImage edition01 text ≡ done view) ⊎ (readImage edition02 text ≡ done view)
+    by : (b c : Bool) → cond b (readImage imageVersion01 text) (cond c (readImage imageVersion02 text) (refuse otherEdition)) ≡ done view
+        → (readImage imageVersion01 text ≡ done view) ⊎ (readImage imageVersion02 text ≡ done view)
     by true c e = inl e
     by false true e = inr e
     by false false e = absurd (not-done e)
 
-  pub either-image : Octets text → readText text ≡ done view → (imageText edition01 view ≡ text) ⊎ (imageText edition02 view ≡ text)
+  pub either-image : Octets text → readText text ≡ done view → (imageText imageVersion01 view ≡ text) ⊎ (imageText imageVersion02 view ≡ text)
   either-image small e =
-      ⊎-elim (λ x. inl (read-image edition01 text small view x .0 .written)) (λ x. inr (read-image edition02 text small view x .0 .written))
+      ⊎-elim (λ x. inl (read-image imageVersion01 text small view x .0 .written)) (λ x. inr (read-image imageVersion02 text small view x .0 .written))
       (either-reads small .0 e)
 
 -- 21
@@ -91,18 +91,18 @@ module _ (text : List ℕ) where
     known : {A : Type 0} → _≡_ {A = Answer A} (refuse badImage) (refuse otherEdition) → ⊥
     known e = let z : _≡_ {A = ℕ} 20 21 = ap (λ (why : Refusal). why .number) (refused-same e) in omega arith
 
-    never : (edition : Edition) → readImage edition text ≡ refuse otherEdition → ⊥
-    never edition e =
+    never : (version : ImageVersion) → readImage version text ≡ refuse otherEdition → ⊥
+    never version e =
         ⊎-elim
         (λ w. let z : _≡_ {A = ℕ} 21 20 = ap (λ (why : Refusal). why .number) w in omega arith)
         (λ w. let z : _≡_ {A = ℕ} 21 17 = ap (λ (why : Refusal). why .number) w in omega arith)
-        (read-only edition text (refusal otherEdition) e)
+        (read-only version text (refusal otherEdition) e)
 
     apart : (b c : Bool) → eqb (editionNamed text) 1 ≡ b → eqb (editionNamed text) 2 ≡ c
-        → cond b (readImage edition01 text) (cond c (readImage edition02 text) (refuse otherEdition)) ≡ refuse otherEdition
+        → cond b (readImage imageVersion01 text) (cond c (readImage imageVersion02 text) (refuse otherEdition)) ≡ refuse otherEdition
         → ((editionNamed text ≡ 1) → ⊥) × ((editionNamed text ≡ 2) → ⊥)
-    apart true c one two e = absurd (never edition01 e)
-    apart false true one two e = absurd (never edition02 e)
+    apart true c one two e = absurd (never imageVersion01 e)
+    apart false true one two e = absurd (never imageVersion02 e)
     apart false false one two e = (eqb-false (editionNamed text) 1 one, eqb-false (editionNamed text) 2 two)
 
     named : (b : Bool) → namesEdition text ≡ b
@@ -113,7 +113,7 @@ module _ (text : List ℕ) where
 
 -- ---- which sessions an edition holds
 module _ (limit : ℕ) (view : View) (s : Sound view) (o : OfOctets view) where
-  pub holds-short : (Holds limit view) ↔ (Short limit view)
+  pub holds-short : (ImageHolds limit view) ↔ (Short limit view)
   holds-short = (
     λ h. record { packet = λ p below. h .packet p below .short; message = λ d below i less. h .message d below i less .short },
     λ x.
@@ -143,19 +143,19 @@ module _ (limit : ℕ) (view : View) (s : Sound view) (o : OfOctets view) where
 
 -- and both images of one restore it
 module _ (view : View) (s : Sound view) (o : OfOctets view) where
-  pub reads02 : readText (imageText edition02 view) ≡ done view
+  pub reads02 : readText (imageText imageVersion02 view) ≡ done view
   reads02 =
       text02 view
-      ∙ read-lines edition02 (imageText edition02 view) view (held-reads edition02 view (omega arith) (sound-holds view s o))
+      ∙ read-lines imageVersion02 (imageText imageVersion02 view) view (held-reads imageVersion02 view (omega arith) (sound-holds view s o))
       ∙ rw (inRanges-of s)
 
-  pub reads01 : Short oldLimit view → readText (imageText edition01 view) ≡ done view
+  pub reads01 : Short oldLimit view → readText (imageText imageVersion01 view) ≡ done view
   reads01 x =
       text01 view
-      ∙ read-lines edition01 (imageText edition01 view) view (held-reads edition01 view (omega arith) (holds-short oldLimit view s o .1 x))
+      ∙ read-lines imageVersion01 (imageText imageVersion01 view) view (held-reads imageVersion01 view (omega arith) (holds-short oldLimit view s o .1 x))
       ∙ rw (inRanges-of s)
 
-pub editions : Editions
+pub editions : ImageVersions
 editions =
     record {
       holds = holds-short;

@@ -20,8 +20,8 @@ use Rattle.views.specs.View.{View, Counts, sum, sessionLimit, numbers}
 use Rattle.views.specs.Ranges.{sumRight, heldRight, markRight, Sound}
 use Rattle.views.proofs.Laws.{size-fits, held-sizes}
 use Rattle.images.specs.Parts.{Sendable, line}
-use Rattle.images.specs.Layout.{Edition, first, Number, numberLine, viewFrom, before, ahead, linesOf, image}
-use Rattle.images.specs.Image.{Holds, OfOctets}
+use Rattle.images.specs.Layout.{ImageVersion, firstImageLine, Number, numberLine, viewFrom, before, ahead, linesOf, image}
+use Rattle.images.specs.Image.{ImageHolds, OfOctets}
 use Rattle.images.proofs.Productions.{NumberFits, number-fits, fits-number}
 use Rattle.images.proofs.Whole.{nowhere, cell-of, tab-is, rows-fit, fit-rows}
 
@@ -91,7 +91,7 @@ one-flag : (b : Bool) → flagBit b ≤ 1
 one-flag true = omega arith
 one-flag false = omega arith
 
-before-fits : (limit : ℕ) (view : View) → Holds limit view → (p : ℕ) → p < keptBefore → NumberFits limit false (before view p)
+before-fits : (limit : ℕ) (view : View) → ImageHolds limit view → (p : ℕ) → p < keptBefore → NumberFits limit false (before view p)
 before-fits limit view h p low =
     record {
       accepted = omega arith;
@@ -102,7 +102,7 @@ before-fits limit view h p low =
       message = λ i below. absurd (omega arith);
     }
 
-ahead-fits : (limit : ℕ) (view : View) → Holds limit view → (d : ℕ) → d < keptAhead → NumberFits limit true (ahead view d)
+ahead-fits : (limit : ℕ) (view : View) → ImageHolds limit view → (d : ℕ) → d < keptAhead → NumberFits limit true (ahead view d)
 ahead-fits limit view h d low =
     record {
       accepted = one-flag ((heldAt (view .held) d) .accepted);
@@ -113,12 +113,12 @@ ahead-fits limit view h d low =
       message = h .message d low;
     }
 
-pub holds-fits : (edition : Edition) (view : View) → edition .octet < 256 → Holds (edition .limit) view → image edition .fits view 0
-unfolding image first
-holds-fits edition view small h =
-    let limit = edition .limit in (
+pub holds-fits : (version : ImageVersion) (view : View) → version .octet < 256 → ImageHolds (version .limit) view → image version .fits view 0
+unfolding image firstImageLine
+holds-fits version view small h =
+    let limit = version .limit in (
       (
-        (((small, eq-eqb (edition .octet) (edition .octet) refl), (h .base, (h .received, (h .spare, (h .repaired, h .lost))))), refl),
+        (((small, eq-eqb (version .octet) (version .octet) refl), (h .base, (h .received, (h .spare, (h .repaired, h .lost))))), refl),
         (
           (
             rows-fit (numberLine limit false) keptBefore (before view) _
@@ -143,10 +143,10 @@ row-fits limit from n lines p fits k low =
     let there = fit-rows (numberLine limit from) (tab n lines) p nowhere fits k (omega (arith, length-tab n lines)) in
     rw (tab-at n lines k nowhere low) at (fits-number limit from (getD (tab n lines) k nowhere) there)
 
-pub fits-holds : (edition : Edition) (view : View) → image edition .fits view 0 → Holds (edition .limit) view
-unfolding image first
-fits-holds edition view fits =
-    let limit = edition .limit in
+pub fits-holds : (version : ImageVersion) (view : View) → image version .fits view 0 → ImageHolds (version .limit) view
+unfolding image firstImageLine
+fits-holds version view fits =
+    let limit = version .limit in
     let long = view-long view (fits .1) in
     let head = fits .0 .0 .0 .1 in
     let low = row-fits limit false keptBefore (before view) _ (fits .0 .1 .0 .0) in
@@ -193,7 +193,7 @@ messages-short h known e i below =
     i
     below)
 
-pub sound-holds : (view : View) → Sound view → OfOctets view → Holds packetLimit view
+pub sound-holds : (view : View) → Sound view → OfOctets view → ImageHolds packetLimit view
 sound-holds view s o =
     let few = counts-small (view .counts) (sum-limited view (s .total)) in
     record {

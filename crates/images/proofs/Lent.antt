@@ -18,7 +18,7 @@ use Rattle.held.specs.Table.{Lent, lentBy, notePlace, sizeIn, mIn, messageSizeI
 use Rattle.held.specs.Laid.{InRanges}
 use Rattle.held.specs.declared.Session.{Session}
 use Rattle.held.proofs.Laws.{cell-at, held-at, lent-same, session-same}
-use Rattle.images.specs.Layout.{edition02}
+use Rattle.images.specs.Layout.{imageVersion02}
 use Rattle.images.specs.Image.{imageText, readText, OfOctets, LentOctets}
 use Rattle.images.proofs.Numbers.{octets-take, octets-drop}
 use Rattle.images.proofs.Holds.{sound-holds}
@@ -58,11 +58,11 @@ lent-octets {session} x =
     }
 
 pub lent-back : {session other : Lent} → InRanges session → LentOctets session → InRanges other
-    → readText (imageText edition02 (viewIn session)) ≡ done (viewIn other) → other ≡ session
+    → readText (imageText imageVersion02 (viewIn session)) ≡ done (viewIn other) → other ≡ session
 lent-back {session} {other} w x v e =
     lent-same v w (sym (done-same (sym (reads02 (viewIn session) (w .sound) (lent-octets x)) ∙ e)))
 
 pub struct-back : {session other : Session} → InRanges (lentBy session) → LentOctets (lentBy session) → InRanges (lentBy other)
-    → readText (imageText edition02 (viewOf session)) ≡ done (viewOf other) → other ≡ session
+    → readText (imageText imageVersion02 (viewOf session)) ≡ done (viewOf other) → other ≡ session
 struct-back {session} {other} w x v e =
     session-same other session v w (sym (done-same (sym (reads02 (viewOf session) (w .sound) (lent-octets x)) ∙ e)))

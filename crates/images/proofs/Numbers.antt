@@ -21,34 +21,34 @@ use Rattle.datagrams.specs.declared.reader.Part.{Part}
 use Rattle.datagrams.proofs.Laws.{item-done, item-back}
 use Rattle.formats.specs.Reading.{found, stopped}
 use Rattle.formats.proofs.Laws.{Fronts}
-use Rattle.images.specs.Parts.{highFirst, numberIn, numberFront, number, octetTo, octetIs, partTaken, itemFront}
-use Rattle.images.specs.Parts.{Sendable, item}
+use Rattle.images.specs.Parts.{highFirst, highFirstOctets, numberFront, number, octetTo, octetIs, partTaken, itemFront}
+use Rattle.images.specs.Parts.{Sendable, itemTo}
 use Rattle.images.proofs.Plain.{Plain, octets-append, plain-octetwise, plain-guarded}
 
 -- ---- numbers
-pub length-number : (k v : ℕ) → length (numberIn k v) ≡ k
-unfolding numberIn
+pub length-number : (k v : ℕ) → length (highFirstOctets k v) ≡ k
+unfolding highFirstOctets
 length-number zero v = refl
-length-number (suc k) v = omega (arith, length-append (numberIn k (v / 256)) (v % 256 ∷ []), length-number k (v / 256))
+length-number (suc k) v = omega (arith, length-append (highFirstOctets k (v / 256)) (v % 256 ∷ []), length-number k (v / 256))
 
-number-small : (k v : ℕ) → Octets (numberIn k v)
-unfolding numberIn
+number-small : (k v : ℕ) → Octets (highFirstOctets k v)
+unfolding highFirstOctets
 number-small zero v = octets-none
 number-small (suc k) v =
-    octets-append (numberIn k (v / 256)) (v % 256 ∷ []) (number-small k (v / 256))
+    octets-append (highFirstOctets k (v / 256)) (v % 256 ∷ []) (number-small k (v / 256))
     (octets-cons (v % 256) [] (mod-lt v {m = 256} (omega arith)) octets-none)
 
-number-reads : (k v : ℕ) (rest : List ℕ) → v < 256 ^ k → highFirst k (numberIn k v ++ rest) ≡ v
-unfolding numberIn highFirst
+number-reads : (k v : ℕ) (rest : List ℕ) → v < 256 ^ k → highFirst k (highFirstOctets k v ++ rest) ≡ v
+unfolding highFirstOctets highFirst
 number-reads zero v rest small = omega arith
 number-reads (suc k) v rest small =
     let less : v / 256 < 256 ^ k = omega (arith, pow-suc 256 k) in
-    let there : (numberIn k (v / 256) ++ (v % 256 ∷ [])) ++ rest ≡ numberIn k (v / 256) ++ (v % 256 ∷ rest)
-    = append-snoc (numberIn k (v / 256)) (v % 256) rest in
+    let there : (highFirstOctets k (v / 256) ++ (v % 256 ∷ [])) ++ rest ≡ highFirstOctets k (v / 256) ++ (v % 256 ∷ rest)
+    = append-snoc (highFirstOctets k (v / 256)) (v % 256) rest in
     rw (
       there,
       number-reads k (v / 256) (v % 256 ∷ rest) less,
-      getD-at (numberIn k (v / 256)) (v % 256) rest 0 k (length-number k (v / 256)),
+      getD-at (highFirstOctets k (v / 256)) (v % 256) rest 0 k (length-number k (v / 256)),
     )
     (omega arith)
 
@@ -57,22 +57,22 @@ unfolding highFirst
 highFirst-small zero s small = omega arith
 highFirst-small (suc k) s small = let rest = highFirst-small k s small in omega (arith, pow-suc 256 k, small k)
 
-number-back : (k : ℕ) (s : List ℕ) → Octets s → k ≤ length s → numberIn k (highFirst k s) ≡ take k s
-unfolding numberIn highFirst
+number-back : (k : ℕ) (s : List ℕ) → Octets s → k ≤ length s → highFirstOctets k (highFirst k s) ≡ take k s
+unfolding highFirstOctets highFirst
 number-back zero s small inside = refl
 number-back (suc k) s small inside =
     let high : (highFirst k s * 256 + getD s k 0) / 256 ≡ highFirst k s = omega (arith, small k) in
     let low : (highFirst k s * 256 + getD s k 0) % 256 ≡ getD s k 0 = omega (arith, small k) in
     rw (high, low, number-back k s small (omega arith), take-suc s k 0 inside)
 
-number-fronts : (k : ℕ) → Fronts (numberFront k) (numberIn k) (λ v. v < 256 ^ k)
+number-fronts : (k : ℕ) → Fronts (numberFront k) (highFirstOctets k) (λ v. v < 256 ^ k)
 unfolding numberFront
 number-fronts k =
     record {
       reads =
           λ v rest small.
           rw (
-            le-ltb (length (numberIn k v ++ rest)) k (omega (arith, length-append (numberIn k v) rest, length-number k v)),
+            le-ltb (length (highFirstOctets k v ++ rest)) k (omega (arith, length-append (highFirstOctets k v) rest, length-number k v)),
             number-reads k v rest small,
             length-number k v,
           );
@@ -80,7 +80,7 @@ number-fronts k =
     } where
       by : (s : List ℕ) (v m : ℕ) → Octets s → (b : Bool) → ltb (length s) k ≡ b
           → cond b (stopped (refusal badImage)) (found (highFirst k s) k) ≡ found v m
-          → (v < 256 ^ k) × (numberIn k v ≡ take m s) × (m ≤ length s)
+          → (v < 256 ^ k) × (highFirstOctets k v ≡ take m s) × (m ≤ length s)
       by s v m small true was e = let z : _≡_ {A = ℕ} 0 1 = cc in absurd (omega arith)
       by s v m small false was e =
           let is : highFirst k s ≡ v = cc in
@@ -88,13 +88,13 @@ number-fronts k =
           let inside = ltb-false (length s) k was in
           rw (← is, ← same) (highFirst-small k s small, number-back k s small inside, inside)
 
-pub plain-number : (k : ℕ) → Plain (number k) (numberIn k)
+pub plain-number : (k : ℕ) → Plain (number k) (highFirstOctets k)
 plain-number k = plain-octetwise (number-fronts k) (λ v fits. number-small k v)
 
-pub plain-octet-to : (most : ℕ) → Plain (octetTo most) (numberIn 1)
+pub plain-octet-to : (most : ℕ) → Plain (octetTo most) (highFirstOctets 1)
 plain-octet-to most = plain-guarded badImage (λ v. leb v most) (plain-number 1)
 
-pub plain-octet-is : (octet : ℕ) → Plain (octetIs octet) (numberIn 1)
+pub plain-octet-is : (octet : ℕ) → Plain (octetIs octet) (highFirstOctets 1)
 plain-octet-is octet = plain-guarded badImage (λ v. eqb v octet) (plain-number 1)
 
 -- ---- packets and messages
@@ -153,5 +153,5 @@ pub item-small : (limit : ℕ) (x : List ℕ) → Sendable limit x → Octets (i
 unfolding itemOctets
 item-small limit x fits = octets-append (lengthOctets (length x)) x (octets-written (length x) (fits .form)) (fits .octets)
 
-pub plain-item : (limit : ℕ) → Plain (item limit) itemOctets
+pub plain-item : (limit : ℕ) → Plain (itemTo limit) itemOctets
 plain-item limit = plain-octetwise (record { reads = item-reads limit; back = item-written limit }) (item-small limit)

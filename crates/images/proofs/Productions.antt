@@ -16,20 +16,20 @@ use Rattle.formats.specs.Format.{flagBit, sequenceFits, sequenceOf}
 use Rattle.views.specs.Cells.{State, unknown, received, spare, repaired, blank}
 use Rattle.views.specs.Held.{Held, nothingHeld}
 use Rattle.held.specs.Table.{lastState, stateNumbered}
-use Rattle.images.specs.Parts.{numberIn, Sendable, item}
-use Rattle.images.specs.Layout.{Edition, firstFrom, firstItems, first, Number, numberFrom, numberItems, fromBase}
+use Rattle.images.specs.Parts.{highFirstOctets, Sendable, itemTo}
+use Rattle.images.specs.Layout.{ImageVersion, firstFrom, firstItems, firstImageLine, Number, numberFrom, numberItems, fromBase}
 use Rattle.images.specs.Layout.{stateNumber, state, accepted, messages, numberLine}
-use Rattle.images.specs.Octets.{inRow, firstOctets, messagesOctets, lineOctetsOf}
+use Rattle.images.specs.Octets.{inRow, firstImageOctets, messagesOctets, lineOctetsOf}
 use Rattle.images.proofs.Plain.{Plain, plain-row, plain-then, plain-made}
 use Rattle.images.proofs.Numbers.{plain-number, plain-octet-to, plain-octet-is, plain-item}
 
 -- ---- the first line
-pub plain-first : (edition : Edition) → Plain (first edition) (firstOctets (edition .octet))
-unfolding first
-plain-first edition =
-    plain-made firstFrom (firstItems (edition .octet))
-    (λ x p fits. ap (λ (o : ℕ). (o, x .1)) (sym (eqb-true (x .0) (edition .octet) (fits .0 .1))))
-    (plain-then (λ _. _) _ (plain-octet-is (edition .octet))
+pub plain-first : (version : ImageVersion) → Plain (firstImageLine version) (firstImageOctets (version .octet))
+unfolding firstImageLine
+plain-first version =
+    plain-made firstFrom (firstItems (version .octet))
+    (λ x p fits. ap (λ (o : ℕ). (o, x .1)) (sym (eqb-true (x .0) (version .octet) (fits .0 .1))))
+    (plain-then (λ _. _) _ (plain-octet-is (version .octet))
     (λ _. plain-then (λ _. _) _ (plain-number 2)
     (λ _. plain-then (λ _. _) _ (plain-number 4)
     (λ _. plain-then (λ _. _) _ (plain-number 4) (λ _. plain-then (λ _. _) _ (plain-number 4) (λ _. plain-number 4))))))
@@ -42,7 +42,7 @@ all-states : allBelow 5 stateBack ≡ true
 unfolding allBelow stateNumbered
 all-states = refl
 
-plain-state : Plain state (λ s. numberIn 1 (stateNumber s))
+plain-state : Plain state (λ s. highFirstOctets 1 (stateNumber s))
 unfolding state
 plain-state =
     plain-made stateNumbered stateNumber
@@ -61,7 +61,7 @@ most-one : (ahead : Bool) (n : ℕ) → n ≤ fromBase ahead 1 → n ≤ 1
 most-one true n few = few
 most-one false n few = omega arith
 
-plain-accepted : (ahead : Bool) → Plain (accepted ahead) (λ b. numberIn 1 (flagBit b))
+plain-accepted : (ahead : Bool) → Plain (accepted ahead) (λ b. highFirstOctets 1 (flagBit b))
 unfolding accepted
 plain-accepted ahead =
     plain-made (λ n. ltb 0 n) flagBit
@@ -73,7 +73,7 @@ unfolding messages
 plain-messages limit ahead =
     plain-made (λ x. x .1) (λ items. (length items, items))
     (λ x p fits. ap (λ (m : ℕ). (m, x .1)) (fits .1 .1))
-    (plain-then (λ m. sequenceOf m (item limit)) (λ m. inRow itemOctets) (plain-octet-to (fromBase ahead messagesLimit))
+    (plain-then (λ m. sequenceOf m (itemTo limit)) (λ m. inRow itemOctets) (plain-octet-to (fromBase ahead messagesLimit))
     (λ m. plain-row m (plain-item limit)))
 
 -- ---- the line of a number
@@ -114,13 +114,13 @@ base-most false most = omega arith
 
 -- each of so many
 pub items-fit : (limit : ℕ) (items : List (List ℕ)) (p : ℕ) → ((i : ℕ) → i < length items → Sendable limit (getD items i []))
-    → sequenceFits (item limit) items p
+    → sequenceFits (itemTo limit) items p
 unfolding sequenceFits
 items-fit limit [] p each = tt
 items-fit limit (x ∷ items) p each =
     (each 0 (omega arith), items-fit limit items _ (λ i below. each (suc i) (omega arith)))
 
-pub fit-items : (limit : ℕ) (items : List (List ℕ)) (p : ℕ) → sequenceFits (item limit) items p
+pub fit-items : (limit : ℕ) (items : List (List ℕ)) (p : ℕ) → sequenceFits (itemTo limit) items p
     → (i : ℕ) → i < length items → Sendable limit (getD items i [])
 unfolding sequenceFits
 fit-items limit [] p fits i below = absurd (omega arith)

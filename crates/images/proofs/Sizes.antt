@@ -15,24 +15,24 @@ use Rattle.formats.specs.Format.{flagBit}
 use Rattle.lines.specs.Lines.{lineOf}
 use Rattle.views.specs.Cells.{keptBefore, keptAhead}
 use Rattle.views.specs.View.{View}
-use Rattle.images.specs.Parts.{numberIn, Sendable}
-use Rattle.images.specs.Layout.{Edition, First, Number, stateNumber, firstOf, before, ahead}
-use Rattle.images.specs.Image.{imageText, Holds, lineSize, firstSize, numberSize, linesSize, imageSize, longestItem, lineLimit}
+use Rattle.images.specs.Parts.{highFirstOctets, Sendable}
+use Rattle.images.specs.Layout.{ImageVersion, FirstImageLine, Number, stateNumber, firstOf, before, ahead}
+use Rattle.images.specs.Image.{imageText, ImageHolds, lineSize, firstImageSize, numberSize, linesSize, imageSize, longestItem, numberLineLimit}
 use Rattle.images.specs.Image.{imageLimit}
-use Rattle.images.specs.Octets.{inRow, firstOctets, lineOctetsOf, numberText, imageLines}
+use Rattle.images.specs.Octets.{inRow, firstImageOctets, lineOctetsOf, numberText, imageLines}
 use Rattle.images.proofs.Numbers.{length-number}
 use Rattle.images.proofs.Text.{length-line}
 use Rattle.images.proofs.Whole.{image-lines}
 
 -- ---- one line
-first-length : (octet : ℕ) (f : First) → length (firstOctets octet f) ≡ firstSize
+first-length : (octet : ℕ) (f : FirstImageLine) → length (firstImageOctets octet f) ≡ firstImageSize
 first-length octet f =
-    let a = numberIn 1 octet in
-    let b = numberIn 2 (f .base) in
-    let c = numberIn 4 (f .counts .received) in
-    let d = numberIn 4 (f .counts .spare) in
-    let e = numberIn 4 (f .counts .repaired) in
-    let g = numberIn 4 (f .counts .lost) in
+    let a = highFirstOctets 1 octet in
+    let b = highFirstOctets 2 (f .base) in
+    let c = highFirstOctets 4 (f .counts .received) in
+    let d = highFirstOctets 4 (f .counts .spare) in
+    let e = highFirstOctets 4 (f .counts .repaired) in
+    let g = highFirstOctets 4 (f .counts .lost) in
     omega (
       arith,
       length-append a (b ++ (c ++ (d ++ (e ++ g)))),
@@ -56,12 +56,12 @@ items-length (x ∷ items) =
 
 pub number-length : (k : Number) → length (lineOctetsOf k) ≡ numberSize k
 number-length k =
-    let a = numberIn 1 (stateNumber (k .cell .state)) in
-    let b = numberIn 1 (flagBit (k .held .accepted)) in
-    let c = numberIn 2 (k .cell .note) in
+    let a = highFirstOctets 1 (stateNumber (k .cell .state)) in
+    let b = highFirstOctets 1 (flagBit (k .held .accepted)) in
+    let c = highFirstOctets 2 (k .cell .note) in
     let d = itemOctets (k .cell .octets) in
-    let e = numberIn 1 (k .held .n) in
-    let g = numberIn 1 (length (k .held .messages)) in
+    let e = highFirstOctets 1 (k .held .n) in
+    let g = highFirstOctets 1 (length (k .held .messages)) in
     let h = inRow itemOctets (k .held .messages) in
     omega (
       arith,
@@ -91,19 +91,19 @@ rows-length (suc n) lines =
     ∙ ap₂ (λ (a b : ℕ). a + b) (length-line (lineOctetsOf (lines 0)) ∙ ap lineSize (number-length (lines 0)))
     (rows-length n (λ k. lines (suc k)))
 
-pub image-length : (edition : Edition) (view : View) → length (imageText edition view) ≡ imageSize view
+pub image-length : (version : ImageVersion) (view : View) → length (imageText version view) ≡ imageSize view
 unfolding imageText imageLines imageSize
-image-length edition view =
-    let a = lineOf (firstOctets (edition .octet) (firstOf view)) in
+image-length version view =
+    let a = lineOf (firstImageOctets (version .octet) (firstOf view)) in
     let b = inRow numberText (tab keptBefore (before view)) in
     let c = inRow numberText (tab keptAhead (ahead view)) in
-    ap length (image-lines edition view)
+    ap length (image-lines version view)
     ∙ omega (
       arith,
       length-append a (b ++ c),
       length-append b c,
-      length-line (firstOctets (edition .octet) (firstOf view)),
-      first-length (edition .octet) (firstOf view),
+      length-line (firstImageOctets (version .octet) (firstOf view)),
+      first-length (version .octet) (firstOf view),
       rows-length keptBefore (before view),
       rows-length keptAhead (ahead view),
     )
@@ -129,13 +129,13 @@ sum-most (suc n) most f each =
     let rest = sum-most n most (λ k. f (suc k)) (λ k below. each (suc k) (omega arith)) in
     omega (arith, suc-mul n most)
 
-before-most : (limit : ℕ) (view : View) → Holds limit view → (p : ℕ) → p < keptBefore
+before-most : (limit : ℕ) (view : View) → ImageHolds limit view → (p : ℕ) → p < keptBefore
     → lineSize (numberSize (before view p)) ≤ lineSize (6 + longestItem limit)
 unfolding itemsSize
 before-most limit view h p low = omega (arith, item-most limit (length ((before view p) .cell .octets)) (h .packet p (omega arith) .short))
 
-ahead-most : (limit : ℕ) (view : View) → Holds limit view → (d : ℕ) → d < keptAhead
-    → lineSize (numberSize (ahead view d)) ≤ lineSize (lineLimit limit)
+ahead-most : (limit : ℕ) (view : View) → ImageHolds limit view → (d : ℕ) → d < keptAhead
+    → lineSize (numberSize (ahead view d)) ≤ lineSize (numberLineLimit limit)
 ahead-most limit view h d low =
     let k = ahead view d in
     let packet = item-most limit (length (k .cell .octets)) (h .packet (keptBefore + d) (omega arith) .short) in
@@ -144,7 +144,7 @@ ahead-most limit view h d low =
     = mul-le-mul-right (longestItem limit) (h .few d low) in
     omega arith
 
-pub image-most : (limit : ℕ) (view : View) → Holds limit view → imageSize view ≤ imageLimit limit
+pub image-most : (limit : ℕ) (view : View) → ImageHolds limit view → imageSize view ≤ imageLimit limit
 unfolding imageSize
 image-most limit view h =
     let low = sum-most keptBefore _ _ (before-most limit view h) in

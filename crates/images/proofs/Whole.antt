@@ -13,7 +13,7 @@ use Rattle.views.specs.Cells.{Cell, blankCell, cellAt, keptBefore, keptAhead}
 use Rattle.views.specs.Held.{Held, nothingHeld, heldAt}
 use Rattle.views.specs.View.{View}
 use Rattle.images.specs.Parts.{line}
-use Rattle.images.specs.Layout.{Edition, First, Number, numberLine, viewFrom, before, ahead, linesOf, image}
+use Rattle.images.specs.Layout.{ImageVersion, FirstImageLine, Number, numberLine, viewFrom, before, ahead, linesOf, image}
 use Rattle.images.specs.Octets.{imageLines}
 use Rattle.images.specs.Image.{imageText}
 use Rattle.images.proofs.Plain.{Plain, plain-row, plain-then, plain-made, octets-for}
@@ -48,7 +48,7 @@ held-of l d = List·getD-map (λ (k : Number). k .held) l d nowhere
 pub tab-is : {A : Type 0} (l : List A) (d : A) (n : ℕ) (f : ℕ → A) → length l ≡ n → ((k : ℕ) → k < n → f k ≡ getD l k d) → tab n f ≡ l
 tab-is l d n f long same = tab-ext n f (λ k. getD l k d) same ∙ ap (λ (m : ℕ). tab m (λ k. getD l k d)) (sym long) ∙ tab-getD l d
 
-module _ (limit : ℕ) (f : First) (b a : List Number) (long : length b ≡ keptBefore) (far : length a ≡ keptAhead) where
+module _ (limit : ℕ) (f : FirstImageLine) (b a : List Number) (long : length b ≡ keptBefore) (far : length a ≡ keptAhead) where
   before-back : ((k : ℕ) → k < keptBefore → NumberFits limit false (getD b k nowhere)) → tab keptBefore (before (viewFrom (f, (b, a)))) ≡ b
   before-back fits =
       tab-is b nowhere keptBefore (before (viewFrom (f, (b, a)))) long
@@ -68,24 +68,24 @@ module _ (limit : ℕ) (f : First) (b a : List Number) (long : length b ≡ kept
       (held-of a k))
 
 -- ---- the image
-pub plain-image : (edition : Edition) → Plain (image edition) (λ view. imageLines (edition .octet) (linesOf view))
+pub plain-image : (version : ImageVersion) → Plain (image version) (λ view. imageLines (version .octet) (linesOf view))
 unfolding image imageLines
-plain-image edition =
+plain-image version =
     plain-made viewFrom linesOf
     (λ x p fits.
     let b = x .1 .0 in
-    let limit = edition .limit in
+    let limit = version .limit in
     ap₂ (λ (u v : List Number). (x .0, (u, v)))
     (before-back limit (x .0) (x .1 .0) (x .1 .1) (fits .1 .0 .1) (fits .1 .1 .1)
     (λ k below.
     fits-number limit false (getD b k nowhere)
     (fit-rows (numberLine limit false) b _ nowhere (fits .1 .0 .0) k (omega (arith, fits .1 .0 .1)))))
     (ahead-back limit (x .0) (x .1 .0) (x .1 .1) (fits .1 .0 .1) (fits .1 .1 .1)))
-    (plain-then (λ _. _) _ (plain-line (plain-first edition))
-    (λ _. plain-then (λ _. _) _ (plain-row keptBefore (plain-line (plain-number-line (edition .limit) false)))
-    (λ _. plain-row keptAhead (plain-line (plain-number-line (edition .limit) true)))))
+    (plain-then (λ _. _) _ (plain-line (plain-first version))
+    (λ _. plain-then (λ _. _) _ (plain-row keptBefore (plain-line (plain-number-line (version .limit) false)))
+    (λ _. plain-row keptAhead (plain-line (plain-number-line (version .limit) true)))))
 
 -- which is written line by line
-pub image-lines : (edition : Edition) (view : View) → imageText edition view ≡ imageLines (edition .octet) (linesOf view)
+pub image-lines : (version : ImageVersion) (view : View) → imageText version view ≡ imageLines (version .octet) (linesOf view)
 unfolding imageText
-image-lines edition view = octets-for (plain-image edition) view
+image-lines version view = octets-for (plain-image version) view

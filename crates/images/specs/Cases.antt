@@ -16,12 +16,12 @@ use Rattle.views.specs.View.{View, freshView}
 use Rattle.lines.specs.Hex.{hexOf}
 use Rattle.lines.specs.Text.{characters}
 use Rattle.images.specs.Parts.{octetsFor, readWhole, octetTo, line, lineFront, readLine}
-use Rattle.images.specs.Layout.{oldLimit, edition01, edition02, First, first, firstOf, Number, numberLine, before, ahead}
+use Rattle.images.specs.Layout.{oldLimit, imageVersion01, imageVersion02, FirstImageLine, firstImageLine, firstOf, Number, numberLine, before, ahead}
 use Rattle.images.specs.Image.{readText, inRangesOnly}
 
 -- a first line, and lines from the base on and before it
-abbrev pub counted : First
-counted = record { base = 0x0102; counts = record { received = 1; spare = 2; repaired = 3; lost = 0x04050607 } }
+abbrev pub countedFirst : FirstImageLine
+countedFirst = record { base = 0x0102; counts = record { received = 1; spare = 2; repaired = 3; lost = 0x04050607 } }
 
 abbrev pub full : Number
 full =
@@ -57,17 +57,17 @@ beforeBase text = readLine (numberLine packetLimit false) text
 -- ---- what is written
 pub record Written : Type 0 where
   -- a fresh session: its first line, a blank number before the base, an unknown one from it on
-  pub fresh-first : octetsFor (line (first edition02)) (firstOf freshView) ≡ characters "02000000000000000000000000000000000000\n"
+  pub fresh-first : octetsFor (line (firstImageLine imageVersion02)) (firstOf freshView) ≡ characters "02000000000000000000000000000000000000\n"
   pub fresh-blank : octetsFor (line (numberLine packetLimit false)) (before freshView 0) ≡ characters "04000000000000\n"
   pub fresh-unknown : octetsFor (line (numberLine packetLimit true)) (ahead freshView 0) ≡ characters "00000000000000\n"
   -- "base in two octets, the four counts in 01's order in four each, high first"
-  pub counts : octetsFor (line (first edition01)) counted ≡ characters "01010200000001000000020000000304050607\n"
+  pub counts : octetsFor (line (firstImageLine imageVersion01)) countedFirst ≡ characters "01010200000001000000020000000304050607\n"
   -- state, accepted, note, packet, n, m, messages
   pub number : octetsFor (line (numberLine packetLimit true)) full ≡ characters "0201010202AABB020201CC00\n"
 
 -- ---- what a line reads as
 pub record Lines : Type 0 where
-  pub counts : readLine (first edition01) (characters "01010200000001000000020000000304050607") ≡ done counted
+  pub counts : readLine (firstImageLine imageVersion01) (characters "01010200000001000000020000000304050607") ≡ done countedFirst
   pub number : fromBaseOn (characters "0201010202AABB020201CC00") ≡ done full
   -- "upper-case hexadecimal": lower case, a carriage return, half an octet, an empty line
   pub lower-case : fromBaseOn (characters "0201010202aaBB020201CC00") ≡ refuse badImage
@@ -79,19 +79,19 @@ pub record Lines : Type 0 where
   pub missing : fromBaseOn (characters "000000000000") ≡ refuse badImage
   pub left-over : fromBaseOn (characters "0000000000000000") ≡ refuse badImage
   -- "state over 4, accepted over 01, n over 8, m over 4"
-  pub state-5 : fromBaseOn (characters "05000000000000") ≡ refuse badImage
-  pub accepted-02 : fromBaseOn (characters "00020000000000") ≡ refuse badImage
-  pub n-8 : fromBaseOn (characters "0101000001AA080100") ≡ done (withMessages 8 ([] ∷ []))
-  pub n-9 : fromBaseOn (characters "0101000001AA090100") ≡ refuse badImage
-  pub m-4 : fromBaseOn (characters "0101000001AA080400000000") ≡ done (withMessages 8 ([] ∷ [] ∷ [] ∷ [] ∷ []))
-  pub m-5 : fromBaseOn (characters "0101000001AA08050000000000") ≡ refuse badImage
+  pub state-over : fromBaseOn (characters "05000000000000") ≡ refuse badImage
+  pub accepted-over : fromBaseOn (characters "00020000000000") ≡ refuse badImage
+  pub n-last : fromBaseOn (characters "0101000001AA080100") ≡ done (withMessages 8 ([] ∷ []))
+  pub n-over : fromBaseOn (characters "0101000001AA090100") ≡ refuse badImage
+  pub m-last : fromBaseOn (characters "0101000001AA080400000000") ≡ done (withMessages 8 ([] ∷ [] ∷ [] ∷ [] ∷ []))
+  pub m-over : fromBaseOn (characters "0101000001AA08050000000000") ≡ refuse badImage
   -- "length over the limit", here a limit of one octet, of a packet and of a message
   pub at-limit : readLine (numberLine 1 true) (characters "0101000001AA010100") ≡ done (withMessages 1 ([] ∷ []))
   pub packet-over : readLine (numberLine 1 true) (characters "0101000002AABB010100") ≡ refuse badImage
   pub message-over : readLine (numberLine 1 true) (characters "0101000001AA010102BBCC") ≡ refuse badImage
   -- "edition 01 is still read, under the old limit": one octet more is read in edition 02 alone
-  pub old-over : readLine (numberLine (edition01 .limit) false) (withPacket 161) ≡ refuse badImage
-  pub new-reads : readLine (numberLine (edition02 .limit) false) (withPacket 161) ≡ done (unheard 161)
+  pub old-over : readLine (numberLine (imageVersion01 .limit) false) (withPacket 161) ≡ refuse badImage
+  pub new-reads : readLine (numberLine (imageVersion02 .limit) false) (withPacket 161) ≡ done (unheard 161)
   -- a length in a form not allowed
   pub length-c0 : fromBaseOn (characters "01010000C001AA0000") ≡ refuse badImage
   pub length-two : fromBaseOn (characters "010100008001AA0000") ≡ refuse badImage
@@ -103,8 +103,8 @@ pub record Lines : Type 0 where
   pub n-before : beforeBase (characters "0100000001AA0100") ≡ refuse badImage
   pub m-before : beforeBase (characters "0100000001AA000100") ≡ refuse badImage
   -- each edition has its octet
-  pub edition-02 : readLine (first edition01) (characters "02010200000001000000020000000304050607") ≡ refuse badImage
-  pub edition-01 : readLine (first edition02) (characters "01010200000001000000020000000304050607") ≡ refuse badImage
+  pub edition-02 : readLine (firstImageLine imageVersion01) (characters "02010200000001000000020000000304050607") ≡ refuse badImage
+  pub edition-01 : readLine (firstImageLine imageVersion02) (characters "01010200000001000000020000000304050607") ≡ refuse badImage
 
 -- ---- what a text reads as
 pub record Texts : Type 0 where

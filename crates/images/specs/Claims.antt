@@ -19,65 +19,65 @@ use Rattle.held.specs.Table.{Lent, lentBy, viewIn, viewOf}
 use Rattle.held.specs.Laid.{InRanges}
 use Rattle.held.specs.declared.Session.{Session}
 use Rattle.images.specs.Parts.{readWhole}
-use Rattle.images.specs.Layout.{Edition, oldLimit, edition01, edition02, linesOf, image}
+use Rattle.images.specs.Layout.{ImageVersion, oldLimit, imageVersion01, imageVersion02, linesOf, image}
 use Rattle.images.specs.Octets.{imageLines}
-use Rattle.images.specs.Image.{imageText, readImage, namesEdition, editionNamed, readText, imageRows, imageToWrite, Holds}
+use Rattle.images.specs.Image.{imageText, readImage, namesEdition, editionNamed, readText, imageRows, imageToWrite, ImageHolds}
 use Rattle.images.specs.Image.{OfOctets, LentOctets, imageSize, imageLimit}
 use Rattle.images.specs.Cases.{Cases}
 
 -- ---- "Reading it back gives the equal session"
 pub record ReadBack : Type 0 where
   -- of every session that an edition can hold, in its ranges or not
-  pub held : (edition : Edition) (view : View) → edition .octet < 256 → Holds (edition .limit) view
-      → readWhole (image edition) (imageText edition view) ≡ done view
+  pub held : (version : ImageVersion) (view : View) → version .octet < 256 → ImageHolds (version .limit) view
+      → readWhole (image version) (imageText version view) ≡ done view
   -- every session within its ranges is one, and its image always reads
-  pub holds : (view : View) → Sound view → OfOctets view → Holds packetLimit view
-  pub session : (view : View) → Sound view → OfOctets view → readText (imageText edition02 view) ≡ done view
+  pub holds : (view : View) → Sound view → OfOctets view → ImageHolds packetLimit view
+  pub session : (view : View) → Sound view → OfOctets view → readText (imageText imageVersion02 view) ≡ done view
   -- not only what document 01 sees of it: whatever is laid out as what was read is the very session, number by number and octet by octet
   pub lent : {session other : Lent} → InRanges session → LentOctets session → InRanges other
-      → readText (imageText edition02 (viewIn session)) ≡ done (viewIn other) → other ≡ session
+      → readText (imageText imageVersion02 (viewIn session)) ≡ done (viewIn other) → other ≡ session
   pub struct : {session other : Session} → InRanges (lentBy session) → LentOctets (lentBy session) → InRanges (lentBy other)
-      → readText (imageText edition02 (viewOf session)) ≡ done (viewOf other) → other ≡ session
+      → readText (imageText imageVersion02 (viewOf session)) ≡ done (viewOf other) → other ≡ session
 
 -- ---- "one session has one image"
 pub record OneImage : Type 0 where
   -- what reads is written back to the same text
-  pub written : (edition : Edition) (text : List ℕ) (view : View) → Octets text → readImage edition text ≡ done view
-      → imageText edition view ≡ text
+  pub written : (version : ImageVersion) (text : List ℕ) (view : View) → Octets text → readImage version text ≡ done view
+      → imageText version view ≡ text
   -- so two texts that read as one session are one text
-  pub one : (edition : Edition) (text other : List ℕ) (view : View) → Octets text → Octets other → readImage edition text ≡ done view
-      → readImage edition other ≡ done view → text ≡ other
+  pub one : (version : ImageVersion) (text other : List ℕ) (view : View) → Octets text → Octets other → readImage version text ≡ done view
+      → readImage version other ≡ done view → text ≡ other
 
 -- ---- the layout as text: the first line, those before the base, those from it on, one after the other
 abbrev pub LineByLine : Type 0
-LineByLine = (edition : Edition) (view : View) → imageText edition view ≡ imageLines (edition .octet) (linesOf view)
+LineByLine = (version : ImageVersion) (view : View) → imageText version view ≡ imageLines (version .octet) (linesOf view)
 
 -- ---- how long it is
-pub record Sized : Type 0 where
+pub record ImageSized : Type 0 where
   -- settled by what the session holds, whatever the edition
-  pub settled : (edition : Edition) (view : View) → length (imageText edition view) ≡ imageSize view
+  pub settled : (version : ImageVersion) (view : View) → length (imageText version view) ≡ imageSize view
   -- and at most a constant over the limit
-  pub most : (limit : ℕ) (view : View) → Holds limit view → imageSize view ≤ imageLimit limit
+  pub most : (limit : ℕ) (view : View) → ImageHolds limit view → imageSize view ≤ imageLimit limit
   -- which a host can lend
   pub lent : imageLimit packetLimit ≡ 99943
 
 -- ---- "Refusals: reading, 20, a line missing, extra or misshapen .., then 17, and nothing is restored": any text has an answer, which
 -- is a session or a refusal alone, and each is given exactly where it must be
-pub record Reads : Type 0 where
+pub record ImageReads : Type 0 where
   -- a session: the text is its image, and it is within its ranges
-  pub session : (edition : Edition) (text : List ℕ) (view : View) → edition .octet < 256 → Octets text
-      → (readImage edition text ≡ done view)
-      ↔ ((Holds (edition .limit) view) × (imageText edition view ≡ text) × (inRanges view ≡ true))
+  pub session : (version : ImageVersion) (text : List ℕ) (view : View) → version .octet < 256 → Octets text
+      → (readImage version text ≡ done view)
+      ↔ ((ImageHolds (version .limit) view) × (imageText version view ≡ text) × (inRanges view ≡ true))
   -- 20: the text is no image of any session, within its ranges or not
-  pub misshapen : (edition : Edition) (text : List ℕ) → edition .octet < 256 → Octets text
-      → (readImage edition text ≡ refuse badImage)
-      ↔ ((view : View) → Holds (edition .limit) view → imageText edition view ≡ text → ⊥)
+  pub misshapen : (version : ImageVersion) (text : List ℕ) → version .octet < 256 → Octets text
+      → (readImage version text ≡ refuse badImage)
+      ↔ ((view : View) → ImageHolds (version .limit) view → imageText version view ≡ text → ⊥)
   -- then 17: it is one, of a session outside its ranges
-  pub outside : (edition : Edition) (text : List ℕ) → edition .octet < 256 → Octets text
-      → (readImage edition text ≡ refuse outsideRanges)
-      ↔ ((view : View) × (Holds (edition .limit) view) × (imageText edition view ≡ text) × (inRanges view ≡ false))
+  pub outside : (version : ImageVersion) (text : List ℕ) → version .octet < 256 → Octets text
+      → (readImage version text ≡ refuse outsideRanges)
+      ↔ ((view : View) × (ImageHolds (version .limit) view) × (imageText version view ≡ text) × (inRanges view ≡ false))
   -- and no other
-  pub only : (edition : Edition) (text : List ℕ) (why : Refusal) → readImage edition text ≡ refused why
+  pub only : (version : ImageVersion) (text : List ℕ) (why : Refusal) → readImage version text ≡ refused why
       → (why ≡ refusal badImage) ⊎ (why ≡ refusal outsideRanges)
 
 -- ---- document 02, request 10: "Image edition 02 is written; edition 01 is still read, under the old limit, and restored as the same
@@ -89,34 +89,34 @@ pub record Short (limit : ℕ) (view : View) : Type 0 where
   pub message : (d : ℕ) → d < keptAhead → (i : ℕ) → i < length ((heldAt (view .held) d) .messages)
       → length (getD ((heldAt (view .held) d) .messages) i []) ≤ limit
 
-pub record Editions : Type 0 where
+pub record ImageVersions : Type 0 where
   -- an edition holds a session exactly if no packet and no message in it is over its limit: 01 those up to the old one, 02 every one
-  pub holds : (limit : ℕ) (view : View) → Sound view → OfOctets view → (Holds limit view) ↔ (Short limit view)
+  pub holds : (limit : ℕ) (view : View) → Sound view → OfOctets view → (ImageHolds limit view) ↔ (Short limit view)
   pub holdsAll : (view : View) → Sound view → OfOctets view → Short packetLimit view
   -- the images of one session in both restore the same session
   pub same : (view : View) → Sound view → OfOctets view → Short oldLimit view
-      → (readText (imageText edition01 view) ≡ done view) × (readText (imageText edition02 view) ≡ done view)
+      → (readText (imageText imageVersion01 view) ≡ done view) × (readText (imageText imageVersion02 view) ≡ done view)
   -- what is restored is what one of them reads as
   pub either : (text : List ℕ) (view : View) → Octets text
-      → (readText text ≡ done view) ↔ ((readImage edition01 text ≡ done view) ⊎ (readImage edition02 text ≡ done view))
+      → (readText text ≡ done view) ↔ ((readImage imageVersion01 text ≡ done view) ⊎ (readImage imageVersion02 text ≡ done view))
   -- "one session has one image in each edition": what reads is its image in 01 or in 02
   pub one : (text : List ℕ) (view : View) → Octets text → readText text ≡ done view
-      → (imageText edition01 view ≡ text) ⊎ (imageText edition02 view ≡ text)
+      → (imageText imageVersion01 view ≡ text) ⊎ (imageText imageVersion02 view ≡ text)
   -- 21 exactly where the edition octet can be read and is another
   pub other : (text : List ℕ) → (readText text ≡ refuse otherEdition)
-      ↔ ((namesEdition text ≡ true) × ((editionNamed text ≡ edition01 .octet) → ⊥) × ((editionNamed text ≡ edition02 .octet) → ⊥))
+      ↔ ((namesEdition text ≡ true) × ((editionNamed text ≡ imageVersion01 .octet) → ⊥) × ((editionNamed text ≡ imageVersion02 .octet) → ⊥))
 
 -- ---- "writing, 17, then 13"
-abbrev pub Writes : Type 0
-Writes = (edition : Edition) (session : Lent) (old : List ℕ)
-    → refusalIn (fitted (imageToWrite edition session) old) ≡ first (imageRows session ++ roomRow (imageText edition (viewIn session)) old)
+abbrev pub ImageWrites : Type 0
+ImageWrites = (version : ImageVersion) (session : Lent) (old : List ℕ)
+    → refusalIn (fitted (imageToWrite version session) old) ≡ first (imageRows session ++ roomRow (imageText version (viewIn session)) old)
 
 pub record Claims : Type 0 where
   pub readBack : ReadBack
   pub oneImage : OneImage
   pub lines : LineByLine
-  pub sized : Sized
-  pub reads : Reads
-  pub editions : Editions
-  pub writes : Writes
+  pub sized : ImageSized
+  pub reads : ImageReads
+  pub editions : ImageVersions
+  pub writes : ImageWrites
   pub cases : Cases

@@ -24,20 +24,20 @@ use Rattle.held.specs.Table.{Lent, viewIn}
 use Rattle.held.specs.Laid.{lentInRanges}
 use Rattle.lines.specs.Hex.{digitOf}
 use Rattle.images.specs.Parts.{octetsFor, readWhole, upperDigit, Sendable}
-use Rattle.images.specs.Layout.{Edition, edition01, edition02, Number, before, ahead, image}
+use Rattle.images.specs.Layout.{ImageVersion, imageVersion01, imageVersion02, Number, before, ahead, image}
 
 -- the characters of a session's image
-unfoldable pub imageText : Edition → View → List ℕ
-imageText edition view = octetsFor (image edition) view
+unfoldable pub imageText : ImageVersion → View → List ℕ
+imageText version view = octetsFor (image version) view
 
 -- 17: a session outside its ranges, as document 01 sees it
 abbrev pub inRangesOnly : View → Answer View
 inRangesOnly view = cond (inRanges view) (done view) (refuse outsideRanges)
 
 -- what any text reads as: 20 over the whole image, then 17
-unfoldable pub readImage : Edition → List ℕ → Answer View
-readImage edition text = do
-  view ← readWhole (image edition) text
+unfoldable pub readImage : ImageVersion → List ℕ → Answer View
+readImage version text = do
+  view ← readWhole (image version) text
   inRangesOnly view
 
 -- document 02, request 10: "21, any other edition octet, before 20 where that octet can be read", which is where the first two characters
@@ -56,8 +56,8 @@ editionNamed (high ∷ low ∷ text) = digitOf high * 16 + digitOf low
 -- what a text reads as that names an edition
 abbrev pub readBy : ℕ → List ℕ → Answer View
 readBy octet text =
-    cond (eqb octet (edition01 .octet)) (readImage edition01 text)
-    (cond (eqb octet (edition02 .octet)) (readImage edition02 text) (refuse otherEdition))
+    cond (eqb octet (imageVersion01 .octet)) (readImage imageVersion01 text)
+    (cond (eqb octet (imageVersion02 .octet)) (readImage imageVersion02 text) (refuse otherEdition))
 
 -- and any text
 unfoldable pub readText : List ℕ → Answer View
@@ -67,11 +67,11 @@ readText text = cond (namesEdition text) (readBy (editionNamed text) text) (refu
 abbrev pub imageRows : Lent → List (Option ℕ)
 imageRows session = when (not (lentInRanges session)) outsideRanges ∷ []
 
-unfoldable pub imageToWrite : Edition → Lent → Answer (List ℕ)
-imageToWrite edition session = unless (imageRows session) (imageText edition (viewIn session))
+unfoldable pub imageToWrite : ImageVersion → Lent → Answer (List ℕ)
+imageToWrite version session = unless (imageRows session) (imageText version (viewIn session))
 
 -- ---- what an image can hold: numbers that have their octets, packets and messages within the limit
-pub record Holds (limit : ℕ) (view : View) : Type 0 where
+pub record ImageHolds (limit : ℕ) (view : View) : Type 0 where
   pub base : view .base < 256 ^ 2
   pub received : view .counts .received < 256 ^ 4
   pub spare : view .counts .spare < 256 ^ 4
@@ -106,8 +106,8 @@ abbrev pub lineSize : ℕ → ℕ
 lineSize octets = 2 * octets + 1
 
 -- edition, base and counts
-abbrev pub firstSize : ℕ
-firstSize = 1 + 2 + 4 * 4
+abbrev pub firstImageSize : ℕ
+firstImageSize = 1 + 2 + 4 * 4
 
 -- state, accepted octet, note, packet, n, m and messages
 abbrev pub numberSize : Number → ℕ
@@ -117,17 +117,17 @@ abbrev pub linesSize : ℕ → (ℕ → Number) → ℕ
 linesSize n lines = sumOf (tab n (λ p. lineSize (numberSize (lines p))))
 
 unfoldable pub imageSize : View → ℕ
-imageSize view = lineSize firstSize + linesSize keptBefore (before view) + linesSize keptAhead (ahead view)
+imageSize view = lineSize firstImageSize + linesSize keptBefore (before view) + linesSize keptAhead (ahead view)
 
 -- a packet or message of `limit` octets, with its length
 abbrev pub longestItem : ℕ → ℕ
 longestItem limit = 2 + limit
 
 -- the most octets of the line of a number: a packet and all messages
-abbrev pub lineLimit : ℕ → ℕ
-lineLimit limit = 6 + longestItem limit + messagesLimit * longestItem limit
+abbrev pub numberLineLimit : ℕ → ℕ
+numberLineLimit limit = 6 + longestItem limit + messagesLimit * longestItem limit
 
 -- the longest image: before the base there are no messages
 abbrev pub imageLimit : ℕ → ℕ
 imageLimit limit =
-    lineSize firstSize + keptBefore * lineSize (6 + longestItem limit) + keptAhead * lineSize (lineLimit limit)
+    lineSize firstImageSize + keptBefore * lineSize (6 + longestItem limit) + keptAhead * lineSize (numberLineLimit limit)

@@ -14,10 +14,10 @@ use Rattle.views.specs.Cells.{State, unknown, received, spare, repaired, blank,
 use Rattle.views.specs.Held.{Held, nothingHeld, heldAt}
 use Rattle.views.specs.View.{View, Counts}
 use Rattle.held.specs.Table.{lastState, stateNumbered}
-use Rattle.images.specs.Parts.{number, octetTo, octetIs, item, line}
+use Rattle.images.specs.Parts.{number, octetTo, octetIs, itemTo, line}
 
 -- an edition: its octet, and how many octets a packet or message may have
-pub record Edition : Type 0 where
+pub record ImageVersion : Type 0 where
   pub octet : ℕ
   pub limit : ℕ
 
@@ -25,36 +25,36 @@ pub record Edition : Type 0 where
 abbrev pub oldLimit : ℕ
 oldLimit = 160
 
-abbrev pub edition01 : Edition
-edition01 = record { octet = 0x01; limit = oldLimit }
+abbrev pub imageVersion01 : ImageVersion
+imageVersion01 = record { octet = 0x01; limit = oldLimit }
 
-abbrev pub edition02 : Edition
-edition02 = record { octet = 0x02; limit = packetLimit }
+abbrev pub imageVersion02 : ImageVersion
+imageVersion02 = record { octet = 0x02; limit = packetLimit }
 
 -- the edition that is written
-abbrev pub editionWritten : Edition
-editionWritten = edition02
+abbrev pub versionWritten : ImageVersion
+versionWritten = imageVersion02
 
 -- ---- the first line
-pub record First : Type 0 where
+pub record FirstImageLine : Type 0 where
   pub base : ℕ
   pub counts : Counts
 
 -- by its items, and its items: the edition's octet, the base, "the four counts in 01's order"
-abbrev pub firstFrom : ℕ × (ℕ × (ℕ × (ℕ × (ℕ × ℕ)))) → First
+abbrev pub firstFrom : ℕ × (ℕ × (ℕ × (ℕ × (ℕ × ℕ)))) → FirstImageLine
 firstFrom x =
     record {
       base = x .1 .0;
       counts = record { received = x .1 .1 .0; spare = x .1 .1 .1 .0; repaired = x .1 .1 .1 .1 .0; lost = x .1 .1 .1 .1 .1 };
     }
 
-abbrev pub firstItems : ℕ → First → ℕ × (ℕ × (ℕ × (ℕ × (ℕ × ℕ))))
+abbrev pub firstItems : ℕ → FirstImageLine → ℕ × (ℕ × (ℕ × (ℕ × (ℕ × ℕ))))
 firstItems octet f = (octet, (f .base, (f .counts .received, (f .counts .spare, (f .counts .repaired, f .counts .lost)))))
 
-unfoldable pub first : Edition → Format First
-first edition =
-    made firstFrom (firstItems (edition .octet))
-    (octetIs (edition .octet)
+unfoldable pub firstImageLine : ImageVersion → Format FirstImageLine
+firstImageLine version =
+    made firstFrom (firstItems (version .octet))
+    (octetIs (version .octet)
     ⊳ λ _. number 2
     ⊳ λ _. number 4
     ⊳ λ _. number 4
@@ -101,7 +101,7 @@ unfoldable pub messages : ℕ → Bool → Format (List (List ℕ))
 messages limit ahead =
     made (λ x. x .1) (λ items. (length items, items))
     (octetTo (fromBase ahead messagesLimit)
-    ⊳ λ m. sequenceOf m (item limit))
+    ⊳ λ m. sequenceOf m (itemTo limit))
 
 -- the line's shape, for numbers before the base and from it on
 unfoldable pub numberLine : ℕ → Bool → Format Number
@@ -110,13 +110,13 @@ numberLine limit ahead =
     (state
     ⊳ λ _. accepted ahead
     ⊳ λ _. number 2
-    ⊳ λ _. item limit
+    ⊳ λ _. itemTo limit
     ⊳ λ _. octetTo (fromBase ahead coveredLimit)
     ⊳ λ _. messages limit ahead)
 
 -- ---- the image
 -- a session by the lines of its image: the first, those before the base, those from it on
-abbrev pub viewFrom : First × (List Number × List Number) → View
+abbrev pub viewFrom : FirstImageLine × (List Number × List Number) → View
 viewFrom x =
     record {
       base = x .0 .base;
@@ -126,7 +126,7 @@ viewFrom x =
     }
 
 -- and its lines: of the first, of place p of the view before the base, at distance d from the base
-abbrev pub firstOf : View → First
+abbrev pub firstOf : View → FirstImageLine
 firstOf view = record { base = view .base; counts = view .counts }
 
 abbrev pub before : View → ℕ → Number
@@ -135,13 +135,13 @@ before view p = record { cell = cellAt (view .cells) p; held = nothingHeld }
 abbrev pub ahead : View → ℕ → Number
 ahead view d = record { cell = cellAt (view .cells) (keptBefore + d); held = heldAt (view .held) d }
 
-abbrev pub linesOf : View → First × (List Number × List Number)
+abbrev pub linesOf : View → FirstImageLine × (List Number × List Number)
 linesOf view = (firstOf view, (tab keptBefore (before view), tab keptAhead (ahead view)))
 
 -- "then 64 lines, from 32 before the base upward"
-unfoldable pub image : Edition → Format View
-image edition =
+unfoldable pub image : ImageVersion → Format View
+image version =
     made viewFrom linesOf
-    (line (first edition)
-    ⊳ λ _. sequenceOf keptBefore (line (numberLine (edition .limit) false))
-    ⊳ λ _. sequenceOf keptAhead (line (numberLine (edition .limit) true)))
+    (line (firstImageLine version)
+    ⊳ λ _. sequenceOf keptBefore (line (numberLine (version .limit) false))
+    ⊳ λ _. sequenceOf keptAhead (line (numberLine (version .limit) true)))

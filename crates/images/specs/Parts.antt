@@ -45,15 +45,15 @@ highFirst zero s = 0
 highFirst (suc k) s = highFirst k s * 256 + getD s k 0
 
 -- a number in k octets
-unfoldable pub numberIn : ℕ → ℕ → List ℕ
-numberIn zero v = []
-numberIn (suc k) v = numberIn k (v / 256) ++ (v % 256 ∷ [])
+unfoldable pub highFirstOctets : ℕ → ℕ → List ℕ
+highFirstOctets zero v = []
+highFirstOctets (suc k) v = highFirstOctets k (v / 256) ++ (v % 256 ∷ [])
 
 unfoldable pub numberFront : ℕ → List ℕ → Finding ℕ
 numberFront k s = cond (ltb (length s) k) (stopped (refusal badImage)) (found (highFirst k s) k)
 
 abbrev pub number : ℕ → Format ℕ
-number k = octetwise (numberFront k) (numberIn k) (λ v. v < 256 ^ k)
+number k = octetwise (numberFront k) (highFirstOctets k) (λ v. v < 256 ^ k)
 
 -- one octet that is not over `most`
 abbrev pub octetTo : ℕ → Format ℕ
@@ -73,13 +73,13 @@ unfoldable pub itemFront : ℕ → List ℕ → Finding (List ℕ)
 itemFront limit s = partTaken s (itemAt 0 limit s 0)
 
 -- octets within the limit, whose length has a form
-pub record Sendable (limit : ℕ) (item : List ℕ) : Type 0 where
-  pub short : length item ≤ limit
-  pub form : length item ≤ lengthLimit
-  pub octets : Octets item
+pub record Sendable (limit : ℕ) (itemTo : List ℕ) : Type 0 where
+  pub short : length itemTo ≤ limit
+  pub form : length itemTo ≤ lengthLimit
+  pub octets : Octets itemTo
 
-abbrev pub item : ℕ → Format (List ℕ)
-item limit = octetwise (itemFront limit) itemOctets (Sendable limit)
+abbrev pub itemTo : ℕ → Format (List ℕ)
+itemTo limit = octetwise (itemFront limit) itemOctets (Sendable limit)
 
 -- ---- lines
 -- the characters before the first line feed

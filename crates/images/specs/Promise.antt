@@ -11,7 +11,7 @@ use Rattle.held.specs.Table.{lentBy, viewOf}
 use Rattle.held.specs.Laid.{InRanges}
 use Rattle.held.specs.Promise.{Fresh}
 use Rattle.held.specs.declared.Session.{Session}
-use Rattle.images.specs.Layout.{editionWritten}
+use Rattle.images.specs.Layout.{versionWritten}
 use Rattle.images.specs.Image.{readText, imageToWrite}
 use Rattle.images.specs.declared.Restore.{Restore}
 use Rattle.images.specs.declared.Restore.the-variants as restore
@@ -19,7 +19,7 @@ use Rattle.images.specs.declared.Restored.{Restored}
 
 -- ---- write: the session's image to the front of a lent buffer
 abbrev pub ImageWritten : Session → List ℕ → List ℕ → Written → Type 0
-ImageWritten s old new r = Puts (imageToWrite editionWritten (lentBy s)) old new r
+ImageWritten s old new r = Puts (imageToWrite versionWritten (lentBy s)) old new r
 
 -- ---- read: the session that the text is an image of
 -- each case of the answer, with the session as document 01 sees it

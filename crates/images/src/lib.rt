@@ -6,7 +6,7 @@ use held::Session;
 use lengths::Refusal;
 ghost use mathlib.Core.Path.{_≡_};
 ghost use Rattle.datagrams.specs.Sizes.{packetLimit};
-ghost use Rattle.images.specs.Image.{firstSize, lineLimit, imageLimit};
+ghost use Rattle.images.specs.Image.{firstImageSize, numberLineLimit, imageLimit};
 
 // An image of a session.
 pub struct Image {}
@@ -42,7 +42,7 @@ impl Image {
         + Session::HEARD * (2 * Image::LINE + 1);
 
     pub fn line() -> usize
-        ensures { λ r. ⌜ r ≡ lineLimit packetLimit ⌝ }
+        ensures { λ r. ⌜ r ≡ numberLineLimit packetLimit ⌝ }
     {
         Image::LINE
     }

@@ -31,21 +31,23 @@ pub record CellsNow (before after : Lent) (wanted : List Cell) : Type 0 where
 
 -- the number stands at a place of the view with so many places before it: there are a base, counts and messages with which all that is
 -- lent is within the ranges, and it is so
-pub record MayKeep (number count : ℕ) (t o : List ℕ) : Type 0 where
+pub record MayKeep (number count : ℕ) (table octets : List ℕ) : Type 0 where
   pub base : ℕ
   pub counts : Counts
   pub messages : List ℕ
   pub place : ℕ
-  pub within : InRanges (lent base counts t o messages)
+  pub within : InRanges (lent base counts table octets messages)
   pub there : place < keptNumbers
   pub low : count ≤ place
   pub stands : number ≡ numberAt base place
 
 -- the octets b of datagram S kept at a number, if that is still unknown: with every base, counts and messages with which all is within the
 -- ranges, where the number stands at a place p of the view
-pub record Keeps (S state number : ℕ) (b t o newT newO : List ℕ) : Type 0 where
-  pub kept : (base : ℕ) (c : Counts) (g : List ℕ) (p : ℕ) → InRanges (lent base c t o g) → p < keptNumbers → number ≡ numberAt base p
-      → CellsNow (lent base c t o g) (lent base c newT newO g) (offers.keep S (stateNumbered state) p b (cellsOf base t o))
+pub record Keeps (S state number : ℕ) (b table octets newTable newOctets : List ℕ) : Type 0 where
+  pub kept : (base : ℕ) (c : Counts) (messages : List ℕ) (p : ℕ) → InRanges (lent base c table octets messages) → p < keptNumbers
+      → number ≡ numberAt base p
+      → CellsNow (lent base c table octets messages) (lent base c newTable newOctets messages)
+      (offers.keep S (stateNumbered state) p b (cellsOf base table octets))
 
 -- the spares of a datagram are its first `count` items: few enough, and each a packet
 pub record CarriesSpares (s : List ℕ) (items : List Part) (count : ℕ) : Type 0 where
@@ -54,11 +56,12 @@ pub record CarriesSpares (s : List ℕ) (items : List Part) (count : ℕ) : Type
   pub each : (i : ℕ) → i < count → PartInside packetLeast packetLimit s (partAt items i)
 
 -- the spares kept of the datagram with that number
-pub record KeepsSpares (number : ℕ) (s : List ℕ) (items : List Part) (count : ℕ) (t o newT newO : List ℕ) : Type 0 where
-  pub kept : (base : ℕ) (c : Counts) (g : List ℕ) (p : ℕ) → InRanges (lent base c t o g) → p < keptNumbers → count ≤ p
+pub record KeepsSpares (number : ℕ) (s : List ℕ) (items : List Part) (count : ℕ) (table octets newTable newOctets : List ℕ) : Type 0 where
+  pub kept : (base : ℕ) (c : Counts) (messages : List ℕ) (p : ℕ) → InRanges (lent base c table octets messages) → p < keptNumbers
+      → count ≤ p
       → number ≡ numberAt base p
-      → CellsNow (lent base c t o g) (lent base c newT newO g)
-      (offers.keepSpares number p (map (octetsOf s) (take count items)) (cellsOf base t o))
+      → CellsNow (lent base c table octets messages) (lent base c newTable newOctets messages)
+      (offers.keepSpares number p (map (octetsOf s) (take count items)) (cellsOf base table octets))
 
 -- ---- mark and messages
 -- "with m = 0 also n = 0, otherwise n [and] m .. are within the sizes"
@@ -86,10 +89,10 @@ pub record Unmarked (l : Lent) (d : ℕ) : Type 0 where
   pub unmarked : (heldAt (heldOf (l .base) (l .table) (l .messages)) d) .accepted ≡ false
 
 -- the same of what hold sees: there are counts and octets with which it is so
-pub record MayHold (base : ℕ) (t g : List ℕ) (d : ℕ) : Type 0 where
+pub record MayHold (base : ℕ) (table messages : List ℕ) (d : ℕ) : Type 0 where
   pub counts : Counts
   pub octets : List ℕ
-  pub unmarked : Unmarked (lent base counts t octets g) d
+  pub unmarked : Unmarked (lent base counts table octets messages) d
 
 -- what is held of the accepted datagram
 abbrev pub heldOfParts : List ℕ → ℕ → List Part → ℕ → Held
@@ -102,6 +105,8 @@ pub record HeldNow (before after : Lent) (wanted : List Held) : Type 0 where
   pub within : InRanges after
 
 -- the number at distance d is marked and holds its n and messages: with every counts and octets with which it was unmarked
-pub record Holds (base d : ℕ) (s : List ℕ) (n : ℕ) (items : List Part) (count : ℕ) (t g newT newG : List ℕ) : Type 0 where
-  pub holds : (c : Counts) (o : List ℕ) → Unmarked (lent base c t o g) d
-      → HeldNow (lent base c t o g) (lent base c newT o newG) (set (heldOf base t g) d (heldOfParts s n items count))
+pub record Holds (base d : ℕ) (s : List ℕ) (n : ℕ) (items : List Part) (count : ℕ) (table messages newTable newMessages : List ℕ)
+    : Type 0 where
+  pub holds : (c : Counts) (octets : List ℕ) → Unmarked (lent base c table octets messages) d
+      → HeldNow (lent base c table octets messages) (lent base c newTable octets newMessages)
+      (set (heldOf base table messages) d (heldOfParts s n items count))

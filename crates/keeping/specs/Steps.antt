@@ -30,6 +30,6 @@ pub record Fit (s : List ℕ) (items : List Part) (count : ℕ) : Type 0 where
   pub each : (i : ℕ) → i < count → PartInside messageLeast messageLimit s (partAt items i)
 
 -- what lay owes: the first `count` messages of slot j are the items
-pub record ItemsLaid (s : List ℕ) (j : ℕ) (items : List Part) (count : ℕ) (t g newT newG : List ℕ) : Type 0 where
-  pub sizes : SizesLaid j count (partOctets s items) t newT
-  pub octets : OctetsLaid j count (partOctets s items) g newG
+pub record ItemsLaid (s : List ℕ) (j : ℕ) (items : List Part) (count : ℕ) (table messages newTable newMessages : List ℕ) : Type 0 where
+  pub sizes : SizesLaid j count (partOctets s items) table newTable
+  pub octets : OctetsLaid j count (partOctets s items) messages newMessages

@@ -14,7 +14,7 @@ use Rattle.views.specs.Release.{Release, release}
 use Rattle.views.proofs.Laws.{release-leaves}
 use Rattle.held.specs.Slots.{slotsKept}
 use Rattle.held.specs.Table.{Lent, viewIn, stateOf}
-use Rattle.held.specs.declared.Kind.{Kind}
+use Rattle.held.specs.declared.ReleaseKind.{ReleaseKind}
 use Rattle.held.proofs.Laws.{has-packet-slot}
 use Rattle.leaving.specs.Outcome.{Handed, releasedOutcome, handedOf}
 use Rattle.leaving.specs.Promise.{Leaves, Releases}
@@ -48,7 +48,7 @@ none-gone (done r) why e = let z : _≡_ {A = ℕ} 0 1 = cc in absurd (omega ari
 none-gone (refused x) why e = cc
 
 module _ {leave : Bool} {room : ℕ} {before after : Lent} {answer : Released} (l : Leaves leave room before after answer) where
-  pub gone : {kind : Kind} {number note size : ℕ} → answer ≡ released.Number kind number note size
+  pub gone : {kind : ReleaseKind} {number note size : ℕ} → answer ≡ released.Number kind number note size
       → Gone (release leave room (viewIn before)) (stateOf kind) number note size
   gone {kind} {number} {note} {size} is =
       gone-of (release leave room (viewIn before)) (stateOf kind) number note size (sym (ap releasedOutcome is) ∙ l .told)
@@ -60,7 +60,7 @@ module _ {leave : Bool} {room : ℕ} {before after : Lent} {answer : Released} (
   pub gone-there : (number : ℕ) {slot : ℕ} → slot ≡ number % slotsKept → HasSlot slot (after .octets)
   gone-there number {slot} at = has-packet-slot (after .octets) slot (l .within .laid .octets) (omega arith)
 
-  module _ {kind : Kind} {number note size : ℕ} (is : answer ≡ released.Number kind number note size) where
+  module _ {kind : ReleaseKind} {number note size : ℕ} (is : answer ≡ released.Number kind number note size) where
     pub gone-short : size ≤ packetLimit
     gone-short = let a = gone is in omega (arith, a .same-size, l .stored (a .out) (a .is) .fits)
 
@@ -74,7 +74,7 @@ module _ {leave : Bool} {room : ℕ} {before after : Lent} {answer : Released} (
 
 -- ---- each answer
 module _ {leave : Bool} {before after : Lent} {old : List ℕ} {answer : Released} (l : Leaves leave (length old) before after answer) where
-  pub copied : {kind : Kind} {number note size slot : ℕ} {new : List ℕ} → answer ≡ released.Number kind number note size
+  pub copied : {kind : ReleaseKind} {number note size slot : ℕ} {new : List ℕ} → answer ≡ released.Number kind number note size
       → slot ≡ number % slotsKept → new ≡ part (after .octets) slot size ++ drop size old
       → Releases leave before after old new answer
   copied {number = number} {size = size} {slot = slot} {new = new} is at lent =

@@ -21,7 +21,7 @@ use Rattle.held.specs.Table.{lent, countsOf, stateOf, stateNumbered, stateIn, s
 use Rattle.held.specs.Table.{cellsOf, heldOf, viewIn, keptSet, heardDropped}
 use Rattle.held.specs.Laid.{InRanges}
 use Rattle.held.specs.declared.Counts.{Counts}
-use Rattle.held.specs.declared.Kind.{Kind}
+use Rattle.held.specs.declared.ReleaseKind.{ReleaseKind}
 use Rattle.held.proofs.Laws.{slot-after, slot-comes, heard-after, heard-leaves, slot-small, heard-small, message-small, slot-apart}
 use Rattle.held.proofs.Laws.{heard-apart, message-apart, has-packet-slot, has-message-slot}
 use Rattle.leaving.specs.Steps.{Freed}
@@ -126,7 +126,7 @@ module _ {b : ℕ} {before : Counts} {t o g newO newG : List ℕ} (counts : Coun
   unfolding viewIn goneOn
   view-after = ap₂ (seen (following b) (countsOf counts)) cells-after held-after
 
-  moved : {kind : Kind} → MayMoveOn kind (lent b before t o g) → countsOf counts ≡ counted (stateOf kind) (countsOf before)
+  moved : {kind : ReleaseKind} → MayMoveOn kind (lent b before t o g) → countsOf counts ≡ counted (stateOf kind) (countsOf before)
       → MovesOn (lent b before t o g) (lent (following b) counts (advanced b t) newO newG)
   unfolding viewIn
   moved {kind} may e =
@@ -155,7 +155,7 @@ few-leave {base} {leaves} {m} {before} {t} {o} {g} w at-base read =
     let e : leaves ≡ heardSlotAt base 0 = omega arith in
     rw (read, e) (w .laid .few (heardSlotAt base 0) (heard-small base 0))
 
-pub base-moved : {base b leaves m after : ℕ} {before counts : Counts} {kind : Kind} {t o g t1 t2 newO newG : List ℕ}
+pub base-moved : {base b leaves m after : ℕ} {before counts : Counts} {kind : ReleaseKind} {t o g t1 t2 newO newG : List ℕ}
     → InRanges (lent base before t o g)
     → MayMoveOn kind (lent base before t o g) → countsOf counts ≡ counted (stateOf kind) (countsOf before) → b ≡ base
     → leaves ≡ base % slotsHeard → m ≡ mIn t leaves

@@ -21,10 +21,10 @@ use Rattle.held.specs.Slots.{slotsKept}
 use Rattle.held.specs.Table.{Lent, lent, lastState, stateOf, stateIn, sizeIn, noteIn, cellIn, cellsOf, viewIn, stateNumbered}
 use Rattle.held.specs.Laid.{InRanges}
 use Rattle.held.specs.declared.Counts.{Counts}
-use Rattle.held.specs.declared.Kind.{Kind}
+use Rattle.held.specs.declared.ReleaseKind.{ReleaseKind}
 use Rattle.held.proofs.Laws.{unknown-number}
 use Rattle.leaving.specs.Steps.{Named, Passed, releaseRefused}
-use Rattle.leaving.specs.Promise.{MayMoveOn, MovesOn, Stored, Leaves}
+use Rattle.leaving.specs.Promise.{MayMoveOn, MovesOn, StaysInSlot, Leaves}
 use Rattle.leaving.specs.declared.ReleaseDone.{ReleaseDone}
 use Rattle.leaving.specs.declared.Released.the-variants as released
 use Rattle.leaving.proofs.Base.{goes-on, base-there, base-cell, base-kind, base-size, base-unknown, base-octets, base-state}
@@ -113,7 +113,7 @@ module _ {leave : Bool} {room b : ℕ} {c : Counts} {t o g : List ℕ} {p : Bool
       release-13 short made =
           refused-release noRoom w (release-short w limit leave room more at-base (same-test leave read) goes (rw size at short)) made
 
-      pub release-left : {kind : Kind} {note : ℕ} {after : Lent} → s ≤ room → note ≡ noteIn t slot → Named state kind
+      pub release-left : {kind : ReleaseKind} {note : ℕ} {after : Lent} → s ≤ room → note ≡ noteIn t slot → Named state kind
           → MovesOn (lent b c t o g) after → Leaves leave room (lent b c t o g) after (released.Number kind b note s)
       release-left {kind} {after = after} fits noted told moved =
           let low = base-size w at-base in
@@ -125,14 +125,14 @@ module _ {leave : Bool} {room b : ℕ} {c : Counts} {t o g : List ℕ} {p : Bool
           record {
             told = rw (whole, long, size, noted, kinds);
             stored = λ r is.
-                subst (Stored (after .octets)) (done-same (sym whole ∙ is)) (record { fits = rw long low; octets = rw (long, there) });
+                subst (StaysInSlot (after .octets)) (done-same (sym whole ∙ is)) (record { fits = rw long low; octets = rw (long, there) });
             state = rw whole (moved .state);
             within = moved .within;
             stays = λ x same. let z : _≡_ {A = ℕ} 0 1 = cc in absurd (omega arith);
           }
 
 -- the number that leaves is the one at the base, and not all have passed
-pub may-leave : {b slot state : ℕ} {c : Counts} {t o g : List ℕ} {p : Bool} {kind : Kind}
+pub may-leave : {b slot state : ℕ} {c : Counts} {t o g : List ℕ} {p : Bool} {kind : ReleaseKind}
     → InRanges (lent b c t o g) → Passed c p → p ≡ false → slot ≡ b % slotsKept → state ≡ stateIn t slot → Named state kind
     → MayMoveOn kind (lent b c t o g)
 may-leave w limit more at-base read told =

@@ -13,12 +13,12 @@ use Rattle.views.specs.Release.{Release, atBase, movedOn, release, viewAfterRel
 use Rattle.held.specs.Slots.{slotsKept}
 use Rattle.held.specs.Table.{stateOf, countsOf, Lent, viewIn}
 use Rattle.held.specs.Laid.{InRanges}
-use Rattle.held.specs.declared.Kind.{Kind}
+use Rattle.held.specs.declared.ReleaseKind.{ReleaseKind}
 use Rattle.leaving.specs.Outcome.{releasedOutcome, handedOf, octetsHanded}
 use Rattle.leaving.specs.declared.Released.{Released}
 
 -- the base may go on: the number there is of this kind, and not all numbers have passed
-pub record MayMoveOn (kind : Kind) (l : Lent) : Type 0 where
+pub record MayMoveOn (kind : ReleaseKind) (l : Lent) : Type 0 where
   pub same : stateOf kind ≡ (atBase (viewIn l)) .state
   pub left : sum (countsOf (l .counts)) < sessionLimit
 
@@ -30,14 +30,14 @@ pub record MovesOn (before after : Lent) : Type 0 where
       → part (after .octets) (before .base % slotsKept) n ≡ part (before .octets) (before .base % slotsKept) n
 
 -- a packet of a number that left, in that number's slot
-pub record Stored (o : List ℕ) (r : Release) : Type 0 where
+pub record StaysInSlot (store : List ℕ) (r : Release) : Type 0 where
   pub fits : length (r .octets) ≤ packetLimit
-  pub octets : part o (r .number % slotsKept) (length (r .octets)) ≡ r .octets
+  pub octets : part store (r .number % slotsKept) (length (r .octets)) ≡ r .octets
 
 -- a number leaves, with leave to skip or without, and with room for so many octets: the answer, the session after, and where its packet is
 pub record Leaves (leave : Bool) (room : ℕ) (before after : Lent) (answer : Released) : Type 0 where
   pub told : releasedOutcome answer ≡ handedOf (release leave room (viewIn before))
-  pub stored : (r : Release) → release leave room (viewIn before) ≡ done r → Stored (after .octets) r
+  pub stored : (r : Release) → release leave room (viewIn before) ≡ done r → StaysInSlot (after .octets) r
   pub state : viewIn after ≡ afterwards (viewAfterRelease (release leave room (viewIn before))) (viewIn before)
   pub within : InRanges after
   pub stays : (x : Refusal) → release leave room (viewIn before) ≡ refused x → after ≡ before

@@ -12,7 +12,7 @@ use Rattle.views.specs.View.{sum, sessionLimit}
 use Rattle.held.specs.Slots.{messageSlot, Apart}
 use Rattle.held.specs.Table.{countsOf, stateOf, stateNumbered}
 use Rattle.held.specs.declared.Counts.{Counts}
-use Rattle.held.specs.declared.Kind.{Kind}
+use Rattle.held.specs.declared.ReleaseKind.{ReleaseKind}
 use Rattle.leaving.specs.declared.ReleaseDone.{ReleaseDone}
 use Rattle.leaving.specs.declared.Released.the-variants as released
 
@@ -20,7 +20,7 @@ abbrev pub releaseRefused : ℕ → Counts → ℕ → ReleaseDone
 releaseRefused b c number = record { base = b; counts = c; answer = released.Refused (refusal number) }
 
 -- the state that a number of the table stands for, as an answer names it
-pub record Named (state : ℕ) (kind : Kind) : Type 0 where
+pub record Named (state : ℕ) (kind : ReleaseKind) : Type 0 where
   pub same : stateOf kind ≡ stateNumbered state
 
 pub record Passed (c : Counts) (p : Bool) : Type 0 where

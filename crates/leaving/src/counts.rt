@@ -1,6 +1,6 @@
 // The four counts of a session: one more of a kind, and whether all numbers have passed.
 use held::Counts;
-use held::Kind;
+use held::ReleaseKind;
 use held::Session;
 use held::total;
 ghost use mathlib.Core.Path.{_≡_};
@@ -56,14 +56,14 @@ fn one_lost(c: Counts) -> Counts
 }
 
 // One more of the kind of the number that leaves: a count is of releases and losses, never of arrivals.
-pub fn count_one(kind: Kind, c: Counts) -> Counts
+pub fn count_one(kind: ReleaseKind, c: Counts) -> Counts
     requires { ⌜ sum (countsOf c) < sessionLimit ⌝ }
     ensures { λ r. ⌜ countsOf r ≡ counted (stateOf kind) (countsOf c) ⌝ }
 {
     match kind {
-        Kind::Received => one_received(c),
-        Kind::Spare => one_spare(c),
-        Kind::Repaired => one_repaired(c),
-        Kind::Lost => one_lost(c),
+        ReleaseKind::Received => one_received(c),
+        ReleaseKind::Spare => one_spare(c),
+        ReleaseKind::Repaired => one_repaired(c),
+        ReleaseKind::Lost => one_lost(c),
     }
 }

@@ -8,7 +8,7 @@ use counts::all_passed;
 use counts::count_one;
 use datagrams::Parity;
 use held::Counts;
-use held::Kind;
+use held::ReleaseKind;
 use held::Session;
 use lengths::Refusal;
 ghost use mathlib.Core.Path.{_≡_};
@@ -26,7 +26,7 @@ ghost use Rattle.leaving.specs.Promise.{MayMoveOn, MovesOn, Leaves, Rele
 // packet, both 0 where it is lost; or why it is refused.
 pub enum Released {
     Number {
-        kind: Kind,
+        kind: ReleaseKind,
         number: u16,
         note: u16,
         size: usize,
@@ -41,20 +41,20 @@ pub struct ReleaseDone {
 }
 
 // The kind of a number that leaves in this state: a blank one never does.
-fn kind_of(state: u16) -> Kind
+fn kind_of(state: u16) -> ReleaseKind
     requires { ⌜ state < lastState ⌝ }
     ensures { λ r. ⌜ Named state r ⌝ }
 {
     if state == Session::UNKNOWN {
-        return Kind::Lost;
+        return ReleaseKind::Lost;
     }
     if state == Session::RECEIVED {
-        return Kind::Received;
+        return ReleaseKind::Received;
     }
     if state == Session::SPARE {
-        return Kind::Spare;
+        return ReleaseKind::Spare;
     }
-    Kind::Repaired
+    ReleaseKind::Repaired
 }
 
 // The number after n: "All arithmetic on numbers is modulo 65,536".
@@ -91,7 +91,7 @@ struct Moved {
 fn move_on(
     base: u16,
     counts: Counts,
-    kind: Kind,
+    kind: ReleaseKind,
     t: &mut [u16; Session::PLACES],
     o: &mut [u8; Session::PACKET_OCTETS],
     g: &mut [u8; Session::MESSAGE_OCTETS],

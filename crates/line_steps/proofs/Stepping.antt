@@ -14,7 +14,7 @@ use Rattle.views.specs.View.{View}
 use Rattle.views.specs.Release.{Release, release, viewAfterRelease}
 use Rattle.held.specs.Slots.{slotsKept}
 use Rattle.held.specs.Table.{Lent, viewIn, stateOf}
-use Rattle.held.specs.declared.Kind.{Kind}
+use Rattle.held.specs.declared.ReleaseKind.{ReleaseKind}
 use Rattle.leaving.specs.Promise as leaving
 use Rattle.leaving.specs.declared.Released.{Released}
 use Rattle.leaving.specs.declared.Released.the-variants as released
@@ -55,7 +55,7 @@ module _ {leave : Bool} {before session : Lent} {answer : Released} (made : leav
   pub packet-there : (number : ℕ) → HasSlot (number % slotsKept) (session .octets)
   packet-there number = gone-there made number refl
 
-  module _ {kind : Kind} {number note size : ℕ} (is : answer ≡ released.Number kind number note size) where
+  module _ {kind : ReleaseKind} {number note size : ℕ} (is : answer ≡ released.Number kind number note size) where
     pub packet-short : size ≤ packetLimit
     packet-short = gone-short made is
 

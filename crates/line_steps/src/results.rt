@@ -2,8 +2,8 @@
 // four hexadecimal digits", "each line ended by a line feed". Each is laid into out from place at on; the answer is the place after
 // it.
 use datagrams::Packet;
-use held::Kind;
-use hexadecimal::put_octets;
+use held::ReleaseKind;
+use hexadecimal::put_digits;
 use lengths::Refusal;
 use lines::Line;
 ghost use mathlib.Core.Path.{_≡_};
@@ -18,14 +18,14 @@ ghost use Rattle.lines.specs.Lines.{lineFeed, kindOctet, resultLine, refusalLin
 ghost use Rattle.lines.specs.Promise.{Appends};
 
 // The kind of a number that left.
-pub fn kind_octet(kind: Kind) -> u8
+pub fn kind_octet(kind: ReleaseKind) -> u8
     ensures { λ r. ⌜ r ≡ kindOctet (stateOf kind) ⌝ }
 {
     match kind {
-        Kind::Received => 0,
-        Kind::Spare => 1,
-        Kind::Repaired => 2,
-        Kind::Lost => Line::LOST,
+        ReleaseKind::Received => 0,
+        ReleaseKind::Spare => 1,
+        ReleaseKind::Repaired => 2,
+        ReleaseKind::Lost => Line::LOST,
     }
 }
 
@@ -45,8 +45,8 @@ fn put_result(kind: u8, number: u16, octets: &[u8], out: &mut [u8], at: usize) -
     let high = (number / 256) as u8;
     let low = (number % 256) as u8;
     let front = [kind, high, low];
-    let middle = put_octets(&front, out, at);
-    let end = put_octets(octets, out, middle);
+    let middle = put_digits(&front, out, at);
+    let end = put_digits(octets, out, middle);
     end_line(out, end)
 }
 
@@ -73,6 +73,6 @@ pub fn put_refusal(why: Refusal, out: &mut [u8], at: usize) -> usize
     let high = (place / 256 % 256) as u8;
     let low = (place % 256) as u8;
     let octets = [255, number, high, low];
-    let end = put_octets(&octets, out, at);
+    let end = put_digits(&octets, out, at);
     end_line(out, end)
 }

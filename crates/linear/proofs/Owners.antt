@@ -7,18 +7,18 @@ use lib.Dec.{eqb}
 use borrow.Author.Tests.{eq-eqb, eqb-true}
 use native.Mathlib.Omega.{arith}
 use Rattle.octets.proofs.Laws.{below-or-not}
-use Rattle.linear.specs.First.{first}
+use Rattle.linear.specs.First.{firstPassing}
 use Rattle.linear.specs.Systems.{aloneTest, Owns}
 use Rattle.linear.proofs.First.{first-passes, first-least}
 use Rattle.linear.proofs.Tests.{alone-says, alone-of, alone-only}
 
 -- the first column that is row i's own; n where none is
 pub own : ℕ → ℕ → (ℕ → ℕ → Bool) → ℕ → ℕ
-own n m rows i = first n (λ c. aloneTest m (λ j. rows j c) i)
+own n m rows i = firstPassing n (λ c. aloneTest m (λ j. rows j c) i)
 
 -- the row whose own column is c; m where none is
 pub owner : ℕ → ℕ → (ℕ → ℕ → Bool) → ℕ → ℕ
-owner n m rows c = first m (λ i. eqb (own n m rows i) c)
+owner n m rows c = firstPassing m (λ i. eqb (own n m rows i) c)
 
 module _ (n m : ℕ) (rows : ℕ → ℕ → Bool) where
   -- a row's own column, where it has one

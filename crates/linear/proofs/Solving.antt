@@ -9,7 +9,7 @@ use lib.Dec.{ltb}
 use borrow.Author.Tests.{eq-eqb, lt-ltb, le-ltb}
 use native.Mathlib.Omega.{arith}
 use Rattle.octets.proofs.Laws.{below-or-not, true-or-false, xor-cancel-right}
-use Rattle.linear.specs.First.{first}
+use Rattle.linear.specs.First.{firstPassing}
 use Rattle.linear.specs.Sums.{sumOver, without, oneAt}
 use Rattle.linear.specs.Systems.{Satisfies, Determined, Alone, HasAlone, Reduced, Consistent}
 use Rattle.linear.proofs.First.{first-passes, first-least}
@@ -121,7 +121,7 @@ module _ (n m : ℕ) (rows : ℕ → ℕ → Bool) where
   hangs p inside none =
       ⊎-elim
       (λ early.
-      let q : ℕ = first n (without (rows (owner n m rows p)) p) in
+      let q : ℕ = firstPassing n (without (rows (owner n m rows p)) p) in
       ⊎-elim
       (λ below. owner-hangs p q inside below early (first-passes n (without (rows (owner n m rows p)) p) below))
       (λ past. absurd (none (record { row = owner n m rows p; inside = early; alone = no-other early past })))
@@ -129,7 +129,7 @@ module _ (n m : ℕ) (rows : ℕ → ℕ → Bool) where
       (λ late. free-hangs p late)
       (below-or-not (owner n m rows p) m)
     where
-      no-other : owner n m rows p < m → n ≤ first n (without (rows (owner n m rows p)) p) → Alone n (rows (owner n m rows p)) p
+      no-other : owner n m rows p < m → n ≤ firstPassing n (without (rows (owner n m rows p)) p) → Alone n (rows (owner n m rows p)) p
       no-other early past =
           let same = owner-owns n m rows p early in
           record {

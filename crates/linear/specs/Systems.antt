@@ -6,7 +6,7 @@ use mathlib.Core.Logic.{_⊎_}
 use mathlib.Core.Bool.{Bool, true, false, not, _&&_, _||_}
 use lib.Dec.{eqb}
 use Rattle.octets.specs.Place.{allBelow}
-use Rattle.linear.specs.First.{first}
+use Rattle.linear.specs.First.{firstPassing}
 use Rattle.linear.specs.Sums.{sumOver}
 
 -- values that satisfy the equations
@@ -39,7 +39,7 @@ pub record HasAlone (n m : ℕ) (rows : ℕ → ℕ → Bool) (p : ℕ) : Type 0
   pub alone : Alone n (rows row) p
 
 unfoldable pub aloneRow : ℕ → ℕ → (ℕ → ℕ → Bool) → ℕ → ℕ
-aloneRow n m rows p = first m (λ i. aloneTest n (rows i) p)
+aloneRow n m rows p = firstPassing m (λ i. aloneTest n (rows i) p)
 
 -- column c is row i's own: that row alone has it
 pub record Owns (n m : ℕ) (rows : ℕ → ℕ → Bool) (i c : ℕ) : Type 0 where

@@ -18,8 +18,6 @@ use Rattle.lines.specs.Claims.{Claims, WholeCase, Cases}
 use Rattle.lines.proofs.Feeding.{program-fed, fed-append}
 use Rattle.lines.proofs.HexBack.{written-reads}
 use Rattle.lines.proofs.ReleaseAll.{releases-all}
-use Rattle.lines.proofs.AsBefore.{as-before}
-use Rattle.lines.proofs.Unnoted.{lines-stay}
 use Rattle.lines.proofs.InTurn.{in-turn}
 use Rattle.lines.proofs.OneOutcome.{one-outcome}
 
@@ -40,8 +38,6 @@ claims =
       wholeCase = whole-case;
       cases = cases;
       releasesAll = releases-all;
-      asBefore = as-before;
-      linesStay = lines-stay;
       writtenReads = written-reads;
       cutAnyhow = record { whole = program-fed; cut = fed-append };
       inTurn = in-turn;

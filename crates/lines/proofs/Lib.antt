@@ -4,8 +4,6 @@ mod Feeding
 mod FeedTaken
 mod BlockLaws
 mod ReleaseAll
-mod AsBefore
-mod Unnoted
 mod HexBack
 mod InTurn
 pub mod Laws

@@ -18,8 +18,6 @@ use Rattle.held.specs.Promise.{Fresh}
 use Rattle.held.specs.declared.Session.{Session}
 use Rattle.lines.specs.Hex.{lineOctets, hexOf}
 use Rattle.lines.specs.Lines.{Made, program, releases}
-use Rattle.lines.specs.Before.{programBefore}
-use Rattle.lines.specs.Unnoted.{programUnnoted}
 use Rattle.lines.specs.Feed.{Going, atStart, fed, atEnd, goingIn, PartWay}
 use Rattle.lines.specs.Promise.{Does, stepLimit}
 use Rattle.lines.specs.FeedPromise.{Feedable, Feeds, Ends}
@@ -45,14 +43,6 @@ abbrev pub ReleasesAll : Type 0
 ReleasesAll = (session : Lent) → InRanges session
     → (release false packetLimit ((releases (viewIn session)) .after) ≡ refuse baseUnknown)
     ⊎ (release false packetLimit ((releases (viewIn session)) .after) ≡ refuse allPassed)
-
--- the program is the same function of its input as it was when next and give up were two calls
-abbrev pub AsBefore : Type 0
-AsBefore = (input : List ℕ) → program input ≡ programBefore input
-
--- "The program's lines stay": what it writes is the same text, for every input, where all notes are forgotten again and again
-abbrev pub LinesStay : Type 0
-LinesStay = (input : List ℕ) → program input ≡ programUnnoted input
 
 -- a line that was written reads back to the same octets
 abbrev pub WrittenReads : Type 0
@@ -104,8 +94,6 @@ pub record Claims : Type 0 where
   pub wholeCase : WholeCase
   pub cases : Cases
   pub releasesAll : ReleasesAll
-  pub asBefore : AsBefore
-  pub linesStay : LinesStay
   pub writtenReads : WrittenReads
   pub cutAnyhow : CutAnyhow
   pub inTurn : InTurn

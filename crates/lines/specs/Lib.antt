@@ -1,7 +1,5 @@
 pub mod Hex
 pub mod Lines
-pub mod Before
-pub mod Unnoted
 pub mod Feed
 pub mod Promise
 pub mod FeedPromise

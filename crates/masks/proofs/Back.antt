@@ -7,7 +7,7 @@ use native.Mathlib.Nat.{suc-mul}
 use native.Mathlib.Omega.{arith}
 use Rattle.octets.specs.Place.{tab}
 use Rattle.octets.proofs.Laws.{tab-ext, xor-assoc}
-use Rattle.masks.specs.Masks.{places, maskOf, placesBack}
+use Rattle.masks.specs.Masks.{maskPlaces, maskOf, placesBack}
 use Rattle.masks.specs.Promise.{OneMade, BackMade}
 
 -- the first of them, then those that go back from there
@@ -29,10 +29,10 @@ mask-none at m = refl
 pub record Going (at n m mask place t : ℕ) : Type 0 where
   pub few : t ≤ n
   pub reach : (n - t) * m ≤ place
-  pub near : place < places + m
+  pub near : place < maskPlaces + m
   pub left : bitXor mask (maskOf (placesBack place (n - t) m)) ≡ maskOf (placesBack at n m)
 
-pub going-start : (at n m : ℕ) → n * m ≤ at → at < places + m → Going at n m 0 at 0
+pub going-start : (at n m : ℕ) → n * m ≤ at → at < maskPlaces + m → Going at n m 0 at 0
 going-start at n m reach near =
     let e : n - 0 ≡ n = omega arith in
     record { few = omega arith; reach = rw e reach; near = near; left = ap (λ (k : ℕ). maskOf (placesBack at k m)) e }
@@ -43,7 +43,7 @@ going-room {at} {n} {m} {mask} {place} {t} g more =
     let all : suc (n - (t + 1)) * m ≤ place = rw e at (g .reach) in
     omega (arith, suc-mul (n - (t + 1)) m)
 
-pub going-near : {at n m mask place t next : ℕ} → Going at n m mask place t → t < n → next ≡ place - m → next < places
+pub going-near : {at n m mask place t next : ℕ} → Going at n m mask place t → t < n → next ≡ place - m → next < maskPlaces
 going-near g more e = omega (arith, g .near, going-room g more)
 
 pub going-turn : {at n m mask place t next single : ℕ} → Going at n m mask place t → t < n → next ≡ place - m

@@ -6,16 +6,16 @@ use lib.Bits.{bitXor, bitAnd, and-mask, xor-shr, xor-mod, and-shr, and-mod}
 use lib.Dec.{eqb}
 use native.Mathlib.Nat.{mod-lt, zero-div}
 use native.Mathlib.Omega.{arith}
-use Rattle.masks.specs.Masks.{bit}
+use Rattle.masks.specs.Masks.{hasPlace}
 use Rattle.masks.specs.Promise.{HasTold}
 
 -- as the code tests it
 pub bit-tested : (mask p : ℕ) → HasTold mask p (eqb (bitAnd (mask / 2 ^ p) 1) 1)
-unfolding bit
+unfolding hasPlace
 bit-tested mask p = record { answer = ap (λ (x : ℕ). eqb x 1) (and-mask (mask / 2 ^ p) 1) }
 
-pub no-bit : (p : ℕ) → bit 0 p ≡ false
-unfolding bit
+pub no-bit : (p : ℕ) → hasPlace 0 p ≡ false
+unfolding hasPlace
 no-bit p = ap (λ (x : ℕ). eqb (x % 2) 1) (zero-div (2 ^ p))
 
 -- ---- of two digits
@@ -39,15 +39,15 @@ and-digits (suc zero) (suc (suc y)) hx hy = absurd (omega arith)
 and-digits (suc (suc x)) y hx hy = absurd (omega arith)
 
 -- ---- the bits of two masks put together
-pub bit-xor : (a b p : ℕ) → bit (bitXor a b) p ≡ xor (bit a p) (bit b p)
-unfolding bit
+pub bit-xor : (a b p : ℕ) → hasPlace (bitXor a b) p ≡ xor (hasPlace a p) (hasPlace b p)
+unfolding hasPlace
 bit-xor a b p =
     ap (λ (x : ℕ). eqb (x % 2) 1) (xor-shr a b p)
     ∙ ap (λ (x : ℕ). eqb x 1) (xor-mod (a / 2 ^ p) (b / 2 ^ p) 1)
     ∙ xor-digits (a / 2 ^ p % 2) (b / 2 ^ p % 2) (mod-lt (a / 2 ^ p) (omega arith)) (mod-lt (b / 2 ^ p) (omega arith))
 
-pub bit-and : (a b p : ℕ) → bit (bitAnd a b) p ≡ (bit a p && bit b p)
-unfolding bit
+pub bit-and : (a b p : ℕ) → hasPlace (bitAnd a b) p ≡ (hasPlace a p && hasPlace b p)
+unfolding hasPlace
 bit-and a b p =
     ap (λ (x : ℕ). eqb (x % 2) 1) (and-shr a b p)
     ∙ ap (λ (x : ℕ). eqb x 1) (and-mod (a / 2 ^ p) (b / 2 ^ p) 1)

@@ -13,29 +13,29 @@ use Rattle.octets.proofs.Laws.{allBelow-at}
 use Rattle.linear.specs.Sums.{sumOver}
 use Rattle.linear.specs.Systems.{Alone}
 use Rattle.linear.proofs.Laws.{sum-same, sum-none, sum-combined, sum-alone}
-use Rattle.masks.specs.Masks.{places, bit, maskOf}
+use Rattle.masks.specs.Masks.{maskPlaces, hasPlace, maskOf}
 use Rattle.masks.specs.Promise.{OneMade}
 use Rattle.masks.proofs.Bits.{bit-xor, no-bit}
 
 -- ---- one, shifted by a place, is within 64 bits
-all-shifted : allBelow places (λ p. eqb ((1 * 2 ^ p) % 2 ^ places) (2 ^ p)) ≡ true
+all-shifted : allBelow maskPlaces (λ p. eqb ((1 * 2 ^ p) % 2 ^ maskPlaces) (2 ^ p)) ≡ true
 unfolding allBelow
 all-shifted = refl
 
-pub shifted-one : (p : ℕ) → p < places → OneMade p ((1 * 2 ^ p) % 2 ^ places)
+pub shifted-one : (p : ℕ) → p < maskPlaces → OneMade p ((1 * 2 ^ p) % 2 ^ maskPlaces)
 shifted-one p below =
     record {
       answer =
-          eqb-true ((1 * 2 ^ p) % 2 ^ places) (2 ^ p)
-          (allBelow-at places (λ q. eqb ((1 * 2 ^ q) % 2 ^ places) (2 ^ q)) all-shifted p below);
+          eqb-true ((1 * 2 ^ p) % 2 ^ maskPlaces) (2 ^ p)
+          (allBelow-at maskPlaces (λ q. eqb ((1 * 2 ^ q) % 2 ^ maskPlaces) (2 ^ q)) all-shifted p below);
     }
 
 -- ---- the bits of a power of two
 oneBit : ℕ → ℕ → Bool
-oneBit p q = Bool·beq (bit (2 ^ p) q) (eqb q p)
+oneBit p q = Bool·beq (hasPlace (2 ^ p) q) (eqb q p)
 
-all-bits : allBelow places (λ p. allBelow places (oneBit p)) ≡ true
-unfolding allBelow bit oneBit
+all-bits : allBelow maskPlaces (λ p. allBelow maskPlaces (oneBit p)) ≡ true
+unfolding allBelow hasPlace oneBit
 all-bits = refl
 
 beq-says : (a b : Bool) → Bool·beq a b ≡ true → a ≡ b
@@ -44,13 +44,13 @@ beq-says true false e = sym e
 beq-says false true e = e
 beq-says false false e = refl
 
-pub bit-power : (p q : ℕ) → p < places → q < places → bit (2 ^ p) q ≡ eqb q p
+pub bit-power : (p q : ℕ) → p < maskPlaces → q < maskPlaces → hasPlace (2 ^ p) q ≡ eqb q p
 unfolding oneBit
 bit-power p q hp hq =
-    beq-says (bit (2 ^ p) q) (eqb q p)
-    (allBelow-at places (oneBit p) (allBelow-at places (λ p. allBelow places (oneBit p)) all-bits p hp) q hq)
+    beq-says (hasPlace (2 ^ p) q) (eqb q p)
+    (allBelow-at maskPlaces (oneBit p) (allBelow-at maskPlaces (λ p. allBelow maskPlaces (oneBit p)) all-bits p hp) q hq)
 
-power-alone : (p : ℕ) → p < places → Alone places (bit (2 ^ p)) p
+power-alone : (p : ℕ) → p < maskPlaces → Alone maskPlaces (hasPlace (2 ^ p)) p
 power-alone p inside =
     record {
       has = bit-power p p inside inside ∙ eq-eqb p p refl;
@@ -58,13 +58,13 @@ power-alone p inside =
     }
 
 -- ---- the sum over the mask of some places is the exclusive or of what stands there
-pub sum-mask : (x : ℕ → List ℕ) (k : ℕ) (ps : List ℕ) → ((p : ℕ) → Among p ps → p < places)
-    → sumOver places (bit (maskOf ps)) (λ p. getD (x p) k 0) ≡ xorAt (map x ps) k
+pub sum-mask : (x : ℕ → List ℕ) (k : ℕ) (ps : List ℕ) → ((p : ℕ) → Among p ps → p < maskPlaces)
+    → sumOver maskPlaces (hasPlace (maskOf ps)) (λ p. getD (x p) k 0) ≡ xorAt (map x ps) k
 unfolding maskOf xorAt
-sum-mask x k [] inside = sum-none places (bit 0) (λ p. getD (x p) k 0) (λ c below. no-bit c)
+sum-mask x k [] inside = sum-none maskPlaces (hasPlace 0) (λ p. getD (x p) k 0) (λ c below. no-bit c)
 sum-mask x k (p ∷ ps) inside =
-    sum-same places (bit (bitXor (2 ^ p) (maskOf ps))) (λ c. xor (bit (2 ^ p) c) (bit (maskOf ps) c)) (λ q. getD (x q) k 0)
+    sum-same maskPlaces (hasPlace (bitXor (2 ^ p) (maskOf ps))) (λ c. xor (hasPlace (2 ^ p) c) (hasPlace (maskOf ps) c)) (λ q. getD (x q) k 0)
     (λ q. getD (x q) k 0) (λ c below. bit-xor (2 ^ p) (maskOf ps) c) (λ c below e. refl)
-    ∙ sum-combined places (bit (2 ^ p)) (bit (maskOf ps)) (λ q. getD (x q) k 0)
-    ∙ ap₂ bitXor (sum-alone places (bit (2 ^ p)) (λ q. getD (x q) k 0) p (inside p (here refl)) (power-alone p (inside p (here refl))))
+    ∙ sum-combined maskPlaces (hasPlace (2 ^ p)) (hasPlace (maskOf ps)) (λ q. getD (x q) k 0)
+    ∙ ap₂ bitXor (sum-alone maskPlaces (hasPlace (2 ^ p)) (λ q. getD (x q) k 0) p (inside p (here refl)) (power-alone p (inside p (here refl))))
     (sum-mask x k ps (λ q m. inside q (further m)))

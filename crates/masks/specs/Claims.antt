@@ -8,17 +8,17 @@ use lib.ListN.{getD}
 use Rattle.octets.specs.ExclusiveOr.{xorAt}
 use Rattle.linear.specs.Sums.{sumOver}
 use Rattle.linear.specs.Systems.{Alone}
-use Rattle.masks.specs.Masks.{places, bit, maskOf, lonePlace}
+use Rattle.masks.specs.Masks.{maskPlaces, hasPlace, maskOf, lonePlace}
 use Rattle.masks.specs.Promise.{HasTold, OneMade, FirstFound, LoneFound, BackMade}
 
 -- the lone place is the one that the mask has, where it has one only
 abbrev pub LoneExact : Type 0
-LoneExact = (mask p : ℕ) → p < places → Alone places (bit mask) p ↔ (lonePlace mask ≡ p)
+LoneExact = (mask p : ℕ) → p < maskPlaces → Alone maskPlaces (hasPlace mask) p ↔ (lonePlace mask ≡ p)
 
 -- over the mask of some places, octet k of what stands there sums up to octet k of their exclusive or
 abbrev pub SumsUp : Type 0
-SumsUp = (x : ℕ → List ℕ) (k : ℕ) (ps : List ℕ) → ((p : ℕ) → Among p ps → p < places)
-    → sumOver places (bit (maskOf ps)) (λ p. getD (x p) k 0) ≡ xorAt (map x ps) k
+SumsUp = (x : ℕ → List ℕ) (k : ℕ) (ps : List ℕ) → ((p : ℕ) → Among p ps → p < maskPlaces)
+    → sumOver maskPlaces (hasPlace (maskOf ps)) (λ p. getD (x p) k 0) ≡ xorAt (map x ps) k
 
 -- two answers that a promise allows are equal
 pub record OneOutcome : Type 0 where

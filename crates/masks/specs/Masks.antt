@@ -5,29 +5,29 @@ use mathlib.Core.List.{List, [], _∷_}
 use lib.Bits.{bitXor}
 use lib.Dec.{eqb}
 use Rattle.octets.specs.Place.{tab}
-use Rattle.linear.specs.First.{first}
+use Rattle.linear.specs.First.{firstPassing}
 use Rattle.linear.specs.Systems.{aloneTest}
 
 -- as many as a number of 64 bits has
-abbrev pub places : ℕ
-places = 64
+abbrev pub maskPlaces : ℕ
+maskPlaces = 64
 
 -- the mask has place p
-unfoldable pub bit : ℕ → ℕ → Bool
-bit mask p = eqb (mask / 2 ^ p % 2) 1
+unfoldable pub hasPlace : ℕ → ℕ → Bool
+hasPlace mask p = eqb (mask / 2 ^ p % 2) 1
 
 -- the mask of some places; a place that comes twice is gone, as in an exclusive or
 unfoldable pub maskOf : List ℕ → ℕ
 maskOf [] = 0
 maskOf (p ∷ ps) = bitXor (2 ^ p) (maskOf ps)
 
--- the first place that the mask has; `places` where it has none
+-- the first place that the mask has; `maskPlaces` where it has none
 unfoldable pub firstPlace : ℕ → ℕ
-firstPlace mask = first places (bit mask)
+firstPlace mask = firstPassing maskPlaces (hasPlace mask)
 
--- the place that the mask has alone; `places` where it has none or several
+-- the place that the mask has alone; `maskPlaces` where it has none or several
 unfoldable pub lonePlace : ℕ → ℕ
-lonePlace mask = first places (aloneTest places (bit mask))
+lonePlace mask = firstPassing maskPlaces (aloneTest maskPlaces (hasPlace mask))
 
 -- the n places at − m, at − 2m, ..
 unfoldable pub placesBack : ℕ → ℕ → ℕ → List ℕ

@@ -2,11 +2,11 @@
 use Prim.Native.Nat.{ℕ, _^_}
 use mathlib.Core.Path.{_≡_}
 use mathlib.Core.Bool.{Bool}
-use Rattle.masks.specs.Masks.{bit, maskOf, firstPlace, lonePlace, placesBack}
+use Rattle.masks.specs.Masks.{hasPlace, maskOf, firstPlace, lonePlace, placesBack}
 
 -- whether a mask has a place
 pub record HasTold (mask place : ℕ) (r : Bool) : Type 0 where
-  pub answer : r ≡ bit mask place
+  pub answer : r ≡ hasPlace mask place
 
 -- the mask of one place
 pub record OneMade (place r : ℕ) : Type 0 where

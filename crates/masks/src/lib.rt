@@ -2,7 +2,7 @@
 // they require that a place is one of the 64.
 ghost use mathlib.Core.Path.{_≡_};
 ghost use Prim.Native.Nat.{_+_, _*_, _≤_, _<_};
-ghost use Rattle.masks.specs.Masks.{places};
+ghost use Rattle.masks.specs.Masks.{maskPlaces};
 ghost use Rattle.masks.specs.Promise.{HasTold, OneMade, FirstFound, LoneFound, BackMade};
 
 // A mask.
@@ -12,7 +12,7 @@ impl Mask {
     pub const PLACES: u64 = 64;
 
     pub fn places() -> u64
-        ensures { λ r. ⌜ r ≡ places ⌝ }
+        ensures { λ r. ⌜ r ≡ maskPlaces ⌝ }
     {
         Mask::PLACES
     }
@@ -20,7 +20,7 @@ impl Mask {
 
 // Whether a mask has a place.
 pub fn has(mask: u64, place: u64) -> bool
-    requires { ⌜ place < places ⌝ }
+    requires { ⌜ place < maskPlaces ⌝ }
     ensures { λ r. ⌜ HasTold mask place r ⌝ }
 {
     let moved = mask >> place;
@@ -30,7 +30,7 @@ pub fn has(mask: u64, place: u64) -> bool
 
 // The mask of one place.
 pub fn one(place: u64) -> u64
-    requires { ⌜ place < places ⌝ }
+    requires { ⌜ place < maskPlaces ⌝ }
     ensures { λ r. ⌜ OneMade place r ⌝ }
 {
     1 << place
@@ -70,7 +70,7 @@ pub fn lone_place(mask: u64) -> u64
 // The mask of the n places at - m, at - 2m, ..
 pub fn places_back(at: u64, n: u64, m: u64) -> u64
     requires { ⌜ n * m ≤ at ⌝ }
-    requires { ⌜ at < places + m ⌝ }
+    requires { ⌜ at < maskPlaces + m ⌝ }
     ensures { λ r. ⌜ BackMade at n m r ⌝ }
 {
     let mut mask: u64 = 0;

@@ -2,7 +2,7 @@
 use crate::text::say;
 use crate::text::say_number;
 use held::Counts;
-use held::Kind;
+use held::ReleaseKind;
 
 // How far ahead of a number the datagram that filled it can be.
 const FURTHEST: u16 = 32;
@@ -37,17 +37,17 @@ fn count(first: usize, number: u16, note: u16, table: &mut [u32; SAVED]) {
 }
 
 // A number that leaves.
-pub fn told(kind: Kind, number: u16, note: u16, table: &mut [u32; SAVED]) {
+pub fn told(kind: ReleaseKind, number: u16, note: u16, table: &mut [u32; SAVED]) {
     say(b"number ");
     say_number(number as usize);
     match kind {
-        Kind::Lost => say(b": lost\n"),
-        Kind::Received => say(b": received\n"),
-        Kind::Spare => {
+        ReleaseKind::Lost => say(b": lost\n"),
+        ReleaseKind::Received => say(b": received\n"),
+        ReleaseKind::Spare => {
             say_filler(b": spare, from datagram ", note);
             count(0, number, note, table);
         }
-        Kind::Repaired => {
+        ReleaseKind::Repaired => {
             say_filler(b": repaired, with datagram ", note);
             count(ROWS, number, note, table);
         }

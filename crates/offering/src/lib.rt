@@ -17,6 +17,9 @@ ghost use Rattle.offering.specs.Outcome.{refusedAs};
 ghost use Rattle.offering.specs.Steps.{spareCount, messageCount, coveredOf, carriedItems, MayBeAccepted, AcceptedAt, OffersRead};
 ghost use Rattle.offering.specs.Promise.{Offers};
 
+// A number is late from this distance on.
+const LATE_FROM: u16 = 32768;
+
 // What offer answers: accepted, or why it is refused.
 pub enum Offered {
     Accepted,
@@ -113,7 +116,7 @@ fn offer_read(
 {
     let distance = std::num::wrapping_sub_u16(number, base);
     if Session::AHEAD <= distance {
-        if distance < 32768 {
+        if distance < LATE_FROM {
             return refused(Refusal::TOO_FAR);
         }
         return refused(Refusal::LATE);

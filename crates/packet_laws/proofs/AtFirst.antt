@@ -13,7 +13,7 @@ use Rattle.formats.specs.Places.{edgeAt}
 use Rattle.formats.proofs.Laws.{onward, flag-cut, edge-at}
 use Rattle.packets.specs.Edition.{Edition, values}
 use Rattle.packets.specs.Packet.{typeOfMsg, start, rightFields}
-use Rattle.packet_laws.specs.Octets.{bitAt, kindOf, NarrowEdition, Value, valueAt, firstAt}
+use Rattle.packet_laws.specs.Octets.{bitSetAt, kindOf, NarrowEdition, Value, valueAt, firstAt}
 use Rattle.packet_laws.proofs.AtValue.{bit-here, value-cut, value-at}
 use Rattle.packet_laws.proofs.ReadLaws.{value-ends}
 
@@ -22,7 +22,7 @@ module _ (edition : Edition) (narrow : NarrowEdition edition) (s : List ℕ) (i 
   unfolding start typeOfMsg firstAt
   start-at = by (ltb (length s) 1) refl where
     edge : 1 ≤ length s → (v : Value) → valueAt (values edition (kindOf s)) 0 s 2 ≡ done v → (x : Answer ℕ) → edgeAt s (v .next) ≡ x
-        → (r : Bool) → rightFields (kindOf s) (bitAt s 0) ≡ r
+        → (r : Bool) → rightFields (kindOf s) (bitSetAt s 0) ≡ r
         → start edition .read s i 0 ≡ onward (firstAt edition s) (λ f. found (f .first) (8 * f .octets))
     edge some v ve (done at) ee true re =
         rw (

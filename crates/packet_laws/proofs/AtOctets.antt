@@ -18,7 +18,7 @@ use Rattle.formats.specs.Places.{Place, edgeAt}
 use Rattle.formats.proofs.Laws.{onward, flag-cut, octetwise-at, octetwise-edge}
 use Rattle.packets.specs.Edition.{Edition}
 use Rattle.packets.specs.Packet.{count, header, size, fieldData, rightData, fieldsLeast, fieldsLimit}
-use Rattle.packet_laws.specs.Octets.{bitAt, NarrowEdition, Value, valueAt, Count, countAt, headerAt, sizeAt}
+use Rattle.packet_laws.specs.Octets.{bitSetAt, NarrowEdition, Value, valueAt, Count, countAt, headerAt, sizeAt}
 use Rattle.packet_laws.proofs.AtValue.{bit-here, value-cut, value-at}
 
 -- ---- the count of fields
@@ -42,7 +42,7 @@ module _ (edition : Edition) (narrow : NarrowEdition edition) (s : List ℕ) (p 
   unfolding header headerAt
   header-at = by (ltb p (8 * length s)) refl where
     right : p < 8 * length s → (v : Value) → valueAt (edition .types) (p / 8) s (p + 1) ≡ done v
-        → (r : Bool) → rightData edition (v .value) (bitAt s p) ≡ r
+        → (r : Bool) → rightData edition (v .value) (bitSetAt s p) ≡ r
         → header edition .read s (p / 8) p ≡ onward (headerAt edition s p) (λ h. found (h .header) (h .next))
     right here v ve true re =
         rw (bit-here s (p / 8) p here, value-at (edition .types) (narrow .ofTypes) s (p / 8) (p + 1), ve, re)

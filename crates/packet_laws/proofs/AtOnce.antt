@@ -13,13 +13,13 @@ use Rattle.lengths.specs.Answers.{done}
 use Rattle.formats.specs.Reading as reading
 use Rattle.formats.specs.Places.{Place, bitsAt}
 use Rattle.formats.proofs.Laws.{parted}
-use Rattle.packet_laws.specs.Octets.{bitAt, Narrow, rootAt, addedAt, valueAt, plainWidth}
+use Rattle.packet_laws.specs.Octets.{bitSetAt, Narrow, rootAt, addedAt, valueAt, plainWidth}
 use Rattle.packet_laws.proofs.AtValue.{bit-here, bits-here}
 use Rattle.packets.specs.declared.types.Enumerated.{Enumerated}
 
 -- the highest of some bits, and the others
 pub record PartedAt (w : ℕ) (s : List ℕ) (p : Place) : Type 0 where
-  pub first : bitAt s p ≡ ltb 0 (bitsAt (w + 1) s p / 2 ^ w % 2)
+  pub first : bitSetAt s p ≡ ltb 0 (bitsAt (w + 1) s p / 2 ^ w % 2)
   pub others : bitsAt w s (p + 1) ≡ bitsAt (w + 1) s p % 2 ^ w
 
 pub parted-at : (w : ℕ) (s : List ℕ) (p : Place) → w ≤ 7 → p + (w + 1) ≤ 8 * length s → PartedAt w s p
@@ -31,7 +31,7 @@ parted-at w s p few inside =
     let bit = bit-here s 0 p (omega arith) in
     let rest = bits-here s 0 (p + 1) w (omega arith) (omega arith) in
     let one : 1 + p ≡ p + 1 = omega arith in
-    let first : ltb 0 (v / 2 ^ w % 2) ≡ bitAt s p = cc (parts .first, bit) in
+    let first : ltb 0 (v / 2 ^ w % 2) ≡ bitSetAt s p = cc (parts .first, bit) in
     let others : v % 2 ^ w ≡ bitsAt w s (p + 1) = cc (parts .others, rest, one) in
     record { first = sym first; others = sym others }
 
@@ -51,13 +51,13 @@ module _ (e : Enumerated) (narrow : Narrow e) (i : ℕ) (s : List ℕ) (p : Plac
 
     by : (x : Bool)
         → p + cond x (e .width + 1) (e .width) ≤ 8 * length s → bitsAt (cond x (e .width + 1) (e .width)) s p < e .assigned
-        → cond x (cond (bitAt s p) (addedAt e i s (p + 1)) (rootAt e i s (p + 1))) (rootAt e i s p)
+        → cond x (cond (bitSetAt s p) (addedAt e i s (p + 1)) (rootAt e i s (p + 1))) (rootAt e i s p)
         ≡ done (record { value = bitsAt (cond x (e .width + 1) (e .width)) s p; next = p + cond x (e .width + 1) (e .width) })
     by true inside known =
         let v = bitsAt (e .width + 1) s p in
         let parts = parted-at (e .width) s p (omega (arith, narrow .few)) inside in
         let small : v < 2 ^ e .width = omega (arith, narrow .sound .wide) in
-        let clear : bitAt s p ≡ false = parts .first ∙ ap (λ (x : ℕ). ltb 0 (x % 2)) (div-eq-of-lt small) in
+        let clear : bitSetAt s p ≡ false = parts .first ∙ ap (λ (x : ℕ). ltb 0 (x % 2)) (div-eq-of-lt small) in
         rw clear
         (plain-root (p + 1) v (omega arith) (parts .others ∙ mod-eq-of-lt small) known
         ∙ ap (λ (q : ℕ). done (record { value = bitsAt (e .width + 1) s p; next = q })) next)

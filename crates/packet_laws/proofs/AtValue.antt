@@ -17,7 +17,7 @@ use Rattle.formats.proofs.Laws.{onward, flag-cut, bits-at, bits-cut, parted}
 use Rattle.packets.specs.Edition.{addedWidth}
 use Rattle.packets.specs.Packet.{root, addition, enumerated}
 use Rattle.packets.specs.declared.types.Enumerated.{Enumerated}
-use Rattle.packet_laws.specs.Octets.{bitAt, Narrow, Value, rootAt, addedAt, valueAt}
+use Rattle.packet_laws.specs.Octets.{bitSetAt, Narrow, Value, rootAt, addedAt, valueAt}
 
 -- ---- one bit
 lone : (v : ℕ) → v < 2 → v / 1 % 2 ≡ v
@@ -26,15 +26,15 @@ lone (suc zero) small = refl
 lone (suc (suc v)) small = absurd (omega arith)
 
 module _ (s : List ℕ) (i : ℕ) (p : Place) where
-  pub bit-here : p < 8 * length s → reading.flag s i p ≡ found (bitAt s p) (p + 1)
+  pub bit-here : p < 8 * length s → reading.flag s i p ≡ found (bitSetAt s p) (p + 1)
   bit-here some =
       let one = parted 0 s i p (bitsAt 1 s p) (1 + p) (bits-at 1 s i p (omega (arith, mod-lt p {m = 8} (omega arith))) (omega arith)) in
       let same = lone (bitsAt 1 s p) (mod-lt _ (omega arith)) in
       let next : 1 + p ≡ p + 1 = omega arith in
-      one .first ∙ ap (λ (v : ℕ). found (ltb 0 v) (1 + p)) same ∙ ap (λ (q : ℕ). found (bitAt s p) q) next
+      one .first ∙ ap (λ (v : ℕ). found (ltb 0 v) (1 + p)) same ∙ ap (λ (q : ℕ). found (bitSetAt s p) q) next
 
   -- bits past the end are 0
-  pub bit-past : 8 * length s ≤ p → bitAt s p ≡ false
+  pub bit-past : 8 * length s ≤ p → bitSetAt s p ≡ false
   bit-past none =
       rw (
         List·getD-eq-default s 0 {n = p / 8} (omega arith),
@@ -70,7 +70,7 @@ module _ (e : Enumerated) (narrow : Narrow e) (s : List ℕ) (i : ℕ) where
   added-at : (p : Place) → addition e .read s i p ≡ valueFound (addedAt e i s p)
   unfolding addition addedAt
   added-at p = by (ltb (e .added) 1) (ltb p (8 * length s)) refl refl where
-    six : ltb (e .added) 1 ≡ false → p < 8 * length s → bitAt s p ≡ false → (t r : Bool)
+    six : ltb (e .added) 1 ≡ false → p < 8 * length s → bitSetAt s p ≡ false → (t r : Bool)
         → ltb (8 * length s) (p + 1 + addedWidth) ≡ t → ltb (bitsAt addedWidth s (p + 1)) (e .added) ≡ r
         → addition e .read s i p ≡ valueFound (addedAt e i s p)
     six ne here be true r te re =
@@ -103,7 +103,7 @@ module _ (e : Enumerated) (narrow : Narrow e) (s : List ℕ) (i : ℕ) where
           re,
         )
 
-    zero-bit : ltb (e .added) 1 ≡ false → p < 8 * length s → (b : Bool) → bitAt s p ≡ b
+    zero-bit : ltb (e .added) 1 ≡ false → p < 8 * length s → (b : Bool) → bitSetAt s p ≡ b
         → addition e .read s i p ≡ valueFound (addedAt e i s p)
     zero-bit ne here true be = rw (ne, lt-ltb 0 (e .added) (ltb-false (e .added) 1 ne), bit-here s i p here, be)
     zero-bit ne here false be = six ne here be _ _ refl refl
@@ -142,7 +142,7 @@ module _ (e : Enumerated) (narrow : Narrow e) (s : List ℕ) (i : ℕ) where
   pub value-at : (p : Place) → enumerated e .read s i p ≡ valueFound (valueAt e i s p)
   unfolding enumerated valueAt root rootAt addition addedAt
   value-at p = by (e .extensible) refl where
-    bit : e .extensible ≡ true → p < 8 * length s → (b : Bool) → bitAt s p ≡ b
+    bit : e .extensible ≡ true → p < 8 * length s → (b : Bool) → bitSetAt s p ≡ b
         → enumerated e .read s i p ≡ valueFound (valueAt e i s p)
     bit xe here true be = rw (xe, bit-here s i p here, be, added-at (p + 1)) (each true (valueFound (addedAt e i s (p + 1))))
     bit xe here false be = rw (xe, bit-here s i p here, be, root-at (p + 1)) (each false (valueFound (rootAt e i s (p + 1))))

@@ -10,7 +10,7 @@ use native.Mathlib.Numerals.{add-one}
 use native.Mathlib.Omega.{arith}
 use borrow.Author.Tests.{lt-ltb, le-ltb, le-leb, lt-leb, eq-eqb, ne-eqb}
 use Rattle.packets.specs.Packet.{fieldsLimit, every}
-use Rattle.packets.specs.Write.{total, sum}
+use Rattle.packets.specs.Write.{total, lengthsSum}
 use Rattle.packets.specs.declared.types.Enumerated.{Enumerated}
 use Rattle.packet_laws.specs.Laid.{valueWidth, headerWidth, pastField, pastFields}
 use Rattle.packet_laws.specs.Items.{Wide, FieldPast, FieldsPast}
@@ -59,14 +59,14 @@ pub ruleset evers = (every-start, every-turn, every-not, every-done, zero-is, ze
 pub record Summing (s : List ℕ) (i all : ℕ) : Type 0 where
   pub inside : i ≤ length s
   pub few : all ≤ i * 65536
-  pub so : all + sum (drop i s) ≡ sum s
+  pub so : all + lengthsSum (drop i s) ≡ lengthsSum s
 
 pub sum-start : (s : List ℕ) → Summing s 0 0
 sum-start s = record { inside = omega arith; few = omega arith; so = omega arith }
 
-pub sum-next : (s : List ℕ) (i : ℕ) → i < length s → sum (drop i s) ≡ getD s i 0 + sum (drop (i + 1) s)
+pub sum-next : (s : List ℕ) (i : ℕ) → i < length s → lengthsSum (drop i s) ≡ getD s i 0 + lengthsSum (drop (i + 1) s)
 unfolding total
-sum-next s i h = ap sum (drop-next s i h)
+sum-next s i h = ap lengthsSum (drop-next s i h)
 
 module _ {s : List ℕ} {i all : ℕ} where
   pub sum-turn : {n : ℕ} → Summing s i all → i < length s → Wide (getD s i 0) n → Summing s (i + 1) (all + n)
@@ -76,9 +76,9 @@ module _ {s : List ℕ} {i all : ℕ} where
       let few = g .few in
       record { inside = omega arith; few = omega (arith, wide .small); so = omega (arith, wide .same) }
 
-  pub sum-done : Summing s i all → length s ≤ i → all ≡ sum s
+  pub sum-done : Summing s i all → length s ≤ i → all ≡ lengthsSum s
   unfolding total
-  sum-done g end = let e : sum (drop i s) ≡ 0 = ap sum (drop-of-length-le s end) in omega (arith, g .so)
+  sum-done g end = let e : lengthsSum (drop i s) ≡ 0 = ap lengthsSum (drop-of-length-le s end) in omega (arith, g .so)
 
 -- the laws of a loop that sums
 pub ruleset sums = (sum-start, sum-turn, sum-done)

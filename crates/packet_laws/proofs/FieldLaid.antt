@@ -92,13 +92,13 @@ module _ (e : Enumerated) (narrow : Narrow e) (w : Waiting) (waits : Waits w) wh
 -- ---- as the description spells it
 module _ (edition : Edition) (narrow : Narrow (edition .types)) (k : ℕ) (right : k < many (edition .types)) (p : ℕ) where
   header-spelt : (b : Bool)
-      → header edition .spelling (record { kind = k; present = b }) p
+      → header edition .spelling (record { type = k; present = b }) p
       ≡ spelt 1 (flagBit b) ++ spelt (valueWidth (edition .types) k) (valueBits (edition .types) k)
   unfolding header spelt
   header-spelt true = ap (λ (l : List Letter). spelt 1 1 ++ l) (value-spelt (edition .types) narrow k right _)
   header-spelt false = ap (λ (l : List Letter). spelt 1 0 ++ l) (value-spelt (edition .types) narrow k right _)
 
-  pub header-wide : (b : Bool) → wide (header edition .spelling (record { kind = k; present = b }) p) ≡ headerWidth (edition .types) k
+  pub header-wide : (b : Bool) → wide (header edition .spelling (record { type = k; present = b }) p) ≡ headerWidth (edition .types) k
   header-wide b =
       let e = edition .types in
       ap wide (header-spelt b)
@@ -111,7 +111,7 @@ module _ (edition : Edition) (narrow : Narrow (edition .types)) (k : ℕ) (right
 
   module _ (w : Waiting) (waits : Waits w) where
     header-packed : (b : Bool) (more : List Letter)
-        → packed (w .value) (w .width) (header edition .spelling (record { kind = k; present = b }) p ++ more)
+        → packed (w .value) (w .width) (header edition .spelling (record { type = k; present = b }) p ++ more)
         ≡ headerOctets (edition .types) w k b
         ++ packed (headerLeft (edition .types) w k b .value) (headerLeft (edition .types) w k b .width) more
     unfolding headerOctets headerLeft
@@ -180,16 +180,16 @@ module _ (from : ℕ) (l : List ℕ) (p : ℕ) where
       ∙ sym (append-assoc (closed w) (n ++ l) end)
   rest-packed w waits at false more = refl
 
-module _ (edition : Edition) (narrow : Narrow (edition .types)) (c : Content) (p : ℕ) (right : c .kind < many (edition .types)) where
-  pub field-wide : wide (field edition .spelling c p) + p ≡ pastField (edition .types) p (c .kind) (length (c .octets))
+module _ (edition : Edition) (narrow : Narrow (edition .types)) (c : Content) (p : ℕ) (right : c .type < many (edition .types)) where
+  pub field-wide : wide (field edition .spelling c p) + p ≡ pastField (edition .types) p (c .type) (length (c .octets))
   unfolding field
   field-wide =
       let b = ltb 0 (length (c .octets)) in
-      let h = header edition .spelling (record { kind = c .kind; present = b }) p in
+      let h = header edition .spelling (record { type = c .type; present = b }) p in
       let q = wide h + p in
       let rest = (cond b fieldData (known (0, []))) .spelling (c .start, c .octets) (wide h + p) in
-      let on : wide h + p ≡ p + headerWidth (edition .types) (c .kind)
-      = omega (arith, header-wide edition narrow (c .kind) right p b) in
+      let on : wide h + p ≡ p + headerWidth (edition .types) (c .type)
+      = omega (arith, header-wide edition narrow (c .type) right p b) in
       let all : wide (h ++ rest) + p ≡ wide rest + q = omega (arith, wide-append h rest) in
       all ∙ rest-wide (c .start) (c .octets) q b
       ∙ ap (λ (r : ℕ). cond b (8 * (edge r + 2 + length (c .octets))) r) on
@@ -197,21 +197,21 @@ module _ (edition : Edition) (narrow : Narrow (edition .types)) (c : Content) (p
   module _ (w : Waiting) (waits : Waits w) (at : p % 8 ≡ w .width) where
     pub field-packed : (more : List Letter)
         → packed (w .value) (w .width) (field edition .spelling c p ++ more)
-        ≡ fieldOctets (edition .types) w (c .kind) (c .octets)
-        ++ packed (afterField (edition .types) w (c .kind) (c .octets) .value) (afterField (edition .types) w (c .kind) (c .octets) .width)
+        ≡ fieldOctets (edition .types) w (c .type) (c .octets)
+        ++ packed (afterField (edition .types) w (c .type) (c .octets) .value) (afterField (edition .types) w (c .type) (c .octets) .width)
         more
     unfolding field fieldOctets afterField
     field-packed more =
         let e = edition .types in
         let b = ltb 0 (length (c .octets)) in
-        let h = header edition .spelling (record { kind = c .kind; present = b }) p in
+        let h = header edition .spelling (record { type = c .type; present = b }) p in
         let rest = (cond b fieldData (known (0, []))) .spelling (c .start, c .octets) (wide h + p) in
-        let next = headerLeft (edition .types) w (c .kind) b in
-        let on : wide h + p ≡ p + headerWidth (edition .types) (c .kind)
-        = omega (arith, header-wide edition narrow (c .kind) right p b) in
+        let next = headerLeft (edition .types) w (c .type) b in
+        let on : wide h + p ≡ p + headerWidth (edition .types) (c .type)
+        = omega (arith, header-wide edition narrow (c .type) right p b) in
         ap (packed (w .value) (w .width)) (append-assoc h rest more)
-        ∙ header-packed edition narrow (c .kind) right p w waits b (rest ++ more)
-        ∙ ap (λ (l : List ℕ). headerOctets (edition .types) w (c .kind) b ++ l)
-        (rest-packed (c .start) (c .octets) (wide h + p) next (header-waits (edition .types) narrow w waits (c .kind) b right)
-        (ap (λ (n : ℕ). n % 8) on ∙ header-at (edition .types) narrow w waits p at (c .kind) b) b more)
-        ∙ sym (append-assoc (headerOctets (edition .types) w (c .kind) b) _ _)
+        ∙ header-packed edition narrow (c .type) right p w waits b (rest ++ more)
+        ∙ ap (λ (l : List ℕ). headerOctets (edition .types) w (c .type) b ++ l)
+        (rest-packed (c .start) (c .octets) (wide h + p) next (header-waits (edition .types) narrow w waits (c .type) b right)
+        (ap (λ (n : ℕ). n % 8) on ∙ header-at (edition .types) narrow w waits p at (c .type) b) b more)
+        ∙ sym (append-assoc (headerOctets (edition .types) w (c .type) b) _ _)

@@ -14,13 +14,13 @@ use Rattle.formats.specs.Waiting.{Waiting, noneWait, Waits}
 use Rattle.formats.specs.Format.{known, sequenceSpelt}
 use Rattle.formats.proofs.Laws.{wide-append, wide-whole, none-waits}
 use Rattle.formats.proofs.Laws.{packed-closed, packed-whole}
-use Rattle.packets.specs.Edition.{many, Sound, Edition, values}
+use Rattle.packets.specs.Edition.{many, SoundEnumerated, Edition, values}
 use Rattle.packets.specs.Write.{contentsOf, packetOctets}
-use Rattle.packets.specs.Packet.{assigned, typesLimit, every, Content, start, count}
+use Rattle.packets.specs.Packet.{manyValues, typesLimit, every, Content, start, count}
 use Rattle.packets.specs.Packet.{field, dataField, packet}
 use Rattle.packet_laws.specs.Octets.{NarrowEdition}
 use Rattle.packet_laws.specs.Laid.{firstOctets, fieldOctets, afterField, fieldsOctets, laidOctets}
-use Rattle.packets.specs.declared.types.Kind.{Kind}
+use Rattle.packets.specs.declared.types.PacketKind.{PacketKind}
 use Rattle.packets.specs.declared.types.Enumerated.{Enumerated}
 use Rattle.packet_laws.proofs.ValueLaid.{start-packed, start-edge}
 use Rattle.packet_laws.proofs.FieldLaid.{edge-whole, after-waits, after-at, field-wide, field-packed}
@@ -32,7 +32,7 @@ contents-long [] ns d same = refl
 contents-long (t ∷ ts) [] d same = absurd (omega arith)
 contents-long (t ∷ ts) (n ∷ ns) d same = ap suc (contents-long ts ns (drop n d) (omega arith))
 
-pub type-known : (e : Enumerated) → Sound e → (t : ℕ) (ts : List ℕ) → every (λ k. leb k (many e - 1)) (t ∷ ts) ≡ true
+pub type-known : (e : Enumerated) → SoundEnumerated e → (t : ℕ) (ts : List ℕ) → every (λ k. leb k (many e - 1)) (t ∷ ts) ≡ true
     → (t < many e) × (every (λ k. leb k (many e - 1)) ts ≡ true)
 unfolding every
 type-known e sound t ts all =
@@ -55,8 +55,8 @@ module _ (edition : Edition) (narrow : NarrowEdition edition) where
       let e : 0 + p ≡ p = omega arith in
       rw e (packed-closed w waits p at more)
   fields-packed (t ∷ ts) (n ∷ ns) d w p more all waits at =
-      let c : Content = record { kind = t; start = 0; octets = take n d } in
-      let letters = field edition .spelling (record { kind = t; start = 0; octets = take n d }) p in
+      let c : Content = record { type = t; start = 0; octets = take n d } in
+      let letters = field edition .spelling (record { type = t; start = 0; octets = take n d }) p in
       let known' = type-known (edition .types) (narrow .ofTypes .sound) t ts all in
       let q = wide letters + p in
       let rest = sequenceSpelt (field edition) (contentsOf ts ns (drop n d)) (wide letters + p) in
@@ -107,7 +107,7 @@ module _ (edition : Edition) (narrow : NarrowEdition edition) where
         let none : (8 - (0 + p) % 8) % 8 ≡ 0 = omega arith in
         rw none
 
-    module _ (k : Kind) (v : ℕ) (known' : v < assigned edition k) where
+    module _ (k : PacketKind) (v : ℕ) (known' : v < manyValues edition k) where
       -- the packet's octets are those laid one after the other
       pub packet-laid : packetOctets edition k v ts ns d ≡ laidOctets edition k v ts ns d
       unfolding packetOctets packet laidOctets

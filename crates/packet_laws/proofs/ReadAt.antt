@@ -30,7 +30,7 @@ use Rattle.packet_laws.proofs.ReadEnds.{count-within, FieldsInside, fie
 
 -- a field with its data in s
 abbrev pub contentIn : List ℕ → Field → Content
-contentIn s f = record { kind = f .kind; start = f .start; octets = dataOf s f }
+contentIn s f = record { type = f .kind; start = f .start; octets = dataOf s f }
 
 module _ (edition : Edition) (narrow : NarrowEdition edition) where
   field-at : (s : List ℕ) (i : ℕ) (p : Place)

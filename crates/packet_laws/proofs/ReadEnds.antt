@@ -10,7 +10,7 @@ use Rattle.lengths.proofs.Laws.{within-done}
 use Rattle.formats.specs.Places.{Place}
 use Rattle.packets.specs.Edition.{Edition}
 use Rattle.packets.specs.Packet.{fieldsLeast, fieldsLimit, noField, PacketAnswer}
-use Rattle.packets.specs.Promise.{packetOutcome, packetRead, padded}
+use Rattle.packets.specs.Promise.{packetOutcome, packetRead, paddedFields}
 use lib.Seq.{take-at}
 use Rattle.packets.proofs.Laws.{parts-cons}
 use Rattle.packet_laws.specs.Octets.{Count, countAt, FieldAnswer, fieldAt, FieldsAnswer, fieldsAt}
@@ -83,7 +83,7 @@ module _ (s : List ℕ) (at : ℕ) where
 
 -- ---- the answer's cases are the definition's
 pub read-outcome : (x : Answer PacketAnswer) → packetOutcome (packetRead x) ≡ x
-unfolding padded
+unfolding paddedFields
 read-outcome (done p) =
     ap (λ (l : List Field). done (record { kind = p .kind; value = p .value; fields = l }))
     (take-at (p .fields) _ (length (p .fields)) refl)

@@ -18,7 +18,7 @@ use Rattle.datagrams.specs.Sizes.{packetLimit}
 use Rattle.packets.specs.Edition.{addedWidth, Edition, values}
 use Rattle.packets.specs.Packet.{rightFields, rightData, fieldsLeast, fieldsLimit}
 use Rattle.packets.specs.declared.types.Enumerated.{Enumerated}
-use Rattle.packet_laws.specs.Octets.{bitAt, Value, rootAt, addedAt, valueAt, kindOf, FirstAnswer, firstAt, Count, countAt}
+use Rattle.packet_laws.specs.Octets.{bitSetAt, Value, rootAt, addedAt, valueAt, kindOf, FirstAnswer, firstAt, Count, countAt}
 use Rattle.packet_laws.specs.Octets.{HeaderAnswer, headerAt, sizeAt, FieldAnswer, afterHeader, fieldAt}
 
 -- ---- steps
@@ -49,7 +49,7 @@ module _ (e : Enumerated) (i : ℕ) (s : List ℕ) where
   added-ends p v was =
       let value = bitsAt addedWidth s (p + 1) in
       let some = cond-past (ltb (e .added) 1) (refusalAt i notAssigned) _ v was in
-      let bit = cond-past (bitAt s p) (refusalAt i notAssigned) _ v (some .1) in
+      let bit = cond-past (bitSetAt s p) (refusalAt i notAssigned) _ v (some .1) in
       let inside = cond-past (ltb (8 * length s) (p + 1 + addedWidth)) (refusalAt i endsEarly) _ v (bit .1) in
       let known = cond-kept (ltb value (e .added)) (refusalAt i notAssigned) _ v (inside .1) in
       let is : v ≡ record { value = e .assigned + value; next = p + 1 + addedWidth } = cc (known .1) in
@@ -57,7 +57,7 @@ module _ (e : Enumerated) (i : ℕ) (s : List ℕ) where
 
   pub value-ends : (p : Place) (v : Value) → valueAt e i s p ≡ done v → v .next ≤ 8 * length s
   unfolding valueAt
-  value-ends p v was = by (e .extensible) (bitAt s p) was where
+  value-ends p v was = by (e .extensible) (bitSetAt s p) was where
     by : (x b : Bool) → cond x (cond b (addedAt e i s (p + 1)) (rootAt e i s (p + 1))) (rootAt e i s p) ≡ done v → v .next ≤ 8 * length s
     by true true was = added-ends (p + 1) v was
     by true false was = root-ends (p + 1) v was
@@ -79,8 +79,8 @@ first-ends edition s f e =
     let value = stepped (valueAt (values edition (kindOf s)) 0 s 2) _ f e in
     let inside = value-ends (values edition (kindOf s)) 0 s 2 (value .value) (value .was) in
     let at = stepped (edgeAt s (value .value .next)) _ f (value .gave) in
-    let right = cond-met (rightFields (kindOf s) (bitAt s 0)) wrongData _ f (at .gave) in
-    let is : f ≡ record { first = record { kind = kindOf s; value = value .value .value; present = bitAt s 0 }; octets = at .value }
+    let right = cond-met (rightFields (kindOf s) (bitSetAt s 0)) wrongData _ f (at .gave) in
+    let is : f ≡ record { first = record { kind = kindOf s; value = value .value .value; present = bitSetAt s 0 }; octets = at .value }
     = cc (right .1) in
     rw is (edge-inside s (value .value .next) (at .value) inside (at .was))
 
@@ -102,8 +102,8 @@ pub header-ends : (edition : Edition) (s : List ℕ) (p : Place) (h : HeaderAnsw
 unfolding headerAt
 header-ends edition s p h e =
     let value = stepped (valueAt (edition .types) (p / 8) s (p + 1)) _ h e in
-    let right = cond-kept (rightData edition (value .value .value) (bitAt s p)) (refusalAt (p / 8) wrongData) _ h (value .gave) in
-    let is : h ≡ record { header = record { kind = value .value .value; present = bitAt s p }; next = value .value .next }
+    let right = cond-kept (rightData edition (value .value .value) (bitSetAt s p)) (refusalAt (p / 8) wrongData) _ h (value .gave) in
+    let is : h ≡ record { header = record { type = value .value .value; present = bitSetAt s p }; next = value .value .next }
     = cc (right .1) in
     rw is (value-ends (edition .types) (p / 8) s (p + 1) (value .value) (value .was))
 
@@ -127,15 +127,15 @@ size-form s n e =
 
 -- what a field that reads is: one of these two
 pub data FieldForm (edition : Edition) (s : List ℕ) (p : Place) (f : FieldAnswer) : Type 0 where
-  bare : (k : ℕ) (q : Place) → headerAt edition s p ≡ done (record { header = record { kind = k; present = false }; next = q })
+  bare : (k : ℕ) (q : Place) → headerAt edition s p ≡ done (record { header = record { type = k; present = false }; next = q })
       → f ≡ record { field = record { kind = k; start = 0; size = 0 }; next = q } → FieldForm edition s p f
-  full : (k : ℕ) (q : Place) (at n : ℕ) → headerAt edition s p ≡ done (record { header = record { kind = k; present = true }; next = q })
+  full : (k : ℕ) (q : Place) (at n : ℕ) → headerAt edition s p ≡ done (record { header = record { type = k; present = true }; next = q })
       → edgeAt s q ≡ done at → sizeAt (drop at s) ≡ done n
       → f ≡ record { field = record { kind = k; start = at + 2; size = n }; next = 8 * (at + 2 + n) } → FieldForm edition s p f
 
 module _ (edition : Edition) (s : List ℕ) (p : Place) (f : FieldAnswer) where
-  after-form : (k : ℕ) (b : Bool) (q : Place) → headerAt edition s p ≡ done (record { header = record { kind = k; present = b }; next = q })
-      → afterHeader s (record { header = record { kind = k; present = b }; next = q }) ≡ done f → FieldForm edition s p f
+  after-form : (k : ℕ) (b : Bool) (q : Place) → headerAt edition s p ≡ done (record { header = record { type = k; present = b }; next = q })
+      → afterHeader s (record { header = record { type = k; present = b }; next = q }) ≡ done f → FieldForm edition s p f
   unfolding afterHeader
   after-form k true q head e =
       let at = stepped (edgeAt s q) _ f e in
@@ -147,4 +147,4 @@ module _ (edition : Edition) (s : List ℕ) (p : Place) (f : FieldAnswer) where
   unfolding fieldAt
   field-form e =
       let h = stepped (headerAt edition s p) (afterHeader s) f e in
-      after-form (h .value .header .kind) (h .value .header .present) (h .value .next) (h .was) (h .gave)
+      after-form (h .value .header .type) (h .value .header .present) (h .value .next) (h .was) (h .gave)

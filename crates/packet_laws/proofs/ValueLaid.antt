@@ -18,8 +18,8 @@ use Rattle.packets.specs.Edition.{many, addedWidth, Edition, values}
 use Rattle.packets.specs.Packet.{First, addition, root, enumerated, typeOfMsg, start}
 use Rattle.packet_laws.specs.Octets.{Narrow}
 use Rattle.packet_laws.specs.Laid.{markWidth, valueWidth, valueBits, firstLead, firstOctets, firstSize}
-use Rattle.packets.specs.declared.types.Kind.{Kind}
-use Rattle.packets.specs.declared.types.Kind.the-variants.{Indicator, Data}
+use Rattle.packets.specs.declared.types.PacketKind.{PacketKind}
+use Rattle.packets.specs.declared.types.PacketKind.the-variants.{Indicator, Data}
 use Rattle.packets.specs.declared.types.Enumerated.{Enumerated}
 
 pub flag-small : (b : Bool) → flagBit b < 2 ^ 1
@@ -124,7 +124,7 @@ module _ (e : Enumerated) (narrow : Narrow e) where
 -- ---- the first item
 pub lead-small : (f : First) → firstLead f < 4
 lead-small f = by (f .kind) (f .present) where
-  by : (k : Kind) (b : Bool) → firstLead (record { kind = k; value = 0; present = b }) < 4
+  by : (k : PacketKind) (b : Bool) → firstLead (record { kind = k; value = 0; present = b }) < 4
   by Indicator true = omega arith
   by Indicator false = omega arith
   by Data true = omega arith
@@ -132,7 +132,7 @@ lead-small f = by (f .kind) (f .present) where
 
 module _ (edition : Edition) where
   module _ (v : ℕ) (more : List Letter) where
-    pub start-packed : (k : Kind) (b : Bool) → Narrow (values edition k) → v < many (values edition k)
+    pub start-packed : (k : PacketKind) (b : Bool) → Narrow (values edition k) → v < many (values edition k)
         → packed 0 0 (start edition .spelling (record { kind = k; value = v; present = b }) 0 ++ more)
         ≡ firstOctets (values edition k) (record { kind = k; value = v; present = b }) ++ packed 0 0 more
     unfolding start typeOfMsg wide packed firstOctets

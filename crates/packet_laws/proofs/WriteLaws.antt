@@ -16,15 +16,15 @@ use Rattle.formats.specs.Places.{edge}
 use Rattle.formats.specs.Waiting.{Waiting, noneWait, Waits, closed}
 use Rattle.formats.proofs.Laws.{none-waits, closed-long}
 use Rattle.packets.specs.Edition.{many, Edition, values, edition98}
-use Rattle.packets.specs.Packet.{fieldsLimit, typesLimit, assigned, every}
-use Rattle.packets.specs.Write.{withData, packetOctets, sum, total, oneEach, allAssigned, packetToWrite}
+use Rattle.packets.specs.Packet.{fieldsLimit, typesLimit, manyValues, every}
+use Rattle.packets.specs.Write.{withData, packetOctets, lengthsSum, total, oneEach, allAssigned, packetToWrite}
 use Rattle.packet_laws.specs.Octets.{Narrow, NarrowEdition}
 use Rattle.packet_laws.specs.Laid.{valueWidth, firstOctets, sizeOctets, headerOctets, headerLeft}
 use Rattle.packet_laws.specs.Laid.{fieldOctets, afterField, fieldsOctets, countedFields, laidOctets, pastField, pastFields}
 use Rattle.packet_laws.specs.Laid.{headerWidth, firstSize, packetSize}
 use Rattle.packet_laws.specs.Claims.{ownSize, NeverLonger}
-use Rattle.packets.specs.declared.types.Kind.{Kind}
-use Rattle.packets.specs.declared.types.Kind.the-variants.{Indicator, Data}
+use Rattle.packets.specs.declared.types.PacketKind.{PacketKind}
+use Rattle.packets.specs.declared.types.PacketKind.the-variants.{Indicator, Data}
 use Rattle.packets.specs.declared.types.Named.the-variants.{Old}
 use Rattle.packets.specs.declared.types.Enumerated.{Enumerated}
 use Rattle.packet_laws.proofs.ValueLaid.{first-long}
@@ -37,7 +37,7 @@ use Rattle.packet_laws.proofs.Editions as editions
 -- the fields, from a place on, end at the octet edge next to the place after them
 module _ (e : Enumerated) (narrow : Narrow e) where
   fields-length : (ts ns d : List ℕ) (w : Waiting) (p : ℕ) → every (λ t. leb t (many e - 1)) ts ≡ true → length ts ≡ length ns
-      → sum ns ≡ length d → Waits w → p % 8 ≡ w .width
+      → lengthsSum ns ≡ length d → Waits w → p % 8 ≡ w .width
       → p / 8 + length (fieldsOctets e w ts ns d) ≡ edge (pastFields e p ts ns)
   unfolding fieldsOctets pastFields total
   fields-length [] ns d w p known same all waits at = closed-long w waits p at
@@ -57,8 +57,8 @@ module _ (e : Enumerated) (narrow : Narrow e) where
             (after-waits e narrow w waits t here (known' .0)) on,
       )
 
-module _ (edition : Edition) (narrow : NarrowEdition edition) (k : Kind) (v : ℕ) (ts ns d : List ℕ) where
-  packet-length : v < assigned edition k → length ts ≤ fieldsLimit → length ts ≡ length ns → sum ns ≡ length d
+module _ (edition : Edition) (narrow : NarrowEdition edition) (k : PacketKind) (v : ℕ) (ts ns d : List ℕ) where
+  packet-length : v < manyValues edition k → length ts ≤ fieldsLimit → length ts ≡ length ns → lengthsSum ns ≡ length d
       → every (λ t. leb t (typesLimit edition)) ts ≡ true
       → length (laidOctets edition k v ts ns d) ≡ packetSize edition k v ts ns
   unfolding laidOctets
@@ -91,8 +91,8 @@ module _ (edition : Edition) (narrow : NarrowEdition edition) (k : Kind) (v : �
       → length (packetOctets edition k v ts ns d) ≡ packetSize edition k v ts ns
   unfolding allAssigned
   packet-size few each known =
-      let parts = both (ltb v (assigned edition k)) (every (λ t. leb t (typesLimit edition)) ts) known in
-      let right = ltb-true v (assigned edition k) (parts .0) in
+      let parts = both (ltb v (manyValues edition k)) (every (λ t. leb t (typesLimit edition)) ts) known in
+      let right = ltb-true v (manyValues edition k) (parts .0) in
       ap length (packet-laid edition narrow ts ns d (parts .1) (each-length ts ns d each) k v right)
       ∙ packet-length right few (each-length ts ns d each) (each-sum ts ns d each) (parts .1)
 
@@ -122,7 +122,7 @@ module _ (e : Enumerated) (w : Waiting) (k : ℕ) (d : List ℕ) where
   after-full some = rw (lt-ltb 0 (length d) some)
 
 -- ---- the octets of a packet, without fields and with them
-module _ (edition : Edition) (k : Kind) (v : ℕ) (ts ns d : List ℕ) where
+module _ (edition : Edition) (k : PacketKind) (v : ℕ) (ts ns d : List ℕ) where
   pub packet-bare : ltb 0 (length ts) ≡ false
       → laidOctets edition k v ts ns d
       ≡ firstOctets (values edition k) (record { kind = k; value = v; present = ltb 0 (length ts) })
@@ -145,7 +145,7 @@ old-header : (t : ℕ) → t < 8 → headerWidth (edition98 .types) t ≡ 4
 unfolding valueWidth
 old-header t low = rw (lt-leb 8 t low)
 
-old-first : (k : Kind) (v : ℕ) → v < assigned edition98 k → firstSize (values edition98 k) v ≡ 1
+old-first : (k : PacketKind) (v : ℕ) → v < manyValues edition98 k → firstSize (values edition98 k) v ≡ 1
 unfolding valueWidth
 old-first Indicator v low = rw (lt-leb 16 v low)
 old-first Data v low = rw (lt-leb 9 v low)

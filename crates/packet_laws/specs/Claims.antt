@@ -8,7 +8,7 @@ use lib.Dec.{ltb}
 use Rattle.lengths.specs.Answers.{done}
 use Rattle.packets.specs.Edition.{edition98}
 use Rattle.packets.specs.Write.{withData, total, packetToWrite}
-use Rattle.packets.specs.declared.types.Kind.{Kind}
+use Rattle.packets.specs.declared.types.PacketKind.{PacketKind}
 
 -- no packet of the edition of 06/98 is longer than by document 01's first rule, "Each field begins on an octet of its own": how many octets
 -- a field took
@@ -16,7 +16,7 @@ abbrev pub ownSize : ℕ → ℕ
 ownSize size = cond (withData size) (3 + size) 1
 
 abbrev pub NeverLonger : Type 0
-NeverLonger = (kind : Kind) (value : ℕ) (types lengths octets w : List ℕ)
+NeverLonger = (kind : PacketKind) (value : ℕ) (types lengths octets w : List ℕ)
     → packetToWrite edition98 kind value types lengths octets ≡ done w
     → length w ≤ cond (ltb 0 (length lengths)) (2 + total ownSize lengths) 1
 

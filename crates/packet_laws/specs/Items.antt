@@ -12,14 +12,14 @@ use Rattle.lengths.specs.declared.Written.{Written}
 use Rattle.datagrams.specs.Sizes.{packetLimit}
 use Rattle.packets.specs.Edition.{many, editionOf}
 use Rattle.packets.specs.Packet.{First, fieldsLimit, every}
-use Rattle.packets.specs.Write.{sum, allAssigned, rightTypes, allRight, packetToWrite}
+use Rattle.packets.specs.Write.{lengthsSum, allAssigned, rightTypes, allRight, packetToWrite}
 use Rattle.formats.specs.Format.{flagBit}
 use Rattle.formats.specs.Places.{Place}
 use Rattle.formats.specs.Waiting.{Waiting, waiting, noneWait, Waits, joined, fullOctets, left, closed}
 use Rattle.packet_laws.specs.Octets.{Narrow}
 use Rattle.packet_laws.specs.Laid.{valueWidth, firstOctets, headerOctets, headerLeft, fieldOctets, afterField, fieldsOctets}
 use Rattle.packet_laws.specs.Laid.{countedFields, laidOctets, pastField, pastFields, packetSize}
-use Rattle.packets.specs.declared.types.Kind.{Kind}
+use Rattle.packets.specs.declared.types.PacketKind.{PacketKind}
 use Rattle.packets.specs.declared.types.Named.{Named}
 use Rattle.packets.specs.declared.types.Enumerated.{Enumerated}
 
@@ -60,16 +60,16 @@ pub record FieldsPast (e : Enumerated) (p : Place) (types lengths : List ℕ) (r
   pub small : r ≤ p + fieldsLimit * 524328
 
 -- not 12, not 14, how many octets it is, and what is to be written, measured
-pub record AllAssigned (named : Named) (kind : Kind) (value : ℕ) (types : List ℕ) (r : Bool) : Type 0 where
+pub record AllAssigned (named : Named) (kind : PacketKind) (value : ℕ) (types : List ℕ) (r : Bool) : Type 0 where
   pub so : r ≡ allAssigned (editionOf named) kind value types
 
-pub record AllRight (named : Named) (kind : Kind) (types lengths : List ℕ) (r : Bool) : Type 0 where
+pub record AllRight (named : Named) (kind : PacketKind) (types lengths : List ℕ) (r : Bool) : Type 0 where
   pub so : r ≡ allRight (editionOf named) kind types lengths
 
-pub record PacketSized (named : Named) (kind : Kind) (value : ℕ) (types lengths : List ℕ) (r : ℕ) : Type 0 where
+pub record PacketSized (named : Named) (kind : PacketKind) (value : ℕ) (types lengths : List ℕ) (r : ℕ) : Type 0 where
   pub so : r ≡ packetSize (editionOf named) kind value types lengths
 
-pub record Measured (named : Named) (kind : Kind) (value : ℕ) (types lengths octets : List ℕ) (r : Written) : Type 0 where
+pub record Measured (named : Named) (kind : PacketKind) (value : ℕ) (types lengths octets : List ℕ) (r : Written) : Type 0 where
   pub answer : writtenOutcome r ≡ sizeOf (packetToWrite (editionOf named) kind value types lengths octets)
 
 -- ---- writing: what has room
@@ -129,7 +129,7 @@ FieldPut e w kind octets old new size width value =
 pub record FieldsRight (e : Enumerated) (types lengths octets : List ℕ) : Type 0 where
   pub narrow : Narrow e
   pub same : length types ≡ length lengths
-  pub all : sum lengths ≡ length octets
+  pub all : lengthsSum lengths ≡ length octets
   pub known : every (λ t. leb t (many e - 1)) types ≡ true
   pub short : every (λ n. leb n packetLimit) lengths ≡ true
 
@@ -143,7 +143,7 @@ pub record CountedFit (e : Enumerated) (types lengths octets old : List ℕ) : T
   pub room : length (countedFields e types lengths octets) ≤ length old
 
 -- what may be written, and has room
-pub record PacketFits (named : Named) (kind : Kind) (value : ℕ) (types lengths octets old : List ℕ) : Type 0 where
+pub record PacketFits (named : Named) (kind : PacketKind) (value : ℕ) (types lengths octets old : List ℕ) : Type 0 where
   pub allowed : packetToWrite (editionOf named) kind value types lengths octets
       ≡ done (laidOctets (editionOf named) kind value types lengths octets)
   pub room : length (laidOctets (editionOf named) kind value types lengths octets) ≤ length old

@@ -13,7 +13,7 @@ use Rattle.packets.specs.Write.{withData}
 use Rattle.formats.specs.Format.{flagBit}
 use Rattle.formats.specs.Places.{Place, edge}
 use Rattle.formats.specs.Waiting.{Waiting, waiting, noneWait, joined, fullOctets, left, closed}
-use Rattle.packets.specs.declared.types.Kind.{Kind}
+use Rattle.packets.specs.declared.types.PacketKind.{PacketKind}
 use Rattle.packets.specs.declared.types.Enumerated.{Enumerated}
 
 -- ---- a value of an ENUMERATED type
@@ -82,7 +82,7 @@ abbrev pub countedFields : Enumerated → List ℕ → List ℕ → List ℕ →
 countedFields e types lengths octets = lengthOctets (length types) ++ fieldsOctets e noneWait types lengths octets
 
 -- the first item, then those, if there are any
-unfoldable pub laidOctets : Edition → Kind → ℕ → List ℕ → List ℕ → List ℕ → List ℕ
+unfoldable pub laidOctets : Edition → PacketKind → ℕ → List ℕ → List ℕ → List ℕ → List ℕ
 laidOctets edition kind value types lengths octets =
     let present = ltb 0 (length types) in
     firstOctets (values edition kind) (record { kind = kind; value = value; present = ltb 0 (length types) })
@@ -107,7 +107,7 @@ abbrev pub firstSize : Enumerated → ℕ → ℕ
 firstSize e value = edge (2 + valueWidth e value)
 
 -- how many octets a packet has whose fields have these types, and data of these lengths
-abbrev pub packetSize : Edition → Kind → ℕ → List ℕ → List ℕ → ℕ
+abbrev pub packetSize : Edition → PacketKind → ℕ → List ℕ → List ℕ → ℕ
 packetSize edition kind value types lengths =
     let first = firstSize (values edition kind) value in
     cond (ltb 0 (length types)) (edge (pastFields (edition .types) (8 * (firstSize (values edition kind) value + 1)) types lengths)) first

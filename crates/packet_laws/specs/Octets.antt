@@ -11,28 +11,28 @@ use Rattle.lengths.specs.Answers.{Answer, done, refuse, refuseAt, readFrom, _>>
 use Rattle.lengths.specs.Length.{lengthWithin}
 use Rattle.formats.specs.Places.{Place, bitsAt, edgeAt}
 use Rattle.datagrams.specs.Sizes.{packetLimit}
-use Rattle.packets.specs.Edition.{many, addedWidth, Sound, Edition, values}
+use Rattle.packets.specs.Edition.{many, addedWidth, SoundEnumerated, Edition, values}
 use Rattle.packets.specs.Packet.{First, Header, PacketAnswer, chosen, rightFields, rightData, fieldsLeast, fieldsLimit, mayFollow}
-use Rattle.packets.specs.declared.types.Kind.{Kind}
+use Rattle.packets.specs.declared.types.PacketKind.{PacketKind}
 use Rattle.packets.specs.declared.types.Ending.{Ending}
 use Rattle.packets.specs.declared.types.Field.{Field}
 use Rattle.packets.specs.declared.types.Enumerated.{Enumerated}
 
 -- whether the bit at a place is set
-abbrev pub bitAt : List ℕ → Place → Bool
-bitAt s p = ltb 0 (bitsAt 1 s p)
+abbrev pub bitSetAt : List ℕ → Place → Bool
+bitSetAt s p = ltb 0 (bitsAt 1 s p)
 
 -- ---- a value of an ENUMERATED type, of the item that begins at an octet
 -- its values can be told apart and fit an octet. The bits of those before the extension mark are at most six, so that with a bit before
 -- them and the bit for extension two octets hold them wherever they stand
 pub record Narrow (e : Enumerated) : Type 0 where
-  pub sound : Sound e
+  pub sound : SoundEnumerated e
   pub some : 1 ≤ e .width
   pub few : e .width ≤ 6
   pub values : many e ≤ 256
 
 pub record NarrowEdition (edition : Edition) : Type 0 where
-  pub ofKind : (kind : Kind) → Narrow (values edition kind)
+  pub ofKind : (kind : PacketKind) → Narrow (values edition kind)
   pub ofTypes : Narrow (edition .types)
 
 pub record Value : Type 0 where
@@ -53,14 +53,14 @@ addedAt e item s p =
     let value = bitsAt addedWidth s (p + 1) in
     let read : Value = record { value = e .assigned + bitsAt addedWidth s (p + 1); next = p + 1 + addedWidth } in
     cond (ltb (e .added) 1) (refuseAt item notAssigned)
-    (cond (bitAt s p) (refuseAt item notAssigned)
+    (cond (bitSetAt s p) (refuseAt item notAssigned)
     (cond (ltb (8 * length s) (p + 1 + addedWidth)) (refuseAt item endsEarly)
     (cond (ltb value (e .added)) (done read) (refuseAt item notAssigned))))
 
 unfoldable pub valueAt : Enumerated → ℕ → List ℕ → Place → Answer Value
 valueAt e item s p =
     cond (e .extensible)
-    (cond (bitAt s p) (addedAt e item s (p + 1)) (rootAt e item s (p + 1)))
+    (cond (bitSetAt s p) (addedAt e item s (p + 1)) (rootAt e item s (p + 1)))
     (rootAt e item s p)
 
 -- how many bits a value before the extension mark takes, with the bit for extension where there is a mark: as one number they are the
@@ -70,8 +70,8 @@ plainWidth e = cond (e .extensible) (e .width + 1) (e .width)
 
 -- ---- the first value
 -- what the first two bits say
-abbrev pub kindOf : List ℕ → Kind
-kindOf s = chosen (bitAt s 1)
+abbrev pub kindOf : List ℕ → PacketKind
+kindOf s = chosen (bitSetAt s 1)
 
 -- kind, value and whether fields are present, and the octets up to the edge after them
 pub record FirstAnswer : Type 0 where
@@ -83,8 +83,8 @@ unfoldable pub firstAt : Edition → List ℕ → Answer FirstAnswer
 firstAt edition s = do
   v ← valueAt (values edition (kindOf s)) 0 s 2
   at ← edgeAt s (v .next)
-  cond (rightFields (kindOf s) (bitAt s 0))
-      (done (record { first = record { kind = kindOf s; value = v .value; present = bitAt s 0 }; octets = at }))
+  cond (rightFields (kindOf s) (bitSetAt s 0))
+      (done (record { first = record { kind = kindOf s; value = v .value; present = bitSetAt s 0 }; octets = at }))
       (refuse wrongData)
 
 -- ---- the count of fields
@@ -111,8 +111,8 @@ pub record HeaderAnswer : Type 0 where
 unfoldable pub headerAt : Edition → List ℕ → Place → Answer HeaderAnswer
 headerAt edition s p = do
   v ← valueAt (edition .types) (p / 8) s (p + 1)
-  cond (rightData edition (v .value) (bitAt s p))
-      (done (record { header = record { kind = v .value; present = bitAt s p }; next = v .next }))
+  cond (rightData edition (v .value) (bitSetAt s p))
+      (done (record { header = record { type = v .value; present = bitSetAt s p }; next = v .next }))
       (refuseAt (p / 8) wrongData)
 
 -- "two octets hold its length minus one, then the data": the data's length, at the front of octets that must hold it all. The
@@ -137,8 +137,8 @@ afterHeader s h =
     (do
       at ← edgeAt s (h .next)
       size ← readFrom at (sizeAt (drop at s))
-      done (record { field = record { kind = h .header .kind; start = at + 2; size = size }; next = 8 * (at + 2 + size) }))
-    (done (record { field = record { kind = h .header .kind; start = 0; size = 0 }; next = h .next }))
+      done (record { field = record { kind = h .header .type; start = at + 2; size = size }; next = 8 * (at + 2 + size) }))
+    (done (record { field = record { kind = h .header .type; start = 0; size = 0 }; next = h .next }))
 
 unfoldable pub fieldAt : Edition → List ℕ → Place → Answer FieldAnswer
 fieldAt edition s p = do

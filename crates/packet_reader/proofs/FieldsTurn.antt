@@ -13,7 +13,7 @@ use Rattle.packets.specs.Edition.{Edition, editionOf}
 use Rattle.packets.specs.declared.types.Named.{Named}
 use Rattle.packets.specs.Packet.{fieldsLimit, noField}
 use Rattle.packet_laws.specs.Octets.{FieldAnswer, fieldAt, FieldsAnswer, fieldsAt}
-use Rattle.packets.specs.Promise.{padded}
+use Rattle.packets.specs.Promise.{paddedFields}
 use Rattle.packet_laws.proofs.Laws.{field-inside}
 use Rattle.packet_reader.specs.Items.{InPacket, FieldTold, FieldsTold, fieldOutcome}
 use Rattle.packets.specs.declared.types.Field.{Field}
@@ -51,8 +51,8 @@ unfolding fieldsAt
 fields-stop edition n s p x e = rw e
 
 -- ---- the places
-pub set-padded : (pre : List Field) (f : Field) (i : ℕ) → length pre ≡ i → i < fieldsLimit → set (padded pre) i f ≡ padded (pre ++ f ∷ [])
-unfolding padded
+pub set-padded : (pre : List Field) (f : Field) (i : ℕ) → length pre ≡ i → i < fieldsLimit → set (paddedFields pre) i f ≡ paddedFields (pre ++ f ∷ [])
+unfolding paddedFields
 set-padded pre f i has few =
     let e : fieldsLimit - length pre ≡ suc (fieldsLimit - length (pre ++ f ∷ [])) = omega (arith, length-append pre (f ∷ [])) in
     ap (λ (n : ℕ). set (pre ++ replicate n noField) i f) e ∙ set-at pre noField _ f i has ∙ sym (append-snoc pre f _)
@@ -63,11 +63,11 @@ pub record Going (named : Named) (s : List ℕ) (count from : ℕ) (fields : Lis
   pub inside : InPacket s p
   pub pre : List Field
   pub has : length pre ≡ i
-  pub here : fields ≡ padded pre
+  pub here : fields ≡ paddedFields pre
   pub whole : fieldsAt (editionOf named) count s from ≡ after pre (fieldsAt (editionOf named) (count - i) s p)
 
 module _ {named : Named} {s : List ℕ} {count from : ℕ} where
-  pub going-start : {fields : List Field} → InPacket s from → fields ≡ padded [] → Going named s count from fields from 0
+  pub going-start : {fields : List Field} → InPacket s from → fields ≡ paddedFields [] → Going named s count from fields from 0
   going-start inside here =
       record {
         few = omega arith;
@@ -100,7 +100,7 @@ module _ {named : Named} {s : List ℕ} {count from : ℕ} where
         }
 
     pub going-refused : {r : FieldRead} {x : Refusal} {none : List Field} → Going named s count from fields p i → i < count
-        → FieldTold named s p r → r ≡ field.Refused x → none ≡ padded []
+        → FieldTold named s p r → r ≡ field.Refused x → none ≡ paddedFields []
         → FieldsTold named count s from (record { end = end.Refused x; fields = none })
     going-refused {r} {x} {none} g more told is empty =
         let e : fieldAt (editionOf named) s p ≡ refused x = sym (told .answer) ∙ ap fieldOutcome is in

@@ -78,7 +78,7 @@ module _ {named : Named} {s : List ℕ} {p : Place} {r : HeaderRead} (told : Hea
   field-refused is = record { answer = rw (sym (told .answer) ∙ ap headerOutcome is) }
 
   module _ {k : ℕ} {b : Bool} {n : ℕ} (is : r ≡ header.Header k b n) where
-    header-is : headerAt (editionOf named) s p ≡ done (record { header = record { kind = k; present = b }; next = n })
+    header-is : headerAt (editionOf named) s p ≡ done (record { header = record { type = k; present = b }; next = n })
     header-is = sym (told .answer) ∙ ap headerOutcome is
 
     pub header-inside : InPacket s p → InPacket s n

@@ -16,9 +16,9 @@ use Rattle.datagrams.specs.Sizes.{packetLimit}
 use Rattle.formats.specs.Places.{Place, bitsAt}
 use Rattle.packets.specs.Edition.{values, editionOf, carries, allows}
 use Rattle.packets.specs.Packet.{rightFields}
-use Rattle.packet_laws.specs.Octets.{bitAt, Narrow, Value, valueAt, kindOf, firstAt, HeaderAnswer, headerAt}
+use Rattle.packet_laws.specs.Octets.{bitSetAt, Narrow, Value, valueAt, kindOf, firstAt, HeaderAnswer, headerAt}
 use Rattle.packets.specs.declared.types.Enumerated.{Enumerated}
-use Rattle.packets.specs.declared.types.Kind.{Kind}
+use Rattle.packets.specs.declared.types.PacketKind.{PacketKind}
 use Rattle.packets.specs.declared.types.Named.{Named}
 use Rattle.packets.specs.declared.types.Named.the-variants.{Old, New}
 use Rattle.packet_reader.specs.Items.{InPacket, NearPacket, Power, BitTold, BitsTold, EdgeTold, edgeOutcome, PlainTold, ValueTold}
@@ -35,7 +35,7 @@ use Rattle.packet_reader.proofs.ReadValues.{value-whole}
 
 -- ---- the first item
 -- what follows the value
-module _ {s : List ℕ} {k : Kind} {v : ℕ} {p : Place} {d : EdgeRead} (edged : EdgeTold s p d) where
+module _ {s : List ℕ} {k : PacketKind} {v : ℕ} {p : Place} {d : EdgeRead} (edged : EdgeTold s p d) where
   pub first-spare : {r : Refusal} → d ≡ edge.Refused r → AfterFirst s k v p (first.Refused r)
   first-spare stops = record { answer = rw (sym (edged .answer) ∙ ap edgeOutcome stops) }
 
@@ -50,7 +50,7 @@ module _ {s : List ℕ} {k : Kind} {v : ℕ} {p : Place} {d : EdgeRead} (edged :
 pub ruleset afters = (first-spare, first-wrong, first-read)
 
 -- the value, by the edition
-value-was : (named : Named) (s : List ℕ) (k : Kind) (e : Enumerated) (x : Answer Value) → k ≡ kindOf s → e ≡ values (editionOf named) k
+value-was : (named : Named) (s : List ℕ) (k : PacketKind) (e : Enumerated) (x : Answer Value) → k ≡ kindOf s → e ≡ values (editionOf named) k
     → valueAt e 0 s 2 ≡ x
     → firstAt (editionOf named) s ≡ _>>=_ x (afterFirst s k)
 unfolding firstAt
@@ -59,19 +59,19 @@ value-was named s k e x kind is was =
     = ap (λ (y : Enumerated). valueAt y 0 s 2) (sym (is ∙ ap (values (editionOf named)) kind)) ∙ was in
     rw (here, kind)
 
-pub first-near : {s : List ℕ} {k : Kind} → FirstHere s k → NearPacket 2 s 2
+pub first-near : {s : List ℕ} {k : PacketKind} → FirstHere s k → NearPacket 2 s 2
 first-near here = record { few = here .few; near = omega arith }
 
-pub first-narrow : (named : Named) (k : Kind) {e : Enumerated} → e ≡ values (editionOf named) k → Narrow e
+pub first-narrow : (named : Named) (k : PacketKind) {e : Enumerated} → e ≡ values (editionOf named) k → Narrow e
 first-narrow named k is = subst Narrow (sym is) (narrow named .ofKind k)
 
 -- a place after a value that reads lies inside the octets
-pub first-inside : {e : Enumerated} {s : List ℕ} {k : Kind} {x : ValueRead} {v n : ℕ} → FirstHere s k → ValueTold e 0 s 2 x
+pub first-inside : {e : Enumerated} {s : List ℕ} {k : PacketKind} {x : ValueRead} {v n : ℕ} → FirstHere s k → ValueTold e 0 s 2 x
     → x ≡ value.Value v n → InPacket s n
 first-inside {e} {s} here told is =
     record { few = here .few; here = value-ends e 0 s 2 _ (sym (told .answer) ∙ ap valueOutcome is) }
 
-module _ {named : Named} {s : List ℕ} {k : Kind} {e : Enumerated} where
+module _ {named : Named} {s : List ℕ} {k : PacketKind} {e : Enumerated} where
   -- part by part
   module _ {x : ValueRead} (here : FirstHere s k) (is : e ≡ values (editionOf named) k) (told : ValueTold e 0 s 2 x) where
     pub first-refused : {r : Refusal} → x ≡ value.Refused r → FirstTold named s (first.Refused r)
@@ -88,7 +88,7 @@ module _ {named : Named} {s : List ℕ} {k : Kind} {e : Enumerated} where
   first-whole {w} {v} kind is plain inside cut known after =
       record { answer = after .answer ∙ sym (value-was named s k e _ kind is (value-whole e w 0 s 2 v plain inside (cut .answer) known)) }
 
-pub first-here : {s : List ℕ} {k : Kind} → length s ≤ packetLimit → k ≡ kindOf s → FirstHere s k
+pub first-here : {s : List ℕ} {k : PacketKind} → length s ≤ packetLimit → k ≡ kindOf s → FirstHere s k
 first-here few kind = record { few = few; is = kind }
 
 pub first-at : {s : List ℕ} {p : Place} → length s ≤ packetLimit → p ≤ 8 * length s → InPacket s p
@@ -115,7 +115,7 @@ rule-same New k = refl
 -- the type, by the edition
 type-was : (named : Named) (s : List ℕ) (p : Place) (e : Enumerated) (x : Answer Value) → e ≡ editionOf named .types
     → valueAt e (p / 8) s (p + 1) ≡ x
-    → headerAt (editionOf named) s p ≡ _>>=_ x (λ v. afterType (p / 8) (v .value) (bitAt s p) (v .next))
+    → headerAt (editionOf named) s p ≡ _>>=_ x (λ v. afterType (p / 8) (v .value) (bitSetAt s p) (v .next))
 unfolding headerAt
 type-was named s p e x is was =
     let here : valueAt (editionOf named .types) (p / 8) s (p + 1) ≡ x
@@ -123,9 +123,9 @@ type-was named s p e x is was =
     rw here (by x) where
       by : (y : Answer Value)
           → _>>=_ {B = HeaderAnswer} y
-          (λ v. cond (allows (editionOf named .rule (v .value)) (bitAt s p))
-          (done (record { header = record { kind = v .value; present = bitAt s p }; next = v .next })) (refuseAt (p / 8) wrongData))
-          ≡ _>>=_ y (λ v. afterType (p / 8) (v .value) (bitAt s p) (v .next))
+          (λ v. cond (allows (editionOf named .rule (v .value)) (bitSetAt s p))
+          (done (record { header = record { type = v .value; present = bitSetAt s p }; next = v .next })) (refuseAt (p / 8) wrongData))
+          ≡ _>>=_ y (λ v. afterType (p / 8) (v .value) (bitSetAt s p) (v .next))
       by (done v) = rw (rule-same named (v .value))
       by (refused r) = refl
 
@@ -158,7 +158,7 @@ module _ {named : Named} {s : List ℕ} {p : Place} {e : Enumerated} (is : e ≡
       → HeaderTold named s p r
   header-whole {w} {h} {t} plain inside cut values known after =
       let parts = parted-at w s p (plain .few) inside in
-      let bit : ltb 0 (h / 2 ^ w % 2) ≡ bitAt s p = ap (λ (x : ℕ). ltb 0 (x / 2 ^ w % 2)) (cut .answer) ∙ sym (parts .first) in
+      let bit : ltb 0 (h / 2 ^ w % 2) ≡ bitSetAt s p = ap (λ (x : ℕ). ltb 0 (x / 2 ^ w % 2)) (cut .answer) ∙ sym (parts .first) in
       let kind : h % t ≡ bitsAt w s (p + 1) = ap₂ (λ (x y : ℕ). x % y) (cut .answer) (values .is) ∙ sym (parts .others) in
       let next : p + (w + 1) ≡ p + 1 + w = omega arith in
       record {

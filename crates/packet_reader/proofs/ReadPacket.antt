@@ -16,11 +16,11 @@ use Rattle.packets.specs.Edition.{editionOf}
 use Rattle.packets.specs.Packet.{fieldsLimit, PacketAnswer, mayFollow, readPacket}
 use Rattle.formats.specs.Places.{Place, edgeAt}
 use Rattle.packet_laws.specs.Octets.{firstAt, countAt, FieldsAnswer, fieldsAt, endAt, packetByOctets}
-use Rattle.packets.specs.Promise.{PacketTold, packetOutcome, packetRead, padded}
+use Rattle.packets.specs.Promise.{PacketTold, packetOutcome, packetRead, paddedFields}
 use Rattle.packet_reader.specs.Items.{InPacket, OctetIn, EdgeTold, edgeOutcome, FirstTold, CountTold, FieldsTold, EndTold, NamedTold}
 use Rattle.packet_reader.specs.Items.{firstOutcome, countOutcome, fieldsRead, endOutcome}
 use Rattle.packets.specs.declared.types.Field.{Field}
-use Rattle.packets.specs.declared.types.Kind.{Kind}
+use Rattle.packets.specs.declared.types.PacketKind.{PacketKind}
 use Rattle.packets.specs.declared.types.Named.{Named}
 use Rattle.packets.specs.declared.types.Ending.{Ending}
 use Rattle.packets.specs.declared.types.PacketRead.{PacketRead}
@@ -29,7 +29,7 @@ use Rattle.packet_reader.specs.declared.items.FirstRead.{FirstRead}
 use Rattle.packet_reader.specs.declared.items.CountRead.{CountRead}
 use Rattle.packet_reader.specs.declared.reader.FieldsRead.{FieldsRead}
 use Rattle.packet_reader.specs.declared.reader.EndRead.{EndRead}
-use Rattle.packets.specs.declared.types.Reading.the-variants as reading
+use Rattle.packets.specs.declared.types.PacketReading.the-variants as reading
 use Rattle.packet_reader.specs.declared.places.EdgeRead.the-variants as edge
 use Rattle.packet_reader.specs.declared.items.FirstRead.the-variants as first
 use Rattle.packet_reader.specs.declared.items.CountRead.the-variants as count
@@ -40,11 +40,11 @@ use Rattle.packet_laws.proofs.Laws.{narrow, first-ends, read-at, rest, rest-is,
 
 -- ---- from the items' answers to the definitions
 module _ {named : Named} {s : List ℕ} where
-  first-is : {r : FirstRead} {k : Kind} {v at : ℕ} {p : Bool} → FirstTold named s r → r ≡ first.First k v p at
+  first-is : {r : FirstRead} {k : PacketKind} {v at : ℕ} {p : Bool} → FirstTold named s r → r ≡ first.First k v p at
       → firstAt (editionOf named) s ≡ done (record { first = record { kind = k; value = v; present = p }; octets = at })
   first-is told is = sym (told .answer) ∙ ap firstOutcome is
 
-  pub first-within : {r : FirstRead} {k : Kind} {v at : ℕ} {p : Bool} → length s ≤ packetLimit → FirstTold named s r
+  pub first-within : {r : FirstRead} {k : PacketKind} {v at : ℕ} {p : Bool} → length s ≤ packetLimit → FirstTold named s r
       → r ≡ first.First k v p at
       → OctetIn s at
   first-within fits told is = record { few = fits; here = first-ends (editionOf named) s _ (first-is told is) }
@@ -56,7 +56,7 @@ module _ {s : List ℕ} {at : ℕ} {p : Bool} {c : CountRead} {n from : ℕ} (to
   pub count-few : n ≤ fieldsLimit
   count-few = count-limit s at p _ count-is
 
-  pub count-inside : {named : Named} {f : FirstRead} {k : Kind} {v : ℕ} → length s ≤ packetLimit → FirstTold named s f
+  pub count-inside : {named : Named} {f : FirstRead} {k : PacketKind} {v : ℕ} → length s ≤ packetLimit → FirstTold named s f
       → f ≡ first.First k v p at
       → InPacket s from
   count-inside fits first first-was =
@@ -66,7 +66,7 @@ module _ {s : List ℕ} {at : ℕ} {p : Bool} {c : CountRead} {n from : ℕ} (to
 record AllRead (named : Named) (n : ℕ) (s : List ℕ) (at m : ℕ) (r : FieldsRead) : Type 0 where
   fields : List Field
   was : fieldsAt (editionOf named) n s at ≡ done (record { fields = fields; next = m })
-  here : r .fields ≡ padded fields
+  here : r .fields ≡ paddedFields fields
 
 module _ (named : Named) (n : ℕ) (s : List ℕ) (at : ℕ) where
   all-read : (m : ℕ) (r : FieldsRead) → FieldsTold named n s at r → r .end ≡ end.Next m → AllRead named n s at m r
@@ -98,7 +98,7 @@ told-of named e s r x is image =
     record { told = record { answer = ap packetOutcome image ∙ read-outcome x ∙ sym so; whole = image ∙ ap packetRead (sym so) } }
 
 -- ---- the answers of `read`
-abbrev answered : Kind → ℕ → ℕ → List Field → PacketRead
+abbrev answered : PacketKind → ℕ → ℕ → List Field → PacketRead
 answered k v n fields = record { reading = reading.Packet k v n; fields = fields }
 
 -- fields that read end inside the octets
@@ -152,7 +152,7 @@ module _ {named : Named} {e : Ending} {s : List ℕ} where
     packet-first {x} {r} is image =
         told-of named e s r (refused x) (rw (le-ltb packetLimit (length s) fits, sym (told .answer) ∙ ap firstOutcome is)) image
 
-    module _ {k : Kind} {v o : ℕ} {p : Bool} {c : CountRead} (is : f ≡ first.First k v p o) (counted : CountTold s o p c) where
+    module _ {k : PacketKind} {v o : ℕ} {p : Bool} {c : CountRead} (is : f ≡ first.First k v p o) (counted : CountTold s o p c) where
       pub packet-count : {x : Refusal} {r : PacketRead} → c ≡ count.Refused x → r ≡ packetRead (refused x) → NamedTold named e s r
       unfolding packetByOctets
       packet-count {x} {r} countIs image =

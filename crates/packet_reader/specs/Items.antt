@@ -11,13 +11,13 @@ use Rattle.formats.specs.Places.{Place, bitsAt, edgeAt}
 use Rattle.datagrams.specs.Sizes.{packetLimit}
 use Rattle.packets.specs.Edition.{editionOf, carries, allows}
 use Rattle.packets.specs.declared.types.Enumerated.{Enumerated}
-use Rattle.packet_laws.specs.Octets.{bitAt, kindOf, Narrow, Value, plainWidth, rootAt, addedAt, valueAt, FirstAnswer, firstAt}
+use Rattle.packet_laws.specs.Octets.{bitSetAt, kindOf, Narrow, Value, plainWidth, rootAt, addedAt, valueAt, FirstAnswer, firstAt}
 use Rattle.packet_laws.specs.Octets.{Count, countAt, HeaderAnswer, headerAt, sizeAt, FieldAnswer, afterHeader, fieldAt}
 use Rattle.packet_laws.specs.Octets.{FieldsAnswer, fieldsAt, endAt}
 use Rattle.packets.specs.Packet.{rightFields, readPacket}
-use Rattle.packets.specs.Promise.{PacketTold, padded}
+use Rattle.packets.specs.Promise.{PacketTold, paddedFields}
 use Rattle.packets.specs.declared.types.Ending.{Ending}
-use Rattle.packets.specs.declared.types.Kind.{Kind}
+use Rattle.packets.specs.declared.types.PacketKind.{PacketKind}
 use Rattle.packets.specs.declared.types.Named.{Named}
 use Rattle.packets.specs.declared.types.PacketRead.{PacketRead}
 use Rattle.packet_reader.specs.declared.places.EdgeRead.{EdgeRead}
@@ -66,7 +66,7 @@ pub record OctetAt (s : List ℕ) (at r : ℕ) : Type 0 where
   pub small : r < 256
 
 pub record BitTold (s : List ℕ) (p : Place) (r : Bool) : Type 0 where
-  pub answer : r ≡ bitAt s p
+  pub answer : r ≡ bitSetAt s p
 
 pub record BitsTold (n : ℕ) (s : List ℕ) (p : Place) (r : ℕ) : Type 0 where
   pub answer : r ≡ bitsAt n s p
@@ -103,18 +103,18 @@ firstOutcome (first.First k v p at) = done (record { first = record { kind = k; 
 firstOutcome (first.Refused r) = refused r
 
 -- what follows the first value
-abbrev pub afterFirst : List ℕ → Kind → Value → Answer FirstAnswer
+abbrev pub afterFirst : List ℕ → PacketKind → Value → Answer FirstAnswer
 afterFirst s kind v = do
   at ← edgeAt s (v .next)
-  cond (rightFields kind (bitAt s 0))
-      (done (record { first = record { kind = kind; value = v .value; present = bitAt s 0 }; octets = at }))
+  cond (rightFields kind (bitSetAt s 0))
+      (done (record { first = record { kind = kind; value = v .value; present = bitSetAt s 0 }; octets = at }))
       (refuse wrongData)
 
-pub record AfterFirst (s : List ℕ) (kind : Kind) (value : ℕ) (p : Place) (r : FirstRead) : Type 0 where
+pub record AfterFirst (s : List ℕ) (kind : PacketKind) (value : ℕ) (p : Place) (r : FirstRead) : Type 0 where
   pub answer : firstOutcome r ≡ afterFirst s kind (record { value = value; next = p })
 
 -- the kind of the first item of a packet
-pub record FirstHere (s : List ℕ) (kind : Kind) : Type 0 where
+pub record FirstHere (s : List ℕ) (kind : PacketKind) : Type 0 where
   pub few : length s ≤ packetLimit
   pub is : kind ≡ kindOf s
 
@@ -129,13 +129,13 @@ pub record CountTold (s : List ℕ) (at : ℕ) (present : Bool) (r : CountRead) 
   pub answer : countOutcome r ≡ countAt s at present
 
 abbrev pub headerOutcome : HeaderRead → Answer HeaderAnswer
-headerOutcome (header.Header k p next) = done (record { header = record { kind = k; present = p }; next = next })
+headerOutcome (header.Header k p next) = done (record { header = record { type = k; present = p }; next = next })
 headerOutcome (header.Refused r) = refused r
 
 -- what follows a field's type
 abbrev pub afterType : ℕ → ℕ → Bool → Place → Answer HeaderAnswer
 afterType item kind present p =
-    cond (allows (carries kind) present) (done (record { header = record { kind = kind; present = present }; next = p }))
+    cond (allows (carries kind) present) (done (record { header = record { type = kind; present = present }; next = p }))
     (refuseAt item wrongData)
 
 pub record AfterType (item kind : ℕ) (present : Bool) (p : Place) (r : HeaderRead) : Type 0 where
@@ -157,15 +157,15 @@ fieldOutcome (field.Refused r) = refused r
 
 -- what follows a header with data
 pub record DataTold (s : List ℕ) (kind : ℕ) (p : Place) (r : FieldRead) : Type 0 where
-  pub answer : fieldOutcome r ≡ afterHeader s (record { header = record { kind = kind; present = true }; next = p })
+  pub answer : fieldOutcome r ≡ afterHeader s (record { header = record { type = kind; present = true }; next = p })
 
 pub record FieldTold (named : Named) (s : List ℕ) (p : Place) (r : FieldRead) : Type 0 where
   pub answer : fieldOutcome r ≡ fieldAt (editionOf named) s p
 
 -- ---- all fields, and the end
 abbrev pub fieldsRead : Answer FieldsAnswer → FieldsRead
-fieldsRead (done a) = record { end = end.Next (a .next); fields = padded (a .fields) }
-fieldsRead (refused r) = record { end = end.Refused r; fields = padded [] }
+fieldsRead (done a) = record { end = end.Next (a .next); fields = paddedFields (a .fields) }
+fieldsRead (refused r) = record { end = end.Refused r; fields = paddedFields [] }
 
 pub record FieldsTold (named : Named) (count : ℕ) (s : List ℕ) (p : Place) (r : FieldsRead) : Type 0 where
   pub answer : r ≡ fieldsRead (fieldsAt (editionOf named) count s p)

@@ -14,8 +14,8 @@ use lengths::Length;
 use lengths::Refusal;
 use lengths::wide;
 use packets::Field;
-use packets::Kind;
 use packets::Named;
+use packets::PacketKind;
 ghost use mathlib.Core.Path.{_≡_};
 ghost use Prim.Native.Nat.{_≤_};
 ghost use lib.ListN.{length};
@@ -26,7 +26,7 @@ ghost use Rattle.packet_reader.specs.Items.{AfterType, HeaderTold, SizeT
 
 // What the first item says, and the octets up to the edge after it.
 pub enum FirstRead {
-    First(Kind, u8, bool, usize),
+    First(PacketKind, u8, bool, usize),
     Refused(Refusal),
 }
 
@@ -55,17 +55,17 @@ pub enum FieldRead {
 }
 
 // The kind that the first two bits say.
-fn kind_of(s: &[u8]) -> Kind
+fn kind_of(s: &[u8]) -> PacketKind
     ensures { λ r. ⌜ r ≡ kindOf (now (s .entry)) ⌝ }
 {
     if bit(s, 1) {
-        return Kind::Data;
+        return PacketKind::Data;
     }
-    Kind::Indicator
+    PacketKind::Indicator
 }
 
 // What follows the first value: zero bits to an octet edge, and whether fields may be present or not.
-fn after_first(s: &[u8], kind: Kind, value: u8, p: usize) -> FirstRead
+fn after_first(s: &[u8], kind: PacketKind, value: u8, p: usize) -> FirstRead
     requires { ⌜ InPacket (now s) p ⌝ }
     ensures { λ r. ⌜ AfterFirst (now (s .entry)) kind value p r ⌝ }
 {
@@ -82,7 +82,7 @@ fn after_first(s: &[u8], kind: Kind, value: u8, p: usize) -> FirstRead
 }
 
 // The first item of s, its value part by part.
-fn first_by_parts(s: &[u8], named: Named, kind: Kind) -> FirstRead
+fn first_by_parts(s: &[u8], named: Named, kind: PacketKind) -> FirstRead
     requires { ⌜ FirstHere (now s) kind ⌝ }
     ensures { λ r. ⌜ FirstTold named (now (s .entry)) r ⌝ }
 {

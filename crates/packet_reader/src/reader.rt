@@ -15,14 +15,14 @@ use packets::Ending;
 use packets::Field;
 use packets::Named;
 use packets::PacketRead;
-use packets::Reading;
+use packets::PacketReading;
 ghost use mathlib.Core.Path.{_≡_};
 ghost use Prim.Native.Nat.{_≤_};
 ghost use mathlib.Core.List.{[]};
 ghost use Rattle.packets.specs.Edition.{byEdition};
 ghost use Rattle.packets.specs.Packet.{fieldsLimit, allZero, mayFollow, readPacket};
 ghost use Rattle.packet_reader.specs.Items.{InPacket, FieldsTold, EndTold, NamedTold};
-ghost use Rattle.packets.specs.Promise.{PacketTold, packetRead, padded};
+ghost use Rattle.packets.specs.Promise.{PacketTold, packetRead, paddedFields};
 ghost use Rattle.lengths.specs.Answers as answers;
 
 // The place after the last field.
@@ -45,7 +45,7 @@ enum EndRead {
 
 // As many places as a packet may have fields, all zero.
 pub fn no_fields() -> [Field; Field::LIMIT]
-    ensures { λ r. ⌜ r ≡ padded [] ⌝ }
+    ensures { λ r. ⌜ r ≡ paddedFields [] ⌝ }
 {
     [Field {
         kind: 0,
@@ -131,7 +131,7 @@ pub fn refused(refusal: Refusal) -> PacketRead
 {
     let none = no_fields();
     PacketRead {
-        reading: Reading::Refused(refusal),
+        reading: PacketReading::Refused(refusal),
         fields: none,
     }
 }
@@ -157,7 +157,7 @@ fn read_named(named: Named, s: &[u8], ending: Ending) -> PacketRead
                         EndRead::Ends => {
                             let fields = all.fields;
                             PacketRead {
-                                reading: Reading::Packet { kind, value, count },
+                                reading: PacketReading::Packet { kind, value, count },
                                 fields,
                             }
                         }

@@ -1,8 +1,8 @@
 // What a packet may hold, to the readers, the writer and the joiner alike: document 01, 'The packet', and what an edition decides.
 use packets::Choice;
 use packets::Enumerated;
-use packets::Kind;
 use packets::Named;
+use packets::PacketKind;
 ghost use mathlib.Core.Path.{_≡_};
 ghost use Rattle.packets.specs.Edition as edition;
 ghost use Rattle.packets.specs.Edition.{editionOf, choiceOf, carries, allows};
@@ -22,18 +22,18 @@ pub fn choice_of(octet: u8) -> Choice
 }
 
 // The values of a kind.
-pub fn values(named: Named, kind: Kind) -> Enumerated
+pub fn values(named: Named, kind: PacketKind) -> Enumerated
     ensures { λ r. ⌜ r ≡ edition.values (editionOf named) kind ⌝ }
 {
     match named {
         Named::Old => match kind {
-            Kind::Indicator => Enumerated {
+            PacketKind::Indicator => Enumerated {
                 extensible: true,
                 width: 4,
                 assigned: 16,
                 added: 0,
             },
-            Kind::Data => Enumerated {
+            PacketKind::Data => Enumerated {
                 extensible: true,
                 width: 4,
                 assigned: 9,
@@ -41,13 +41,13 @@ pub fn values(named: Named, kind: Kind) -> Enumerated
             },
         },
         Named::New => match kind {
-            Kind::Indicator => Enumerated {
+            PacketKind::Indicator => Enumerated {
                 extensible: true,
                 width: 4,
                 assigned: 16,
                 added: 7,
             },
-            Kind::Data => Enumerated {
+            PacketKind::Data => Enumerated {
                 extensible: true,
                 width: 4,
                 assigned: 9,
@@ -78,12 +78,12 @@ pub fn types(named: Named) -> Enumerated
 }
 
 // Whether a packet of this kind may be so, with or without a data field.
-pub fn right_fields(kind: Kind, present: bool) -> bool
+pub fn right_fields(kind: PacketKind, present: bool) -> bool
     ensures { λ r. ⌜ r ≡ rightFields kind present ⌝ }
 {
     match kind {
-        Kind::Indicator => !present,
-        Kind::Data => true,
+        PacketKind::Indicator => !present,
+        PacketKind::Data => true,
     }
 }
 

@@ -14,11 +14,11 @@ use Rattle.lengths.specs.Promise.{RefusalMade}
 use Rattle.lengths.specs.declared.Refusal.{Refusal}
 use Rattle.lengths.specs.declared.Written.the-variants as written
 use Rattle.packets.specs.Edition.{many, allows, Edition, values, carries, editionOf}
-use Rattle.packets.specs.Packet.{fieldsLimit, assigned, rightFields, rightData, every}
-use Rattle.packets.specs.Write.{withData, packetOctets, sum, oneEach, allAssigned, rightTypes, allRight, inSizes, packetToWrite}
+use Rattle.packets.specs.Packet.{fieldsLimit, manyValues, rightFields, rightData, every}
+use Rattle.packets.specs.Write.{withData, packetOctets, lengthsSum, oneEach, allAssigned, rightTypes, allRight, inSizes, packetToWrite}
 use Rattle.packet_laws.specs.Items.{Wide, TypesRight, AllAssigned, AllRight, PacketSized, Measured}
 use Rattle.packets.specs.declared.types.Enumerated.{Enumerated}
-use Rattle.packets.specs.declared.types.Kind.{Kind}
+use Rattle.packets.specs.declared.types.PacketKind.{PacketKind}
 use Rattle.packets.specs.declared.types.Named.{Named}
 use Rattle.packets.specs.declared.types.Named.the-variants.{Old, New}
 use Rattle.packets.proofs.Laws.{each-length}
@@ -38,10 +38,10 @@ module _ (ts ns d : List ℕ) where
   unfolding oneEach
   each-not differ = both-left (eqb (length ts) (length ns)) _ (ne-eqb (length ts) (length ns) differ)
 
-  pub each-is : {m : ℕ} → length ts ≡ length ns → m ≡ sum ns → eqb m (length d) ≡ oneEach ts ns d
+  pub each-is : {m : ℕ} → length ts ≡ length ns → m ≡ lengthsSum ns → eqb m (length d) ≡ oneEach ts ns d
   unfolding oneEach
   each-is {m} same is =
-      both-right (eqb (length ts) (length ns)) (eqb (sum ns) (length d)) _ (eq-eqb (length ts) (length ns) same)
+      both-right (eqb (length ts) (length ns)) (eqb (lengthsSum ns) (length d)) _ (eq-eqb (length ts) (length ns) same)
       (ap (λ (k : ℕ). eqb k (length d)) is)
 
   pub each-same : {b : Bool} → b ≡ oneEach ts ns d → not b ≡ false → length ts ≡ length ns
@@ -59,11 +59,11 @@ rule-of Old t b = refl
 rule-of New t b = refl
 
 -- ---- 12
-module _ {named : Named} {k : Kind} {v : ℕ} {ts : List ℕ} {e : Enumerated} (is : e ≡ values (editionOf named) k) where
+module _ {named : Named} {k : PacketKind} {v : ℕ} {ts : List ℕ} {e : Enumerated} (is : e ≡ values (editionOf named) k) where
   pub assigned-not : e .assigned + e .added ≤ v → AllAssigned named k v ts false
   unfolding allAssigned
   assigned-not over =
-      let n = assigned (editionOf named) k in
+      let n = manyValues (editionOf named) k in
       record { so = both-left (ltb v n) _ (le-ltb v n (rw is at over)) }
 
   pub assigned-is : {types : Enumerated} {b : Bool} → v < e .assigned + e .added → types ≡ editionOf named .types
@@ -71,7 +71,7 @@ module _ {named : Named} {k : Kind} {v : ℕ} {ts : List ℕ} {e : Enumerated} (
       → AllAssigned named k v ts b
   unfolding allAssigned
   assigned-is {types} {b} known isTypes same =
-      let n = assigned (editionOf named) k in
+      let n = manyValues (editionOf named) k in
       record { so = both-right (ltb v n) _ b (lt-ltb v n (rw is at known)) (rw isTypes at same) }
 
 -- ---- 14
@@ -118,7 +118,7 @@ right-done {ts} {ns} {i} left all = record {
       sym (left .so named ∙ ap (λ (l : List ℕ). rightTypes (editionOf named) l (drop i ns)) (drop-of-length-le ts all));
 }
 
-module _ {named : Named} {k : Kind} {ts ns : List ℕ} {b : Bool} (is : b ≡ rightFields k (ltb 0 (length ts))) where
+module _ {named : Named} {k : PacketKind} {ts ns : List ℕ} {b : Bool} (is : b ≡ rightFields k (ltb 0 (length ts))) where
   pub all-not : b ≡ false → AllRight named k ts ns false
   unfolding allRight
   all-not wrong = record { so = both-left (rightFields k (ltb 0 (length ts))) _ (sym is ∙ wrong) }
@@ -144,7 +144,7 @@ pub ruleset decided = (
 )
 
 -- ---- the answers
-module _ (named : Named) (k : Kind) (v : ℕ) (ts ns d : List ℕ) {each known : Bool} {size : ℕ} (few : length ts ≤ fieldsLimit)
+module _ (named : Named) (k : PacketKind) (v : ℕ) (ts ns d : List ℕ) {each known : Bool} {size : ℕ} (few : length ts ≤ fieldsLimit)
     (isEach : each ≡ oneEach ts ns d) (so : not each ≡ false) (isKnown : AllAssigned named k v ts known) (soKnown : not known ≡ false)
     (isSize : PacketSized named k v ts ns size) where
   size-is : length (packetOctets (editionOf named) k v ts ns d) ≡ size
@@ -161,7 +161,7 @@ module _ (named : Named) (k : Kind) (v : ℕ) (ts ns d : List ℕ) {each known :
   passed isRight soRight isFits =
       rw (le-ltb fieldsLimit (length ts) few, ← isEach, so, ← isKnown .so, soKnown, ← isRight .so, soRight, size-is, ← isFits)
 
-module _ {named : Named} {k : Kind} {v : ℕ} {ts ns d : List ℕ} where
+module _ {named : Named} {k : PacketKind} {v : ℕ} {ts ns d : List ℕ} where
   pub measured-many : {x : Refusal} → fieldsLimit < length ts → RefusalMade outsideSizes x → Measured named k v ts ns d (written.Refused x)
   unfolding packetToWrite unless
   measured-many many made = record { answer = rw (lt-ltb fieldsLimit (length ts) many, made .answer) }

@@ -17,7 +17,7 @@ use Rattle.formats.specs.Waiting.{Waiting, waiting, noneWait, Waits, closed}
 use Rattle.formats.proofs.Laws.{none-waits}
 use Rattle.packets.specs.Edition.{many}
 use Rattle.packets.specs.Packet.{every}
-use Rattle.packets.specs.Write.{sum}
+use Rattle.packets.specs.Write.{lengthsSum}
 use Rattle.packet_laws.specs.Laid.{fieldOctets, afterField, fieldsOctets}
 use Rattle.packet_laws.specs.Items.{Wide, EdgeFits, FieldFits, FieldPut, FieldsFit}
 use Rattle.packets.specs.declared.types.Enumerated.{Enumerated}
@@ -41,7 +41,7 @@ fields-next e w ts ns d i h same = ap₂ (λ (a b : List ℕ). fieldsOctets e w 
 pub record Filling (e : Enumerated) (ts ns d old out : List ℕ) (i from at k v : ℕ) : Type 0 where
   pub inside : i ≤ length ts
   pub long : length out ≡ length old
-  pub left : from + sum (drop i ns) ≡ length d
+  pub left : from + lengthsSum (drop i ns) ≡ length d
   pub waits : Waits (waiting k v)
   pub front : List ℕ
   pub put : Put front old out at
@@ -67,7 +67,7 @@ abbrev partOf : List ℕ → ℕ → ℕ → List ℕ
 partOf d from n = take (from + n - from) (drop from d)
 
 record Step (e : Enumerated) (ts ns d old : List ℕ) (front : List ℕ) (i from at k v n : ℕ) : Type 0 where
-  left : from + n + sum (drop (i + 1) ns) ≡ length d
+  left : from + n + lengthsSum (drop (i + 1) ns) ≡ length d
   whole : (front ++ fieldOctets e (waiting k v) (getD ts i 0) (partOf d from n))
       ++ fieldsOctets e (afterField e (waiting k v) (getD ts i 0) (partOf d from n)) (drop (i + 1) ts) (drop (i + 1) ns) (drop (from + n) d)
       ≡ fieldsOctets e noneWait ts ns d

@@ -17,13 +17,13 @@ use Rattle.packet_laws.specs.Laid.{headerOctets, headerLeft, fieldOctets}
 use Rattle.packet_laws.specs.Items.{BitIs, ValueWide, BitsFit, BitsPut, EdgeFits, DataFits, FirstFits, HeaderFits, HeaderPut}
 use Rattle.packet_laws.specs.Items.{FieldFits, FieldPut}
 use Rattle.packets.specs.declared.types.Enumerated.{Enumerated}
-use Rattle.packets.specs.declared.types.Kind.{Kind}
+use Rattle.packets.specs.declared.types.PacketKind.{PacketKind}
 use Rattle.packet_laws.proofs.Laws.{rest, flag-small, value-small, lead-small, lead-waits, flag-waits, header-waits}
 use Rattle.packet_laws.proofs.Laws.{field-bare, after-bare, field-full, after-full}
 use Rattle.packet_writer.proofs.Putting.{bits-few}
 
 -- ---- the first item
-module _ {e : Enumerated} {kind : Kind} {v p q n x : ℕ} {b : Bool} {old : List ℕ}
+module _ {e : Enumerated} {kind : PacketKind} {v p q n x : ℕ} {b : Bool} {old : List ℕ}
     (fits : FirstFits e (record { kind = kind; value = v; present = b }) old) (isBit : BitIs b p) (isKind : BitIs (isData kind) q)
     (isWide : ValueWide e v n) (isBits : x ≡ valueBits e v) where
   lead-is : 2 * p + q ≡ firstLead (record { kind = kind; value = v; present = b })

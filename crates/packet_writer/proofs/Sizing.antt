@@ -15,7 +15,7 @@ use Rattle.packets.specs.Write.{inSizes}
 use Rattle.packet_laws.specs.Laid.{pastFields, valueWidth}
 use Rattle.packet_laws.specs.Items.{ValueWide, PastFits, FieldsPast, PacketSized}
 use Rattle.packets.specs.declared.types.Enumerated.{Enumerated}
-use Rattle.packets.specs.declared.types.Kind.{Kind}
+use Rattle.packets.specs.declared.types.PacketKind.{PacketKind}
 use Rattle.packets.specs.declared.types.Named.{Named}
 use Rattle.packet_writer.proofs.Values.{values-narrow, types-narrow}
 use Rattle.packet_writer.proofs.Measure.{both-left, both-right}
@@ -31,7 +31,7 @@ module _ (ns : List ℕ) (size : ℕ) where
   sizes-is {b} is right = both-right (every (λ n. leb n packetLimit) ns) _ _ (sym is ∙ right) refl
 
 -- ---- from the first item and the place after the fields
-width-is : (named : Named) (k : Kind) (v : ℕ) {e : Enumerated} {w : ℕ} → e ≡ values (editionOf named) k → ValueWide e v w
+width-is : (named : Named) (k : PacketKind) (v : ℕ) {e : Enumerated} {w : ℕ} → e ≡ values (editionOf named) k → ValueWide e v w
     → w ≡ valueWidth (values (editionOf named) k) v
 width-is named k v is wide = wide .same ∙ ap (λ (x : Enumerated). valueWidth x v) is
 
@@ -42,7 +42,7 @@ pub past-fits : (named : Named) {types e : Enumerated} {v w : ℕ} {ts ns : List
 past-fits named is wide few same =
     record { narrow = types-narrow named is; near = omega (arith, wide .few); few = few; same = same }
 
-module _ {named : Named} {k : Kind} {v : ℕ} {ts ns : List ℕ} {e : Enumerated} {w : ℕ} (is : e ≡ values (editionOf named) k)
+module _ {named : Named} {k : PacketKind} {v : ℕ} {ts ns : List ℕ} {e : Enumerated} {w : ℕ} (is : e ≡ values (editionOf named) k)
     (wide : ValueWide e v w) where
   pub size-some : {types : Enumerated} {n : ℕ} → types ≡ editionOf named .types → FieldsPast types (8 * ((2 + w + 7) / 8 + 1)) ts ns n
       → 0 < length ts

@@ -10,13 +10,13 @@ use Rattle.packet_laws.specs.Octets.{Narrow}
 use Rattle.packet_laws.specs.Laid.{valueWidth, valueBits}
 use Rattle.packet_laws.specs.Items.{ValueWide}
 use Rattle.packets.specs.declared.types.Enumerated.{Enumerated}
-use Rattle.packets.specs.declared.types.Kind.{Kind}
+use Rattle.packets.specs.declared.types.PacketKind.{PacketKind}
 use Rattle.packets.specs.declared.types.Named.{Named}
 use Rattle.packet_laws.proofs.Laws as packets
 
 -- ---- what an edition names
 module _ (named : Named) where
-  pub values-narrow : (k : Kind) {e : Enumerated} → e ≡ values (editionOf named) k → Narrow e
+  pub values-narrow : (k : PacketKind) {e : Enumerated} → e ≡ values (editionOf named) k → Narrow e
   values-narrow k is = rw is (packets.narrow named .ofKind k)
 
   pub types-narrow : {e : Enumerated} → e ≡ editionOf named .types → Narrow e

@@ -24,7 +24,7 @@ use Rattle.formats.specs.Waiting.{noneWait}
 use Rattle.packet_laws.specs.Laid.{firstOctets, fieldsOctets, countedFields, laidOctets}
 use Rattle.packet_laws.specs.Items.{FirstFits, FieldsFit, CountedFit, PacketFits, Measured}
 use Rattle.packets.specs.declared.types.Enumerated.{Enumerated}
-use Rattle.packets.specs.declared.types.Kind.{Kind}
+use Rattle.packets.specs.declared.types.PacketKind.{PacketKind}
 use Rattle.packets.specs.declared.types.Named.{Named}
 use Rattle.packets.proofs.Laws.{WriteForm, write-form}
 use Rattle.packet_laws.proofs.Laws.{rest, write-laid, packet-bare, packet-full, narrow}
@@ -83,7 +83,7 @@ module _ {e : Enumerated} {ts ns d old mid : List ℕ} {r : Written} (fits : Cou
 pub ruleset counteds = (count-never, count-inside, count-fits, count-put)
 
 -- ---- the packet
-module _ {named : Named} {k : Kind} {v : ℕ} {ts ns d old : List ℕ} (fits : PacketFits named k v ts ns d old) where
+module _ {named : Named} {k : PacketKind} {v : ℕ} {ts ns d old : List ℕ} (fits : PacketFits named k v ts ns d old) where
   form : WriteForm (editionOf named) k v ts ns d (laidOctets (editionOf named) k v ts ns d)
   form = write-form (editionOf named) k v ts ns d _ (fits .allowed)
 
@@ -154,11 +154,11 @@ pub ruleset packets = (packet-first, packet-only, packet-inside, packet-fits, pa
 
 -- ---- the answers of `write_named`
 -- what is measured is written
-record ToWrite (named : Named) (k : Kind) (v : ℕ) (ts ns d : List ℕ) (n : ℕ) : Type 0 where
+record ToWrite (named : Named) (k : PacketKind) (v : ℕ) (ts ns d : List ℕ) (n : ℕ) : Type 0 where
   allowed : packetToWrite (editionOf named) k v ts ns d ≡ done (laidOctets (editionOf named) k v ts ns d)
   long : length (laidOctets (editionOf named) k v ts ns d) ≡ n
 
-write-is : {named : Named} {k : Kind} {v : ℕ} {ts ns d : List ℕ} {r : Written} {n : ℕ} → Measured named k v ts ns d r
+write-is : {named : Named} {k : PacketKind} {v : ℕ} {ts ns d : List ℕ} {r : Written} {n : ℕ} → Measured named k v ts ns d r
     → r ≡ written.Octets n
     → ToWrite named k v ts ns d n
 write-is {named} {k} {v} {ts} {ns} {d} {r} {n} measured is = by (packetToWrite (editionOf named) k v ts ns d) refl
@@ -170,7 +170,7 @@ write-is {named} {k} {v} {ts} {ns} {d} {r} {n} measured is = by (packetToWrite (
           record { allowed = e ∙ ap (λ (l : List ℕ). done l) is; long = ap length (sym is) ∙ long }
       by (refused x) e size = let z : _≡_ {A = ℕ} 0 1 = cc in absurd (omega arith)
 
-module _ {named : Named} {k : Kind} {v : ℕ} {ts ns d old : List ℕ} {r : Written} where
+module _ {named : Named} {k : PacketKind} {v : ℕ} {ts ns d old : List ℕ} {r : Written} where
   pub write-refused : {x : Refusal} → Measured named k v ts ns d r → r ≡ written.Refused x
       → Puts (packetToWrite (editionOf named) k v ts ns d) old old (written.Refused x)
   write-refused {x} measured is = by (packetToWrite (editionOf named) k v ts ns d) (sym (measured .answer) ∙ ap writtenOutcome is) where

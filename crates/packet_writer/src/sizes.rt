@@ -5,15 +5,15 @@ use lengths::Refusal;
 use lengths::Written;
 use packets::Enumerated;
 use packets::Field;
-use packets::Kind;
 use packets::Named;
+use packets::PacketKind;
 ghost use mathlib.Core.Path.{_≡_};
 ghost use Prim.Native.Nat.{_-_, _^_, _≤_, _<_};
 ghost use lib.ListN.{length};
 ghost use lib.Dec.{leb};
 ghost use Rattle.packets.specs.Edition.{many};
 ghost use Rattle.packets.specs.Packet.{fieldsLimit, every};
-ghost use Rattle.packets.specs.Write.{sum, oneEach, inSizes};
+ghost use Rattle.packets.specs.Write.{lengthsSum, oneEach, inSizes};
 ghost use Rattle.packet_laws.specs.Octets.{Narrow};
 ghost use Rattle.packet_laws.specs.Laid.{valueBits};
 ghost use Rattle.packet_laws.specs.Items.{Wide, ValueWide, TypesRight, PastFits, FieldPast, FieldsPast, AllAssigned, AllRight};
@@ -21,7 +21,7 @@ ghost use Rattle.packet_laws.specs.Items.{PacketSized, Measured};
 ghost use Rattle.datagrams.specs.Sizes.{packetLimit};
 
 // A length as a size.
-pub fn wide(length: u16) -> usize
+pub fn data_size(length: u16) -> usize
     ensures { λ r. ⌜ Wide length r ⌝ }
 {
     length as usize
@@ -30,12 +30,12 @@ pub fn wide(length: u16) -> usize
 // The sum of the lengths of at most 16 fields.
 fn sum_of(lengths: &[u16]) -> usize
     requires { ⌜ length (now lengths) ≤ fieldsLimit ⌝ }
-    ensures { λ r. ⌜ r ≡ sum (now (lengths .entry)) ⌝ }
+    ensures { λ r. ⌜ r ≡ lengthsSum (now (lengths .entry)) ⌝ }
 {
     let mut sum: usize = 0;
     let mut i: usize = 0;
     while i < lengths.len() {
-        let size = wide(lengths[i]);
+        let size = data_size(lengths[i]);
         sum += size;
         i += 1;
     }
@@ -93,7 +93,7 @@ fn past_fields(known: Enumerated, from: usize, types: &[u8], lengths: &[u16]) ->
     let mut place: usize = from;
     let mut i: usize = 0;
     while i < types.len() {
-        let size = wide(lengths[i]);
+        let size = data_size(lengths[i]);
         let next = past_field(known, place, types[i], size);
         place = next;
         i += 1;
@@ -124,7 +124,7 @@ fn all_short(lengths: &[u16]) -> bool
 {
     let mut i: usize = 0;
     while i < lengths.len() {
-        let size = wide(lengths[i]);
+        let size = data_size(lengths[i]);
         if Packet::LIMIT < size {
             return false;
         }
@@ -140,7 +140,7 @@ fn right_types(types: &[u8], lengths: &[u16]) -> bool
 {
     let mut i: usize = 0;
     while i < types.len() {
-        let size = wide(lengths[i]);
+        let size = data_size(lengths[i]);
         let present = 0 < size;
         if !packet_rules::right_data(types[i], present) {
             return false;
@@ -162,7 +162,7 @@ fn one_each(types: &[u8], lengths: &[u16], data: &[u8]) -> bool
 }
 
 // Not 12: the value and each type are assigned.
-fn all_assigned(named: Named, kind: Kind, value: u8, types: &[u8]) -> bool
+fn all_assigned(named: Named, kind: PacketKind, value: u8, types: &[u8]) -> bool
     ensures { λ r. ⌜ AllAssigned named kind value (now (types .entry)) r ⌝ }
 {
     let values = packet_rules::values(named, kind);
@@ -176,7 +176,7 @@ fn all_assigned(named: Named, kind: Kind, value: u8, types: &[u8]) -> bool
 }
 
 // Not 14: data where it must be, and none where none may be.
-fn all_right(named: Named, kind: Kind, types: &[u8], lengths: &[u16]) -> bool
+fn all_right(named: Named, kind: PacketKind, types: &[u8], lengths: &[u16]) -> bool
     requires { ⌜ length (now types) ≡ length (now lengths) ⌝ }
     ensures { λ r. ⌜ AllRight named kind (now (types .entry)) (now (lengths .entry)) r ⌝ }
 {
@@ -198,7 +198,7 @@ fn in_sizes(lengths: &[u16], size: usize) -> bool
 }
 
 // The octets of a packet with at most 16 fields, of these types and lengths.
-fn packet_size(named: Named, kind: Kind, value: u8, types: &[u8], lengths: &[u16]) -> usize
+fn packet_size(named: Named, kind: PacketKind, value: u8, types: &[u8], lengths: &[u16]) -> usize
     requires { ⌜ (length (now types) ≤ fieldsLimit) × (length (now types) ≡ length (now lengths)) ⌝ }
     ensures { λ r. ⌜ PacketSized named kind value (now (types .entry)) (now (lengths .entry)) r ⌝ }
 {
@@ -217,7 +217,7 @@ fn packet_size(named: Named, kind: Kind, value: u8, types: &[u8], lengths: &[u16
 // How many octets a packet has, or why it is refused, but for room.
 pub fn measure(
     named: Named,
-    kind: Kind,
+    kind: PacketKind,
     value: u8,
     types: &[u8],
     lengths: &[u16],

@@ -4,16 +4,16 @@ use crate::bits::Filled;
 use crate::bits::bit;
 use crate::bits::put_bits;
 use crate::bits::put_edge;
+use crate::sizes::data_size;
 use crate::sizes::measure;
 use crate::sizes::value_bits;
 use crate::sizes::value_width;
-use crate::sizes::wide;
 use lengths::Refusal;
 use lengths::Written;
 use packets::Choice;
 use packets::Enumerated;
-use packets::Kind;
 use packets::Named;
+use packets::PacketKind;
 ghost use mathlib.Core.List.{_++_};
 ghost use lib.ListN.{length};
 ghost use Rattle.lengths.specs.Promise.{Puts, Put};
@@ -108,7 +108,7 @@ fn put_fields(
     let mut width: usize = 0;
     let mut value: usize = 0;
     while i < types.len() {
-        let size = wide(lengths[i]);
+        let size = data_size(lengths[i]);
         let to = from + size;
         let field = put_field(
             known,
@@ -150,17 +150,17 @@ fn put_counted(
 }
 
 // The bit for indicator or data.
-fn kind_bit(kind: Kind) -> usize
+fn kind_bit(kind: PacketKind) -> usize
     ensures { λ r. ⌜ BitIs (isData kind) r ⌝ }
 {
     match kind {
-        Kind::Indicator => 0,
-        Kind::Data => 1,
+        PacketKind::Indicator => 0,
+        PacketKind::Data => 1,
     }
 }
 
 // The first item at the front of out, and how many octets it took: fields present, indicator or data, the value, and an octet edge.
-fn put_first(known: Enumerated, kind: Kind, value: u8, present: bool, out: &mut [u8]) -> usize
+fn put_first(known: Enumerated, kind: PacketKind, value: u8, present: bool, out: &mut [u8]) -> usize
     requires { ⌜ FirstFits known (record { kind = kind; value = value; present = present }) (now out) ⌝ }
     ensures { λ r. ⌜ Put (firstOctets known (record { kind = kind; value = value; present = present })) (now (out .entry))
         (now (out .exit)) r ⌝ }
@@ -177,7 +177,7 @@ fn put_first(known: Enumerated, kind: Kind, value: u8, present: bool, out: &mut 
 // A packet at the front of out, and how many octets it took.
 fn put_packet(
     named: Named,
-    kind: Kind,
+    kind: PacketKind,
     value: u8,
     types: &[u8],
     lengths: &[u16],
@@ -202,7 +202,7 @@ fn put_packet(
 // A packet of an edition, written to the front of out. A refusal writes nothing.
 fn write_named(
     named: Named,
-    kind: Kind,
+    kind: PacketKind,
     value: u8,
     types: &[u8],
     lengths: &[u16],
@@ -227,7 +227,7 @@ fn write_named(
 // And by the edition that the caller names: "15 for another edition, first".
 pub fn write(
     edition: u8,
-    kind: Kind,
+    kind: PacketKind,
     value: u8,
     types: &[u8],
     lengths: &[u16],

@@ -16,7 +16,7 @@ use Rattle.formats.specs.Reading as reading
 use Rattle.formats.specs.Format.{Format, flag, bits, align, guarded, demand, known, item, lengthFound, _⊳_, sequenceOf}
 use Rattle.formats.proofs.Laws.{stepped, from-found, then-found, made-found}
 use Rattle.packets.specs.Edition.{Enumerated, addedWidth, Edition, values, edition98, edition02}
-use Rattle.packets.specs.Packet.{assigned, root, addition, enumerated, First, chosen, typeOfMsg, rightFields, start, count}
+use Rattle.packets.specs.Packet.{manyValues, root, addition, enumerated, First, chosen, typeOfMsg, rightFields, start, count}
 use Rattle.packets.specs.Packet.{fieldsLeast}
 use Rattle.packets.specs.Packet.{fieldsLimit, Content, field, dataField, IfpPacket, packet, fieldOf, PacketAnswer, readPacket}
 use Rattle.packets.specs.Claims.{PlainAlike}
@@ -26,7 +26,7 @@ use Rattle.packets.proofs.Inside.{packet-read, packet-reads}
 -- ---- a value before the extension mark
 -- an ENUMERATED type of packets, by how many values stand before the mark and how many were added
 abbrev with : ℕ → ℕ → Enumerated
-with assigned added = record { extensible = true; width = 4; assigned = assigned; added = added }
+with manyValues added = record { extensible = true; width = 4; assigned = manyValues; added = added }
 
 module _ (a n m : ℕ) (s : List ℕ) (i v q : ℕ) (low : v < a) where
   root-alike : (more : Bool) (p : ℕ) → (cond more (addition (with a n)) (root (with a n))) .read s i p ≡ found v q
@@ -53,13 +53,13 @@ module _ (a n m : ℕ) (s : List ℕ) (i v q : ℕ) (low : v < a) where
 -- ---- the first item
 -- what the one edition reads the other reads too
 record Reads (d e : Edition) : Type 0 where
-  values : (c : Bool) (s : List ℕ) (i p v q : ℕ) → v < assigned edition98 (chosen c)
+  values : (c : Bool) (s : List ℕ) (i p v q : ℕ) → v < manyValues edition98 (chosen c)
       → enumerated (values d (chosen c)) .read s i p ≡ found v q
       → enumerated (values e (chosen c)) .read s i p ≡ found v q
 
 old-new : Reads edition98 edition02
 old-new = record { values = by } where
-  by : (c : Bool) (s : List ℕ) (i p v q : ℕ) → v < assigned edition98 (chosen c)
+  by : (c : Bool) (s : List ℕ) (i p v q : ℕ) → v < manyValues edition98 (chosen c)
       → enumerated (values edition98 (chosen c)) .read s i p ≡ found v q
       → enumerated (values edition02 (chosen c)) .read s i p ≡ found v q
   by true s i p v q low e = value-alike 9 0 6 s i v q (omega arith) p e
@@ -67,14 +67,14 @@ old-new = record { values = by } where
 
 new-old : Reads edition02 edition98
 new-old = record { values = by } where
-  by : (c : Bool) (s : List ℕ) (i p v q : ℕ) → v < assigned edition98 (chosen c)
+  by : (c : Bool) (s : List ℕ) (i p v q : ℕ) → v < manyValues edition98 (chosen c)
       → enumerated (values edition02 (chosen c)) .read s i p ≡ found v q
       → enumerated (values edition98 (chosen c)) .read s i p ≡ found v q
   by true s i p v q low e = value-alike 9 6 0 s i v q (omega arith) p e
   by false s i p v q low e = value-alike 16 7 0 s i v q (omega arith) p e
 
 module _ (d e : Edition) (reads : Reads d e) (s : List ℕ) where
-  type-alike : (i p : ℕ) (f : First) (q : ℕ) → f .value < assigned edition98 (f .kind) → typeOfMsg d .read s i p ≡ found f q
+  type-alike : (i p : ℕ) (f : First) (q : ℕ) → f .value < manyValues edition98 (f .kind) → typeOfMsg d .read s i p ≡ found f q
       → typeOfMsg e .read s i p ≡ found f q
   unfolding typeOfMsg
   type-alike i p f q low was =
@@ -84,11 +84,11 @@ module _ (d e : Edition) (reads : Reads d e) (s : List ℕ) where
       let m = made-found to (flag ⊳ choice) s i p f q was in
       let t = then-found flag choice s i p (m .part) q (m .was) in
       let u = then-found flag value s i (t .middle) (m .part .1) q (t .second) in
-      let small = subst (λ (g : First). g .value < assigned edition98 (g .kind)) (sym (m .is)) low in
+      let small = subst (λ (g : First). g .value < manyValues edition98 (g .kind)) (sym (m .is)) low in
       let read = reads .values (m .part .1 .0) s i (u .middle) (m .part .1 .1) q small (u .second) in
       rw (t .first, u .first, read) (ap (λ (g : First). found g q) (m .is))
 
-  start-alike : (i : ℕ) (f : First) (q : ℕ) → f .value < assigned edition98 (f .kind) → start d .read s i 0 ≡ found f q
+  start-alike : (i : ℕ) (f : First) (q : ℕ) → f .value < manyValues edition98 (f .kind) → start d .read s i 0 ≡ found f q
       → start e .read s i 0 ≡ found f q
   unfolding start
   start-alike i f q low was =
@@ -97,7 +97,7 @@ module _ (d e : Edition) (reads : Reads d e) (s : List ℕ) where
       let m = made-found {A = First × (Unit {0} × Unit {0})} (λ x. x .0) (item (typeOfMsg d ⊳ rest)) s i 0 f q was in
       let t = then-found (typeOfMsg d) rest s 0 0 (m .part) q (m .was) in
       let u = then-found align (λ _. right (m .part .0)) s 0 (t .middle) (m .part .1) q (t .second) in
-      let small = subst (λ (g : First). g .value < assigned edition98 (g .kind)) (sym (m .is)) low in
+      let small = subst (λ (g : First). g .value < manyValues edition98 (g .kind)) (sym (m .is)) low in
       let read = type-alike 0 0 (m .part .0) (t .middle) small (t .first) in
       rw (read, u .first, u .second) (ap (λ (g : First). found g q) (m .is))
 
@@ -136,7 +136,7 @@ fields-some edition s i p q e =
 
 -- ---- the packet
 module _ (d e : Edition) (reads : Reads d e) (s : List ℕ) where
-  packet-alike : (x : IfpPacket) (q : ℕ) → x .contents ≡ [] → x .value < assigned edition98 (x .kind) → packet d .read s 0 0 ≡ found x q
+  packet-alike : (x : IfpPacket) (q : ℕ) → x .contents ≡ [] → x .value < manyValues edition98 (x .kind) → packet d .read s 0 0 ≡ found x q
       → packet e .read s 0 0 ≡ found x q
   unfolding packet
   packet-alike x q none low was =
@@ -148,7 +148,7 @@ module _ (d e : Edition) (reads : Reads d e) (s : List ℕ) where
       let f = m .part .0 in
       let u = then-found (cond (f .present) (dataField d) (known [])) (λ _. align) s 0 (t .middle) (m .part .1) q (t .second) in
       let empty : m .part .1 .0 ≡ [] = ap (λ (y : IfpPacket). y .contents) (m .is) ∙ none in
-      let small = subst (λ (y : IfpPacket). y .value < assigned edition98 (y .kind)) (sym (m .is)) low in
+      let small = subst (λ (y : IfpPacket). y .value < manyValues edition98 (y .kind)) (sym (m .is)) low in
       let begins = start-alike d e reads s 0 f (t .middle) small (t .first) in
       let after = by (f .present) (t .middle) (m .part .1 .0) (u .middle) empty (u .first) in
       rw (begins, after, u .second) (ap (λ (y : IfpPacket). found y q) (m .is)) where
@@ -157,13 +157,13 @@ module _ (d e : Edition) (reads : Reads d e) (s : List ℕ) where
         by true k cs r is e = absurd (fields-some d s 0 k r (e ∙ ap (λ (l : List Content). found l r) is))
         by false k cs r is e = e
 
-  plain-one : (ending : Ending) (p : PacketAnswer) → p .fields ≡ [] → p .value < assigned edition98 (p .kind)
+  plain-one : (ending : Ending) (p : PacketAnswer) → p .fields ≡ [] → p .value < manyValues edition98 (p .kind)
       → readPacket d ending s ≡ done p
       → readPacket e ending s ≡ done p
   plain-one ending p none low was =
       let r = packet-read d s ending p was in
       let empty = no-contents (r .content .contents) (sym (ap (λ (a : PacketAnswer). a .fields) (r .is)) ∙ none) in
-      let small = subst (λ (a : PacketAnswer). a .value < assigned edition98 (a .kind)) (r .is) low in
+      let small = subst (λ (a : PacketAnswer). a .value < manyValues edition98 (a .kind)) (r .is) low in
       packet-reads e s ending (r .content) (r .end) (r .fits) (packet-alike (r .content) (r .end) empty small (r .reads)) (r .follows)
       ∙ ap (λ (a : PacketAnswer). done a) (sym (r .is)) where
         no-contents : (cs : List Content) → map fieldOf cs ≡ [] → cs ≡ []

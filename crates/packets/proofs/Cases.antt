@@ -24,7 +24,7 @@ read-cases =
       value-first = refl;
       bit-first = refl;
       count-0 = refl;
-      count-17 = refl;
+      count-over = refl;
       count-form = refl;
       data-first = refl;
       header-bit = refl;
@@ -56,14 +56,14 @@ unfolding packetToWrite packetOctets contentsOf packet start typeOfMsg enumerate
     spelt whole wide packed sequenceSpelt total oneEach allAssigned rightTypes allRight inSizes every unless lengthOctets
 write-cases =
     record {
-      types-17 = refl;
-      lengths-17 = refl;
+      types-over = refl;
+      lengths-over = refl;
       types-first = refl;
       settings-before-12 = refl;
       value-before-14 = refl;
       data-before-4 = refl;
       true-sum = refl;
-      type-8 = refl;
+      type-over = refl;
       indicator-field = refl;
       whole-over = refl;
       mended = refl;

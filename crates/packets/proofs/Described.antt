@@ -109,22 +109,22 @@ module _ (edition : Edition) where
   unfolding header
   lawful-header =
       lawful-guarded wrongData _
-      (lawful-made (λ x. record { kind = x .1; present = x .0 }) (λ h. (h .present, h .kind)) (λ x p fits. refl)
+      (lawful-made (λ x. record { type = x .1; present = x .0 }) (λ h. (h .present, h .type)) (λ x p fits. refl)
       (lawful-then _ lawful-flag (λ _. lawful-enumerated (edition .types))))
 
   pub lawful-field : Lawful (field edition)
   unfolding field
   lawful-field =
-      lawful-made (λ x. record { kind = x .0 .kind; start = x .1 .0; octets = x .1 .1 })
-      (λ c. (record { kind = c .kind; present = ltb 0 (length (c .octets)) }, (c .start, c .octets)))
-      (λ x p fits. back (x .0 .present) (x .0 .kind) (x .1) _ (fits .1))
+      lawful-made (λ x. record { type = x .0 .type; start = x .1 .0; octets = x .1 .1 })
+      (λ c. (record { type = c .type; present = ltb 0 (length (c .octets)) }, (c .start, c .octets)))
+      (λ x p fits. back (x .0 .present) (x .0 .type) (x .1) _ (fits .1))
       (lawful-then _ (lawful-item lawful-header) (λ h. lawful-either (h .present) lawful-field-data (lawful-known (0, [])))) where
         back : (present : Bool) (kind : ℕ) (part : ℕ × List ℕ) (p : ℕ) → (cond present fieldData (known (0, []))) .fits part p
-            → _≡_ {A = Header × (ℕ × List ℕ)} (record { kind = kind; present = ltb 0 (length (part .1)) }, part)
-            (record { kind = kind; present = present }, part)
-        back true kind part p fits = ap (λ (b : Bool). (record { kind = kind; present = b }, part)) (lt-ltb 0 _ (data-some part p fits))
+            → _≡_ {A = Header × (ℕ × List ℕ)} (record { type = kind; present = ltb 0 (length (part .1)) }, part)
+            (record { type = kind; present = present }, part)
+        back true kind part p fits = ap (λ (b : Bool). (record { type = kind; present = b }, part)) (lt-ltb 0 _ (data-some part p fits))
         back false kind part p fits =
-            ap (λ (b : Bool). (record { kind = kind; present = b }, part)) (ap (λ (x : ℕ × List ℕ). ltb 0 (length (x .1))) fits)
+            ap (λ (b : Bool). (record { type = kind; present = b }, part)) (ap (λ (x : ℕ × List ℕ). ltb 0 (length (x .1))) fits)
 
   -- ---- the packet
   lawful-data-field : Lawful (dataField edition)

@@ -13,12 +13,12 @@ use Rattle.formats.specs.Places.{edge}
 use Rattle.formats.specs.Format.{flag, known, sequenceFits}
 use Rattle.formats.proofs.Laws.{wide-append, wide-whole, wide-spelt, gap-past}
 use Rattle.datagrams.specs.Sizes.{packetLimit}
-use Rattle.packets.specs.Edition.{Enumerated, many, Sound, Edition, SoundEdition, values, edition98, edition02}
-use Rattle.packets.specs.Packet.{assigned, typesLimit, fieldsLimit, rightFields, rightData, every, root, addition, enumerated}
+use Rattle.packets.specs.Edition.{Enumerated, many, SoundEnumerated, Edition, SoundEdition, values, edition98, edition02}
+use Rattle.packets.specs.Packet.{manyValues, typesLimit, fieldsLimit, rightFields, rightData, every, root, addition, enumerated}
 use Rattle.packets.specs.Packet.{typeOfMsg, start, count, header, size, Content, fieldData, field, dataField, packet}
 use Rattle.packets.specs.Write.{withData, rightTypes}
-use Rattle.packets.specs.declared.types.Kind.{Kind}
-use Rattle.packets.specs.declared.types.Kind.the-variants.{Indicator, Data}
+use Rattle.packets.specs.declared.types.PacketKind.{PacketKind}
+use Rattle.packets.specs.declared.types.PacketKind.the-variants.{Indicator, Data}
 
 -- ---- a value of an ENUMERATED type
 mark-fits : (m b : Bool) (p : ℕ) → (b ≡ true → m ≡ true) → (cond m flag (known false)) .fits b p
@@ -26,7 +26,7 @@ mark-fits true b p h = tt
 mark-fits false true p h = sym (h refl)
 mark-fits false false p h = refl
 
-module _ (e : Enumerated) (v : ℕ) (sound : Sound e) (right : v < many e) where
+module _ (e : Enumerated) (v : ℕ) (sound : SoundEnumerated e) (right : v < many e) where
   value-fits : (b : Bool) → leb (e .assigned) v ≡ b → (q : ℕ) → (cond b (addition e) (root e)) .fits v q
   unfolding addition root
   value-fits true h q =
@@ -53,19 +53,19 @@ module _ (e : Enumerated) (v : ℕ) (sound : Sound e) (right : v < many e) where
 -- both editions' values can be told apart
 pub sound98 : SoundEdition edition98
 sound98 = record { ofKind = by; ofTypes = types } where
-  types : Sound (edition98 .types)
+  types : SoundEnumerated (edition98 .types)
   types = record { some = omega arith; wide = omega arith; few = omega arith; marked = λ h. absurd (omega arith) }
 
-  by : (k : Kind) → Sound (values edition98 k)
+  by : (k : PacketKind) → SoundEnumerated (values edition98 k)
   by Indicator = record { some = omega arith; wide = omega arith; few = omega arith; marked = λ h. refl }
   by Data = record { some = omega arith; wide = omega arith; few = omega arith; marked = λ h. refl }
 
 pub sound02 : SoundEdition edition02
 sound02 = record { ofKind = by; ofTypes = types } where
-  types : Sound (edition02 .types)
+  types : SoundEnumerated (edition02 .types)
   types = record { some = omega arith; wide = omega arith; few = omega arith; marked = λ h. refl }
 
-  by : (k : Kind) → Sound (values edition02 k)
+  by : (k : PacketKind) → SoundEnumerated (values edition02 k)
   by Indicator = record { some = omega arith; wide = omega arith; few = omega arith; marked = λ h. refl }
   by Data = record { some = omega arith; wide = omega arith; few = omega arith; marked = λ h. refl }
 
@@ -103,12 +103,12 @@ fieldsFrom n p = wide (count .spelling n p) + p
 module _ (edition : Edition) where
   -- the place after a header at a place
   abbrev pub pastHeader : ℕ → Bool → ℕ → ℕ
-  pastHeader kind present p = wide (header edition .spelling (record { kind = kind; present = present }) p) + p
+  pastHeader kind present p = wide (header edition .spelling (record { type = kind; present = present }) p) + p
 
   -- the field whose header begins at p, with its data where it comes to stand
   abbrev pub placedAt : ℕ → List ℕ → ℕ → Content
   placedAt kind octets p = record {
-    kind = kind;
+    type = kind;
     start = cond (withData (length octets)) (edge (pastHeader kind (withData (length octets)) p) + 2) 0;
     octets = octets;
   }
@@ -132,7 +132,7 @@ module _ (edition : Edition) where
   placed-none (t ∷ ts) ns d p e = absurd (omega (arith, ltb-false 0 (length (t ∷ ts)) e))
 
   -- where the first field of so many begins: after the first item and the count
-  abbrev pub firstField : Kind → ℕ → ℕ → ℕ
+  abbrev pub firstField : PacketKind → ℕ → ℕ → ℕ
   firstField kind value n =
       fieldsFrom n (wide (start edition .spelling (record { kind = kind; value = value; present = ltb 0 n }) 0) + 0)
 
@@ -169,7 +169,7 @@ module _ (edition : Edition) where
         )
 
     -- ---- the packet
-    first-fits : (k : Kind) (v : ℕ) (b : Bool) → v < assigned edition k
+    first-fits : (k : PacketKind) (v : ℕ) (b : Bool) → v < manyValues edition k
         → typeOfMsg edition .fits (record { kind = k; value = v; present = b }) 0
     unfolding typeOfMsg
     first-fits Indicator v b known' =
@@ -197,7 +197,7 @@ module _ (edition : Edition) where
       after-fits false p e few cut types short right = placed-none ts ns d (fieldsFrom (length ts) p) e
 
       -- what passes the writer's tests fits: its fields are placed behind the first item
-      pub packet-fits : (k : Kind) (v : ℕ) → v < assigned edition k → length ts ≤ fieldsLimit → Cut ns d
+      pub packet-fits : (k : PacketKind) (v : ℕ) → v < manyValues edition k → length ts ≤ fieldsLimit → Cut ns d
           → every (λ t. leb t (typesLimit edition)) ts ≡ true → every (λ n. leb n packetLimit) ns ≡ true
           → rightTypes edition ts ns ≡ true → rightFields k (ltb 0 (length ts)) ≡ true
           → packet edition .fits (record { kind = k; value = v; contents = placed ts ns d (firstField k v (length ts)) }) 0

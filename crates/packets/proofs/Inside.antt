@@ -134,7 +134,7 @@ module _ (edition : Edition) (s : List ℕ) where
   field-in : (i p : ℕ) (c : Content) (q : ℕ) → p ≤ 8 * length s → field edition .read s i p ≡ found c q → DataIn s (c .start) (c .octets)
   unfolding field
   field-in i p c q from e =
-      let to : Header × (ℕ × List ℕ) → Content = λ x. record { kind = x .0 .kind; start = x .1 .0; octets = x .1 .1 } in
+      let to : Header × (ℕ × List ℕ) → Content = λ x. record { type = x .0 .type; start = x .1 .0; octets = x .1 .1 } in
       let rest : Header → Format (ℕ × List ℕ) = λ h. cond (h .present) fieldData (known (0, [])) in
       let m = made-found to (item (header edition) ⊳ rest) s i p c q e in
       let t = then-found (item (header edition)) rest s i p (m .part) q (m .was) in

@@ -18,13 +18,13 @@ use Rattle.formats.specs.Format.{known, sequenceFits}
 use Rattle.formats.proofs.Laws.{found-written}
 use Rattle.datagrams.specs.Sizes.{packetLimit}
 use Rattle.packets.specs.Edition.{Enumerated, many, Edition, values}
-use Rattle.packets.specs.Packet.{assigned, typesLimit, fieldsLimit, rightFields, rightData, every, enumerated, root, addition}
+use Rattle.packets.specs.Packet.{manyValues, typesLimit, fieldsLimit, rightFields, rightData, every, enumerated, root, addition}
 use Rattle.packets.specs.Packet.{First, chosen, isData, typeOfMsg, start, count, header, size, Content, fieldData, field}
 use Rattle.packets.specs.Packet.{dataField, IfpPacket, packet, fieldOf, PacketAnswer, readPacket, allData}
-use Rattle.packets.specs.Write.{withData, contentsOf, packetOctets, sum, total, rightTypes, packetToWrite}
+use Rattle.packets.specs.Write.{withData, contentsOf, packetOctets, lengthsSum, total, rightTypes, packetToWrite}
 use Rattle.packets.specs.Claims.{ReadWrites}
-use Rattle.packets.specs.declared.types.Kind.{Kind}
-use Rattle.packets.specs.declared.types.Kind.the-variants.{Indicator, Data}
+use Rattle.packets.specs.declared.types.PacketKind.{PacketKind}
+use Rattle.packets.specs.declared.types.PacketKind.the-variants.{Indicator, Data}
 use Rattle.packets.specs.declared.types.Ending.the-variants.{Whole}
 use Rattle.packets.proofs.Described.{lawful-packet}
 use Rattle.packets.proofs.Written.{write-of}
@@ -53,15 +53,15 @@ rest-short false start l p fits = omega (arith, ap (λ (x : ℕ × List ℕ). le
 
 module _ (edition : Edition) where
   record FieldRight (c : Content) : Type 0 where
-    type : c .kind ≤ typesLimit edition
-    right : rightData edition (c .kind) (withData (length (c .octets))) ≡ true
+    type : c .type ≤ typesLimit edition
+    right : rightData edition (c .type) (withData (length (c .octets))) ≡ true
     short : length (c .octets) ≤ packetLimit
 
   field-right : (c : Content) (p : ℕ) → field edition .fits c p → FieldRight c
   unfolding field header
   field-right c p fits =
       record {
-        type = omega (arith, value-known (edition .types) (c .kind) _ (fits .0 .0 .0 .0 .1));
+        type = omega (arith, value-known (edition .types) (c .type) _ (fits .0 .0 .0 .0 .1));
         right = fits .0 .0 .1;
         short = rest-short (ltb 0 (length (c .octets))) (c .start) (c .octets) _ (fits .0 .1);
       }
@@ -70,7 +70,7 @@ module _ (edition : Edition) where
     types : every (λ t. leb t (typesLimit edition)) (kinds cs) ≡ true
     short : every (λ n. leb n packetLimit) (sizes cs) ≡ true
     right : rightTypes edition (kinds cs) (sizes cs) ≡ true
-    all : sum (sizes cs) ≡ length (allOctets cs)
+    all : lengthsSum (sizes cs) ≡ length (allOctets cs)
     contents : contentsOf (kinds cs) (sizes cs) (allOctets cs) ≡ map bare cs
 
   fields-right : (cs : List Content) (p : ℕ) → sequenceFits (field edition) cs p → FieldsRight cs
@@ -81,27 +81,27 @@ module _ (edition : Edition) where
       let rest = fields-right cs _ (fits .1) in
       let l = c .octets in
       record {
-        types = rw (le-leb (c .kind) (typesLimit edition) (one .type)) (rest .types);
+        types = rw (le-leb (c .type) (typesLimit edition) (one .type)) (rest .types);
         short = rw (le-leb (length l) packetLimit (one .short)) (rest .short);
         right = rw (one .right) (rest .right);
         all = omega (arith, rest .all, length-append l (allOctets cs));
         contents =
             rw (take-at l (allOctets cs) (length l) refl, drop-at l (allOctets cs) (length l) refl)
-            (ap (λ (m : List Content). record { kind = c .kind; start = 0; octets = l } ∷ m) (rest .contents));
+            (ap (λ (m : List Content). record { type = c .type; start = 0; octets = l } ∷ m) (rest .contents));
       }
 
   -- ---- the packet
   record PacketRight (x : IfpPacket) : Type 0 where
-    known : x .value < assigned edition (x .kind)
+    known : x .value < manyValues edition (x .kind)
     few : length (x .contents) ≤ fieldsLimit
     fields : rightFields (x .kind) (ltb 0 (length (x .contents))) ≡ true
     right : FieldsRight (x .contents)
 
-  first-known : (f : First) → typeOfMsg edition .fits f 0 → f .value < assigned edition (f .kind)
+  first-known : (f : First) → typeOfMsg edition .fits f 0 → f .value < manyValues edition (f .kind)
   unfolding typeOfMsg wide
   first-known f fits = by (f .kind) refl (fits .0 .1 .1) where
-    by : (k : Kind) → f .kind ≡ k → enumerated (values edition (chosen (isData k))) .fits (f .value) 2
-        → f .value < assigned edition (f .kind)
+    by : (k : PacketKind) → f .kind ≡ k → enumerated (values edition (chosen (isData k))) .fits (f .value) 2
+        → f .value < manyValues edition (f .kind)
     by Indicator is e = rw is (value-known (values edition Indicator) (f .value) 2 e)
     by Data is e = rw is (value-known (values edition Data) (f .value) 2 e)
 

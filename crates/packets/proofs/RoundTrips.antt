@@ -16,9 +16,9 @@ use Rattle.datagrams.specs.Sizes.{packetLimit}
 use Rattle.packets.specs.Edition.{Edition, SoundEdition}
 use Rattle.packets.specs.Packet.{every, Content, start, count, header, fieldData, field, dataField, IfpPacket, packet}
 use Rattle.packets.specs.Packet.{wholePacket, mayFollow, fieldOf, readPacket}
-use Rattle.packets.specs.Write.{contentsOf, packetOctets, sum, total}
-use Rattle.packets.specs.Claims.{ReadsAs, WrittenReads, RepairedReads}
-use Rattle.packets.specs.declared.types.Kind.{Kind}
+use Rattle.packets.specs.Write.{contentsOf, packetOctets, lengthsSum, total}
+use Rattle.packets.specs.Claims.{PacketReadsAs, WrittenReads, RepairedReads}
+use Rattle.packets.specs.declared.types.PacketKind.{PacketKind}
 use Rattle.packets.specs.declared.types.Ending.{Ending}
 use Rattle.packets.specs.declared.types.Ending.the-variants.{Whole, Repaired}
 use Rattle.packets.proofs.Described.{lawful-packet}
@@ -38,20 +38,20 @@ packet-edge edition x =
 
 -- a field without the place of its data
 abbrev pub bare : Content → Content
-bare c = record { kind = c .kind; start = 0; octets = c .octets }
+bare c = record { type = c .type; start = 0; octets = c .octets }
 
 module _ (edition : Edition) where
   -- where the data begins is not spelt
   field-same : (c : Content) (start p : ℕ) → field edition .spelling c p
-      ≡ field edition .spelling (record { kind = c .kind; start = start; octets = c .octets }) p
+      ≡ field edition .spelling (record { type = c .type; start = start; octets = c .octets }) p
   unfolding field fieldData
   field-same c start p = by (ltb 0 (length (c .octets))) where
-    by : (b : Bool) → header edition .spelling (record { kind = c .kind; present = b }) p
+    by : (b : Bool) → header edition .spelling (record { type = c .type; present = b }) p
         ++ (cond b fieldData (known (0, []))) .spelling (c .start, c .octets)
-        (wide (header edition .spelling (record { kind = c .kind; present = b }) p) + p)
-        ≡ header edition .spelling (record { kind = c .kind; present = b }) p
+        (wide (header edition .spelling (record { type = c .type; present = b }) p) + p)
+        ≡ header edition .spelling (record { type = c .type; present = b }) p
         ++ (cond b fieldData (known (0, []))) .spelling (start, c .octets)
-        (wide (header edition .spelling (record { kind = c .kind; present = b }) p) + p)
+        (wide (header edition .spelling (record { type = c .type; present = b }) p) + p)
     by true = refl
     by false = refl
 
@@ -63,7 +63,7 @@ module _ (edition : Edition) where
       ap (λ (l : List Letter). letters ++ l) (sequence-bare cs (wide letters + p))
       ∙ ap (λ (l : List Letter). l ++ sequenceSpelt (field edition) (map bare cs) (wide l + p)) (field-same c 0 p)
 
-  pub packet-bare : (k : Kind) (v : ℕ) (cs : List Content)
+  pub packet-bare : (k : PacketKind) (v : ℕ) (cs : List Content)
       → packet edition .spelling (record { kind = k; value = v; contents = cs }) 0
       ≡ packet edition .spelling (record { kind = k; value = v; contents = map bare cs }) 0
   unfolding packet dataField
@@ -79,7 +79,7 @@ module _ (edition : Edition) where
         by false p = refl
 
 -- ---- what is written
-cut-of : (ns d : List ℕ) → sum ns ≡ length d → Cut ns d
+cut-of : (ns d : List ℕ) → lengthsSum ns ≡ length d → Cut ns d
 unfolding Cut total
 cut-of [] d all = tt
 cut-of (n ∷ ns) d all = (length-take-le n d (omega arith), cut-of ns (drop n d) (omega (arith, length-drop n d)))
@@ -100,7 +100,7 @@ empty : (d : List ℕ) → 0 ≡ length d → [] ≡ d
 empty [] e = refl
 empty (x ∷ d) e = absurd (omega arith)
 
-placed-same : (edition : Edition) (ts ns d : List ℕ) (p : ℕ) → length ts ≡ length ns → sum ns ≡ length d
+placed-same : (edition : Edition) (ts ns d : List ℕ) (p : ℕ) → length ts ≡ length ns → lengthsSum ns ≡ length d
     → Same ts ns d (placed edition ts ns d p)
 unfolding placed contentsOf total allOctets
 placed-same edition [] [] d p same all = record { types = refl; lengths = refl; octets = empty d all; contents = refl }
@@ -114,12 +114,12 @@ placed-same edition (t ∷ ts) (n ∷ ns) d p same all =
       types = ap (λ (l : List ℕ). t ∷ l) (rest .types);
       lengths = ap₂ (λ (a : ℕ) (l : List ℕ). a ∷ l) (length-take-le n d (omega arith)) (rest .lengths);
       octets = ap (λ (l : List ℕ). take n d ++ l) (rest .octets) ∙ take-append-drop n d;
-      contents = ap (λ (l : List Content). record { kind = t; start = 0; octets = take n d } ∷ l) (rest .contents);
+      contents = ap (λ (l : List Content). record { type = t; start = 0; octets = take n d } ∷ l) (rest .contents);
     }
 
 module _ (edition : Edition) (sound : SoundEdition edition) where
-  packet-back : (e : Ending) (k : Kind) (v : ℕ) (ts ns d w more : List ℕ) → WriteForm edition k v ts ns d w → mayFollow e more ≡ true
-      → length (w ++ more) ≤ packetLimit → ReadsAs edition e (w ++ more) k v ts ns d
+  packet-back : (e : Ending) (k : PacketKind) (v : ℕ) (ts ns d w more : List ℕ) → WriteForm edition k v ts ns d w → mayFollow e more ≡ true
+      → length (w ++ more) ≤ packetLimit → PacketReadsAs edition e (w ++ more) k v ts ns d
   unfolding readPacket wholePacket packetOctets
   packet-back e k v ts ns d w more form follows room =
       let from = firstField edition k v (length ts) in

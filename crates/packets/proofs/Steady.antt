@@ -67,14 +67,14 @@ module _ (edition : Edition) where
   unfolding header
   steady-header =
       steady-guarded wrongData _
-      (steady-made (λ x. record { kind = x .1; present = x .0 }) (λ h. (h .present, h .kind))
+      (steady-made (λ x. record { type = x .1; present = x .0 }) (λ h. (h .present, h .type))
       (steady-then _ steady-flag (λ _. steady-enumerated (edition .types))))
 
   pub steady-field : Steady (field edition)
   unfolding field
   steady-field =
-      steady-made (λ x. record { kind = x .0 .kind; start = x .1 .0; octets = x .1 .1 })
-      (λ c. (record { kind = c .kind; present = ltb 0 (length (c .octets)) }, (c .start, c .octets)))
+      steady-made (λ x. record { type = x .0 .type; start = x .1 .0; octets = x .1 .1 })
+      (λ c. (record { type = c .type; present = ltb 0 (length (c .octets)) }, (c .start, c .octets)))
       (steady-then _ (steady-item steady-header) (λ h. steady-either (h .present) steady-field-data (steady-known _)))
 
   pub steady-fields : (present : Bool) → Steady (cond present (dataField edition) (known []))

@@ -12,26 +12,26 @@ use Rattle.lengths.specs.Tables.{unless}
 use Rattle.lengths.proofs.Laws.{both, unless-past, unless-done}
 use Rattle.datagrams.specs.Sizes.{packetLimit}
 use Rattle.packets.specs.Edition.{Edition}
-use Rattle.packets.specs.Packet.{fieldsLimit, typesLimit, assigned, rightFields, every}
-use Rattle.packets.specs.Write.{packetOctets, sum, oneEach, allAssigned, rightTypes, allRight, inSizes, packetToWrite}
-use Rattle.packets.specs.declared.types.Kind.{Kind}
+use Rattle.packets.specs.Packet.{fieldsLimit, typesLimit, manyValues, rightFields, every}
+use Rattle.packets.specs.Write.{packetOctets, lengthsSum, oneEach, allAssigned, rightTypes, allRight, inSizes, packetToWrite}
+use Rattle.packets.specs.declared.types.PacketKind.{PacketKind}
 
 -- ---- one length for each type, and all of them the data's
 module _ (ts ns d : List ℕ) where
-  pub each-sum : oneEach ts ns d ≡ true → sum ns ≡ length d
+  pub each-sum : oneEach ts ns d ≡ true → lengthsSum ns ≡ length d
   unfolding oneEach
   each-sum is = eqb-true _ _ (both (eqb (length ts) (length ns)) _ is .1)
 
   pub each-length : oneEach ts ns d ≡ true → length ts ≡ length ns
   unfolding oneEach
-  each-length is = eqb-true _ _ (both _ (eqb (sum ns) (length d)) is .0)
+  each-length is = eqb-true _ _ (both _ (eqb (lengthsSum ns) (length d)) is .0)
 
 -- ---- a packet that is written
-pub record WriteForm (edition : Edition) (k : Kind) (v : ℕ) (ts ns d w : List ℕ) : Type 0 where
+pub record WriteForm (edition : Edition) (k : PacketKind) (v : ℕ) (ts ns d w : List ℕ) : Type 0 where
   pub few : length ts ≤ fieldsLimit
   pub same : length ts ≡ length ns
-  pub all : sum ns ≡ length d
-  pub known : v < assigned edition k
+  pub all : lengthsSum ns ≡ length d
+  pub known : v < manyValues edition k
   pub types : every (λ t. leb t (typesLimit edition)) ts ≡ true
   pub fields : rightFields k (ltb 0 (length ts)) ≡ true
   pub right : rightTypes edition ts ns ≡ true
@@ -39,7 +39,7 @@ pub record WriteForm (edition : Edition) (k : Kind) (v : ℕ) (ts ns d w : List 
   pub size : length w ≤ packetLimit
   pub is : w ≡ packetOctets edition k v ts ns d
 
-module _ (edition : Edition) (k : Kind) (v : ℕ) (ts ns d : List ℕ) where
+module _ (edition : Edition) (k : PacketKind) (v : ℕ) (ts ns d : List ℕ) where
   pub write-form : (w : List ℕ) → packetToWrite edition k v ts ns d ≡ done w → WriteForm edition k v ts ns d w
   unfolding packetToWrite allAssigned allRight inSizes
   write-form w e =
@@ -52,15 +52,15 @@ module _ (edition : Edition) (k : Kind) (v : ℕ) (ts ns d : List ℕ) where
       let sizes = unless-past (not (inSizes ns (length packet))) _ _ _ w (right .1) in
       let is : w ≡ packetOctets edition k v ts ns d = unless-done [] packet w (sizes .1) in
       let one = not-false (oneEach ts ns d) (each .0) in
-      let assignedAll = not-false (ltb v (assigned edition k) && every (λ t. leb t most) ts) (known .0) in
+      let assignedAll = not-false (ltb v (manyValues edition k) && every (λ t. leb t most) ts) (known .0) in
       let rightAll = not-false (rightFields k (ltb 0 (length ts)) && rightTypes edition ts ns) (right .0) in
       let sizesAll = not-false (every (λ n. leb n packetLimit) ns && leb (length packet) packetLimit) (sizes .0) in
       record {
         few = ltb-false _ _ (few .0);
         same = each-length ts ns d one;
         all = each-sum ts ns d one;
-        known = ltb-true v (assigned edition k) (both _ (every (λ t. leb t most) ts) assignedAll .0);
-        types = both (ltb v (assigned edition k)) _ assignedAll .1;
+        known = ltb-true v (manyValues edition k) (both _ (every (λ t. leb t most) ts) assignedAll .0);
+        types = both (ltb v (manyValues edition k)) _ assignedAll .1;
         fields = both _ (rightTypes edition ts ns) rightAll .0;
         right = both (rightFields k (ltb 0 (length ts))) _ rightAll .1;
         short = both _ (leb (length packet) packetLimit) sizesAll .0;
@@ -76,8 +76,8 @@ module _ (edition : Edition) (k : Kind) (v : ℕ) (ts ns d : List ℕ) where
       rw (
         le-ltb fieldsLimit (length ts) (form .few),
         eq-eqb (length ts) (length ns) (form .same),
-        eq-eqb (sum ns) (length d) (form .all),
-        lt-ltb v (assigned edition k) (form .known),
+        eq-eqb (lengthsSum ns) (length d) (form .all),
+        lt-ltb v (manyValues edition k) (form .known),
         form .types,
         form .fields,
         form .right,

@@ -8,9 +8,9 @@ use Rattle.lengths.specs.Refusals.{endsEarly, badForm, outsideSizes, spareBit, 
 use Rattle.lengths.specs.Answers.{done, refuse, refuseAt}
 use Rattle.datagrams.specs.Sizes.{packetLimit}
 use Rattle.packets.specs.Edition.{edition98}
-use Rattle.packets.specs.Packet.{PacketAnswer, readPacket}
+use Rattle.packets.specs.Packet.{fieldsLimit, typesLimit, PacketAnswer, readPacket}
 use Rattle.packets.specs.Write.{packetToWrite}
-use Rattle.packets.specs.declared.types.Kind.the-variants.{Indicator, Data}
+use Rattle.packets.specs.declared.types.PacketKind.the-variants.{Indicator, Data}
 use Rattle.packets.specs.declared.types.Ending.the-variants.{Whole, Repaired}
 
 -- "Two frames in one packet": the packet of document 02's request 2
@@ -42,7 +42,7 @@ pub record ReadCases : Type 0 where
   pub bit-first : readPacket edition98 Whole (0x81 ∷ []) ≡ refuse spareBit
   -- "a count of fields follows, 1 to 16 (else refusal 4)", by the length rule
   pub count-0 : readPacket edition98 Whole (0xC0 ∷ 0x00 ∷ []) ≡ refuseAt 1 outsideSizes
-  pub count-17 : readPacket edition98 Whole (0xC0 ∷ 0x11 ∷ []) ≡ refuseAt 1 outsideSizes
+  pub count-over : readPacket edition98 Whole (0xC0 ∷ 0x11 ∷ []) ≡ refuseAt 1 outsideSizes
   pub count-form : readPacket edition98 Whole (0xC0 ∷ 0x80 ∷ 0x01 ∷ []) ≡ refuseAt 1 badForm
   -- "a spare bit set is still 5, met after its header, so for a field 14 now comes first"; types "0 and 6 always do" carry data
   pub data-first : readPacket edition98 Whole (0xC0 ∷ 0x01 ∷ 0x01 ∷ []) ≡ refuseAt 2 wrongData
@@ -82,16 +82,16 @@ pub record ReadCases : Type 0 where
 
 pub record WriteCases : Type 0 where
   -- "over 16 fields 4, then 15, 12, 14, 4": it is the types that are counted
-  pub types-17 : packetToWrite edition98 Data 0 (replicate 17 1) (replicate 17 0) [] ≡ refuse outsideSizes
-  pub lengths-17 : packetToWrite edition98 Data 0 (replicate 16 1) (replicate 17 0) [] ≡ refuse wrongSettings
-  pub types-first : packetToWrite edition98 Data 0 (replicate 18 1) [] [] ≡ refuse outsideSizes
+  pub types-over : packetToWrite edition98 Data 0 (replicate (fieldsLimit + 1) 1) (replicate (fieldsLimit + 1) 0) [] ≡ refuse outsideSizes
+  pub lengths-over : packetToWrite edition98 Data 0 (replicate fieldsLimit 1) (replicate (fieldsLimit + 1) 0) [] ≡ refuse wrongSettings
+  pub types-first : packetToWrite edition98 Data 0 (replicate (fieldsLimit + 2) 1) [] [] ≡ refuse outsideSizes
   pub settings-before-12 : packetToWrite edition98 Data 9 (0 ∷ []) [] [] ≡ refuse wrongSettings
   pub value-before-14 : packetToWrite edition98 Data 9 (0 ∷ []) (0 ∷ []) [] ≡ refuse notAssigned
   pub data-before-4 : packetToWrite edition98 Data 0 (1 ∷ []) ((packetLimit + 1) ∷ []) (replicate (packetLimit + 1) 0) ≡ refuse wrongData
   -- true sums: nothing wraps
   pub true-sum : packetToWrite edition98 Data 0 (0 ∷ 0 ∷ []) (65535 ∷ 1 ∷ []) [] ≡ refuse wrongSettings
   -- "a type over 7 is refusal 12"
-  pub type-8 : packetToWrite edition98 Data 0 (8 ∷ []) (0 ∷ []) [] ≡ refuse notAssigned
+  pub type-over : packetToWrite edition98 Data 0 ((typesLimit edition98 + 1) ∷ []) (0 ∷ []) [] ≡ refuse notAssigned
   -- "An indicator never has a data field", with or without data
   pub indicator-field : packetToWrite edition98 Indicator 0 (1 ∷ []) (0 ∷ []) [] ≡ refuse wrongData
   -- each field within the packet limit, and the whole over it by one

@@ -8,19 +8,19 @@ use Rattle.lengths.specs.Answers.{Answer, done}
 use Rattle.lengths.specs.Claims.{Octets}
 use Rattle.datagrams.specs.Sizes.{packetLimit}
 use Rattle.packets.specs.Edition.{Edition, SoundEdition, edition98, edition02}
-use Rattle.packets.specs.Packet.{assigned, noField, allData, readPacket, PacketAnswer}
+use Rattle.packets.specs.Packet.{manyValues, noField, allData, readPacket, PacketAnswer}
 use Rattle.packets.specs.Write.{packetToWrite}
 use Rattle.packets.specs.Promise.{PacketTold}
 use Rattle.packets.specs.Cases.{ReadCases, WriteCases}
 use Rattle.packets.specs.NewCases.{NewReadCases, NewWriteCases}
-use Rattle.packets.specs.declared.types.Kind.{Kind}
+use Rattle.packets.specs.declared.types.PacketKind.{PacketKind}
 use Rattle.packets.specs.declared.types.Ending.{Ending}
 use Rattle.packets.specs.declared.types.Ending.the-variants.{Whole, Repaired}
 use Rattle.packets.specs.declared.types.PacketRead.{PacketRead}
 
 -- some octets, read by this edition and with this ending, are a packet of this kind and value, with fields of these types and lengths and,
 -- one after the other, this data
-pub record ReadsAs (edition : Edition) (ending : Ending) (s : List ℕ) (kind : Kind) (value : ℕ) (types lengths octets : List ℕ)
+pub record PacketReadsAs (edition : Edition) (ending : Ending) (s : List ℕ) (kind : PacketKind) (value : ℕ) (types lengths octets : List ℕ)
     : Type 0 where
   pub packet : PacketAnswer
   pub reads : readPacket edition ending s ≡ done packet
@@ -33,17 +33,17 @@ pub record ReadsAs (edition : Edition) (ending : Ending) (s : List ℕ) (kind : 
 -- what is written reads back, as received
 abbrev pub WrittenReads : Type 0
 WrittenReads = (edition : Edition) → SoundEdition edition
-    → (kind : Kind) (value : ℕ) (types lengths octets w : List ℕ)
+    → (kind : PacketKind) (value : ℕ) (types lengths octets w : List ℕ)
     → packetToWrite edition kind value types lengths octets ≡ done w
-    → ReadsAs edition Whole w kind value types lengths octets
+    → PacketReadsAs edition Whole w kind value types lengths octets
 
 -- and as repaired, with any zeros after it that the packet limit leaves room for
 abbrev pub RepairedReads : Type 0
 RepairedReads = (edition : Edition) → SoundEdition edition
-    → (kind : Kind) (value : ℕ) (types lengths octets w : List ℕ) (n : ℕ)
+    → (kind : PacketKind) (value : ℕ) (types lengths octets w : List ℕ) (n : ℕ)
     → packetToWrite edition kind value types lengths octets ≡ done w
     → length w + n ≤ packetLimit
-    → ReadsAs edition Repaired (w ++ replicate n 0) kind value types lengths octets
+    → PacketReadsAs edition Repaired (w ++ replicate n 0) kind value types lengths octets
 
 -- what reads as received writes back to the same octets
 abbrev pub ReadWrites : Type 0
@@ -80,7 +80,7 @@ ZerosAlike = (edition : Edition) (s : List ℕ) (p q : PacketAnswer) (n m : ℕ)
 abbrev pub PlainAlike : Type 0
 PlainAlike = (ending : Ending) (s : List ℕ) (p : PacketAnswer)
     → p .fields ≡ []
-    → p .value < assigned edition98 (p .kind)
+    → p .value < manyValues edition98 (p .kind)
     → (readPacket edition98 ending s ≡ done p) ↔ (readPacket edition02 ending s ≡ done p)
 
 -- two outcomes that a promise allows are equal

@@ -9,8 +9,8 @@ use Rattle.lengths.specs.Answers.{Answer, refuse}
 use Rattle.packets.specs.declared.types.Choice.{Choice}
 use Rattle.packets.specs.declared.types.Choice.the-variants as choice
 pub use Rattle.packets.specs.declared.types.Enumerated.{Enumerated}
-use Rattle.packets.specs.declared.types.Kind.{Kind}
-use Rattle.packets.specs.declared.types.Kind.the-variants.{Indicator, Data}
+use Rattle.packets.specs.declared.types.PacketKind.{PacketKind}
+use Rattle.packets.specs.declared.types.PacketKind.the-variants.{Indicator, Data}
 use Rattle.packets.specs.declared.types.Named.{Named}
 use Rattle.packets.specs.declared.types.Named.the-variants.{Old, New}
 
@@ -24,7 +24,7 @@ addedWidth = 6
 
 -- what its values need to be told apart: it has some, its bits hold those before the extension mark, six bits hold those added after it,
 -- and none was added where there is no mark
-pub record Sound (e : Enumerated) : Type 0 where
+pub record SoundEnumerated (e : Enumerated) : Type 0 where
   pub some : 1 ≤ e .assigned
   pub wide : e .assigned ≤ 2 ^ e .width
   pub few : e .added ≤ 2 ^ addedWidth
@@ -49,24 +49,24 @@ pub record Edition : Type 0 where
   pub rule : ℕ → Rule
 
 -- the values of a kind of packet
-abbrev pub values : Edition → Kind → Enumerated
+abbrev pub values : Edition → PacketKind → Enumerated
 values edition Indicator = edition .indicators
 values edition Data = edition .kinds
 
 -- and all that it names can be told apart
 pub record SoundEdition (edition : Edition) : Type 0 where
-  pub ofKind : (kind : Kind) → Sound (values edition kind)
-  pub ofTypes : Sound (edition .types)
+  pub ofKind : (kind : PacketKind) → SoundEnumerated (values edition kind)
+  pub ofTypes : SoundEnumerated (edition .types)
 
 -- "Types 1 to 5 carry no data, 0 and 6 always do, 7 may"; "Added field types always carry data here but v34rate, which may". The added
 -- ones are 8 cm, 9 jm, 10 ci and 11 v34rate
 abbrev pub carries : ℕ → Rule
-carries kind =
-    cond (eqb kind 0) always
-    (cond (ltb kind 6) never
-    (cond (eqb kind 6) always
-    (cond (eqb kind 7) may
-    (cond (ltb kind 11) always may))))
+carries type =
+    cond (eqb type 0) always
+    (cond (ltb type 6) never
+    (cond (eqb type 6) always
+    (cond (eqb type 7) may
+    (cond (ltb type 11) always may))))
 
 -- T.38 (06/98), Annex A. "Indicators 0 to 15 and data kinds 0 to 8 are assigned in Annex A's order"; "three bits field type"
 --     t30-indicator ENUMERATED { no-signal, .. v17-14400-long-training, ... }

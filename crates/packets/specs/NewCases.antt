@@ -9,19 +9,19 @@ use Rattle.packets.specs.Edition.{edition98, edition02}
 use Rattle.packets.specs.Packet.{PacketAnswer, readPacket}
 use Rattle.packets.specs.Write.{packetToWrite}
 use Rattle.packets.specs.declared.types.Field.{Field}
-use Rattle.packets.specs.declared.types.Kind.{Kind}
-use Rattle.packets.specs.declared.types.Kind.the-variants.{Indicator, Data}
+use Rattle.packets.specs.declared.types.PacketKind.{PacketKind}
+use Rattle.packets.specs.declared.types.PacketKind.the-variants.{Indicator, Data}
 use Rattle.packets.specs.declared.types.Ending.the-variants.{Whole}
 
 -- as received
 abbrev pub readNew : List ℕ → Answer PacketAnswer
 readNew s = readPacket edition02 Whole s
 
-abbrev pub writeNew : Kind → ℕ → List ℕ → List ℕ → List ℕ → Answer (List ℕ)
+abbrev pub writeNew : PacketKind → ℕ → List ℕ → List ℕ → List ℕ → Answer (List ℕ)
 writeNew kind value types lengths octets = packetToWrite edition02 kind value types lengths octets
 
 -- a packet without fields, and data 0 with these fields
-abbrev pub plain : Kind → ℕ → Answer PacketAnswer
+abbrev pub plain : PacketKind → ℕ → Answer PacketAnswer
 plain kind value = done (record { kind = kind; value = value; fields = [] })
 
 abbrev pub withFields : List Field → Answer PacketAnswer

@@ -17,8 +17,8 @@ use Rattle.formats.specs.Format.{Format, flag, bits, align, here, octets, twoOc
 use Rattle.formats.specs.Format.{made, sequenceOf}
 use Rattle.datagrams.specs.Sizes.{packetLimit}
 use Rattle.packets.specs.Edition.{Enumerated, many, addedWidth, Edition, allows, values}
-use Rattle.packets.specs.declared.types.Kind.{Kind}
-use Rattle.packets.specs.declared.types.Kind.the-variants.{Indicator, Data}
+use Rattle.packets.specs.declared.types.PacketKind.{PacketKind}
+use Rattle.packets.specs.declared.types.PacketKind.the-variants.{Indicator, Data}
 use Rattle.packets.specs.declared.types.Ending.{Ending}
 use Rattle.packets.specs.declared.types.Ending.the-variants.{Whole, Repaired}
 use Rattle.packets.specs.declared.types.Field.{Field}
@@ -36,17 +36,17 @@ abbrev pub typesLimit : Edition → ℕ
 typesLimit edition = many (edition .types) - 1
 
 -- how many values a kind has, from 0 on
-abbrev pub assigned : Edition → Kind → ℕ
-assigned edition kind = many (values edition kind)
+abbrev pub manyValues : Edition → PacketKind → ℕ
+manyValues edition kind = many (values edition kind)
 
 -- "An indicator never has a data field": whether a packet of this kind may have one, or have none
-abbrev pub rightFields : Kind → Bool → Bool
+abbrev pub rightFields : PacketKind → Bool → Bool
 rightFields Indicator present = not present
 rightFields Data present = true
 
 -- whether a field of this type may have data, or have none
 abbrev pub rightData : Edition → ℕ → Bool → Bool
-rightData edition kind present = allows (edition .rule kind) present
+rightData edition type present = allows (edition .rule type) present
 
 -- ---- a value of an ENUMERATED type
 -- one of those before the extension mark
@@ -56,7 +56,7 @@ root e = guarded notAssigned (λ v. ltb v (e .assigned)) (bits (e .width))
 -- one of those added after it, behind the 1 bit for extension: "one 0 bit, then six bits counted from zero"
 unfoldable pub addition : Enumerated → Format ℕ
 addition e =
-    made (λ x. e .assigned + x .1 .1) (λ v. (tt, (false, v - e .assigned)))
+    made (λ x. let counted = x .1 .1 in e .assigned + counted) (λ v. (tt, (false, v - e .assigned)))
     (demand notAssigned (ltb 0 (e .added))
     ⊳ λ _. guarded notAssigned not flag
     ⊳ λ _. guarded notAssigned (λ v. ltb v (e .added)) (bits addedWidth))
@@ -70,20 +70,31 @@ enumerated e =
 
 -- ---- Type-of-msg ::= CHOICE { t30-indicator, data }, behind the bit for data-field OPTIONAL
 pub record First : Type 0 where
-  pub kind : Kind
+  pub kind : PacketKind
   pub value : ℕ
   pub present : Bool
 
-abbrev pub chosen : Bool → Kind
+abbrev pub chosen : Bool → PacketKind
 chosen isData = cond isData Data Indicator
 
-abbrev pub isData : Kind → Bool
+abbrev pub isData : PacketKind → Bool
 isData Indicator = false
 isData Data = true
 
+-- from its parts in their order, and back
+abbrev pub firstFrom : Bool × (Bool × ℕ) → First
+firstFrom parts =
+    let present = parts .0 in
+    let choice = parts .1 .0 in
+    let value = parts .1 .1 in
+    record { kind = chosen choice; value = value; present = present }
+
+abbrev pub firstParts : First → Bool × (Bool × ℕ)
+firstParts f = (f .present, (isData (f .kind), f .value))
+
 unfoldable pub typeOfMsg : Edition → Format First
 typeOfMsg edition =
-    made (λ x. record { kind = chosen (x .1 .0); value = x .1 .1; present = x .0 }) (λ f. (f .present, (isData (f .kind), f .value)))
+    made firstFrom firstParts
     (flag
     ⊳ λ present. flag
     ⊳ λ choice. enumerated (values edition (chosen choice)))
@@ -103,15 +114,15 @@ unfoldable pub count : Format ℕ
 count = lengthRule fieldsLeast fieldsLimit
 
 pub record Header : Type 0 where
-  pub kind : ℕ
+  pub type : ℕ
   pub present : Bool
 
 -- the bit for field-data OPTIONAL and the field type, in whatever bit the item before ended; "a spare bit set is still 5, met after
 -- its header, so for a field 14 now comes first"
 unfoldable pub header : Edition → Format Header
 header edition =
-    guarded wrongData (λ h. rightData edition (h .kind) (h .present))
-    (made (λ x. record { kind = x .1; present = x .0 }) (λ h. (h .present, h .kind))
+    guarded wrongData (λ h. rightData edition (h .type) (h .present))
+    (made (λ x. record { type = x .1; present = x .0 }) (λ h. (h .present, h .type))
     (flag
     ⊳ λ present. enumerated (edition .types)))
 
@@ -121,7 +132,7 @@ size = made (λ n. n + 1) (λ n. n - 1) (twoOctets (packetLimit - 1))
 
 -- a field as it is read and written: its type, where its data begins, and the data. Without data both are nothing
 pub record Content : Type 0 where
-  pub kind : ℕ
+  pub type : ℕ
   pub start : ℕ
   pub octets : List ℕ
 
@@ -133,10 +144,20 @@ fieldData =
     ⊳ λ n. here
     ⊳ λ _. octets n)
 
+-- from its header, where its data begins and the data, and back
+abbrev pub contentFrom : Header × (ℕ × List ℕ) → Content
+contentFrom parts =
+    let header = parts .0 in
+    let start = parts .1 .0 in
+    let octets = parts .1 .1 in
+    record { type = header .type; start = start; octets = octets }
+
+abbrev pub contentParts : Content → Header × (ℕ × List ℕ)
+contentParts c = (record { type = c .type; present = ltb 0 (length (c .octets)) }, (c .start, c .octets))
+
 unfoldable pub field : Edition → Format Content
 field edition =
-    made (λ x. record { kind = x .0 .kind; start = x .1 .0; octets = x .1 .1 })
-    (λ c. (record { kind = c .kind; present = ltb 0 (length (c .octets)) }, (c .start, c .octets)))
+    made contentFrom contentParts
     (item (header edition)
     ⊳ λ h. cond (h .present) fieldData (known (0, [])))
 
@@ -148,15 +169,24 @@ dataField edition =
 
 -- ---- IFPPacket ::= SEQUENCE { type-of-msg Type-of-msg, data-field Data-Field OPTIONAL }
 pub record IfpPacket : Type 0 where
-  pub kind : Kind
+  pub kind : PacketKind
   pub value : ℕ
   pub contents : List Content
+
+-- from its first item and its fields, and back
+abbrev pub packetFrom : First × (List Content × Unit {0}) → IfpPacket
+packetFrom parts =
+    let first = parts .0 in
+    let contents = parts .1 .0 in
+    record { kind = first .kind; value = first .value; contents = contents }
+
+abbrev pub packetParts : IfpPacket → First × (List Content × Unit {0})
+packetParts p = (record { kind = p .kind; value = p .value; present = ltb 0 (length (p .contents)) }, (p .contents, tt))
 
 -- "If present, a count of fields follows"; "A data packet with no field has the top bit clear"; its end is at an octet edge
 unfoldable pub packet : Edition → Format IfpPacket
 packet edition =
-    made (λ x. record { kind = x .0 .kind; value = x .0 .value; contents = x .1 .0 })
-    (λ p. (record { kind = p .kind; value = p .value; present = ltb 0 (length (p .contents)) }, (p .contents, tt)))
+    made packetFrom packetParts
     (start edition
     ⊳ λ f. cond (f .present) (dataField edition) (known [])
     ⊳ λ _. align)
@@ -183,12 +213,12 @@ wholePacket edition ending = do
   give p
 
 pub record PacketAnswer : Type 0 where
-  pub kind : Kind
+  pub kind : PacketKind
   pub value : ℕ
   pub fields : List Field
 
 abbrev pub fieldOf : Content → Field
-fieldOf c = record { kind = c .kind; start = c .start; size = length (c .octets) }
+fieldOf c = record { kind = c .type; start = c .start; size = length (c .octets) }
 
 abbrev pub answerOf : Finding IfpPacket → Answer PacketAnswer
 answerOf (found p at) = done (record { kind = p .kind; value = p .value; fields = map fieldOf (p .contents) })

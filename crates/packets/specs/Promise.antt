@@ -7,12 +7,12 @@ use lib.ListN.{length, take, replicate}
 use Rattle.lengths.specs.Answers.{Answer, done, refused}
 use Rattle.packets.specs.Packet.{fieldsLimit, noField, PacketAnswer}
 use Rattle.packets.specs.declared.types.Field.{Field}
-use Rattle.packets.specs.declared.types.Reading.{Reading}
-use Rattle.packets.specs.declared.types.Reading.the-variants as reading
+use Rattle.packets.specs.declared.types.PacketReading.{PacketReading}
+use Rattle.packets.specs.declared.types.PacketReading.the-variants as reading
 use Rattle.packets.specs.declared.types.PacketRead.{PacketRead}
 
 -- each case of the packet reader's answer, in document 01's number and values; the fields are the first of the places
-abbrev pub readingOutcome : Reading → List Field → Answer PacketAnswer
+abbrev pub readingOutcome : PacketReading → List Field → Answer PacketAnswer
 readingOutcome (reading.Packet k v n) fields = done (record { kind = k; value = v; fields = take n fields })
 readingOutcome (reading.Refused r) fields = refused r
 
@@ -20,13 +20,13 @@ abbrev pub packetOutcome : PacketRead → Answer PacketAnswer
 packetOutcome r = readingOutcome (r .reading) (r .fields)
 
 -- a packet's fields in as many places as a packet may have; those that are left are zero
-unfoldable pub padded : List Field → List Field
-padded fields = fields ++ replicate (fieldsLimit - length fields) noField
+unfoldable pub paddedFields : List Field → List Field
+paddedFields fields = fields ++ replicate (fieldsLimit - length fields) noField
 
 -- the whole answer to what a packet reads as, unused places too
 abbrev pub packetRead : Answer PacketAnswer → PacketRead
-packetRead (done p) = record { reading = reading.Packet (p .kind) (p .value) (length (p .fields)); fields = padded (p .fields) }
-packetRead (refused r) = record { reading = reading.Refused r; fields = padded [] }
+packetRead (done p) = record { reading = reading.Packet (p .kind) (p .value) (length (p .fields)); fields = paddedFields (p .fields) }
+packetRead (refused r) = record { reading = reading.Refused r; fields = paddedFields [] }
 
 -- what a reading of a packet owes, whose answer is known: its outcome, and the whole of what it hands back
 pub record PacketTold (due : Answer PacketAnswer) (r : PacketRead) : Type 0 where

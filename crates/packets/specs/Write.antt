@@ -13,8 +13,8 @@ use Rattle.lengths.specs.Tables.{when, unless}
 use Rattle.formats.specs.Spelling.{inOctets}
 use Rattle.datagrams.specs.Sizes.{packetLimit}
 use Rattle.packets.specs.Edition.{Edition}
-use Rattle.packets.specs.Packet.{fieldsLimit, typesLimit, assigned, rightFields, rightData, every, Content, packet}
-use Rattle.packets.specs.declared.types.Kind.{Kind}
+use Rattle.packets.specs.Packet.{fieldsLimit, typesLimit, manyValues, rightFields, rightData, every, Content, packet}
+use Rattle.packets.specs.declared.types.PacketKind.{PacketKind}
 
 -- "To the writer a field of length 0 has no data"
 abbrev pub withData : ℕ → Bool
@@ -23,12 +23,12 @@ withData size = ltb 0 size
 -- the fields in order; each has the next part of the data, of its length. Where the data begins is not written
 unfoldable pub contentsOf : List ℕ → List ℕ → List ℕ → List Content
 contentsOf [] lengths octets = []
-contentsOf (kind ∷ types) [] octets = []
-contentsOf (kind ∷ types) (size ∷ lengths) octets =
-    record { kind = kind; start = 0; octets = take size octets } ∷ contentsOf types lengths (drop size octets)
+contentsOf (type ∷ types) [] octets = []
+contentsOf (type ∷ types) (size ∷ lengths) octets =
+    record { type = type; start = 0; octets = take size octets } ∷ contentsOf types lengths (drop size octets)
 
 -- what the description spells, in octets
-unfoldable pub packetOctets : Edition → Kind → ℕ → List ℕ → List ℕ → List ℕ → List ℕ
+unfoldable pub packetOctets : Edition → PacketKind → ℕ → List ℕ → List ℕ → List ℕ → List ℕ
 packetOctets edition kind value types lengths octets =
     inOctets (packet edition .spelling (record { kind = kind; value = value; contents = contentsOf types lengths octets }) 0)
 
@@ -38,25 +38,25 @@ unfoldable pub total : (ℕ → ℕ) → List ℕ → ℕ
 total measure [] = 0
 total measure (x ∷ s) = measure x + total measure s
 
-abbrev pub sum : List ℕ → ℕ
-sum s = total (λ x. x) s
+abbrev pub lengthsSum : List ℕ → ℕ
+lengthsSum s = total (λ x. x) s
 
 -- 15: "given lengths that don't sum to the data, or not one for each field type"
 unfoldable pub oneEach : List ℕ → List ℕ → List ℕ → Bool
-oneEach types lengths octets = eqb (length types) (length lengths) && eqb (sum lengths) (length octets)
+oneEach types lengths octets = eqb (length types) (length lengths) && eqb (lengthsSum lengths) (length octets)
 
 -- 12: value not assigned; "a type over 7 is refusal 12", in the edition of 06/98
-unfoldable pub allAssigned : Edition → Kind → ℕ → List ℕ → Bool
-allAssigned edition kind value types = ltb value (assigned edition kind) && every (λ t. leb t (typesLimit edition)) types
+unfoldable pub allAssigned : Edition → PacketKind → ℕ → List ℕ → Bool
+allAssigned edition kind value types = ltb value (manyValues edition kind) && every (λ t. leb t (typesLimit edition)) types
 
 -- each type has data or not, as it may
 unfoldable pub rightTypes : Edition → List ℕ → List ℕ → Bool
 rightTypes edition [] lengths = true
-rightTypes edition (kind ∷ types) [] = true
-rightTypes edition (kind ∷ types) (size ∷ lengths) = rightData edition kind (withData size) && rightTypes edition types lengths
+rightTypes edition (type ∷ types) [] = true
+rightTypes edition (type ∷ types) (size ∷ lengths) = rightData edition type (withData size) && rightTypes edition types lengths
 
 -- 14: "data where none may be, or none where it must"; an indicator with fields
-unfoldable pub allRight : Edition → Kind → List ℕ → List ℕ → Bool
+unfoldable pub allRight : Edition → PacketKind → List ℕ → List ℕ → Bool
 allRight edition kind types lengths = rightFields kind (ltb 0 (length types)) && rightTypes edition types lengths
 
 -- 4: "the data of each at most the packet limit", and the whole
@@ -64,7 +64,7 @@ unfoldable pub inSizes : List ℕ → ℕ → Bool
 inSizes lengths size = every (λ n. leb n packetLimit) lengths && leb size packetLimit
 
 -- "over 16 fields 4, then 15, 12, 14, 4": what the packet writer refuses, and what it writes where no row is given
-abbrev pub packetWriterRows : Edition → Kind → ℕ → List ℕ → List ℕ → List ℕ → List (Option ℕ)
+abbrev pub packetWriterRows : Edition → PacketKind → ℕ → List ℕ → List ℕ → List ℕ → List (Option ℕ)
 packetWriterRows edition kind value types lengths octets =
     when (ltb fieldsLimit (length types)) outsideSizes
     ∷ when (not (oneEach types lengths octets)) wrongSettings
@@ -73,6 +73,6 @@ packetWriterRows edition kind value types lengths octets =
     ∷ when (not (inSizes lengths (length (packetOctets edition kind value types lengths octets)))) outsideSizes
     ∷ []
 
-unfoldable pub packetToWrite : Edition → Kind → ℕ → List ℕ → List ℕ → List ℕ → Answer (List ℕ)
+unfoldable pub packetToWrite : Edition → PacketKind → ℕ → List ℕ → List ℕ → List ℕ → Answer (List ℕ)
 packetToWrite edition kind value types lengths octets =
     unless (packetWriterRows edition kind value types lengths octets) (packetOctets edition kind value types lengths octets)

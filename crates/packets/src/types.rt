@@ -5,7 +5,7 @@ ghost use Rattle.packets.specs.Edition.{edition02};
 ghost use Rattle.packets.specs.Packet.{fieldsLeast, fieldsLimit, typesLimit};
 
 // A packet is an indicator or data.
-pub enum Kind {
+pub enum PacketKind {
     Indicator,
     Data,
 }
@@ -38,7 +38,7 @@ pub enum Ending {
 }
 
 // A field of a packet: its type, 0 to 7 or 0 to 11 by edition, and its data as a part of the packet. Without data its size is 0, and so
-// is start. It stands so in a C host's memory.
+// is start. `kind` is the type: `type` is a word of the language. It stands so in a C host's memory.
 #[repr(C)]
 pub struct Field {
     pub kind: u8,
@@ -74,13 +74,17 @@ impl Field {
 }
 
 // What reading a packet finds: its kind, its value and how many fields it has, or why it is refused.
-pub enum Reading {
-    Packet { kind: Kind, value: u8, count: usize },
+pub enum PacketReading {
+    Packet {
+        kind: PacketKind,
+        value: u8,
+        count: usize,
+    },
     Refused(Refusal),
 }
 
 // The answer of `packet_reader::read`: the first `count` places of `fields` are the packet's; all others are zero.
 pub struct PacketRead {
-    pub reading: Reading,
+    pub reading: PacketReading,
     pub fields: [Field; Field::LIMIT],
 }

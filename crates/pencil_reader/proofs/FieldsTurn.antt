@@ -12,7 +12,7 @@ use Rattle.formats.specs.Places.{Place}
 use Rattle.packets.specs.Edition.{editionOf}
 use Rattle.packets.specs.Packet.{Content, fieldOf, fieldsLimit}
 use Rattle.packets.specs.Packet as description
-use Rattle.packets.specs.Promise.{padded}
+use Rattle.packets.specs.Promise.{paddedFields}
 use Rattle.packets.specs.declared.types.Field.{Field}
 use Rattle.packets.specs.declared.types.Named.{Named}
 use Rattle.packet_reader.proofs.Laws.{set-padded}
@@ -71,11 +71,11 @@ pub record Going (named : Named) (s : List ℕ) (from : Place) (count : ℕ) (fi
   pub few : k ≤ count
   pub pre : List Field
   pub has : length pre ≡ k
-  pub here : fields ≡ padded pre
+  pub here : fields ≡ paddedFields pre
   pub whole : (i : ℕ) → fieldsFound named count s i from ≡ after pre (fieldsFound named (count - k) s i p)
 
 module _ {named : Named} {s : List ℕ} {from : Place} {count : ℕ} where
-  pub going-start : {fields : List Field} → fields ≡ padded [] → Going named s from count fields from 0
+  pub going-start : {fields : List Field} → fields ≡ paddedFields [] → Going named s from count fields from 0
   going-start here =
       let all : count ≡ count - 0 = omega arith in
       record {

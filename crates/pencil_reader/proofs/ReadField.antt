@@ -71,8 +71,8 @@ fieldFrom k x = record { kind = k; start = x .0; size = x .1 }
 
 with-data : (k : ℕ) (x : Finding (ℕ × List ℕ))
     → foundAs fieldOf
-    (andThen {B = Content} (andThen {B = Header × (ℕ × List ℕ)} x (λ y z. found (record { kind = k; present = true }, y) z))
-    (λ a z. found (record { kind = a .0 .kind; start = a .1 .0; octets = a .1 .1 }) z))
+    (andThen {B = Content} (andThen {B = Header × (ℕ × List ℕ)} x (λ y z. found (record { type = k; present = true }, y) z))
+    (λ a z. found (record { type = a .0 .type; start = a .1 .0; octets = a .1 .1 }) z))
     ≡ foundAs (fieldFrom k) (foundAs partOf x)
 with-data k (found y z) = refl
 with-data k (stopped r) = refl

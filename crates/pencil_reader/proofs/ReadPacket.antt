@@ -18,14 +18,14 @@ use Rattle.datagrams.specs.Sizes.{packetLimit}
 use Rattle.packets.specs.Edition.{editionOf}
 use Rattle.packets.specs.Packet.{Content, fieldOf, PacketAnswer, mayFollow, readPacket}
 use Rattle.packets.specs.Packet as description
-use Rattle.packets.specs.Promise.{packetOutcome, packetRead, padded}
+use Rattle.packets.specs.Promise.{packetOutcome, packetRead, paddedFields}
 use Rattle.packet_laws.proofs.Laws.{rest, rest-is, read-outcome}
-use Rattle.packets.specs.declared.types.Kind.{Kind}
+use Rattle.packets.specs.declared.types.PacketKind.{PacketKind}
 use Rattle.packets.specs.declared.types.Ending.{Ending}
 use Rattle.packets.specs.declared.types.Field.{Field}
 use Rattle.packets.specs.declared.types.Named.{Named}
 use Rattle.packets.specs.declared.types.PacketRead.{PacketRead}
-use Rattle.packets.specs.declared.types.Reading.the-variants as reading
+use Rattle.packets.specs.declared.types.PacketReading.the-variants as reading
 use Rattle.packet_reader.specs.Items.{NamedTold}
 use Rattle.pencil_reader.specs.Bits.{EdgeTaken, foundAs}
 use Rattle.pencil_reader.specs.Items.{OctetTaken}
@@ -43,7 +43,7 @@ module _ {named : Named} {s : List ℕ} {p : Place} {b : Bool} where
   pub after-data : {r : Fields} → b ≡ true → FieldsTaken named s p r → AfterTaken named b s p r
   after-data is told = record { answer = λ i. rw is (told .answer i) }
 
-  pub after-none : {none : List Field} → b ≡ false → none ≡ padded []
+  pub after-none : {none : List Field} → b ≡ false → none ≡ paddedFields []
       → AfterTaken named b s p (record { all = all.Found 0 p; fields = none })
   after-none is none = record { answer = λ i. rw (is, none) }
 
@@ -59,7 +59,7 @@ record Contents (x : Finding (List Content)) (n : ℕ) (p : Place) (fields : Lis
   contents : List Content
   was : x ≡ found contents p
   many : n ≡ length (map fieldOf contents)
-  here : fields ≡ padded (map fieldOf contents)
+  here : fields ≡ paddedFields (map fieldOf contents)
 
 module _ {named : Named} {b : Bool} {s : List ℕ} {p : Place} {r : Fields} (told : AfterTaken named b s p r) where
   contents-of : {n q : ℕ} → r .all ≡ all.Found n q → Contents (after named b s p) n q (r .fields)
@@ -113,7 +113,7 @@ module _ {named : Named} {e : Ending} {s : List ℕ} where
     unfolding readPacket description.wholePacket description.packet
     packet-start {x} is = told-of (refused x) (rw (le-ltb packetLimit (length s) fits, told .answer 0, is))
 
-    module _ {k : Kind} {v q : ℕ} {b : Bool} {g : Fields} (is : f ≡ first.Found k v b q) (fields : AfterTaken named b s q g) where
+    module _ {k : PacketKind} {v q : ℕ} {b : Bool} {g : Fields} (is : f ≡ first.Found k v b q) (fields : AfterTaken named b s q g) where
       pub packet-fields : {x : Refusal} {r : PacketRead} → g .all ≡ all.Refused x → r ≡ packetRead (refused x) → NamedTold named e s r
       unfolding readPacket description.wholePacket description.packet
       packet-fields {x} why =

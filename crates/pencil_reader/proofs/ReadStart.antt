@@ -11,8 +11,8 @@ use Rattle.formats.specs.Places.{Place}
 use Rattle.packets.specs.Edition.{editionOf, values}
 use Rattle.packets.specs.Packet.{First, chosen, rightFields}
 use Rattle.packets.specs.Packet as description
-use Rattle.packets.specs.declared.types.Kind.{Kind}
-use Rattle.packets.specs.declared.types.Kind.the-variants.{Indicator, Data}
+use Rattle.packets.specs.declared.types.PacketKind.{PacketKind}
+use Rattle.packets.specs.declared.types.PacketKind.the-variants.{Indicator, Data}
 use Rattle.packets.specs.declared.types.Named.{Named}
 use Rattle.pencil_reader.specs.Bits.{FlagTaken, EdgeTaken, foundAs}
 use Rattle.pencil_reader.specs.Items.{ValueTaken}
@@ -86,7 +86,7 @@ module _ {named : Named} {s : List ℕ} {p : Place} {f : declared.First} (told :
   unfolding description.start
   start-type is = record { answer = λ i. rw (told .answer, is) }
 
-  module _ {k : Kind} {v q : ℕ} {b : Bool} {e : Edge} (is : f ≡ first.Found k v b q) (aligned : EdgeTaken s q e) where
+  module _ {k : PacketKind} {v q : ℕ} {b : Bool} {e : Edge} (is : f ≡ first.Found k v b q) (aligned : EdgeTaken s q e) where
     pub start-edge : {r : Refusal} → e ≡ edge.Refused r → StartTaken named s p (first.Refused r)
     unfolding description.start
     start-edge why = record { answer = λ i. rw (told .answer, is, aligned .answer (p / 8), why) }

@@ -20,7 +20,7 @@ use Rattle.packets.specs.Packet as description
 use Rattle.packet_laws.specs.Octets.{Narrow}
 use Rattle.packet_laws.proofs.Laws.{narrow}
 use Rattle.packets.specs.declared.types.Enumerated.{Enumerated}
-use Rattle.packets.specs.declared.types.Kind.{Kind}
+use Rattle.packets.specs.declared.types.PacketKind.{PacketKind}
 use Rattle.packets.specs.declared.types.Named.{Named}
 use Rattle.pencil_reader.specs.Bits.{foundAs, BitsTaken, FlagTaken}
 use Rattle.pencil_reader.specs.Items.{six, RootTaken, AddedTaken, AdditionTaken, ValueTaken}
@@ -30,7 +30,7 @@ use Rattle.pencil_reader.specs.declared.bits.Marked.{Marked}
 use Rattle.pencil_reader.specs.declared.bits.Marked.the-variants as flag
 
 -- ---- an octet holds the values of both editions
-pub narrow-values : (named : Named) (kind : Kind) → Narrow (edition.values (editionOf named) kind)
+pub narrow-values : (named : Named) (kind : PacketKind) → Narrow (edition.values (editionOf named) kind)
 narrow-values named kind = narrow named .ofKind kind
 
 pub narrow-types : (named : Named) → Narrow (editionOf named .types)

@@ -9,7 +9,7 @@ use Rattle.formats.specs.Places.{Place}
 use Rattle.packets.specs.Edition.{editionOf}
 use Rattle.packets.specs.Packet.{fieldOf}
 use Rattle.packets.specs.Packet as description
-use Rattle.packets.specs.Promise.{padded}
+use Rattle.packets.specs.Promise.{paddedFields}
 use Rattle.packets.specs.declared.types.Field.{Field}
 use Rattle.packets.specs.declared.types.Named.{Named}
 use Rattle.pencil_reader.specs.Bits.{foundAs}
@@ -21,7 +21,7 @@ use Rattle.pencil_reader.specs.declared.fields.All.the-variants as all
 use Rattle.pencil_reader.specs.declared.fields.Fields.{Fields}
 
 abbrev pub headerFound : HeaderRead → Finding description.Header
-headerFound (header.Found k b p) = found (record { kind = k; present = b }) p
+headerFound (header.Found k b p) = found (record { type = k; present = b }) p
 headerFound (header.Refused r) = stopped r
 
 -- the item that begins with it
@@ -45,8 +45,8 @@ fieldsFound named n s i p = foundAs (map fieldOf) (reading.sequenceOf n (descrip
 
 -- fields that were found stand in the places that there are, one after the other; those of a refused packet are all zero
 abbrev pub fieldsTaken : Finding (List Field) → Fields
-fieldsTaken (found fields p) = record { all = all.Found (length fields) p; fields = padded fields }
-fieldsTaken (stopped r) = record { all = all.Refused r; fields = padded [] }
+fieldsTaken (found fields p) = record { all = all.Found (length fields) p; fields = paddedFields fields }
+fieldsTaken (stopped r) = record { all = all.Refused r; fields = paddedFields [] }
 
 pub record SequenceTaken (named : Named) (n : ℕ) (s : List ℕ) (p : Place) (r : Fields) : Type 0 where
   pub answer : (i : ℕ) → r ≡ fieldsTaken (fieldsFound named n s i p)

@@ -11,8 +11,8 @@ use lengths::Refusal;
 use lengths::wide;
 use packets::Enumerated;
 use packets::Field;
-use packets::Kind;
 use packets::Named;
+use packets::PacketKind;
 ghost use Prim.Native.Nat.{_≤_};
 ghost use lib.ListN.{length};
 ghost use Rattle.datagrams.specs.Sizes.{packetLimit};
@@ -108,7 +108,7 @@ pub fn t30_indicator(named: Named, s: &[u8], item: usize, at: usize) -> Number
     requires { ⌜ length (now s) ≤ packetLimit ⌝ }
     ensures { λ r. ⌜ ValueTaken (editionOf named .indicators) (now (s .entry)) item at r ⌝ }
 {
-    let values = packet_rules::values(named, Kind::Indicator);
+    let values = packet_rules::values(named, PacketKind::Indicator);
     enumerated(s, item, at, values)
 }
 
@@ -118,7 +118,7 @@ pub fn t30_data(named: Named, s: &[u8], item: usize, at: usize) -> Number
     requires { ⌜ length (now s) ≤ packetLimit ⌝ }
     ensures { λ r. ⌜ ValueTaken (editionOf named .kinds) (now (s .entry)) item at r ⌝ }
 {
-    let values = packet_rules::values(named, Kind::Data);
+    let values = packet_rules::values(named, PacketKind::Data);
     enumerated(s, item, at, values)
 }
 

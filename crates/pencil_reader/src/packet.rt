@@ -17,10 +17,10 @@ use packet_reader::no_fields;
 use packet_rules::choice_of;
 use packets::Choice;
 use packets::Ending;
-use packets::Kind;
 use packets::Named;
+use packets::PacketKind;
 use packets::PacketRead;
-use packets::Reading;
+use packets::PacketReading;
 ghost use Prim.Native.Nat.{_≤_};
 ghost use lib.ListN.{length};
 ghost use Rattle.datagrams.specs.Sizes.{packetLimit};
@@ -32,7 +32,7 @@ ghost use Rattle.pencil_reader.specs.Packet.{ChosenTaken, TypeTaken, Sta
 
 // A packet's kind and value, whether it has a data field, and the place after them.
 pub enum First {
-    Found(Kind, u8, bool, usize),
+    Found(PacketKind, u8, bool, usize),
     Refused(Refusal),
 }
 
@@ -47,7 +47,7 @@ fn chosen(named: Named, s: &[u8], item: usize, at: usize, present: bool, is_data
             Number::Refused(refusal) => First::Refused(refusal),
             Number::Found(value, next) => {
                 let small = (value % 256) as u8;
-                First::Found(Kind::Data, small, present, next)
+                First::Found(PacketKind::Data, small, present, next)
             }
         };
     }
@@ -55,7 +55,7 @@ fn chosen(named: Named, s: &[u8], item: usize, at: usize, present: bool, is_data
         Number::Refused(refusal) => First::Refused(refusal),
         Number::Found(value, next) => {
             let small = (value % 256) as u8;
-            First::Found(Kind::Indicator, small, present, next)
+            First::Found(PacketKind::Indicator, small, present, next)
         }
     }
 }
@@ -130,7 +130,7 @@ fn read_named(named: Named, s: &[u8], ending: Ending) -> PacketRead
                         if may_follow(&s[from..], ending) {
                             let fields = found.fields;
                             return PacketRead {
-                                reading: Reading::Packet { kind, value, count },
+                                reading: PacketReading::Packet { kind, value, count },
                                 fields,
                             };
                         }

@@ -1,11 +1,11 @@
 -- The sum of a message and its members, on plain values: what the loop over the members keeps true, and that the front of the
--- sum is what document 01 fills with. Assumes nothing.
+-- sum, as long as the message, is what document 01 fills with. Assumes nothing.
 use Prim.Native.Nat.{ℕ, suc, _+_, _-_, _*_, _%_, _≤_, _<_}
 use mathlib.Core.Path.{_≡_, refl, sym, ap, ap₂, _∙_}
 use mathlib.Core.List.{List, _++_, map}
 use mathlib.Core.Logic.{⊎-elim}
 use lib.ListN.{length, getD, take, drop, length-append, length-drop, List·getD-append, List·getD-eq-default}
-use lib.Seq.{take-at, ext-getD, getD-append-add, getD-drop}
+use lib.Seq.{ext-getD, getD-append-add, getD-drop, getD-take, length-take-le}
 use lib.Bits.{bitXor, xor-zero-r}
 use native.Mathlib.Omega.{arith}
 use Rattle.octets.specs.ExclusiveOr.{xorAt}
@@ -22,7 +22,7 @@ use Rattle.held.specs.Slots.{heardSlotAt, messageSlot, slotsHeard}
 use Rattle.held.specs.Table.{Lent, nIn, mIn, messageSizeIn, messageIn, cellsOf}
 use Rattle.held.specs.Laid.{InRanges}
 use Rattle.repairing.specs.Back.{slotOf, xorBack, Summed}
-use Rattle.repairing.specs.Promise.{nAt, mAt, messageSizeAt, messageHeld, MendedOctets, AskedOctets}
+use Rattle.repairing.specs.Promise.{nAt, mAt, messageSizeAt, messageHeld, AskedOctets}
 use Rattle.repairing.proofs.Members.{summed}
 use Rattle.repairing.proofs.Search.{searchable, m-near, reach-near, size-near, octets-long}
 
@@ -148,35 +148,6 @@ module _ {l : Lent} (w : InRanges l) (d i : ℕ) (near : d < keptAhead) (low : i
       ∙ summed w N (keptBefore + d + i) M j (omega (arith, reach-near (searchable w) (l .base) d)) (omega arith)
       (omega (arith, m-near (searchable w) (l .base) d)) below
 
-  -- ---- over the message's length: the front of the sum
-  module _ {front : List ℕ} (s : Summed (l .octets) first n m (take size copied) front) where
-    -- what is summed up to is the message
-    taken : take size copied ≡ message .octets
-    taken = ap (take size) e-copied ∙ take-at (part (l .messages) place size) (drop size start) size part-long ∙ part-is
-
-    front-long : length front ≡ size
-    front-long = s .long ∙ ap (λ (x : List ℕ). length x) taken ∙ sym size-is
-
-    octet-is : (j : ℕ) → j < size → getD front j 0 ≡ getD (mended (cellsOf (l .base) (l .table) (l .octets)) message) j 0
-    unfolding mended
-    octet-is j below =
-        s .each j (rw (taken, ← size-is) below)
-        ∙ ap₂ bitXor (ap (λ (x : List ℕ). getD x j 0) taken) (members-sum j (omega (arith, small)))
-        ∙ sym (xorAt-cons _ _ j)
-        ∙ sym (exclusiveOr-at (length (message .octets)) _ j (rw (← size-is) below))
-
-    pub mended-front : MendedOctets (l .base) (l .table) (l .octets) (l .messages) d i (front ++ drop size copied)
-    unfolding message
-    mended-front =
-        record {
-          long = length-append front (drop size copied) ∙ omega (arith, front-long, length-drop size copied, small, copied-long);
-          front =
-              rw (← size-is, take-at front (drop size copied) size front-long)
-              (ext-getD 0 front (mended (cellsOf (l .base) (l .table) (l .octets)) message)
-              (front-long ∙ size-is ∙ sym (length-mended (cellsOf (l .base) (l .table) (l .octets)) message))
-              (λ j below. octet-is j (rw front-long at below)));
-        }
-
   -- ---- over the limit's length, where there were zeros: past its end the message has zeros too
   module _ (empty : (k : ℕ) → getD start k 0 ≡ 0) {sum : List ℕ} (s : Summed (l .octets) first n m copied sum) where
     copied-at : (k : ℕ) → getD copied k 0 ≡ getD (message .octets) k 0
@@ -205,3 +176,18 @@ module _ {l : Lent} (w : InRanges l) (d i : ℕ) (near : d < keptAhead) (low : i
               ∙ ap₂ bitXor (copied-at k) (members-sum k inside)
               ∙ sym (xorAt-cons _ _ k);
         }
+
+-- ---- the front of it, as long as the message: what mends
+pub asked-front : {base : ℕ} {t o g : List ℕ} {d i : ℕ} {sum : List ℕ} → AskedOctets base t o g d i sum
+    → length ((messageHeld base t g d i) .octets) ≤ packetLimit
+    → take (length ((messageHeld base t g d i) .octets)) sum ≡ mended (cellsOf base t o) (messageHeld base t g d i)
+unfolding mended
+asked-front {base} {t} {o} {g} {d} {i} {sum} a small =
+    let message = messageHeld base t g d i in
+    let long = length-take-le (length (message .octets)) sum (omega (arith, a .long)) in
+    ext-getD 0 (take (length (message .octets)) sum) _ (long ∙ sym (length-mended (cellsOf base t o) message))
+    (λ j below.
+    let low : j < length (message .octets) = omega (arith, long) in
+    getD-take (length (message .octets)) sum j 0 low
+    ∙ a .each j (omega arith)
+    ∙ sym (exclusiveOr-at (length (message .octets)) _ j low))

@@ -15,10 +15,10 @@ use Rattle.held.specs.Table.{stateIn, mIn, stateNumbered}
 
 -- one for an unknown number in a slot, zero for any other
 abbrev pub unknownOne : List ℕ → ℕ → ℕ
-unknownOne t slot = cond (isUnknown (stateNumbered (stateIn t slot))) 1 0
+unknownOne table slot = cond (isUnknown (stateNumbered (stateIn table slot))) 1 0
 
-pub record OneUnknown (t : List ℕ) (slot r : ℕ) : Type 0 where
-  pub same : r ≡ unknownOne t slot
+pub record OneUnknown (table : List ℕ) (slot r : ℕ) : Type 0 where
+  pub same : r ≡ unknownOne table slot
   pub small : r ≤ 1
 
 -- the slot of a number
@@ -27,25 +27,25 @@ slotOf number = number % slotsKept
 
 -- how many of the n numbers x − m, x − 2m, .. are unknown
 unfoldable pub countBack : List ℕ → ℕ → ℕ → ℕ → ℕ
-countBack t x zero m = 0
-countBack t x (suc n) m = unknownOne t (slotOf (distance m x)) + countBack t (distance m x) n m
+countBack table x zero m = 0
+countBack table x (suc n) m = unknownOne table (slotOf (distance m x)) + countBack table (distance m x) n m
 
 -- the slot of the first unknown one, or slotsKept
 unfoldable pub findBack : List ℕ → ℕ → ℕ → ℕ → ℕ
-findBack t x zero m = slotsKept
-findBack t x (suc n) m =
-    cond (eqb (unknownOne t (slotOf (distance m x))) 1) (slotOf (distance m x)) (findBack t (distance m x) n m)
+findBack table x zero m = slotsKept
+findBack table x (suc n) m =
+    cond (eqb (unknownOne table (slotOf (distance m x))) 1) (slotOf (distance m x)) (findBack table (distance m x) n m)
 
 -- the exclusive or of octet j of the n numbers' slots
 unfoldable pub xorBack : List ℕ → ℕ → ℕ → ℕ → ℕ → ℕ
-xorBack o x zero m j = 0
-xorBack o x (suc n) m j =
-    bitXor (getD o (slotOf (distance m x) * packetLimit + j) 0) (xorBack o (distance m x) n m j)
+xorBack octets x zero m j = 0
+xorBack octets x (suc n) m j =
+    bitXor (getD octets (slotOf (distance m x) * packetLimit + j) 0) (xorBack octets (distance m x) n m j)
 
 -- octets, to which the n numbers' slots were added
-pub record Summed (o : List ℕ) (x n m : ℕ) (before after : List ℕ) : Type 0 where
+pub record Summed (octets : List ℕ) (x n m : ℕ) (before after : List ℕ) : Type 0 where
   pub long : length after ≡ length before
-  pub each : (j : ℕ) → j < length before → getD after j 0 ≡ bitXor (getD before j 0) (xorBack o x n m j)
+  pub each : (j : ℕ) → j < length before → getD after j 0 ≡ bitXor (getD before j 0) (xorBack octets x n m j)
 
 -- the sum of f 0, f 1, .. of n numbers
 unfoldable pub sumTo : ℕ → (ℕ → ℕ) → ℕ
@@ -54,9 +54,9 @@ sumTo (suc n) f = sumTo n f + f n
 
 -- how many messages are held of all numbers
 abbrev pub countAll : List ℕ → ℕ
-countAll t = sumTo slotsHeard (mIn t)
+countAll table = sumTo slotsHeard (mIn table)
 
 -- how many of one number
-pub record MessageCount (t : List ℕ) (slot r : ℕ) : Type 0 where
-  pub same : r ≡ mIn t slot
+pub record MessageCount (table : List ℕ) (slot r : ℕ) : Type 0 where
+  pub same : r ≡ mIn table slot
   pub small : r ≤ messagesLimit

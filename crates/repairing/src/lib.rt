@@ -19,7 +19,7 @@ ghost use Rattle.views.specs.Repair.{usable};
 ghost use Rattle.held.specs.Slots.{keptOctets};
 ghost use Rattle.held.specs.Table.{places, cellsOf};
 ghost use Rattle.repairing.specs.Back.{Summed};
-ghost use Rattle.repairing.specs.Promise.{MendedOctets, AskedOctets, Points, MayMend, Fills, Mends, messageHeld, mAt, messageSizeAt};
+ghost use Rattle.repairing.specs.Promise.{AskedOctets, Points, MayMend, Fills, Mends, messageHeld, mAt, messageSizeAt};
 
 // The octets of the n numbers x - m, x - 2m, .., added to sum: as many of each as sum has.
 fn add_members(o: &[u8], x: u16, n: usize, m: u16, sum: &mut [u8])
@@ -50,36 +50,8 @@ fn size_of(base: u16, t: &[u16], distance: u16, index: usize) -> usize
     held::message_size_at(t, place)
 }
 
-// The exclusive or of a message and its members: the octets that mend stand at the front.
-fn mended(
-    base: u16,
-    t: &[u16],
-    o: &[u8],
-    g: &[u8],
-    distance: u16,
-    index: usize,
-) -> [u8; Packet::LIMIT]
-    requires { ⌜ MayMend base (now t) (now o) (now g) ⌝ }
-    requires { ⌜ distance < keptAhead ⌝ }
-    requires { ⌜ index < messagesLimit ⌝ }
-    requires { ⌜ index < mAt base (now t) distance ⌝ }
-    ensures { λ r. ⌜ MendedOctets base (now (t .entry)) (now (o .entry)) (now (g .entry)) distance index r ⌝ }
-{
-    let at = std::num::wrapping_add_u16(base, distance);
-    let slot = held::heard_slot(at);
-    let n = held::n_at(t, slot);
-    let m = narrow(held::m_at(t, slot));
-    let place = slot * Parity::MESSAGES + index;
-    let size = held::message_size_at(t, place);
-    let mut sum = [0u8; Packet::LIMIT];
-    stores::copy_out(g, place, size, &mut sum);
-    let first = std::num::wrapping_add_u16(at, narrow(index));
-    add_members(o, first, n, m, &mut sum[..size]);
-    sum
-}
-
-// The same over a packet's whole length, past the message's too: what a message asks of its unknown members together (document 02,
-// request 13).
+// The exclusive or of a message and its known members, over a packet's whole length: what the message asks of its unknown members together
+// (document 02, request 13). Of one unknown member it is that member's packet, as many octets of it as the message has.
 pub fn asked(
     base: u16,
     t: &[u16],
@@ -123,7 +95,7 @@ fn fill(
     requires { ⌜ usable (cellsOf base (now t) (now o)) (messageHeld base (now t) (now g) distance index) ≡ true ⌝ }
     ensures { λ _. ⌜ Fills note base (now (t .entry)) (now (o .entry)) (now (g .entry)) distance index (now (t .exit)) (now (o .exit)) ⌝ }
 {
-    let sum = mended(base, t, o, g, distance, index);
+    let sum = asked(base, t, o, g, distance, index);
     let size = size_of(base, t, distance, index);
     stores::put(o, slot, &sum[..size]);
     let octets = narrow(size);

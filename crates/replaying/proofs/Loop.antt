@@ -21,10 +21,10 @@ use Rattle.lines.specs.Lines.{Made, silent, _then_, linesFrom}
 use Rattle.lines.specs.Promise.{Does, Able, stepLimit}
 use Rattle.lines.proofs.Laws.{appends-front, appends-long}
 use Rattle.replays.specs.Replay.{replaySteps, replay}
-use Rattle.replays.specs.Promise.{Told, replayedOutcome, fittedText, toldOf}
+use Rattle.replays.specs.Promise.{ReplayAnswer, replayedOutcome, fittedText, replayAnswer}
 use Rattle.replays.specs.declared.Replayed.the-variants as replayed
 use Rattle.replays.proofs.Laws.{lines-none}
-use Rattle.replaying.specs.Inner.{playedFrom, Takes, Lays, Plays}
+use Rattle.replaying.specs.Inner.{playedFrom, TakesTraceLine, Lays, Plays}
 use Rattle.replaying.proofs.Laying.{lays-none, lays-long, lays-then}
 
 -- some lines are played
@@ -52,7 +52,7 @@ module _ {numbers trace : List ℕ} {writes : Bool} {old : List ℕ} {before ses
   pub playing-able : Able stepLimit session text 0
   playing-able = record { within = p .within; room = omega (arith, p .room) }
 
-  module _ {after : Lent} {made : List ℕ} {size next : ℕ} (t : Takes numbers trace at session after text made size next) where
+  module _ {after : Lent} {made : List ℕ} {size next : ℕ} (t : TakesTraceLine numbers trace at session after text made size next) where
     -- the text of the line
     line-text : take size made ≡ t .made .text
     line-text = appends-front (t .does .lent)
@@ -144,8 +144,8 @@ module _ {numbers trace : List ℕ} {writes : Bool} {old : List ℕ} {before ses
       let fits : leb (length (p .so-far)) (length old) ≡ true = le-leb (length (p .so-far)) (length old) (omega (arith, p .fits)) in
       record {
         answer =
-            sym (ap (λ (m : Made). toldOf m (fittedText m old)) all
-            ∙ ap (λ (b : Bool). toldOf (record { text = p .so-far; after = viewIn session }) (cond b (done (p .so-far)) (refuse noRoom)))
+            sym (ap (λ (m : Made). replayAnswer m (fittedText m old)) all
+            ∙ ap (λ (b : Bool). replayAnswer (record { text = p .so-far; after = viewIn session }) (cond b (done (p .so-far)) (refuse noRoom)))
             fits
             ∙ ap (λ (n : ℕ). done (record { counts = countsOf (session .counts); size = n })) (sym size));
         written = λ so room.

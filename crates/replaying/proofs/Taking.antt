@@ -15,7 +15,7 @@ use Rattle.lines.specs.FeedPromise.{Found}
 use Rattle.lines.proofs.Laws.{appends-none}
 use Rattle.replays.specs.Replay.{dropped, replayStep, replaySteps}
 use Rattle.replays.proofs.Laws.{lines-none, lines-first, lines-last, step-dropped, step-left}
-use Rattle.replaying.specs.Inner.{playedFrom, Takes}
+use Rattle.replaying.specs.Inner.{playedFrom, TakesTraceLine}
 
 -- ---- a line
 module _ (numbers line : List ℕ) {told : Bool} (is : told ≡ dropped numbers line) where
@@ -56,7 +56,7 @@ module _ (numbers trace : List ℕ) {at stop : ℕ} (before : Lent) {after : Len
 
   -- a line feed was found
   pub takes-line : {next : ℕ} → stop < length (take (length trace - at) (drop at trace)) → next ≡ at + stop + 1
-      → Takes numbers trace at before after old new size next
+      → TakesTraceLine numbers trace at before after old new size next
   takes-line {next} there is =
       let ends : stop < length (drop at trace) = rw (rest-of trace at) at there in
       let place : at + (stop + 1) ≡ next = omega arith in
@@ -73,7 +73,7 @@ module _ (numbers trace : List ℕ) {at stop : ℕ} (before : Lent) {after : Len
 
   -- the last line
   pub takes-last : {next : ℕ} → length (take (length trace - at) (drop at trace)) ≤ stop → next ≡ at + stop
-      → Takes numbers trace at before after old new size next
+      → TakesTraceLine numbers trace at before after old new size next
   takes-last {next} past is =
       let ends : length (drop at trace) ≤ stop = rw (rest-of trace at) at past in
       let end : length trace ≤ next = omega (arith, left-long) in

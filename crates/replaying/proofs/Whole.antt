@@ -16,18 +16,18 @@ use Rattle.lengths.specs.declared.Refusal.{Refusal}
 use Rattle.held.specs.declared.Counts.{Counts}
 use Rattle.lines.specs.Lines.{Made}
 use Rattle.replays.specs.Replay.{replay}
-use Rattle.replays.specs.Promise.{Told, replayedOutcome, fittedText, toldOf, Replays}
+use Rattle.replays.specs.Promise.{ReplayAnswer, replayedOutcome, fittedText, replayAnswer, Replays}
 use Rattle.replays.specs.declared.Replayed.{Replayed}
 use Rattle.replays.specs.declared.Replayed.the-variants as replayed
 use Rattle.replaying.specs.Inner.{Plays}
 
 -- ---- an answer tells whether the text fits
 -- the answer by the test
-abbrev asked : Made → Bool → Answer Told
-asked made b = toldOf made (cond b (done (made .text)) (refuse noRoom))
+abbrev asked : Made → Bool → Answer ReplayAnswer
+asked made b = replayAnswer made (cond b (done (made .text)) (refuse noRoom))
 
 module _ (made : Made) (old : List ℕ) where
-  done-fits : {r : Replayed} {c : Counts} {n : ℕ} → replayedOutcome r ≡ toldOf made (fittedText made old) → r ≡ replayed.Done c n
+  done-fits : {r : Replayed} {c : Counts} {n : ℕ} → replayedOutcome r ≡ replayAnswer made (fittedText made old) → r ≡ replayed.Done c n
       → length (made .text) ≤ length old
   done-fits {r} {c} {n} told is = leb-true (length (made .text)) (length old) (by (leb (length (made .text)) (length old)) refl) where
     by : (b : Bool) → leb (length (made .text)) (length old) ≡ b → b ≡ true
@@ -37,7 +37,7 @@ module _ (made : Made) (old : List ℕ) where
         let z : _≡_ {A = ℕ} 0 1 = cc in
         absurd (omega arith)
 
-  refused-full : {r : Replayed} {why : Refusal} → replayedOutcome r ≡ toldOf made (fittedText made old) → r ≡ replayed.Refused why
+  refused-full : {r : Replayed} {why : Refusal} → replayedOutcome r ≡ replayAnswer made (fittedText made old) → r ≡ replayed.Refused why
       → length old < length (made .text)
   refused-full {r} {why} told is = leb-false (length (made .text)) (length old) (by (leb (length (made .text)) (length old)) refl) where
     by : (b : Bool) → leb (length (made .text)) (length old) ≡ b → b ≡ false

@@ -10,7 +10,7 @@ use Rattle.held.specs.Table.{Lent, viewIn}
 use Rattle.lines.specs.Lines.{Made, _then_, linesFrom}
 use Rattle.lines.specs.Promise.{Appends, Does}
 use Rattle.replays.specs.Replay.{numberIn, replaySteps, replay}
-use Rattle.replays.specs.Promise.{replayedOutcome, fittedText, toldOf}
+use Rattle.replays.specs.Promise.{replayedOutcome, fittedText, replayAnswer}
 use Rattle.replays.specs.declared.Replayed.{Replayed}
 use Rattle.replaying.specs.declared.dropping.Front.{Front}
 use Rattle.replaying.specs.declared.dropping.Front.the-variants as front
@@ -29,7 +29,7 @@ abbrev pub playedFrom : List ℕ → List ℕ → ℕ → View → Made
 playedFrom numbers trace at view = replaySteps numbers (linesFrom [] (drop at trace)) view
 
 -- one line is taken: its text, the session after it, and what is left of the trace
-pub record Takes (numbers trace : List ℕ) (at : ℕ) (before after : Lent) (old new : List ℕ) (size next : ℕ) : Type 0 where
+pub record TakesTraceLine (numbers trace : List ℕ) (at : ℕ) (before after : Lent) (old new : List ℕ) (size next : ℕ) : Type 0 where
   pub made : Made
   pub does : Does made old 0 after size new
   pub on : playedFrom numbers trace at (viewIn before) ≡ made then playedFrom numbers trace next
@@ -48,7 +48,7 @@ keptAside = 131072
 
 -- all lines are played, written to the lent buffer or not: the replay's answer; where it is refused, what is lent may be written over
 pub record Plays (trace numbers : List ℕ) (writes : Bool) (old new : List ℕ) (r : Replayed) : Type 0 where
-  pub answer : replayedOutcome r ≡ toldOf (replay numbers trace) (fittedText (replay numbers trace) old)
+  pub answer : replayedOutcome r ≡ replayAnswer (replay numbers trace) (fittedText (replay numbers trace) old)
   pub written : writes ≡ true → length ((replay numbers trace) .text) ≤ length old
       → new ≡ (replay numbers trace) .text ++ drop (length ((replay numbers trace) .text)) old
   pub unwritten : writes ≡ false → new ≡ old

@@ -18,7 +18,7 @@ ghost use Rattle.held.specs.Table.{lent, viewIn};
 ghost use Rattle.held.specs.Laid.{InRanges};
 ghost use Rattle.lines.specs.Promise.{Does, Able, stepLimit};
 ghost use Rattle.replays.specs.Replay.{replayStep};
-ghost use Rattle.replaying.specs.Inner.{Takes, Lays, Plays};
+ghost use Rattle.replaying.specs.Inner.{TakesTraceLine, Lays, Plays};
 
 // One line of the trace: one that is dropped makes no line and no release, any other is the program's.
 pub fn replay_line(
@@ -69,7 +69,7 @@ fn take_line(
 ) -> Taken
     requires { ⌜ Able stepLimit (lent base counts (now t) (now o) (now g)) (now text) 0 ⌝ }
     requires { ⌜ at < length (now trace) ⌝ }
-    ensures { λ r. ⌜ Takes (now (numbers .entry)) (now (trace .entry)) at
+    ensures { λ r. ⌜ TakesTraceLine (now (numbers .entry)) (now (trace .entry)) at
         (lent base counts (now (t .entry)) (now (o .entry)) (now (g .entry)))
         (lent (r .base) (r .counts) (now (t .exit)) (now (o .exit)) (now (g .exit))) (now (text .entry)) (now (text .exit)) (r .size)
         (r .next) ⌝ }

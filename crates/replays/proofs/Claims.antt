@@ -5,7 +5,7 @@ use mathlib.Core.List.{List, [], _∷_}
 use Rattle.views.specs.View.{freshView}
 use Rattle.lines.specs.Lines.{Made, linesFrom, steps, program}
 use Rattle.replays.specs.Replay.{replay}
-use Rattle.replays.specs.Claims.{Claims, left}
+use Rattle.replays.specs.Claims.{Claims, notDropped}
 use Rattle.replays.proofs.Dropping.{dropped-exactly, dropped-none}
 use Rattle.replays.proofs.Rest.{rest, text-left, left-kept, dropped-nowhere, unreadable, give-up}
 use Rattle.replays.proofs.Lists.{lists-alike, listed-twice, never-occurs, left-more, left-among}
@@ -13,8 +13,8 @@ use Rattle.replays.proofs.OneOutcome.{one-outcome, refuses}
 use Rattle.replays.proofs.Cases.{cases}
 
 -- with an empty list all lines are left
-left-all : (lines : List (List ℕ)) → left [] lines ≡ lines
-unfolding left
+left-all : (lines : List (List ℕ)) → notDropped [] lines ≡ lines
+unfolding notDropped
 left-all [] = refl
 left-all (line ∷ lines) = left-kept [] line lines (dropped-none line) ∙ ap (λ (l : List (List ℕ)). line ∷ l) (left-all lines)
 

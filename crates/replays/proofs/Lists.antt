@@ -11,7 +11,7 @@ use Rattle.octets.proofs.Laws.{true-or-false, or-true}
 use Rattle.views.specs.View.{View, freshView}
 use Rattle.lines.specs.Lines.{Made, silent, step, linesFrom}
 use Rattle.replays.specs.Replay.{listed, dropped, replayStep, replaySteps, replay}
-use Rattle.replays.specs.Claims.{left}
+use Rattle.replays.specs.Claims.{notDropped}
 use Rattle.replays.proofs.Dropping.{or-false, dropped-alike, dropped-append}
 use Rattle.replays.proofs.Rest.{left-dropped, left-kept}
 
@@ -65,26 +65,26 @@ never-occurs numbers trace number never =
     dropped-append (number ∷ []) numbers line ∙ ap (λ (b : Bool). b || dropped numbers line) (never line among))
 
 -- ---- more numbers
-pub left-more : (numbers others : List ℕ) (lines : List (List ℕ)) → left (numbers ++ others) lines ≡ left numbers (left others lines)
-unfolding left
+pub left-more : (numbers others : List ℕ) (lines : List (List ℕ)) → notDropped (numbers ++ others) lines ≡ notDropped numbers (notDropped others lines)
+unfolding notDropped
 left-more numbers others [] = refl
 left-more numbers others (line ∷ lines) =
     ⊎-elim
     (λ is.
-    ap (λ (b : Bool). cond b (left (numbers ++ others) lines) (line ∷ left (numbers ++ others) lines))
+    ap (λ (b : Bool). cond b (notDropped (numbers ++ others) lines) (line ∷ notDropped (numbers ++ others) lines))
     (dropped-append numbers others line ∙ ap (λ (b : Bool). dropped numbers line || b) is ∙ or-true (dropped numbers line))
     ∙ left-more numbers others lines
-    ∙ ap (left numbers) (sym (left-dropped others line lines is)))
+    ∙ ap (notDropped numbers) (sym (left-dropped others line lines is)))
     (λ not.
-    ap (λ (b : Bool). cond b (left (numbers ++ others) lines) (line ∷ left (numbers ++ others) lines))
+    ap (λ (b : Bool). cond b (notDropped (numbers ++ others) lines) (line ∷ notDropped (numbers ++ others) lines))
     (dropped-append numbers others line ∙ ap (λ (b : Bool). dropped numbers line || b) not ∙ or-false (dropped numbers line))
     ∙ ap (λ (l : List (List ℕ)). cond (dropped numbers line) l (line ∷ l)) (left-more numbers others lines)
-    ∙ ap (left numbers) (sym (left-kept others line lines not)))
+    ∙ ap (notDropped numbers) (sym (left-kept others line lines not)))
     (true-or-false (dropped others line))
 
-pub left-among : (numbers line : List ℕ) (lines : List (List ℕ)) → Among line (left numbers lines)
+pub left-among : (numbers line : List ℕ) (lines : List (List ℕ)) → Among line (notDropped numbers lines)
     → Among line lines × (dropped numbers line ≡ false)
-unfolding left
+unfolding notDropped
 left-among numbers line [] among = absurd (List·Memᴰ·not-nil among)
 left-among numbers line (first ∷ lines) among =
     ⊎-elim

@@ -12,8 +12,8 @@ use Rattle.views.specs.View as views
 use Rattle.held.specs.Table.{countsOf}
 use Rattle.held.specs.declared.Counts.{Counts}
 use Rattle.replays.specs.Replay.{replay}
-use Rattle.replays.specs.Promise.{Told, replayedOutcome, fittedText, toldOf, Replays}
-use Rattle.replays.specs.Claims.{Refuses, OneOutcome}
+use Rattle.replays.specs.Promise.{ReplayAnswer, replayedOutcome, fittedText, replayAnswer, Replays}
+use Rattle.replays.specs.Claims.{ReplayRefuses, OneOutcome}
 use Rattle.replays.specs.declared.Replayed.{Replayed}
 use Rattle.replays.specs.declared.Replayed.the-variants as replayed
 
@@ -21,7 +21,7 @@ use Rattle.replays.specs.declared.Replayed.the-variants as replayed
 countsIn : views.Counts → Counts
 countsIn c = record { received = c .received; spare = c .spare; repaired = c .repaired; lost = c .lost }
 
-answerOf : Answer Told → Replayed
+answerOf : Answer ReplayAnswer → Replayed
 answerOf (done told) = replayed.Done (countsIn (told .counts)) (told .size)
 answerOf (refused why) = replayed.Refused why
 
@@ -38,7 +38,7 @@ one-outcome =
     }
 
 -- ---- its refusals
-told-refusal : (made : Made) (text : Answer (List ℕ)) → refusalIn (toldOf made text) ≡ refusalIn text
+told-refusal : (made : Made) (text : Answer (List ℕ)) → refusalIn (replayAnswer made text) ≡ refusalIn text
 told-refusal made (done t) = refl
 told-refusal made (refused why) = refl
 
@@ -59,5 +59,5 @@ unchanged {trace} {numbers} {old} a e =
     let made = replay numbers trace in
     a .lent ∙ over-refused (fittedText made old) old (sym (ap refusalIn (a .answer) ∙ told-refusal made (fittedText made old)) ∙ e)
 
-pub refuses : Refuses
+pub refuses : ReplayRefuses
 refuses = record { room = room; unchanged = unchanged }

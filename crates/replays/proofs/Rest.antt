@@ -17,7 +17,7 @@ use Rattle.lines.specs.Lines.{Made, silent, lineFeed, refusalLine, lineOffered,
 use Rattle.lines.specs.Lines.{linesFrom, steps, program}
 use Rattle.lines.proofs.Laws.{NoFeed}
 use Rattle.replays.specs.Replay.{numberIn, dropped, replayStep, replaySteps, replay}
-use Rattle.replays.specs.Claims.{left, ended}
+use Rattle.replays.specs.Claims.{notDropped, linesText}
 use Rattle.replays.proofs.TraceLines.{at-feed, at-other, past-line}
 use Rattle.replays.proofs.Dropping.{dropped-none, not-dropped}
 use Rattle.replays.proofs.Front.{short-left}
@@ -32,14 +32,14 @@ unfolding replayStep
 step-left numbers line view is = ap (λ (b : Bool). cond b (silent view) (step line view)) is
 
 pub left-dropped : (numbers line : List ℕ) (lines : List (List ℕ)) → dropped numbers line ≡ true
-    → left numbers (line ∷ lines) ≡ left numbers lines
-unfolding left
-left-dropped numbers line lines is = ap (λ (b : Bool). cond b (left numbers lines) (line ∷ left numbers lines)) is
+    → notDropped numbers (line ∷ lines) ≡ notDropped numbers lines
+unfolding notDropped
+left-dropped numbers line lines is = ap (λ (b : Bool). cond b (notDropped numbers lines) (line ∷ notDropped numbers lines)) is
 
 pub left-kept : (numbers line : List ℕ) (lines : List (List ℕ)) → dropped numbers line ≡ false
-    → left numbers (line ∷ lines) ≡ line ∷ left numbers lines
-unfolding left
-left-kept numbers line lines is = ap (λ (b : Bool). cond b (left numbers lines) (line ∷ left numbers lines)) is
+    → notDropped numbers (line ∷ lines) ≡ line ∷ notDropped numbers lines
+unfolding notDropped
+left-kept numbers line lines is = ap (λ (b : Bool). cond b (notDropped numbers lines) (line ∷ notDropped numbers lines)) is
 
 -- ---- all of them
 pub goes-dropped : (numbers line : List ℕ) (lines : List (List ℕ)) (view : View) → dropped numbers line ≡ true
@@ -53,8 +53,8 @@ goes-dropped numbers line lines view is =
     (step-dropped numbers line view is)
 
 goes-left : (numbers line : List ℕ) (lines : List (List ℕ)) (view : View) → dropped numbers line ≡ false
-    → replaySteps numbers lines ((step line view) .after) ≡ steps (left numbers lines) ((step line view) .after)
-    → replaySteps numbers (line ∷ lines) view ≡ steps (line ∷ left numbers lines) view
+    → replaySteps numbers lines ((step line view) .after) ≡ steps (notDropped numbers lines) ((step line view) .after)
+    → replaySteps numbers (line ∷ lines) view ≡ steps (line ∷ notDropped numbers lines) view
 unfolding replaySteps steps
 goes-left numbers line lines view is more =
     ap (λ (m : Made). record {
@@ -64,8 +64,8 @@ goes-left numbers line lines view is more =
     (step-left numbers line view is)
     ∙ ap (λ (m : Made). record { text = (step line view) .text ++ m .text; after = m .after }) more
 
-pub rest : (numbers : List ℕ) (lines : List (List ℕ)) (view : View) → replaySteps numbers lines view ≡ steps (left numbers lines) view
-unfolding replaySteps left steps
+pub rest : (numbers : List ℕ) (lines : List (List ℕ)) (view : View) → replaySteps numbers lines view ≡ steps (notDropped numbers lines) view
+unfolding replaySteps notDropped steps
 rest numbers [] view = refl
 rest numbers (line ∷ lines) view =
     ⊎-elim
@@ -88,24 +88,24 @@ plain-more (x ∷ s) c plain other (suc k) below e =
 
 -- the lines that are left of a line that has begun and of those behind it, made a text, are those of the text
 abbrev Back : List ℕ → List (List ℕ) → Type 0
-Back numbers lines = linesFrom [] (ended (left numbers lines)) ≡ left numbers lines
+Back numbers lines = linesFrom [] (linesText (notDropped numbers lines)) ≡ notDropped numbers lines
 
 module _ (numbers : List ℕ) where
   back-none : Back numbers []
-  unfolding left ended linesFrom
+  unfolding notDropped linesText linesFrom
   back-none = refl
 
   back-one : (line : List ℕ) (lines : List (List ℕ)) → NoFeed line (length line) → Back numbers lines → Back numbers (line ∷ lines)
-  unfolding left ended
+  unfolding notDropped linesText
   back-one line lines plain more =
       ⊎-elim
       (λ is.
-      ap (λ (l : List (List ℕ)). linesFrom [] (ended l)) (left-dropped numbers line lines is)
+      ap (λ (l : List (List ℕ)). linesFrom [] (linesText l)) (left-dropped numbers line lines is)
       ∙ more
       ∙ sym (left-dropped numbers line lines is))
       (λ not.
-      ap (λ (l : List (List ℕ)). linesFrom [] (ended l)) (left-kept numbers line lines not)
-      ∙ past-line line (ended (left numbers lines)) plain
+      ap (λ (l : List (List ℕ)). linesFrom [] (linesText l)) (left-kept numbers line lines not)
+      ∙ past-line line (linesText (notDropped numbers lines)) plain
       ∙ ap (λ (l : List (List ℕ)). line ∷ l) more
       ∙ sym (left-kept numbers line lines not))
       (true-or-false (dropped numbers line))
@@ -122,7 +122,7 @@ module _ (numbers : List ℕ) where
       (λ other. rw (at-other begun c input other) (back (begun ++ (c ∷ [])) input (plain-more begun c plain other)))
       (same-or-not c lineFeed)
 
-pub text-left : (numbers trace : List ℕ) → (replay numbers trace) .text ≡ program (ended (left numbers (linesFrom [] trace)))
+pub text-left : (numbers trace : List ℕ) → (replay numbers trace) .text ≡ program (linesText (notDropped numbers (linesFrom [] trace)))
 unfolding replay program
 text-left numbers trace =
     ap (λ (m : Made). m .text) (rest numbers (linesFrom [] trace) freshView)

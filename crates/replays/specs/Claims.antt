@@ -16,14 +16,14 @@ use Rattle.replays.specs.Cases.{Cases}
 use Rattle.replays.specs.declared.Replayed.{Replayed}
 
 -- "the rest": the lines that are not dropped, in order
-unfoldable pub left : List ℕ → List (List ℕ) → List (List ℕ)
-left numbers [] = []
-left numbers (line ∷ lines) = cond (dropped numbers line) (left numbers lines) (line ∷ left numbers lines)
+unfoldable pub notDropped : List ℕ → List (List ℕ) → List (List ℕ)
+notDropped numbers [] = []
+notDropped numbers (line ∷ lines) = cond (dropped numbers line) (notDropped numbers lines) (line ∷ notDropped numbers lines)
 
 -- lines as a text, each ended by a line feed
-unfoldable pub ended : List (List ℕ) → List ℕ
-ended [] = []
-ended (line ∷ lines) = line ++ lineFeed ∷ ended lines
+unfoldable pub linesText : List (List ℕ) → List ℕ
+linesText [] = []
+linesText (line ∷ lines) = line ++ lineFeed ∷ linesText lines
 
 -- a line's datagram has a number of the list
 pub record Listed (numbers line : List ℕ) : Type 0 where
@@ -34,9 +34,9 @@ pub record Listed (numbers line : List ℕ) : Type 0 where
 -- ---- "exactly as the program would have them"
 pub record AsProgram : Type 0 where
   -- the text and the session after are what the program makes of the lines that are left
-  pub rest : (numbers : List ℕ) (lines : List (List ℕ)) (view : View) → replaySteps numbers lines view ≡ steps (left numbers lines) view
+  pub rest : (numbers : List ℕ) (lines : List (List ℕ)) (view : View) → replaySteps numbers lines view ≡ steps (notDropped numbers lines) view
   -- so the text is what the program writes for the trace without the dropped lines
-  pub text : (numbers trace : List ℕ) → (replay numbers trace) .text ≡ program (ended (left numbers (linesFrom [] trace)))
+  pub text : (numbers trace : List ℕ) → (replay numbers trace) .text ≡ program (linesText (notDropped numbers (linesFrom [] trace)))
   -- with an empty list it is the program
   pub whole : (trace : List ℕ) → replay [] trace ≡ steps (linesFrom [] trace) freshView
   pub program : (trace : List ℕ) → (replay [] trace) .text ≡ program trace
@@ -68,12 +68,12 @@ pub record Lists : Type 0 where
       → replay (number ∷ numbers) trace ≡ replay numbers trace
   -- with more numbers listed fewer lines are left: those that are left of what was left, so none that was not in the trace. That is all:
   -- of what they release nothing like demand 3 is claimed (`Cases`, `in-time`)
-  pub more : (numbers others : List ℕ) (lines : List (List ℕ)) → left (numbers ++ others) lines ≡ left numbers (left others lines)
-  pub fromTrace : (numbers line : List ℕ) (lines : List (List ℕ)) → Among line (left numbers lines)
+  pub more : (numbers others : List ℕ) (lines : List (List ℕ)) → notDropped (numbers ++ others) lines ≡ notDropped numbers (notDropped others lines)
+  pub fromTrace : (numbers line : List ℕ) (lines : List (List ℕ)) → Among line (notDropped numbers lines)
       → Among line lines × (dropped numbers line ≡ false)
 
 -- ---- "Refusals: 13, the lines don't fit; nothing is written"
-pub record Refuses : Type 0 where
+pub record ReplayRefuses : Type 0 where
   pub room : {trace numbers old new : List ℕ} {r : Replayed} → Replays trace numbers old new r
       → refusalIn (replayedOutcome r) ≡ first (roomRow ((replay numbers trace) .text) old)
   pub unchanged : {trace numbers old new : List ℕ} {r : Replayed} {n : ℕ} → Replays trace numbers old new r
@@ -88,6 +88,6 @@ pub record Claims : Type 0 where
   pub asProgram : AsProgram
   pub dropping : Dropping
   pub lists : Lists
-  pub refuses : Refuses
+  pub refuses : ReplayRefuses
   pub oneOutcome : OneOutcome
   pub cases : Cases

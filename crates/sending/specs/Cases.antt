@@ -6,7 +6,7 @@ use mathlib.Core.List.{List, [], _∷_}
 use lib.ListN.{replicate}
 use Rattle.lengths.specs.Refusals.{outsideSizes, wrongSettings, allPassed, outsideRanges}
 use Rattle.lengths.specs.Answers.{refuse}
-use Rattle.datagrams.specs.Sizes.{packetLimit}
+use Rattle.datagrams.specs.Sizes.{packetLimit, sparesLimit}
 use Rattle.views.specs.View.{sessionLimit}
 use Rattle.sending.specs.Sending.{Sending, historyKept, freshSending}
 use Rattle.sending.specs.Send.{datagramToSend}
@@ -20,12 +20,12 @@ allSent = record { sent = sessionLimit; history = replicate historyKept (0x02 �
 
 -- one that has sent more, which is outside its ranges
 abbrev pub pastLimit : Sender
-pastLimit = record { sent = 1000001; sizes = []; octets = [] }
+pastLimit = record { sent = sessionLimit + 1; sizes = []; octets = [] }
 
 pub record RefusalCases : Type 0 where
-  pub ranges-first : toSend pastLimit (settings.Spares 9) [] ≡ refuse outsideRanges
-  pub passed-first : datagramToSend (settings.Spares 9) (0x06 ∷ []) allSent ≡ refuse allPassed
-  pub settings-then-size : datagramToSend (settings.Spares 9) [] freshSending ≡ refuse wrongSettings
+  pub ranges-first : toSend pastLimit (settings.Spares (sparesLimit + 1)) [] ≡ refuse outsideRanges
+  pub passed-first : datagramToSend (settings.Spares (sparesLimit + 1)) (0x06 ∷ []) allSent ≡ refuse allPassed
+  pub settings-then-size : datagramToSend (settings.Spares (sparesLimit + 1)) [] freshSending ≡ refuse wrongSettings
   -- n = 0 and m = 0 are settings outside the sizes
   pub n-0 : datagramToSend (settings.Parity 0 1) (0x06 ∷ []) freshSending ≡ refuse wrongSettings
   pub m-0 : datagramToSend (settings.Parity 1 0) (0x06 ∷ []) freshSending ≡ refuse wrongSettings

@@ -6,6 +6,7 @@ use mathlib.Core.List.{List, [], _∷_, map, flatten}
 use lib.ListN.{length, take, replicate}
 use Rattle.lengths.specs.Answers.{done}
 use Rattle.lengths.specs.declared.Written.the-variants as written
+use Rattle.datagrams.specs.Sizes.{sparesLimit}
 use Rattle.datagrams.specs.Write.{datagramToWrite}
 use Rattle.datagrams.specs.Claims.{ReadsAs}
 use Rattle.views.specs.View.{numbers}
@@ -63,10 +64,10 @@ pub record Cases : Type 0 where
   pub first-parity : datagramToSend (settings.Parity 8 4) (0x06 ∷ []) freshSending
       ≡ done (0x00 ∷ 0x00 ∷ 0x01 ∷ 0x06 ∷ 0x80 ∷ 0x01 ∷ 0x08 ∷ 0x04 ∷ 0x00 ∷ 0x00 ∷ 0x00 ∷ 0x00 ∷ [])
   -- after 65,536 packets the number is 0 again, and what was sent before it still counts
-  pub number-0-again : datagramToSend (settings.Spares 2) (0x06 ∷ []) (record { sent = 65536; history = replicate historyKept (0x02 ∷ []) })
+  pub number-0-again : datagramToSend (settings.Spares 2) (0x06 ∷ []) (record { sent = numbers; history = replicate historyKept (0x02 ∷ []) })
       ≡ done (0x00 ∷ 0x00 ∷ 0x01 ∷ 0x06 ∷ 0x00 ∷ 0x02 ∷ 0x01 ∷ 0x02 ∷ 0x01 ∷ 0x02 ∷ [])
-  -- a first send with k 8: no spares
-  pub first-spares : datagramToSend (settings.Spares 8) (0x06 ∷ []) freshSending ≡ done (0x00 ∷ 0x00 ∷ 0x01 ∷ 0x06 ∷ 0x00 ∷ 0x00 ∷ [])
+  -- a first send with the most spares: none
+  pub first-spares : datagramToSend (settings.Spares sparesLimit) (0x06 ∷ []) freshSending ≡ done (0x00 ∷ 0x00 ∷ 0x01 ∷ 0x06 ∷ 0x00 ∷ 0x00 ∷ [])
 
 pub record Claims : Type 0 where
   pub writtenRight : WrittenRight

@@ -77,7 +77,7 @@ unfolding offers.offered
 offered-done c view after e =
     let t =
     both-tests (ltb (distance (view .base) (c .number)) keptAhead) (offers.acceptedAt view (distance (view .base) (c .number)))
-    (ltb (distance (view .base) (c .number)) 32768) after (offers.accept (distance (view .base) (c .number)) c view) e in
+    (ltb (distance (view .base) (c .number)) offers.lateFrom) after (offers.accept (distance (view .base) (c .number)) c view) e in
     (ltb-true (distance (view .base) (c .number)) keptAhead (t .0), t .1)
 
 offer-done : (a : Answer DatagramParts) (octets : List ℕ) (view after : View)

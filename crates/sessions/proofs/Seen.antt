@@ -16,7 +16,7 @@ use Rattle.views.specs.Release.{Release, release, viewAfterRelease}
 use Rattle.held.specs.Table.{stateOf, lentBy, viewOf}
 use Rattle.held.specs.Laid.{InRanges}
 use Rattle.held.specs.Promise.{Fresh}
-use Rattle.held.specs.declared.Kind.{Kind}
+use Rattle.held.specs.declared.ReleaseKind.{ReleaseKind}
 use Rattle.held.specs.declared.Session.{Session}
 use Rattle.held.proofs.Laws.{in-ranges-true, session-in-ranges}
 use Rattle.leaving.specs.Outcome.{Handed, releasedOutcome, handedOf, octetsHanded}
@@ -39,14 +39,14 @@ accepted-told offered.Accepted e = refl
 accepted-told (offered.Refused why) e = let z : _≡_ {A = ℕ} 0 1 = cc in absurd (omega arith)
 
 -- a release that is answered with a number: what it handed out
-pub record HandedOut (x : Release) (kind : Kind) (number size : ℕ) (new : List ℕ) : Type 0 where
+pub record HandedOut (x : Release) (kind : ReleaseKind) (number size : ℕ) (new : List ℕ) : Type 0 where
   pub sameKind : stateOf kind ≡ x .kind
   pub sameNumber : number ≡ x .number
   pub octets : take size new ≡ x .octets
 
 -- what a release came to: a number, or a refusal
 number-told : (r : Released) (x : Release) → releasedOutcome r ≡ handedOf (done x)
-    → (kind : Kind) × (number : ℕ) × (note : ℕ) × (size : ℕ) × (r ≡ released.Number kind number note size)
+    → (kind : ReleaseKind) × (number : ℕ) × (note : ℕ) × (size : ℕ) × (r ≡ released.Number kind number note size)
 number-told (released.Number kind number note size) x e = (kind, number, note, size, refl)
 number-told (released.Refused why) x e = let z : _≡_ {A = ℕ} 0 1 = cc in absurd (omega arith)
 
@@ -87,7 +87,7 @@ module _ {s : Session} (within : InRanges (lentBy s)) where
         )
 
     pub release-done : {x : Release} → release leave (length old) (viewOf s) ≡ done x
-        → ((kind : Kind) × (number : ℕ) × (note : ℕ) × (size : ℕ) × (r .answer ≡ released.Number kind number note size))
+        → ((kind : ReleaseKind) × (number : ℕ) × (note : ℕ) × (size : ℕ) × (r .answer ≡ released.Number kind number note size))
         × SeenAs (x .after) (r .session)
     release-done {x} is =
         let all = release-is leave (length old) ∙ is in (
@@ -95,7 +95,7 @@ module _ {s : Session} (within : InRanges (lentBy s)) where
           subst (λ (a : Answer Release). After (viewAfterRelease a) s (r .session)) all (owes .state),
         )
 
-    pub release-handed : {x : Release} {kind : Kind} {number note size : ℕ} → release leave (length old) (viewOf s) ≡ done x
+    pub release-handed : {x : Release} {kind : ReleaseKind} {number note size : ℕ} → release leave (length old) (viewOf s) ≡ done x
         → r .answer ≡ released.Number kind number note size → HandedOut x kind number size new
     release-handed {x} {kind} {number} {note} {size} is answer =
         let all = release-is leave (length old) ∙ is in

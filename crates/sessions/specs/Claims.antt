@@ -14,7 +14,7 @@ use Rattle.views.specs.Offer as offers
 use Rattle.held.specs.Table.{viewOf}
 use Rattle.held.specs.Laid.{sessionInRanges}
 use Rattle.held.specs.Promise.{Fresh}
-use Rattle.held.specs.declared.Kind.the-variants.{Lost}
+use Rattle.held.specs.declared.ReleaseKind.the-variants.{Lost}
 use Rattle.held.specs.declared.Session.{Session}
 use Rattle.leaving.specs.declared.Released.the-variants as released
 use Rattle.sessions.specs.Receiver.{OfferOwes, offerOf, ReleaseOwes, releaseOf}

@@ -5,7 +5,7 @@ mod receiver;
 mod solver;
 
 pub use held::Counts;
-pub use held::Kind;
+pub use held::ReleaseKind;
 pub use held::Session;
 pub use leaving::Released;
 pub use offering::Offered;

@@ -15,7 +15,7 @@ use Rattle.views.specs.View.{View, Counts, numbers, sessionLimit, goneOn}
 use Rattle.views.specs.Release.{counted, movedOn}
 use Rattle.held.specs.Table.{lentBy, viewOf}
 use Rattle.held.specs.Laid.{InRanges}
-use Rattle.held.specs.declared.Kind.{Kind}
+use Rattle.held.specs.declared.ReleaseKind.{ReleaseKind}
 use Rattle.held.specs.declared.Session.{Session}
 use Rattle.leaving.specs.declared.Released.{Released}
 use Rattle.leaving.specs.declared.Released.the-variants as released
@@ -44,7 +44,7 @@ pub record DrainsTo (q n : ℕ) (before : View) (more : List Delivered) (t : Ses
   pub counts : (viewOf t) .counts ≡ countsOn n (kindsIn before) (before .counts)
 
 -- an answer is a number or a refusal, and not both
-not-both : {r : Released} {kind : Kind} {number note size : ℕ} {why : Refusal} → r ≡ released.Number kind number note size
+not-both : {r : Released} {kind : ReleaseKind} {number note size : ℕ} {why : Refusal} → r ≡ released.Number kind number note size
     → r ≡ released.Refused why → ⊥
 not-both e f = let z : _≡_ {A = ℕ} 0 1 = cc in omega arith
 

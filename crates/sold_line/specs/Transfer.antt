@@ -12,7 +12,7 @@ use Rattle.datagrams.specs.Sizes.{packetLimit}
 use Rattle.views.specs.Cells.{State}
 use Rattle.held.specs.Table.{stateOf}
 use Rattle.held.specs.Promise.{Fresh}
-use Rattle.held.specs.declared.Kind.{Kind}
+use Rattle.held.specs.declared.ReleaseKind.{ReleaseKind}
 use Rattle.held.specs.declared.Session.{Session}
 use Rattle.leaving.specs.declared.Released.the-variants as released
 use Rattle.offering.specs.declared.Offered.{Offered}
@@ -40,7 +40,7 @@ pub data Drained : Session → List Delivered → Session → Type 0 where
   ends : {s : Session} {old new : List ℕ} {r : AfterRelease} {why : Refusal} → packetLimit ≤ length old → ReleaseOwes s false old new r
       → r .answer ≡ released.Refused why
       → Drained s [] (r .session)
-  releases : {s t : Session} {old new : List ℕ} {r : AfterRelease} {kind : Kind} {number note size : ℕ} {more : List Delivered}
+  releases : {s t : Session} {old new : List ℕ} {r : AfterRelease} {kind : ReleaseKind} {number note size : ℕ} {more : List Delivered}
       → packetLimit ≤ length old → ReleaseOwes s false old new r → r .answer ≡ released.Number kind number note size
       → Drained (r .session) more t
       → Drained s (deliveredAs (stateOf kind) number (take size new) ∷ more) t

@@ -14,7 +14,7 @@ use Rattle.octets.specs.Place.{tab}
 use Rattle.octets.proofs.Laws.{tab-at, length-tab, below-or-not, same-or-not, true-or-false, and-both}
 use Rattle.linear.specs.Systems.{Alone, aloneRow}
 use Rattle.linear.proofs.Laws.{alone-found, alone-no-later}
-use Rattle.masks.specs.Masks.{bit, lonePlace}
+use Rattle.masks.specs.Masks.{hasPlace, lonePlace}
 use Rattle.masks.proofs.Laws.{lone-exact, lone-is}
 use Rattle.eliminating.specs.Rows.{tableRows, columns, rowAt, columnsOf}
 use Rattle.eliminating.specs.declared.Row.{Row}

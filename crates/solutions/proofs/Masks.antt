@@ -13,7 +13,7 @@ use Rattle.octets.specs.ExclusiveOr.{xorAt}
 use Rattle.octets.proofs.Laws.{below-or-not, same-or-not, true-or-false}
 use Rattle.linear.specs.Sums.{sumOver}
 use Rattle.linear.proofs.Laws.{xor-false, sum-same}
-use Rattle.masks.specs.Masks.{places, bit, maskOf}
+use Rattle.masks.specs.Masks.{maskPlaces, hasPlace, maskOf}
 use Rattle.masks.proofs.Laws.{bit-xor, bit-and, no-bit, bit-power, sum-mask}
 use Rattle.views.specs.Cells.{Cell, unknownAt}
 use Rattle.views.specs.Repair.{Message, passing, unknownMembers}
@@ -21,7 +21,7 @@ use Rattle.views.proofs.Laws.{passing-yes, passing-no}
 use Rattle.solutions.specs.Table.{unknownMask, equationMask}
 
 -- ---- the mask of the places that pass a test
-one-or-none : (t : Bool) (n p : ℕ) → n < places → p < places → bit (cond t (2 ^ n) 0) p ≡ (t && eqb p n)
+one-or-none : (t : Bool) (n p : ℕ) → n < maskPlaces → p < maskPlaces → hasPlace (cond t (2 ^ n) 0) p ≡ (t && eqb p n)
 one-or-none true n p low small = bit-power n p low small
 one-or-none false n p low small = no-bit p
 
@@ -38,7 +38,7 @@ unfolding xor
 false-xor true = refl
 false-xor false = refl
 
-sum-past : (n : ℕ) (test : ℕ → Bool) (p : ℕ) → n ≤ places → p < places → n ≤ p → bit (sumOver n test (λ q. 2 ^ q)) p ≡ false
+sum-past : (n : ℕ) (test : ℕ → Bool) (p : ℕ) → n ≤ maskPlaces → p < maskPlaces → n ≤ p → hasPlace (sumOver n test (λ q. 2 ^ q)) p ≡ false
 unfolding sumOver xor
 sum-past zero test p few small past = no-bit p
 sum-past (suc n) test p few small past =
@@ -46,7 +46,7 @@ sum-past (suc n) test p few small past =
     ∙ ap₂ xor (sum-past n test p (omega arith) small (omega arith))
     (one-or-none (test n) n p (omega arith) small ∙ ap (λ (t : Bool). test n && t) (ne-eqb p n (λ e. omega arith)) ∙ and-none (test n))
 
-sum-bits : (n : ℕ) (test : ℕ → Bool) (p : ℕ) → n ≤ places → p < n → bit (sumOver n test (λ q. 2 ^ q)) p ≡ test p
+sum-bits : (n : ℕ) (test : ℕ → Bool) (p : ℕ) → n ≤ maskPlaces → p < n → hasPlace (sumOver n test (λ q. 2 ^ q)) p ≡ test p
 unfolding sumOver xor
 sum-bits zero test p few below = absurd (omega arith)
 sum-bits (suc n) test p few below =
@@ -67,16 +67,16 @@ sum-bits (suc n) test p few below =
     ∙ xor-false (test p))
     (same-or-not p n)
 
-pub unknown-bit : (cells : List Cell) (p : ℕ) → p < places → bit (unknownMask cells) p ≡ unknownAt cells p
+pub unknown-bit : (cells : List Cell) (p : ℕ) → p < maskPlaces → hasPlace (unknownMask cells) p ≡ unknownAt cells p
 unfolding unknownMask
-unknown-bit cells p small = sum-bits places (unknownAt cells) p (omega arith) small
+unknown-bit cells p small = sum-bits maskPlaces (unknownAt cells) p (omega arith) small
 
-pub equation-bit : (cells : List Cell) (message : Message) (p : ℕ) → p < places
-    → bit (equationMask cells message) p ≡ (bit (maskOf (message .members)) p && unknownAt cells p)
+pub equation-bit : (cells : List Cell) (message : Message) (p : ℕ) → p < maskPlaces
+    → hasPlace (equationMask cells message) p ≡ (hasPlace (maskOf (message .members)) p && unknownAt cells p)
 unfolding equationMask
 equation-bit cells message p small =
     bit-and (maskOf (message .members)) (unknownMask cells) p
-    ∙ ap (λ (t : Bool). bit (maskOf (message .members)) p && t) (unknown-bit cells p small)
+    ∙ ap (λ (t : Bool). hasPlace (maskOf (message .members)) p && t) (unknown-bit cells p small)
 
 -- ---- the sum over it
 sum-and : (n : ℕ) (row test : ℕ → Bool) (values : ℕ → ℕ)
@@ -116,16 +116,16 @@ xorAt-masked test x (p ∷ l) k =
     (true-or-false (test p))
 
 pub equation-sum : (cells : List Cell) (message : Message) (x : ℕ → List ℕ) (k : ℕ)
-    → ((p : ℕ) → Among p (message .members) → p < places)
-    → sumOver places (bit (equationMask cells message)) (λ p. getD (x p) k 0) ≡ xorAt (map x (unknownMembers cells message)) k
+    → ((p : ℕ) → Among p (message .members) → p < maskPlaces)
+    → sumOver maskPlaces (hasPlace (equationMask cells message)) (λ p. getD (x p) k 0) ≡ xorAt (map x (unknownMembers cells message)) k
 equation-sum cells message x k inside =
     let u = unknownAt cells in
     let mask = maskOf (message .members) in
-    sum-same places (bit (equationMask cells message)) (λ p. bit mask p && u p) (λ p. getD (x p) k 0) (λ p. getD (x p) k 0)
+    sum-same maskPlaces (hasPlace (equationMask cells message)) (λ p. hasPlace mask p && u p) (λ p. getD (x p) k 0) (λ p. getD (x p) k 0)
     (λ p small. equation-bit cells message p small)
     (λ p small has. refl)
-    ∙ sum-and places (bit mask) u (λ p. getD (x p) k 0)
-    ∙ sum-same places (bit mask) (bit mask) (λ p. cond (u p) (getD (x p) k 0) 0) (λ p. getD (masked u x p) k 0) (λ p small. refl)
+    ∙ sum-and maskPlaces (hasPlace mask) u (λ p. getD (x p) k 0)
+    ∙ sum-same maskPlaces (hasPlace mask) (hasPlace mask) (λ p. cond (u p) (getD (x p) k 0) 0) (λ p. getD (masked u x p) k 0) (λ p small. refl)
     (λ p small has. sym (masked-at u x p k))
     ∙ sum-mask (masked u x) k (message .members) inside
     ∙ xorAt-masked u x (message .members) k

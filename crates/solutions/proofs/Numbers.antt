@@ -10,7 +10,7 @@ use borrow.Author.Tests.{lt-ltb, le-ltb}
 use native.Mathlib.Omega.{arith}
 use Rattle.octets.proofs.Laws.{tab-among, below-or-not}
 use Rattle.datagrams.specs.Sizes.{messagesLimit}
-use Rattle.masks.specs.Masks.{places}
+use Rattle.masks.specs.Masks.{maskPlaces}
 use Rattle.eliminating.specs.Rows.{tableRows}
 use Rattle.views.specs.Cells.{keptBefore, keptAhead}
 use Rattle.views.specs.Members.{membersOf}
@@ -25,7 +25,7 @@ use Rattle.solutions.specs.Table.{noMessage, messageOr, equationAt}
 pub record Numbered (messages : List Message) (eqAt : ℕ → Message) : Type 0 where
   pub there : (message : Message) → Among message messages → (e : ℕ) × (e < tableRows) × (message ≡ eqAt e)
   pub each : (e : ℕ) → e < tableRows → Among (eqAt e) messages ⊎ (eqAt e ≡ noMessage)
-  pub inside : (e p : ℕ) → e < tableRows → Among p ((eqAt e) .members) → p < places
+  pub inside : (e p : ℕ) → e < tableRows → Among p ((eqAt e) .members) → p < maskPlaces
 
 -- ---- a message that is there, and one that is not
 pub message-there : (held : List Held) (d i : ℕ) → i < length ((heldAt held d) .messages)
@@ -87,7 +87,7 @@ module _ {held : List Held} (f : Few held) where
       (λ past. inr (message-none held (e / messagesLimit) (e % messagesLimit) past))
       (below-or-not (e % messagesLimit) (length ((heldAt held (e / messagesLimit)) .messages)))
 
-  inside : (e p : ℕ) → e < tableRows → Among p ((equationAt held e) .members) → p < places
+  inside : (e p : ℕ) → e < tableRows → Among p ((equationAt held e) .members) → p < maskPlaces
   inside e p below m =
       let near : e / messagesLimit < keptAhead = omega arith in
       let reach = f .reach (e / messagesLimit) near in

@@ -14,7 +14,7 @@ use Rattle.octets.proofs.Laws.{tab-at, tab-ext, length-tab, xor-cancel-right, x
 use Rattle.datagrams.specs.Sizes.{packetLimit}
 use Rattle.linear.specs.Sums.{sumOver}
 use Rattle.linear.proofs.Laws.{sum-same, sum-alone}
-use Rattle.masks.specs.Masks.{bit}
+use Rattle.masks.specs.Masks.{hasPlace}
 use Rattle.eliminating.specs.Rows.{tableRows, columns, noRow, rowAt, sourceIn, startRow, askedBy, AllHold}
 use Rattle.eliminating.specs.declared.Row.{Row}
 use Rattle.eliminating.proofs.Laws.{start-mask, start-source}
@@ -70,10 +70,10 @@ module _ (cells : List Cell) (messages : List Message) (held : List Held) (n : N
   asked k e = sideAt cells (equationAt held e) k
 
   unknown-sum : (x : ℕ → List ℕ) (k e : ℕ) → e < tableRows
-      → sumOver columns (bit ((rowAt (startRows cells held) e) .mask)) (λ p. getD (x p) k 0)
+      → sumOver columns (hasPlace ((rowAt (startRows cells held) e) .mask)) (λ p. getD (x p) k 0)
       ≡ xorAt (map x (unknownMembers cells (equationAt held e))) k
   unknown-sum x k e below =
-      ap (λ (m : ℕ). sumOver columns (bit m) (λ p. getD (x p) k 0)) (row-mask cells held e below)
+      ap (λ (m : ℕ). sumOver columns (hasPlace m) (λ p. getD (x p) k 0)) (row-mask cells held e below)
       ∙ equation-sum cells (equationAt held e) x k (λ p m. n .inside e p below m)
 
   -- the known members, where their octets are the numbers'
@@ -125,7 +125,7 @@ module _ (cells : List Cell) (messages : List Message) (held : List Held) (n : N
   -- the masks have unknown places alone, so that the given values count
   filled-sum : (v : ℕ → ℕ → ℕ) (k e : ℕ) → k < packetLimit → e < tableRows
       → xorAt (map (filledIn cells v) (unknownMembers cells (equationAt held e))) k
-      ≡ sumOver columns (bit ((rowAt (startRows cells held) e) .mask)) (v k)
+      ≡ sumOver columns (hasPlace ((rowAt (startRows cells held) e) .mask)) (v k)
   filled-sum v k e inside below =
       let flat : ℕ → List ℕ = λ p. tab packetLimit (λ j. v k p) in
       let mask : ℕ = (rowAt (startRows cells held) e) .mask in
@@ -134,7 +134,7 @@ module _ (cells : List Cell) (messages : List Message) (held : List Held) (n : N
       filledIn-unknown v p k inside (passing-among (unknownAt cells) ((equationAt held e) .members) m .1)
       ∙ sym (tab-at packetLimit (λ j. v k p) k 0 inside))
       ∙ sym (unknown-sum flat k e below)
-      ∙ sum-same columns (bit mask) (bit mask) (λ p. getD (flat p) k 0) (v k) (λ c small. refl)
+      ∙ sum-same columns (hasPlace mask) (hasPlace mask) (λ p. getD (flat p) k 0) (v k) (λ c small. refl)
       (λ c small h. tab-at packetLimit (λ j. v k c) k 0 inside)
 
   filled-equation : (v : ℕ → ℕ → ℕ) (k e : ℕ) → k < packetLimit → e < tableRows → AllHold (asked k) (v k) (startRows cells held)

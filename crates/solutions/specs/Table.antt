@@ -10,7 +10,7 @@ use Rattle.octets.specs.Place.{tab}
 use Rattle.octets.specs.ExclusiveOr.{xorAt}
 use Rattle.datagrams.specs.Sizes.{packetLimit, messagesLimit}
 use Rattle.linear.specs.Sums.{sumOver}
-use Rattle.masks.specs.Masks.{places, maskOf}
+use Rattle.masks.specs.Masks.{maskPlaces, maskOf}
 use Rattle.eliminating.specs.Rows.{tableRows, startRow, askedBy}
 use Rattle.eliminating.specs.declared.Row.{Row}
 use Rattle.views.specs.Cells.{Cell, cellAt, unknownAt, keptBefore}
@@ -32,7 +32,7 @@ equationAt held e = messageOr held (e / messagesLimit) (e % messagesLimit)
 
 -- the mask of the unknown numbers, and of the unknown members of a message
 unfoldable pub unknownMask : List Cell → ℕ
-unknownMask cells = sumOver places (unknownAt cells) (λ p. 2 ^ p)
+unknownMask cells = sumOver maskPlaces (unknownAt cells) (λ p. 2 ^ p)
 
 unfoldable pub equationMask : List Cell → Message → ℕ
 equationMask cells message = bitAnd (maskOf (message .members)) (unknownMask cells)

@@ -12,7 +12,7 @@ use Rattle.datagrams.specs.Sizes.{packetLeast, packetLimit}
 use Rattle.datagrams.specs.Claims.{PartInside}
 use Rattle.datagrams.specs.Read.{octetsOf}
 use Rattle.datagrams.specs.declared.reader.Part.{Part}
-use Rattle.masks.specs.Masks.{places, lonePlace}
+use Rattle.masks.specs.Masks.{maskPlaces, lonePlace}
 use Rattle.masks.specs.Promise.{LoneFound}
 use Rattle.eliminating.specs.Rows.{tableRows, rowAt}
 use Rattle.eliminating.specs.declared.Row.{Row}
@@ -58,7 +58,7 @@ part-whole {all} {sum} {row} s =
     take-all packetLimit sum (omega (arith, sum-long s)) ∙ s .answer
 
 -- ---- the number at a place
-module _ (base first : ℕ) {place before near number : ℕ} (small : place < places) (eb : before ≡ keptBefore)
+module _ (base first : ℕ) {place before near number : ℕ} (small : place < maskPlaces) (eb : before ≡ keptBefore)
     (ef : (first + before) % numbers ≡ base) (en : near ≡ place) (ew : number ≡ (first + near) % numbers) where
   pub stands : number ≡ numberAt base place
   stands = omega arith
@@ -77,7 +77,7 @@ module _ (base first : ℕ) {place before near number : ℕ} (small : place < pl
       }
 
 -- ---- one row
-pub row-fills : {base place number : ℕ} {all sum t o newT newO : List ℕ} {row : Row} → LoneFound (row .mask) place → place < places
+pub row-fills : {base place number : ℕ} {all sum t o newT newO : List ℕ} {row : Row} → LoneFound (row .mask) place → place < maskPlaces
     → number ≡ numberAt base place → RowSummed all row sum
     → Keeps 0 repairedNumber number (octetsOf sum wholePart) t o newT newO → RowFills base all row t o newT newO
 unfolding filledRow stateNumbered
@@ -90,7 +90,7 @@ row-fills {base} {place} {number} {all} {sum} {t} {o} {newT} {newO} {row} lone s
     }
 
 -- a row that has no number alone
-outside : (base p : ℕ) (t o b : List ℕ) → places ≤ p → keep 0 repaired p b (cellsOf base t o) ≡ cellsOf base t o
+outside : (base p : ℕ) (t o b : List ℕ) → maskPlaces ≤ p → keep 0 repaired p b (cellsOf base t o) ≡ cellsOf base t o
 unfolding keep
 outside base p t o b past =
     ⊎-elim
@@ -100,7 +100,7 @@ outside base p t o b past =
     ap (λ (u : Bool). cond u (set (cellsOf base t o) p (filledCell 0 repaired b)) (cellsOf base t o)) known)
     (true-or-false (unknownAt (cellsOf base t o) p))
 
-pub row-none : {base place : ℕ} (all t o : List ℕ) {row : Row} → LoneFound (row .mask) place → places ≤ place
+pub row-none : {base place : ℕ} (all t o : List ℕ) {row : Row} → LoneFound (row .mask) place → maskPlaces ≤ place
     → RowFills base all row t o t o
 unfolding filledRow
 row-none {base} {place} all t o {row} lone past =

@@ -11,10 +11,10 @@ use native.Mathlib.Omega.{arith}
 use Rattle.octets.specs.Place.{allBelow}
 use Rattle.octets.proofs.Laws.{tab-at, length-tab, allBelow-ext, allBelow-more, true-or-false}
 use Rattle.datagrams.specs.Sizes.{packetLimit}
-use Rattle.linear.specs.First.{first}
+use Rattle.linear.specs.First.{firstPassing}
 use Rattle.linear.specs.Systems.{Empty, emptyTest}
 use Rattle.linear.proofs.Laws.{first-passes, first-least, empty-says, empty-of}
-use Rattle.masks.specs.Masks.{places, bit, firstPlace}
+use Rattle.masks.specs.Masks.{maskPlaces, hasPlace, firstPlace}
 use Rattle.masks.specs.Promise.{FirstFound}
 use Rattle.eliminating.specs.Rows.{tableRows, columns, rowAt}
 use Rattle.eliminating.specs.declared.Row.{Row}
@@ -22,19 +22,19 @@ use Rattle.stores.specs.Store.{HasSlot, zerosPast}
 use Rattle.solving.specs.Steps.{sumAt, rowSum, RowSummed, fits, RowTold, RowsTold}
 
 -- ---- one row
-pub row-columns : {all : List ℕ} {row : Row} {first : ℕ} → FirstFound (row .mask) first → first < places → RowTold all row true
+pub row-columns : {all : List ℕ} {row : Row} {firstPassing : ℕ} → FirstFound (row .mask) firstPassing → firstPassing < maskPlaces → RowTold all row true
 unfolding fits firstPlace
-row-columns {all} {row} {first} found early =
+row-columns {all} {row} {firstPassing} found early =
     record {
       answer =
           ⊎-elim
           (λ empty.
           absurd
           (false≢true
-          (sym (empty-says columns (bit (row .mask)) empty (firstPlace (row .mask)) (rw (found .answer) at early))
-          ∙ first-passes places (bit (row .mask)) (rw (found .answer) at early))))
+          (sym (empty-says columns (hasPlace (row .mask)) empty (firstPlace (row .mask)) (rw (found .answer) at early))
+          ∙ first-passes maskPlaces (hasPlace (row .mask)) (rw (found .answer) at early))))
           (λ some. sym (ap (λ (b : Bool). not b || allBelow packetLimit (λ k. eqb (sumAt all row k) 0)) some))
-          (true-or-false (emptyTest columns (bit (row .mask))));
+          (true-or-false (emptyTest columns (hasPlace (row .mask))));
     }
 
 -- the sum is one slot
@@ -44,10 +44,10 @@ sum-slot {all} {sum} {row} s =
     let long : length sum ≡ packetLimit = ap (λ (l : List ℕ). length l) (s .answer) ∙ length-tab packetLimit (sumAt all row) in
     omega arith
 
-pub row-empty : {all sum : List ℕ} {row : Row} {first : ℕ} {ok : Bool} → FirstFound (row .mask) first → places ≤ first
+pub row-empty : {all sum : List ℕ} {row : Row} {firstPassing : ℕ} {ok : Bool} → FirstFound (row .mask) firstPassing → maskPlaces ≤ firstPassing
     → RowSummed all row sum → ok ≡ zerosPast sum 0 0 → RowTold all row ok
 unfolding fits firstPlace zerosPast rowSum
-row-empty {all} {sum} {row} {first} {ok} found late summed e =
+row-empty {all} {sum} {row} {firstPassing} {ok} found late summed e =
     record {
       answer =
           e
@@ -59,13 +59,13 @@ row-empty {all} {sum} {row} {first} {ok} found late summed e =
           ∙ ap (λ (l : List ℕ). getD l j 0) (summed .answer)
           ∙ tab-at packetLimit (sumAt all row) j 0 small))
           ∙ sym
-          (ap (λ (b : Bool). not b || allBelow packetLimit (λ k. eqb (sumAt all row k) 0)) (empty-of columns (bit (row .mask)) empty));
+          (ap (λ (b : Bool). not b || allBelow packetLimit (λ k. eqb (sumAt all row k) 0)) (empty-of columns (hasPlace (row .mask)) empty));
     }
   where
-    empty : Empty columns (bit (row .mask))
+    empty : Empty columns (hasPlace (row .mask))
     empty c small =
-        ⊎-elim (λ has. absurd (omega (arith, first-least places (bit (row .mask)) c has, found .answer))) (λ none. none)
-        (true-or-false (bit (row .mask) c))
+        ⊎-elim (λ has. absurd (omega (arith, first-least maskPlaces (hasPlace (row .mask)) c has, found .answer))) (λ none. none)
+        (true-or-false (hasPlace (row .mask) c))
 
 -- ---- all rows: ok says whether those before i fit
 pub record Checked (all : List ℕ) (rows : List Row) (ok : Bool) (i : ℕ) : Type 0 where

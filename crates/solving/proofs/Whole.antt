@@ -16,7 +16,7 @@ use Rattle.lengths.proofs.Laws.{not-done}
 use Rattle.datagrams.specs.Sizes.{packetLimit}
 use Rattle.linear.specs.Systems.{emptyTest}
 use Rattle.linear.proofs.Laws.{sum-same}
-use Rattle.masks.specs.Masks.{bit, lonePlace}
+use Rattle.masks.specs.Masks.{hasPlace, lonePlace}
 use Rattle.eliminating.specs.Rows.{tableRows, columns, rowAt, sourceIn, askedBy}
 use Rattle.eliminating.specs.Eliminated.{eliminated}
 use Rattle.eliminating.specs.Promise.{Eliminates}
@@ -63,7 +63,7 @@ module _ {l : Lent} (w : InRanges l) {rows reduced : List Row} {all : List ℕ} 
   fit-is : (i : ℕ) → fits all (rowAt reduced i) ≡ rowFits cells held reduced i
   unfolding fits rowFits
   fit-is i =
-      ap (λ (b : Bool). not (emptyTest columns (bit ((rowAt reduced i) .mask))) || b)
+      ap (λ (b : Bool). not (emptyTest columns (hasPlace ((rowAt reduced i) .mask))) || b)
       (allBelow-ext packetLimit (λ k. eqb (sumAt all (rowAt reduced i) k) 0) (λ k. eqb (rowAsks cells held (rowAt reduced i) k) 0)
       (λ k inside. ap (λ (x : ℕ). eqb x 0) (sum-is (rowAt reduced i) k inside)))
 

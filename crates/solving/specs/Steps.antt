@@ -9,7 +9,7 @@ use lib.Dec.{eqb}
 use Rattle.octets.specs.Place.{tab, allBelow}
 use Rattle.datagrams.specs.Sizes.{packetLimit}
 use Rattle.linear.specs.Systems.{emptyTest}
-use Rattle.masks.specs.Masks.{bit, lonePlace}
+use Rattle.masks.specs.Masks.{hasPlace, lonePlace}
 use Rattle.eliminating.specs.Rows.{tableRows, columns, rowAt, askedBy}
 use Rattle.eliminating.specs.declared.Row.{Row}
 use Rattle.views.specs.Cells.{Cell, repaired}
@@ -46,7 +46,7 @@ pub record RowSummed (all : List ℕ) (row : Row) (r : List ℕ) : Type 0 where
 
 -- ---- whether it has columns, or asks for nothing
 unfoldable pub fits : List ℕ → Row → Bool
-fits all row = not (emptyTest columns (bit (row .mask))) || allBelow packetLimit (λ k. eqb (sumAt all row k) 0)
+fits all row = not (emptyTest columns (hasPlace (row .mask))) || allBelow packetLimit (λ k. eqb (sumAt all row k) 0)
 
 pub record RowTold (all : List ℕ) (row : Row) (r : Bool) : Type 0 where
   pub answer : r ≡ fits all row

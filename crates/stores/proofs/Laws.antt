@@ -14,7 +14,7 @@ use native.Mathlib.Omega.{arith}
 use borrow.Author.Tests.{lt-ltb, le-ltb, eqb-true}
 use Rattle.octets.proofs.Laws.{length-tab, tab-at, allBelow-at, allBelow-of, allBelow-ext, below-or-not, or-true}
 use Rattle.datagrams.specs.Sizes.{packetLimit}
-use Rattle.stores.specs.Store.{pasted, zeros, zerosPast, maskOver, part, added, HasSlot}
+use Rattle.stores.specs.Store.{allBits, pasted, zeros, zerosPast, maskOver, part, added, HasSlot}
 
 -- ---- zeros
 pub length-zeros : (n : ℕ) → length (zeros n) ≡ n
@@ -36,28 +36,28 @@ zeros-fit = omega (arith, length-zeros packetLimit)
 pub length-mask : (limit : ℕ) → length (maskOver limit) ≡ limit + limit
 unfolding maskOver
 length-mask limit =
-    length-append (zeros limit) (replicate limit 255)
-    ∙ ap₂ (λ (a b : ℕ). a + b) (length-zeros limit) (length-replicate {A = ℕ} limit 255)
+    length-append (zeros limit) (replicate limit allBits)
+    ∙ ap₂ (λ (a b : ℕ). a + b) (length-zeros limit) (length-replicate {A = ℕ} limit allBits)
 
 pub mask-low : (limit k : ℕ) → k < limit → getD (maskOver limit) k 0 ≡ 0
 unfolding maskOver
 mask-low limit k below =
-    List·getD-append (zeros limit) (replicate limit 255) 0 k (rw (length-zeros limit) below) ∙ zeros-at limit k
+    List·getD-append (zeros limit) (replicate limit allBits) 0 k (rw (length-zeros limit) below) ∙ zeros-at limit k
 
-pub mask-high : (limit k : ℕ) → k < limit → getD (maskOver limit) (limit + k) 0 ≡ 255
+pub mask-high : (limit k : ℕ) → k < limit → getD (maskOver limit) (limit + k) 0 ≡ allBits
 unfolding maskOver
 mask-high limit k below =
-    ap (λ (n : ℕ). getD (zeros limit ++ replicate limit 255) (n + k) 0) (sym (length-zeros limit))
-    ∙ getD-append-add (zeros limit) (replicate limit 255) k 0
-    ∙ getD-replicate limit k 255 0 below
+    ap (λ (n : ℕ). getD (zeros limit ++ replicate limit allBits) (n + k) 0) (sym (length-zeros limit))
+    ∙ getD-append-add (zeros limit) (replicate limit allBits) k 0
+    ∙ getD-replicate limit k allBits 0 below
 
 -- how it is made: zeros over the first half
-pub mask-made : (limit : ℕ) {run : List ℕ} → run ≡ zeros limit → run ++ drop limit (replicate (limit + limit) 255) ≡ maskOver limit
+pub mask-made : (limit : ℕ) {run : List ℕ} → run ≡ zeros limit → run ++ drop limit (replicate (limit + limit) allBits) ≡ maskOver limit
 unfolding maskOver
 mask-made limit {run} e =
     ap₂ (λ (a b : List ℕ). a ++ b) e
-    (ap (drop limit) (sym (replicate-append-replicate limit limit 255))
-    ∙ drop-at (replicate limit 255) (replicate limit 255) limit (length-replicate {A = ℕ} limit 255))
+    (ap (drop limit) (sym (replicate-append-replicate limit limit allBits))
+    ∙ drop-at (replicate limit allBits) (replicate limit allBits) limit (length-replicate {A = ℕ} limit allBits))
 
 -- ---- the part of a slot
 pub length-part : (o : List ℕ) (slot n : ℕ) → HasSlot slot o → n ≤ packetLimit → length (part o slot n) ≡ n

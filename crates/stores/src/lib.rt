@@ -9,6 +9,9 @@ ghost use mathlib.Core.List.{_++_};
 ghost use Rattle.datagrams.specs.Sizes.{packetLimit};
 ghost use Rattle.stores.specs.Store.{added, pasted, zeros, zerosFrom, zerosPast, maskOver, mask, part, HasSlot};
 
+// An octet with every bit set.
+const ALL_BITS: u8 = 255;
+
 // A length as it is kept, in sixteen bits, as a size.
 pub fn wide(n: u16) -> usize
     ensures { λ r. ⌜ r ≡ n ⌝ }
@@ -56,7 +59,7 @@ pub fn clear(o: &mut [u8], slot: usize)
 pub fn passing() -> [u8; Packet::LIMIT + Packet::LIMIT]
     ensures { λ r. ⌜ r ≡ mask ⌝ }
 {
-    let mut table = [255; Packet::LIMIT + Packet::LIMIT];
+    let mut table = [ALL_BITS; Packet::LIMIT + Packet::LIMIT];
     clear_run(&mut table[..Packet::LIMIT]);
     table
 }

@@ -7,8 +7,8 @@ use lib.ListN.{length, take, drop, length-drop}
 use lib.Seq.{length-take-le}
 use native.Mathlib.Omega.{arith}
 use Rattle.octets.proofs.Laws.{below-or-not}
-use Rattle.comparisons.specs.Pairing.{TraceLine, numberIn}
-use Rattle.comparisons.specs.Told.{Told, Where, told, stopped}
+use Rattle.comparisons.specs.Pairing.{TraceLine, numberOfLine}
+use Rattle.comparisons.specs.Told.{PlacedAnswer, Where, told, stopped}
 use Rattle.comparisons.specs.Promise.{comparedOutcome}
 use Rattle.comparisons.specs.declared.Compared.{Compared}
 use Rattle.comparisons.specs.declared.Compared.the-variants as compared
@@ -36,7 +36,7 @@ one-next {trace} {at} {end} {next} {stop} {after} a b =
 
 -- ---- a trace
 kept-count : {which : ℕ} {trace numbers starts : List ℕ} {count : ℕ} → TraceKept which trace numbers starts count
-    → count ≡ length (map numberIn (datagramLines which trace))
+    → count ≡ length (map numberOfLine (datagramLines which trace))
 kept-count {which} {trace} {numbers} {starts} {count} t =
     sym (length-take-le count numbers (t .inside)) ∙ ap length (t .kept .each)
 
@@ -70,11 +70,11 @@ module _ {which : ℕ} {trace : List ℕ} where
   one-read (read.Refused answer) (read.Refused other) a b =
       let one = a .refused answer refl in
       let two = b .refused other refl in
-      let both : _≡_ {A = Told (List TraceLine)} (stopped (one .why) (one .place)) (stopped (two .why) (two .place)) =
+      let both : _≡_ {A = PlacedAnswer (List TraceLine)} (stopped (one .why) (one .place)) (stopped (two .why) (two .place)) =
       sym (one .read) ∙ two .read in
       let why : one .why ≡ two .why = cc in
       let place : one .place ≡ two .place = cc in
-      let stops : _≡_ {A = Told ℕ} (stopped (one .why) (one .place)) (stopped (two .why) (two .place)) = ap₂ stopped why place in
+      let stops : _≡_ {A = PlacedAnswer ℕ} (stopped (one .why) (one .place)) (stopped (two .why) (two .place)) = ap₂ stopped why place in
       ap read.Refused (same-answer answer other (one .told ∙ stops ∙ sym (two .told)))
 
 pub claims : Claims

@@ -21,7 +21,7 @@ use Rattle.datagrams.specs.declared.reader.DatagramRead.{DatagramRead}
 use Rattle.datagrams.proofs.Laws.{refused-read, accepted-read}
 use Rattle.lines.specs.Hex.{lineOctets}
 use Rattle.line_steps.proofs.Laws.{line-fits, read-octets, read-refused}
-use Rattle.comparisons.specs.Traces.{carriedIn, datagramIn}
+use Rattle.comparisons.specs.Traces.{datagramOf, datagramIn}
 use Rattle.trace_lines.specs.Lines.{heldOutcome, numberTold, KeepsLine}
 use Rattle.trace_lines.specs.declared.reading.Held.{Held}
 use Rattle.trace_lines.specs.declared.reading.Held.the-variants as held
@@ -30,12 +30,12 @@ use Rattle.trace_lines.specs.declared.reading.Kept.the-variants as kept
 -- ---- octets
 module _ {s : List ℕ} {r : DatagramRead} (reads : DatagramReads s r) where
   pub octets-number : {number : ℕ} {packet : Part} {k : Kind} {count : ℕ} → r .reading ≡ reading.Datagram number packet k count
-      → heldOutcome (held.Number number) ≡ numberTold (carriedIn s)
-  unfolding carriedIn carriedBy
+      → heldOutcome (held.Number number) ≡ numberTold (datagramOf s)
+  unfolding datagramOf carriedBy
   octets-number is = sym (ap (λ a. numberTold (mapped (carriedBy s) a)) (accepted-read reads is))
 
-  pub octets-refused : {why : Refusal} → r .reading ≡ reading.Refused why → heldOutcome (held.Refused why) ≡ numberTold (carriedIn s)
-  unfolding carriedIn
+  pub octets-refused : {why : Refusal} → r .reading ≡ reading.Refused why → heldOutcome (held.Refused why) ≡ numberTold (datagramOf s)
+  unfolding datagramOf
   octets-refused is = sym (ap (λ a. numberTold (mapped (carriedBy s) a)) (refused-read reads is))
 
 -- ---- a line
@@ -44,17 +44,17 @@ pub room-for : (line old : List ℕ) → datagramLimit ≤ length old → (l : L
 room-for line old work l e = omega (arith, line-fits line l e)
 
 module _ (line : List ℕ) {old new : List ℕ} {r : Written} (work : datagramLimit ≤ length old) (p : Puts (lineOctets line) old new r) where
-  pub line-number : {size : ℕ} (h : Held) → r ≡ written.Octets size → heldOutcome h ≡ numberTold (carriedIn (take size new))
+  pub line-number : {size : ℕ} (h : Held) → r ≡ written.Octets size → heldOutcome h ≡ numberTold (datagramOf (take size new))
       → heldOutcome h ≡ numberTold (datagramIn line)
   unfolding datagramIn
   line-number {size} h is so =
       let octets = read-octets (lineOctets line) size old new (room-for line old work) (sym (ap writtenOutcome is) ∙ p .answer) (p .lent) in
-      so ∙ sym (ap (λ (a : Answer (List ℕ)). numberTold (answers._>>=_ a carriedIn)) (octets .0))
+      so ∙ sym (ap (λ (a : Answer (List ℕ)). numberTold (answers._>>=_ a datagramOf)) (octets .0))
 
   pub line-refused : {why : Refusal} → r ≡ written.Refused why → heldOutcome (held.Refused why) ≡ numberTold (datagramIn line)
   unfolding datagramIn
   line-refused {why} is =
-      sym (ap (λ (a : Answer (List ℕ)). numberTold (answers._>>=_ a carriedIn))
+      sym (ap (λ (a : Answer (List ℕ)). numberTold (answers._>>=_ a datagramOf))
       (read-refused (lineOctets line) why old (room-for line old work) (sym (ap writtenOutcome is) ∙ p .answer)))
 
 -- ---- what is kept of it

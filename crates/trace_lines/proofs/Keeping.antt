@@ -8,7 +8,7 @@ use lib.ListN.{length, getD, getElem?, take, set, length-append, length-set}
 use lib.Seq.{take-suc-set, getD-set-same, getD-set-other}
 use native.Mathlib.Numerals.{add-one}
 use native.Mathlib.Omega.{arith}
-use Rattle.comparisons.specs.Pairing.{TraceLine, numberIn}
+use Rattle.comparisons.specs.Pairing.{TraceLine, numberOfLine}
 use Rattle.trace_lines.specs.Lines.{Stands, KeptTrace}
 
 -- the k-th of some lines with one behind them
@@ -31,14 +31,14 @@ kept-none trace numbers starts =
 module _ {trace : List ℕ} {lines : List TraceLine} (numbers : List ℕ) {starts : List ℕ} (count : ℕ)
     (kept : KeptTrace trace lines (take count numbers) starts) (counted : length lines ≡ count) where
   pub kept-more : (l : TraceLine) (at : ℕ) → count < length numbers → count < length starts → Stands trace at l
-      → KeptTrace trace (lines ++ (l ∷ [])) (take (count + 1) (set numbers count (numberIn l))) (set starts count at)
+      → KeptTrace trace (lines ++ (l ∷ [])) (take (count + 1) (set numbers count (numberOfLine l))) (set starts count at)
   kept-more l at number place stands =
       record {
         each =
-            ap (λ (n : ℕ). take n (set numbers count (numberIn l))) (add-one count)
-            ∙ take-suc-set numbers count (numberIn l) number
-            ∙ ap (λ (f : List ℕ). f ++ (numberIn l ∷ [])) (kept .each)
-            ∙ sym (map-append numberIn lines (l ∷ []));
+            ap (λ (n : ℕ). take n (set numbers count (numberOfLine l))) (add-one count)
+            ∙ take-suc-set numbers count (numberOfLine l) number
+            ∙ ap (λ (f : List ℕ). f ++ (numberOfLine l ∷ [])) (kept .each)
+            ∙ sym (map-append numberOfLine lines (l ∷ []));
         places = λ k m e.
             ⊎-elim
             (λ before.

@@ -11,8 +11,8 @@ use Rattle.lengths.specs.Answers.{Answer, done, refused}
 use Rattle.lengths.specs.declared.Refusal.{Refusal}
 use Rattle.datagrams.specs.Carried.{Carried}
 use Rattle.lines.specs.Lines.{linesFrom}
-use Rattle.comparisons.specs.Pairing.{TraceLine, numberIn}
-use Rattle.comparisons.specs.Told.{Told, told, stopped}
+use Rattle.comparisons.specs.Pairing.{TraceLine, numberOfLine}
+use Rattle.comparisons.specs.Told.{PlacedAnswer, told, stopped}
 use Rattle.comparisons.specs.Traces.{datagramIn, linesRead, traceRead}
 use Rattle.comparisons.specs.declared.Compared.the-variants as compared
 use Rattle.comparisons.proofs.Laws.{behind, behind-none, behind-behind, read-none, read-empty, read-done, read-refused, empty-or-some}

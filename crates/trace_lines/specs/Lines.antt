@@ -8,8 +8,8 @@ use Rattle.lengths.specs.Answers.{Answer, done, refused, mapped}
 use Rattle.lengths.specs.declared.Refusal.{Refusal}
 use Rattle.datagrams.specs.Carried.{Carried}
 use Rattle.lines.specs.Lines.{linesFrom}
-use Rattle.comparisons.specs.Pairing.{TraceLine, numberIn}
-use Rattle.comparisons.specs.Told.{Told, told, stopped, Where}
+use Rattle.comparisons.specs.Pairing.{TraceLine, numberOfLine}
+use Rattle.comparisons.specs.Told.{PlacedAnswer, told, stopped, Where}
 use Rattle.comparisons.specs.Traces.{datagramIn, traceRead}
 use Rattle.comparisons.specs.Promise.{comparedOutcome}
 use Rattle.comparisons.specs.declared.Compared.{Compared}
@@ -72,7 +72,7 @@ pub record Stands (trace : List ℕ) (at : ℕ) (l : TraceLine) : Type 0 where
 
 -- the numbers of some lines, and the places where they begin
 pub record KeptTrace (trace : List ℕ) (lines : List TraceLine) (numbers starts : List ℕ) : Type 0 where
-  pub each : numbers ≡ map numberIn lines
+  pub each : numbers ≡ map numberOfLine lines
   pub places : (k : ℕ) (l : TraceLine) → getElem? lines k ≡ some l → Stands trace (getD starts k 0) l
   pub room : length lines ≤ length starts
 
@@ -82,7 +82,7 @@ pub record RoomForLines (trace numbers starts : List ℕ) : Type 0 where
   pub place : length (linesFrom [] trace) ≤ length starts
 
 -- the lines of a trace that hold datagrams
-abbrev pub toldLines : Told (List TraceLine) → List TraceLine
+abbrev pub toldLines : PlacedAnswer (List TraceLine) → List TraceLine
 toldLines (told lines) = lines
 toldLines (stopped why place) = []
 

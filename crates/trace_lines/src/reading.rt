@@ -11,7 +11,7 @@ ghost use mathlib.Core.List.{[]};
 ghost use Prim.Native.Nat.{_<_};
 ghost use lib.ListN.{length};
 ghost use Rattle.lines.specs.Lines.{linesFrom};
-ghost use Rattle.comparisons.specs.Traces.{carriedIn, datagramIn};
+ghost use Rattle.comparisons.specs.Traces.{datagramOf, datagramIn};
 ghost use Rattle.trace_lines.specs.Lines.{LineCut, heldOutcome, numberTold, RoomFor, KeepsLine, RoomForLines, ReadsTrace};
 
 // Where a line ends, and where the next begins.
@@ -56,7 +56,7 @@ enum Held {
 }
 
 fn read_octets(octets: &[u8]) -> Held
-    ensures { λ r. ⌜ heldOutcome r ≡ numberTold (carriedIn (now (octets .entry))) ⌝ }
+    ensures { λ r. ⌜ heldOutcome r ≡ numberTold (datagramOf (now (octets .entry))) ⌝ }
 {
     let found = datagram_reader::read(octets);
     let reading = found.reading;

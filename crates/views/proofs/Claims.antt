@@ -8,8 +8,6 @@ use Rattle.views.proofs.Least.{known-within, known-reached, reached-kno
 use Rattle.views.proofs.Honest.{repair-right}
 use Rattle.views.proofs.Burst.{burst-mended, burst-repaired}
 use Rattle.views.proofs.Spares.{spares-exact}
-use Rattle.views.proofs.Pair.{as-the-pair}
-use Rattle.views.proofs.Forgotten.{notes-apart}
 
 pub claims : Claims
 claims =
@@ -30,6 +28,4 @@ claims =
       burstMended = burst-mended;
       burstRepaired = burst-repaired;
       sparesExact = spares-exact;
-      asThePair = as-the-pair;
-      notesApart = notes-apart;
     }

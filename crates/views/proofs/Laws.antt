@@ -39,4 +39,3 @@ pub use Rattle.views.proofs.GoesOn.{lastPlace, lastAhead, cell-next, ce
 pub use Rattle.views.proofs.Stays.{fresh-sound, offer-sound, sum-counted, release-sound}
 -- ---- a release
 pub use Rattle.views.proofs.Release.{Leaves, release-leaves}
-pub use Rattle.views.proofs.Pair.{unknown-base}

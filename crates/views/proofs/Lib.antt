@@ -20,8 +20,6 @@ pub mod Holding
 pub mod GoesOn
 pub mod Ranges
 pub mod Release
-pub mod Pair
 pub mod Stays
-pub mod Forgotten
 pub mod Claims
 pub mod Laws

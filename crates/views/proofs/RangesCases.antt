@@ -10,7 +10,7 @@ unfolding inRanges sumRight sizeRight noteRight markRight heldRight cellsRight n
 ranges-cases =
     record {
       at-start = refl;
-      after-65535 = refl;
+      after-last = refl;
       base-apart = refl;
       sum-at-limit = refl;
       sum-past-limit = refl;
@@ -35,7 +35,7 @@ ranges-cases =
       n-without-messages = refl;
       n-0 = refl;
       most = refl;
-      n-9 = refl;
-      m-5 = refl;
+      n-over = refl;
+      m-over = refl;
       message-over = refl;
     }

@@ -24,14 +24,6 @@ unknown-size spare size b u e = absurd (false≢true u)
 unknown-size repaired size b u e = absurd (false≢true u)
 unknown-size blank size b u e = absurd (false≢true u)
 
-pub unknown-note : (state : State) (note number : ℕ) → isUnknown state ≡ true → noteRight state note number ≡ true → note ≡ 0
-unfolding noteRight
-unknown-note unknown note number u e = eqb-true note 0 e
-unknown-note received note number u e = absurd (false≢true u)
-unknown-note spare note number u e = absurd (false≢true u)
-unknown-note repaired note number u e = absurd (false≢true u)
-unknown-note blank note number u e = absurd (false≢true u)
-
 -- ---- what is held
 settings-sizes : (b : Bool) (n m : ℕ) → eqb m 0 ≡ b
     → cond b (eqb n 0) ((leb coveredLeast n && leb n coveredLimit) && leb m messagesLimit) ≡ true

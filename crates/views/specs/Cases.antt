@@ -10,8 +10,8 @@ use Rattle.datagrams.specs.Carried.{Carried, spares, parity}
 use Rattle.views.specs.Cells.{unknown, spare, Cell, blankCell, unknownCell, filledCell, keptBefore, keptAhead}
 use Rattle.views.specs.Held.{Held, nothingHeld}
 use Rattle.views.specs.RepairCases.{came, filled, holding}
-use Rattle.views.specs.View.{View, Counts, sessionLimit, freshView}
-use Rattle.views.specs.Offer.{offer, offered}
+use Rattle.views.specs.View.{View, Counts, numbers, sessionLimit, freshView}
+use Rattle.views.specs.Offer.{offer, offered, lateFrom}
 use Rattle.views.specs.Release.{release}
 
 -- ---- what stands in them
@@ -68,6 +68,10 @@ started = session 0 0 blankCell
 abbrev pub later : ℕ → ℕ → List Cell → List Held → View
 later base passed = session base passed unknownCell
 
+-- the last number: 0 comes after it
+abbrev pub lastNumber : ℕ
+lastNumber = numbers - 1
+
 -- after 1,000,000 the base is `42 40`
 abbrev pub atLimit : List Cell → List Held → View
 atLimit = later 0x4240 sessionLimit
@@ -91,25 +95,26 @@ pub record OfferCases : Type 0 where
       ≡ done (record {
         base = 1;
         counts = record { received = 1; spare = 0; repaired = 0; lost = 0 };
-        cells = replicate 31 unknownCell ++ (restored ∷ member ∷ arrived 2 ∷ replicate 30 unknownCell);
-        held = marked ∷ overTwo ∷ replicate 30 nothingHeld;
+        cells = replicate (keptBefore - 1) unknownCell ++ (restored ∷ member ∷ arrived 2 ∷ replicate (keptAhead - 2) unknownCell);
+        held = marked ∷ overTwo ∷ replicate (keptAhead - 2) nothingHeld;
       })
   -- its message is kept while two members are missing
   pub two-missing : offered (withMessage 2) freshView
       ≡ done (started (unknownCell ∷ unknownCell ∷ arrived 2 ∷ []) (nothingHeld ∷ nothingHeld ∷ overTwo ∷ []))
   -- after base 65,535 comes number 0
-  pub across-65535 : offered (alone 0) (later 65535 65535 [] [])
-      ≡ done (later 65535 65535 (unknownCell ∷ arrived 0 ∷ []) (nothingHeld ∷ marked ∷ []))
+  pub across-last : offered (alone 0) (later lastNumber lastNumber [] [])
+      ≡ done (later lastNumber lastNumber (unknownCell ∷ arrived 0 ∷ []) (nothingHeld ∷ marked ∷ []))
   -- an offer is never refused by 16
   pub at-limit : offered (alone 0x4240) (atLimit [] []) ≡ done (atLimit (arrived 0x4240 ∷ []) (marked ∷ []))
   -- "d up to 31 may be accepted, 32 to 32,767 is refusal 8, more is 9"
-  pub ahead-31 : offered (alone 31) freshView
-      ≡ done (started (replicate 31 unknownCell ++ (arrived 31 ∷ [])) (replicate 31 nothingHeld ++ (marked ∷ [])))
-  pub far-32767 : offered (alone 32767) freshView ≡ refuse tooFar
-  pub late-32768 : offered (alone 32768) freshView ≡ refuse late
+  pub last-ahead : offered (alone (keptAhead - 1)) freshView
+      ≡ done (started (replicate (keptAhead - 1) unknownCell ++ (arrived (keptAhead - 1) ∷ []))
+      (replicate (keptAhead - 1) nothingHeld ++ (marked ∷ [])))
+  pub last-far : offered (alone (lateFrom - 1)) freshView ≡ refuse tooFar
+  pub first-late : offered (alone lateFrom) freshView ≡ refuse late
   -- "reading order, then 8 or 9, then 7": a number that has left is late, not repeated
   pub read-first : offer (0x01 ∷ 0x00 ∷ []) freshView ≡ refuseAt 2 endsEarly
-  pub far-first : offered (alone 32) (started (arrived 0 ∷ []) (marked ∷ [])) ≡ refuse tooFar
+  pub far-first : offered (alone keptAhead) (started (arrived 0 ∷ []) (marked ∷ [])) ≡ refuse tooFar
   pub late-first : offered (alone 0) (later 1 1 (arrived 1 ∷ []) []) ≡ refuse late
   pub again : offered (alone 0) (started (arrived 0 ∷ []) (marked ∷ [])) ≡ refuse repeated
 
@@ -123,16 +128,16 @@ pub record ReleaseCases : Type 0 where
   -- leave skips no known number: a short buffer is 13
   pub no-room-with-leave : release true 0 (started (copy 1 ∷ []) []) ≡ refuse noRoom
   -- a spare is counted as it leaves, with leave too, and gives its note; after 65,535 comes 0, and what comes into view has note 0
-  pub spare-leaves : release true 1 (later 65535 65535 (copy 1 ∷ []) (marked ∷ []))
+  pub spare-leaves : release true 1 (later lastNumber lastNumber (copy 1 ∷ []) (marked ∷ []))
       ≡ done (record {
         kind = spare;
-        number = 65535;
+        number = lastNumber;
         note = 1;
         octets = 0x02 ∷ [];
         after = record {
           base = 0;
-          counts = record { received = 65535; spare = 1; repaired = 0; lost = 0 };
-          cells = replicate 31 unknownCell ++ (copy 1 ∷ replicate keptAhead unknownCell);
+          counts = record { received = lastNumber; spare = 1; repaired = 0; lost = 0 };
+          cells = replicate (keptBefore - 1) unknownCell ++ (copy 1 ∷ replicate keptAhead unknownCell);
           held = replicate keptAhead nothingHeld;
         };
       })
@@ -146,7 +151,7 @@ pub record ReleaseCases : Type 0 where
         after = record {
           base = 1;
           counts = record { received = 0; spare = 0; repaired = 0; lost = 1 };
-          cells = replicate 31 blankCell ++ (unknownCell ∷ replicate keptAhead unknownCell);
+          cells = replicate (keptBefore - 1) blankCell ++ (unknownCell ∷ replicate keptAhead unknownCell);
           held = replicate keptAhead nothingHeld;
         };
       })

@@ -9,8 +9,6 @@ pub mod Ranges
 pub mod Offer
 pub mod Spares
 pub mod Release
-pub mod Pair
-pub mod Forgotten
 pub mod Claims
 pub mod RepairCases
 pub mod Cases

@@ -1,27 +1,28 @@
 -- What stands at the edges of document 01's 'Ranges of a session': each case says whether it is within them. Definitions only.
-use Prim.Native.Nat.{_+_}
+use Prim.Native.Nat.{_+_, _-_}
 use mathlib.Core.Path.{_≡_}
 use mathlib.Core.Bool.{true, false}
 use mathlib.Core.List.{[], _∷_}
 use lib.ListN.{replicate}
-use Rattle.datagrams.specs.Sizes.{packetLimit, messageLimit}
-use Rattle.views.specs.Cells.{unknown, received, spare, repaired, blank}
+use Rattle.datagrams.specs.Sizes.{packetLimit, messageLimit, coveredLimit, messagesLimit}
+use Rattle.views.specs.Cells.{unknown, received, spare, repaired, blank, keptBefore}
 use Rattle.views.specs.RepairCases.{holding}
-use Rattle.views.specs.View.{freshView}
+use Rattle.views.specs.View.{numbers, sessionLimit, freshView}
 use Rattle.views.specs.Ranges.{sumRight, blankAt, sizeRight, noteRight, markRight, heldRight, inRanges}
 use Rattle.views.specs.Cases.{later, atLimit}
 
 pub record RangesCases : Type 0 where
   pub at-start : inRanges freshView ≡ true
   -- "Base equals the sum of counts modulo 65,536, sum at most 1,000,000."
-  pub after-65535 : sumRight (later 0 65536 [] []) ≡ true
-  pub base-apart : sumRight (later 1 65536 [] []) ≡ false
+  pub after-last : sumRight (later 0 numbers [] []) ≡ true
+  pub base-apart : sumRight (later 1 numbers [] []) ≡ false
   pub sum-at-limit : sumRight (atLimit [] []) ≡ true
-  pub sum-past-limit : sumRight (later 0x4241 1000001 [] []) ≡ false
-  -- "The number j before the base is blank exactly if j exceeds the sum; no other is blank.": at place 31 stands j = 1, at 32 the base
-  pub before-first : blankAt 0 31 ≡ true
-  pub first-left : blankAt 1 31 ≡ false
-  pub base-not-blank : blankAt 0 32 ≡ false
+  pub sum-past-limit : sumRight (later 0x4241 (sessionLimit + 1) [] []) ≡ false
+  -- "The number j before the base is blank exactly if j exceeds the sum; no other is blank.": at place keptBefore - 1 stands j = 1, at
+  -- keptBefore the base
+  pub before-first : blankAt 0 (keptBefore - 1) ≡ true
+  pub first-left : blankAt 1 (keptBefore - 1) ≡ false
+  pub base-not-blank : blankAt 0 keptBefore ≡ false
   pub blank-elsewhere : sizeRight blank 0 false ≡ false
   pub not-blank : sizeRight unknown 0 true ≡ false
   -- "Unknown and blank have length 0, others 1 to [the packet limit]."
@@ -43,7 +44,7 @@ pub record RangesCases : Type 0 where
   pub bare-messages : markRight false true 1 1 ≡ false
   pub n-without-messages : markRight true true 1 0 ≡ false
   pub n-0 : markRight true true 0 1 ≡ false
-  pub most : markRight true true 8 4 ≡ true
-  pub n-9 : markRight true true 9 4 ≡ false
-  pub m-5 : markRight true true 8 5 ≡ false
+  pub most : markRight true true coveredLimit messagesLimit ≡ true
+  pub n-over : markRight true true (coveredLimit + 1) messagesLimit ≡ false
+  pub m-over : markRight true true coveredLimit (messagesLimit + 1) ≡ false
   pub message-over : heldRight (holding 1 (replicate (messageLimit + 1) 1 ∷ [])) true ≡ false

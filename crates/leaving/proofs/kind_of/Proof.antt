@@ -4,7 +4,7 @@ use mathlib.Core.Path.{_≡_}
 use native.Mathlib.Omega.{arith}
 use borrow.Author.Tests.{eq-eqb, ne-eqb}
 use Rattle.held.specs.Table.{lastState, stateNumbered}
-use Rattle.held.specs.declared.Kind.the-variants.{Repaired}
+use Rattle.held.specs.declared.ReleaseKind.the-variants.{Repaired}
 use Rattle.leaving.specs.Steps.{Named}
 use Rattle.leaving.proofs.kind_of.Statement.{statement}
 use Rattle.leaving.proofs.kind_of.Tie as tie

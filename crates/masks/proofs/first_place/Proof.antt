@@ -1,7 +1,7 @@
 -- `masks::first_place` meets its contract. The loop's invariant: no place before is there. The measure is the places left. Assumes
 -- nothing.
 use Prim.Native.Nat.{_-_}
-use Rattle.masks.specs.Masks.{places}
+use Rattle.masks.specs.Masks.{maskPlaces}
 use Rattle.masks.proofs.Places.{Looking, looking-start, looking-turn, looking-found, looking-none}
 use borrow.Author.Needs.{needs}
 use Rattle.masks.proofs.first_place.Statement.{statement}
@@ -11,7 +11,7 @@ abbrev Inv-loop : tie.InvT-loop
 Inv-loop mask p₀ p = Looking mask p
 
 abbrev μ-loop : tie.MeasureT-loop
-μ-loop mask p₀ p = places - p
+μ-loop mask p₀ p = maskPlaces - p
 
 loop-holds : tie.Need-loop-holds Inv-loop μ-loop
 loop-holds c = search looking-start

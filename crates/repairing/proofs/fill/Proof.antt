@@ -6,8 +6,8 @@ use borrow.Author.Needs.{needs}
 use Rattle.repairing.proofs.fill.Statement.{statement}
 use Rattle.repairing.proofs.fill.Tie as tie
 
-mended-requires : tie.Need-mended-requires
-mended-requires c κs =
+asked-requires : tie.Need-asked-requires
+asked-requires c κs =
     let start = c .before .before .before .before .before in (
       start .pre .0,
       (
@@ -30,7 +30,7 @@ array-share-prefix-sum c =
       arith,
       size-fits (start .pre .0 .within) (start .pre .1 .0) (start .pre .1 .1)
           (size .size-of .ensures),
-      sum .mended .ensures .long,
+      sum .asked .ensures .long,
     )
 
 slice-aggregate-put : tie.Need-slice-aggregate-put
@@ -39,7 +39,7 @@ slice-aggregate-put c =
     let sum = size .before .before in
     let start = sum .before .before .before .before .before .before in
     let fits = size-fits (start .pre .0 .within) (start .pre .1 .0) (start .pre .1 .1) (size .size-of .ensures) in
-    omega (arith, fits, length-take (size .size-of .result) (sum .mended .result), sum .mended .ensures .long)
+    omega (arith, fits, length-take (size .size-of .result) (sum .asked .result), sum .asked .ensures .long)
 
 put-requires : tie.Need-put-requires
 put-requires c κs =
@@ -48,7 +48,7 @@ put-requires c κs =
     let start = sum .before .before .before .before .before .before in
     let fits = size-fits (start .pre .0 .within) (start .pre .1 .0) (start .pre .1 .1) (size .size-of .ensures) in (
       omega (arith, slot-fits (start .pre .0 .within) (start .pre .1 .0) (start .pre .1 .1), start .pre .0 .within .laid .octets),
-      omega (arith, fits, length-take (size .size-of .result) (sum .mended .result)),
+      omega (arith, fits, length-take (size .size-of .result) (sum .asked .result)),
     )
 
 narrow-requires : tie.Need-narrow-requires
@@ -80,7 +80,7 @@ returns c =
     record {
       fills =
           λ counts w.
-          filled w (start .pre .1 .0) (start .pre .1 .1) (sum .mended .ensures) (size .size-of .ensures) (put .put .ensures)
+          filled w (start .pre .1 .0) (start .pre .1 .1) (sum .asked .ensures) (size .size-of .ensures) (put .put .ensures)
           (octets .narrow .ensures) (kept .set-kept .ensures);
     }
 
@@ -88,7 +88,7 @@ pub fill-spec : {M : Type 1} → statement M
 fill-spec =
     tie.close
     (tie.spec
-    mended-requires
+    asked-requires
     size-of-requires
     array-share-prefix-sum
     slice-aggregate-put

@@ -13,7 +13,7 @@ use Rattle.images.specs.Promise.{Restores, ImageRead}
 use Rattle.images.specs.declared.Restore.{Restore}
 use Rattle.images.specs.declared.Restore.the-variants as restore
 use Rattle.images.specs.declared.Restored.{Restored}
-use Rattle.handover.specs.Promise.{Begins}
+use Rattle.handover.specs.Promise.{BeginsWith}
 use Rattle.handover.proofs.loading.restored.Statement.{statement}
 use Rattle.handover.proofs.loading.restored.Tie as tie
 
@@ -22,11 +22,11 @@ within-either-way restore.Done within = within
 within-either-way (restore.Refused why) fresh = session-in-ranges _ (fresh .ranges) (fresh .sized)
 
 begins-done : {text : List ℕ} (r : Restored) → ImageRead text r → r .answer ≡ restore.Done
-    → Begins text (record { session = r .session; well = true })
+    → BeginsWith text (record { session = r .session; well = true })
 begins-done r read told =
     record { state = λ e. sym (rw told at (read .answer)); within = within-either-way (r .answer) (read .state) }
 
-begins-not : {text : List ℕ} (r : Restored) → ImageRead text r → Begins text (record { session = r .session; well = false })
+begins-not : {text : List ℕ} (r : Restored) → ImageRead text r → BeginsWith text (record { session = r .session; well = false })
 begins-not r read = record { state = λ e. absurd (false≢true e); within = within-either-way (r .answer) (read .state) }
 
 read-requires : tie.Need-read-requires

@@ -16,11 +16,11 @@ cast-third c = search needs
 cast-fourth : tie.Need-cast-fourth
 cast-fourth c = search needs
 
-slice-aggregate-put-octets : tie.Need-slice-aggregate-put-octets
-slice-aggregate-put-octets c = search needs
+slice-aggregate-put-digits : tie.Need-slice-aggregate-put-digits
+slice-aggregate-put-digits c = search needs
 
-put-octets-requires : tie.Need-put-octets-requires
-put-octets-requires c κs = count-room _ (c .before .before .before .pre)
+put-digits-requires : tie.Need-put-digits-requires
+put-digits-requires c κs = count-room _ (c .before .before .before .pre)
 
 same-length : tie.Need-same-length
 same-length c = search needs
@@ -36,7 +36,7 @@ put-count-spec =
     cast-second
     cast-third
     cast-fourth
-    slice-aggregate-put-octets
-    put-octets-requires
+    slice-aggregate-put-digits
+    put-digits-requires
     same-length
     returns)

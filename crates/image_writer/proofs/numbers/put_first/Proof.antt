@@ -11,22 +11,22 @@ cast-high c = search needs
 cast-low : tie.Need-cast-low
 cast-low c = search needs
 
-slice-aggregate-put-octets : tie.Need-slice-aggregate-put-octets
-slice-aggregate-put-octets c = search needs
+slice-aggregate-put-digits : tie.Need-slice-aggregate-put-digits
+slice-aggregate-put-digits c = search needs
 
-put-octets-requires : tie.Need-put-octets-requires
-put-octets-requires c κs = room-hex _ (room-front _ _ (c .before .before .before .pre))
+put-digits-requires : tie.Need-put-digits-requires
+put-digits-requires c κs = room-hex _ (room-front _ _ (c .before .before .before .pre))
 
 put-count-requires : tie.Need-put-count-requires
 put-count-requires c κs =
     let front = c .before .before .before in
-    room-front _ _ (room-rest _ (front .put-octets .ensures) (front .before .before .before .before .pre))
+    room-front _ _ (room-rest _ (front .put-digits .ensures) (front .before .before .before .before .pre))
 
 put-count-requires-2 : tie.Need-put-count-requires-2
 put-count-requires-2 c κs =
     let one = c .before .before .before in
     let front = one .before .before .before .before in
-    let after-front = room-rest _ (front .put-octets .ensures) (front .before .before .before .before .pre) in
+    let after-front = room-rest _ (front .put-digits .ensures) (front .before .before .before .before .pre) in
     room-front _ _ (room-rest _ (one .put-count .ensures) after-front)
 
 put-count-requires-3 : tie.Need-put-count-requires-3
@@ -34,7 +34,7 @@ put-count-requires-3 c κs =
     let two = c .before .before .before in
     let one = two .before .before .before .before in
     let front = one .before .before .before .before in
-    let after-front = room-rest _ (front .put-octets .ensures) (front .before .before .before .before .pre) in
+    let after-front = room-rest _ (front .put-digits .ensures) (front .before .before .before .before .pre) in
     let after-one = room-rest _ (one .put-count .ensures) after-front in
     room-front _ _ (room-rest _ (two .put-count2 .ensures) after-one)
 
@@ -44,7 +44,7 @@ put-count-requires-4 c κs =
     let two = three .before .before .before .before in
     let one = two .before .before .before .before in
     let front = one .before .before .before .before in
-    let after-front = room-rest _ (front .put-octets .ensures) (front .before .before .before .before .pre) in
+    let after-front = room-rest _ (front .put-digits .ensures) (front .before .before .before .before .pre) in
     let after-one = room-rest _ (one .put-count .ensures) after-front in
     let after-two = room-rest _ (two .put-count2 .ensures) after-one in
     room-front _ _ (room-rest _ (three .put-count3 .ensures) after-two)
@@ -56,7 +56,7 @@ end-line-requires c κs =
     let two = three .before .before .before .before in
     let one = two .before .before .before .before in
     let front = one .before .before .before .before in
-    let after-front = room-rest _ (front .put-octets .ensures) (front .before .before .before .before .pre) in
+    let after-front = room-rest _ (front .put-digits .ensures) (front .before .before .before .before .pre) in
     let after-one = room-rest _ (one .put-count .ensures) after-front in
     let after-two = room-rest _ (two .put-count2 .ensures) after-one in
     let after-three = room-rest _ (three .put-count3 .ensures) after-two in
@@ -73,7 +73,7 @@ returns c =
     let two = three .before .before .before .before in
     let one = two .before .before .before .before in
     let front = one .before .before .before .before in
-    appends-then (front .put-octets .ensures)
+    appends-then (front .put-digits .ensures)
     (appends-then (one .put-count .ensures)
     (appends-then (two .put-count2 .ensures)
     (appends-then (three .put-count3 .ensures) (appends-then (four .put-count4 .ensures) (feed .end-line .ensures)))))
@@ -84,8 +84,8 @@ put-first-spec =
     (tie.spec
     cast-high
     cast-low
-    slice-aggregate-put-octets
-    put-octets-requires
+    slice-aggregate-put-digits
+    put-digits-requires
     put-count-requires
     put-count-requires-2
     put-count-requires-3

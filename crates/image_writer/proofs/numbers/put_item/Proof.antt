@@ -31,14 +31,14 @@ put-item-requires c κs =
 array-share-prefix-octets : tie.Need-array-share-prefix-octets
 array-share-prefix-octets c = search needs
 
-slice-aggregate-put-octets : tie.Need-slice-aggregate-put-octets
-slice-aggregate-put-octets c =
+slice-aggregate-put-digits : tie.Need-slice-aggregate-put-digits
+slice-aggregate-put-digits c =
     let put = c .before .before in
     let args = put .before .before .before .before .before .args in
     taken-long (args .store .now) (args .slot) (args .size) (put .put-item .ensures)
 
-put-octets-requires : tie.Need-put-octets-requires
-put-octets-requires c κs =
+put-digits-requires : tie.Need-put-digits-requires
+put-digits-requires c κs =
     let put = c .before .before .before in
     let start = put .before .before .before .before .before in
     let args = start .args in
@@ -52,7 +52,7 @@ returns c =
     let octets = c .before .before in
     let put = octets .before .before .before .before in
     let args = put .before .before .before .before .before .args in
-    taken-put (args .store .now) (args .slot) (args .size) (put .put-item .ensures) (octets .put-octets .ensures)
+    taken-put (args .store .now) (args .slot) (args .size) (put .put-item .ensures) (octets .put-digits .ensures)
 
 pub put-item-spec : {M : Type 1} → statement M
 put-item-spec =
@@ -66,7 +66,7 @@ put-item-spec =
     slice-aggregate-put-item
     put-item-requires
     array-share-prefix-octets
-    slice-aggregate-put-octets
-    put-octets-requires
+    slice-aggregate-put-digits
+    put-digits-requires
     same-length
     returns)

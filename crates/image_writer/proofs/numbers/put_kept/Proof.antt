@@ -22,11 +22,11 @@ cast-high c = search needs
 cast-low : tie.Need-cast-low
 cast-low c = search needs
 
-slice-aggregate-put-octets : tie.Need-slice-aggregate-put-octets
-slice-aggregate-put-octets c = search needs
+slice-aggregate-put-digits : tie.Need-slice-aggregate-put-digits
+slice-aggregate-put-digits c = search needs
 
-put-octets-requires : tie.Need-put-octets-requires
-put-octets-requires c κs = room-hex _ (room-front _ _ (c .before .before .before .before .before .before .before .before .pre .1 .1 .1))
+put-digits-requires : tie.Need-put-digits-requires
+put-digits-requires c κs = room-hex _ (room-front _ _ (c .before .before .before .before .before .before .before .before .pre .1 .1 .1))
 
 size-at-requires : tie.Need-size-at-requires
 size-at-requires c κs = search needs
@@ -39,7 +39,7 @@ put-item-requires c κs =
     let t = start .args .t .now in
     let row = start .args .row in
     kept-asked t row (start .args .o .now) (c .before .size-at .ensures)
-    (front-put t row (told .before .before .state-at .ensures) (told .note-at .ensures) (front .put-octets .ensures))
+    (front-put t row (told .before .before .state-at .ensures) (told .note-at .ensures) (front .put-digits .ensures))
     (start .pre .0) (start .pre .1 .0) (start .pre .1 .1 .0) (start .pre .1 .1 .1)
 
 same-length : tie.Need-same-length
@@ -55,7 +55,7 @@ returns c =
     let t = start .args .t .now in
     let row = start .args .row in
     kept-put t row (start .args .o .now) (size .size-at .ensures)
-    (front-put t row (told .before .before .state-at .ensures) (told .note-at .ensures) (front .put-octets .ensures))
+    (front-put t row (told .before .before .state-at .ensures) (told .note-at .ensures) (front .put-digits .ensures))
     (item .put-item .ensures)
 
 pub put-kept-spec : {M : Type 1} → statement M
@@ -68,8 +68,8 @@ put-kept-spec =
     note-at-requires
     cast-high
     cast-low
-    slice-aggregate-put-octets
-    put-octets-requires
+    slice-aggregate-put-digits
+    put-digits-requires
     size-at-requires
     put-item-requires
     same-length

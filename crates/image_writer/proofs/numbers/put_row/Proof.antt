@@ -17,11 +17,11 @@ cast-n c = search needs
 cast-m : tie.Need-cast-m
 cast-m c = search needs
 
-slice-aggregate-put-octets : tie.Need-slice-aggregate-put-octets
-slice-aggregate-put-octets c = search needs
+slice-aggregate-put-digits : tie.Need-slice-aggregate-put-digits
+slice-aggregate-put-digits c = search needs
 
-put-octets-requires : tie.Need-put-octets-requires
-put-octets-requires c κs =
+put-digits-requires : tie.Need-put-digits-requires
+put-digits-requires c κs =
     let kept = c .before .before .before .before .before .before in
     let start = kept .before .before .before .before .before .before in
     let args = start .args in
@@ -36,7 +36,7 @@ put-messages-requires c κs =
     let pre = start .pre in
     let row = pre .1 .1 .1 .0 in
     let room = row-messages (args .t .now) (args .o .now) (args .g .now) (args .row) (kept .put-kept .ensures)
-    (counts .put-octets .ensures) (pre .1 .1 .1 .1) in
+    (counts .put-digits .ensures) (pre .1 .1 .1 .1) in
     (pre .0, (pre .1 .1 .0, (row .heard, (row .few, room))))
 
 end-line-requires : tie.Need-end-line-requires
@@ -46,7 +46,7 @@ end-line-requires c κs =
     let kept = counts .before .before .before .before .before .before .before in
     let start = kept .before .before .before .before .before .before in
     let args = start .args in
-    row-feed (args .t .now) (args .o .now) (args .g .now) (args .row) (kept .put-kept .ensures) (counts .put-octets .ensures)
+    row-feed (args .t .now) (args .o .now) (args .g .now) (args .row) (kept .put-kept .ensures) (counts .put-digits .ensures)
     (messages .put-messages .ensures) (start .pre .1 .1 .1 .1)
 
 same-length : tie.Need-same-length
@@ -59,7 +59,7 @@ returns c =
     let counts = messages .before .before .before .before in
     let kept = counts .before .before .before .before .before .before .before in
     let args = kept .before .before .before .before .before .before .args in
-    row-put (args .t .now) (args .o .now) (args .g .now) (args .row) (kept .put-kept .ensures) (counts .put-octets .ensures)
+    row-put (args .t .now) (args .o .now) (args .g .now) (args .row) (kept .put-kept .ensures) (counts .put-digits .ensures)
     (messages .put-messages .ensures) (feed .end-line .ensures)
 
 pub put-row-spec : {M : Type 1} → statement M
@@ -69,8 +69,8 @@ put-row-spec =
     put-kept-requires
     cast-n
     cast-m
-    slice-aggregate-put-octets
-    put-octets-requires
+    slice-aggregate-put-digits
+    put-digits-requires
     put-messages-requires
     end-line-requires
     same-length

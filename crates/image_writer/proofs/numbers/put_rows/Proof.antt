@@ -4,12 +4,12 @@ use borrow.Author.Needs.{needs}
 use Rattle.held.specs.Slots.{slotsKept}
 use Rattle.image_writer.proofs.Laying.{told-room, told-put}
 use Rattle.image_writer.proofs.Turns.{Going, going-start, going-room, going-turn, going-done}
-use Rattle.image_writer.specs.Rows.{rowAt, rowText}
+use Rattle.image_writer.specs.Rows.{imageRowAt, rowText}
 use Rattle.image_writer.proofs.numbers.put_rows.Statement.{statement}
 use Rattle.image_writer.proofs.numbers.put_rows.Tie as tie
 
 abbrev Inv-loop : tie.InvT-loop
-Inv-loop base t o g out₀ at end₀ p₀ out end p = Going (λ q. rowText t o g (rowAt base t q)) slotsKept out₀ at out end p
+Inv-loop base t o g out₀ at end₀ p₀ out end p = Going (λ q. rowText t o g (imageRowAt base t q)) slotsKept out₀ at out end p
 
 abbrev μ-loop : tie.MeasureT-loop
 μ-loop base t o g out₀ at end₀ p₀ out end p = slotsKept - p

@@ -4,15 +4,15 @@ use native.Mathlib.Omega.{arith}
 use borrow.Author.Needs.{needs}
 use Rattle.datagrams.specs.Sizes.{packetLimit}
 use Rattle.held.specs.Slots.{slotsKept}
-use Rattle.images.specs.Image.{lineSize, lineLimit}
+use Rattle.images.specs.Image.{lineSize, numberLineLimit}
 use Rattle.image_writer.proofs.Turns.{Counted, counted-start, counted-turn, counted-done}
 use Rattle.image_writer.proofs.Sizing.{told-size}
-use Rattle.image_writer.specs.Rows.{rowAt, rowSize}
+use Rattle.image_writer.specs.Rows.{imageRowAt, rowSize}
 use Rattle.image_writer.proofs.rows.rows_size.Statement.{statement}
 use Rattle.image_writer.proofs.rows.rows_size.Tie as tie
 
 abbrev Inv-loop : tie.InvT-loop
-Inv-loop base t size₀ p₀ size p = Counted (λ q. rowSize t (rowAt base t q)) (lineSize (lineLimit packetLimit)) slotsKept size p
+Inv-loop base t size₀ p₀ size p = Counted (λ q. rowSize t (imageRowAt base t q)) (lineSize (numberLineLimit packetLimit)) slotsKept size p
 
 abbrev μ-loop : tie.MeasureT-loop
 μ-loop base t size₀ p₀ size p = slotsKept - p

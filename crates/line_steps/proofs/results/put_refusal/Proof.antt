@@ -11,14 +11,14 @@ cast-high c = search needs
 cast-low : tie.Need-cast-low
 cast-low c = search needs
 
-slice-aggregate-put-octets : tie.Need-slice-aggregate-put-octets
-slice-aggregate-put-octets c = search needs
+slice-aggregate-put-digits : tie.Need-slice-aggregate-put-digits
+slice-aggregate-put-digits c = search needs
 
-put-octets-requires : tie.Need-put-octets-requires
-put-octets-requires c κs = search needs
+put-digits-requires : tie.Need-put-digits-requires
+put-digits-requires c κs = search needs
 
 end-line-requires : tie.Need-end-line-requires
-end-line-requires c κs = room-left _ 1 (c .before .before .before .put-octets .ensures) (omega arith)
+end-line-requires c κs = room-left _ 1 (c .before .before .before .put-digits .ensures) (omega arith)
 
 same-length : tie.Need-same-length
 same-length c = search needs
@@ -26,9 +26,9 @@ same-length c = search needs
 returns : tie.Need-returns
 returns c =
     let feed = c .before .before in
-    refusal-put _ (feed .before .before .before .before .put-octets .ensures) (feed .end-line .ensures)
+    refusal-put _ (feed .before .before .before .before .put-digits .ensures) (feed .end-line .ensures)
 
 pub put-refusal-spec : {M : Type 1} → statement M
 put-refusal-spec =
     tie.close
-    (tie.spec cast-high cast-low slice-aggregate-put-octets put-octets-requires end-line-requires same-length returns)
+    (tie.spec cast-high cast-low slice-aggregate-put-digits put-digits-requires end-line-requires same-length returns)

@@ -11,19 +11,19 @@ cast-high c = search needs
 cast-low : tie.Need-cast-low
 cast-low c = search needs
 
-slice-aggregate-put-octets : tie.Need-slice-aggregate-put-octets
-slice-aggregate-put-octets c = search needs
+slice-aggregate-put-digits : tie.Need-slice-aggregate-put-digits
+slice-aggregate-put-digits c = search needs
 
-put-octets-requires : tie.Need-put-octets-requires
-put-octets-requires c κs = search needs
+put-digits-requires : tie.Need-put-digits-requires
+put-digits-requires c κs = search needs
 
-put-octets-requires-2 : tie.Need-put-octets-requires-2
-put-octets-requires-2 c κs = room-left _ _ (c .before .before .before .put-octets .ensures) (omega arith)
+put-digits-requires-2 : tie.Need-put-digits-requires-2
+put-digits-requires-2 c κs = room-left _ _ (c .before .before .before .put-digits .ensures) (omega arith)
 
 end-line-requires : tie.Need-end-line-requires
 end-line-requires c κs =
     let two = c .before .before .before in
-    room-left-two _ _ 1 (two .before .before .before .before .put-octets .ensures) (two .put-octets2 .ensures) (omega arith)
+    room-left-two _ _ 1 (two .before .before .before .before .put-digits .ensures) (two .put-digits2 .ensures) (omega arith)
 
 same-length : tie.Need-same-length
 same-length c = search needs
@@ -32,7 +32,7 @@ returns : tie.Need-returns
 returns c =
     let feed = c .before .before in
     let two = feed .before .before .before .before in
-    result-put _ _ _ (two .before .before .before .before .put-octets .ensures) (two .put-octets2 .ensures) (feed .end-line .ensures)
+    result-put _ _ _ (two .before .before .before .before .put-digits .ensures) (two .put-digits2 .ensures) (feed .end-line .ensures)
 
 pub put-result-spec : {M : Type 1} → statement M
 put-result-spec =
@@ -40,9 +40,9 @@ put-result-spec =
     (tie.spec
     cast-high
     cast-low
-    slice-aggregate-put-octets
-    put-octets-requires
-    put-octets-requires-2
+    slice-aggregate-put-digits
+    put-digits-requires
+    put-digits-requires-2
     end-line-requires
     same-length
     returns)

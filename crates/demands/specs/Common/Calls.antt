@@ -1,0 +1,89 @@
+-- A chain of public calls of the receiving session: each on the session that the one before handed back, and each with any
+-- answer that its promise allows. What the calls brought and what left by them is told by the calls and their answers alone.
+-- Definitions only.
+use Prim.Native.Nat.{ℕ}
+use mathlib.Core.Bool.{Bool, true, false}
+use mathlib.Core.List.{List, [], _∷_, _++_}
+use mathlib.Core.Option.{Option, none, some}
+use lib.ListN.{take}
+use Rattle.held.specs.Table.{stateOf}
+use Rattle.held.specs.declared.Session.{Session}
+use Rattle.leaving.specs.Outcome.{releasedOutcome}
+use Rattle.leaving.specs.declared.Released.{Released}
+use Rattle.leaving.specs.declared.Released.the-variants as answer
+use Rattle.offering.specs.Outcome.{offeredOutcome}
+use Rattle.offering.specs.declared.Offered.{Offered}
+use Rattle.offering.specs.declared.Offered.the-variants as outcome
+use Rattle.solving.specs.Outcome.{solvedOutcome}
+use Rattle.solving.specs.declared.Solved.{Solved}
+use Rattle.solving.specs.declared.Solved.the-variants as filling
+use Rattle.sessions.specs.Receiver.{OfferOwes, ReleaseOwes}
+use Rattle.sessions.specs.Solver.{SolveOwes}
+use Rattle.sessions.specs.declared.receiver.AfterOffer.{AfterOffer}
+use Rattle.sessions.specs.declared.receiver.AfterRelease.{AfterRelease}
+use Rattle.sessions.specs.declared.solver.AfterSolve.{AfterSolve}
+use Rattle.demands.specs.Common.History.{Left, leftAs}
+use Rattle.lengths.specs.Tables.{refusalIn}
+
+-- a call and its answer, as the caller has them
+pub data Call : Type 0 where
+  -- these octets were offered
+  offer : List ℕ → Offered → Call
+  -- a release, with leave to skip or without, and with this lent buffer before the call and after it
+  release : Bool → List ℕ → List ℕ → Released → Call
+  -- the call of document 02, request 13: the stored messages were solved together
+  solve : Solved → Call
+
+-- calls one after the other, the latest last
+infixl 10 _then_
+pub data Calls : Type 0 where
+  start : Calls
+  _then_ : Calls → Call → Calls
+
+-- from session s these calls come to session t
+pub data Called (s : Session) : Calls → Session → Type 0 where
+  atStart : Called s start s
+  offered : {t : Session} {calls : Calls} {octets : List ℕ} {r : AfterOffer} → Called s calls t → OfferOwes t octets r
+      → Called s (calls then offer octets (r .answer)) (r .session)
+  released : {t : Session} {calls : Calls} {leave : Bool} {old new : List ℕ} {r : AfterRelease} → Called s calls t
+      → ReleaseOwes t leave old new r
+      → Called s (calls then release leave old new (r .answer)) (r .session)
+  solved : {t : Session} {calls : Calls} {r : AfterSolve} → Called s calls t → SolveOwes t r
+      → Called s (calls then solve (r .answer)) (r .session)
+
+-- ---- what a call brought
+-- the octets of an offer that was accepted; a refused offer brings nothing
+abbrev pub acceptedIn : Call → Option (List ℕ)
+acceptedIn (offer octets outcome.Accepted) = some octets
+acceptedIn (offer octets (outcome.Refused why)) = none
+acceptedIn (release leave old new r) = none
+acceptedIn (solve r) = none
+
+-- it solved the stored messages together, and was not refused
+abbrev pub fillsIn : Call → Bool
+fillsIn (offer octets r) = false
+fillsIn (release leave old new r) = false
+fillsIn (solve filling.Filled) = true
+fillsIn (solve (filling.Refused why)) = false
+
+-- the number of the refusal that it was answered with, or none
+abbrev pub callRefusal : Call → Option ℕ
+callRefusal (offer octets r) = refusalIn (offeredOutcome r)
+callRefusal (release leave old new r) = refusalIn (releasedOutcome r)
+callRefusal (solve r) = refusalIn (solvedOutcome r)
+
+-- ---- what left by a call
+-- the number that an answer of release hands out, its octets at the front of the lent buffer
+abbrev pub handedOut : Released → List ℕ → List Left
+handedOut (answer.Number kind number note size) buffer = leftAs (stateOf kind) number note (take size buffer) ∷ []
+handedOut (answer.Refused why) buffer = []
+
+abbrev pub leftIn : Call → List Left
+leftIn (offer octets r) = []
+leftIn (release leave old new r) = handedOut r new
+leftIn (solve r) = []
+
+-- what left by some calls, in order
+unfoldable pub leftBy : Calls → List Left
+leftBy start = []
+leftBy (calls then call) = leftBy calls ++ leftIn call

@@ -1,0 +1,79 @@
+-- The history of a receiving session, as document 01 sees it: a call, the session after it, the numbers that left, and the
+-- counts of those. "Numbers leave in order, each place once, released or lost, and the counts match the history."
+-- Definitions only.
+use Prim.Native.Nat.{ℕ, _+_}
+use mathlib.Core.List.{List, [], _∷_}
+use mathlib.Core.Bool.{Bool, true, false, cond}
+use Rattle.lengths.specs.Answers.{afterwards}
+use Rattle.views.specs.Cells.{State, unknown, received, spare, repaired, blank, isUnknown}
+use Rattle.views.specs.View.{View, Counts}
+use Rattle.views.specs.Offer as offers
+use Rattle.views.specs.Release as releases
+use Rattle.views.specs.Release.{viewAfterRelease}
+use Rattle.solutions.specs.Solve as solutions
+
+-- one call
+pub data Move : Type 0 where
+  -- any octets are offered
+  offer : List ℕ → Move
+  -- a release, with leave to skip or without, and with a lent buffer of so many octets
+  release : Bool → ℕ → Move
+  -- the stored messages are solved together
+  solve : Move
+
+-- a number that left: released as received, spare or repaired, with its note and its octets; or lost, which is unknown
+pub record Left : Type 0 where
+  pub kind : State
+  pub number : ℕ
+  pub note : ℕ
+  pub octets : List ℕ
+
+abbrev pub leftAs : State → ℕ → ℕ → List ℕ → Left
+leftAs kind number note octets = record { kind = kind; number = number; note = note; octets = octets }
+
+-- the session after a call: "A refusal .. changes nothing."
+unfoldable pub afterMove : Move → View → View
+afterMove (offer octets) view = afterwards (offers.offer octets view) view
+afterMove (release leave room) view = afterwards (viewAfterRelease (releases.release leave room view)) view
+afterMove solve view = afterwards (solutions.solve view) view
+
+-- ---- "Four counts: received, spare, repaired (each released) and lost. Each equals the number of such moves since the start"
+
+abbrev pub isReceived : State → Bool
+isReceived unknown = false
+isReceived received = true
+isReceived spare = false
+isReceived repaired = false
+isReceived blank = false
+
+abbrev pub isSpare : State → Bool
+isSpare unknown = false
+isSpare received = false
+isSpare spare = true
+isSpare repaired = false
+isSpare blank = false
+
+abbrev pub isRepaired : State → Bool
+isRepaired unknown = false
+isRepaired received = false
+isRepaired spare = false
+isRepaired repaired = true
+isRepaired blank = false
+
+abbrev pub isLost : State → Bool
+isLost = isUnknown
+
+-- how many of a list are of a kind that passes a test
+unfoldable pub howMany : (State → Bool) → List Left → ℕ
+howMany test [] = 0
+howMany test (x ∷ more) = cond (test (x .kind)) 1 0 + howMany test more
+
+-- the four counts of a history
+abbrev pub historyCounts : List Left → Counts
+historyCounts left =
+    record {
+      received = howMany isReceived left;
+      spare = howMany isSpare left;
+      repaired = howMany isRepaired left;
+      lost = howMany isLost left;
+    }

@@ -1,0 +1,194 @@
+-- Demand 1: "Any octets may come from the network, and any saved session from a caller. Every public call ends, and refuses what
+-- document 01 says, with the number it says, and then only. A refused call leaves the session and each lent buffer as they
+-- were." That a call ends is part of the proof of its contract, which asks nothing of its caller. The field of a call's name says
+-- that its refusal is the first row of its table that is given, and that it is not refused where none is; the field
+-- beside it (`offerUnchanged`, `releaseUnchanged`, ..) says what a refusal leaves. Readers change nothing. The refusals
+-- of the datagram and the packet reader are those of their definitions, met in reading order; apart from that order is told what
+-- they do not refuse (`isDatagram`, `isPacket`, `isRepaired`) and what they do (`datagramRefusals`, `packetRefusals`). The place that
+-- document 02, request 5, adds to a refusal stands there too, and for the other calls in `places`. What the calls on images refuse
+-- stands in Handover. Statements alone.
+use Prim.Native.Nat.{ℕ, _≤_}
+use mathlib.Core.Path.{_≡_}
+use mathlib.Core.Logic.{_↔_}
+use mathlib.Core.Bool.{Bool, true, cond}
+use mathlib.Core.List.{List, _++_}
+use mathlib.Core.Option.{none, some}
+use lib.ListN.{length, replicate}
+use Rattle.lengths.specs.Answers.{Answer, done, lengthOutcome, writtenOutcome}
+use Rattle.lengths.specs.Tables.{first, refusalIn, placeIn, roomRow}
+use Rattle.lengths.specs.Length.{lengthOctets, lengthWriterRows, lengthToWrite}
+use Rattle.lengths.specs.Promise.{LengthRead, Puts}
+use Rattle.lengths.specs.Claims.{Octets}
+use Rattle.lengths.specs.declared.Length.{Length}
+use Rattle.lengths.specs.declared.Written.{Written}
+use Rattle.datagrams.specs.Sizes.{packetLimit}
+use Rattle.datagrams.specs.Read.{readDatagram}
+use Rattle.datagrams.specs.Write.{carriedOf, datagramOctets, datagramWriterRows, datagramToWrite}
+use Rattle.datagrams.specs.Promise.{DatagramReads, readOutcome}
+use Rattle.datagrams.specs.declared.kind.Kind.{Kind}
+use Rattle.datagrams.specs.declared.reader.DatagramRead.{DatagramRead}
+use Rattle.packets.specs.Edition.{Edition, editionOf, byEdition}
+use Rattle.packets.specs.Packet.{readPacket}
+use Rattle.packets.specs.Write.{packetOctets, packetWriterRows, packetToWrite}
+use Rattle.packets.specs.Promise.{packetOutcome}
+use Rattle.packets.specs.declared.types.PacketKind as packets
+use Rattle.packets.specs.declared.types.Ending.{Ending}
+use Rattle.packets.specs.declared.types.Ending.the-variants.{Whole, Repaired}
+use Rattle.packets.specs.declared.types.Named.{Named}
+use Rattle.packets.specs.declared.types.PacketRead.{PacketRead}
+use Rattle.leaving.specs.Outcome.{releasedOutcome}
+use Rattle.offering.specs.Outcome.{offeredOutcome}
+use Rattle.held.specs.Table.{lentBy}
+use Rattle.held.specs.Laid.{sessionInRanges}
+use Rattle.held.specs.declared.Session.{Session}
+use Rattle.sessions.specs.Receiver.{OfferOwes, ReleaseOwes}
+use Rattle.sessions.specs.declared.receiver.AfterOffer.{AfterOffer}
+use Rattle.sessions.specs.declared.receiver.AfterRelease.{AfterRelease}
+use Rattle.sending.specs.Send.{carriedNext}
+use Rattle.sending.specs.Sender.{sendingOf}
+use Rattle.sending.specs.Promise.{senderRows, Sends}
+use Rattle.sending.specs.declared.Sender.{Sender}
+use Rattle.sending.specs.declared.Sent.{Sent}
+use Rattle.sending.specs.declared.Settings.{Settings}
+use Rattle.frames.specs.Promise.{handedOutcome, FieldOwes, LossOwes}
+use Rattle.frames.specs.declared.Joiner.{Joiner}
+use Rattle.frames.specs.declared.Joined.{Joined}
+use Rattle.lines.specs.Hex.{octetsIn, lineRows, lineOctets}
+use Rattle.images.specs.Layout.{imageVersion02}
+use Rattle.images.specs.Image.{imageToWrite}
+use Rattle.images.specs.Promise.{ImageRead, restoredOutcome}
+use Rattle.images.specs.declared.Restored.{Restored}
+use Rattle.demands.specs.Demand1.Refusals.{lengthRows, offerRows, releaseRows}
+use Rattle.demands.specs.Common.NamedEdition.{Names, ReadBy, packetBy, AnotherEdition}
+use Rattle.demands.specs.Demand1.PacketRefusals.{PacketRefusals}
+use Rattle.demands.specs.Demand1.DatagramRefusals.{DatagramRefusals}
+
+-- ---- readers
+-- some octets are what the datagram writer writes of some fields; or the packet writer, by an edition
+pub record IsDatagram (s : List ℕ) : Type 0 where
+  pub number : ℕ
+  pub packet : List ℕ
+  pub kind : Kind
+  pub lengths : List ℕ
+  pub run : List ℕ
+  pub written : datagramToWrite number packet kind lengths run ≡ done s
+
+pub record IsPacket (edition : Edition) (s : List ℕ) : Type 0 where
+  pub kind : packets.PacketKind
+  pub value : ℕ
+  pub types : List ℕ
+  pub lengths : List ℕ
+  pub octets : List ℕ
+  pub written : packetToWrite edition kind value types lengths octets ≡ done s
+
+-- or the packet writer, and zeros only after it, within the packet limit
+pub record IsRepaired (edition : Edition) (s : List ℕ) : Type 0 where
+  pub packet : List ℕ
+  pub zeros : ℕ
+  pub is : s ≡ packet ++ replicate zeros 0
+  pub fits : length s ≤ packetLimit
+  pub written : IsPacket edition packet
+
+pub record Readers : Type 0 where
+  pub length : {s : List ℕ} {r : Length} → LengthRead s r → refusalIn (lengthOutcome r) ≡ first (lengthRows s)
+  pub datagram : {s : List ℕ} {r : DatagramRead} → DatagramReads s r → refusalIn (readOutcome r) ≡ refusalIn (readDatagram s)
+  pub packet : (octet : ℕ) (ending : Ending) (s : List ℕ) {r : PacketRead} → ReadBy octet ending s r
+      → refusalIn (packetOutcome r) ≡ refusalIn (byEdition octet (λ edition. readPacket edition ending s))
+  -- a datagram reads exactly if it is one, and so does a packet of the named edition as received; one as repaired "may go on with zeros
+  -- only". That octets are below 256 (`Octets`) is so of every slice of octets
+  pub isDatagram : {s : List ℕ} {r : DatagramRead} → Octets s → DatagramReads s r → (refusalIn (readOutcome r) ≡ none) ↔ IsDatagram s
+  pub isPacket : (octet : ℕ) (named : Named) → Names octet named → (s : List ℕ) {r : PacketRead} → Octets s → ReadBy octet Whole s r
+      → (refusalIn (packetOutcome r) ≡ none) ↔ IsPacket (editionOf named) s
+  pub isRepaired : (octet : ℕ) (named : Named) → Names octet named → (s : List ℕ) {r : PacketRead} → Octets s
+      → ReadBy octet Repaired s r → (refusalIn (packetOutcome r) ≡ none) ↔ IsRepaired (editionOf named) s
+  pub packetRefusals : (octet : ℕ) (named : Named) → Names octet named → PacketRefusals octet named
+  -- document 02, request 11: "15 for another edition, first", of the packet readers and of the packet writer
+  pub anotherEdition : AnotherEdition
+  pub datagramRefusals : DatagramRefusals
+
+-- ---- writers
+-- a refused call that was to write w leaves the lent buffer as it was
+abbrev pub Unchanged : Answer (List ℕ) → Type 0
+Unchanged w = (old new : List ℕ) (r : Written) (n : ℕ) → Puts w old new r → refusalIn (writtenOutcome r) ≡ some n → new ≡ old
+
+pub record Writers : Type 0 where
+  pub length : (n : ℕ) {old new : List ℕ} {r : Written} → Puts (lengthToWrite n) old new r
+      → refusalIn (writtenOutcome r) ≡ first (lengthWriterRows n ++ roomRow (lengthOctets n) old)
+  pub datagram : (number : ℕ) (packet : List ℕ) (kind : Kind) (lengths run : List ℕ) {old new : List ℕ} {r : Written}
+      → Puts (datagramToWrite number packet kind lengths run) old new r
+      → refusalIn (writtenOutcome r)
+      ≡ first (datagramWriterRows packet kind lengths run ++ roomRow (datagramOctets (carriedOf number packet kind lengths run)) old)
+  pub packet : (octet : ℕ) (named : Named) → Names octet named → (kind : packets.PacketKind) (value : ℕ) (types lengths octets : List ℕ)
+      {old new : List ℕ} {r : Written} → Puts (packetBy octet kind value types lengths octets) old new r
+      → refusalIn (writtenOutcome r)
+      ≡ first
+      (packetWriterRows (editionOf named) kind value types lengths octets
+      ++ roomRow (packetOctets (editionOf named) kind value types lengths octets) old)
+  -- the octets of a line of hexadecimal: "line over [its limit] (before 15)", "a line not of paired hexadecimal digits", 13
+  pub line : (line : List ℕ) {old new : List ℕ} {r : Written} → Puts (lineOctets line) old new r
+      → refusalIn (writtenOutcome r) ≡ first (lineRows line ++ roomRow (octetsIn line) old)
+  pub lengthUnchanged : (n : ℕ) → Unchanged (lengthToWrite n)
+  pub datagramUnchanged : (number : ℕ) (packet : List ℕ) (kind : Kind) (lengths run : List ℕ)
+      → Unchanged (datagramToWrite number packet kind lengths run)
+  pub packetUnchanged : (octet : ℕ) (kind : packets.PacketKind) (value : ℕ) (types lengths octets : List ℕ)
+      → Unchanged (packetBy octet kind value types lengths octets)
+  pub lineUnchanged : (line : List ℕ) → Unchanged (lineOctets line)
+
+-- ---- the receiving session
+pub record Receiving : Type 0 where
+  pub offer : {s : Session} {octets : List ℕ} {r : AfterOffer} → OfferOwes s octets r
+      → refusalIn (offeredOutcome (r .answer)) ≡ first (offerRows octets s)
+  pub offerUnchanged : {s : Session} {octets : List ℕ} {r : AfterOffer} {n : ℕ} → OfferOwes s octets r
+      → refusalIn (offeredOutcome (r .answer)) ≡ some n → r .session ≡ s
+  pub release : {s : Session} {leave : Bool} {old new : List ℕ} {r : AfterRelease} → ReleaseOwes s leave old new r
+      → refusalIn (releasedOutcome (r .answer)) ≡ first (releaseRows leave old s)
+  pub releaseUnchanged : {s : Session} {leave : Bool} {old new : List ℕ} {r : AfterRelease} {n : ℕ} → ReleaseOwes s leave old new r
+      → refusalIn (releasedOutcome (r .answer)) ≡ some n → (r .session ≡ s) × (new ≡ old)
+
+-- ---- the sending session
+pub record SendingCalls : Type 0 where
+  pub send : {s : Sender} {settings : Settings} {packet old new : List ℕ} {r : Sent} → Sends s settings packet old new r
+      → refusalIn (writtenOutcome (r .answer))
+      ≡ first (senderRows s settings packet ++ roomRow (datagramOctets (carriedNext settings packet (sendingOf s))) old)
+  pub sendUnchanged : {s : Sender} {settings : Settings} {packet old new : List ℕ} {r : Sent} {n : ℕ} → Sends s settings packet old new r
+      → refusalIn (writtenOutcome (r .answer)) ≡ some n → (r .sender ≡ s) × (new ≡ old)
+
+-- ---- where: document 02, request 5
+-- a refused call that was to write w gives 0
+abbrev pub Unplaced : Answer (List ℕ) → Type 0
+Unplaced w = (old new : List ℕ) (r : Written) → Puts w old new r → placeIn (writtenOutcome r) ≡ 0
+
+pub record Places : Type 0 where
+  -- "The length reader must give it first": a length is read at the very front
+  pub length : {s : List ℕ} {r : Length} → LengthRead s r → placeIn (lengthOutcome r) ≡ 0
+  -- "and all who call it pass it on": offer gives the datagram reader's place; 17 before it, and 8, 9 and 7 after it, give 0
+  pub offer : {s : Session} {octets : List ℕ} {r : AfterOffer} {q : DatagramRead} → OfferOwes s octets r → DatagramReads octets q
+      → placeIn (offeredOutcome (r .answer)) ≡ cond (sessionInRanges s) (placeIn (readOutcome q)) 0
+  -- "refusals not met while reading give 0"
+  pub release : {s : Session} {leave : Bool} {old new : List ℕ} {r : AfterRelease} → ReleaseOwes s leave old new r
+      → placeIn (releasedOutcome (r .answer)) ≡ 0
+  pub lengthWriter : (n : ℕ) → Unplaced (lengthToWrite n)
+  pub datagramWriter : (number : ℕ) (packet : List ℕ) (kind : Kind) (lengths run : List ℕ)
+      → Unplaced (datagramToWrite number packet kind lengths run)
+  pub packetWriter : (octet : ℕ) (kind : packets.PacketKind) (value : ℕ) (types lengths octets : List ℕ)
+      → Unplaced (packetBy octet kind value types lengths octets)
+  pub line : (line : List ℕ) → Unplaced (lineOctets line)
+  pub send : {s : Sender} {settings : Settings} {packet old new : List ℕ} {r : Sent} → Sends s settings packet old new r
+      → placeIn (writtenOutcome (r .answer)) ≡ 0
+  pub joinerField : {j : Joiner} {type : ℕ} {octets old new : List ℕ} {r : Joined} → FieldOwes j type octets old new r
+      → placeIn (handedOutcome (r .answer)) ≡ 0
+  pub joinerLost : {j : Joiner} {r : Joined} → LossOwes j r → placeIn (handedOutcome (r .answer)) ≡ 0
+  -- an image is no datagram and no packet
+  pub imageWriter : (s : Session) → Unplaced (imageToWrite imageVersion02 (lentBy s))
+  pub imageReader : {text : List ℕ} {r : Restored} → ImageRead text r → placeIn (restoredOutcome r) ≡ 0
+
+pub record Demand1 : Type 0 where
+  pub readers : Readers
+  pub writers : Writers
+  pub receiving : Receiving
+  -- "offer 17, 2, then reading order": of a session within its ranges, what the datagram reader refuses is refused with its number
+  pub offerReads : {s : Session} {octets : List ℕ} {r : AfterOffer} {q : DatagramRead} {n : ℕ} → OfferOwes s octets r
+      → DatagramReads octets q → sessionInRanges s ≡ true → refusalIn (readOutcome q) ≡ some n
+      → refusalIn (offeredOutcome (r .answer)) ≡ some n
+  pub sending : SendingCalls
+  pub places : Places

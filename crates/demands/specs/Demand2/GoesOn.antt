@@ -1,0 +1,37 @@
+-- "One saved within its ranges goes on from what it holds, each call as 01 says"; the call of request 13 as document 02 says.
+-- Definitions only.
+use mathlib.Core.Path.{_≡_}
+use lib.ListN.{length}
+use Rattle.lengths.specs.Answers.{over}
+use Rattle.views.specs.View.{View}
+use Rattle.views.specs.Offer as offers
+use Rattle.views.specs.Release as releases
+use Rattle.leaving.specs.Outcome.{releasedOutcome, handedOf, octetsHanded}
+use Rattle.offering.specs.Outcome.{offeredOutcome, acceptedOf}
+use Rattle.equations.specs.Solved.{Solves}
+use Rattle.solutions.specs.Solve as solutions
+use Rattle.solving.specs.Outcome.{solvedOutcome, filledOf}
+use Rattle.demands.specs.Common.History as moves
+use Rattle.demands.specs.Common.History.{Move, afterMove}
+use Rattle.demands.specs.Common.Calls.{Call, offer, release, solve, Calls, start, _then_}
+
+-- what was called
+abbrev pub moveOf : Call → Move
+moveOf (offer octets r) = moves.offer octets
+moveOf (release leave old new r) = moves.release leave (length old)
+moveOf (solve r) = moves.solve
+
+-- the call's answer and its lent buffer are as document 01 says, of a session that holds this; and what `solve` comes to is what the
+-- equations mean
+abbrev pub Says : View → Call → Type 0
+Says view (offer octets r) = offeredOutcome r ≡ acceptedOf (offers.offer octets view)
+Says view (release leave old new r) =
+    (releasedOutcome r ≡ handedOf (releases.release leave (length old) view))
+    × (new ≡ over (octetsHanded (releases.release leave (length old) view)) old)
+Says view (solve r) = (solvedOutcome r ≡ filledOf (solutions.solve view)) × Solves view (solutions.solve view)
+
+-- each of the calls as document 01 says, from a session that holds the one to a session that holds the other
+pub data GoesOn (view : View) : Calls → View → Type 0 where
+  from : GoesOn view start view
+  by : {calls : Calls} {call : Call} {held : View} → GoesOn view calls held → Says held call
+      → GoesOn view (calls then call) (afterMove (moveOf call) held)

@@ -1,0 +1,114 @@
+-- Which numbers some calls reach in a session fresh at its start: "the known numbers are exactly those reached from arrived,
+-- spare and parity octets by 01's repair rule"; and document 02, request 13: "Demand 2's known set gains these fills." It is told by the
+-- calls and their answers, and by what the offered octets read as, with no word of what the session holds. Numbers repeat after 65,536,
+-- so a number is named here by its place: the first number of the session has the place keptBefore, each later one the next, and the
+-- places below are those before the first. Definitions only.
+use Prim.Native.Nat.{ℕ, _+_, _-_, _%_, _≤_, _<_}
+use mathlib.Core.Path.{_≡_}
+use mathlib.Core.Bool.{Bool, true}
+use mathlib.Core.List.{List, map, List·Memᴰ as Among}
+use mathlib.Core.Option.{some}
+use lib.ListN.{length}
+use Rattle.octets.specs.ExclusiveOr.{exclusiveOr}
+use Rattle.datagrams.specs.Sizes.{packetLimit}
+use Rattle.datagrams.specs.Carried.{Carried, Extra, spares, parity}
+use Rattle.datagrams.specs.Claims.{ReadsAs}
+use Rattle.views.specs.Cells.{keptBefore, keptAhead, keptNumbers}
+use Rattle.views.specs.Held.{messageAt}
+use Rattle.views.specs.Repair.{Message}
+use Rattle.views.specs.View.{numbers}
+use Rattle.views.specs.Offer.{heldBy}
+use Rattle.demands.specs.Common.Calls.{Call, Calls, _then_, acceptedIn, fillsIn, leftBy}
+
+-- how many numbers have left by these calls: "the base's whole advance"
+abbrev pub gone : Calls → ℕ
+gone calls = length (leftBy calls)
+
+-- the place of the base after these calls
+abbrev pub baseBy : Calls → ℕ
+baseBy calls = keptBefore + gone calls
+
+-- the number of a place: the first is number 0
+abbrev pub placeNumber : ℕ → ℕ
+placeNumber S = (S - keptBefore) % numbers
+
+-- "the j-th spare of datagram S is packet S−j"
+abbrev pub spareAt : ℕ → ℕ → ℕ
+spareAt S j = S - j
+
+-- how many spares a datagram carries
+abbrev pub sparesIn : Extra → ℕ
+sparesIn (spares copies) = length copies
+sparesIn (parity n messages) = 0
+
+-- it carries a j-th spare, j from 1 on
+abbrev pub HasSpare : Carried → ℕ → Type 0
+HasSpare datagram j = (1 ≤ j) × (j ≤ sparesIn (datagram .extra))
+
+-- the call that comes after these is an offer of this datagram, and was accepted; S is the place of its number, the one within
+-- keptAhead from the base that has it: "d up to 31 may be accepted"
+pub record Accepts (calls : Calls) (call : Call) (S : ℕ) (datagram : Carried) : Type 0 where
+  pub octets : List ℕ
+  pub accepted : acceptedIn call ≡ some octets
+  pub reads : ReadsAs octets datagram
+  pub from : baseBy calls ≤ S
+  pub near : S < baseBy calls + keptAhead
+  pub number : datagram .number % numbers ≡ placeNumber S
+
+-- one of these calls is such an offer: the datagram arrived at place S
+pub data Arrived : Calls → ℕ → Carried → Type 0 where
+  now : {calls : Calls} {call : Call} {S : ℕ} {datagram : Carried} → Accepts calls call S datagram
+      → Arrived (calls then call) S datagram
+  before : {calls : Calls} {call : Call} {S : ℕ} {datagram : Carried} → Arrived calls S datagram
+      → Arrived (calls then call) S datagram
+
+-- a message held after these calls: message i of a datagram that arrived at place S, where S has not left. "The number that
+-- leaves drops its accepted mark and messages"
+pub record HeldBy (calls : Calls) (message : Message) : Type 0 where
+  pub S : ℕ
+  pub datagram : Carried
+  pub arrived : Arrived calls S datagram
+  pub stays : baseBy calls ≤ S
+  pub i : ℕ
+  pub low : i < length ((heldBy (datagram .extra)) .messages)
+  pub is : message ≡ messageAt S (heldBy (datagram .extra)) i
+
+-- octets x q and y q for every place q, as many as the limit: they agree at the marked places, and each message that is held after these
+-- calls is the same for both
+pub record AgreeAtMarked (calls : Calls) (marked : ℕ → Bool) (x y : ℕ → List ℕ) : Type 0 where
+  pub firstLong : (q : ℕ) → length (x q) ≡ packetLimit
+  pub secondLong : (q : ℕ) → length (y q) ≡ packetLimit
+  pub agree : (q : ℕ) → marked q ≡ true → x q ≡ y q
+  pub messages : (message : Message) → HeldBy calls message
+      → exclusiveOr packetLimit (map x (message .members)) ≡ exclusiveOr packetLimit (map y (message .members))
+
+-- the held messages and the octets at the marked places allow one value for the place p
+abbrev pub OneValueBy : Calls → (ℕ → Bool) → ℕ → Type 0
+OneValueBy calls marked p = (x y : ℕ → List ℕ) → AgreeAtMarked calls marked x y → x p ≡ y p
+
+-- the place p is among the 64 in view after these calls
+abbrev pub InView : Calls → ℕ → Type 0
+InView calls p = (gone calls ≤ p) × (p < gone calls + keptNumbers)
+
+-- the number at a place is reached by these calls
+pub data ReachedBy : Calls → ℕ → Type 0 where
+  -- "Numbers before the first are blank: known"
+  beforeFirst : {calls : Calls} {p : ℕ} → p < keptBefore → ReachedBy calls p
+  -- the packet of a datagram that arrived
+  packet : {calls : Calls} {S : ℕ} {datagram : Carried} → Arrived calls S datagram → ReachedBy calls S
+  -- each of its spares
+  spare : {calls : Calls} {S : ℕ} {datagram : Carried} → Arrived calls S datagram → (j : ℕ) → HasSpare datagram j
+      → ReachedBy calls (spareAt S j)
+  -- "Then repair": the call is an accepted offer, and the place is the one missing member of a message of length 1 or more
+  -- that is held with it; all other members are reached by then
+  repaired : {calls : Calls} {call : Call} {S p : ℕ} {datagram : Carried} → Accepts calls call S datagram
+      → (message : Message) → HeldBy (calls then call) message → 1 ≤ length (message .octets) → Among p (message .members)
+      → ((q : ℕ) → Among q (message .members) → (q ≡ p → ⊥) → ReachedBy (calls then call) q)
+      → ReachedBy (calls then call) p
+  -- "the messages together fix them": the call solved the stored messages, the place is in view, and the messages held and some places
+  -- reached by then allow one value for it
+  together : {calls : Calls} {call : Call} {p : ℕ} → fillsIn call ≡ true → InView calls p → (marked : ℕ → Bool)
+      → ((q : ℕ) → marked q ≡ true → ReachedBy calls q) → OneValueBy calls marked p
+      → ReachedBy (calls then call) p
+  -- what was reached stays so
+  earlier : {calls : Calls} {call : Call} {p : ℕ} → ReachedBy calls p → ReachedBy (calls then call) p

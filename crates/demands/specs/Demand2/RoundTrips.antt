@@ -1,0 +1,140 @@
+-- Demand 2: "What you write reads back to the same fields, and what you read as received writes back to the same octets." Said of
+-- what the calls answered: whatever a write left in the lent buffer, whatever a read then answers of it, and the other way
+-- round. Statements alone.
+use Prim.Native.Nat.{ℕ, _+_, _-_, _%_, _≤_, min}
+use mathlib.Core.Path.{_≡_}
+use mathlib.Core.List.{List, _++_, map, flatten}
+use lib.ListN.{length, take, drop, replicate}
+use Rattle.lengths.specs.Length.{lengthToWrite}
+use Rattle.lengths.specs.Promise.{LengthRead, Puts}
+use Rattle.lengths.specs.Claims.{Octets}
+use Rattle.lengths.specs.declared.Length.{Length}
+use Rattle.lengths.specs.declared.Length.the-variants as length
+use Rattle.lengths.specs.declared.Written.{Written}
+use Rattle.lengths.specs.declared.Written.the-variants as written
+use Rattle.datagrams.specs.Sizes.{packetLimit, sparesLimit}
+use Rattle.datagrams.specs.Read.{octetsOf}
+use Rattle.datagrams.specs.Write.{cut, datagramToWrite}
+use Rattle.datagrams.specs.Promise.{DatagramReads, nowhere}
+use Rattle.datagrams.specs.declared.kind.Kind.{Kind}
+use Rattle.datagrams.specs.declared.kind.Kind.the-variants as kind
+use Rattle.datagrams.specs.declared.reader.Part.{Part}
+use Rattle.datagrams.specs.declared.reader.DatagramRead.{DatagramRead}
+use Rattle.datagrams.specs.declared.reader.Reading.the-variants as reading
+use Rattle.packets.specs.Packet.{allData, fieldsLimit, noField}
+use Rattle.packets.specs.declared.types.PacketKind as packets
+use Rattle.packets.specs.declared.types.Field.{Field}
+use Rattle.packets.specs.declared.types.Ending.the-variants.{Whole, Repaired}
+use Rattle.packets.specs.declared.types.PacketRead.{PacketRead}
+use Rattle.packets.specs.declared.types.PacketReading.the-variants as packetReading
+use Rattle.demands.specs.Common.NamedEdition.{ReadBy, packetBy}
+use Rattle.views.specs.View.{numbers}
+use Rattle.sending.specs.Sending.{historyKept}
+use Rattle.sending.specs.Carries.{sparesFrom, messagesFrom}
+use Rattle.sending.specs.Send.{packetOf}
+use Rattle.sending.specs.Sender.{sendingOf}
+use Rattle.sending.specs.Inner.Held.{Arrays}
+use Rattle.sending.specs.Promise.{Sends}
+use Rattle.sending.specs.declared.Sender.{Sender}
+use Rattle.sending.specs.declared.Sent.{Sent}
+use Rattle.sending.specs.declared.Settings.the-variants as settings
+
+-- ---- written back
+-- a write answered n octets: they are s, at the front of the lent buffer, and the rest stays
+pub record WrittenBack (n : ℕ) (s old new : List ℕ) (w : Written) : Type 0 where
+  pub answer : w ≡ written.Octets n
+  pub front : take n new ≡ s
+  pub rest : drop n new ≡ drop n old
+
+-- ---- lengths
+pub record LengthTrips : Type 0 where
+  -- a length that was written reads back to the same value and size, whatever follows it
+  pub readsBack : (value : ℕ) {old new : List ℕ} {w : Written} {n : ℕ} → Puts (lengthToWrite value) old new w → w ≡ written.Octets n
+      → (more : List ℕ) {r : Length} → LengthRead (take n new ++ more) r → r ≡ length.Value value n
+  -- a length that was read writes back to the same octets
+  pub writesBack : {s : List ℕ} {r : Length} {value n : ℕ} → Octets s → LengthRead s r → r ≡ length.Value value n
+      → {old new : List ℕ} {w : Written} → Puts (lengthToWrite value) old new w → n ≤ length old → WrittenBack n (take n s) old new w
+
+-- ---- datagrams
+-- the read of some octets answered with this number, packet, kind (spares, or n), and spares or messages; the places past their
+-- count are empty
+pub record DatagramSame (s : List ℕ) (number : ℕ) (packet : List ℕ) (kind : Kind) (items : List (List ℕ)) (r : DatagramRead) : Type 0 where
+  pub newest : Part
+  pub answer : r .reading ≡ reading.Datagram number newest kind (length items)
+  pub packetSame : octetsOf s newest ≡ packet
+  pub itemsSame : map (octetsOf s) (take (length items) (r .items)) ≡ items
+  pub unused : drop (length items) (r .items) ≡ replicate (sparesLimit - length items) nowhere
+
+-- the spares or messages of a reading as the writer takes them: their lengths, and one run of data
+abbrev pub lengthsRead : ℕ → DatagramRead → List ℕ
+lengthsRead count r = map (λ (p : Part). p .size) (take count (r .items))
+
+abbrev pub runRead : List ℕ → ℕ → DatagramRead → List ℕ
+runRead s count r = flatten (map (octetsOf s) (take count (r .items)))
+
+pub record DatagramTrips : Type 0 where
+  pub readsBack : (number : ℕ) (packet : List ℕ) (kind : Kind) (lengths run : List ℕ) {old new : List ℕ} {w : Written} {n : ℕ}
+      → Puts (datagramToWrite number packet kind lengths run) old new w → w ≡ written.Octets n
+      → {r : DatagramRead} → DatagramReads (take n new) r → DatagramSame (take n new) number packet kind (cut lengths run) r
+  pub writesBack : {s : List ℕ} {r : DatagramRead} {number : ℕ} {packet : Part} {kind : Kind} {count : ℕ} → Octets s → DatagramReads s r
+      → r .reading ≡ reading.Datagram number packet kind count → {old new : List ℕ} {w : Written}
+      → Puts (datagramToWrite number (octetsOf s packet) kind (lengthsRead count r) (runRead s count r)) old new w
+      → length s ≤ length old → WrittenBack (length s) s old new w
+
+-- ---- packets
+-- the fields of a reading as the writer takes them: their types, their lengths, and all their data
+abbrev pub typesOf : ℕ → PacketRead → List ℕ
+typesOf count r = map (λ (f : Field). f .kind) (take count (r .fields))
+
+abbrev pub sizesOf : ℕ → PacketRead → List ℕ
+sizesOf count r = map (λ (f : Field). f .size) (take count (r .fields))
+
+abbrev pub dataRead : List ℕ → ℕ → PacketRead → List ℕ
+dataRead s count r = allData s (take count (r .fields))
+
+-- the read of some octets answered with this kind and value, and fields of these types and lengths and, one after the other, this
+-- data; the places past their count are empty
+pub record PacketSame (s : List ℕ) (kind : packets.PacketKind) (value : ℕ) (types lengths octets : List ℕ) (r : PacketRead) : Type 0 where
+  pub answer : r .reading ≡ packetReading.Packet kind value (length types)
+  pub typesSame : typesOf (length types) r ≡ types
+  pub lengthsSame : sizesOf (length types) r ≡ lengths
+  pub octetsSame : dataRead s (length types) r ≡ octets
+  pub unused : drop (length types) (r .fields) ≡ replicate (fieldsLimit - length types) noField
+
+-- in the edition that the caller names at both calls (document 02, request 11)
+pub record PacketTrips : Type 0 where
+  pub readsBack : (octet : ℕ) (kind : packets.PacketKind) (value : ℕ) (types lengths octets : List ℕ) {old new : List ℕ} {w : Written} {n : ℕ}
+      → Puts (packetBy octet kind value types lengths octets) old new w → w ≡ written.Octets n
+      → {r : PacketRead} → ReadBy octet Whole (take n new) r → PacketSame (take n new) kind value types lengths octets r
+  -- "A repaired one may go on with zeros only"
+  pub readsRepaired : (octet : ℕ) (kind : packets.PacketKind) (value : ℕ) (types lengths octets : List ℕ) {old new : List ℕ} {w : Written} {n : ℕ}
+      → Puts (packetBy octet kind value types lengths octets) old new w → w ≡ written.Octets n
+      → (zeros : ℕ) → n + zeros ≤ packetLimit → {r : PacketRead} → ReadBy octet Repaired (take n new ++ replicate zeros 0) r
+      → PacketSame (take n new ++ replicate zeros 0) kind value types lengths octets r
+  pub writesBack : (octet : ℕ) (s : List ℕ) {r : PacketRead} {kind : packets.PacketKind} {value count : ℕ} → Octets s → ReadBy octet Whole s r
+      → r .reading ≡ packetReading.Packet kind value count → {old new : List ℕ} {w : Written}
+      → Puts (packetBy octet kind value (typesOf count r) (sizesOf count r) (dataRead s count r)) old new w
+      → length s ≤ length old → WrittenBack (length s) s old new w
+
+-- ---- the sending session
+-- the packet at a place of a session's history
+abbrev pub sentBefore : Sender → ℕ → List ℕ
+sentBefore s = packetOf ((sendingOf s) .history)
+
+-- what a send wrote reads back as a datagram of the session's number, with that packet and the spares or messages that document 01
+-- asks for. A session's arrays have their lengths, as every one has that the code holds
+pub record SendTrips : Type 0 where
+  pub spares : {s : Sender} (k : ℕ) {packet old new : List ℕ} {t : Sent} {n : ℕ} → Arrays (s .sizes) (s .octets)
+      → Sends s (settings.Spares k) packet old new t → t .answer ≡ written.Octets n
+      → {r : DatagramRead} → DatagramReads (take n new) r
+      → DatagramSame (take n new) (s .sent % numbers) packet kind.Spares (sparesFrom (min k (s .sent)) (sentBefore s) historyKept) r
+  pub messages : {s : Sender} (covered count : ℕ) {packet old new : List ℕ} {t : Sent} {n : ℕ} → Arrays (s .sizes) (s .octets)
+      → Sends s (settings.Parity covered count) packet old new t → t .answer ≡ written.Octets n
+      → {r : DatagramRead} → DatagramReads (take n new) r
+      → DatagramSame (take n new) (s .sent % numbers) packet (kind.Parity covered) (messagesFrom covered count (sentBefore s) historyKept) r
+
+pub record RoundTrips : Type 0 where
+  pub lengths : LengthTrips
+  pub datagrams : DatagramTrips
+  pub packets : PacketTrips
+  pub sends : SendTrips

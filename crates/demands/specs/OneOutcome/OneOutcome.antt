@@ -1,0 +1,69 @@
+-- "Any two outcomes allowed by it are proved equal": of each public call, two outcomes that its promise allows are one: the
+-- answer, the session after and the lent buffer. Statements alone.
+use Prim.Native.Nat.{ℕ}
+use mathlib.Core.Path.{_≡_}
+use mathlib.Core.List.{List}
+use Rattle.lengths.specs.Answers.{Answer}
+use Rattle.lengths.specs.Length.{lengthToWrite}
+use Rattle.lengths.specs.Promise.{Puts}
+use Rattle.lengths.specs.declared.Written.{Written}
+use Rattle.datagrams.specs.Write.{datagramToWrite}
+use Rattle.datagrams.specs.declared.kind.Kind.{Kind}
+use Rattle.packets.specs.declared.types.PacketKind as packetKinds
+use Rattle.packets.specs.declared.types.Ending.{Ending}
+use Rattle.held.specs.Table.{Lent}
+use Rattle.images.specs.Layout.{versionWritten}
+use Rattle.images.specs.Image.{imageToWrite}
+use Rattle.images.specs.Promise.{ImageRead}
+use Rattle.lengths.specs.Claims as lengths
+use Rattle.datagrams.specs.Claims as datagrams
+use Rattle.packets.specs.Claims as packets
+use Rattle.sending.specs.Claims as sending
+use Rattle.sessions.specs.Claims as sessions
+use Rattle.sessions.specs.Solver.{SolveOwes}
+use Rattle.held.specs.declared.Session.{Session}
+use Rattle.lines.specs.Claims as lines
+use Rattle.frames.specs.Claims as frames
+use Rattle.frame_feed.specs.Claims as frameFeed
+use Rattle.replays.specs.Claims as replays
+use Rattle.demands.specs.Common.NamedEdition.{ReadBy, packetBy}
+use Rattle.comparisons.specs.Claims as comparisons
+use Rattle.demands.specs.OneOutcome.OneTold.{One, OneTold}
+use Rattle.demands.specs.OneOutcome.OneInside.{OneInside}
+
+-- two outcomes of a call that writes w to the front of a lent buffer
+abbrev pub OneWrite : Answer (List ℕ) → Type 0
+OneWrite w = (old new other : List ℕ) (r q : Written) → Puts w old new r → Puts w old other q → (r ≡ q) × (new ≡ other)
+
+-- `write` of `lengths`, `datagram_writer`, `packet_writer` and `image_writer`
+pub record Writers : Type 0 where
+  pub length : (n : ℕ) → OneWrite (lengthToWrite n)
+  pub datagram : (number : ℕ) (packet : List ℕ) (kind : Kind) (lengths run : List ℕ)
+      → OneWrite (datagramToWrite number packet kind lengths run)
+  pub packet : (octet : ℕ) (kind : packetKinds.PacketKind) (value : ℕ) (types lengths octets : List ℕ)
+      → OneWrite (packetBy octet kind value types lengths octets)
+  -- `write` of `image_writer`, and its `write_core`, of a session that is lent
+  pub image : (session : Lent) → OneWrite (imageToWrite versionWritten session)
+
+-- all public calls of the library: `read` and `read_within` of `length_reader`, `write` of `length_writer`, of `datagram_reader` and
+-- `datagram_writer`, of `packet_reader` and `packet_writer`, `read` of `pencil_reader`; `Session::fresh`, `offer`, `release` and `solve`;
+-- `Sender::fresh`, `in_ranges` and `send`; the program's `hex_to_octets`, `step`, `take_block` and `finish`; `Joiner::fresh`, `field` and
+-- `lost` of `frame_joiner`, `turns` and `feed` of `frame_feed`; `replay` of `replaying`; `compare` of `comparing`; `write` of
+-- `image_writer` and `read` of `image_reader`; those that only tell; and those that serve callers inside this repository
+pub record OneOutcome : Type 0 where
+  pub lengths : lengths.OneOutcome
+  pub datagrams : datagrams.OneOutcome
+  pub packets : packets.OneOutcome
+  pub secondReader : (octet : ℕ) (ending : Ending) (s : List ℕ) → One (ReadBy octet ending s)
+  pub writers : Writers
+  pub receiver : sessions.OneOutcome
+  pub solver : (s : Session) → One (SolveOwes s)
+  pub sender : sending.OneOutcome
+  pub program : lines.OneOutcome
+  pub joiner : frames.OneOutcome
+  pub frameFeed : frameFeed.OneOutcome
+  pub replay : replays.OneOutcome
+  pub comparison : comparisons.OneOutcome
+  pub imageReader : (text : List ℕ) → One (ImageRead text)
+  pub told : OneTold
+  pub inside : OneInside

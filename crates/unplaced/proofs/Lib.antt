@@ -1,5 +1,0 @@
-mod Forgetting
-mod Datagram
-mod FourBits
-mod Packet
-pub mod Claims

@@ -1,4 +1,0 @@
-pub mod Forgetting
-pub mod DatagramBefore
-pub mod PacketBefore
-pub mod Claims
