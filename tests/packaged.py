@@ -14,9 +14,9 @@ VERSIONS = (('include/tubarexi.h', r'^#define TBX_VERSION "(.*)"$'), ('README.md
 # A size of the header, and the constant of the library that it repeats: the crate's file, the struct, the constant.
 SIZES = (('PACKET_LIMIT', 'datagram_sizes/src/lib.rt', 'Packet', 'LIMIT'),
          ('DATAGRAM_LIMIT', 'datagram_sizes/src/lib.rt', 'Datagram', 'LIMIT'),
-         ('MESSAGES', 'datagram_sizes/src/lib.rt', 'Parity', 'MESSAGES'), ('FRAME_LIMIT', 'frames/src/lib.rt', 'Joiner', 'LIMIT'),
-         ('FIELDS', 'packets/src/types.rt', 'Field', 'LIMIT'), ('HEARD', 'held/src/lib.rt', 'Session', 'HEARD'),
-         ('NUMBERS', 'held/src/lib.rt', 'Session', 'LIMIT'), ('HISTORY', 'sending/src/lib.rt', 'Sender', 'HISTORY'))
+         ('MESSAGES', 'datagram_sizes/src/lib.rt', 'Parity', 'MESSAGES'), ('FRAME_LIMIT', 'frame/src/lib.rt', 'Joiner', 'LIMIT'),
+         ('FIELDS', 'packet/src/types.rt', 'Field', 'LIMIT'), ('HEARD', 'session_held/src/lib.rt', 'Session', 'HEARD'),
+         ('NUMBERS', 'session_held/src/lib.rt', 'Session', 'LIMIT'), ('HISTORY', 'sender/src/lib.rt', 'Sender', 'HISTORY'))
 
 
 def header_compiles(header=TOP / 'include'):
@@ -48,9 +48,9 @@ def numbers_agree(header=TOP / 'include/tubarexi.h'):
         found = re.search(r'^impl %s \{(.*?)^\}' % struct, (TOP / 'crates' / file).read_text(), re.M | re.S)
         return {name: int(value) for name, value in constants.findall(found.group(1))}
 
-    asked = declared('lengths/src/lib.rt', 'Refusal')
+    asked = declared('length/src/lib.rt', 'Refusal')
     asked.update((name, declared(file, struct)[constant]) for name, file, struct, constant in SIZES)
-    asked['KEPT'] = declared('held/src/lib.rt', 'Session')['BEFORE'] + asked['HEARD']
+    asked['KEPT'] = declared('session_held/src/lib.rt', 'Session')['BEFORE'] + asked['HEARD']
     wrong = ['%s is %s, and %d in the library' % (name, named.get(name), value)
              for name, value in asked.items() if named.get(name) != value]
     if wrong:

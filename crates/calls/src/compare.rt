@@ -1,13 +1,13 @@
 // Line 50: two traces compared.
-use call_lines::CAP;
-use call_lines::first;
-use call_lines::say;
-use call_lines::say_done;
-use call_lines::say_no_call;
-use call_lines::say_numbers;
-use call_lines::say_refused;
-use call_lines::sized;
-use comparisons::Compared;
+use calls_lines::CAP;
+use calls_lines::first;
+use calls_lines::say;
+use calls_lines::say_done;
+use calls_lines::say_no_call;
+use calls_lines::say_numbers;
+use calls_lines::say_refused;
+use calls_lines::sized;
+use trace_compare::Compared;
 
 // What stands in the lent list before the call.
 const FILLED: u16 = 0xA5A5;
@@ -27,7 +27,7 @@ fn say_compared(answer: Compared) {
 fn compared(one: &[u8], other: &[u8], cap: usize, all: &mut [u16]) {
     if cap <= all.len() {
         let start = 0;
-        let answer = comparing::compare(one, other, &mut all[start..cap]);
+        let answer = trace_compare_code::compare(one, other, &mut all[start..cap]);
         say_compared(answer);
         return say_numbers(first(all, cap));
     }

@@ -1,5 +1,5 @@
 // The octets of a line.
-use call_lines::part;
+use calls_lines::part;
 
 // The characters that a line has at most.
 const LIMIT: usize = 240000;
@@ -17,13 +17,13 @@ pub fn octets_of(kept: &[u8; KEPT], count: usize, out: &mut [u8]) -> usize {
     if size % 2 != 0 {
         return 0;
     }
-    if !hexadecimal::all_digits(line) {
+    if !line_hex::all_digits(line) {
         return 0;
     }
     let pairs = size / 2;
     if out.len() < pairs {
         return 0;
     }
-    hexadecimal::pair_up(line, out);
+    line_hex::pair_up(line, out);
     pairs
 }

@@ -4,17 +4,17 @@ mod compare;
 mod input;
 mod replay;
 
-use call_lines::CAP;
-use call_lines::FILLING;
-use call_lines::number;
-use call_lines::octet;
-use call_lines::part;
-use call_lines::say_no_call;
-use call_sessions::Held;
+use calls_lines::CAP;
+use calls_lines::FILLING;
+use calls_lines::number;
+use calls_lines::octet;
+use calls_lines::part;
+use calls_lines::say_no_call;
+use calls_sessions::Held;
 use input::KEPT;
 use input::octets_of;
-use input_lines::BLOCK;
-use input_lines::read_line;
+use program_input::BLOCK;
+use program_input::read_line;
 
 // As many octets of arguments as the line itself tells.
 const ANY: usize = 15;
@@ -68,10 +68,10 @@ fn cap_of(octets: &[u8], size: usize) -> usize {
 // The call that a line is, and what is held after it.
 fn called(held: Held, call: u8, s: &[u8], lent: &mut [u8]) -> Held {
     if call < 0x10 {
-        call_lines::answer(call, s, lent);
+        calls_lines::answer(call, s, lent);
         return held;
     }
-    call_sessions::answer(held, call, s, lent)
+    calls_sessions::answer(held, call, s, lent)
 }
 
 // The calls that lend more than the others, and change nothing that is held.
@@ -79,7 +79,7 @@ fn called_apart(held: Held, call: u8, s: &[u8], cap: usize) {
     match call {
         0x40 => replay::answer(s, cap),
         0x50 => compare::answer(s, cap),
-        _ => call_sessions::write_image(held, cap),
+        _ => calls_sessions::write_image(held, cap),
     }
 }
 

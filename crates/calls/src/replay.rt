@@ -1,16 +1,16 @@
 // Line 40: a trace played again with chosen losses.
-use call_lines::FILLING;
-use call_lines::LONGEST;
-use call_lines::first;
-use call_lines::numbers;
-use call_lines::part;
-use call_lines::say;
-use call_lines::say_long;
-use call_lines::say_no_call;
-use call_lines::say_refused;
-use call_lines::sized;
-use held::Counts;
-use replays::Replayed;
+use calls_lines::FILLING;
+use calls_lines::LONGEST;
+use calls_lines::first;
+use calls_lines::numbers;
+use calls_lines::part;
+use calls_lines::say;
+use calls_lines::say_long;
+use calls_lines::say_no_call;
+use calls_lines::say_refused;
+use calls_lines::sized;
+use session_held::Counts;
+use trace_replay::Replayed;
 
 // More numbers than a line can list.
 const NUMBERS: usize = 65536;
@@ -37,7 +37,7 @@ fn say_replayed(answer: Replayed) {
 fn replayed(trace: &[u8], listed: &[u16], cap: usize, all: &mut [u8]) {
     if cap <= all.len() {
         let start = 0;
-        let answer = replaying::replay(trace, listed, &mut all[start..cap]);
+        let answer = trace_replay_code::replay(trace, listed, &mut all[start..cap]);
         say_replayed(answer);
         return say_long(part(all, 0, cap));
     }

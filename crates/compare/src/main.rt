@@ -1,13 +1,13 @@
 // The program for two captures that differ, document 02, request 12: `compare FIRST SECOND` compares two recorded traces and writes what
-// `comparing::compare` lists, an entry a line: the number in four hexadecimal digits, then 1 to 5. Where that is refused it writes why:
-// `refused`, the refusal's number and place, the trace and the line. `./compare` makes a table of it.
+// `trace_compare_code::compare` lists, an entry a line: the number in four hexadecimal digits, then 1 to 5. Where that is refused it writes
+// why: `refused`, the refusal's number and place, the trace and the line. `./compare` makes a table of it.
 mod telling;
 
-use comparisons::Compared;
-use comparisons::Entry;
-use comparisons::Trace;
-use lines::Line;
+use line::Line;
 use telling::say;
+use trace_compare::Compared;
+use trace_compare::Entry;
+use trace_compare::Trace;
 
 // The characters of a trace: of a line that is too long no more need stand there than shows it.
 const TEXT: usize = Trace::LINES * (Line::KEPT + 1);
@@ -71,7 +71,7 @@ fn front(text: &[u8], size: usize) -> &[u8] {
 // The list has room for all entries that there can be.
 fn tell(first: &[u8], second: &[u8]) {
     let mut list = [0u16; Entry::SIZE * ENTRIES];
-    let answer = comparing::compare(first, second, &mut list);
+    let answer = trace_compare_code::compare(first, second, &mut list);
     match answer {
         Compared::Entries(count) => telling::tell_entries(&list, count),
         Compared::Refused { why, trace, line } => telling::tell_refused(why, trace, line),

@@ -1,8 +1,8 @@
 // What is written: the answer to standard output, all else to standard error.
-use comparisons::Entry;
-use lengths::Refusal;
+use length::Refusal;
 use libc::STDERR_FILENO;
 use libc::STDOUT_FILENO;
+use trace_compare::Entry;
 
 pub fn say(text: &[u8]) {
     io::write_all(STDERR_FILENO, text);

@@ -8,24 +8,24 @@ use lib.ListN.{length, getD, take, drop, length-drop}
 use lib.Seq.{take-all}
 use native.Mathlib.Omega.{arith}
 use borrow.Author.Tests.{lt-ltb, le-ltb, le-leb, lt-leb, eq-eqb, ne-eqb}
-use Rattle.lengths.specs.Refusals.{further, endsEarly, outsideSizes, spareBit}
-use Rattle.lengths.specs.Answers.{done, refused, readFrom, lengthOutcome, refusalOf}
-use Rattle.lengths.specs.Length.{within, lengthWithin}
-use Rattle.lengths.specs.Promise.{WithinRead, Octet, RefusalPlaced, RefusalTold}
-use Rattle.lengths.specs.declared.Refusal.{Refusal}
-use Rattle.lengths.specs.declared.Length.{Length}
-use Rattle.lengths.specs.declared.Length.the-variants as length
-use Rattle.lengths.proofs.Laws.{from-front, allowed-met, allowed-not, within-front}
-use Rattle.datagrams.specs.Sizes.{sparesLeast, sparesLimit, coveredLeast, coveredLimit, messagesLeast, messagesLimit}
-use Rattle.datagrams.specs.Read.{lengthFrom, octetAt, itemAt, sparesAt, parityAt, extraAt}
+use Rattle.length.specs.Refusals.{further, endsEarly, outsideSizes, spareBit}
+use Rattle.length.specs.Answers.{done, refused, readFrom, lengthOutcome, refusalOf}
+use Rattle.length.specs.Length.{within, lengthWithin}
+use Rattle.length.specs.Promise.{WithinRead, Octet, RefusalPlaced, RefusalTold}
+use Rattle.length.specs.declared.Refusal.{Refusal}
+use Rattle.length.specs.declared.Length.{Length}
+use Rattle.length.specs.declared.Length.the-variants as length
+use Rattle.length.proofs.Laws.{from-front, allowed-met, allowed-not, within-front}
+use Rattle.datagram.specs.Sizes.{sparesLeast, sparesLimit, coveredLeast, coveredLimit, messagesLeast, messagesLimit}
+use Rattle.datagram.specs.Read.{lengthFrom, octetAt, itemAt, sparesAt, parityAt, extraAt}
 use Rattle.datagram_reader.specs.Pieces.{OctetRead, LengthTold, ItemRead, SparesRead, ParityRead, ExtraRead}
-use Rattle.datagrams.specs.declared.reader.Part.{Part}
+use Rattle.datagram.specs.declared.reader.Part.{Part}
 use Rattle.datagram_reader.specs.declared.reader.Item.{Item}
 use Rattle.datagram_reader.specs.declared.reader.Item.the-variants as item
 use Rattle.datagram_reader.specs.declared.reader.Extra.{Extra}
 use Rattle.datagram_reader.specs.declared.reader.Extra.the-variants as extra
-use Rattle.datagrams.specs.declared.kind.Kind.the-variants as kind
-use Rattle.datagrams.proofs.Laws.{octet-done, within-ends, item-done}
+use Rattle.datagram.specs.declared.kind.Kind.the-variants as kind
+use Rattle.datagram.proofs.Laws.{octet-done, within-ends, item-done}
 
 -- ---- octets and lengths
 

@@ -6,16 +6,16 @@ use mathlib.Core.List.{List, [], _∷_, _++_, append-nil}
 use lib.ListN.{length, replicate, set, length-append}
 use lib.Seq.{set-append-seam, append-snoc}
 use native.Mathlib.Omega.{arith}
-use Rattle.lengths.specs.Answers.{Answer, done, refused, _>>=_}
-use Rattle.lengths.specs.declared.Refusal.{Refusal}
-use Rattle.datagrams.specs.Sizes.{sparesLimit}
-use Rattle.datagrams.specs.Read.{after, itemAt, itemsAt, endOf}
-use Rattle.datagrams.specs.Promise.{paddedParts, nowhere}
+use Rattle.length.specs.Answers.{Answer, done, refused, _>>=_}
+use Rattle.length.specs.declared.Refusal.{Refusal}
+use Rattle.datagram.specs.Sizes.{sparesLimit}
+use Rattle.datagram.specs.Read.{after, itemAt, itemsAt, endOf}
+use Rattle.datagram.specs.Promise.{paddedParts, nowhere}
 use Rattle.datagram_reader.specs.Pieces.{ItemRead, ItemsBegin}
-use Rattle.datagrams.specs.declared.reader.Part.{Part}
+use Rattle.datagram.specs.declared.reader.Part.{Part}
 use Rattle.datagram_reader.specs.declared.reader.Item.{Item}
 use Rattle.datagram_reader.specs.declared.reader.Item.the-variants as item
-use Rattle.datagrams.proofs.Laws.{item-done}
+use Rattle.datagram.proofs.Laws.{item-done}
 
 -- what was read before, in front of what is left to read
 pub prefixed : List Part → Answer (List Part) → Answer (List Part)

@@ -6,23 +6,23 @@ use mathlib.Core.List.{List}
 use lib.ListN.{length, getD, replicate}
 use lib.Dec.{ltb}
 use borrow.Author.Tests.{lt-ltb, le-ltb}
-use Rattle.lengths.specs.Refusals.{endsEarly, tooLong, leftOver}
-use Rattle.lengths.specs.Answers.{done, refused}
-use Rattle.lengths.specs.Promise.{RefusalMade, RefusalPlaced}
-use Rattle.lengths.specs.declared.Refusal.{Refusal}
-use Rattle.datagrams.specs.Sizes.{packetLeast, packetLimit, datagramLimit, sparesLimit}
-use Rattle.datagrams.specs.Read.{after, itemAt, itemsAt, endOf, extraAt, leastOf, mostOf, numberOf, wholeOf, readDatagram}
-use Rattle.datagrams.specs.Promise.{DatagramReads, paddedParts, nowhere, datagramRead}
+use Rattle.length.specs.Refusals.{endsEarly, tooLong, leftOver}
+use Rattle.length.specs.Answers.{done, refused}
+use Rattle.length.specs.Promise.{RefusalMade, RefusalPlaced}
+use Rattle.length.specs.declared.Refusal.{Refusal}
+use Rattle.datagram.specs.Sizes.{packetLeast, packetLimit, datagramLimit, sparesLimit}
+use Rattle.datagram.specs.Read.{after, itemAt, itemsAt, endOf, extraAt, leastOf, mostOf, numberOf, wholeOf, readDatagram}
+use Rattle.datagram.specs.Promise.{DatagramReads, paddedParts, nowhere, datagramRead}
 use Rattle.datagram_reader.specs.Pieces.{ItemRead, ExtraRead, Refuses, ItemsBegin, WholeRead}
-use Rattle.datagrams.specs.declared.reader.Part.{Part}
+use Rattle.datagram.specs.declared.reader.Part.{Part}
 use Rattle.datagram_reader.specs.declared.reader.Item.{Item}
 use Rattle.datagram_reader.specs.declared.reader.Item.the-variants as item
 use Rattle.datagram_reader.specs.declared.reader.Extra.{Extra}
 use Rattle.datagram_reader.specs.declared.reader.Extra.the-variants as extra
-use Rattle.datagrams.specs.declared.reader.Reading.the-variants as reading
-use Rattle.datagrams.specs.declared.reader.DatagramRead.{DatagramRead}
-use Rattle.datagrams.specs.declared.kind.Kind.{Kind}
-use Rattle.datagrams.proofs.Laws.{count-few, items-done, extra-done, whole-reads, outcome-whole}
+use Rattle.datagram.specs.declared.reader.Reading.the-variants as reading
+use Rattle.datagram.specs.declared.reader.DatagramRead.{DatagramRead}
+use Rattle.datagram.specs.declared.kind.Kind.{Kind}
+use Rattle.datagram.proofs.Laws.{count-few, items-done, extra-done, whole-reads, outcome-whole}
 use Rattle.datagram_reader.proofs.ReadTurn.{Turning, turn-refused, turn-done}
 
 -- ---- refused

@@ -3,19 +3,19 @@ use Prim.Native.Nat.{ℕ, _≤_}
 use mathlib.Core.Path.{_≡_}
 use mathlib.Core.List.{List}
 use lib.ListN.{length}
-use Rattle.lengths.specs.Answers.{Answer, done, refused, lengthOutcome}
-use Rattle.lengths.specs.declared.Refusal.{Refusal}
-use Rattle.lengths.specs.declared.Length.{Length}
-use Rattle.datagrams.specs.Sizes.{sparesLimit}
-use Rattle.datagrams.specs.Read.{ExtraHead, lengthFrom, octetAt, itemAt, sparesAt, parityAt, extraAt, wholeOf}
-use Rattle.datagrams.specs.declared.reader.Part.{Part}
-use Rattle.datagrams.specs.declared.reader.DatagramRead.{DatagramRead}
+use Rattle.length.specs.Answers.{Answer, done, refused, lengthOutcome}
+use Rattle.length.specs.declared.Refusal.{Refusal}
+use Rattle.length.specs.declared.Length.{Length}
+use Rattle.datagram.specs.Sizes.{sparesLimit}
+use Rattle.datagram.specs.Read.{ExtraHead, lengthFrom, octetAt, itemAt, sparesAt, parityAt, extraAt, wholeOf}
+use Rattle.datagram.specs.declared.reader.Part.{Part}
+use Rattle.datagram.specs.declared.reader.DatagramRead.{DatagramRead}
 use Rattle.datagram_reader.specs.declared.reader.Item.{Item}
 use Rattle.datagram_reader.specs.declared.reader.Item.the-variants as item
 use Rattle.datagram_reader.specs.declared.reader.Extra.{Extra}
 use Rattle.datagram_reader.specs.declared.reader.Extra.the-variants as extra
-use Rattle.datagrams.specs.declared.kind.Kind.{Kind}
-use Rattle.datagrams.specs.Promise.{datagramRead}
+use Rattle.datagram.specs.declared.kind.Kind.{Kind}
+use Rattle.datagram.specs.Promise.{datagramRead}
 
 pub record OctetRead (least most : ℕ) (s : List ℕ) (at : ℕ) (r : Length) : Type 0 where
   pub answer : lengthOutcome r ≡ octetAt least most s at

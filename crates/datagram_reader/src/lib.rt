@@ -1,4 +1,4 @@
-// The datagram reader: document 01, 'The datagram', as `datagrams` defines it.
+// The datagram reader: document 01, 'The datagram', as `datagram` defines it.
 mod reader;
 
 pub use reader::read;

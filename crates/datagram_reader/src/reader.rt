@@ -1,18 +1,18 @@
 // A datagram read: document 01, 'The datagram'. One pass over the octets, none of them copied: what was read is told as
 // parts of the input. It does not look inside a packet.
-use datagrams::DatagramRead;
-use datagrams::Kind;
-use datagrams::Packet;
-use datagrams::Parity;
-use datagrams::Part;
-use datagrams::Spares;
-use lengths::Length;
-use lengths::Refusal;
+use datagram::DatagramRead;
+use datagram::Kind;
+use datagram::Packet;
+use datagram::Parity;
+use datagram::Part;
+use datagram::Spares;
+use length::Length;
+use length::Refusal;
 ghost use mathlib.Core.Path.{_≡_};
 ghost use Prim.Native.Nat.{_+_, _*_, _≤_};
 ghost use lib.ListN.{length};
-ghost use Rattle.datagrams.specs.Read.{leastOf, mostOf};
-ghost use Rattle.datagrams.specs.Promise.{DatagramReads};
+ghost use Rattle.datagram.specs.Read.{leastOf, mostOf};
+ghost use Rattle.datagram.specs.Promise.{DatagramReads};
 ghost use Rattle.datagram_reader.specs.Pieces.{OctetRead, LengthTold, ItemRead, SparesRead, ParityRead, ExtraRead, Refuses};
 ghost use Rattle.datagram_reader.specs.Pieces.{ItemsBegin, WholeRead};
 
@@ -46,8 +46,8 @@ fn octet_at(s: &[u8], at: usize, least: usize, most: usize) -> Length
     if s.len() <= at {
         return Length::Refused(Refusal::at(Refusal::ENDS_EARLY, at));
     }
-    let value = lengths::wide(s[at]);
-    if lengths::within(least, most, value) {
+    let value = length::wide(s[at]);
+    if length::within(least, most, value) {
         return Length::Value(value, 1);
     }
     Length::Refused(Refusal::at(Refusal::OUTSIDE_SIZES, at))
@@ -58,7 +58,7 @@ fn length_at(s: &[u8], at: usize, least: usize, most: usize) -> Length
     requires { ⌜ at ≤ length (now s) ⌝ }
     ensures { λ r. ⌜ LengthTold least most (now (s .entry)) at r ⌝ }
 {
-    match length_reader::read_within(&s[at..], least, most) {
+    match length_code::read_within(&s[at..], least, most) {
         Length::Value(value, size) => Length::Value(value, size),
         Length::Refused(why) => Length::Refused(why.further(at)),
     }
@@ -131,7 +131,7 @@ fn extra_at(s: &[u8], at: usize) -> Extra
     if s.len() <= at {
         return Extra::Refused(Refusal::at(Refusal::ENDS_EARLY, at));
     }
-    let choice = lengths::wide(s[at]);
+    let choice = length::wide(s[at]);
     let low = choice % 128;
     if low != 0 {
         return Extra::Refused(Refusal::at(Refusal::SPARE_BIT, at));
@@ -149,7 +149,7 @@ fn least(kind: Kind) -> usize
 {
     match kind {
         Kind::Spares => Packet::LEAST,
-        Kind::Parity(_) => datagrams::Message::LEAST,
+        Kind::Parity(_) => datagram::Message::LEAST,
     }
 }
 
@@ -159,7 +159,7 @@ fn most(kind: Kind) -> usize
 {
     match kind {
         Kind::Spares => Packet::LIMIT,
-        Kind::Parity(_) => datagrams::Message::LIMIT,
+        Kind::Parity(_) => datagram::Message::LIMIT,
     }
 }
 
@@ -169,7 +169,7 @@ fn refused(why: Refusal) -> DatagramRead
 {
     let nowhere = Part { start: 0, size: 0 };
     DatagramRead {
-        reading: datagrams::Reading::Refused(why),
+        reading: datagram::Reading::Refused(why),
         items: [nowhere; Spares::LIMIT],
     }
 }
@@ -208,7 +208,7 @@ fn whole_of(
         return refused(Refusal::at(Refusal::LEFT_OVER, at));
     }
     DatagramRead {
-        reading: datagrams::Reading::Datagram {
+        reading: datagram::Reading::Datagram {
             number,
             packet,
             kind,
@@ -222,7 +222,7 @@ fn whole_of(
 pub fn read(s: &[u8]) -> DatagramRead
     ensures { λ r. ⌜ DatagramReads (now (s .entry)) r ⌝ }
 {
-    if datagrams::Datagram::LIMIT < s.len() {
+    if datagram::Datagram::LIMIT < s.len() {
         return refused(Refusal::new(Refusal::TOO_LONG));
     }
     if s.len() < 2 {

@@ -1,3 +1,6 @@
+mod PutSteps
+mod ItemSteps
+mod ItemsSizeSteps
 mod WriteTests
 mod SizeSteps
 mod WriteSteps

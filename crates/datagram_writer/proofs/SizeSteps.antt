@@ -4,11 +4,11 @@ use mathlib.Core.Path.{_≡_}
 use mathlib.Core.List.{List}
 use lib.ListN.{length}
 use native.Mathlib.Omega.{arith}
-use Rattle.lengths.proofs.Laws.{size-written}
-use Rattle.datagrams.specs.Write.{sumOf}
-use Rattle.datagrams.specs.Inner.Heads.{kindHead, itemSize, itemsSize, datagramSize}
-use Rattle.datagrams.specs.declared.kind.Kind.{Kind}
-use Rattle.datagrams.proofs.Laws.{items-bound, kind-bound, number-length}
+use Rattle.length.proofs.Laws.{size-written}
+use Rattle.datagram.specs.Write.{sumOf}
+use Rattle.datagram.specs.Inner.Heads.{kindHead, itemSize, itemsSize, datagramSize}
+use Rattle.datagram.specs.declared.kind.Kind.{Kind}
+use Rattle.datagram.proofs.Laws.{items-bound, kind-bound, number-length}
 
 pub datagram-bound : (n : ℕ) (k : Kind) (count : ℕ) (lengths : List ℕ) {newest before items : ℕ} → newest ≡ itemSize n
     → before ≡ length (kindHead k count) → items ≡ itemsSize lengths → newest + before + items ≤ n + sumOf lengths + length lengths * 2 + 7

@@ -8,20 +8,20 @@ use lib.Dec.{eqb}
 use native.Mathlib.Omega.{arith}
 use borrow.Author.Tests.{not-true, not-false, eqb-true}
 use borrow.Rule.Slice.PartMut.{midOf, putMid}
-use Rattle.lengths.specs.Refusals.{outsideSizes, wrongSettings, noRoom}
-use Rattle.lengths.specs.Answers.{done}
-use Rattle.lengths.specs.Tables.{unless}
-use Rattle.lengths.specs.Length.{lengthLimit}
-use Rattle.lengths.specs.Promise.{Puts, RefusalMade, Put}
-use Rattle.lengths.specs.declared.Refusal.{Refusal}
-use Rattle.lengths.specs.declared.Written.{Written}
-use Rattle.lengths.specs.declared.Written.the-variants as written
-use Rattle.lengths.proofs.Laws.{both, put-next, put-long, put-puts, full-puts, room-left}
-use Rattle.datagrams.specs.Write.{itemsOctets, datagramOctets, datagramToWrite, carriedOf, cut, sumOf}
-use Rattle.datagrams.specs.Write.{countInside, lengthsInside}
-use Rattle.datagrams.specs.Inner.Heads.{Bounded, FrontAsked, frontOctets, itemsSize, datagramSize}
-use Rattle.datagrams.specs.declared.kind.Kind.{Kind}
-use Rattle.datagrams.proofs.Laws.{Allowed, allowed-bounded, allowed-written, datagram-form, datagram-length, number-length, front-length}
+use Rattle.length.specs.Refusals.{outsideSizes, wrongSettings, noRoom}
+use Rattle.length.specs.Answers.{done}
+use Rattle.length.specs.Tables.{unless}
+use Rattle.length.specs.Length.{lengthLimit}
+use Rattle.length.specs.Promise.{Puts, RefusalMade, Put}
+use Rattle.length.specs.declared.Refusal.{Refusal}
+use Rattle.length.specs.declared.Written.{Written}
+use Rattle.length.specs.declared.Written.the-variants as written
+use Rattle.length.proofs.Laws.{both, put-next, put-long, put-puts, full-puts, room-left}
+use Rattle.datagram.specs.Write.{itemsOctets, datagramOctets, datagramToWrite, carriedOf, cut, sumOf}
+use Rattle.datagram.specs.Write.{countInside, lengthsInside}
+use Rattle.datagram.specs.Inner.Heads.{Bounded, FrontAsked, frontOctets, itemsSize, datagramSize}
+use Rattle.datagram.specs.declared.kind.Kind.{Kind}
+use Rattle.datagram.proofs.Laws.{Allowed, allowed-bounded, allowed-written, datagram-form, datagram-length, number-length, front-length}
 
 module _ (number : ℕ) (packet : List ℕ) (k : Kind) (lengths run : List ℕ) where
   -- ---- put_datagram

@@ -11,12 +11,12 @@ use lib.Seq.{drop-cons}
 use native.Mathlib.Numerals.{add-one}
 use native.Mathlib.Omega.{arith}
 use borrow.Author.Tests.{eq-eqb, ne-eqb, not-true, not-false}
-use Rattle.datagrams.specs.Sizes.{packetLeast, packetLimit, messageLeast, messageLimit}
-use Rattle.lengths.specs.Length.{within}
-use Rattle.datagrams.specs.Write.{itemInside, itemsInside, lengthsInside, sumOf}
-use Rattle.datagrams.specs.declared.kind.Kind.{Kind}
-use Rattle.datagrams.specs.declared.kind.Kind.the-variants as kind
-use Rattle.datagrams.proofs.Laws.{sum-next}
+use Rattle.datagram.specs.Sizes.{packetLeast, packetLimit, messageLeast, messageLimit}
+use Rattle.length.specs.Length.{within}
+use Rattle.datagram.specs.Write.{itemInside, itemsInside, lengthsInside, sumOf}
+use Rattle.datagram.specs.declared.kind.Kind.{Kind}
+use Rattle.datagram.specs.declared.kind.Kind.the-variants as kind
+use Rattle.datagram.proofs.Laws.{sum-next}
 
 none-or-some : (n : ℕ) → (n ≡ 0) ⊎ (0 < n)
 none-or-some zero = inl refl

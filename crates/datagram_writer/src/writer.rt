@@ -1,27 +1,27 @@
 // Document 01, 'The datagram': the datagram writer. It decides everything first, the room included, and then lends the rest
 // of the buffer to the item writers in turn, each item into the part still free after the last.
-use datagram_items::item_size;
-use datagram_items::items_size;
-use datagram_items::kind_size;
-use datagram_items::put_front;
-use datagram_items::put_items;
-use datagram_items::wide;
-use datagrams::Kind;
-use datagrams::Message;
-use datagrams::Packet;
-use datagrams::count_inside;
-use lengths::Refusal;
-use lengths::Written;
-use lengths::within;
+use crate::put::item_size;
+use crate::put::items_size;
+use crate::put::kind_size;
+use crate::put::put_front;
+use crate::put::put_items;
+use crate::put::wide;
+use datagram::Kind;
+use datagram::Message;
+use datagram::Packet;
+use datagram::count_inside;
+use length::Refusal;
+use length::Written;
+use length::within;
 ghost use Prim.Native.Nat.{_≤_};
 ghost use mathlib.Core.Path.{_≡_};
 ghost use lib.ListN.{length};
 ghost use lib.Dec.{eqb};
-ghost use Rattle.lengths.specs.Answers.{done};
-ghost use Rattle.lengths.specs.Length.{lengthLimit};
-ghost use Rattle.lengths.specs.Promise.{Puts, Put};
-ghost use Rattle.datagrams.specs.Write.{datagramOctets, datagramToWrite, carriedOf, sumOf, itemInside, itemsInside, lengthsInside};
-ghost use Rattle.datagrams.specs.Inner.Heads.{Bounded, datagramSize};
+ghost use Rattle.length.specs.Answers.{done};
+ghost use Rattle.length.specs.Length.{lengthLimit};
+ghost use Rattle.length.specs.Promise.{Puts, Put};
+ghost use Rattle.datagram.specs.Write.{datagramOctets, datagramToWrite, carriedOf, sumOf, itemInside, itemsInside, lengthsInside};
+ghost use Rattle.datagram.specs.Inner.Heads.{Bounded, datagramSize};
 
 // ---- what is refused
 

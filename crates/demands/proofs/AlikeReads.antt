@@ -7,22 +7,22 @@ use mathlib.Core.List.{List, [], _∷_, _++_, map, append-assoc, append-nil}
 use lib.ListN.{length, drop, length-drop}
 use lib.Seq.{length-take-le}
 use native.Mathlib.Omega.{arith}
-use Rattle.lengths.specs.Answers.{done, LengthAnswer}
-use Rattle.lengths.specs.Length.{lengthAt, lengthOctets, lengthLimit}
-use Rattle.lengths.proofs.Claims as lengths
-use Rattle.lengths.proofs.Laws.{bind-done, done-same, both, within-true}
-use Rattle.datagrams.specs.Sizes.{packetLeast, packetLimit}
-use Rattle.datagrams.specs.Carried.{Carried}
-use Rattle.datagrams.specs.Read.{DatagramParts, ExtraHead, after, itemAt, itemsAt, extraAt, leastOf, mostOf, readDatagram, carriedBy}
-use Rattle.datagrams.specs.Write.{numberOctets, itemOctets, itemsOctets, extraOctets, extraOf, itemInside, itemsInside, cut, sumOf}
-use Rattle.datagrams.specs.Write.{carriedOf, datagramOctets, datagramToWrite}
-use Rattle.datagrams.specs.Claims.{ReadsAs}
-use Rattle.datagrams.specs.Inner.Heads.{itemsSize, datagramSize}
-use Rattle.datagrams.specs.declared.reader.Part.{Part}
-use Rattle.datagrams.specs.declared.kind.Kind.{Kind}
-use Rattle.datagrams.proofs.Laws.{Allowed, cut-length, items-length, datagram-length, written-allowed, Datagram, item-done, extra-done}
-use Rattle.datagrams.proofs.Laws.{read-done, rest-after, item-sizes, most-fits, ExtraBack, extra-back, item-length}
-use Rattle.datagrams.proofs.Claims as datagrams
+use Rattle.length.specs.Answers.{done, LengthAnswer}
+use Rattle.length.specs.Length.{lengthAt, lengthOctets, lengthLimit}
+use Rattle.length.proofs.Claims as lengths
+use Rattle.length.proofs.Laws.{bind-done, done-same, both, within-true}
+use Rattle.datagram.specs.Sizes.{packetLeast, packetLimit}
+use Rattle.datagram.specs.Carried.{Carried}
+use Rattle.datagram.specs.Read.{DatagramParts, ExtraHead, after, itemAt, itemsAt, extraAt, leastOf, mostOf, readDatagram, carriedBy}
+use Rattle.datagram.specs.Write.{numberOctets, itemOctets, itemsOctets, extraOctets, extraOf, itemInside, itemsInside, cut, sumOf}
+use Rattle.datagram.specs.Write.{carriedOf, datagramOctets, datagramToWrite}
+use Rattle.datagram.specs.Claims.{ReadsAs}
+use Rattle.datagram.specs.Inner.Heads.{itemsSize, datagramSize}
+use Rattle.datagram.specs.declared.reader.Part.{Part}
+use Rattle.datagram.specs.declared.kind.Kind.{Kind}
+use Rattle.datagram.proofs.Laws.{Allowed, cut-length, items-length, datagram-length, written-allowed, Datagram, item-done, extra-done}
+use Rattle.datagram.proofs.Laws.{read-done, rest-after, item-sizes, most-fits, ExtraBack, extra-back, item-length}
+use Rattle.datagram.proofs.Claims as datagrams
 
 -- the part of an item of n octets at a place, and of items one after the other
 abbrev pub partAt : ℕ → ℕ → Part

@@ -9,14 +9,14 @@ use mathlib.Core.Option.{some, Option·some-injective}
 use lib.ListN.{length}
 use native.Mathlib.Omega.{arith}
 use Rattle.octets.proofs.Laws.{same-or-not}
-use Rattle.datagrams.specs.Sizes.{sparesLimit}
-use Rattle.datagrams.specs.Carried.{Carried}
-use Rattle.datagrams.specs.Read.{readDatagram, carriedBy}
-use Rattle.lengths.proofs.Laws.{done-same}
-use Rattle.views.specs.Cells.{keptBefore, keptAhead}
-use Rattle.views.specs.Held.{Held, heldAt}
-use Rattle.views.specs.View.{View, numbers, distance}
-use Rattle.views.specs.Offer.{heldBy, accept}
+use Rattle.datagram.specs.Sizes.{sparesLimit}
+use Rattle.datagram.specs.Carried.{Carried}
+use Rattle.datagram.specs.Read.{readDatagram, carriedBy}
+use Rattle.length.proofs.Laws.{done-same}
+use Rattle.session.specs.Cells.{keptBefore, keptAhead}
+use Rattle.session.specs.Held.{Held, heldAt}
+use Rattle.session.specs.View.{View, numbers, distance}
+use Rattle.session.specs.Offer.{heldBy, accept}
 use Rattle.demands.specs.Common.History.{Left}
 use Rattle.demands.specs.Common.Calls.{Call, Calls, _then_, acceptedIn, fillsIn, leftIn, leftBy}
 use Rattle.demands.specs.Demand2.ReachedBy.{gone, placeNumber, sparesIn, Accepts, Arrived, now, before}

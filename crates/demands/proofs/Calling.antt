@@ -10,36 +10,36 @@ use lib.Dec.{leb, eqb}
 use native.Mathlib.Omega.{arith}
 use borrow.Author.Tests.{eqb-true, le-ltb}
 use Rattle.octets.proofs.Laws.{and-left, and-right}
-use Rattle.lengths.specs.Refusals.{outsideRanges}
-use Rattle.lengths.specs.Answers.{Answer, done, refused, refuse, over, afterwards}
-use Rattle.datagrams.specs.Sizes.{coveredLimit, messagesLimit}
-use Rattle.views.specs.Cells as cells
-use Rattle.views.specs.Cells.{cellAt, keptBefore, keptAhead, keptNumbers}
-use Rattle.views.specs.Held.{heldAt}
-use Rattle.views.specs.View.{View, sum, numbers, sessionLimit, freshView}
-use Rattle.views.specs.Offer as offers
-use Rattle.views.specs.Release as releases
-use Rattle.views.specs.Release.{Release, viewAfterRelease}
-use Rattle.views.specs.Ranges.{sumRight, sizeRight, Sound}
-use Rattle.views.proofs.Laws.{held-sizes}
-use Rattle.held.specs.Table.{stateOf, viewOf}
-use Rattle.held.specs.Laid.{sessionInRanges}
-use Rattle.held.specs.Promise.{Fresh}
-use Rattle.held.specs.declared.Session.{Session}
-use Rattle.held.proofs.Laws.{session-in-ranges, in-ranges-true}
-use Rattle.leaving.specs.Outcome.{Handed, releasedOutcome, handedOf, octetsHanded}
-use Rattle.leaving.specs.declared.Released.{Released}
-use Rattle.leaving.specs.declared.Released.the-variants as answer
-use Rattle.offering.specs.Outcome.{acceptedOf}
-use Rattle.solutions.specs.Solve as solutions
-use Rattle.solutions.proofs.Laws.{means-it}
-use Rattle.equations.specs.Solved.{Solves}
-use Rattle.solving.specs.Outcome.{filledOf}
-use Rattle.sessions.specs.Receiver.{SeenAs, After, inRangesThen, offerOf, OfferOwes, releaseOf, ReleaseOwes}
-use Rattle.sessions.specs.Solver.{solveOf, SolveOwes}
-use Rattle.sessions.specs.declared.receiver.AfterOffer.{AfterOffer}
-use Rattle.sessions.specs.declared.receiver.AfterRelease.{AfterRelease}
-use Rattle.sessions.specs.declared.solver.AfterSolve.{AfterSolve}
+use Rattle.length.specs.Refusals.{outsideRanges}
+use Rattle.length.specs.Answers.{Answer, done, refused, refuse, over, afterwards}
+use Rattle.datagram.specs.Sizes.{coveredLimit, messagesLimit}
+use Rattle.session.specs.Cells as cells
+use Rattle.session.specs.Cells.{cellAt, keptBefore, keptAhead, keptNumbers}
+use Rattle.session.specs.Held.{heldAt}
+use Rattle.session.specs.View.{View, sum, numbers, sessionLimit, freshView}
+use Rattle.session.specs.Offer as offers
+use Rattle.session.specs.Release as releases
+use Rattle.session.specs.Release.{Release, viewAfterRelease}
+use Rattle.session.specs.Ranges.{sumRight, sizeRight, Sound}
+use Rattle.session.proofs.Laws.{held-sizes}
+use Rattle.session_held.specs.Table.{stateOf, viewOf}
+use Rattle.session_held.specs.Laid.{sessionInRanges}
+use Rattle.session_held.specs.Promise.{Fresh}
+use Rattle.session_held.specs.declared.Session.{Session}
+use Rattle.session_held.proofs.Laws.{session-in-ranges, in-ranges-true}
+use Rattle.session_release.specs.Outcome.{Handed, releasedOutcome, handedOf, octetsHanded}
+use Rattle.session_release.specs.declared.Released.{Released}
+use Rattle.session_release.specs.declared.Released.the-variants as answer
+use Rattle.session_offer.specs.Outcome.{acceptedOf}
+use Rattle.solve.specs.Solve as solutions
+use Rattle.solve.proofs.SolutionsLaws.{means-it}
+use Rattle.solve.specs.Solved.{Solves}
+use Rattle.solve_code.specs.Outcome.{filledOf}
+use Rattle.session_calls.specs.Receiver.{SeenAs, After, inRangesThen, offerOf, OfferOwes, releaseOf, ReleaseOwes}
+use Rattle.session_calls.specs.Solver.{solveOf, SolveOwes}
+use Rattle.session_calls.specs.declared.receiver.AfterOffer.{AfterOffer}
+use Rattle.session_calls.specs.declared.receiver.AfterRelease.{AfterRelease}
+use Rattle.session_calls.specs.declared.solver.AfterSolve.{AfterSolve}
 use Rattle.demands.specs.Common.History as moves
 use Rattle.demands.specs.Common.History.{afterMove}
 use Rattle.demands.specs.Common.Calls.{Call, offer, release, solve, Calls, handedOut, leftIn}

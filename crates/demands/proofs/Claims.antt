@@ -1,11 +1,11 @@
 -- The demands, each proved in its file. Assumes nothing.
-use Rattle.packets.proofs.Claims as packets
-use Rattle.sending.proofs.Claims as sending
-use Rattle.frames.proofs.Claims as frames
+use Rattle.packet.proofs.Claims as packets
+use Rattle.sender.proofs.Claims as sending
+use Rattle.frame.proofs.Claims as frames
 use Rattle.frame_feed.proofs.Claims as frameFeed
-use Rattle.replays.proofs.Claims as replays
-use Rattle.comparisons.proofs.Claims as comparisons
-use Rattle.sold_line.proofs.Claims as soldLine
+use Rattle.trace_replay.proofs.Claims as replays
+use Rattle.trace_compare.proofs.Claims as comparisons
+use Rattle.sender_to_modem.proofs.Claims as soldLine
 use Rattle.host.proofs.Claims as host
 use Rattle.demands.specs.Claims.{Claims}
 use Rattle.demands.proofs.Demand1.{demand-1}

@@ -6,9 +6,9 @@ use mathlib.Core.Logic.{_⊎_, inl, inr, ⊎-elim}
 use mathlib.Core.List.{List, [], _∷_, _++_, append-assoc, append-nil}
 use lib.ListN.{length, replicate, length-append, length-replicate}
 use native.Mathlib.Omega.{arith}
-use Rattle.lengths.specs.Refusals.{endsEarly, badForm, outsideSizes}
-use Rattle.lengths.specs.Length.{lengthOctets, ofTwo}
-use Rattle.lengths.specs.Claims.{Octets}
+use Rattle.length.specs.Refusals.{endsEarly, badForm, outsideSizes}
+use Rattle.length.specs.Length.{lengthOctets, ofTwo}
+use Rattle.length.specs.Claims.{Octets}
 use Rattle.octets.proofs.Laws.{below-or-not}
 use Rattle.demands.specs.Demand1.DatagramItems.{Item, number, packet, kind, spares, octet01, octetN, countM, message, inside, Form}
 use Rattle.demands.specs.Demand1.DatagramItems.{many, sized, formOf, formDue}

@@ -11,11 +11,11 @@ use lib.Dec.{ltb, eqb}
 use native.Mathlib.Omega.{arith}
 use borrow.Author.Tests.{lt-ltb, le-ltb, le-leb, lt-leb, ne-eqb}
 use Rattle.octets.proofs.Laws.{below-or-not, same-or-not}
-use Rattle.lengths.specs.Refusals.{endsEarly, outsideSizes, spareBit, leftOver}
-use Rattle.lengths.specs.Answers.{Answer, done, refuse, _>>=_, LengthAnswer}
-use Rattle.lengths.specs.Length.{lengthAt, lengthOctets, lengthLimit, ofTwo, allowed}
-use Rattle.lengths.specs.Claims.{Octets}
-use Rattle.lengths.proofs.Laws.{lengthOctets-one, lengthOctets-two, written-reads, allowed-sizes}
+use Rattle.length.specs.Refusals.{endsEarly, outsideSizes, spareBit, leftOver}
+use Rattle.length.specs.Answers.{Answer, done, refuse, _>>=_, LengthAnswer}
+use Rattle.length.specs.Length.{lengthAt, lengthOctets, lengthLimit, ofTwo, allowed}
+use Rattle.length.specs.Claims.{Octets}
+use Rattle.length.proofs.Laws.{lengthOctets-one, lengthOctets-two, written-reads, allowed-sizes}
 use Rattle.demands.specs.Demand1.DatagramItems.{Form, many, sized, plain, flag, nothing, Right, rightOctets, rightSize, rightOctet}
 use Rattle.demands.specs.Demand1.DatagramItems.{rightSpares, rightParity}
 use Rattle.demands.specs.Demand1.DatagramRefusals.{Wrong, fewOctets, noSize, cutSize, noOctet, noFlag, highSize, longSize, otherSize}

@@ -5,10 +5,10 @@ use mathlib.Core.Path.{_≡_, refl, ap, subst}
 use mathlib.Core.List.{List, [], _∷_, _++_, append-assoc, append-nil}
 use lib.ListN.{length, replicate, length-append, length-replicate}
 use native.Mathlib.Omega.{arith}
-use Rattle.lengths.specs.Length.{lengthOctets}
-use Rattle.lengths.specs.Claims.{Octets}
-use Rattle.lengths.proofs.Laws.{size-written, octets-cons, octets-none, octets-written}
-use Rattle.datagrams.specs.Sizes.{packetLimit, datagramLimit, sparesLimit, messagesLimit}
+use Rattle.length.specs.Length.{lengthOctets}
+use Rattle.length.specs.Claims.{Octets}
+use Rattle.length.proofs.Laws.{size-written, octets-cons, octets-none, octets-written}
+use Rattle.datagram.specs.Sizes.{packetLimit, datagramLimit, sparesLimit, messagesLimit}
 use Rattle.demands.specs.Demand1.DatagramItems.{Item, number, packet, kind, spares, octet01, octetN, countM, message, inside, many}
 use Rattle.demands.specs.Demand1.DatagramItems.{sized, plain, flag, formOf, brings, Right, rightOctets, rightSize, rightOctet}
 use Rattle.demands.specs.Demand1.DatagramItems.{rightSpares, rightParity, Due, begins, passes, WholeDatagram}

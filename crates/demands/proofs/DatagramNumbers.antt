@@ -5,8 +5,8 @@ use mathlib.Core.Path.{_≡_, refl, sym, ap, subst, _∙_}
 use mathlib.Core.List.{List, [], _∷_, _++_, append-assoc}
 use lib.ListN.{length}
 use native.Mathlib.Omega.{arith}
-use Rattle.lengths.specs.Refusals.{endsEarly, tooLong, outsideSizes, leftOver}
-use Rattle.lengths.specs.Length.{lengthOctets}
+use Rattle.length.specs.Refusals.{endsEarly, tooLong, outsideSizes, leftOver}
+use Rattle.length.specs.Length.{lengthOctets}
 use Rattle.demands.specs.Demand1.DatagramItems.{Item, number, packet, kind, spares, octet01, octetN, countM, message, inside, Form}
 use Rattle.demands.specs.Demand1.DatagramItems.{many, sized, nothing, formOf, formDue}
 use Rattle.demands.specs.Demand1.DatagramItems.{Due}

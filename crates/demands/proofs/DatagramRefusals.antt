@@ -11,16 +11,16 @@ use lib.Seq.{getD-append-add}
 use native.Mathlib.Omega.{arith}
 use borrow.Author.Tests.{lt-ltb}
 use Rattle.octets.proofs.Laws.{below-or-not, same-or-not}
-use Rattle.lengths.specs.Refusals.{refusal, refusalAt, endsEarly, tooLong, leftOver}
-use Rattle.lengths.specs.Answers.{Answer, done, refused}
-use Rattle.lengths.specs.declared.Refusal.{Refusal}
-use Rattle.lengths.proofs.Laws.{refused-same, refused-some, done-none}
-use Rattle.lengths.specs.Claims.{Octets}
-use Rattle.datagrams.specs.Sizes.{packetLeast, packetLimit, datagramLimit}
-use Rattle.datagrams.specs.Read.{readDatagram}
-use Rattle.datagrams.specs.Promise.{DatagramReads, readOutcome}
-use Rattle.datagrams.specs.declared.reader.DatagramRead.{DatagramRead}
-use Rattle.lengths.specs.Tables.{refusalIn}
+use Rattle.length.specs.Refusals.{refusal, refusalAt, endsEarly, tooLong, leftOver}
+use Rattle.length.specs.Answers.{Answer, done, refused}
+use Rattle.length.specs.declared.Refusal.{Refusal}
+use Rattle.length.proofs.Laws.{refused-same, refused-some, done-none}
+use Rattle.length.specs.Claims.{Octets}
+use Rattle.datagram.specs.Sizes.{packetLeast, packetLimit, datagramLimit}
+use Rattle.datagram.specs.Read.{readDatagram}
+use Rattle.datagram.specs.Promise.{DatagramReads, readOutcome}
+use Rattle.datagram.specs.declared.reader.DatagramRead.{DatagramRead}
+use Rattle.length.specs.Tables.{refusalIn}
 use Rattle.demands.specs.Demand1.DatagramItems.{packet, kind, formOf, brings, rightOctets, begins, passes, WholeDatagram}
 use Rattle.demands.specs.Demand1.DatagramRefusals.{FirstWrong, Followed, Front, CutOver, RefusalOf, PlacedIn, DatagramRefusals}
 use Rattle.demands.proofs.DatagramWalk.{whyIn, Walk, ends, stops, one-walk, start, walk-from, StopsAt, walk-ends, Ended}

@@ -12,19 +12,19 @@ use lib.Dec.{leb, ltb, eqb}
 use native.Mathlib.Omega.{arith}
 use borrow.Author.Tests.{lt-ltb, le-ltb, le-leb, lt-leb}
 use Rattle.octets.proofs.Laws.{below-or-not}
-use Rattle.lengths.specs.Refusals.{refusal, refusalAt, endsEarly, spareBit, leftOver}
-use Rattle.lengths.specs.Answers.{Answer, done, refused, refuse, refuseAt, readFrom, _>>=_, LengthAnswer}
-use Rattle.lengths.specs.declared.Refusal.{Refusal}
-use Rattle.lengths.proofs.Laws.{from-front}
-use Rattle.lengths.specs.Claims.{Octets}
-use Rattle.datagrams.specs.Sizes.{packetLeast, packetLimit, datagramLimit, sparesLeast, sparesLimit, coveredLeast, coveredLimit}
-use Rattle.datagrams.specs.Sizes.{messagesLeast, messagesLimit}
-use Rattle.datagrams.specs.Read.{ExtraHead, after, lengthFrom, octetAt, itemAt, itemsAt, endOf}
-use Rattle.datagrams.specs.Read.{sparesAt, parityAt, extraAt, leastOf, mostOf, numberOf, wholeOf, readDatagram}
-use Rattle.datagrams.specs.declared.reader.Part.{Part}
-use Rattle.datagrams.specs.declared.kind.Kind.the-variants as kinds
-use Rattle.datagrams.proofs.Laws.{rest-after}
-use Rattle.lengths.specs.Length.{allowed, lengthWithin}
+use Rattle.length.specs.Refusals.{refusal, refusalAt, endsEarly, spareBit, leftOver}
+use Rattle.length.specs.Answers.{Answer, done, refused, refuse, refuseAt, readFrom, _>>=_, LengthAnswer}
+use Rattle.length.specs.declared.Refusal.{Refusal}
+use Rattle.length.proofs.Laws.{from-front}
+use Rattle.length.specs.Claims.{Octets}
+use Rattle.datagram.specs.Sizes.{packetLeast, packetLimit, datagramLimit, sparesLeast, sparesLimit, coveredLeast, coveredLimit}
+use Rattle.datagram.specs.Sizes.{messagesLeast, messagesLimit}
+use Rattle.datagram.specs.Read.{ExtraHead, after, lengthFrom, octetAt, itemAt, itemsAt, endOf}
+use Rattle.datagram.specs.Read.{sparesAt, parityAt, extraAt, leastOf, mostOf, numberOf, wholeOf, readDatagram}
+use Rattle.datagram.specs.declared.reader.Part.{Part}
+use Rattle.datagram.specs.declared.kind.Kind.the-variants as kinds
+use Rattle.datagram.proofs.Laws.{rest-after}
+use Rattle.length.specs.Length.{allowed, lengthWithin}
 use Rattle.demands.specs.Demand1.DatagramItems.{Item, number, packet, kind, spares, octet01, octetN, countM, message, inside, Form}
 use Rattle.demands.specs.Demand1.DatagramItems.{many, sized, plain, flag, formOf, formDue, brings, Right, rightOctets, rightOctet}
 use Rattle.demands.specs.Demand1.DatagramItems.{rightSpares, rightParity}

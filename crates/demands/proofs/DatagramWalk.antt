@@ -8,11 +8,11 @@ use mathlib.Core.Option.{Option, none, some}
 use lib.ListN.{length, drop, length-append}
 use lib.Seq.{drop-append-seam}
 use native.Mathlib.Omega.{arith}
-use Rattle.lengths.specs.Refusals.{refusal, refusalAt}
-use Rattle.lengths.specs.Answers.{Answer, done, refused, refuse, LengthAnswer}
-use Rattle.lengths.specs.Length.{lengthLimit}
-use Rattle.lengths.specs.declared.Refusal.{Refusal}
-use Rattle.lengths.proofs.Laws.{done-same}
+use Rattle.length.specs.Refusals.{refusal, refusalAt}
+use Rattle.length.specs.Answers.{Answer, done, refused, refuse, LengthAnswer}
+use Rattle.length.specs.Length.{lengthLimit}
+use Rattle.length.specs.declared.Refusal.{Refusal}
+use Rattle.length.proofs.Laws.{done-same}
 use Rattle.demands.specs.Demand1.DatagramItems.{Item, number, packet, kind, spares, octet01, octetN, countM, message, inside, nothing}
 use Rattle.demands.specs.Demand1.DatagramItems.{formOf, formDue, brings, Right, Due, begins, passes, WholeDatagram}
 use Rattle.demands.specs.Demand1.DatagramRefusals.{Wrong, FirstWrong}

@@ -5,25 +5,25 @@ use mathlib.Core.List.{List, _++_}
 use mathlib.Core.Option.{some}
 use lib.ListN.{length}
 use native.Mathlib.Omega.{arith}
-use Rattle.lengths.specs.Answers.{Answer, done, refused, fitted}
-use Rattle.lengths.specs.Answers as answers
-use Rattle.lengths.specs.Tables.{first, refusalIn, roomRow}
-use Rattle.lengths.specs.Length.{lengthOctets, lengthWriterRows, lengthToWrite}
-use Rattle.lengths.proofs.Laws.{fitted-first, puts-refusal, size-refusal}
-use Rattle.datagrams.specs.Write.{carriedOf, datagramOctets, datagramWriterRows, datagramToWrite}
-use Rattle.datagrams.specs.declared.kind.Kind.{Kind}
-use Rattle.packets.specs.Edition.{Edition, editionOf, ofChoice}
-use Rattle.packets.specs.Write.{packetOctets, packetWriterRows, packetToWrite}
-use Rattle.packets.specs.declared.types.Choice.{Choice}
-use Rattle.packets.specs.declared.types.PacketKind as packets
-use Rattle.packets.specs.declared.types.Named.{Named}
-use Rattle.sending.specs.Sending.{Sending}
-use Rattle.sending.specs.Send.{carriedNext}
-use Rattle.sending.specs.Sender.{sendingOf}
-use Rattle.sending.specs.Promise.{senderRows, toSend, StateAfter}
-use Rattle.sending.specs.declared.Sender.{Sender}
-use Rattle.sending.specs.declared.Settings.{Settings}
-use Rattle.lines.specs.Hex.{octetsIn, lineRows, lineOctets}
+use Rattle.length.specs.Answers.{Answer, done, refused, fitted}
+use Rattle.length.specs.Answers as answers
+use Rattle.length.specs.Tables.{first, refusalIn, roomRow}
+use Rattle.length.specs.Length.{lengthOctets, lengthWriterRows, lengthToWrite}
+use Rattle.length.proofs.Laws.{fitted-first, puts-refusal, size-refusal}
+use Rattle.datagram.specs.Write.{carriedOf, datagramOctets, datagramWriterRows, datagramToWrite}
+use Rattle.datagram.specs.declared.kind.Kind.{Kind}
+use Rattle.packet.specs.Edition.{Edition, editionOf, ofChoice}
+use Rattle.packet.specs.Write.{packetOctets, packetWriterRows, packetToWrite}
+use Rattle.packet.specs.declared.types.Choice.{Choice}
+use Rattle.packet.specs.declared.types.PacketKind as packets
+use Rattle.packet.specs.declared.types.Named.{Named}
+use Rattle.sender.specs.Sending.{Sending}
+use Rattle.sender.specs.Send.{carriedNext}
+use Rattle.sender.specs.Sender.{sendingOf}
+use Rattle.sender.specs.Promise.{senderRows, toSend, StateAfter}
+use Rattle.sender.specs.declared.Sender.{Sender}
+use Rattle.sender.specs.declared.Settings.{Settings}
+use Rattle.line.specs.Hex.{octetsIn, lineRows, lineOctets}
 use Rattle.demands.specs.Common.NamedEdition.{Names, packetBy}
 use Rattle.demands.specs.Demand1.Demand1 as demand
 use Rattle.demands.specs.Demand1.Demand1.{Unchanged, Writers, Demand1}

@@ -5,17 +5,17 @@ use mathlib.Core.Path.{_≡_, refl, sym, ap, subst, _∙_}
 use mathlib.Core.List.{List, List·Memᴰ as Among}
 use lib.ListN.{length}
 use native.Mathlib.Omega.{arith}
-use Rattle.lengths.specs.Refusals as refusals
-use Rattle.lengths.specs.Answers.{Answer, done, refused, refuse, afterwards}
-use Rattle.views.specs.Honest.{TrueCells}
-use Rattle.views.specs.View.{View, freshView}
-use Rattle.views.specs.Offer as offers
-use Rattle.held.specs.Table.{viewOf}
-use Rattle.held.specs.declared.Session.{Session}
-use Rattle.offering.specs.Outcome.{offeredOutcome, acceptedOf}
-use Rattle.sessions.specs.Receiver.{SeenAs, OfferOwes}
-use Rattle.sessions.specs.declared.receiver.AfterOffer.{AfterOffer}
-use Rattle.sending.specs.Honest.{HonestSender}
+use Rattle.length.specs.Refusals as refusals
+use Rattle.length.specs.Answers.{Answer, done, refused, refuse, afterwards}
+use Rattle.session.specs.Honest.{TrueCells}
+use Rattle.session.specs.View.{View, freshView}
+use Rattle.session.specs.Offer as offers
+use Rattle.session_held.specs.Table.{viewOf}
+use Rattle.session_held.specs.declared.Session.{Session}
+use Rattle.session_offer.specs.Outcome.{offeredOutcome, acceptedOf}
+use Rattle.session_calls.specs.Receiver.{SeenAs, OfferOwes}
+use Rattle.session_calls.specs.declared.receiver.AfterOffer.{AfterOffer}
+use Rattle.sender.specs.Honest.{HonestSender}
 use Rattle.demands.specs.Common.History.{afterMove, offer}
 use Rattle.demands.specs.Demand3.Feeding.{Near, sentAt, datagramAt, Offers, Fed, fresh, offered, released, Takes, none, accepted}
 use Rattle.demands.specs.Demand3.Feeding.{repeated}

@@ -3,22 +3,22 @@ use mathlib.Core.Path.{_≡_, refl, sym, subst, _∙_}
 use mathlib.Core.Logic.{inl, inr}
 use Prim.Native.Nat.{ℕ}
 use mathlib.Core.List.{List}
-use Rattle.lengths.specs.Answers.{done}
-use Rattle.lengths.specs.Claims.{Octets}
-use Rattle.lengths.proofs.Laws.{not-done, done-same}
-use Rattle.views.specs.View.{View}
-use Rattle.held.specs.Table.{lentBy, viewOf}
-use Rattle.held.specs.Laid.{InRanges}
-use Rattle.held.specs.declared.Session.{Session}
-use Rattle.held.proofs.Laws.{session-in-ranges}
-use Rattle.images.specs.Layout.{ImageVersion, imageVersion01, imageVersion02}
-use Rattle.images.specs.Image.{imageText, readText, LentOctets}
-use Rattle.images.specs.Promise.{ImageRead}
-use Rattle.images.specs.Claims.{Short}
-use Rattle.images.specs.declared.Restore.{Restore}
-use Rattle.images.specs.declared.Restore.the-variants as restore
-use Rattle.images.proofs.Laws.{lent-octets}
-use Rattle.images.proofs.Claims as images
+use Rattle.length.specs.Answers.{done}
+use Rattle.length.specs.Claims.{Octets}
+use Rattle.length.proofs.Laws.{not-done, done-same}
+use Rattle.session.specs.View.{View}
+use Rattle.session_held.specs.Table.{lentBy, viewOf}
+use Rattle.session_held.specs.Laid.{InRanges}
+use Rattle.session_held.specs.declared.Session.{Session}
+use Rattle.session_held.proofs.Laws.{session-in-ranges}
+use Rattle.image.specs.Layout.{ImageVersion, imageVersion01, imageVersion02}
+use Rattle.image.specs.Image.{imageText, readText, LentOctets}
+use Rattle.image.specs.Promise.{ImageRead}
+use Rattle.image.specs.Claims.{Short}
+use Rattle.image.specs.declared.Restore.{Restore}
+use Rattle.image.specs.declared.Restore.the-variants as restore
+use Rattle.image.proofs.Laws.{lent-octets}
+use Rattle.image.proofs.Claims as images
 use Rattle.demands.specs.Demand2.Demand2.{Saved}
 use Rattle.demands.specs.Requests.Handover.{ReadAs, IsRead, Names}
 use Rattle.demands.specs.Requests.Editions.{HeldBy, OneImageIn, Editions}

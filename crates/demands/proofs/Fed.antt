@@ -8,19 +8,19 @@ use lib.ListN.{length}
 use lib.Dec.{ltb}
 use native.Mathlib.Omega.{arith}
 use borrow.Author.Tests.{ltb-true}
-use Rattle.lengths.specs.Refusals as refusals
-use Rattle.lengths.specs.Answers.{Answer, done, refused, refuse, afterwards}
-use Rattle.lengths.proofs.Laws.{done-same}
-use Rattle.datagrams.specs.Carried.{Carried}
-use Rattle.datagrams.specs.Read.{carriedBy}
-use Rattle.views.specs.Cells.{keptAhead}
-use Rattle.views.specs.Held.{heldAt}
-use Rattle.views.specs.View.{View, numbers, distance}
-use Rattle.views.specs.Offer as offers
-use Rattle.views.specs.Offer.{accept, acceptedAt, offered, lateFrom}
-use Rattle.views.specs.Release.{Release, release, viewAfterRelease}
-use Rattle.views.proofs.Laws.{release-leaves}
-use Rattle.sending.specs.Honest.{HonestSender}
+use Rattle.length.specs.Refusals as refusals
+use Rattle.length.specs.Answers.{Answer, done, refused, refuse, afterwards}
+use Rattle.length.proofs.Laws.{done-same}
+use Rattle.datagram.specs.Carried.{Carried}
+use Rattle.datagram.specs.Read.{carriedBy}
+use Rattle.session.specs.Cells.{keptAhead}
+use Rattle.session.specs.Held.{heldAt}
+use Rattle.session.specs.View.{View, numbers, distance}
+use Rattle.session.specs.Offer as offers
+use Rattle.session.specs.Offer.{accept, acceptedAt, offered, lateFrom}
+use Rattle.session.specs.Release.{Release, release, viewAfterRelease}
+use Rattle.session.proofs.Laws.{release-leaves}
+use Rattle.sender.specs.Honest.{HonestSender}
 use Rattle.demands.specs.Common.History as moves
 use Rattle.demands.specs.Common.History.{afterMove, offer}
 use Rattle.demands.specs.Demand3.Feeding.{placeOf, Near, datagramAt}

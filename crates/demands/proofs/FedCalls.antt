@@ -2,10 +2,10 @@
 use Prim.Native.Nat.{ℕ}
 use mathlib.Core.Path.{_≡_, refl, ap, subst, _∙_}
 use mathlib.Core.List.{List, [], _∷_, _++_, append-nil}
-use Rattle.held.specs.Promise.{Fresh}
-use Rattle.held.specs.declared.Session.{Session}
-use Rattle.sessions.specs.Receiver.{OfferOwes}
-use Rattle.sessions.specs.declared.receiver.AfterOffer.{AfterOffer}
+use Rattle.session_held.specs.Promise.{Fresh}
+use Rattle.session_held.specs.declared.Session.{Session}
+use Rattle.session_calls.specs.Receiver.{OfferOwes}
+use Rattle.session_calls.specs.declared.receiver.AfterOffer.{AfterOffer}
 use Rattle.demands.specs.Common.Calls as chain
 use Rattle.demands.specs.Common.Calls.{Calls, start, _then_, Called, offer, leftBy}
 use Rattle.demands.specs.Demand3.Feeding.{datagramAt, Offers, Fed, fresh, offered, released, Takes, none, accepted, repeated}

@@ -4,10 +4,10 @@ use mathlib.Core.Path.{_≡_}
 use mathlib.Core.Bool.{Bool}
 use mathlib.Core.List.{List, [], _∷_}
 use lib.ListN.{length}
-use Rattle.lengths.specs.Refusals as refusals
-use Rattle.lengths.specs.Answers.{done, refuse}
-use Rattle.views.specs.View.{View, freshView}
-use Rattle.views.specs.Offer as offers
+use Rattle.length.specs.Refusals as refusals
+use Rattle.length.specs.Answers.{done, refuse}
+use Rattle.session.specs.View.{View, freshView}
+use Rattle.session.specs.Offer as offers
 use Rattle.demands.specs.Common.History.{afterMove, offer, release}
 use Rattle.demands.specs.Demand3.Feeding.{Near, datagramAt}
 

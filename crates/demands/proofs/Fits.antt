@@ -6,23 +6,23 @@ use lib.ListN.{length, take, replicate}
 use lib.Dec.{ltb}
 use native.Mathlib.Omega.{arith}
 use borrow.Author.Tests.{ltb-false}
-use Rattle.lengths.specs.Refusals.{tooLong}
-use Rattle.lengths.specs.Answers.{done}
-use Rattle.lengths.specs.Length.{lengthOctets}
-use Rattle.lengths.specs.Promise.{Puts}
-use Rattle.lengths.specs.declared.Written.{Written}
-use Rattle.lengths.specs.declared.Written.the-variants as written
-use Rattle.lengths.proofs.Laws.{cond-done}
-use Rattle.datagrams.specs.Sizes.{packetLimit, datagramLimit, sparesLimit}
-use Rattle.datagrams.specs.Read.{DatagramParts, readDatagram}
-use Rattle.datagrams.specs.Write.{numberOctets, datagramOctets, carriedOf, sumOf, itemsInside, datagramToWrite}
-use Rattle.datagrams.specs.Inner.Heads.{itemsSize}
-use Rattle.datagrams.specs.declared.kind.Kind.{Kind}
-use Rattle.datagrams.specs.declared.kind.Kind.the-variants as kind
-use Rattle.datagrams.proofs.Laws.{Allowed, datagram-length, allowed-written}
-use Rattle.datagrams.proofs.Claims as datagrams
-use Rattle.sending.specs.Promise.{toSend}
-use Rattle.sending.proofs.Claims as sending
+use Rattle.length.specs.Refusals.{tooLong}
+use Rattle.length.specs.Answers.{done}
+use Rattle.length.specs.Length.{lengthOctets}
+use Rattle.length.specs.Promise.{Puts}
+use Rattle.length.specs.declared.Written.{Written}
+use Rattle.length.specs.declared.Written.the-variants as written
+use Rattle.length.proofs.Laws.{cond-done}
+use Rattle.datagram.specs.Sizes.{packetLimit, datagramLimit, sparesLimit}
+use Rattle.datagram.specs.Read.{DatagramParts, readDatagram}
+use Rattle.datagram.specs.Write.{numberOctets, datagramOctets, carriedOf, sumOf, itemsInside, datagramToWrite}
+use Rattle.datagram.specs.Inner.Heads.{itemsSize}
+use Rattle.datagram.specs.declared.kind.Kind.{Kind}
+use Rattle.datagram.specs.declared.kind.Kind.the-variants as kind
+use Rattle.datagram.proofs.Laws.{Allowed, datagram-length, allowed-written}
+use Rattle.datagram.proofs.Claims as datagrams
+use Rattle.sender.specs.Promise.{toSend}
+use Rattle.sender.proofs.Claims as sending
 use Rattle.demands.specs.Requests.Fits.{fullSize, Fits}
 use Rattle.demands.proofs.RoundTrips.{puts-octets, puts-back}
 

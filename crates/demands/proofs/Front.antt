@@ -12,17 +12,17 @@ use lib.Dec.{eqb}
 use native.Mathlib.Omega.{arith}
 use borrow.Author.Tests.{eq-eqb, eqb-true}
 use Rattle.octets.proofs.Laws.{below-or-not, and-left, and-right}
-use Rattle.lengths.specs.Refusals.{endsEarly}
-use Rattle.lengths.specs.Tables.{refusalIn}
-use Rattle.lengths.specs.Claims.{Octets}
-use Rattle.lengths.proofs.Laws.{octets-cons, octets-none}
-use Rattle.formats.specs.Places.{Place}
-use Rattle.datagrams.specs.Sizes.{packetLimit}
-use Rattle.packets.specs.Edition.{Edition, editionOf}
-use Rattle.packets.specs.Packet.{every, allZero, readPacket}
-use Rattle.packets.specs.declared.types.Named.{Named}
-use Rattle.packets.specs.declared.types.Ending.{Ending}
-use Rattle.packets.specs.declared.types.Ending.the-variants.{Whole, Repaired}
+use Rattle.length.specs.Refusals.{endsEarly}
+use Rattle.length.specs.Tables.{refusalIn}
+use Rattle.length.specs.Claims.{Octets}
+use Rattle.length.proofs.Laws.{octets-cons, octets-none}
+use Rattle.format.specs.Places.{Place}
+use Rattle.datagram.specs.Sizes.{packetLimit}
+use Rattle.packet.specs.Edition.{Edition, editionOf}
+use Rattle.packet.specs.Packet.{every, allZero, readPacket}
+use Rattle.packet.specs.declared.types.Named.{Named}
+use Rattle.packet.specs.declared.types.Ending.{Ending}
+use Rattle.packet.specs.declared.types.Ending.the-variants.{Whole, Repaired}
 use Rattle.packet_laws.proofs.Laws.{narrow}
 use Rattle.demands.specs.Demand1.PacketItems.{end, octetsFrom, Due}
 use Rattle.demands.specs.Demand1.PacketRefusals.{FirstWrong}

@@ -9,12 +9,12 @@ use lib.ListN.{length, set, length-set}
 use lib.Seq.{getD-set-same, getD-set-other}
 use native.Mathlib.Omega.{arith}
 use Rattle.octets.proofs.Laws.{true-or-false, same-or-not}
-use Rattle.datagrams.specs.Carried.{Extra, spares, parity}
-use Rattle.views.specs.Cells.{State, received, spare, repaired, Cell, filledCell, cellAt, unknownAt, isUnknown}
-use Rattle.views.specs.Repair.{Message, repair}
-use Rattle.views.specs.Reached.{Known, Unknown}
-use Rattle.views.proofs.Laws.{unknown-inside, known-not-unknown, same-unknown, length-repair, repair-known, repair-made}
-use Rattle.views.specs.Offer.{keep, keepSpares, keepExtra}
+use Rattle.datagram.specs.Carried.{Extra, spares, parity}
+use Rattle.session.specs.Cells.{State, received, spare, repaired, Cell, filledCell, cellAt, unknownAt, isUnknown}
+use Rattle.session.specs.Repair.{Message, repair}
+use Rattle.session.specs.Reached.{Known, Unknown}
+use Rattle.session.proofs.Laws.{unknown-inside, known-not-unknown, same-unknown, length-repair, repair-known, repair-made}
+use Rattle.session.specs.Offer.{keep, keepSpares, keepExtra}
 
 -- the states that a number is filled with
 pub data Fills : State → Type 0 where

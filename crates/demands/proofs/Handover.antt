@@ -4,18 +4,18 @@ use Prim.Native.Nat.{ℕ}
 use mathlib.Core.Path.{_≡_, refl, sym, ap, subst, _∙_}
 use mathlib.Core.Logic.{inr}
 use mathlib.Core.List.{List, _++_, append-assoc, append-nil}
-use Rattle.lengths.specs.Answers.{done}
-use Rattle.lengths.specs.Claims.{Octets}
-use Rattle.lengths.proofs.Laws.{done-same}
-use Rattle.views.specs.View.{View}
-use Rattle.held.specs.Table.{lentBy, viewOf}
-use Rattle.held.specs.Laid.{InRanges}
-use Rattle.held.specs.declared.Session.{Session}
-use Rattle.held.proofs.Laws.{session-in-ranges, in-ranges-true}
-use Rattle.sending.specs.Honest.{HonestSender}
-use Rattle.images.specs.Layout.{ImageVersion, imageVersion02}
-use Rattle.images.specs.Image.{editionNamed, readText, readImage, LentOctets}
-use Rattle.images.proofs.Claims as images
+use Rattle.length.specs.Answers.{done}
+use Rattle.length.specs.Claims.{Octets}
+use Rattle.length.proofs.Laws.{done-same}
+use Rattle.session.specs.View.{View}
+use Rattle.session_held.specs.Table.{lentBy, viewOf}
+use Rattle.session_held.specs.Laid.{InRanges}
+use Rattle.session_held.specs.declared.Session.{Session}
+use Rattle.session_held.proofs.Laws.{session-in-ranges, in-ranges-true}
+use Rattle.sender.specs.Honest.{HonestSender}
+use Rattle.image.specs.Layout.{ImageVersion, imageVersion02}
+use Rattle.image.specs.Image.{editionNamed, readText, readImage, LentOctets}
+use Rattle.image.proofs.Claims as images
 use Rattle.demands.specs.Common.History.{Left}
 use Rattle.demands.specs.Common.Calls.{Calls, start, _then_, Called, atStart, offered, released, solved, leftIn, leftBy}
 use Rattle.demands.specs.Demand2.Demand2.{Saved, Begins, fresh, saved, FreshLeaves, SavedLeaves}

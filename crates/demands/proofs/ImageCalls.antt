@@ -9,28 +9,28 @@ use lib.ListN.{length, drop}
 use lib.Seq.{take-append-seam}
 use native.Mathlib.Omega.{arith}
 use borrow.Author.Tests.{not-false}
-use Rattle.lengths.specs.Refusals.{refusal, noRoom, outsideRanges, badImage, otherEdition}
-use Rattle.lengths.specs.Answers.{done, refused, refuse, fitted}
-use Rattle.lengths.specs.Tables.{unless}
-use Rattle.lengths.specs.Claims.{Octets}
-use Rattle.lengths.specs.declared.Refusal.{Refusal}
-use Rattle.lengths.specs.declared.Written.{Written}
-use Rattle.lengths.specs.declared.Written.the-variants as written
-use Rattle.lengths.proofs.Laws.{not-done, done-same, refused-same, unless-past, unless-done, puts-refusal}
-use Rattle.datagrams.specs.Sizes.{packetLimit}
-use Rattle.held.specs.Table.{lentBy, viewOf}
-use Rattle.held.specs.Laid.{lentInRanges, sessionInRanges, InRanges}
-use Rattle.held.specs.Promise.{Sized}
-use Rattle.held.specs.declared.Session.{Session}
-use Rattle.held.proofs.Laws.{session-in-ranges, in-ranges-true, session-same, fresh-same}
-use Rattle.images.specs.Layout.{imageVersion02}
-use Rattle.images.specs.Image.{imageText, readText, imageRows, imageToWrite, LentOctets, imageLimit}
-use Rattle.images.specs.Promise.{ImageWritten, ImageRead, Restores}
-use Rattle.images.specs.declared.Restore.{Restore}
-use Rattle.images.specs.declared.Restore.the-variants as restore
-use Rattle.images.specs.declared.Restored.{Restored}
-use Rattle.images.proofs.Laws.{lent-octets, reads02}
-use Rattle.images.proofs.Claims as images
+use Rattle.length.specs.Refusals.{refusal, noRoom, outsideRanges, badImage, otherEdition}
+use Rattle.length.specs.Answers.{done, refused, refuse, fitted}
+use Rattle.length.specs.Tables.{unless}
+use Rattle.length.specs.Claims.{Octets}
+use Rattle.length.specs.declared.Refusal.{Refusal}
+use Rattle.length.specs.declared.Written.{Written}
+use Rattle.length.specs.declared.Written.the-variants as written
+use Rattle.length.proofs.Laws.{not-done, done-same, refused-same, unless-past, unless-done, puts-refusal}
+use Rattle.datagram.specs.Sizes.{packetLimit}
+use Rattle.session_held.specs.Table.{lentBy, viewOf}
+use Rattle.session_held.specs.Laid.{lentInRanges, sessionInRanges, InRanges}
+use Rattle.session_held.specs.Promise.{Sized}
+use Rattle.session_held.specs.declared.Session.{Session}
+use Rattle.session_held.proofs.Laws.{session-in-ranges, in-ranges-true, session-same, fresh-same}
+use Rattle.image.specs.Layout.{imageVersion02}
+use Rattle.image.specs.Image.{imageText, readText, imageRows, imageToWrite, LentOctets, imageLimit}
+use Rattle.image.specs.Promise.{ImageWritten, ImageRead, Restores}
+use Rattle.image.specs.declared.Restore.{Restore}
+use Rattle.image.specs.declared.Restore.the-variants as restore
+use Rattle.image.specs.declared.Restored.{Restored}
+use Rattle.image.proofs.Laws.{lent-octets, reads02}
+use Rattle.image.proofs.Claims as images
 use Rattle.demands.specs.Demand2.Demand2.{Saved}
 use Rattle.demands.specs.Requests.Handover.{Wrote, restoring, ReadAs, ImageRefuses}
 use Rattle.demands.proofs.RoundTrips.{done-fitted, puts-octets, puts-back}

@@ -8,21 +8,21 @@ use mathlib.Core.List.{List}
 use lib.Dec.{eqb}
 use native.Mathlib.Omega.{arith}
 use borrow.Author.Tests.{eqb-true, eqb-false}
-use Rattle.lengths.specs.Refusals.{refusal, outsideRanges, badImage, otherEdition}
-use Rattle.lengths.specs.Answers.{Answer, done, refused, refuse}
-use Rattle.lengths.specs.Claims.{Octets}
-use Rattle.lengths.specs.declared.Refusal.{Refusal}
-use Rattle.lengths.proofs.Laws.{not-done, refused-same}
-use Rattle.lines.specs.Hex.{hexOf, digitOf, digitFor}
-use Rattle.views.specs.View.{View}
-use Rattle.views.specs.Ranges.{inRanges, Sound}
-use Rattle.images.specs.Parts.{highFirstOctets}
-use Rattle.images.specs.Layout.{ImageVersion, imageVersion01, imageVersion02}
-use Rattle.images.specs.Octets.{imageLines}
-use Rattle.images.specs.Image.{imageText, readImage, namesEdition, editionNamed, readText, OfOctets}
-use Rattle.images.specs.Claims.{Short}
-use Rattle.images.proofs.Laws.{image-lines, reads01, reads02}
-use Rattle.images.proofs.Claims as images
+use Rattle.length.specs.Refusals.{refusal, outsideRanges, badImage, otherEdition}
+use Rattle.length.specs.Answers.{Answer, done, refused, refuse}
+use Rattle.length.specs.Claims.{Octets}
+use Rattle.length.specs.declared.Refusal.{Refusal}
+use Rattle.length.proofs.Laws.{not-done, refused-same}
+use Rattle.line.specs.Hex.{hexOf, digitOf, digitFor}
+use Rattle.session.specs.View.{View}
+use Rattle.session.specs.Ranges.{inRanges, Sound}
+use Rattle.image.specs.Parts.{highFirstOctets}
+use Rattle.image.specs.Layout.{ImageVersion, imageVersion01, imageVersion02}
+use Rattle.image.specs.Octets.{imageLines}
+use Rattle.image.specs.Image.{imageText, readImage, namesEdition, editionNamed, readText, OfOctets}
+use Rattle.image.specs.Claims.{Short}
+use Rattle.image.proofs.Laws.{image-lines, reads01, reads02}
+use Rattle.image.proofs.Claims as images
 use Rattle.demands.specs.Requests.Handover.{IsRead, Names, ImageOf}
 
 -- ---- the editions that are read

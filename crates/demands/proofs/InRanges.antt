@@ -9,22 +9,22 @@ use lib.ListN.{length, getD, set, replicate, length-set, length-map, length-repl
 use lib.Seq.{getD-set-same, getD-set-other, getD-append-add}
 use native.Mathlib.Omega.{arith}
 use Rattle.octets.proofs.Laws.{same-or-not, below-or-not, and-left, and-right}
-use Rattle.lengths.specs.Answers.{done}
-use Rattle.lengths.specs.Length.{within}
-use Rattle.lengths.proofs.Laws.{within-true}
-use Rattle.datagrams.specs.Sizes.{coveredLeast, coveredLimit, messagesLeast, messagesLimit}
-use Rattle.datagrams.specs.Carried.{Carried}
-use Rattle.datagrams.specs.Write.{countInside, extraOf}
-use Rattle.datagrams.specs.Read.{DatagramParts, octetsOf, readDatagram, carriedBy}
-use Rattle.datagrams.specs.declared.kind.Kind.{Kind}
-use Rattle.datagrams.specs.declared.kind.Kind.the-variants as kind
-use Rattle.datagrams.proofs.Laws.{read-inside}
-use Rattle.views.specs.Cells.{State, unknown, received, blank, Cell, blankCell, unknownCell, cellAt, keptBefore, keptAhead, keptNumbers}
-use Rattle.views.specs.Held.{Held, nothingHeld, heldAt, heldMessages}
-use Rattle.views.specs.Reached.{DistinctMembers}
-use Rattle.views.proofs.Laws.{held-distinct, reach-kept}
-use Rattle.views.specs.View.{View, Counts, sum, numbers, following, freshView, goneOn}
-use Rattle.views.specs.Offer.{keep, keepExtra, heldBy, accept}
+use Rattle.length.specs.Answers.{done}
+use Rattle.length.specs.Length.{within}
+use Rattle.length.proofs.Laws.{within-true}
+use Rattle.datagram.specs.Sizes.{coveredLeast, coveredLimit, messagesLeast, messagesLimit}
+use Rattle.datagram.specs.Carried.{Carried}
+use Rattle.datagram.specs.Write.{countInside, extraOf}
+use Rattle.datagram.specs.Read.{DatagramParts, octetsOf, readDatagram, carriedBy}
+use Rattle.datagram.specs.declared.kind.Kind.{Kind}
+use Rattle.datagram.specs.declared.kind.Kind.the-variants as kind
+use Rattle.datagram.proofs.Laws.{read-inside}
+use Rattle.session.specs.Cells.{State, unknown, received, blank, Cell, blankCell, unknownCell, cellAt, keptBefore, keptAhead, keptNumbers}
+use Rattle.session.specs.Held.{Held, nothingHeld, heldAt, heldMessages}
+use Rattle.session.specs.Reached.{DistinctMembers}
+use Rattle.session.proofs.Laws.{held-distinct, reach-kept}
+use Rattle.session.specs.View.{View, Counts, sum, numbers, following, freshView, goneOn}
+use Rattle.session.specs.Offer.{keep, keepExtra, heldBy, accept}
 use Rattle.demands.proofs.Ranges.{ViewInRanges}
 use Rattle.demands.proofs.Growing.{Fills, asReceived, asSpare, asRepaired, Grown, grown-twice, grown-keep, grown-extra, grown-repair}
 use Rattle.demands.proofs.Shifted.{length-cells-on, length-held-on, cell-on, cell-last, held-on, held-last}

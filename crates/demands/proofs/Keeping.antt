@@ -8,18 +8,18 @@ use lib.ListN.{length, length-append, getD, List·getD-append}
 use lib.Seq.{getD-at}
 use native.Mathlib.Omega.{arith}
 use Rattle.octets.proofs.Laws.{below-or-not}
-use Rattle.lengths.specs.Answers.{Answer, done, refused, afterwards}
-use Rattle.views.specs.Cells.{unknown, Cell, isUnknown, cellAt, keptBefore, keptNumbers}
-use Rattle.views.specs.Reached.{Known}
-use Rattle.views.specs.View.{View, Counts, numbers, goneOn}
-use Rattle.views.specs.Offer as offers
-use Rattle.views.specs.Release as releases
-use Rattle.views.specs.Release.{Release, atBase, viewAfterRelease}
-use Rattle.views.proofs.Laws.{release-leaves}
-use Rattle.solutions.specs.Solve as solutions
-use Rattle.held.specs.Table.{viewOf}
-use Rattle.held.specs.declared.Session.{Session}
-use Rattle.sessions.specs.Receiver.{SeenAs}
+use Rattle.length.specs.Answers.{Answer, done, refused, afterwards}
+use Rattle.session.specs.Cells.{unknown, Cell, isUnknown, cellAt, keptBefore, keptNumbers}
+use Rattle.session.specs.Reached.{Known}
+use Rattle.session.specs.View.{View, Counts, numbers, goneOn}
+use Rattle.session.specs.Offer as offers
+use Rattle.session.specs.Release as releases
+use Rattle.session.specs.Release.{Release, atBase, viewAfterRelease}
+use Rattle.session.proofs.Laws.{release-leaves}
+use Rattle.solve.specs.Solve as solutions
+use Rattle.session_held.specs.Table.{viewOf}
+use Rattle.session_held.specs.declared.Session.{Session}
+use Rattle.session_calls.specs.Receiver.{SeenAs}
 use Rattle.demands.specs.Common.History as moves
 use Rattle.demands.specs.Common.History.{Move, Left, leftAs, afterMove}
 use Rattle.demands.specs.Common.Calls.{Call, Calls, Called, leftIn, leftBy}

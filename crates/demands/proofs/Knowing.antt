@@ -7,14 +7,14 @@ use mathlib.Core.List.{List}
 use lib.ListN.{length}
 use native.Mathlib.Omega.{arith}
 use Rattle.octets.proofs.Laws.{below-or-not}
-use Rattle.datagrams.specs.Carried.{Extra, spares, parity, Carried}
-use Rattle.views.specs.Cells.{Cell, received, repaired, filledCell, isUnknown, keptBefore, keptAhead, keptNumbers}
-use Rattle.views.specs.Held.{heldMessages}
-use Rattle.views.specs.Repair.{repair}
-use Rattle.views.specs.Reached.{Known, Reached, DistinctMembers}
-use Rattle.views.proofs.Laws.{makes-repaired, known-reached, reached-known}
-use Rattle.views.specs.View.{View, Counts, freshView, goneOn}
-use Rattle.views.specs.Offer.{keep, keepExtra, accept}
+use Rattle.datagram.specs.Carried.{Extra, spares, parity, Carried}
+use Rattle.session.specs.Cells.{Cell, received, repaired, filledCell, isUnknown, keptBefore, keptAhead, keptNumbers}
+use Rattle.session.specs.Held.{heldMessages}
+use Rattle.session.specs.Repair.{repair}
+use Rattle.session.specs.Reached.{Known, Reached, DistinctMembers}
+use Rattle.session.proofs.Laws.{makes-repaired, known-reached, reached-known}
+use Rattle.session.specs.View.{View, Counts, freshView, goneOn}
+use Rattle.session.specs.Offer.{keep, keepExtra, accept}
 use Rattle.demands.specs.Demand2.ReachedBy.{sparesIn}
 use Rattle.demands.proofs.Ranges.{ViewInRanges}
 use Rattle.demands.proofs.Growing.{asReceived, grown-keep, grown-extra, known-grown, known-kept, kept-known, known-spares}

@@ -8,26 +8,26 @@ use mathlib.Core.List.{List, [], _∷_}
 use mathlib.Core.Option.{none, some, Option·none-ne-some}
 use lib.ListN.{length, take}
 use native.Mathlib.Omega.{arith}
-use Rattle.lengths.specs.Answers.{Answer, done, refused, afterwards}
-use Rattle.views.specs.Cells.{keptNumbers}
-use Rattle.views.specs.Reached.{Known}
-use Rattle.views.specs.View.{View, Counts, sum, freshView, goneOn}
-use Rattle.views.specs.Offer as offers
-use Rattle.views.specs.Release as releases
-use Rattle.views.specs.Release.{Release, atBase, viewAfterRelease}
-use Rattle.views.proofs.Laws.{release-leaves}
-use Rattle.held.specs.Table.{stateOf}
-use Rattle.leaving.specs.Outcome.{Handed, releasedOutcome, handedOf}
-use Rattle.leaving.specs.declared.Released.{Released}
-use Rattle.leaving.specs.declared.Released.the-variants as answer
-use Rattle.offering.specs.Outcome.{offeredOutcome, acceptedOf}
-use Rattle.offering.specs.declared.Offered.{Offered}
-use Rattle.offering.specs.declared.Offered.the-variants as outcome
-use Rattle.equations.specs.Solved.{SolvedTo, Solves}
-use Rattle.solutions.specs.Solve as solutions
-use Rattle.solving.specs.Outcome.{solvedOutcome, filledOf}
-use Rattle.solving.specs.declared.Solved.{Solved}
-use Rattle.solving.specs.declared.Solved.the-variants as filling
+use Rattle.length.specs.Answers.{Answer, done, refused, afterwards}
+use Rattle.session.specs.Cells.{keptNumbers}
+use Rattle.session.specs.Reached.{Known}
+use Rattle.session.specs.View.{View, Counts, sum, freshView, goneOn}
+use Rattle.session.specs.Offer as offers
+use Rattle.session.specs.Release as releases
+use Rattle.session.specs.Release.{Release, atBase, viewAfterRelease}
+use Rattle.session.proofs.Laws.{release-leaves}
+use Rattle.session_held.specs.Table.{stateOf}
+use Rattle.session_release.specs.Outcome.{Handed, releasedOutcome, handedOf}
+use Rattle.session_release.specs.declared.Released.{Released}
+use Rattle.session_release.specs.declared.Released.the-variants as answer
+use Rattle.session_offer.specs.Outcome.{offeredOutcome, acceptedOf}
+use Rattle.session_offer.specs.declared.Offered.{Offered}
+use Rattle.session_offer.specs.declared.Offered.the-variants as outcome
+use Rattle.solve.specs.Solved.{SolvedTo, Solves}
+use Rattle.solve.specs.Solve as solutions
+use Rattle.solve_code.specs.Outcome.{solvedOutcome, filledOf}
+use Rattle.solve_code.specs.declared.Solved.{Solved}
+use Rattle.solve_code.specs.declared.Solved.the-variants as filling
 use Rattle.demands.specs.Common.History.{Left, leftAs, afterMove}
 use Rattle.demands.specs.Common.Calls.{Call, offer, release, solve, Calls, _then_, acceptedIn, fillsIn, leftIn}
 use Rattle.demands.specs.Demand2.GoesOn.{moveOf, Says, GoesOn, from, by}

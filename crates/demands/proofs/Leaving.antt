@@ -10,8 +10,8 @@ use lib.ListN.{length, length-append}
 use native.Mathlib.Omega.{arith}
 use Rattle.octets.specs.Place.{tab}
 use Rattle.octets.proofs.Laws.{tab-ext, tab-more}
-use Rattle.views.specs.View.{View, Counts, sum, numbers, following, freshView}
-use Rattle.views.specs.Cells.{State, unknown, received, spare, repaired, blank}
+use Rattle.session.specs.View.{View, Counts, sum, numbers, following, freshView}
+use Rattle.session.specs.Cells.{State, unknown, received, spare, repaired, blank}
 use Rattle.demands.specs.Common.History.{Left, leftAs, isReceived, isSpare, isRepaired, isLost, afterMove, howMany}
 use Rattle.demands.specs.Common.History.{historyCounts}
 use Rattle.demands.specs.Common.Calls.{Calls, leftIn, leftBy}

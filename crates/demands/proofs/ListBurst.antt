@@ -7,15 +7,15 @@ use mathlib.Core.Option.{none}
 use lib.ListN.{length}
 use native.Mathlib.Omega.{arith}
 use Rattle.octets.proofs.Laws.{below-or-not}
-use Rattle.views.specs.Cells.{Cell, keptBefore, keptAhead}
-use Rattle.views.specs.Repair.{Message, firstUsable}
-use Rattle.views.specs.Held.{Held, heldAt, heldMessages}
-use Rattle.views.specs.Reached.{Known, Closed}
-use Rattle.views.specs.Claims.{SentBefore}
-use Rattle.views.proofs.Laws.{known-not-unknown, usable-says, found-usable, found-or-none, messagesOf-among, burst-mended}
-use Rattle.views.specs.View.{View}
-use Rattle.sending.specs.Sending.{historyKept}
-use Rattle.sending.specs.Honest.{packetAt, HonestSender}
+use Rattle.session.specs.Cells.{Cell, keptBefore, keptAhead}
+use Rattle.session.specs.Repair.{Message, firstUsable}
+use Rattle.session.specs.Held.{Held, heldAt, heldMessages}
+use Rattle.session.specs.Reached.{Known, Closed}
+use Rattle.session.specs.Claims.{SentBefore}
+use Rattle.session.proofs.Laws.{known-not-unknown, usable-says, found-usable, found-or-none, messagesOf-among, burst-mended}
+use Rattle.session.specs.View.{View}
+use Rattle.sender.specs.Sending.{historyKept}
+use Rattle.sender.specs.Honest.{packetAt, HonestSender}
 use Rattle.demands.specs.Demand3.Feeding.{placeOf, sentAt}
 use Rattle.demands.specs.Demand3.Demand3.{BurstBack}
 use Rattle.demands.proofs.Sent.{packetAt-sent, packet-sized}

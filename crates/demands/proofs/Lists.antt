@@ -9,16 +9,16 @@ use mathlib.Core.Option.{none}
 use lib.ListN.{length}
 use native.Mathlib.Omega.{arith}
 use Rattle.octets.proofs.Laws.{tab-among, true-or-false, same-or-not}
-use Rattle.datagrams.specs.Carried.{Carried}
-use Rattle.views.specs.Cells.{repaired, filledCell, keptBefore, keptAhead}
-use Rattle.views.specs.Repair.{Message}
-use Rattle.views.specs.Held.{Held, nothingHeld, heldAt, messageAt, messagesOf, heldMessages}
-use Rattle.views.specs.Reached.{Known}
-use Rattle.views.proofs.Laws.{known-within, held-at, messagesOf-among}
-use Rattle.views.specs.View.{View, Counts, sum}
-use Rattle.views.specs.Offer as offers
-use Rattle.views.specs.Offer.{accept}
-use Rattle.sending.specs.Honest.{HonestSender}
+use Rattle.datagram.specs.Carried.{Carried}
+use Rattle.session.specs.Cells.{repaired, filledCell, keptBefore, keptAhead}
+use Rattle.session.specs.Repair.{Message}
+use Rattle.session.specs.Held.{Held, nothingHeld, heldAt, messageAt, messagesOf, heldMessages}
+use Rattle.session.specs.Reached.{Known}
+use Rattle.session.proofs.Laws.{known-within, held-at, messagesOf-among}
+use Rattle.session.specs.View.{View, Counts, sum}
+use Rattle.session.specs.Offer as offers
+use Rattle.session.specs.Offer.{accept}
+use Rattle.sender.specs.Honest.{HonestSender}
 use Rattle.demands.specs.Demand3.Feeding.{placeOf}
 use Rattle.demands.specs.Demand3.Demand3.{TwoLists}
 use Rattle.demands.proofs.Growing.{known-grown}

@@ -7,29 +7,29 @@ use mathlib.Core.List.{List, []}
 use lib.ListN.{length, getD, List·getD-eq-default}
 use native.Mathlib.Omega.{arith}
 use Rattle.octets.proofs.Laws.{below-or-not}
-use Rattle.lengths.specs.Answers.{Answer, done, refused}
-use Rattle.datagrams.specs.Sizes.{packetLimit}
-use Rattle.views.specs.Cells.{Cell, keptNumbers}
-use Rattle.views.specs.Held.{heldMessages}
-use Rattle.views.specs.Honest.{HonestMessages, TrueCells}
-use Rattle.views.specs.View.{View, sum}
-use Rattle.views.proofs.Laws.{held-honest}
-use Rattle.held.specs.Table.{viewOf}
-use Rattle.held.specs.declared.Session.{Session}
-use Rattle.held.proofs.Laws.{in-ranges-true}
-use Rattle.equations.specs.Equations.{padded, Solvable}
-use Rattle.equations.specs.Solved.{SolvedTo, Solves}
-use Rattle.equations.specs.Claims.{Wider, HonestView}
-use Rattle.equations.proofs.Laws.{padded-same, one-known, sent, sent-solution, honest-fill, solved-right, no-less, together-one}
-use Rattle.solving.specs.Outcome.{filledOf}
-use Rattle.solving.specs.declared.Solved.the-variants as answer
-use Rattle.solving.proofs.Laws.{solved-told}
-use Rattle.sending.specs.Sending.{historyKept}
-use Rattle.sending.specs.Honest.{HonestSender, packetAt}
-use Rattle.sessions.specs.Receiver.{SeenAs, After}
-use Rattle.sessions.specs.Solver.{solveOf, SolveOwes}
-use Rattle.sessions.specs.declared.solver.AfterSolve.{AfterSolve}
-use Rattle.sessions.proofs.SolverClaims as solver
+use Rattle.length.specs.Answers.{Answer, done, refused}
+use Rattle.datagram.specs.Sizes.{packetLimit}
+use Rattle.session.specs.Cells.{Cell, keptNumbers}
+use Rattle.session.specs.Held.{heldMessages}
+use Rattle.session.specs.Honest.{HonestMessages, TrueCells}
+use Rattle.session.specs.View.{View, sum}
+use Rattle.session.proofs.Laws.{held-honest}
+use Rattle.session_held.specs.Table.{viewOf}
+use Rattle.session_held.specs.declared.Session.{Session}
+use Rattle.session_held.proofs.Laws.{in-ranges-true}
+use Rattle.solve.specs.Equations.{padded, Solvable}
+use Rattle.solve.specs.Solved.{SolvedTo, Solves}
+use Rattle.solve.specs.Claims.{Wider, HonestView}
+use Rattle.solve.proofs.Laws.{padded-same, one-known, sent, sent-solution, honest-fill, solved-right, no-less, together-one}
+use Rattle.solve_code.specs.Outcome.{filledOf}
+use Rattle.solve_code.specs.declared.Solved.the-variants as answer
+use Rattle.solve_code.proofs.Laws.{solved-told}
+use Rattle.sender.specs.Sending.{historyKept}
+use Rattle.sender.specs.Honest.{HonestSender, packetAt}
+use Rattle.session_calls.specs.Receiver.{SeenAs, After}
+use Rattle.session_calls.specs.Solver.{solveOf, SolveOwes}
+use Rattle.session_calls.specs.declared.solver.AfterSolve.{AfterSolve}
+use Rattle.session_calls.proofs.SolverClaims as solver
 use Rattle.demands.specs.Demand3.Feeding.{placeOf, sentAt, Fed}
 use Rattle.demands.specs.Demand3.Demand3.{TwoLists}
 use Rattle.demands.specs.Requests.Losses.{Losses}

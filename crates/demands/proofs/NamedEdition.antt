@@ -8,21 +8,21 @@ use lib.ListN.{length}
 use native.Mathlib.Omega.{arith}
 use borrow.Author.Tests.{ne-eqb}
 use Rattle.octets.proofs.Laws.{below-or-not}
-use Rattle.lengths.specs.Refusals.{wrongSettings, wrongData}
-use Rattle.lengths.specs.Answers.{fitted, sizeOf, refuse}
-use Rattle.lengths.specs.Tables.{refusalIn}
-use Rattle.datagrams.specs.Sizes.{packetLimit}
-use Rattle.packets.specs.Edition.{Edition, SoundEdition, editionOf, choiceOf, ofChoice}
-use Rattle.packets.specs.Packet.{readPacket}
-use Rattle.packets.specs.Write.{packetToWrite}
-use Rattle.packets.specs.Promise.{PacketTold, packetOutcome}
-use Rattle.packets.specs.declared.types.Choice.{Choice}
-use Rattle.packets.specs.declared.types.Choice.the-variants as choice
-use Rattle.packets.specs.declared.types.Ending.{Ending}
-use Rattle.packets.specs.declared.types.Named.{Named}
-use Rattle.packets.specs.declared.types.Named.the-variants.{Old, New}
-use Rattle.packets.specs.declared.types.PacketRead.{PacketRead}
-use Rattle.packets.proofs.Claims as packet-claims
+use Rattle.length.specs.Refusals.{wrongSettings, wrongData}
+use Rattle.length.specs.Answers.{fitted, sizeOf, refuse}
+use Rattle.length.specs.Tables.{refusalIn}
+use Rattle.datagram.specs.Sizes.{packetLimit}
+use Rattle.packet.specs.Edition.{Edition, SoundEdition, editionOf, choiceOf, ofChoice}
+use Rattle.packet.specs.Packet.{readPacket}
+use Rattle.packet.specs.Write.{packetToWrite}
+use Rattle.packet.specs.Promise.{PacketTold, packetOutcome}
+use Rattle.packet.specs.declared.types.Choice.{Choice}
+use Rattle.packet.specs.declared.types.Choice.the-variants as choice
+use Rattle.packet.specs.declared.types.Ending.{Ending}
+use Rattle.packet.specs.declared.types.Named.{Named}
+use Rattle.packet.specs.declared.types.Named.the-variants.{Old, New}
+use Rattle.packet.specs.declared.types.PacketRead.{PacketRead}
+use Rattle.packet.proofs.Claims as packet-claims
 use Rattle.demands.specs.Common.NamedEdition.{Names, ReadBy, AnotherEdition}
 use Rattle.demands.proofs.PacketRows.{same-number}
 use Rattle.demands.proofs.PacketStops.{over-limit, refused-wrong}

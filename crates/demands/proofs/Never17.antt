@@ -9,29 +9,29 @@ use lib.ListN.{length, getD, drop}
 use lib.Dec.{leb, ltb, eqb}
 use native.Mathlib.Omega.{arith}
 use borrow.Author.Tests.{ltb-true}
-use Rattle.lengths.specs.Refusals.{endsEarly, tooLong, badForm, outsideSizes, spareBit, leftOver}
-use Rattle.lengths.specs.Refusals.{repeated, tooFar, late, baseUnknown, noRoom, allPassed, outsideRanges, noSolution}
-use Rattle.lengths.specs.Answers.{Answer, done, refused, refuse, refuseAt, readFrom, _>>=_, LengthAnswer}
-use Rattle.lengths.specs.Length.{ofTwo, lengthAt, within, allowed, lengthWithin}
-use Rattle.lengths.specs.declared.Refusal.{Refusal}
-use Rattle.datagrams.specs.Read.{ExtraHead, lengthFrom, octetAt, itemAt, itemsAt, sparesAt, parityAt, extraAt, wholeOf, readDatagram}
-use Rattle.datagrams.specs.Sizes.{datagramLimit}
-use Rattle.datagrams.specs.Read.{carriedBy, after, endOf, leastOf, mostOf}
-use Rattle.datagrams.specs.Read as reading
-use Rattle.datagrams.specs.Carried.{Carried}
-use Rattle.datagrams.specs.declared.reader.Part.{Part}
-use Rattle.views.specs.Cells.{unknownAt, keptBefore, keptAhead}
-use Rattle.views.specs.View.{View, sum, distance, sessionLimit}
-use Rattle.views.specs.Offer as offers
-use Rattle.views.specs.Offer.{acceptedAt, lateFrom}
-use Rattle.views.specs.Release as releases
-use Rattle.views.specs.Release.{Release, atBase}
-use Rattle.held.specs.declared.Session.{Session}
-use Rattle.leaving.specs.Outcome.{handedOf}
-use Rattle.offering.specs.Outcome.{acceptedOf}
-use Rattle.lengths.specs.Tables.{refusalIn}
-use Rattle.solutions.specs.Solve as solutions
-use Rattle.solving.specs.Outcome.{filledOf}
+use Rattle.length.specs.Refusals.{endsEarly, tooLong, badForm, outsideSizes, spareBit, leftOver}
+use Rattle.length.specs.Refusals.{repeated, tooFar, late, baseUnknown, noRoom, allPassed, outsideRanges, noSolution}
+use Rattle.length.specs.Answers.{Answer, done, refused, refuse, refuseAt, readFrom, _>>=_, LengthAnswer}
+use Rattle.length.specs.Length.{ofTwo, lengthAt, within, allowed, lengthWithin}
+use Rattle.length.specs.declared.Refusal.{Refusal}
+use Rattle.datagram.specs.Read.{ExtraHead, lengthFrom, octetAt, itemAt, itemsAt, sparesAt, parityAt, extraAt, wholeOf, readDatagram}
+use Rattle.datagram.specs.Sizes.{datagramLimit}
+use Rattle.datagram.specs.Read.{carriedBy, after, endOf, leastOf, mostOf}
+use Rattle.datagram.specs.Read as reading
+use Rattle.datagram.specs.Carried.{Carried}
+use Rattle.datagram.specs.declared.reader.Part.{Part}
+use Rattle.session.specs.Cells.{unknownAt, keptBefore, keptAhead}
+use Rattle.session.specs.View.{View, sum, distance, sessionLimit}
+use Rattle.session.specs.Offer as offers
+use Rattle.session.specs.Offer.{acceptedAt, lateFrom}
+use Rattle.session.specs.Release as releases
+use Rattle.session.specs.Release.{Release, atBase}
+use Rattle.session_held.specs.declared.Session.{Session}
+use Rattle.session_release.specs.Outcome.{handedOf}
+use Rattle.session_offer.specs.Outcome.{acceptedOf}
+use Rattle.length.specs.Tables.{refusalIn}
+use Rattle.solve.specs.Solve as solutions
+use Rattle.solve_code.specs.Outcome.{filledOf}
 use Rattle.demands.specs.Common.Calls.{Call, offer, release, solve, Calls, _then_, Called, callRefusal}
 use Rattle.demands.specs.Demand2.GoesOn.{Says, GoesOn, by}
 use Rattle.demands.specs.Demand2.Demand2.{Begins}

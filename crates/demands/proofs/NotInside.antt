@@ -8,35 +8,35 @@ use mathlib.Core.Option.{Option, none, some}
 use lib.ListN.{length, length-append}
 use lib.Dec.{leb, ltb}
 use native.Mathlib.Omega.{arith}
-use Rattle.lengths.specs.Refusals.{noRoom, repeated, tooFar, late, outsideRanges}
-use Rattle.lengths.specs.Answers.{Answer, done, refuse, fitted, sizeOf}
-use Rattle.lengths.specs.Tables.{first, unless}
-use Rattle.lengths.proofs.Claims.{written-told}
-use Rattle.lengths.proofs.Laws.{unless-first, done-none}
-use Rattle.datagrams.specs.Carried.{Carried}
-use Rattle.datagrams.specs.Claims.{ReadsAs}
-use Rattle.datagrams.specs.Read.{readDatagram, carriedBy}
-use Rattle.datagrams.specs.Write.{numberOctets, itemOctets, extraOctets, carriedOf, datagramOctets, datagramWriterRows, datagramToWrite}
-use Rattle.datagrams.specs.Promise.{datagramRead}
-use Rattle.datagrams.specs.Inner.Heads.{itemSize}
-use Rattle.datagrams.specs.declared.kind.Kind.{Kind}
-use Rattle.datagrams.proofs.Laws.{written-allowed, datagram-length, item-length}
-use Rattle.datagrams.proofs.Claims as datagrams
-use Rattle.views.specs.Cells.{keptAhead}
-use Rattle.views.specs.View.{View, distance}
-use Rattle.views.specs.Offer as offers
-use Rattle.views.specs.Offer.{acceptedAt, lateFrom, accept}
-use Rattle.held.specs.Table.{viewOf}
-use Rattle.held.specs.Laid.{sessionInRanges}
-use Rattle.held.specs.declared.Session.{Session}
-use Rattle.offering.specs.Outcome.{acceptedOf}
-use Rattle.sessions.specs.Receiver.{offerOf}
-use Rattle.offering.proofs.Laws.{offered-told}
-use Rattle.sending.specs.Send.{carriedNext}
-use Rattle.sending.specs.Sender.{sendingOf}
-use Rattle.sending.specs.Promise.{senderRows, toSend}
-use Rattle.sending.specs.declared.Sender.{Sender}
-use Rattle.sending.specs.declared.Settings.{Settings}
+use Rattle.length.specs.Refusals.{noRoom, repeated, tooFar, late, outsideRanges}
+use Rattle.length.specs.Answers.{Answer, done, refuse, fitted, sizeOf}
+use Rattle.length.specs.Tables.{first, unless}
+use Rattle.length.proofs.Claims.{written-told}
+use Rattle.length.proofs.Laws.{unless-first, done-none}
+use Rattle.datagram.specs.Carried.{Carried}
+use Rattle.datagram.specs.Claims.{ReadsAs}
+use Rattle.datagram.specs.Read.{readDatagram, carriedBy}
+use Rattle.datagram.specs.Write.{numberOctets, itemOctets, extraOctets, carriedOf, datagramOctets, datagramWriterRows, datagramToWrite}
+use Rattle.datagram.specs.Promise.{datagramRead}
+use Rattle.datagram.specs.Inner.Heads.{itemSize}
+use Rattle.datagram.specs.declared.kind.Kind.{Kind}
+use Rattle.datagram.proofs.Laws.{written-allowed, datagram-length, item-length}
+use Rattle.datagram.proofs.Claims as datagrams
+use Rattle.session.specs.Cells.{keptAhead}
+use Rattle.session.specs.View.{View, distance}
+use Rattle.session.specs.Offer as offers
+use Rattle.session.specs.Offer.{acceptedAt, lateFrom, accept}
+use Rattle.session_held.specs.Table.{viewOf}
+use Rattle.session_held.specs.Laid.{sessionInRanges}
+use Rattle.session_held.specs.declared.Session.{Session}
+use Rattle.session_offer.specs.Outcome.{acceptedOf}
+use Rattle.session_calls.specs.Receiver.{offerOf}
+use Rattle.session_offer.proofs.Laws.{offered-told}
+use Rattle.sender.specs.Send.{carriedNext}
+use Rattle.sender.specs.Sender.{sendingOf}
+use Rattle.sender.specs.Promise.{senderRows, toSend}
+use Rattle.sender.specs.declared.Sender.{Sender}
+use Rattle.sender.specs.declared.Settings.{Settings}
 use Rattle.demands.specs.NotInside.{AlikeButOctets, NotInside}
 use Rattle.demands.proofs.AlikeReads.{alike-parts}
 

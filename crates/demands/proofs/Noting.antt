@@ -10,13 +10,13 @@ use lib.ListN.{length, length-append, List·getD-append}
 use lib.Seq.{getD-at}
 use native.Mathlib.Omega.{arith}
 use Rattle.octets.proofs.Laws.{below-or-not}
-use Rattle.datagrams.specs.Carried.{Carried}
-use Rattle.views.specs.Cells.{unknown, Cell, isUnknown, cellAt, keptBefore, keptNumbers}
-use Rattle.views.specs.Reached.{Known, Unknown}
-use Rattle.views.specs.View.{View, Counts, freshView, goneOn}
-use Rattle.views.specs.Release.{atBase}
-use Rattle.views.specs.Offer.{accept}
-use Rattle.views.proofs.Laws.{known-not-unknown, same-unknown}
+use Rattle.datagram.specs.Carried.{Carried}
+use Rattle.session.specs.Cells.{unknown, Cell, isUnknown, cellAt, keptBefore, keptNumbers}
+use Rattle.session.specs.Reached.{Known, Unknown}
+use Rattle.session.specs.View.{View, Counts, freshView, goneOn}
+use Rattle.session.specs.Release.{atBase}
+use Rattle.session.specs.Offer.{accept}
+use Rattle.session.proofs.Laws.{known-not-unknown, same-unknown}
 use Rattle.demands.specs.Common.History.{Left, leftAs, isLost, afterMove}
 use Rattle.demands.specs.Common.Calls.{Call, Calls, start, _then_, fillsIn, leftIn, leftBy}
 use Rattle.demands.specs.Demand2.GoesOn.{moveOf, GoesOn, from, by}

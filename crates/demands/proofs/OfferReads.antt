@@ -4,18 +4,18 @@ use mathlib.Core.Path.{_≡_, refl, sym, ap, _∙_}
 use mathlib.Core.Bool.{true}
 use mathlib.Core.List.{List}
 use mathlib.Core.Option.{some, Option·none-ne-some}
-use Rattle.lengths.specs.Answers.{Answer, done, refused, _>>=_}
-use Rattle.lengths.specs.Tables.{refusalIn}
-use Rattle.datagrams.specs.Read.{readDatagram}
-use Rattle.datagrams.specs.Promise.{DatagramReads, readOutcome}
-use Rattle.datagrams.specs.declared.reader.DatagramRead.{DatagramRead}
-use Rattle.views.specs.View.{View}
-use Rattle.views.specs.Offer as offers
-use Rattle.held.specs.Laid.{sessionInRanges}
-use Rattle.held.specs.declared.Session.{Session}
-use Rattle.offering.specs.Outcome.{offeredOutcome, acceptedOf}
-use Rattle.sessions.specs.Receiver.{OfferOwes, offerOf}
-use Rattle.sessions.specs.declared.receiver.AfterOffer.{AfterOffer}
+use Rattle.length.specs.Answers.{Answer, done, refused, _>>=_}
+use Rattle.length.specs.Tables.{refusalIn}
+use Rattle.datagram.specs.Read.{readDatagram}
+use Rattle.datagram.specs.Promise.{DatagramReads, readOutcome}
+use Rattle.datagram.specs.declared.reader.DatagramRead.{DatagramRead}
+use Rattle.session.specs.View.{View}
+use Rattle.session.specs.Offer as offers
+use Rattle.session_held.specs.Laid.{sessionInRanges}
+use Rattle.session_held.specs.declared.Session.{Session}
+use Rattle.session_offer.specs.Outcome.{offeredOutcome, acceptedOf}
+use Rattle.session_calls.specs.Receiver.{OfferOwes, offerOf}
+use Rattle.session_calls.specs.declared.receiver.AfterOffer.{AfterOffer}
 
 -- the first refusal is the whole's
 bound : {A B : Type 0} (a : Answer A) (f : A → Answer B) (n : ℕ) → refusalIn a ≡ some n → refusalIn (_>>=_ a f) ≡ some n

@@ -5,16 +5,16 @@ use mathlib.Core.Path.{_≡_, refl, sym, ap, subst, _∙_}
 use mathlib.Core.List.{List}
 use lib.ListN.{length}
 use native.Mathlib.Omega.{arith}
-use Rattle.lengths.specs.Answers.{Answer, done, refused, afterwards}
-use Rattle.lengths.specs.declared.Refusal.{Refusal}
-use Rattle.views.specs.View.{View}
-use Rattle.views.specs.Offer as offers
-use Rattle.held.specs.declared.Session.{Session}
-use Rattle.offering.specs.Outcome.{offeredOutcome, acceptedOf}
-use Rattle.offering.specs.declared.Offered as offering
-use Rattle.offering.specs.declared.Offered.the-variants as answer
-use Rattle.sessions.specs.Receiver.{SeenAs, OfferOwes}
-use Rattle.sessions.specs.declared.receiver.AfterOffer.{AfterOffer}
+use Rattle.length.specs.Answers.{Answer, done, refused, afterwards}
+use Rattle.length.specs.declared.Refusal.{Refusal}
+use Rattle.session.specs.View.{View}
+use Rattle.session.specs.Offer as offers
+use Rattle.session_held.specs.declared.Session.{Session}
+use Rattle.session_offer.specs.Outcome.{offeredOutcome, acceptedOf}
+use Rattle.session_offer.specs.declared.Offered as offering
+use Rattle.session_offer.specs.declared.Offered.the-variants as answer
+use Rattle.session_calls.specs.Receiver.{SeenAs, OfferOwes}
+use Rattle.session_calls.specs.declared.receiver.AfterOffer.{AfterOffer}
 use Rattle.demands.specs.Common.History.{afterMove}
 use Rattle.demands.specs.Demand3.Feeding.{Near, datagramAt, Offers}
 use Rattle.demands.proofs.Calling.{offer-is, offered-seen}

@@ -1,6 +1,6 @@
--- One call in place of two: a law of `sessions`, and demand 2's, that what is known leaves as it was known. Assumes nothing.
+-- One call in place of two: a law of `session_calls`, and demand 2's, that what is known leaves as it was known. Assumes nothing.
 use mathlib.Core.Path.{ap, _∙_}
-use Rattle.sessions.proofs.Claims as sessions
+use Rattle.session_calls.proofs.Claims as sessions
 use Rattle.demands.specs.Common.History.{Left, isLost}
 use Rattle.demands.specs.Requests.OneCall.{OneCall}
 use Rattle.demands.proofs.Demand2.{demand-2}

@@ -8,25 +8,25 @@ use lib.ListN.{length, getD, take}
 use lib.Seq.{ext-getD, getD-take}
 use native.Mathlib.Omega.{arith}
 use Rattle.octets.proofs.Laws.{below-or-not}
-use Rattle.lengths.specs.Answers.{Answer}
-use Rattle.lengths.specs.Promise.{Puts, Put}
-use Rattle.lengths.specs.declared.Written.{Written}
-use Rattle.lengths.specs.declared.Written.the-variants as written
-use Rattle.lengths.proofs.Claims as lengths
-use Rattle.datagrams.specs.declared.kind.Kind.{Kind}
-use Rattle.stores.specs.Store.{zeros}
-use Rattle.stores.proofs.Laws.{length-zeros, zeros-at, zerosPast-zeros}
-use Rattle.views.specs.View.{numbers}
-use Rattle.held.specs.Table.{lent}
-use Rattle.sending.specs.Sender.{historyOctets}
-use Rattle.sending.specs.Inner.Held.{Sizes, Stored}
-use Rattle.sending.specs.Inner.Items.{ItemsSize}
-use Rattle.datagram_sender.specs.Inner.{HistoryAfter, SendsHeld}
-use Rattle.sending.specs.declared.Settings.{Settings}
-use Rattle.lines.specs.Promise.{Appends}
-use Rattle.lines.specs.FeedPromise.{LineIn, LineKept}
-use Rattle.lines.proofs.Laws.{begun-length}
-use Rattle.lines.proofs.Claims as lines
+use Rattle.length.specs.Answers.{Answer}
+use Rattle.length.specs.Promise.{Puts, Put}
+use Rattle.length.specs.declared.Written.{Written}
+use Rattle.length.specs.declared.Written.the-variants as written
+use Rattle.length.proofs.Claims as lengths
+use Rattle.datagram.specs.declared.kind.Kind.{Kind}
+use Rattle.session_slots.specs.Store.{zeros}
+use Rattle.session_slots.proofs.Laws.{length-zeros, zeros-at, zerosPast-zeros}
+use Rattle.session.specs.View.{numbers}
+use Rattle.session_held.specs.Table.{lent}
+use Rattle.sender.specs.Sender.{historyOctets}
+use Rattle.sender.specs.Inner.Held.{Sizes, Stored}
+use Rattle.sender.specs.Inner.Items.{ItemsSize}
+use Rattle.sender_calls.specs.Inner.{HistoryAfter, SendsHeld}
+use Rattle.sender.specs.declared.Settings.{Settings}
+use Rattle.line.specs.Promise.{Appends}
+use Rattle.line.specs.FeedPromise.{LineIn, LineKept}
+use Rattle.line.proofs.Laws.{begun-length}
+use Rattle.line.proofs.Claims as lines
 use Rattle.demands.specs.OneOutcome.OneTold.{OneLent}
 use Rattle.demands.specs.OneOutcome.OneInside.{SameHistory, InWords, InStores, InDatagrams, InSending, InLines, OneInside}
 use Rattle.demands.proofs.OneTold.{told-one}

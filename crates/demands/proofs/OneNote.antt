@@ -4,9 +4,9 @@ use Prim.Native.Nat.{ℕ}
 use mathlib.Core.Path.{_≡_, refl, sym, ap, ap₂, _∙_}
 use mathlib.Core.Bool.{true}
 use mathlib.Core.Option.{Option·some-injective}
-use Rattle.lengths.proofs.Laws.{done-same}
-use Rattle.datagrams.specs.Carried.{Carried}
-use Rattle.datagrams.specs.Read.{readDatagram, carriedBy}
+use Rattle.length.proofs.Laws.{done-same}
+use Rattle.datagram.specs.Carried.{Carried}
+use Rattle.datagram.specs.Read.{readDatagram, carriedBy}
 use Rattle.demands.specs.Common.Calls.{Call, Calls, fillsIn}
 use Rattle.demands.specs.Demand2.ReachedBy as reached
 use Rattle.demands.specs.Demand2.ReachedBy.{Accepts, ReachedBy}

@@ -1,23 +1,23 @@
 -- Two outcomes of a public call are one: each crate's claim, those that only tell, and those inside. Assumes nothing.
 use Prim.Native.Nat.{ℕ}
 use mathlib.Core.List.{List}
-use Rattle.lengths.specs.Answers.{Answer}
-use Rattle.lengths.specs.Length.{lengthToWrite}
-use Rattle.datagrams.specs.Write.{datagramToWrite}
-use Rattle.images.specs.Layout.{versionWritten}
-use Rattle.images.specs.Image.{imageToWrite}
-use Rattle.lengths.proofs.Claims as lengths
-use Rattle.datagrams.proofs.Claims as datagrams
-use Rattle.packets.proofs.Claims as packets
-use Rattle.sessions.proofs.Claims as sessions
-use Rattle.sessions.proofs.SolverClaims as solver
-use Rattle.sending.proofs.Claims as sending
-use Rattle.lines.proofs.Claims as lines
-use Rattle.frames.proofs.Claims as frames
+use Rattle.length.specs.Answers.{Answer}
+use Rattle.length.specs.Length.{lengthToWrite}
+use Rattle.datagram.specs.Write.{datagramToWrite}
+use Rattle.image.specs.Layout.{versionWritten}
+use Rattle.image.specs.Image.{imageToWrite}
+use Rattle.length.proofs.Claims as lengths
+use Rattle.datagram.proofs.Claims as datagrams
+use Rattle.packet.proofs.Claims as packets
+use Rattle.session_calls.proofs.Claims as sessions
+use Rattle.session_calls.proofs.SolverClaims as solver
+use Rattle.sender.proofs.Claims as sending
+use Rattle.line.proofs.Claims as lines
+use Rattle.frame.proofs.Claims as frames
 use Rattle.frame_feed.proofs.Claims as frameFeed
-use Rattle.replays.proofs.Claims as replays
+use Rattle.trace_replay.proofs.Claims as replays
 use Rattle.demands.specs.Common.NamedEdition.{packetBy}
-use Rattle.comparisons.proofs.Claims as comparisons
+use Rattle.trace_compare.proofs.Claims as comparisons
 use Rattle.demands.specs.OneOutcome.OneOutcome.{OneWrite, OneOutcome}
 use Rattle.demands.proofs.OneTold.{one-told}
 use Rattle.demands.proofs.OneInside.{one-inside}

@@ -5,24 +5,24 @@ use mathlib.Core.Bool.{Bool}
 use mathlib.Core.List.{List}
 use lib.ListN.{length, length-drop}
 use native.Mathlib.Omega.{arith}
-use Rattle.formats.specs.Reading.{Finding, found, stopped}
-use Rattle.packets.specs.Packet as description
-use Rattle.pencil_reader.specs.Bits.{numberFound, flagFound, edgeFound}
-use Rattle.pencil_reader.specs.Items.{OctetTaken, partFound}
-use Rattle.pencil_reader.specs.Fields.{headerFound}
-use Rattle.pencil_reader.specs.Packet.{firstFound}
-use Rattle.pencil_reader.specs.declared.bits.Number.{Number}
-use Rattle.pencil_reader.specs.declared.bits.Number.the-variants as number
-use Rattle.pencil_reader.specs.declared.bits.Marked.{Marked}
-use Rattle.pencil_reader.specs.declared.bits.Marked.the-variants as marked
-use Rattle.pencil_reader.specs.declared.bits.Edge.{Edge}
-use Rattle.pencil_reader.specs.declared.bits.Edge.the-variants as edge
-use Rattle.pencil_reader.specs.declared.items.Part.{Part}
-use Rattle.pencil_reader.specs.declared.items.Part.the-variants as part
-use Rattle.pencil_reader.specs.declared.fields.HeaderRead.{HeaderRead}
-use Rattle.pencil_reader.specs.declared.fields.HeaderRead.the-variants as header
-use Rattle.pencil_reader.specs.declared.packet.First.{First}
-use Rattle.pencil_reader.specs.declared.packet.First.the-variants as first
+use Rattle.format.specs.Reading.{Finding, found, stopped}
+use Rattle.packet.specs.Packet as description
+use Rattle.packet_pencil.specs.Bits.{numberFound, flagFound, edgeFound}
+use Rattle.packet_pencil.specs.Items.{OctetTaken, partFound}
+use Rattle.packet_pencil.specs.Fields.{headerFound}
+use Rattle.packet_pencil.specs.Packet.{firstFound}
+use Rattle.packet_pencil.specs.declared.bits.Number.{Number}
+use Rattle.packet_pencil.specs.declared.bits.Number.the-variants as number
+use Rattle.packet_pencil.specs.declared.bits.Marked.{Marked}
+use Rattle.packet_pencil.specs.declared.bits.Marked.the-variants as marked
+use Rattle.packet_pencil.specs.declared.bits.Edge.{Edge}
+use Rattle.packet_pencil.specs.declared.bits.Edge.the-variants as edge
+use Rattle.packet_pencil.specs.declared.items.Part.{Part}
+use Rattle.packet_pencil.specs.declared.items.Part.the-variants as part
+use Rattle.packet_pencil.specs.declared.fields.HeaderRead.{HeaderRead}
+use Rattle.packet_pencil.specs.declared.fields.HeaderRead.the-variants as header
+use Rattle.packet_pencil.specs.declared.whole.First.{First}
+use Rattle.packet_pencil.specs.declared.whole.First.the-variants as first
 use Rattle.demands.specs.OneOutcome.OnePencil.{InPencilReader}
 
 -- an answer that what was found gives back

@@ -5,24 +5,24 @@ use mathlib.Core.Path.{_≡_, refl, sym, ap, ap₂, _∙_}
 use mathlib.Core.Bool.{Bool}
 use mathlib.Core.List.{List, map}
 use lib.ListN.{take}
-use Rattle.datagrams.specs.Read.{octetsOf}
-use Rattle.datagrams.specs.declared.reader.Part.{Part}
-use Rattle.views.specs.Cells.{Cell}
-use Rattle.views.specs.Held.{Held}
-use Rattle.views.specs.View.{numbers}
-use Rattle.views.specs.Offer as offers
-use Rattle.held.specs.Table.{Lent, lent, countsOf, stateNumbered, cellsOf, viewIn}
-use Rattle.held.specs.Laid.{InRanges}
-use Rattle.held.specs.declared.Counts.{Counts}
-use Rattle.held.proofs.Laws.{lent-same}
-use Rattle.keeping.specs.Promise.{CellsNow, HeldNow, MayKeep, Keeps, KeepsSpares, MayHold, Holds}
-use Rattle.repairing.specs.Promise.{MayMend, Mends}
-use Rattle.leaving.specs.Promise.{Leaves, Releases}
-use Rattle.leaving.specs.declared.Released.{Released}
-use Rattle.leaving.proofs.Laws.{released-told}
-use Rattle.offering.specs.Promise.{Offers}
-use Rattle.offering.specs.declared.Offered.{Offered}
-use Rattle.offering.proofs.Laws.{offered-told}
+use Rattle.datagram.specs.Read.{octetsOf}
+use Rattle.datagram.specs.declared.reader.Part.{Part}
+use Rattle.session.specs.Cells.{Cell}
+use Rattle.session.specs.Held.{Held}
+use Rattle.session.specs.View.{numbers}
+use Rattle.session.specs.Offer as offers
+use Rattle.session_held.specs.Table.{Lent, lent, countsOf, stateNumbered, cellsOf, viewIn}
+use Rattle.session_held.specs.Laid.{InRanges}
+use Rattle.session_held.specs.declared.Counts.{Counts}
+use Rattle.session_held.proofs.Laws.{lent-same}
+use Rattle.session_offer.specs.KeepPromise.{CellsNow, HeldNow, MayKeep, Keeps, KeepsSpares, MayHold, Holds}
+use Rattle.session_repair.specs.Promise.{MayMend, Mends}
+use Rattle.session_release.specs.Promise.{Leaves, Releases}
+use Rattle.session_release.specs.declared.Released.{Released}
+use Rattle.session_release.proofs.Laws.{released-told}
+use Rattle.session_offer.specs.Promise.{Offers}
+use Rattle.session_offer.specs.declared.Offered.{Offered}
+use Rattle.session_offer.proofs.Laws.{offered-told}
 use Rattle.demands.specs.OneOutcome.OneTold.{OneLent}
 use Rattle.demands.specs.OneOutcome.OneInside.{InHeld, InReceiving}
 use Rattle.demands.proofs.OneTold.{told-one}

@@ -6,8 +6,9 @@ use mathlib.Core.List.{List}
 use mathlib.Core.Logic.{⊎-elim}
 use native.Mathlib.Omega.{arith}
 use Rattle.octets.proofs.Laws.{below-or-not}
-use Rattle.lines.specs.FeedPromise.{Found}
-use Rattle.demands.specs.OneOutcome.OneTold.{ToldByLengths, ToldByDatagrams, ToldByPackets, ToldByPacketReader, ToldByStores, ToldByHeld}
+use Rattle.line.specs.FeedPromise.{Found}
+use Rattle.demands.specs.OneOutcome.OneTold.{ToldByLengths, ToldByDatagrams, ToldByPackets, ToldByPacketReader, ToldByStores}
+use Rattle.demands.specs.OneOutcome.OneTold.{ToldByHeld}
 use Rattle.demands.specs.OneOutcome.OneTold.{ToldBySending, ToldByLines, ToldByFrames, ToldByImages, OneTold}
 
 -- both are what is told

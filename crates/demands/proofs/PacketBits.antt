@@ -9,8 +9,8 @@ use lib.Seq.{getD-drop, drop-append-seam}
 use native.Mathlib.Nat.{mod-one, mod-eq-of-lt}
 use native.Mathlib.Omega.{arith}
 use Rattle.octets.proofs.Laws.{below-or-not}
-use Rattle.formats.specs.Spelling.{gap}
-use Rattle.formats.specs.Places.{Place, bitsAt}
+use Rattle.format.specs.Spelling.{gap}
+use Rattle.format.specs.Places.{Place, bitsAt}
 
 pub bits-behind : (n : ℕ) (s octets : List ℕ) (p : Place) → bitsAt n (s ++ octets) (8 * length s + p) ≡ bitsAt n octets p
 bits-behind n s octets p =

@@ -10,23 +10,25 @@ use lib.Dec.{leb, ltb, eqb}
 use native.Mathlib.Omega.{arith}
 use borrow.Author.Tests.{ltb-true, ltb-false, leb-true, leb-false, not-true}
 use Rattle.octets.proofs.Laws.{and-left, and-right}
-use Rattle.lengths.specs.Refusals.{endsEarly, badForm, outsideSizes, spareBit, leftOver, notAssigned, wrongData}
-use Rattle.lengths.specs.Length.{ofTwo, within}
-use Rattle.lengths.specs.Tables.{first}
-use Rattle.formats.specs.Spelling.{gap}
-use Rattle.formats.specs.Places.{Place, bitsAt}
-use Rattle.datagrams.specs.Sizes.{packetLimit}
-use Rattle.packets.specs.Edition.{Edition, editionOf}
-use Rattle.packets.specs.Packet.{fieldsLeast, fieldsLimit, rightFields, mayFollow}
+use Rattle.length.specs.Refusals.{endsEarly, badForm, outsideSizes, spareBit, leftOver, notAssigned, wrongData}
+use Rattle.length.specs.Length.{ofTwo, within}
+use Rattle.length.specs.Tables.{first}
+use Rattle.format.specs.Spelling.{gap}
+use Rattle.format.specs.Places.{Place, bitsAt}
+use Rattle.datagram.specs.Sizes.{packetLimit}
+use Rattle.packet.specs.Edition.{Edition, editionOf}
+use Rattle.packet.specs.Packet.{fieldsLeast, fieldsLimit, rightFields, mayFollow}
 use Rattle.packet_laws.specs.Octets.{kindOf}
-use Rattle.packets.specs.declared.types.PacketKind.{PacketKind}
-use Rattle.packets.specs.declared.types.PacketKind.the-variants.{Indicator, Data}
-use Rattle.packets.specs.declared.types.Named.{Named}
-use Rattle.packets.specs.declared.types.Ending.{Ending}
+use Rattle.packet.specs.declared.types.PacketKind.{PacketKind}
+use Rattle.packet.specs.declared.types.PacketKind.the-variants.{Indicator, Data}
+use Rattle.packet.specs.declared.types.Named.{Named}
+use Rattle.packet.specs.declared.types.Ending.{Ending}
 use Rattle.demands.specs.Demand1.Refusals.{lengthRows}
-use Rattle.demands.specs.Demand1.PacketItems.{Item, firstValue, fieldsAllowed, countOfFields, header, padding, dataLength, fieldData, end}
+use Rattle.demands.specs.Demand1.PacketItems.{Item, firstValue, fieldsAllowed, countOfFields, header, padding, dataLength, fieldData}
+use Rattle.demands.specs.Demand1.PacketItems.{end}
 use Rattle.demands.specs.Demand1.PacketItems.{rows, valueRows, octetsFrom, octetHere, hasFields, firstValues, dataFits, dataSize, Due}
-use Rattle.demands.specs.Demand1.PacketRefusals.{FirstWrong, EndsEarly, NotAssigned, value, fieldType, BadForm, OutsideSizes, count, longData}
+use Rattle.demands.specs.Demand1.PacketRefusals.{FirstWrong, EndsEarly, NotAssigned, value, fieldType, BadForm, OutsideSizes, count}
+use Rattle.demands.specs.Demand1.PacketRefusals.{longData}
 use Rattle.demands.specs.Demand1.PacketRefusals.{SpareBit, WrongData, indicator, field}
 use Rattle.demands.proofs.PacketRows.{not-given, no-rows, past-row, given-row, first-front, first-later, row, last}
 use Rattle.demands.proofs.PacketPlaces.{due-first}

@@ -8,14 +8,14 @@ use lib.ListN.{length, getD, drop}
 use lib.Dec.{leb, ltb}
 use native.Mathlib.Omega.{arith}
 use borrow.Author.Tests.{le-leb, lt-leb, ltb-true, ltb-false}
-use Rattle.lengths.specs.Refusals.{endsEarly, badForm, outsideSizes}
-use Rattle.lengths.specs.Answers.{Answer, done, refused, refuse, refuseAt, readFrom, _>>=_, LengthAnswer}
-use Rattle.lengths.specs.Length.{lengthAt, lengthWithin, allowed, within, ofTwo}
-use Rattle.lengths.specs.Tables.{when, first}
-use Rattle.packets.specs.Edition.{Edition}
-use Rattle.packets.specs.Packet.{fieldsLeast, fieldsLimit}
+use Rattle.length.specs.Refusals.{endsEarly, badForm, outsideSizes}
+use Rattle.length.specs.Answers.{Answer, done, refused, refuse, refuseAt, readFrom, _>>=_, LengthAnswer}
+use Rattle.length.specs.Length.{lengthAt, lengthWithin, allowed, within, ofTwo}
+use Rattle.length.specs.Tables.{when, first}
+use Rattle.packet.specs.Edition.{Edition}
+use Rattle.packet.specs.Packet.{fieldsLeast, fieldsLimit}
 use Rattle.packet_laws.specs.Octets.{Count, countAt}
-use Rattle.packets.specs.declared.types.Ending.{Ending}
+use Rattle.packet.specs.declared.types.Ending.{Ending}
 use Rattle.demands.specs.Demand1.Refusals.{lengthRows}
 use Rattle.demands.specs.Demand1.PacketItems.{countOfFields, rows, octetHere}
 use Rattle.demands.proofs.PacketTables.{answered, bind-assoc}

@@ -11,11 +11,11 @@ use lib.Dec.{ltb}
 use native.Mathlib.Omega.{arith}
 use borrow.Author.Tests.{ltb-true, ltb-false}
 use Rattle.octets.proofs.Laws.{below-or-not}
-use Rattle.lengths.specs.Refusals.{endsEarly, notAssigned}
-use Rattle.lengths.specs.Tables.{first}
-use Rattle.formats.specs.Places.{Place}
+use Rattle.length.specs.Refusals.{endsEarly, notAssigned}
+use Rattle.length.specs.Tables.{first}
+use Rattle.format.specs.Places.{Place}
 use Rattle.packet_laws.specs.Octets.{bitSetAt, Narrow}
-use Rattle.packets.specs.declared.types.Enumerated.{Enumerated}
+use Rattle.packet.specs.declared.types.Enumerated.{Enumerated}
 use Rattle.packet_laws.proofs.Laws.{bit-past}
 use Rattle.demands.specs.Demand1.PacketItems.{isAdded, behindMark, valueEnds, valueRows}
 use Rattle.demands.specs.Demand1.PacketRefusals.{CutValue, Unassigned, noneAdded, notZero}

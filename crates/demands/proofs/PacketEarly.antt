@@ -10,13 +10,13 @@ use lib.Dec.{ltb}
 use native.Mathlib.Omega.{arith}
 use borrow.Author.Tests.{le-ltb, lt-ltb, le-leb, lt-leb}
 use Rattle.octets.proofs.Laws.{below-or-not}
-use Rattle.lengths.specs.Refusals.{endsEarly}
-use Rattle.lengths.specs.Tables.{first}
-use Rattle.formats.specs.Places.{Place}
-use Rattle.packets.specs.Edition.{Edition, editionOf}
+use Rattle.length.specs.Refusals.{endsEarly}
+use Rattle.length.specs.Tables.{first}
+use Rattle.format.specs.Places.{Place}
+use Rattle.packet.specs.Edition.{Edition, editionOf}
 use Rattle.packet_laws.specs.Octets.{NarrowEdition}
-use Rattle.packets.specs.declared.types.Ending.{Ending}
-use Rattle.packets.specs.declared.types.Named.{Named}
+use Rattle.packet.specs.declared.types.Ending.{Ending}
+use Rattle.packet.specs.declared.types.Named.{Named}
 use Rattle.packet_laws.proofs.Laws.{narrow}
 use Rattle.demands.specs.Demand1.Refusals.{lengthRows}
 use Rattle.demands.specs.Demand1.PacketItems.{Item, firstValue, countOfFields, header, dataLength, fieldData, end, rows, firstValues}

@@ -7,16 +7,16 @@ use mathlib.Core.Option.{Option}
 use lib.ListN.{length, getD}
 use lib.Dec.{ltb}
 use borrow.Author.Tests.{lt-ltb, le-ltb}
-use Rattle.lengths.specs.Refusals.{endsEarly, badForm, outsideSizes, spareBit, notAssigned, wrongData}
-use Rattle.lengths.specs.Length.{within}
-use Rattle.lengths.specs.Tables.{when}
-use Rattle.formats.specs.Spelling.{gap}
-use Rattle.formats.specs.Places.{bitsAt}
-use Rattle.datagrams.specs.Sizes.{packetLimit}
-use Rattle.packets.specs.Edition.{Edition}
-use Rattle.packets.specs.Packet.{fieldsLeast, fieldsLimit, rightFields}
+use Rattle.length.specs.Refusals.{endsEarly, badForm, outsideSizes, spareBit, notAssigned, wrongData}
+use Rattle.length.specs.Length.{within}
+use Rattle.length.specs.Tables.{when}
+use Rattle.format.specs.Spelling.{gap}
+use Rattle.format.specs.Places.{bitsAt}
+use Rattle.datagram.specs.Sizes.{packetLimit}
+use Rattle.packet.specs.Edition.{Edition}
+use Rattle.packet.specs.Packet.{fieldsLeast, fieldsLimit, rightFields}
 use Rattle.packet_laws.specs.Octets.{kindOf}
-use Rattle.packets.specs.declared.types.Ending.{Ending}
+use Rattle.packet.specs.declared.types.Ending.{Ending}
 use Rattle.demands.specs.Demand1.Refusals.{lengthRows}
 use Rattle.demands.specs.Demand1.PacketItems.{firstValue, fieldsAllowed, countOfFields, header, padding, dataLength, rows, valueRows}
 use Rattle.demands.specs.Demand1.PacketItems.{octetsFrom}

@@ -10,20 +10,21 @@ use lib.Seq.{drop-append-seam}
 use lib.Dec.{ltb}
 use native.Mathlib.Omega.{arith}
 use borrow.Author.Tests.{le-ltb, lt-ltb}
-use Rattle.lengths.specs.Refusals.{endsEarly, outsideSizes, spareBit, notAssigned, wrongData}
-use Rattle.lengths.specs.Tables.{first}
-use Rattle.formats.specs.Spelling.{gap}
-use Rattle.formats.specs.Places.{Place, bitsAt}
-use Rattle.datagrams.specs.Sizes.{packetLimit}
-use Rattle.packets.specs.Edition.{Edition, editionOf}
-use Rattle.packets.specs.Packet.{rightData}
+use Rattle.length.specs.Refusals.{endsEarly, outsideSizes, spareBit, notAssigned, wrongData}
+use Rattle.length.specs.Tables.{first}
+use Rattle.format.specs.Spelling.{gap}
+use Rattle.format.specs.Places.{Place, bitsAt}
+use Rattle.datagram.specs.Sizes.{packetLimit}
+use Rattle.packet.specs.Edition.{Edition, editionOf}
+use Rattle.packet.specs.Packet.{rightData}
 use Rattle.packet_laws.specs.Octets.{bitSetAt}
-use Rattle.packets.specs.declared.types.Ending.the-variants.{Whole}
-use Rattle.packets.specs.declared.types.Named.{Named}
-use Rattle.packets.specs.declared.types.Named.the-variants.{Old, New}
+use Rattle.packet.specs.declared.types.Ending.the-variants.{Whole}
+use Rattle.packet.specs.declared.types.Named.{Named}
+use Rattle.packet.specs.declared.types.Named.the-variants.{Old, New}
 use Rattle.packet_laws.proofs.Laws.{narrow}
 use Rattle.demands.specs.Demand1.PacketItems.{Item, countOfFields, header, padding, dataLength, fieldData, end, fields, rows}
-use Rattle.demands.specs.Demand1.PacketItems.{isAdded, behindMark, valueEnds, valueRows, typeIn, octetsFrom, dataFits, dataSize, Due, begins}
+use Rattle.demands.specs.Demand1.PacketItems.{isAdded, behindMark, valueEnds, valueRows, typeIn, octetsFrom, dataFits, dataSize, Due}
+use Rattle.demands.specs.Demand1.PacketItems.{begins}
 use Rattle.demands.specs.Demand1.PacketItems.{goesOn, Packet}
 use Rattle.demands.specs.Demand1.PacketRefusals.{EndsEarly, front}
 use Rattle.demands.proofs.PacketBits.{bits-behind}

@@ -12,19 +12,21 @@ use lib.Dec.{leb, ltb}
 use native.Mathlib.Omega.{arith}
 use borrow.Author.Tests.{lt-ltb, le-ltb, ltb-false}
 use Rattle.octets.proofs.Laws.{below-or-not}
-use Rattle.lengths.specs.Refusals.{endsEarly, badForm, outsideSizes, wrongData}
-use Rattle.lengths.specs.Length.{ofTwo, within}
-use Rattle.lengths.specs.Tables.{when, first}
-use Rattle.formats.specs.Places.{Place}
-use Rattle.packets.specs.Edition.{Edition, values}
-use Rattle.packets.specs.Packet.{fieldsLeast, fieldsLimit}
+use Rattle.length.specs.Refusals.{endsEarly, badForm, outsideSizes, wrongData}
+use Rattle.length.specs.Length.{ofTwo, within}
+use Rattle.length.specs.Tables.{when, first}
+use Rattle.format.specs.Places.{Place}
+use Rattle.packet.specs.Edition.{Edition, values}
+use Rattle.packet.specs.Packet.{fieldsLeast, fieldsLimit}
 use Rattle.packet_laws.specs.Octets.{NarrowEdition, kindOf}
-use Rattle.packets.specs.declared.types.PacketKind.{PacketKind}
-use Rattle.packets.specs.declared.types.Ending.{Ending}
-use Rattle.packets.specs.declared.types.Ending.the-variants.{Whole}
+use Rattle.packet.specs.declared.types.PacketKind.{PacketKind}
+use Rattle.packet.specs.declared.types.Ending.{Ending}
+use Rattle.packet.specs.declared.types.Ending.the-variants.{Whole}
 use Rattle.demands.specs.Demand1.Refusals.{lengthRows}
-use Rattle.demands.specs.Demand1.PacketItems.{Item, firstValue, fieldsAllowed, countOfFields, header, padding, dataLength, fieldData, end}
-use Rattle.demands.specs.Demand1.PacketItems.{rows, valueEnds, valueRows, octetsFrom, firstValues, dataFits, ends, dueAfter, Due, begins}
+use Rattle.demands.specs.Demand1.PacketItems.{Item, firstValue, fieldsAllowed, countOfFields, header, padding, dataLength, fieldData}
+use Rattle.demands.specs.Demand1.PacketItems.{end}
+use Rattle.demands.specs.Demand1.PacketItems.{rows, valueEnds, valueRows, octetsFrom, firstValues, dataFits, ends, dueAfter, Due}
+use Rattle.demands.specs.Demand1.PacketItems.{begins}
 use Rattle.demands.specs.Demand1.PacketItems.{goesOn}
 use Rattle.demands.specs.Demand1.PacketRefusals.{FirstWrong, CutValue}
 use Rattle.demands.proofs.PacketRows.{not-both, given-row, not-cut, first-front, first-later, both-none}

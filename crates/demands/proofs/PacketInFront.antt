@@ -8,19 +8,21 @@ use mathlib.Core.Option.{Option}
 use lib.ListN.{length, getD, length-drop, List·getD-append}
 use lib.Seq.{drop-append-le}
 use native.Mathlib.Omega.{arith}
-use Rattle.lengths.specs.Refusals.{wrongData}
-use Rattle.lengths.specs.Tables.{when}
-use Rattle.formats.specs.Spelling.{gap}
-use Rattle.formats.specs.Places.{Place}
-use Rattle.formats.proofs.Laws.{bits-more, gap-past}
-use Rattle.packets.specs.Edition.{Edition, values}
-use Rattle.packets.specs.Packet.{rightData, rightFields}
+use Rattle.length.specs.Refusals.{wrongData}
+use Rattle.length.specs.Tables.{when}
+use Rattle.format.specs.Spelling.{gap}
+use Rattle.format.specs.Places.{Place}
+use Rattle.format.proofs.Laws.{bits-more, gap-past}
+use Rattle.packet.specs.Edition.{Edition, values}
+use Rattle.packet.specs.Packet.{rightData, rightFields}
 use Rattle.packet_laws.specs.Octets.{NarrowEdition, bitSetAt, kindOf}
-use Rattle.packets.specs.declared.types.PacketKind.{PacketKind}
-use Rattle.packets.specs.declared.types.PacketKind.the-variants.{Indicator, Data}
-use Rattle.packets.specs.declared.types.Ending.{Ending}
-use Rattle.demands.specs.Demand1.PacketItems.{Item, firstValue, fieldsAllowed, countOfFields, header, padding, dataLength, fieldData, end}
-use Rattle.demands.specs.Demand1.PacketItems.{fields, rows, valueIn, valueEnds, valueRows, octetsFrom, hasFields, firstValues, dataFits, ends}
+use Rattle.packet.specs.declared.types.PacketKind.{PacketKind}
+use Rattle.packet.specs.declared.types.PacketKind.the-variants.{Indicator, Data}
+use Rattle.packet.specs.declared.types.Ending.{Ending}
+use Rattle.demands.specs.Demand1.PacketItems.{Item, firstValue, fieldsAllowed, countOfFields, header, padding, dataLength, fieldData}
+use Rattle.demands.specs.Demand1.PacketItems.{end}
+use Rattle.demands.specs.Demand1.PacketItems.{fields, rows, valueIn, valueEnds, valueRows, octetsFrom, hasFields, firstValues}
+use Rattle.demands.specs.Demand1.PacketItems.{dataFits, ends}
 use Rattle.demands.specs.Demand1.PacketItems.{dueAfter}
 use Rattle.demands.proofs.PacketPlaces.{Standing, value-on}
 use Rattle.demands.proofs.PacketValues.{bit-front, cut-front, ends-front, ends-whole, value-front, rows-front}

@@ -10,14 +10,14 @@ use lib.ListN.{length}
 use lib.Dec.{eqb}
 use native.Mathlib.Omega.{arith}
 use borrow.Author.Tests.{ne-eqb}
-use Rattle.lengths.specs.Refusals.{endsEarly}
-use Rattle.lengths.specs.Tables.{first}
-use Rattle.formats.specs.Places.{Place}
-use Rattle.packets.specs.Edition.{Edition}
-use Rattle.packets.specs.Packet.{every, allZero, mayFollow}
+use Rattle.length.specs.Refusals.{endsEarly}
+use Rattle.length.specs.Tables.{first}
+use Rattle.format.specs.Places.{Place}
+use Rattle.packet.specs.Edition.{Edition}
+use Rattle.packet.specs.Packet.{every, allZero, mayFollow}
 use Rattle.packet_laws.specs.Octets.{NarrowEdition}
-use Rattle.packets.specs.declared.types.Ending.{Ending}
-use Rattle.packets.specs.declared.types.Ending.the-variants.{Whole, Repaired}
+use Rattle.packet.specs.declared.types.Ending.{Ending}
+use Rattle.packet.specs.declared.types.Ending.the-variants.{Whole, Repaired}
 use Rattle.demands.specs.Demand1.PacketItems.{Item, end, octetsFrom, rows}
 use Rattle.demands.specs.Demand1.PacketRefusals.{FirstWrong}
 use Rattle.demands.proofs.PacketRows.{same-number, end-wrong, wrong-end}

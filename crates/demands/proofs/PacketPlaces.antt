@@ -9,20 +9,22 @@ use lib.ListN.{length, getD, length-drop}
 use lib.Dec.{leb, ltb}
 use native.Mathlib.Omega.{arith}
 use borrow.Author.Tests.{le-ltb, lt-leb, ltb-false, not-false}
-use Rattle.lengths.specs.Refusals.{endsEarly, badForm, outsideSizes, notAssigned}
-use Rattle.lengths.specs.Length.{ofTwo, within}
-use Rattle.lengths.specs.Tables.{when, first}
-use Rattle.lengths.proofs.Laws.{within-true}
-use Rattle.formats.specs.Places.{Place, edge}
-use Rattle.packets.specs.Edition.{addedWidth, Edition}
-use Rattle.packets.specs.Packet.{fieldsLeast, fieldsLimit}
+use Rattle.length.specs.Refusals.{endsEarly, badForm, outsideSizes, notAssigned}
+use Rattle.length.specs.Length.{ofTwo, within}
+use Rattle.length.specs.Tables.{when, first}
+use Rattle.length.proofs.Laws.{within-true}
+use Rattle.format.specs.Places.{Place, edge}
+use Rattle.packet.specs.Edition.{addedWidth, Edition}
+use Rattle.packet.specs.Packet.{fieldsLeast, fieldsLimit}
 use Rattle.packet_laws.specs.Octets.{bitSetAt}
-use Rattle.packets.specs.declared.types.Enumerated.{Enumerated}
-use Rattle.packets.specs.declared.types.Ending.{Ending}
-use Rattle.packets.specs.declared.types.Ending.the-variants.{Whole}
+use Rattle.packet.specs.declared.types.Enumerated.{Enumerated}
+use Rattle.packet.specs.declared.types.Ending.{Ending}
+use Rattle.packet.specs.declared.types.Ending.the-variants.{Whole}
 use Rattle.demands.specs.Demand1.Refusals.{lengthRows}
-use Rattle.demands.specs.Demand1.PacketItems.{Item, firstValue, fieldsAllowed, countOfFields, header, padding, dataLength, fieldData, end}
-use Rattle.demands.specs.Demand1.PacketItems.{fields, rows, isAdded, behindMark, valueEnds, addedRows, rootRows, valueRows, octetsFrom}
+use Rattle.demands.specs.Demand1.PacketItems.{Item, firstValue, fieldsAllowed, countOfFields, header, padding, dataLength, fieldData}
+use Rattle.demands.specs.Demand1.PacketItems.{end}
+use Rattle.demands.specs.Demand1.PacketItems.{fields, rows, isAdded, behindMark, valueEnds, addedRows, rootRows, valueRows}
+use Rattle.demands.specs.Demand1.PacketItems.{octetsFrom}
 use Rattle.demands.specs.Demand1.PacketItems.{octetHere, hasFields, firstValues, ends, dueAfter, Due, begins, goesOn}
 use Rattle.demands.proofs.PacketRows.{not-given, none-given, no-rows, both-none}
 

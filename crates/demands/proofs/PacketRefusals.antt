@@ -10,21 +10,21 @@ use lib.ListN.{length, length-append, length-drop}
 use native.Mathlib.Omega.{arith}
 use borrow.Author.Tests.{eq-eqb, ne-eqb, eqb-true, eqb-false}
 use Rattle.octets.proofs.Laws.{below-or-not}
-use Rattle.lengths.specs.Refusals.{refusalAt, endsEarly, badForm, outsideSizes, spareBit, notAssigned, wrongData}
-use Rattle.lengths.specs.Refusals as number
-use Rattle.lengths.specs.Answers.{refused, refuse}
-use Rattle.lengths.specs.declared.Refusal.{Refusal}
-use Rattle.lengths.proofs.Laws.{refused-same}
-use Rattle.formats.specs.Places.{Place}
-use Rattle.datagrams.specs.Sizes.{packetLimit}
-use Rattle.packets.specs.Edition.{Edition, editionOf}
-use Rattle.packets.specs.Packet.{mayFollow, readPacket}
-use Rattle.packets.specs.Promise.{PacketTold, packetOutcome}
-use Rattle.packets.specs.declared.types.Named.{Named}
-use Rattle.packets.specs.declared.types.Ending.{Ending}
-use Rattle.packets.specs.declared.types.Ending.the-variants.{Whole, Repaired}
-use Rattle.packets.specs.declared.types.PacketRead.{PacketRead}
-use Rattle.lengths.specs.Tables.{first, refusalIn}
+use Rattle.length.specs.Refusals.{refusalAt, endsEarly, badForm, outsideSizes, spareBit, notAssigned, wrongData}
+use Rattle.length.specs.Refusals as number
+use Rattle.length.specs.Answers.{refused, refuse}
+use Rattle.length.specs.declared.Refusal.{Refusal}
+use Rattle.length.proofs.Laws.{refused-same}
+use Rattle.format.specs.Places.{Place}
+use Rattle.datagram.specs.Sizes.{packetLimit}
+use Rattle.packet.specs.Edition.{Edition, editionOf}
+use Rattle.packet.specs.Packet.{mayFollow, readPacket}
+use Rattle.packet.specs.Promise.{PacketTold, packetOutcome}
+use Rattle.packet.specs.declared.types.Named.{Named}
+use Rattle.packet.specs.declared.types.Ending.{Ending}
+use Rattle.packet.specs.declared.types.Ending.the-variants.{Whole, Repaired}
+use Rattle.packet.specs.declared.types.PacketRead.{PacketRead}
+use Rattle.length.specs.Tables.{first, refusalIn}
 use Rattle.packet_laws.proofs.Laws.{narrow}
 use Rattle.demands.specs.Common.NamedEdition.{Names, ReadBy}
 use Rattle.demands.specs.Demand1.PacketItems.{Item, end, octetOf, rows, octetsFrom, Due, Packet}

@@ -7,13 +7,14 @@ use mathlib.Core.List.{List, [], _∷_, _++_}
 use mathlib.Core.Option.{Option, none, some}
 use native.Mathlib.Omega.{arith}
 use borrow.Author.Tests.{not-true, not-false}
-use Rattle.lengths.specs.Refusals.{leftOver}
-use Rattle.lengths.specs.Tables.{when, first}
-use Rattle.formats.specs.Places.{Place}
-use Rattle.packets.specs.Edition.{Edition}
-use Rattle.packets.specs.Packet.{mayFollow}
-use Rattle.packets.specs.declared.types.Ending.{Ending}
-use Rattle.demands.specs.Demand1.PacketItems.{Item, firstValue, fieldsAllowed, countOfFields, header, padding, dataLength, fieldData, end}
+use Rattle.length.specs.Refusals.{leftOver}
+use Rattle.length.specs.Tables.{when, first}
+use Rattle.format.specs.Places.{Place}
+use Rattle.packet.specs.Edition.{Edition}
+use Rattle.packet.specs.Packet.{mayFollow}
+use Rattle.packet.specs.declared.types.Ending.{Ending}
+use Rattle.demands.specs.Demand1.PacketItems.{Item, firstValue, fieldsAllowed, countOfFields, header, padding, dataLength, fieldData}
+use Rattle.demands.specs.Demand1.PacketItems.{end}
 use Rattle.demands.specs.Demand1.PacketItems.{rows}
 use Rattle.demands.specs.Demand1.PacketItems.{octetsFrom}
 

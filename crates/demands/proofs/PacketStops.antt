@@ -10,17 +10,17 @@ use mathlib.Core.Option.{Option, none, some}
 use lib.ListN.{length}
 use native.Mathlib.Omega.{arith}
 use borrow.Author.Tests.{lt-ltb}
-use Rattle.lengths.specs.Refusals.{refusalAt, outsideSizes}
-use Rattle.lengths.specs.Answers.{Answer, done, refused, refuse}
-use Rattle.lengths.specs.declared.Refusal.{Refusal}
-use Rattle.lengths.specs.Tables.{first, refusalIn}
-use Rattle.formats.specs.Places.{Place}
-use Rattle.datagrams.specs.Sizes.{packetLimit}
-use Rattle.packets.specs.Edition.{Edition, editionOf}
-use Rattle.packets.specs.Packet.{mayFollow, PacketAnswer, readPacket}
-use Rattle.packets.specs.declared.types.Named.{Named}
-use Rattle.packets.specs.declared.types.Ending.{Ending}
-use Rattle.packets.specs.declared.types.Ending.the-variants.{Whole}
+use Rattle.length.specs.Refusals.{refusalAt, outsideSizes}
+use Rattle.length.specs.Answers.{Answer, done, refused, refuse}
+use Rattle.length.specs.declared.Refusal.{Refusal}
+use Rattle.length.specs.Tables.{first, refusalIn}
+use Rattle.format.specs.Places.{Place}
+use Rattle.datagram.specs.Sizes.{packetLimit}
+use Rattle.packet.specs.Edition.{Edition, editionOf}
+use Rattle.packet.specs.Packet.{mayFollow, PacketAnswer, readPacket}
+use Rattle.packet.specs.declared.types.Named.{Named}
+use Rattle.packet.specs.declared.types.Ending.{Ending}
+use Rattle.packet.specs.declared.types.Ending.the-variants.{Whole}
 use Rattle.demands.specs.Demand1.PacketItems.{Item, firstValue, end, octetOf, octetsFrom, rows, ends, dueAfter, Due, begins, goesOn}
 use Rattle.demands.specs.Demand1.PacketRefusals.{FirstWrong}
 use Rattle.demands.proofs.PacketRows.{same-number, not-both, end-passed, end-passes, rows-alike}

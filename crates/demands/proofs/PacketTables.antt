@@ -8,19 +8,20 @@ use lib.ListN.{length, getD, drop, length-drop}
 use lib.Dec.{ltb}
 use native.Mathlib.Omega.{arith}
 use borrow.Author.Tests.{lt-ltb, ltb-true, ltb-false}
-use Rattle.lengths.specs.Refusals.{endsEarly, outsideSizes, spareBit, leftOver, notAssigned, wrongData}
-use Rattle.lengths.specs.Answers.{Answer, done, refused, refuse, refuseAt, readFrom, _>>=_}
-use Rattle.lengths.specs.Tables.{when, first}
-use Rattle.formats.specs.Spelling.{gap}
-use Rattle.formats.specs.Places.{Place, bitsAt, edge, edgeAt}
-use Rattle.datagrams.specs.Sizes.{packetLimit}
-use Rattle.packets.specs.Edition.{addedWidth, Edition}
-use Rattle.packets.specs.Packet.{rightFields, rightData, mayFollow}
+use Rattle.length.specs.Refusals.{endsEarly, outsideSizes, spareBit, leftOver, notAssigned, wrongData}
+use Rattle.length.specs.Answers.{Answer, done, refused, refuse, refuseAt, readFrom, _>>=_}
+use Rattle.length.specs.Tables.{when, first}
+use Rattle.format.specs.Spelling.{gap}
+use Rattle.format.specs.Places.{Place, bitsAt, edge, edgeAt}
+use Rattle.datagram.specs.Sizes.{packetLimit}
+use Rattle.packet.specs.Edition.{addedWidth, Edition}
+use Rattle.packet.specs.Packet.{rightFields, rightData, mayFollow}
 use Rattle.packet_laws.specs.Octets.{bitSetAt, kindOf, Value, rootAt, addedAt, valueAt, HeaderAnswer, headerAt, sizeAt}
-use Rattle.packets.specs.declared.types.Enumerated.{Enumerated}
-use Rattle.packets.specs.declared.types.Ending.{Ending}
+use Rattle.packet.specs.declared.types.Enumerated.{Enumerated}
+use Rattle.packet.specs.declared.types.Ending.{Ending}
 use Rattle.demands.specs.Demand1.PacketItems.{Item, firstValue, fieldsAllowed, header, padding, dataLength, fieldData, end}
-use Rattle.demands.specs.Demand1.PacketItems.{rows, isAdded, behindMark, valueIn, valueEnds, addedRows, rootRows, valueRows, firstValues}
+use Rattle.demands.specs.Demand1.PacketItems.{rows, isAdded, behindMark, valueIn, valueEnds, addedRows, rootRows, valueRows}
+use Rattle.demands.specs.Demand1.PacketItems.{firstValues}
 use Rattle.demands.specs.Demand1.PacketItems.{hasFields, typeIn, dataFits, dataSize}
 use Rattle.demands.proofs.PacketBits.{padding-bits}
 

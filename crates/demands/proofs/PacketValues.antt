@@ -11,13 +11,13 @@ use lib.Dec.{ltb}
 use native.Mathlib.Omega.{arith}
 use borrow.Author.Tests.{lt-ltb, le-ltb, ltb-true, ltb-false, not-true}
 use Rattle.octets.proofs.Laws.{below-or-not}
-use Rattle.lengths.specs.Refusals.{endsEarly, notAssigned}
-use Rattle.lengths.specs.Tables.{when, first}
-use Rattle.formats.specs.Places.{Place, bitsAt}
-use Rattle.formats.proofs.Laws.{bits-more}
-use Rattle.packets.specs.Edition.{addedWidth}
+use Rattle.length.specs.Refusals.{endsEarly, notAssigned}
+use Rattle.length.specs.Tables.{when, first}
+use Rattle.format.specs.Places.{Place, bitsAt}
+use Rattle.format.proofs.Laws.{bits-more}
+use Rattle.packet.specs.Edition.{addedWidth}
 use Rattle.packet_laws.specs.Octets.{bitSetAt, Narrow}
-use Rattle.packets.specs.declared.types.Enumerated.{Enumerated}
+use Rattle.packet.specs.declared.types.Enumerated.{Enumerated}
 use Rattle.packet_laws.proofs.Laws.{bit-past}
 use Rattle.demands.specs.Demand1.PacketItems.{isAdded, behindMark, valueIn, valueEnds, addedRows, rootRows, valueRows}
 use Rattle.demands.specs.Demand1.PacketRefusals.{CutValue, Unassigned, noneAdded, notZero, pastAdded, pastRoot}

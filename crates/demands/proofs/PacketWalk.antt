@@ -9,21 +9,23 @@ use mathlib.Core.Option.{Option, none, some}
 use lib.ListN.{length, drop}
 use native.Mathlib.Omega.{arith}
 use borrow.Author.Tests.{le-ltb}
-use Rattle.lengths.specs.Refusals.{refusalAt, leftOver, wrongData}
-use Rattle.lengths.specs.declared.Refusal.{Refusal}
-use Rattle.lengths.specs.Answers.{Answer, done, refused, refuse, refuseAt, readFrom, _>>=_}
-use Rattle.lengths.specs.Tables.{first}
-use Rattle.formats.specs.Places.{Place, edge, edgeAt}
-use Rattle.datagrams.specs.Sizes.{packetLimit}
-use Rattle.packets.specs.Edition.{Edition, editionOf}
-use Rattle.packets.specs.Packet.{PacketAnswer, readPacket, rightFields, mayFollow}
+use Rattle.length.specs.Refusals.{refusalAt, leftOver, wrongData}
+use Rattle.length.specs.declared.Refusal.{Refusal}
+use Rattle.length.specs.Answers.{Answer, done, refused, refuse, refuseAt, readFrom, _>>=_}
+use Rattle.length.specs.Tables.{first}
+use Rattle.format.specs.Places.{Place, edge, edgeAt}
+use Rattle.datagram.specs.Sizes.{packetLimit}
+use Rattle.packet.specs.Edition.{Edition, editionOf}
+use Rattle.packet.specs.Packet.{PacketAnswer, readPacket, rightFields, mayFollow}
 use Rattle.packet_laws.specs.Octets.{bitSetAt, kindOf, Value, valueAt, FirstAnswer, firstAt, countAt, HeaderAnswer, headerAt, sizeAt}
 use Rattle.packet_laws.specs.Octets.{FieldAnswer, afterHeader, fieldAt, FieldsAnswer, fieldsAt, endAt, packetByOctets}
-use Rattle.packets.specs.declared.types.Ending.{Ending}
-use Rattle.packets.specs.declared.types.Named.{Named}
+use Rattle.packet.specs.declared.types.Ending.{Ending}
+use Rattle.packet.specs.declared.types.Named.{Named}
 use Rattle.packet_laws.proofs.Laws.{narrow, read-at}
-use Rattle.demands.specs.Demand1.PacketItems.{Item, firstValue, fieldsAllowed, countOfFields, header, padding, dataLength, fieldData, end}
-use Rattle.demands.specs.Demand1.PacketItems.{fields, octetOf, rows, valueIn, valueEnds, octetHere, hasFields, firstValues, typeIn, dataSize}
+use Rattle.demands.specs.Demand1.PacketItems.{Item, firstValue, fieldsAllowed, countOfFields, header, padding, dataLength, fieldData}
+use Rattle.demands.specs.Demand1.PacketItems.{end}
+use Rattle.demands.specs.Demand1.PacketItems.{fields, octetOf, rows, valueIn, valueEnds, octetHere, hasFields, firstValues, typeIn}
+use Rattle.demands.specs.Demand1.PacketItems.{dataSize}
 use Rattle.demands.specs.Demand1.PacketItems.{ends}
 use Rattle.demands.specs.Demand1.PacketItems.{dueAfter}
 use Rattle.demands.proofs.PacketTables.{answered, bind-assoc, first-table, allowed-table, header-table, padding-table}

@@ -10,19 +10,19 @@ use native.Mathlib.Omega.{arith}
 use borrow.Author.Tests.{leb-true}
 use Rattle.octets.specs.Place.{tab}
 use Rattle.octets.proofs.Laws.{tab-among, tab-ext, map-tab}
-use Rattle.lengths.specs.Answers.{done}
-use Rattle.datagrams.specs.Sizes.{sparesLimit}
-use Rattle.datagrams.specs.Carried.{Extra, spares, parity}
-use Rattle.datagrams.specs.Write.{countInside, extraOf}
-use Rattle.datagrams.specs.Read.{DatagramParts, octetsOf, readDatagram, carriedBy}
-use Rattle.datagrams.specs.declared.kind.Kind.{Kind}
-use Rattle.datagrams.specs.declared.kind.Kind.the-variants as kind
-use Rattle.datagrams.proofs.Laws.{read-inside}
-use Rattle.views.specs.Cells.{keptBefore, keptAhead}
-use Rattle.views.specs.Members.{memberAt, membersOf}
-use Rattle.views.proofs.Laws.{member-says}
-use Rattle.views.specs.View.{numbers, distance}
-use Rattle.views.specs.Offer.{heldBy}
+use Rattle.length.specs.Answers.{done}
+use Rattle.datagram.specs.Sizes.{sparesLimit}
+use Rattle.datagram.specs.Carried.{Extra, spares, parity}
+use Rattle.datagram.specs.Write.{countInside, extraOf}
+use Rattle.datagram.specs.Read.{DatagramParts, octetsOf, readDatagram, carriedBy}
+use Rattle.datagram.specs.declared.kind.Kind.{Kind}
+use Rattle.datagram.specs.declared.kind.Kind.the-variants as kind
+use Rattle.datagram.proofs.Laws.{read-inside}
+use Rattle.session.specs.Cells.{keptBefore, keptAhead}
+use Rattle.session.specs.Members.{memberAt, membersOf}
+use Rattle.session.proofs.Laws.{member-says}
+use Rattle.session.specs.View.{numbers, distance}
+use Rattle.session.specs.Offer.{heldBy}
 use Rattle.demands.specs.Demand2.ReachedBy.{placeNumber, sparesIn}
 
 -- ---- members, g places further on

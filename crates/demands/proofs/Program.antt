@@ -3,10 +3,10 @@ use Prim.Native.Nat.{ℕ}
 use mathlib.Core.Path.{_≡_, refl, sym, ap, _∙_}
 use mathlib.Core.List.{List, [], _++_, append-assoc, append-nil}
 use lib.ListN.{take, drop, take-append-drop}
-use Rattle.held.specs.Table.{Lent}
-use Rattle.lines.specs.Lines.{program}
-use Rattle.lines.specs.Feed.{PartWay}
-use Rattle.lines.proofs.Claims as lines
+use Rattle.session_held.specs.Table.{Lent}
+use Rattle.line.specs.Lines.{program}
+use Rattle.line.specs.Feed.{PartWay}
+use Rattle.line.proofs.Claims as lines
 use Rattle.demands.specs.Program.{Running, start, block, Program}
 
 record Halfway (input rest text : List ℕ) (session : Lent) (line : List ℕ) (begun : ℕ) : Type 0 where

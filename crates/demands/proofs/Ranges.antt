@@ -3,10 +3,10 @@
 use Prim.Native.Nat.{ℕ, _%_, _≤_, _<_}
 use mathlib.Core.Path.{_≡_}
 use lib.ListN.{length}
-use Rattle.datagrams.specs.Sizes.{coveredLimit, messagesLimit}
-use Rattle.views.specs.Cells.{blank, cellAt, keptBefore, keptAhead, keptNumbers}
-use Rattle.views.specs.Held.{heldAt}
-use Rattle.views.specs.View.{View, sum, numbers}
+use Rattle.datagram.specs.Sizes.{coveredLimit, messagesLimit}
+use Rattle.session.specs.Cells.{blank, cellAt, keptBefore, keptAhead, keptNumbers}
+use Rattle.session.specs.Held.{heldAt}
+use Rattle.session.specs.View.{View, sum, numbers}
 
 pub record ViewInRanges (view : View) : Type 0 where
   -- "It keeps 64 numbers, the 32 before the base and 32 from it on"

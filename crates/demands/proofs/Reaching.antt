@@ -10,13 +10,13 @@ use mathlib.Core.Option.{none, Option·none-ne-some}
 use lib.ListN.{length, length-append}
 use native.Mathlib.Omega.{arith}
 use Rattle.octets.proofs.Laws.{below-or-not}
-use Rattle.datagrams.specs.Carried.{Carried}
-use Rattle.views.specs.Cells.{keptBefore, keptAhead, keptNumbers}
-use Rattle.views.specs.Held.{Held, heldAt}
-use Rattle.views.specs.Repair.{Message}
-use Rattle.views.specs.Reached.{Known}
-use Rattle.views.specs.View.{View, Counts, sum, freshView, goneOn}
-use Rattle.views.specs.Offer.{heldBy}
+use Rattle.datagram.specs.Carried.{Carried}
+use Rattle.session.specs.Cells.{keptBefore, keptAhead, keptNumbers}
+use Rattle.session.specs.Held.{Held, heldAt}
+use Rattle.session.specs.Repair.{Message}
+use Rattle.session.specs.Reached.{Known}
+use Rattle.session.specs.View.{View, Counts, sum, freshView, goneOn}
+use Rattle.session.specs.Offer.{heldBy}
 use Rattle.demands.specs.Common.History.{Left}
 use Rattle.demands.specs.Common.Calls.{Call, Calls, start, _then_, acceptedIn, fillsIn, leftIn, leftBy}
 use Rattle.demands.specs.Demand2.ReachedBy.{gone, spareAt, HasSpare, Accepts, Arrived, now, before, HeldBy}

@@ -6,39 +6,39 @@ use mathlib.Core.Bool.{Bool, true, false, not, cond, _&&_}
 use mathlib.Core.List.{List}
 use lib.ListN.{length}
 use lib.Dec.{leb, ltb}
-use Rattle.lengths.specs.Refusals.{refusal, repeated, tooFar, late, baseUnknown, noRoom, wrongSettings, allPassed, outsideRanges}
-use Rattle.lengths.specs.Answers.{Answer, done, refused, refuse, _>>=_, fitted}
-use Rattle.lengths.specs.Tables.{placeIn}
-use Rattle.lengths.specs.Length.{lengthAt, lengthToWrite}
-use Rattle.lengths.specs.declared.Refusal.{Refusal}
-use Rattle.lengths.proofs.Laws.{AtFront, refuse-front, done-front, cond-front, length-front}
-use Rattle.lengths.proofs.Laws.{unless-front, fitted-front, front-place, mapped-place, puts-place}
-use Rattle.datagrams.specs.Carried.{Carried}
-use Rattle.datagrams.specs.Read.{readDatagram, carriedBy}
-use Rattle.datagrams.specs.Write.{datagramToWrite}
-use Rattle.datagrams.specs.declared.kind.Kind.{Kind}
-use Rattle.packets.specs.Edition.{Edition, choiceOf, ofChoice}
-use Rattle.packets.specs.Write.{packetToWrite}
-use Rattle.packets.specs.declared.types.Choice.{Choice}
-use Rattle.packets.specs.declared.types.Choice.the-variants as choice
-use Rattle.packets.specs.declared.types.PacketKind as packets
-use Rattle.views.specs.Cells.{unknownAt, keptBefore, keptAhead}
-use Rattle.views.specs.View.{View, sum, distance, sessionLimit}
-use Rattle.views.specs.Offer as offers
-use Rattle.views.specs.Offer.{lateFrom, acceptedAt, offered}
-use Rattle.views.specs.Release.{atBase, release}
-use Rattle.held.specs.Table.{lentBy, viewOf}
-use Rattle.held.specs.Laid.{sessionInRanges}
-use Rattle.held.specs.declared.Session.{Session}
-use Rattle.sessions.specs.Receiver.{offerOf, releaseOf}
-use Rattle.sending.specs.Promise.{toSend}
-use Rattle.sending.specs.declared.Sender.{Sender}
-use Rattle.sending.specs.declared.Settings.{Settings}
-use Rattle.lines.specs.Hex.{lineOctets}
-use Rattle.frames.specs.Promise.{fieldAnswer, lossAnswer}
-use Rattle.frames.specs.declared.Joiner.{Joiner}
-use Rattle.images.specs.Layout.{imageVersion02}
-use Rattle.images.specs.Image.{readText, imageToWrite}
+use Rattle.length.specs.Refusals.{refusal, repeated, tooFar, late, baseUnknown, noRoom, wrongSettings, allPassed, outsideRanges}
+use Rattle.length.specs.Answers.{Answer, done, refused, refuse, _>>=_, fitted}
+use Rattle.length.specs.Tables.{placeIn}
+use Rattle.length.specs.Length.{lengthAt, lengthToWrite}
+use Rattle.length.specs.declared.Refusal.{Refusal}
+use Rattle.length.proofs.Laws.{AtFront, refuse-front, done-front, cond-front, length-front}
+use Rattle.length.proofs.Laws.{unless-front, fitted-front, front-place, mapped-place, puts-place}
+use Rattle.datagram.specs.Carried.{Carried}
+use Rattle.datagram.specs.Read.{readDatagram, carriedBy}
+use Rattle.datagram.specs.Write.{datagramToWrite}
+use Rattle.datagram.specs.declared.kind.Kind.{Kind}
+use Rattle.packet.specs.Edition.{Edition, choiceOf, ofChoice}
+use Rattle.packet.specs.Write.{packetToWrite}
+use Rattle.packet.specs.declared.types.Choice.{Choice}
+use Rattle.packet.specs.declared.types.Choice.the-variants as choice
+use Rattle.packet.specs.declared.types.PacketKind as packets
+use Rattle.session.specs.Cells.{unknownAt, keptBefore, keptAhead}
+use Rattle.session.specs.View.{View, sum, distance, sessionLimit}
+use Rattle.session.specs.Offer as offers
+use Rattle.session.specs.Offer.{lateFrom, acceptedAt, offered}
+use Rattle.session.specs.Release.{atBase, release}
+use Rattle.session_held.specs.Table.{lentBy, viewOf}
+use Rattle.session_held.specs.Laid.{sessionInRanges}
+use Rattle.session_held.specs.declared.Session.{Session}
+use Rattle.session_calls.specs.Receiver.{offerOf, releaseOf}
+use Rattle.sender.specs.Promise.{toSend}
+use Rattle.sender.specs.declared.Sender.{Sender}
+use Rattle.sender.specs.declared.Settings.{Settings}
+use Rattle.line.specs.Hex.{lineOctets}
+use Rattle.frame.specs.Promise.{fieldAnswer, lossAnswer}
+use Rattle.frame.specs.declared.Joiner.{Joiner}
+use Rattle.image.specs.Layout.{imageVersion02}
+use Rattle.image.specs.Image.{readText, imageToWrite}
 use Rattle.demands.specs.Common.NamedEdition.{packetBy}
 use Rattle.demands.specs.Demand1.Demand1.{Places}
 use Rattle.demands.proofs.ImageTexts.{refused-only}

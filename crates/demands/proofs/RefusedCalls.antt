@@ -10,28 +10,28 @@ use lib.Dec.{leb, ltb}
 use native.Mathlib.Omega.{arith}
 use borrow.Author.Tests.{lt-ltb, le-ltb, le-leb, lt-leb, ltb-true, ltb-false}
 use Rattle.octets.proofs.Laws.{below-or-not}
-use Rattle.lengths.specs.Refusals.{repeated, tooFar, late, baseUnknown, noRoom}
-use Rattle.lengths.specs.Refusals.{allPassed, outsideRanges}
-use Rattle.lengths.specs.Answers.{Answer, done, refused, refuse}
-use Rattle.lengths.specs.Answers as answers
-use Rattle.lengths.specs.Tables.{when, first, refusalIn}
-use Rattle.lengths.proofs.Laws.{row, row-met, row-step, no-row}
-use Rattle.datagrams.specs.Carried.{Carried}
-use Rattle.datagrams.specs.Read.{DatagramParts, readDatagram, carriedBy}
-use Rattle.datagrams.proofs.Laws.{read-done}
-use Rattle.views.specs.Cells.{unknownAt, keptBefore, keptAhead}
-use Rattle.views.specs.View.{View, sum, distance, sessionLimit}
-use Rattle.views.specs.Offer as offers
-use Rattle.views.specs.Offer.{lateFrom, acceptedAt, offered, accept}
-use Rattle.views.specs.Release as releases
-use Rattle.views.specs.Release.{Release, atBase, viewAfterRelease}
-use Rattle.held.specs.Table.{viewOf}
-use Rattle.held.specs.Laid.{sessionInRanges}
-use Rattle.held.specs.declared.Session.{Session}
-use Rattle.leaving.specs.Outcome.{handedOf}
-use Rattle.leaving.specs.Outcome as outcome
-use Rattle.offering.specs.Outcome.{acceptedOf}
-use Rattle.sessions.specs.Receiver.{After, offerOf, releaseOf}
+use Rattle.length.specs.Refusals.{repeated, tooFar, late, baseUnknown, noRoom}
+use Rattle.length.specs.Refusals.{allPassed, outsideRanges}
+use Rattle.length.specs.Answers.{Answer, done, refused, refuse}
+use Rattle.length.specs.Answers as answers
+use Rattle.length.specs.Tables.{when, first, refusalIn}
+use Rattle.length.proofs.Laws.{row, row-met, row-step, no-row}
+use Rattle.datagram.specs.Carried.{Carried}
+use Rattle.datagram.specs.Read.{DatagramParts, readDatagram, carriedBy}
+use Rattle.datagram.proofs.Laws.{read-done}
+use Rattle.session.specs.Cells.{unknownAt, keptBefore, keptAhead}
+use Rattle.session.specs.View.{View, sum, distance, sessionLimit}
+use Rattle.session.specs.Offer as offers
+use Rattle.session.specs.Offer.{lateFrom, acceptedAt, offered, accept}
+use Rattle.session.specs.Release as releases
+use Rattle.session.specs.Release.{Release, atBase, viewAfterRelease}
+use Rattle.session_held.specs.Table.{viewOf}
+use Rattle.session_held.specs.Laid.{sessionInRanges}
+use Rattle.session_held.specs.declared.Session.{Session}
+use Rattle.session_release.specs.Outcome.{handedOf}
+use Rattle.session_release.specs.Outcome as outcome
+use Rattle.session_offer.specs.Outcome.{acceptedOf}
+use Rattle.session_calls.specs.Receiver.{After, offerOf, releaseOf}
 use Rattle.demands.specs.Demand1.Refusals.{distanceTo, offerRows, releaseRows}
 use Rattle.demands.specs.Demand1.Demand1.{Receiving}
 

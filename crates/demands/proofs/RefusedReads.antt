@@ -10,20 +10,20 @@ use lib.Dec.{leb, ltb}
 use native.Mathlib.Omega.{arith}
 use borrow.Author.Tests.{lt-ltb, le-ltb, le-leb, lt-leb, ltb-true}
 use Rattle.octets.proofs.Laws.{below-or-not}
-use Rattle.lengths.specs.Refusals.{endsEarly, badForm}
-use Rattle.lengths.specs.Answers.{done, refuse}
-use Rattle.lengths.specs.Tables.{when, first, refusalIn}
-use Rattle.lengths.specs.Length.{lengthAt, ofTwo}
-use Rattle.lengths.proofs.Laws.{done-none}
-use Rattle.lengths.specs.Claims.{Octets}
-use Rattle.datagrams.specs.Read.{octetsOf, readDatagram}
-use Rattle.datagrams.specs.Claims.{lengthsOf, runOf}
-use Rattle.datagrams.proofs.Claims as datagrams
-use Rattle.packets.specs.Edition.{editionOf}
-use Rattle.packets.specs.Packet.{allData, readPacket}
-use Rattle.packets.specs.declared.types.Ending.the-variants.{Whole, Repaired}
-use Rattle.packets.specs.declared.types.Named.{Named}
-use Rattle.packets.proofs.Claims as packet-claims
+use Rattle.length.specs.Refusals.{endsEarly, badForm}
+use Rattle.length.specs.Answers.{done, refuse}
+use Rattle.length.specs.Tables.{when, first, refusalIn}
+use Rattle.length.specs.Length.{lengthAt, ofTwo}
+use Rattle.length.proofs.Laws.{done-none}
+use Rattle.length.specs.Claims.{Octets}
+use Rattle.datagram.specs.Read.{octetsOf, readDatagram}
+use Rattle.datagram.specs.Claims.{lengthsOf, runOf}
+use Rattle.datagram.proofs.Claims as datagrams
+use Rattle.packet.specs.Edition.{editionOf}
+use Rattle.packet.specs.Packet.{allData, readPacket}
+use Rattle.packet.specs.declared.types.Ending.the-variants.{Whole, Repaired}
+use Rattle.packet.specs.declared.types.Named.{Named}
+use Rattle.packet.proofs.Claims as packet-claims
 use Rattle.demands.specs.Demand1.Refusals.{lengthRows}
 use Rattle.demands.specs.Demand1.Demand1.{IsDatagram, IsPacket, IsRepaired, Readers}
 use Rattle.demands.proofs.Front.{repaired-front}

@@ -8,18 +8,19 @@ use mathlib.Core.List.{List, List·Memᴰ as Among}
 use lib.ListN.{length}
 use native.Mathlib.Omega.{arith}
 use Rattle.octets.proofs.Laws.{tab-among}
-use Rattle.datagrams.specs.Sizes.{coveredLimit, messagesLimit}
-use Rattle.datagrams.specs.Carried.{Carried}
-use Rattle.views.specs.Cells.{Cell, keptBefore, keptAhead, keptNumbers}
-use Rattle.views.specs.Members.{membersOf}
-use Rattle.views.specs.Held.{Held, heldAt, messageAt, messagesOf, heldMessages}
-use Rattle.views.specs.Repair.{Message}
-use Rattle.views.specs.Reached.{Known, Closed, known, DistinctMembers}
-use Rattle.views.proofs.Laws.{member-in-reach, held-at, messagesOf-among, reached-within, makes-repaired, known-closed, reach-kept}
-use Rattle.views.specs.View.{View, sum}
-use Rattle.views.specs.Offer.{heldBy, accept}
+use Rattle.datagram.specs.Sizes.{coveredLimit, messagesLimit}
+use Rattle.datagram.specs.Carried.{Carried}
+use Rattle.session.specs.Cells.{Cell, keptBefore, keptAhead, keptNumbers}
+use Rattle.session.specs.Members.{membersOf}
+use Rattle.session.specs.Held.{Held, heldAt, messageAt, messagesOf, heldMessages}
+use Rattle.session.specs.Repair.{Message}
+use Rattle.session.specs.Reached.{Known, Closed, known, DistinctMembers}
+use Rattle.session.proofs.Laws.{member-in-reach, held-at, messagesOf-among, reached-within, makes-repaired, known-closed, reach-kept}
+use Rattle.session.specs.View.{View, sum}
+use Rattle.session.specs.Offer.{heldBy, accept}
 use Rattle.demands.specs.Common.Calls.{Call, Calls, _then_}
-use Rattle.demands.specs.Demand2.ReachedBy.{spareAt, sparesIn, HasSpare, Accepts, now, HeldBy, ReachedBy, packet, spare, repaired, earlier}
+use Rattle.demands.specs.Demand2.ReachedBy.{spareAt, sparesIn, HasSpare, Accepts, now, HeldBy, ReachedBy, packet, spare, repaired}
+use Rattle.demands.specs.Demand2.ReachedBy.{earlier}
 use Rattle.demands.proofs.Growing.{known-grown}
 use Rattle.demands.proofs.InRanges.{filled, grown-accept, distinct-held}
 use Rattle.demands.proofs.Steps.{accept-counts}

@@ -8,49 +8,50 @@ use lib.Seq.{take-append-seam, drop-append-seam, take-at, length-take-le}
 use lib.Dec.{leb, ltb}
 use native.Mathlib.Omega.{arith}
 use borrow.Author.Tests.{le-leb, le-ltb, ltb-false}
-use Rattle.lengths.specs.Tables.{unless}
-use Rattle.lengths.specs.Refusals.{noRoom, outsideSizes, wrongSettings}
-use Rattle.lengths.specs.Answers.{Answer, done, refused, refuse, LengthAnswer, lengthOutcome, writtenOutcome, fitted, sizeOf}
-use Rattle.lengths.specs.Length.{lengthAt, lengthOctets, lengthLimit, lengthWriterRows, lengthToWrite}
-use Rattle.lengths.specs.Promise.{Puts}
-use Rattle.lengths.specs.Claims.{Octets}
-use Rattle.lengths.specs.declared.Length.the-variants as length
-use Rattle.lengths.specs.declared.Written.{Written}
-use Rattle.lengths.specs.declared.Written.the-variants as written
-use Rattle.lengths.proofs.Claims as lengths
-use Rattle.lengths.proofs.Laws.{value-read, sizes-read, cond-met, unless-past, unless-done}
-use Rattle.datagrams.specs.Sizes.{sparesLimit}
-use Rattle.datagrams.specs.Carried.{spares, Carried}
-use Rattle.datagrams.specs.Read.{DatagramParts, octetsOf, readDatagram, carriedBy}
-use Rattle.datagrams.specs.Write.{extraOf}
-use Rattle.datagrams.specs.Promise.{DatagramReads, datagramRead, datagramOutcome, paddedParts, nowhere}
-use Rattle.datagrams.specs.Claims as datagramClaims
-use Rattle.datagrams.specs.declared.kind.Kind.{Kind}
-use Rattle.datagrams.specs.declared.kind.Kind.the-variants as kind
-use Rattle.datagrams.specs.declared.reader.DatagramRead.{DatagramRead}
-use Rattle.datagrams.specs.declared.reader.Reading.{Reading}
-use Rattle.datagrams.specs.declared.reader.Reading.the-variants as reading
-use Rattle.datagrams.proofs.Claims as datagrams
-use Rattle.packets.specs.Edition.{Edition, editionOf, choiceOf, ofChoice, byEdition}
-use Rattle.packets.specs.Packet.{allData, fieldsLimit, noField, PacketAnswer, readPacket}
-use Rattle.packets.specs.Write.{packetToWrite}
-use Rattle.packets.specs.Promise as packetPromise
-use Rattle.packets.specs.Promise.{PacketTold, packetRead, paddedFields}
-use Rattle.packets.specs.Claims as packetClaims
-use Rattle.packets.specs.declared.types.Choice.{Choice}
-use Rattle.packets.specs.declared.types.Choice.the-variants as choice
-use Rattle.packets.specs.declared.types.PacketKind as packets
-use Rattle.packets.specs.declared.types.Named.{Named}
-use Rattle.packets.specs.declared.types.Field.{Field}
-use Rattle.packets.specs.declared.types.Ending.{Ending}
-use Rattle.packets.specs.declared.types.Ending.the-variants.{Whole, Repaired}
-use Rattle.packets.specs.declared.types.PacketRead.{PacketRead}
-use Rattle.packets.specs.declared.types.PacketReading as packetReadings
-use Rattle.packets.proofs.Claims as packetProofs
-use Rattle.sending.proofs.Laws.{size-done}
-use Rattle.sending.proofs.Claims as sending
+use Rattle.length.specs.Tables.{unless}
+use Rattle.length.specs.Refusals.{noRoom, outsideSizes, wrongSettings}
+use Rattle.length.specs.Answers.{Answer, done, refused, refuse, LengthAnswer, lengthOutcome, writtenOutcome, fitted, sizeOf}
+use Rattle.length.specs.Length.{lengthAt, lengthOctets, lengthLimit, lengthWriterRows, lengthToWrite}
+use Rattle.length.specs.Promise.{Puts}
+use Rattle.length.specs.Claims.{Octets}
+use Rattle.length.specs.declared.Length.the-variants as length
+use Rattle.length.specs.declared.Written.{Written}
+use Rattle.length.specs.declared.Written.the-variants as written
+use Rattle.length.proofs.Claims as lengths
+use Rattle.length.proofs.Laws.{value-read, sizes-read, cond-met, unless-past, unless-done}
+use Rattle.datagram.specs.Sizes.{sparesLimit}
+use Rattle.datagram.specs.Carried.{spares, Carried}
+use Rattle.datagram.specs.Read.{DatagramParts, octetsOf, readDatagram, carriedBy}
+use Rattle.datagram.specs.Write.{extraOf}
+use Rattle.datagram.specs.Promise.{DatagramReads, datagramRead, datagramOutcome, paddedParts, nowhere}
+use Rattle.datagram.specs.Claims as datagramClaims
+use Rattle.datagram.specs.declared.kind.Kind.{Kind}
+use Rattle.datagram.specs.declared.kind.Kind.the-variants as kind
+use Rattle.datagram.specs.declared.reader.DatagramRead.{DatagramRead}
+use Rattle.datagram.specs.declared.reader.Reading.{Reading}
+use Rattle.datagram.specs.declared.reader.Reading.the-variants as reading
+use Rattle.datagram.proofs.Claims as datagrams
+use Rattle.packet.specs.Edition.{Edition, editionOf, choiceOf, ofChoice, byEdition}
+use Rattle.packet.specs.Packet.{allData, fieldsLimit, noField, PacketAnswer, readPacket}
+use Rattle.packet.specs.Write.{packetToWrite}
+use Rattle.packet.specs.Promise as packetPromise
+use Rattle.packet.specs.Promise.{PacketTold, packetRead, paddedFields}
+use Rattle.packet.specs.Claims as packetClaims
+use Rattle.packet.specs.declared.types.Choice.{Choice}
+use Rattle.packet.specs.declared.types.Choice.the-variants as choice
+use Rattle.packet.specs.declared.types.PacketKind as packets
+use Rattle.packet.specs.declared.types.Named.{Named}
+use Rattle.packet.specs.declared.types.Field.{Field}
+use Rattle.packet.specs.declared.types.Ending.{Ending}
+use Rattle.packet.specs.declared.types.Ending.the-variants.{Whole, Repaired}
+use Rattle.packet.specs.declared.types.PacketRead.{PacketRead}
+use Rattle.packet.specs.declared.types.PacketReading as packetReadings
+use Rattle.packet.proofs.Claims as packetProofs
+use Rattle.sender.proofs.Laws.{size-done}
+use Rattle.sender.proofs.Claims as sending
 use Rattle.demands.specs.Common.NamedEdition.{Names}
-use Rattle.demands.specs.Demand2.RoundTrips.{WrittenBack, LengthTrips, DatagramSame, DatagramTrips, PacketSame, PacketTrips, SendTrips}
+use Rattle.demands.specs.Demand2.RoundTrips.{WrittenBack, LengthTrips, DatagramSame, DatagramTrips, PacketSame, PacketTrips}
+use Rattle.demands.specs.Demand2.RoundTrips.{SendTrips}
 use Rattle.demands.specs.Demand2.RoundTrips.{RoundTrips, typesOf, sizesOf, dataRead}
 use Rattle.demands.proofs.NamedEdition.{sound, read-as}
 

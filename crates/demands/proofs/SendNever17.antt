@@ -8,19 +8,19 @@ use mathlib.Core.Option.{Option, some, Option·none-ne-some, Option·some-inject
 use lib.ListN.{length}
 use lib.Dec.{leb}
 use native.Mathlib.Omega.{arith}
-use Rattle.lengths.specs.Refusals.{outsideSizes, noRoom, wrongSettings, allPassed, outsideRanges}
-use Rattle.lengths.specs.Answers.{Answer, done, refused, writtenOutcome, fitted}
-use Rattle.lengths.specs.Tables.{when, first, refusalIn}
-use Rattle.datagrams.specs.Write.{datagramOctets}
-use Rattle.views.specs.View.{sessionLimit}
-use Rattle.sending.specs.Carries.{settingsInside}
-use Rattle.sending.specs.Send.{packetInside, carriedNext}
-use Rattle.sending.specs.Sender.{sendingOf}
-use Rattle.sending.specs.Ranges.{senderInRanges}
-use Rattle.sending.specs.Promise.{Proper, toSend, StateAfter, Sends}
-use Rattle.sending.specs.declared.Sender.{Sender}
-use Rattle.sending.specs.declared.Sent.{Sent}
-use Rattle.sending.specs.declared.Settings.{Settings}
+use Rattle.length.specs.Refusals.{outsideSizes, noRoom, wrongSettings, allPassed, outsideRanges}
+use Rattle.length.specs.Answers.{Answer, done, refused, writtenOutcome, fitted}
+use Rattle.length.specs.Tables.{when, first, refusalIn}
+use Rattle.datagram.specs.Write.{datagramOctets}
+use Rattle.session.specs.View.{sessionLimit}
+use Rattle.sender.specs.Carries.{settingsInside}
+use Rattle.sender.specs.Send.{packetInside, carriedNext}
+use Rattle.sender.specs.Sender.{sendingOf}
+use Rattle.sender.specs.Ranges.{senderInRanges}
+use Rattle.sender.specs.Promise.{Proper, toSend, StateAfter, Sends}
+use Rattle.sender.specs.declared.Sender.{Sender}
+use Rattle.sender.specs.declared.Sent.{Sent}
+use Rattle.sender.specs.declared.Settings.{Settings}
 use Rattle.demands.specs.Demand2.SendChain.{SenderBegins, fresh, saved, SentFrom, atStart, sent}
 use Rattle.demands.proofs.Demand1.{demand-1}
 

@@ -12,29 +12,29 @@ use borrow.Author.Tests.{leb-true, le-leb}
 use Rattle.octets.specs.Place.{tab}
 use Rattle.octets.specs.ExclusiveOr.{longest}
 use Rattle.octets.proofs.Laws.{length-tab, tab-at, below-or-not, and-left, and-right, and-both, length-exclusiveOr}
-use Rattle.datagrams.specs.Sizes.{packetLeast, packetLimit, messageLimit, sparesLimit, coveredLimit, messagesLimit, coveredLeast}
-use Rattle.datagrams.specs.Sizes.{messagesLeast}
-use Rattle.datagrams.specs.Carried.{Carried}
-use Rattle.datagrams.specs.Read.{carriedBy}
-use Rattle.lengths.specs.Length.{within}
-use Rattle.lengths.proofs.Laws.{done-same, true-within, within-true}
-use Rattle.datagrams.specs.Write.{itemInside, itemsInside, datagramOctets}
-use Rattle.datagrams.specs.Claims.{ReadsAs}
-use Rattle.datagrams.specs.declared.kind.Kind.{Kind}
-use Rattle.datagrams.specs.declared.kind.Kind.the-variants as kind
-use Rattle.datagrams.proofs.Laws.{Fit, datagram-back}
-use Rattle.views.specs.Cells.{keptBefore}
-use Rattle.views.specs.Members.{membersOf}
-use Rattle.views.specs.Honest.{messageOver, HonestHeld}
-use Rattle.views.specs.View.{numbers}
-use Rattle.views.specs.Offer.{heldBy}
-use Rattle.views.proofs.Laws.{reach-kept}
-use Rattle.sending.specs.Sending.{historyKept}
-use Rattle.sending.specs.Carries.{settingsInside, sparesFrom, messagesFrom, extraFrom}
-use Rattle.sending.specs.Honest.{packetAt, carriedAt, HonestSender}
-use Rattle.sending.specs.declared.Settings.{Settings}
-use Rattle.sending.specs.declared.Settings.the-variants as settings
-use Rattle.sending.proofs.Laws.{before-length, extra-same}
+use Rattle.datagram.specs.Sizes.{packetLeast, packetLimit, messageLimit, sparesLimit, coveredLimit, messagesLimit, coveredLeast}
+use Rattle.datagram.specs.Sizes.{messagesLeast}
+use Rattle.datagram.specs.Carried.{Carried}
+use Rattle.datagram.specs.Read.{carriedBy}
+use Rattle.length.specs.Length.{within}
+use Rattle.length.proofs.Laws.{done-same, true-within, within-true}
+use Rattle.datagram.specs.Write.{itemInside, itemsInside, datagramOctets}
+use Rattle.datagram.specs.Claims.{ReadsAs}
+use Rattle.datagram.specs.declared.kind.Kind.{Kind}
+use Rattle.datagram.specs.declared.kind.Kind.the-variants as kind
+use Rattle.datagram.proofs.Laws.{Fit, datagram-back}
+use Rattle.session.specs.Cells.{keptBefore}
+use Rattle.session.specs.Members.{membersOf}
+use Rattle.session.specs.Honest.{messageOver, HonestHeld}
+use Rattle.session.specs.View.{numbers}
+use Rattle.session.specs.Offer.{heldBy}
+use Rattle.session.proofs.Laws.{reach-kept}
+use Rattle.sender.specs.Sending.{historyKept}
+use Rattle.sender.specs.Carries.{settingsInside, sparesFrom, messagesFrom, extraFrom}
+use Rattle.sender.specs.Honest.{packetAt, carriedAt, HonestSender}
+use Rattle.sender.specs.declared.Settings.{Settings}
+use Rattle.sender.specs.declared.Settings.the-variants as settings
+use Rattle.sender.proofs.Laws.{before-length, extra-same}
 use Rattle.demands.specs.Demand3.Feeding.{OneOrigin, datagramAt}
 use Rattle.demands.specs.Demand2.ReachedBy.{sparesIn}
 

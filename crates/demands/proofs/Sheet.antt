@@ -1,24 +1,24 @@
 -- The twelve ★ cases, computed, and the mended example. Assumes nothing.
 use mathlib.Core.Path.{refl}
-use Rattle.lengths.specs.Tables.{unless}
+use Rattle.length.specs.Tables.{unless}
 use Rattle.octets.specs.Place.{tab}
 use Rattle.octets.specs.ExclusiveOr.{xorAt, exclusiveOr, longest}
-use Rattle.lengths.specs.Length.{lengthAt, lengthOctets, lengthToWrite, allowed, lengthWithin}
-use Rattle.formats.specs.Reading as reading
-use Rattle.formats.specs.Format.{octetsFront, twoFront}
-use Rattle.packets.specs.Packet as packets
-use Rattle.packets.specs.Packet.{every, readPacket}
-use Rattle.packets.proofs.Claims as packet-claims
-use Rattle.datagrams.specs.Read.{octetAt, itemAt, itemsAt, endOf, sparesAt, parityAt, extraAt, numberOf, wholeOf, readDatagram, carriedBy}
-use Rattle.datagrams.specs.Write.{numberOctets, itemOctets, itemsOctets, countedOctets, datagramOctets}
-use Rattle.views.specs.Members.{membersOf}
-use Rattle.views.specs.Repair.{passing, usable, firstUsable, mended, fill, repairF, repair}
-use Rattle.views.specs.Held.{messagesOf, messagesInRow, heldMessages}
-use Rattle.views.specs.View.{freshView}
-use Rattle.views.specs.Offer.{keep, keepSpares, accept, offered, offer}
-use Rattle.sending.specs.Sending.{freshSending, sentOn}
-use Rattle.sending.specs.Carries as carries
-use Rattle.sending.specs.Send.{datagramToSend}
+use Rattle.length.specs.Length.{lengthAt, lengthOctets, lengthToWrite, allowed, lengthWithin}
+use Rattle.format.specs.Reading as reading
+use Rattle.format.specs.Format.{octetsFront, twoFront}
+use Rattle.packet.specs.Packet as packets
+use Rattle.packet.specs.Packet.{every, readPacket}
+use Rattle.packet.proofs.Claims as packet-claims
+use Rattle.datagram.specs.Read.{octetAt, itemAt, itemsAt, endOf, sparesAt, parityAt, extraAt, numberOf, wholeOf, readDatagram, carriedBy}
+use Rattle.datagram.specs.Write.{numberOctets, itemOctets, itemsOctets, countedOctets, datagramOctets}
+use Rattle.session.specs.Members.{membersOf}
+use Rattle.session.specs.Repair.{passing, usable, firstUsable, mended, fill, repairF, repair}
+use Rattle.session.specs.Held.{messagesOf, messagesInRow, heldMessages}
+use Rattle.session.specs.View.{freshView}
+use Rattle.session.specs.Offer.{keep, keepSpares, accept, offered, offer}
+use Rattle.sender.specs.Sending.{freshSending, sentOn}
+use Rattle.sender.specs.Carries as carries
+use Rattle.sender.specs.Send.{datagramToSend}
 use Rattle.demands.specs.Sheet.{Losing0, TwelveCases, MendedExample}
 
 losing-0 : Losing0

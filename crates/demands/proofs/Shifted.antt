@@ -7,9 +7,9 @@ use lib.ListN.{length, getD, drop, length-append, length-drop, List·getD-append
 use lib.Seq.{getD-at}
 use native.Mathlib.Nat.{not-suc-le-zero}
 use native.Mathlib.Omega.{arith}
-use Rattle.views.specs.Cells.{Cell, unknownCell, cellAt, unknownAt, isUnknown}
-use Rattle.views.specs.Held.{nothingHeld, heldAt}
-use Rattle.views.specs.View.{View, Counts, goneOn}
+use Rattle.session.specs.Cells.{Cell, unknownCell, cellAt, unknownAt, isUnknown}
+use Rattle.session.specs.Held.{nothingHeld, heldAt}
+use Rattle.session.specs.View.{View, Counts, goneOn}
 
 -- ---- a list one place further
 abbrev pub shifted : {A : Type 0} → List A → A → List A

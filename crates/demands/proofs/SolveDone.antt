@@ -8,20 +8,20 @@ use mathlib.Core.List.{List}
 use lib.ListN.{length, List·getD-eq-default}
 use lib.Dec.{ltb}
 use Rattle.octets.proofs.Laws.{length-tab, tab-at, below-or-not}
-use Rattle.lengths.specs.Refusals.{noSolution}
-use Rattle.lengths.specs.Answers.{done}
-use Rattle.lengths.proofs.Laws.{cond-met, done-same}
-use Rattle.datagrams.specs.Sizes.{coveredLimit, messagesLimit}
-use Rattle.linear.specs.Systems.{aloneRow}
-use Rattle.eliminating.specs.Rows.{tableRows, columns, rowAt, columnsOf}
-use Rattle.eliminating.specs.declared.Row.{Row}
-use Rattle.views.specs.Cells.{Cell, repaired, blankCell, filledCell, cellAt, unknownAt, keptNumbers}
-use Rattle.views.specs.Held.{Held, heldAt}
-use Rattle.views.specs.Reached.{Unknown}
-use Rattle.views.specs.View.{View, Counts, sum, numbers}
-use Rattle.solutions.specs.Table.{rowOctets}
-use Rattle.solutions.specs.Solve as solutions
-use Rattle.solutions.specs.Solve.{cellAfter, cellsAfter, withCells, reducedRows, allFit}
+use Rattle.length.specs.Refusals.{noSolution}
+use Rattle.length.specs.Answers.{done}
+use Rattle.length.proofs.Laws.{cond-met, done-same}
+use Rattle.datagram.specs.Sizes.{coveredLimit, messagesLimit}
+use Rattle.solve_algebra.specs.Systems.{aloneRow}
+use Rattle.solve_algebra.specs.Rows.{tableRows, columns, rowAt, columnsOf}
+use Rattle.solve_algebra.specs.declared.Row.{Row}
+use Rattle.session.specs.Cells.{Cell, repaired, blankCell, filledCell, cellAt, unknownAt, keptNumbers}
+use Rattle.session.specs.Held.{Held, heldAt}
+use Rattle.session.specs.Reached.{Unknown}
+use Rattle.session.specs.View.{View, Counts, sum, numbers}
+use Rattle.solve.specs.Table.{rowOctets}
+use Rattle.solve.specs.Solve as solutions
+use Rattle.solve.specs.Solve.{cellAfter, cellsAfter, withCells, reducedRows, allFit}
 use Rattle.demands.proofs.Ranges.{ViewInRanges}
 use Rattle.demands.proofs.Growing.{Fills, asRepaired, Grown}
 use Rattle.demands.proofs.InRanges.{fills-not-blank}

@@ -16,16 +16,16 @@ use borrow.Author.Tests.{leb-true, ltb-true, le-leb, lt-leb, lt-ltb, not-true}
 use Rattle.octets.specs.Place.{tab}
 use Rattle.octets.specs.ExclusiveOr.{xorAt, exclusiveOr}
 use Rattle.octets.proofs.Laws.{exclusiveOr-at, length-tab, tab-at, tab-ext, below-or-not, true-or-false, and-left, and-right, and-both}
-use Rattle.datagrams.specs.Sizes.{packetLimit}
-use Rattle.datagrams.specs.Carried.{Carried}
-use Rattle.views.specs.Cells.{unknownAt, keptNumbers}
-use Rattle.views.specs.Held.{Held, heldAt, heldMessages}
-use Rattle.views.specs.Repair.{Message}
-use Rattle.views.specs.Reached.{Known, Unknown}
-use Rattle.views.specs.View.{View, sum}
-use Rattle.equations.specs.Equations.{padded, Solution, OneValue}
-use Rattle.equations.specs.Solved.{SolvedTo}
-use Rattle.equations.proofs.Laws.{length-padded, stays-known, known-one, one-known}
+use Rattle.datagram.specs.Sizes.{packetLimit}
+use Rattle.datagram.specs.Carried.{Carried}
+use Rattle.session.specs.Cells.{unknownAt, keptNumbers}
+use Rattle.session.specs.Held.{Held, heldAt, heldMessages}
+use Rattle.session.specs.Repair.{Message}
+use Rattle.session.specs.Reached.{Known, Unknown}
+use Rattle.session.specs.View.{View, sum}
+use Rattle.solve.specs.Equations.{padded, Solution, OneValue}
+use Rattle.solve.specs.Solved.{SolvedTo}
+use Rattle.solve.proofs.Laws.{length-padded, stays-known, known-one, one-known}
 use Rattle.demands.specs.Common.History.{Left}
 use Rattle.demands.specs.Common.Calls.{Call, Calls, _then_, acceptedIn, fillsIn, leftIn, leftBy}
 use Rattle.demands.specs.Demand2.ReachedBy.{Accepts, Arrived, now, before, AgreeAtMarked, OneValueBy, ReachedBy, together, earlier}

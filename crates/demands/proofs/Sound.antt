@@ -8,16 +8,16 @@ use mathlib.Core.List.{List, [], List·Memᴰ as Among}
 use lib.ListN.{length}
 use native.Mathlib.Omega.{arith}
 use Rattle.octets.proofs.Laws.{true-or-false, same-or-not, below-or-not}
-use Rattle.datagrams.specs.Carried.{Extra, spares, parity, Carried}
-use Rattle.views.specs.Cells.{Cell, isUnknown, keptBefore, keptAhead}
-use Rattle.views.specs.Repair.{Message}
-use Rattle.views.specs.Held.{Held, nothingHeld, heldAt, heldMessages}
-use Rattle.views.specs.Reached.{Known, Closed}
-use Rattle.views.specs.Honest.{UpToZeros, TrueCells, HonestHeld}
-use Rattle.views.proofs.Laws.{makes-repaired, known-closed, held-at, held-honest, repair-right, up-to-zeros-same}
-use Rattle.views.specs.View.{View, freshView}
-use Rattle.views.specs.Offer.{heldBy, accept}
-use Rattle.sending.specs.Honest.{packetAt}
+use Rattle.datagram.specs.Carried.{Extra, spares, parity, Carried}
+use Rattle.session.specs.Cells.{Cell, isUnknown, keptBefore, keptAhead}
+use Rattle.session.specs.Repair.{Message}
+use Rattle.session.specs.Held.{Held, nothingHeld, heldAt, heldMessages}
+use Rattle.session.specs.Reached.{Known, Closed}
+use Rattle.session.specs.Honest.{UpToZeros, TrueCells, HonestHeld}
+use Rattle.session.proofs.Laws.{makes-repaired, known-closed, held-at, held-honest, repair-right, up-to-zeros-same}
+use Rattle.session.specs.View.{View, freshView}
+use Rattle.session.specs.Offer.{heldBy, accept}
+use Rattle.sender.specs.Honest.{packetAt}
 use Rattle.demands.specs.Demand3.Feeding.{placeOf, sentAt}
 use Rattle.demands.proofs.Ranges.{ViewInRanges}
 use Rattle.demands.proofs.Growing.{known-grown, grown-repair}

@@ -10,17 +10,17 @@ use native.Mathlib.Nat.{suc-mul}
 use native.Mathlib.Omega.{arith}
 use Rattle.octets.specs.Place.{tab}
 use Rattle.octets.proofs.Laws.{tab-among, below-or-not}
-use Rattle.datagrams.specs.Sizes.{sparesLimit, coveredLimit, messagesLimit}
-use Rattle.datagrams.specs.Carried.{Carried}
-use Rattle.views.specs.Cells.{Cell, cellAt, isUnknown, keptBefore, keptAhead, keptNumbers}
-use Rattle.views.specs.Members.{memberAt, membersOf}
-use Rattle.views.specs.Repair.{Message}
-use Rattle.views.specs.Held.{Held, nothingHeld, heldAt, messageAt, messagesOf, heldMessages}
-use Rattle.views.specs.Reached.{Known, Closed}
-use Rattle.views.specs.Honest.{UpToZeros, TrueCells}
-use Rattle.views.proofs.Laws.{member-says, member-in-reach, held-at, messagesOf-among, reach-kept}
-use Rattle.views.specs.View.{View, Counts, sum, goneOn}
-use Rattle.sending.specs.Honest.{packetAt}
+use Rattle.datagram.specs.Sizes.{sparesLimit, coveredLimit, messagesLimit}
+use Rattle.datagram.specs.Carried.{Carried}
+use Rattle.session.specs.Cells.{Cell, cellAt, isUnknown, keptBefore, keptAhead, keptNumbers}
+use Rattle.session.specs.Members.{memberAt, membersOf}
+use Rattle.session.specs.Repair.{Message}
+use Rattle.session.specs.Held.{Held, nothingHeld, heldAt, messageAt, messagesOf, heldMessages}
+use Rattle.session.specs.Reached.{Known, Closed}
+use Rattle.session.specs.Honest.{UpToZeros, TrueCells}
+use Rattle.session.proofs.Laws.{member-says, member-in-reach, held-at, messagesOf-among, reach-kept}
+use Rattle.session.specs.View.{View, Counts, sum, goneOn}
+use Rattle.sender.specs.Honest.{packetAt}
 use Rattle.demands.specs.Demand2.ReachedBy.{sparesIn}
 use Rattle.demands.specs.Demand3.Feeding.{placeOf, sentAt}
 use Rattle.demands.proofs.Ranges.{ViewInRanges}

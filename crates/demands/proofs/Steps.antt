@@ -3,17 +3,17 @@ use Prim.Native.Nat.{ℕ, _+_, _-_}
 use mathlib.Core.Path.{_≡_, refl, sym, ap, subst, _∙_}
 use mathlib.Core.List.{List, [], _∷_}
 use native.Mathlib.Omega.{arith}
-use Rattle.lengths.specs.Answers.{Answer, done, refused, afterwards}
-use Rattle.datagrams.specs.Carried.{Carried}
-use Rattle.datagrams.specs.Read.{carriedBy}
-use Rattle.views.specs.Cells.{State, unknown, received, spare, repaired, blank, keptBefore}
-use Rattle.views.specs.View.{View, Counts, sum, following, distance, goneOn}
-use Rattle.views.specs.Offer as offers
-use Rattle.views.specs.Offer.{accept}
-use Rattle.views.specs.Release as releases
-use Rattle.views.specs.Release.{Release, counted, atBase, viewAfterRelease}
-use Rattle.views.proofs.Laws.{release-leaves}
-use Rattle.solutions.specs.Solve as solutions
+use Rattle.length.specs.Answers.{Answer, done, refused, afterwards}
+use Rattle.datagram.specs.Carried.{Carried}
+use Rattle.datagram.specs.Read.{carriedBy}
+use Rattle.session.specs.Cells.{State, unknown, received, spare, repaired, blank, keptBefore}
+use Rattle.session.specs.View.{View, Counts, sum, following, distance, goneOn}
+use Rattle.session.specs.Offer as offers
+use Rattle.session.specs.Offer.{accept}
+use Rattle.session.specs.Release as releases
+use Rattle.session.specs.Release.{Release, counted, atBase, viewAfterRelease}
+use Rattle.session.proofs.Laws.{release-leaves}
+use Rattle.solve.specs.Solve as solutions
 use Rattle.demands.specs.Common.History.{Move, offer, release, solve, Left, leftAs, afterMove, howMany, historyCounts}
 use Rattle.demands.specs.Demand2.Demand2.{OneKind, grown}
 use Rattle.demands.proofs.Ranges.{ViewInRanges}

@@ -5,15 +5,15 @@ use mathlib.Core.Bool.{Bool, true, false, cond}
 use mathlib.Core.List.{List}
 use lib.Dec.{ltb}
 use borrow.Author.Tests.{ltb-true}
-use Rattle.lengths.specs.Refusals.{repeated, tooFar, late}
-use Rattle.lengths.specs.Answers.{done, refuse}
-use Rattle.datagrams.specs.Carried.{Carried}
-use Rattle.datagrams.specs.Read.{DatagramParts, readDatagram, carriedBy}
-use Rattle.lengths.proofs.Laws.{not-done, bind-done, cond-done, done-same}
-use Rattle.views.specs.Cells.{keptAhead}
-use Rattle.views.specs.View.{View, distance}
-use Rattle.views.specs.Offer as offers
-use Rattle.views.specs.Offer.{accept, acceptedAt, offered, lateFrom}
+use Rattle.length.specs.Refusals.{repeated, tooFar, late}
+use Rattle.length.specs.Answers.{done, refuse}
+use Rattle.datagram.specs.Carried.{Carried}
+use Rattle.datagram.specs.Read.{DatagramParts, readDatagram, carriedBy}
+use Rattle.length.proofs.Laws.{not-done, bind-done, cond-done, done-same}
+use Rattle.session.specs.Cells.{keptAhead}
+use Rattle.session.specs.View.{View, distance}
+use Rattle.session.specs.Offer as offers
+use Rattle.session.specs.Offer.{accept, acceptedAt, offered, lateFrom}
 
 pub record OfferDone (octets : List ℕ) (view after : View) : Type 0 where
   pub parts : DatagramParts

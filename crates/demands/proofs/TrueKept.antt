@@ -9,15 +9,15 @@ use lib.Seq.{getD-set-same, getD-set-other}
 use native.Mathlib.Omega.{arith}
 use Rattle.octets.specs.Place.{tab}
 use Rattle.octets.proofs.Laws.{true-or-false, same-or-not}
-use Rattle.datagrams.specs.Carried.{Extra, Carried}
-use Rattle.views.specs.Cells.{State, received, spare, Cell, filledCell, cellAt, unknownAt, keptBefore}
-use Rattle.views.specs.Honest.{UpToZeros, TrueCells}
-use Rattle.views.proofs.Laws.{unknown-inside, same-unknown, up-to-zeros-same}
-use Rattle.views.specs.View.{View}
-use Rattle.views.specs.Offer.{keep, keepSpares, keepExtra}
-use Rattle.sending.specs.Carries.{sparesFrom, extraFrom}
-use Rattle.sending.specs.declared.Settings.{Settings}
-use Rattle.sending.specs.declared.Settings.the-variants as settings
+use Rattle.datagram.specs.Carried.{Extra, Carried}
+use Rattle.session.specs.Cells.{State, received, spare, Cell, filledCell, cellAt, unknownAt, keptBefore}
+use Rattle.session.specs.Honest.{UpToZeros, TrueCells}
+use Rattle.session.proofs.Laws.{unknown-inside, same-unknown, up-to-zeros-same}
+use Rattle.session.specs.View.{View}
+use Rattle.session.specs.Offer.{keep, keepSpares, keepExtra}
+use Rattle.sender.specs.Carries.{sparesFrom, extraFrom}
+use Rattle.sender.specs.declared.Settings.{Settings}
+use Rattle.sender.specs.declared.Settings.the-variants as settings
 use Rattle.demands.proofs.Growing.{keep-known, keep-unknown}
 use Rattle.demands.proofs.InRanges.{filled}
 use Rattle.demands.proofs.Knowing.{packet}

@@ -8,13 +8,13 @@ use lib.Bits.{bitXor, xor-self, xor-zero-r}
 use native.Mathlib.Omega.{arith}
 use Rattle.octets.specs.ExclusiveOr.{xorAt}
 use Rattle.octets.proofs.Laws.{xor-assoc, xor-cancel-right, xor-left-comm, tab-among}
-use Rattle.datagrams.specs.Sizes.{coveredLimit, messagesLimit}
-use Rattle.views.specs.Cells.{keptBefore, keptAhead, keptNumbers}
-use Rattle.views.specs.Held.{Held, heldAt, messageAt, messagesOf, heldMessages}
-use Rattle.views.specs.Repair.{Message}
-use Rattle.views.specs.View.{View}
-use Rattle.views.specs.Offer.{heldBy}
-use Rattle.views.proofs.Laws.{member-in-reach, held-at, messagesOf-among, reach-kept}
+use Rattle.datagram.specs.Sizes.{coveredLimit, messagesLimit}
+use Rattle.session.specs.Cells.{keptBefore, keptAhead, keptNumbers}
+use Rattle.session.specs.Held.{Held, heldAt, messageAt, messagesOf, heldMessages}
+use Rattle.session.specs.Repair.{Message}
+use Rattle.session.specs.View.{View}
+use Rattle.session.specs.Offer.{heldBy}
+use Rattle.session.proofs.Laws.{member-in-reach, held-at, messagesOf-among, reach-kept}
 use Rattle.demands.specs.Common.Calls.{Calls}
 use Rattle.demands.specs.Demand2.ReachedBy.{HeldBy}
 use Rattle.demands.proofs.Places.{members-on}

@@ -1,11 +1,11 @@
 -- The demands on the whole, each under its name: what the library is proved to do. Definitions only.
-use Rattle.packets.specs.Claims as packets
-use Rattle.sending.specs.Claims as sending
-use Rattle.frames.specs.Claims as frames
+use Rattle.packet.specs.Claims as packets
+use Rattle.sender.specs.Claims as sending
+use Rattle.frame.specs.Claims as frames
 use Rattle.frame_feed.specs.Claims as frameFeed
-use Rattle.replays.specs.Claims as replays
-use Rattle.comparisons.specs.Claims as comparisons
-use Rattle.sold_line.specs.Claims as soldLine
+use Rattle.trace_replay.specs.Claims as replays
+use Rattle.trace_compare.specs.Claims as comparisons
+use Rattle.sender_to_modem.specs.Claims as soldLine
 use Rattle.host.specs.Claims as host
 use Rattle.demands.specs.Demand1.Demand1.{Demand1}
 use Rattle.demands.specs.Demand2.Demand2.{Demand2}

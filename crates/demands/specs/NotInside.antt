@@ -4,20 +4,20 @@ use Prim.Native.Nat.{ℕ}
 use mathlib.Core.Path.{_≡_}
 use mathlib.Core.List.{List}
 use lib.ListN.{length}
-use Rattle.lengths.specs.Answers.{done}
-use Rattle.lengths.specs.Promise.{Puts}
-use Rattle.lengths.specs.declared.Written.{Written}
-use Rattle.datagrams.specs.Write.{datagramToWrite}
-use Rattle.datagrams.specs.Promise.{DatagramReads}
-use Rattle.datagrams.specs.declared.kind.Kind.{Kind}
-use Rattle.datagrams.specs.declared.reader.DatagramRead.{DatagramRead}
-use Rattle.held.specs.declared.Session.{Session}
-use Rattle.sessions.specs.Receiver.{OfferOwes}
-use Rattle.sessions.specs.declared.receiver.AfterOffer.{AfterOffer}
-use Rattle.sending.specs.Promise.{Sends}
-use Rattle.sending.specs.declared.Sender.{Sender}
-use Rattle.sending.specs.declared.Sent.{Sent}
-use Rattle.sending.specs.declared.Settings.{Settings}
+use Rattle.length.specs.Answers.{done}
+use Rattle.length.specs.Promise.{Puts}
+use Rattle.length.specs.declared.Written.{Written}
+use Rattle.datagram.specs.Write.{datagramToWrite}
+use Rattle.datagram.specs.Promise.{DatagramReads}
+use Rattle.datagram.specs.declared.kind.Kind.{Kind}
+use Rattle.datagram.specs.declared.reader.DatagramRead.{DatagramRead}
+use Rattle.session_held.specs.declared.Session.{Session}
+use Rattle.session_calls.specs.Receiver.{OfferOwes}
+use Rattle.session_calls.specs.declared.receiver.AfterOffer.{AfterOffer}
+use Rattle.sender.specs.Promise.{Sends}
+use Rattle.sender.specs.declared.Sender.{Sender}
+use Rattle.sender.specs.declared.Sent.{Sent}
+use Rattle.sender.specs.declared.Settings.{Settings}
 
 -- two datagrams with one number and one kind (spares, or n), whose packets have one length, and whose spares or messages have the
 -- same lengths

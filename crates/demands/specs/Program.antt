@@ -5,13 +5,13 @@ use Prim.Native.Nat.{ℕ}
 use mathlib.Core.Path.{_≡_}
 use mathlib.Core.List.{List, [], _++_}
 use lib.ListN.{take, drop}
-use Rattle.held.specs.Table.{Lent, lentBy}
-use Rattle.held.specs.Promise.{Fresh}
-use Rattle.held.specs.declared.Session.{Session}
-use Rattle.lines.specs.Claims as lines
-use Rattle.lines.specs.Lines.{program}
-use Rattle.lines.specs.Feed.{goingIn}
-use Rattle.lines.specs.FeedPromise.{Feeds, Ends}
+use Rattle.session_held.specs.Table.{Lent, lentBy}
+use Rattle.session_held.specs.Promise.{Fresh}
+use Rattle.session_held.specs.declared.Session.{Session}
+use Rattle.line.specs.Claims as lines
+use Rattle.line.specs.Lines.{program}
+use Rattle.line.specs.Feed.{goingIn}
+use Rattle.line.specs.FeedPromise.{Feeds, Ends}
 
 -- of the input this is still to come, this text is written, and this session and line are held
 pub data Running (input : List ℕ) : List ℕ → List ℕ → Lent → List ℕ → ℕ → Type 0 where

@@ -3,22 +3,22 @@
 use Prim.Native.Nat.{ℕ}
 use mathlib.Core.Path.{_≡_}
 use mathlib.Core.List.{List, [], _∷_}
-use Rattle.lengths.specs.Refusals.{badForm, spareBit, notAssigned, wrongData}
-use Rattle.lengths.specs.Answers.{done, refuse, refuseAt}
-use Rattle.lengths.specs.Length.{lengthAt, lengthToWrite}
-use Rattle.packets.specs.Edition.{edition98}
-use Rattle.packets.specs.Packet.{dataOf, readPacket}
-use Rattle.packets.specs.Write.{packetToWrite}
-use Rattle.packets.specs.Cases.{mendedPacket}
-use Rattle.packets.specs.declared.types.PacketKind.the-variants.{Indicator, Data}
-use Rattle.packets.specs.declared.types.Ending.the-variants.{Whole, Repaired}
-use Rattle.views.specs.Members.{membersOf}
-use Rattle.views.specs.Cells.{repaired, filledCell, cellAt, keptBefore}
-use Rattle.views.specs.View.{View, freshView}
-use Rattle.views.specs.Offer.{offer}
-use Rattle.sending.specs.Sending.{Sending, freshSending, sentOn}
-use Rattle.sending.specs.Send.{datagramToSend}
-use Rattle.sending.specs.declared.Settings.the-variants.{Parity}
+use Rattle.length.specs.Refusals.{badForm, spareBit, notAssigned, wrongData}
+use Rattle.length.specs.Answers.{done, refuse, refuseAt}
+use Rattle.length.specs.Length.{lengthAt, lengthToWrite}
+use Rattle.packet.specs.Edition.{edition98}
+use Rattle.packet.specs.Packet.{dataOf, readPacket}
+use Rattle.packet.specs.Write.{packetToWrite}
+use Rattle.packet.specs.Cases.{mendedPacket}
+use Rattle.packet.specs.declared.types.PacketKind.the-variants.{Indicator, Data}
+use Rattle.packet.specs.declared.types.Ending.the-variants.{Whole, Repaired}
+use Rattle.session.specs.Members.{membersOf}
+use Rattle.session.specs.Cells.{repaired, filledCell, cellAt, keptBefore}
+use Rattle.session.specs.View.{View, freshView}
+use Rattle.session.specs.Offer.{offer}
+use Rattle.sender.specs.Sending.{Sending, freshSending, sentOn}
+use Rattle.sender.specs.Send.{datagramToSend}
+use Rattle.sender.specs.declared.Settings.the-variants.{Parity}
 
 -- "Packets 0 `06` and 1 `C0 01 80 00 00 55`"
 abbrev pub packet0 : List ℕ

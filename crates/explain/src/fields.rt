@@ -16,22 +16,22 @@ use crate::values::enumerated;
 use crate::wording;
 use crate::wording::end_line;
 use crate::wording::say_word;
-use packets::Named;
-use pencil_reader::Edge;
-use pencil_reader::HeaderRead;
-use pencil_reader::Marked;
-use pencil_reader::Number;
-use pencil_reader::Part;
-use pencil_reader::align;
-use pencil_reader::count;
-use pencil_reader::field_data;
-use pencil_reader::flag;
-use pencil_reader::header;
-use pencil_reader::octet;
-use pencil_reader::size;
+use packet::Named;
+use packet_pencil::Edge;
+use packet_pencil::HeaderRead;
+use packet_pencil::Marked;
+use packet_pencil::Number;
+use packet_pencil::Part;
+use packet_pencil::align;
+use packet_pencil::count;
+use packet_pencil::field_data;
+use packet_pencil::flag;
+use packet_pencil::header;
+use packet_pencil::octet;
+use packet_pencil::size;
 ghost use Prim.Native.Nat.{_≤_};
 ghost use lib.ListN.{length};
-ghost use Rattle.datagrams.specs.Sizes.{packetLimit};
+ghost use Rattle.datagram.specs.Sizes.{packetLimit};
 
 // The bit for something OPTIONAL.
 pub fn marked(s: &[u8], item: usize, at: usize, name: usize) -> On

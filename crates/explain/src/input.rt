@@ -1,5 +1,5 @@
 // Standard input, line by line.
-use datagrams::Datagram;
+use datagram::Datagram;
 
 // What is kept of a line: more than two words and a line of hexadecimal have.
 pub const KEPT: usize = 2 * Datagram::LIMIT + 16;

@@ -10,12 +10,12 @@ use crate::text::say_octets;
 use crate::text::say_refusal;
 use crate::wording;
 use crate::wording::say_word;
-use packets::Ending;
-use packets::Field;
-use packets::Named;
-use packets::PacketKind;
-use packets::PacketRead;
-use packets::PacketReading;
+use packet::Ending;
+use packet::Field;
+use packet::Named;
+use packet::PacketKind;
+use packet::PacketRead;
+use packet::PacketReading;
 
 // A number, and behind it what opens its name.
 fn say_value(word: usize, value: usize) {
@@ -60,8 +60,8 @@ fn all_fields(fields: [Field; Field::LIMIT], count: usize) {
 // The packet, read by this edition.
 pub fn read_by(named: Named, s: &[u8], ending: Ending) -> PacketRead {
     match named {
-        Named::Old => pencil_reader::read(0, s, ending),
-        Named::New => pencil_reader::read(1, s, ending),
+        Named::Old => packet_pencil::read(0, s, ending),
+        Named::New => packet_pencil::read(1, s, ending),
     }
 }
 

@@ -1,5 +1,5 @@
 // The program for the support desk: a packet in hexadecimal a line; it is told item by item, in the names of Annex A, of 06/98 or, behind
-// the word new, of 2002. Where each item ends, what it holds and why it is refused is what the functions of `pencil_reader` answer, and the
+// the word new, of 2002. Where each item ends, what it holds and why it is refused is what the functions of `packet_pencil` answer, and the
 // last line is its `read`.
 mod fields;
 mod input;
@@ -10,17 +10,17 @@ mod text;
 mod values;
 mod wording;
 
-use datagrams::Datagram;
-use datagrams::Packet;
+use datagram::Datagram;
+use datagram::Packet;
 use input::KEPT;
 use input::NEW;
 use input::REPAIRED;
 use input::is_new;
 use input::is_repaired;
 use input::read_line;
-use lengths::Written;
-use packets::Ending;
-use packets::Named;
+use length::Written;
+use packet::Ending;
+use packet::Named;
 use text::part;
 use text::row_of_octets;
 use text::say;
@@ -55,7 +55,7 @@ fn explain(named: Named, s: &[u8], ending: Ending) {
 // The packet in some digits.
 fn packet(named: Named, digits: &[u8], ending: Ending) {
     let mut octets = [0u8; OCTETS];
-    match hexadecimal::hex_to_octets(digits, &mut octets) {
+    match line_hex::hex_to_octets(digits, &mut octets) {
         Written::Refused(_) => end_line(wording::NO_PACKET),
         Written::Octets(count) => explain(named, part(&octets, 0, count), ending),
     }

@@ -17,15 +17,15 @@ use crate::values::enumerated;
 use crate::wording;
 use crate::wording::end_line;
 use crate::wording::say_word;
-use packets::Ending;
-use packets::Named;
-use packets::PacketReading;
-use pencil_reader::First;
-use pencil_reader::octet;
-use pencil_reader::start;
+use packet::Ending;
+use packet::Named;
+use packet::PacketReading;
+use packet_pencil::First;
+use packet_pencil::octet;
+use packet_pencil::start;
 ghost use Prim.Native.Nat.{_≤_};
 ghost use lib.ListN.{length};
-ghost use Rattle.datagrams.specs.Sizes.{packetLimit};
+ghost use Rattle.datagram.specs.Sizes.{packetLimit};
 
 // The octet at which the first item begins.
 const FIRST: usize = 0;

@@ -2,15 +2,15 @@
 use crate::wording;
 use crate::wording::end_line;
 use crate::wording::say_word;
-use datagrams::Packet;
-use lengths::Refusal;
-use pencil_reader::Marked;
-use pencil_reader::Number;
-use pencil_reader::bit;
-use pencil_reader::flag;
+use datagram::Packet;
+use length::Refusal;
+use packet_pencil::Marked;
+use packet_pencil::Number;
+use packet_pencil::bit;
+use packet_pencil::flag;
 ghost use Prim.Native.Nat.{_≤_};
 ghost use lib.ListN.{length};
-ghost use Rattle.datagrams.specs.Sizes.{packetLimit};
+ghost use Rattle.datagram.specs.Sizes.{packetLimit};
 
 // Whether the packet goes on, and where, or was refused.
 pub enum On {
@@ -62,7 +62,7 @@ pub fn say_hex(octets: &[u8]) {
     let mut text = [0u8; 2 * Packet::LIMIT];
     let size = octets.len();
     if size <= Packet::LIMIT {
-        hexadecimal::put_digits(octets, &mut text, 0);
+        line_hex::put_digits(octets, &mut text, 0);
         say(part(&text, 0, 2 * size));
     }
 }

@@ -12,16 +12,16 @@ use crate::text::say_refused;
 use crate::text::stopped;
 use crate::wording;
 use crate::wording::end_line;
-use packets::Enumerated;
-use packets::Named;
-use packets::PacketKind;
-use pencil_reader::Number;
-use pencil_reader::field_type;
-use pencil_reader::t30_data;
-use pencil_reader::t30_indicator;
+use packet::Enumerated;
+use packet::Named;
+use packet::PacketKind;
+use packet_pencil::Number;
+use packet_pencil::field_type;
+use packet_pencil::t30_data;
+use packet_pencil::t30_indicator;
 ghost use Prim.Native.Nat.{_≤_};
 ghost use lib.ListN.{length};
-ghost use Rattle.datagrams.specs.Sizes.{packetLimit};
+ghost use Rattle.datagram.specs.Sizes.{packetLimit};
 
 // The ENUMERATED types of Annex A.
 pub enum Which {

@@ -4,25 +4,25 @@ use mathlib.Core.List.{List, [], _∷_}
 use lib.ListN.{getElem?}
 use mathlib.Core.Option.{Option, none, some}
 use Prim.Native.Nat.{ℕ}
-use Rattle.lengths.specs.Length.{lengthAt, allowed, lengthWithin}
-use Rattle.formats.specs.Reading as reading
-use Rattle.formats.specs.Format.{octetsFront, twoFront}
-use Rattle.packets.specs.Packet.{every, root, addition, enumerated, typeOfMsg, start, count, header, size, fieldData, field}
-use Rattle.packets.specs.Packet.{dataField, packet}
-use Rattle.packets.specs.Packet as description
-use Rattle.packets.specs.Edition.{choiceOf, ofChoice}
-use Rattle.packets.specs.declared.types.Choice.{Choice}
-use Rattle.packets.specs.declared.types.Choice.the-variants as choice
-use Rattle.packets.specs.declared.types.Named.the-variants.{Old, New}
-use Rattle.packets.specs.declared.types.Ending.the-variants.{Whole}
-use Rattle.frames.specs.Frame.{Joining, freshJoining, withAdded, goodFrame, onOpen, fieldStep}
-use Rattle.frames.specs.Joiner.{heldAs, joiningOf}
-use Rattle.frames.specs.Line.{Event, aField, aLoss, eventStep, handedBy}
-use Rattle.frames.specs.Claims.{HandedOut}
-use Rattle.frames.specs.declared.Joiner.{Joiner}
-use Rattle.frames.specs.declared.Joined.{Joined}
-use Rattle.frames.proofs.Laws.{held-joining}
-use Rattle.frames.proofs.Claims as joiner
+use Rattle.length.specs.Length.{lengthAt, allowed, lengthWithin}
+use Rattle.format.specs.Reading as reading
+use Rattle.format.specs.Format.{octetsFront, twoFront}
+use Rattle.packet.specs.Packet.{every, root, addition, enumerated, typeOfMsg, start, count, header, size, fieldData, field}
+use Rattle.packet.specs.Packet.{dataField, packet}
+use Rattle.packet.specs.Packet as description
+use Rattle.packet.specs.Edition.{choiceOf, ofChoice}
+use Rattle.packet.specs.declared.types.Choice.{Choice}
+use Rattle.packet.specs.declared.types.Choice.the-variants as choice
+use Rattle.packet.specs.declared.types.Named.the-variants.{Old, New}
+use Rattle.packet.specs.declared.types.Ending.the-variants.{Whole}
+use Rattle.frame.specs.Frame.{Joining, freshJoining, withAdded, goodFrame, onOpen, fieldStep}
+use Rattle.frame.specs.Joiner.{heldAs, joiningOf}
+use Rattle.frame.specs.Line.{Event, aField, aLoss, eventStep, handedBy}
+use Rattle.frame.specs.Claims.{HandedOut}
+use Rattle.frame.specs.declared.Joiner.{Joiner}
+use Rattle.frame.specs.declared.Joined.{Joined}
+use Rattle.frame.proofs.Laws.{held-joining}
+use Rattle.frame.proofs.Claims as joiner
 use Rattle.frame_feed.specs.Feed.{Heard, eventsOf, eventsRead, eventsFrom, framesFrom, released}
 use Rattle.frame_feed.specs.Promise.{EventOwes}
 use Rattle.frame_feed.specs.Claims.{Claims, exampleHeard, newHeard}

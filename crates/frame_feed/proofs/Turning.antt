@@ -6,26 +6,26 @@ use mathlib.Core.Option.{Option, none, some}
 use lib.ListN.{length, getD, take, drop, getElem?, replicate, length-append, List·getD-append}
 use native.Mathlib.Nat.{not-suc-le-zero, le-of-suc-le-suc}
 use native.Mathlib.Omega.{arith}
-use Rattle.lengths.specs.Answers.{Answer, done, refused}
-use Rattle.lengths.specs.declared.Refusal.{Refusal}
-use Rattle.packets.specs.Edition.{editionOf, choiceOf, ofChoice, byEdition}
-use Rattle.packets.specs.Packet.{fieldsLimit, PacketAnswer, readPacket, noField, dataOf}
-use Rattle.packets.specs.Promise.{paddedFields, packetRead, PacketTold}
-use Rattle.packets.specs.declared.types.Choice.{Choice}
-use Rattle.packets.specs.declared.types.Choice.the-variants as choice
-use Rattle.packets.specs.declared.types.Ending.{Ending}
-use Rattle.packets.specs.declared.types.PacketKind.{PacketKind}
-use Rattle.packets.specs.declared.types.Field as packets
-use Rattle.packets.specs.declared.types.PacketReading.{PacketReading}
-use Rattle.packets.specs.declared.types.PacketReading.the-variants as reading
-use Rattle.packets.specs.declared.types.PacketRead.{PacketRead}
-use Rattle.packets.proofs.Claims as packetClaims
-use Rattle.views.specs.Cells.{State}
-use Rattle.frames.specs.Promise.{FieldOwes, LossOwes}
-use Rattle.frames.specs.Line.{Field, Event, aField, aLoss}
-use Rattle.frames.specs.declared.Joiner.{Joiner}
-use Rattle.frames.specs.declared.Joined.{Joined}
-use Rattle.frames.specs.declared.Handed.the-variants as handed
+use Rattle.length.specs.Answers.{Answer, done, refused}
+use Rattle.length.specs.declared.Refusal.{Refusal}
+use Rattle.packet.specs.Edition.{editionOf, choiceOf, ofChoice, byEdition}
+use Rattle.packet.specs.Packet.{fieldsLimit, PacketAnswer, readPacket, noField, dataOf}
+use Rattle.packet.specs.Promise.{paddedFields, packetRead, PacketTold}
+use Rattle.packet.specs.declared.types.Choice.{Choice}
+use Rattle.packet.specs.declared.types.Choice.the-variants as choice
+use Rattle.packet.specs.declared.types.Ending.{Ending}
+use Rattle.packet.specs.declared.types.PacketKind.{PacketKind}
+use Rattle.packet.specs.declared.types.Field as packets
+use Rattle.packet.specs.declared.types.PacketReading.{PacketReading}
+use Rattle.packet.specs.declared.types.PacketReading.the-variants as reading
+use Rattle.packet.specs.declared.types.PacketRead.{PacketRead}
+use Rattle.packet.proofs.Claims as packetClaims
+use Rattle.session.specs.Cells.{State}
+use Rattle.frame.specs.Promise.{FieldOwes, LossOwes}
+use Rattle.frame.specs.Line.{Field, Event, aField, aLoss}
+use Rattle.frame.specs.declared.Joiner.{Joiner}
+use Rattle.frame.specs.declared.Joined.{Joined}
+use Rattle.frame.specs.declared.Handed.the-variants as handed
 use Rattle.frame_feed.specs.Feed.{released, eventsOf, eventsRead, endingOf, fieldIn}
 use Rattle.frame_feed.specs.Promise.{TurnsTold, LossFed, NothingFed, EventOwes, FeedOwes}
 use Rattle.frame_feed.specs.Inner.{eventIn, TurnTold}

@@ -2,12 +2,12 @@
 use Prim.Native.Nat.{ℕ}
 use mathlib.Core.Path.{_≡_}
 use mathlib.Core.List.{List, [], _∷_}
-use Rattle.views.specs.Cells.{State, unknown, received, spare, repaired}
-use Rattle.frames.specs.Frame.{Frame, good}
-use Rattle.frames.specs.Promise.{FreshMade}
-use Rattle.frames.specs.Claims.{HandsOut}
-use Rattle.frames.specs.declared.Joiner.{Joiner}
-use Rattle.frames.specs.declared.Joined.{Joined}
+use Rattle.session.specs.Cells.{State, unknown, received, spare, repaired}
+use Rattle.frame.specs.Frame.{Frame, good}
+use Rattle.frame.specs.Promise.{FreshMade}
+use Rattle.frame.specs.Claims.{HandsOut}
+use Rattle.frame.specs.declared.Joiner.{Joiner}
+use Rattle.frame.specs.declared.Joined.{Joined}
 use Rattle.frame_feed.specs.Feed.{Heard, released, lost, eventsOf, eventsFrom, framesFrom}
 use Rattle.frame_feed.specs.Promise.{TurnsTold, FeedOwes}
 

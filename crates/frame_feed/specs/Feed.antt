@@ -5,19 +5,19 @@
 use Prim.Native.Nat.{ℕ}
 use mathlib.Core.List.{List, [], _∷_, _++_, map}
 use lib.ListN.{take}
-use Rattle.lengths.specs.Answers.{Answer, done, refused}
-use Rattle.packets.specs.Edition.{byEdition}
-use Rattle.packets.specs.Packet.{PacketAnswer, readPacket, dataOf}
-use Rattle.packets.specs.declared.types.Ending.{Ending}
-use Rattle.packets.specs.declared.types.Ending.the-variants.{Whole, Repaired}
-use Rattle.packets.specs.declared.types.Field as packets
-use Rattle.views.specs.Cells.{State, unknown, received, spare, repaired, blank}
-use Rattle.held.specs.declared.ReleaseKind.{ReleaseKind}
-use Rattle.held.specs.declared.ReleaseKind.the-variants as kinds
-use Rattle.leaving.specs.declared.Released.{Released}
-use Rattle.leaving.specs.declared.Released.the-variants as answer
-use Rattle.frames.specs.Frame.{Frame, freshJoining}
-use Rattle.frames.specs.Line.{Field, Event, aField, aLoss, handedBy}
+use Rattle.length.specs.Answers.{Answer, done, refused}
+use Rattle.packet.specs.Edition.{byEdition}
+use Rattle.packet.specs.Packet.{PacketAnswer, readPacket, dataOf}
+use Rattle.packet.specs.declared.types.Ending.{Ending}
+use Rattle.packet.specs.declared.types.Ending.the-variants.{Whole, Repaired}
+use Rattle.packet.specs.declared.types.Field as packets
+use Rattle.session.specs.Cells.{State, unknown, received, spare, repaired, blank}
+use Rattle.session_held.specs.declared.ReleaseKind.{ReleaseKind}
+use Rattle.session_held.specs.declared.ReleaseKind.the-variants as kinds
+use Rattle.session_release.specs.declared.Released.{Released}
+use Rattle.session_release.specs.declared.Released.the-variants as answer
+use Rattle.frame.specs.Frame.{Frame, freshJoining}
+use Rattle.frame.specs.Line.{Field, Event, aField, aLoss, handedBy}
 
 -- a number that left a session: its packet, with the octet that names its edition and with its kind, or lost
 pub data Heard : Type 0 where

@@ -4,8 +4,8 @@ use mathlib.Core.Path.{_≡_}
 use mathlib.Core.List.{List}
 use mathlib.Core.Option.{Option, none, some}
 use lib.ListN.{length, getElem?}
-use Rattle.views.specs.Cells.{State}
-use Rattle.frames.specs.Line.{Event, aField, aLoss}
+use Rattle.session.specs.Cells.{State}
+use Rattle.frame.specs.Line.{Event, aField, aLoss}
 use Rattle.frame_feed.specs.Feed.{released, eventsOf, fieldIn}
 use Rattle.frame_feed.specs.declared.turn.Turn.{Turn}
 use Rattle.frame_feed.specs.declared.turn.Turn.the-variants as turns

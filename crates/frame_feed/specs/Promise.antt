@@ -4,12 +4,12 @@ use mathlib.Core.Path.{_≡_}
 use mathlib.Core.List.{List}
 use mathlib.Core.Option.{Option, none, some}
 use lib.ListN.{length, getElem?}
-use Rattle.views.specs.Cells.{State}
-use Rattle.frames.specs.Promise.{FieldOwes, LossOwes}
-use Rattle.frames.specs.Line.{Event, aField, aLoss}
-use Rattle.frames.specs.declared.Joiner.{Joiner}
-use Rattle.frames.specs.declared.Joined.{Joined}
-use Rattle.frames.specs.declared.Handed.the-variants as handed
+use Rattle.session.specs.Cells.{State}
+use Rattle.frame.specs.Promise.{FieldOwes, LossOwes}
+use Rattle.frame.specs.Line.{Event, aField, aLoss}
+use Rattle.frame.specs.declared.Joiner.{Joiner}
+use Rattle.frame.specs.declared.Joined.{Joined}
+use Rattle.frame.specs.declared.Handed.the-variants as handed
 use Rattle.frame_feed.specs.Feed.{released, eventsOf}
 
 -- what `turns` owes: a turn for each event

@@ -3,17 +3,17 @@
 // one lost number. A lost number, which has no octets, is fed alike.
 mod turn;
 
+use frame::Handed;
+use frame::Joined;
+use frame::Joiner;
 use frame_joiner::field;
 use frame_joiner::lost;
-use frames::Handed;
-use frames::Joined;
-use frames::Joiner;
-use held::ReleaseKind;
+use session_held::ReleaseKind;
 use turn::Turn;
 use turn::turn_of;
 ghost use mathlib.Core.Path.{_≡_};
 ghost use lib.ListN.{length};
-ghost use Rattle.held.specs.Table.{stateOf};
+ghost use Rattle.session_held.specs.Table.{stateOf};
 ghost use Rattle.frame_feed.specs.Feed.{eventsOf, released};
 ghost use Rattle.frame_feed.specs.Promise.{FeedOwes};
 pub use turn::turns;

@@ -1,11 +1,11 @@
 // What a released packet is to the joiner, turn by turn.
-use held::ReleaseKind;
-use packets::Ending;
-use packets::Field;
-use packets::PacketReading;
+use packet::Ending;
+use packet::Field;
+use packet::PacketReading;
+use session_held::ReleaseKind;
 ghost use mathlib.Core.Path.{_≡_};
 ghost use lib.ListN.{length};
-ghost use Rattle.held.specs.Table.{stateOf};
+ghost use Rattle.session_held.specs.Table.{stateOf};
 ghost use Rattle.frame_feed.specs.Feed.{endingOf};
 ghost use Rattle.frame_feed.specs.Promise.{TurnsTold};
 ghost use Rattle.frame_feed.specs.Inner.{TurnTold};

@@ -12,21 +12,21 @@ use native.Mathlib.Omega.{arith}
 use borrow.Author.Tests.{lt-ltb, le-ltb, ltb-true, ltb-false, eq-eqb, ne-eqb, not-true, not-false}
 use borrow.Rule.Slice.PartMut.{midOf, putMid}
 use Rattle.octets.proofs.Laws.{below-or-not, true-or-false, and-left, and-right}
-use Rattle.lengths.specs.Refusals.{refusal, notAssigned, noRoom, wrongData, outsideRanges, frameTooLong}
-use Rattle.lengths.specs.Answers.{Answer, done, refuse}
-use Rattle.lengths.specs.Tables.{when, unless}
-use Rattle.lengths.specs.Promise.{Put}
-use Rattle.lengths.proofs.Laws.{put-next}
-use Rattle.packets.specs.Packet.{typesLimit, rightData}
-use Rattle.frames.specs.Frame.{joinerEdition, frameLimit, Joining, tainted, opened, Frame, good, bad, adds, handsGood, handsBad, endsFrame}
-use Rattle.frames.specs.Frame.{Step, passes, withAdded, goodFrame, onOpen, fieldStep, wouldPass}
-use Rattle.frames.specs.Joiner.{inStorage, heldAs, joiningOf, rangesOf}
-use Rattle.frames.specs.Promise.{frameOctets, fieldAnswer, FieldOwes, lossAnswer, joinerAfterLoss, LossOwes}
+use Rattle.length.specs.Refusals.{refusal, notAssigned, noRoom, wrongData, outsideRanges, frameTooLong}
+use Rattle.length.specs.Answers.{Answer, done, refuse}
+use Rattle.length.specs.Tables.{when, unless}
+use Rattle.length.specs.Promise.{Put}
+use Rattle.length.proofs.Laws.{put-next}
+use Rattle.packet.specs.Packet.{typesLimit, rightData}
+use Rattle.frame.specs.Frame.{joinerEdition, frameLimit, Joining, tainted, opened, Frame, good, bad, adds, handsGood, handsBad, endsFrame}
+use Rattle.frame.specs.Frame.{Step, passes, withAdded, goodFrame, onOpen, fieldStep, wouldPass}
+use Rattle.frame.specs.Joiner.{inStorage, heldAs, joiningOf, rangesOf}
+use Rattle.frame.specs.Promise.{frameOctets, fieldAnswer, FieldOwes, lossAnswer, joinerAfterLoss, LossOwes}
 use Rattle.frame_joiner.specs.Inner.{LaidOut, joinerOf, joinedOf, keptAs, unchanged, Remains, leaves, Adds, addsTo, Gives, givesTo}
 use Rattle.frame_joiner.specs.Inner.{Drops, Admitted, FieldFed}
-use Rattle.frames.specs.declared.Joiner.{Joiner}
-use Rattle.frames.specs.declared.Handed.{Handed}
-use Rattle.frames.specs.declared.Handed.the-variants as handed
+use Rattle.frame.specs.declared.Joiner.{Joiner}
+use Rattle.frame.specs.declared.Handed.{Handed}
+use Rattle.frame.specs.declared.Handed.the-variants as handed
 use Rattle.frame_joiner.specs.declared.inside.Kept.{Kept}
 use Rattle.frame_joiner.proofs.Storage.{length-open, drop-open, in-ranges-laid}
 use Rattle.frame_joiner.proofs.Owing.{owes-stays, owes-tainted, owes-nothing, owes-good, owes-bad}

@@ -9,15 +9,15 @@ use lib.Dec.{leb, ltb, eqb}
 use native.Mathlib.Omega.{arith}
 use borrow.Author.Tests.{lt-ltb, le-ltb, eqb-true, not-true, not-false}
 use Rattle.octets.proofs.Laws.{and-left, and-right}
-use Rattle.lengths.specs.Refusals.{notAssigned, wrongData, outsideRanges}
-use Rattle.lengths.specs.Answers.{done}
-use Rattle.lengths.specs.Tables.{unless}
-use Rattle.packets.specs.Packet.{typesLimit, rightData}
-use Rattle.frames.specs.Frame.{joinerEdition, frameLimit, tainted, opened, endsFrame, fieldStep, wouldPass}
-use Rattle.frames.specs.Joiner.{inStorage, heldAs, joiningOf, rangesOf, zerosAfter}
-use Rattle.frames.specs.Promise.{fieldAnswer, lossAnswer, joinerAfterLoss}
+use Rattle.length.specs.Refusals.{notAssigned, wrongData, outsideRanges}
+use Rattle.length.specs.Answers.{done}
+use Rattle.length.specs.Tables.{unless}
+use Rattle.packet.specs.Packet.{typesLimit, rightData}
+use Rattle.frame.specs.Frame.{joinerEdition, frameLimit, tainted, opened, endsFrame, fieldStep, wouldPass}
+use Rattle.frame.specs.Joiner.{inStorage, heldAs, joiningOf, rangesOf, zerosAfter}
+use Rattle.frame.specs.Promise.{fieldAnswer, lossAnswer, joinerAfterLoss}
 use Rattle.frame_joiner.specs.Inner.{LaidOut, joinerOf, unchanged, waited, Drops, Admitted, FieldFed, Taints}
-use Rattle.frames.specs.declared.Joiner.{Joiner}
+use Rattle.frame.specs.declared.Joiner.{Joiner}
 use Rattle.frame_joiner.specs.declared.inside.Kept.{Kept}
 use Rattle.frame_joiner.proofs.Storage.{in-ranges-laid}
 use Rattle.frame_joiner.proofs.Owing.{owes-stays, owes-nothing}

@@ -6,15 +6,15 @@ use mathlib.Core.List.{List, _++_}
 use mathlib.Core.Option.{none, some}
 use lib.ListN.{length, drop}
 use lib.Dec.{eqb}
-use Rattle.lengths.specs.Refusals.{refusal, frameTooLong}
-use Rattle.lengths.specs.Answers.{done, refuse}
-use Rattle.frames.specs.Frame.{Joining, Frame, good, bad, fieldStep}
-use Rattle.frames.specs.Joiner.{heldAs, joiningOf}
-use Rattle.frames.specs.Promise.{fieldAnswer, joinerAfter, FieldOwes}
-use Rattle.frames.specs.declared.Joiner.{Joiner}
-use Rattle.frames.specs.declared.Joined.{Joined}
-use Rattle.frames.specs.declared.Handed.{Handed}
-use Rattle.frames.specs.declared.Handed.the-variants as handed
+use Rattle.length.specs.Refusals.{refusal, frameTooLong}
+use Rattle.length.specs.Answers.{done, refuse}
+use Rattle.frame.specs.Frame.{Joining, Frame, good, bad, fieldStep}
+use Rattle.frame.specs.Joiner.{heldAs, joiningOf}
+use Rattle.frame.specs.Promise.{fieldAnswer, joinerAfter, FieldOwes}
+use Rattle.frame.specs.declared.Joiner.{Joiner}
+use Rattle.frame.specs.declared.Joined.{Joined}
+use Rattle.frame.specs.declared.Handed.{Handed}
+use Rattle.frame.specs.declared.Handed.the-variants as handed
 
 abbrev pub joined : Joiner → Handed → Joined
 joined k answer = record { joiner = k; answer = answer }

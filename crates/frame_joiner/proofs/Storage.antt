@@ -13,10 +13,10 @@ use borrow.Author.Tests.{leb-true, le-leb, lt-leb, le-ltb, eqb-true}
 use Rattle.octets.specs.Place.{allBelow}
 use Rattle.octets.proofs.Laws.{allBelow-at}
 use Rattle.octets.proofs.Laws.{below-or-not, and-left, and-right}
-use Rattle.stores.specs.Store.{zeros, zerosFrom}
-use Rattle.frames.specs.Frame.{frameLimit}
-use Rattle.frames.specs.Joiner.{inStorage, zerosAfter, rangesOf}
-use Rattle.frames.proofs.Laws.{laid-none, length-laid, take-laid, laid-past}
+use Rattle.session_slots.specs.Store.{zeros, zerosFrom}
+use Rattle.frame.specs.Frame.{frameLimit}
+use Rattle.frame.specs.Joiner.{inStorage, zerosAfter, rangesOf}
+use Rattle.frame.proofs.Laws.{laid-none, length-laid, take-laid, laid-past}
 use Rattle.frame_joiner.specs.Inner.{LaidOut}
 
 -- ---- what lies in the storage

@@ -6,15 +6,15 @@ use mathlib.Core.Bool.{Bool, true, false, not, cond}
 use mathlib.Core.List.{List, [], _++_}
 use lib.ListN.{length, take, drop}
 use lib.Dec.{ltb}
-use Rattle.lengths.specs.Refusals.{refusal, noRoom, frameTooLong}
-use Rattle.packets.specs.Packet.{typesLimit, rightData}
-use Rattle.frames.specs.Frame.{joinerEdition, frameLimit, endsFrame}
-use Rattle.frames.specs.Joiner.{inStorage, rangesOf}
-use Rattle.frames.specs.Promise.{FieldOwes, LossOwes}
-use Rattle.frames.specs.declared.Joiner.{Joiner}
-use Rattle.frames.specs.declared.Joined.{Joined}
-use Rattle.frames.specs.declared.Handed.{Handed}
-use Rattle.frames.specs.declared.Handed.the-variants as handed
+use Rattle.length.specs.Refusals.{refusal, noRoom, frameTooLong}
+use Rattle.packet.specs.Packet.{typesLimit, rightData}
+use Rattle.frame.specs.Frame.{joinerEdition, frameLimit, endsFrame}
+use Rattle.frame.specs.Joiner.{inStorage, rangesOf}
+use Rattle.frame.specs.Promise.{FieldOwes, LossOwes}
+use Rattle.frame.specs.declared.Joiner.{Joiner}
+use Rattle.frame.specs.declared.Joined.{Joined}
+use Rattle.frame.specs.declared.Handed.{Handed}
+use Rattle.frame.specs.declared.Handed.the-variants as handed
 use Rattle.frame_joiner.specs.declared.inside.Kept.{Kept}
 
 -- a frame of this size lies in the storage

@@ -1,18 +1,18 @@
 // How a joiner's storage is checked, filled and cleared: the storage is lent, tainted and size go by value. `feed` and `taint` take any
 // joiner; the others serve this crate alone.
-use datagram_items::put_octets;
-use frames::Handed;
-use frames::Joiner;
-use lengths::Refusal;
+use datagram_writer::put_octets;
+use frame::Handed;
+use frame::Joiner;
+use length::Refusal;
+use packet::Field;
 use packet_rules::right_data;
-use packets::Field;
 ghost use mathlib.Core.Path.{_≡_};
 ghost use mathlib.Core.Bool.{false};
 ghost use mathlib.Core.List.{[]};
 ghost use lib.ListN.{length};
-ghost use Rattle.frames.specs.Frame.{frameLimit, endsFrame, handsGood, handsBad};
-ghost use Rattle.stores.specs.Store.{maskOver};
-ghost use Rattle.frames.specs.Joiner.{inStorage, rangesOf};
+ghost use Rattle.frame.specs.Frame.{frameLimit, endsFrame, handsGood, handsBad};
+ghost use Rattle.session_slots.specs.Store.{maskOver};
+ghost use Rattle.frame.specs.Joiner.{inStorage, rangesOf};
 ghost use Rattle.frame_joiner.specs.Inner.{LaidOut, Adds, Gives, Drops, Admitted, FieldFed, Taints, unchanged, waited};
 
 // What is left of a joiner beside its storage, and what is answered.
@@ -27,7 +27,7 @@ fn passing() -> [u8; Joiner::LIMIT + Joiner::LIMIT]
     ensures { λ r. ⌜ r ≡ maskOver frameLimit ⌝ }
 {
     let mut table = [255; Joiner::LIMIT + Joiner::LIMIT];
-    stores::clear_run(&mut table[..Joiner::LIMIT]);
+    session_slots::clear_run(&mut table[..Joiner::LIMIT]);
     table
 }
 
@@ -41,7 +41,7 @@ fn in_ranges(tainted: bool, size: usize, frame: &[u8]) -> bool
     }
     let bare = !tainted | (size == 0);
     let table = passing();
-    let clean = stores::zeros_in_run(frame, size, &table);
+    let clean = session_slots::zeros_in_run(frame, size, &table);
     bare & clean
 }
 
@@ -50,7 +50,7 @@ fn clear(frame: &mut [u8], size: usize)
     requires { ⌜ LaidOut size (now frame) ⌝ }
     ensures { λ _. ⌜ now (frame .exit) ≡ inStorage [] ⌝ }
 {
-    stores::clear_run(&mut frame[..size]);
+    session_slots::clear_run(&mut frame[..size]);
 }
 
 // "2 and 4 hand out a good frame; 3 and 5 a bad one".

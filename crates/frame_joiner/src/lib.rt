@@ -1,13 +1,13 @@
-// The calls of a joiner: document 02, request 1, as `frames` defines it. A joiner goes in by value and comes back by value with the
+// The calls of a joiner: document 02, request 1, as `frame` defines it. A joiner goes in by value and comes back by value with the
 // answer; any saved one may be handed in. `feed` and `taint` are the same calls with the open frame lent.
 mod inside;
 
-use frames::Joined;
-use frames::Joiner;
+use frame::Joined;
+use frame::Joiner;
 pub use inside::Kept;
 pub use inside::feed;
 pub use inside::taint;
-ghost use Rattle.frames.specs.Promise.{FieldOwes, LossOwes};
+ghost use Rattle.frame.specs.Promise.{FieldOwes, LossOwes};
 
 // One field of a packet: its type, and its data, of which there are no octets if it has none. A frame that it ends is written to
 // the front of out.

@@ -4,14 +4,14 @@ use Prim.Native.Nat.{ℕ}
 use mathlib.Core.Path.{_≡_}
 use mathlib.Core.Bool.{true}
 use mathlib.Core.List.{List}
-use Rattle.lengths.specs.Answers.{done}
-use Rattle.lengths.specs.Promise.{Puts}
-use Rattle.views.specs.View.{View}
-use Rattle.held.specs.Table.{Lent, lentBy, viewOf}
-use Rattle.held.specs.Laid.{InRanges}
-use Rattle.images.specs.Layout.{versionWritten}
-use Rattle.images.specs.Image.{readText, imageToWrite}
-use Rattle.serving.specs.Promise.{Serves}
+use Rattle.length.specs.Answers.{done}
+use Rattle.length.specs.Promise.{Puts}
+use Rattle.session.specs.View.{View}
+use Rattle.session_held.specs.Table.{Lent, lentBy, viewOf}
+use Rattle.session_held.specs.Laid.{InRanges}
+use Rattle.image.specs.Layout.{versionWritten}
+use Rattle.image.specs.Image.{readText, imageToWrite}
+use Rattle.program_loop.specs.Promise.{Serves}
 use Rattle.handover.specs.declared.loading.Begun.{Begun}
 use Rattle.handover.specs.declared.playing.Played.{Played}
 

@@ -3,12 +3,12 @@ use crate::arguments::NONE;
 use crate::telling::say_failed;
 use crate::telling::say_long;
 use crate::telling::say_refused;
-use held::Session;
-use images::Image;
-use images::Restore;
+use image::Image;
+use image::Restore;
 use libc::PATH_MAX;
-ghost use Rattle.held.specs.Table.{lentBy};
-ghost use Rattle.held.specs.Laid.{InRanges};
+use session_held::Session;
+ghost use Rattle.session_held.specs.Table.{lentBy};
+ghost use Rattle.session_held.specs.Laid.{InRanges};
 ghost use Rattle.handover.specs.Promise.{BeginsWith};
 
 // What is read of a file: one character more than an image has, by which a text that is too long is known.

@@ -9,14 +9,14 @@ mod saving;
 mod telling;
 
 use arguments::NONE;
-use held::Session;
 use libc::PATH_MAX;
 use playing::play;
 use saving::name_beside;
 use saving::play_and_save;
+use session_held::Session;
 use telling::say;
-ghost use Rattle.held.specs.Table.{lentBy};
-ghost use Rattle.held.specs.Laid.{InRanges};
+ghost use Rattle.session_held.specs.Table.{lentBy};
+ghost use Rattle.session_held.specs.Laid.{InRanges};
 
 // From a session on, with an image at the end if its file is named among the arguments.
 fn run(session: Session, save: usize)

@@ -1,8 +1,8 @@
 // The program from a session on, and the image of the session at its end.
-use held::Session;
-use lengths::Written;
-ghost use Rattle.held.specs.Table.{lentBy, viewOf};
-ghost use Rattle.held.specs.Laid.{InRanges};
+use length::Written;
+use session_held::Session;
+ghost use Rattle.session_held.specs.Table.{lentBy, viewOf};
+ghost use Rattle.session_held.specs.Laid.{InRanges};
 ghost use Rattle.handover.specs.Promise.{RunsFrom};
 
 // How many octets were read and how many handed over, whether the end was reached with all written, and what writing the image answers.
@@ -22,7 +22,7 @@ pub fn play(session: Session, out: &mut [u8]) -> Played
     let mut table = session.table;
     let mut octets = session.octets;
     let mut messages = session.messages;
-    let served = serving::serve(base, counts, &mut table, &mut octets, &mut messages);
+    let served = program_loop::serve(base, counts, &mut table, &mut octets, &mut messages);
     let last_base = served.base;
     let last_counts = served.counts;
     let last = Session {

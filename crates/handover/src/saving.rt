@@ -4,12 +4,12 @@ use crate::playing::Played;
 use crate::playing::play;
 use crate::telling::say_failed;
 use crate::telling::say_unwritten;
-use held::Session;
-use images::Image;
-use lengths::Written;
+use image::Image;
+use length::Written;
 use libc::PATH_MAX;
-ghost use Rattle.held.specs.Table.{lentBy};
-ghost use Rattle.held.specs.Laid.{InRanges};
+use session_held::Session;
+ghost use Rattle.session_held.specs.Table.{lentBy};
+ghost use Rattle.session_held.specs.Laid.{InRanges};
 
 // The longest name that has room for more behind it.
 const LONGEST: usize = PATH_MAX - 4;

@@ -1,5 +1,5 @@
 // What is said on standard error.
-use lengths::Refusal;
+use length::Refusal;
 use libc::STDERR_FILENO;
 
 pub fn say(text: &[u8]) {

@@ -3,14 +3,14 @@ use Prim.Native.Nat.{ℕ}
 use mathlib.Core.Path.{_≡_, sym, ap, ap₂, _∙_}
 use mathlib.Core.List.{List}
 use lib.ListN.{length}
-use Rattle.views.specs.Release.{viewAfterRelease}
-use Rattle.held.proofs.Laws.{fresh-same}
-use Rattle.sessions.specs.Receiver.{offerOf, releaseOf}
-use Rattle.sessions.proofs.Laws.{after-same}
-use Rattle.lengths.specs.Answers.{Answer, done, refused, fitted}
-use Rattle.sending.specs.Promise.{toSend, StateAfter}
-use Rattle.sending.specs.declared.Sender.{Sender}
-use Rattle.sending.proofs.Claims as sending
+use Rattle.session.specs.Release.{viewAfterRelease}
+use Rattle.session_held.proofs.Laws.{fresh-same}
+use Rattle.session_calls.specs.Receiver.{offerOf, releaseOf}
+use Rattle.session_calls.proofs.Laws.{after-same}
+use Rattle.length.specs.Answers.{Answer, done, refused, fitted}
+use Rattle.sender.specs.Promise.{toSend, StateAfter}
+use Rattle.sender.specs.declared.Sender.{Sender}
+use Rattle.sender.proofs.Claims as sending
 use Rattle.host.specs.Receiver.{sessionIn}
 use Rattle.host_answers.specs.Settings.{settingsOf}
 use Rattle.host.specs.Sender.{senderIn}

@@ -9,21 +9,21 @@ use lib.Seq.{take-append-seam}
 use lib.Dec.{leb}
 use native.Mathlib.Omega.{arith}
 use borrow.Author.Tests.{le-leb}
-use Rattle.lengths.specs.Refusals.{noRoom, outsideRanges}
-use Rattle.lengths.specs.Answers.{Answer, done, refuse, fitted, sizeOf, over}
-use Rattle.lengths.specs.Tables.{unless}
-use Rattle.datagrams.specs.Sizes.{packetLimit}
-use Rattle.views.specs.View.{View}
-use Rattle.held.specs.Table.{lentBy, viewOf}
-use Rattle.held.specs.Laid.{sessionInRanges, InRanges}
-use Rattle.held.specs.Promise.{Sized}
-use Rattle.held.specs.declared.Session.{Session}
-use Rattle.held.proofs.Laws.{session-in-ranges, session-same}
-use Rattle.images.specs.Layout.{imageVersion02}
-use Rattle.images.specs.Image.{imageText, readText, imageToWrite, LentOctets, imageLimit}
-use Rattle.images.proofs.Laws.{lent-octets, reads02}
-use Rattle.images.proofs.Claims as images
-use Rattle.sessions.specs.Receiver.{SeenAs, After}
+use Rattle.length.specs.Refusals.{noRoom, outsideRanges}
+use Rattle.length.specs.Answers.{Answer, done, refuse, fitted, sizeOf, over}
+use Rattle.length.specs.Tables.{unless}
+use Rattle.datagram.specs.Sizes.{packetLimit}
+use Rattle.session.specs.View.{View}
+use Rattle.session_held.specs.Table.{lentBy, viewOf}
+use Rattle.session_held.specs.Laid.{sessionInRanges, InRanges}
+use Rattle.session_held.specs.Promise.{Sized}
+use Rattle.session_held.specs.declared.Session.{Session}
+use Rattle.session_held.proofs.Laws.{session-in-ranges, session-same}
+use Rattle.image.specs.Layout.{imageVersion02}
+use Rattle.image.specs.Image.{imageText, readText, imageToWrite, LentOctets, imageLimit}
+use Rattle.image.proofs.Laws.{lent-octets, reads02}
+use Rattle.image.proofs.Claims as images
+use Rattle.session_calls.specs.Receiver.{SeenAs, After}
 use Rattle.host_answers.specs.Answers.{told, wroteTold}
 use Rattle.host.specs.Receiver.{sessionIn}
 use Rattle.host.specs.Image.{RestoreHosted}
@@ -31,7 +31,7 @@ use Rattle.host.specs.ImageClaims.{HandedOver}
 use Rattle.host_answers.specs.declared.answers.Answered.{Answered}
 use Rattle.host_answers.specs.declared.answers.Wrote.{Wrote}
 use Rattle.host.specs.declared.receiver.Head.{Head}
-use Rattle.host.specs.declared.image.AfterRestore.{AfterRestore}
+use Rattle.host.specs.declared.image_calls.AfterRestore.{AfterRestore}
 
 -- ---- what a write tells
 -- by a session within its ranges, and by another

@@ -1,7 +1,7 @@
 -- Two outcomes of the host's calls on images are equal: from the promises. Assumes nothing.
 use mathlib.Core.Path.{_≡_, sym, ap₂, _∙_}
-use Rattle.images.specs.Image.{readText}
-use Rattle.sessions.proofs.Laws.{after-same}
+use Rattle.image.specs.Image.{readText}
+use Rattle.session_calls.proofs.Laws.{after-same}
 use Rattle.host.specs.Receiver.{sessionIn}
 use Rattle.host.specs.ImageClaims.{OneRestored}
 use Rattle.host_answers.specs.declared.answers.Answered.{Answered}

@@ -2,19 +2,19 @@
 use Prim.Native.Nat.{ℕ}
 use mathlib.Core.Path.{_≡_, refl, sym, ap, subst, _∙_}
 use mathlib.Core.List.{List}
-use Rattle.lengths.specs.Answers.{Answer}
-use Rattle.lengths.specs.Promise.{Puts}
-use Rattle.lengths.specs.declared.Refusal.{Refusal}
-use Rattle.lengths.specs.declared.Written.{Written}
-use Rattle.views.specs.View.{View}
-use Rattle.held.specs.Table.{lentBy, viewOf}
-use Rattle.images.specs.Layout.{versionWritten}
-use Rattle.images.specs.Image.{imageToWrite, readText}
-use Rattle.images.specs.Promise.{restoreOutcome, Restores, ImageRead}
-use Rattle.images.specs.declared.Restore.{Restore}
-use Rattle.images.specs.declared.Restore.the-variants as restore
-use Rattle.images.specs.declared.Restored.{Restored}
-use Rattle.sessions.specs.Receiver.{After}
+use Rattle.length.specs.Answers.{Answer}
+use Rattle.length.specs.Promise.{Puts}
+use Rattle.length.specs.declared.Refusal.{Refusal}
+use Rattle.length.specs.declared.Written.{Written}
+use Rattle.session.specs.View.{View}
+use Rattle.session_held.specs.Table.{lentBy, viewOf}
+use Rattle.image.specs.Layout.{versionWritten}
+use Rattle.image.specs.Image.{imageToWrite, readText}
+use Rattle.image.specs.Promise.{restoreOutcome, Restores, ImageRead}
+use Rattle.image.specs.declared.Restore.{Restore}
+use Rattle.image.specs.declared.Restore.the-variants as restore
+use Rattle.image.specs.declared.Restored.{Restored}
+use Rattle.session_calls.specs.Receiver.{After}
 use Rattle.host_answers.specs.Answers.{told, wroteTold, WrittenTold}
 use Rattle.host.specs.Receiver.{sessionIn}
 use Rattle.host.specs.Image.{ImageHosted, RestoreHosted}

@@ -10,15 +10,15 @@ use lib.Dec.{ltb, eqb}
 use native.Mathlib.Omega.{arith}
 use borrow.Author.Tests.{lt-ltb, eq-eqb, ne-eqb}
 use Rattle.octets.proofs.Laws.{true-or-false, and-left, and-right}
-use Rattle.lengths.specs.Refusals.{notAssigned, noRoom, wrongData, outsideRanges, frameTooLong}
-use Rattle.lengths.specs.Answers.{Answer, done, refused, mapped, over}
-use Rattle.lengths.specs.Tables.{when, unless}
-use Rattle.packets.specs.Packet.{typesLimit, rightData}
-use Rattle.frames.specs.Frame.{joinerEdition}
-use Rattle.frames.specs.Frame.{Frame, good, bad, Joining, tainted, opened, adds, passes, withAdded, onOpen, fieldStep, wouldPass}
-use Rattle.frames.specs.Joiner.{heldAs, joiningOf, joinerInRanges}
-use Rattle.frames.specs.declared.Joiner.{Joiner}
-use Rattle.frames.specs.Promise.{frameOctets, toldIn, changes, fieldAnswer, joinerAfter, lossAnswer, joinerAfterLoss}
+use Rattle.length.specs.Refusals.{notAssigned, noRoom, wrongData, outsideRanges, frameTooLong}
+use Rattle.length.specs.Answers.{Answer, done, refused, mapped, over}
+use Rattle.length.specs.Tables.{when, unless}
+use Rattle.packet.specs.Packet.{typesLimit, rightData}
+use Rattle.frame.specs.Frame.{joinerEdition}
+use Rattle.frame.specs.Frame.{Frame, good, bad, Joining, tainted, opened, adds, passes, withAdded, onOpen, fieldStep, wouldPass}
+use Rattle.frame.specs.Joiner.{heldAs, joiningOf, joinerInRanges}
+use Rattle.frame.specs.declared.Joiner.{Joiner}
+use Rattle.frame.specs.Promise.{frameOctets, toldIn, changes, fieldAnswer, joinerAfter, lossAnswer, joinerAfterLoss}
 use Rattle.host_answers.specs.Joiner.{flagOf, frameTold}
 use Rattle.host.specs.Joiner.{Memory, memoryOf, inMemory, joinerIn, noFlag, fieldJoined, memoryAfter}
 use Rattle.host.specs.Joiner.{lossIn, memoryAfterLoss}

@@ -4,8 +4,8 @@ use mathlib.Core.Path.{_≡_, refl, sym, ap, ap₂, _∙_}
 use mathlib.Core.Bool.{Bool, true, false}
 use mathlib.Core.List.{List}
 use lib.Dec.{ltb, eqb}
-use Rattle.frames.specs.Promise.{FreshMade}
-use Rattle.frames.specs.declared.Joiner.{Joiner}
+use Rattle.frame.specs.Promise.{FreshMade}
+use Rattle.frame.specs.declared.Joiner.{Joiner}
 use Rattle.frame_joiner.specs.Inner.{FieldFed, Taints}
 use Rattle.frame_joiner.specs.declared.inside.Kept.{Kept}
 use Rattle.host_answers.specs.Joiner.{flagOf, frameTold, outside, FrameTold}

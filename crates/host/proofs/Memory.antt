@@ -2,7 +2,7 @@
 use Prim.Native.Nat.{ℕ}
 use mathlib.Core.Path.{_≡_, ap}
 use mathlib.Core.List.{List}
-use Rattle.held.specs.declared.Session.{Session}
+use Rattle.session_held.specs.declared.Session.{Session}
 use Rattle.host.specs.Receiver.{sessionIn}
 use Rattle.host.specs.declared.receiver.Head.{Head}
 

@@ -4,26 +4,26 @@ use mathlib.Core.Path.{_≡_, refl, sym, ap, _∙_}
 use mathlib.Core.Bool.{Bool, true, false}
 use mathlib.Core.List.{List}
 use lib.Dec.{ltb}
-use Rattle.lengths.specs.Refusals.{wrongSettings}
-use Rattle.lengths.specs.Answers.{Answer, done, refused, refuse, fitted, sizeOf, over}
-use Rattle.lengths.specs.Promise.{Puts}
-use Rattle.lengths.specs.declared.Refusal.{Refusal}
-use Rattle.lengths.specs.declared.Written.{Written}
-use Rattle.packets.specs.Edition.{byEdition}
-use Rattle.packets.specs.Packet.{PacketAnswer, readPacket}
-use Rattle.packets.specs.Write.{packetToWrite}
-use Rattle.packets.specs.Promise.{PacketTold, packetRead}
-use Rattle.packets.specs.declared.types.PacketKind.{PacketKind}
-use Rattle.packets.specs.declared.types.Ending.{Ending}
-use Rattle.packets.specs.declared.types.Field.{Field}
-use Rattle.packets.specs.declared.types.PacketRead.{PacketRead}
-use Rattle.packets.specs.declared.types.PacketReading.{PacketReading}
-use Rattle.packets.specs.declared.types.PacketReading.the-variants as reading
+use Rattle.length.specs.Refusals.{wrongSettings}
+use Rattle.length.specs.Answers.{Answer, done, refused, refuse, fitted, sizeOf, over}
+use Rattle.length.specs.Promise.{Puts}
+use Rattle.length.specs.declared.Refusal.{Refusal}
+use Rattle.length.specs.declared.Written.{Written}
+use Rattle.packet.specs.Edition.{byEdition}
+use Rattle.packet.specs.Packet.{PacketAnswer, readPacket}
+use Rattle.packet.specs.Write.{packetToWrite}
+use Rattle.packet.specs.Promise.{PacketTold, packetRead}
+use Rattle.packet.specs.declared.types.PacketKind.{PacketKind}
+use Rattle.packet.specs.declared.types.Ending.{Ending}
+use Rattle.packet.specs.declared.types.Field.{Field}
+use Rattle.packet.specs.declared.types.PacketRead.{PacketRead}
+use Rattle.packet.specs.declared.types.PacketReading.{PacketReading}
+use Rattle.packet.specs.declared.types.PacketReading.the-variants as reading
 use Rattle.host_answers.specs.Answers.{wroteTold, WrittenTold}
 use Rattle.host_answers.specs.Packet.{endingNamed, kindTold, kindNamed, packetTold}
 use Rattle.host.specs.Packet.{PacketHosted, packetAsked, WriteHosted}
 use Rattle.host_answers.specs.declared.answers.Wrote.{Wrote}
-use Rattle.host_answers.specs.declared.packet.PacketFound.{PacketFound}
+use Rattle.host_answers.specs.declared.packet_answers.PacketFound.{PacketFound}
 
 -- ---- read: each case of the reader's answer in numbers
 abbrev readingTold : PacketReading → List Field → PacketFound

@@ -4,18 +4,18 @@ use mathlib.Core.Path.{_≡_, refl, sym, ap, _∙_}
 use mathlib.Core.Bool.{Bool, true, false}
 use mathlib.Core.List.{List}
 use lib.ListN.{length}
-use Rattle.lengths.specs.Refusals.{outsideRanges}
-use Rattle.views.specs.View.{View}
-use Rattle.held.specs.Table.{lentBy, places}
-use Rattle.held.specs.Laid.{InRanges, sessionInRanges}
-use Rattle.held.specs.Slots.{keptOctets, messageOctets}
-use Rattle.held.proofs.Laws.{session-in-ranges, in-ranges-true}
-use Rattle.leaving.specs.Promise.{Releases}
-use Rattle.leaving.specs.declared.Released.{Released}
-use Rattle.offering.specs.Promise.{Offers}
-use Rattle.offering.specs.declared.Offered.{Offered}
-use Rattle.sessions.specs.Receiver.{offerOf}
-use Rattle.sessions.proofs.Laws.{offer-outside, offer-inside, release-outside, release-inside}
+use Rattle.length.specs.Refusals.{outsideRanges}
+use Rattle.session.specs.View.{View}
+use Rattle.session_held.specs.Table.{lentBy, places}
+use Rattle.session_held.specs.Laid.{InRanges, sessionInRanges}
+use Rattle.session_held.specs.Slots.{keptOctets, messageOctets}
+use Rattle.session_held.proofs.Laws.{session-in-ranges, in-ranges-true}
+use Rattle.session_release.specs.Promise.{Releases}
+use Rattle.session_release.specs.declared.Released.{Released}
+use Rattle.session_offer.specs.Promise.{Offers}
+use Rattle.session_offer.specs.declared.Offered.{Offered}
+use Rattle.session_calls.specs.Receiver.{offerOf}
+use Rattle.session_calls.proofs.Laws.{offer-outside, offer-inside, release-outside, release-inside}
 use Rattle.host_answers.specs.Answers.{told, releaseNumber, OfferedTold, ReleasedTold}
 use Rattle.host_answers.specs.declared.answers.Answered.{Answered}
 use Rattle.host_answers.specs.declared.answers.Number.{Number}

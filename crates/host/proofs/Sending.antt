@@ -3,16 +3,16 @@ use Prim.Native.Nat.{ℕ, _+_, _≤_}
 use mathlib.Core.Path.{_≡_, refl, sym, ap, subst, _∙_}
 use mathlib.Core.Bool.{Bool, true, false, not}
 use mathlib.Core.List.{List}
-use Rattle.lengths.specs.Refusals.{outsideRanges, refusal}
-use Rattle.lengths.specs.declared.Refusal.{Refusal}
-use Rattle.lengths.specs.declared.Written.{Written}
-use Rattle.lengths.specs.declared.Written.the-variants as written
-use Rattle.views.specs.View.{sessionLimit}
-use Rattle.sending.specs.Ranges.{senderInRanges}
-use Rattle.sending.specs.Inner.Held.{Arrays, Within}
-use Rattle.sending.specs.declared.Settings.{Settings}
-use Rattle.datagram_sender.specs.Inner.{SendsHeld}
-use Rattle.datagram_sender.proofs.Laws.{sent-few, sends-outside, sends-refused, sends-kept}
+use Rattle.length.specs.Refusals.{outsideRanges, refusal}
+use Rattle.length.specs.declared.Refusal.{Refusal}
+use Rattle.length.specs.declared.Written.{Written}
+use Rattle.length.specs.declared.Written.the-variants as written
+use Rattle.session.specs.View.{sessionLimit}
+use Rattle.sender.specs.Ranges.{senderInRanges}
+use Rattle.sender.specs.Inner.Held.{Arrays, Within}
+use Rattle.sender.specs.declared.Settings.{Settings}
+use Rattle.sender_calls.specs.Inner.{SendsHeld}
+use Rattle.sender_calls.proofs.Laws.{sent-few, sends-outside, sends-refused, sends-kept}
 use Rattle.host_answers.specs.Answers.{wroteTold}
 use Rattle.host_answers.specs.Settings.{settingsOf, SettingsTold}
 use Rattle.host.specs.Sender.{senderIn, SenderRanges, SendHosted}

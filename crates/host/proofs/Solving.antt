@@ -3,18 +3,18 @@ use Prim.Native.Nat.{ℕ}
 use mathlib.Core.Path.{_≡_, refl, sym, ap, _∙_}
 use mathlib.Core.Bool.{Bool, true, false}
 use mathlib.Core.List.{List}
-use Rattle.lengths.specs.Refusals.{outsideRanges}
-use Rattle.lengths.specs.declared.Refusal.{Refusal}
-use Rattle.views.specs.View.{View}
-use Rattle.held.specs.Table.{lentBy}
-use Rattle.held.specs.Laid.{InRanges}
-use Rattle.held.proofs.Laws.{in-ranges-true}
-use Rattle.solving.specs.Outcome.{solvedOutcome}
-use Rattle.solving.specs.Promise.{Solving}
-use Rattle.solving.specs.declared.Solved.{Solved}
-use Rattle.solving.specs.declared.Solved.the-variants as solved
-use Rattle.sessions.specs.Solver.{solveOf}
-use Rattle.sessions.proofs.Laws.{solve-outside, solve-inside, after-same}
+use Rattle.length.specs.Refusals.{outsideRanges}
+use Rattle.length.specs.declared.Refusal.{Refusal}
+use Rattle.session.specs.View.{View}
+use Rattle.session_held.specs.Table.{lentBy}
+use Rattle.session_held.specs.Laid.{InRanges}
+use Rattle.session_held.proofs.Laws.{in-ranges-true}
+use Rattle.solve_code.specs.Outcome.{solvedOutcome}
+use Rattle.solve_code.specs.Promise.{Solving}
+use Rattle.solve_code.specs.declared.Solved.{Solved}
+use Rattle.solve_code.specs.declared.Solved.the-variants as solved
+use Rattle.session_calls.specs.Solver.{solveOf}
+use Rattle.session_calls.proofs.Laws.{solve-outside, solve-inside, after-same}
 use Rattle.host_answers.specs.Answers.{told}
 use Rattle.host_answers.proofs.Laws.{told-mapped}
 use Rattle.host.specs.Receiver.{sessionIn, RangesHosted}

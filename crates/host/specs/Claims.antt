@@ -3,9 +3,9 @@ use Prim.Native.Nat.{ℕ}
 use mathlib.Core.Path.{_≡_}
 use mathlib.Core.Bool.{Bool}
 use mathlib.Core.List.{List}
-use Rattle.held.specs.Promise.{Fresh}
+use Rattle.session_held.specs.Promise.{Fresh}
 use Rattle.host.specs.Receiver.{sessionIn, RangesHosted, OfferHosted, ReleaseHosted}
-use Rattle.sending.specs.Promise.{SenderMade}
+use Rattle.sender.specs.Promise.{SenderMade}
 use Rattle.host.specs.JoinerClaims.{JoinerClaims}
 use Rattle.host.specs.Sender.{senderIn, SenderRanges, SendHosted}
 use Rattle.host.specs.PacketClaims.{OnePacket}
@@ -14,7 +14,7 @@ use Rattle.host.specs.Solver.{OneSolved}
 use Rattle.host_answers.specs.declared.answers.Answered.{Answered}
 use Rattle.host.specs.declared.receiver.Head.{Head}
 use Rattle.host.specs.declared.receiver.AfterRelease.{AfterRelease}
-use Rattle.host.specs.declared.sender.AfterSend.{AfterSend}
+use Rattle.host.specs.declared.send_calls.AfterSend.{AfterSend}
 
 pub record OneOutcome : Type 0 where
   pub fresh : {r q : Head} {t o g t₂ o₂ g₂ : List ℕ} → Fresh (sessionIn r t o g) → Fresh (sessionIn q t₂ o₂ g₂)

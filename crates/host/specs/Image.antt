@@ -3,16 +3,16 @@
 use Prim.Native.Nat.{ℕ}
 use mathlib.Core.Path.{_≡_}
 use mathlib.Core.List.{List}
-use Rattle.lengths.specs.Answers.{fitted, sizeOf, over}
-use Rattle.held.specs.Table.{lentBy}
-use Rattle.images.specs.Layout.{versionWritten}
-use Rattle.images.specs.Image.{imageToWrite, readText}
-use Rattle.sessions.specs.Receiver.{After}
+use Rattle.length.specs.Answers.{fitted, sizeOf, over}
+use Rattle.session_held.specs.Table.{lentBy}
+use Rattle.image.specs.Layout.{versionWritten}
+use Rattle.image.specs.Image.{imageToWrite, readText}
+use Rattle.session_calls.specs.Receiver.{After}
 use Rattle.host_answers.specs.Answers.{told, wroteTold}
 use Rattle.host.specs.Receiver.{sessionIn}
 use Rattle.host_answers.specs.declared.answers.Wrote.{Wrote}
 use Rattle.host.specs.declared.receiver.Head.{Head}
-use Rattle.host.specs.declared.image.AfterRestore.{AfterRestore}
+use Rattle.host.specs.declared.image_calls.AfterRestore.{AfterRestore}
 
 -- ---- write: the session's image to the front of a lent buffer
 pub record ImageHosted (h : Head) (t o g old new : List ℕ) (r : Wrote) : Type 0 where

@@ -3,16 +3,16 @@ use Prim.Native.Nat.{ℕ, _≤_}
 use mathlib.Core.Path.{_≡_}
 use mathlib.Core.List.{List}
 use lib.ListN.{length, take}
-use Rattle.lengths.specs.Refusals.{noRoom}
-use Rattle.datagrams.specs.Sizes.{packetLimit}
-use Rattle.held.specs.Table.{lentBy}
-use Rattle.held.specs.Promise.{Sized}
-use Rattle.images.specs.Image.{LentOctets, imageLimit}
+use Rattle.length.specs.Refusals.{noRoom}
+use Rattle.datagram.specs.Sizes.{packetLimit}
+use Rattle.session_held.specs.Table.{lentBy}
+use Rattle.session_held.specs.Promise.{Sized}
+use Rattle.image.specs.Image.{LentOctets, imageLimit}
 use Rattle.host.specs.Receiver.{sessionIn}
 use Rattle.host.specs.Image.{ImageHosted, RestoreHosted}
 use Rattle.host_answers.specs.declared.answers.Wrote.{Wrote}
 use Rattle.host.specs.declared.receiver.Head.{Head}
-use Rattle.host.specs.declared.image.AfterRestore.{AfterRestore}
+use Rattle.host.specs.declared.image_calls.AfterRestore.{AfterRestore}
 
 -- two outcomes that a promise allows are equal, in the answer and in all lent memory
 pub record OneRestored : Type 0 where

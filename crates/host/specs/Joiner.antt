@@ -7,13 +7,13 @@ use mathlib.Core.List.{List}
 use mathlib.Core.Option.{Option}
 use lib.ListN.{length}
 use lib.Dec.{ltb, eqb}
-use Rattle.lengths.specs.Refusals.{outsideRanges}
-use Rattle.lengths.specs.Answers.{Answer, refuse, mapped, over}
-use Rattle.frames.specs.Frame.{freshJoining, Frame}
-use Rattle.frames.specs.Joiner.{heldAs}
-use Rattle.frames.specs.Promise.{handedOutcome, frameOctets, toldIn}
-use Rattle.frames.specs.Promise.{fieldAnswer, joinerAfter, lossAnswer, joinerAfterLoss}
-use Rattle.frames.specs.declared.Joiner.{Joiner}
+use Rattle.length.specs.Refusals.{outsideRanges}
+use Rattle.length.specs.Answers.{Answer, refuse, mapped, over}
+use Rattle.frame.specs.Frame.{freshJoining, Frame}
+use Rattle.frame.specs.Joiner.{heldAs}
+use Rattle.frame.specs.Promise.{handedOutcome, frameOctets, toldIn}
+use Rattle.frame.specs.Promise.{fieldAnswer, joinerAfter, lossAnswer, joinerAfterLoss}
+use Rattle.frame.specs.declared.Joiner.{Joiner}
 use Rattle.frame_joiner.specs.declared.inside.Kept.{Kept}
 use Rattle.host_answers.specs.Joiner.{flagOf, frameTold}
 use Rattle.host_answers.specs.declared.joiner.AfterField.{AfterField}

@@ -2,9 +2,9 @@
 use Prim.Native.Nat.{ℕ}
 use mathlib.Core.Path.{_≡_}
 use mathlib.Core.List.{List}
-use Rattle.lengths.specs.Refusals.{frameTooLong}
-use Rattle.frames.specs.Frame.{tainted}
-use Rattle.frames.specs.Joiner.{heldAs}
+use Rattle.length.specs.Refusals.{frameTooLong}
+use Rattle.frame.specs.Frame.{tainted}
+use Rattle.frame.specs.Joiner.{heldAs}
 use Rattle.host.specs.Joiner.{Memory, memoryOf, inMemory, JoinerMade, FieldHosted, LossHosted}
 use Rattle.host_answers.specs.declared.joiner.AfterField.{AfterField}
 use Rattle.host_answers.specs.declared.joiner.JoinerHead.{JoinerHead}

@@ -5,16 +5,16 @@ use mathlib.Core.Path.{_≡_}
 use mathlib.Core.Bool.{Bool, cond}
 use mathlib.Core.List.{List}
 use lib.Dec.{ltb}
-use Rattle.lengths.specs.Refusals.{wrongSettings}
-use Rattle.lengths.specs.Answers.{Answer, refuse, fitted, sizeOf, over}
-use Rattle.packets.specs.Edition.{byEdition}
-use Rattle.packets.specs.Packet.{readPacket}
-use Rattle.packets.specs.Write.{packetToWrite}
-use Rattle.packets.specs.declared.types.PacketKind.{PacketKind}
+use Rattle.length.specs.Refusals.{wrongSettings}
+use Rattle.length.specs.Answers.{Answer, refuse, fitted, sizeOf, over}
+use Rattle.packet.specs.Edition.{byEdition}
+use Rattle.packet.specs.Packet.{readPacket}
+use Rattle.packet.specs.Write.{packetToWrite}
+use Rattle.packet.specs.declared.types.PacketKind.{PacketKind}
 use Rattle.host_answers.specs.Answers.{wroteTold}
 use Rattle.host_answers.specs.Packet.{endingNamed, kindNamed, packetTold}
 use Rattle.host_answers.specs.declared.answers.Wrote.{Wrote}
-use Rattle.host_answers.specs.declared.packet.PacketFound.{PacketFound}
+use Rattle.host_answers.specs.declared.packet_answers.PacketFound.{PacketFound}
 
 -- 15, "settings outside the sizes", for an octet that names no kind, before all else; another edition is 15 too
 abbrev pub byKind : {A : Type 0} → ℕ → (PacketKind → Answer A) → Answer A

@@ -6,7 +6,7 @@ use mathlib.Core.Bool.{Bool}
 use mathlib.Core.List.{List}
 use Rattle.host.specs.Packet.{PacketHosted, WriteHosted}
 use Rattle.host_answers.specs.declared.answers.Wrote.{Wrote}
-use Rattle.host_answers.specs.declared.packet.PacketFound.{PacketFound}
+use Rattle.host_answers.specs.declared.packet_answers.PacketFound.{PacketFound}
 
 pub record OnePacket : Type 0 where
   pub read : {edition : ℕ} {repaired : Bool} {octets : List ℕ} {r q : PacketFound}

@@ -5,14 +5,14 @@ use mathlib.Core.Path.{_≡_}
 use mathlib.Core.Bool.{Bool}
 use mathlib.Core.List.{List}
 use lib.ListN.{length}
-use Rattle.lengths.specs.Answers.{over}
-use Rattle.views.specs.Release.{viewAfterRelease}
-use Rattle.held.specs.declared.Counts.{Counts}
-use Rattle.held.specs.declared.Session.{Session}
-use Rattle.held.specs.Laid.{sessionInRanges}
-use Rattle.held.specs.Promise.{Sized}
-use Rattle.leaving.specs.Outcome.{handedOf, octetsHanded}
-use Rattle.sessions.specs.Receiver.{After, offerOf, releaseOf}
+use Rattle.length.specs.Answers.{over}
+use Rattle.session.specs.Release.{viewAfterRelease}
+use Rattle.session_held.specs.declared.Counts.{Counts}
+use Rattle.session_held.specs.declared.Session.{Session}
+use Rattle.session_held.specs.Laid.{sessionInRanges}
+use Rattle.session_held.specs.Promise.{Sized}
+use Rattle.session_release.specs.Outcome.{handedOf, octetsHanded}
+use Rattle.session_calls.specs.Receiver.{After, offerOf, releaseOf}
 use Rattle.host_answers.specs.Answers.{told, releaseNumber}
 use Rattle.host_answers.specs.declared.answers.Answered.{Answered}
 use Rattle.host.specs.declared.receiver.Head.{Head}

@@ -4,14 +4,14 @@ use Prim.Native.Nat.{ℕ}
 use mathlib.Core.Path.{_≡_}
 use mathlib.Core.Bool.{Bool}
 use mathlib.Core.List.{List}
-use Rattle.lengths.specs.Answers.{fitted, sizeOf, over}
-use Rattle.sending.specs.Ranges.{senderInRanges}
-use Rattle.sending.specs.Promise.{toSend, StateAfter}
-use Rattle.sending.specs.declared.Sender.{Sender}
-use Rattle.sending.specs.Inner.Held.{Arrays}
+use Rattle.length.specs.Answers.{fitted, sizeOf, over}
+use Rattle.sender.specs.Ranges.{senderInRanges}
+use Rattle.sender.specs.Promise.{toSend, StateAfter}
+use Rattle.sender.specs.declared.Sender.{Sender}
+use Rattle.sender.specs.Inner.Held.{Arrays}
 use Rattle.host_answers.specs.Answers.{wroteTold}
 use Rattle.host_answers.specs.Settings.{settingsOf}
-use Rattle.host.specs.declared.sender.AfterSend.{AfterSend}
+use Rattle.host.specs.declared.send_calls.AfterSend.{AfterSend}
 
 -- the session that stands in the host's memory
 abbrev pub senderIn : ℕ → List ℕ → List ℕ → Sender

@@ -3,10 +3,10 @@
 use Prim.Native.Nat.{ℕ}
 use mathlib.Core.Path.{_≡_}
 use mathlib.Core.List.{List}
-use Rattle.solving.specs.Outcome.{solvedOutcome}
-use Rattle.solving.specs.declared.Solved.{Solved}
-use Rattle.sessions.specs.Receiver.{After}
-use Rattle.sessions.specs.Solver.{solveOf}
+use Rattle.solve_code.specs.Outcome.{solvedOutcome}
+use Rattle.solve_code.specs.declared.Solved.{Solved}
+use Rattle.session_calls.specs.Receiver.{After}
+use Rattle.session_calls.specs.Solver.{solveOf}
 use Rattle.host_answers.specs.Answers.{told}
 use Rattle.host.specs.Receiver.{sessionIn}
 use Rattle.host_answers.specs.declared.answers.Answered.{Answered}

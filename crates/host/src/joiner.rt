@@ -1,8 +1,8 @@
 // The joiner for a C host: tainted and size go by value, the open frame is lent. Any memory may come. Tainted is an octet there, 0 or 1.
+use frame::Joiner;
 use frame_joiner::Kept;
 use frame_joiner::feed;
 use frame_joiner::taint;
-use frames::Joiner;
 use host_answers::AfterField;
 use host_answers::JoinerHead;
 use host_answers::flag;

@@ -1,15 +1,15 @@
 // The receiving session for a C host: base and counts go by value, table and stores are lent. The functions that require the session's
 // ranges are for memory that only the library wrote; those that end in `checked` take any memory, and refuse with 17.
-use held::Counts;
-use held::Session;
 use host_answers::Answered;
 use host_answers::Number;
 use host_answers::number_told;
 use host_answers::offered_told;
-use lengths::Refusal;
-ghost use Rattle.held.specs.Table.{lentBy};
-ghost use Rattle.held.specs.Laid.{InRanges};
-ghost use Rattle.held.specs.Promise.{Fresh};
+use length::Refusal;
+use session_held::Counts;
+use session_held::Session;
+ghost use Rattle.session_held.specs.Table.{lentBy};
+ghost use Rattle.session_held.specs.Laid.{InRanges};
+ghost use Rattle.session_held.specs.Promise.{Fresh};
 ghost use Rattle.host.specs.Receiver.{sessionIn, RangesHosted, OfferHosted, ReleaseHosted};
 
 // Base and counts, as C holds them.
@@ -72,7 +72,7 @@ pub extern "C" fn tbx_core_in_ranges(
         repaired: head.repaired,
         lost: head.lost,
     };
-    checking::in_ranges(head.base, counts, table, octets, messages)
+    session_check::in_ranges(head.base, counts, table, octets, messages)
 }
 
 // Any octets from the network, offered to a session within its ranges.
@@ -94,7 +94,7 @@ pub extern "C" fn tbx_core_offer(
         repaired: head.repaired,
         lost: head.lost,
     };
-    let answer = offering::offer_core(head.base, counts, table, octets, messages, datagram);
+    let answer = session_offer::offer_core(head.base, counts, table, octets, messages, datagram);
     offered_told(answer)
 }
 
@@ -139,7 +139,7 @@ pub extern "C" fn tbx_core_release(
         repaired: head.repaired,
         lost: head.lost,
     };
-    let done = leaving::release_core(head.base, counts, table, octets, messages, skip, out);
+    let done = session_release::release_core(head.base, counts, table, octets, messages, skip, out);
     let base = done.base;
     let moved = done.counts;
     let answer = done.answer;

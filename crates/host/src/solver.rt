@@ -1,13 +1,13 @@
 // Losses that no single message mends, in a receiving session of a C host: document 02, request 13. Base, counts and messages stay.
 use crate::receiver::Head;
 use crate::receiver::tbx_core_in_ranges;
-use held::Counts;
-use held::Session;
 use host_answers::Answered;
-use lengths::Refusal;
-use solving::Solved;
-ghost use Rattle.held.specs.Table.{lentBy};
-ghost use Rattle.held.specs.Laid.{InRanges};
+use length::Refusal;
+use session_held::Counts;
+use session_held::Session;
+use solve_code::Solved;
+ghost use Rattle.session_held.specs.Table.{lentBy};
+ghost use Rattle.session_held.specs.Laid.{InRanges};
 ghost use Rattle.host.specs.Receiver.{sessionIn};
 ghost use Rattle.host.specs.Solver.{SolvedTold, SolveHosted};
 
@@ -44,7 +44,7 @@ pub extern "C" fn tbx_core_solve(
         repaired: head.repaired,
         lost: head.lost,
     };
-    let answer = solving::solve_core(head.base, counts, table, octets, messages);
+    let answer = solve_code::solve_core(head.base, counts, table, octets, messages);
     solved_told(answer)
 }
 

@@ -2,23 +2,23 @@
 use Prim.Native.Nat.{ℕ}
 use mathlib.Core.Path.{_≡_, refl, sym, ap, _∙_}
 use mathlib.Core.Bool.{Bool, true, false}
-use Rattle.lengths.specs.Answers.{Answer, done, refused, mapped, writtenOutcome}
-use Rattle.lengths.specs.declared.Refusal.{Refusal}
-use Rattle.lengths.specs.declared.Written.{Written}
-use Rattle.lengths.specs.declared.Written.the-variants as written
-use Rattle.held.specs.Table.{stateOf}
-use Rattle.held.specs.declared.ReleaseKind.{ReleaseKind}
-use Rattle.lines.specs.Lines.{kindOctet}
-use Rattle.leaving.specs.Outcome.{releasedOutcome}
-use Rattle.leaving.specs.declared.Released.{Released}
-use Rattle.leaving.specs.declared.Released.the-variants as released
-use Rattle.offering.specs.Outcome.{offeredOutcome}
-use Rattle.offering.specs.declared.Offered.{Offered}
-use Rattle.offering.specs.declared.Offered.the-variants as offered
-use Rattle.frames.specs.Promise.{handedOutcome}
-use Rattle.frames.specs.declared.Handed.{Handed}
-use Rattle.frames.specs.declared.Handed.the-variants as handed
-use Rattle.sending.specs.declared.Settings.the-variants as settings
+use Rattle.length.specs.Answers.{Answer, done, refused, mapped, writtenOutcome}
+use Rattle.length.specs.declared.Refusal.{Refusal}
+use Rattle.length.specs.declared.Written.{Written}
+use Rattle.length.specs.declared.Written.the-variants as written
+use Rattle.session_held.specs.Table.{stateOf}
+use Rattle.session_held.specs.declared.ReleaseKind.{ReleaseKind}
+use Rattle.line.specs.Lines.{kindOctet}
+use Rattle.session_release.specs.Outcome.{releasedOutcome}
+use Rattle.session_release.specs.declared.Released.{Released}
+use Rattle.session_release.specs.declared.Released.the-variants as released
+use Rattle.session_offer.specs.Outcome.{offeredOutcome}
+use Rattle.session_offer.specs.declared.Offered.{Offered}
+use Rattle.session_offer.specs.declared.Offered.the-variants as offered
+use Rattle.frame.specs.Promise.{handedOutcome}
+use Rattle.frame.specs.declared.Handed.{Handed}
+use Rattle.frame.specs.declared.Handed.the-variants as handed
+use Rattle.sender.specs.declared.Settings.the-variants as settings
 use Rattle.host_answers.specs.Answers.{told, releaseNumber, wroteTold, OfferedTold, ReleasedTold, WrittenTold}
 use Rattle.host_answers.specs.Joiner.{frameTold, FrameTold}
 use Rattle.host_answers.specs.Settings.{SettingsTold}

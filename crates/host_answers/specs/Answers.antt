@@ -1,13 +1,13 @@
 -- What C is told of an answer: 0 where the call is done, or the refusal's number and place. Definitions only.
 use Prim.Native.Nat.{ℕ}
 use mathlib.Core.Path.{_≡_}
-use Rattle.lengths.specs.Answers.{Answer, done, refused, writtenOutcome}
-use Rattle.lengths.specs.declared.Written.{Written}
-use Rattle.lines.specs.Lines.{kindOctet}
-use Rattle.leaving.specs.Outcome.{Handed, releasedOutcome}
-use Rattle.leaving.specs.declared.Released.{Released}
-use Rattle.offering.specs.Outcome.{offeredOutcome}
-use Rattle.offering.specs.declared.Offered.{Offered}
+use Rattle.length.specs.Answers.{Answer, done, refused, writtenOutcome}
+use Rattle.length.specs.declared.Written.{Written}
+use Rattle.line.specs.Lines.{kindOctet}
+use Rattle.session_release.specs.Outcome.{Handed, releasedOutcome}
+use Rattle.session_release.specs.declared.Released.{Released}
+use Rattle.session_offer.specs.Outcome.{offeredOutcome}
+use Rattle.session_offer.specs.declared.Offered.{Offered}
 use Rattle.host_answers.specs.declared.answers.Answered.{Answered}
 use Rattle.host_answers.specs.declared.answers.Number.{Number}
 use Rattle.host_answers.specs.declared.answers.Wrote.{Wrote}

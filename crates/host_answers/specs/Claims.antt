@@ -2,11 +2,11 @@
 use Prim.Native.Nat.{ℕ}
 use mathlib.Core.Path.{_≡_}
 use mathlib.Core.Bool.{Bool}
-use Rattle.lengths.specs.declared.Written.{Written}
-use Rattle.leaving.specs.declared.Released.{Released}
-use Rattle.offering.specs.declared.Offered.{Offered}
-use Rattle.frames.specs.declared.Handed.{Handed}
-use Rattle.sending.specs.declared.Settings.{Settings}
+use Rattle.length.specs.declared.Written.{Written}
+use Rattle.session_release.specs.declared.Released.{Released}
+use Rattle.session_offer.specs.declared.Offered.{Offered}
+use Rattle.frame.specs.declared.Handed.{Handed}
+use Rattle.sender.specs.declared.Settings.{Settings}
 use Rattle.host_answers.specs.Answers.{OfferedTold, ReleasedTold, WrittenTold}
 use Rattle.host_answers.specs.Joiner.{FrameTold}
 use Rattle.host_answers.specs.Settings.{SettingsTold}

@@ -2,10 +2,10 @@
 use Prim.Native.Nat.{ℕ}
 use mathlib.Core.Path.{_≡_}
 use mathlib.Core.Bool.{Bool, cond}
-use Rattle.lengths.specs.Refusals.{outsideRanges}
-use Rattle.lengths.specs.Answers.{Answer, done, refused}
-use Rattle.frames.specs.Promise.{Told, nothing, goodOf, badOf, handedOutcome}
-use Rattle.frames.specs.declared.Handed.{Handed}
+use Rattle.length.specs.Refusals.{outsideRanges}
+use Rattle.length.specs.Answers.{Answer, done, refused}
+use Rattle.frame.specs.Promise.{Told, nothing, goodOf, badOf, handedOutcome}
+use Rattle.frame.specs.declared.Handed.{Handed}
 use Rattle.host_answers.specs.declared.joiner.AfterField.{AfterField}
 use Rattle.host_answers.specs.declared.joiner.HandedFrame.{HandedFrame}
 

@@ -4,14 +4,14 @@ use mathlib.Core.Bool.{Bool, cond}
 use mathlib.Core.List.{[]}
 use lib.ListN.{length}
 use lib.Dec.{eqb}
-use Rattle.lengths.specs.Answers.{Answer, done, refused}
-use Rattle.packets.specs.Packet.{PacketAnswer}
-use Rattle.packets.specs.Promise.{paddedFields}
-use Rattle.packets.specs.declared.types.PacketKind.{PacketKind}
-use Rattle.packets.specs.declared.types.PacketKind.the-variants.{Indicator, Data}
-use Rattle.packets.specs.declared.types.Ending.{Ending}
-use Rattle.packets.specs.declared.types.Ending.the-variants.{Whole, Repaired}
-use Rattle.host_answers.specs.declared.packet.PacketFound.{PacketFound}
+use Rattle.length.specs.Answers.{Answer, done, refused}
+use Rattle.packet.specs.Packet.{PacketAnswer}
+use Rattle.packet.specs.Promise.{paddedFields}
+use Rattle.packet.specs.declared.types.PacketKind.{PacketKind}
+use Rattle.packet.specs.declared.types.PacketKind.the-variants.{Indicator, Data}
+use Rattle.packet.specs.declared.types.Ending.{Ending}
+use Rattle.packet.specs.declared.types.Ending.the-variants.{Whole, Repaired}
+use Rattle.host_answers.specs.declared.packet_answers.PacketFound.{PacketFound}
 
 -- repaired, or received or a spare
 abbrev pub endingNamed : Bool → Ending

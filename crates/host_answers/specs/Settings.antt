@@ -2,8 +2,8 @@
 use Prim.Native.Nat.{ℕ}
 use mathlib.Core.Path.{_≡_}
 use mathlib.Core.Bool.{Bool, cond}
-use Rattle.sending.specs.declared.Settings.{Settings}
-use Rattle.sending.specs.declared.Settings.the-variants as settings
+use Rattle.sender.specs.declared.Settings.{Settings}
+use Rattle.sender.specs.declared.Settings.the-variants as settings
 
 -- m messages over n packets each, or so many spares
 abbrev pub settingsOf : Bool → ℕ → ℕ → Settings

@@ -1,11 +1,11 @@
 // The answer of a call in numbers.
-use held::ReleaseKind;
-use leaving::Released;
-use lengths::Written;
-use offering::Offered;
+use length::Written;
+use session_held::ReleaseKind;
+use session_offer::Offered;
+use session_release::Released;
 ghost use mathlib.Core.Path.{_≡_};
-ghost use Rattle.held.specs.Table.{stateOf};
-ghost use Rattle.lines.specs.Lines.{kindOctet};
+ghost use Rattle.session_held.specs.Table.{stateOf};
+ghost use Rattle.line.specs.Lines.{kindOctet};
 ghost use Rattle.host_answers.specs.Answers.{OfferedTold, ReleasedTold, WrittenTold};
 
 // 0, or the number of the refusal and its place.

@@ -1,6 +1,6 @@
 // What a joiner answers, in numbers. Whether it is tainted is an octet in the host's memory, 0 or 1: a bool there could hold what is none.
-use frames::Handed;
-use lengths::Refusal;
+use frame::Handed;
+use length::Refusal;
 ghost use mathlib.Core.Path.{_≡_};
 ghost use lib.Dec.{ltb};
 ghost use Rattle.host_answers.specs.Joiner.{flagOf, outside, FrameTold};

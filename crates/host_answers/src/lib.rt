@@ -2,7 +2,7 @@
 // kind of answer, or reads one kind of choice.
 mod answers;
 mod joiner;
-mod packet;
+mod packet_answers;
 mod settings;
 
 pub use answers::Answered;
@@ -18,9 +18,9 @@ pub use joiner::flag;
 pub use joiner::frame_told;
 pub use joiner::no_flag;
 pub use joiner::no_joiner;
-pub use packet::PacketFound;
-pub use packet::ending_of;
-pub use packet::kind_named;
-pub use packet::kind_told;
-pub use packet::no_kind;
+pub use packet_answers::PacketFound;
+pub use packet_answers::ending_of;
+pub use packet_answers::kind_named;
+pub use packet_answers::kind_told;
+pub use packet_answers::no_kind;
 pub use settings::settings_of;

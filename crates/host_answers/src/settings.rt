@@ -1,5 +1,5 @@
 // The settings of a send, as C names them.
-use sending::Settings;
+use sender::Settings;
 ghost use Rattle.host_answers.specs.Settings.{SettingsTold};
 
 // So many messages, each over n packets, or so many spares.

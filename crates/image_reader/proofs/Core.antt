@@ -7,14 +7,14 @@ use mathlib.Core.List.{List, []}
 use lib.ListN.{length}
 use lib.Dec.{eqb}
 use native.Mathlib.Omega.{arith}
-use Rattle.lengths.specs.Refusals.{badImage}
-use Rattle.lengths.specs.Answers.{done, refuse}
-use Rattle.formats.specs.Reading.{Finding, found, stopped}
-use Rattle.formats.specs.Format.{Format, _⊳_}
-use Rattle.views.specs.View.{View}
-use Rattle.images.specs.Parts.{upTo, readWhole, lineFront, line}
-use Rattle.images.specs.Layout as layout
-use Rattle.images.specs.Layout.{ImageVersion, firstImageLine, viewFrom, image}
+use Rattle.length.specs.Refusals.{badImage}
+use Rattle.length.specs.Answers.{done, refuse}
+use Rattle.format.specs.Reading.{Finding, found, stopped}
+use Rattle.format.specs.Format.{Format, _⊳_}
+use Rattle.session.specs.View.{View}
+use Rattle.image.specs.Parts.{upTo, readWhole, lineFront, line}
+use Rattle.image.specs.Layout as layout
+use Rattle.image.specs.Layout.{ImageVersion, firstImageLine, viewFrom, image}
 use Rattle.image_reader.specs.Laying.{Lengths}
 use Rattle.image_reader.specs.Whole.{FirstLineTold, NoFirst, firstTold, numberLines, LinesLaid, LinesTold, Cleared, CoreTold}
 use Rattle.image_reader.specs.declared.whole.First.{First}

@@ -10,9 +10,9 @@ use native.Mathlib.Omega.{arith}
 use borrow.Author.Count.{below-more}
 use Rattle.octets.specs.Place.{allBelow}
 use Rattle.octets.proofs.Laws.{allBelow-at, allBelow-more, below-or-not}
-use Rattle.lines.specs.Hex.{digitOf, noDigit}
-use Rattle.lines.specs.FeedPromise.{lookedAt}
-use Rattle.images.specs.Parts.{upperDigit}
+use Rattle.line.specs.Hex.{digitOf, noDigit}
+use Rattle.line.specs.FeedPromise.{lookedAt}
+use Rattle.image.specs.Parts.{upperDigit}
 use Rattle.image_reader.specs.Text.{upperAt, UpperTo, UpperRun}
 
 -- ---- one character: what is so of each of 256 octets is computed

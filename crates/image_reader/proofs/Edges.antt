@@ -8,14 +8,14 @@ use lib.Seq.{getD-drop}
 use lib.Dec.{ltb, eqb}
 use native.Mathlib.Omega.{arith}
 use borrow.Author.Tests.{le-ltb, ltb-false, eq-eqb, eqb-true}
-use Rattle.lengths.specs.Refusals.{refusal, badImage}
-use Rattle.lengths.specs.Answers.{done}
-use Rattle.lengths.proofs.Laws.{not-done, done-same, cond-met}
-use Rattle.formats.specs.Reading.{Finding, found, stopped, andThen, foundFrom}
-use Rattle.formats.specs.Reading as reading
-use Rattle.formats.specs.Format.{Format, guarded, _⊳_}
-use Rattle.formats.proofs.Laws.{octetwise-edge}
-use Rattle.images.specs.Parts.{upTo, readWhole, highFirst, highFirstOctets, numberFront, number}
+use Rattle.length.specs.Refusals.{refusal, badImage}
+use Rattle.length.specs.Answers.{done}
+use Rattle.length.proofs.Laws.{not-done, done-same, cond-met}
+use Rattle.format.specs.Reading.{Finding, found, stopped, andThen, foundFrom}
+use Rattle.format.specs.Reading as reading
+use Rattle.format.specs.Format.{Format, guarded, _⊳_}
+use Rattle.format.proofs.Laws.{octetwise-edge}
+use Rattle.image.specs.Parts.{upTo, readWhole, highFirst, highFirstOctets, numberFront, number}
 
 -- ---- steps
 pub record Stepped {A B : Type 0} (r : Finding A) (next : A → ℕ → Finding B) (b : B) (q : ℕ) : Type 0 where

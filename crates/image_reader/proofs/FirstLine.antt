@@ -9,13 +9,13 @@ use lib.Seq.{getD-drop}
 use lib.Dec.{eqb}
 use native.Mathlib.Omega.{arith}
 use borrow.Author.Tests.{eq-eqb, eqb-true}
-use Rattle.lengths.specs.Answers.{done}
-use Rattle.formats.specs.Reading.{found}
-use Rattle.formats.specs.Format.{Format, _⊳_}
-use Rattle.images.specs.Parts.{readWhole, highFirst, number, octetIs}
-use Rattle.images.specs.Layout as layout
-use Rattle.images.specs.Layout.{ImageVersion, firstFrom, firstImageLine}
-use Rattle.images.specs.Image.{firstImageSize}
+use Rattle.length.specs.Answers.{done}
+use Rattle.format.specs.Reading.{found}
+use Rattle.format.specs.Format.{Format, _⊳_}
+use Rattle.image.specs.Parts.{readWhole, highFirst, number, octetIs}
+use Rattle.image.specs.Layout as layout
+use Rattle.image.specs.Layout.{ImageVersion, firstFrom, firstImageLine}
+use Rattle.image.specs.Image.{firstImageSize}
 use Rattle.image_reader.specs.Whole.{FirstIs, FirstImageTold, NoFirst}
 use Rattle.image_reader.specs.declared.whole.First.{First}
 use Rattle.image_reader.proofs.Edges.{stepped, then-found, whole-done, done-whole, number-at, number-found, octet-at, octet-found}

@@ -10,20 +10,20 @@ use lib.Dec.{ltb}
 use native.Mathlib.Nat.{suc-mul, mul-le-mul-right}
 use native.Mathlib.Omega.{arith}
 use borrow.Author.Tests.{lt-ltb, ltb-true}
-use Rattle.lengths.specs.Refusals.{refusal, badImage}
-use Rattle.lengths.specs.Answers.{Answer, done, refused}
-use Rattle.lengths.proofs.Laws.{bind-done, done-same, cond-met, sizes-read}
-use Rattle.datagrams.specs.Sizes.{packetLimit, messageLeast, messagesLimit}
-use Rattle.datagrams.specs.Read.{after, itemAt, itemsAt, endOf}
-use Rattle.datagrams.specs.declared.reader.Part.{Part}
-use Rattle.datagrams.proofs.Laws.{item-done}
-use Rattle.formats.specs.Reading.{found, stopped}
-use Rattle.formats.specs.Format.{Format}
-use Rattle.lines.specs.Hex.{octetsIn}
-use Rattle.images.specs.Parts.{readWhole, taking, lineAt, upperPairs, readLine, lineFront}
-use Rattle.images.specs.Layout as layout
-use Rattle.images.specs.Layout.{firstImageLine}
-use Rattle.images.specs.Image.{firstImageSize, longestItem, numberLineLimit}
+use Rattle.length.specs.Refusals.{refusal, badImage}
+use Rattle.length.specs.Answers.{Answer, done, refused}
+use Rattle.length.proofs.Laws.{bind-done, done-same, cond-met, sizes-read}
+use Rattle.datagram.specs.Sizes.{packetLimit, messageLeast, messagesLimit}
+use Rattle.datagram.specs.Read.{after, itemAt, itemsAt, endOf}
+use Rattle.datagram.specs.declared.reader.Part.{Part}
+use Rattle.datagram.proofs.Laws.{item-done}
+use Rattle.format.specs.Reading.{found, stopped}
+use Rattle.format.specs.Format.{Format}
+use Rattle.line.specs.Hex.{octetsIn}
+use Rattle.image.specs.Parts.{readWhole, taking, lineAt, upperPairs, readLine, lineFront}
+use Rattle.image.specs.Layout as layout
+use Rattle.image.specs.Layout.{firstImageLine}
+use Rattle.image.specs.Image.{firstImageSize, longestItem, numberLineLimit}
 use Rattle.image_reader.specs.Text.{LineTaken}
 use Rattle.image_reader.specs.Number.{NumberIs, LineParts}
 use Rattle.image_reader.specs.Whole.{FirstImageTold, FirstLineTold, NoFirst, firstTold}

@@ -7,18 +7,18 @@ use lib.Seq.{drop-drop}
 use lib.Dec.{ltb}
 use native.Mathlib.Omega.{arith}
 use borrow.Author.Tests.{le-ltb, ltb-false}
-use Rattle.lengths.specs.Answers.{Answer, done, refused, LengthAnswer}
-use Rattle.lengths.specs.Length.{lengthWithin}
-use Rattle.lengths.proofs.Laws.{bind-done, from-done, done-same, cond-past}
-use Rattle.datagrams.specs.Sizes.{messageLeast}
-use Rattle.datagrams.specs.Read.{after, octetsOf, lengthFrom, itemAt, itemsAt, endOf}
-use Rattle.datagrams.specs.declared.reader.Part.{Part}
-use Rattle.formats.specs.Reading.{found, andThen, foundFrom}
-use Rattle.formats.specs.Reading as reading
-use Rattle.formats.specs.Format.{sequenceOf}
-use Rattle.formats.proofs.Laws.{octetwise-edge}
-use Rattle.images.specs.Parts.{partTaken, itemFront, itemTo, Sendable}
-use Rattle.datagrams.specs.Write.{itemOctets}
+use Rattle.length.specs.Answers.{Answer, done, refused, LengthAnswer}
+use Rattle.length.specs.Length.{lengthWithin}
+use Rattle.length.proofs.Laws.{bind-done, from-done, done-same, cond-past}
+use Rattle.datagram.specs.Sizes.{messageLeast}
+use Rattle.datagram.specs.Read.{after, octetsOf, lengthFrom, itemAt, itemsAt, endOf}
+use Rattle.datagram.specs.declared.reader.Part.{Part}
+use Rattle.format.specs.Reading.{found, andThen, foundFrom}
+use Rattle.format.specs.Reading as reading
+use Rattle.format.specs.Format.{sequenceOf}
+use Rattle.format.proofs.Laws.{octetwise-edge}
+use Rattle.image.specs.Parts.{partTaken, itemFront, itemTo, Sendable}
+use Rattle.datagram.specs.Write.{itemOctets}
 use Rattle.image_reader.proofs.Edges.{stepped}
 
 -- ---- packets and messages

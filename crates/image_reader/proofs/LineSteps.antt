@@ -5,11 +5,11 @@ use mathlib.Core.Bool.{Bool, true, false}
 use mathlib.Core.List.{List}
 use lib.ListN.{length, take}
 use native.Mathlib.Omega.{arith}
-use Rattle.datagrams.specs.Sizes.{packetLimit}
-use Rattle.lines.specs.Hex.{octetsIn}
-use Rattle.images.specs.Parts.{lineAt}
-use Rattle.images.specs.Layout.{numberLine}
-use Rattle.images.specs.Image.{numberLineLimit}
+use Rattle.datagram.specs.Sizes.{packetLimit}
+use Rattle.line.specs.Hex.{octetsIn}
+use Rattle.image.specs.Parts.{lineAt}
+use Rattle.image.specs.Layout.{numberLine}
+use Rattle.image.specs.Image.{numberLineLimit}
 use Rattle.image_reader.specs.Text.{LineTaken}
 use Rattle.image_reader.specs.Number.{numberBy, partsOf, NumberTold}
 use Rattle.image_reader.specs.Laying.{LineFits, LaysNumber}

@@ -8,16 +8,16 @@ use lib.ListN.{length, getD, set, take, drop, length-set, length-drop, length-ma
 use lib.Seq.{getD-set-same, getD-set-other, getD-take, length-take-le}
 use native.Mathlib.Omega.{arith}
 use Rattle.octets.proofs.Laws.{same-or-not, below-or-not}
-use Rattle.datagrams.specs.Sizes.{packetLimit, messageLeast, messageLimit, messagesLimit}
-use Rattle.datagrams.specs.Read.{octetsOf}
-use Rattle.datagrams.specs.Promise.{nowhere}
-use Rattle.datagrams.specs.Claims.{PartInside}
-use Rattle.datagrams.specs.declared.reader.Part.{Part}
-use Rattle.stores.specs.Store.{HasSlot, pasted}
-use Rattle.stores.proofs.Laws.{length-pasted, part-pasted, part-pasted-other, zerosPast-pasted, zerosPast-other}
-use Rattle.held.specs.Slots.{slotsHeard, slotsMessages, messageOctets, messageSlot}
-use Rattle.held.specs.Table.{places, messagePlace, keptSet}
-use Rattle.held.proofs.Laws.{message-small, message-apart, has-message-slot}
+use Rattle.datagram.specs.Sizes.{packetLimit, messageLeast, messageLimit, messagesLimit}
+use Rattle.datagram.specs.Read.{octetsOf}
+use Rattle.datagram.specs.Promise.{nowhere}
+use Rattle.datagram.specs.Claims.{PartInside}
+use Rattle.datagram.specs.declared.reader.Part.{Part}
+use Rattle.session_slots.specs.Store.{HasSlot, pasted}
+use Rattle.session_slots.proofs.Laws.{length-pasted, part-pasted, part-pasted-other, zerosPast-pasted, zerosPast-other}
+use Rattle.session_held.specs.Slots.{slotsHeard, slotsMessages, messageOctets, messageSlot}
+use Rattle.session_held.specs.Table.{places, messagePlace, keptSet}
+use Rattle.session_held.proofs.Laws.{message-small, message-apart, has-message-slot}
 use Rattle.image_reader.specs.Laying.{MessageIs, MessagesAre, PartLaid, KeptLaid, MessageLaid, MessagesFit, MessagesLaid}
 
 -- ---- a part has as many octets as it says

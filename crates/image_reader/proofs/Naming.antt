@@ -7,9 +7,9 @@ use lib.ListN.{length, getD, take, drop}
 use lib.Seq.{length-take-le}
 use native.Mathlib.Omega.{arith}
 use Rattle.octets.specs.Place.{tab, allBelow}
-use Rattle.lengths.specs.Claims.{Octets}
-use Rattle.lines.specs.Hex.{digitOf, noDigit, allDigits, octetsIn}
-use Rattle.images.specs.Image.{namesEdition, editionNamed}
+use Rattle.length.specs.Claims.{Octets}
+use Rattle.line.specs.Hex.{digitOf, noDigit, allDigits, octetsIn}
+use Rattle.image.specs.Image.{namesEdition, editionNamed}
 use Rattle.image_reader.specs.Text.{UpperRun, EditionTold}
 use Rattle.image_reader.specs.declared.text.Named.the-variants as named
 use Rattle.image_reader.proofs.Digits.{upper-digit}

@@ -7,18 +7,18 @@ use lib.ListN.{length, getD}
 use lib.Dec.{leb, ltb}
 use native.Mathlib.Omega.{arith}
 use borrow.Author.Tests.{leb-true}
-use Rattle.lengths.specs.Answers.{done}
-use Rattle.datagrams.specs.Sizes.{messageLeast, coveredLimit, messagesLimit}
-use Rattle.datagrams.specs.Read.{after, octetsOf, itemAt, itemsAt, endOf}
-use Rattle.datagrams.specs.declared.reader.Part.{Part}
-use Rattle.datagrams.proofs.Laws.{items-done}
-use Rattle.formats.specs.Reading.{found}
-use Rattle.formats.specs.Format.{Format, _⊳_, sequenceOf}
-use Rattle.views.specs.Cells.{State}
-use Rattle.held.specs.Table.{lastState, stateNumbered}
-use Rattle.images.specs.Parts.{readWhole, number, octetTo, itemTo}
-use Rattle.images.specs.Layout as layout
-use Rattle.images.specs.Layout.{fromBase, numberFrom, state, accepted, messages, numberLine}
+use Rattle.length.specs.Answers.{done}
+use Rattle.datagram.specs.Sizes.{messageLeast, coveredLimit, messagesLimit}
+use Rattle.datagram.specs.Read.{after, octetsOf, itemAt, itemsAt, endOf}
+use Rattle.datagram.specs.declared.reader.Part.{Part}
+use Rattle.datagram.proofs.Laws.{items-done}
+use Rattle.format.specs.Reading.{found}
+use Rattle.format.specs.Format.{Format, _⊳_, sequenceOf}
+use Rattle.session.specs.Cells.{State}
+use Rattle.session_held.specs.Table.{lastState, stateNumbered}
+use Rattle.image.specs.Parts.{readWhole, number, octetTo, itemTo}
+use Rattle.image.specs.Layout as layout
+use Rattle.image.specs.Layout.{fromBase, numberFrom, state, accepted, messages, numberLine}
 use Rattle.image_reader.specs.Number.{TailIs, LineParts, NumberIs, numberBy}
 use Rattle.image_reader.proofs.Edges.{stepped, then-found, done-whole, number-found, octet-found}
 use Rattle.image_reader.proofs.ItemEdges.{item-found, items-found}

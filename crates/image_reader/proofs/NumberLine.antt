@@ -8,13 +8,13 @@ use lib.Seq.{getD-drop}
 use lib.Dec.{leb, ltb}
 use native.Mathlib.Omega.{arith}
 use borrow.Author.Tests.{le-leb}
-use Rattle.lengths.specs.Answers.{done}
-use Rattle.datagrams.specs.Sizes.{coveredLimit, messagesLimit}
-use Rattle.datagrams.specs.Read.{after, octetsOf}
-use Rattle.formats.specs.Reading.{found}
-use Rattle.held.specs.Table.{lastState, stateNumbered}
-use Rattle.images.specs.Parts.{readWhole, highFirst, number, octetTo}
-use Rattle.images.specs.Layout.{fromBase, state, accepted, messages, numberLine}
+use Rattle.length.specs.Answers.{done}
+use Rattle.datagram.specs.Sizes.{coveredLimit, messagesLimit}
+use Rattle.datagram.specs.Read.{after, octetsOf}
+use Rattle.format.specs.Reading.{found}
+use Rattle.session_held.specs.Table.{lastState, stateNumbered}
+use Rattle.image.specs.Parts.{readWhole, highFirst, number, octetTo}
+use Rattle.image.specs.Layout.{fromBase, state, accepted, messages, numberLine}
 use Rattle.image_reader.specs.Number.{LineParts, NumberIs, numberBy}
 use Rattle.image_reader.proofs.Edges.{whole-done, number-at, octet-at}
 use Rattle.image_reader.proofs.ItemEdges.{item-at, items-at}

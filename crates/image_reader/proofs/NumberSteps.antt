@@ -6,14 +6,14 @@ use mathlib.Core.Bool.{Bool, true, false}
 use mathlib.Core.List.{List}
 use lib.ListN.{length, getD, take}
 use native.Mathlib.Omega.{arith}
-use Rattle.lengths.specs.Answers.{done}
-use Rattle.lengths.proofs.Laws.{done-same}
-use Rattle.datagrams.specs.Sizes.{messageLeast, coveredLimit, messagesLimit}
-use Rattle.datagrams.specs.Read.{itemsAt, endOf}
-use Rattle.datagrams.specs.declared.reader.Part.{Part}
-use Rattle.datagrams.proofs.Laws.{items-done}
-use Rattle.held.specs.Table.{lastState}
-use Rattle.images.specs.Layout.{fromBase}
+use Rattle.length.specs.Answers.{done}
+use Rattle.length.proofs.Laws.{done-same}
+use Rattle.datagram.specs.Sizes.{messageLeast, coveredLimit, messagesLimit}
+use Rattle.datagram.specs.Read.{itemsAt, endOf}
+use Rattle.datagram.specs.declared.reader.Part.{Part}
+use Rattle.datagram.proofs.Laws.{items-done}
+use Rattle.session_held.specs.Table.{lastState}
+use Rattle.image.specs.Layout.{fromBase}
 use Rattle.image_reader.specs.Items.{ItemTold, ItemsTold}
 use Rattle.image_reader.specs.Number.{TailIs, TailTold, NoTail, LineParts, NumberIs, NumberTold, NoNumber}
 use Rattle.image_reader.specs.declared.items.Item.{Item}

@@ -9,18 +9,18 @@ use lib.Seq.{take-all, take-suc-set, append-snoc}
 use native.Mathlib.Numerals.{add-one}
 use native.Mathlib.Omega.{arith}
 use borrow.Author.Tests.{lt-ltb, le-ltb}
-use Rattle.lengths.specs.Answers.{Answer, done, refused, _>>=_, readFrom, lengthOutcome}
-use Rattle.lengths.specs.Length.{lengthWithin}
-use Rattle.lengths.specs.Promise.{WithinRead}
-use Rattle.lengths.specs.declared.Refusal.{Refusal}
-use Rattle.lengths.specs.declared.Length.{Length}
-use Rattle.lengths.specs.declared.Length.the-variants as length
-use Rattle.lengths.proofs.Laws.{not-done, bind-done}
-use Rattle.datagrams.specs.Sizes.{messageLeast, messagesLimit}
-use Rattle.datagrams.specs.Read.{after, lengthFrom, itemAt, itemsAt, endOf}
-use Rattle.datagrams.specs.Promise.{nowhere}
-use Rattle.datagrams.specs.declared.reader.Part.{Part}
-use Rattle.datagrams.proofs.Laws.{within-ends, item-done}
+use Rattle.length.specs.Answers.{Answer, done, refused, _>>=_, readFrom, lengthOutcome}
+use Rattle.length.specs.Length.{lengthWithin}
+use Rattle.length.specs.Promise.{WithinRead}
+use Rattle.length.specs.declared.Refusal.{Refusal}
+use Rattle.length.specs.declared.Length.{Length}
+use Rattle.length.specs.declared.Length.the-variants as length
+use Rattle.length.proofs.Laws.{not-done, bind-done}
+use Rattle.datagram.specs.Sizes.{messageLeast, messagesLimit}
+use Rattle.datagram.specs.Read.{after, lengthFrom, itemAt, itemsAt, endOf}
+use Rattle.datagram.specs.Promise.{nowhere}
+use Rattle.datagram.specs.declared.reader.Part.{Part}
+use Rattle.datagram.proofs.Laws.{within-ends, item-done}
 use Rattle.image_reader.specs.Items.{NoItem, ItemTold, ItemsTold}
 use Rattle.image_reader.specs.declared.items.Item.{Item}
 use Rattle.image_reader.specs.declared.items.Item.the-variants as item

@@ -9,20 +9,20 @@ use mathlib.Core.List.{List}
 use borrow.Author.Tests.{ne-eqb}
 use lib.ListN.{getD, replicate, length-replicate, getD-replicate, List·getD-eq-default}
 use Rattle.octets.proofs.Laws.{true-or-false, below-or-not}
-use Rattle.lengths.specs.Refusals.{outsideRanges, badImage, otherEdition}
-use Rattle.lengths.specs.Answers.{done, refuse}
-use Rattle.views.specs.Ranges.{inRanges}
-use Rattle.views.proofs.Laws.{sound-of, inRanges-of}
-use Rattle.held.specs.Slots.{keptOctets, messageOctets}
-use Rattle.held.specs.Table.{Lent, lent, viewIn, places}
-use Rattle.held.specs.Laid.{lentInRanges, Laid, InRanges}
-use Rattle.held.proofs.Laws.{length-cells, length-held, in-ranges-of, in-ranges-true}
-use Rattle.images.specs.Layout.{ImageVersion, imageVersion01, imageVersion02}
-use Rattle.images.specs.Image.{inRangesOnly, readImage, namesEdition, editionNamed, readText}
-use Rattle.images.specs.Promise.{ImageRead}
-use Rattle.images.specs.declared.Restore.the-variants as restore
-use Rattle.images.specs.declared.Restored.{Restored}
-use Rattle.images.proofs.Laws.{read-lines, by01, by02}
+use Rattle.length.specs.Refusals.{outsideRanges, badImage, otherEdition}
+use Rattle.length.specs.Answers.{done, refuse}
+use Rattle.session.specs.Ranges.{inRanges}
+use Rattle.session.proofs.Laws.{sound-of, inRanges-of}
+use Rattle.session_held.specs.Slots.{keptOctets, messageOctets}
+use Rattle.session_held.specs.Table.{Lent, lent, viewIn, places}
+use Rattle.session_held.specs.Laid.{lentInRanges, Laid, InRanges}
+use Rattle.session_held.proofs.Laws.{length-cells, length-held, in-ranges-of, in-ranges-true}
+use Rattle.image.specs.Layout.{ImageVersion, imageVersion01, imageVersion02}
+use Rattle.image.specs.Image.{inRangesOnly, readImage, namesEdition, editionNamed, readText}
+use Rattle.image.specs.Promise.{ImageRead}
+use Rattle.image.specs.declared.Restore.the-variants as restore
+use Rattle.image.specs.declared.Restored.{Restored}
+use Rattle.image.proofs.Laws.{read-lines, by01, by02}
 use Rattle.image_reader.specs.Text.{EditionTold}
 use Rattle.image_reader.specs.Whole.{Cleared, CoreTold, EditionRead, NothingRestored}
 use Rattle.image_reader.specs.declared.text.Named.{Named}

@@ -9,19 +9,19 @@ use lib.ListN.{length, getD, take, length-append, length-map, length-take, lengt
 use lib.Seq.{getD-at, getD-take}
 use native.Mathlib.Omega.{arith}
 use Rattle.octets.proofs.Laws.{same-or-not, below-or-not}
-use Rattle.datagrams.specs.Sizes.{packetLimit, messageLeast, messageLimit, messagesLimit}
-use Rattle.datagrams.specs.Read.{after, octetsOf}
-use Rattle.datagrams.specs.Promise.{nowhere}
-use Rattle.datagrams.specs.Claims.{PartInside}
-use Rattle.datagrams.proofs.Laws.{item-done, items-each}
-use Rattle.stores.specs.Store.{HasSlot, pasted, zerosPast}
-use Rattle.stores.proofs.Laws.{length-pasted}
-use Rattle.views.specs.Cells.{keptBefore, keptAhead, keptNumbers}
-use Rattle.held.specs.Slots.{slotAt, heardSlotAt, keptOctets}
-use Rattle.held.specs.Table.{places, markPlace, keptSet, heardSet}
-use Rattle.held.proofs.Laws.{slot-small, heard-small, slot-apart, heard-apart, has-packet-slot, long-kept, beyond}
-use Rattle.images.specs.Layout as layout
-use Rattle.images.specs.Layout.{fromBase}
+use Rattle.datagram.specs.Sizes.{packetLimit, messageLeast, messageLimit, messagesLimit}
+use Rattle.datagram.specs.Read.{after, octetsOf}
+use Rattle.datagram.specs.Promise.{nowhere}
+use Rattle.datagram.specs.Claims.{PartInside}
+use Rattle.datagram.proofs.Laws.{item-done, items-each}
+use Rattle.session_slots.specs.Store.{HasSlot, pasted, zerosPast}
+use Rattle.session_slots.proofs.Laws.{length-pasted}
+use Rattle.session.specs.Cells.{keptBefore, keptAhead, keptNumbers}
+use Rattle.session_held.specs.Slots.{slotAt, heardSlotAt, keptOctets}
+use Rattle.session_held.specs.Table.{places, markPlace, keptSet, heardSet}
+use Rattle.session_held.proofs.Laws.{slot-small, heard-small, slot-apart, heard-apart, has-packet-slot, long-kept, beyond}
+use Rattle.image.specs.Layout as layout
+use Rattle.image.specs.Layout.{fromBase}
 use Rattle.image_reader.specs.Number.{numberBy, partsOf}
 use Rattle.image_reader.specs.Laying.{KeptIs, MessagesAre, HeldIs, notYet, Lengths, Filled, KeptLaid, MessagesFit, MessagesLaid}
 use Rattle.image_reader.specs.Laying.{LineFits, LaysNumber}

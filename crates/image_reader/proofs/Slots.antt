@@ -8,16 +8,17 @@ use lib.Seq.{getD-set-same, getD-set-other}
 use lib.Dec.{ltb}
 use native.Mathlib.Omega.{arith}
 use borrow.Author.Tests.{ltb-true, ltb-false}
-use Rattle.datagrams.specs.Sizes.{packetLimit, messagesLimit}
-use Rattle.formats.specs.Format.{flagBit}
-use Rattle.stores.specs.Store.{HasSlot, pasted, zerosPast}
-use Rattle.stores.proofs.Laws.{part-pasted, part-pasted-other, zerosPast-pasted, zerosPast-other}
-use Rattle.views.specs.Cells.{Cell}
-use Rattle.views.specs.Held.{Held}
-use Rattle.held.specs.Slots.{slotsKept, slotsHeard, messageSlot}
-use Rattle.held.specs.Table.{places, lastState, statePlace, sizePlace, notePlace, markPlace, nPlace, mPlace, messagePlace, stateNumbered}
-use Rattle.held.specs.Table.{stateIn, keptSet, heardSet}
-use Rattle.held.proofs.Laws.{kept-elsewhere}
+use Rattle.datagram.specs.Sizes.{packetLimit, messagesLimit}
+use Rattle.format.specs.Format.{flagBit}
+use Rattle.session_slots.specs.Store.{HasSlot, pasted, zerosPast}
+use Rattle.session_slots.proofs.Laws.{part-pasted, part-pasted-other, zerosPast-pasted, zerosPast-other}
+use Rattle.session.specs.Cells.{Cell}
+use Rattle.session.specs.Held.{Held}
+use Rattle.session_held.specs.Slots.{slotsKept, slotsHeard, messageSlot}
+use Rattle.session_held.specs.Table.{places, lastState, statePlace, sizePlace, notePlace, markPlace, nPlace, mPlace, messagePlace}
+use Rattle.session_held.specs.Table.{stateNumbered}
+use Rattle.session_held.specs.Table.{stateIn, keptSet, heardSet}
+use Rattle.session_held.proofs.Laws.{kept-elsewhere}
 use Rattle.image_reader.specs.Laying.{KeptIs, MessagesAre, HeldIs}
 
 -- ---- where the table is written

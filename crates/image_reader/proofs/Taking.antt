@@ -10,12 +10,12 @@ use lib.Dec.{ltb, eqb}
 use native.Mathlib.Omega.{arith}
 use borrow.Author.Tests.{eq-eqb, ne-eqb}
 use Rattle.octets.proofs.Laws.{allBelow-of, and-both, below-or-not}
-use Rattle.lengths.specs.Claims.{Octets}
-use Rattle.lines.specs.Hex.{digitOf, noDigit, allDigits, octetsIn}
-use Rattle.lines.specs.Lines.{lineFeed}
-use Rattle.lines.proofs.Laws.{length-octetsIn}
-use Rattle.images.specs.Parts.{lineAt, upperDigit, upperPairs}
-use Rattle.images.proofs.Laws.{pairs-of}
+use Rattle.length.specs.Claims.{Octets}
+use Rattle.line.specs.Hex.{digitOf, noDigit, allDigits, octetsIn}
+use Rattle.line.specs.Lines.{lineFeed}
+use Rattle.line.proofs.Laws.{length-octetsIn}
+use Rattle.image.specs.Parts.{lineAt, upperDigit, upperPairs}
+use Rattle.image.proofs.Laws.{pairs-of}
 use Rattle.image_reader.specs.Text.{UpperTo, UpperRun, LineOctets, LineTaken}
 use Rattle.image_reader.specs.declared.text.Taken.{Taken}
 use Rattle.image_reader.specs.declared.text.Taken.the-variants as taken

@@ -7,17 +7,17 @@ use mathlib.Core.List.{List, [], _∷_, _++_, append-nil, append-assoc}
 use lib.ListN.{length, take, drop, length-append, length-drop}
 use lib.Seq.{take-all, append-snoc}
 use native.Mathlib.Omega.{arith}
-use Rattle.datagrams.specs.Sizes.{packetLimit}
-use Rattle.formats.specs.Reading.{Finding, found, stopped, andThen, foundFrom}
-use Rattle.formats.specs.Reading as reading
-use Rattle.formats.specs.Format.{Format}
-use Rattle.formats.proofs.Laws.{octetwise-edge}
-use Rattle.lines.specs.Lines.{lineOf}
-use Rattle.views.specs.Cells.{keptBefore, keptAhead}
-use Rattle.images.specs.Parts.{octetsFor, lineFront, line}
-use Rattle.images.specs.Layout as layout
-use Rattle.images.specs.Layout.{numberLine, fromBase}
-use Rattle.images.specs.Image.{numberLineLimit}
+use Rattle.datagram.specs.Sizes.{packetLimit}
+use Rattle.format.specs.Reading.{Finding, found, stopped, andThen, foundFrom}
+use Rattle.format.specs.Reading as reading
+use Rattle.format.specs.Format.{Format}
+use Rattle.format.proofs.Laws.{octetwise-edge}
+use Rattle.line.specs.Lines.{lineOf}
+use Rattle.session.specs.Cells.{keptBefore, keptAhead}
+use Rattle.image.specs.Parts.{octetsFor, lineFront, line}
+use Rattle.image.specs.Layout as layout
+use Rattle.image.specs.Layout.{numberLine, fromBase}
+use Rattle.image.specs.Image.{numberLineLimit}
 use Rattle.image_reader.specs.Laying.{Lengths, Filled}
 use Rattle.image_reader.specs.Whole.{LineTold, LinesTold}
 use Rattle.image_reader.specs.declared.whole.Reached.{Reached}

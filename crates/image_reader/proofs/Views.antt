@@ -10,20 +10,20 @@ use lib.Dec.{eqb}
 use native.Mathlib.Omega.{arith}
 use Rattle.octets.specs.Place.{tab}
 use Rattle.octets.proofs.Laws.{tab-ext, tab-getD, tab-take}
-use Rattle.datagrams.specs.Sizes.{packetLimit, messagesLimit}
-use Rattle.formats.specs.Format.{flagBit}
-use Rattle.stores.specs.Store.{part, zerosPast}
-use Rattle.stores.proofs.Laws.{zerosPast-zeros}
-use Rattle.views.specs.Cells.{Cell, unknownCell, keptBefore, keptAhead, keptNumbers}
-use Rattle.views.specs.Held.{Held, nothingHeld}
-use Rattle.held.specs.Slots.{slotsKept, slotsHeard, slotAt, heardSlotAt, messageSlot}
-use Rattle.held.specs.Table.{lent, countsOf, markIn, mIn, messageSizeIn, stateNumbered, statePlace, sizePlace}
-use Rattle.held.specs.Table.{notePlace, markPlace, nPlace, mPlace, messagePlace, cellIn, messageIn, heldIn, cellsOf, heldOf, viewIn}
-use Rattle.held.specs.Laid.{Laid}
-use Rattle.held.specs.declared.Counts.{Counts}
-use Rattle.held.proofs.Laws.{slot-of, heard-slot-of, cell-parts}
-use Rattle.images.specs.Layout as layout
-use Rattle.images.specs.Layout.{viewFrom}
+use Rattle.datagram.specs.Sizes.{packetLimit, messagesLimit}
+use Rattle.format.specs.Format.{flagBit}
+use Rattle.session_slots.specs.Store.{part, zerosPast}
+use Rattle.session_slots.proofs.Laws.{zerosPast-zeros}
+use Rattle.session.specs.Cells.{Cell, unknownCell, keptBefore, keptAhead, keptNumbers}
+use Rattle.session.specs.Held.{Held, nothingHeld}
+use Rattle.session_held.specs.Slots.{slotsKept, slotsHeard, slotAt, heardSlotAt, messageSlot}
+use Rattle.session_held.specs.Table.{lent, countsOf, markIn, mIn, messageSizeIn, stateNumbered, statePlace, sizePlace}
+use Rattle.session_held.specs.Table.{notePlace, markPlace, nPlace, mPlace, messagePlace, cellIn, messageIn, heldIn, cellsOf, heldOf, viewIn}
+use Rattle.session_held.specs.Laid.{Laid}
+use Rattle.session_held.specs.declared.Counts.{Counts}
+use Rattle.session_held.proofs.Laws.{slot-of, heard-slot-of, cell-parts}
+use Rattle.image.specs.Layout as layout
+use Rattle.image.specs.Layout.{viewFrom}
 use Rattle.image_reader.specs.Laying.{KeptIs, MessageIs, HeldIs, notYet, Filled}
 use Rattle.image_reader.specs.Whole.{Cleared}
 

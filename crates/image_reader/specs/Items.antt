@@ -4,10 +4,10 @@ use mathlib.Core.Path.{_≡_}
 use mathlib.Core.Bool.{true, false}
 use mathlib.Core.List.{List}
 use lib.ListN.{take}
-use Rattle.lengths.specs.Answers.{done}
-use Rattle.datagrams.specs.Sizes.{messageLeast}
-use Rattle.datagrams.specs.Read.{itemAt, itemsAt, endOf}
-use Rattle.datagrams.specs.declared.reader.Part.{Part}
+use Rattle.length.specs.Answers.{done}
+use Rattle.datagram.specs.Sizes.{messageLeast}
+use Rattle.datagram.specs.Read.{itemAt, itemsAt, endOf}
+use Rattle.datagram.specs.declared.reader.Part.{Part}
 use Rattle.image_reader.specs.declared.items.Item.{Item}
 use Rattle.image_reader.specs.declared.items.Item.the-variants as item
 use Rattle.image_reader.specs.declared.items.Items.{Items}

@@ -5,20 +5,21 @@ use mathlib.Core.Path.{_≡_}
 use mathlib.Core.Bool.{Bool, true}
 use mathlib.Core.List.{List, [], _∷_, _++_, map}
 use lib.ListN.{length, getD, set, take}
-use Rattle.datagrams.specs.Sizes.{packetLimit, messageLeast, messageLimit, messagesLimit}
-use Rattle.datagrams.specs.Read.{octetsOf}
-use Rattle.datagrams.specs.Promise.{nowhere}
-use Rattle.datagrams.specs.Claims.{PartInside}
-use Rattle.datagrams.specs.declared.reader.Part.{Part}
-use Rattle.formats.specs.Format.{flagBit}
-use Rattle.stores.specs.Store.{part, pasted, zerosPast}
-use Rattle.views.specs.Cells.{Cell, unknownCell, keptBefore, keptAhead, keptNumbers}
-use Rattle.views.specs.Held.{Held, nothingHeld}
-use Rattle.held.specs.Slots.{slotsHeard, keptOctets, messageOctets, slotAt, heardSlotAt, messageSlot}
-use Rattle.held.specs.Table.{places, lastState, stateNumbered, messagePlace, stateIn, sizeIn, noteIn, markIn, nIn, mIn, messageSizeIn}
-use Rattle.held.specs.Table.{keptSet}
-use Rattle.images.specs.Layout as layout
-use Rattle.images.specs.Layout.{fromBase}
+use Rattle.datagram.specs.Sizes.{packetLimit, messageLeast, messageLimit, messagesLimit}
+use Rattle.datagram.specs.Read.{octetsOf}
+use Rattle.datagram.specs.Promise.{nowhere}
+use Rattle.datagram.specs.Claims.{PartInside}
+use Rattle.datagram.specs.declared.reader.Part.{Part}
+use Rattle.format.specs.Format.{flagBit}
+use Rattle.session_slots.specs.Store.{part, pasted, zerosPast}
+use Rattle.session.specs.Cells.{Cell, unknownCell, keptBefore, keptAhead, keptNumbers}
+use Rattle.session.specs.Held.{Held, nothingHeld}
+use Rattle.session_held.specs.Slots.{slotsHeard, keptOctets, messageOctets, slotAt, heardSlotAt, messageSlot}
+use Rattle.session_held.specs.Table.{places, lastState, stateNumbered, messagePlace, stateIn, sizeIn, noteIn, markIn, nIn, mIn}
+use Rattle.session_held.specs.Table.{messageSizeIn}
+use Rattle.session_held.specs.Table.{keptSet}
+use Rattle.image.specs.Layout as layout
+use Rattle.image.specs.Layout.{fromBase}
 use Rattle.image_reader.specs.Number.{numberBy, partsOf, NumberIs}
 use Rattle.image_reader.specs.declared.number.Number.{Number}
 

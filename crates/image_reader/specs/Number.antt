@@ -6,13 +6,13 @@ use mathlib.Core.Bool.{Bool, true, false}
 use mathlib.Core.List.{List, map}
 use lib.ListN.{length, getD, take}
 use lib.Dec.{ltb}
-use Rattle.lengths.specs.Answers.{done}
-use Rattle.datagrams.specs.Sizes.{messageLeast, coveredLimit, messagesLimit}
-use Rattle.datagrams.specs.Read.{after, octetsOf, itemAt, itemsAt, endOf}
-use Rattle.datagrams.specs.declared.reader.Part.{Part}
-use Rattle.held.specs.Table.{lastState, stateNumbered}
-use Rattle.images.specs.Layout as layout
-use Rattle.images.specs.Layout.{fromBase}
+use Rattle.length.specs.Answers.{done}
+use Rattle.datagram.specs.Sizes.{messageLeast, coveredLimit, messagesLimit}
+use Rattle.datagram.specs.Read.{after, octetsOf, itemAt, itemsAt, endOf}
+use Rattle.datagram.specs.declared.reader.Part.{Part}
+use Rattle.session_held.specs.Table.{lastState, stateNumbered}
+use Rattle.image.specs.Layout as layout
+use Rattle.image.specs.Layout.{fromBase}
 use Rattle.image_reader.specs.declared.number.Tail.{Tail}
 use Rattle.image_reader.specs.declared.number.Number.{Number}
 

@@ -4,9 +4,9 @@ use mathlib.Core.Path.{_≡_}
 use mathlib.Core.Bool.{Bool, true, false}
 use mathlib.Core.List.{List, _++_}
 use lib.ListN.{length, getD, drop}
-use Rattle.lines.specs.Hex.{octetsIn}
-use Rattle.images.specs.Parts.{lineAt, upperDigit, upperPairs}
-use Rattle.images.specs.Image.{namesEdition, editionNamed}
+use Rattle.line.specs.Hex.{octetsIn}
+use Rattle.image.specs.Parts.{lineAt, upperDigit, upperPairs}
+use Rattle.image.specs.Image.{namesEdition, editionNamed}
 use Rattle.image_reader.specs.declared.text.Named.{Named}
 use Rattle.image_reader.specs.declared.text.Named.the-variants as named
 use Rattle.image_reader.specs.declared.text.Taken.{Taken}

@@ -4,21 +4,21 @@ use mathlib.Core.Path.{_≡_}
 use mathlib.Core.Bool.{Bool, true, false}
 use mathlib.Core.List.{List, _∷_, [], _++_}
 use lib.ListN.{length, getD, drop}
-use Rattle.lengths.specs.Refusals.{refusal, badImage}
-use Rattle.lengths.specs.Answers.{done, refuse}
-use Rattle.formats.specs.Reading.{found}
-use Rattle.formats.specs.Format.{Format, sequenceOf}
-use Rattle.views.specs.Cells.{keptBefore, keptAhead}
-use Rattle.held.specs.Table.{countsOf, lent, viewIn}
-use Rattle.held.specs.Laid.{Laid}
-use Rattle.held.specs.Promise.{Fresh}
-use Rattle.images.specs.Parts.{readWhole, highFirst, lineFront, line}
-use Rattle.images.specs.Layout as layout
-use Rattle.images.specs.Layout.{numberLine, image, fromBase}
-use Rattle.images.specs.Image.{firstImageSize, readImage}
-use Rattle.images.specs.Promise.{restoredOutcome, Restores}
-use Rattle.images.specs.declared.Restore.the-variants as restore
-use Rattle.images.specs.declared.Restored.{Restored}
+use Rattle.length.specs.Refusals.{refusal, badImage}
+use Rattle.length.specs.Answers.{done, refuse}
+use Rattle.format.specs.Reading.{found}
+use Rattle.format.specs.Format.{Format, sequenceOf}
+use Rattle.session.specs.Cells.{keptBefore, keptAhead}
+use Rattle.session_held.specs.Table.{countsOf, lent, viewIn}
+use Rattle.session_held.specs.Laid.{Laid}
+use Rattle.session_held.specs.Promise.{Fresh}
+use Rattle.image.specs.Parts.{readWhole, highFirst, lineFront, line}
+use Rattle.image.specs.Layout as layout
+use Rattle.image.specs.Layout.{numberLine, image, fromBase}
+use Rattle.image.specs.Image.{firstImageSize, readImage}
+use Rattle.image.specs.Promise.{restoredOutcome, Restores}
+use Rattle.image.specs.declared.Restore.the-variants as restore
+use Rattle.image.specs.declared.Restored.{Restored}
 use Rattle.image_reader.specs.Laying.{Lengths, Filled}
 use Rattle.image_reader.specs.declared.whole.First.{First}
 use Rattle.image_reader.specs.declared.whole.Reached.{Reached}

@@ -1,12 +1,12 @@
 // The packet and the messages of a number's line, as parts of its octets: "Packet and messages carry their length by the datagram's
 // rule, 0 allowed". Whatever is wrong with one of them is one refusal, so that no cause is told.
-use datagrams::Message;
-use datagrams::Parity;
-use datagrams::Part;
-use lengths::Length;
+use datagram::Message;
+use datagram::Parity;
+use datagram::Part;
+use length::Length;
 ghost use Prim.Native.Nat.{_≤_};
 ghost use lib.ListN.{length};
-ghost use Rattle.datagrams.specs.Sizes.{messagesLimit};
+ghost use Rattle.datagram.specs.Sizes.{messagesLimit};
 ghost use Rattle.image_reader.specs.Items.{ItemTold, ItemsTold};
 
 // A packet or message.
@@ -27,7 +27,7 @@ pub fn item_at(s: &[u8], at: usize, limit: usize) -> Item
     requires { ⌜ at ≤ length (now s) ⌝ }
     ensures { λ r. ⌜ ItemTold limit (now (s .entry)) at r ⌝ }
 {
-    let found = length_reader::read_within(&s[at..], Message::LEAST, limit);
+    let found = length_code::read_within(&s[at..], Message::LEAST, limit);
     let Length::Value(size, took) = found else {
         return Item::Misshapen;
     };

@@ -1,20 +1,21 @@
 // A number that was read, laid into its slots of a session: the table and the stores hold zeros there, as in every slot of a number that
 // is not read yet.
 use crate::number::Number;
-use datagrams::Parity;
-use datagrams::Part;
-use held::Session;
+use datagram::Parity;
+use datagram::Part;
+use session_held::Session;
 ghost use mathlib.Core.Path.{_≡_};
 ghost use Prim.Native.Nat.{_+_, _<_};
 ghost use lib.ListN.{length};
-ghost use Rattle.datagrams.specs.Sizes.{messageLeast, messageLimit};
-ghost use Rattle.datagrams.specs.Claims.{PartInside};
-ghost use Rattle.stores.specs.Store.{HasSlot};
-ghost use Rattle.views.specs.Cells.{keptBefore, keptAhead};
-ghost use Rattle.held.specs.Slots.{slotsKept, slotsHeard, slotsMessages, messageOctets};
-ghost use Rattle.held.specs.Table.{places, heardSet};
-ghost use Rattle.images.specs.Layout.{fromBase};
-ghost use Rattle.image_reader.specs.Laying.{PartLaid, KeptLaid, MessageLaid, MessagesFit, MessagesLaid, LineFits, LaysNumber, Lengths};
+ghost use Rattle.datagram.specs.Sizes.{messageLeast, messageLimit};
+ghost use Rattle.datagram.specs.Claims.{PartInside};
+ghost use Rattle.session_slots.specs.Store.{HasSlot};
+ghost use Rattle.session.specs.Cells.{keptBefore, keptAhead};
+ghost use Rattle.session_held.specs.Slots.{slotsKept, slotsHeard, slotsMessages, messageOctets};
+ghost use Rattle.session_held.specs.Table.{places, heardSet};
+ghost use Rattle.image.specs.Layout.{fromBase};
+ghost use Rattle.image_reader.specs.Laying.{PartLaid, KeptLaid, MessageLaid, MessagesFit, MessagesLaid, LineFits, LaysNumber};
+ghost use Rattle.image_reader.specs.Laying.{Lengths};
 
 // The octets of a part of the line s, laid at the front of a slot: hands back how many.
 fn put_part(o: &mut [u8], slot: usize, s: &[u8], part: Part) -> u16
@@ -25,7 +26,7 @@ fn put_part(o: &mut [u8], slot: usize, s: &[u8], part: Part) -> u16
     let start = part.start;
     let size = part.size;
     let end = start + size;
-    stores::put(o, slot, &s[start..end]);
+    session_slots::put(o, slot, &s[start..end]);
     size as u16
 }
 
@@ -38,7 +39,7 @@ fn lay_kept(t: &mut [u16], o: &mut [u8], slot: usize, s: &[u8], packet: Part, st
     ensures { λ _. ⌜ KeptLaid slot state note (now (s .entry)) packet (now (t .entry)) (now (o .entry)) (now (t .exit)) (now (o .exit)) ⌝ }
 {
     let size = put_part(o, slot, s, packet);
-    held::set_kept(t, slot, state, size, note);
+    session_held::set_kept(t, slot, state, size, note);
 }
 
 // A message.
@@ -50,7 +51,7 @@ fn lay_message(t: &mut [u16], g: &mut [u8], slot: usize, s: &[u8], part: Part)
     ensures { λ _. ⌜ MessageLaid slot (now (s .entry)) part (now (t .entry)) (now (g .entry)) (now (t .exit)) (now (g .exit)) ⌝ }
 {
     let size = put_part(g, slot, s, part);
-    held::set_message_size(t, slot, size);
+    session_held::set_message_size(t, slot, size);
 }
 
 // The messages of the number in slot j of those from the base on.
@@ -130,7 +131,7 @@ pub fn lay(
         let n = number.n;
         let m = number.m;
         let parts = number.parts;
-        lay_messages(t, g, j, s, parts, stores::wide(m));
+        lay_messages(t, g, j, s, parts, session_slots::wide(m));
         set_held(t, j, mark, n, m);
     }
 }

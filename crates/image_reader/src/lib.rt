@@ -1,4 +1,4 @@
-// An image of a receiving session read back: document 02, request 9, as `images` defines it. "Refusals: reading, 20, a line missing, extra
+// An image of a receiving session read back: document 02, request 9, as `image` defines it. "Refusals: reading, 20, a line missing, extra
 // or misshapen .., then 17, and nothing is restored". And request 10: "edition 01 is still read, under the old limit ..; 21, any other
 // edition octet, before 20 where that octet can be read".
 mod items;
@@ -7,18 +7,18 @@ mod number;
 mod text;
 mod whole;
 
-use datagrams::Packet;
-use held::Session;
-use images::Image;
-use images::Restore;
-use images::Restored;
-use lengths::Refusal;
+use datagram::Packet;
+use image::Image;
+use image::Restore;
+use image::Restored;
+use length::Refusal;
+use session_held::Session;
 use text::Named;
 use text::edition_named;
 use whole::read_core;
 ghost use Prim.Native.Nat.{_≤_};
-ghost use Rattle.datagrams.specs.Sizes.{packetLimit};
-ghost use Rattle.images.specs.Promise.{ImageRead};
+ghost use Rattle.datagram.specs.Sizes.{packetLimit};
+ghost use Rattle.image.specs.Promise.{ImageRead};
 ghost use Rattle.image_reader.specs.Whole.{EditionRead, NothingRestored};
 
 // A refused text: nothing is restored.
@@ -46,7 +46,7 @@ fn read_edition(text: &[u8], edition: u8, limit: usize) -> Restored
     }
     let base = found.base;
     let counts = found.counts;
-    if checking::in_ranges(base, counts, &table, &octets, &messages) {
+    if session_check::in_ranges(base, counts, &table, &octets, &messages) {
         let session = Session {
             base,
             counts,

@@ -3,13 +3,13 @@
 use crate::items::Item;
 use crate::items::item_at;
 use crate::items::items_at;
-use datagrams::Parity;
-use datagrams::Part;
-use held::Session;
+use datagram::Parity;
+use datagram::Part;
+use session_held::Session;
 ghost use mathlib.Core.Path.{_≡_};
 ghost use Prim.Native.Nat.{_+_, _*_, _≤_, _<_};
 ghost use lib.ListN.{length, getD};
-ghost use Rattle.images.specs.Layout.{fromBase};
+ghost use Rattle.image.specs.Layout.{fromBase};
 ghost use Rattle.image_reader.specs.Number.{TailTold, NumberTold, NoTail, NoNumber};
 
 // The most of n and of m, in the table's sixteen bits.
@@ -42,7 +42,7 @@ fn octet(s: &[u8], at: usize) -> u16
     requires { ⌜ at < length (now s) ⌝ }
     ensures { λ r. ⌜ r ≡ getD (now (s .entry)) at 0 ⌝ }
 {
-    let octet = lengths::wide(s[at]);
+    let octet = length::wide(s[at]);
     octet as u16
 }
 
@@ -108,7 +108,7 @@ fn tail_at(s: &[u8], at: usize, limit: usize, ahead: bool) -> Tail
     if from_base(ahead, FEW) < m {
         return no_tail();
     }
-    let items = items_at(s, at + 2, stores::wide(m), limit);
+    let items = items_at(s, at + 2, session_slots::wide(m), limit);
     let read = items.read;
     let end = items.end;
     if !read {

@@ -1,13 +1,13 @@
 // The lines of an image as text: "lines of upper-case hexadecimal, each ended by a line feed". A line ends at the first character that
 // is no upper-case digit, so that one look at its characters finds its end and tells that it is of digits.
-use hexadecimal::pair_up;
-use lines::Line;
+use line::Line;
+use line_hex::pair_up;
 ghost use mathlib.Core.Path.{_≡_};
 ghost use Prim.Native.Nat.{_+_, _≤_};
 ghost use lib.ListN.{length};
 ghost use Rattle.octets.specs.Place.{allBelow};
-ghost use Rattle.lines.specs.FeedPromise.{lookedAt};
-ghost use Rattle.images.specs.Parts.{upperDigit};
+ghost use Rattle.line.specs.FeedPromise.{lookedAt};
+ghost use Rattle.image.specs.Parts.{upperDigit};
 ghost use Rattle.image_reader.specs.Text.{upperAt, UpperTo, UpperRun, LineTaken, EditionTold};
 
 // The line at the front of a text: how many octets it has, and how many characters with its line feed.

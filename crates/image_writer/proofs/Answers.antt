@@ -5,21 +5,21 @@ use mathlib.Core.Bool.{Bool, true, false, not}
 use mathlib.Core.List.{List, _++_}
 use lib.ListN.{length, drop, length-append}
 use native.Mathlib.Omega.{arith}
-use Rattle.lengths.specs.Refusals.{outsideRanges, noRoom}
-use Rattle.lengths.specs.Answers.{done}
-use Rattle.lengths.specs.Tables.{unless}
-use Rattle.lengths.specs.Promise.{Put, Puts, RefusalMade}
-use Rattle.lengths.specs.declared.Refusal.{Refusal}
-use Rattle.lengths.specs.declared.Written.the-variants as written
-use Rattle.lengths.proofs.Laws.{put-puts, full-puts}
-use Rattle.held.specs.Slots.{keptOctets, messageOctets}
-use Rattle.held.specs.Table.{Lent, places}
-use Rattle.held.specs.Laid.{lentInRanges}
-use Rattle.held.proofs.Laws.{in-ranges-of}
-use Rattle.lines.specs.Promise.{Appends}
-use Rattle.lines.proofs.Laws.{appends-then}
-use Rattle.images.specs.Layout.{versionWritten}
-use Rattle.images.specs.Image.{imageToWrite, lineSize, firstImageSize}
+use Rattle.length.specs.Refusals.{outsideRanges, noRoom}
+use Rattle.length.specs.Answers.{done}
+use Rattle.length.specs.Tables.{unless}
+use Rattle.length.specs.Promise.{Put, Puts, RefusalMade}
+use Rattle.length.specs.declared.Refusal.{Refusal}
+use Rattle.length.specs.declared.Written.the-variants as written
+use Rattle.length.proofs.Laws.{put-puts, full-puts}
+use Rattle.session_held.specs.Slots.{keptOctets, messageOctets}
+use Rattle.session_held.specs.Table.{Lent, places}
+use Rattle.session_held.specs.Laid.{lentInRanges}
+use Rattle.session_held.proofs.Laws.{in-ranges-of}
+use Rattle.line.specs.Promise.{Appends}
+use Rattle.line.proofs.Laws.{appends-then}
+use Rattle.image.specs.Layout.{versionWritten}
+use Rattle.image.specs.Image.{imageToWrite, lineSize, firstImageSize}
 use Rattle.image_writer.proofs.Whole.{first-long, image-same, rows-long}
 use Rattle.image_writer.specs.Rows.{Room, TableFits, rowsText, firstText, rowsSize, SizeWithin}
 

@@ -7,25 +7,25 @@ use lib.ListN.{length, set, take, drop, length-append}
 use lib.Seq.{take-at}
 use native.Mathlib.Omega.{arith}
 use mir.Val.{boolByte}
-use Rattle.formats.specs.Format.{flagBit}
-use Rattle.lengths.specs.Length.{lengthLimit}
-use Rattle.lengths.specs.Promise.{Put}
-use Rattle.lengths.proofs.Laws.{size-written}
-use Rattle.datagrams.specs.Sizes.{packetLimit, messagesLimit}
-use Rattle.datagrams.specs.Write.{itemOctets}
-use Rattle.datagrams.specs.Inner.Heads.{itemSize}
-use Rattle.stores.specs.Store.{part, HasSlot}
-use Rattle.stores.proofs.Laws.{length-part}
-use Rattle.held.specs.Slots.{slotsHeard, messageSlot, keptOctets, messageOctets}
-use Rattle.held.specs.Table.{stateIn, sizeIn, noteIn, messageSizeIn, messageIn}
-use Rattle.held.proofs.Laws.{message-small, has-packet-slot, has-message-slot}
-use Rattle.lines.specs.Hex.{hexOf}
-use Rattle.lines.specs.Lines.{lineFeed}
-use Rattle.lines.specs.Promise.{Appends}
-use Rattle.lines.proofs.Laws.{appends-none, appends-one, appends-then, appends-long, length-hexOf}
-use Rattle.images.specs.Parts.{highFirstOctets}
-use Rattle.images.specs.Image.{longestItem}
-use Rattle.images.proofs.Laws.{length-number}
+use Rattle.format.specs.Format.{flagBit}
+use Rattle.length.specs.Length.{lengthLimit}
+use Rattle.length.specs.Promise.{Put}
+use Rattle.length.proofs.Laws.{size-written}
+use Rattle.datagram.specs.Sizes.{packetLimit, messagesLimit}
+use Rattle.datagram.specs.Write.{itemOctets}
+use Rattle.datagram.specs.Inner.Heads.{itemSize}
+use Rattle.session_slots.specs.Store.{part, HasSlot}
+use Rattle.session_slots.proofs.Laws.{length-part}
+use Rattle.session_held.specs.Slots.{slotsHeard, messageSlot, keptOctets, messageOctets}
+use Rattle.session_held.specs.Table.{stateIn, sizeIn, noteIn, messageSizeIn, messageIn}
+use Rattle.session_held.proofs.Laws.{message-small, has-packet-slot, has-message-slot}
+use Rattle.line.specs.Hex.{hexOf}
+use Rattle.line.specs.Lines.{lineFeed}
+use Rattle.line.specs.Promise.{Appends}
+use Rattle.line.proofs.Laws.{appends-none, appends-one, appends-then, appends-long, length-hexOf}
+use Rattle.image.specs.Parts.{highFirstOctets}
+use Rattle.image.specs.Image.{longestItem}
+use Rattle.image.proofs.Laws.{length-number}
 use Rattle.image_writer.specs.Rows.{Room, TableFits, imageRowAt, RowFits, ImageRowTold, keptFront, keptText, countOctets, messageText}
 use Rattle.image_writer.specs.Rows.{messagesText, rowText}
 use Rattle.image_writer.specs.declared.rows.Row.{Row}

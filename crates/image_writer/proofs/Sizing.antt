@@ -10,23 +10,24 @@ use native.Mathlib.Omega.{arith}
 use borrow.Author.Tests.{lt-ltb, le-ltb}
 use Rattle.octets.specs.Place.{tab}
 use Rattle.octets.proofs.Laws.{tab-ext, below-or-not}
-use Rattle.lengths.proofs.Laws.{size-written}
-use Rattle.datagrams.specs.Sizes.{packetLimit, messagesLimit}
-use Rattle.datagrams.specs.Write.{itemOctets, sumOf}
-use Rattle.datagrams.specs.Inner.Heads.{itemSize}
-use Rattle.datagrams.proofs.Laws.{item-length}
-use Rattle.stores.specs.Store.{part}
-use Rattle.stores.proofs.Laws.{length-part}
-use Rattle.views.specs.Cells.{keptBefore}
-use Rattle.held.specs.Slots.{slotsHeard, slotAt, heardSlotAt, messageSlot, keptOctets, messageOctets}
-use Rattle.held.specs.Table.{sizeIn, markIn, nIn, mIn, messageSizeIn, messageIn}
-use Rattle.held.proofs.Laws.{slot-small, heard-small, message-small, has-packet-slot, has-message-slot}
-use Rattle.lines.specs.Hex.{hexOf}
-use Rattle.lines.specs.Lines.{lineFeed}
-use Rattle.lines.proofs.Laws.{length-hexOf}
-use Rattle.images.specs.Octets.{inRow}
-use Rattle.images.specs.Image.{lineSize, longestItem, numberLineLimit}
-use Rattle.image_writer.specs.Rows.{TableFits, rowBefore, imageRowAt, RowFits, ImageRowTold, keptFront, keptText, allTexts, messageText}
+use Rattle.length.proofs.Laws.{size-written}
+use Rattle.datagram.specs.Sizes.{packetLimit, messagesLimit}
+use Rattle.datagram.specs.Write.{itemOctets, sumOf}
+use Rattle.datagram.specs.Inner.Heads.{itemSize}
+use Rattle.datagram.proofs.Laws.{item-length}
+use Rattle.session_slots.specs.Store.{part}
+use Rattle.session_slots.proofs.Laws.{length-part}
+use Rattle.session.specs.Cells.{keptBefore}
+use Rattle.session_held.specs.Slots.{slotsHeard, slotAt, heardSlotAt, messageSlot, keptOctets, messageOctets}
+use Rattle.session_held.specs.Table.{sizeIn, markIn, nIn, mIn, messageSizeIn, messageIn}
+use Rattle.session_held.proofs.Laws.{slot-small, heard-small, message-small, has-packet-slot, has-message-slot}
+use Rattle.line.specs.Hex.{hexOf}
+use Rattle.line.specs.Lines.{lineFeed}
+use Rattle.line.proofs.Laws.{length-hexOf}
+use Rattle.image.specs.Octets.{inRow}
+use Rattle.image.specs.Image.{lineSize, longestItem, numberLineLimit}
+use Rattle.image_writer.specs.Rows.{TableFits, rowBefore, imageRowAt, RowFits, ImageRowTold, keptFront, keptText, allTexts}
+use Rattle.image_writer.specs.Rows.{messageText}
 use Rattle.image_writer.specs.Rows.{messagesText, countOctets, rowText, messagesSize, rowSize, SizeWithin}
 use Rattle.image_writer.specs.declared.rows.Row.{Row}
 

@@ -9,10 +9,10 @@ use native.Mathlib.Numerals.{add-one}
 use native.Mathlib.Omega.{arith}
 use Rattle.octets.specs.Place.{tab}
 use Rattle.octets.proofs.Laws.{below-or-not}
-use Rattle.datagrams.specs.Write.{sumOf}
-use Rattle.lines.specs.Promise.{Appends}
-use Rattle.lines.proofs.Laws.{appends-none, appends-then, appends-long}
-use Rattle.images.specs.Octets.{inRow}
+use Rattle.datagram.specs.Write.{sumOf}
+use Rattle.line.specs.Promise.{Appends}
+use Rattle.line.proofs.Laws.{appends-none, appends-then, appends-long}
+use Rattle.image.specs.Octets.{inRow}
 use Rattle.image_writer.specs.Rows.{Room, allTexts, SizeWithin}
 
 -- ---- texts one after the other

@@ -9,21 +9,21 @@ use native.Mathlib.Omega.{arith}
 use borrow.Author.Tests.{lt-ltb, le-ltb}
 use Rattle.octets.specs.Place.{tab}
 use Rattle.octets.proofs.Laws.{tab-ext, length-tab}
-use Rattle.formats.specs.Format.{flagBit}
-use Rattle.datagrams.specs.Write.{itemOctets, sumOf}
-use Rattle.stores.specs.Store.{part}
-use Rattle.views.specs.Cells.{keptBefore, keptAhead}
-use Rattle.held.specs.Slots.{slotsKept, keptOctets, messageOctets}
-use Rattle.held.specs.Table.{lent, lastState, stateIn, sizeIn, stateNumbered, cellIn, messageIn, heldIn, viewIn}
-use Rattle.held.specs.declared.Counts.{Counts}
-use Rattle.held.proofs.Laws.{cell-at, held-at}
-use Rattle.lines.specs.Hex.{hexOf, digitFor}
-use Rattle.lines.specs.Lines.{lineFeed, lineOf}
-use Rattle.images.specs.Parts.{highFirstOctets}
-use Rattle.images.specs.Layout.{versionWritten, FirstImageLine, Number, stateNumber, firstOf, before, ahead}
-use Rattle.images.specs.Octets.{inRow, firstImageOctets, numberText, imageLines}
-use Rattle.images.specs.Image.{imageText, lineSize, firstImageSize}
-use Rattle.images.proofs.Laws.{image-lines}
+use Rattle.format.specs.Format.{flagBit}
+use Rattle.datagram.specs.Write.{itemOctets, sumOf}
+use Rattle.session_slots.specs.Store.{part}
+use Rattle.session.specs.Cells.{keptBefore, keptAhead}
+use Rattle.session_held.specs.Slots.{slotsKept, keptOctets, messageOctets}
+use Rattle.session_held.specs.Table.{lent, lastState, stateIn, sizeIn, stateNumbered, cellIn, messageIn, heldIn, viewIn}
+use Rattle.session_held.specs.declared.Counts.{Counts}
+use Rattle.session_held.proofs.Laws.{cell-at, held-at}
+use Rattle.line.specs.Hex.{hexOf, digitFor}
+use Rattle.line.specs.Lines.{lineFeed, lineOf}
+use Rattle.image.specs.Parts.{highFirstOctets}
+use Rattle.image.specs.Layout.{versionWritten, FirstImageLine, Number, stateNumber, firstOf, before, ahead}
+use Rattle.image.specs.Octets.{inRow, firstImageOctets, numberText, imageLines}
+use Rattle.image.specs.Image.{imageText, lineSize, firstImageSize}
+use Rattle.image.proofs.Laws.{image-lines}
 use Rattle.image_writer.proofs.Turns.{texts-more}
 use Rattle.image_writer.proofs.Sizing.{row-fits, texts-length, row-length}
 use Rattle.image_writer.specs.Rows.{TableFits, imageRowAt, keptFront, countOctets, allTexts, messagesText, rowText}

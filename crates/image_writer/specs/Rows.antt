@@ -1,5 +1,5 @@
 -- The lines of an image as the code goes by them: what the table says of the number at a place of the view, the text of its line, and how
--- long that is. It is proved to be the image that `images` defines. Definitions only.
+-- long that is. It is proved to be the image that `image` defines. Definitions only.
 use Prim.Native.Nat.{ℕ, _+_, _-_, _*_, _/_, _%_, _≤_, _<_}
 use mathlib.Core.Path.{_≡_}
 use mathlib.Core.Bool.{false, cond}
@@ -7,20 +7,20 @@ use mathlib.Core.List.{List, [], _∷_, _++_}
 use lib.ListN.{length}
 use lib.Dec.{ltb, eqb}
 use Rattle.octets.specs.Place.{tab}
-use Rattle.formats.specs.Format.{flagBit}
-use Rattle.datagrams.specs.Sizes.{packetLimit, messagesLimit}
-use Rattle.datagrams.specs.Write.{itemOctets, sumOf}
-use Rattle.datagrams.specs.Inner.Heads.{itemSize}
-use Rattle.stores.specs.Store.{part}
-use Rattle.views.specs.Cells.{keptBefore}
-use Rattle.held.specs.Slots.{slotsKept, slotsHeard, slotAt, heardSlotAt, messageSlot}
-use Rattle.held.specs.Table.{places, lastState, stateIn, sizeIn, noteIn, markIn, nIn, mIn, messageSizeIn, messageIn}
-use Rattle.held.specs.declared.Counts.{Counts}
-use Rattle.lines.specs.Hex.{hexOf}
-use Rattle.lines.specs.Lines.{lineFeed}
-use Rattle.images.specs.Parts.{highFirstOctets}
-use Rattle.images.specs.Octets.{inRow}
-use Rattle.images.specs.Image.{lineSize}
+use Rattle.format.specs.Format.{flagBit}
+use Rattle.datagram.specs.Sizes.{packetLimit, messagesLimit}
+use Rattle.datagram.specs.Write.{itemOctets, sumOf}
+use Rattle.datagram.specs.Inner.Heads.{itemSize}
+use Rattle.session_slots.specs.Store.{part}
+use Rattle.session.specs.Cells.{keptBefore}
+use Rattle.session_held.specs.Slots.{slotsKept, slotsHeard, slotAt, heardSlotAt, messageSlot}
+use Rattle.session_held.specs.Table.{places, lastState, stateIn, sizeIn, noteIn, markIn, nIn, mIn, messageSizeIn, messageIn}
+use Rattle.session_held.specs.declared.Counts.{Counts}
+use Rattle.line.specs.Hex.{hexOf}
+use Rattle.line.specs.Lines.{lineFeed}
+use Rattle.image.specs.Parts.{highFirstOctets}
+use Rattle.image.specs.Octets.{inRow}
+use Rattle.image.specs.Image.{lineSize}
 use Rattle.image_writer.specs.declared.rows.Row.{Row}
 
 -- there is room for a text from a place on

@@ -1,23 +1,23 @@
-// A receiving session written as an image: document 02, request 9, as `images` defines it.
+// A receiving session written as an image: document 02, request 9, as `image` defines it.
 mod numbers;
 mod rows;
 
-use held::Counts;
-use held::Session;
-use images::Image;
-use lengths::Refusal;
-use lengths::Written;
+use image::Image;
+use length::Refusal;
+use length::Written;
 use numbers::put_first;
 use numbers::put_rows;
 use rows::rows_size;
+use session_held::Counts;
+use session_held::Session;
 ghost use mathlib.Core.Path.{_≡_};
 ghost use lib.ListN.{length};
-ghost use Rattle.lengths.specs.Promise.{Puts};
-ghost use Rattle.held.specs.Slots.{keptOctets, messageOctets};
-ghost use Rattle.held.specs.Table.{places, lent};
-ghost use Rattle.images.specs.Layout.{versionWritten};
-ghost use Rattle.images.specs.Image.{imageToWrite};
-ghost use Rattle.images.specs.Promise.{ImageWritten};
+ghost use Rattle.length.specs.Promise.{Puts};
+ghost use Rattle.session_held.specs.Slots.{keptOctets, messageOctets};
+ghost use Rattle.session_held.specs.Table.{places, lent};
+ghost use Rattle.image.specs.Layout.{versionWritten};
+ghost use Rattle.image.specs.Image.{imageToWrite};
+ghost use Rattle.image.specs.Promise.{ImageWritten};
 
 // The session's image to the front of out: 17 for a session outside its ranges, then 13 where it is longer than out.
 pub fn write(s: Session, out: &mut [u8]) -> Written
@@ -46,7 +46,7 @@ pub fn write_core(
     ensures { λ r. ⌜ Puts (imageToWrite versionWritten (lent base counts (now (t .entry)) (now (o .entry)) (now (g .entry))))
         (now (out .entry)) (now (out .exit)) r ⌝ }
 {
-    if !checking::in_ranges(base, counts, t, o, g) {
+    if !session_check::in_ranges(base, counts, t, o, g) {
         return Written::Refused(Refusal::new(Refusal::OUTSIDE_RANGES));
     }
     let size = 2 * Image::FIRST + 1 + rows_size(base, t);

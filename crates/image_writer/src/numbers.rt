@@ -1,26 +1,26 @@
 // The lines of an image, in upper-case hexadecimal. Each writer lays its text into out from a place on, and answers the place after it.
 use crate::rows::Row;
 use crate::rows::row_at;
-use datagrams::Packet;
-use datagrams::Parity;
-use held::Counts;
-use held::Session;
-use hexadecimal::put_digits;
-use images::Image;
-use lines::Line;
+use datagram::Packet;
+use datagram::Parity;
+use image::Image;
+use line::Line;
+use line_hex::put_digits;
+use session_held::Counts;
+use session_held::Session;
 ghost use mathlib.Core.Path.{_≡_};
 ghost use mathlib.Core.List.{[], _∷_};
 ghost use Prim.Native.Nat.{_≤_, _<_};
 ghost use lib.ListN.{length};
-ghost use Rattle.datagrams.specs.Sizes.{packetLimit, messagesLimit};
-ghost use Rattle.datagrams.specs.Write.{itemOctets};
-ghost use Rattle.stores.specs.Store.{HasSlot, part};
-ghost use Rattle.held.specs.Slots.{slotsHeard, keptOctets, messageOctets};
-ghost use Rattle.lines.specs.Hex.{hexOf};
-ghost use Rattle.lines.specs.Lines.{lineFeed};
-ghost use Rattle.lines.specs.Promise.{Appends};
-ghost use Rattle.images.specs.Parts.{highFirstOctets};
-ghost use Rattle.images.specs.Layout.{versionWritten};
+ghost use Rattle.datagram.specs.Sizes.{packetLimit, messagesLimit};
+ghost use Rattle.datagram.specs.Write.{itemOctets};
+ghost use Rattle.session_slots.specs.Store.{HasSlot, part};
+ghost use Rattle.session_held.specs.Slots.{slotsHeard, keptOctets, messageOctets};
+ghost use Rattle.line.specs.Hex.{hexOf};
+ghost use Rattle.line.specs.Lines.{lineFeed};
+ghost use Rattle.line.specs.Promise.{Appends};
+ghost use Rattle.image.specs.Parts.{highFirstOctets};
+ghost use Rattle.image.specs.Layout.{versionWritten};
 ghost use Rattle.image_writer.specs.Rows.{Room, TableFits, RowFits, keptText, messagesText, rowText, rowsText, firstText};
 
 // A line feed.
@@ -71,7 +71,7 @@ fn put_item(store: &[u8], slot: usize, size: usize, out: &mut [u8], at: usize) -
     let from = slot * Packet::LIMIT;
     let to = from + size;
     let mut octets = [0u8; Image::ITEM];
-    let count = datagram_items::put_item(&store[from..to], &mut octets);
+    let count = datagram_writer::put_item(&store[from..to], &mut octets);
     put_digits(&octets[..count], out, at)
 }
 
@@ -84,14 +84,14 @@ fn put_kept(t: &[u16], o: &[u8], row: Row, out: &mut [u8], at: usize) -> usize
     ensures { λ r. ⌜ Appends (keptText (now (t .entry)) (now (o .entry)) row) (now (out .entry)) at (now (out .exit)) r ⌝ }
 {
     let slot = row.slot;
-    let state = (held::state_at(t, slot) % 256) as u8;
+    let state = (session_held::state_at(t, slot) % 256) as u8;
     let mark = row.accepted as u8;
-    let note = held::note_at(t, slot);
+    let note = session_held::note_at(t, slot);
     let high = (note / 256 % 256) as u8;
     let low = (note % 256) as u8;
     let front = [state, mark, high, low];
     let next = put_digits(&front, out, at);
-    let size = held::size_at(t, slot);
+    let size = session_held::size_at(t, slot);
     put_item(o, slot, size, out, next)
 }
 
@@ -108,7 +108,7 @@ fn put_messages(t: &[u16], g: &[u8], heard: usize, m: usize, out: &mut [u8], at:
     let mut i = 0;
     while i < m {
         let slot = heard * Parity::MESSAGES + i;
-        let size = held::message_size_at(t, slot);
+        let size = session_held::message_size_at(t, slot);
         end = put_item(g, slot, size, out, end);
         i += 1;
     }

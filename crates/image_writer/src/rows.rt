@@ -1,11 +1,11 @@
 // What the table says of the number at a place of the view, and how many characters its line has.
-use datagram_items::item_size;
-use datagrams::Parity;
-use held::Session;
+use datagram::Parity;
+use datagram_writer::item_size;
+use session_held::Session;
 ghost use Prim.Native.Nat.{_*_, _≤_, _<_};
-ghost use Rattle.datagrams.specs.Sizes.{packetLimit, messagesLimit};
-ghost use Rattle.held.specs.Slots.{slotsKept, slotsHeard};
-ghost use Rattle.images.specs.Image.{lineSize, longestItem, numberLineLimit};
+ghost use Rattle.datagram.specs.Sizes.{packetLimit, messagesLimit};
+ghost use Rattle.session_held.specs.Slots.{slotsKept, slotsHeard};
+ghost use Rattle.image.specs.Image.{lineSize, longestItem, numberLineLimit};
 ghost use Rattle.image_writer.specs.Rows.{TableFits, RowFits, ImageRowTold, SizeWithin, messagesSize, rowSize, rowsSize};
 
 // The slot of a kept number; of one from the base on its other slot too, and what is heard of it.
@@ -35,9 +35,9 @@ pub fn row_at(base: u16, t: &[u16], p: usize) -> Row
         };
     }
     let heard = (base + (p - Session::BEFORE)) % Session::HEARD;
-    let accepted = held::accepted_at(t, heard);
-    let n = held::n_at(t, heard);
-    let m = held::m_at(t, heard);
+    let accepted = session_held::accepted_at(t, heard);
+    let n = session_held::n_at(t, heard);
+    let m = session_held::m_at(t, heard);
     Row {
         slot,
         heard,
@@ -57,7 +57,7 @@ fn messages_size(t: &[u16], heard: usize, m: usize) -> usize
     let mut size = 0;
     let mut i = 0;
     while i < m {
-        let octets = held::message_size_at(t, heard * Parity::MESSAGES + i);
+        let octets = session_held::message_size_at(t, heard * Parity::MESSAGES + i);
         size += 2 * item_size(octets);
         i += 1;
     }
@@ -71,7 +71,7 @@ fn row_size(t: &[u16], row: Row) -> usize
     ensures { λ r. ⌜ SizeWithin (rowSize (now (t .entry)) row) (lineSize (numberLineLimit packetLimit)) r ⌝ }
 {
     let slot = row.slot;
-    let octets = held::size_at(t, slot);
+    let octets = session_held::size_at(t, slot);
     let packet = item_size(octets);
     let messages = messages_size(t, row.heard, row.m);
     2 * (6 + packet) + 1 + messages

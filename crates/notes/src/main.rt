@@ -4,16 +4,16 @@
 mod saved;
 mod text;
 
-use datagrams::Datagram;
-use datagrams::Packet;
-use input_lines::BLOCK;
-use input_lines::read_line;
-use lengths::Written;
-use lines::Line;
+use datagram::Datagram;
+use datagram::Packet;
+use length::Written;
+use line::Line;
+use program_input::BLOCK;
+use program_input::read_line;
 use saved::SAVED;
-use sessions::Offered;
-use sessions::Released;
-use sessions::Session;
+use session_calls::Offered;
+use session_calls::Released;
+use session_calls::Session;
 use text::part;
 use text::say_refused;
 
@@ -46,7 +46,7 @@ struct Turn {
 
 fn release(session: Session, skip: bool, line: usize, table: &mut [u32; SAVED]) -> Turn {
     let mut packet = [0u8; Packet::LIMIT];
-    let after = sessions::release(session, skip, &mut packet);
+    let after = session_calls::release(session, skip, &mut packet);
     let answer = after.answer;
     let more = told(answer, skip, line, table);
     let held = after.session;
@@ -74,7 +74,7 @@ fn releases(session: Session, line: usize, table: &mut [u32; SAVED]) -> Session 
 
 // A datagram, offered.
 fn offer(session: Session, octets: &[u8], line: usize) -> Session {
-    let after = sessions::offer(session, octets);
+    let after = session_calls::offer(session, octets);
     let answer = after.answer;
     if let Offered::Refused(why) = answer {
         say_refused(line, why);
@@ -91,7 +91,7 @@ fn answer(session: Session, digits: &[u8], line: usize, table: &mut [u32; SAVED]
         return held;
     }
     let mut octets = [0u8; Datagram::LIMIT];
-    match hexadecimal::hex_to_octets(digits, &mut octets) {
+    match line_hex::hex_to_octets(digits, &mut octets) {
         Written::Refused(why) => {
             say_refused(line, why);
             session

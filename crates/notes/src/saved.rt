@@ -1,8 +1,8 @@
 // Which numbers spares and parity saved, and from how far ahead: told as each leaves, and counted.
 use crate::text::say;
 use crate::text::say_number;
-use held::Counts;
-use held::ReleaseKind;
+use session_held::Counts;
+use session_held::ReleaseKind;
 
 // How far ahead of a number the datagram that filled it can be.
 const FURTHEST: u16 = 32;

@@ -1,5 +1,5 @@
 // What is written, piece by piece, to standard output.
-use lengths::Refusal;
+use length::Refusal;
 
 pub fn say(text: &[u8]) {
     io::write_all(libc::STDOUT_FILENO, text);

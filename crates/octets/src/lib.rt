@@ -1,1 +1,116 @@
-// Definitions and proofs alone: lists given by place, and the exclusive or of octets.
+// Definitions and proofs: lists given by place, and the exclusive or of octets.
+// The exclusive or of two runs of octets: eight octets at a time, as one word of 64 bits, and the tail singly. Document 02, request 3.
+// The receiver's repair and the sender's messages share it. These functions serve callers inside this repository: they require that
+// the octets are there.
+ghost use mathlib.Core.Path.{_≡_};
+ghost use Prim.Native.Nat.{_+_, _*_, _/_, _≤_, _<_};
+ghost use lib.ListN.{length};
+ghost use Rattle.octets.specs.Words.{Reads, Spells, AddsTo, both};
+
+// ---- one octet, two, four or eight from a place on, as one number: the first is the lowest
+
+fn one(s: &[u8], at: usize) -> u64
+    requires { ⌜ at + 1 ≤ length (now s) ⌝ }
+    ensures { λ r. ⌜ Reads 1 (now (s .entry)) at r ⌝ }
+{
+    let octet = s[at];
+    octet as u64
+}
+
+fn two(s: &[u8], at: usize) -> u64
+    requires { ⌜ at + 2 ≤ length (now s) ⌝ }
+    ensures { λ r. ⌜ Reads 2 (now (s .entry)) at r ⌝ }
+{
+    let low = one(s, at);
+    let high = one(s, at + 1);
+    high * 256 + low
+}
+
+fn four(s: &[u8], at: usize) -> u64
+    requires { ⌜ at + 4 ≤ length (now s) ⌝ }
+    ensures { λ r. ⌜ Reads 4 (now (s .entry)) at r ⌝ }
+{
+    let low = two(s, at);
+    let high = two(s, at + 2);
+    high * 65536 + low
+}
+
+fn eight(s: &[u8], at: usize) -> u64
+    requires { ⌜ at + 8 ≤ length (now s) ⌝ }
+    ensures { λ r. ⌜ Reads 8 (now (s .entry)) at r ⌝ }
+{
+    let low = four(s, at);
+    let high = four(s, at + 4);
+    high * 4294967296 + low
+}
+
+// ---- a number, as so many octets from a place on
+
+fn put_one(s: &mut [u8], at: usize, w: u64)
+    requires { ⌜ at + 1 ≤ length (now s) ⌝ }
+    requires { ⌜ w < 256 ⌝ }
+    ensures { λ _. ⌜ Spells 1 w (now (s .entry)) at (now (s .exit)) ⌝ }
+{
+    s[at] = w as u8;
+}
+
+fn put_two(s: &mut [u8], at: usize, w: u64)
+    requires { ⌜ at + 2 ≤ length (now s) ⌝ }
+    requires { ⌜ w < 65536 ⌝ }
+    ensures { λ _. ⌜ Spells 2 w (now (s .entry)) at (now (s .exit)) ⌝ }
+{
+    put_one(s, at, w % 256);
+    put_one(s, at + 1, w / 256);
+}
+
+fn put_four(s: &mut [u8], at: usize, w: u64)
+    requires { ⌜ at + 4 ≤ length (now s) ⌝ }
+    requires { ⌜ w < 4294967296 ⌝ }
+    ensures { λ _. ⌜ Spells 4 w (now (s .entry)) at (now (s .exit)) ⌝ }
+{
+    put_two(s, at, w % 65536);
+    put_two(s, at + 2, w / 65536);
+}
+
+fn put_eight(s: &mut [u8], at: usize, w: u64)
+    requires { ⌜ at + 8 ≤ length (now s) ⌝ }
+    ensures { λ _. ⌜ Spells 8 w (now (s .entry)) at (now (s .exit)) ⌝ }
+{
+    put_four(s, at, w % 4294967296);
+    put_four(s, at + 4, w / 4294967296);
+}
+
+// ---- the exclusive or
+
+// As far as whole words go.
+fn add_words(src: &[u8], sum: &mut [u8])
+    requires { ⌜ length (now src) ≡ length (now sum) ⌝ }
+    ensures { λ _. ⌜ AddsTo (now (src .entry)) (now (sum .entry)) (now (sum .exit)) (length (now (src .entry)) / 8 * 8) ⌝ }
+{
+    let whole = src.len() / 8;
+    let mut k = 0;
+    while k < whole {
+        let at = k * 8;
+        let old = eight(sum, at);
+        let more = eight(src, at);
+        put_eight(sum, at, old ^ more);
+        k += 1;
+    }
+}
+
+// src, added to sum, which is as long.
+pub fn add(src: &[u8], sum: &mut [u8])
+    requires { ⌜ length (now src) ≡ length (now sum) ⌝ }
+    ensures { λ _. ⌜ now (sum .exit) ≡ both (now (src .entry)) (now (sum .entry)) ⌝ }
+{
+    add_words(src, sum);
+    let tail = src.len() % 8;
+    let from = src.len() - tail;
+    let mut t = 0;
+    while t < tail {
+        let at = from + t;
+        let octet = src[at];
+        sum[at] = sum[at] ^ octet;
+        t += 1;
+    }
+}

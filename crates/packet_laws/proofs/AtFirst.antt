@@ -7,12 +7,12 @@ use lib.ListN.{length}
 use lib.Dec.{ltb}
 use native.Mathlib.Omega.{arith}
 use borrow.Author.Tests.{ltb-true, ltb-false}
-use Rattle.lengths.specs.Answers.{Answer, done, refused}
-use Rattle.formats.specs.Reading.{found}
-use Rattle.formats.specs.Places.{edgeAt}
-use Rattle.formats.proofs.Laws.{onward, flag-cut, edge-at}
-use Rattle.packets.specs.Edition.{Edition, values}
-use Rattle.packets.specs.Packet.{typeOfMsg, start, rightFields}
+use Rattle.length.specs.Answers.{Answer, done, refused}
+use Rattle.format.specs.Reading.{found}
+use Rattle.format.specs.Places.{edgeAt}
+use Rattle.format.proofs.Laws.{onward, flag-cut, edge-at}
+use Rattle.packet.specs.Edition.{Edition, values}
+use Rattle.packet.specs.Packet.{typeOfMsg, start, rightFields}
 use Rattle.packet_laws.specs.Octets.{bitSetAt, kindOf, NarrowEdition, Value, valueAt, firstAt}
 use Rattle.packet_laws.proofs.AtValue.{bit-here, value-cut, value-at}
 use Rattle.packet_laws.proofs.ReadLaws.{value-ends}

@@ -8,16 +8,16 @@ use lib.ListN.{length, getD, take, drop, length-drop}
 use lib.Dec.{leb, ltb}
 use native.Mathlib.Omega.{arith}
 use borrow.Author.Tests.{le-leb, lt-leb, ltb-true, ltb-false}
-use Rattle.lengths.specs.Refusals.{refusalAt, endsEarly}
-use Rattle.lengths.specs.Answers.{Answer, done, refused, readFrom, _>>=_, LengthAnswer}
-use Rattle.lengths.specs.Length.{lengthOctets, lengthLimit, within, lengthWithin}
-use Rattle.formats.specs.Format.{lengthFound, twoFront, octetsFront, twoOctets, octets}
-use Rattle.datagrams.specs.Sizes.{packetLimit}
-use Rattle.formats.specs.Reading.{Finding, found, stopped, andThen, foundFrom}
-use Rattle.formats.specs.Places.{Place, edgeAt}
-use Rattle.formats.proofs.Laws.{onward, flag-cut, octetwise-at, octetwise-edge}
-use Rattle.packets.specs.Edition.{Edition}
-use Rattle.packets.specs.Packet.{count, header, size, fieldData, rightData, fieldsLeast, fieldsLimit}
+use Rattle.length.specs.Refusals.{refusalAt, endsEarly}
+use Rattle.length.specs.Answers.{Answer, done, refused, readFrom, _>>=_, LengthAnswer}
+use Rattle.length.specs.Length.{lengthOctets, lengthLimit, within, lengthWithin}
+use Rattle.format.specs.Format.{lengthFound, twoFront, octetsFront, twoOctets, octets}
+use Rattle.datagram.specs.Sizes.{packetLimit}
+use Rattle.format.specs.Reading.{Finding, found, stopped, andThen, foundFrom}
+use Rattle.format.specs.Places.{Place, edgeAt}
+use Rattle.format.proofs.Laws.{onward, flag-cut, octetwise-at, octetwise-edge}
+use Rattle.packet.specs.Edition.{Edition}
+use Rattle.packet.specs.Packet.{count, header, size, fieldData, rightData, fieldsLeast, fieldsLimit}
 use Rattle.packet_laws.specs.Octets.{bitSetAt, NarrowEdition, Value, valueAt, Count, countAt, headerAt, sizeAt}
 use Rattle.packet_laws.proofs.AtValue.{bit-here, value-cut, value-at}
 

@@ -9,13 +9,13 @@ use lib.Dec.{ltb}
 use native.Mathlib.Nat.{mod-eq-of-lt, div-eq-of-lt}
 use native.Mathlib.Omega.{arith}
 use borrow.Author.Tests.{lt-ltb, le-ltb}
-use Rattle.lengths.specs.Answers.{done}
-use Rattle.formats.specs.Reading as reading
-use Rattle.formats.specs.Places.{Place, bitsAt}
-use Rattle.formats.proofs.Laws.{parted}
+use Rattle.length.specs.Answers.{done}
+use Rattle.format.specs.Reading as reading
+use Rattle.format.specs.Places.{Place, bitsAt}
+use Rattle.format.proofs.Laws.{parted}
 use Rattle.packet_laws.specs.Octets.{bitSetAt, Narrow, rootAt, addedAt, valueAt, plainWidth}
 use Rattle.packet_laws.proofs.AtValue.{bit-here, bits-here}
-use Rattle.packets.specs.declared.types.Enumerated.{Enumerated}
+use Rattle.packet.specs.declared.types.Enumerated.{Enumerated}
 
 -- the highest of some bits, and the others
 pub record PartedAt (w : ℕ) (s : List ℕ) (p : Place) : Type 0 where

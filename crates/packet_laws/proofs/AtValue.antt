@@ -8,15 +8,15 @@ use lib.Dec.{ltb}
 use native.Mathlib.Nat.{mod-lt, zero-div}
 use native.Mathlib.Omega.{arith}
 use borrow.Author.Tests.{lt-ltb, le-ltb, ltb-true, ltb-false}
-use Rattle.lengths.specs.Refusals.{refusalAt, endsEarly, notAssigned}
-use Rattle.lengths.specs.Answers.{Answer, done, refused, refuseAt}
-use Rattle.formats.specs.Reading.{Finding, found, stopped, andThen, stop}
-use Rattle.formats.specs.Reading as reading
-use Rattle.formats.specs.Places.{Place, bitsAt}
-use Rattle.formats.proofs.Laws.{onward, flag-cut, bits-at, bits-cut, parted}
-use Rattle.packets.specs.Edition.{addedWidth}
-use Rattle.packets.specs.Packet.{root, addition, enumerated}
-use Rattle.packets.specs.declared.types.Enumerated.{Enumerated}
+use Rattle.length.specs.Refusals.{refusalAt, endsEarly, notAssigned}
+use Rattle.length.specs.Answers.{Answer, done, refused, refuseAt}
+use Rattle.format.specs.Reading.{Finding, found, stopped, andThen, stop}
+use Rattle.format.specs.Reading as reading
+use Rattle.format.specs.Places.{Place, bitsAt}
+use Rattle.format.proofs.Laws.{onward, flag-cut, bits-at, bits-cut, parted}
+use Rattle.packet.specs.Edition.{addedWidth}
+use Rattle.packet.specs.Packet.{root, addition, enumerated}
+use Rattle.packet.specs.declared.types.Enumerated.{Enumerated}
 use Rattle.packet_laws.specs.Octets.{bitSetAt, Narrow, Value, rootAt, addedAt, valueAt}
 
 -- ---- one bit

@@ -1,11 +1,11 @@
 -- What the code needs of an edition's values holds of both editions. Assumes nothing.
 use native.Mathlib.Omega.{arith}
-use Rattle.packets.specs.Edition.{values, edition98, edition02, editionOf}
-use Rattle.packets.specs.declared.types.PacketKind.{PacketKind}
-use Rattle.packets.specs.declared.types.PacketKind.the-variants.{Indicator, Data}
-use Rattle.packets.specs.declared.types.Named.{Named}
-use Rattle.packets.specs.declared.types.Named.the-variants.{Old, New}
-use Rattle.packets.proofs.Laws.{sound98, sound02}
+use Rattle.packet.specs.Edition.{values, edition98, edition02, editionOf}
+use Rattle.packet.specs.declared.types.PacketKind.{PacketKind}
+use Rattle.packet.specs.declared.types.PacketKind.the-variants.{Indicator, Data}
+use Rattle.packet.specs.declared.types.Named.{Named}
+use Rattle.packet.specs.declared.types.Named.the-variants.{Old, New}
+use Rattle.packet.proofs.Laws.{sound98, sound02}
 use Rattle.packet_laws.specs.Octets.{Narrow, NarrowEdition}
 
 pub narrow : (named : Named) → NarrowEdition (editionOf named)

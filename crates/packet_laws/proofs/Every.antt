@@ -9,9 +9,9 @@ use lib.Dec.{eqb, leb}
 use native.Mathlib.Numerals.{add-one}
 use native.Mathlib.Omega.{arith}
 use borrow.Author.Tests.{lt-ltb, le-ltb, le-leb, lt-leb, eq-eqb, ne-eqb}
-use Rattle.packets.specs.Packet.{fieldsLimit, every}
-use Rattle.packets.specs.Write.{total, lengthsSum}
-use Rattle.packets.specs.declared.types.Enumerated.{Enumerated}
+use Rattle.packet.specs.Packet.{fieldsLimit, every}
+use Rattle.packet.specs.Write.{total, lengthsSum}
+use Rattle.packet.specs.declared.types.Enumerated.{Enumerated}
 use Rattle.packet_laws.specs.Laid.{valueWidth, headerWidth, pastField, pastFields}
 use Rattle.packet_laws.specs.Items.{Wide, FieldPast, FieldsPast}
 

@@ -6,17 +6,17 @@ use mathlib.Core.List.{List, [], _++_, append-assoc}
 use lib.ListN.{length, length-append}
 use lib.Dec.{ltb}
 use native.Mathlib.Omega.{arith}
-use Rattle.formats.specs.Spelling.{Letter, spelt, whole, wide, packed, gap}
-use Rattle.formats.specs.Places.{edge}
-use Rattle.formats.specs.Waiting.{Waiting, noneWait, Waits, fullOctets, left, closed}
-use Rattle.formats.specs.Format.{flagBit, known}
-use Rattle.formats.proofs.Laws.{wide-append, wide-spelt, wide-whole, gap-past, none-waits, waits-left, left-at, packed-spelt}
-use Rattle.formats.proofs.Laws.{packed-closed, packed-whole, fullOctets-long, closed-long}
-use Rattle.packets.specs.Edition.{many, Edition}
-use Rattle.packets.specs.Packet.{Content, header, size, fieldData, field}
-use Rattle.packets.specs.Write.{withData}
-use Rattle.packets.specs.declared.types.Enumerated.{Enumerated}
-use Rattle.packets.proofs.Laws.{edge-wide}
+use Rattle.format.specs.Spelling.{Letter, spelt, whole, wide, packed, gap}
+use Rattle.format.specs.Places.{edge}
+use Rattle.format.specs.Waiting.{Waiting, noneWait, Waits, fullOctets, left, closed}
+use Rattle.format.specs.Format.{flagBit, known}
+use Rattle.format.proofs.Laws.{wide-append, wide-spelt, wide-whole, gap-past, none-waits, waits-left, left-at, packed-spelt}
+use Rattle.format.proofs.Laws.{packed-closed, packed-whole, fullOctets-long, closed-long}
+use Rattle.packet.specs.Edition.{many, Edition}
+use Rattle.packet.specs.Packet.{Content, header, size, fieldData, field}
+use Rattle.packet.specs.Write.{withData}
+use Rattle.packet.specs.declared.types.Enumerated.{Enumerated}
+use Rattle.packet.proofs.Laws.{edge-wide}
 use Rattle.packet_laws.specs.Octets.{Narrow}
 use Rattle.packet_laws.specs.Laid.{valueWidth, valueBits, sizeOctets, withFlag, withType, headerOctets}
 use Rattle.packet_laws.specs.Laid.{headerLeft, fieldOctets, afterField, headerWidth, pastField}

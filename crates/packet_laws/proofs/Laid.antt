@@ -7,21 +7,21 @@ use lib.ListN.{length, take, drop}
 use lib.Dec.{leb, ltb}
 use native.Mathlib.Omega.{arith}
 use borrow.Author.Tests.{leb-true}
-use Rattle.lengths.specs.Length.{lengthOctets}
-use Rattle.lengths.proofs.Laws.{both}
-use Rattle.formats.specs.Spelling.{Letter, spelt, whole, wide, packed, gap}
-use Rattle.formats.specs.Waiting.{Waiting, noneWait, Waits}
-use Rattle.formats.specs.Format.{known, sequenceSpelt}
-use Rattle.formats.proofs.Laws.{wide-append, wide-whole, none-waits}
-use Rattle.formats.proofs.Laws.{packed-closed, packed-whole}
-use Rattle.packets.specs.Edition.{many, SoundEnumerated, Edition, values}
-use Rattle.packets.specs.Write.{contentsOf, packetOctets}
-use Rattle.packets.specs.Packet.{manyValues, typesLimit, every, Content, start, count}
-use Rattle.packets.specs.Packet.{field, dataField, packet}
+use Rattle.length.specs.Length.{lengthOctets}
+use Rattle.length.proofs.Laws.{both}
+use Rattle.format.specs.Spelling.{Letter, spelt, whole, wide, packed, gap}
+use Rattle.format.specs.Waiting.{Waiting, noneWait, Waits}
+use Rattle.format.specs.Format.{known, sequenceSpelt}
+use Rattle.format.proofs.Laws.{wide-append, wide-whole, none-waits}
+use Rattle.format.proofs.Laws.{packed-closed, packed-whole}
+use Rattle.packet.specs.Edition.{many, SoundEnumerated, Edition, values}
+use Rattle.packet.specs.Write.{contentsOf, packetOctets}
+use Rattle.packet.specs.Packet.{manyValues, typesLimit, every, Content, start, count}
+use Rattle.packet.specs.Packet.{field, dataField, packet}
 use Rattle.packet_laws.specs.Octets.{NarrowEdition}
 use Rattle.packet_laws.specs.Laid.{firstOctets, fieldOctets, afterField, fieldsOctets, laidOctets}
-use Rattle.packets.specs.declared.types.PacketKind.{PacketKind}
-use Rattle.packets.specs.declared.types.Enumerated.{Enumerated}
+use Rattle.packet.specs.declared.types.PacketKind.{PacketKind}
+use Rattle.packet.specs.declared.types.Enumerated.{Enumerated}
 use Rattle.packet_laws.proofs.ValueLaid.{start-packed, start-edge}
 use Rattle.packet_laws.proofs.FieldLaid.{edge-whole, after-waits, after-at, field-wide, field-packed}
 

@@ -7,22 +7,22 @@ use lib.ListN.{length, getD, take, drop, length-drop}
 use lib.Seq.{length-take-le}
 use lib.Dec.{ltb}
 use native.Mathlib.Omega.{arith}
-use Rattle.lengths.specs.Refusals.{outsideSizes, leftOver}
-use Rattle.lengths.specs.Answers.{Answer, done, refused, refuse, refuseAt, _>>=_}
-use Rattle.lengths.specs.declared.Refusal.{Refusal}
-use Rattle.formats.specs.Reading.{Finding, found, stopped, andThen}
-use Rattle.formats.specs.Reading as reading
-use Rattle.formats.specs.Format.{known}
-use Rattle.formats.specs.Places.{Place, edgeAt}
-use Rattle.formats.proofs.Laws.{onward, edge-at}
-use Rattle.datagrams.specs.Sizes.{packetLimit}
-use Rattle.packets.specs.Edition.{Edition}
-use Rattle.packets.specs.Packet.{First, Content, field, dataField, IfpPacket, packet, fieldOf, PacketAnswer, answerOf, noField}
-use Rattle.packets.specs.Packet.{dataOf, mayFollow, wholePacket, readPacket}
+use Rattle.length.specs.Refusals.{outsideSizes, leftOver}
+use Rattle.length.specs.Answers.{Answer, done, refused, refuse, refuseAt, _>>=_}
+use Rattle.length.specs.declared.Refusal.{Refusal}
+use Rattle.format.specs.Reading.{Finding, found, stopped, andThen}
+use Rattle.format.specs.Reading as reading
+use Rattle.format.specs.Format.{known}
+use Rattle.format.specs.Places.{Place, edgeAt}
+use Rattle.format.proofs.Laws.{onward, edge-at}
+use Rattle.datagram.specs.Sizes.{packetLimit}
+use Rattle.packet.specs.Edition.{Edition}
+use Rattle.packet.specs.Packet.{First, Content, field, dataField, IfpPacket, packet, fieldOf, PacketAnswer, answerOf, noField}
+use Rattle.packet.specs.Packet.{dataOf, mayFollow, wholePacket, readPacket}
 use Rattle.packet_laws.specs.Octets.{NarrowEdition, FirstAnswer, firstAt, Count, countAt, HeaderAnswer, headerAt, sizeAt}
 use Rattle.packet_laws.specs.Octets.{FieldAnswer, afterHeader, fieldAt, FieldsAnswer, fieldsAt, endAt, packetByOctets}
-use Rattle.packets.specs.declared.types.Field.{Field}
-use Rattle.packets.specs.declared.types.Ending.{Ending}
+use Rattle.packet.specs.declared.types.Field.{Field}
+use Rattle.packet.specs.declared.types.Ending.{Ending}
 use Rattle.packet_laws.proofs.AtFirst.{start-at}
 use Rattle.packet_laws.proofs.AtOctets.{count-at, header-at, data-at}
 use Rattle.packet_laws.proofs.ReadLaws.{first-ends, header-ends}

@@ -5,16 +5,16 @@ use mathlib.Core.Bool.{Bool, true, false}
 use mathlib.Core.List.{List, [], _∷_}
 use lib.ListN.{length, getD, drop, length-drop}
 use native.Mathlib.Omega.{arith}
-use Rattle.lengths.specs.Answers.{Answer, done, refused}
-use Rattle.lengths.proofs.Laws.{within-done}
-use Rattle.formats.specs.Places.{Place}
-use Rattle.packets.specs.Edition.{Edition}
-use Rattle.packets.specs.Packet.{fieldsLeast, fieldsLimit, noField, PacketAnswer}
-use Rattle.packets.specs.Promise.{packetOutcome, packetRead, paddedFields}
+use Rattle.length.specs.Answers.{Answer, done, refused}
+use Rattle.length.proofs.Laws.{within-done}
+use Rattle.format.specs.Places.{Place}
+use Rattle.packet.specs.Edition.{Edition}
+use Rattle.packet.specs.Packet.{fieldsLeast, fieldsLimit, noField, PacketAnswer}
+use Rattle.packet.specs.Promise.{packetOutcome, packetRead, paddedFields}
 use lib.Seq.{take-at}
-use Rattle.packets.proofs.Laws.{parts-cons}
+use Rattle.packet.proofs.Laws.{parts-cons}
 use Rattle.packet_laws.specs.Octets.{Count, countAt, FieldAnswer, fieldAt, FieldsAnswer, fieldsAt}
-use Rattle.packets.specs.declared.types.Field.{Field}
+use Rattle.packet.specs.declared.types.Field.{Field}
 use Rattle.packet_laws.proofs.ReadLaws.{stepped, edge-inside, count-form, header-ends, size-form, FieldForm, bare, full, field-form}
 
 -- ---- where the items of a packet end

@@ -8,16 +8,16 @@ use lib.ListN.{length, getD, drop}
 use lib.Dec.{ltb}
 use native.Mathlib.Omega.{arith}
 use borrow.Author.Tests.{ltb-false}
-use Rattle.lengths.specs.Refusals.{refusalAt, endsEarly, outsideSizes, spareBit, notAssigned, wrongData}
-use Rattle.lengths.specs.Answers.{Answer, done, refused, readFrom, _>>=_, LengthAnswer}
-use Rattle.lengths.specs.Length.{lengthWithin}
-use Rattle.lengths.proofs.Laws.{cond-past, cond-done, cond-kept, cond-met, from-done}
-use Rattle.formats.specs.Spelling.{gap}
-use Rattle.formats.specs.Places.{Place, bitsAt, edge, edgeAt}
-use Rattle.datagrams.specs.Sizes.{packetLimit}
-use Rattle.packets.specs.Edition.{addedWidth, Edition, values}
-use Rattle.packets.specs.Packet.{rightFields, rightData, fieldsLeast, fieldsLimit}
-use Rattle.packets.specs.declared.types.Enumerated.{Enumerated}
+use Rattle.length.specs.Refusals.{refusalAt, endsEarly, outsideSizes, spareBit, notAssigned, wrongData}
+use Rattle.length.specs.Answers.{Answer, done, refused, readFrom, _>>=_, LengthAnswer}
+use Rattle.length.specs.Length.{lengthWithin}
+use Rattle.length.proofs.Laws.{cond-past, cond-done, cond-kept, cond-met, from-done}
+use Rattle.format.specs.Spelling.{gap}
+use Rattle.format.specs.Places.{Place, bitsAt, edge, edgeAt}
+use Rattle.datagram.specs.Sizes.{packetLimit}
+use Rattle.packet.specs.Edition.{addedWidth, Edition, values}
+use Rattle.packet.specs.Packet.{rightFields, rightData, fieldsLeast, fieldsLimit}
+use Rattle.packet.specs.declared.types.Enumerated.{Enumerated}
 use Rattle.packet_laws.specs.Octets.{bitSetAt, Value, rootAt, addedAt, valueAt, kindOf, FirstAnswer, firstAt, Count, countAt}
 use Rattle.packet_laws.specs.Octets.{HeaderAnswer, headerAt, sizeAt, FieldAnswer, afterHeader, fieldAt}
 

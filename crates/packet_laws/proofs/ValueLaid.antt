@@ -9,18 +9,18 @@ use lib.Dec.{leb}
 use lib.Pow.{pow-mono}
 use native.Mathlib.Omega.{arith}
 use borrow.Author.Tests.{leb-true, leb-false}
-use Rattle.formats.specs.Spelling.{Letter, spelt, wide, packed, gap}
-use Rattle.formats.specs.Waiting.{waiting, Waits, joined, fullOctets, left, closed}
-use Rattle.formats.specs.Format.{flagBit, flag, known}
-use Rattle.formats.proofs.Laws.{wide-append, wide-spelt, gap-past, waits-left, left-at, spelt-join, packed-spelt}
-use Rattle.formats.proofs.Laws.{packed-closed, fullOctets-long, closed-long}
-use Rattle.packets.specs.Edition.{many, addedWidth, Edition, values}
-use Rattle.packets.specs.Packet.{First, addition, root, enumerated, typeOfMsg, start}
+use Rattle.format.specs.Spelling.{Letter, spelt, wide, packed, gap}
+use Rattle.format.specs.Waiting.{waiting, Waits, joined, fullOctets, left, closed}
+use Rattle.format.specs.Format.{flagBit, flag, known}
+use Rattle.format.proofs.Laws.{wide-append, wide-spelt, gap-past, waits-left, left-at, spelt-join, packed-spelt}
+use Rattle.format.proofs.Laws.{packed-closed, fullOctets-long, closed-long}
+use Rattle.packet.specs.Edition.{many, addedWidth, Edition, values}
+use Rattle.packet.specs.Packet.{First, addition, root, enumerated, typeOfMsg, start}
 use Rattle.packet_laws.specs.Octets.{Narrow}
 use Rattle.packet_laws.specs.Laid.{markWidth, valueWidth, valueBits, firstLead, firstOctets, firstSize}
-use Rattle.packets.specs.declared.types.PacketKind.{PacketKind}
-use Rattle.packets.specs.declared.types.PacketKind.the-variants.{Indicator, Data}
-use Rattle.packets.specs.declared.types.Enumerated.{Enumerated}
+use Rattle.packet.specs.declared.types.PacketKind.{PacketKind}
+use Rattle.packet.specs.declared.types.PacketKind.the-variants.{Indicator, Data}
+use Rattle.packet.specs.declared.types.Enumerated.{Enumerated}
 
 pub flag-small : (b : Bool) → flagBit b < 2 ^ 1
 flag-small true = omega arith

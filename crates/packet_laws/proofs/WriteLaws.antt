@@ -9,28 +9,28 @@ use lib.Seq.{length-take-le}
 use lib.Dec.{leb, ltb}
 use native.Mathlib.Omega.{arith}
 use borrow.Author.Tests.{lt-ltb, le-ltb, ltb-true, lt-leb}
-use Rattle.lengths.specs.Length.{lengthOctets}
-use Rattle.lengths.proofs.Laws.{lengthOctets-one, both}
-use Rattle.lengths.specs.Answers.{done}
-use Rattle.formats.specs.Places.{edge}
-use Rattle.formats.specs.Waiting.{Waiting, noneWait, Waits, closed}
-use Rattle.formats.proofs.Laws.{none-waits, closed-long}
-use Rattle.packets.specs.Edition.{many, Edition, values, edition98}
-use Rattle.packets.specs.Packet.{fieldsLimit, typesLimit, manyValues, every}
-use Rattle.packets.specs.Write.{withData, packetOctets, lengthsSum, total, oneEach, allAssigned, packetToWrite}
+use Rattle.length.specs.Length.{lengthOctets}
+use Rattle.length.proofs.Laws.{lengthOctets-one, both}
+use Rattle.length.specs.Answers.{done}
+use Rattle.format.specs.Places.{edge}
+use Rattle.format.specs.Waiting.{Waiting, noneWait, Waits, closed}
+use Rattle.format.proofs.Laws.{none-waits, closed-long}
+use Rattle.packet.specs.Edition.{many, Edition, values, edition98}
+use Rattle.packet.specs.Packet.{fieldsLimit, typesLimit, manyValues, every}
+use Rattle.packet.specs.Write.{withData, packetOctets, lengthsSum, total, oneEach, allAssigned, packetToWrite}
 use Rattle.packet_laws.specs.Octets.{Narrow, NarrowEdition}
 use Rattle.packet_laws.specs.Laid.{valueWidth, firstOctets, sizeOctets, headerOctets, headerLeft}
 use Rattle.packet_laws.specs.Laid.{fieldOctets, afterField, fieldsOctets, countedFields, laidOctets, pastField, pastFields}
 use Rattle.packet_laws.specs.Laid.{headerWidth, firstSize, packetSize}
 use Rattle.packet_laws.specs.Claims.{ownSize, NeverLonger}
-use Rattle.packets.specs.declared.types.PacketKind.{PacketKind}
-use Rattle.packets.specs.declared.types.PacketKind.the-variants.{Indicator, Data}
-use Rattle.packets.specs.declared.types.Named.the-variants.{Old}
-use Rattle.packets.specs.declared.types.Enumerated.{Enumerated}
+use Rattle.packet.specs.declared.types.PacketKind.{PacketKind}
+use Rattle.packet.specs.declared.types.PacketKind.the-variants.{Indicator, Data}
+use Rattle.packet.specs.declared.types.Named.the-variants.{Old}
+use Rattle.packet.specs.declared.types.Enumerated.{Enumerated}
 use Rattle.packet_laws.proofs.ValueLaid.{first-long}
 use Rattle.packet_laws.proofs.FieldLaid.{after-waits, after-at, field-long}
 use Rattle.packet_laws.proofs.Laid.{type-known, packet-laid}
-use Rattle.packets.proofs.Laws.{each-sum, each-length, write-form}
+use Rattle.packet.proofs.Laws.{each-sum, each-length, write-form}
 use Rattle.packet_laws.proofs.Editions as editions
 
 -- ---- the size

@@ -5,10 +5,10 @@ use mathlib.Core.Bool.{cond}
 use mathlib.Core.List.{List}
 use lib.ListN.{length}
 use lib.Dec.{ltb}
-use Rattle.lengths.specs.Answers.{done}
-use Rattle.packets.specs.Edition.{edition98}
-use Rattle.packets.specs.Write.{withData, total, packetToWrite}
-use Rattle.packets.specs.declared.types.PacketKind.{PacketKind}
+use Rattle.length.specs.Answers.{done}
+use Rattle.packet.specs.Edition.{edition98}
+use Rattle.packet.specs.Write.{withData, total, packetToWrite}
+use Rattle.packet.specs.declared.types.PacketKind.{PacketKind}
 
 -- no packet of the edition of 06/98 is longer than by document 01's first rule, "Each field begins on an octet of its own": how many octets
 -- a field took

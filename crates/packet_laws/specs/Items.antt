@@ -6,22 +6,22 @@ use mathlib.Core.Bool.{Bool, true}
 use mathlib.Core.List.{List}
 use lib.ListN.{length}
 use lib.Dec.{leb}
-use Rattle.lengths.specs.Answers.{done, writtenOutcome, sizeOf}
-use Rattle.lengths.specs.Promise.{Put}
-use Rattle.lengths.specs.declared.Written.{Written}
-use Rattle.datagrams.specs.Sizes.{packetLimit}
-use Rattle.packets.specs.Edition.{many, editionOf}
-use Rattle.packets.specs.Packet.{First, fieldsLimit, every}
-use Rattle.packets.specs.Write.{lengthsSum, allAssigned, rightTypes, allRight, packetToWrite}
-use Rattle.formats.specs.Format.{flagBit}
-use Rattle.formats.specs.Places.{Place}
-use Rattle.formats.specs.Waiting.{Waiting, waiting, noneWait, Waits, joined, fullOctets, left, closed}
+use Rattle.length.specs.Answers.{done, writtenOutcome, sizeOf}
+use Rattle.length.specs.Promise.{Put}
+use Rattle.length.specs.declared.Written.{Written}
+use Rattle.datagram.specs.Sizes.{packetLimit}
+use Rattle.packet.specs.Edition.{many, editionOf}
+use Rattle.packet.specs.Packet.{First, fieldsLimit, every}
+use Rattle.packet.specs.Write.{lengthsSum, allAssigned, rightTypes, allRight, packetToWrite}
+use Rattle.format.specs.Format.{flagBit}
+use Rattle.format.specs.Places.{Place}
+use Rattle.format.specs.Waiting.{Waiting, waiting, noneWait, Waits, joined, fullOctets, left, closed}
 use Rattle.packet_laws.specs.Octets.{Narrow}
 use Rattle.packet_laws.specs.Laid.{valueWidth, firstOctets, headerOctets, headerLeft, fieldOctets, afterField, fieldsOctets}
 use Rattle.packet_laws.specs.Laid.{countedFields, laidOctets, pastField, pastFields, packetSize}
-use Rattle.packets.specs.declared.types.PacketKind.{PacketKind}
-use Rattle.packets.specs.declared.types.Named.{Named}
-use Rattle.packets.specs.declared.types.Enumerated.{Enumerated}
+use Rattle.packet.specs.declared.types.PacketKind.{PacketKind}
+use Rattle.packet.specs.declared.types.Named.{Named}
+use Rattle.packet.specs.declared.types.Enumerated.{Enumerated}
 
 -- ---- writing: sizes
 -- a length as a size

@@ -6,15 +6,15 @@ use mathlib.Core.Bool.{Bool, cond}
 use mathlib.Core.List.{List, [], _∷_, _++_}
 use lib.ListN.{length, take, drop}
 use lib.Dec.{leb, ltb}
-use Rattle.lengths.specs.Length.{lengthOctets}
-use Rattle.packets.specs.Edition.{addedWidth, Edition, values}
-use Rattle.packets.specs.Packet.{First, isData}
-use Rattle.packets.specs.Write.{withData}
-use Rattle.formats.specs.Format.{flagBit}
-use Rattle.formats.specs.Places.{Place, edge}
-use Rattle.formats.specs.Waiting.{Waiting, waiting, noneWait, joined, fullOctets, left, closed}
-use Rattle.packets.specs.declared.types.PacketKind.{PacketKind}
-use Rattle.packets.specs.declared.types.Enumerated.{Enumerated}
+use Rattle.length.specs.Length.{lengthOctets}
+use Rattle.packet.specs.Edition.{addedWidth, Edition, values}
+use Rattle.packet.specs.Packet.{First, isData}
+use Rattle.packet.specs.Write.{withData}
+use Rattle.format.specs.Format.{flagBit}
+use Rattle.format.specs.Places.{Place, edge}
+use Rattle.format.specs.Waiting.{Waiting, waiting, noneWait, joined, fullOctets, left, closed}
+use Rattle.packet.specs.declared.types.PacketKind.{PacketKind}
+use Rattle.packet.specs.declared.types.Enumerated.{Enumerated}
 
 -- ---- a value of an ENUMERATED type
 -- the bit for extension, where there is an extension mark

@@ -6,17 +6,17 @@ use mathlib.Core.Bool.{Bool, cond}
 use mathlib.Core.List.{List, [], _∷_}
 use lib.ListN.{length, getD, drop}
 use lib.Dec.{ltb}
-use Rattle.lengths.specs.Refusals.{endsEarly, outsideSizes, spareBit, leftOver, notAssigned, wrongData}
-use Rattle.lengths.specs.Answers.{Answer, done, refuse, refuseAt, readFrom, _>>=_}
-use Rattle.lengths.specs.Length.{lengthWithin}
-use Rattle.formats.specs.Places.{Place, bitsAt, edgeAt}
-use Rattle.datagrams.specs.Sizes.{packetLimit}
-use Rattle.packets.specs.Edition.{many, addedWidth, SoundEnumerated, Edition, values}
-use Rattle.packets.specs.Packet.{First, Header, PacketAnswer, chosen, rightFields, rightData, fieldsLeast, fieldsLimit, mayFollow}
-use Rattle.packets.specs.declared.types.PacketKind.{PacketKind}
-use Rattle.packets.specs.declared.types.Ending.{Ending}
-use Rattle.packets.specs.declared.types.Field.{Field}
-use Rattle.packets.specs.declared.types.Enumerated.{Enumerated}
+use Rattle.length.specs.Refusals.{endsEarly, outsideSizes, spareBit, leftOver, notAssigned, wrongData}
+use Rattle.length.specs.Answers.{Answer, done, refuse, refuseAt, readFrom, _>>=_}
+use Rattle.length.specs.Length.{lengthWithin}
+use Rattle.format.specs.Places.{Place, bitsAt, edgeAt}
+use Rattle.datagram.specs.Sizes.{packetLimit}
+use Rattle.packet.specs.Edition.{many, addedWidth, SoundEnumerated, Edition, values}
+use Rattle.packet.specs.Packet.{First, Header, PacketAnswer, chosen, rightFields, rightData, fieldsLeast, fieldsLimit, mayFollow}
+use Rattle.packet.specs.declared.types.PacketKind.{PacketKind}
+use Rattle.packet.specs.declared.types.Ending.{Ending}
+use Rattle.packet.specs.declared.types.Field.{Field}
+use Rattle.packet.specs.declared.types.Enumerated.{Enumerated}
 
 -- whether the bit at a place is set
 abbrev pub bitSetAt : List ℕ → Place → Bool

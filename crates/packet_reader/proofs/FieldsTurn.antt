@@ -6,17 +6,17 @@ use mathlib.Core.List.{List, [], _∷_, _++_, append-assoc, append-nil}
 use lib.ListN.{length, set, replicate, length-append}
 use lib.Seq.{set-at, append-snoc}
 use native.Mathlib.Omega.{arith}
-use Rattle.lengths.specs.Answers.{Answer, done, refused, _>>=_}
-use Rattle.lengths.specs.declared.Refusal.{Refusal}
-use Rattle.formats.specs.Places.{Place}
-use Rattle.packets.specs.Edition.{Edition, editionOf}
-use Rattle.packets.specs.declared.types.Named.{Named}
-use Rattle.packets.specs.Packet.{fieldsLimit, noField}
+use Rattle.length.specs.Answers.{Answer, done, refused, _>>=_}
+use Rattle.length.specs.declared.Refusal.{Refusal}
+use Rattle.format.specs.Places.{Place}
+use Rattle.packet.specs.Edition.{Edition, editionOf}
+use Rattle.packet.specs.declared.types.Named.{Named}
+use Rattle.packet.specs.Packet.{fieldsLimit, noField}
 use Rattle.packet_laws.specs.Octets.{FieldAnswer, fieldAt, FieldsAnswer, fieldsAt}
-use Rattle.packets.specs.Promise.{paddedFields}
+use Rattle.packet.specs.Promise.{paddedFields}
 use Rattle.packet_laws.proofs.Laws.{field-inside}
 use Rattle.packet_reader.specs.Items.{InPacket, FieldTold, FieldsTold, fieldOutcome}
-use Rattle.packets.specs.declared.types.Field.{Field}
+use Rattle.packet.specs.declared.types.Field.{Field}
 use Rattle.packet_reader.specs.declared.items.FieldRead.{FieldRead}
 use Rattle.packet_reader.specs.declared.items.FieldRead.the-variants as field
 use Rattle.packet_reader.specs.declared.reader.FieldsEnd.the-variants as end

@@ -7,13 +7,13 @@ use mathlib.Core.List.{List}
 use lib.ListN.{drop, length-drop}
 use native.Mathlib.Omega.{arith}
 use Rattle.packet_laws.proofs.Laws.{rest, rest-is, header-ends, size-form}
-use Rattle.lengths.specs.Refusals.{further}
-use Rattle.lengths.specs.Answers.{done, refused}
-use Rattle.lengths.specs.declared.Refusal.{Refusal}
-use Rattle.formats.specs.Places.{Place}
-use Rattle.datagrams.specs.Sizes.{packetLimit}
-use Rattle.packets.specs.Edition.{editionOf}
-use Rattle.packets.specs.declared.types.Named.{Named}
+use Rattle.length.specs.Refusals.{further}
+use Rattle.length.specs.Answers.{done, refused}
+use Rattle.length.specs.declared.Refusal.{Refusal}
+use Rattle.format.specs.Places.{Place}
+use Rattle.datagram.specs.Sizes.{packetLimit}
+use Rattle.packet.specs.Edition.{editionOf}
+use Rattle.packet.specs.declared.types.Named.{Named}
 use Rattle.packet_laws.specs.Octets.{headerAt, sizeAt, afterHeader, fieldAt}
 use Rattle.packet_reader.specs.Items.{InPacket, EdgeTold, edgeOutcome, HeaderTold, headerOutcome, SizeTold, sizeOutcome, DataTold}
 use Rattle.packet_reader.specs.Items.{FieldTold}

@@ -8,19 +8,19 @@ use lib.ListN.{length}
 use lib.Dec.{ltb}
 use native.Mathlib.Omega.{arith}
 use Rattle.packet_laws.proofs.Laws.{narrow, value-ends, parted-at}
-use Rattle.lengths.specs.Refusals.{wrongData}
-use Rattle.lengths.specs.Answers.{Answer, done, refused, refuseAt, _>>=_}
-use Rattle.lengths.specs.Promise.{RefusalMade, RefusalPlaced}
-use Rattle.lengths.specs.declared.Refusal.{Refusal}
-use Rattle.datagrams.specs.Sizes.{packetLimit}
-use Rattle.formats.specs.Places.{Place, bitsAt}
-use Rattle.packets.specs.Edition.{values, editionOf, carries, allows}
-use Rattle.packets.specs.Packet.{rightFields}
+use Rattle.length.specs.Refusals.{wrongData}
+use Rattle.length.specs.Answers.{Answer, done, refused, refuseAt, _>>=_}
+use Rattle.length.specs.Promise.{RefusalMade, RefusalPlaced}
+use Rattle.length.specs.declared.Refusal.{Refusal}
+use Rattle.datagram.specs.Sizes.{packetLimit}
+use Rattle.format.specs.Places.{Place, bitsAt}
+use Rattle.packet.specs.Edition.{values, editionOf, carries, allows}
+use Rattle.packet.specs.Packet.{rightFields}
 use Rattle.packet_laws.specs.Octets.{bitSetAt, Narrow, Value, valueAt, kindOf, firstAt, HeaderAnswer, headerAt}
-use Rattle.packets.specs.declared.types.Enumerated.{Enumerated}
-use Rattle.packets.specs.declared.types.PacketKind.{PacketKind}
-use Rattle.packets.specs.declared.types.Named.{Named}
-use Rattle.packets.specs.declared.types.Named.the-variants.{Old, New}
+use Rattle.packet.specs.declared.types.Enumerated.{Enumerated}
+use Rattle.packet.specs.declared.types.PacketKind.{PacketKind}
+use Rattle.packet.specs.declared.types.Named.{Named}
+use Rattle.packet.specs.declared.types.Named.the-variants.{Old, New}
 use Rattle.packet_reader.specs.Items.{InPacket, NearPacket, Power, BitTold, BitsTold, EdgeTold, edgeOutcome, PlainTold, ValueTold}
 use Rattle.packet_reader.specs.Items.{valueOutcome, afterFirst, AfterFirst, FirstHere, FirstTold, afterType, AfterType, HeaderTold}
 use Rattle.packet_reader.specs.declared.places.EdgeRead.{EdgeRead}

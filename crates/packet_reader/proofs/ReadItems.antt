@@ -9,16 +9,16 @@ use lib.Dec.{ltb}
 use native.Mathlib.Omega.{arith}
 use borrow.Author.Tests.{lt-ltb, le-ltb, not-true, not-false}
 use Rattle.packet_laws.proofs.Laws.{rest, rest-is}
-use Rattle.lengths.specs.Refusals.{further, endsEarly, outsideSizes}
-use Rattle.lengths.specs.Answers.{Answer, done, refused, refuse, refuseAt, lengthOutcome, refusalOf}
-use Rattle.lengths.specs.Length.{lengthWithin}
-use Rattle.lengths.specs.Promise.{Octet, RefusalMade, RefusalPlaced, RefusalTold, WithinRead}
-use Rattle.lengths.proofs.Laws.{within-done, within-front, refused-same}
-use Rattle.lengths.specs.declared.Length.{Length}
-use Rattle.lengths.specs.declared.Refusal.{Refusal}
-use Rattle.lengths.specs.declared.Length.the-variants as length
-use Rattle.datagrams.specs.Sizes.{packetLimit}
-use Rattle.packets.specs.Packet.{fieldsLeast, fieldsLimit}
+use Rattle.length.specs.Refusals.{further, endsEarly, outsideSizes}
+use Rattle.length.specs.Answers.{Answer, done, refused, refuse, refuseAt, lengthOutcome, refusalOf}
+use Rattle.length.specs.Length.{lengthWithin}
+use Rattle.length.specs.Promise.{Octet, RefusalMade, RefusalPlaced, RefusalTold, WithinRead}
+use Rattle.length.proofs.Laws.{within-done, within-front, refused-same}
+use Rattle.length.specs.declared.Length.{Length}
+use Rattle.length.specs.declared.Refusal.{Refusal}
+use Rattle.length.specs.declared.Length.the-variants as length
+use Rattle.datagram.specs.Sizes.{packetLimit}
+use Rattle.packet.specs.Packet.{fieldsLeast, fieldsLimit}
 use Rattle.packet_laws.specs.Octets.{countAt, sizeAt}
 use Rattle.packet_reader.specs.Items.{OctetIn, CountTold, SizeTold}
 use Rattle.packet_reader.specs.declared.items.CountRead.the-variants as count

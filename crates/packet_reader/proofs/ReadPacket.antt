@@ -7,29 +7,29 @@ use mathlib.Core.List.{List}
 use lib.ListN.{length, drop}
 use native.Mathlib.Omega.{arith}
 use borrow.Author.Tests.{lt-ltb, le-ltb}
-use Rattle.lengths.specs.Refusals.{outsideSizes, leftOver, wrongSettings}
-use Rattle.lengths.specs.Answers.{Answer, done, refused, refuse, refuseAt, _>>=_, mapped}
-use Rattle.lengths.specs.Promise.{RefusalMade, RefusalPlaced}
-use Rattle.lengths.specs.declared.Refusal.{Refusal}
-use Rattle.datagrams.specs.Sizes.{packetLimit}
-use Rattle.packets.specs.Edition.{editionOf}
-use Rattle.packets.specs.Packet.{fieldsLimit, PacketAnswer, mayFollow, readPacket}
-use Rattle.formats.specs.Places.{Place, edgeAt}
+use Rattle.length.specs.Refusals.{outsideSizes, leftOver, wrongSettings}
+use Rattle.length.specs.Answers.{Answer, done, refused, refuse, refuseAt, _>>=_, mapped}
+use Rattle.length.specs.Promise.{RefusalMade, RefusalPlaced}
+use Rattle.length.specs.declared.Refusal.{Refusal}
+use Rattle.datagram.specs.Sizes.{packetLimit}
+use Rattle.packet.specs.Edition.{editionOf}
+use Rattle.packet.specs.Packet.{fieldsLimit, PacketAnswer, mayFollow, readPacket}
+use Rattle.format.specs.Places.{Place, edgeAt}
 use Rattle.packet_laws.specs.Octets.{firstAt, countAt, FieldsAnswer, fieldsAt, endAt, packetByOctets}
-use Rattle.packets.specs.Promise.{PacketTold, packetOutcome, packetRead, paddedFields}
+use Rattle.packet.specs.Promise.{PacketTold, packetOutcome, packetRead, paddedFields}
 use Rattle.packet_reader.specs.Items.{InPacket, OctetIn, EdgeTold, edgeOutcome, FirstTold, CountTold, FieldsTold, EndTold, NamedTold}
 use Rattle.packet_reader.specs.Items.{firstOutcome, countOutcome, fieldsRead, endOutcome}
-use Rattle.packets.specs.declared.types.Field.{Field}
-use Rattle.packets.specs.declared.types.PacketKind.{PacketKind}
-use Rattle.packets.specs.declared.types.Named.{Named}
-use Rattle.packets.specs.declared.types.Ending.{Ending}
-use Rattle.packets.specs.declared.types.PacketRead.{PacketRead}
+use Rattle.packet.specs.declared.types.Field.{Field}
+use Rattle.packet.specs.declared.types.PacketKind.{PacketKind}
+use Rattle.packet.specs.declared.types.Named.{Named}
+use Rattle.packet.specs.declared.types.Ending.{Ending}
+use Rattle.packet.specs.declared.types.PacketRead.{PacketRead}
 use Rattle.packet_reader.specs.declared.places.EdgeRead.{EdgeRead}
 use Rattle.packet_reader.specs.declared.items.FirstRead.{FirstRead}
 use Rattle.packet_reader.specs.declared.items.CountRead.{CountRead}
 use Rattle.packet_reader.specs.declared.reader.FieldsRead.{FieldsRead}
 use Rattle.packet_reader.specs.declared.reader.EndRead.{EndRead}
-use Rattle.packets.specs.declared.types.PacketReading.the-variants as reading
+use Rattle.packet.specs.declared.types.PacketReading.the-variants as reading
 use Rattle.packet_reader.specs.declared.places.EdgeRead.the-variants as edge
 use Rattle.packet_reader.specs.declared.items.FirstRead.the-variants as first
 use Rattle.packet_reader.specs.declared.items.CountRead.the-variants as count

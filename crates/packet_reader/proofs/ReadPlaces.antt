@@ -9,12 +9,12 @@ use lib.Dec.{ltb}
 use native.Mathlib.Nat.{mod-lt}
 use native.Mathlib.Omega.{arith}
 use borrow.Author.Tests.{lt-ltb, le-ltb}
-use Rattle.lengths.specs.Refusals.{spareBit}
-use Rattle.lengths.specs.Answers.{done}
-use Rattle.lengths.specs.Promise.{Octet, RefusalPlaced}
-use Rattle.lengths.specs.declared.Refusal.{Refusal}
+use Rattle.length.specs.Refusals.{spareBit}
+use Rattle.length.specs.Answers.{done}
+use Rattle.length.specs.Promise.{Octet, RefusalPlaced}
+use Rattle.length.specs.declared.Refusal.{Refusal}
 use Rattle.packet_laws.proofs.Laws.{edge-inside}
-use Rattle.formats.specs.Places.{Place, edgeAt}
+use Rattle.format.specs.Places.{Place, edgeAt}
 use Rattle.packet_reader.specs.Items.{InPacket, Power, OctetAt, BitTold, BitsTold, EdgeTold, edgeOutcome}
 use Rattle.packet_reader.specs.declared.places.EdgeRead.{EdgeRead}
 use Rattle.packet_reader.specs.declared.places.EdgeRead.the-variants as edge

@@ -7,13 +7,13 @@ use mathlib.Core.List.{List}
 use lib.ListN.{length}
 use native.Mathlib.Omega.{arith}
 use borrow.Author.Tests.{lt-ltb, le-ltb}
-use Rattle.lengths.specs.Refusals.{endsEarly, notAssigned}
-use Rattle.lengths.specs.Answers.{done}
-use Rattle.lengths.specs.Promise.{RefusalPlaced}
-use Rattle.lengths.specs.declared.Refusal.{Refusal}
-use Rattle.formats.specs.Places.{Place, bitsAt}
-use Rattle.packets.specs.Edition.{addedWidth}
-use Rattle.packets.specs.declared.types.Enumerated.{Enumerated}
+use Rattle.length.specs.Refusals.{endsEarly, notAssigned}
+use Rattle.length.specs.Answers.{done}
+use Rattle.length.specs.Promise.{RefusalPlaced}
+use Rattle.length.specs.declared.Refusal.{Refusal}
+use Rattle.format.specs.Places.{Place, bitsAt}
+use Rattle.packet.specs.Edition.{addedWidth}
+use Rattle.packet.specs.declared.types.Enumerated.{Enumerated}
 use Rattle.packet_laws.specs.Octets.{Narrow, rootAt, addedAt, valueAt, plainWidth}
 use Rattle.packet_laws.proofs.Laws.{plain-at}
 use Rattle.packet_reader.specs.Items.{BitTold, BitsTold, PlainTold, RootTold, AddedTold, ValueTold}

@@ -5,21 +5,21 @@ use mathlib.Core.Path.{_≡_}
 use mathlib.Core.Bool.{Bool, true, cond}
 use mathlib.Core.List.{List, []}
 use lib.ListN.{length, getD}
-use Rattle.lengths.specs.Refusals.{wrongData}
-use Rattle.lengths.specs.Answers.{Answer, done, refused, refuse, refuseAt, _>>=_}
-use Rattle.formats.specs.Places.{Place, bitsAt, edgeAt}
-use Rattle.datagrams.specs.Sizes.{packetLimit}
-use Rattle.packets.specs.Edition.{editionOf, carries, allows}
-use Rattle.packets.specs.declared.types.Enumerated.{Enumerated}
+use Rattle.length.specs.Refusals.{wrongData}
+use Rattle.length.specs.Answers.{Answer, done, refused, refuse, refuseAt, _>>=_}
+use Rattle.format.specs.Places.{Place, bitsAt, edgeAt}
+use Rattle.datagram.specs.Sizes.{packetLimit}
+use Rattle.packet.specs.Edition.{editionOf, carries, allows}
+use Rattle.packet.specs.declared.types.Enumerated.{Enumerated}
 use Rattle.packet_laws.specs.Octets.{bitSetAt, kindOf, Narrow, Value, plainWidth, rootAt, addedAt, valueAt, FirstAnswer, firstAt}
 use Rattle.packet_laws.specs.Octets.{Count, countAt, HeaderAnswer, headerAt, sizeAt, FieldAnswer, afterHeader, fieldAt}
 use Rattle.packet_laws.specs.Octets.{FieldsAnswer, fieldsAt, endAt}
-use Rattle.packets.specs.Packet.{rightFields, readPacket}
-use Rattle.packets.specs.Promise.{PacketTold, paddedFields}
-use Rattle.packets.specs.declared.types.Ending.{Ending}
-use Rattle.packets.specs.declared.types.PacketKind.{PacketKind}
-use Rattle.packets.specs.declared.types.Named.{Named}
-use Rattle.packets.specs.declared.types.PacketRead.{PacketRead}
+use Rattle.packet.specs.Packet.{rightFields, readPacket}
+use Rattle.packet.specs.Promise.{PacketTold, paddedFields}
+use Rattle.packet.specs.declared.types.Ending.{Ending}
+use Rattle.packet.specs.declared.types.PacketKind.{PacketKind}
+use Rattle.packet.specs.declared.types.Named.{Named}
+use Rattle.packet.specs.declared.types.PacketRead.{PacketRead}
 use Rattle.packet_reader.specs.declared.places.EdgeRead.{EdgeRead}
 use Rattle.packet_reader.specs.declared.places.EdgeRead.the-variants as edge
 use Rattle.packet_reader.specs.declared.values.ValueRead.{ValueRead}

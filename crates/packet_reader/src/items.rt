@@ -9,17 +9,17 @@ use crate::places::read_edge;
 use crate::values::ValueRead;
 use crate::values::plain_width;
 use crate::values::read_value;
-use datagrams::Packet;
-use lengths::Length;
-use lengths::Refusal;
-use lengths::wide;
-use packets::Field;
-use packets::Named;
-use packets::PacketKind;
+use datagram::Packet;
+use length::Length;
+use length::Refusal;
+use length::wide;
+use packet::Field;
+use packet::Named;
+use packet::PacketKind;
 ghost use mathlib.Core.Path.{_≡_};
 ghost use Prim.Native.Nat.{_≤_};
 ghost use lib.ListN.{length};
-ghost use Rattle.datagrams.specs.Sizes.{packetLimit};
+ghost use Rattle.datagram.specs.Sizes.{packetLimit};
 ghost use Rattle.packet_laws.specs.Octets.{kindOf};
 ghost use Rattle.packet_reader.specs.Items.{InPacket, OctetIn, FirstHere, AfterFirst, FirstTold, CountTold};
 ghost use Rattle.packet_reader.specs.Items.{AfterType, HeaderTold, SizeTold, DataTold, FieldTold};
@@ -124,7 +124,7 @@ pub fn read_count(s: &[u8], at: usize, present: bool) -> CountRead
         let start = 8 * at;
         return CountRead::Count(0, start);
     }
-    let found = length_reader::read_within(&s[at..], Field::LEAST, Field::LIMIT);
+    let found = length_code::read_within(&s[at..], Field::LEAST, Field::LIMIT);
     let Length::Value(value, size) = found else {
         let why = found.refusal();
         return CountRead::Refused(why.further(at));

@@ -1,4 +1,4 @@
-// The quick reader of packets: document 01, 'The packet', and document 02, requests 2 and 11, as `packets` defines them.
+// The quick reader of packets: document 01, 'The packet', and document 02, requests 2 and 11, as `packet` defines them.
 mod items;
 mod places;
 mod reader;

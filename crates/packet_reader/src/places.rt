@@ -1,7 +1,7 @@
 // Places in bits: a bit, the number in some bits from a place on, and the octet edge at a place or after it. No bits are read one by one.
 
-use lengths::Refusal;
-use lengths::wide;
+use length::Refusal;
+use length::wide;
 ghost use Prim.Native.Nat.{_≤_};
 ghost use Rattle.packet_reader.specs.Items.{InPacket, Power, OctetAt, BitTold, BitsTold, EdgeTold};
 

@@ -8,22 +8,22 @@ use crate::items::read_field;
 use crate::items::read_first;
 use crate::places::EdgeRead;
 use crate::places::read_edge;
-use datagrams::Packet;
-use lengths::Refusal;
-use packets::Choice;
-use packets::Ending;
-use packets::Field;
-use packets::Named;
-use packets::PacketRead;
-use packets::PacketReading;
+use datagram::Packet;
+use length::Refusal;
+use packet::Choice;
+use packet::Ending;
+use packet::Field;
+use packet::Named;
+use packet::PacketRead;
+use packet::PacketReading;
 ghost use mathlib.Core.Path.{_≡_};
 ghost use Prim.Native.Nat.{_≤_};
 ghost use mathlib.Core.List.{[]};
-ghost use Rattle.packets.specs.Edition.{byEdition};
-ghost use Rattle.packets.specs.Packet.{fieldsLimit, allZero, mayFollow, readPacket};
+ghost use Rattle.packet.specs.Edition.{byEdition};
+ghost use Rattle.packet.specs.Packet.{fieldsLimit, allZero, mayFollow, readPacket};
 ghost use Rattle.packet_reader.specs.Items.{InPacket, FieldsTold, EndTold, NamedTold};
-ghost use Rattle.packets.specs.Promise.{PacketTold, packetRead, paddedFields};
-ghost use Rattle.lengths.specs.Answers as answers;
+ghost use Rattle.packet.specs.Promise.{PacketTold, packetRead, paddedFields};
+ghost use Rattle.length.specs.Answers as answers;
 
 // The place after the last field.
 enum FieldsEnd {

@@ -4,8 +4,8 @@
 
 use crate::places::bit;
 use crate::places::bits;
-use lengths::Refusal;
-use packets::Enumerated;
+use length::Refusal;
+use packet::Enumerated;
 ghost use Rattle.packet_laws.specs.Octets.{Narrow};
 ghost use Rattle.packet_reader.specs.Items.{NearPacket, PlainTold, RootTold, AddedTold, ValueTold};
 

@@ -1,12 +1,12 @@
 // What a packet may hold, to the readers, the writer and the joiner alike: document 01, 'The packet', and what an edition decides.
-use packets::Choice;
-use packets::Enumerated;
-use packets::Named;
-use packets::PacketKind;
+use packet::Choice;
+use packet::Enumerated;
+use packet::Named;
+use packet::PacketKind;
 ghost use mathlib.Core.Path.{_≡_};
-ghost use Rattle.packets.specs.Edition as edition;
-ghost use Rattle.packets.specs.Edition.{editionOf, choiceOf, carries, allows};
-ghost use Rattle.packets.specs.Packet.{rightFields};
+ghost use Rattle.packet.specs.Edition as edition;
+ghost use Rattle.packet.specs.Edition.{editionOf, choiceOf, carries, allows};
+ghost use Rattle.packet.specs.Packet.{rightFields};
 
 // What an octet names.
 pub fn choice_of(octet: u8) -> Choice

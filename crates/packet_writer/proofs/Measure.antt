@@ -8,20 +8,20 @@ use lib.ListN.{length, getD, drop, drop-of-length-le}
 use lib.Dec.{leb, ltb, eqb}
 use native.Mathlib.Omega.{arith}
 use borrow.Author.Tests.{lt-ltb, le-ltb, eq-eqb, ne-eqb, not-true, not-false}
-use Rattle.lengths.specs.Refusals.{outsideSizes, wrongSettings, notAssigned, wrongData}
-use Rattle.lengths.specs.Tables.{when, unless}
-use Rattle.lengths.specs.Promise.{RefusalMade}
-use Rattle.lengths.specs.declared.Refusal.{Refusal}
-use Rattle.lengths.specs.declared.Written.the-variants as written
-use Rattle.packets.specs.Edition.{many, allows, Edition, values, carries, editionOf}
-use Rattle.packets.specs.Packet.{fieldsLimit, manyValues, rightFields, rightData, every}
-use Rattle.packets.specs.Write.{withData, packetOctets, lengthsSum, oneEach, allAssigned, rightTypes, allRight, inSizes, packetToWrite}
+use Rattle.length.specs.Refusals.{outsideSizes, wrongSettings, notAssigned, wrongData}
+use Rattle.length.specs.Tables.{when, unless}
+use Rattle.length.specs.Promise.{RefusalMade}
+use Rattle.length.specs.declared.Refusal.{Refusal}
+use Rattle.length.specs.declared.Written.the-variants as written
+use Rattle.packet.specs.Edition.{many, allows, Edition, values, carries, editionOf}
+use Rattle.packet.specs.Packet.{fieldsLimit, manyValues, rightFields, rightData, every}
+use Rattle.packet.specs.Write.{withData, packetOctets, lengthsSum, oneEach, allAssigned, rightTypes, allRight, inSizes, packetToWrite}
 use Rattle.packet_laws.specs.Items.{Wide, TypesRight, AllAssigned, AllRight, PacketSized, Measured}
-use Rattle.packets.specs.declared.types.Enumerated.{Enumerated}
-use Rattle.packets.specs.declared.types.PacketKind.{PacketKind}
-use Rattle.packets.specs.declared.types.Named.{Named}
-use Rattle.packets.specs.declared.types.Named.the-variants.{Old, New}
-use Rattle.packets.proofs.Laws.{each-length}
+use Rattle.packet.specs.declared.types.Enumerated.{Enumerated}
+use Rattle.packet.specs.declared.types.PacketKind.{PacketKind}
+use Rattle.packet.specs.declared.types.Named.{Named}
+use Rattle.packet.specs.declared.types.Named.the-variants.{Old, New}
+use Rattle.packet.proofs.Laws.{each-length}
 use Rattle.packet_laws.proofs.Laws.{drop-next, packet-size, narrow}
 use Rattle.packet_writer.proofs.Values.{values-narrow, types-narrow}
 

@@ -10,17 +10,17 @@ use lib.Dec.{leb}
 use native.Mathlib.Omega.{arith}
 use borrow.Rule.Slice.PartMut.{putMid}
 use borrow.Author.Tests.{leb-true}
-use Rattle.datagrams.specs.Sizes.{packetLimit}
-use Rattle.lengths.specs.Promise.{Put}
-use Rattle.lengths.proofs.Laws.{put-none, put-next, put-long, room-left, both}
-use Rattle.formats.specs.Waiting.{Waiting, waiting, noneWait, Waits, closed}
-use Rattle.formats.proofs.Laws.{none-waits}
-use Rattle.packets.specs.Edition.{many}
-use Rattle.packets.specs.Packet.{every}
-use Rattle.packets.specs.Write.{lengthsSum}
+use Rattle.datagram.specs.Sizes.{packetLimit}
+use Rattle.length.specs.Promise.{Put}
+use Rattle.length.proofs.Laws.{put-none, put-next, put-long, room-left, both}
+use Rattle.format.specs.Waiting.{Waiting, waiting, noneWait, Waits, closed}
+use Rattle.format.proofs.Laws.{none-waits}
+use Rattle.packet.specs.Edition.{many}
+use Rattle.packet.specs.Packet.{every}
+use Rattle.packet.specs.Write.{lengthsSum}
 use Rattle.packet_laws.specs.Laid.{fieldOctets, afterField, fieldsOctets}
 use Rattle.packet_laws.specs.Items.{Wide, EdgeFits, FieldFits, FieldPut, FieldsFit}
-use Rattle.packets.specs.declared.types.Enumerated.{Enumerated}
+use Rattle.packet.specs.declared.types.Enumerated.{Enumerated}
 use Rattle.packet_laws.proofs.Laws.{rest, drop-next, sum-next, after-waits}
 
 -- what holds of every element holds of one

@@ -7,17 +7,17 @@ use mathlib.Core.List.{List, _++_, append-assoc}
 use lib.ListN.{length, length-append}
 use native.Mathlib.Omega.{arith}
 use borrow.Rule.Slice.PartMut.{putMid}
-use Rattle.lengths.specs.Promise.{Put}
-use Rattle.lengths.proofs.Laws.{put-next, put-long, room-left}
-use Rattle.formats.specs.Waiting.{Waiting, waiting, joined, fullOctets, left, closed}
-use Rattle.formats.proofs.Laws.{waits-left}
-use Rattle.packets.specs.Packet.{isData}
+use Rattle.length.specs.Promise.{Put}
+use Rattle.length.proofs.Laws.{put-next, put-long, room-left}
+use Rattle.format.specs.Waiting.{Waiting, waiting, joined, fullOctets, left, closed}
+use Rattle.format.proofs.Laws.{waits-left}
+use Rattle.packet.specs.Packet.{isData}
 use Rattle.packet_laws.specs.Laid.{valueBits, firstLead, firstBits, firstOctets, sizeOctets, withFlag, withType}
 use Rattle.packet_laws.specs.Laid.{headerOctets, headerLeft, fieldOctets}
 use Rattle.packet_laws.specs.Items.{BitIs, ValueWide, BitsFit, BitsPut, EdgeFits, DataFits, FirstFits, HeaderFits, HeaderPut}
 use Rattle.packet_laws.specs.Items.{FieldFits, FieldPut}
-use Rattle.packets.specs.declared.types.Enumerated.{Enumerated}
-use Rattle.packets.specs.declared.types.PacketKind.{PacketKind}
+use Rattle.packet.specs.declared.types.Enumerated.{Enumerated}
+use Rattle.packet.specs.declared.types.PacketKind.{PacketKind}
 use Rattle.packet_laws.proofs.Laws.{rest, flag-small, value-small, lead-small, lead-waits, flag-waits, header-waits}
 use Rattle.packet_laws.proofs.Laws.{field-bare, after-bare, field-full, after-full}
 use Rattle.packet_writer.proofs.Putting.{bits-few}

@@ -11,13 +11,13 @@ use native.Mathlib.Nat.{mod-eq-of-lt, one-mul, lt-of-lt-of-le}
 use native.Mathlib.Omega.{arith}
 use borrow.Rule.Slice.PartMut.{putMid}
 use borrow.Author.Tests.{lt-ltb, le-ltb}
-use Rattle.formats.specs.Waiting.{Waiting, waiting, joined, fullOctets, left, closed}
-use Rattle.formats.proofs.Laws.{joined-small}
+use Rattle.format.specs.Waiting.{Waiting, waiting, joined, fullOctets, left, closed}
+use Rattle.format.proofs.Laws.{joined-small}
 use Rattle.packet_laws.specs.Laid.{sizeOctets}
 use Rattle.packet_laws.specs.Items.{BitIs, BitsFit, BitsPut, EdgeFits, DataFits}
 use Rattle.packet_laws.proofs.Laws.{rest}
-use Rattle.lengths.specs.Promise.{Put}
-use Rattle.lengths.proofs.Laws.{put-none, put-one, put-next}
+use Rattle.length.specs.Promise.{Put}
+use Rattle.length.proofs.Laws.{put-none, put-one, put-next}
 
 -- ---- powers of two, and a bit
 pub power-is : (k : ℕ) → k ≤ 8 → 1 * 2 ^ k % 2 ^ 64 ≡ 2 ^ k

@@ -7,16 +7,16 @@ use lib.ListN.{length}
 use lib.Dec.{leb}
 use native.Mathlib.Omega.{arith}
 use borrow.Author.Tests.{lt-ltb, le-ltb}
-use Rattle.formats.specs.Places.{edge}
-use Rattle.datagrams.specs.Sizes.{packetLimit}
-use Rattle.packets.specs.Edition.{values, editionOf}
-use Rattle.packets.specs.Packet.{fieldsLimit, every}
-use Rattle.packets.specs.Write.{inSizes}
+use Rattle.format.specs.Places.{edge}
+use Rattle.datagram.specs.Sizes.{packetLimit}
+use Rattle.packet.specs.Edition.{values, editionOf}
+use Rattle.packet.specs.Packet.{fieldsLimit, every}
+use Rattle.packet.specs.Write.{inSizes}
 use Rattle.packet_laws.specs.Laid.{pastFields, valueWidth}
 use Rattle.packet_laws.specs.Items.{ValueWide, PastFits, FieldsPast, PacketSized}
-use Rattle.packets.specs.declared.types.Enumerated.{Enumerated}
-use Rattle.packets.specs.declared.types.PacketKind.{PacketKind}
-use Rattle.packets.specs.declared.types.Named.{Named}
+use Rattle.packet.specs.declared.types.Enumerated.{Enumerated}
+use Rattle.packet.specs.declared.types.PacketKind.{PacketKind}
+use Rattle.packet.specs.declared.types.Named.{Named}
 use Rattle.packet_writer.proofs.Values.{values-narrow, types-narrow}
 use Rattle.packet_writer.proofs.Measure.{both-left, both-right}
 

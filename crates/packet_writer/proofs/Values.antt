@@ -5,13 +5,13 @@ use mathlib.Core.Path.{_≡_}
 use mathlib.Core.Bool.{true, false}
 use native.Mathlib.Omega.{arith}
 use borrow.Author.Tests.{le-leb, lt-leb}
-use Rattle.packets.specs.Edition.{values, editionOf}
+use Rattle.packet.specs.Edition.{values, editionOf}
 use Rattle.packet_laws.specs.Octets.{Narrow}
 use Rattle.packet_laws.specs.Laid.{valueWidth, valueBits}
 use Rattle.packet_laws.specs.Items.{ValueWide}
-use Rattle.packets.specs.declared.types.Enumerated.{Enumerated}
-use Rattle.packets.specs.declared.types.PacketKind.{PacketKind}
-use Rattle.packets.specs.declared.types.Named.{Named}
+use Rattle.packet.specs.declared.types.Enumerated.{Enumerated}
+use Rattle.packet.specs.declared.types.PacketKind.{PacketKind}
+use Rattle.packet.specs.declared.types.Named.{Named}
 use Rattle.packet_laws.proofs.Laws as packets
 
 -- ---- what an edition names

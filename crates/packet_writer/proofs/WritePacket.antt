@@ -9,24 +9,24 @@ use lib.Dec.{leb, ltb}
 use native.Mathlib.Omega.{arith}
 use borrow.Rule.Slice.PartMut.{putMid}
 use borrow.Author.Tests.{le-ltb, le-leb, not-true, not-false}
-use Rattle.lengths.specs.Refusals.{noRoom, wrongSettings}
-use Rattle.lengths.specs.Answers.{Answer, done, refused, refuse, writtenOutcome, sizeOf}
-use Rattle.lengths.specs.Tables.{unless}
-use Rattle.lengths.specs.Length.{lengthOctets, lengthToWrite, lengthLimit}
-use Rattle.lengths.specs.Promise.{RefusalMade, Puts, Put}
-use Rattle.lengths.specs.declared.Refusal.{Refusal}
-use Rattle.lengths.specs.declared.Written.{Written}
-use Rattle.lengths.specs.declared.Written.the-variants as written
-use Rattle.lengths.proofs.Laws.{put-next, put-long, put-puts, full-puts, room-left}
-use Rattle.packets.specs.Edition.{values, editionOf}
-use Rattle.packets.specs.Write.{packetToWrite}
-use Rattle.formats.specs.Waiting.{noneWait}
+use Rattle.length.specs.Refusals.{noRoom, wrongSettings}
+use Rattle.length.specs.Answers.{Answer, done, refused, refuse, writtenOutcome, sizeOf}
+use Rattle.length.specs.Tables.{unless}
+use Rattle.length.specs.Length.{lengthOctets, lengthToWrite, lengthLimit}
+use Rattle.length.specs.Promise.{RefusalMade, Puts, Put}
+use Rattle.length.specs.declared.Refusal.{Refusal}
+use Rattle.length.specs.declared.Written.{Written}
+use Rattle.length.specs.declared.Written.the-variants as written
+use Rattle.length.proofs.Laws.{put-next, put-long, put-puts, full-puts, room-left}
+use Rattle.packet.specs.Edition.{values, editionOf}
+use Rattle.packet.specs.Write.{packetToWrite}
+use Rattle.format.specs.Waiting.{noneWait}
 use Rattle.packet_laws.specs.Laid.{firstOctets, fieldsOctets, countedFields, laidOctets}
 use Rattle.packet_laws.specs.Items.{FirstFits, FieldsFit, CountedFit, PacketFits, Measured}
-use Rattle.packets.specs.declared.types.Enumerated.{Enumerated}
-use Rattle.packets.specs.declared.types.PacketKind.{PacketKind}
-use Rattle.packets.specs.declared.types.Named.{Named}
-use Rattle.packets.proofs.Laws.{WriteForm, write-form}
+use Rattle.packet.specs.declared.types.Enumerated.{Enumerated}
+use Rattle.packet.specs.declared.types.PacketKind.{PacketKind}
+use Rattle.packet.specs.declared.types.Named.{Named}
+use Rattle.packet.proofs.Laws.{WriteForm, write-form}
 use Rattle.packet_laws.proofs.Laws.{rest, write-laid, packet-bare, packet-full, narrow}
 
 -- ---- the count, then the fields

@@ -1,8 +1,8 @@
 // Bits after those that wait for the rest of their octet: `width` is how many wait, and `value` the number that they make.
 ghost use mathlib.Core.Path.{_≡_};
 ghost use Prim.Native.Nat.{_^_, _≤_};
-ghost use Rattle.lengths.specs.Promise.{Put};
-ghost use Rattle.formats.specs.Waiting.{waiting, closed};
+ghost use Rattle.length.specs.Promise.{Put};
+ghost use Rattle.format.specs.Waiting.{waiting, closed};
 ghost use Rattle.packet_laws.specs.Items.{BitIs, BitsFit, BitsPut, EdgeFits};
 
 // How many octets were filled, and what waits then.

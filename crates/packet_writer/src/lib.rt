@@ -1,4 +1,4 @@
-// The writer of packets: document 01, 'The packet', as `packets` defines it.
+// The writer of packets: document 01, 'The packet', as `packet` defines it.
 mod bits;
 mod sizes;
 mod writer;

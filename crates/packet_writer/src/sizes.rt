@@ -1,24 +1,24 @@
 // What is decided before a packet is written: over the whole packet and in the order of the refusals, so that a refusal has written
 // nothing. These functions serve this crate alone.
-use datagrams::Packet;
-use lengths::Refusal;
-use lengths::Written;
-use packets::Enumerated;
-use packets::Field;
-use packets::Named;
-use packets::PacketKind;
+use datagram::Packet;
+use length::Refusal;
+use length::Written;
+use packet::Enumerated;
+use packet::Field;
+use packet::Named;
+use packet::PacketKind;
 ghost use mathlib.Core.Path.{_≡_};
 ghost use Prim.Native.Nat.{_-_, _^_, _≤_, _<_};
 ghost use lib.ListN.{length};
 ghost use lib.Dec.{leb};
-ghost use Rattle.packets.specs.Edition.{many};
-ghost use Rattle.packets.specs.Packet.{fieldsLimit, every};
-ghost use Rattle.packets.specs.Write.{lengthsSum, oneEach, inSizes};
+ghost use Rattle.packet.specs.Edition.{many};
+ghost use Rattle.packet.specs.Packet.{fieldsLimit, every};
+ghost use Rattle.packet.specs.Write.{lengthsSum, oneEach, inSizes};
 ghost use Rattle.packet_laws.specs.Octets.{Narrow};
 ghost use Rattle.packet_laws.specs.Laid.{valueBits};
 ghost use Rattle.packet_laws.specs.Items.{Wide, ValueWide, TypesRight, PastFits, FieldPast, FieldsPast, AllAssigned, AllRight};
 ghost use Rattle.packet_laws.specs.Items.{PacketSized, Measured};
-ghost use Rattle.datagrams.specs.Sizes.{packetLimit};
+ghost use Rattle.datagram.specs.Sizes.{packetLimit};
 
 // A length as a size.
 pub fn data_size(length: u16) -> usize

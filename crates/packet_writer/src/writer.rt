@@ -8,19 +8,19 @@ use crate::sizes::data_size;
 use crate::sizes::measure;
 use crate::sizes::value_bits;
 use crate::sizes::value_width;
-use lengths::Refusal;
-use lengths::Written;
-use packets::Choice;
-use packets::Enumerated;
-use packets::Named;
-use packets::PacketKind;
+use length::Refusal;
+use length::Written;
+use packet::Choice;
+use packet::Enumerated;
+use packet::Named;
+use packet::PacketKind;
 ghost use mathlib.Core.List.{_++_};
 ghost use lib.ListN.{length};
-ghost use Rattle.lengths.specs.Promise.{Puts, Put};
-ghost use Rattle.formats.specs.Waiting.{waiting, noneWait};
-ghost use Rattle.packets.specs.Edition.{editionOf, byEdition};
-ghost use Rattle.packets.specs.Packet.{isData};
-ghost use Rattle.packets.specs.Write.{packetToWrite};
+ghost use Rattle.length.specs.Promise.{Puts, Put};
+ghost use Rattle.format.specs.Waiting.{waiting, noneWait};
+ghost use Rattle.packet.specs.Edition.{editionOf, byEdition};
+ghost use Rattle.packet.specs.Packet.{isData};
+ghost use Rattle.packet.specs.Write.{packetToWrite};
 ghost use Rattle.packet_laws.specs.Laid.{firstOctets, sizeOctets, fieldsOctets, countedFields, laidOctets};
 ghost use Rattle.packet_laws.specs.Items.{BitIs, DataFits, FirstFits, HeaderFits, HeaderPut, FieldFits};
 ghost use Rattle.packet_laws.specs.Items.{FieldPut, FieldsFit, CountedFit, PacketFits};
@@ -34,7 +34,7 @@ fn put_data(data: &[u8], out: &mut [u8]) -> usize
     let high = less / 256;
     out[0] = (high % 256) as u8;
     out[1] = (less % 256) as u8;
-    2 + datagram_items::put_octets(data, &mut out[2..])
+    2 + datagram_writer::put_octets(data, &mut out[2..])
 }
 
 // A header after the bits that wait: data present, and the type.
@@ -140,7 +140,7 @@ fn put_counted(
     ensures { λ r. ⌜ Put (countedFields known (now (types .entry)) (now (lengths .entry)) (now («data» .entry)))
         (now (out .entry)) (now (out .exit)) r ⌝ }
 {
-    let count = length_writer::write(types.len(), &mut *out);
+    let count = length_code::write(types.len(), &mut *out);
     // at most 16 fields, and room for their count: it is never refused
     let Written::Octets(at) = count else {
         return 0;

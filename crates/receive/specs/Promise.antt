@@ -1,10 +1,10 @@
 -- What a run of the program owes: it begins with a fresh session. Definitions only.
 use mathlib.Core.List.{List}
 use Prim.Native.Nat.{ℕ}
-use Rattle.views.specs.View.{freshView}
-use Rattle.held.specs.Table.{lent}
-use Rattle.serving.specs.Promise.{Serves}
-use Rattle.serving.specs.declared.Served.{Served}
+use Rattle.session.specs.View.{freshView}
+use Rattle.session_held.specs.Table.{lent}
+use Rattle.program_loop.specs.Promise.{Serves}
+use Rattle.program_loop.specs.declared.Served.{Served}
 
 -- with the table and the stores that the session has at the end
 pub record Receives (r : Served) : Type 0 where

@@ -1,7 +1,7 @@
 // Document 01, 'The program': lines of hexadecimal from standard input, one datagram a line; its results to standard output. How they are
-// read, taken in and written is proved in the crate `serving`, from any session on: here it begins with a fresh one.
-use held::Session;
-use serving::Served;
+// read, taken in and written is proved in the crate `program_loop`, from any session on: here it begins with a fresh one.
+use program_loop::Served;
+use session_held::Session;
 ghost use Rattle.receive.specs.Promise.{Receives};
 
 fn receive() -> Served
@@ -13,7 +13,7 @@ fn receive() -> Served
     let mut table = session.table;
     let mut octets = session.octets;
     let mut messages = session.messages;
-    serving::serve(base, counts, &mut table, &mut octets, &mut messages)
+    program_loop::serve(base, counts, &mut table, &mut octets, &mut messages)
 }
 
 fn main() {

@@ -5,13 +5,13 @@ use mathlib.Core.List.{List}
 use lib.ListN.{length, take, drop, replicate, length-drop}
 use lib.Seq.{length-take-le}
 use native.Mathlib.Omega.{arith}
-use Rattle.held.specs.Table.{Lent}
-use Rattle.held.specs.Laid.{InRanges}
-use Rattle.lines.specs.Lines.{Made}
-use Rattle.lines.specs.Feed.{keptLimit}
-use Rattle.lines.specs.Promise.{Able, Does, stepLimit}
-use Rattle.lines.specs.FeedPromise.{Found, LineIn, LineKept, Feedable}
-use Rattle.lines.proofs.Laws.{appends-long, line-fresh}
+use Rattle.session_held.specs.Table.{Lent}
+use Rattle.session_held.specs.Laid.{InRanges}
+use Rattle.line.specs.Lines.{Made}
+use Rattle.line.specs.Feed.{keptLimit}
+use Rattle.line.specs.Promise.{Able, Does, stepLimit}
+use Rattle.line.specs.FeedPromise.{Found, LineIn, LineKept, Feedable}
+use Rattle.line.proofs.Laws.{appends-long, line-fresh}
 use Rattle.replay.specs.Promise.{Writes, Goes}
 
 -- a line is done: its text goes out with all that waits, or waits

@@ -3,9 +3,9 @@ use Prim.Native.Nat.{ℕ}
 use mathlib.Core.Path.{_≡_}
 use mathlib.Core.List.{List}
 use lib.ListN.{length}
-use Rattle.held.specs.Table.{Lent}
-use Rattle.lines.specs.Promise.{Able, stepLimit}
-use Rattle.lines.specs.FeedPromise.{Feedable}
+use Rattle.session_held.specs.Table.{Lent}
+use Rattle.line.specs.Promise.{Able, stepLimit}
+use Rattle.line.specs.FeedPromise.{Feedable}
 
 -- after a line no other has begun, there is room for all that the next can write, and what is lent is as long as before
 pub record Writes (session : Lent) (begun : ℕ) (old out : List ℕ) (end : ℕ) : Type 0 where

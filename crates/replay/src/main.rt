@@ -1,6 +1,6 @@
 // The program for a salesman's question, document 02, request 6: `replay TRACE NUMBER..` plays a recorded trace again without the
 // datagrams of these numbers. The lines go to standard output, the four counts to standard error. The trace is read block by block and
-// may have any length; whether a line is dropped and what it comes to is what `replaying::replay_line` answers.
+// may have any length; whether a line is dropped and what it comes to is what `trace_replay_code::replay_line` answers.
 mod arguments;
 mod playing;
 mod taking;
@@ -9,7 +9,7 @@ mod telling;
 use arguments::MOST;
 use arguments::NONE;
 use arguments::first;
-use held::Session;
+use session_held::Session;
 use telling::say;
 
 fn usage() {

@@ -3,13 +3,13 @@ use crate::taking::Going;
 use crate::taking::end_line;
 use crate::taking::hand_over;
 use crate::taking::take_block;
-use held::Counts;
-use held::Session;
-use lines::Line;
-ghost use Rattle.held.specs.Table.{lent};
-ghost use Rattle.held.specs.Laid.{InRanges};
-ghost use Rattle.lines.specs.Promise.{stepLimit};
-ghost use Rattle.lines.specs.FeedPromise.{Feedable};
+use line::Line;
+use session_held::Counts;
+use session_held::Session;
+ghost use Rattle.session_held.specs.Table.{lent};
+ghost use Rattle.session_held.specs.Laid.{InRanges};
+ghost use Rattle.line.specs.Promise.{stepLimit};
+ghost use Rattle.line.specs.FeedPromise.{Feedable};
 
 // The counts at the end, and whether all went well.
 pub struct Told {

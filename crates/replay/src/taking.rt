@@ -1,18 +1,18 @@
 // The lines of a block. One that stands whole in it is dropped or stepped where it stands; of one that goes on in the next block the
-// front is kept, as `line_blocks` keeps it. What a line writes waits in a buffer, until there may be no room for what the next one writes.
-use held::Counts;
-use held::Session;
+// front is kept, as `line_code` keeps it. What a line writes waits in a buffer, until there may be no room for what the next one writes.
 use libc::STDOUT_FILENO;
-use line_blocks::clear_line;
-use line_blocks::find_feed;
-use line_blocks::keep_line;
-use lines::Line;
-use replaying::replay_line;
+use line::Line;
+use line_code::clear_line;
+use line_code::find_feed;
+use line_code::keep_line;
+use session_held::Counts;
+use session_held::Session;
+use trace_replay_code::replay_line;
 ghost use Prim.Native.Nat.{_≤_};
 ghost use lib.ListN.{length};
-ghost use Rattle.held.specs.Table.{lent};
-ghost use Rattle.lines.specs.Promise.{Able, stepLimit};
-ghost use Rattle.lines.specs.FeedPromise.{Feedable};
+ghost use Rattle.session_held.specs.Table.{lent};
+ghost use Rattle.line.specs.Promise.{Able, stepLimit};
+ghost use Rattle.line.specs.FeedPromise.{Feedable};
 ghost use Rattle.replay.specs.Promise.{Writes, Goes};
 
 // Base and counts of the session, how much of a line has begun, how much text waits; and whether all went well.

@@ -1,6 +1,6 @@
 // What is said on standard error.
-use held::Counts;
 use libc::STDERR_FILENO;
+use session_held::Counts;
 
 pub fn say(text: &[u8]) {
     io::write_all(STDERR_FILENO, text);

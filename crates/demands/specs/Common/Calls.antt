@@ -6,24 +6,24 @@ use mathlib.Core.Bool.{Bool, true, false}
 use mathlib.Core.List.{List, [], _∷_, _++_}
 use mathlib.Core.Option.{Option, none, some}
 use lib.ListN.{take}
-use Rattle.held.specs.Table.{stateOf}
-use Rattle.held.specs.declared.Session.{Session}
-use Rattle.leaving.specs.Outcome.{releasedOutcome}
-use Rattle.leaving.specs.declared.Released.{Released}
-use Rattle.leaving.specs.declared.Released.the-variants as answer
-use Rattle.offering.specs.Outcome.{offeredOutcome}
-use Rattle.offering.specs.declared.Offered.{Offered}
-use Rattle.offering.specs.declared.Offered.the-variants as outcome
-use Rattle.solving.specs.Outcome.{solvedOutcome}
-use Rattle.solving.specs.declared.Solved.{Solved}
-use Rattle.solving.specs.declared.Solved.the-variants as filling
-use Rattle.sessions.specs.Receiver.{OfferOwes, ReleaseOwes}
-use Rattle.sessions.specs.Solver.{SolveOwes}
-use Rattle.sessions.specs.declared.receiver.AfterOffer.{AfterOffer}
-use Rattle.sessions.specs.declared.receiver.AfterRelease.{AfterRelease}
-use Rattle.sessions.specs.declared.solver.AfterSolve.{AfterSolve}
+use Rattle.session_held.specs.Table.{stateOf}
+use Rattle.session_held.specs.declared.Session.{Session}
+use Rattle.session_release.specs.Outcome.{releasedOutcome}
+use Rattle.session_release.specs.declared.Released.{Released}
+use Rattle.session_release.specs.declared.Released.the-variants as answer
+use Rattle.session_offer.specs.Outcome.{offeredOutcome}
+use Rattle.session_offer.specs.declared.Offered.{Offered}
+use Rattle.session_offer.specs.declared.Offered.the-variants as outcome
+use Rattle.solve_code.specs.Outcome.{solvedOutcome}
+use Rattle.solve_code.specs.declared.Solved.{Solved}
+use Rattle.solve_code.specs.declared.Solved.the-variants as filling
+use Rattle.session_calls.specs.Receiver.{OfferOwes, ReleaseOwes}
+use Rattle.session_calls.specs.Solver.{SolveOwes}
+use Rattle.session_calls.specs.declared.receiver.AfterOffer.{AfterOffer}
+use Rattle.session_calls.specs.declared.receiver.AfterRelease.{AfterRelease}
+use Rattle.session_calls.specs.declared.solver.AfterSolve.{AfterSolve}
 use Rattle.demands.specs.Common.History.{Left, leftAs}
-use Rattle.lengths.specs.Tables.{refusalIn}
+use Rattle.length.specs.Tables.{refusalIn}
 
 -- a call and its answer, as the caller has them
 pub data Call : Type 0 where

@@ -4,13 +4,13 @@
 use Prim.Native.Nat.{ℕ, _+_}
 use mathlib.Core.List.{List, [], _∷_}
 use mathlib.Core.Bool.{Bool, true, false, cond}
-use Rattle.lengths.specs.Answers.{afterwards}
-use Rattle.views.specs.Cells.{State, unknown, received, spare, repaired, blank, isUnknown}
-use Rattle.views.specs.View.{View, Counts}
-use Rattle.views.specs.Offer as offers
-use Rattle.views.specs.Release as releases
-use Rattle.views.specs.Release.{viewAfterRelease}
-use Rattle.solutions.specs.Solve as solutions
+use Rattle.length.specs.Answers.{afterwards}
+use Rattle.session.specs.Cells.{State, unknown, received, spare, repaired, blank, isUnknown}
+use Rattle.session.specs.View.{View, Counts}
+use Rattle.session.specs.Offer as offers
+use Rattle.session.specs.Release as releases
+use Rattle.session.specs.Release.{viewAfterRelease}
+use Rattle.solve.specs.Solve as solutions
 
 -- one call
 pub data Move : Type 0 where

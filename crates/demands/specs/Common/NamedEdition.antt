@@ -5,26 +5,26 @@ use mathlib.Core.Path.{_≡_}
 use mathlib.Core.Logic.{_↔_}
 use mathlib.Core.List.{List}
 use mathlib.Core.Option.{some}
-use Rattle.lengths.specs.Refusals.{wrongSettings}
-use Rattle.lengths.specs.Answers.{Answer, refuse, writtenOutcome}
-use Rattle.lengths.specs.Tables.{refusalIn}
-use Rattle.lengths.specs.Promise.{Puts}
-use Rattle.lengths.specs.declared.Written.{Written}
-use Rattle.packets.specs.Edition.{choiceOf, byEdition}
-use Rattle.packets.specs.Packet.{readPacket}
-use Rattle.packets.specs.Write.{packetToWrite}
-use Rattle.packets.specs.Promise.{PacketTold, packetOutcome}
-use Rattle.packets.specs.declared.types.Choice.the-variants as choice
-use Rattle.packets.specs.declared.types.Ending.{Ending}
-use Rattle.packets.specs.declared.types.PacketKind.{PacketKind}
-use Rattle.packets.specs.declared.types.Named.{Named}
-use Rattle.packets.specs.declared.types.PacketRead.{PacketRead}
+use Rattle.length.specs.Refusals.{wrongSettings}
+use Rattle.length.specs.Answers.{Answer, refuse, writtenOutcome}
+use Rattle.length.specs.Tables.{refusalIn}
+use Rattle.length.specs.Promise.{Puts}
+use Rattle.length.specs.declared.Written.{Written}
+use Rattle.packet.specs.Edition.{choiceOf, byEdition}
+use Rattle.packet.specs.Packet.{readPacket}
+use Rattle.packet.specs.Write.{packetToWrite}
+use Rattle.packet.specs.Promise.{PacketTold, packetOutcome}
+use Rattle.packet.specs.declared.types.Choice.the-variants as choice
+use Rattle.packet.specs.declared.types.Ending.{Ending}
+use Rattle.packet.specs.declared.types.PacketKind.{PacketKind}
+use Rattle.packet.specs.declared.types.Named.{Named}
+use Rattle.packet.specs.declared.types.PacketRead.{PacketRead}
 
 -- an octet names an edition
 abbrev pub Names : ℕ → Named → Type 0
 Names octet named = choiceOf octet ≡ choice.Edition named
 
--- what `packet_reader::read` and `pencil_reader::read` owe
+-- what `packet_reader::read` and `packet_pencil::read` owe
 abbrev pub ReadBy : ℕ → Ending → List ℕ → PacketRead → Type 0
 ReadBy octet ending s r = PacketTold (byEdition octet (λ edition. readPacket edition ending s)) r
 

@@ -8,9 +8,9 @@ use mathlib.Core.Bool.{cond}
 use mathlib.Core.List.{List, [], _∷_, _++_}
 use lib.ListN.{length, replicate}
 use lib.Dec.{eqb}
-use Rattle.lengths.specs.Length.{lengthOctets}
-use Rattle.datagrams.specs.Sizes.{packetLeast, packetLimit, messageLeast, messageLimit, sparesLeast, sparesLimit, coveredLeast}
-use Rattle.datagrams.specs.Sizes.{coveredLimit, messagesLeast, messagesLimit}
+use Rattle.length.specs.Length.{lengthOctets}
+use Rattle.datagram.specs.Sizes.{packetLeast, packetLimit, messageLeast, messageLimit, sparesLeast, sparesLimit, coveredLeast}
+use Rattle.datagram.specs.Sizes.{coveredLimit, messagesLeast, messagesLimit}
 
 -- ---- the items
 pub data Item : Type 0 where

@@ -7,15 +7,15 @@ use mathlib.Core.Logic.{_↔_, _⊎_}
 use mathlib.Core.List.{List, [], _∷_, _++_}
 use mathlib.Core.Option.{Option, none, some}
 use lib.ListN.{length}
-use Rattle.lengths.specs.Refusals.{endsEarly, tooLong, badForm, outsideSizes, spareBit, leftOver}
-use Rattle.lengths.specs.Answers.{refused}
-use Rattle.lengths.specs.declared.Refusal.{Refusal}
-use Rattle.lengths.specs.Length.{lengthOctets, lengthLimit, ofTwo}
-use Rattle.lengths.specs.Claims.{Octets}
-use Rattle.datagrams.specs.Sizes.{datagramLimit}
-use Rattle.datagrams.specs.Promise.{DatagramReads, readOutcome}
-use Rattle.datagrams.specs.declared.reader.DatagramRead.{DatagramRead}
-use Rattle.lengths.specs.Tables.{refusalIn}
+use Rattle.length.specs.Refusals.{endsEarly, tooLong, badForm, outsideSizes, spareBit, leftOver}
+use Rattle.length.specs.Answers.{refused}
+use Rattle.length.specs.declared.Refusal.{Refusal}
+use Rattle.length.specs.Length.{lengthOctets, lengthLimit, ofTwo}
+use Rattle.length.specs.Claims.{Octets}
+use Rattle.datagram.specs.Sizes.{datagramLimit}
+use Rattle.datagram.specs.Promise.{DatagramReads, readOutcome}
+use Rattle.datagram.specs.declared.reader.DatagramRead.{DatagramRead}
+use Rattle.length.specs.Tables.{refusalIn}
 use Rattle.demands.specs.Demand1.DatagramItems.{Item, Form, many, sized, plain, flag, nothing, formOf, formDue, Due, WholeDatagram}
 
 -- ---- the first item that is wrong

@@ -14,50 +14,50 @@ use mathlib.Core.Bool.{Bool, true, cond}
 use mathlib.Core.List.{List, _++_}
 use mathlib.Core.Option.{none, some}
 use lib.ListN.{length, replicate}
-use Rattle.lengths.specs.Answers.{Answer, done, lengthOutcome, writtenOutcome}
-use Rattle.lengths.specs.Tables.{first, refusalIn, placeIn, roomRow}
-use Rattle.lengths.specs.Length.{lengthOctets, lengthWriterRows, lengthToWrite}
-use Rattle.lengths.specs.Promise.{LengthRead, Puts}
-use Rattle.lengths.specs.Claims.{Octets}
-use Rattle.lengths.specs.declared.Length.{Length}
-use Rattle.lengths.specs.declared.Written.{Written}
-use Rattle.datagrams.specs.Sizes.{packetLimit}
-use Rattle.datagrams.specs.Read.{readDatagram}
-use Rattle.datagrams.specs.Write.{carriedOf, datagramOctets, datagramWriterRows, datagramToWrite}
-use Rattle.datagrams.specs.Promise.{DatagramReads, readOutcome}
-use Rattle.datagrams.specs.declared.kind.Kind.{Kind}
-use Rattle.datagrams.specs.declared.reader.DatagramRead.{DatagramRead}
-use Rattle.packets.specs.Edition.{Edition, editionOf, byEdition}
-use Rattle.packets.specs.Packet.{readPacket}
-use Rattle.packets.specs.Write.{packetOctets, packetWriterRows, packetToWrite}
-use Rattle.packets.specs.Promise.{packetOutcome}
-use Rattle.packets.specs.declared.types.PacketKind as packets
-use Rattle.packets.specs.declared.types.Ending.{Ending}
-use Rattle.packets.specs.declared.types.Ending.the-variants.{Whole, Repaired}
-use Rattle.packets.specs.declared.types.Named.{Named}
-use Rattle.packets.specs.declared.types.PacketRead.{PacketRead}
-use Rattle.leaving.specs.Outcome.{releasedOutcome}
-use Rattle.offering.specs.Outcome.{offeredOutcome}
-use Rattle.held.specs.Table.{lentBy}
-use Rattle.held.specs.Laid.{sessionInRanges}
-use Rattle.held.specs.declared.Session.{Session}
-use Rattle.sessions.specs.Receiver.{OfferOwes, ReleaseOwes}
-use Rattle.sessions.specs.declared.receiver.AfterOffer.{AfterOffer}
-use Rattle.sessions.specs.declared.receiver.AfterRelease.{AfterRelease}
-use Rattle.sending.specs.Send.{carriedNext}
-use Rattle.sending.specs.Sender.{sendingOf}
-use Rattle.sending.specs.Promise.{senderRows, Sends}
-use Rattle.sending.specs.declared.Sender.{Sender}
-use Rattle.sending.specs.declared.Sent.{Sent}
-use Rattle.sending.specs.declared.Settings.{Settings}
-use Rattle.frames.specs.Promise.{handedOutcome, FieldOwes, LossOwes}
-use Rattle.frames.specs.declared.Joiner.{Joiner}
-use Rattle.frames.specs.declared.Joined.{Joined}
-use Rattle.lines.specs.Hex.{octetsIn, lineRows, lineOctets}
-use Rattle.images.specs.Layout.{imageVersion02}
-use Rattle.images.specs.Image.{imageToWrite}
-use Rattle.images.specs.Promise.{ImageRead, restoredOutcome}
-use Rattle.images.specs.declared.Restored.{Restored}
+use Rattle.length.specs.Answers.{Answer, done, lengthOutcome, writtenOutcome}
+use Rattle.length.specs.Tables.{first, refusalIn, placeIn, roomRow}
+use Rattle.length.specs.Length.{lengthOctets, lengthWriterRows, lengthToWrite}
+use Rattle.length.specs.Promise.{LengthRead, Puts}
+use Rattle.length.specs.Claims.{Octets}
+use Rattle.length.specs.declared.Length.{Length}
+use Rattle.length.specs.declared.Written.{Written}
+use Rattle.datagram.specs.Sizes.{packetLimit}
+use Rattle.datagram.specs.Read.{readDatagram}
+use Rattle.datagram.specs.Write.{carriedOf, datagramOctets, datagramWriterRows, datagramToWrite}
+use Rattle.datagram.specs.Promise.{DatagramReads, readOutcome}
+use Rattle.datagram.specs.declared.kind.Kind.{Kind}
+use Rattle.datagram.specs.declared.reader.DatagramRead.{DatagramRead}
+use Rattle.packet.specs.Edition.{Edition, editionOf, byEdition}
+use Rattle.packet.specs.Packet.{readPacket}
+use Rattle.packet.specs.Write.{packetOctets, packetWriterRows, packetToWrite}
+use Rattle.packet.specs.Promise.{packetOutcome}
+use Rattle.packet.specs.declared.types.PacketKind as packets
+use Rattle.packet.specs.declared.types.Ending.{Ending}
+use Rattle.packet.specs.declared.types.Ending.the-variants.{Whole, Repaired}
+use Rattle.packet.specs.declared.types.Named.{Named}
+use Rattle.packet.specs.declared.types.PacketRead.{PacketRead}
+use Rattle.session_release.specs.Outcome.{releasedOutcome}
+use Rattle.session_offer.specs.Outcome.{offeredOutcome}
+use Rattle.session_held.specs.Table.{lentBy}
+use Rattle.session_held.specs.Laid.{sessionInRanges}
+use Rattle.session_held.specs.declared.Session.{Session}
+use Rattle.session_calls.specs.Receiver.{OfferOwes, ReleaseOwes}
+use Rattle.session_calls.specs.declared.receiver.AfterOffer.{AfterOffer}
+use Rattle.session_calls.specs.declared.receiver.AfterRelease.{AfterRelease}
+use Rattle.sender.specs.Send.{carriedNext}
+use Rattle.sender.specs.Sender.{sendingOf}
+use Rattle.sender.specs.Promise.{senderRows, Sends}
+use Rattle.sender.specs.declared.Sender.{Sender}
+use Rattle.sender.specs.declared.Sent.{Sent}
+use Rattle.sender.specs.declared.Settings.{Settings}
+use Rattle.frame.specs.Promise.{handedOutcome, FieldOwes, LossOwes}
+use Rattle.frame.specs.declared.Joiner.{Joiner}
+use Rattle.frame.specs.declared.Joined.{Joined}
+use Rattle.line.specs.Hex.{octetsIn, lineRows, lineOctets}
+use Rattle.image.specs.Layout.{imageVersion02}
+use Rattle.image.specs.Image.{imageToWrite}
+use Rattle.image.specs.Promise.{ImageRead, restoredOutcome}
+use Rattle.image.specs.declared.Restored.{Restored}
 use Rattle.demands.specs.Demand1.Refusals.{lengthRows, offerRows, releaseRows}
 use Rattle.demands.specs.Common.NamedEdition.{Names, ReadBy, packetBy, AnotherEdition}
 use Rattle.demands.specs.Demand1.PacketRefusals.{PacketRefusals}

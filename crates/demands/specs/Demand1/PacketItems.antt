@@ -11,18 +11,18 @@ use mathlib.Core.List.{List, [], _∷_, _++_}
 use mathlib.Core.Option.{Option, none}
 use lib.ListN.{length, getD, drop}
 use lib.Dec.{ltb}
-use Rattle.lengths.specs.Refusals.{endsEarly, outsideSizes, spareBit, leftOver, notAssigned, wrongData}
-use Rattle.lengths.specs.Length.{within}
-use Rattle.lengths.specs.Tables.{when, first}
-use Rattle.formats.specs.Spelling.{gap}
-use Rattle.formats.specs.Places.{Place, bitsAt, edge}
-use Rattle.datagrams.specs.Sizes.{packetLimit}
-use Rattle.packets.specs.Edition.{addedWidth, Edition, values}
-use Rattle.packets.specs.Packet.{fieldsLeast, fieldsLimit, rightFields, rightData, mayFollow}
+use Rattle.length.specs.Refusals.{endsEarly, outsideSizes, spareBit, leftOver, notAssigned, wrongData}
+use Rattle.length.specs.Length.{within}
+use Rattle.length.specs.Tables.{when, first}
+use Rattle.format.specs.Spelling.{gap}
+use Rattle.format.specs.Places.{Place, bitsAt, edge}
+use Rattle.datagram.specs.Sizes.{packetLimit}
+use Rattle.packet.specs.Edition.{addedWidth, Edition, values}
+use Rattle.packet.specs.Packet.{fieldsLeast, fieldsLimit, rightFields, rightData, mayFollow}
 use Rattle.packet_laws.specs.Octets.{bitSetAt, kindOf}
-use Rattle.packets.specs.declared.types.Enumerated.{Enumerated}
-use Rattle.packets.specs.declared.types.Ending.{Ending}
-use Rattle.packets.specs.declared.types.Ending.the-variants.{Whole}
+use Rattle.packet.specs.declared.types.Enumerated.{Enumerated}
+use Rattle.packet.specs.declared.types.Ending.{Ending}
+use Rattle.packet.specs.declared.types.Ending.the-variants.{Whole}
 use Rattle.demands.specs.Demand1.Refusals.{lengthRows}
 
 -- ---- what a packet is made of

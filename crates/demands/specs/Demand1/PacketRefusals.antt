@@ -8,24 +8,24 @@ use mathlib.Core.Bool.{true, false}
 use mathlib.Core.List.{List, _++_}
 use mathlib.Core.Option.{none, some}
 use lib.ListN.{length}
-use Rattle.lengths.specs.Refusals as number
-use Rattle.lengths.specs.Answers.{refused}
-use Rattle.lengths.specs.declared.Refusal.{Refusal}
-use Rattle.lengths.specs.Length.{within}
-use Rattle.formats.specs.Spelling.{gap}
-use Rattle.formats.specs.Places.{Place, bitsAt}
-use Rattle.datagrams.specs.Sizes.{packetLimit}
-use Rattle.packets.specs.Edition.{addedWidth, Edition, editionOf}
-use Rattle.packets.specs.Packet.{fieldsLeast, fieldsLimit, allZero}
+use Rattle.length.specs.Refusals as number
+use Rattle.length.specs.Answers.{refused}
+use Rattle.length.specs.declared.Refusal.{Refusal}
+use Rattle.length.specs.Length.{within}
+use Rattle.format.specs.Spelling.{gap}
+use Rattle.format.specs.Places.{Place, bitsAt}
+use Rattle.datagram.specs.Sizes.{packetLimit}
+use Rattle.packet.specs.Edition.{addedWidth, Edition, editionOf}
+use Rattle.packet.specs.Packet.{fieldsLeast, fieldsLimit, allZero}
 use Rattle.packet_laws.specs.Octets.{bitSetAt, kindOf}
-use Rattle.packets.specs.Promise.{packetOutcome}
-use Rattle.packets.specs.declared.types.PacketKind.the-variants.{Indicator}
-use Rattle.packets.specs.declared.types.Named.{Named}
-use Rattle.packets.specs.declared.types.Enumerated.{Enumerated}
-use Rattle.packets.specs.declared.types.Ending.{Ending}
-use Rattle.packets.specs.declared.types.Ending.the-variants.{Whole, Repaired}
-use Rattle.packets.specs.declared.types.PacketRead.{PacketRead}
-use Rattle.lengths.specs.Tables.{first, refusalIn}
+use Rattle.packet.specs.Promise.{packetOutcome}
+use Rattle.packet.specs.declared.types.PacketKind.the-variants.{Indicator}
+use Rattle.packet.specs.declared.types.Named.{Named}
+use Rattle.packet.specs.declared.types.Enumerated.{Enumerated}
+use Rattle.packet.specs.declared.types.Ending.{Ending}
+use Rattle.packet.specs.declared.types.Ending.the-variants.{Whole, Repaired}
+use Rattle.packet.specs.declared.types.PacketRead.{PacketRead}
+use Rattle.length.specs.Tables.{first, refusalIn}
 use Rattle.demands.specs.Demand1.Refusals.{lengthRows}
 use Rattle.demands.specs.Common.NamedEdition.{ReadBy}
 use Rattle.demands.specs.Demand1.PacketItems.{Item, fieldsAllowed, countOfFields, header, padding, dataLength, end, Due, Packet, rows}

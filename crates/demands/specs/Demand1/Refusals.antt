@@ -1,5 +1,5 @@
 -- Document 01, 'Refusals by number', as tables: for each call its refusals in the page's order, each with its number and the
--- condition under which it is given (`lengths`, Tables). The first row that is given is the call's answer, and where none is, the
+-- condition under which it is given (`length`, Tables). The first row that is given is the call's answer, and where none is, the
 -- call is not refused. The writers' tables stand where their definitions do, which follow from them: `lengthWriterRows`,
 -- `datagramWriterRows`, `packetWriterRows`, `senderRows`, `lineRows`. Here are those of the length reader and of the receiving
 -- session; what the packet reader and the datagram reader refuse stands in PacketItems and DatagramRefusals. Definitions only.
@@ -9,18 +9,18 @@ use mathlib.Core.List.{List, [], _∷_}
 use mathlib.Core.Option.{Option}
 use lib.ListN.{length, getD}
 use lib.Dec.{leb, ltb}
-use Rattle.lengths.specs.Refusals.{endsEarly, badForm, repeated, tooFar, late, baseUnknown, noRoom}
-use Rattle.lengths.specs.Refusals.{allPassed, outsideRanges}
-use Rattle.lengths.specs.Tables.{when, refusalIn}
-use Rattle.lengths.specs.Length.{ofTwo}
-use Rattle.datagrams.specs.Read.{readDatagram}
-use Rattle.views.specs.Cells.{unknownAt, keptBefore, keptAhead}
-use Rattle.views.specs.View.{sum, distance, sessionLimit}
-use Rattle.views.specs.Offer.{lateFrom, acceptedAt}
-use Rattle.views.specs.Release.{atBase}
-use Rattle.held.specs.Table.{viewOf}
-use Rattle.held.specs.Laid.{sessionInRanges}
-use Rattle.held.specs.declared.Session.{Session}
+use Rattle.length.specs.Refusals.{endsEarly, badForm, repeated, tooFar, late, baseUnknown, noRoom}
+use Rattle.length.specs.Refusals.{allPassed, outsideRanges}
+use Rattle.length.specs.Tables.{when, refusalIn}
+use Rattle.length.specs.Length.{ofTwo}
+use Rattle.datagram.specs.Read.{readDatagram}
+use Rattle.session.specs.Cells.{unknownAt, keptBefore, keptAhead}
+use Rattle.session.specs.View.{sum, distance, sessionLimit}
+use Rattle.session.specs.Offer.{lateFrom, acceptedAt}
+use Rattle.session.specs.Release.{atBase}
+use Rattle.session_held.specs.Table.{viewOf}
+use Rattle.session_held.specs.Laid.{sessionInRanges}
+use Rattle.session_held.specs.declared.Session.{Session}
 
 -- ---- lengths: "At a length: 3 or 1 in its form"
 unfoldable pub lengthRows : List ℕ → List (Option ℕ)

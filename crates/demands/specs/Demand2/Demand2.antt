@@ -13,20 +13,20 @@ use mathlib.Core.List.{List, [], map, List·Memᴰ as Among}
 use mathlib.Core.Option.{some}
 use lib.ListN.{length, getD}
 use Rattle.octets.specs.Place.{tab}
-use Rattle.lengths.specs.Refusals.{outsideRanges}
-use Rattle.lengths.specs.Answers.{writtenOutcome}
-use Rattle.lengths.specs.Tables.{refusalIn}
-use Rattle.views.specs.Cells.{unknown, cellAt, keptBefore, keptNumbers}
-use Rattle.views.specs.Reached.{Known}
-use Rattle.views.specs.View.{View, Counts, sum, numbers, freshView}
-use Rattle.held.specs.Table.{viewOf}
-use Rattle.held.specs.Laid.{sessionInRanges}
-use Rattle.held.specs.Promise.{Sized, Fresh}
-use Rattle.held.specs.declared.Session.{Session}
-use Rattle.sending.specs.Promise.{Sends}
-use Rattle.sending.specs.declared.Sender.{Sender}
-use Rattle.sending.specs.declared.Sent.{Sent}
-use Rattle.sending.specs.declared.Settings.{Settings}
+use Rattle.length.specs.Refusals.{outsideRanges}
+use Rattle.length.specs.Answers.{writtenOutcome}
+use Rattle.length.specs.Tables.{refusalIn}
+use Rattle.session.specs.Cells.{unknown, cellAt, keptBefore, keptNumbers}
+use Rattle.session.specs.Reached.{Known}
+use Rattle.session.specs.View.{View, Counts, sum, numbers, freshView}
+use Rattle.session_held.specs.Table.{viewOf}
+use Rattle.session_held.specs.Laid.{sessionInRanges}
+use Rattle.session_held.specs.Promise.{Sized, Fresh}
+use Rattle.session_held.specs.declared.Session.{Session}
+use Rattle.sender.specs.Promise.{Sends}
+use Rattle.sender.specs.declared.Sender.{Sender}
+use Rattle.sender.specs.declared.Sent.{Sent}
+use Rattle.sender.specs.declared.Settings.{Settings}
 use Rattle.demands.specs.Common.History.{Left, leftAs, isReceived, isSpare, isRepaired, isLost, historyCounts}
 use Rattle.demands.specs.Common.Calls.{Call, Calls, _then_, Called, callRefusal, leftBy}
 use Rattle.demands.specs.Demand2.GoesOn.{GoesOn}

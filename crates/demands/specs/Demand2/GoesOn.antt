@@ -2,15 +2,15 @@
 -- Definitions only.
 use mathlib.Core.Path.{_≡_}
 use lib.ListN.{length}
-use Rattle.lengths.specs.Answers.{over}
-use Rattle.views.specs.View.{View}
-use Rattle.views.specs.Offer as offers
-use Rattle.views.specs.Release as releases
-use Rattle.leaving.specs.Outcome.{releasedOutcome, handedOf, octetsHanded}
-use Rattle.offering.specs.Outcome.{offeredOutcome, acceptedOf}
-use Rattle.equations.specs.Solved.{Solves}
-use Rattle.solutions.specs.Solve as solutions
-use Rattle.solving.specs.Outcome.{solvedOutcome, filledOf}
+use Rattle.length.specs.Answers.{over}
+use Rattle.session.specs.View.{View}
+use Rattle.session.specs.Offer as offers
+use Rattle.session.specs.Release as releases
+use Rattle.session_release.specs.Outcome.{releasedOutcome, handedOf, octetsHanded}
+use Rattle.session_offer.specs.Outcome.{offeredOutcome, acceptedOf}
+use Rattle.solve.specs.Solved.{Solves}
+use Rattle.solve.specs.Solve as solutions
+use Rattle.solve_code.specs.Outcome.{solvedOutcome, filledOf}
 use Rattle.demands.specs.Common.History as moves
 use Rattle.demands.specs.Common.History.{Move, afterMove}
 use Rattle.demands.specs.Common.Calls.{Call, offer, release, solve, Calls, start, _then_}

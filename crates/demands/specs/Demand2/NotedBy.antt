@@ -5,8 +5,8 @@ use mathlib.Core.Path.{_≡_}
 use mathlib.Core.Bool.{true, false}
 use mathlib.Core.List.{List, []}
 use lib.ListN.{length, getD}
-use Rattle.datagrams.specs.Carried.{Carried}
-use Rattle.views.specs.Cells.{unknown, keptBefore}
+use Rattle.datagram.specs.Carried.{Carried}
+use Rattle.session.specs.Cells.{unknown, keptBefore}
 use Rattle.demands.specs.Common.History.{Left, leftAs, isLost}
 use Rattle.demands.specs.Common.Calls.{Call, Calls, _then_, fillsIn}
 use Rattle.demands.specs.Demand2.ReachedBy.{Accepts, ReachedBy}

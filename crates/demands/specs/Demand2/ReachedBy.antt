@@ -10,14 +10,14 @@ use mathlib.Core.List.{List, map, List·Memᴰ as Among}
 use mathlib.Core.Option.{some}
 use lib.ListN.{length}
 use Rattle.octets.specs.ExclusiveOr.{exclusiveOr}
-use Rattle.datagrams.specs.Sizes.{packetLimit}
-use Rattle.datagrams.specs.Carried.{Carried, Extra, spares, parity}
-use Rattle.datagrams.specs.Claims.{ReadsAs}
-use Rattle.views.specs.Cells.{keptBefore, keptAhead, keptNumbers}
-use Rattle.views.specs.Held.{messageAt}
-use Rattle.views.specs.Repair.{Message}
-use Rattle.views.specs.View.{numbers}
-use Rattle.views.specs.Offer.{heldBy}
+use Rattle.datagram.specs.Sizes.{packetLimit}
+use Rattle.datagram.specs.Carried.{Carried, Extra, spares, parity}
+use Rattle.datagram.specs.Claims.{ReadsAs}
+use Rattle.session.specs.Cells.{keptBefore, keptAhead, keptNumbers}
+use Rattle.session.specs.Held.{messageAt}
+use Rattle.session.specs.Repair.{Message}
+use Rattle.session.specs.View.{numbers}
+use Rattle.session.specs.Offer.{heldBy}
 use Rattle.demands.specs.Common.Calls.{Call, Calls, _then_, acceptedIn, fillsIn, leftBy}
 
 -- how many numbers have left by these calls: "the base's whole advance"

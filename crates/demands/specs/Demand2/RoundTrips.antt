@@ -5,39 +5,39 @@ use Prim.Native.Nat.{ℕ, _+_, _-_, _%_, _≤_, min}
 use mathlib.Core.Path.{_≡_}
 use mathlib.Core.List.{List, _++_, map, flatten}
 use lib.ListN.{length, take, drop, replicate}
-use Rattle.lengths.specs.Length.{lengthToWrite}
-use Rattle.lengths.specs.Promise.{LengthRead, Puts}
-use Rattle.lengths.specs.Claims.{Octets}
-use Rattle.lengths.specs.declared.Length.{Length}
-use Rattle.lengths.specs.declared.Length.the-variants as length
-use Rattle.lengths.specs.declared.Written.{Written}
-use Rattle.lengths.specs.declared.Written.the-variants as written
-use Rattle.datagrams.specs.Sizes.{packetLimit, sparesLimit}
-use Rattle.datagrams.specs.Read.{octetsOf}
-use Rattle.datagrams.specs.Write.{cut, datagramToWrite}
-use Rattle.datagrams.specs.Promise.{DatagramReads, nowhere}
-use Rattle.datagrams.specs.declared.kind.Kind.{Kind}
-use Rattle.datagrams.specs.declared.kind.Kind.the-variants as kind
-use Rattle.datagrams.specs.declared.reader.Part.{Part}
-use Rattle.datagrams.specs.declared.reader.DatagramRead.{DatagramRead}
-use Rattle.datagrams.specs.declared.reader.Reading.the-variants as reading
-use Rattle.packets.specs.Packet.{allData, fieldsLimit, noField}
-use Rattle.packets.specs.declared.types.PacketKind as packets
-use Rattle.packets.specs.declared.types.Field.{Field}
-use Rattle.packets.specs.declared.types.Ending.the-variants.{Whole, Repaired}
-use Rattle.packets.specs.declared.types.PacketRead.{PacketRead}
-use Rattle.packets.specs.declared.types.PacketReading.the-variants as packetReading
+use Rattle.length.specs.Length.{lengthToWrite}
+use Rattle.length.specs.Promise.{LengthRead, Puts}
+use Rattle.length.specs.Claims.{Octets}
+use Rattle.length.specs.declared.Length.{Length}
+use Rattle.length.specs.declared.Length.the-variants as length
+use Rattle.length.specs.declared.Written.{Written}
+use Rattle.length.specs.declared.Written.the-variants as written
+use Rattle.datagram.specs.Sizes.{packetLimit, sparesLimit}
+use Rattle.datagram.specs.Read.{octetsOf}
+use Rattle.datagram.specs.Write.{cut, datagramToWrite}
+use Rattle.datagram.specs.Promise.{DatagramReads, nowhere}
+use Rattle.datagram.specs.declared.kind.Kind.{Kind}
+use Rattle.datagram.specs.declared.kind.Kind.the-variants as kind
+use Rattle.datagram.specs.declared.reader.Part.{Part}
+use Rattle.datagram.specs.declared.reader.DatagramRead.{DatagramRead}
+use Rattle.datagram.specs.declared.reader.Reading.the-variants as reading
+use Rattle.packet.specs.Packet.{allData, fieldsLimit, noField}
+use Rattle.packet.specs.declared.types.PacketKind as packets
+use Rattle.packet.specs.declared.types.Field.{Field}
+use Rattle.packet.specs.declared.types.Ending.the-variants.{Whole, Repaired}
+use Rattle.packet.specs.declared.types.PacketRead.{PacketRead}
+use Rattle.packet.specs.declared.types.PacketReading.the-variants as packetReading
 use Rattle.demands.specs.Common.NamedEdition.{ReadBy, packetBy}
-use Rattle.views.specs.View.{numbers}
-use Rattle.sending.specs.Sending.{historyKept}
-use Rattle.sending.specs.Carries.{sparesFrom, messagesFrom}
-use Rattle.sending.specs.Send.{packetOf}
-use Rattle.sending.specs.Sender.{sendingOf}
-use Rattle.sending.specs.Inner.Held.{Arrays}
-use Rattle.sending.specs.Promise.{Sends}
-use Rattle.sending.specs.declared.Sender.{Sender}
-use Rattle.sending.specs.declared.Sent.{Sent}
-use Rattle.sending.specs.declared.Settings.the-variants as settings
+use Rattle.session.specs.View.{numbers}
+use Rattle.sender.specs.Sending.{historyKept}
+use Rattle.sender.specs.Carries.{sparesFrom, messagesFrom}
+use Rattle.sender.specs.Send.{packetOf}
+use Rattle.sender.specs.Sender.{sendingOf}
+use Rattle.sender.specs.Inner.Held.{Arrays}
+use Rattle.sender.specs.Promise.{Sends}
+use Rattle.sender.specs.declared.Sender.{Sender}
+use Rattle.sender.specs.declared.Sent.{Sent}
+use Rattle.sender.specs.declared.Settings.the-variants as settings
 
 -- ---- written back
 -- a write answered n octets: they are s, at the front of the lent buffer, and the rest stays

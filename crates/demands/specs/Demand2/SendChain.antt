@@ -2,10 +2,10 @@
 -- buffer, and each with any answer that its promise allows. Definitions only.
 use Prim.Native.Nat.{ℕ}
 use mathlib.Core.List.{List}
-use Rattle.sending.specs.Promise.{Proper, SenderMade, Sends}
-use Rattle.sending.specs.declared.Sender.{Sender}
-use Rattle.sending.specs.declared.Sent.{Sent}
-use Rattle.sending.specs.declared.Settings.{Settings}
+use Rattle.sender.specs.Promise.{Proper, SenderMade, Sends}
+use Rattle.sender.specs.declared.Sender.{Sender}
+use Rattle.sender.specs.declared.Sent.{Sent}
+use Rattle.sender.specs.declared.Settings.{Settings}
 
 -- a sending session fresh at its start, or one saved within its ranges
 pub data SenderBegins (s : Sender) : Type 0 where

@@ -10,15 +10,15 @@ use mathlib.Core.Logic.{_⊎_}
 use mathlib.Core.Bool.{true}
 use mathlib.Core.List.{List, List·Memᴰ as Among}
 use lib.ListN.{length}
-use Rattle.views.specs.Members.{InReach}
-use Rattle.views.specs.Cells.{keptBefore, keptAhead, keptNumbers}
-use Rattle.views.specs.Held.{heldAt}
-use Rattle.views.specs.Reached.{Known}
-use Rattle.views.specs.Honest.{TrueCells}
-use Rattle.views.specs.View.{View}
-use Rattle.held.specs.Table.{viewOf}
-use Rattle.held.specs.declared.Session.{Session}
-use Rattle.sending.specs.Honest.{HonestSender}
+use Rattle.session.specs.Members.{InReach}
+use Rattle.session.specs.Cells.{keptBefore, keptAhead, keptNumbers}
+use Rattle.session.specs.Held.{heldAt}
+use Rattle.session.specs.Reached.{Known}
+use Rattle.session.specs.Honest.{TrueCells}
+use Rattle.session.specs.View.{View}
+use Rattle.session_held.specs.Table.{viewOf}
+use Rattle.session_held.specs.declared.Session.{Session}
+use Rattle.sender.specs.Honest.{HonestSender}
 use Rattle.demands.specs.Common.Calls.{Calls}
 use Rattle.demands.specs.Demand3.Feeding.{OneOrigin, sentAt, Fed, Takes}
 use Rattle.demands.specs.Demand3.FedCalls.{CameBy, CameOn}

@@ -4,12 +4,12 @@ use Prim.Native.Nat.{ℕ, _+_, _<_}
 use mathlib.Core.Path.{_≡_}
 use mathlib.Core.Logic.{_↔_}
 use mathlib.Core.List.{List, [], _∷_}
-use Rattle.views.specs.Cells.{keptNumbers}
-use Rattle.views.specs.Reached.{Known}
-use Rattle.held.specs.Table.{viewOf}
-use Rattle.held.specs.Promise.{Fresh}
-use Rattle.held.specs.declared.Session.{Session}
-use Rattle.offering.specs.declared.Offered.{Offered}
+use Rattle.session.specs.Cells.{keptNumbers}
+use Rattle.session.specs.Reached.{Known}
+use Rattle.session_held.specs.Table.{viewOf}
+use Rattle.session_held.specs.Promise.{Fresh}
+use Rattle.session_held.specs.declared.Session.{Session}
+use Rattle.session_offer.specs.declared.Offered.{Offered}
 use Rattle.demands.specs.Common.Calls.{Calls, offer, _then_, Called, leftBy}
 use Rattle.demands.specs.Demand2.ReachedBy.{gone, ReachedBy}
 use Rattle.demands.specs.Demand3.Feeding.{datagramAt}

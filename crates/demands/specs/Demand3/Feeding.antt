@@ -7,19 +7,19 @@ use mathlib.Core.Path.{_≡_}
 use mathlib.Core.Bool.{Bool}
 use mathlib.Core.List.{List, [], _∷_}
 use lib.ListN.{length, getD}
-use Rattle.lengths.specs.Refusals as refusals
-use Rattle.lengths.specs.Refusals.{refusal}
-use Rattle.views.specs.Cells.{keptBefore}
-use Rattle.views.specs.View.{View, sum}
-use Rattle.held.specs.Table.{viewOf}
-use Rattle.held.specs.Promise.{Fresh}
-use Rattle.held.specs.declared.Session.{Session}
-use Rattle.offering.specs.declared.Offered.the-variants as answer
-use Rattle.sessions.specs.Receiver.{OfferOwes, ReleaseOwes}
-use Rattle.sessions.specs.declared.receiver.AfterOffer.{AfterOffer}
-use Rattle.sessions.specs.declared.receiver.AfterRelease.{AfterRelease}
-use Rattle.sending.specs.Sending.{historyKept}
-use Rattle.sending.specs.Honest as sending
+use Rattle.length.specs.Refusals as refusals
+use Rattle.length.specs.Refusals.{refusal}
+use Rattle.session.specs.Cells.{keptBefore}
+use Rattle.session.specs.View.{View, sum}
+use Rattle.session_held.specs.Table.{viewOf}
+use Rattle.session_held.specs.Promise.{Fresh}
+use Rattle.session_held.specs.declared.Session.{Session}
+use Rattle.session_offer.specs.declared.Offered.the-variants as answer
+use Rattle.session_calls.specs.Receiver.{OfferOwes, ReleaseOwes}
+use Rattle.session_calls.specs.declared.receiver.AfterOffer.{AfterOffer}
+use Rattle.session_calls.specs.declared.receiver.AfterRelease.{AfterRelease}
+use Rattle.sender.specs.Sending.{historyKept}
+use Rattle.sender.specs.Honest as sending
 
 -- "32,000 places from the base"
 abbrev pub nearLimit : ℕ

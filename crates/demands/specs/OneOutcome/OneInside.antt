@@ -7,53 +7,53 @@ use mathlib.Core.Bool.{Bool, not}
 use mathlib.Core.List.{List, _++_}
 use lib.ListN.{length, set, drop}
 use lib.Dec.{eqb}
-use Rattle.lengths.specs.Answers.{done}
-use Rattle.lengths.specs.Length.{lengthOctets}
-use Rattle.lengths.specs.Promise.{Puts, Put}
-use Rattle.lengths.specs.declared.Refusal.{Refusal}
-use Rattle.lengths.specs.declared.Written.{Written}
-use Rattle.datagrams.specs.Sizes.{packetLimit}
-use Rattle.datagrams.specs.Write.{itemOctets, itemsOctets, cut, datagramOctets}
-use Rattle.datagrams.specs.Inner.Heads as sizes
-use Rattle.datagrams.specs.Inner.Heads.{frontOctets}
-use Rattle.datagrams.specs.declared.kind.Kind.{Kind}
-use Rattle.datagrams.specs.declared.reader.Part.{Part}
-use Rattle.words.specs.Words as words
-use Rattle.stores.specs.Store as store
-use Rattle.views.specs.Cells.{isUnknown}
-use Rattle.held.specs.Table as table
-use Rattle.held.specs.Table.{Lent, lent, stateNumbered, keptSet, heardSet, heardDropped, messagePlace, viewIn}
-use Rattle.held.specs.Laid.{lentInRanges}
-use Rattle.held.specs.declared.Counts.{Counts}
-use Rattle.keeping.specs.Promise.{MayKeep, Keeps, KeepsSpares, MayHold, Holds}
-use Rattle.repairing.specs.Promise.{MayMend, Mends}
-use Rattle.leaving.specs.Promise.{Leaves, Releases}
-use Rattle.leaving.specs.declared.Released.{Released}
-use Rattle.offering.specs.Promise.{Offers}
-use Rattle.offering.specs.declared.Offered.{Offered}
-use Rattle.sending.specs.Sender as sender
-use Rattle.sending.specs.Ranges as sending
-use Rattle.sending.specs.Inner.Held as sent
-use Rattle.sending.specs.Inner.Held.{Sizes}
-use Rattle.sending.specs.Inner.Items.{itemsIn, ItemsSize}
-use Rattle.sending.specs.Inner.Next.{carriedIn}
-use Rattle.datagram_sender.specs.Inner.{SendsHeld}
-use Rattle.sending.specs.declared.Settings.{Settings}
-use Rattle.lines.specs.Hex.{hexOf, octetsIn}
-use Rattle.lines.specs.Lines.{resultLine, refusalLine}
-use Rattle.lines.specs.Promise.{Appends, Does}
-use Rattle.lines.specs.FeedPromise.{LineIn, LineKept}
-use Rattle.lines.specs.Claims.{Same}
-use Rattle.lines.specs.declared.steps.Stepped.{Stepped}
-use Rattle.replays.specs.Replay.{replayStep}
+use Rattle.length.specs.Answers.{done}
+use Rattle.length.specs.Length.{lengthOctets}
+use Rattle.length.specs.Promise.{Puts, Put}
+use Rattle.length.specs.declared.Refusal.{Refusal}
+use Rattle.length.specs.declared.Written.{Written}
+use Rattle.datagram.specs.Sizes.{packetLimit}
+use Rattle.datagram.specs.Write.{itemOctets, itemsOctets, cut, datagramOctets}
+use Rattle.datagram.specs.Inner.Heads as sizes
+use Rattle.datagram.specs.Inner.Heads.{frontOctets}
+use Rattle.datagram.specs.declared.kind.Kind.{Kind}
+use Rattle.datagram.specs.declared.reader.Part.{Part}
+use Rattle.octets.specs.Words as words
+use Rattle.session_slots.specs.Store as store
+use Rattle.session.specs.Cells.{isUnknown}
+use Rattle.session_held.specs.Table as table
+use Rattle.session_held.specs.Table.{Lent, lent, stateNumbered, keptSet, heardSet, heardDropped, messagePlace, viewIn}
+use Rattle.session_held.specs.Laid.{lentInRanges}
+use Rattle.session_held.specs.declared.Counts.{Counts}
+use Rattle.session_offer.specs.KeepPromise.{MayKeep, Keeps, KeepsSpares, MayHold, Holds}
+use Rattle.session_repair.specs.Promise.{MayMend, Mends}
+use Rattle.session_release.specs.Promise.{Leaves, Releases}
+use Rattle.session_release.specs.declared.Released.{Released}
+use Rattle.session_offer.specs.Promise.{Offers}
+use Rattle.session_offer.specs.declared.Offered.{Offered}
+use Rattle.sender.specs.Sender as sender
+use Rattle.sender.specs.Ranges as sending
+use Rattle.sender.specs.Inner.Held as sent
+use Rattle.sender.specs.Inner.Held.{Sizes}
+use Rattle.sender.specs.Inner.Items.{itemsIn, ItemsSize}
+use Rattle.sender.specs.Inner.Next.{carriedIn}
+use Rattle.sender_calls.specs.Inner.{SendsHeld}
+use Rattle.sender.specs.declared.Settings.{Settings}
+use Rattle.line.specs.Hex.{hexOf, octetsIn}
+use Rattle.line.specs.Lines.{resultLine, refusalLine}
+use Rattle.line.specs.Promise.{Appends, Does}
+use Rattle.line.specs.FeedPromise.{LineIn, LineKept}
+use Rattle.line.specs.Claims.{Same}
+use Rattle.line.specs.declared.steps.Stepped.{Stepped}
+use Rattle.trace_replay.specs.Replay.{replayStep}
 use Rattle.demands.specs.OneOutcome.OneTold.{One, OneLent}
 use Rattle.demands.specs.OneOutcome.OnePencil.{InPencilReader}
 
--- `words`: `add`
+-- `octets`: `add`
 pub record InWords : Type 0 where
   pub add : (src old : List ℕ) → One (λ (new : List ℕ). new ≡ words.both src old)
 
--- `stores`: `put`, `clear_run`, `clear`, `zeros_in_run`, `zeros_past`, `all_zero`, `copy_out`, `add`
+-- `session_slots`: `put`, `clear_run`, `clear`, `zeros_in_run`, `zeros_past`, `all_zero`, `copy_out`, `add`
 pub record InStores : Type 0 where
   pub put : (old : List ℕ) (slot : ℕ) (src : List ℕ) → One (λ (new : List ℕ). new ≡ store.pasted old slot src)
   pub clearRun : (old : List ℕ) → One (λ (new : List ℕ). new ≡ store.zeros (length old))
@@ -64,7 +64,7 @@ pub record InStores : Type 0 where
   pub copyOut : (o : List ℕ) (slot n : ℕ) (old : List ℕ) → One (λ (new : List ℕ). new ≡ store.part o slot n ++ drop n old)
   pub add : (o : List ℕ) (slot : ℕ) (old : List ℕ) → One (λ (new : List ℕ). new ≡ store.added old o slot)
 
--- `datagram_items`: the item writers, and the sizes of items
+-- `datagram_writer`: the item writers, and the sizes of items
 pub record InDatagrams : Type 0 where
   pub putOctets : (octets old : List ℕ) → OneLent (Put octets old)
   pub putLength : (n : ℕ) (old : List ℕ) → OneLent (Put (lengthOctets n) old)
@@ -75,7 +75,7 @@ pub record InDatagrams : Type 0 where
   pub itemSize : (n : ℕ) → One (λ (r : ℕ). r ≡ sizes.itemSize n)
   pub itemsSize : (lengths : List ℕ) → One (λ (r : ℕ). r ≡ sizes.itemsSize lengths)
 
--- `held`: what stands in a slot of the table is read, and written
+-- `session_held`: what stands in a slot of the table is read, and written
 pub record InHeld : Type 0 where
   pub stateAt : (t : List ℕ) (slot : ℕ) → One (λ (r : ℕ). r ≡ table.stateIn t slot)
   pub sizeAt : (t : List ℕ) (slot : ℕ) → One (λ (r : ℕ). r ≡ table.sizeIn t slot)
@@ -91,8 +91,9 @@ pub record InHeld : Type 0 where
   pub setMessageSize : (t : List ℕ) (slot size : ℕ) → One (λ (new : List ℕ). new ≡ set t (messagePlace slot) size)
   pub dropHeard : (t : List ℕ) (slot : ℕ) → One (λ (new : List ℕ). new ≡ heardDropped t slot)
 
--- the receiving session's: `checking::in_ranges`, `keep`, `keep_spares` and `hold` of `keeping`, `repairing::mend`,
--- `leave_core` and `release_core` of `leaving`, `offering::offer_core`. All that is lent after a call is one, base and counts too
+-- the receiving session's: `session_check::in_ranges`, `keep`, `keep_spares` and `hold` of `session_offer`, `session_repair::mend`,
+-- `leave_core` and `release_core` of `session_release`, `session_offer::offer_core`. All that is lent after a call is one, base and counts
+-- too
 pub record InReceiving : Type 0 where
   pub inRanges : (base : ℕ) (counts : Counts) (t o g : List ℕ) → One (λ (r : Bool). r ≡ lentInRanges (lent base counts t o g))
   pub keep : (note state number : ℕ) (b t o : List ℕ) → MayKeep number 0 t o
@@ -119,8 +120,8 @@ pub record SameHistory {A : Type 0} (r q : A) (s l o p : List ℕ) : Type 0 wher
   pub lengths : s ≡ l
   pub octets : o ≡ p
 
--- the sending session's: `size_in`, `in_ranges` and `keep` of `history`; `items_size`, `put_items` and `write_next` of `history_items`;
--- `send_held` of `datagram_sender`
+-- the sending session's: `size_in`, `in_ranges` and `keep` of `sender_history`; `items_size`, `put_items` and `write_next` of
+-- `sender_history`; `send_held` of `sender_calls`
 pub record InSending : Type 0 where
   pub sizeIn : (lengths : List ℕ) (slot : ℕ) → One (λ (r : ℕ). r ≡ sender.lengthIn lengths slot)
   pub inRanges : (sent : ℕ) (lengths o : List ℕ) → One (λ (r : Bool). r ≡ sending.historyInRanges sent lengths o)
@@ -135,8 +136,8 @@ pub record InSending : Type 0 where
       → SendsHeld sent settings packet lengths o old newS newO new r → SendsHeld sent settings packet lengths o old otherS otherO other q
       → (SameHistory r q newS otherS newO otherO) × (new ≡ other)
 
--- the program's: `put_octets` and `pair_up` of `hexadecimal`, `put_result` and `put_refusal` of `line_steps`, `keep_line` and `clear_line`
--- of `line_blocks`, `replay_line` of `replaying`
+-- the program's: `put_octets` and `pair_up` of `line_hex`, `put_result` and `put_refusal` of `line_code`, `keep_line` and `clear_line`
+-- of `line_code`, `replay_line` of `trace_replay_code`
 pub record InLines : Type 0 where
   pub putOctets : (octets old : List ℕ) (at : ℕ) → OneLent (Appends (hexOf octets) old at)
   pub pairUp : (line old : List ℕ) → One (λ (new : List ℕ). new ≡ octetsIn line ++ drop (length line / 2) old)

@@ -3,31 +3,31 @@
 use Prim.Native.Nat.{ℕ}
 use mathlib.Core.Path.{_≡_}
 use mathlib.Core.List.{List}
-use Rattle.lengths.specs.Answers.{Answer}
-use Rattle.lengths.specs.Length.{lengthToWrite}
-use Rattle.lengths.specs.Promise.{Puts}
-use Rattle.lengths.specs.declared.Written.{Written}
-use Rattle.datagrams.specs.Write.{datagramToWrite}
-use Rattle.datagrams.specs.declared.kind.Kind.{Kind}
-use Rattle.packets.specs.declared.types.PacketKind as packetKinds
-use Rattle.packets.specs.declared.types.Ending.{Ending}
-use Rattle.held.specs.Table.{Lent}
-use Rattle.images.specs.Layout.{versionWritten}
-use Rattle.images.specs.Image.{imageToWrite}
-use Rattle.images.specs.Promise.{ImageRead}
-use Rattle.lengths.specs.Claims as lengths
-use Rattle.datagrams.specs.Claims as datagrams
-use Rattle.packets.specs.Claims as packets
-use Rattle.sending.specs.Claims as sending
-use Rattle.sessions.specs.Claims as sessions
-use Rattle.sessions.specs.Solver.{SolveOwes}
-use Rattle.held.specs.declared.Session.{Session}
-use Rattle.lines.specs.Claims as lines
-use Rattle.frames.specs.Claims as frames
+use Rattle.length.specs.Answers.{Answer}
+use Rattle.length.specs.Length.{lengthToWrite}
+use Rattle.length.specs.Promise.{Puts}
+use Rattle.length.specs.declared.Written.{Written}
+use Rattle.datagram.specs.Write.{datagramToWrite}
+use Rattle.datagram.specs.declared.kind.Kind.{Kind}
+use Rattle.packet.specs.declared.types.PacketKind as packetKinds
+use Rattle.packet.specs.declared.types.Ending.{Ending}
+use Rattle.session_held.specs.Table.{Lent}
+use Rattle.image.specs.Layout.{versionWritten}
+use Rattle.image.specs.Image.{imageToWrite}
+use Rattle.image.specs.Promise.{ImageRead}
+use Rattle.length.specs.Claims as lengths
+use Rattle.datagram.specs.Claims as datagrams
+use Rattle.packet.specs.Claims as packets
+use Rattle.sender.specs.Claims as sending
+use Rattle.session_calls.specs.Claims as sessions
+use Rattle.session_calls.specs.Solver.{SolveOwes}
+use Rattle.session_held.specs.declared.Session.{Session}
+use Rattle.line.specs.Claims as lines
+use Rattle.frame.specs.Claims as frames
 use Rattle.frame_feed.specs.Claims as frameFeed
-use Rattle.replays.specs.Claims as replays
+use Rattle.trace_replay.specs.Claims as replays
 use Rattle.demands.specs.Common.NamedEdition.{ReadBy, packetBy}
-use Rattle.comparisons.specs.Claims as comparisons
+use Rattle.trace_compare.specs.Claims as comparisons
 use Rattle.demands.specs.OneOutcome.OneTold.{One, OneTold}
 use Rattle.demands.specs.OneOutcome.OneInside.{OneInside}
 
@@ -35,7 +35,7 @@ use Rattle.demands.specs.OneOutcome.OneInside.{OneInside}
 abbrev pub OneWrite : Answer (List ℕ) → Type 0
 OneWrite w = (old new other : List ℕ) (r q : Written) → Puts w old new r → Puts w old other q → (r ≡ q) × (new ≡ other)
 
--- `write` of `lengths`, `datagram_writer`, `packet_writer` and `image_writer`
+-- `write` of `length`, `datagram_writer`, `packet_writer` and `image_writer`
 pub record Writers : Type 0 where
   pub length : (n : ℕ) → OneWrite (lengthToWrite n)
   pub datagram : (number : ℕ) (packet : List ℕ) (kind : Kind) (lengths run : List ℕ)
@@ -45,11 +45,11 @@ pub record Writers : Type 0 where
   -- `write` of `image_writer`, and its `write_core`, of a session that is lent
   pub image : (session : Lent) → OneWrite (imageToWrite versionWritten session)
 
--- all public calls of the library: `read` and `read_within` of `length_reader`, `write` of `length_writer`, of `datagram_reader` and
--- `datagram_writer`, of `packet_reader` and `packet_writer`, `read` of `pencil_reader`; `Session::fresh`, `offer`, `release` and `solve`;
+-- all public calls of the library: `read` and `read_within` of `length_code`, and `write` of `length_code`, of `datagram_reader` and
+-- `datagram_writer`, of `packet_reader` and `packet_writer`, `read` of `packet_pencil`; `Session::fresh`, `offer`, `release` and `solve`;
 -- `Sender::fresh`, `in_ranges` and `send`; the program's `hex_to_octets`, `step`, `take_block` and `finish`; `Joiner::fresh`, `field` and
--- `lost` of `frame_joiner`, `turns` and `feed` of `frame_feed`; `replay` of `replaying`; `compare` of `comparing`; `write` of
--- `image_writer` and `read` of `image_reader`; those that only tell; and those that serve callers inside this repository
+-- `lost` of `frame_joiner`, `turns` and `feed` of `frame_feed`; `replay` of `trace_replay_code`; `compare` of `trace_compare_code`; `write`
+-- of `image_writer` and `read` of `image_reader`; those that only tell; and those that serve callers inside this repository
 pub record OneOutcome : Type 0 where
   pub lengths : lengths.OneOutcome
   pub datagrams : datagrams.OneOutcome

@@ -2,12 +2,12 @@
 -- its promise. All but `octet` have a `requires`. Statements alone.
 use Prim.Native.Nat.{ℕ}
 use mathlib.Core.List.{List}
-use Rattle.packets.specs.Edition.{editionOf}
-use Rattle.packets.specs.declared.types.Named.{Named}
-use Rattle.pencil_reader.specs.Bits.{BitTaken, FlagTaken, EdgeTaken}
-use Rattle.pencil_reader.specs.Items.{ValueTaken, OctetTaken, CountTaken, SizeTaken, PartTaken}
-use Rattle.pencil_reader.specs.Fields.{HeaderTaken}
-use Rattle.pencil_reader.specs.Packet.{StartTaken}
+use Rattle.packet.specs.Edition.{editionOf}
+use Rattle.packet.specs.declared.types.Named.{Named}
+use Rattle.packet_pencil.specs.Bits.{BitTaken, FlagTaken, EdgeTaken}
+use Rattle.packet_pencil.specs.Items.{ValueTaken, OctetTaken, CountTaken, SizeTaken, PartTaken}
+use Rattle.packet_pencil.specs.Fields.{HeaderTaken}
+use Rattle.packet_pencil.specs.Packet.{StartTaken}
 use Rattle.demands.specs.OneOutcome.OneTold.{One}
 
 pub record InPencilReader : Type 0 where

@@ -5,42 +5,42 @@ use mathlib.Core.Path.{_≡_}
 use mathlib.Core.Bool.{Bool}
 use mathlib.Core.List.{List, []}
 use lib.ListN.{length}
-use Rattle.lengths.specs.Length as lengths
-use Rattle.lengths.specs.Promise.{Octet, RefusalMade, RefusalPlaced, RefusalTold}
-use Rattle.lengths.specs.Refusals as refusals
-use Rattle.lengths.specs.Answers as answers
-use Rattle.lengths.specs.declared.Length.{Length}
-use Rattle.lengths.specs.declared.Refusal.{Refusal}
-use Rattle.datagrams.specs.Sizes as sizes
-use Rattle.datagrams.specs.Write as write
-use Rattle.datagrams.specs.Inner.Heads.{LengthSize, kindHead}
-use Rattle.datagrams.specs.declared.kind.Kind.{Kind}
-use Rattle.packets.specs.Edition as edition
-use Rattle.packets.specs.Edition.{edition02, editionOf, carries, allows}
-use Rattle.packets.specs.Packet as packet
-use Rattle.packets.specs.Promise.{paddedFields, packetRead}
-use Rattle.packets.specs.declared.types.Choice.{Choice}
-use Rattle.packets.specs.declared.types.Enumerated.{Enumerated}
-use Rattle.packets.specs.declared.types.PacketKind as packets
-use Rattle.packets.specs.declared.types.Named.{Named}
-use Rattle.packets.specs.declared.types.Ending as endings
-use Rattle.packets.specs.declared.types.Field.{Field}
-use Rattle.packets.specs.declared.types.PacketRead.{PacketRead}
-use Rattle.stores.specs.Store as store
-use Rattle.views.specs.View as views
-use Rattle.held.specs.Slots as slots
-use Rattle.held.specs.Table as table
-use Rattle.held.specs.declared.Counts.{Counts}
-use Rattle.held.specs.declared.ReleaseKind as kinds
-use Rattle.sending.specs.Sending as history
-use Rattle.sending.specs.Sender as sender
-use Rattle.frames.specs.Frame as frames
-use Rattle.lines.specs.Hex as hex
-use Rattle.lines.specs.Feed as feed
-use Rattle.lines.specs.Lines as lines
-use Rattle.lines.specs.Promise as steps
-use Rattle.lines.specs.FeedPromise.{Found}
-use Rattle.images.specs.Image as images
+use Rattle.length.specs.Length as lengths
+use Rattle.length.specs.Promise.{Octet, RefusalMade, RefusalPlaced, RefusalTold}
+use Rattle.length.specs.Refusals as refusals
+use Rattle.length.specs.Answers as answers
+use Rattle.length.specs.declared.Length.{Length}
+use Rattle.length.specs.declared.Refusal.{Refusal}
+use Rattle.datagram.specs.Sizes as sizes
+use Rattle.datagram.specs.Write as write
+use Rattle.datagram.specs.Inner.Heads.{LengthSize, kindHead}
+use Rattle.datagram.specs.declared.kind.Kind.{Kind}
+use Rattle.packet.specs.Edition as edition
+use Rattle.packet.specs.Edition.{edition02, editionOf, carries, allows}
+use Rattle.packet.specs.Packet as packet
+use Rattle.packet.specs.Promise.{paddedFields, packetRead}
+use Rattle.packet.specs.declared.types.Choice.{Choice}
+use Rattle.packet.specs.declared.types.Enumerated.{Enumerated}
+use Rattle.packet.specs.declared.types.PacketKind as packets
+use Rattle.packet.specs.declared.types.Named.{Named}
+use Rattle.packet.specs.declared.types.Ending as endings
+use Rattle.packet.specs.declared.types.Field.{Field}
+use Rattle.packet.specs.declared.types.PacketRead.{PacketRead}
+use Rattle.session_slots.specs.Store as store
+use Rattle.session.specs.View as views
+use Rattle.session_held.specs.Slots as slots
+use Rattle.session_held.specs.Table as table
+use Rattle.session_held.specs.declared.Counts.{Counts}
+use Rattle.session_held.specs.declared.ReleaseKind as kinds
+use Rattle.sender.specs.Sending as history
+use Rattle.sender.specs.Sender as sender
+use Rattle.frame.specs.Frame as frames
+use Rattle.line.specs.Hex as hex
+use Rattle.line.specs.Feed as feed
+use Rattle.line.specs.Lines as lines
+use Rattle.line.specs.Promise as steps
+use Rattle.line.specs.FeedPromise.{Found}
+use Rattle.image.specs.Image as images
 
 -- two answers that a promise allows are one
 abbrev pub One : {A : Type 0} → (A → Type 0) → Type 0
@@ -50,7 +50,7 @@ One {A} promise = (r q : A) → promise r → promise q → r ≡ q
 abbrev pub OneLent : {A : Type 0} → (List ℕ → A → Type 0) → Type 0
 OneLent {A} promise = (new other : List ℕ) (r q : A) → promise new r → promise other q → (r ≡ q) × (new ≡ other)
 
--- `lengths`: `new`, `at` and `further` of `Refusal`, `two_from`, `limit` and `refusal` of `Length`, `wide`, `within`
+-- `length`: `new`, `at` and `further` of `Refusal`, `two_from`, `limit` and `refusal` of `Length`, `wide`, `within`
 pub record ToldByLengths : Type 0 where
   pub refusal : (number : ℕ) → One (RefusalMade number)
   pub refusalAt : (number place : ℕ) → One (RefusalPlaced number place)
@@ -61,8 +61,8 @@ pub record ToldByLengths : Type 0 where
   pub octetWide : (octet : ℕ) → One (Octet octet)
   pub within : (least most n : ℕ) → One (λ (r : Bool). r ≡ lengths.within least most n)
 
--- `datagrams`: `least` and `limit` of `Packet`, `Message` and `Spares`, `limit` of `Datagram`, the five limits of `Parity`; then
--- `count_inside`; `datagram_items`: `kind_size`, `length_size` and `wide`
+-- `datagram`: `least` and `limit` of `Packet`, `Message` and `Spares`, `limit` of `Datagram`, the five limits of `Parity`; then
+-- `count_inside`; `datagram_writer`: `kind_size`, `length_size` and `wide`
 pub record ToldByDatagrams : Type 0 where
   pub packetLeast : One (λ (r : ℕ). r ≡ sizes.packetLeast)
   pub packetLimit : One (λ (r : ℕ). r ≡ sizes.packetLimit)
@@ -81,7 +81,7 @@ pub record ToldByDatagrams : Type 0 where
   pub lengthSize : (n : ℕ) → One (LengthSize n)
   pub wide : (n : ℕ) → One (λ (r : ℕ). r ≡ n)
 
--- `packets`: `least`, `limit` and `types_limit` of `Field`; `packet_rules`: `choice_of`, `values`, `types`, `right_fields`, `right_data`
+-- `packet`: `least`, `limit` and `types_limit` of `Field`; `packet_rules`: `choice_of`, `values`, `types`, `right_fields`, `right_data`
 pub record ToldByPackets : Type 0 where
   pub fieldsLeast : One (λ (r : ℕ). r ≡ packet.fieldsLeast)
   pub fieldsLimit : One (λ (r : ℕ). r ≡ packet.fieldsLimit)
@@ -98,12 +98,12 @@ pub record ToldByPacketReader : Type 0 where
   pub noFields : One (λ (r : List Field). r ≡ paddedFields [])
   pub refused : (why : Refusal) → One (λ (r : PacketRead). r ≡ packetRead (answers.refused why))
 
--- `stores`: `wide`, `passing`
+-- `session_slots`: `wide`, `passing`
 pub record ToldByStores : Type 0 where
   pub wide : (n : ℕ) → One (λ (r : ℕ). r ≡ n)
   pub passing : One (λ (r : List ℕ). r ≡ store.mask)
 
--- `held`: `limit`, `kept`, `heard`, `packet_octets`, `message_octets` and `places` of `Session`; then `kept_slot`, `heard_slot` and
+-- `session_held`: `limit`, `kept`, `heard`, `packet_octets`, `message_octets` and `places` of `Session`; then `kept_slot`, `heard_slot` and
 -- `total`
 pub record ToldByHeld : Type 0 where
   pub sessionLimit : One (λ (r : ℕ). r ≡ views.sessionLimit)
@@ -123,7 +123,7 @@ pub record ToldBySending : Type 0 where
   pub historyOctets : One (λ (r : ℕ). r ≡ sender.historyOctets)
   pub slotOf : (number : ℕ) → One (λ (r : ℕ). r ≡ number % history.historyKept)
 
--- `lines`: `limit`, `kept_limit` and `step_limit` of `Line`; `hexadecimal`: `all_digits`; `line_steps`: `kind_octet`; `line_blocks`:
+-- `line`: `limit`, `kept_limit` and `step_limit` of `Line`; `line_hex`: `all_digits`; `line_code`: `kind_octet`; `line_code`:
 -- `find_feed`
 pub record ToldByLines : Type 0 where
   pub lineLimit : One (λ (r : ℕ). r ≡ hex.lineLimit)
@@ -133,11 +133,11 @@ pub record ToldByLines : Type 0 where
   pub kindOctet : (kind : kinds.ReleaseKind) → One (λ (r : ℕ). r ≡ lines.kindOctet (table.stateOf kind))
   pub findFeed : (s : List ℕ) → One (Found s)
 
--- `frames`: `limit` of `Joiner`
+-- `frame`: `limit` of `Joiner`
 pub record ToldByFrames : Type 0 where
   pub frameLimit : One (λ (r : ℕ). r ≡ frames.frameLimit)
 
--- `images`: `line` and `limit` of `Image`
+-- `image`: `line` and `limit` of `Image`
 pub record ToldByImages : Type 0 where
   pub imageLine : One (λ (r : ℕ). r ≡ images.numberLineLimit sizes.packetLimit)
   pub imageLimit : One (λ (r : ℕ). r ≡ images.imageLimit sizes.packetLimit)

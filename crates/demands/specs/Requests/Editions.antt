@@ -1,20 +1,20 @@
 -- Document 02, request 10: "Image edition 02 is written; edition 01 is still read, under the old limit, and restored as the same session;
 -- one session has one image in each edition that can hold it. Both editions share one layout argument, over the limit." What that says of
--- the calls; the layout stands in `images`, and what a text of another edition is refused with in Handover. Statements alone.
+-- the calls; the layout stands in `image`, and what a text of another edition is refused with in Handover. Statements alone.
 use Prim.Native.Nat.{ℕ}
 use mathlib.Core.Path.{_≡_}
 use mathlib.Core.List.{List}
-use Rattle.lengths.specs.Claims.{Octets}
-use Rattle.views.specs.View.{View}
-use Rattle.views.specs.Ranges.{Sound}
-use Rattle.held.specs.Table.{lentBy, viewOf}
-use Rattle.held.specs.declared.Session.{Session}
-use Rattle.images.specs.Layout.{ImageVersion, oldLimit, imageVersion01, imageVersion02}
-use Rattle.images.specs.Image.{imageText, OfOctets, LentOctets}
-use Rattle.images.specs.Promise.{ImageRead}
-use Rattle.images.specs.Claims.{Short}
-use Rattle.images.specs.declared.Restore.the-variants as restore
-use Rattle.images.specs.declared.Restored.{Restored}
+use Rattle.length.specs.Claims.{Octets}
+use Rattle.session.specs.View.{View}
+use Rattle.session.specs.Ranges.{Sound}
+use Rattle.session_held.specs.Table.{lentBy, viewOf}
+use Rattle.session_held.specs.declared.Session.{Session}
+use Rattle.image.specs.Layout.{ImageVersion, oldLimit, imageVersion01, imageVersion02}
+use Rattle.image.specs.Image.{imageText, OfOctets, LentOctets}
+use Rattle.image.specs.Promise.{ImageRead}
+use Rattle.image.specs.Claims.{Short}
+use Rattle.image.specs.declared.Restore.the-variants as restore
+use Rattle.image.specs.declared.Restored.{Restored}
 use Rattle.demands.specs.Demand2.Demand2.{Saved}
 use Rattle.demands.specs.Requests.Handover.{Wrote, restoring, ReadAs, IsRead, Names}
 

@@ -4,20 +4,20 @@ use Prim.Native.Nat.{ℕ, _+_, _*_, _≤_}
 use mathlib.Core.Path.{_≡_}
 use mathlib.Core.List.{List}
 use lib.ListN.{length, replicate}
-use Rattle.lengths.specs.Answers.{done}
-use Rattle.lengths.specs.Promise.{Puts}
-use Rattle.lengths.specs.declared.Written.{Written}
-use Rattle.lengths.specs.declared.Written.the-variants as written
-use Rattle.datagrams.specs.Sizes.{packetLimit, datagramLimit, sparesLimit}
-use Rattle.datagrams.specs.Write.{datagramToWrite}
-use Rattle.datagrams.specs.Inner.Heads.{itemSize}
-use Rattle.datagrams.specs.declared.kind.Kind.{Kind}
-use Rattle.datagrams.specs.declared.kind.Kind.the-variants as kind
-use Rattle.sending.specs.Inner.Held.{Arrays}
-use Rattle.sending.specs.Promise.{Sends}
-use Rattle.sending.specs.declared.Sender.{Sender}
-use Rattle.sending.specs.declared.Sent.{Sent}
-use Rattle.sending.specs.declared.Settings.{Settings}
+use Rattle.length.specs.Answers.{done}
+use Rattle.length.specs.Promise.{Puts}
+use Rattle.length.specs.declared.Written.{Written}
+use Rattle.length.specs.declared.Written.the-variants as written
+use Rattle.datagram.specs.Sizes.{packetLimit, datagramLimit, sparesLimit}
+use Rattle.datagram.specs.Write.{datagramToWrite}
+use Rattle.datagram.specs.Inner.Heads.{itemSize}
+use Rattle.datagram.specs.declared.kind.Kind.{Kind}
+use Rattle.datagram.specs.declared.kind.Kind.the-variants as kind
+use Rattle.sender.specs.Inner.Held.{Arrays}
+use Rattle.sender.specs.Promise.{Sends}
+use Rattle.sender.specs.declared.Sender.{Sender}
+use Rattle.sender.specs.declared.Sent.{Sent}
+use Rattle.sender.specs.declared.Settings.{Settings}
 
 -- the datagram of a packet with all spares, each at the limit: its number, the packet, octet 00, the count, the spares
 abbrev pub fullSize : ℕ

@@ -1,5 +1,5 @@
 -- Document 02, request 9: "Hand a call to the other adapter." What holds of a session that is written as an image and read back, by the
--- public calls and with whatever they answered. How an image looks is said in `images`, and what request 10 adds on its two editions in
+-- public calls and with whatever they answered. How an image looks is said in `image`, and what request 10 adds on its two editions in
 -- Editions. That a session's arrays have their lengths (`Sized`), its table 16-bit numbers and its stores octets (`LentOctets`) is so of
 -- every value of the struct's type, and that a text is of octets (`Octets`) of every slice of them. Statements alone.
 use Prim.Native.Nat.{ℕ, _≤_, _<_}
@@ -9,28 +9,28 @@ use mathlib.Core.Bool.{true, false}
 use mathlib.Core.List.{List, _++_, List·Memᴰ as Among}
 use mathlib.Core.Option.{some}
 use lib.ListN.{length, take}
-use Rattle.lengths.specs.Refusals.{refusal, noRoom, outsideRanges, badImage, otherEdition}
-use Rattle.lengths.specs.Answers.{done, writtenOutcome}
-use Rattle.lengths.specs.Tables.{first, refusalIn, roomRow}
-use Rattle.lengths.specs.Claims.{Octets}
-use Rattle.lengths.specs.declared.Refusal.{Refusal}
-use Rattle.lengths.specs.declared.Written.{Written}
-use Rattle.lengths.specs.declared.Written.the-variants as written
-use Rattle.datagrams.specs.Sizes.{packetLimit}
-use Rattle.views.specs.Cells.{keptNumbers}
-use Rattle.views.specs.Reached.{Known}
-use Rattle.views.specs.Honest.{TrueCells}
-use Rattle.views.specs.Ranges.{inRanges}
-use Rattle.views.specs.View.{View}
-use Rattle.held.specs.Table.{lentBy, viewOf}
-use Rattle.held.specs.Promise.{Sized, Fresh}
-use Rattle.held.specs.declared.Session.{Session}
-use Rattle.sending.specs.Honest.{HonestSender}
-use Rattle.images.specs.Layout.{ImageVersion, imageVersion01, imageVersion02}
-use Rattle.images.specs.Image.{imageText, namesEdition, editionNamed, readText, imageRows, imageToWrite, ImageHolds, LentOctets, imageLimit}
-use Rattle.images.specs.Promise.{ImageWritten, ImageRead}
-use Rattle.images.specs.declared.Restore.the-variants as restore
-use Rattle.images.specs.declared.Restored.{Restored}
+use Rattle.length.specs.Refusals.{refusal, noRoom, outsideRanges, badImage, otherEdition}
+use Rattle.length.specs.Answers.{done, writtenOutcome}
+use Rattle.length.specs.Tables.{first, refusalIn, roomRow}
+use Rattle.length.specs.Claims.{Octets}
+use Rattle.length.specs.declared.Refusal.{Refusal}
+use Rattle.length.specs.declared.Written.{Written}
+use Rattle.length.specs.declared.Written.the-variants as written
+use Rattle.datagram.specs.Sizes.{packetLimit}
+use Rattle.session.specs.Cells.{keptNumbers}
+use Rattle.session.specs.Reached.{Known}
+use Rattle.session.specs.Honest.{TrueCells}
+use Rattle.session.specs.Ranges.{inRanges}
+use Rattle.session.specs.View.{View}
+use Rattle.session_held.specs.Table.{lentBy, viewOf}
+use Rattle.session_held.specs.Promise.{Sized, Fresh}
+use Rattle.session_held.specs.declared.Session.{Session}
+use Rattle.sender.specs.Honest.{HonestSender}
+use Rattle.image.specs.Layout.{ImageVersion, imageVersion01, imageVersion02}
+use Rattle.image.specs.Image.{imageText, namesEdition, editionNamed, readText, imageRows, imageToWrite, ImageHolds, LentOctets, imageLimit}
+use Rattle.image.specs.Promise.{ImageWritten, ImageRead}
+use Rattle.image.specs.declared.Restore.the-variants as restore
+use Rattle.image.specs.declared.Restored.{Restored}
 use Rattle.demands.specs.Common.Calls.{Call, Calls, start, _then_, Called, callRefusal, leftBy}
 use Rattle.demands.specs.Demand2.GoesOn.{GoesOn}
 use Rattle.demands.specs.Demand1.Demand1.{Unchanged}

@@ -4,19 +4,19 @@
 use Prim.Native.Nat.{ℕ, _<_}
 use mathlib.Core.Path.{_≡_}
 use mathlib.Core.List.{List, List·Memᴰ as Among}
-use Rattle.views.specs.Cells.{cellAt, filledCell, repaired, keptNumbers}
-use Rattle.views.specs.Held.{heldMessages}
-use Rattle.views.specs.Reached.{Known, Unknown}
-use Rattle.views.specs.View.{View}
-use Rattle.held.specs.Table.{viewOf}
-use Rattle.held.specs.declared.Session.{Session}
-use Rattle.equations.specs.Equations.{padded}
-use Rattle.equations.specs.Claims.{Together}
-use Rattle.solving.specs.declared.Solved.the-variants as answer
-use Rattle.sending.specs.Honest.{HonestSender}
-use Rattle.sessions.specs.Solver.{SolveOwes}
-use Rattle.sessions.specs.SolverClaims.{SolverClaims}
-use Rattle.sessions.specs.declared.solver.AfterSolve.{AfterSolve}
+use Rattle.session.specs.Cells.{cellAt, filledCell, repaired, keptNumbers}
+use Rattle.session.specs.Held.{heldMessages}
+use Rattle.session.specs.Reached.{Known, Unknown}
+use Rattle.session.specs.View.{View}
+use Rattle.session_held.specs.Table.{viewOf}
+use Rattle.session_held.specs.declared.Session.{Session}
+use Rattle.solve.specs.Equations.{padded}
+use Rattle.solve.specs.Claims.{Together}
+use Rattle.solve_code.specs.declared.Solved.the-variants as answer
+use Rattle.sender.specs.Honest.{HonestSender}
+use Rattle.session_calls.specs.Solver.{SolveOwes}
+use Rattle.session_calls.specs.SolverClaims.{SolverClaims}
+use Rattle.session_calls.specs.declared.solver.AfterSolve.{AfterSolve}
 use Rattle.demands.specs.Demand3.Feeding.{sentAt, Fed, Takes}
 use Rattle.demands.specs.Demand3.Demand3.{TwoLists}
 

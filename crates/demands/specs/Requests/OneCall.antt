@@ -5,11 +5,11 @@ use mathlib.Core.Path.{_≡_}
 use mathlib.Core.Bool.{false}
 use mathlib.Core.List.{[]}
 use lib.ListN.{length, getD}
-use Rattle.views.specs.Cells.{unknown, keptBefore, keptNumbers}
-use Rattle.views.specs.Reached.{Known}
-use Rattle.held.specs.Table.{viewOf}
-use Rattle.held.specs.declared.Session.{Session}
-use Rattle.sessions.specs.Claims as sessions
+use Rattle.session.specs.Cells.{unknown, keptBefore, keptNumbers}
+use Rattle.session.specs.Reached.{Known}
+use Rattle.session_held.specs.Table.{viewOf}
+use Rattle.session_held.specs.declared.Session.{Session}
+use Rattle.session_calls.specs.Claims as sessions
 use Rattle.demands.specs.Common.History.{leftAs, isLost}
 use Rattle.demands.specs.Common.Calls.{Calls, Called, leftBy}
 use Rattle.demands.specs.Demand2.Demand2.{Begins}

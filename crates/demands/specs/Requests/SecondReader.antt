@@ -4,9 +4,9 @@
 use Prim.Native.Nat.{ℕ}
 use mathlib.Core.Path.{_≡_}
 use mathlib.Core.List.{List}
-use Rattle.packets.specs.Promise.{packetOutcome}
-use Rattle.packets.specs.declared.types.Ending.{Ending}
-use Rattle.packets.specs.declared.types.PacketRead.{PacketRead}
+use Rattle.packet.specs.Promise.{packetOutcome}
+use Rattle.packet.specs.declared.types.Ending.{Ending}
+use Rattle.packet.specs.declared.types.PacketRead.{PacketRead}
 use Rattle.demands.specs.Common.NamedEdition.{ReadBy}
 
 -- two answers are the same: in fields or refusal, and in the places that are left
@@ -14,7 +14,7 @@ pub record SameAnswer (quick second : PacketRead) : Type 0 where
   pub answer : packetOutcome quick ≡ packetOutcome second
   pub whole : quick ≡ second
 
--- whatever `packet_reader::read` answers, `pencil_reader::read` answers, whichever octet names the edition
+-- whatever `packet_reader::read` answers, `packet_pencil::read` answers, whichever octet names the edition
 abbrev pub SecondReader : Type 0
 SecondReader = (octet : ℕ) (ending : Ending) (s : List ℕ) (quick second : PacketRead)
     → ReadBy octet ending s quick

@@ -1,7 +1,7 @@
 -- `image_writer::write_core` meets its contract: 17 outside the ranges, then 13 where there is no room, else the lines. Assumes nothing.
 use native.Mathlib.Omega.{arith}
 use borrow.Author.Needs.{needs}
-use Rattle.held.specs.Table.{lent}
+use Rattle.session_held.specs.Table.{lent}
 use Rattle.image_writer.proofs.Laying.{room-front, room-rest}
 use Rattle.image_writer.proofs.Answers.{write-outside, table-fits, write-full, write-room, write-done}
 use Rattle.image_writer.proofs.write_core.Statement.{statement}

@@ -3,11 +3,11 @@ use Prim.Native.Nat.{ℕ}
 use mathlib.Core.Path.{_≡_}
 use mathlib.Core.List.{List}
 use borrow.Author.Needs.{needs}
-use Rattle.views.specs.View.{View, freshView}
-use Rattle.held.specs.Table.{lent}
-use Rattle.held.proofs.Laws.{session-in-ranges}
-use Rattle.serving.specs.Promise.{Serves}
-use Rattle.serving.specs.declared.Served.{Served}
+use Rattle.session.specs.View.{View, freshView}
+use Rattle.session_held.specs.Table.{lent}
+use Rattle.session_held.proofs.Laws.{session-in-ranges}
+use Rattle.program_loop.specs.Promise.{Serves}
+use Rattle.program_loop.specs.declared.Served.{Served}
 use Rattle.receive.specs.Promise.{Receives}
 use Rattle.receive.proofs.receive.Statement.{statement}
 use Rattle.receive.proofs.receive.Tie as tie

@@ -1,5 +1,5 @@
 -- `replay::replay` is safe and ends: a fresh session is within its ranges. Assumes nothing.
-use Rattle.held.proofs.Laws.{session-in-ranges}
+use Rattle.session_held.proofs.Laws.{session-in-ranges}
 use borrow.Author.Needs.{needs}
 use Rattle.replay.proofs.replay.Statement.{statement}
 use Rattle.replay.proofs.replay.Tie as tie

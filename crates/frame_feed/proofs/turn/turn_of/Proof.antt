@@ -1,8 +1,8 @@
 -- `frame_feed::turn::turn_of` meets its contract. Assumes nothing.
 use mathlib.Core.Path.{_≡_}
 use lib.ListN.{length}
-use Rattle.packets.specs.Packet.{fieldsLimit}
-use Rattle.held.specs.Table.{stateOf}
+use Rattle.packet.specs.Packet.{fieldsLimit}
+use Rattle.session_held.specs.Table.{stateOf}
 use borrow.Author.Needs.{needs}
 use native.Mathlib.Omega.{arith}
 use Rattle.frame_feed.proofs.Turning.{turnings, turn-there, mapped-long}

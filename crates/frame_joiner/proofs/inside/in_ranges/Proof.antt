@@ -1,7 +1,7 @@
 -- `frame_joiner::inside::in_ranges` meets its contract. Assumes nothing.
 use mathlib.Core.Path.{sym, ap, _∙_}
 use native.Mathlib.Omega.{arith}
-use Rattle.stores.specs.Store.{maskOver}
+use Rattle.session_slots.specs.Store.{maskOver}
 use Rattle.frame_joiner.proofs.Storage.{over-ranges, ranges-checked}
 use borrow.Author.Needs.{needs}
 use Rattle.frame_joiner.proofs.inside.in_ranges.Statement.{statement}

@@ -1,5 +1,5 @@
 -- `frame_joiner::inside::passing` meets its contract. Assumes nothing.
-use Rattle.stores.proofs.Laws.{mask-made}
+use Rattle.session_slots.proofs.Laws.{mask-made}
 use borrow.Author.Needs.{needs}
 use Rattle.frame_joiner.proofs.inside.passing.Statement.{statement}
 use Rattle.frame_joiner.proofs.inside.passing.Tie as tie

@@ -1,5 +1,5 @@
 -- `frame_joiner::inside::refused` meets its contract. Assumes nothing.
-use Rattle.lengths.specs.Promise.{RefusalMade}
+use Rattle.length.specs.Promise.{RefusalMade}
 use borrow.Author.Needs.{needs}
 use Rattle.frame_joiner.proofs.inside.refused.Statement.{statement}
 use Rattle.frame_joiner.proofs.inside.refused.Tie as tie

@@ -2,7 +2,7 @@
 use mathlib.Core.Path.{_≡_, sym, _∙_}
 use lib.ListN.{length}
 use borrow.Author.Tests.{not-false}
-use Rattle.frames.specs.Frame.{frameLimit}
+use Rattle.frame.specs.Frame.{frameLimit}
 use Rattle.frame_joiner.proofs.Storage.{in-ranges-laid}
 use borrow.Author.Needs.{needs}
 use Rattle.frame_joiner.proofs.Feeding.{taintings}

@@ -1,6 +1,6 @@
 -- `handover::loading::fresh` meets its contract: a fresh session is within its ranges. Assumes nothing.
 use borrow.Author.Needs.{needs}
-use Rattle.held.proofs.Laws.{session-in-ranges}
+use Rattle.session_held.proofs.Laws.{session-in-ranges}
 use Rattle.handover.proofs.loading.fresh.Statement.{statement}
 use Rattle.handover.proofs.loading.fresh.Tie as tie
 

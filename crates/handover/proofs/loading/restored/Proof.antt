@@ -5,14 +5,14 @@ use mathlib.Core.Path.{_≡_, sym}
 use mathlib.Core.Bool.{Bool, true, false, false≢true}
 use mathlib.Core.List.{List}
 use borrow.Author.Needs.{needs}
-use Rattle.held.specs.Table.{lentBy}
-use Rattle.held.specs.Laid.{InRanges}
-use Rattle.held.specs.declared.Session.{Session}
-use Rattle.held.proofs.Laws.{session-in-ranges}
-use Rattle.images.specs.Promise.{Restores, ImageRead}
-use Rattle.images.specs.declared.Restore.{Restore}
-use Rattle.images.specs.declared.Restore.the-variants as restore
-use Rattle.images.specs.declared.Restored.{Restored}
+use Rattle.session_held.specs.Table.{lentBy}
+use Rattle.session_held.specs.Laid.{InRanges}
+use Rattle.session_held.specs.declared.Session.{Session}
+use Rattle.session_held.proofs.Laws.{session-in-ranges}
+use Rattle.image.specs.Promise.{Restores, ImageRead}
+use Rattle.image.specs.declared.Restore.{Restore}
+use Rattle.image.specs.declared.Restore.the-variants as restore
+use Rattle.image.specs.declared.Restored.{Restored}
 use Rattle.handover.specs.Promise.{BeginsWith}
 use Rattle.handover.proofs.loading.restored.Statement.{statement}
 use Rattle.handover.proofs.loading.restored.Tie as tie

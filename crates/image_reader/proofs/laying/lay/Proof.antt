@@ -2,7 +2,7 @@
 -- Assumes nothing.
 use mathlib.Core.Path.{refl}
 use native.Mathlib.Omega.{arith}
-use Rattle.views.specs.Cells.{keptBefore}
+use Rattle.session.specs.Cells.{keptBefore}
 use Rattle.image_reader.proofs.NumberSteps.{base-most}
 use Rattle.image_reader.proofs.Rows.{packet-inside, messages-fit, table-long, lay-before, lay-ahead}
 use borrow.Author.Needs.{needs}

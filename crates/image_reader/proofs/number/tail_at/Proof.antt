@@ -1,7 +1,7 @@
 -- `image_reader::tail_at` meets its contract: each test in reading order gives its answer. Assumes nothing.
 use native.Mathlib.Omega.{arith}
 use borrow.Author.Tests.{not-true, not-false}
-use Rattle.datagrams.specs.Sizes.{messagesLimit}
+use Rattle.datagram.specs.Sizes.{messagesLimit}
 use Rattle.image_reader.proofs.NumberSteps.{tails, tail-read, base-most}
 use borrow.Author.Needs.{needs}
 use Rattle.image_reader.proofs.number.tail_at.Statement.{statement}

@@ -1,6 +1,6 @@
 -- `image_reader::is_near` meets its contract: the characters so far are told, one more each turn. Assumes nothing.
 use Prim.Native.Nat.{_-_}
-use Rattle.lines.specs.FeedPromise.{lookedAt}
+use Rattle.line.specs.FeedPromise.{lookedAt}
 use Rattle.image_reader.proofs.Digits.{Near, near-start, near-turn, near-done}
 use borrow.Author.Needs.{needs}
 use Rattle.image_reader.proofs.text.is_near.Statement.{statement}

@@ -3,7 +3,7 @@
 use Prim.Native.Nat.{_-_}
 use mathlib.Core.Path.{sym, _∙_}
 use native.Mathlib.Omega.{arith}
-use Rattle.views.specs.Cells.{keptAhead}
+use Rattle.session.specs.Cells.{keptAhead}
 use Rattle.image_reader.proofs.Turning.{Reading, readings, reading-ends, reading-turn}
 use Rattle.image_reader.proofs.Turning.{reading-table, reading-octets, reading-messages}
 use borrow.Author.Needs.{needs}

@@ -1,5 +1,5 @@
 -- `image_writer::put_first` meets its contract: its parts are laid one after the other. Assumes nothing.
-use Rattle.lines.proofs.Laws.{appends-then}
+use Rattle.line.proofs.Laws.{appends-then}
 use Rattle.image_writer.proofs.Laying.{room-front, room-rest, room-hex}
 use borrow.Author.Needs.{needs}
 use Rattle.image_writer.proofs.numbers.put_first.Statement.{statement}

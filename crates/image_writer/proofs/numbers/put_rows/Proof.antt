@@ -1,7 +1,7 @@
 -- `image_writer::put_rows` meets its contract: the lines before place p are laid. Assumes nothing.
 use Prim.Native.Nat.{_-_}
 use borrow.Author.Needs.{needs}
-use Rattle.held.specs.Slots.{slotsKept}
+use Rattle.session_held.specs.Slots.{slotsKept}
 use Rattle.image_writer.proofs.Laying.{told-room, told-put}
 use Rattle.image_writer.proofs.Turns.{Going, going-start, going-room, going-turn, going-done}
 use Rattle.image_writer.specs.Rows.{imageRowAt, rowText}

@@ -2,11 +2,11 @@
 use Prim.Native.Nat.{_-_, _*_}
 use native.Mathlib.Omega.{arith}
 use borrow.Author.Needs.{needs}
-use Rattle.datagrams.specs.Sizes.{packetLimit, messagesLimit}
-use Rattle.datagrams.specs.Inner.Heads.{itemSize}
-use Rattle.held.specs.Slots.{messageSlot}
-use Rattle.held.specs.Table.{messageSizeIn}
-use Rattle.images.specs.Image.{longestItem}
+use Rattle.datagram.specs.Sizes.{packetLimit, messagesLimit}
+use Rattle.datagram.specs.Inner.Heads.{itemSize}
+use Rattle.session_held.specs.Slots.{messageSlot}
+use Rattle.session_held.specs.Table.{messageSizeIn}
+use Rattle.image.specs.Image.{longestItem}
 use Rattle.image_writer.proofs.Turns.{Counted, counted-start, counted-turn, counted-done}
 use Rattle.image_writer.proofs.Sizing.{message-short, message-told}
 use Rattle.image_writer.proofs.rows.messages_size.Statement.{statement}

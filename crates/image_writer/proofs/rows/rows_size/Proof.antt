@@ -2,9 +2,9 @@
 use Prim.Native.Nat.{_-_}
 use native.Mathlib.Omega.{arith}
 use borrow.Author.Needs.{needs}
-use Rattle.datagrams.specs.Sizes.{packetLimit}
-use Rattle.held.specs.Slots.{slotsKept}
-use Rattle.images.specs.Image.{lineSize, numberLineLimit}
+use Rattle.datagram.specs.Sizes.{packetLimit}
+use Rattle.session_held.specs.Slots.{slotsKept}
+use Rattle.image.specs.Image.{lineSize, numberLineLimit}
 use Rattle.image_writer.proofs.Turns.{Counted, counted-start, counted-turn, counted-done}
 use Rattle.image_writer.proofs.Sizing.{told-size}
 use Rattle.image_writer.specs.Rows.{imageRowAt, rowSize}

@@ -1,6 +1,6 @@
 -- `packet_reader::no_fields` meets its contract. It is the definition's list. Assumes nothing.
 use mathlib.Core.Path.{refl}
-use Rattle.packets.specs.Promise.{paddedFields}
+use Rattle.packet.specs.Promise.{paddedFields}
 use Rattle.packet_reader.proofs.reader.no_fields.Statement.{statement}
 use Rattle.packet_reader.proofs.reader.no_fields.Tie as tie
 

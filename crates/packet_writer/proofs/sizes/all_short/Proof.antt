@@ -4,7 +4,7 @@ use Prim.Native.Nat.{_-_}
 use lib.ListN.{length}
 use lib.Dec.{leb}
 use borrow.Author.Needs.{needs}
-use Rattle.datagrams.specs.Sizes.{packetLimit}
+use Rattle.datagram.specs.Sizes.{packetLimit}
 use Rattle.packet_laws.proofs.Laws.{EveryLeft, evers}
 use Rattle.packet_writer.proofs.sizes.all_short.Statement.{statement}
 use Rattle.packet_writer.proofs.sizes.all_short.Tie as tie

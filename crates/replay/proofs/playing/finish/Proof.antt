@@ -1,6 +1,6 @@
 -- `replay::playing::finish` is safe: no line has begun, or the last one is done. Assumes nothing.
 use mathlib.Core.Path.{sym}
-use Rattle.lines.proofs.Laws.{begun-length}
+use Rattle.line.proofs.Laws.{begun-length}
 use borrow.Author.Needs.{needs}
 use Rattle.replay.proofs.playing.finish.Statement.{statement}
 use Rattle.replay.proofs.playing.finish.Tie as tie

@@ -1,7 +1,7 @@
 -- `replay::playing::play` is safe and ends: between two blocks a line may come. The turns left are the measure. Assumes nothing.
 use mathlib.Core.Path.{sym}
 use native.Mathlib.Omega.{arith}
-use Rattle.held.specs.Table.{lent}
+use Rattle.session_held.specs.Table.{lent}
 use Rattle.replay.proofs.Turning.{Between, between-start, between-read, between-on}
 use borrow.Author.Needs.{needs}
 use Rattle.replay.proofs.playing.play.Statement.{statement}

@@ -4,7 +4,7 @@ use Prim.Native.Nat.{_-_}
 use mathlib.Core.Path.{sym, _∙_}
 use lib.ListN.{length}
 use native.Mathlib.Omega.{arith}
-use Rattle.held.specs.Table.{lent}
+use Rattle.session_held.specs.Table.{lent}
 use Rattle.replay.specs.Promise.{Goes}
 use Rattle.replay.proofs.Turning.{feed-inside, goes-start, goes-then, goes-kept}
 use borrow.Author.Needs.{needs}

@@ -1,6 +1,6 @@
 -- `replay::taking::take_line` meets its contract: the line is whole in its block, or its front was kept. Assumes nothing.
 use mathlib.Core.Path.{refl, sym}
-use Rattle.lines.proofs.Laws.{begun-length}
+use Rattle.line.proofs.Laws.{begun-length}
 use Rattle.replay.proofs.Turning.{goes-line}
 use borrow.Author.Needs.{needs}
 use Rattle.replay.proofs.taking.take_line.Statement.{statement}

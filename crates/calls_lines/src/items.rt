@@ -1,0 +1,215 @@
+// Lines 01 to 07, which need no session: lengths, datagrams and packets, read and written.
+use crate::answers::say;
+use crate::answers::say_done;
+use crate::answers::say_no_call;
+use crate::answers::say_refused;
+use crate::answers::say_sized;
+use crate::answers::say_written;
+use crate::arguments::first;
+use crate::arguments::number;
+use crate::arguments::numbers;
+use crate::arguments::octet;
+use crate::arguments::part;
+use crate::arguments::sized;
+use datagram::Kind;
+use datagram::Part;
+use datagram::Spares;
+use length::Length;
+use packet::Ending;
+use packet::Field;
+use packet::PacketRead;
+
+// The octets that name what a datagram carries beside its packet.
+pub const SPARES: u8 = 0;
+
+pub const PARITY: u8 = 128;
+
+// 01: a length.
+fn read_length(s: &[u8]) {
+    match length_code::read(s) {
+        Length::Refused(why) => say_refused(why),
+        Length::Value(value, size) => {
+            say_done(value, 2);
+            say((size % 256) as u32, 1);
+        }
+    }
+}
+
+// 02: a length.
+fn write_length(s: &[u8], lent: &mut [u8]) {
+    let mut at = 0;
+    let value = number(s, &mut at, 2) as usize;
+    let answer = length_code::write(value, lent);
+    say_written(answer, 1, lent);
+}
+
+fn say_items(s: &[u8], items: [Part; Spares::LIMIT], count: usize) {
+    say((count % 256) as u32, 1);
+    let mut i = 0;
+    while i < Spares::LIMIT {
+        let item = items[i];
+        i += 1;
+        if i <= count {
+            say_sized(s, item.start, item.size);
+        }
+    }
+}
+
+fn say_kind(kind: Kind) {
+    match kind {
+        Kind::Spares => say(SPARES as u32, 1),
+        Kind::Parity(n) => {
+            say(PARITY as u32, 1);
+            say((n % 256) as u32, 1);
+        }
+    }
+}
+
+// 03: a datagram.
+fn read_datagram(s: &[u8]) {
+    let found = datagram_reader::read(s);
+    let items = found.items;
+    let reading = found.reading;
+    match reading {
+        datagram::Reading::Refused(why) => say_refused(why),
+        datagram::Reading::Datagram {
+            number,
+            packet,
+            kind,
+            count,
+        } => {
+            say_done(number as usize, 2);
+            say_sized(s, packet.start, packet.size);
+            say_kind(kind);
+            say_items(s, items, count);
+        }
+    }
+}
+
+fn kind_of(kind: u8, n: u8) -> Kind {
+    if kind == PARITY {
+        return Kind::Parity(n as usize);
+    }
+    Kind::Spares
+}
+
+// 04: a datagram. With spares, n is 0.
+fn write_datagram(s: &[u8], lent: &mut [u8]) {
+    let mut lengths = [0u16; 256];
+    let mut at = 0;
+    let newest = (number(s, &mut at, 2) % 65536) as u16;
+    let packet = sized(s, &mut at, 2);
+    let kind = octet(s, &mut at);
+    let n = octet(s, &mut at);
+    let count = numbers(s, &mut at, 1, &mut lengths);
+    let data = sized(s, &mut at, 2);
+    let named = (kind == PARITY) | (kind == SPARES) & (n == 0);
+    if named & (at == s.len()) {
+        let listed = first(&lengths, count);
+        let answer = datagram_writer::write(newest, packet, kind_of(kind, n), listed, data, lent);
+        return say_written(answer, 2, lent);
+    }
+    say_no_call()
+}
+
+fn say_fields(s: &[u8], fields: [Field; Field::LIMIT], count: usize) {
+    say((count % 256) as u32, 1);
+    let mut i = 0;
+    while i < Field::LIMIT {
+        let field = fields[i];
+        i += 1;
+        if i <= count {
+            say(field.kind as u32, 1);
+            say_sized(s, field.start, field.size);
+        }
+    }
+}
+
+fn kind_octet(kind: packet::PacketKind) -> usize {
+    match kind {
+        packet::PacketKind::Indicator => 0,
+        packet::PacketKind::Data => 1,
+    }
+}
+
+// What a reader finds in a packet of the edition that an octet names: the quick one for line 05, the second one for 07.
+fn packet_found(call: u8, edition: u8, s: &[u8], ending: Ending) -> PacketRead {
+    if call == 0x05 {
+        return packet_reader::read(edition, s, ending);
+    }
+    packet_pencil::read(edition, s, ending)
+}
+
+fn say_packet(call: u8, edition: u8, s: &[u8], ending: Ending) {
+    let found = packet_found(call, edition, s, ending);
+    let fields = found.fields;
+    let reading = found.reading;
+    match reading {
+        packet::PacketReading::Refused(why) => say_refused(why),
+        packet::PacketReading::Packet { kind, value, count } => {
+            say_done(kind_octet(kind), 1);
+            say(value as u32, 1);
+            say_fields(s, fields, count);
+        }
+    }
+}
+
+// 05 and 07: a packet, by its edition and as it was received or repaired.
+fn read_packet(call: u8, s: &[u8]) {
+    let mut at = 0;
+    let edition = octet(s, &mut at);
+    let ending = octet(s, &mut at);
+    if s.len() < at {
+        return say_no_call();
+    }
+    let packet = part(s, at, s.len() - at);
+    match ending {
+        0 => say_packet(call, edition, packet, Ending::Whole),
+        1 => say_packet(call, edition, packet, Ending::Repaired),
+        _ => say_no_call(),
+    }
+}
+
+fn packet_kind(kind: u8) -> packet::PacketKind {
+    if kind == 0 {
+        return packet::PacketKind::Indicator;
+    }
+    packet::PacketKind::Data
+}
+
+// 06: a packet, by its edition.
+fn write_packet(s: &[u8], lent: &mut [u8]) {
+    let mut lengths = [0u16; 256];
+    let mut at = 0;
+    let edition = octet(s, &mut at);
+    let kind = octet(s, &mut at);
+    let value = octet(s, &mut at);
+    let types = sized(s, &mut at, 1);
+    let count = numbers(s, &mut at, 1, &mut lengths);
+    let data = sized(s, &mut at, 2);
+    if (kind < 2) & (at == s.len()) {
+        let listed = first(&lengths, count);
+        let answer = packet_writer::write(
+            edition,
+            packet_kind(kind),
+            value,
+            types,
+            listed,
+            data,
+            lent,
+        );
+        return say_written(answer, 2, lent);
+    }
+    say_no_call()
+}
+
+pub fn answer(call: u8, s: &[u8], lent: &mut [u8]) {
+    match call {
+        0x01 => read_length(s),
+        0x02 => write_length(s, lent),
+        0x03 => read_datagram(s),
+        0x04 => write_datagram(s, lent),
+        0x05 | 0x07 => read_packet(call, s),
+        _ => write_packet(s, lent),
+    }
+}

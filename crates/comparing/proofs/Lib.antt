@@ -1,5 +1,0 @@
-mod Rereading
-mod Mates
-mod FirstLines
-mod SecondLines
-mod Whole

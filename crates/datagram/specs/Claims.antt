@@ -1,0 +1,83 @@
+-- The claims of this crate, and the words that they are said in.
+use Prim.Native.Nat.{ℕ, _+_, _≤_, _<_}
+use mathlib.Core.Path.{_≡_}
+use mathlib.Core.Bool.{true}
+use mathlib.Core.List.{List, [], _∷_, map, flatten}
+use lib.ListN.{length, getD}
+use Rattle.length.specs.Refusals.{endsEarly, badForm, spareBit, leftOver}
+use Rattle.length.specs.Answers.{done, refuseAt}
+use Rattle.length.specs.Claims.{Octets}
+use Rattle.datagram.specs.Sizes.{packetLeast, packetLimit}
+use Rattle.datagram.specs.Carried.{Carried}
+use Rattle.datagram.specs.Write.{countInside, carriedOf, datagramToWrite}
+use Rattle.datagram.specs.Read.{DatagramParts, leastOf, mostOf, octetsOf, readDatagram, carriedBy}
+use Rattle.datagram.specs.Promise.{DatagramReads, nowhere}
+use Rattle.datagram.specs.declared.reader.Part.{Part}
+use Rattle.datagram.specs.declared.reader.Reading.the-variants as reading
+use Rattle.datagram.specs.declared.reader.DatagramRead.{DatagramRead}
+use Rattle.datagram.specs.declared.kind.Kind.{Kind}
+
+-- ---- round trips
+
+-- the octets s read as a datagram that carries c
+pub record ReadsAs (s : List ℕ) (c : Carried) : Type 0 where
+  pub parts : DatagramParts
+  pub read : readDatagram s ≡ done parts
+  pub carried : carriedBy s parts ≡ c
+
+-- what the writer writes reads back to the same number, packet, spares or n and messages
+abbrev pub WrittenReads : Type 0
+WrittenReads = (number : ℕ) (packet : List ℕ) (k : Kind) (lengths run s : List ℕ) → datagramToWrite number packet k lengths run ≡ done s
+    → ReadsAs s (carriedOf number packet k lengths run)
+
+-- the spares or messages of a reading as the writer takes them: their lengths, and one run of data
+abbrev pub lengthsOf : DatagramParts → List ℕ
+lengthsOf d = map (λ (p : Part). p .size) (d .items)
+
+abbrev pub runOf : List ℕ → DatagramParts → List ℕ
+runOf s d = flatten (map (octetsOf s) (d .items))
+
+-- what reads without refusal, written from its fields, gives the same octets
+abbrev pub ReadWrites : Type 0
+ReadWrites = (s : List ℕ) (d : DatagramParts) → Octets s → readDatagram s ≡ done d
+    → datagramToWrite (d .number) (octetsOf s (d .packet)) (d .kind) (lengthsOf d) (runOf s d) ≡ done s
+
+-- ---- what an accepted datagram names
+
+-- a part has from least to most octets and lies within the octets s
+pub record PartInside (least most : ℕ) (s : List ℕ) (p : Part) : Type 0 where
+  pub low : least ≤ p .size
+  pub high : p .size ≤ most
+  pub inside : p .start + p .size ≤ length s
+
+-- the newest packet, n and the count, and each spare or message are within the sizes and the octets s
+pub record Inside (s : List ℕ) (packet : Part) (k : Kind) (count : ℕ) (items : List Part) : Type 0 where
+  pub newest : PartInside packetLeast packetLimit s packet
+  pub counted : countInside k count ≡ true
+  pub each : (j : ℕ) → j < count → PartInside (leastOf k) (mostOf k) s (getD items j nowhere)
+
+abbrev pub AcceptedInside : Type 0
+AcceptedInside = (s : List ℕ) (r : DatagramRead) (number : ℕ) (packet : Part) (k : Kind) (count : ℕ) → DatagramReads s r
+    → r .reading ≡ reading.Datagram number packet k count → Inside s packet k count (r .items)
+
+-- ---- one outcome
+
+-- two outcomes that a promise allows are equal
+pub record OneOutcome : Type 0 where
+  pub read : {s : List ℕ} {r q : DatagramRead} → DatagramReads s r → DatagramReads s q → r ≡ q
+
+-- ---- cases in which another reading of document 01 was possible
+
+pub record Cases : Type 0 where
+  -- C0 or more as the last octet is 3, not 1
+  pub last-c0 : readDatagram (0x00 ∷ 0x00 ∷ 0xC0 ∷ []) ≡ refuseAt 2 badForm
+  pub last-80 : readDatagram (0x00 ∷ 0x00 ∷ 0x80 ∷ []) ≡ refuseAt 2 endsEarly
+  pub low-bits : readDatagram (0x00 ∷ 0x00 ∷ 0x01 ∷ 0x06 ∷ 0x81 ∷ []) ≡ refuseAt 4 spareBit
+  pub left-over : readDatagram (0x00 ∷ 0x00 ∷ 0x01 ∷ 0x06 ∷ 0x00 ∷ 0x00 ∷ 0x00 ∷ []) ≡ refuseAt 6 leftOver
+
+pub record Claims : Type 0 where
+  pub writtenReads : WrittenReads
+  pub readWrites : ReadWrites
+  pub acceptedInside : AcceptedInside
+  pub oneOutcome : OneOutcome
+  pub cases : Cases

@@ -1,0 +1,142 @@
+-- Document 01, 'The datagram', as it is read: "Number: two octets, high first. Then the newest packet: length, octets. Then
+-- one octet, 00 for spares or 80 for parity; its low seven bits are zero. Spares: a count, then each with its length ..
+-- Parity: octet 01, octet n, count m, then m messages, each with its length. Nothing follows." And of the order: "At a
+-- length: 3 or 1 in its form, then 4, then 1 for missing octets", "Datagram reader: 2, then reading order". Document 02, request 5, of
+-- the place: "Every refusal met in reading order shall give the octet at which the refused item begins .. A length .. and the octets a
+-- length promises are each one item; for 6 it is the first octet left over". Definitions only.
+use Prim.Native.Nat.{ℕ, zero, suc, _+_, _-_, _*_, _%_}
+use mathlib.Core.Bool.{cond}
+use mathlib.Core.List.{List, [], _∷_, map}
+use lib.ListN.{length, getD, take, drop}
+use lib.Dec.{leb, ltb, eqb}
+use Rattle.length.specs.Refusals.{endsEarly, tooLong, spareBit, leftOver}
+use Rattle.length.specs.Answers.{Answer, done, refuse, refuseAt, readFrom, _>>=_, LengthAnswer}
+use Rattle.length.specs.Length.{allowed, lengthWithin}
+use Rattle.datagram.specs.Sizes.{packetLeast, packetLimit, messageLeast, messageLimit, datagramLimit, sparesLeast, sparesLimit}
+use Rattle.datagram.specs.Sizes.{coveredLeast, coveredLimit, messagesLeast, messagesLimit}
+use Rattle.datagram.specs.Carried.{Carried}
+use Rattle.datagram.specs.Write.{extraOf}
+use Rattle.datagram.specs.declared.reader.Part.{Part}
+use Rattle.datagram.specs.declared.kind.Kind.{Kind}
+use Rattle.datagram.specs.declared.kind.Kind.the-variants as kind
+
+-- a datagram as read: the packet and each spare or message as a part (start, length) of its octets
+pub record DatagramParts : Type 0 where
+  pub number : ℕ
+  pub packet : Part
+  pub kind : Kind
+  pub items : List Part
+
+-- ---- the pieces, each at a place of the octets
+
+-- the place after a part
+abbrev pub after : Part → ℕ
+after p = p .start + p .size
+
+-- a length or count from least to most
+abbrev pub lengthFrom : ℕ → ℕ → List ℕ → ℕ → Answer LengthAnswer
+lengthFrom least most s at = readFrom at (lengthWithin least most (drop at s))
+
+-- a plain octet from least to most, that is no length
+unfoldable pub octetAt : ℕ → ℕ → List ℕ → ℕ → Answer LengthAnswer
+octetAt least most s at =
+    readFrom at
+    (cond (leb (length s) at) (refuse endsEarly)
+    (allowed least most (record { value = getD s at 0; size = 1 })))
+
+-- a packet, spare or message: length, octets
+unfoldable pub itemAt : ℕ → ℕ → List ℕ → ℕ → Answer Part
+itemAt least most s at = do
+  l ← lengthFrom least most s at
+  cond (ltb (length s - (at + l .size)) (l .value)) (refuseAt (at + l .size) endsEarly)
+      (done (record { start = at + l .size; size = l .value }))
+
+-- so many of them, one after the other
+unfoldable pub itemsAt : ℕ → ℕ → List ℕ → ℕ → ℕ → Answer (List Part)
+itemsAt least most s at zero = done []
+itemsAt least most s at (suc left) = do
+  p ← itemAt least most s at
+  ps ← itemsAt least most s (after p) left
+  done (p ∷ ps)
+
+-- the place where parts end that begin at a place, one after the other
+unfoldable pub endOf : ℕ → List Part → ℕ
+endOf at [] = at
+endOf at (p ∷ ps) = endOf (after p) ps
+
+-- ---- what follows the newest packet
+
+-- up to the items: their kind and count, and where the first begins
+pub record ExtraHead : Type 0 where
+  pub kind : Kind
+  pub count : ℕ
+  pub first : ℕ
+
+-- "Spares: a count"
+unfoldable pub sparesAt : List ℕ → ℕ → Answer ExtraHead
+sparesAt s at = do
+  k ← lengthFrom sparesLeast sparesLimit s at
+  done (record { kind = kind.Spares; count = k .value; first = at + k .size })
+
+-- "Parity: octet 01, octet n, count m"
+unfoldable pub parityAt : List ℕ → ℕ → Answer ExtraHead
+parityAt s at = do
+  one ← octetAt 1 1 s at
+  n ← octetAt coveredLeast coveredLimit s (at + 1)
+  m ← lengthFrom messagesLeast messagesLimit s (at + 2)
+  done (record { kind = kind.Parity (n .value); count = m .value; first = at + 2 + m .size })
+
+-- "Then one octet, 00 for spares or 80 for parity; its low seven bits are zero"
+unfoldable pub extraAt : List ℕ → ℕ → Answer ExtraHead
+extraAt s at =
+    cond (leb (length s) at) (refuseAt at endsEarly)
+    (cond (eqb (getD s at 0 % 0x80) 0)
+    (cond (ltb (getD s at 0) 0x80) (sparesAt s (at + 1)) (parityAt s (at + 1)))
+    (refuseAt at spareBit))
+
+-- a spare is a packet; a message may be empty
+abbrev pub leastOf : Kind → ℕ
+leastOf kind.Spares = packetLeast
+leastOf (kind.Parity n) = messageLeast
+
+abbrev pub mostOf : Kind → ℕ
+mostOf kind.Spares = packetLimit
+mostOf (kind.Parity n) = messageLimit
+
+-- ---- the datagram
+
+-- "Number: two octets, high first"
+unfoldable pub numberOf : List ℕ → Answer ℕ
+numberOf s = cond (ltb (length s) 2) (refuse endsEarly) (done (getD s 0 0 * 256 + getD s 1 0))
+
+-- the spares or messages of a datagram of which all before them is read; 6: "Nothing follows"
+unfoldable pub wholeOf : List ℕ → ℕ → Part → ExtraHead → Answer DatagramParts
+wholeOf s number packet extra = do
+  items ← itemsAt (leastOf (extra .kind)) (mostOf (extra .kind)) s (extra .first) (extra .count)
+  cond (ltb (endOf (extra .first) items) (length s)) (refuseAt (endOf (extra .first) items) leftOver)
+      (done (record { number = number; packet = packet; kind = extra .kind; items = items }))
+
+-- the whole, in reading order
+unfoldable pub readDatagram : List ℕ → Answer DatagramParts
+readDatagram s =
+    cond (ltb datagramLimit (length s)) (refuse tooLong)
+    do
+      number ← numberOf s
+      packet ← itemAt packetLeast packetLimit s 2
+      extra ← extraAt s (after packet)
+      wholeOf s number packet extra
+
+-- ---- what the parts stand for
+
+-- a part's octets
+abbrev pub octetsOf : List ℕ → Part → List ℕ
+octetsOf s p = take (p .size) (drop (p .start) s)
+
+-- what the datagram s carries, of which d was read
+unfoldable pub carriedBy : List ℕ → DatagramParts → Carried
+carriedBy s d =
+    record {
+      number = d .number;
+      packet = octetsOf s (d .packet);
+      extra = extraOf (d .kind) (map (octetsOf s) (d .items));
+    }

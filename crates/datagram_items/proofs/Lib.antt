@@ -1,3 +1,0 @@
-mod PutSteps
-mod ItemSteps
-mod SizeSteps

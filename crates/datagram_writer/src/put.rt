@@ -1,0 +1,190 @@
+// Document 01, 'The datagram', item by item: "each item into the part still free after the last". Each writer writes to the
+// front of the part that it is lent, which its caller has made sure is long enough, and answers how many octets it wrote.
+use datagram::Kind;
+use length::Length;
+use length::Written;
+ghost use Prim.Native.Nat.{_+_, _≤_, _<_};
+ghost use mathlib.Core.Path.{_≡_};
+ghost use mathlib.Core.List.{_++_};
+ghost use lib.ListN.{length};
+ghost use Rattle.length.specs.Length.{lengthOctets, lengthLimit};
+ghost use Rattle.length.specs.Promise.{Put};
+ghost use Rattle.datagram.specs.Write.{numberOctets, itemOctets, itemsOctets, cut, sumOf};
+ghost use Rattle.datagram.specs.Inner.Heads.{LengthSize, KindFits, FrontAsked, sparesHead, parityHead, kindHead, frontOctets, itemSize};
+ghost use Rattle.datagram.specs.Inner.Heads.{itemsSize};
+
+// A length as a size.
+pub fn wide(length: u16) -> usize
+    ensures { λ r. ⌜ r ≡ length ⌝ }
+{
+    length as usize
+}
+
+// ---- the writers
+
+// Some octets as they are.
+pub fn put_octets(octets: &[u8], out: &mut [u8]) -> usize
+    requires { ⌜ length (now octets) ≤ length (now out) ⌝ }
+    ensures { λ r. ⌜ Put (now (octets .entry)) (now (out .entry)) (now (out .exit)) r ⌝ }
+{
+    let mut i = 0;
+    while i < octets.len() {
+        out[i] = octets[i];
+        i += 1;
+    }
+    i
+}
+
+// A length or count. The length writer refuses nothing here: the length has its form, and the part has room.
+pub fn put_length(n: usize, out: &mut [u8]) -> usize
+    requires { ⌜ (n ≤ lengthLimit) × (length (lengthOctets n) ≤ length (now out)) ⌝ }
+    ensures { λ r. ⌜ Put (lengthOctets n) (now (out .entry)) (now (out .exit)) r ⌝ }
+{
+    let written = length_code::write(n, out);
+    match written {
+        Written::Octets(size) => size,
+        Written::Refused(_) => 0,
+    }
+}
+
+// A packet, spare or message: length, octets.
+pub fn put_item(item: &[u8], out: &mut [u8]) -> usize
+    requires { ⌜ (length (now item) ≤ lengthLimit) × (itemSize (length (now item)) ≤ length (now out)) ⌝ }
+    ensures { λ r. ⌜ Put (itemOctets (now (item .entry))) (now (out .entry)) (now (out .exit)) r ⌝ }
+{
+    let at = put_length(item.len(), out);
+    let size = put_octets(item, &mut out[at..]);
+    at + size
+}
+
+// The number: two octets, high first.
+fn put_number(number: u16, out: &mut [u8]) -> usize
+    requires { ⌜ length (numberOctets number) ≤ length (now out) ⌝ }
+    ensures { λ r. ⌜ Put (numberOctets number) (now (out .entry)) (now (out .exit)) r ⌝ }
+{
+    let high = (number / 256) as u8;
+    let low = (number % 256) as u8;
+    let octets = [high, low];
+    put_octets(&octets, out)
+}
+
+// The number and the newest packet.
+fn put_head(number: u16, packet: &[u8], out: &mut [u8]) -> usize
+    requires { ⌜ (length (now packet) ≤ lengthLimit) ×
+        (length (numberOctets number) + itemSize (length (now packet)) ≤ length (now out)) ⌝ }
+    ensures { λ r. ⌜ Put (numberOctets number ++ itemOctets (now (packet .entry))) (now (out .entry)) (now (out .exit)) r ⌝ }
+{
+    let at = put_number(number, out);
+    let size = put_item(packet, &mut out[at..]);
+    at + size
+}
+
+// Octet 00, and how many spares there are.
+fn put_spares(count: usize, out: &mut [u8]) -> usize
+    requires { ⌜ (count ≤ lengthLimit) × (1 + length (lengthOctets count) ≤ length (now out)) ⌝ }
+    ensures { λ r. ⌜ Put (sparesHead count) (now (out .entry)) (now (out .exit)) r ⌝ }
+{
+    let marks = [0u8];
+    let at = put_octets(&marks, out);
+    let size = put_length(count, &mut out[at..]);
+    at + size
+}
+
+// Octet 80, octet 01, octet n, and m, how many messages there are.
+fn put_parity(n: usize, m: usize, out: &mut [u8]) -> usize
+    requires { ⌜ (n < 256) × (m ≤ lengthLimit) × (3 + length (lengthOctets m) ≤ length (now out)) ⌝ }
+    ensures { λ r. ⌜ Put (parityHead n m) (now (out .entry)) (now (out .exit)) r ⌝ }
+{
+    let octet = (n % 256) as u8;
+    let marks = [128u8, 1, octet];
+    let at = put_octets(&marks, out);
+    let size = put_length(m, &mut out[at..]);
+    at + size
+}
+
+// What stands before the spares or messages.
+fn put_kind(kind: Kind, count: usize, out: &mut [u8]) -> usize
+    requires { ⌜ (KindFits kind count) × (length (kindHead kind count) ≤ length (now out)) ⌝ }
+    ensures { λ r. ⌜ Put (kindHead kind count) (now (out .entry)) (now (out .exit)) r ⌝ }
+{
+    match kind {
+        Kind::Spares => put_spares(count, out),
+        Kind::Parity(n) => put_parity(n, count, out),
+    }
+}
+
+// All that stands before the spares or messages: the number, the newest packet, and what a kind has before them.
+pub fn put_front(number: u16, packet: &[u8], kind: Kind, count: usize, out: &mut [u8]) -> usize
+    requires { ⌜ FrontAsked number (now packet) kind count (now out) ⌝ }
+    ensures { λ r. ⌜ Put (frontOctets number (now (packet .entry)) kind count) (now (out .entry)) (now (out .exit)) r ⌝ }
+{
+    let head = put_head(number, packet, out);
+    let before = put_kind(kind, count, &mut out[head..]);
+    head + before
+}
+
+// Spares or messages, each with its length.
+pub fn put_items(lengths: &[u16], data: &[u8], out: &mut [u8]) -> usize
+    requires { ⌜ (sumOf (now lengths) ≡ length (now «data»)) × (length (now «data») ≤ lengthLimit) ×
+        (itemsSize (now lengths) ≤ length (now out)) ⌝ }
+    ensures { λ r. ⌜ Put (itemsOctets (cut (now (lengths .entry)) (now («data» .entry)))) (now (out .entry)) (now (out .exit)) r ⌝ }
+{
+    let mut i = 0;
+    let mut from = 0;
+    let mut at = 0;
+    while i < lengths.len() {
+        let to = from + wide(lengths[i]);
+        let item = &data[from..to];
+        let size = put_item(item, &mut out[at..]);
+        from = to;
+        at += size;
+        i += 1;
+    }
+    at
+}
+
+// ---- how many octets they write
+
+// A length or count.
+pub fn length_size(n: usize) -> usize
+    ensures { λ r. ⌜ LengthSize n r ⌝ }
+{
+    if n < Length::TWO_FROM {
+        return 1;
+    }
+    2
+}
+
+// An item of n octets, with its length.
+pub fn item_size(n: usize) -> usize
+    requires { ⌜ n ≤ lengthLimit ⌝ }
+    ensures { λ r. ⌜ r ≡ itemSize n ⌝ }
+{
+    let size = length_size(n);
+    size + n
+}
+
+// What stands before the spares or messages.
+pub fn kind_size(kind: Kind, count: usize) -> usize
+    ensures { λ r. ⌜ r ≡ length (kindHead kind count) ⌝ }
+{
+    let size = length_size(count);
+    match kind {
+        Kind::Spares => size + 1,
+        Kind::Parity(_) => size + 3,
+    }
+}
+
+// Spares or messages of these lengths.
+pub fn items_size(lengths: &[u16]) -> usize
+    requires { ⌜ sumOf (now lengths) ≤ lengthLimit ⌝ }
+    ensures { λ r. ⌜ r ≡ itemsSize (now (lengths .entry)) ⌝ }
+{
+    let mut size = 0;
+    let mut i = 0;
+    while i < lengths.len() {
+        size += item_size(wide(lengths[i]));
+        i += 1;
+    }
+    size
+}

@@ -1,4 +1,0 @@
-pub mod Rows
-pub mod Eliminated
-pub mod Promise
-pub mod Claims

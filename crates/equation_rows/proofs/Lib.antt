@@ -1,6 +1,0 @@
-pub mod Held
-mod Unknown
-mod Equation
-mod Laying
-pub mod Claims
-pub mod Laws

@@ -1,4 +1,0 @@
-pub mod Equations
-pub mod Solved
-pub mod Claims
-pub mod Cases

@@ -1,2 +1,0 @@
-mod RangeSteps
-mod KeepSteps

@@ -1,5 +1,0 @@
-mod Walk
-mod MessageSteps
-mod ItemSteps
-mod ItemsSteps
-mod NextSteps

@@ -1,4 +1,0 @@
-pub mod Laying
-pub mod Keeping
-pub mod Sparing
-pub mod Holding

@@ -1,0 +1,35 @@
+-- The claims of this crate, and the words that they are said in.
+use Prim.Native.Nat.{ℕ, _≤_, _<_}
+use mathlib.Core.Path.{_≡_}
+use mathlib.Core.List.{List, _++_}
+use lib.ListN.{length, getD, take}
+use Rattle.length.specs.Answers.{Answer, done, LengthAnswer}
+use Rattle.length.specs.Length.{lengthAt, lengthOctets, lengthLimit}
+use Rattle.length.specs.Promise.{LengthRead, WithinRead, Puts}
+use Rattle.length.specs.declared.Length.{Length}
+use Rattle.length.specs.declared.Written.{Written}
+
+-- every element of a list is an octet
+abbrev pub Octets : List ℕ → Type 0
+Octets s = (i : ℕ) → getD s i 0 < 256
+
+-- a length that was written reads back to the same value and size, whatever follows it
+abbrev pub WrittenReads : Type 0
+WrittenReads = (n : ℕ) (rest : List ℕ) → n ≤ lengthLimit
+    → lengthAt (lengthOctets n ++ rest) ≡ done (record { value = n; size = length (lengthOctets n) })
+
+-- a length that was read writes back to the same octets
+abbrev pub ReadWrites : Type 0
+ReadWrites = (s : List ℕ) (a : LengthAnswer) → Octets s → lengthAt s ≡ done a → lengthOctets (a .value) ≡ take (a .size) s
+
+-- two outcomes that a promise allows are equal
+pub record OneOutcome : Type 0 where
+  pub read : {s : List ℕ} {r q : Length} → LengthRead s r → LengthRead s q → r ≡ q
+  pub readWithin : {least most : ℕ} {s : List ℕ} {r q : Length} → WithinRead least most s r → WithinRead least most s q → r ≡ q
+  pub written : {w : Answer (List ℕ)} {old new other : List ℕ} {r q : Written}
+      → Puts w old new r → Puts w old other q → (r ≡ q) × (new ≡ other)
+
+pub record Claims : Type 0 where
+  pub writtenReads : WrittenReads
+  pub readWrites : ReadWrites
+  pub oneOutcome : OneOutcome

@@ -1,0 +1,2 @@
+mod ReaderSteps
+mod WriterSteps

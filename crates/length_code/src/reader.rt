@@ -1,0 +1,46 @@
+// The length reader: document 01, 'The datagram', as `length` defines it.
+use length::Length;
+use length::Refusal;
+use length::wide;
+use length::within;
+ghost use Rattle.length.specs.Promise.{LengthRead, WithinRead};
+
+// The length or count at the front of s.
+pub fn read(s: &[u8]) -> Length
+    ensures { λ r. ⌜ LengthRead (now (s .entry)) r ⌝ }
+{
+    if s.len() < 1 {
+        return Length::Refused(Refusal::new(Refusal::ENDS_EARLY));
+    }
+    let first = wide(s[0]);
+    if first < Length::TWO_FROM {
+        return Length::Value(first, 1);
+    }
+    if 192 <= first {
+        return Length::Refused(Refusal::new(Refusal::BAD_FORM));
+    }
+    if s.len() < 2 {
+        return Length::Refused(Refusal::new(Refusal::ENDS_EARLY));
+    }
+    let second = wide(s[1]);
+    let high = (first - 128) * 256;
+    let value = high + second;
+    if value < Length::TWO_FROM {
+        return Length::Refused(Refusal::new(Refusal::BAD_FORM));
+    }
+    Length::Value(value, 2)
+}
+
+// The length or count at the front of s, from least to most.
+pub fn read_within(s: &[u8], least: usize, most: usize) -> Length
+    ensures { λ r. ⌜ WithinRead least most (now (s .entry)) r ⌝ }
+{
+    let found = read(s);
+    let Length::Value(value, size) = found else {
+        return found;
+    };
+    if within(least, most, value) {
+        return Length::Value(value, size);
+    }
+    Length::Refused(Refusal::new(Refusal::OUTSIDE_SIZES))
+}

@@ -1,3 +1,0 @@
-mod FeedSteps
-mod FeedTurn
-mod FeedLoop

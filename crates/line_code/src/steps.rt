@@ -1,0 +1,119 @@
+// One line of the program: its answer, then all releases. Base and counts go by value, all else of the session and the buffers are
+// lent: no range is checked and nothing copied for each line. These functions require the session's ranges and keep them.
+use crate::releasing::releases;
+use crate::results::put_refusal;
+use datagram::Datagram;
+use length::Written;
+use line::Stepped;
+use line_hex::hex_to_octets;
+use session_held::Counts;
+use session_held::Session;
+use session_offer::Offered;
+ghost use mathlib.Core.Path.{_≡_};
+ghost use Prim.Native.Nat.{_+_, _≤_};
+ghost use lib.ListN.{length};
+ghost use Rattle.session.specs.Offer.{offer};
+ghost use Rattle.session_held.specs.Table.{lent, viewIn};
+ghost use Rattle.session_held.specs.Laid.{InRanges};
+ghost use Rattle.line.specs.Lines.{offerMade, offerLine, step as wholeStep};
+ghost use Rattle.line.specs.Promise.{Does, Able, resultLimit, stepLimit};
+ghost use Rattle.line_code.specs.Turns.{ownAnswer, turnsAfter};
+
+// Octets offered: a line for a refusal alone. Base and counts stay as they are.
+fn offer_octets(
+    base: u16,
+    counts: Counts,
+    t: &mut [u16; Session::PLACES],
+    o: &mut [u8; Session::PACKET_OCTETS],
+    g: &mut [u8; Session::MESSAGE_OCTETS],
+    octets: &[u8],
+    out: &mut [u8],
+    at: usize,
+) -> usize
+    requires { ⌜ InRanges (lent base counts (now t) (now o) (now g)) ⌝ }
+    requires { ⌜ at + resultLimit ≤ length (now out) ⌝ }
+    ensures { λ r. ⌜ Does (offerMade (offer (now (octets .entry))
+        (viewIn (lent base counts (now (t .entry)) (now (o .entry)) (now (g .entry)))))
+        (viewIn (lent base counts (now (t .entry)) (now (o .entry)) (now (g .entry))))) (now (out .entry)) at
+        (lent base counts (now (t .exit)) (now (o .exit)) (now (g .exit))) r (now (out .exit)) ⌝ }
+{
+    let answer = session_offer::offer_core(base, counts, t, o, g, octets);
+    match answer {
+        Offered::Accepted => at,
+        Offered::Refused(why) => put_refusal(why, out, at),
+    }
+}
+
+// "one datagram a line": its octets are offered.
+fn offer_line(
+    base: u16,
+    counts: Counts,
+    t: &mut [u16; Session::PLACES],
+    o: &mut [u8; Session::PACKET_OCTETS],
+    g: &mut [u8; Session::MESSAGE_OCTETS],
+    line: &[u8],
+    out: &mut [u8],
+    at: usize,
+) -> usize
+    requires { ⌜ Able resultLimit (lent base counts (now t) (now o) (now g)) (now out) at ⌝ }
+    ensures { λ r. ⌜ Does (offerLine (now (line .entry)) (viewIn (lent base counts (now (t .entry)) (now (o .entry)) (now (g .entry)))))
+        (now (out .entry)) at (lent base counts (now (t .exit)) (now (o .exit)) (now (g .exit))) r (now (out .exit)) ⌝ }
+{
+    let mut work = [0u8; Datagram::LIMIT];
+    let read = hex_to_octets(line, &mut work);
+    match read {
+        Written::Octets(size) => offer_octets(base, counts, t, o, g, &work[..size], out, at),
+        Written::Refused(why) => put_refusal(why, out, at),
+    }
+}
+
+// A line's own answer: an empty one has none, since its first turn of releasing is "one give-up".
+fn own_answer(
+    base: u16,
+    counts: Counts,
+    t: &mut [u16; Session::PLACES],
+    o: &mut [u8; Session::PACKET_OCTETS],
+    g: &mut [u8; Session::MESSAGE_OCTETS],
+    line: &[u8],
+    out: &mut [u8],
+    at: usize,
+) -> usize
+    requires { ⌜ Able resultLimit (lent base counts (now t) (now o) (now g)) (now out) at ⌝ }
+    ensures { λ r. ⌜ Does (ownAnswer (now (line .entry)) (viewIn (lent base counts (now (t .entry)) (now (o .entry)) (now (g .entry)))))
+        (now (out .entry)) at (lent base counts (now (t .exit)) (now (o .exit)) (now (g .exit))) r (now (out .exit)) ⌝ }
+{
+    if line.len() == 0 {
+        return at;
+    }
+    offer_line(base, counts, t, o, g, line, out, at)
+}
+
+// The turns of releasing after a line.
+fn turns_after(line: &[u8]) -> usize
+    ensures { λ r. ⌜ r ≡ turnsAfter (now (line .entry)) ⌝ }
+{
+    if line.len() == 0 {
+        return Session::HEARD + 1;
+    }
+    Session::HEARD
+}
+
+// One line: its answer, then releases. "An empty line is one give-up, then releases."
+pub fn step(
+    base: u16,
+    counts: Counts,
+    t: &mut [u16; Session::PLACES],
+    o: &mut [u8; Session::PACKET_OCTETS],
+    g: &mut [u8; Session::MESSAGE_OCTETS],
+    line: &[u8],
+    out: &mut [u8],
+    at: usize,
+) -> Stepped
+    requires { ⌜ Able stepLimit (lent base counts (now t) (now o) (now g)) (now out) at ⌝ }
+    ensures { λ r. ⌜ Does (wholeStep (now (line .entry)) (viewIn (lent base counts (now (t .entry)) (now (o .entry)) (now (g .entry)))))
+        (now (out .entry)) at (lent (r .base) (r .counts) (now (t .exit)) (now (o .exit)) (now (g .exit))) (r .end) (now (out .exit)) ⌝ }
+{
+    let end = own_answer(base, counts, t, o, g, line, out, at);
+    let turns = turns_after(line);
+    releases(base, counts, t, o, g, turns, out, end)
+}

@@ -1,4 +1,0 @@
-pub mod First
-pub mod Sums
-pub mod Systems
-pub mod Claims

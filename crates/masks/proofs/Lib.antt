@@ -1,6 +1,0 @@
-mod Bits
-mod Powers
-mod Places
-mod Back
-pub mod Laws
-pub mod Claims

@@ -1,0 +1,21 @@
+-- `octets::put_one` meets its contract. Assumes nothing.
+use native.Mathlib.Omega.{arith}
+use Rattle.octets.proofs.Turns.{spells-one}
+use borrow.Author.Needs.{needs}
+use Rattle.octets.proofs.put_one.Statement.{statement}
+use Rattle.octets.proofs.put_one.Tie as tie
+
+cast-s : tie.Need-cast-s
+cast-s c = search needs
+
+slice-write-s : tie.Need-slice-write-s
+slice-write-s c = search needs
+
+same-length : tie.Need-same-length
+same-length c = search needs
+
+returns : tie.Need-returns
+returns c = spells-one _ _ _ (omega arith) (c .pre .1)
+
+pub put-one-spec : {M : Type 1} → statement M
+put-one-spec = tie.close (tie.spec cast-s slice-write-s same-length returns)

@@ -1,0 +1,40 @@
+-- Words: some octets as one number, the first the lowest; and the exclusive or of two runs of octets. Definitions only.
+use Prim.Native.Nat.{ℕ, zero, suc, _+_, _*_, _^_, _≤_, _<_}
+use mathlib.Core.Path.{_≡_}
+use mathlib.Core.List.{List}
+use lib.ListN.{length, getD}
+use lib.Bits.{bitXor}
+use Rattle.octets.specs.Place.{tab}
+
+-- the n octets from a place on, as a number
+unfoldable pub wordOf : ℕ → List ℕ → ℕ → ℕ
+wordOf zero s at = 0
+wordOf (suc n) s at = getD s at 0 + 256 * wordOf n s (suc at)
+
+-- the n octets from a place on are octets
+abbrev pub OctetsAt : ℕ → List ℕ → ℕ → Type 0
+OctetsAt n s at = (j : ℕ) → at ≤ j → j < at + n → getD s j 0 < 256
+
+-- n octets are read as a number
+pub record Reads (n : ℕ) (s : List ℕ) (at r : ℕ) : Type 0 where
+  pub number : r ≡ wordOf n s at
+  pub below : r < 256 ^ n
+  pub octets : OctetsAt n s at
+
+-- a number is written as n octets, and all others stay
+pub record Spells (n w : ℕ) (old : List ℕ) (at : ℕ) (new : List ℕ) : Type 0 where
+  pub number : wordOf n new at ≡ w
+  pub octets : OctetsAt n new at
+  pub before : (j : ℕ) → j < at → getD new j 0 ≡ getD old j 0
+  pub past : (j : ℕ) → at + n ≤ j → getD new j 0 ≡ getD old j 0
+  pub long : length new ≡ length old
+
+-- the exclusive or of two runs, octet by octet
+unfoldable pub both : List ℕ → List ℕ → List ℕ
+both src sum = tab (length sum) (λ j. bitXor (getD sum j 0) (getD src j 0))
+
+-- the first k octets are added, the others are as they were
+pub record AddsTo (src start sum : List ℕ) (k : ℕ) : Type 0 where
+  pub added : (j : ℕ) → j < k → getD sum j 0 ≡ bitXor (getD start j 0) (getD src j 0)
+  pub rest : (j : ℕ) → k ≤ j → getD sum j 0 ≡ getD start j 0
+  pub long : length sum ≡ length start

@@ -1,4 +1,0 @@
-mod Known
-mod Accepting
-mod Offering
-pub mod Laws

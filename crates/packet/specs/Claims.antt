@@ -1,0 +1,105 @@
+-- The claims of this crate, and the words that they are said in.
+use Prim.Native.Nat.{ℕ, _+_, _≤_, _<_}
+use mathlib.Core.Path.{_≡_}
+use mathlib.Core.Logic.{_↔_}
+use mathlib.Core.List.{List, [], _++_, map}
+use lib.ListN.{length, getD, replicate}
+use Rattle.length.specs.Answers.{Answer, done}
+use Rattle.length.specs.Claims.{Octets}
+use Rattle.datagram.specs.Sizes.{packetLimit}
+use Rattle.packet.specs.Edition.{Edition, SoundEdition, edition98, edition02}
+use Rattle.packet.specs.Packet.{manyValues, noField, allData, readPacket, PacketAnswer}
+use Rattle.packet.specs.Write.{packetToWrite}
+use Rattle.packet.specs.Promise.{PacketTold}
+use Rattle.packet.specs.Cases.{ReadCases, WriteCases}
+use Rattle.packet.specs.NewCases.{NewReadCases, NewWriteCases}
+use Rattle.packet.specs.declared.types.PacketKind.{PacketKind}
+use Rattle.packet.specs.declared.types.Ending.{Ending}
+use Rattle.packet.specs.declared.types.Ending.the-variants.{Whole, Repaired}
+use Rattle.packet.specs.declared.types.PacketRead.{PacketRead}
+
+-- some octets, read by this edition and with this ending, are a packet of this kind and value, with fields of these types and lengths and,
+-- one after the other, this data
+pub record PacketReadsAs (edition : Edition) (ending : Ending) (s : List ℕ) (kind : PacketKind) (value : ℕ) (types lengths octets : List ℕ)
+    : Type 0 where
+  pub packet : PacketAnswer
+  pub reads : readPacket edition ending s ≡ done packet
+  pub kindSame : packet .kind ≡ kind
+  pub valueSame : packet .value ≡ value
+  pub typesSame : map (λ f. f .kind) (packet .fields) ≡ types
+  pub lengthsSame : map (λ f. f .size) (packet .fields) ≡ lengths
+  pub octetsSame : allData s (packet .fields) ≡ octets
+
+-- what is written reads back, as received
+abbrev pub WrittenReads : Type 0
+WrittenReads = (edition : Edition) → SoundEdition edition
+    → (kind : PacketKind) (value : ℕ) (types lengths octets w : List ℕ)
+    → packetToWrite edition kind value types lengths octets ≡ done w
+    → PacketReadsAs edition Whole w kind value types lengths octets
+
+-- and as repaired, with any zeros after it that the packet limit leaves room for
+abbrev pub RepairedReads : Type 0
+RepairedReads = (edition : Edition) → SoundEdition edition
+    → (kind : PacketKind) (value : ℕ) (types lengths octets w : List ℕ) (n : ℕ)
+    → packetToWrite edition kind value types lengths octets ≡ done w
+    → length w + n ≤ packetLimit
+    → PacketReadsAs edition Repaired (w ++ replicate n 0) kind value types lengths octets
+
+-- what reads as received writes back to the same octets
+abbrev pub ReadWrites : Type 0
+ReadWrites = (edition : Edition) (s : List ℕ) (p : PacketAnswer)
+    → Octets s
+    → readPacket edition Whole s ≡ done p
+    → packetToWrite edition (p .kind) (p .value) (map (λ f. f .kind) (p .fields)) (map (λ f. f .size) (p .fields))
+    (allData s (p .fields))
+    ≡ done s
+
+-- the parts of a packet that reads lie within its octets
+abbrev pub PartsWithin : Type 0
+PartsWithin = (edition : Edition) (ending : Ending) (s : List ℕ) (p : PacketAnswer)
+    → readPacket edition ending s ≡ done p
+    → (i : ℕ)
+    → getD (p .fields) i noField .start + getD (p .fields) i noField .size ≤ length s
+
+-- a repaired packet reads the same with any more zeros after it that the packet limit leaves room for
+abbrev pub ZerosFollow : Type 0
+ZerosFollow = (edition : Edition) (s : List ℕ) (p : PacketAnswer) (n : ℕ)
+    → readPacket edition Repaired s ≡ done p
+    → length s + n ≤ packetLimit
+    → readPacket edition Repaired (s ++ replicate n 0) ≡ done p
+
+-- so what it reads as does not depend on how many zeros follow
+abbrev pub ZerosAlike : Type 0
+ZerosAlike = (edition : Edition) (s : List ℕ) (p q : PacketAnswer) (n m : ℕ)
+    → readPacket edition Repaired (s ++ replicate n 0) ≡ done p
+    → readPacket edition Repaired (s ++ replicate m 0) ≡ done q
+    → p ≡ q
+
+-- a packet without fields and without an added value is the same in both editions. With fields it need not be: their headers are four bits
+-- wide in one and five in the other, and the same octets may say something else (`old-type` and `new-type` of `NewCases`)
+abbrev pub PlainAlike : Type 0
+PlainAlike = (ending : Ending) (s : List ℕ) (p : PacketAnswer)
+    → p .fields ≡ []
+    → p .value < manyValues edition98 (p .kind)
+    → (readPacket edition98 ending s ≡ done p) ↔ (readPacket edition02 ending s ≡ done p)
+
+-- two outcomes that a promise allows are equal
+pub record OneOutcome : Type 0 where
+  pub read : {due : Answer PacketAnswer} {r q : PacketRead} → PacketTold due r → PacketTold due q → r ≡ q
+
+-- of every edition whose values can be told apart, as those of both can
+pub record Claims : Type 0 where
+  pub sound98 : SoundEdition edition98
+  pub sound02 : SoundEdition edition02
+  pub writtenReads : WrittenReads
+  pub repairedReads : RepairedReads
+  pub readWrites : ReadWrites
+  pub partsWithin : PartsWithin
+  pub zerosFollow : ZerosFollow
+  pub zerosAlike : ZerosAlike
+  pub plainAlike : PlainAlike
+  pub oneOutcome : OneOutcome
+  pub readCases : ReadCases
+  pub writeCases : WriteCases
+  pub newReadCases : NewReadCases
+  pub newWriteCases : NewWriteCases

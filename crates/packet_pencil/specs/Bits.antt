@@ -1,0 +1,58 @@
+-- What the readers of bits owe: what the description's readers find. Definitions only.
+use Prim.Native.Nat.{ℕ, _+_, _%_}
+use mathlib.Core.Path.{_≡_}
+use mathlib.Core.Bool.{Bool}
+use mathlib.Core.List.{List}
+use Rattle.format.specs.Reading.{Finding, found, stopped}
+use Rattle.format.specs.Reading as reading
+use Rattle.format.specs.Places.{Place}
+use Rattle.packet_pencil.specs.declared.bits.Number.{Number}
+use Rattle.packet_pencil.specs.declared.bits.Number.the-variants as number
+use Rattle.packet_pencil.specs.declared.bits.Marked.{Marked}
+use Rattle.packet_pencil.specs.declared.bits.Marked.the-variants as flag
+use Rattle.packet_pencil.specs.declared.bits.Edge.{Edge}
+use Rattle.packet_pencil.specs.declared.bits.Edge.the-variants as edge
+
+-- what was found, as something else
+abbrev pub foundAs : {A B : Type 0} → (A → B) → Finding A → Finding B
+foundAs f (found a p) = found (f a) p
+foundAs f (stopped r) = stopped r
+
+-- each answer as a finding of the description
+abbrev pub numberFound : Number → Finding ℕ
+numberFound (number.Found v p) = found v p
+numberFound (number.Refused r) = stopped r
+
+abbrev pub flagFound : Marked → Finding Bool
+flagFound (flag.Found b p) = found b p
+flagFound (flag.Refused r) = stopped r
+
+abbrev pub edgeFound : Edge → Finding (Unit {0})
+edgeFound (edge.Found p) = found tt p
+edgeFound (edge.Refused r) = stopped r
+
+-- so many bits were taken
+abbrev pub Past : ℕ → Place → Number → Type 0
+Past n p (number.Found v q) = q ≡ p + n
+Past n p (number.Refused r) = Unit {0}
+
+-- inside the item that begins at the octet i
+pub record BitTaken (s : List ℕ) (i : ℕ) (p : Place) (r : Number) : Type 0 where
+  pub answer : reading.bit s i p ≡ numberFound r
+  pub past : Past 1 p r
+
+pub record BitsTaken (n : ℕ) (s : List ℕ) (i : ℕ) (p : Place) (r : Number) : Type 0 where
+  pub answer : reading.bits n s i p ≡ numberFound r
+  pub past : Past n p r
+
+pub record FlagTaken (s : List ℕ) (i : ℕ) (p : Place) (r : Marked) : Type 0 where
+  pub answer : reading.flag s i p ≡ flagFound r
+
+abbrev pub OnEdge : Edge → Type 0
+OnEdge (edge.Found q) = q % 8 ≡ 0
+OnEdge (edge.Refused r) = Unit {0}
+
+-- an item of its own, inside whatever item
+pub record EdgeTaken (s : List ℕ) (p : Place) (r : Edge) : Type 0 where
+  pub answer : (i : ℕ) → reading.align s i p ≡ edgeFound r
+  pub on : OnEdge r

@@ -1,0 +1,84 @@
+-- What the readers of Annex A's small productions owe: what the description finds there. Definitions only.
+use Prim.Native.Nat.{ℕ, _+_, _/_, _%_, _≤_, _<_}
+use mathlib.Core.Path.{_≡_}
+use mathlib.Core.List.{List}
+use lib.ListN.{length, drop}
+use lib.Dec.{ltb}
+use Rattle.length.specs.Refusals.{notAssigned}
+use Rattle.format.specs.Reading.{Finding, found, stopped}
+use Rattle.format.specs.Places.{Place}
+use Rattle.format.specs.Format.{Format, bits, guarded}
+use Rattle.datagram.specs.Sizes.{packetLimit}
+use Rattle.packet.specs.Edition.{many, addedWidth}
+use Rattle.packet.specs.Packet.{fieldsLimit}
+use Rattle.packet.specs.Packet as description
+use Rattle.packet.specs.declared.types.Enumerated.{Enumerated}
+use Rattle.packet_pencil.specs.Bits.{numberFound, foundAs}
+use Rattle.packet_pencil.specs.declared.bits.Number.{Number}
+use Rattle.packet_pencil.specs.declared.bits.Number.the-variants as number
+use Rattle.packet_pencil.specs.declared.items.Part.{Part}
+use Rattle.packet_pencil.specs.declared.items.Part.the-variants as part
+
+-- a number that was found lies below a limit
+abbrev pub Below : ℕ → Number → Type 0
+Below limit (number.Found v p) = v < limit
+Below limit (number.Refused r) = Unit {0}
+
+-- a value before the extension mark
+pub record RootTaken (e : Enumerated) (s : List ℕ) (i : ℕ) (p : Place) (r : Number) : Type 0 where
+  pub answer : description.root e .read s i p ≡ numberFound r
+  pub small : Below (many e) r
+
+-- which of the added values, in their six bits
+abbrev pub six : Enumerated → Format ℕ
+six e = guarded notAssigned (λ v. ltb v (e .added)) (bits addedWidth)
+
+-- an added value, from them on
+pub record AddedTaken (e : Enumerated) (s : List ℕ) (i : ℕ) (p : Place) (r : Number) : Type 0 where
+  pub answer : foundAs (λ v. e .assigned + v) (six e .read s i p) ≡ numberFound r
+  pub small : Below (many e) r
+
+-- and from behind the bit for extension
+pub record AdditionTaken (e : Enumerated) (s : List ℕ) (i : ℕ) (p : Place) (r : Number) : Type 0 where
+  pub answer : description.addition e .read s i p ≡ numberFound r
+  pub small : Below (many e) r
+
+-- a value, which is one of those that there are
+pub record ValueTaken (e : Enumerated) (s : List ℕ) (i : ℕ) (p : Place) (r : Number) : Type 0 where
+  pub answer : description.enumerated e .read s i p ≡ numberFound r
+  pub small : Below (many e) r
+
+-- the octet at a place, past the end the end: what stands from there on is the same
+pub record OctetTaken (s : List ℕ) (p : Place) (r : ℕ) : Type 0 where
+  pub inside : r ≤ length s
+  pub rest : drop r s ≡ drop (p / 8) s
+
+-- as many fields as a packet may have at the most
+pub record CountTaken (s : List ℕ) (p : Place) (r : Number) : Type 0 where
+  pub answer : (i : ℕ) → description.count .read s i p ≡ numberFound r
+  pub small : Below (1 + fieldsLimit) r
+
+-- a length that was found is that of some data, fits a packet, and ends at an octet edge
+pub record DataLength (n : ℕ) (q : Place) : Type 0 where
+  pub some : 1 ≤ n
+  pub few : n ≤ packetLimit
+  pub on : q % 8 ≡ 0
+
+abbrev pub RightLength : Number → Type 0
+RightLength (number.Found n q) = DataLength n q
+RightLength (number.Refused r) = Unit {0}
+
+pub record SizeTaken (s : List ℕ) (p : Place) (r : Number) : Type 0 where
+  pub answer : (i : ℕ) → description.size .read s i p ≡ numberFound r
+  pub sized : RightLength r
+
+-- data, told by where it begins and how long it is
+abbrev pub partOf : ℕ × List ℕ → ℕ × ℕ
+partOf x = (x .0, length (x .1))
+
+abbrev pub partFound : Part → Finding (ℕ × ℕ)
+partFound (part.Found start size p) = found (start, size) p
+partFound (part.Refused r) = stopped r
+
+pub record PartTaken (s : List ℕ) (p : Place) (r : Part) : Type 0 where
+  pub answer : (i : ℕ) → foundAs partOf (description.fieldData .read s i p) ≡ partFound r

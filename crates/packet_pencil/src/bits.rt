@@ -1,0 +1,96 @@
+// Bits, one at a time, the highest of an octet first, as X.691's aligned rules take them. A place is a number of bits, and an item is the
+// octet at which the item begins that they belong to: a refusal is given there.
+use length::Refusal;
+use length::wide;
+ghost use Prim.Native.Nat.{_≤_};
+ghost use lib.ListN.{length};
+ghost use Rattle.datagram.specs.Sizes.{packetLimit};
+ghost use Rattle.packet_pencil.specs.Bits.{BitTaken, BitsTaken, FlagTaken, EdgeTaken};
+
+// A number, and the place after it.
+pub enum Number {
+    Found(usize, usize),
+    Refused(Refusal),
+}
+
+// A flag, and the place after it.
+pub enum Marked {
+    Found(bool, usize),
+    Refused(Refusal),
+}
+
+// An octet edge.
+pub enum Edge {
+    Found(usize),
+    Refused(Refusal),
+}
+
+// The bit at a place.
+pub fn bit(s: &[u8], item: usize, at: usize) -> Number
+    requires { ⌜ length (now s) ≤ packetLimit ⌝ }
+    ensures { λ r. ⌜ BitTaken (now (s .entry)) item at r ⌝ }
+{
+    if s.len() <= at / 8 {
+        return Number::Refused(Refusal::at(Refusal::ENDS_EARLY, item));
+    }
+    let octet = wide(s[at / 8]);
+    let from_top = octet >> (7 - at % 8);
+    let value = from_top % 2;
+    let next = at + 1;
+    Number::Found(value, next)
+}
+
+// The number in so many bits from a place on.
+pub fn bits(s: &[u8], item: usize, at: usize, n: usize) -> Number
+    requires { ⌜ (length (now s) ≤ packetLimit) × (n ≤ 16) ⌝ }
+    ensures { λ r. ⌜ BitsTaken n (now (s .entry)) item at r ⌝ }
+{
+    let mut value: usize = 0;
+    let mut next = at;
+    let mut k: usize = 0;
+    while k < n {
+        match bit(s, item, next) {
+            Number::Refused(refusal) => {
+                return Number::Refused(refusal);
+            }
+            Number::Found(one, after) => {
+                value = value * 2 + one;
+                next = after;
+                k += 1;
+            }
+        }
+    }
+    Number::Found(value, next)
+}
+
+// One bit as a flag.
+pub fn flag(s: &[u8], item: usize, at: usize) -> Marked
+    requires { ⌜ length (now s) ≤ packetLimit ⌝ }
+    ensures { λ r. ⌜ FlagTaken (now (s .entry)) item at r ⌝ }
+{
+    match bit(s, item, at) {
+        Number::Refused(refusal) => Marked::Refused(refusal),
+        Number::Found(one, next) => {
+            let set = 0 < one;
+            Marked::Found(set, next)
+        }
+    }
+}
+
+// To an octet edge, by zero bits, which are an item.
+pub fn align(s: &[u8], at: usize) -> Edge
+    requires { ⌜ length (now s) ≤ packetLimit ⌝ }
+    ensures { λ r. ⌜ EdgeTaken (now (s .entry)) at r ⌝ }
+{
+    let gap = (8 - at % 8) % 8;
+    let item = at / 8;
+    match bits(s, item, at, gap) {
+        Number::Refused(refusal) => Edge::Refused(refusal),
+        Number::Found(value, next) => {
+            if value == 0 {
+                return Edge::Found(next);
+            }
+            Edge::Refused(Refusal::at(Refusal::SPARE_BIT, item))
+        }
+    }
+}

@@ -1,0 +1,205 @@
+// Annex A's small productions, each at its place: a value of an ENUMERATED type, a length of one or two octets, octets as they are.
+use crate::bits::Edge;
+use crate::bits::Marked;
+use crate::bits::Number;
+use crate::bits::align;
+use crate::bits::bits;
+use crate::bits::flag;
+use datagram::Packet;
+use length::Length;
+use length::Refusal;
+use length::wide;
+use packet::Enumerated;
+use packet::Field;
+use packet::Named;
+use packet::PacketKind;
+ghost use Prim.Native.Nat.{_≤_};
+ghost use lib.ListN.{length};
+ghost use Rattle.datagram.specs.Sizes.{packetLimit};
+ghost use Rattle.packet.specs.Edition.{editionOf};
+ghost use Rattle.packet_laws.specs.Octets.{Narrow};
+ghost use Rattle.packet_pencil.specs.Items.{RootTaken, AddedTaken, AdditionTaken, ValueTaken};
+ghost use Rattle.packet_pencil.specs.Items.{OctetTaken, CountTaken, SizeTaken, PartTaken};
+
+// In how many bits an added value is told.
+const ADDED_WIDTH: usize = 6;
+
+// Where a field's data begins, how many octets it has, and the place after it.
+pub enum Part {
+    Found(usize, usize, usize),
+    Refused(Refusal),
+}
+
+// One of the values before the extension mark, in as many bits as they have.
+fn root(s: &[u8], item: usize, at: usize, values: Enumerated) -> Number
+    requires { ⌜ (length (now s) ≤ packetLimit) × Narrow values ⌝ }
+    ensures { λ r. ⌜ RootTaken values (now (s .entry)) item at r ⌝ }
+{
+    match bits(s, item, at, values.width) {
+        Number::Refused(refusal) => Number::Refused(refusal),
+        Number::Found(value, next) => {
+            if value < values.assigned {
+                return Number::Found(value, next);
+            }
+            Number::Refused(Refusal::at(Refusal::NOT_ASSIGNED, item))
+        }
+    }
+}
+
+// Which of the added values, in six bits counted from zero.
+fn counted(s: &[u8], item: usize, at: usize, values: Enumerated) -> Number
+    requires { ⌜ (length (now s) ≤ packetLimit) × Narrow values ⌝ }
+    ensures { λ r. ⌜ AddedTaken values (now (s .entry)) item at r ⌝ }
+{
+    match bits(s, item, at, ADDED_WIDTH) {
+        Number::Refused(refusal) => Number::Refused(refusal),
+        Number::Found(which, next) => {
+            if which < values.added {
+                let value = values.assigned + which;
+                return Number::Found(value, next);
+            }
+            Number::Refused(Refusal::at(Refusal::NOT_ASSIGNED, item))
+        }
+    }
+}
+
+// One of the values added after the extension mark, if there are any, behind the 1 bit for extension: one 0 bit, then which of them.
+fn addition(s: &[u8], item: usize, at: usize, values: Enumerated) -> Number
+    requires { ⌜ (length (now s) ≤ packetLimit) × Narrow values ⌝ }
+    ensures { λ r. ⌜ AdditionTaken values (now (s .entry)) item at r ⌝ }
+{
+    if values.added == 0 {
+        return Number::Refused(Refusal::at(Refusal::NOT_ASSIGNED, item));
+    }
+    match flag(s, item, at) {
+        Marked::Refused(refusal) => Number::Refused(refusal),
+        Marked::Found(large, next) => {
+            if large {
+                return Number::Refused(Refusal::at(Refusal::NOT_ASSIGNED, item));
+            }
+            counted(s, item, next, values)
+        }
+    }
+}
+
+// ENUMERATED { .., ..., .. }: where there is an extension mark, the bit for extension; then a value before the mark or after it.
+fn enumerated(s: &[u8], item: usize, at: usize, values: Enumerated) -> Number
+    requires { ⌜ (length (now s) ≤ packetLimit) × Narrow values ⌝ }
+    ensures { λ r. ⌜ ValueTaken values (now (s .entry)) item at r ⌝ }
+{
+    if !values.extensible {
+        return root(s, item, at, values);
+    }
+    match flag(s, item, at) {
+        Marked::Refused(refusal) => Number::Refused(refusal),
+        Marked::Found(extended, next) => {
+            if extended {
+                return addition(s, item, next, values);
+            }
+            root(s, item, next, values)
+        }
+    }
+}
+
+// 06/98: t30-indicator ENUMERATED { no-signal, .. v17-14400-long-training, ... }
+// 2002:  t30-indicator ENUMERATED { no-signal, .. v17-14400-long-training, ..., v8-ansam, v8-signal, v34-cntl-channel-1200,
+//            v34-pri-channel, v34-CC-retrain, v33-12000-training, v33-14400-training }
+pub fn t30_indicator(named: Named, s: &[u8], item: usize, at: usize) -> Number
+    requires { ⌜ length (now s) ≤ packetLimit ⌝ }
+    ensures { λ r. ⌜ ValueTaken (editionOf named .indicators) (now (s .entry)) item at r ⌝ }
+{
+    let values = packet_rules::values(named, PacketKind::Indicator);
+    enumerated(s, item, at, values)
+}
+
+// 06/98: data ENUMERATED { v21, .. v17-14400, ... }
+// 2002:  t30-data ENUMERATED { v21, .. v17-14400, ..., v8, v34-pri-rate, v34-CC-1200, v34-pri-ch, v33-12000, v33-14400 }
+pub fn t30_data(named: Named, s: &[u8], item: usize, at: usize) -> Number
+    requires { ⌜ length (now s) ≤ packetLimit ⌝ }
+    ensures { λ r. ⌜ ValueTaken (editionOf named .kinds) (now (s .entry)) item at r ⌝ }
+{
+    let values = packet_rules::values(named, PacketKind::Data);
+    enumerated(s, item, at, values)
+}
+
+// 06/98: field-type ENUMERATED { hdlc-data, .. t4-non-ecm-sig-end }
+// 2002:  field-type ENUMERATED { hdlc-data, .. t4-non-ecm-sig-end, ..., cm-message, jm-message, ci-message, v34rate }
+pub fn field_type(named: Named, s: &[u8], item: usize, at: usize) -> Number
+    requires { ⌜ length (now s) ≤ packetLimit ⌝ }
+    ensures { λ r. ⌜ ValueTaken (editionOf named .types) (now (s .entry)) item at r ⌝ }
+{
+    let values = packet_rules::types(named);
+    enumerated(s, item, at, values)
+}
+
+// The octet at a place; past the end, the end.
+pub fn octet(s: &[u8], at: usize) -> usize
+    ensures { λ r. ⌜ OctetTaken (now (s .entry)) at r ⌝ }
+{
+    let whole = at / 8;
+    if s.len() < whole {
+        return s.len();
+    }
+    whole
+}
+
+// The count of fields of a SEQUENCE OF, 1 to 16, by the length rule.
+pub fn count(s: &[u8], at: usize) -> Number
+    requires { ⌜ length (now s) ≤ packetLimit ⌝ }
+    ensures { λ r. ⌜ CountTaken (now (s .entry)) at r ⌝ }
+{
+    match align(s, at) {
+        Edge::Refused(refusal) => Number::Refused(refusal),
+        Edge::Found(edge) => {
+            let from = octet(s, edge);
+            match length_code::read_within(&s[from..], Field::LEAST, Field::LIMIT) {
+                Length::Refused(refusal) => Number::Refused(refusal.further(edge / 8)),
+                Length::Value(value, size) => {
+                    let next = edge + 8 * size;
+                    Number::Found(value, next)
+                }
+            }
+        }
+    }
+}
+
+// The length of an OCTET STRING (SIZE (1..65535)): two octets hold it minus one.
+pub fn size(s: &[u8], at: usize) -> Number
+    requires { ⌜ length (now s) ≤ packetLimit ⌝ }
+    ensures { λ r. ⌜ SizeTaken (now (s .entry)) at r ⌝ }
+{
+    match align(s, at) {
+        Edge::Refused(refusal) => Number::Refused(refusal),
+        Edge::Found(edge) => {
+            let from = octet(s, edge);
+            if s.len() - from < 2 {
+                return Number::Refused(Refusal::at(Refusal::ENDS_EARLY, edge / 8));
+            }
+            let high = wide(s[from]) * 256;
+            let size = high + wide(s[from + 1]) + 1;
+            if Packet::LIMIT < size {
+                return Number::Refused(Refusal::at(Refusal::OUTSIDE_SIZES, edge / 8));
+            }
+            let next = edge + 16;
+            Number::Found(size, next)
+        }
+    }
+}
+
+// field-data OCTET STRING (SIZE (1..65535))
+pub fn field_data(s: &[u8], at: usize) -> Part
+    requires { ⌜ length (now s) ≤ packetLimit ⌝ }
+    ensures { λ r. ⌜ PartTaken (now (s .entry)) at r ⌝ }
+{
+    match size(s, at) {
+        Number::Refused(refusal) => Part::Refused(refusal),
+        Number::Found(size, begin) => {
+            let start = octet(s, begin);
+            if s.len() - start < size {
+                return Part::Refused(Refusal::at(Refusal::ENDS_EARLY, begin / 8));
+            }
+            let next = begin + 8 * size;
+            Part::Found(start, size, next)
+        }
+    }
+}

@@ -1,0 +1,153 @@
+// IFPPacket ::= SEQUENCE { type-of-msg Type-of-msg, data-field Data-Field OPTIONAL }
+use crate::bits::Edge;
+use crate::bits::Marked;
+use crate::bits::Number;
+use crate::bits::align;
+use crate::bits::flag;
+use crate::fields::All;
+use crate::fields::Fields;
+use crate::fields::data_field;
+use crate::items::octet;
+use crate::items::t30_data;
+use crate::items::t30_indicator;
+use datagram::Packet;
+use length::Refusal;
+use packet::Choice;
+use packet::Ending;
+use packet::Named;
+use packet::PacketKind;
+use packet::PacketRead;
+use packet::PacketReading;
+use packet_reader::may_follow;
+use packet_reader::no_fields;
+use packet_rules::choice_of;
+ghost use Prim.Native.Nat.{_≤_};
+ghost use lib.ListN.{length};
+ghost use Rattle.datagram.specs.Sizes.{packetLimit};
+ghost use Rattle.packet.specs.Edition.{byEdition};
+ghost use Rattle.packet.specs.Packet.{readPacket};
+ghost use Rattle.packet.specs.Promise.{PacketTold};
+ghost use Rattle.packet_reader.specs.Items.{NamedTold};
+ghost use Rattle.packet_pencil.specs.Packet.{ChosenTaken, TypeTaken, StartTaken, AfterTaken};
+
+// A packet's kind and value, whether it has a data field, and the place after them.
+pub enum First {
+    Found(PacketKind, u8, bool, usize),
+    Refused(Refusal),
+}
+
+// 06/98: CHOICE { t30-indicator ENUMERATED .., data ENUMERATED .. }: the one that was chosen.
+// 2002:  CHOICE { t30-indicator ENUMERATED .., t30-data ENUMERATED .. }
+fn chosen(named: Named, s: &[u8], item: usize, at: usize, present: bool, is_data: bool) -> First
+    requires { ⌜ length (now s) ≤ packetLimit ⌝ }
+    ensures { λ r. ⌜ ChosenTaken named present «is_data» (now (s .entry)) item at r ⌝ }
+{
+    if is_data {
+        return match t30_data(named, s, item, at) {
+            Number::Refused(refusal) => First::Refused(refusal),
+            Number::Found(value, next) => {
+                let small = (value % 256) as u8;
+                First::Found(PacketKind::Data, small, present, next)
+            }
+        };
+    }
+    match t30_indicator(named, s, item, at) {
+        Number::Refused(refusal) => First::Refused(refusal),
+        Number::Found(value, next) => {
+            let small = (value % 256) as u8;
+            First::Found(PacketKind::Indicator, small, present, next)
+        }
+    }
+}
+
+// The bit for data-field OPTIONAL, and the Type-of-msg.
+pub fn type_of_msg(named: Named, s: &[u8], item: usize, at: usize) -> First
+    requires { ⌜ length (now s) ≤ packetLimit ⌝ }
+    ensures { λ r. ⌜ TypeTaken named (now (s .entry)) item at r ⌝ }
+{
+    match flag(s, item, at) {
+        Marked::Refused(refusal) => First::Refused(refusal),
+        Marked::Found(present, next) => match flag(s, item, next) {
+            Marked::Refused(refusal) => First::Refused(refusal),
+            Marked::Found(is_data, value_at) => chosen(named, s, item, value_at, present, is_data),
+        },
+    }
+}
+
+// The start of a packet: its type, zero bits to an octet edge, and no data field on an indicator.
+pub fn start(named: Named, s: &[u8], at: usize) -> First
+    requires { ⌜ length (now s) ≤ packetLimit ⌝ }
+    ensures { λ r. ⌜ StartTaken named (now (s .entry)) at r ⌝ }
+{
+    let item = at / 8;
+    match type_of_msg(named, s, item, at) {
+        First::Refused(refusal) => First::Refused(refusal),
+        First::Found(kind, value, present, next) => match align(s, next) {
+            Edge::Refused(refusal) => First::Refused(refusal),
+            Edge::Found(edge) => {
+                if packet_rules::right_fields(kind, present) {
+                    return First::Found(kind, value, present, edge);
+                }
+                First::Refused(Refusal::at(Refusal::WRONG_DATA, item))
+            }
+        },
+    }
+}
+
+// data-field Data-Field OPTIONAL
+fn optional(named: Named, s: &[u8], at: usize, present: bool) -> Fields
+    requires { ⌜ length (now s) ≤ packetLimit ⌝ }
+    ensures { λ r. ⌜ AfterTaken named present (now (s .entry)) at r ⌝ }
+{
+    if present {
+        return data_field(named, s, at);
+    }
+    let fields = no_fields();
+    Fields {
+        all: All::Found(0, at),
+        fields,
+    }
+}
+
+// A packet of this edition: its kind, value and fields, or the first refusal in reading order.
+fn read_named(named: Named, s: &[u8], ending: Ending) -> PacketRead
+    ensures { λ r. ⌜ NamedTold named ending (now (s .entry)) r ⌝ }
+{
+    if Packet::LIMIT < s.len() {
+        return packet_reader::refused(Refusal::new(Refusal::OUTSIDE_SIZES));
+    }
+    match start(named, s, 0) {
+        First::Refused(refusal) => packet_reader::refused(refusal),
+        First::Found(kind, value, present, at) => {
+            let found = optional(named, s, at, present);
+            let all = found.all;
+            match all {
+                All::Refused(refusal) => packet_reader::refused(refusal),
+                All::Found(count, next) => match align(s, next) {
+                    Edge::Refused(refusal) => packet_reader::refused(refusal),
+                    Edge::Found(edge) => {
+                        let from = octet(s, edge);
+                        if may_follow(&s[from..], ending) {
+                            let fields = found.fields;
+                            return PacketRead {
+                                reading: PacketReading::Packet { kind, value, count },
+                                fields,
+                            };
+                        }
+                        packet_reader::refused(Refusal::at(Refusal::LEFT_OVER, edge / 8))
+                    }
+                },
+            }
+        }
+    }
+}
+
+// A packet of the edition that an octet names, 0 that of 06/98 and 1 that of 2002; another octet is refused first.
+pub fn read(edition: u8, s: &[u8], ending: Ending) -> PacketRead
+    ensures { λ r. ⌜ PacketTold (byEdition edition (λ e. readPacket e ending (now (s .entry)))) r ⌝ }
+{
+    match choice_of(edition) {
+        Choice::Neither => packet_reader::refused(Refusal::new(Refusal::WRONG_SETTINGS)),
+        Choice::Edition(named) => read_named(named, s, ending),
+    }
+}

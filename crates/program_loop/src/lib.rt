@@ -1,0 +1,168 @@
+// Document 01, 'The program', from any session within its ranges on: lines of hexadecimal from standard input, one datagram a line; its
+// results to standard output. It reads and writes in large blocks. What a block comes to is proved in the crate `line_code`: here is only
+// read, take in, write.
+use libc::STDIN_FILENO;
+use libc::STDOUT_FILENO;
+use line::Line;
+use session_held::Counts;
+use session_held::Session;
+ghost use Prim.Native.Nat.{_+_, _%_, _^_, _≤_};
+ghost use mathlib.Core.Path.{_≡_};
+ghost use lib.ListN.{length};
+ghost use Rattle.session_held.specs.Table.{lent, viewIn};
+ghost use Rattle.session_held.specs.Laid.{InRanges};
+ghost use Rattle.line.specs.Promise.{stepLimit};
+ghost use Rattle.line.specs.FeedPromise.{Feedable};
+ghost use Rattle.program_loop.specs.Promise.{Passes, Serves};
+
+// The one place that reads: some octets are put at the front of the block and counted; how many, none at the end of the input.
+fn read_on(block: &mut [u8], taken: &mut usize) -> usize
+    ensures { λ r. ⌜ r ≤ length (now (block .exit)) ⌝ }
+    ensures { λ r. ⌜ now (taken .exit) ≡ (now (taken .entry) + r) % 2 ^ 64 ⌝ }
+{
+    let got = libc::read(STDIN_FILENO, block);
+    let n = io::count(got, block);
+    let before = *taken;
+    *taken = std::num::wrapping_add_usize(before, n);
+    n
+}
+
+// The one place that writes: the front of the buffer goes to `write`, and its octets are counted; whether it took them all.
+fn hand_over(out: &[u8], end: usize, handed: &mut usize) -> bool
+    requires { ⌜ end ≤ length (now out) ⌝ }
+    ensures { λ r. ⌜ now (handed .exit) ≡ (now (handed .entry) + end) % 2 ^ 64 ⌝ }
+{
+    let front = &out[..end];
+    let before = *handed;
+    *handed = std::num::wrapping_add_usize(before, front.len());
+    io::write_all(STDOUT_FILENO, front)
+}
+
+// The session after a block, how much of a line has begun, and whether all was written.
+struct Passed {
+    base: u16,
+    counts: Counts,
+    begun: usize,
+    written: bool,
+}
+
+// From where the last block was passed a block of the input is taken in, and what it comes to is handed over, part by part up to the
+// first that fails.
+fn pass(
+    last: Passed,
+    t: &mut [u16; Session::PLACES],
+    o: &mut [u8; Session::PACKET_OCTETS],
+    g: &mut [u8; Session::MESSAGE_OCTETS],
+    line: &mut [u8],
+    block: &[u8],
+    out: &mut [u8],
+    handed: &mut usize,
+) -> Passed
+    requires { ⌜ Feedable stepLimit (lent (last .base) (last .counts) (now t) (now o) (now g)) (now line) (last .begun) (now out) 0 ⌝ }
+    ensures { λ r. ⌜ Passes (lent (last .base) (last .counts) (now (t .entry)) (now (o .entry)) (now (g .entry))) (now (line .entry))
+        (last .begun) (now (block .entry)) (now (handed .entry))
+        (lent (r .base) (r .counts) (now (t .exit)) (now (o .exit)) (now (g .exit)))
+        (now (line .exit)) (r .begun) (now (out .exit)) (now (handed .exit)) (r .written) ⌝ }
+{
+    let mut after = last.base;
+    let mut moves = last.counts;
+    let mut kept = last.begun;
+    let mut from = 0;
+    while from < block.len() {
+        let part = line_code::take_block(after, moves, t, o, g, line, kept, &block[from..], out);
+        after = part.base;
+        let moved = part.counts;
+        moves = moved;
+        kept = part.begun;
+        from += part.taken;
+        let end = part.end;
+        if !hand_over(out, end, handed) {
+            return Passed {
+                base: after,
+                counts: moves,
+                begun: kept,
+                written: false,
+            };
+        }
+    }
+    Passed {
+        base: after,
+        counts: moves,
+        begun: kept,
+        written: true,
+    }
+}
+
+// The session at the end, how many octets were read and how many handed over, and whether the end was reached with all written.
+pub struct Served {
+    pub base: u16,
+    pub counts: Counts,
+    pub taken: usize,
+    pub handed: usize,
+    pub whole: bool,
+}
+
+// Block after block, then the end of the input. A proved loop has to end, and nothing says that the input does: so it counts
+// its turns down, from a number that no run uses up.
+pub fn serve(
+    base: u16,
+    counts: Counts,
+    t: &mut [u16; Session::PLACES],
+    o: &mut [u8; Session::PACKET_OCTETS],
+    g: &mut [u8; Session::MESSAGE_OCTETS],
+) -> Served
+    requires { ⌜ InRanges (lent base counts (now t) (now o) (now g)) ⌝ }
+    ensures { λ r. ⌜ Serves (viewIn (lent base counts (now (t .entry)) (now (o .entry)) (now (g .entry))))
+        (lent (r .base) (r .counts) (now (t .exit)) (now (o .exit)) (now (g .exit))) (r .taken) (r .handed)
+        (r .whole) ⌝ }
+{
+    let mut line = [0u8; Line::KEPT];
+    let mut block = io::large_buffer();
+    let mut out = io::large_buffer();
+    let mut after = base;
+    let mut moves = counts;
+    let mut begun = 0;
+    let mut taken = 0;
+    let mut handed = 0;
+    let mut turns = u64::MAX;
+    while turns > 0 {
+        turns -= 1;
+        let n = read_on(&mut block, &mut taken);
+        if n == 0 {
+            turns = 0;
+        } else {
+            let last = Passed {
+                base: after,
+                counts: moves,
+                begun,
+                written: true,
+            };
+            let passed = pass(last, t, o, g, &mut line, &block[..n], &mut out, &mut handed);
+            after = passed.base;
+            let moved = passed.counts;
+            moves = moved;
+            begun = passed.begun;
+            if !passed.written {
+                return Served {
+                    base: after,
+                    counts: moves,
+                    taken,
+                    handed,
+                    whole: false,
+                };
+            }
+        }
+    }
+    let ended = line_code::finish(after, moves, t, o, g, &line, begun, &mut out, 0);
+    let last_base = ended.base;
+    let last_counts = ended.counts;
+    let end = ended.end;
+    let whole = hand_over(&out, end, &mut handed);
+    Served {
+        base: last_base,
+        counts: last_counts,
+        taken,
+        handed,
+        whole,
+    }
+}

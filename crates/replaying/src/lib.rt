@@ -1,7 +1,0 @@
-// A recorded trace played again with chosen losses: document 02, request 6, as `replays` defines it.
-mod dropping;
-mod playing;
-mod trace;
-
-pub use playing::replay_line;
-pub use trace::replay;

@@ -1,0 +1,28 @@
+-- What the send inside the ranges owes. Definitions only.
+use Prim.Native.Nat.{ℕ, _%_}
+use mathlib.Core.Path.{_≡_}
+use mathlib.Core.List.{List}
+use Rattle.length.specs.Promise.{Puts}
+use Rattle.length.specs.declared.Refusal.{Refusal}
+use Rattle.length.specs.declared.Written.{Written}
+use Rattle.length.specs.declared.Written.the-variants as written
+use Rattle.session.specs.View.{numbers}
+use Rattle.sender.specs.Send.{datagramToSend}
+use Rattle.sender.specs.Sender.{sendingIn}
+use Rattle.sender.specs.Inner.Held.{Joins}
+use Rattle.sender.specs.declared.Sender.{Sender}
+use Rattle.sender.specs.declared.Sent.{Sent}
+use Rattle.sender.specs.declared.Settings.{Settings}
+
+-- the history after it: with the packet, or as it was
+abbrev pub HistoryAfter : Written → ℕ → List ℕ → List ℕ → List ℕ → List ℕ → List ℕ → Type 0
+HistoryAfter (written.Octets n) number packet sizes o sizes′ o′ = Joins number packet sizes o sizes′ o′
+HistoryAfter (written.Refused r) number packet sizes o sizes′ o′ = (sizes′ ≡ sizes) × (o′ ≡ o)
+
+pub record SendsHeld (sent : ℕ) (settings : Settings) (packet sizes o old sizes′ o′ new : List ℕ) (r : Written) : Type 0 where
+  pub puts : Puts (datagramToSend settings packet (sendingIn sent sizes o)) old new r
+  pub history : HistoryAfter r (sent % numbers) packet sizes o sizes′ o′
+
+-- a refused send, as it is handed back
+pub record RefusedSend (s : Sender) (why : Refusal) (r : Sent) : Type 0 where
+  pub whole : r ≡ record { sender = s; answer = written.Refused why }

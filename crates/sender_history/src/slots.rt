@@ -1,0 +1,88 @@
+// The history as it is held: the slot of a number, the ranges, and a packet that joins.
+use datagram::Packet;
+use sender::Sender;
+ghost use mathlib.Core.Path.{_≡_};
+ghost use Prim.Native.Nat.{_+_, _%_, _≤_, _<_};
+ghost use lib.ListN.{length};
+ghost use Rattle.datagram.specs.Sizes.{packetLimit};
+ghost use Rattle.session_slots.specs.Store.{mask};
+ghost use Rattle.sender.specs.Sending.{historyKept};
+ghost use Rattle.sender.specs.Sender.{lengthIn};
+ghost use Rattle.sender.specs.Ranges.{sizeInRange, placeInRange, historyInRanges};
+ghost use Rattle.sender.specs.Inner.Held.{Arrays, Joins};
+
+// The slot of a number.
+pub fn slot_of(number: u16) -> usize
+    ensures { λ r. ⌜ r ≡ number % historyKept ⌝ }
+{
+    (number as usize) % Sender::HISTORY
+}
+
+// How many octets the packet in a slot has.
+pub fn size_in(sizes: &[u16], slot: usize) -> usize
+    requires { ⌜ slot < length (now sizes) ⌝ }
+    ensures { λ r. ⌜ r ≡ lengthIn (now (sizes .entry)) slot ⌝ }
+{
+    session_slots::wide(sizes[slot])
+}
+
+// ---- the ranges
+
+// "history lengths 1 to [the packet limit], or 0 exactly for numbers before the first": at is how many were sent, plus the place.
+fn size_right(at: usize, size: usize) -> bool
+    ensures { λ r. ⌜ r ≡ sizeInRange at size ⌝ }
+{
+    if at < Sender::HISTORY {
+        return size == 0;
+    }
+    if size < Packet::LEAST {
+        return false;
+    }
+    size <= Packet::LIMIT
+}
+
+// The packet at place p.
+fn place_right(sent: usize, sizes: &[u16], o: &[u8], p: usize, table: &[u8]) -> bool
+    requires { ⌜ (sent + p < 4294967296) × (Arrays (now sizes) (now o)) × (now table ≡ mask) ⌝ }
+    ensures { λ r. ⌜ r ≡ placeInRange sent (now (sizes .entry)) (now (o .entry)) p ⌝ }
+{
+    let at = sent + p;
+    let slot = at % Sender::HISTORY;
+    let size = size_in(sizes, slot);
+    if !size_right(at, size) {
+        return false;
+    }
+    session_slots::zeros_past(o, slot, size, table)
+}
+
+// The whole sentence.
+pub fn in_ranges(sent: usize, sizes: &[u16], o: &[u8]) -> bool
+    requires { ⌜ Arrays (now sizes) (now o) ⌝ }
+    ensures { λ r. ⌜ r ≡ historyInRanges sent (now (sizes .entry)) (now (o .entry)) ⌝ }
+{
+    if Sender::LIMIT < sent {
+        return false;
+    }
+    let table = session_slots::passing();
+    let mut ok = true;
+    let mut p = 0;
+    while p < Sender::HISTORY {
+        let right = place_right(sent, sizes, o, p, &table);
+        ok = ok & right;
+        p += 1;
+    }
+    ok
+}
+
+// ---- a packet joins
+
+// The packet takes the slot of its number, from which the oldest leaves.
+pub fn keep(number: u16, packet: &[u8], sizes: &mut [u16], o: &mut [u8])
+    requires { ⌜ (Arrays (now sizes) (now o)) × (length (now packet) ≤ packetLimit) ⌝ }
+    ensures { λ _. ⌜ Joins number (now (packet .entry)) (now (sizes .entry)) (now (o .entry)) (now (sizes .exit)) (now (o .exit)) ⌝ }
+{
+    let slot = slot_of(number);
+    session_slots::clear(o, slot);
+    session_slots::put(o, slot, packet);
+    sizes[slot] = packet.len() as u16;
+}

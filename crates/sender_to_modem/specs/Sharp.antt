@@ -1,0 +1,34 @@
+-- The figure on the data sheet is sharp: with k + 1 lost in a row something stays waiting. Statements alone.
+use Prim.Native.Nat.{ℕ, _+_, _%_, _≤_}
+use mathlib.Core.Path.{_≡_}
+use mathlib.Core.Logic.{_⊎_}
+use mathlib.Core.List.{List, [], _∷_, _++_, map}
+use lib.ListN.{length, take, replicate}
+use Rattle.session.specs.Cells.{keptBefore}
+use Rattle.session.specs.Reached.{Known, Unknown}
+use Rattle.session.specs.View.{numbers}
+use Rattle.session_held.specs.Table.{viewOf}
+use Rattle.sender_to_modem.specs.Marks.{Mark, arrives, lost, NeverMoreInARow, LastArrives}
+use Rattle.sender_to_modem.specs.Transfer.{Delivered, Transfer, Ran}
+
+-- one more than there are spares
+abbrev pub oneMore : ℕ → ℕ
+oneMore k = k + 1
+
+-- after a line as it was sold, or at the start, so many are lost in a row and the next one arrives
+abbrev pub oneTooMany : ℕ → List Mark → List Mark
+oneTooMany k before = before ++ (replicate (oneMore k) lost ++ (arrives ∷ []))
+
+-- so many packets were with the modem before, and there are no more
+pub record StaysWaiting (k before : ℕ) (x : Transfer) : Type 0 where
+  pub released : map (λ (d : Delivered). d .octets) (x .modem) ≡ take before (x .packets)
+  -- the base is the first that was lost, which no spare brings back
+  pub base : (viewOf (x .receiver)) .base ≡ before % numbers
+  pub unknown : Unknown ((viewOf (x .receiver)) .cells) keptBefore
+  -- the k after it came as spares, and the last one as received: they wait
+  pub waiting : (d : ℕ) → 1 ≤ d → d ≤ k + 1 → Known ((viewOf (x .receiver)) .cells) (keptBefore + d)
+
+abbrev pub Sharp : Type 0
+Sharp = (k : ℕ) (x : Transfer) → Ran k x → (before : List Mark) → x .line ≡ oneTooMany k before → NeverMoreInARow k before
+    → (before ≡ []) ⊎ LastArrives before
+    → StaysWaiting k (length before) x

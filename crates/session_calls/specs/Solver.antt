@@ -1,0 +1,17 @@
+-- What the call of document 02, request 13, owes: "Refusals: 17, then 23, no octets satisfy all equations; nothing changes." What `solve`
+-- comes to is what the equations mean (`solve`, SolutionsClaims). Definitions only.
+use mathlib.Core.Path.{_≡_}
+use Rattle.length.specs.Answers.{Answer}
+use Rattle.session.specs.View.{View}
+use Rattle.session_held.specs.declared.Session.{Session}
+use Rattle.solve.specs.Solve.{solve}
+use Rattle.solve_code.specs.Outcome.{solvedOutcome, filledOf}
+use Rattle.session_calls.specs.Receiver.{After, inRangesThen}
+use Rattle.session_calls.specs.declared.solver.AfterSolve.{AfterSolve}
+
+unfoldable pub solveOf : Session → Answer View
+solveOf s = inRangesThen solve s
+
+pub record SolveOwes (s : Session) (r : AfterSolve) : Type 0 where
+  pub answer : solvedOutcome (r .answer) ≡ filledOf (solveOf s)
+  pub state : After (solveOf s) s (r .session)

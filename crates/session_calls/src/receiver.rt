@@ -1,0 +1,91 @@
+// The receiving session: document 01, 'The receiving session'.
+use length::Refusal;
+use session_held::Session;
+use session_offer::Offered;
+use session_release::Released;
+ghost use Rattle.session_calls.specs.Receiver.{OfferOwes, ReleaseOwes};
+
+// What offer answers, and the session after.
+pub struct AfterOffer {
+    pub session: Session,
+    pub answer: Offered,
+}
+
+// What a release answers, and the session after.
+pub struct AfterRelease {
+    pub session: Session,
+    pub answer: Released,
+}
+
+// Any octets from the network, offered to the session.
+pub fn offer(s: Session, datagram: &[u8]) -> AfterOffer
+    ensures { λ r. ⌜ OfferOwes s (now (datagram .entry)) r ⌝ }
+{
+    let base = s.base;
+    let counts = s.counts;
+    let mut table = s.table;
+    let mut octets = s.octets;
+    let mut messages = s.messages;
+    if session_check::in_ranges(base, counts, &table, &octets, &messages) {
+        let answer = session_offer::offer_core(
+            base,
+            counts,
+            &mut table,
+            &mut octets,
+            &mut messages,
+            datagram,
+        );
+        let session = Session {
+            base,
+            counts,
+            table,
+            octets,
+            messages,
+        };
+        return AfterOffer { session, answer };
+    }
+    let why = Refusal::new(Refusal::OUTSIDE_RANGES);
+    AfterOffer {
+        session: s,
+        answer: Offered::Refused(why),
+    }
+}
+
+// The number at the base leaves, its packet to the front of out, and the base goes on by one. An unknown base is refused, or where it
+// may be skipped, booked lost.
+pub fn release(s: Session, skip: bool, out: &mut [u8]) -> AfterRelease
+    ensures { λ r. ⌜ ReleaseOwes s skip (now (out .entry)) (now (out .exit)) r ⌝ }
+{
+    let base = s.base;
+    let counts = s.counts;
+    let mut table = s.table;
+    let mut octets = s.octets;
+    let mut messages = s.messages;
+    if session_check::in_ranges(base, counts, &table, &octets, &messages) {
+        let done = session_release::release_core(
+            base,
+            counts,
+            &mut table,
+            &mut octets,
+            &mut messages,
+            skip,
+            out,
+        );
+        let following = done.base;
+        let moved = done.counts;
+        let answer = done.answer;
+        let session = Session {
+            base: following,
+            counts: moved,
+            table,
+            octets,
+            messages,
+        };
+        return AfterRelease { session, answer };
+    }
+    let why = Refusal::new(Refusal::OUTSIDE_RANGES);
+    AfterRelease {
+        session: s,
+        answer: Released::Refused(why),
+    }
+}

@@ -1,0 +1,180 @@
+// One slot of a kept number, and one of a number from the base on: what document 01 says of the number, and how the slot is laid.
+// A slot without octets is looked at without the mask, and where there is no message the slots of all are looked at in one loop.
+use crate::HELD_OCTETS;
+use datagram::Message;
+use datagram::Packet;
+use datagram::Parity;
+use session_held::Session;
+ghost use mathlib.Core.Path.{_≡_};
+ghost use mathlib.Core.Bool.{_&&_, cond};
+ghost use Prim.Native.Nat.{_≤_, _<_};
+ghost use lib.Dec.{leb, ltb};
+ghost use lib.ListN.{length};
+ghost use Rattle.octets.specs.Place.{allBelow};
+ghost use Rattle.datagram.specs.Sizes.{packetLimit, messageLimit, messagesLimit};
+ghost use Rattle.session_slots.specs.Store.{HasSlot, zerosPast, mask};
+ghost use Rattle.session_held.specs.Slots.{slotsHeard, messageOctets};
+ghost use Rattle.session.specs.Ranges.{noteRight};
+ghost use Rattle.session_held.specs.Table.{places, stateNumbered};
+ghost use Rattle.session_held.specs.Laid.{messageLaid};
+ghost use Rattle.session_check.specs.Pieces.{stateRight, markedRight, heardRight, sizeless, emptyAt};
+
+// "Unknown and blank have length 0, others 1 to [the packet limit].", and the number stands for a state. There is no branch,
+// so that the loop over all slots may take several together.
+pub fn state_right(state: u16, size: usize, blank: bool) -> bool
+    ensures { λ r. ⌜ r ≡ stateRight state size blank ⌝ }
+{
+    let empty = ((state == Session::UNKNOWN) & !blank) | ((state == Session::BLANK) & blank);
+    let filled = (state != Session::UNKNOWN) & (state < Session::BLANK);
+    let fits = (Packet::LEAST <= size) & (size <= Packet::LIMIT);
+    (empty & (size == 0)) | (filled & (fits & !blank))
+}
+
+// "For a received one [the note] is its own number; for a blank or unknown one it is zero."; a spare or repaired one may have any.
+pub fn note_right(state: u16, note: u16, number: u16) -> bool
+    ensures { λ r. ⌜ r ≡ noteRight (stateNumbered state) note number ⌝ }
+{
+    let any = (state == Session::SPARE) | (state == Session::REPAIRED);
+    let own = (state == Session::RECEIVED) & (note == number);
+    let none = (state != Session::RECEIVED) & (note == 0);
+    any | (own | none)
+}
+
+// "Octets past a length are zero."
+pub fn slot_right(o: &[u8], slot: usize, size: usize, passes: &[u8]) -> bool
+    requires { ⌜ HasSlot slot (now o) ⌝ }
+    requires { ⌜ size ≤ packetLimit ⌝ }
+    requires { ⌜ now passes ≡ mask ⌝ }
+    ensures { λ r. ⌜ r ≡ zerosPast (now (o .entry)) slot size ⌝ }
+{
+    if size == 0 {
+        return session_slots::all_zero(o, slot);
+    }
+    session_slots::zeros_past(o, slot, size, passes)
+}
+
+// "An accepted number is known. Messages stand only at accepted numbers, and with m = 0 also n = 0, otherwise n [and] m .. are
+// within the sizes", and the mark is 0 or 1.
+fn mark_right(mark: u16, known: bool, n: usize, m: usize) -> bool
+    ensures { λ r. ⌜ r ≡ markedRight mark known n m ⌝ }
+{
+    if mark == 1 {
+        if m == 0 {
+            return known & (n == 0);
+        }
+        return known
+            & ((Parity::PACKETS_LEAST <= n) & (n <= Parity::PACKETS) & (m <= Parity::MESSAGES));
+    }
+    (mark == 0) & ((m == 0) & (n == 0))
+}
+
+// The most octets that message i of m may have: "message places past m have length 0".
+fn most(i: usize, m: usize) -> usize
+    ensures { λ r. ⌜ r ≡ cond (ltb i m) messageLimit 0 ⌝ }
+{
+    if i < m {
+        return Message::LIMIT;
+    }
+    0
+}
+
+// A message in its slot: its length is within the sizes, and octets past it are zero.
+fn message_right(size: usize, limit: usize, g: &[u8], slot: usize, passes: &[u8]) -> bool
+    requires { ⌜ HasSlot slot (now g) ⌝ }
+    requires { ⌜ limit ≤ messageLimit ⌝ }
+    requires { ⌜ now passes ≡ mask ⌝ }
+    ensures { λ r. ⌜ r ≡ (leb size limit && zerosPast (now (g .entry)) slot size) ⌝ }
+{
+    if size <= limit {
+        return slot_right(g, slot, size, passes);
+    }
+    false
+}
+
+// The messages of the number whose slot is given, of which there are m.
+fn messages_right(t: &[u16], slot: usize, m: usize, g: &[u8], passes: &[u8]) -> bool
+    requires { ⌜ length (now t) ≡ places ⌝ }
+    requires { ⌜ slot < slotsHeard ⌝ }
+    requires { ⌜ length (now g) ≡ messageOctets ⌝ }
+    requires { ⌜ now passes ≡ mask ⌝ }
+    ensures { λ r. ⌜ r ≡ allBelow messagesLimit (messageLaid (now (t .entry)) (now (g .entry)) slot m) ⌝ }
+{
+    let at = slot * Parity::MESSAGES;
+    let mut ok = true;
+    let mut i = 0;
+    while i < Parity::MESSAGES {
+        let place = at + i;
+        let size = session_held::message_size_at(t, place);
+        let limit = most(i, m);
+        let right = message_right(size, limit, g, place, passes);
+        ok = ok & right;
+        i += 1;
+    }
+    ok
+}
+
+// Whether no message of a number has a length.
+fn no_sizes(t: &[u16], slot: usize) -> bool
+    requires { ⌜ length (now t) ≡ places ⌝ }
+    requires { ⌜ slot < slotsHeard ⌝ }
+    ensures { λ r. ⌜ r ≡ allBelow messagesLimit (sizeless (now (t .entry)) slot) ⌝ }
+{
+    let at = slot * Parity::MESSAGES;
+    let mut ok = true;
+    let mut i = 0;
+    while i < Parity::MESSAGES {
+        let size = session_held::message_size_at(t, at + i);
+        ok = ok & (size == 0);
+        i += 1;
+    }
+    ok
+}
+
+// Whether the slots of all messages of a number have zeros alone.
+fn no_octets(g: &[u8], slot: usize) -> bool
+    requires { ⌜ length (now g) ≡ messageOctets ⌝ }
+    requires { ⌜ slot < slotsHeard ⌝ }
+    ensures { λ r. ⌜ r ≡ allBelow messagesLimit (emptyAt (now (g .entry)) slot) ⌝ }
+{
+    let at = slot * HELD_OCTETS;
+    let mut ok = true;
+    let mut k = 0;
+    while k < HELD_OCTETS {
+        ok = ok & (g[at + k] == 0);
+        k += 1;
+    }
+    ok
+}
+
+// The messages of a number that has none.
+fn no_messages(t: &[u16], slot: usize, g: &[u8]) -> bool
+    requires { ⌜ length (now t) ≡ places ⌝ }
+    requires { ⌜ slot < slotsHeard ⌝ }
+    requires { ⌜ length (now g) ≡ messageOctets ⌝ }
+    ensures { λ r. ⌜ r ≡ allBelow messagesLimit (messageLaid (now (t .entry)) (now (g .entry)) slot 0) ⌝ }
+{
+    if no_sizes(t, slot) {
+        return no_octets(g, slot);
+    }
+    false
+}
+
+// A number from the base on in its slot: mark, n and m, and its messages.
+pub fn heard_right(t: &[u16], slot: usize, known: bool, g: &[u8], passes: &[u8]) -> bool
+    requires { ⌜ length (now t) ≡ places ⌝ }
+    requires { ⌜ slot < slotsHeard ⌝ }
+    requires { ⌜ length (now g) ≡ messageOctets ⌝ }
+    requires { ⌜ now passes ≡ mask ⌝ }
+    ensures { λ r. ⌜ r ≡ heardRight (now (t .entry)) (now (g .entry)) slot known ⌝ }
+{
+    let mark = session_held::mark_at(t, slot);
+    let n = session_held::n_at(t, slot);
+    let m = session_held::m_at(t, slot);
+    if mark_right(mark, known, n, m) {
+        if m == 0 {
+            return no_messages(t, slot, g);
+        }
+        return messages_right(t, slot, m, g, passes);
+    }
+    false
+}

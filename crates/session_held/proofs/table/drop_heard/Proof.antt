@@ -1,0 +1,66 @@
+-- `session_held::drop_heard` meets its contract. Assumes nothing.
+use borrow.Author.Needs.{needs}
+use Rattle.session_held.proofs.Places.{n-there, m-there, sizes-there, same-places}
+use Rattle.session_held.proofs.table.drop_heard.Statement.{statement}
+use Rattle.session_held.proofs.table.drop_heard.Tie as tie
+
+add-t : tie.Need-add-t
+add-t c = search needs
+
+mul-t : tie.Need-mul-t
+mul-t c = search needs
+
+slice-write-t : tie.Need-slice-write-t
+slice-write-t c = search needs
+
+add-t-2 : tie.Need-add-t-2
+add-t-2 c = search needs
+
+mul-t-2 : tie.Need-mul-t-2
+mul-t-2 c = search needs
+
+slice-write-t-2 : tie.Need-slice-write-t-2
+slice-write-t-2 c = search n-there
+
+add-t-3 : tie.Need-add-t-3
+add-t-3 c = search needs
+
+mul-t-3 : tie.Need-mul-t-3
+mul-t-3 c = search needs
+
+slice-write-t-3 : tie.Need-slice-write-t-3
+slice-write-t-3 c = search m-there
+
+mul-free-sizes : tie.Need-mul-free-sizes
+mul-free-sizes c = search needs
+
+add-free-sizes : tie.Need-add-free-sizes
+add-free-sizes c = search needs
+
+free-sizes-requires : tie.Need-free-sizes-requires
+free-sizes-requires c κs = search sizes-there
+
+same-length : tie.Need-same-length
+same-length c = search same-places
+
+returns : tie.Need-returns
+returns c = search needs
+
+pub drop-heard-spec : {M : Type 1} → statement M
+drop-heard-spec =
+    tie.close
+    (tie.spec
+    add-t
+    mul-t
+    slice-write-t
+    add-t-2
+    mul-t-2
+    slice-write-t-2
+    add-t-3
+    mul-t-3
+    slice-write-t-3
+    mul-free-sizes
+    add-free-sizes
+    free-sizes-requires
+    same-length
+    returns)

@@ -1,0 +1,28 @@
+-- What the public calls of this crate owe. Definitions only.
+use Prim.Native.Nat.{ℕ, _-_}
+use mathlib.Core.Path.{_≡_}
+use mathlib.Core.Bool.{true}
+use mathlib.Core.List.{List, _++_}
+use lib.ListN.{length, replicate}
+use Rattle.session.specs.Cells.{keptBefore, keptAhead}
+use Rattle.session.specs.View.{freshView}
+use Rattle.session_held.specs.Slots.{slotsKept, keptOctets, messageOctets}
+use Rattle.session_held.specs.Table.{places, lastState, viewOf}
+use Rattle.session_held.specs.Laid.{sessionInRanges}
+use Rattle.session_held.specs.declared.Session.{Session}
+
+-- the lengths that the arrays of every session have
+pub record Sized (s : Session) : Type 0 where
+  pub table : length (s .table) ≡ places
+  pub octets : length (s .octets) ≡ keptOctets
+  pub messages : length (s .messages) ≡ messageOctets
+
+-- the table of a fresh session: at base 0 those from the base on have the first slots, those before the first, blank, the rest
+unfoldable pub freshTable : List ℕ
+freshTable = replicate keptAhead 0 ++ replicate keptBefore lastState ++ replicate (places - slotsKept) 0
+
+-- what fresh owes: document 01 sees a fresh session in it, and it is within its ranges
+pub record Fresh (r : Session) : Type 0 where
+  pub view : viewOf r ≡ freshView
+  pub ranges : sessionInRanges r ≡ true
+  pub sized : Sized r

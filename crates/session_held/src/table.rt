@@ -1,0 +1,174 @@
+// The slots of a number, and the table by the words of document 01: what stands in a slot is read and written here alone. These
+// functions serve callers inside this repository: they require that the table is whole and the slot is there.
+use crate::Counts;
+use crate::Session;
+use datagram::Parity;
+ghost use mathlib.Core.Path.{_≡_};
+ghost use mathlib.Core.Bool.{not};
+ghost use Prim.Native.Nat.{_+_, _*_, _%_, _≤_, _<_};
+ghost use lib.ListN.{length, set};
+ghost use lib.Dec.{eqb};
+ghost use Rattle.datagram.specs.Sizes.{messagesLimit};
+ghost use Rattle.session.specs.Cells.{isUnknown};
+ghost use Rattle.session.specs.View.{sum};
+ghost use Rattle.session_held.specs.Slots.{slotsKept, slotsHeard, slotsMessages};
+ghost use Rattle.session_held.specs.Table.{countsOf, places, stateIn, sizeIn, noteIn, markIn, nIn, mIn, messageSizeIn, messagePlace};
+ghost use Rattle.session_held.specs.Table.{stateNumbered, keptSet, heardSet, sizesFreed, heardDropped};
+
+// The slot of a number among those kept, and among those from the base on.
+pub fn kept_slot(number: u16) -> usize
+    ensures { λ r. ⌜ r ≡ number % slotsKept ⌝ }
+{
+    (number as usize) % Session::KEPT
+}
+
+pub fn heard_slot(number: u16) -> usize
+    ensures { λ r. ⌜ r ≡ number % slotsHeard ⌝ }
+{
+    (number as usize) % Session::HEARD
+}
+
+// The moves since the start, of all kinds: four numbers of 32 bits never pass 64 bits.
+pub fn total(c: Counts) -> u64
+    ensures { λ r. ⌜ r ≡ sum (countsOf c) ⌝ }
+{
+    let received = c.received as u64;
+    let spare = c.spare as u64;
+    let repaired = c.repaired as u64;
+    let lost = c.lost as u64;
+    received + spare + repaired + lost
+}
+
+// The number that stands for the state of a kept number, and how many octets its packet has.
+pub fn state_at(t: &[u16], slot: usize) -> u16
+    requires { ⌜ length (now t) ≡ places ⌝ }
+    requires { ⌜ slot < slotsKept ⌝ }
+    ensures { λ r. ⌜ r ≡ stateIn (now (t .entry)) slot ⌝ }
+{
+    t[slot]
+}
+
+pub fn size_at(t: &[u16], slot: usize) -> usize
+    requires { ⌜ length (now t) ≡ places ⌝ }
+    requires { ⌜ slot < slotsKept ⌝ }
+    ensures { λ r. ⌜ r ≡ sizeIn (now (t .entry)) slot ⌝ }
+{
+    let size = t[Session::SIZES + slot];
+    session_slots::wide(size)
+}
+
+// The number of the datagram whose offer filled a kept number.
+pub fn note_at(t: &[u16], slot: usize) -> u16
+    requires { ⌜ length (now t) ≡ places ⌝ }
+    requires { ⌜ slot < slotsKept ⌝ }
+    ensures { λ r. ⌜ r ≡ noteIn (now (t .entry)) slot ⌝ }
+{
+    t[Session::NOTES + slot]
+}
+
+// Whether a kept number is known.
+pub fn is_known(t: &[u16], slot: usize) -> bool
+    requires { ⌜ length (now t) ≡ places ⌝ }
+    requires { ⌜ slot < slotsKept ⌝ }
+    ensures { λ r. ⌜ r ≡ not (isUnknown (stateNumbered (stateIn (now (t .entry)) slot))) ⌝ }
+{
+    t[slot] != Session::UNKNOWN
+}
+
+// Of a number from the base on: its mark, whether its datagram was accepted, its n and its m.
+pub fn mark_at(t: &[u16], slot: usize) -> u16
+    requires { ⌜ length (now t) ≡ places ⌝ }
+    requires { ⌜ slot < slotsHeard ⌝ }
+    ensures { λ r. ⌜ r ≡ markIn (now (t .entry)) slot ⌝ }
+{
+    t[Session::MARKS + slot]
+}
+
+pub fn accepted_at(t: &[u16], slot: usize) -> bool
+    requires { ⌜ length (now t) ≡ places ⌝ }
+    requires { ⌜ slot < slotsHeard ⌝ }
+    ensures { λ r. ⌜ r ≡ eqb (markIn (now (t .entry)) slot) 1 ⌝ }
+{
+    t[Session::MARKS + slot] == 1
+}
+
+pub fn n_at(t: &[u16], slot: usize) -> usize
+    requires { ⌜ length (now t) ≡ places ⌝ }
+    requires { ⌜ slot < slotsHeard ⌝ }
+    ensures { λ r. ⌜ r ≡ nIn (now (t .entry)) slot ⌝ }
+{
+    let n = t[Session::NS + slot];
+    session_slots::wide(n)
+}
+
+pub fn m_at(t: &[u16], slot: usize) -> usize
+    requires { ⌜ length (now t) ≡ places ⌝ }
+    requires { ⌜ slot < slotsHeard ⌝ }
+    ensures { λ r. ⌜ r ≡ mIn (now (t .entry)) slot ⌝ }
+{
+    let m = t[Session::MS + slot];
+    session_slots::wide(m)
+}
+
+// How many octets a message has.
+pub fn message_size_at(t: &[u16], slot: usize) -> usize
+    requires { ⌜ length (now t) ≡ places ⌝ }
+    requires { ⌜ slot < slotsMessages ⌝ }
+    ensures { λ r. ⌜ r ≡ messageSizeIn (now (t .entry)) slot ⌝ }
+{
+    let size = t[Session::MESSAGE_SIZES + slot];
+    session_slots::wide(size)
+}
+
+// Another kept number in a slot.
+pub fn set_kept(t: &mut [u16], slot: usize, state: u16, size: u16, note: u16)
+    requires { ⌜ length (now t) ≡ places ⌝ }
+    requires { ⌜ slot < slotsKept ⌝ }
+    ensures { λ _. ⌜ now (t .exit) ≡ keptSet (now (t .entry)) slot state size note ⌝ }
+{
+    t[slot] = state;
+    t[Session::SIZES + slot] = size;
+    t[Session::NOTES + slot] = note;
+}
+
+// A number from the base on is marked as accepted, with its n and m.
+pub fn set_heard(t: &mut [u16], slot: usize, n: u16, m: u16)
+    requires { ⌜ length (now t) ≡ places ⌝ }
+    requires { ⌜ slot < slotsHeard ⌝ }
+    ensures { λ _. ⌜ now (t .exit) ≡ heardSet (now (t .entry)) slot 1 n m ⌝ }
+{
+    t[Session::MARKS + slot] = 1;
+    t[Session::NS + slot] = n;
+    t[Session::MS + slot] = m;
+}
+
+pub fn set_message_size(t: &mut [u16], slot: usize, size: u16)
+    requires { ⌜ length (now t) ≡ places ⌝ }
+    requires { ⌜ slot < slotsMessages ⌝ }
+    ensures { λ _. ⌜ now (t .exit) ≡ set (now (t .entry)) (messagePlace slot) size ⌝ }
+{
+    t[Session::MESSAGE_SIZES + slot] = size;
+}
+
+// Nothing is heard of a number: no mark, no messages.
+pub fn drop_heard(t: &mut [u16], slot: usize)
+    requires { ⌜ length (now t) ≡ places ⌝ }
+    requires { ⌜ slot < slotsHeard ⌝ }
+    ensures { λ _. ⌜ now (t .exit) ≡ heardDropped (now (t .entry)) slot ⌝ }
+{
+    t[Session::MARKS + slot] = 0;
+    t[Session::NS + slot] = 0;
+    t[Session::MS + slot] = 0;
+    free_sizes(t, Session::MESSAGE_SIZES + slot * Parity::MESSAGES);
+}
+
+// No size at four places.
+fn free_sizes(t: &mut [u16], at: usize)
+    requires { ⌜ at + messagesLimit ≤ length (now t) ⌝ }
+    ensures { λ _. ⌜ now (t .exit) ≡ sizesFreed (now (t .entry)) at ⌝ }
+{
+    t[at] = 0;
+    t[at + 1] = 0;
+    t[at + 2] = 0;
+    t[at + 3] = 0;
+}

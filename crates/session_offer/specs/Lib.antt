@@ -1,0 +1,5 @@
+pub mod KeepSteps
+pub mod KeepPromise
+pub mod Outcome
+pub mod Steps
+pub mod Promise

@@ -1,0 +1,125 @@
+// What the receiving session keeps of an accepted datagram: document 01, 'The receiving session', "its packet, then its spares in
+// order, fill only numbers still unknown", and "For each number from the base on it keeps whether that datagram was accepted and
+// its parity messages." These calls serve callers inside this repository: they require that what the datagram carries is within
+// the sizes. Nothing is counted here: a number is counted as it is released.
+use datagram::Parity;
+use datagram::Part;
+use datagram::Spares;
+use session_held::Session;
+ghost use mathlib.Core.Path.{_≡_};
+ghost use mathlib.Core.Bool.{true};
+ghost use Prim.Native.Nat.{_<_};
+ghost use lib.ListN.{length};
+ghost use Rattle.datagram.specs.Sizes.{packetLeast, packetLimit, messageLeast, messageLimit};
+ghost use Rattle.datagram.specs.Claims.{PartInside};
+ghost use Rattle.datagram.specs.Read.{octetsOf};
+ghost use Rattle.session_slots.specs.Store.{HasSlot};
+ghost use Rattle.session.specs.Ranges.{isFill, noteRight};
+ghost use Rattle.session_held.specs.Slots.{slotsHeard, keptOctets, messageOctets};
+ghost use Rattle.session_held.specs.Table.{places, stateNumbered};
+ghost use Rattle.session_offer.specs.KeepSteps.{PartPut, Fit, ItemsLaid};
+ghost use Rattle.session_offer.specs.KeepPromise.{MayKeep, CarriesSpares, Keeps, KeepsSpares, CarriesMessages, MayHold, Holds};
+
+// The octets of a part of the datagram s, laid at the front of a slot: hands back how many.
+fn put_part(o: &mut [u8], slot: usize, s: &[u8], part: Part) -> u16
+    requires { ⌜ HasSlot slot (now o) ⌝ }
+    requires { ⌜ PartInside messageLeast messageLimit (now s) part ⌝ }
+    ensures { λ r. ⌜ PartPut slot (now (s .entry)) part (now (o .entry)) (now (o .exit)) r ⌝ }
+{
+    let start = part.start;
+    let size = part.size;
+    let end = start + size;
+    session_slots::put(o, slot, &s[start..end]);
+    size as u16
+}
+
+// A packet, which is a part of the datagram s, kept at its number as received or spare, if that number is still unknown. Its note is the
+// number of the datagram.
+pub fn keep(t: &mut [u16], o: &mut [u8], number: u16, state: u16, note: u16, s: &[u8], part: Part)
+    requires { ⌜ length (now t) ≡ places ⌝ }
+    requires { ⌜ length (now o) ≡ keptOctets ⌝ }
+    requires { ⌜ MayKeep number 0 (now t) (now o) ⌝ }
+    requires { ⌜ isFill (stateNumbered state) ≡ true ⌝ }
+    requires { ⌜ noteRight (stateNumbered state) note number ≡ true ⌝ }
+    requires { ⌜ PartInside packetLeast packetLimit (now s) part ⌝ }
+    ensures { λ _. ⌜ Keeps note state number (octetsOf (now (s .entry)) part) (now (t .entry)) (now (o .entry)) (now (t .exit))
+        (now (o .exit)) ⌝ }
+{
+    let slot = session_held::kept_slot(number);
+    if session_held::is_known(t, slot) {
+        return;
+    }
+    let size = put_part(o, slot, s, part);
+    session_held::set_kept(t, slot, state, size, note);
+}
+
+// The spares of the datagram s with that number, its first `count` items, each kept at the number before the last.
+pub fn keep_spares(
+    t: &mut [u16],
+    o: &mut [u8],
+    number: u16,
+    s: &[u8],
+    items: [Part; Spares::LIMIT],
+    count: usize,
+)
+    requires { ⌜ length (now t) ≡ places ⌝ }
+    requires { ⌜ length (now o) ≡ keptOctets ⌝ }
+    requires { ⌜ MayKeep number count (now t) (now o) ⌝ }
+    requires { ⌜ CarriesSpares (now s) items count ⌝ }
+    ensures { λ _. ⌜ KeepsSpares number (now (s .entry)) items count (now (t .entry)) (now (o .entry)) (now (t .exit)) (now (o .exit)) ⌝ }
+{
+    let mut at = number;
+    let mut j = 0;
+    while j < count {
+        let part = items[j];
+        let before = std::num::wrapping_sub_u16(at, 1);
+        keep(t, o, before, Session::SPARE, number, s, part);
+        at = before;
+        j += 1;
+    }
+}
+
+// The first `count` items, which are parts of the datagram s, laid into the message slots of the number in slot j of those from
+// the base on, with their sizes.
+fn lay(t: &mut [u16], g: &mut [u8], s: &[u8], j: usize, items: [Part; Spares::LIMIT], count: usize)
+    requires { ⌜ length (now t) ≡ places ⌝ }
+    requires { ⌜ length (now g) ≡ messageOctets ⌝ }
+    requires { ⌜ j < slotsHeard ⌝ }
+    requires { ⌜ Fit (now s) items count ⌝ }
+    ensures { λ _. ⌜ ItemsLaid (now (s .entry)) j items count (now (t .entry)) (now (g .entry)) (now (t .exit)) (now (g .exit)) ⌝ }
+{
+    let at = j * Parity::MESSAGES;
+    let mut i = 0;
+    while i < count {
+        let item = items[i];
+        let place = at + i;
+        let size = put_part(g, place, s, item);
+        session_held::set_message_size(t, place, size);
+        i += 1;
+    }
+}
+
+// The number at a distance from the base, which is known, is marked as accepted, and its n and messages are kept: the first
+// `count` items, which are parts of the datagram s. With spares there are none, and n is 0.
+pub fn hold(
+    base: u16,
+    t: &mut [u16],
+    g: &mut [u8],
+    s: &[u8],
+    distance: u16,
+    n: usize,
+    items: [Part; Spares::LIMIT],
+    count: usize,
+)
+    requires { ⌜ MayHold base (now t) (now g) distance ⌝ }
+    requires { ⌜ CarriesMessages (now s) distance n items count ⌝ }
+    ensures { λ _. ⌜ Holds base distance (now (s .entry)) n items count (now (t .entry)) (now (g .entry)) (now (t .exit))
+        (now (g .exit)) ⌝ }
+{
+    let number = std::num::wrapping_add_u16(base, distance);
+    let slot = session_held::heard_slot(number);
+    let covered = n as u16;
+    let m = count as u16;
+    session_held::set_heard(t, slot, covered, m);
+    lay(t, g, s, slot, items, count);
+}

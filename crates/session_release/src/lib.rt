@@ -1,0 +1,204 @@
+// The call that moves the base of a receiving session: document 01, 'The receiving session', Next and Give up, which are one call
+// since document 02, request 7, over a session that is lent. It serves callers inside this repository: it requires the session's
+// ranges, which the public call checks (refusal 17), and keeps them. Only the slots of the number that leaves and of the one that
+// comes into view are written.
+mod counts;
+
+use counts::all_passed;
+use counts::count_one;
+use datagram::Parity;
+use length::Refusal;
+use session_held::Counts;
+use session_held::ReleaseKind;
+use session_held::Session;
+ghost use mathlib.Core.Path.{_≡_};
+ghost use Prim.Native.Nat.{_+_, _≤_, _<_};
+ghost use lib.ListN.{length};
+ghost use Rattle.datagram.specs.Sizes.{messagesLimit};
+ghost use Rattle.session.specs.View.{following};
+ghost use Rattle.session_held.specs.Slots.{slotsHeard, messageOctets};
+ghost use Rattle.session_held.specs.Table.{lent, lastState};
+ghost use Rattle.session_held.specs.Laid.{InRanges};
+ghost use Rattle.session_release.specs.Steps.{Named, Freed, releaseRefused};
+ghost use Rattle.session_release.specs.Promise.{MayMoveOn, MovesOn, Leaves, Releases};
+
+// What a release answers: the kind and the number of what left, the number of the datagram whose offer filled it and the size of its
+// packet, both 0 where it is lost; or why it is refused.
+pub enum Released {
+    Number {
+        kind: ReleaseKind,
+        number: u16,
+        note: u16,
+        size: usize,
+    },
+    Refused(Refusal),
+}
+
+pub struct ReleaseDone {
+    pub base: u16,
+    pub counts: Counts,
+    pub answer: Released,
+}
+
+// The kind of a number that leaves in this state: a blank one never does.
+fn kind_of(state: u16) -> ReleaseKind
+    requires { ⌜ state < lastState ⌝ }
+    ensures { λ r. ⌜ Named state r ⌝ }
+{
+    if state == Session::UNKNOWN {
+        return ReleaseKind::Lost;
+    }
+    if state == Session::RECEIVED {
+        return ReleaseKind::Received;
+    }
+    if state == Session::SPARE {
+        return ReleaseKind::Spare;
+    }
+    ReleaseKind::Repaired
+}
+
+// The number after n: "All arithmetic on numbers is modulo 65,536".
+fn number_after(n: u16) -> u16
+    ensures { λ r. ⌜ r ≡ following n ⌝ }
+{
+    std::num::wrapping_add_u16(n, 1)
+}
+
+// The first m messages of the number in slot j of those from the base on, cleared.
+fn free_messages(g: &mut [u8], j: usize, m: usize)
+    requires { ⌜ j < slotsHeard ⌝ }
+    requires { ⌜ length (now g) ≡ messageOctets ⌝ }
+    requires { ⌜ m ≤ messagesLimit ⌝ }
+    ensures { λ _. ⌜ Freed j m (now (g .entry)) (now (g .exit)) ⌝ }
+{
+    let at = j * Parity::MESSAGES;
+    let mut i = 0;
+    while i < m {
+        session_slots::clear(g, at + i);
+        i += 1;
+    }
+}
+
+// Base and counts after a number left.
+struct Moved {
+    base: u16,
+    counts: Counts,
+}
+
+// How a number leaves: the one at the base, which is of this kind, is counted, and "the base goes on by one": "The number that
+// leaves drops its accepted mark and messages; the one that comes into view is unknown." The number that comes into view has the
+// slot of the oldest before the base, which leaves the view.
+fn move_on(
+    base: u16,
+    counts: Counts,
+    kind: ReleaseKind,
+    t: &mut [u16; Session::PLACES],
+    o: &mut [u8; Session::PACKET_OCTETS],
+    g: &mut [u8; Session::MESSAGE_OCTETS],
+) -> Moved
+    requires { ⌜ InRanges (lent base counts (now t) (now o) (now g)) ⌝ }
+    requires { ⌜ MayMoveOn kind (lent base counts (now t) (now o) (now g)) ⌝ }
+    ensures { λ r. ⌜ MovesOn (lent base counts (now (t .entry)) (now (o .entry)) (now (g .entry)))
+        (lent (r .base) (r .counts) (now (t .exit)) (now (o .exit)) (now (g .exit))) ⌝ }
+{
+    let moved = count_one(kind, counts);
+    let wide = session_slots::wide(base);
+    let comes = (wide + Session::BEFORE) % Session::KEPT;
+    let leaves = session_held::heard_slot(base);
+    let m = session_held::m_at(t, leaves);
+    session_slots::clear(o, comes);
+    free_messages(g, leaves, m);
+    session_held::set_kept(t, comes, Session::UNKNOWN, 0, 0);
+    session_held::drop_heard(t, leaves);
+    let after = number_after(base);
+    Moved {
+        base: after,
+        counts: moved,
+    }
+}
+
+fn release_refused(base: u16, counts: Counts, number: u8) -> ReleaseDone
+    ensures { λ r. ⌜ r ≡ releaseRefused base counts number ⌝ }
+{
+    let refusal = Refusal::new(number);
+    ReleaseDone {
+        base,
+        counts,
+        answer: Released::Refused(refusal),
+    }
+}
+
+// Refusals 16, 10 and 13 in this order, 10 where the base is unknown and may not be skipped, 13 where its packet is longer than room;
+// else the number at the base leaves, an unknown one booked lost. Its packet stays in its slot, where the caller finds it.
+pub fn leave_core(
+    base: u16,
+    counts: Counts,
+    t: &mut [u16; Session::PLACES],
+    o: &mut [u8; Session::PACKET_OCTETS],
+    g: &mut [u8; Session::MESSAGE_OCTETS],
+    skip: bool,
+    room: usize,
+) -> ReleaseDone
+    requires { ⌜ InRanges (lent base counts (now t) (now o) (now g)) ⌝ }
+    ensures { λ r. ⌜ Leaves skip room (lent base counts (now (t .entry)) (now (o .entry)) (now (g .entry)))
+        (lent (r .base) (r .counts) (now (t .exit)) (now (o .exit)) (now (g .exit))) (r .answer) ⌝ }
+{
+    if all_passed(counts) {
+        return release_refused(base, counts, Refusal::ALL_PASSED);
+    }
+    let slot = session_held::kept_slot(base);
+    let state = session_held::state_at(t, slot);
+    let waits = (state == Session::UNKNOWN) & !skip;
+    if waits {
+        return release_refused(base, counts, Refusal::BASE_UNKNOWN);
+    }
+    let size = session_held::size_at(t, slot);
+    if room < size {
+        return release_refused(base, counts, Refusal::NO_ROOM);
+    }
+    let note = session_held::note_at(t, slot);
+    let kind = kind_of(state);
+    let moved = move_on(base, counts, kind, t, o, g);
+    let after = moved.base;
+    let left = moved.counts;
+    ReleaseDone {
+        base: after,
+        counts: left,
+        answer: Released::Number {
+            kind,
+            number: base,
+            note,
+            size,
+        },
+    }
+}
+
+// A release: the packet of the number that leaves goes to the front of out. A lost one has no octets, so that nothing is written.
+pub fn release_core(
+    base: u16,
+    counts: Counts,
+    t: &mut [u16; Session::PLACES],
+    o: &mut [u8; Session::PACKET_OCTETS],
+    g: &mut [u8; Session::MESSAGE_OCTETS],
+    skip: bool,
+    out: &mut [u8],
+) -> ReleaseDone
+    requires { ⌜ InRanges (lent base counts (now t) (now o) (now g)) ⌝ }
+    ensures { λ r. ⌜ Releases skip (lent base counts (now (t .entry)) (now (o .entry)) (now (g .entry)))
+        (lent (r .base) (r .counts) (now (t .exit)) (now (o .exit)) (now (g .exit))) (now (out .entry)) (now (out .exit)) (r .answer) ⌝ }
+{
+    let done = leave_core(base, counts, t, o, g, skip, out.len());
+    let answer = done.answer;
+    let Released::Number {
+        kind: _,
+        number,
+        note: _,
+        size,
+    } = answer
+    else {
+        return done;
+    };
+    let slot = session_held::kept_slot(number);
+    session_slots::copy_out(o, slot, size, out);
+    done
+}

@@ -1,0 +1,154 @@
+-- What the searches, the fill and the whole repair owe, a record for each. A search reads the table alone, so what it owes holds
+-- of every pair of stores. Definitions only.
+use Prim.Native.Nat.{ℕ, _+_, _%_, _≤_, _<_}
+use mathlib.Core.Path.{_≡_}
+use mathlib.Core.Bool.{cond}
+use mathlib.Core.List.{List, _∷_, map}
+use mathlib.Core.Option.{Option, none, some}
+use lib.ListN.{length, getD, take}
+use lib.Dec.{eqb}
+use Rattle.octets.specs.ExclusiveOr.{xorAt}
+use Rattle.datagram.specs.Sizes.{packetLimit, coveredLimit, messagesLimit}
+use Rattle.session.specs.Cells.{repaired, filledCell, cellAt, keptBefore, keptAhead}
+use Rattle.session.specs.Members.{membersOf}
+use Rattle.session.specs.Repair.{Message, unknownMembers, otherMembers, firstUsable, mended, fill, repair}
+use Rattle.session.specs.Held.{messagesOf, heldMessages}
+use Rattle.session.specs.View.{View, numbers}
+use Rattle.session_held.specs.Slots.{slotAt, heardSlotAt, messageSlot, slotsKept, slotsHeard, messageOctets}
+use Rattle.session_held.specs.Table.{Lent, lent, places, nIn, mIn, messageSizeIn, messageIn, heldIn, cellsOf, heldOf, viewIn}
+use Rattle.session_held.specs.Laid.{InRanges}
+use Rattle.session_held.specs.declared.Counts.{Counts}
+use Rattle.session_repair.specs.Back.{countBack}
+use Rattle.session_repair.specs.declared.searching.Usable.{Usable}
+use Rattle.session_repair.specs.declared.searching.Usable.the-variants as usables
+use Rattle.session_repair.specs.declared.searching.Lowest.{Lowest}
+use Rattle.session_repair.specs.declared.searching.Lowest.the-variants as lowest
+
+-- what the searches ask of the table: n, m and the sizes of messages are within the sizes
+pub record Searchable (table : List ℕ) : Type 0 where
+  pub long : length table ≡ places
+  pub covered : (j : ℕ) → j < slotsHeard → nIn table j ≤ coveredLimit
+  pub few : (j : ℕ) → j < slotsHeard → mIn table j ≤ messagesLimit
+  pub part : (j i : ℕ) → j < slotsHeard → i < messagesLimit → messageSizeIn table (messageSlot j i) ≤ packetLimit
+
+-- n and m of the number at distance d, the size of its message i, and that message
+abbrev pub nAt : ℕ → List ℕ → ℕ → ℕ
+nAt base table d = nIn table (heardSlotAt base d)
+
+abbrev pub mAt : ℕ → List ℕ → ℕ → ℕ
+mAt base table d = mIn table (heardSlotAt base d)
+
+abbrev pub messageSizeAt : ℕ → List ℕ → ℕ → ℕ → ℕ
+messageSizeAt base table d i = messageSizeIn table (messageSlot (heardSlotAt base d) i)
+
+unfoldable pub messageHeld : ℕ → List ℕ → List ℕ → ℕ → ℕ → Message
+messageHeld base table messages d i =
+    record {
+      members = membersOf (keptBefore + d) (nAt base table d) (mAt base table d) i;
+      octets = messageIn table messages (heardSlotAt base d) i;
+    }
+
+-- how many members of a message are unknown, or none where it has no octets
+abbrev pub missingOf : ℕ → List ℕ → ℕ → ℕ → ℕ → ℕ
+missingOf size table x n m = cond (eqb size 0) 0 (countBack table x n m)
+
+-- a message of distance d and index i is there, and the slot is that of its first unknown member
+pub record Points (base : ℕ) (table : List ℕ) (d i slot : ℕ) : Type 0 where
+  pub near : d < keptAhead
+  pub low : i < mAt base table d
+  pub target : (octets messages : List ℕ)
+      → slot ≡ slotAt base (getD (unknownMembers (cellsOf base table octets) (messageHeld base table messages d i)) 0 0)
+
+-- the lowest usable message of the number at distance d
+abbrev pub LowestAnswer : ℕ → List ℕ → ℕ → Lowest → List ℕ → Option Message
+LowestAnswer base table d (lowest.Message i slot) messages = some (messageHeld base table messages d i)
+LowestAnswer base table d lowest.Nothing messages = none
+
+abbrev pub LowestPoints : ℕ → List ℕ → ℕ → Lowest → Type 0
+LowestPoints base table d (lowest.Message i slot) = Points base table d i slot
+LowestPoints base table d lowest.Nothing = Unit {0}
+
+pub record LowestFound (base : ℕ) (table : List ℕ) (d : ℕ) (r : Lowest) : Type 0 where
+  pub answer : (octets messages : List ℕ) → length messages ≡ messageOctets
+      → firstUsable (cellsOf base table octets) (messagesOf (keptBefore + d) (heldIn table messages (heardSlotAt base d)))
+      ≡ LowestAnswer base table d r messages
+  pub points : LowestPoints base table d r
+
+-- what the search of a number's messages asks for: the number's slot, n and m
+pub record Seeable (t : List ℕ) (at slot n m : ℕ) : Type 0 where
+  pub table : Searchable t
+  pub place : slot ≡ at % slotsHeard
+  pub covered : n ≡ nIn t slot
+  pub count : m ≡ mIn t slot
+
+-- what it owes: the answer for every base from which that number is seen
+pub record LowestSeen (table : List ℕ) (at : ℕ) (r : Lowest) : Type 0 where
+  pub found : (base d : ℕ) → d < keptAhead → at ≡ (base + d) % numbers → LowestFound base table d r
+
+-- the first usable message, counted from the base on
+abbrev pub UsableAnswer : ℕ → List ℕ → Usable → List ℕ → Option Message
+UsableAnswer base table (usables.Message d i slot) messages = some (messageHeld base table messages d i)
+UsableAnswer base table usables.Nothing messages = none
+
+abbrev pub UsablePoints : ℕ → List ℕ → Usable → Type 0
+UsablePoints base table (usables.Message d i slot) = Points base table d i slot
+UsablePoints base table usables.Nothing = Unit {0}
+
+pub record UsableFound (base : ℕ) (table : List ℕ) (r : Usable) : Type 0 where
+  pub answer : (octets messages : List ℕ) → length messages ≡ messageOctets
+      → firstUsable (cellsOf base table octets) (heldMessages (heldOf base table messages)) ≡ UsableAnswer base table r messages
+  pub points : UsablePoints base table r
+
+-- what a message asks of its unknown members, over the limit's length: the exclusive or of the message and its other members
+pub record AskedOctets (base : ℕ) (table octets messages : List ℕ) (d i : ℕ) (r : List ℕ) : Type 0 where
+  pub long : length r ≡ packetLimit
+  pub each : (k : ℕ) → k < packetLimit
+      → getD r k 0
+      ≡ xorAt
+      ((messageHeld base table messages d i) .octets
+      ∷ map (λ p. (cellAt (cellsOf base table octets) p) .octets)
+      (otherMembers (cellsOf base table octets) (messageHeld base table messages d i)))
+      k
+
+-- of the table only states, sizes and notes of kept numbers have changed: marks, n, m and sizes of messages are as they were
+pub record SameBeside (before after : List ℕ) : Type 0 where
+  pub stays : (k : ℕ) → slotsKept + slotsKept + slotsKept ≤ k → getD after k 0 ≡ getD before k 0
+
+-- what mend sees is within the ranges: there are counts with which it is so
+pub record MayMend (base : ℕ) (table octets messages : List ℕ) : Type 0 where
+  pub counts : Counts
+  pub within : InRanges (lent base counts table octets messages)
+
+-- one message used, while datagram S is offered
+pub record FilledNow (S : ℕ) (before : Lent) (d i : ℕ) (after : Lent) : Type 0 where
+  pub cells : cellsOf (after .base) (after .table) (after .octets)
+      ≡ fill (filledCell S repaired) (cellsOf (before .base) (before .table) (before .octets))
+      (messageHeld (before .base) (before .table) (before .messages) d i)
+  pub within : InRanges after
+  pub beside : SameBeside (before .table) (after .table)
+
+-- what fill owes: so it is with every counts with which it was within the ranges
+pub record Fills (S base : ℕ) (table octets messages : List ℕ) (d i : ℕ) (newTable newOctets : List ℕ) : Type 0 where
+  pub fills : (c : Counts) → InRanges (lent base c table octets messages)
+      → FilledNow S (lent base c table octets messages) d i (lent base c newTable newOctets messages)
+
+-- "Then repair": what is held stays, and the kept numbers are repaired
+abbrev pub repairedView : ℕ → View → View
+repairedView S v =
+    record {
+      base = v .base;
+      counts = v .counts;
+      cells = repair (filledCell S repaired) (v .cells) (heldMessages (v .held));
+      held = v .held;
+    }
+
+-- all that can be mended is
+pub record MendedNow (S : ℕ) (before after : Lent) : Type 0 where
+  pub state : viewIn after ≡ repairedView S (viewIn before)
+  pub within : InRanges after
+  pub beside : SameBeside (before .table) (after .table)
+
+-- what mend owes, likewise with every counts
+pub record Mends (S base : ℕ) (table octets messages newTable newOctets : List ℕ) : Type 0 where
+  pub mends : (c : Counts) → InRanges (lent base c table octets messages)
+      → MendedNow S (lent base c table octets messages) (lent base c newTable newOctets messages)

@@ -1,9 +1,0 @@
--- What the crates above use of this one's laws; each is proved in the file that it is passed on from. Assumes nothing.
-
--- ---- the public calls on a session within its ranges
-pub use Rattle.sessions.proofs.Seen.{fresh-seen, offer-done, release-refused, release-done, HandedOut, release-handed}
--- ---- the calls on plain values, and what the cores require
-pub use Rattle.sessions.proofs.Called.{offer-outside, offer-inside, release-outside, release-inside, within-session}
-pub use Rattle.sessions.proofs.Solved.{solve-outside, solve-inside}
--- ---- two outcomes are equal, and a refused call leaves the session
-pub use Rattle.sessions.proofs.Outcomes.{after-same, after-refused}

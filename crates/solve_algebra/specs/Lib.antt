@@ -1,0 +1,11 @@
+pub mod First
+pub mod Sums
+pub mod Systems
+pub mod LinearClaims
+pub mod Masks
+pub mod MasksPromise
+pub mod MasksClaims
+pub mod Rows
+pub mod Eliminated
+pub mod Promise
+pub mod Claims

@@ -1,0 +1,13 @@
+-- The claims of this crate: statements alone.
+use Prim.Native.Nat.{ℕ}
+use mathlib.Core.Path.{_≡_}
+use mathlib.Core.List.{List}
+use Rattle.solve_algebra.specs.declared.Row.{Row}
+use Rattle.solve_code.specs.RowsPromise.{TableLaid}
+
+-- two tables that the promise allows are equal
+abbrev pub OneOutcome : Type 0
+OneOutcome = (base : ℕ) (t : List ℕ) (r q : List Row) → TableLaid base t r → TableLaid base t q → r ≡ q
+
+pub record Claims : Type 0 where
+  pub oneOutcome : OneOutcome

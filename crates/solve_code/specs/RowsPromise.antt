@@ -1,0 +1,27 @@
+-- What each function owes, a record for each. They read the table alone, so what they owe holds of every pair of stores. Definitions
+-- only.
+use Prim.Native.Nat.{ℕ, _^_}
+use mathlib.Core.Path.{_≡_}
+use mathlib.Core.Bool.{Bool, cond}
+use mathlib.Core.List.{List}
+use lib.Bits.{bitAnd}
+use Rattle.solve_algebra.specs.Masks.{maskOf}
+use Rattle.solve_algebra.specs.declared.Row.{Row}
+use Rattle.session_held.specs.Table.{cellsOf, heldOf}
+use Rattle.solve.specs.Table.{equationAt, unknownMask, startRows}
+
+-- the mask of a place, unless it is known
+pub record OneUnless (known : Bool) (place r : ℕ) : Type 0 where
+  pub answer : r ≡ cond known 0 (2 ^ place)
+
+-- the mask of the unknown numbers
+pub record UnknownMade (base : ℕ) (t : List ℕ) (r : ℕ) : Type 0 where
+  pub answer : (o : List ℕ) → r ≡ unknownMask (cellsOf base t o)
+
+-- the members of equation e that are in a mask
+pub record EquationMade (base : ℕ) (t : List ℕ) (unknown e r : ℕ) : Type 0 where
+  pub answer : (g : List ℕ) → r ≡ bitAnd (maskOf ((equationAt (heldOf base t g) e) .members)) unknown
+
+-- the table of all equations
+pub record TableLaid (base : ℕ) (t : List ℕ) (r : List Row) : Type 0 where
+  pub answer : (o g : List ℕ) → r ≡ startRows (cellsOf base t o) (heldOf base t g)

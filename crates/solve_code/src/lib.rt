@@ -1,0 +1,116 @@
+// Losses that no single message mends (document 02, request 13): what the equations ask for, whether some octets satisfy them, and the
+// fills, over a session that is lent. These functions serve callers inside this repository: they require the session's ranges, which the
+// public call checks (refusal 17), and keep them.
+mod equations;
+mod sides;
+
+use datagram::Packet;
+use datagram::Part;
+use length::Refusal;
+use session_held::Counts;
+use session_held::Session;
+use sides::row_sum;
+use sides::sides;
+use solve_algebra::Mask;
+use solve_algebra::Row;
+ghost use mathlib.Core.Path.{_≡_};
+ghost use lib.ListN.{length};
+ghost use Rattle.session_held.specs.Slots.{messageOctets};
+ghost use Rattle.session_held.specs.Table.{lent};
+ghost use Rattle.session_held.specs.Laid.{InRanges};
+ghost use Rattle.solve_code.specs.Steps.{RowTold, RowsTold, MayFill, RowFills, RowsFill};
+ghost use Rattle.solve_code.specs.Promise.{Solving};
+
+// What the call answers: filled, or why it is refused.
+pub enum Solved {
+    Filled,
+    Refused(Refusal),
+}
+
+// Whether a row has columns, or asks for nothing.
+fn row_fits(all: &[u8], row: Row) -> bool
+    requires { ⌜ length (now all) ≡ messageOctets ⌝ }
+    ensures { λ r. ⌜ RowTold (now (all .entry)) row r ⌝ }
+{
+    let first = solve_algebra::first_place(row.mask);
+    if first < Mask::PLACES {
+        return true;
+    }
+    let sum = row_sum(all, row);
+    session_slots::all_zero(&sum, 0)
+}
+
+// Whether some octets satisfy all equations: no row without columns asks for something.
+fn all_fit(all: &[u8], rows: [Row; Row::COUNT]) -> bool
+    requires { ⌜ length (now all) ≡ messageOctets ⌝ }
+    ensures { λ r. ⌜ RowsTold (now (all .entry)) rows r ⌝ }
+{
+    let mut ok = true;
+    let mut i = 0;
+    while i < Row::COUNT {
+        let row = rows[i];
+        let fits = row_fits(all, row);
+        ok = ok & fits;
+        i += 1;
+    }
+    ok
+}
+
+// The number that a row has alone, filled with what the row asks for if it is still unknown.
+fn fill_row(base: u16, t: &mut [u16], o: &mut [u8], all: &[u8], row: Row)
+    requires { ⌜ MayFill base (now t) (now o) ⌝ }
+    requires { ⌜ length (now all) ≡ messageOctets ⌝ }
+    ensures { λ _. ⌜ RowFills base (now (all .entry)) row (now (t .entry)) (now (o .entry)) (now (t .exit)) (now (o .exit)) ⌝ }
+{
+    let place = solve_algebra::lone_place(row.mask);
+    if place < Mask::PLACES {
+        let sum = row_sum(all, row);
+        let before = Session::BEFORE as u16;
+        let first = std::num::wrapping_sub_u16(base, before);
+        let near = place as u16;
+        let number = std::num::wrapping_add_u16(first, near);
+        let part = Part {
+            start: 0,
+            size: Packet::LIMIT,
+        };
+        session_offer::keep(t, o, number, Session::REPAIRED, 0, &sum, part);
+    }
+}
+
+// All that the reduced table fills.
+fn fill_rows(base: u16, t: &mut [u16], o: &mut [u8], all: &[u8], rows: [Row; Row::COUNT])
+    requires { ⌜ MayFill base (now t) (now o) ⌝ }
+    requires { ⌜ length (now all) ≡ messageOctets ⌝ }
+    ensures { λ _. ⌜ RowsFill base (now (all .entry)) rows (now (t .entry)) (now (o .entry)) (now (t .exit)) (now (o .exit)) ⌝ }
+{
+    let mut i = 0;
+    while i < Row::COUNT {
+        let row = rows[i];
+        fill_row(base, t, o, all, row);
+        i += 1;
+    }
+}
+
+// The unknown numbers for which the equations and the known octets allow one value, filled. Base, counts and messages stay as they are.
+pub fn solve_core(
+    base: u16,
+    counts: Counts,
+    t: &mut [u16; Session::PLACES],
+    o: &mut [u8; Session::PACKET_OCTETS],
+    g: &[u8; Session::MESSAGE_OCTETS],
+) -> Solved
+    requires { ⌜ InRanges (lent base counts (now t) (now o) (now g)) ⌝ }
+    ensures { λ r. ⌜ Solving (lent base counts (now (t .entry)) (now (o .entry)) (now (g .entry)))
+        (lent base counts (now (t .exit)) (now (o .exit)) (now (g .entry))) r ⌝ }
+{
+    let rows = equations::table(base, t);
+    let reduced = solve_algebra::reduced(rows);
+    let all = sides(base, t, o, g);
+    let ok = all_fit(&all, reduced);
+    if ok {
+        fill_rows(base, t, o, &all, reduced);
+        return Solved::Filled;
+    }
+    let why = Refusal::new(Refusal::NO_SOLUTION);
+    Solved::Refused(why)
+}

@@ -1,0 +1,64 @@
+// What each equation asks for, and what a row does, which is the sum of several.
+use datagram::Packet;
+use datagram::Parity;
+use session_held::Session;
+use solve_algebra::Row;
+ghost use mathlib.Core.Path.{_≡_};
+ghost use Prim.Native.Nat.{_<_};
+ghost use lib.ListN.{length};
+ghost use Rattle.solve_algebra.specs.Rows.{tableRows};
+ghost use Rattle.session_held.specs.Slots.{messageOctets};
+ghost use Rattle.session_repair.specs.Promise.{MayMend};
+ghost use Rattle.solve_code.specs.Steps.{SideTold, SidesLaid, RowSummed};
+
+// What equation e asks for: the message and its known members; zeros where there is no such message.
+fn side(base: u16, t: &[u16], o: &[u8], g: &[u8], e: usize) -> [u8; Packet::LIMIT]
+    requires { ⌜ MayMend base (now t) (now o) (now g) ⌝ }
+    requires { ⌜ e < tableRows ⌝ }
+    ensures { λ r. ⌜ SideTold base (now (t .entry)) (now (o .entry)) (now (g .entry)) e r ⌝ }
+{
+    let distance = e / Parity::MESSAGES;
+    let index = e % Parity::MESSAGES;
+    let near = distance as u16;
+    let at = std::num::wrapping_add_u16(base, near);
+    let slot = session_held::heard_slot(at);
+    let count = session_held::m_at(t, slot);
+    if index < count {
+        return session_repair::asked(base, t, o, g, near, index);
+    }
+    [0u8; Packet::LIMIT]
+}
+
+// What all equations ask for, one after the other.
+pub fn sides(base: u16, t: &[u16], o: &[u8], g: &[u8]) -> [u8; Session::MESSAGE_OCTETS]
+    requires { ⌜ MayMend base (now t) (now o) (now g) ⌝ }
+    ensures { λ r. ⌜ SidesLaid base (now (t .entry)) (now (o .entry)) (now (g .entry)) r ⌝ }
+{
+    let mut all = [0u8; Session::MESSAGE_OCTETS];
+    let mut e = 0;
+    while e < Row::COUNT {
+        let one = side(base, t, o, g, e);
+        session_slots::put(&mut all, e, &one);
+        e += 1;
+    }
+    all
+}
+
+// What a row asks for: the exclusive or of what its equations ask for.
+pub fn row_sum(all: &[u8], row: Row) -> [u8; Packet::LIMIT]
+    requires { ⌜ length (now all) ≡ messageOctets ⌝ }
+    ensures { λ r. ⌜ RowSummed (now (all .entry)) row r ⌝ }
+{
+    let mut sum = [0u8; Packet::LIMIT];
+    let mut e = 0;
+    while e < Row::COUNT {
+        let place = e;
+        e += 1;
+        let number = place as u64;
+        let there = solve_algebra::has_source(row, number);
+        if there {
+            session_slots::add(all, place, &mut sum);
+        }
+    }
+    sum
+}

@@ -1,4 +1,0 @@
--- The laws of this crate that others use; each is proved in the file that it is passed on from. Assumes nothing.
-
--- ---- one outcome, one answer
-pub use Rattle.solving.proofs.Claims.{solved-told}

@@ -1,4 +1,0 @@
-pub mod Outcome
-pub mod Steps
-pub mod Promise
-pub mod Claims

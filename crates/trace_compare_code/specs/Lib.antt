@@ -1,0 +1,6 @@
+pub mod Lines
+pub mod LinesClaims
+pub mod Numbers
+pub mod Rows
+pub mod DifferencesClaims
+pub mod Inner

@@ -1,0 +1,61 @@
+-- What is listed of two datagrams of one number, by what is found of their octets. Definitions only.
+use Prim.Native.Nat.{ℕ, _-_, _≤_}
+use mathlib.Core.Path.{_≡_}
+use mathlib.Core.Bool.{Bool, true, false, cond, not, _&&_, _||_}
+use mathlib.Core.List.{List, [], _∷_, _++_}
+use lib.ListN.{length, take, drop}
+use Rattle.length.specs.Answers.{Answer, done, refused}
+use Rattle.datagram.specs.Carried.{Extra, spares, parity, Carried}
+use Rattle.datagram.specs.Write.{extraOctets}
+use Rattle.datagram.specs.declared.kind.Kind.{Kind}
+use Rattle.datagram.specs.declared.kind.Kind.the-variants as kind
+use Rattle.trace_compare.specs.Entries.{numbersOf, packetDiffers, sparesDiffer, parityDiffers, differences, given, entriesOf}
+use Rattle.trace_compare.specs.Traces.{datagramOf}
+use Rattle.trace_compare_code.specs.declared.differing.Shape.{Shape}
+
+-- whether a call was done
+abbrev pub isDone : {A : Type 0} → Answer A → Bool
+isDone (done a) = true
+isDone (refused why) = false
+
+-- the 16-bit numbers that one entry takes, and those of one line of the first trace
+abbrev pub entryRoom : ℕ
+entryRoom = 2
+
+abbrev pub lineRoom : ℕ
+lineRoom = 6
+
+abbrev pub isSpares : Kind → Bool
+isSpares kind.Spares = true
+isSpares (kind.Parity n) = false
+
+abbrev pub hasSpares : Extra → Bool
+hasSpares (spares items) = true
+hasSpares (parity n items) = false
+
+-- where the packet of a datagram begins and ends, and what stands behind it
+pub record Shaped (s : List ℕ) (a : Carried) (r : Shape) : Type 0 where
+  pub packet : take (r .end - r .start) (drop (r .start) s) ≡ a .packet
+  pub behind : drop (r .end) s ≡ extraOctets (a .extra)
+  pub spares : r .spares ≡ hasSpares (a .extra)
+
+pub record ShapeOf (s : List ℕ) (r : Shape) : Type 0 where
+  pub low : r .start ≤ r .end
+  pub high : r .end ≤ length s
+  pub shaped : (a : Carried) → datagramOf s ≡ done a → Shaped s a r
+
+-- an entry as it stands in the list, if it applies
+unfoldable pub rowNumbers : Bool → ℕ → ℕ → List ℕ
+rowNumbers applies number code = cond applies (number ∷ code ∷ []) []
+
+-- the rows of two datagrams, by what was found to be the same and whether they have spares
+unfoldable pub rowsTold : ℕ → Bool → Bool → Bool → Bool → List ℕ
+rowsTold number packets extras first second =
+    (rowNumbers (not packets) number packetDiffers ++ rowNumbers (not extras && (first || second)) number sparesDiffer)
+    ++ rowNumbers (not extras && not (first && second)) number parityDiffers
+
+-- all that two datagrams differ in
+unfoldable pub differenceNumbers : ℕ → Answer Carried → Answer Carried → List ℕ
+differenceNumbers number (done a) (done b) = numbersOf (entriesOf number (given (differences a b)))
+differenceNumbers number (done a) (refused why) = []
+differenceNumbers number (refused why) b = []

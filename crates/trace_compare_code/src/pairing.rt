@@ -1,0 +1,39 @@
+// Which line of the other trace a line pairs with, by the numbers alone.
+ghost use mathlib.Core.Path.{_≡_};
+ghost use Rattle.trace_compare_code.specs.Numbers.{often, KthPlace};
+
+// How often a number stands in a list.
+pub fn count_of(numbers: &[u16], number: u16) -> usize
+    ensures { λ r. ⌜ r ≡ often number (now (numbers .entry)) ⌝ }
+{
+    let mut count = 0;
+    let mut i = 0;
+    while i < numbers.len() {
+        let here = numbers[i];
+        i += 1;
+        if here == number {
+            count += 1;
+        }
+    }
+    count
+}
+
+// Where the number stands that has k of its like before it; the length of the list if there is none.
+pub fn find_kth(numbers: &[u16], number: u16, k: usize) -> usize
+    ensures { λ r. ⌜ KthPlace (now (numbers .entry)) number k r ⌝ }
+{
+    let mut left = k;
+    let mut j = 0;
+    while j < numbers.len() {
+        let at = j;
+        let here = numbers[at];
+        j += 1;
+        if here == number {
+            if left == 0 {
+                return at;
+            }
+            left -= 1;
+        }
+    }
+    j
+}

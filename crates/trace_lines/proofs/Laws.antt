@@ -1,6 +1,0 @@
--- What the crates above use of this one's laws. Assumes nothing.
-
--- ---- the line that begins at a place
-pub use Rattle.trace_lines.proofs.Cutting.{line-of}
--- ---- room for the octets of any line
-pub use Rattle.trace_lines.proofs.Holding.{room-for}

@@ -1,6 +1,0 @@
-mod Cutting
-mod Holding
-mod Keeping
-mod Turning
-pub mod Laws
-pub mod Claims

@@ -1,0 +1,80 @@
+// The whole trace, and a refusal that writes nothing: how long the text is shows only at its end. So what stands in the lent buffer is
+// kept aside and put back if the text does not fit. Only a text that is longer than what is kept aside is measured first: it is played
+// once without writing.
+use crate::playing::play;
+use datagram_writer::put_octets;
+use session_held::Session;
+use trace_replay::Replayed;
+ghost use Prim.Native.Nat.{_≤_};
+ghost use lib.ListN.{length};
+ghost use Rattle.trace_replay.specs.Promise.{Replays};
+ghost use Rattle.trace_replay_code.specs.Inner.{keptAside, Plays};
+
+// So many characters are kept aside.
+const KEPT: usize = 131072;
+
+// From a fresh session on, written to the lent buffer or not.
+fn play_fresh(numbers: &[u16], trace: &[u8], out: &mut [u8], writes: bool) -> Replayed
+    ensures { λ r. ⌜ Plays (now (trace .entry)) (now (numbers .entry)) writes (now (out .entry)) (now (out .exit)) r ⌝ }
+{
+    let session = Session::fresh();
+    let base = session.base;
+    let counts = session.counts;
+    let mut table = session.table;
+    let mut octets = session.octets;
+    let mut messages = session.messages;
+    play(
+        base,
+        counts,
+        &mut table,
+        &mut octets,
+        &mut messages,
+        numbers,
+        trace,
+        out,
+        writes,
+    )
+}
+
+// With what stands in the lent buffer kept aside.
+fn play_aside(numbers: &[u16], trace: &[u8], out: &mut [u8]) -> Replayed
+    requires { ⌜ length (now out) ≤ keptAside ⌝ }
+    ensures { λ r. ⌜ Replays (now (trace .entry)) (now (numbers .entry)) (now (out .entry)) (now (out .exit)) r ⌝ }
+{
+    let mut aside = [0u8; KEPT];
+    let count = put_octets(out, &mut aside);
+    let answer = play_fresh(numbers, trace, out, true);
+    match answer {
+        Replayed::Done { counts: _, size: _ } => answer,
+        Replayed::Refused(_) => {
+            put_octets(&aside[..count], out);
+            answer
+        }
+    }
+}
+
+// Measured first.
+fn play_measured(numbers: &[u16], trace: &[u8], out: &mut [u8]) -> Replayed
+    ensures { λ r. ⌜ Replays (now (trace .entry)) (now (numbers .entry)) (now (out .entry)) (now (out .exit)) r ⌝ }
+{
+    let first = play_fresh(numbers, trace, out, false);
+    match first {
+        Replayed::Done { counts: _, size: _ } => play_fresh(numbers, trace, out, true),
+        Replayed::Refused(_) => first,
+    }
+}
+
+// The trace without the lines whose datagrams have a listed number, offered to a fresh session: the program's lines go to the front of
+// the lent buffer.
+pub fn replay(trace: &[u8], numbers: &[u16], out: &mut [u8]) -> Replayed
+    ensures { λ r. ⌜ Replays (now (trace .entry)) (now (numbers .entry)) (now (out .entry)) (now (out .exit)) r ⌝ }
+{
+    if out.len() <= KEPT {
+        return play_aside(numbers, trace, out);
+    }
+    let first = play_aside(numbers, trace, &mut out[..KEPT]);
+    match first {
+        Replayed::Done { counts: _, size: _ } => first,
+        Replayed::Refused(_) => play_measured(numbers, trace, out),
+    }
+}

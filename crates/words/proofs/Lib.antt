@@ -1,3 +1,0 @@
-mod Numbers
-mod Turns
-pub mod Laws
