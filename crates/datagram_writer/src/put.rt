@@ -3,6 +3,7 @@
 use datagram::Kind;
 use length::Length;
 use length::Written;
+use octets::wide;
 ghost use Prim.Native.Nat.{_+_, _≤_, _<_};
 ghost use mathlib.Core.Path.{_≡_};
 ghost use mathlib.Core.List.{_++_};
@@ -12,13 +13,6 @@ ghost use Rattle.length.specs.Promise.{Put};
 ghost use Rattle.datagram.specs.Write.{numberOctets, itemOctets, itemsOctets, cut, sumOf};
 ghost use Rattle.datagram.specs.Inner.Heads.{LengthSize, KindFits, FrontAsked, sparesHead, parityHead, kindHead, frontOctets, itemSize};
 ghost use Rattle.datagram.specs.Inner.Heads.{itemsSize};
-
-// A length as a size.
-pub fn wide(length: u16) -> usize
-    ensures { λ r. ⌜ r ≡ length ⌝ }
-{
-    length as usize
-}
 
 // ---- the writers
 

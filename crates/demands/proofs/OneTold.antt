@@ -46,7 +46,6 @@ by-datagrams =
       countInside = λ kind count. told-one;
       kindSize = λ kind count. told-one;
       lengthSize = λ n r q a b. a .answer ∙ sym (b .answer);
-      wide = λ n. told-one;
     }
 
 by-packets : ToldByPackets

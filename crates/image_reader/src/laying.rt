@@ -131,7 +131,7 @@ pub fn lay(
         let n = number.n;
         let m = number.m;
         let parts = number.parts;
-        lay_messages(t, g, j, s, parts, session_slots::wide(m));
+        lay_messages(t, g, j, s, parts, octets::wide(m));
         set_held(t, j, mark, n, m);
     }
 }

@@ -108,7 +108,7 @@ fn tail_at(s: &[u8], at: usize, limit: usize, ahead: bool) -> Tail
     if from_base(ahead, FEW) < m {
         return no_tail();
     }
-    let items = items_at(s, at + 2, session_slots::wide(m), limit);
+    let items = items_at(s, at + 2, octets::wide(m), limit);
     let read = items.read;
     let end = items.end;
     if !read {

@@ -1,7 +1,7 @@
 -- What a call of document 01 comes to: its values, or a refusal. And what each case of the answer enums of this layer is
 -- in these words. Definitions only.
 use Prim.Native.Nat.{ℕ}
-use mathlib.Core.Bool.{cond}
+use mathlib.Core.Bool.{Bool, true, false, cond}
 use mathlib.Core.List.{List, _++_}
 use lib.ListN.{length, drop}
 use lib.Dec.{leb}
@@ -34,6 +34,11 @@ readFrom start (refused why) = refused (further start why)
 abbrev pub _>>=_ : {A B : Type 0} → Answer A → (A → Answer B) → Answer B
 _>>=_ (done a) next = next a
 _>>=_ (refused r) next = refused r
+
+-- whether a call was done
+abbrev pub isDone : {A : Type 0} → Answer A → Bool
+isDone (done a) = true
+isDone (refused why) = false
 
 -- the same answer of other values: a refusal stays
 abbrev pub mapped : {A B : Type 0} → (A → B) → Answer A → Answer B

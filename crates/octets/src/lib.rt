@@ -7,6 +7,13 @@ ghost use Prim.Native.Nat.{_+_, _*_, _/_, _≤_, _<_};
 ghost use lib.ListN.{length};
 ghost use Rattle.octets.specs.Words.{Reads, Spells, AddsTo, both};
 
+// A number of sixteen bits as a size.
+pub fn wide(n: u16) -> usize
+    ensures { λ r. ⌜ r ≡ n ⌝ }
+{
+    n as usize
+}
+
 // ---- one octet, two, four or eight from a place on, as one number: the first is the lowest
 
 fn one(s: &[u8], at: usize) -> u64

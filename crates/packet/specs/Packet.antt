@@ -82,19 +82,19 @@ isData Indicator = false
 isData Data = true
 
 -- from its parts in their order, and back
-abbrev pub firstFrom : Bool × (Bool × ℕ) → First
-firstFrom parts =
+abbrev pub typeOfMsgFrom : Bool × (Bool × ℕ) → First
+typeOfMsgFrom parts =
     let present = parts .0 in
     let choice = parts .1 .0 in
     let value = parts .1 .1 in
     record { kind = chosen choice; value = value; present = present }
 
-abbrev pub firstParts : First → Bool × (Bool × ℕ)
-firstParts f = (f .present, (isData (f .kind), f .value))
+abbrev pub typeOfMsgParts : First → Bool × (Bool × ℕ)
+typeOfMsgParts f = (f .present, (isData (f .kind), f .value))
 
 unfoldable pub typeOfMsg : Edition → Format First
 typeOfMsg edition =
-    made firstFrom firstParts
+    made typeOfMsgFrom typeOfMsgParts
     (flag
     ⊳ λ present. flag
     ⊳ λ choice. enumerated (values edition (chosen choice)))

@@ -23,7 +23,7 @@ pub fn size_in(sizes: &[u16], slot: usize) -> usize
     requires { ⌜ slot < length (now sizes) ⌝ }
     ensures { λ r. ⌜ r ≡ lengthIn (now (sizes .entry)) slot ⌝ }
 {
-    session_slots::wide(sizes[slot])
+    octets::wide(sizes[slot])
 }
 
 // ---- the ranges

@@ -54,7 +54,7 @@ pub fn size_at(t: &[u16], slot: usize) -> usize
     ensures { λ r. ⌜ r ≡ sizeIn (now (t .entry)) slot ⌝ }
 {
     let size = t[Session::SIZES + slot];
-    session_slots::wide(size)
+    octets::wide(size)
 }
 
 // The number of the datagram whose offer filled a kept number.
@@ -98,7 +98,7 @@ pub fn n_at(t: &[u16], slot: usize) -> usize
     ensures { λ r. ⌜ r ≡ nIn (now (t .entry)) slot ⌝ }
 {
     let n = t[Session::NS + slot];
-    session_slots::wide(n)
+    octets::wide(n)
 }
 
 pub fn m_at(t: &[u16], slot: usize) -> usize
@@ -107,7 +107,7 @@ pub fn m_at(t: &[u16], slot: usize) -> usize
     ensures { λ r. ⌜ r ≡ mIn (now (t .entry)) slot ⌝ }
 {
     let m = t[Session::MS + slot];
-    session_slots::wide(m)
+    octets::wide(m)
 }
 
 // How many octets a message has.
@@ -117,7 +117,7 @@ pub fn message_size_at(t: &[u16], slot: usize) -> usize
     ensures { λ r. ⌜ r ≡ messageSizeIn (now (t .entry)) slot ⌝ }
 {
     let size = t[Session::MESSAGE_SIZES + slot];
-    session_slots::wide(size)
+    octets::wide(size)
 }
 
 // Another kept number in a slot.

@@ -102,7 +102,7 @@ fn move_on(
         (lent (r .base) (r .counts) (now (t .exit)) (now (o .exit)) (now (g .exit))) ⌝ }
 {
     let moved = count_one(kind, counts);
-    let wide = session_slots::wide(base);
+    let wide = octets::wide(base);
     let comes = (wide + Session::BEFORE) % Session::KEPT;
     let leaves = session_held::heard_slot(base);
     let m = session_held::m_at(t, leaves);

@@ -64,7 +64,7 @@ module _ {l : Lent} (w : InRanges l) {d i slot : ℕ} (at : Points (l .base) (l 
   pub size-fits : {size : ℕ} → size ≡ messageSizeAt (l .base) (l .table) d i → size ≤ packetLimit
   size-fits e = rw e (size-near (searchable w) (l .base) d i (at .low))
 
-  pub filled : {S : ℕ} {sum newT newO : List ℕ} {size octets : ℕ} → AskedOctets (l .base) (l .table) (l .octets) (l .messages) d i sum
+  pub filled : {S : ℕ} {sum newT newO : List ℕ} {size octets : ℕ} → AskedOctets (l .base) (l .table) (l .octets) (l .messages) d i size sum
       → size ≡ messageSizeAt (l .base) (l .table) d i → newO ≡ pasted (l .octets) slot (take size sum) → octets ≡ size
       → newT ≡ keptSet (l .table) slot repairedNumber octets S
       → FilledNow S l d i (lent (l .base) (l .counts) newT newO (l .messages))
@@ -74,7 +74,7 @@ module _ {l : Lent} (w : InRanges l) {d i slot : ℕ} (at : Points (l .base) (l 
       let long : size ≡ length (message .octets) =
       e-size ∙ sym (octets-long (searchable w) (l .base) d (l .messages) (w .laid .messages) i (at .low)) in
       let short : length (message .octets) ≤ packetLimit = rw (← long) (size-fits e-size) in
-      let front : take size sum ≡ b = rw long (asked-front m short) in
+      let front : take size sum ≡ b = rw long (asked-front (rw long at m) short) in
       let size-is : size ≡ length b = long ∙ sym (length-mended cells message) in
       let least : packetLeast ≤ length b = omega (arith, usable-says cells message fits .length-one, length-mended cells message) in
       let most : length b ≤ packetLimit = omega (arith, size-fits e-size, size-is) in

@@ -148,8 +148,9 @@ module _ {l : Lent} (w : InRanges l) (d i : ℕ) (near : d < keptAhead) (low : i
       ∙ summed w N (keptBefore + d + i) M j (omega (arith, reach-near (searchable w) (l .base) d)) (omega arith)
       (omega (arith, m-near (searchable w) (l .base) d)) below
 
-  -- ---- over the limit's length, where there were zeros: past its end the message has zeros too
-  module _ (empty : (k : ℕ) → getD start k 0 ≡ 0) {sum : List ℕ} (s : Summed (l .octets) first n m copied sum) where
+  -- ---- over a width, where there were zeros: past its end the message has zeros too
+  module _ (empty : (k : ℕ) → getD start k 0 ≡ 0) {width : ℕ} (narrow : width ≤ packetLimit) {front : List ℕ}
+      (s : Summed (l .octets) first n m (take width copied) front) where
     copied-at : (k : ℕ) → getD copied k 0 ≡ getD (message .octets) k 0
     copied-at k =
         ap (λ (x : List ℕ). getD x k 0) e-copied
@@ -166,19 +167,27 @@ module _ {l : Lent} (w : InRanges l) (d i : ℕ) (near : d < keptAhead) (low : i
         ∙ sym (List·getD-eq-default (message .octets) 0 {n = k} (rw (← size-is) past)))
         (below-or-not k size)
 
-    pub asked-whole : AskedOctets (l .base) (l .table) (l .octets) (l .messages) d i sum
+    taken-long : length (take width copied) ≡ width
+    taken-long = length-take-le width copied (omega (arith, copied-long, narrow))
+
+    front-long : length front ≡ width
+    front-long = s .long ∙ taken-long
+
+    pub asked-over : AskedOctets (l .base) (l .table) (l .octets) (l .messages) d i width (front ++ drop width copied)
     unfolding message
-    asked-whole =
+    asked-over =
         record {
-          long = s .long ∙ copied-long;
+          long = length-append front (drop width copied) ∙ omega (arith, front-long, length-drop width copied, narrow, copied-long);
           each = λ k inside.
-              s .each k (rw copied-long inside)
-              ∙ ap₂ bitXor (copied-at k) (members-sum k inside)
+              List·getD-append front (drop width copied) 0 k (rw front-long inside)
+              ∙ s .each k (rw taken-long inside)
+              ∙ ap₂ bitXor (getD-take width copied k 0 inside ∙ copied-at k) (members-sum k (omega (arith, narrow)))
               ∙ sym (xorAt-cons _ _ k);
         }
 
--- ---- the front of it, as long as the message: what mends
-pub asked-front : {base : ℕ} {t o g : List ℕ} {d i : ℕ} {sum : List ℕ} → AskedOctets base t o g d i sum
+-- ---- over the message's length: what mends
+pub asked-front : {base : ℕ} {t o g : List ℕ} {d i : ℕ} {sum : List ℕ}
+    → AskedOctets base t o g d i (length ((messageHeld base t g d i) .octets)) sum
     → length ((messageHeld base t g d i) .octets) ≤ packetLimit
     → take (length ((messageHeld base t g d i) .octets)) sum ≡ mended (cellsOf base t o) (messageHeld base t g d i)
 unfolding mended
@@ -189,5 +198,5 @@ asked-front {base} {t} {o} {g} {d} {i} {sum} a small =
     (λ j below.
     let low : j < length (message .octets) = omega (arith, long) in
     getD-take (length (message .octets)) sum j 0 low
-    ∙ a .each j (omega arith)
+    ∙ a .each j low
     ∙ sym (exclusiveOr-at (length (message .octets)) _ j low))

@@ -99,10 +99,10 @@ pub record UsableFound (base : ℕ) (table : List ℕ) (r : Usable) : Type 0 whe
       → firstUsable (cellsOf base table octets) (heldMessages (heldOf base table messages)) ≡ UsableAnswer base table r messages
   pub points : UsablePoints base table r
 
--- what a message asks of its unknown members, over the limit's length: the exclusive or of the message and its other members
-pub record AskedOctets (base : ℕ) (table octets messages : List ℕ) (d i : ℕ) (r : List ℕ) : Type 0 where
+-- what a message asks of its unknown members, over a width: the exclusive or of the message and its other members
+pub record AskedOctets (base : ℕ) (table octets messages : List ℕ) (d i width : ℕ) (r : List ℕ) : Type 0 where
   pub long : length r ≡ packetLimit
-  pub each : (k : ℕ) → k < packetLimit
+  pub each : (k : ℕ) → k < width
       → getD r k 0
       ≡ xorAt
       ((messageHeld base table messages d i) .octets

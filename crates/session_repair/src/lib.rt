@@ -50,8 +50,8 @@ fn size_of(base: u16, t: &[u16], distance: u16, index: usize) -> usize
     session_held::message_size_at(t, place)
 }
 
-// The exclusive or of a message and its known members, over a packet's whole length: what the message asks of its unknown members together
-// (document 02, request 13). Of one unknown member it is that member's packet, as many octets of it as the message has.
+// The exclusive or of a message and its known members over the first `width` octets: what the message asks of its unknown members
+// together. The width is the message's size to fill one unknown member (rule 11.2), and a packet's limit to solve for several (rule 14.1).
 pub fn asked(
     base: u16,
     t: &[u16],
@@ -59,12 +59,14 @@ pub fn asked(
     g: &[u8],
     distance: u16,
     index: usize,
+    width: usize,
 ) -> [u8; Packet::LIMIT]
     requires { ⌜ MayMend base (now t) (now o) (now g) ⌝ }
     requires { ⌜ distance < keptAhead ⌝ }
     requires { ⌜ index < messagesLimit ⌝ }
     requires { ⌜ index < mAt base (now t) distance ⌝ }
-    ensures { λ r. ⌜ AskedOctets base (now (t .entry)) (now (o .entry)) (now (g .entry)) distance index r ⌝ }
+    requires { ⌜ width ≤ packetLimit ⌝ }
+    ensures { λ r. ⌜ AskedOctets base (now (t .entry)) (now (o .entry)) (now (g .entry)) distance index width r ⌝ }
 {
     let at = std::num::wrapping_add_u16(base, distance);
     let slot = session_held::heard_slot(at);
@@ -75,7 +77,7 @@ pub fn asked(
     let mut sum = [0u8; Packet::LIMIT];
     session_slots::copy_out(g, place, size, &mut sum);
     let first = std::num::wrapping_add_u16(at, narrow(index));
-    add_members(o, first, n, m, &mut sum);
+    add_members(o, first, n, m, &mut sum[..width]);
     sum
 }
 
@@ -95,8 +97,8 @@ fn fill(
     requires { ⌜ usable (cellsOf base (now t) (now o)) (messageHeld base (now t) (now g) distance index) ≡ true ⌝ }
     ensures { λ _. ⌜ Fills note base (now (t .entry)) (now (o .entry)) (now (g .entry)) distance index (now (t .exit)) (now (o .exit)) ⌝ }
 {
-    let sum = asked(base, t, o, g, distance, index);
     let size = size_of(base, t, distance, index);
+    let sum = asked(base, t, o, g, distance, index, size);
     session_slots::put(o, slot, &sum[..size]);
     let octets = narrow(size);
     session_held::set_kept(t, slot, Session::REPAIRED, octets, note);

@@ -114,7 +114,7 @@ fn lowest_among(t: &[u16], at: u16, slot: usize, n: usize, m: u16) -> Lowest
 {
     let mut i: u16 = 0;
     while i < m {
-        let index = session_slots::wide(i);
+        let index = octets::wide(i);
         let place = slot * Parity::MESSAGES + index;
         let size = session_held::message_size_at(t, place);
         let first = std::num::wrapping_add_u16(at, i);

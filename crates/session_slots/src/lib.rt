@@ -12,13 +12,6 @@ ghost use Rattle.session_slots.specs.Store.{added, pasted, zeros, zerosF
 // An octet with every bit set.
 const ALL_BITS: u8 = 255;
 
-// A length as it is kept, in sixteen bits, as a size.
-pub fn wide(n: u16) -> usize
-    ensures { λ r. ⌜ r ≡ n ⌝ }
-{
-    n as usize
-}
-
 // The octets src, laid at the front of a slot.
 pub fn put(o: &mut [u8], slot: usize, src: &[u8])
     requires { ⌜ HasSlot slot (now o) ⌝ }

@@ -41,7 +41,7 @@ module _ (base : ℕ) (t : List ℕ) {e distance index near at slot count : ℕ}
   again : (g : List ℕ) → messageOr (heldOf base t g) distance index ≡ equationAt (heldOf base t g) e
   again g = ap₂ (λ (x y : ℕ). messageOr (heldOf base t g) x y) ed ei
 
-  pub side-there : {o g r : List ℕ} → index < count → AskedOctets base t o g near index r → SideTold base t o g e r
+  pub side-there : {o g r : List ℕ} → index < count → AskedOctets base t o g near index packetLimit r → SideTold base t o g e r
   unfolding sideAt
   side-there {o} {g} {r} low asked =
       record {

@@ -24,7 +24,7 @@ fn side(base: u16, t: &[u16], o: &[u8], g: &[u8], e: usize) -> [u8; Packet::LIMI
     let slot = session_held::heard_slot(at);
     let count = session_held::m_at(t, slot);
     if index < count {
-        return session_repair::asked(base, t, o, g, near, index);
+        return session_repair::asked(base, t, o, g, near, index, Packet::LIMIT);
     }
     [0u8; Packet::LIMIT]
 }

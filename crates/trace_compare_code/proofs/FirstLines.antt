@@ -7,7 +7,7 @@ use mathlib.Core.Option.{Option, none, some}
 use lib.ListN.{length, getD, getElem?, take, drop, length-append, drop-of-length-le}
 use native.Mathlib.Numerals.{add-one}
 use native.Mathlib.Omega.{arith}
-use Rattle.length.specs.Answers.{Answer, done}
+use Rattle.length.specs.Answers.{Answer, done, isDone}
 use Rattle.datagram.specs.Carried.{Carried}
 use Rattle.line.specs.Promise.{Appends}
 use Rattle.line.proofs.Laws.{appends-none, appends-then, appends-long}
@@ -16,7 +16,7 @@ use Rattle.trace_compare.specs.Entries.{Entry, onlyFirst, numbersOf, entriesOf,
 use Rattle.trace_compare.specs.Traces.{datagramIn}
 use Rattle.trace_compare.proofs.Laws.{numbers-twice}
 use Rattle.trace_compare_code.specs.Numbers.{often, KthPlace}
-use Rattle.trace_compare_code.specs.Rows.{isDone, lineRoom, differenceNumbers}
+use Rattle.trace_compare_code.specs.Rows.{lineRoom, differenceNumbers}
 use Rattle.trace_compare_code.specs.Lines.{lineFrom, Stands, KeptTrace}
 use Rattle.trace_compare_code.specs.Inner.{HoldsDatagram, PutsFirst}
 use Rattle.trace_compare_code.proofs.Mates.{kth-some, kth-drop, kth-take, numbers-long, numbers-take, number-at, often-having}

@@ -6,7 +6,7 @@ use mathlib.Core.List.{List, []}
 use lib.ListN.{length, take, drop}
 use native.Mathlib.Omega.{arith}
 use Rattle.length.specs.Answers as answers
-use Rattle.length.specs.Answers.{Answer, done, writtenOutcome}
+use Rattle.length.specs.Answers.{Answer, done, writtenOutcome, isDone}
 use Rattle.length.specs.Promise.{Puts}
 use Rattle.length.specs.declared.Refusal.{Refusal}
 use Rattle.length.specs.declared.Written.{Written}
@@ -20,7 +20,7 @@ use Rattle.line_code.proofs.Laws.{read-octets, read-refused}
 use Rattle.trace_compare.specs.Entries.{same}
 use Rattle.trace_compare.specs.Traces.{datagramOf, datagramIn}
 use Rattle.trace_compare.proofs.Laws.{same-true}
-use Rattle.trace_compare_code.specs.Rows.{isDone, lineRoom, differenceNumbers}
+use Rattle.trace_compare_code.specs.Rows.{lineRoom, differenceNumbers}
 use Rattle.trace_compare_code.proofs.DifferencesLaws.{differences-none}
 use Rattle.trace_compare_code.specs.Lines.{LineCut, lineFrom}
 use Rattle.trace_compare_code.proofs.LinesLaws.{line-of, room-for}

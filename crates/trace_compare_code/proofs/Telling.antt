@@ -8,7 +8,7 @@ use lib.ListN.{length, take, drop}
 use lib.Dec.{eqb}
 use borrow.Author.Tests.{eq-eqb, eqb-true}
 use Rattle.octets.proofs.Laws.{and-left, and-right, and-both, true-or-false}
-use Rattle.length.specs.Answers.{Answer, done, refused}
+use Rattle.length.specs.Answers.{Answer, done, refused, isDone}
 use Rattle.length.specs.Claims.{Octets}
 use Rattle.length.proofs.Laws.{rest-of}
 use Rattle.datagram.specs.Carried.{Extra, spares, parity, Carried}
@@ -18,7 +18,7 @@ use Rattle.trace_compare.specs.Entries.{same, sameEach, sparesApart, parityApar
 use Rattle.trace_compare.specs.Entries.{packetDiffers, sparesDiffer, parityDiffers}
 use Rattle.trace_compare.specs.Traces.{datagramOf}
 use Rattle.trace_compare.proofs.Laws.{same-refl, same-true, each-refl, each-true, rowsOf, spares-itself, parity-itself, extras-same}
-use Rattle.trace_compare_code.specs.Rows.{isDone, hasSpares, Shaped, ShapeOf, rowNumbers, rowsTold, differenceNumbers}
+use Rattle.trace_compare_code.specs.Rows.{hasSpares, Shaped, ShapeOf, rowNumbers, rowsTold, differenceNumbers}
 use Rattle.trace_compare_code.specs.declared.differing.Shape.{Shape}
 use Rattle.trace_compare_code.proofs.Alike.{and-true}
 

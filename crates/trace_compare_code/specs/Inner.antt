@@ -18,7 +18,7 @@ use Rattle.trace_compare.specs.Claims.{Few}
 use Rattle.trace_compare.specs.declared.Compared.{Compared}
 use Rattle.trace_compare.specs.declared.Compared.the-variants as compared
 use Rattle.trace_compare_code.specs.Numbers.{often}
-use Rattle.trace_compare_code.specs.Rows.{isDone}
+use Rattle.length.specs.Answers.{isDone}
 use Rattle.trace_compare_code.specs.Lines.{lineFrom, KeptTrace, datagramLines}
 
 -- ---- lines

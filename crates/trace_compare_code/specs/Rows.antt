@@ -13,11 +13,6 @@ use Rattle.trace_compare.specs.Entries.{numbersOf, packetDiffers, sparesDiffer,
 use Rattle.trace_compare.specs.Traces.{datagramOf}
 use Rattle.trace_compare_code.specs.declared.differing.Shape.{Shape}
 
--- whether a call was done
-abbrev pub isDone : {A : Type 0} → Answer A → Bool
-isDone (done a) = true
-isDone (refused why) = false
-
 -- the 16-bit numbers that one entry takes, and those of one line of the first trace
 abbrev pub entryRoom : ℕ
 entryRoom = 2

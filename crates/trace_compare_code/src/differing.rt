@@ -11,7 +11,8 @@ ghost use lib.ListN.{length};
 ghost use Rattle.line.specs.Promise.{Appends};
 ghost use Rattle.trace_compare.specs.Entries.{same as isSame};
 ghost use Rattle.trace_compare.specs.Traces.{datagramOf};
-ghost use Rattle.trace_compare_code.specs.Rows.{isDone, entryRoom, lineRoom, isSpares, ShapeOf, rowNumbers, rowsTold};
+ghost use Rattle.length.specs.Answers.{isDone};
+ghost use Rattle.trace_compare_code.specs.Rows.{entryRoom, lineRoom, isSpares, ShapeOf, rowNumbers, rowsTold};
 ghost use Rattle.trace_compare_code.specs.Rows.{differenceNumbers};
 
 // Whether two runs of octets are the same. There is no early end, so that the compiler looks at many together.

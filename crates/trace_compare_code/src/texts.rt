@@ -12,7 +12,8 @@ ghost use lib.ListN.{length};
 ghost use Rattle.datagram.specs.Sizes.{datagramLimit};
 ghost use Rattle.line.specs.Promise.{Appends};
 ghost use Rattle.trace_compare.specs.Traces.{datagramIn};
-ghost use Rattle.trace_compare_code.specs.Rows.{isDone, lineRoom, differenceNumbers};
+ghost use Rattle.length.specs.Answers.{isDone};
+ghost use Rattle.trace_compare_code.specs.Rows.{lineRoom, differenceNumbers};
 ghost use Rattle.trace_compare_code.specs.Lines.{lineFrom};
 ghost use Rattle.trace_compare_code.specs.Inner.{OctetsRead, HoldsDatagram};
 

@@ -6,7 +6,7 @@ use mathlib.Core.List.{List, _++_}
 use lib.ListN.{length, getD, take, List·getD-append}
 use lib.Seq.{length-take-le}
 use native.Mathlib.Omega.{arith}
-use Rattle.length.specs.Answers.{Answer, done, refused, _>>=_, writtenOutcome}
+use Rattle.length.specs.Answers.{Answer, done, refused, _>>=_, writtenOutcome, isDone}
 use Rattle.length.specs.Promise.{Puts}
 use Rattle.length.specs.declared.Refusal.{Refusal}
 use Rattle.length.specs.declared.Written.{Written}
@@ -24,7 +24,7 @@ use Rattle.line.proofs.Laws.{length-octetsIn}
 use Rattle.line_code.proofs.Laws.{line-fits, read-octets, read-refused}
 use Rattle.trace_replay.specs.Replay.{numberIn, listed, listedAs, dropped}
 use Rattle.trace_replay.proofs.Laws.{not-dropped, fronted}
-use Rattle.trace_replay_code.specs.Inner.{isDone, FrontTold}
+use Rattle.trace_replay_code.specs.Inner.{FrontTold}
 use Rattle.trace_replay_code.specs.declared.dropping.Front.{Front}
 use Rattle.trace_replay_code.specs.declared.dropping.Front.the-variants as front
 

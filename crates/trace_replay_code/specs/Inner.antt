@@ -4,7 +4,7 @@ use mathlib.Core.Path.{_≡_}
 use mathlib.Core.Bool.{Bool, true, false}
 use mathlib.Core.List.{List, [], _++_}
 use lib.ListN.{length, drop}
-use Rattle.length.specs.Answers.{Answer, done, refused}
+use Rattle.length.specs.Answers.{done, refused}
 use Rattle.session.specs.View.{View}
 use Rattle.session_held.specs.Table.{Lent, viewIn}
 use Rattle.line.specs.Lines.{Made, _then_, linesFrom}
@@ -14,11 +14,6 @@ use Rattle.trace_replay.specs.Promise.{replayedOutcome, fittedText, replayAnswe
 use Rattle.trace_replay.specs.declared.Replayed.{Replayed}
 use Rattle.trace_replay_code.specs.declared.dropping.Front.{Front}
 use Rattle.trace_replay_code.specs.declared.dropping.Front.the-variants as front
-
--- whether a call was done
-abbrev pub isDone : {A : Type 0} → Answer A → Bool
-isDone (done a) = true
-isDone (refused why) = false
 
 -- what the front of a line tells: if the line holds a datagram, its number
 pub record FrontTold (line : List ℕ) (r : Front) : Type 0 where

@@ -10,7 +10,8 @@ ghost use mathlib.Core.Path.{_≡_};
 ghost use Prim.Native.Nat.{_+_, _*_};
 ghost use Rattle.datagram.specs.Read.{readDatagram};
 ghost use Rattle.trace_replay.specs.Replay.{numberIn, listed, dropped};
-ghost use Rattle.trace_replay_code.specs.Inner.{isDone, FrontTold};
+ghost use Rattle.length.specs.Answers.{isDone};
+ghost use Rattle.trace_replay_code.specs.Inner.{FrontTold};
 
 // The number in the first four digits of a line, if there are so many.
 enum Front {

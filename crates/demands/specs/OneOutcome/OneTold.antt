@@ -62,7 +62,7 @@ pub record ToldByLengths : Type 0 where
   pub within : (least most n : ℕ) → One (λ (r : Bool). r ≡ lengths.within least most n)
 
 -- `datagram`: `least` and `limit` of `Packet`, `Message` and `Spares`, `limit` of `Datagram`, the five limits of `Parity`; then
--- `count_inside`; `datagram_writer`: `kind_size`, `length_size` and `wide`
+-- `count_inside`; `datagram_writer`: `kind_size` and `length_size`
 pub record ToldByDatagrams : Type 0 where
   pub packetLeast : One (λ (r : ℕ). r ≡ sizes.packetLeast)
   pub packetLimit : One (λ (r : ℕ). r ≡ sizes.packetLimit)
@@ -79,7 +79,6 @@ pub record ToldByDatagrams : Type 0 where
   pub countInside : (kind : Kind) (count : ℕ) → One (λ (r : Bool). r ≡ write.countInside kind count)
   pub kindSize : (kind : Kind) (count : ℕ) → One (λ (r : ℕ). r ≡ length (kindHead kind count))
   pub lengthSize : (n : ℕ) → One (LengthSize n)
-  pub wide : (n : ℕ) → One (λ (r : ℕ). r ≡ n)
 
 -- `packet`: `least`, `limit` and `types_limit` of `Field`; `packet_rules`: `choice_of`, `values`, `types`, `right_fields`, `right_data`
 pub record ToldByPackets : Type 0 where
@@ -98,7 +97,7 @@ pub record ToldByPacketReader : Type 0 where
   pub noFields : One (λ (r : List Field). r ≡ paddedFields [])
   pub refused : (why : Refusal) → One (λ (r : PacketRead). r ≡ packetRead (answers.refused why))
 
--- `session_slots`: `wide`, `passing`
+-- `octets`: `wide`; `session_slots`: `passing`
 pub record ToldByStores : Type 0 where
   pub wide : (n : ℕ) → One (λ (r : ℕ). r ≡ n)
   pub passing : One (λ (r : List ℕ). r ≡ store.mask)

@@ -7,7 +7,7 @@ use Rattle.session_slots.specs.Store.{zeros}
 use Rattle.session_slots.proofs.Laws.{length-zeros, zeros-at}
 use Rattle.session_repair.proofs.Search.{searchable}
 use Rattle.session_repair.proofs.Below.{small-count}
-use Rattle.session_repair.proofs.Sums.{size-small, asked-whole}
+use Rattle.session_repair.proofs.Sums.{size-small, asked-over}
 use borrow.Author.Needs.{needs}
 use Rattle.session_repair.proofs.asked.Statement.{statement}
 use Rattle.session_repair.proofs.asked.Tie as tie
@@ -47,7 +47,7 @@ copy-out-requires c κs =
     let place = c .before .before .before .before .before in
     let start = place .before .before .before .before .before in
     let small =
-    size-small (start .pre .0 .within) (start .args .distance) (start .args .index) (start .pre .1 .1 .1)
+    size-small (start .pre .0 .within) (start .args .distance) (start .args .index) (start .pre .1 .1 .1 .0)
     (place .before .wrapping-add-u16 .ensures)
     (place .heard-slot .ensures) (c .before .message-size-at .ensures) in
     (omega (arith, start .pre .0 .within .laid .messages, start .pre .1 .1 .0, place .heard-slot .ensures), (small, small))
@@ -58,8 +58,21 @@ narrow-requires-2 c κs = search needs
 wrapping-add-u16-requires-2 : tie.Need-wrapping-add-u16-requires-2
 wrapping-add-u16-requires-2 c κs = search needs
 
+array-borrow-prefix-sum : tie.Need-array-borrow-prefix-sum
+array-borrow-prefix-sum c =
+    let size = c .before .before .before .before .before in
+    let start = size .before .before .before .before .before .before .before .before .before in
+    omega (arith, start .pre .1 .1 .1 .1)
+
 slice-aggregate-add-members : tie.Need-slice-aggregate-add-members
-slice-aggregate-add-members c = search needs
+slice-aggregate-add-members c =
+    let size = c .before .before .before .before .before .before in
+    let start = size .before .before .before .before .before .before .before .before .before in
+    omega (
+      arith,
+      start .pre .1 .1 .1 .1,
+      length-take (start .args .width) (c .before .before .before .before .copy-out .last .1 .1 .1 .0),
+    )
 
 add-members-requires : tie.Need-add-members-requires
 add-members-requires c κs =
@@ -67,7 +80,7 @@ add-members-requires c κs =
     let size = copy .before .before in
     let start = size .before .before .before .before .before .before .before .before .before in (
       start .pre .0 .within .laid .octets,
-      omega (arith, length-take (size .message-size-at .result) (copy .copy-out .last .1 .1 .1 .0)),
+      omega (arith, start .pre .1 .1 .1 .1, length-take (start .args .width) (copy .copy-out .last .1 .1 .1 .0)),
     )
 
 returns : tie.Need-returns
@@ -79,12 +92,12 @@ returns c =
     let few = size .before in
     let place = few .before .before .before in
     let start = place .before .before .before .before .before in
-    asked-whole (start .pre .0 .within) (start .args .distance) (start .args .index) (start .pre .1 .0) (start .pre .1 .1 .1)
+    asked-over (start .pre .0 .within) (start .args .distance) (start .args .index) (start .pre .1 .0) (start .pre .1 .1 .1 .0)
     (zeros packetLimit) (length-zeros packetLimit)
     (place .before .wrapping-add-u16 .ensures) (place .heard-slot .ensures) (few .before .before .n-at .ensures)
     (few .before .m-at .ensures)
     (few .narrow .ensures) refl (size .message-size-at .ensures) (copy .copy-out .ensures) (first .before .narrow2 .ensures)
-    (first .wrapping-add-u162 .ensures) (zeros-at packetLimit) (c .before .add-members .ensures)
+    (first .wrapping-add-u162 .ensures) (zeros-at packetLimit) (start .pre .1 .1 .1 .1) (c .before .add-members .ensures)
 
 pub asked-spec : {M : Type 1} → statement M
 asked-spec =
@@ -102,6 +115,7 @@ asked-spec =
     copy-out-requires
     narrow-requires-2
     wrapping-add-u16-requires-2
+    array-borrow-prefix-sum
     slice-aggregate-add-members
     add-members-requires
     returns)

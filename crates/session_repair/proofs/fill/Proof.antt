@@ -6,26 +6,30 @@ use borrow.Author.Needs.{needs}
 use Rattle.session_repair.proofs.fill.Statement.{statement}
 use Rattle.session_repair.proofs.fill.Tie as tie
 
+size-of-requires : tie.Need-size-of-requires
+size-of-requires c κs =
+    let start = c .before .before .before .before in
+    (start .pre .0 .within .laid .long, index-fits (start .pre .0 .within) (start .pre .1 .0) (start .pre .1 .1))
+
 asked-requires : tie.Need-asked-requires
 asked-requires c κs =
-    let start = c .before .before .before .before .before in (
+    let size = c .before .before in
+    let start = size .before .before .before .before .before in (
       start .pre .0,
       (
         start .pre .1 .0 .near,
-        (index-fits (start .pre .0 .within) (start .pre .1 .0) (start .pre .1 .1), start .pre .1 .0 .low),
+        (
+          index-fits (start .pre .0 .within) (start .pre .1 .0) (start .pre .1 .1),
+          (start .pre .1 .0 .low, size-fits (start .pre .0 .within) (start .pre .1 .0) (start .pre .1 .1) (size .size-of .ensures)),
+        ),
       ),
     )
 
-size-of-requires : tie.Need-size-of-requires
-size-of-requires c κs =
-    let start = c .before .before .before .before .before .before .before in
-    (start .pre .0 .within .laid .long, index-fits (start .pre .0 .within) (start .pre .1 .0) (start .pre .1 .1))
-
 array-share-prefix-sum : tie.Need-array-share-prefix-sum
 array-share-prefix-sum c =
-    let size = c .before in
-    let sum = size .before .before in
-    let start = sum .before .before .before .before .before .before in
+    let sum = c .before in
+    let size = sum .before .before .before in
+    let start = size .before .before .before .before .before in
     omega (
       arith,
       size-fits (start .pre .0 .within) (start .pre .1 .0) (start .pre .1 .1)
@@ -35,17 +39,17 @@ array-share-prefix-sum c =
 
 slice-aggregate-put : tie.Need-slice-aggregate-put
 slice-aggregate-put c =
-    let size = c .before .before in
-    let sum = size .before .before in
-    let start = sum .before .before .before .before .before .before in
+    let sum = c .before .before in
+    let size = sum .before .before .before in
+    let start = size .before .before .before .before .before in
     let fits = size-fits (start .pre .0 .within) (start .pre .1 .0) (start .pre .1 .1) (size .size-of .ensures) in
     omega (arith, fits, length-take (size .size-of .result) (sum .asked .result), sum .asked .ensures .long)
 
 put-requires : tie.Need-put-requires
 put-requires c κs =
-    let size = c .before .before in
-    let sum = size .before .before in
-    let start = sum .before .before .before .before .before .before in
+    let sum = c .before .before in
+    let size = sum .before .before .before in
+    let start = size .before .before .before .before .before in
     let fits = size-fits (start .pre .0 .within) (start .pre .1 .0) (start .pre .1 .1) (size .size-of .ensures) in (
       omega (arith, slot-fits (start .pre .0 .within) (start .pre .1 .0) (start .pre .1 .1), start .pre .0 .within .laid .octets),
       omega (arith, fits, length-take (size .size-of .result) (sum .asked .result)),
@@ -53,14 +57,14 @@ put-requires c κs =
 
 narrow-requires : tie.Need-narrow-requires
 narrow-requires c κs =
-    let size = c .before .before .before .before .before in
-    let start = size .before .before .before .before .before .before .before .before in
+    let size = c .before .before .before .before .before .before .before .before in
+    let start = size .before .before .before .before .before in
     size-fits (start .pre .0 .within) (start .pre .1 .0) (start .pre .1 .1) (size .size-of .ensures)
 
 set-kept-requires : tie.Need-set-kept-requires
 set-kept-requires c κs =
-    let size = c .before .before .before .before .before .before .before in
-    let start = size .before .before .before .before .before .before .before .before in
+    let size = c .before .before .before .before .before .before .before .before .before .before in
+    let start = size .before .before .before .before .before in
     (start .pre .0 .within .laid .long, slot-fits (start .pre .0 .within) (start .pre .1 .0) (start .pre .1 .1))
 
 same-length : tie.Need-same-length
@@ -74,9 +78,9 @@ returns c =
     let kept = c .before .before in
     let octets = kept .before .before in
     let put = octets .before .before .before in
-    let size = put .before .before .before in
-    let sum = size .before .before in
-    let start = sum .before .before .before .before .before .before in
+    let sum = put .before .before .before in
+    let size = sum .before .before .before in
+    let start = size .before .before .before .before .before in
     record {
       fills =
           λ counts w.
@@ -88,8 +92,8 @@ pub fill-spec : {M : Type 1} → statement M
 fill-spec =
     tie.close
     (tie.spec
-    asked-requires
     size-of-requires
+    asked-requires
     array-share-prefix-sum
     slice-aggregate-put
     put-requires

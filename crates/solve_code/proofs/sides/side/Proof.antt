@@ -31,10 +31,13 @@ asked-requires c κs =
         omega (arith, start .pre .1),
         (
           omega (arith, start .pre .1),
-          index-there (start .args .base) (now (start .args .t)) (start .pre .1) refl refl refl (number .wrapping-add-u16 .ensures)
-              (slot .heard-slot .ensures)
-              (count .m-at .ensures)
-              (c .if1 .taken),
+          (
+            index-there (start .args .base) (now (start .args .t)) (start .pre .1) refl refl refl (number .wrapping-add-u16 .ensures)
+                (slot .heard-slot .ensures)
+                (count .m-at .ensures)
+                (c .if1 .taken),
+            omega arith,
+          ),
         ),
       ),
     )
