@@ -1,5 +1,6 @@
-/* A small gateway: two ends on this machine, each with a UDP socket, a sending and a receiving session. Each end sends a packet at every
-   tick; datagrams are lost and held back as the switches say; what leaves each receiving session is printed. It ends by itself. */
+/* A small gateway: two ends on this machine, each with a UDP socket, a sending session and a receiving session. Each end sends a packet at
+   every tick, the switches say how many datagrams are lost or held back, and what leaves each receiving session is printed. It ends by
+   itself. `take` shows how to offer and release, `look_at_timer` how to give up a number. */
 #include "tubarexi.h"
 
 #include <arpa/inet.h>
@@ -12,11 +13,11 @@
 #include <time.h>
 #include <unistd.h>
 
-/* One octet more than any may have: what is longer is then refused, and not cut to fit. */
+/* One octet more than a datagram may have: one that is too long is then refused and not cut to fit. */
 typedef struct { size_t size; uint8_t octets[TBX_DATAGRAM_LIMIT + 1]; } datagram;
 
-/* One end of the line. `newest` is the last number that was heard of, by its own datagram or a later one; `heard` is when, for each number
-   that has not left. */
+/* One end of the line. `newest` is the last number that is known to be sent, from its own datagram or a later one; `heard` is when that
+   became known, for each number that has not left. */
 typedef struct {
     const char *name;
     int socket;
@@ -25,7 +26,7 @@ typedef struct {
     tbx_session session;
     datagram held_back;
     unsigned sent, dropped, reordered, refused;
-    bool too_far; /* the last datagram was */
+    bool too_far; /* the last datagram was refused as too far ahead */
     uint16_t newest;
     long heard[TBX_HEARD];
 } end;
@@ -62,7 +63,7 @@ static void to_line(const end *from, datagram *d)
     d->size = 0;
 }
 
-/* The next packet of an end: data of V.21 with one field of hdlc-data, whose octets are a text. */
+/* Sends the next packet of an end: V.21 data with one field of hdlc-data, whose octets are a text. */
 static void send_next(end *from)
 {
     static const uint8_t type = 0;
@@ -81,7 +82,7 @@ static void send_next(end *from)
     else to_line(from, &d), to_line(from, &from->held_back);
 }
 
-/* The number at the base leaves, if it is known or may be skipped: its kind, or -1 if it stays. */
+/* Releases the number at the base, if it is known or may be skipped, and returns its kind, or -1 if it stays. */
 static int release(end *e, bool skip)
 {
     static const char *kinds[] = { "received", "spare", "repaired", "lost" };
@@ -97,16 +98,16 @@ static int release(end *e, bool skip)
     return left.kind;
 }
 
-/* All that is known leaves. */
+/* Releases every number up to the first unknown one. */
 static void release_known(end *e) { while (release(e, false) >= 0) {} }
 
 static uint16_t base_of(const end *e) { return tbx_counts(&e->session).base; }
 
-/* Whether a number that was heard of has not left; and when the base is then given up. */
+/* Whether a number that is known to be sent has not left; and when the number at the base is given up. */
 static bool behind(const end *e) { return (uint16_t)(e->newest - base_of(e)) < TBX_HEARD; }
 static long due(const end *e) { return e->heard[base_of(e) % TBX_HEARD] + patience; }
 
-/* A datagram came: any octets may. */
+/* Takes a datagram from the socket; it may be any octets. */
 static void take(end *e)
 {
     datagram d;
@@ -114,7 +115,7 @@ static void take(end *e)
     ssize_t got = recv(e->socket, d.octets, sizeof d.octets, MSG_DONTWAIT);
     if (got < 0) { if (errno != EAGAIN) perror("gateway: recv"); return; }
     int why = tbx_offer_unchecked(&e->session, d.octets, (size_t)got, &place);
-    while (why == TBX_TOO_FAR && e->too_far && release(e, true) >= 0) /* two in a row: more were lost than a session reaches */
+    while (why == TBX_TOO_FAR && e->too_far && release(e, true) >= 0) /* two in a row: more numbers were lost than a session reaches */
         why = tbx_offer_unchecked(&e->session, d.octets, (size_t)got, &place);
     e->too_far = why == TBX_TOO_FAR;
     if (why) {
@@ -128,7 +129,7 @@ static void take(end *e)
     release_known(e);
 }
 
-/* The timer: a number that was waited for too long is booked lost, and what is known behind it leaves. */
+/* The timer: a number that was waited for too long is skipped, as lost, and the known numbers behind it leave. */
 static void look_at_timer(end *e)
 {
     while (behind(e) && now() >= due(e) && release(e, true) >= 0) release_known(e);
@@ -184,7 +185,7 @@ int main(int arguments, char **argument)
             else to_line(&ends[i], &ends[i].held_back), over = now() + 2 * patience;
         }
     }
-    for (int i = 0; i < 2; i++) { /* the page is over: what did not come of its end is lost */
+    for (int i = 0; i < 2; i++) { /* the page is over: skip what is missing at its end */
         while ((base_of(&ends[i]) - packets) % 65536 && release(&ends[i], true) >= 0) {}
         tbx_head c = tbx_counts(&ends[i].session);
         printf("%s: received %u, spare %u, repaired %u, lost %u, refused %u; sent %u, of them dropped %u, held back %u\n", ends[i].name,

@@ -1,19 +1,35 @@
-/* Tubarexi for a C host: T.38 UDPTL datagrams in, fax packets out, in order. Link with libtubarexi.a (x86-64, System V ABI).
+/* Tubarexi: T.38 UDPTL datagrams in, fax packets out, in order. Link with libtubarexi.a (x86-64, System V ABI).
 
-   Sessions, senders and joiners stand in the caller's memory. There is no heap and no global state, and nothing of the C library is called
-   but memcpy and memset: calls on different ones may run at the same time. A call takes less than 3,000 octets of stack, but for two that
-   say what they take.
+   A receiver, where `line` is a UDP socket and `to_modem` is yours:
 
-   A call that can refuse answers 0, or the number of a refusal (enum tbx_refusal), the first that holds in the order that its comment has.
-   A refusal changes no session, sender, joiner or buffer; 18 alone taints its joiner. The answers that a call is given pointers for (place,
-   left, written, packet, frame) are written in every case; a pointer to a place may be NULL. A place is the octet at which the refused item
-   begins, where the refusal is met while reading; else it is 0.
+       static tbx_session s;
+       uint8_t in[TBX_DATAGRAM_LIMIT + 1], out[TBX_PACKET_LIMIT];
+       tbx_number left;
+       ssize_t got;
 
-   What C must keep:
+       tbx_fresh(&s);
+       while ((got = recv(line, in, sizeof in, 0)) >= 0) {
+           tbx_offer(&s, in, (size_t)got, NULL);
+           while (!tbx_release(&s, false, out, sizeof out, &left)) to_modem(out, left.size);
+       }
+
+   When a missing packet has been waited for long enough, tbx_release(&s, true, ..) skips it, and left.kind is TBX_LOST. A whole program is
+   examples/gateway.c. The rules that comments cite are in docs/RULES.md; section 24 is about C programs.
+
+   Memory. Sessions, senders and joiners are in the caller's memory. There is no heap and no global state, and the library calls nothing of
+   the C library but memcpy and memset, so calls on different sessions may run at the same time. A call needs less than 3,000 octets of
+   stack, except for two that state what they need.
+
+   Answers. A call that can refuse returns 0 or the number of a refusal (enum tbx_refusal): the first that applies, in the order of its
+   comment. A refusal changes no session, sender, joiner or buffer; only 18 taints its joiner. A call that writes to a buffer writes its
+   front and leaves the rest unchanged. What a call has pointers for (place, left, written, packet, frame) it writes in every case; a
+   pointer to a place may be NULL. The place is the octet at which the refused item begins if the call met it while reading, otherwise 0.
+
+   The caller must ensure that
    - pointers point to as much memory as their type or size says; with size 0 a pointer may be NULL;
    - what a call writes does not overlap anything else that it is given;
    - a session, sender or joiner is used by one call at a time;
-   - an `_unchecked` call is given only memory that calls of this library wrote, from `_fresh` or an image on, and nobody else. */
+   - an `_unchecked` call gets only memory that calls of this library alone wrote, beginning with a `_fresh` call or an image. */
 #ifndef TUBAREXI_H
 #define TUBAREXI_H
 
@@ -23,53 +39,54 @@
 
 #define TBX_VERSION "0.9.0"
 
-/* Sizes, for arrays. */
+/* Sizes (section 1 and rule 24.13). */
 enum {
-    TBX_PACKET_LIMIT = 256,    /* octets of a packet: a buffer of so many takes what any release or packet write puts there */
-    TBX_DATAGRAM_LIMIT = 2400, /* octets of a datagram: a buffer of so many takes what any send writes */
-    TBX_FRAME_LIMIT = 300,     /* octets of a frame: a buffer of so many takes what any field hands out */
+    TBX_PACKET_LIMIT = 256,    /* octets of a packet: a buffer of this size is large enough for any release or packet */
+    TBX_DATAGRAM_LIMIT = 2400, /* octets of a datagram: a buffer of this size is large enough for any send */
+    TBX_FRAME_LIMIT = 300,     /* octets of a frame: a buffer of this size is large enough for any frame */
     TBX_FIELDS = 16,           /* fields of a packet */
-    TBX_KEPT = 64,             /* numbers that a receiving session knows of */
-    TBX_HEARD = 32,            /* of these, numbers from the base on */
+    TBX_KEPT = 64,             /* numbers that a receiving session keeps */
+    TBX_HEARD = 32,            /* of these, the numbers from the base on */
     TBX_MESSAGES = 4,          /* parity messages of a datagram */
     TBX_HISTORY = 32,          /* packets that a sending session keeps */
     TBX_NUMBERS = 1000000      /* numbers that may pass in a session */
 };
 
-/* Characters of an image: a buffer of so many takes every one, and a session can have one as long. A line has two characters for each octet
-   and a line feed. The first has 19 octets: edition, base, four counts. Each of the 64 others has 6 (state, mark, note, n, m) and a packet
-   with two octets of length; from the base on 4 messages too, each with its length. */
+/* Characters of the longest image: a buffer of this size is large enough for any image. A line has two characters for each octet, and a
+   line feed. The first line has 19 octets: version, base, four counts. Each of the 64 others has 6 (state, accepted, note, n, m) and a
+   packet behind two octets of length; from the base on it also has 4 messages, each behind two octets of length. */
 enum {
     TBX_IMAGE_LIMIT = 2 * 19 + 1 + (TBX_KEPT - TBX_HEARD) * (2 * (6 + 2 + TBX_PACKET_LIMIT) + 1) +
                       TBX_HEARD * (2 * (6 + (1 + TBX_MESSAGES) * (2 + TBX_PACKET_LIMIT)) + 1)
 };
 
-/* What a call refuses. 11 is retired, and there is no 19. */
+/* The refusals: rule 2.1 is TBX_ENDS_EARLY, and so on. 11 is retired, and there is no 19. */
 enum tbx_refusal {
-    TBX_ENDS_EARLY = 1,      /* the octets end too early */
+    TBX_ENDS_EARLY = 1,      /* the input ends too early */
     TBX_TOO_LONG = 2,        /* a datagram over TBX_DATAGRAM_LIMIT */
-    TBX_BAD_FORM = 3,        /* a length or a count in a form that is not allowed */
-    TBX_OUTSIDE_SIZES = 4,   /* a length, a count, n or m outside the sizes */
+    TBX_BAD_FORM = 3,        /* a length or count has a form that is not allowed */
+    TBX_OUTSIDE_SIZES = 4,   /* a length, a count, n or m is outside the sizes */
     TBX_SPARE_BIT = 5,       /* a spare bit is set */
-    TBX_LEFT_OVER = 6,       /* octets follow the end */
+    TBX_LEFT_OVER = 6,       /* octets are left over behind the end */
     TBX_REPEATED = 7,        /* this number's datagram was accepted before: harmless */
-    TBX_TOO_FAR = 8,         /* TBX_HEARD or more ahead of the base */
-    TBX_LATE = 9,            /* its number has left already: harmless */
-    TBX_BASE_UNKNOWN = 10,   /* release without leave to skip: the packet at the base is not known yet */
-    TBX_NOT_ASSIGNED = 12,   /* the extension bit, or a value or a type that is not assigned */
-    TBX_NO_ROOM = 13,        /* the lent buffer is too short */
-    TBX_WRONG_DATA = 14,     /* data where none may be, or none where it must */
+    TBX_TOO_FAR = 8,         /* the number is TBX_HEARD or more ahead of the base */
+    TBX_LATE = 9,            /* the number has left already: harmless */
+    TBX_BASE_UNKNOWN = 10,   /* release without leave to skip: the number at the base is unknown */
+    TBX_NOT_ASSIGNED = 12,   /* an extension, a value or a field type is not assigned in the edition */
+    TBX_NO_ROOM = 13,        /* the caller's buffer is too short */
+    TBX_WRONG_DATA = 14,     /* data where none may be, or none where it must be */
     TBX_WRONG_SETTINGS = 15, /* settings outside the sizes, no such edition or kind, or lengths that do not sum to the data */
     TBX_ALL_PASSED = 16,     /* TBX_NUMBERS have passed */
-    TBX_OUTSIDE_RANGES = 17, /* the memory or the image is no session, sender or joiner of this library */
-    TBX_FRAME_TOO_LONG = 18, /* a frame would pass TBX_FRAME_LIMIT: the joiner is tainted */
+    TBX_OUTSIDE_RANGES = 17, /* no session, sender or joiner within its ranges is in the memory or the image */
+    TBX_FRAME_TOO_LONG = 18, /* a frame would pass TBX_FRAME_LIMIT: the joiner is then tainted */
     TBX_BAD_IMAGE = 20,      /* of an image: a line is missing, extra or misshapen */
-    TBX_OTHER_EDITION = 21,  /* of an image: another edition than 01 or 02 */
-    TBX_TOO_MANY_LINES = 22, /* a trace with too many lines; no call here gives it */
+    TBX_OTHER_EDITION = 21,  /* of an image: a version other than 01 and 02 */
+    TBX_TOO_MANY_LINES = 22, /* a trace has too many lines; no call here gives it */
     TBX_NO_SOLUTION = 23     /* no octets satisfy all parity messages */
 };
 
-/* A receiving session. `head` may be read at any time: the base, which is the next number to leave, and how many left of each kind. */
+/* A receiving session. You may read `head` at any time: the base, which is the next number to leave, and how many numbers left as each
+   kind. */
 typedef struct { uint16_t base; uint32_t received, spare, repaired, lost; } tbx_head;
 typedef struct {
     tbx_head head;
@@ -78,32 +95,32 @@ typedef struct {
     uint8_t messages[TBX_HEARD * TBX_MESSAGES * TBX_PACKET_LIMIT];
 } tbx_session;
 
-/* A number that left: its kind, the number, its note, which is the number of the datagram that filled it (0 if it is lost, or was solved),
-   and how many octets its packet has. With a refusal all is 0 but `refusal`. */
+/* A number that left: its kind, the number, its note and how many octets its packet has. The note is the number of the datagram whose offer
+   filled it, 0 if it was lost or solved (rules 9.5 and 14.3). With a refusal all is 0 but `refusal`. */
 enum tbx_kind { TBX_RECEIVED = 0, TBX_SPARE = 1, TBX_REPAIRED = 2, TBX_LOST = 3 };
 typedef struct { uint8_t refusal, kind; uint16_t number, note; size_t place, size; } tbx_number;
 
-/* A sending session: how many packets were sent, and the last of them. */
+/* A sending session: how many packets were sent, and the last TBX_HISTORY of them. */
 typedef struct { uint32_t sent; uint16_t sizes[TBX_HISTORY]; uint8_t octets[TBX_HISTORY * TBX_PACKET_LIMIT]; } tbx_sender;
 
-/* The edition of T.38 that a packet is read and written by: that of 06/98, or that of 2002 with its added values. */
+/* The edition of T.38 in which a packet is read or written: that of 06/98, or that of 2002 with its added values (section 7). */
 enum tbx_edition { TBX_EDITION_1998 = 0, TBX_EDITION_2002 = 1 };
 
-/* What a packet reads as: its kind, its value (which indicator, or which data) and the first `count` of the fields; all others are zero.
-   With a refusal all is 0 but `refusal` and `place`. A field has its type, at which octet of the packet its data begins and how many octets
-   that has; without data both are 0. */
+/* What a packet reads as: its kind, its value (which indicator or which data kind, rules 6.29, 6.30, 7.14 and 7.15) and `count` fields; the
+   fields behind these are zero. With a refusal all is 0 but `refusal` and `place`. A field has its type (rule 6.28), the octet of the
+   packet at which its data begins, and how many octets its data has; without data both are 0. */
 enum tbx_packet_kind { TBX_INDICATOR = 0, TBX_DATA = 1 };
 typedef struct { uint8_t type; size_t start, size; } tbx_field;
 typedef struct { uint8_t refusal, kind, value; size_t place, count; tbx_field fields[TBX_FIELDS]; } tbx_packet;
 
-/* A joiner: whether it is tainted, 0 or 1, and its open frame, of no octets while it is tainted; past the size the octets are zero. */
+/* A joiner: whether it is tainted, 0 or 1, and its open frame, which has no octets while it is tainted; past `size` the octets are zero. */
 typedef struct { uint8_t tainted; uint16_t size; uint8_t frame[TBX_FRAME_LIMIT]; } tbx_joiner;
 
-/* What a field handed out, and how many octets the frame has. With a refusal both are 0. */
+/* The frame that a field ended: its kind, and how many octets it has. With a refusal both are 0. */
 enum tbx_frame_kind { TBX_NO_FRAME = 0, TBX_GOOD_FRAME = 1, TBX_BAD_FRAME = 2 };
 typedef struct { uint8_t refusal, kind; size_t size; } tbx_frame;
 
-/* ---- The proved functions. The calls below put them behind one pointer; a host has no need to call these. */
+/* ---- The proved functions. Programs need not call these: the calls below take one pointer in place of the parts. */
 
 typedef struct { uint8_t refusal; size_t place; } tbx_core_answered;
 typedef struct { uint8_t refusal; size_t place, size; } tbx_core_wrote;
@@ -152,33 +169,33 @@ tbx_core_after_field tbx_core_joiner_lost(uint8_t tainted, uint16_t size, uint8_
 
 static inline int tbx_told(uint8_t refusal, size_t at, size_t *place) { if (place) *place = at; return refusal; }
 
-/* ---- The receiving session */
+/* ---- The receiving session (sections 9 to 14) */
 
-/* Makes a session that has heard nothing, whatever its memory held. Refuses nothing. */
+/* Makes a fresh receiving session, whatever the memory held (rules 9.1 and 24.18). Refuses nothing. */
 static inline void tbx_fresh(tbx_session *s) { s->head = tbx_core_fresh(s->table, s->octets, s->messages); }
 
-/* Whether the memory is a session within its ranges: what a checked call tests before anything else. Changes nothing. */
+/* Whether the memory holds a session within its ranges (section 13), which the checked calls test first. Changes nothing. */
 static inline bool tbx_in_ranges(const tbx_session *s) { return tbx_core_in_ranges(s->head, s->table, s->octets, s->messages); }
 
-/* Offers a datagram as it came from the network, any octets: received into TBX_DATAGRAM_LIMIT + 1 octets a longer one is refused, and not
-   cut to fit. Its packet, spares and messages are kept, and numbers come back by parity.
-   Refuses 17, 2, then what is wrong in reading order (1, 3, 4, 5, 6) with its place, then 8 or 9, then 7; the session is then as it was. */
+/* Offers a datagram as it came from the network; it may be any octets. Receive it into a buffer of TBX_DATAGRAM_LIMIT + 1 octets: one that
+   is too long is then refused and not cut to fit. The session keeps its packet, spares and messages, and repairs what the messages allow.
+   Refuses 17, 2, then what is wrong in reading order (1, 3, 4, 5, 6) with its place, then 8 or 9, then 7 (rule 10.5). */
 static inline int tbx_offer(tbx_session *s, const uint8_t *datagram, size_t size, size_t *place)
 {
     tbx_core_answered r = tbx_core_offer_checked(s->head, s->table, s->octets, s->messages, datagram, size);
     return tbx_told(r.refusal, r.place, place);
 }
 
-/* The same without the test for 17, some 9,000 instructions less: only for memory that this library alone wrote. */
+/* The same without the test for 17, which saves some 9,000 instructions: only for memory that this library alone wrote (rule 24.4). */
 static inline int tbx_offer_unchecked(tbx_session *s, const uint8_t *datagram, size_t size, size_t *place)
 {
     tbx_core_answered r = tbx_core_offer(s->head, s->table, s->octets, s->messages, datagram, size);
     return tbx_told(r.refusal, r.place, place);
 }
 
-/* The number at the base leaves: its packet goes to the front of out, the rest of out stays, and `left` tells the rest. An unknown number
-   leaves only with `skip`: it is booked lost, with no octets. Refuses 17, 16, 10 (unknown, and not to be skipped), 13 (its packet is
-   longer than room); session and out are then as they were. */
+/* Releases the number at the base: writes its packet to the front of `out`, and its kind, number, note and size to `left`. An unknown
+   number leaves only with `skip`, and is then counted as lost, with no octets. A known number leaves alike with `skip` and without.
+   Refuses 17, 16, 10 (unknown, and no `skip`), 13 (the packet is longer than `room`) (rule 12.9). */
 static inline int tbx_release(tbx_session *s, bool skip, uint8_t *out, size_t room, tbx_number *left)
 {
     tbx_core_after_release r = tbx_core_release_checked(s->head, s->table, s->octets, s->messages, skip, out, room);
@@ -196,12 +213,12 @@ static inline int tbx_release_unchecked(tbx_session *s, bool skip, uint8_t *out,
     return r.left.refusal;
 }
 
-/* How many numbers left, of each kind: `received`, `spare`, `repaired`, `lost`; and the base, the next to leave. Changes nothing. */
+/* How many numbers left as `received`, `spare`, `repaired` and `lost`, and the base, which is the next to leave. Changes nothing. */
 static inline tbx_head tbx_counts(const tbx_session *s) { return s->head; }
 
-/* Solves all held parity messages together, for losses that no single message mends: an unknown number is filled, as repaired, with
-   TBX_PACKET_LIMIT octets and note 0, exactly if the messages and the known packets allow one value for it. Refuses 17, then 23 (no octets
-   satisfy all messages); the session is then as it was. Base, counts and messages stay in any case. Takes some 75,000 octets of stack. */
+/* Solves all held parity messages together, for losses that no single message mends. Fills an unknown number, as repaired, with
+   TBX_PACKET_LIMIT octets and note 0, exactly if the messages and the known packets allow only one value for it. Base, counts and messages
+   are unchanged. Refuses 17, then 23 (no octets satisfy all messages) (rule 14.7). Needs some 75,000 octets of stack. */
 static inline int tbx_solve(tbx_session *s)
 {
     return tbx_core_solve_checked(s->head, s->table, s->octets, s->messages).refusal;
@@ -210,11 +227,11 @@ static inline int tbx_solve(tbx_session *s)
 /* The same without the test for 17: only for memory that this library alone wrote. */
 static inline int tbx_solve_unchecked(tbx_session *s) { return tbx_core_solve(s->head, s->table, s->octets, s->messages).refusal; }
 
-/* ---- Images: a receiving session as text, for another box to go on with */
+/* ---- Images: a receiving session as text, for another adapter to go on with (section 20) */
 
-/* Writes the session as lines of upper-case hexadecimal (edition 02) to the front of out, `written` characters; the rest of out stays. One
-   session has one image. Refuses 17, then 13 (the image is longer than room); out is then as it was, and `written` is 0. The session stays
-   in any case. There is no unchecked form: beside the writing the test is short. */
+/* Writes the image of the session, lines of upper-case hexadecimal (version 02), to the front of `out`, `written` characters. One session
+   has one image. The session is unchanged. Refuses 17, then 13 (the image is longer than `room`) (rule 20.19); `written` is then 0. There
+   is no unchecked form, because the test is short compared with the writing. */
 static inline int tbx_image_write(const tbx_session *s, uint8_t *out, size_t room, size_t *written)
 {
     tbx_core_wrote r = tbx_core_image_write(s->head, s->table, s->octets, s->messages, out, room);
@@ -222,10 +239,10 @@ static inline int tbx_image_write(const tbx_session *s, uint8_t *out, size_t roo
     return r.refusal;
 }
 
-/* Makes the session that a text is the image of, whatever its memory held: the very session that was written. Edition 01, with packets and
-   messages of up to 160 octets, is read too. Refuses 21 (the first two characters are digits of upper case, and name another edition),
-   20 (a line is missing, extra or misshapen), 17 (an image of a session outside its ranges); the session is then as it was. The text stays.
-   Takes some 205,000 octets of stack. */
+/* Makes the session that a text is the image of, whatever the memory held: it equals the session that was written. Reads version 01 too,
+   with packets and messages of up to 160 octets. Refuses 21 (the first two characters are digits 0 to 9 or A to F, and name another
+   version), 20 (a line is missing, extra or misshapen), 17 (an image of a session outside its ranges) (rule 20.18). Needs some 205,000
+   octets of stack. */
 static inline int tbx_image_read(tbx_session *s, const uint8_t *text, size_t size)
 {
     tbx_core_after_restore r = tbx_core_image_read(s->head, s->table, s->octets, s->messages, text, size);
@@ -233,18 +250,18 @@ static inline int tbx_image_read(tbx_session *s, const uint8_t *text, size_t siz
     return r.answer.refusal;
 }
 
-/* ---- The sending session */
+/* ---- The sending session (section 15) */
 
-/* Makes a session that has sent nothing, whatever its memory held. Refuses nothing. */
+/* Makes a fresh sending session, whatever the memory held (rules 15.1 and 24.18). Refuses nothing. */
 static inline void tbx_sender_fresh(tbx_sender *s) { s->sent = tbx_core_sender_fresh(s->sizes, s->octets); }
 
-/* Whether the memory is a sending session within its ranges, as above. Changes nothing. */
+/* Whether the memory holds a sending session within its ranges (rule 15.13). Changes nothing. */
 static inline bool tbx_sender_in_ranges(const tbx_sender *s) { return tbx_core_sender_in_ranges(s->sent, s->sizes, s->octets); }
 
-/* Sends a packet: its datagram goes to the front of out, `written` octets, the rest of out stays, and the packet joins the history. With
-   `parity` the datagram has `count` messages (1 to 4), each over n packets (1 to 8); without, `count` spares (0 to 8), or as many as were
-   sent, and n is not looked at. Refuses 17, 16, 15 (settings), 4 (a packet of 0 or over TBX_PACKET_LIMIT octets), 13 (the datagram is
-   longer than room); session and out are then as they were, and `written` is 0. */
+/* Sends a packet: writes its datagram to the front of `out`, `written` octets, and keeps the packet for later spares and messages. With
+   `parity` the datagram has `count` messages (1 to 4) over n packets each (1 to 8). Without, it has `count` spares (0 to 8), or all packets
+   sent so far if these are fewer, and n is ignored. Refuses 17, 16, 15 (settings), 4 (a packet of 0 or over TBX_PACKET_LIMIT octets), 13
+   (the datagram is longer than `room`) (rule 15.8); `written` is then 0. */
 static inline int tbx_send(tbx_sender *s, const uint8_t *packet, size_t size, bool parity, uint8_t count, uint8_t n, uint8_t *out,
                            size_t room, size_t *written)
 {
@@ -264,22 +281,22 @@ static inline int tbx_send_unchecked(tbx_sender *s, const uint8_t *packet, size_
     return r.wrote.refusal;
 }
 
-/* ---- Packets: no session, and nothing is kept */
+/* ---- Packets: these calls need no session and keep nothing (sections 5 to 7) */
 
-/* Reads a packet, any octets, by an edition (enum tbx_edition). A packet that left as TBX_REPAIRED is read with `repaired`: zeros may then
-   follow its end. Refuses 15 (another edition), 4 (over TBX_PACKET_LIMIT octets), then what is wrong in reading order (1, 3, 4, 5, 6, 12,
-   14) with its place. The octets stay. */
+/* Reads a packet, which may be any octets, in an edition (enum tbx_edition). Read a packet that left as TBX_REPAIRED with `repaired`: zeros
+   may then follow its end (rule 6.12). Refuses 15 (another edition), 4 (over TBX_PACKET_LIMIT octets), then what is wrong in reading order
+   (1, 3, 4, 5, 6, 12, 14) with its place (rule 6.13). */
 static inline int tbx_packet_read(const uint8_t *octets, size_t size, uint8_t edition, bool repaired, tbx_packet *packet)
 {
     *packet = tbx_core_packet_read(octets, size, edition, repaired);
     return packet->refusal;
 }
 
-/* Writes a packet of this kind (enum tbx_packet_kind) and value with `count` fields to the front of out, `written` octets; the rest of out
-   stays. Field i has the type types[i] and the next lengths[i] octets of data; with length 0 it has no data. Refuses 15 (another edition
-   or kind), 4 (over TBX_FIELDS fields), 15 (the lengths do not sum to the size of the data), 12 (a value or a type that is not assigned),
-   14 (an indicator with fields; a field without the data that it must have, or with data that it must not have), 4 (a length or the packet
-   over TBX_PACKET_LIMIT), 13 (the packet is longer than room), each over the whole packet; out is then as it was, and `written` is 0. */
+/* Writes a packet of this kind (enum tbx_packet_kind) and value with `count` fields to the front of `out`, `written` octets. Field i has
+   the type types[i] and the next lengths[i] octets of `data`; with length 0 it has no data. Refuses, each over the whole packet, 15
+   (another edition or kind), 4 (over TBX_FIELDS fields), 15 (the lengths do not sum to `size`), 12 (a value or a type that is not
+   assigned), 14 (an indicator with fields; a field without the data that it must have, or with data that it must not have), 4 (a length or
+   the packet over TBX_PACKET_LIMIT), 13 (the packet is longer than `room`) (rules 6.20 and 24.5); `written` is then 0. */
 static inline int tbx_packet_write(uint8_t edition, uint8_t kind, uint8_t value, const uint8_t *types, const uint16_t *lengths,
                                    size_t count, const uint8_t *data, size_t size, uint8_t *out, size_t room, size_t *written)
 {
@@ -288,10 +305,10 @@ static inline int tbx_packet_write(uint8_t edition, uint8_t kind, uint8_t value,
     return r.refusal;
 }
 
-/* ---- The joiner: whole HDLC frames from the fields of data packets and the numbers that were lost. Each call has one form, which takes
-   any memory: a call takes some 300 instructions with its test for 17. */
+/* ---- The joiner: whole HDLC frames from the fields of data packets and the numbers that were lost (sections 16 and 17). Its calls have no
+   unchecked form: with the test for 17 a call takes some 300 instructions. */
 
-/* Makes a joiner that was fed nothing, whatever its memory held: a frame of no octets is open. Refuses nothing. */
+/* Makes a fresh joiner, with an open frame of no octets, whatever the memory held (rules 16.1 and 24.18). Refuses nothing. */
 static inline void tbx_joiner_fresh(tbx_joiner *j)
 {
     tbx_core_joiner_head r = tbx_core_joiner_fresh(j->frame);
@@ -299,11 +316,12 @@ static inline void tbx_joiner_fresh(tbx_joiner *j)
     j->size = r.size;
 }
 
-/* One field of a packet, in the packet's order: its type (0 to 11) and its data, of size 0 if it has none. Type 0 adds to the open frame;
-   2 and 4 hand it out as a good frame, 3 and 5 as a bad one, to the front of out, and the rest of out stays; 1 and all above 5 drop it. A
-   good frame of no octets is not handed out. While the joiner is tainted nothing is kept or handed out; a field of types 1 to 5 ends that.
-   Refuses 17, 12 (a type that is not assigned), 14 (data that is missing or must not be), 18 (the frame would pass TBX_FRAME_LIMIT), 13
-   (the frame is longer than room). Out is then as it was, and so is the joiner, but after 18: its frame is dropped, and it is tainted. */
+/* Takes one field of a packet, in the packet's order: its type (0 to 11) and its data, with size 0 if it has none. Type 0 adds its data to
+   the open frame. Types 2 and 4 end it as a good frame, types 3 and 5 as a bad one, which is written to the front of `out`. Type 1 and the
+   types above 5 drop it. A good frame of no octets is dropped too. While the joiner is tainted it keeps and writes nothing; a field of
+   types 1 to 5 ends the taint. Refuses 17, 12 (a type that is not assigned), 14 (data that must not be there, or none where it must), 18
+   (the frame would pass TBX_FRAME_LIMIT), 13 (the frame is longer than `room`) (rule 16.14). After 18 the open frame is dropped and the
+   joiner is tainted; after the others it is unchanged. */
 static inline int tbx_joiner_field(tbx_joiner *j, uint8_t type, const uint8_t *data, size_t size, uint8_t *out, size_t room,
                                    tbx_frame *frame)
 {
@@ -314,8 +332,8 @@ static inline int tbx_joiner_field(tbx_joiner *j, uint8_t type, const uint8_t *d
     return r.frame.refusal;
 }
 
-/* One lost number, in its place between the packets: what is open is dropped, and the joiner is tainted. Kind and size are 0: nothing is
-   handed out. Refuses 17; the joiner is then as it was. */
+/* Takes one lost number, at its place between the packets: drops the open frame and taints the joiner (rule 16.8). Kind and size are 0, as
+   no frame ends here. Refuses 17. */
 static inline int tbx_joiner_lost(tbx_joiner *j, tbx_frame *frame)
 {
     tbx_core_after_field r = tbx_core_joiner_lost(j->tainted, j->size, j->frame);

@@ -1,15 +1,15 @@
-/* A bad line for thousand.c: datagrams that are held back, repeated and damaged, the same for the same seed. */
+/* A bad line for thousand.c: it holds back, repeats and damages datagrams, in the same way for the same seed. */
 #include "tubarexi.h"
 
 #include <string.h>
 
 enum { LINE = 64, WIDEST = TBX_DATAGRAM_LIMIT + 300 };
 
-/* What the line does to a datagram: it is cut short, goes on behind its end, or is made longer than any may be, by a bad box that gives
-   it a checksum again; or one of its octets is altered on the wire. */
+/* What the line does to a datagram. A bad box cuts it short, adds octets behind its end or makes it longer than a datagram may be, and then
+   computes its checksum again; or one of its octets is altered on the wire. */
 enum damage { WHOLE, CUT, BEHIND, TOO_LONG, ALTERED, DAMAGES };
 
-/* A datagram on the line. `whole` is its size before the line. */
+/* A datagram on the line. `whole` is its size before the line damaged it. */
 typedef struct {
     unsigned long number, due;
     enum damage damage;
@@ -23,14 +23,14 @@ static size_t line_count;
 static unsigned long damaged[DAMAGES];
 static uint64_t state;
 
-/* xorshift64*: the same sheets and the same line for the same seed, on every machine. */
+/* xorshift64*: on every machine the same seed gives the same sheets and the same line. */
 static unsigned chance(unsigned below)
 {
     state ^= state >> 12, state ^= state << 25, state ^= state >> 27;
     return (unsigned)((state * 2685821657736338717u >> 33) % below);
 }
 
-/* The checksum of RFC 768 over the pseudo header, the header and the data: from 192.0.2.1 to 192.0.2.2, both port 49170. */
+/* The checksum of RFC 768 over pseudo header, header and data, from 192.0.2.1 to 192.0.2.2, both with port 49170. */
 static uint16_t checksum(const uint8_t *octets, size_t size)
 {
     uint32_t sum = 0xC000 + 0x0201 + 0xC000 + 0x0202 + 17 + 2 * ((uint32_t)size + 8) + 2 * 49170;
@@ -39,7 +39,7 @@ static uint16_t checksum(const uint8_t *octets, size_t size)
     return sum == 0xFFFF ? 0xFFFF : (uint16_t)~sum;
 }
 
-/* A copy of a datagram goes on the line at this tick, perhaps damaged, to arrive at once or some ticks later. */
+/* Puts a copy of a datagram on the line at this tick, perhaps damaged, to arrive at once or some ticks later. */
 static void fly(const uint8_t *octets, size_t size, unsigned long number, unsigned long now)
 {
     if (line_count == LINE) return;

@@ -1,5 +1,5 @@
-/* Calls over the C interface, one a line, as the calls program takes and answers them (tests/CALLS.md): numbers and octets taken from the
-   line, answers put, and all lines in turn. */
+/* Calls over the C interface, one a line, in the lines of the calls program (section 25 of docs/RULES.md): takes numbers and octets from a
+   line, writes answers, and answers all lines in turn. */
 #include "tubarexi.h"
 
 #include <stdio.h>
@@ -7,11 +7,11 @@
 
 enum { LINE_LIMIT = 240000, FILLING = 0xA5 };
 
-/* The octets of a line, how many they are, and which comes next: past the size if the line ended early. */
+/* The octets of a line, how many they are, and which comes next: `at` is past `size` if the line ended early. */
 static uint8_t line[LINE_LIMIT / 2];
 static size_t size, at;
 
-/* The next octets; none if there are not so many, or of none. */
+/* The next `count` octets; NULL if there are fewer, or if `count` is 0. */
 static inline const uint8_t *octets(size_t count)
 {
     const uint8_t *from = line + at;
@@ -20,7 +20,7 @@ static inline const uint8_t *octets(size_t count)
     return count && at <= size ? from : NULL;
 }
 
-/* The next number of so many octets, the high one first: 0 if there is none. */
+/* The next number of `width` octets, high octet first; 0 if there is none. */
 static inline unsigned long number(int width)
 {
     const uint8_t *from = octets((size_t)width);
@@ -36,7 +36,7 @@ static inline void put_octets(const uint8_t *from, size_t count)
     for (size_t i = 0; i < count; i++) put(from[i], 1);
 }
 
-/* An answer's start, done or the refusal and its place; whether it is done. */
+/* Writes the start of an answer, done or the refusal with its place (rule 25.3); returns whether the call was done. */
 static inline bool told(int why, size_t place)
 {
     put(why ? 0xFF : 0, 1);
@@ -49,7 +49,7 @@ static inline int digit(int c)
     return c >= '0' && c <= '9' ? c - '0' : c >= 'A' && c <= 'F' ? c - 'A' + 10 : c >= 'a' && c <= 'f' ? c - 'a' + 10 : -1;
 }
 
-/* A line that is not empty: the answer to it, which is EE where `answer` says before it puts anything that this is no call. */
+/* Answers a line that is not empty: with EE if `answer` returns, before it writes anything, that the line is no call (rule 25.5). */
 static inline void answer_line(const char *text, size_t length, bool (*answer)(void))
 {
     bool good = length <= LINE_LIMIT && length % 2 == 0;

@@ -1,5 +1,5 @@
-/* Offers and releases of a trace through the C interface, or through the C receiver of tests/speed, for counting: lines of hexadecimal in.
-   count ours | checked | plain < LINES. Only the function `counted` is to be counted; reading the lines is not. */
+/* Offers and releases of a trace through the C interface, or through the C receiver of tests/speed, for counting instructions. It reads
+   lines of hexadecimal: count ours | checked | plain < LINES. Only the function `counted` is counted; reading the lines is not. */
 #define main other_main /* is not called */
 #include "../speed/receive.c"
 #undef main
@@ -14,7 +14,7 @@ static struct session plain;
 static tbx_session ours;
 static unsigned long left_all;
 
-/* The C receiver's core: the packet is handed out as a release of ours does. */
+/* The C receiver's core: it copies the packet out as our release does. */
 static void take_plain(const uint8_t *octets, size_t size)
 {
     static uint8_t handed[PACKET_LIMIT];

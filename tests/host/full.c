@@ -1,5 +1,6 @@
-/* A session as full as one can be: its image has TBX_IMAGE_LIMIT characters, one fewer is no room, and it reads back as the very session.
-   What is refused changes nothing. The last line is 'N passed, 0 failed'; the status is 1 at the first difference. */
+/* A session as full as possible: its image has TBX_IMAGE_LIMIT characters, a buffer of one fewer is too short, and the image reads back as
+   the same session; a refusal changes nothing (rules 20.11, 20.18 to 20.20, 24.9, 24.12 and 24.13). The last line is 'N passed, 0 failed';
+   the status is 1 at the first difference. */
 #include "tubarexi.h"
 
 #include <stdio.h>
@@ -26,7 +27,7 @@ static bool same(const tbx_session *a, const tbx_session *b)
            !memcmp(a->octets, b->octets, sizeof a->octets) && !memcmp(a->messages, b->messages, sizeof a->messages);
 }
 
-/* Octets of the greatest length, with their length before them. */
+/* Writes octets of the greatest length, behind their length. */
 static uint8_t *put_item(uint8_t *to, int seed)
 {
     *to++ = 0x80 | TBX_PACKET_LIMIT >> 8;
@@ -35,7 +36,7 @@ static uint8_t *put_item(uint8_t *to, int seed)
     return to;
 }
 
-/* A datagram with the greatest packet and all messages, over one packet each. */
+/* Offers a datagram with the longest packet and all messages, each over one packet. */
 static void offer(int number)
 {
     uint8_t datagram[TBX_DATAGRAM_LIMIT], *to = datagram;
@@ -46,7 +47,7 @@ static void offer(int number)
     expect("a datagram", tbx_offer(&session, datagram, (size_t)(to - datagram), NULL) == 0);
 }
 
-/* A text that is no image of a session: it is refused so, and the session stays. */
+/* A text that is no image of a session is refused with `why`, and the session is unchanged (rule 20.18). */
 static void refused(const char *what, size_t size, int why)
 {
     expect(what, tbx_image_read(&other, text, size) == why && same(&other, &before));

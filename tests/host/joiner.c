@@ -1,12 +1,12 @@
-/* The calls on the joiner over the C interface, to be held against `calls`: its lines 30 to 34. Before each call the same is asked of a
-   joiner whose tainted is neither 0 nor 1: refused with 17, and left alone. */
+/* The calls on the joiner over the C interface, to be compared with `calls`: its lines 30 to 34 (rules 25.30 to 25.34). Before each call it
+   makes the same call on a joiner whose `tainted` is neither 0 nor 1, which must be refused with 17 and unchanged (rule 24.6). */
 #include "call_lines.h"
 
 enum { ROOM_LIMIT = 2600 };
 
 static tbx_joiner joiner;
 
-/* A joiner that is none is refused, and left alone. */
+/* A joiner whose `tainted` is neither 0 nor 1 must be refused and unchanged (rule 24.6). */
 static void refuse_no_flag(bool lost, uint8_t type, const uint8_t *data, size_t count)
 {
     tbx_joiner other = joiner, kept;

@@ -1,9 +1,10 @@
-/* Sessions whose memory is overwritten, over the C interface, in the lines of the calls program (tests/CALLS.md): 10, 11, 12, 14, 15, 16,
-   17, 20, 21, 22 and 23, with the checked calls. The lines must be whole calls: what is none is not looked for. Before each offer, release
-   and send the same is asked of a session with a number that no session has: refused with 17, and left alone. */
+/* Sessions whose memory is overwritten, over the C interface, in the lines of the calls program (section 25 of docs/RULES.md): 10, 11, 12,
+   14, 15, 16, 17, 20, 21, 22 and 23, with the checked calls. The lines must be whole calls: it does not look for lines that are no call.
+   Before each offer, release and send it makes the same call on a session with a number that no session has, which must be refused with 17
+   and unchanged (rules 24.3 and 24.9). */
 #include "call_lines.h"
 
-/* Where the table of a session has what. */
+/* The places of the parts in the table of a session. */
 enum { NOTES = 2 * TBX_KEPT, MARKS = 3 * TBX_KEPT, NS = MARKS + TBX_HEARD, MS = NS + TBX_HEARD, MESSAGES = MS + TBX_HEARD };
 
 static tbx_session session;
@@ -15,7 +16,7 @@ static bool same_head(tbx_head a, tbx_head b)
     return a.base == b.base && a.received == b.received && a.spare == b.spare && a.repaired == b.repaired && a.lost == b.lost;
 }
 
-/* A state, a mark, n or m that there is not: as long as the table can hold it, and the lines of the calls program cannot. */
+/* A state, a mark, n or m outside the ranges (rules 13.8 and 13.11), of values that the table can hold. */
 static void refuse_no_session(bool skip, size_t room)
 {
     static tbx_session broken;
@@ -36,7 +37,7 @@ static void refuse_no_session(bool skip, size_t room)
         printf("no session, and taken: ");
 }
 
-/* A history with a length that there is not. */
+/* A history with a length outside the ranges (rule 15.13). */
 static void refuse_no_sender(const uint8_t *packet, size_t count, bool parity, unsigned items, unsigned n, size_t room)
 {
     static tbx_sender broken;
@@ -84,7 +85,7 @@ static void send(void)
     put_octets(lent, room);
 }
 
-/* A packet or message: its length as it stands, and that many octets, or those that there are. */
+/* A packet or message: its length unchanged, and that many octets, or all that there are if these are fewer (rule 25.43). */
 static void put_sized(unsigned length, const uint8_t *octets)
 {
     put(length, 2);
@@ -108,7 +109,7 @@ static void view(void)
     }
 }
 
-/* The field of the receiving session is set, as a caller could. */
+/* Sets a field of the receiving session, as a caller could (rule 25.22). */
 static void overwrite(void)
 {
     unsigned field = (unsigned)number(1), which = (unsigned)number(2), message = (unsigned)number(1), octet = (unsigned)number(2);
@@ -134,7 +135,7 @@ static void overwrite_sender(void)
     put(0, 1);
 }
 
-/* Skips, or sends of the packet 06, from a fresh session on: so many, or as many as are not refused. */
+/* `times` skips, or sends of the packet 06, from a fresh session on, up to the first that is refused (rules 25.21 and 25.28). */
 static void again_and_again(bool sends)
 {
     static const uint8_t packet[] = { 6 };

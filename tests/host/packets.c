@@ -1,4 +1,4 @@
-/* Packets over the C interface, to be held against `calls`: its lines 05 (read a packet) and 06 (write one). */
+/* Packets over the C interface, to be compared with `calls`: its lines 05 (read a packet) and 06 (write one) (rules 25.12 and 25.13). */
 #include "call_lines.h"
 
 enum { ROOM_LIMIT = 2600, LISTED = 255 };
@@ -21,7 +21,7 @@ static bool read_packet(void)
     return true;
 }
 
-/* With as many lengths as types through the header's call, otherwise through the proved function, which takes both counts. */
+/* Uses the header's call if there are as many lengths as types, otherwise the proved function, which takes both counts. */
 static bool write_packet(void)
 {
     static uint16_t lengths[LISTED];
@@ -42,7 +42,7 @@ static bool write_packet(void)
             (uint8_t)tbx_packet_write(edition, kind, value, types, lengths, type_count, data, data_size, out, room, &wrote.size);
     else
         wrote = tbx_core_packet_write(edition, kind, value, types, type_count, lengths, length_count, data, data_size, out, room);
-    /* to `calls` another kind is no line; here it must have been refused */
+    /* to `calls` a line with another kind is no call; here it must be refused (rules 24.5 and 25.5) */
     if (kind > 1 && wrote.refusal == TBX_WRONG_SETTINGS && out[0] == FILLING) return false;
     if (told(wrote.refusal, wrote.place)) put(wrote.size, 2);
     put_octets(out, room);

@@ -1,5 +1,5 @@
-/* The program of document 01 over the C interface, to be held against `receive`: lines of hexadecimal in, result lines out. By default it
-   takes the checked calls; with an argument the unchecked ones. */
+/* The program `receive` over the C interface, to be compared with it: reads lines of hexadecimal and writes result lines (rules 18.1 to
+   18.11). By default it uses the checked calls, with an argument the unchecked ones. */
 #include "tubarexi.h"
 
 #include <stdio.h>
@@ -17,7 +17,7 @@ static int digit(int c)
 
 static void put_refusal(int refusal, size_t place) { printf("FF%02X%04X\n", refusal, (unsigned)place); }
 
-/* One release; whether a number left. */
+/* Makes one release; returns whether a number left. */
 static int release(bool skip)
 {
     uint8_t out[TBX_PACKET_LIMIT];

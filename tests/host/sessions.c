@@ -1,7 +1,7 @@
-/* Calls on sessions over the C interface, to be held against the independent program. Of the lines of `calls` it takes those of the
-   receiving session: fresh (10), offer (11), release (12), counts (14), give up so many times (16), write as an image (18) and read back
-   (19), solve (1A); and of the sending session: fresh (20), send (21), send so many times (22). By default it takes the checked calls; with
-   an argument the unchecked ones, where there are such. */
+/* Calls on sessions over the C interface, to be compared with the independent program. Of the lines of `calls` (section 25 of
+   docs/RULES.md) it takes those of the receiving session: fresh (10), offer (11), release (12), counts (14), many skips (16), write an
+   image (18), read an image (19), solve (1A); and of the sending session: fresh (20), send (21), many sends (22). By default it uses the
+   checked calls, with an argument the unchecked ones, where there are such. */
 #include "call_lines.h"
 
 enum { ROOM_LIMIT = 120000, SHORT_ROOM_LIMIT = 2600 };
@@ -11,7 +11,7 @@ static tbx_sender sender;
 static bool checked = true;
 static uint8_t out[ROOM_LIMIT];
 
-/* The answer of a call that writes, and the whole lent buffer. */
+/* Writes the answer of a call that writes, and the whole buffer (rule 25.4). */
 static void wrote(int why, size_t count, int width, size_t room)
 {
     if (told(why, 0)) put(count, width);
@@ -111,7 +111,7 @@ static bool send_on(void)
     return told(0, 0);
 }
 
-/* One call; whether it was one. */
+/* Makes one call; returns whether the line is one. */
 static bool answer(void)
 {
     memset(out, FILLING, sizeof out);

@@ -1,8 +1,8 @@
-/* A thousand sheets through a bad line: real fax packets, varied by seed, sent by the sending session over a line that loses, holds back,
-   repeats and damages, and received by the receiving session, all through the C interface. Every number that leaves is held against what
-   was sent and what arrived, and every answer to a datagram against what the line did to it.
+/* A thousand sheets through a bad line. The sending session sends real fax packets, varied by seed, over a line that loses, holds back,
+   repeats and damages datagrams, and the receiving session receives them, all through the C interface. Every number that leaves is compared
+   with what was sent and what arrived, and every answer to a datagram with what the line did to it.
    thousand SHEETS SEED [WRONG] < PACKETS, a packet a line in hexadecimal. The last line is 'N booked wrongly', the status 1 if N is not 0.
-   WRONG is for the self-test, a mistake to be found: octet, swapped, lost, unmended, kept, refused, passed or unchecked. */
+   WRONG is for the self-test, a mistake that must be found: octet, swapped, lost, unmended, kept, refused, passed or unchecked. */
 #include "bad_line.h"
 
 #include <stdio.h>
@@ -13,7 +13,7 @@ enum { CORPUS = 4096, RING = 256, PATIENCE = 24, UNKNOWN = TBX_LOST };
 
 typedef struct { size_t size; uint8_t octets[TBX_PACKET_LIMIT]; } packet;
 
-/* A packet that was sent, its settings, and what arrived of it: its own datagram, and what first filled it, with which datagram. */
+/* A packet that was sent: its settings, whether its own datagram arrived, how it was first filled, and by which datagram. */
 typedef struct { packet is; bool parity, came; unsigned count, n; int kind; unsigned long filler; } sent_packet;
 
 static packet corpus[CORPUS];
@@ -21,7 +21,7 @@ static size_t corpus_count;
 static tbx_session session;
 static tbx_sender sender;
 static sent_packet ring[RING];
-static unsigned long now, sent, booked, burst; /* of this call: ticks, packets sent, numbers that left; datagrams still to be lost */
+static unsigned long now, sent, booked, burst; /* in this call: ticks, packets sent, numbers that left; datagrams still to be lost */
 static unsigned long numbers, kinds[4], refusals[32], dropped, wrong;
 static const char *mistake = "";
 
@@ -29,7 +29,7 @@ static void must(bool right) { if (!right) wrong++; }
 
 static bool mistaken(const char *name, unsigned every) { return !strcmp(mistake, name) && !chance(every); }
 
-/* Whether a number that left is the next one, with the kind, the datagram and the octets that what was sent and arrived asks. */
+/* Whether a number that left is the next one, and has the kind, note and octets that follow from what was sent and what arrived. */
 static bool right(const tbx_number *left, const uint8_t *out)
 {
     const sent_packet *s = &ring[booked % RING];
@@ -40,11 +40,11 @@ static bool right(const tbx_number *left, const uint8_t *out)
     if (left->kind == TBX_LOST) return !size;
     if (memcmp(out, s->is.octets, same)) return false;
     for (size_t i = same; i < size; i++)
-        if (out[i] || !repaired) return false; /* a repaired packet may go on with zeros */
+        if (out[i] || !repaired) return false; /* only a repaired packet may go on, with zeros (rule 11.8) */
     return size >= s->is.size;
 }
 
-/* The release of the library, or one with the mistake. */
+/* Calls the library's release, or makes the mistake. */
 static int release_one(bool skip, uint8_t *out, tbx_number *left)
 {
     static struct { bool full; tbx_number left; uint8_t out[TBX_PACKET_LIMIT]; } kept;
@@ -67,7 +67,7 @@ static int release_one(bool skip, uint8_t *out, tbx_number *left)
     return 0;
 }
 
-/* What is known leaves; an unknown number is given up when it was sent PATIENCE ticks ago. */
+/* Releases what is known, and skips an unknown number that was sent more than PATIENCE ticks ago. */
 static void release(void)
 {
     uint8_t out[TBX_PACKET_LIMIT];
@@ -81,7 +81,7 @@ static void release(void)
     }
 }
 
-/* The answer that a datagram must get. */
+/* The answer that a datagram must get (rules 2.1, 2.2, 2.6 to 2.9). */
 static int expected(const datagram *d)
 {
     static const int of_damage[DAMAGES] = { [CUT] = TBX_ENDS_EARLY, [BEHIND] = TBX_LEFT_OVER, [TOO_LONG] = TBX_TOO_LONG };
@@ -97,7 +97,8 @@ static void fill(unsigned long number, int kind, unsigned long filler)
     if (s->kind == UNKNOWN) s->kind = kind, s->filler = filler;
 }
 
-/* What this datagram's arrival mends by document 01: as long as a message that arrived has one member that is not known, that is filled. */
+/* Repairs as this datagram arrives: as long as a message that arrived has exactly one unknown member, that member is filled (rules 11.1 to
+   11.4). */
 static void mend(unsigned long arrived)
 {
     for (unsigned long number = booked; number < booked + TBX_HEARD && number < sent; number++) {
@@ -114,7 +115,7 @@ static void mend(unsigned long arrived)
     }
 }
 
-/* A datagram arrives: dropped if its checksum does not hold, as a kernel does, else offered. */
+/* A datagram arrives: it is dropped, as a kernel does, if its checksum is wrong, and otherwise offered. */
 static void arrive(datagram *d)
 {
     size_t place = 0;
@@ -123,7 +124,7 @@ static void arrive(datagram *d)
     must(holds == (d->damage != ALTERED));
     if (!holds) { dropped++; return; }
     int owed = expected(d);
-    if (!owed && s->parity && mistaken("unmended", 4)) /* its messages are not looked at */
+    if (!owed && s->parity && mistaken("unmended", 4)) /* its messages are cut off */
         d->size = 5 + (s->is.size > 127) + s->is.size, d->octets[d->size - 2] = d->octets[d->size - 1] = 0;
     int why = mistaken("refused", 400) ? TBX_LATE : tbx_offer(&session, d->octets, d->size, &place);
     if (owed && mistaken("passed", 4)) why = 0;
@@ -135,7 +136,7 @@ static void arrive(datagram *d)
     mend(d->number);
 }
 
-/* A tick passes: what is due arrives, the newest first, and what can leave does. */
+/* A tick passes: the datagrams that are due arrive, the newest first, and numbers leave. */
 static void tick(void)
 {
     now++;
@@ -163,7 +164,7 @@ static void send_packet(const packet *p, bool parity, unsigned count, unsigned n
     sent++;
 }
 
-/* A sheet: the corpus from some packet on, an octet of each varied, with settings of its own. */
+/* Sends a sheet: the corpus from some packet on, with one octet of each varied, and with settings of its own. */
 static void send_sheet(void)
 {
     size_t from = chance((unsigned)corpus_count), count = 200 + chance(600);
@@ -184,8 +185,8 @@ static void begin_call(void)
     now = sent = booked = burst = 0;
 }
 
-/* In a ring of ticks what is on the line arrives, and what is still unknown is given up; then the counts are those of all that left in this
-   call. */
+/* Within RING ticks everything on the line arrives, and what is still unknown is skipped; then the counts must equal how many numbers left
+   in this call as each kind (rule 9.11). */
 static void end_call(const unsigned long before[4])
 {
     for (int ticks = 0; ticks < RING && (line_count || booked < sent); ticks++) tick();

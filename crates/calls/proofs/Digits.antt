@@ -1,4 +1,4 @@
--- A line of which every character is told to be a digit. Assumes nothing.
+-- A line of which every character is found to be a digit. Assumes nothing.
 use Prim.Native.Nat.{ℕ}
 use mathlib.Core.Path.{_≡_, sym, _∙_}
 use mathlib.Core.Bool.{Bool, true}

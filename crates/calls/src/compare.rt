@@ -1,4 +1,4 @@
-// Line 50: two traces compared.
+// Line 50: two traces compared (rules 22.1, 22.16 and 25.36).
 use calls_lines::CAP;
 use calls_lines::first;
 use calls_lines::say;
@@ -9,7 +9,7 @@ use calls_lines::say_refused;
 use calls_lines::sized;
 use trace_compare::Compared;
 
-// What stands in the lent list before the call.
+// What each place of the list holds before the call (rule 25.36).
 const FILLED: u16 = 0xA5A5;
 
 fn say_compared(answer: Compared) {
@@ -23,7 +23,7 @@ fn say_compared(answer: Compared) {
     }
 }
 
-// The comparison with the front of a list to lend.
+// Compares the traces, with the first `cap` numbers of `all` as the list (rule 25.36).
 fn compared(one: &[u8], other: &[u8], cap: usize, all: &mut [u16]) {
     if cap <= all.len() {
         let start = 0;
@@ -34,7 +34,7 @@ fn compared(one: &[u8], other: &[u8], cap: usize, all: &mut [u16]) {
     say_no_call()
 }
 
-// The two traces, each behind its length.
+// Reads the two traces, each behind its length, and answers (rule 25.36).
 pub fn answer(s: &[u8], cap: usize) {
     let mut all = [FILLED; CAP];
     let mut at = 0;

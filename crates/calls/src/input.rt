@@ -1,13 +1,14 @@
-// The octets of a line.
+// The octets of a line (rules 25.1 and 25.5).
 use calls_lines::part;
 
-// The characters that a line has at most.
+// The most characters of a line (rule 25.5).
 const LIMIT: usize = 240000;
 
-// What is kept of a line: one more, by which one that is too long is known.
+// How many characters of a line are kept: one more, just enough to know that it is too long.
 pub const KEPT: usize = LIMIT + 1;
 
-// The octets of a line of so many characters, to the front of out. None, where it is too long or is not of paired digits.
+// Writes the octets of a line of `count` characters to the front of `out`, and returns how many they are: 0 if the line is too long or is
+// not made of paired digits.
 pub fn octets_of(kept: &[u8; KEPT], count: usize, out: &mut [u8]) -> usize {
     let line = part(kept, 0, count);
     let size = line.len();

@@ -1,5 +1,5 @@
-// The calls program: every public call on one line of hexadecimal, one answer a line, so that any other
-// program can be compared with it call by call. It holds one receiving and one sending session and one joiner, all fresh at the start.
+// The calls program: one public call a line, one answer a line, so that another program can be compared with it call by call (rule 25.1).
+// It holds one receiving session, one sending session and one joiner, all fresh at the start (rule 25.2).
 mod compare;
 mod input;
 mod replay;
@@ -16,13 +16,14 @@ use input::octets_of;
 use program_input::BLOCK;
 use program_input::read_line;
 
-// As many octets of arguments as the line itself tells.
+// Any number of octets of arguments: the arguments themselves say how many.
 const ANY: usize = 15;
 
-// More than a line has: no call.
+// More octets than a line has: the line is no call (rule 25.5).
 const NONE: usize = KEPT;
 
-// Of a line: 16 times how many octets of arguments it has beside its cap, and how many its cap has, which is its last argument.
+// The shape of a line: 16 times how many octets of arguments it has before its cap, plus how many octets its cap has (rules 25.8 to 25.36).
+// The cap is the last argument.
 fn shape_of(call: u8) -> usize {
     match call {
         0x01 | 0x03 | 0x05 | 0x07 | 0x11 | 0x19 => 16 * ANY,
@@ -40,7 +41,7 @@ fn shape_of(call: u8) -> usize {
     }
 }
 
-// How many octets of arguments a line of so many octets has in front of its cap: NONE, where it is no call.
+// How many octets of arguments a line of `length` octets has before its cap, or NONE if the line is no call.
 fn size_of(call: u8, length: usize) -> usize {
     let shape = shape_of(call);
     let fixed = shape / 16;
@@ -55,7 +56,7 @@ fn size_of(call: u8, length: usize) -> usize {
     NONE
 }
 
-// The cap: what stands behind the call and so many octets of arguments, 0 if nothing does.
+// The cap: the number behind the call and `size` octets of arguments, 0 if nothing is there.
 fn cap_of(octets: &[u8], size: usize) -> usize {
     if octets.len() <= size {
         return 0;
@@ -65,7 +66,7 @@ fn cap_of(octets: &[u8], size: usize) -> usize {
     number(octets, &mut at, width) as usize
 }
 
-// The call that a line is, and what is held after it.
+// Makes the call of a line, and returns what the program holds after it.
 fn called(held: Held, call: u8, s: &[u8], lent: &mut [u8]) -> Held {
     if call < 0x10 {
         calls_lines::answer(call, s, lent);
@@ -74,7 +75,7 @@ fn called(held: Held, call: u8, s: &[u8], lent: &mut [u8]) -> Held {
     calls_sessions::answer(held, call, s, lent)
 }
 
-// The calls that lend more than the others, and change nothing that is held.
+// Makes the calls that need a larger buffer or list of their own. They change nothing that the program holds (rule 25.45).
 fn called_apart(held: Held, call: u8, s: &[u8], cap: usize) {
     match call {
         0x40 => replay::answer(s, cap),
@@ -83,13 +84,13 @@ fn called_apart(held: Held, call: u8, s: &[u8], cap: usize) {
     }
 }
 
-// The octet that a line begins with.
+// The first octet of a line, which names the call.
 fn call_of(octets: &[u8]) -> u8 {
     let mut at = 0;
     octet(octets, &mut at)
 }
 
-// A line of so many octets, answered, with the front of a buffer to lend.
+// Answers a line of `count` octets. The call gets the first octets of `all`, as many as its cap says, as its buffer (rule 25.4).
 fn answered(held: Held, line: &[u8; KEPT], count: usize, all: &mut [u8]) -> Held {
     let octets = part(line, 0, count);
     let call = call_of(octets);
@@ -110,7 +111,7 @@ fn answered(held: Held, line: &[u8; KEPT], count: usize, all: &mut [u8]) -> Held
     held
 }
 
-// One line of the input, answered unless it is empty. What stood in line and octets before does not matter.
+// Reads one line of the input, and answers it unless it is empty (rule 25.6). What `line` and `octets` held before does not matter.
 fn turn(
     held: Held,
     block: &mut [u8; BLOCK],
@@ -137,7 +138,7 @@ fn main() {
     let mut octets = [0u8; KEPT];
     let mut at = 0;
     let mut end = 0;
-    // Nothing says that the input ends, so the turns are counted down from a number that no run uses up.
+    // The input may never end, so the turns are counted down from a number that no run uses up.
     let mut turns = u64::MAX;
     while turns > 0 {
         turns -= 1;

@@ -1,4 +1,4 @@
-// Line 40: a trace played again with chosen losses.
+// Line 40: a trace played again with chosen losses (rules 21.1, 21.2 and 25.35).
 use calls_lines::FILLING;
 use calls_lines::LONGEST;
 use calls_lines::first;
@@ -33,7 +33,7 @@ fn say_replayed(answer: Replayed) {
     }
 }
 
-// The replay with the front of a buffer to lend.
+// Replays the trace, with the first `cap` octets of `all` as the buffer (rule 25.4).
 fn replayed(trace: &[u8], listed: &[u16], cap: usize, all: &mut [u8]) {
     if cap <= all.len() {
         let start = 0;
@@ -44,7 +44,7 @@ fn replayed(trace: &[u8], listed: &[u16], cap: usize, all: &mut [u8]) {
     say_no_call()
 }
 
-// The numbers to drop behind their count, and the trace behind its length.
+// Reads the count, the numbers to drop, the length and the trace, and answers (rule 25.35).
 pub fn answer(s: &[u8], cap: usize) {
     let mut listed = [0u16; NUMBERS];
     let mut all = [FILLING; LONGEST];

@@ -1,17 +1,17 @@
-// Answers, said number by number: in pairs of digits, to standard output.
+// Answers, written number by number in pairs of digits to standard output (rules 25.1, 25.3 and 25.4).
 use crate::arguments::part;
 use datagram::Packet;
 use length::Refusal;
 use length::Written;
 
-// The octets that a lent buffer has at most, of a line whose cap is of two octets, and of four; and what stands in it before the call.
+// The greatest cap of two octets, the greatest of four (rule 25.5), and what each octet of a buffer is before the call (rule 25.4).
 pub const CAP: usize = 2600;
 
 pub const LONGEST: usize = 120000;
 
 pub const FILLING: u8 = 0xA5;
 
-// Octets as they are, at most so many.
+// Writes octets unchanged, at most CAP of them.
 pub fn say_all(octets: &[u8]) {
     let mut text = [0u8; 2 * CAP];
     let size = octets.len();
@@ -21,7 +21,7 @@ pub fn say_all(octets: &[u8]) {
     }
 }
 
-// A lent buffer, so many octets at a time.
+// Writes a buffer of any length, CAP octets at a time.
 pub fn say_long(lent: &[u8]) {
     let mut at = 0;
     while at < lent.len() {
@@ -35,7 +35,7 @@ pub fn say_long(lent: &[u8]) {
     }
 }
 
-// Numbers as two octets each, high octet first, as many as out has room for.
+// Numbers as two octets each, high octet first, as many as `out` has room for.
 fn put_numbers(numbers: &[u16], out: &mut [u8]) {
     let mut i = 0;
     while i < numbers.len() {
@@ -50,7 +50,7 @@ fn put_numbers(numbers: &[u16], out: &mut [u8]) {
     }
 }
 
-// A lent list, at most so many numbers.
+// Writes a list, at most CAP numbers.
 pub fn say_numbers(numbers: &[u16]) {
     let mut octets = [0u8; 2 * CAP];
     let count = numbers.len();
@@ -60,7 +60,7 @@ pub fn say_numbers(numbers: &[u16]) {
     }
 }
 
-// A number of one, two or four octets, high octet first.
+// Writes a number in one, two or four octets, high octet first.
 pub fn say(n: u32, width: usize) {
     let octets = [
         (n / 16777216) as u8,
@@ -71,7 +71,7 @@ pub fn say(n: u32, width: usize) {
     say_all(part(&octets, 4 - width % 5, width));
 }
 
-// The call was done, and a number that it answered.
+// Writes that the call was done, and a number that it returned (rule 25.3).
 pub fn say_done(n: usize, width: usize) {
     say(0, 1);
     say((n % 4294967296) as u32, width);
@@ -83,12 +83,12 @@ pub fn say_refused(why: Refusal) {
     say((why.place % 65536) as u32, 2);
 }
 
-// The line is no call.
+// Writes that the line is no call (rule 25.5).
 pub fn say_no_call() {
     say(0xEE, 1);
 }
 
-// A length as it stands, and behind it that many octets of s from a place on, or as many as a packet has at most.
+// Writes a length unchanged, and behind it that many octets of `s` from `start` on, but not more than a packet may have (rule 25.43).
 pub fn say_sized(s: &[u8], start: usize, size: usize) {
     say((size % 65536) as u32, 2);
     if size < Packet::LIMIT {
@@ -98,7 +98,7 @@ pub fn say_sized(s: &[u8], start: usize, size: usize) {
     say_all(part(s, start, Packet::LIMIT));
 }
 
-// What a call answered that was lent a buffer, and the whole buffer.
+// Writes the answer of a call that got a buffer, and the whole buffer, behind a refusal too (rule 25.4).
 pub fn say_written(answer: Written, width: usize, lent: &[u8]) {
     match answer {
         Written::Octets(size) => say_done(size, width),

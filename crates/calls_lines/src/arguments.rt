@@ -1,5 +1,5 @@
-// The arguments of a call, read from a place that goes on. Past the end they read as 0 and the place is past the end too: so a
-// call's arguments are all there and no more if the place comes to the end.
+// The arguments of a call, read one after the other from the place `at`. Past the end an argument reads as 0 and moves `at` past the end.
+// So a line has all of its arguments and nothing more exactly if `at` equals its length at last (rule 25.5).
 
 pub fn octet(s: &[u8], at: &mut usize) -> u8 {
     let i = *at;
@@ -11,7 +11,7 @@ pub fn octet(s: &[u8], at: &mut usize) -> u8 {
     0
 }
 
-// A number of so many octets, high octet first.
+// A number of `width` octets, high octet first.
 pub fn number(s: &[u8], at: &mut usize, width: usize) -> u32 {
     let mut n: u32 = 0;
     let mut left = width;
@@ -23,7 +23,7 @@ pub fn number(s: &[u8], at: &mut usize, width: usize) -> u32 {
     n
 }
 
-// So many octets from a place on, or none where there are fewer.
+// `size` octets from `start` on, or none if there are fewer.
 pub fn part(s: &[u8], start: usize, size: usize) -> &[u8] {
     if start <= s.len() {
         if size <= s.len() - start {
@@ -34,7 +34,7 @@ pub fn part(s: &[u8], start: usize, size: usize) -> &[u8] {
     &s[..0]
 }
 
-// Octets behind their count, which is a number of so many octets.
+// Octets behind their length, which has `width` octets.
 pub fn sized<'a>(s: &'a [u8], at: &mut usize, width: usize) -> &'a [u8] {
     let size = number(s, at, width) as usize;
     let start = *at;
@@ -49,7 +49,7 @@ pub fn sized<'a>(s: &'a [u8], at: &mut usize, width: usize) -> &'a [u8] {
     &s[..0]
 }
 
-// Numbers of two octets behind their count, which is of so many octets, to the front of out. How many they are.
+// Writes numbers of two octets, behind their count of `width` octets, to the front of `out`, and returns how many they are.
 pub fn numbers(s: &[u8], at: &mut usize, width: usize, out: &mut [u16]) -> usize {
     let count = number(s, at, width) as usize;
     let mut i = 0;
@@ -64,7 +64,7 @@ pub fn numbers(s: &[u8], at: &mut usize, width: usize, out: &mut [u16]) -> usize
     count
 }
 
-// So many numbers from the front, or none where there are fewer.
+// The first `count` numbers, or none if there are fewer.
 pub fn first(all: &[u16], count: usize) -> &[u16] {
     if count <= all.len() {
         let start = 0;

@@ -1,4 +1,4 @@
-// Lines 17 and 23: which fields of a session can be overwritten, where, and by what.
+// Lines 17 and 23: which fields of a session can be overwritten, at which places and with which values (rules 25.37, 25.38 and 25.41).
 use crate::arguments::number;
 use crate::arguments::octet;
 use datagram::Packet;
@@ -13,7 +13,7 @@ pub struct Target {
     pub value: u32,
 }
 
-// Field, number, a message in line 17 alone, then octet and value, which are the last six octets.
+// Field, number, in line 17 alone a message, then octet and value, which are the last six octets (rules 25.22 and 25.29).
 pub fn target_of(s: &[u8]) -> Target {
     let mut at = 0;
     let field = octet(s, &mut at);
@@ -31,7 +31,7 @@ pub fn target_of(s: &[u8]) -> Target {
     }
 }
 
-// Of a field: the largest value that it holds; how far before the base its numbers begin, and how many they are; how many
+// The row of a field: the largest value that it holds; how far before the base its numbers begin, and how many there are; how many
 // messages, and how many octets, it has at a number.
 pub struct Row(pub u32, pub u16, pub u32, pub u32, pub u32);
 
@@ -42,7 +42,7 @@ const MESSAGES: u32 = Parity::MESSAGES as u32;
 
 const OCTETS: u32 = Packet::LIMIT as u32;
 
-// The row of a field, by the line's first two octets. Of line 23 the base is the number that is sent next.
+// The row of a field, by the line's first two octets. For line 23 the base is the number that is sent next.
 pub fn row_of(line: u16) -> Row {
     match line {
         0x1700 => Row(0xFFFF, 0, ANY, ANY, ANY),
@@ -61,7 +61,7 @@ pub fn row_of(line: u16) -> Row {
     }
 }
 
-// Whether the place is there and the field holds the value.
+// Whether the place is there and the value fits the field (rules 25.37 and 25.41).
 pub fn fits(row: Row, base: u16, t: Target) -> bool {
     let first = std::num::wrapping_sub_u16(base, row.1);
     let place = std::num::wrapping_sub_u16(t.number, first) as u32;

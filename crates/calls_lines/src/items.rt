@@ -1,4 +1,4 @@
-// Lines 01 to 07, which need no session: lengths, datagrams and packets, read and written.
+// Lines 01 to 07, which need no session: lengths, datagrams and packets, read and written (rules 25.8 to 25.14).
 use crate::answers::say;
 use crate::answers::say_done;
 use crate::answers::say_no_call;
@@ -24,7 +24,7 @@ pub const SPARES: u8 = 0;
 
 pub const PARITY: u8 = 128;
 
-// 01: a length.
+// 01: reads a length (rule 25.8).
 fn read_length(s: &[u8]) {
     match length_code::read(s) {
         Length::Refused(why) => say_refused(why),
@@ -35,7 +35,7 @@ fn read_length(s: &[u8]) {
     }
 }
 
-// 02: a length.
+// 02: writes a length (rule 25.9).
 fn write_length(s: &[u8], lent: &mut [u8]) {
     let mut at = 0;
     let value = number(s, &mut at, 2) as usize;
@@ -65,7 +65,7 @@ fn say_kind(kind: Kind) {
     }
 }
 
-// 03: a datagram.
+// 03: reads a datagram (rule 25.10).
 fn read_datagram(s: &[u8]) {
     let found = datagram_reader::read(s);
     let items = found.items;
@@ -93,7 +93,7 @@ fn kind_of(kind: u8, n: u8) -> Kind {
     Kind::Spares
 }
 
-// 04: a datagram. With spares, n is 0.
+// 04: writes a datagram (rule 25.11). With spares another n than 0 is no call (rule 25.5).
 fn write_datagram(s: &[u8], lent: &mut [u8]) {
     let mut lengths = [0u16; 256];
     let mut at = 0;
@@ -132,7 +132,7 @@ fn kind_octet(kind: packet::PacketKind) -> usize {
     }
 }
 
-// What a reader finds in a packet of the edition that an octet names: the quick one for line 05, the second one for 07.
+// What a reader finds in a packet of the edition that an octet names: the packet reader for line 05, the second reader for 07 (rule 25.14).
 fn packet_found(call: u8, edition: u8, s: &[u8], ending: Ending) -> PacketRead {
     if call == 0x05 {
         return packet_reader::read(edition, s, ending);
@@ -154,7 +154,7 @@ fn say_packet(call: u8, edition: u8, s: &[u8], ending: Ending) {
     }
 }
 
-// 05 and 07: a packet, by its edition and as it was received or repaired.
+// 05 and 07: reads a packet of the named edition, as received or as repaired (rules 25.12 and 25.14).
 fn read_packet(call: u8, s: &[u8]) {
     let mut at = 0;
     let edition = octet(s, &mut at);
@@ -177,7 +177,7 @@ fn packet_kind(kind: u8) -> packet::PacketKind {
     packet::PacketKind::Data
 }
 
-// 06: a packet, by its edition.
+// 06: writes a packet of the named edition (rule 25.13).
 fn write_packet(s: &[u8], lent: &mut [u8]) {
     let mut lengths = [0u16; 256];
     let mut at = 0;

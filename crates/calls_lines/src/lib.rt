@@ -1,4 +1,5 @@
-// The lines of the program `calls`: their arguments, their answers, and those that need no session. They promise to be safe and to end.
+// The lines of the program `calls`: their arguments, their answers, and the calls that need no session (rules 25.1 to 25.14). The functions
+// are proved to be safe and to terminate.
 mod answers;
 mod arguments;
 mod fields;

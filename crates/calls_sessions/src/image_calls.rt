@@ -1,4 +1,4 @@
-// Lines 18 and 19: the receiving session as an image, and back.
+// Lines 18 and 19: the receiving session written as an image, and read back (rules 25.23 and 25.24).
 use calls_lines::FILLING;
 use calls_lines::LONGEST;
 use calls_lines::part;
@@ -9,7 +9,7 @@ use calls_lines::say_written;
 use image::Restore;
 use session_calls::Session;
 
-// The image, with the front of a buffer to lend.
+// Writes the image, with the first `cap` octets of `all` as the buffer (rule 25.4).
 fn written(session: Session, cap: usize, all: &mut [u8]) {
     if cap <= all.len() {
         let start = 0;
@@ -19,13 +19,13 @@ fn written(session: Session, cap: usize, all: &mut [u8]) {
     say_no_call()
 }
 
-// 18: the session, written as an image.
+// 18: writes the session as an image (rule 25.23).
 pub fn write(session: Session, cap: usize) {
     let mut all = [FILLING; LONGEST];
     written(session, cap, &mut all)
 }
 
-// 19: the session that a text is an image of. Of a refused text nothing is restored.
+// 19: returns the session that a text is an image of, or the session unchanged if the text is refused (rules 20.18 and 25.24).
 pub fn restored(session: Session, text: &[u8]) -> Session {
     let found = image_reader::read(text);
     let answer = found.answer;

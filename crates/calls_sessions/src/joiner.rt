@@ -1,4 +1,4 @@
-// Lines 30 to 34, on the joiner.
+// Lines 30 to 34, on the joiner (rules 25.30 to 25.34).
 use calls_lines::number;
 use calls_lines::octet;
 use calls_lines::part;
@@ -11,7 +11,7 @@ use calls_lines::sized;
 use frame::Handed;
 use frame::Joiner;
 
-// What is handed out, by its octet, and its size.
+// What the joiner returned, as an octet, and its size (rule 25.31).
 fn say_frame(what: usize, size: usize) {
     say_done(what, 1);
     say((size % 65536) as u32, 2);
@@ -26,7 +26,7 @@ fn say_handed(answer: Handed) {
     }
 }
 
-// 31: one field. After refusal 18 the joiner that is handed back is the tainted one.
+// 31: one field (rule 25.31). After refusal 18 the call returns the tainted joiner (rule 25.7).
 fn one_field(joiner: Joiner, s: &[u8], lent: &mut [u8]) -> Joiner {
     let mut at = 0;
     let kind = octet(s, &mut at);
@@ -52,7 +52,7 @@ fn say_lost(answer: Handed) {
     }
 }
 
-// 32: one lost number.
+// 32: one lost number (rule 25.32).
 fn one_lost(joiner: Joiner) -> Joiner {
     let after = frame_joiner::lost(joiner);
     let answer = after.answer;
@@ -61,7 +61,7 @@ fn one_lost(joiner: Joiner) -> Joiner {
     held
 }
 
-// As many octets as the size says, or those that there are.
+// As many octets as the size says, but not more than there are (rule 25.43).
 fn there(size: usize) -> usize {
     if size < Joiner::LIMIT {
         return size;
@@ -69,7 +69,7 @@ fn there(size: usize) -> usize {
     Joiner::LIMIT
 }
 
-// 33: what the joiner holds.
+// 33: shows the joiner (rule 25.33).
 fn say_joiner(joiner: Joiner) {
     let frame = joiner.frame;
     let size = joiner.size as usize;
@@ -79,7 +79,7 @@ fn say_joiner(joiner: Joiner) {
     say_all(part(&frame, 0, there(size)));
 }
 
-// Whether a field of the joiner holds the value, and has the place.
+// Whether the value fits a field of the joiner, and the place is there (rules 25.37, 25.38 and 25.41).
 fn fits(field: u8, place: usize, value: u32) -> bool {
     match field {
         0 => value <= 1,
@@ -109,7 +109,7 @@ fn overwritten(joiner: Joiner, field: u8, place: usize, value: u32) -> Joiner {
     }
 }
 
-// 34: one field of the joiner is overwritten, as a caller could.
+// 34: overwrites one field of the joiner, as a caller could (rule 25.34).
 fn overwrite(joiner: Joiner, s: &[u8]) -> Joiner {
     let mut at = 0;
     let field = octet(s, &mut at);

@@ -1,5 +1,5 @@
-// The lines of the program `calls` that need a session or the joiner. It holds one receiving and one sending session and one joiner, all
-// fresh at the start. They promise to be safe and to end.
+// The lines of the program `calls` that need a session or the joiner (rules 25.15 to 25.34). The functions are proved to be safe and to
+// terminate.
 mod image_calls;
 mod joiner;
 mod receiver;
@@ -10,7 +10,7 @@ use frame::Joiner;
 use sender::Sender;
 use session_calls::Session;
 
-// Both sessions, and the joiner.
+// What the program holds: both sessions and the joiner (rule 25.2).
 pub struct Held {
     pub receiver: Session,
     pub sender: Sender,
@@ -30,7 +30,7 @@ impl Held {
     }
 }
 
-// The call that a line is, by its group, and what is held after it.
+// Makes the call of a line, by its group, and returns what the program holds after it.
 pub fn answer(held: Held, call: u8, s: &[u8], lent: &mut [u8]) -> Held {
     let mut r = held;
     if call < 0x20 {
@@ -51,7 +51,7 @@ pub fn answer(held: Held, call: u8, s: &[u8], lent: &mut [u8]) -> Held {
     r
 }
 
-// 18: the receiving session, written as an image.
+// 18: writes the receiving session as an image (rule 25.23).
 pub fn write_image(held: Held, cap: usize) {
     let receiver = held.receiver;
     image_calls::write(receiver, cap)

@@ -1,4 +1,4 @@
-// Lines 10 to 17, 19 and 1A, on the receiving session.
+// Lines 10 to 17, 19 and 1A, on the receiving session (rules 25.15 to 25.22, 25.24 and 25.25).
 use crate::image_calls::restored;
 use crate::session::gone_on;
 use crate::session::overwritten;
@@ -20,7 +20,7 @@ use session_calls::Released;
 use session_calls::Session;
 use session_calls::Solved;
 
-// 11: offer.
+// 11: offers a datagram (rule 25.16).
 fn offer(session: Session, s: &[u8]) -> Session {
     let after = session_calls::offer(session, s);
     let answer = after.answer;
@@ -58,7 +58,7 @@ fn say_released(answer: Released) {
     }
 }
 
-// 12: release, with leave to skip or without.
+// 12: releases a number, with leave to skip or without (rule 25.17).
 fn release(session: Session, s: &[u8], lent: &mut [u8]) -> Session {
     let mut at = 0;
     let leave = octet(s, &mut at);
@@ -74,7 +74,7 @@ fn release(session: Session, s: &[u8], lent: &mut [u8]) -> Session {
     held
 }
 
-// The numbers that pass in a session at most: give-ups and sends past them are refused.
+// More than 1,000,000 times are as 1,000,000: skips and sends past them are refused (rules 25.21 and 25.28).
 pub fn at_most(times: u32) -> u32 {
     if 1000000 < times {
         return 1000000;
@@ -82,7 +82,7 @@ pub fn at_most(times: u32) -> u32 {
     times
 }
 
-// What a session keeps goes round every 64 times: so many come to the same place.
+// What a session keeps is the same every 64 times from 64 on, so these fewer times give what `times` give.
 pub fn around(times: u32) -> u32 {
     if times < 128 {
         return times;
@@ -90,7 +90,7 @@ pub fn around(times: u32) -> u32 {
     64 + times % 64
 }
 
-// 16: a fresh session that has given up so many times.
+// 16: a fresh session after `times` skips (rule 25.21).
 fn many(times: u32) -> Session {
     let mut session = Session::fresh();
     let mut left = around(times);
@@ -104,7 +104,7 @@ fn many(times: u32) -> Session {
     gone_on(session, times)
 }
 
-// 17: one field is overwritten, as a caller could.
+// 17: overwrites one field, as a caller could (rule 25.22).
 fn overwrite(session: Session, s: &[u8]) -> Session {
     let t = target_of(s);
     let row = row_of(0x1700 + (t.field as u16));
@@ -116,7 +116,7 @@ fn overwrite(session: Session, s: &[u8]) -> Session {
     session
 }
 
-// 1A: losses that no single message mends.
+// 1A: solves (rule 25.25).
 fn solve(session: Session) -> Session {
     let after = session_calls::solve(session);
     let answer = after.answer;

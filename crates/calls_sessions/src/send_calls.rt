@@ -1,4 +1,4 @@
-// Lines 20 to 23, on the sending session.
+// Lines 20 to 23, on the sending session (rules 25.26 to 25.29).
 use crate::receiver::around;
 use crate::receiver::at_most;
 use calls_lines::FILLING;
@@ -25,7 +25,7 @@ fn settings_of(kind: u8, a: u8, b: u8) -> Settings {
     Settings::Spares(a)
 }
 
-// 21: send. With spares, b is 0.
+// 21: sends a packet (rule 25.27). With spares another b than 0 is no call (rule 25.5).
 fn send(sender: Sender, s: &[u8], lent: &mut [u8]) -> Sender {
     let mut at = 0;
     let packet = sized(s, &mut at, 2);
@@ -52,7 +52,7 @@ fn one_sent(sender: Sender) -> Sender {
     held
 }
 
-// 22: a fresh session that has sent so many packets, each the octet 06, with no spares.
+// 22: a fresh session that has sent `times` packets, each the octet 06, without spares (rule 25.28).
 fn many(times: u32) -> Sender {
     let mut sender = Sender::fresh();
     let mut left = around(times);
@@ -66,7 +66,7 @@ fn many(times: u32) -> Sender {
     sender
 }
 
-// One field is overwritten. Its place is there, and it holds the value.
+// Overwrites one field. The caller has checked that its place is there and the value fits.
 fn overwritten(sender: Sender, t: Target) -> Sender {
     let mut r = sender;
     let slot = (t.number as usize) % Sender::HISTORY;
@@ -90,7 +90,7 @@ fn overwritten(sender: Sender, t: Target) -> Sender {
     }
 }
 
-// 23: one field is overwritten, as a caller could.
+// 23: overwrites one field, as a caller could (rule 25.29).
 fn overwrite(sender: Sender, s: &[u8]) -> Sender {
     let t = target_of(s);
     let row = row_of(0x2300 + (t.field as u16));

@@ -1,5 +1,5 @@
-// What the receiving session holds, read and overwritten field by field: lines 14, 15 and 17. Nothing else in this program
-// knows how a session is held.
+// What the receiving session holds, read and overwritten field by field: lines 14, 15 and 17 (rules 25.19, 25.20 and 25.22). Only this
+// file depends on how the table and the stores of a receiving session are laid out.
 use calls_lines::Target;
 use calls_lines::say;
 use calls_lines::say_done;
@@ -9,7 +9,7 @@ use datagram::Parity;
 use session_calls::Counts;
 use session_calls::Session;
 
-// The fields of line 17 that stand in the table, and those of octets.
+// The fields of line 17 that are in the table, and those that are octets (rule 25.38).
 const STATE: u8 = 5;
 
 const SIZE: u8 = 6;
@@ -28,13 +28,13 @@ const MESSAGE_OCTET: u8 = 12;
 
 const NOTE: u8 = 13;
 
-// The slot of a message of a number.
+// The slot of a message of a number (rule 25.39).
 fn message_slot(number: u16, message: usize) -> usize {
     let slot = (number as usize) % Session::HEARD;
     slot * Parity::MESSAGES + message % Parity::MESSAGES
 }
 
-// Where a field of a number, or of one of its messages, stands in the table.
+// The place in the table of a field of a number, or of one of its messages (rule 25.39).
 fn place_of(field: u8, number: u16, message: usize) -> usize {
     let kept = (number as usize) % Session::KEPT;
     let heard = (number as usize) % Session::HEARD;
@@ -49,7 +49,7 @@ fn place_of(field: u8, number: u16, message: usize) -> usize {
     }
 }
 
-// What stands there.
+// The value at that place.
 fn value_at(t: &[u16; Session::PLACES], field: u8, number: u16, message: usize) -> u16 {
     let place = place_of(field, number, message) % Session::PLACES;
     t[place]
@@ -66,7 +66,7 @@ fn counts_with(counts: Counts, field: u8, value: u32) -> Counts {
     c
 }
 
-// A session that has given up so many numbers, where it has given up as many before as change what it keeps.
+// The session after `lost` skips in all, given one that already keeps what that many skips leave: only base and counts are set.
 pub fn gone_on(session: Session, lost: u32) -> Session {
     let mut r = session;
     r.base = (lost % 65536) as u16;
@@ -75,7 +75,7 @@ pub fn gone_on(session: Session, lost: u32) -> Session {
     r
 }
 
-// 17: one field is overwritten. Its place is there, and it holds the value.
+// 17: overwrites one field (rule 25.22). The caller has checked that its place is there and the value fits.
 pub fn overwritten(session: Session, t: Target) -> Session {
     let mut r = session;
     let number = t.number;
@@ -107,7 +107,7 @@ pub fn overwritten(session: Session, t: Target) -> Session {
     r
 }
 
-// 14: the counts.
+// 14: the counts (rule 25.19).
 pub fn say_counts(session: Session) {
     let c = session.counts;
     say(0, 1);
@@ -117,7 +117,7 @@ pub fn say_counts(session: Session) {
     say(c.lost, 4);
 }
 
-// A number in view: state, note and packet.
+// A number in view: state, note and packet (rule 25.20).
 fn say_kept(t: &[u16; Session::PLACES], o: &[u8], number: u16) {
     let state = value_at(t, STATE, number, 0);
     say((state % 256) as u32, 1);
@@ -128,7 +128,7 @@ fn say_kept(t: &[u16; Session::PLACES], o: &[u8], number: u16) {
     say_sized(o, start, size as usize);
 }
 
-// A message of a number, if it has so many.
+// Message i of a number, if it has more than i messages.
 fn say_message(t: &[u16; Session::PLACES], g: &[u8], number: u16, i: usize) {
     let m = value_at(t, M, number, 0);
     if i < m as usize {
@@ -138,7 +138,7 @@ fn say_message(t: &[u16; Session::PLACES], g: &[u8], number: u16, i: usize) {
     }
 }
 
-// A number from the base on: accepted, n and m, and its messages.
+// A number from the base on: accepted, n, m and its messages (rule 25.20).
 fn say_heard(t: &[u16; Session::PLACES], g: &[u8], number: u16) {
     let accepted = value_at(t, ACCEPTED, number, 0);
     say((accepted % 256) as u32, 1);
@@ -152,7 +152,7 @@ fn say_heard(t: &[u16; Session::PLACES], g: &[u8], number: u16) {
     say_message(t, g, number, 3);
 }
 
-// 15: the view: the numbers in view, then those from the base on.
+// 15: the view, which is the 64 numbers in view, then the 32 from the base on (rule 25.20).
 pub fn say_view(session: Session) {
     let base = session.base;
     let table = session.table;

@@ -1,6 +1,6 @@
-// The program for two captures that differ, document 02, request 12: `compare FIRST SECOND` compares two recorded traces and writes what
-// `trace_compare_code::compare` lists, an entry a line: the number in four hexadecimal digits, then 1 to 5. Where that is refused it writes
-// why: `refused`, the refusal's number and place, the trace and the line. `./compare` makes a table of it.
+// `compare FIRST SECOND` compares two recorded traces and writes the entries of `trace_compare_code::compare`, one a line: the number in
+// four hexadecimal digits, then 1 to 5 (rules 22.1 to 22.12). If the comparison is refused, it writes `refused`, the refusal's number and
+// place, the trace and the line (rule 22.15). `./compare` makes a table of it.
 mod telling;
 
 use line::Line;
@@ -9,13 +9,13 @@ use trace_compare::Compared;
 use trace_compare::Entry;
 use trace_compare::Trace;
 
-// The characters of a trace: of a line that is too long no more need stand there than shows it.
+// The most characters of a trace: each line with just enough to know that it is too long (rules 1.11 and 1.15).
 const TEXT: usize = Trace::LINES * (Line::KEPT + 1);
 
-// Three entries at most for a line of the first trace, and one for a line of the second.
+// At most three entries for a line of the first trace, and one for a line of the second (rule 22.19).
 const ENTRIES: usize = 4 * Trace::LINES;
 
-// No text: a file is not read.
+// Returned in place of a size if a file cannot be read.
 const NONE: usize = usize::MAX;
 
 fn usage() {
@@ -23,8 +23,8 @@ fn usage() {
     say(b"FIRST and SECOND are files of up to 512 lines in hexadecimal, one datagram a line\n");
 }
 
-// The text of a file, to the front of a buffer: how many characters, or NONE, and why is said. One octet more is asked for, which tells
-// whether the file ended there.
+// Reads the text of a file to the front of a buffer, and returns how many characters it has; if it cannot, prints why and returns NONE. It
+// tries to read one more octet, to know whether the file ended there.
 fn read_text(path: &[u8], text: &mut [u8]) -> usize {
     let file = os::open_read(path);
     if file < 0 {
@@ -48,7 +48,7 @@ fn read_text(path: &[u8], text: &mut [u8]) -> usize {
     size
 }
 
-// The file that an argument names.
+// Reads the file that an argument names.
 fn read_argument(at: usize, text: &mut [u8]) -> usize {
     let mut path = io::buffer();
     let size = os::arg(at, &mut path);
@@ -59,7 +59,7 @@ fn read_argument(at: usize, text: &mut [u8]) -> usize {
     read_text(&path[..size], text)
 }
 
-// So many characters from the front, or none where there are fewer.
+// The first `size` characters, or none if there are fewer.
 fn front(text: &[u8], size: usize) -> &[u8] {
     if size <= text.len() {
         let start = 0;
@@ -68,7 +68,7 @@ fn front(text: &[u8], size: usize) -> &[u8] {
     &text[..0]
 }
 
-// The list has room for all entries that there can be.
+// Compares and writes the answer. The list is large enough for any two traces (rule 22.19).
 fn tell(first: &[u8], second: &[u8]) {
     let mut list = [0u16; Entry::SIZE * ENTRIES];
     let answer = trace_compare_code::compare(first, second, &mut list);
@@ -78,7 +78,7 @@ fn tell(first: &[u8], second: &[u8]) {
     }
 }
 
-// Both files, with room for the text of each.
+// Reads both files, each to its own buffer, and compares them.
 fn run(first: &mut [u8], second: &mut [u8]) {
     let size = read_argument(1, first);
     if size == NONE {

@@ -1,4 +1,4 @@
-// What is written: the answer to standard output, all else to standard error.
+// What is written: the answer to standard output, everything else to standard error.
 use length::Refusal;
 use libc::STDERR_FILENO;
 use libc::STDOUT_FILENO;
@@ -15,7 +15,7 @@ fn tell_entry(number: u16, code: u16) {
     io::write_all(STDOUT_FILENO, b"\n");
 }
 
-// So many entries from the front of a list, two numbers each.
+// Writes the first `count` entries of a list, two numbers each (rule 22.2).
 pub fn tell_entries(list: &[u16], count: usize) {
     let mut left = count;
     let mut at = 0;

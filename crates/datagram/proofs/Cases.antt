@@ -1,4 +1,4 @@
--- The cases of 'The datagram', each computed. Assumes nothing.
+-- The cases of a datagram, each computed. Assumes nothing.
 use mathlib.Core.Path.{refl}
 use Rattle.length.specs.Tables.{unless}
 use Rattle.length.specs.Length.{lengthAt, lengthOctets, allowed, lengthWithin}

@@ -1,4 +1,5 @@
--- The claims of this crate, and the words that they are said in.
+-- The claims of this crate: round trips (rules 4.20 and 4.21), the sizes of an accepted datagram's parts, and one outcome; and the
+-- definitions that they use. Definitions only.
 use Prim.Native.Nat.{ℕ, _+_, _≤_, _<_}
 use mathlib.Core.Path.{_≡_}
 use mathlib.Core.Bool.{true}
@@ -19,30 +20,30 @@ use Rattle.datagram.specs.declared.kind.Kind.{Kind}
 
 -- ---- round trips
 
--- the octets s read as a datagram that carries c
+-- reading the octets s gives a datagram that carries c
 pub record ReadsAs (s : List ℕ) (c : Carried) : Type 0 where
   pub parts : DatagramParts
   pub read : readDatagram s ≡ done parts
   pub carried : carriedBy s parts ≡ c
 
--- what the writer writes reads back to the same number, packet, spares or n and messages
+-- rule 4.20: what the writer writes reads back to the same number, packet, and spares or n and messages
 abbrev pub WrittenReads : Type 0
 WrittenReads = (number : ℕ) (packet : List ℕ) (k : Kind) (lengths run s : List ℕ) → datagramToWrite number packet k lengths run ≡ done s
     → ReadsAs s (carriedOf number packet k lengths run)
 
--- the spares or messages of a reading as the writer takes them: their lengths, and one run of data
+-- the spares or messages of a reading, in the writer's form: their lengths, and one run of data (rule 4.17)
 abbrev pub lengthsOf : DatagramParts → List ℕ
 lengthsOf d = map (λ (p : Part). p .size) (d .items)
 
 abbrev pub runOf : List ℕ → DatagramParts → List ℕ
 runOf s d = flatten (map (octetsOf s) (d .items))
 
--- what reads without refusal, written from its fields, gives the same octets
+-- rule 4.21: what the reader read writes back to the same octets
 abbrev pub ReadWrites : Type 0
 ReadWrites = (s : List ℕ) (d : DatagramParts) → Octets s → readDatagram s ≡ done d
     → datagramToWrite (d .number) (octetsOf s (d .packet)) (d .kind) (lengthsOf d) (runOf s d) ≡ done s
 
--- ---- what an accepted datagram names
+-- ---- the parts of an accepted datagram
 
 -- a part has from least to most octets and lies within the octets s
 pub record PartInside (least most : ℕ) (s : List ℕ) (p : Part) : Type 0 where
@@ -50,7 +51,7 @@ pub record PartInside (least most : ℕ) (s : List ℕ) (p : Part) : Type 0 wher
   pub high : p .size ≤ most
   pub inside : p .start + p .size ≤ length s
 
--- the newest packet, n and the count, and each spare or message are within the sizes and the octets s
+-- the newest packet, n and the count, and each spare or message are within the sizes (rules 4.9 to 4.11) and within the octets s
 pub record Inside (s : List ℕ) (packet : Part) (k : Kind) (count : ℕ) (items : List Part) : Type 0 where
   pub newest : PartInside packetLeast packetLimit s packet
   pub counted : countInside k count ≡ true
@@ -62,17 +63,19 @@ AcceptedInside = (s : List ℕ) (r : DatagramRead) (number : ℕ) (packet : Part
 
 -- ---- one outcome
 
--- two outcomes that a promise allows are equal
+-- two outcomes that a promise allows are equal (rule 28.14)
 pub record OneOutcome : Type 0 where
   pub read : {s : List ℕ} {r q : DatagramRead} → DatagramReads s r → DatagramReads s q → r ≡ q
 
--- ---- cases in which another reading of document 01 was possible
+-- ---- cases in which a mistake would look right
 
 pub record Cases : Type 0 where
-  -- C0 or more as the last octet is 3, not 1
+  -- rules 3.3 and 3.5: as the last octet C0 or more is 3, and 80 is 1
   pub last-c0 : readDatagram (0x00 ∷ 0x00 ∷ 0xC0 ∷ []) ≡ refuseAt 2 badForm
   pub last-80 : readDatagram (0x00 ∷ 0x00 ∷ 0x80 ∷ []) ≡ refuseAt 2 endsEarly
+  -- rule 4.3: 81 is neither 00 nor 80
   pub low-bits : readDatagram (0x00 ∷ 0x00 ∷ 0x01 ∷ 0x06 ∷ 0x81 ∷ []) ≡ refuseAt 4 spareBit
+  -- rule 4.7: zeros left over are 6 too
   pub left-over : readDatagram (0x00 ∷ 0x00 ∷ 0x01 ∷ 0x06 ∷ 0x00 ∷ 0x00 ∷ 0x00 ∷ []) ≡ refuseAt 6 leftOver
 
 pub record Claims : Type 0 where

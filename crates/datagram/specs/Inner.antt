@@ -1,2 +1,2 @@
--- What the functions inside the library owe each other: no part of the meaning.
+-- What functions inside the library promise each other. It adds nothing to the meaning.
 pub mod Heads

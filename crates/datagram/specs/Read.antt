@@ -1,9 +1,5 @@
--- Document 01, 'The datagram', as it is read: "Number: two octets, high first. Then the newest packet: length, octets. Then
--- one octet, 00 for spares or 80 for parity; its low seven bits are zero. Spares: a count, then each with its length ..
--- Parity: octet 01, octet n, count m, then m messages, each with its length. Nothing follows." And of the order: "At a
--- length: 3 or 1 in its form, then 4, then 1 for missing octets", "Datagram reader: 2, then reading order". Document 02, request 5, of
--- the place: "Every refusal met in reading order shall give the octet at which the refused item begins .. A length .. and the octets a
--- length promises are each one item; for 6 it is the first octet left over". Definitions only.
+-- How a datagram is read: its octets (rules 4.1 to 4.11), the order of its refusals (rules 3.6 and 4.15), and their places (rules 2.27 to
+-- 2.29 and 4.16). Definitions only.
 use Prim.Native.Nat.{ℕ, zero, suc, _+_, _-_, _*_, _%_}
 use mathlib.Core.Bool.{cond}
 use mathlib.Core.List.{List, [], _∷_, map}
@@ -20,7 +16,7 @@ use Rattle.datagram.specs.declared.reader.Part.{Part}
 use Rattle.datagram.specs.declared.kind.Kind.{Kind}
 use Rattle.datagram.specs.declared.kind.Kind.the-variants as kind
 
--- a datagram as read: the packet and each spare or message as a part (start, length) of its octets
+-- a datagram as read: the packet and each spare or message as a part (start, length) of its octets (rule 4.23)
 pub record DatagramParts : Type 0 where
   pub number : ℕ
   pub packet : Part
@@ -33,25 +29,25 @@ pub record DatagramParts : Type 0 where
 abbrev pub after : Part → ℕ
 after p = p .start + p .size
 
--- a length or count from least to most
+-- a length or count from least to most, read at a place (rules 3.6 and 3.9)
 abbrev pub lengthFrom : ℕ → ℕ → List ℕ → ℕ → Answer LengthAnswer
 lengthFrom least most s at = readFrom at (lengthWithin least most (drop at s))
 
--- a plain octet from least to most, that is no length
+-- a plain octet from least to most, not read by the length rule (rule 4.8)
 unfoldable pub octetAt : ℕ → ℕ → List ℕ → ℕ → Answer LengthAnswer
 octetAt least most s at =
     readFrom at
     (cond (leb (length s) at) (refuse endsEarly)
     (allowed least most (record { value = getD s at 0; size = 1 })))
 
--- a packet, spare or message: length, octets
+-- a packet, spare or message: its length, then its octets (rules 2.28 and 3.6)
 unfoldable pub itemAt : ℕ → ℕ → List ℕ → ℕ → Answer Part
 itemAt least most s at = do
   l ← lengthFrom least most s at
   cond (ltb (length s - (at + l .size)) (l .value)) (refuseAt (at + l .size) endsEarly)
       (done (record { start = at + l .size; size = l .value }))
 
--- so many of them, one after the other
+-- this many of them, one after the other
 unfoldable pub itemsAt : ℕ → ℕ → List ℕ → ℕ → ℕ → Answer (List Part)
 itemsAt least most s at zero = done []
 itemsAt least most s at (suc left) = do
@@ -59,26 +55,26 @@ itemsAt least most s at (suc left) = do
   ps ← itemsAt least most s (after p) left
   done (p ∷ ps)
 
--- the place where parts end that begin at a place, one after the other
+-- the place behind the last of some parts, the first of which begins at a place
 unfoldable pub endOf : ℕ → List Part → ℕ
 endOf at [] = at
 endOf at (p ∷ ps) = endOf (after p) ps
 
 -- ---- what follows the newest packet
 
--- up to the items: their kind and count, and where the first begins
+-- what comes before the items: their kind and count, and where the first item begins
 pub record ExtraHead : Type 0 where
   pub kind : Kind
   pub count : ℕ
   pub first : ℕ
 
--- "Spares: a count"
+-- for spares a count (rules 4.4 and 4.9)
 unfoldable pub sparesAt : List ℕ → ℕ → Answer ExtraHead
 sparesAt s at = do
   k ← lengthFrom sparesLeast sparesLimit s at
   done (record { kind = kind.Spares; count = k .value; first = at + k .size })
 
--- "Parity: octet 01, octet n, count m"
+-- for parity octet 01, octet n and count m (rules 4.6, 4.8 and 4.9)
 unfoldable pub parityAt : List ℕ → ℕ → Answer ExtraHead
 parityAt s at = do
   one ← octetAt 1 1 s at
@@ -86,7 +82,7 @@ parityAt s at = do
   m ← lengthFrom messagesLeast messagesLimit s (at + 2)
   done (record { kind = kind.Parity (n .value); count = m .value; first = at + 2 + m .size })
 
--- "Then one octet, 00 for spares or 80 for parity; its low seven bits are zero"
+-- one octet, 00 for spares or 80 for parity; a low bit set is 5 (rule 4.3)
 unfoldable pub extraAt : List ℕ → ℕ → Answer ExtraHead
 extraAt s at =
     cond (leb (length s) at) (refuseAt at endsEarly)
@@ -94,7 +90,7 @@ extraAt s at =
     (cond (ltb (getD s at 0) 0x80) (sparesAt s (at + 1)) (parityAt s (at + 1)))
     (refuseAt at spareBit))
 
--- a spare is a packet; a message may be empty
+-- a spare is a packet (rule 4.10); a message may be empty (rule 4.11)
 abbrev pub leastOf : Kind → ℕ
 leastOf kind.Spares = packetLeast
 leastOf (kind.Parity n) = messageLeast
@@ -105,18 +101,18 @@ mostOf (kind.Parity n) = messageLimit
 
 -- ---- the datagram
 
--- "Number: two octets, high first"
+-- the number: two octets, high first (rule 4.1), which are one item (rule 4.16)
 unfoldable pub numberOf : List ℕ → Answer ℕ
 numberOf s = cond (ltb (length s) 2) (refuse endsEarly) (done (getD s 0 0 * 256 + getD s 1 0))
 
--- the spares or messages of a datagram of which all before them is read; 6: "Nothing follows"
+-- the spares or messages, when all before them is read; octets behind the last are 6, at the first of them (rules 2.29 and 4.7)
 unfoldable pub wholeOf : List ℕ → ℕ → Part → ExtraHead → Answer DatagramParts
 wholeOf s number packet extra = do
   items ← itemsAt (leastOf (extra .kind)) (mostOf (extra .kind)) s (extra .first) (extra .count)
   cond (ltb (endOf (extra .first) items) (length s)) (refuseAt (endOf (extra .first) items) leftOver)
       (done (record { number = number; packet = packet; kind = extra .kind; items = items }))
 
--- the whole, in reading order
+-- the whole: 2, then in reading order (rule 4.15)
 unfoldable pub readDatagram : List ℕ → Answer DatagramParts
 readDatagram s =
     cond (ltb datagramLimit (length s)) (refuse tooLong)
@@ -126,13 +122,13 @@ readDatagram s =
       extra ← extraAt s (after packet)
       wholeOf s number packet extra
 
--- ---- what the parts stand for
+-- ---- the octets of the parts
 
 -- a part's octets
 abbrev pub octetsOf : List ℕ → Part → List ℕ
 octetsOf s p = take (p .size) (drop (p .start) s)
 
--- what the datagram s carries, of which d was read
+-- what the datagram s carries, where d was read from s
 unfoldable pub carriedBy : List ℕ → DatagramParts → Carried
 carriedBy s d =
     record {

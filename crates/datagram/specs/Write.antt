@@ -1,8 +1,5 @@
--- Document 01, 'The datagram', as octets, and what the datagram writer writes: "Number: two octets, high first. Then the
--- newest packet: length, octets. Then one octet, 00 for spares or 80 for parity; its low seven bits are zero. Spares: a
--- count, then each with its length .. Parity: octet 01, octet n, count m, then m messages, each with its length. Nothing
--- follows." And of the order of refusals: "Datagram writer (number, packet, spares or n and messages): n or a count outside
--- the sizes 4, then 15, 4, 13." The 13 is that of every call that writes to a lent buffer. Definitions only.
+-- The octets of a datagram (rules 4.1 to 4.7), and what the datagram writer writes or refuses (rules 4.17 to 4.19). Its last refusal, 13,
+-- is that of every call that writes to the caller's buffer: `fitted` of `length` adds it. Definitions only.
 use Prim.Native.Nat.{ℕ, _+_, _/_, _%_}
 use mathlib.Core.Bool.{Bool, true, not, _&&_}
 use mathlib.Core.List.{List, [], _∷_, _++_}
@@ -21,11 +18,11 @@ use Rattle.datagram.specs.declared.kind.Kind.the-variants as kind
 
 -- ---- a datagram as octets
 
--- two octets, high first
+-- two octets, high first (rule 4.1)
 unfoldable pub numberOctets : ℕ → List ℕ
 numberOctets number = number / 256 ∷ number % 256 ∷ []
 
--- a packet, spare or message: length, octets
+-- a packet, spare or message: its length, then its octets (rule 4.2)
 unfoldable pub itemOctets : List ℕ → List ℕ
 itemOctets item = lengthOctets (length item) ++ item
 
@@ -34,11 +31,11 @@ unfoldable pub itemsOctets : List (List ℕ) → List ℕ
 itemsOctets [] = []
 itemsOctets (item ∷ items) = itemOctets item ++ itemsOctets items
 
--- a count, then each spare or message with its length
+-- a count, then each spare or message with its length (rules 4.4 and 4.6)
 unfoldable pub countedOctets : List (List ℕ) → List ℕ
 countedOctets items = lengthOctets (length items) ++ itemsOctets items
 
--- one octet, 00 for spares or 80 for parity; for parity then octet 01 and octet n
+-- one octet, 00 for spares or 80 for parity (rule 4.3); for parity then octet 01 and octet n (rule 4.6)
 abbrev pub extraOctets : Extra → List ℕ
 extraOctets (spares items) = 0x00 ∷ countedOctets items
 extraOctets (parity n items) = 0x80 ∷ 0x01 ∷ n ∷ countedOctets items
@@ -58,23 +55,23 @@ abbrev pub extraOf : Kind → List (List ℕ) → Extra
 extraOf kind.Spares items = spares items
 extraOf (kind.Parity n) items = parity n items
 
--- what the writer is given, as what a datagram carries
+-- the datagram that the writer's input describes
 abbrev pub carriedOf : ℕ → List ℕ → Kind → List ℕ → List ℕ → Carried
 carriedOf number packet kind lengths run = record { number = number; packet = packet; extra = extraOf kind (cut lengths run) }
 
 -- ---- what is refused
 
--- true sums: nothing wraps
+-- a true sum: nothing wraps (rule 2.34)
 unfoldable pub sumOf : List ℕ → ℕ
 sumOf [] = 0
 sumOf (n ∷ lengths) = n + sumOf lengths
 
--- n and the count are inside the sizes
+-- n and the count are inside the sizes (rule 4.9)
 abbrev pub countInside : Kind → ℕ → Bool
 countInside kind.Spares count = leb count sparesLimit
 countInside (kind.Parity n) count = within coveredLeast coveredLimit n && within messagesLeast messagesLimit count
 
--- the length of a spare, or of a message, is inside the sizes
+-- the length of a spare (rule 4.10) or of a message (rule 1.7) is inside the sizes
 abbrev pub itemInside : Kind → ℕ → Bool
 itemInside kind.Spares n = within packetLeast packetLimit n
 itemInside (kind.Parity _) n = within messageLeast messageLimit n
@@ -83,11 +80,12 @@ unfoldable pub itemsInside : Kind → List ℕ → Bool
 itemsInside kind [] = true
 itemsInside kind (n ∷ lengths) = itemInside kind n && itemsInside kind lengths
 
--- every length is inside the sizes: the newest packet's, then those of the spares or messages
+-- every length is inside the sizes: the newest packet's (rules 4.18 and 4.19), then those of the spares or messages
 abbrev pub lengthsInside : List ℕ → Kind → List ℕ → Bool
 lengthsInside packet kind lengths = within packetLeast packetLimit (length packet) && itemsInside kind lengths
 
--- "n or a count outside the sizes 4, then 15, 4": what the datagram writer refuses, and what it writes where no row is given
+-- what the datagram writer refuses, in order: 4 for n or a count, 15 for the sum, 4 for a length (rule 4.17); then what it writes if no
+-- row applies
 abbrev pub datagramWriterRows : List ℕ → Kind → List ℕ → List ℕ → List (Option ℕ)
 datagramWriterRows packet kind lengths run =
     when (not (countInside kind (length lengths))) outsideSizes

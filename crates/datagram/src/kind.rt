@@ -1,4 +1,4 @@
-// Document 01, 'The datagram': beside its newest packet a datagram carries spares, or parity messages, each over n packets.
+// Beside its newest packet a datagram carries spares (rule 4.4), or messages that cover n packets each (rule 4.6).
 pub enum Kind {
     Spares,
     Parity(usize),

@@ -1,4 +1,4 @@
-// Datagrams, what they are: document 01, 'The datagram' and 'Sizes'.
+// What datagrams are: their sizes (rules 1.1 to 1.7), and how they are read and written (rules 4.1 to 4.23).
 mod kind;
 mod reader;
 mod rules;

@@ -1,5 +1,4 @@
-// What the datagram reader answers: document 01, 'The datagram'. None of the octets is copied: what was read is told as parts of
-// the input.
+// What the datagram reader returns (rule 4.23). It copies no octets: it reports what it read as parts of the input.
 use crate::kind::Kind;
 use datagram_sizes::Spares;
 use length::Refusal;
@@ -10,8 +9,7 @@ pub struct Part {
     pub size: usize,
 }
 
-// What a datagram is found to be: its number, its newest packet, and the kind and count of what it carries beside it; or
-// why it is refused.
+// A datagram's number, its newest packet, and the kind and count of what it carries beside it; or why it is refused.
 pub enum Reading {
     Datagram {
         number: u16,
@@ -22,7 +20,7 @@ pub enum Reading {
     Refused(Refusal),
 }
 
-// A datagram as read: the answer, and beside it the spares or messages in order. Places past their count are empty.
+// A datagram as read: the answer, and the spares or messages in order. Elements past their count are zero (rule 4.23).
 pub struct DatagramRead {
     pub reading: Reading,
     pub items: [Part; Spares::LIMIT],

@@ -1,4 +1,4 @@
-// Document 01, 'Sizes': whether a number is inside them.
+// Whether n and a count are inside the sizes (rules 1.3 to 1.5).
 use crate::kind::Kind;
 use datagram_sizes::Parity;
 use datagram_sizes::Spares;
@@ -6,7 +6,7 @@ use length::within;
 ghost use mathlib.Core.Path.{_≡_};
 ghost use Rattle.datagram.specs.Write.{countInside};
 
-// n and the count are inside the sizes.
+// n and the count are inside the sizes (rule 4.9).
 pub fn count_inside(kind: Kind, count: usize) -> bool
     ensures { λ r. ⌜ r ≡ countInside kind count ⌝ }
 {

@@ -1,4 +1,5 @@
--- What the datagram reader's inner functions owe, each of one piece of a datagram at its place. Definitions only.
+-- What the inner functions of the datagram reader promise: each reads one piece of a datagram at its place (rules 4.1 to 4.8).
+-- Definitions only.
 use Prim.Native.Nat.{ℕ, _≤_}
 use mathlib.Core.Path.{_≡_}
 use mathlib.Core.List.{List}
@@ -17,10 +18,11 @@ use Rattle.datagram_reader.specs.declared.reader.Extra.the-variants as e
 use Rattle.datagram.specs.declared.kind.Kind.{Kind}
 use Rattle.datagram.specs.Promise.{datagramRead}
 
+-- a plain octet at its place (rule 4.8)
 pub record OctetRead (least most : ℕ) (s : List ℕ) (at : ℕ) (r : Length) : Type 0 where
   pub answer : lengthOutcome r ≡ octetAt least most s at
 
--- a length or count at its place
+-- a length or count at its place (rule 3.9)
 pub record LengthTold (least most : ℕ) (s : List ℕ) (at : ℕ) (r : Length) : Type 0 where
   pub answer : lengthOutcome r ≡ lengthFrom least most s at
 
@@ -44,11 +46,11 @@ pub record ParityRead (s : List ℕ) (at : ℕ) (r : Extra) : Type 0 where
 pub record ExtraRead (s : List ℕ) (at : ℕ) (r : Extra) : Type 0 where
   pub answer : extraOutcome r ≡ extraAt s at
 
--- a refusal, which leaves every place unused
+-- a refusal: every element of the array of parts is unused (rule 4.23)
 pub record Refuses (why : Refusal) (r : DatagramRead) : Type 0 where
   pub whole : r ≡ datagramRead (refused why)
 
--- the items begin within the octets, and are no more than there are places
+-- the items begin within the octets, and the array of parts can hold them
 pub record ItemsBegin (s : List ℕ) (count first : ℕ) : Type 0 where
   pub inside : first ≤ length s
   pub few : count ≤ sparesLimit

@@ -1,5 +1,5 @@
-// A datagram read: document 01, 'The datagram'. One pass over the octets, none of them copied: what was read is told as
-// parts of the input. It does not look inside a packet.
+// The datagram reader (rule 4.15). It makes one pass over the octets and copies none of them: it reports what it read as parts of the
+// input (rule 4.23). It does not read inside a packet (rule 4.22). The length's answer is taken apart by `let else` (rule 30.4).
 use datagram::DatagramRead;
 use datagram::Kind;
 use datagram::Packet;
@@ -22,7 +22,7 @@ enum Item {
     Refused(Refusal),
 }
 
-// What follows the newest packet up to the items: their kind and count, and where the first begins.
+// What comes between the newest packet and the items: the kind and count of the items, and where the first begins.
 enum Extra {
     Found {
         kind: Kind,
@@ -32,14 +32,14 @@ enum Extra {
     Refused(Refusal),
 }
 
-// The number: two octets, high first.
+// The number: two octets, high first (rule 4.1).
 fn number_of(high: u8, low: u8) -> u16
     ensures { λ r. ⌜ r ≡ high * 256 + low ⌝ }
 {
     (high as u16) * 256 + (low as u16)
 }
 
-// A plain octet from least to most.
+// A plain octet from least to most (rule 4.8).
 fn octet_at(s: &[u8], at: usize, least: usize, most: usize) -> Length
     ensures { λ r. ⌜ OctetRead least most (now (s .entry)) at r ⌝ }
 {
@@ -53,7 +53,7 @@ fn octet_at(s: &[u8], at: usize, least: usize, most: usize) -> Length
     Length::Refused(Refusal::at(Refusal::OUTSIDE_SIZES, at))
 }
 
-// A length or count from least to most.
+// A length or count from least to most; a refusal is passed up with its place (rule 3.9).
 fn length_at(s: &[u8], at: usize, least: usize, most: usize) -> Length
     requires { ⌜ at ≤ length (now s) ⌝ }
     ensures { λ r. ⌜ LengthTold least most (now (s .entry)) at r ⌝ }
@@ -64,7 +64,7 @@ fn length_at(s: &[u8], at: usize, least: usize, most: usize) -> Length
     }
 }
 
-// A packet, spare or message: its length, then its octets.
+// A packet, spare or message: its length, then its octets (rules 2.28 and 3.6).
 fn item_at(s: &[u8], at: usize, least: usize, most: usize) -> Item
     requires { ⌜ at ≤ length (now s) ⌝ }
     ensures { λ r. ⌜ ItemRead least most (now (s .entry)) at r ⌝ }
@@ -80,7 +80,7 @@ fn item_at(s: &[u8], at: usize, least: usize, most: usize) -> Item
     Item::Found(Part { start, size })
 }
 
-// Spares: a count.
+// For spares a count (rule 4.4).
 fn spares_at(s: &[u8], at: usize) -> Extra
     requires { ⌜ at ≤ length (now s) ⌝ }
     ensures { λ r. ⌜ SparesRead (now (s .entry)) at r ⌝ }
@@ -97,7 +97,7 @@ fn spares_at(s: &[u8], at: usize) -> Extra
     }
 }
 
-// Parity: octet 01, octet n, count m.
+// For parity octet 01, octet n and count m (rules 4.6 and 4.8).
 fn parity_at(s: &[u8], at: usize) -> Extra
     requires { ⌜ at ≤ length (now s) ⌝ }
     ensures { λ r. ⌜ ParityRead (now (s .entry)) at r ⌝ }
@@ -124,7 +124,7 @@ fn parity_at(s: &[u8], at: usize) -> Extra
     }
 }
 
-// What follows the newest packet: one octet, 00 for spares or 80 for parity.
+// What follows the newest packet: one octet, 00 for spares or 80 for parity (rule 4.3).
 fn extra_at(s: &[u8], at: usize) -> Extra
     ensures { λ r. ⌜ ExtraRead (now (s .entry)) at r ⌝ }
 {
@@ -143,7 +143,7 @@ fn extra_at(s: &[u8], at: usize) -> Extra
     parity_at(s, next)
 }
 
-// The least length of an item.
+// The least length of an item (rules 4.10 and 4.11).
 fn least(kind: Kind) -> usize
     ensures { λ r. ⌜ r ≡ leastOf kind ⌝ }
 {
@@ -153,7 +153,7 @@ fn least(kind: Kind) -> usize
     }
 }
 
-// The largest length of an item.
+// The greatest length of an item (rules 1.1 and 1.7).
 fn most(kind: Kind) -> usize
     ensures { λ r. ⌜ r ≡ mostOf kind ⌝ }
 {
@@ -163,7 +163,7 @@ fn most(kind: Kind) -> usize
     }
 }
 
-// A refusal: every place is unused.
+// A refusal: every element of the array of parts is zero (rule 4.23).
 fn refused(why: Refusal) -> DatagramRead
     ensures { λ r. ⌜ Refuses why r ⌝ }
 {
@@ -174,7 +174,7 @@ fn refused(why: Refusal) -> DatagramRead
     }
 }
 
-// The spares or messages, one after the other, of a datagram of which all before them is read. Nothing follows.
+// The spares or messages, one after the other, when all before them is read. Octets behind the last are 6 (rule 4.7).
 fn whole_of(
     s: &[u8],
     number: u16,
@@ -218,7 +218,7 @@ fn whole_of(
     }
 }
 
-// The datagram s, in reading order.
+// The datagram s: 2, then in reading order (rule 4.15).
 pub fn read(s: &[u8]) -> DatagramRead
     ensures { λ r. ⌜ DatagramReads (now (s .entry)) r ⌝ }
 {

@@ -1,11 +1,11 @@
-// Document 01, 'Sizes': each limit belongs to the kind that it limits, and is written once, here. The functions tie the
-// constants to the definitions of specs/.
+// The sizes (rules 1.1 to 1.7): each limit is a constant of the type that it limits, and is written once, here (rule 1.18). The contracts
+// of the functions say that the constants equal the definitions in specs/.
 ghost use mathlib.Core.Path.{_≡_};
 ghost use Rattle.datagram_sizes.specs.Sizes.{packetLeast, packetLimit, messageLeast, messageLimit, datagramLimit};
 ghost use Rattle.datagram_sizes.specs.Sizes.{sparesLeast, sparesLimit, coveredLeast, coveredLimit, messagesLeast, messagesLimit};
 ghost use Rattle.datagram_sizes.specs.Sizes.{reachLimit};
 
-// A fax packet.
+// An IFP packet (rule 1.1).
 pub struct Packet {}
 
 impl Packet {
@@ -26,7 +26,7 @@ impl Packet {
     }
 }
 
-// A parity message: the exclusive or of packets, so never longer than one.
+// A parity message (rule 1.7): the exclusive or of packets, so never longer than a packet.
 pub struct Message {}
 
 impl Message {
@@ -47,7 +47,7 @@ impl Message {
     }
 }
 
-// A UDPTL datagram.
+// A UDPTL datagram (rule 1.2).
 pub struct Datagram {}
 
 impl Datagram {
@@ -60,7 +60,7 @@ impl Datagram {
     }
 }
 
-// The spare copies in a datagram.
+// The spares in a datagram (rule 1.3).
 pub struct Spares {}
 
 impl Spares {
@@ -81,7 +81,7 @@ impl Spares {
     }
 }
 
-// The parity messages in a datagram, m of them, each over n packets: the least and the most of both.
+// The messages in a datagram, m of them, each over n packets: the least and the most of both, and their reach (rules 1.4 to 1.6).
 pub struct Parity {}
 
 impl Parity {

@@ -1,5 +1,4 @@
-// The writers of a datagram's items, and their sizes: document 01, 'The datagram', as `datagram` defines it.
-// The datagram writer: document 01, 'The datagram', as `datagram` defines it.
+// The datagram writer, and the writers of a datagram's items with their sizes, as `datagram` defines them (rules 4.1 to 4.7 and 4.17).
 mod put;
 mod writer;
 

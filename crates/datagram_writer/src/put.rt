@@ -1,5 +1,5 @@
-// Document 01, 'The datagram', item by item: "each item into the part still free after the last". Each writer writes to the
-// front of the part that it is lent, which its caller has made sure is long enough, and answers how many octets it wrote.
+// The octets of a datagram, item by item (rules 4.1 to 4.6). Each writer gets what is still free in the buffer (rule 30.3), writes to the
+// front of it, and returns how many octets it wrote. Its caller has checked that there is room.
 use datagram::Kind;
 use length::Length;
 use length::Written;
@@ -16,7 +16,7 @@ ghost use Rattle.datagram.specs.Inner.Heads.{itemsSize};
 
 // ---- the writers
 
-// Some octets as they are.
+// Some octets, unchanged.
 pub fn put_octets(octets: &[u8], out: &mut [u8]) -> usize
     requires { ⌜ length (now octets) ≤ length (now out) ⌝ }
     ensures { λ r. ⌜ Put (now (octets .entry)) (now (out .entry)) (now (out .exit)) r ⌝ }
@@ -29,7 +29,7 @@ pub fn put_octets(octets: &[u8], out: &mut [u8]) -> usize
     i
 }
 
-// A length or count. The length writer refuses nothing here: the length has its form, and the part has room.
+// A length or count (rules 3.1 and 3.2). The length writer never refuses here: the length is not over 16,383, and there is room.
 pub fn put_length(n: usize, out: &mut [u8]) -> usize
     requires { ⌜ (n ≤ lengthLimit) × (length (lengthOctets n) ≤ length (now out)) ⌝ }
     ensures { λ r. ⌜ Put (lengthOctets n) (now (out .entry)) (now (out .exit)) r ⌝ }
@@ -41,7 +41,7 @@ pub fn put_length(n: usize, out: &mut [u8]) -> usize
     }
 }
 
-// A packet, spare or message: length, octets.
+// A packet, spare or message: its length, then its octets (rule 4.2).
 pub fn put_item(item: &[u8], out: &mut [u8]) -> usize
     requires { ⌜ (length (now item) ≤ lengthLimit) × (itemSize (length (now item)) ≤ length (now out)) ⌝ }
     ensures { λ r. ⌜ Put (itemOctets (now (item .entry))) (now (out .entry)) (now (out .exit)) r ⌝ }
@@ -51,7 +51,7 @@ pub fn put_item(item: &[u8], out: &mut [u8]) -> usize
     at + size
 }
 
-// The number: two octets, high first.
+// The number: two octets, high first (rule 4.1).
 fn put_number(number: u16, out: &mut [u8]) -> usize
     requires { ⌜ length (numberOctets number) ≤ length (now out) ⌝ }
     ensures { λ r. ⌜ Put (numberOctets number) (now (out .entry)) (now (out .exit)) r ⌝ }
@@ -62,7 +62,7 @@ fn put_number(number: u16, out: &mut [u8]) -> usize
     put_octets(&octets, out)
 }
 
-// The number and the newest packet.
+// The number and the newest packet (rules 4.1 and 4.2).
 fn put_head(number: u16, packet: &[u8], out: &mut [u8]) -> usize
     requires { ⌜ (length (now packet) ≤ lengthLimit) ×
         (length (numberOctets number) + itemSize (length (now packet)) ≤ length (now out)) ⌝ }
@@ -73,7 +73,7 @@ fn put_head(number: u16, packet: &[u8], out: &mut [u8]) -> usize
     at + size
 }
 
-// Octet 00, and how many spares there are.
+// Octet 00 and the count of spares (rules 4.3 and 4.4).
 fn put_spares(count: usize, out: &mut [u8]) -> usize
     requires { ⌜ (count ≤ lengthLimit) × (1 + length (lengthOctets count) ≤ length (now out)) ⌝ }
     ensures { λ r. ⌜ Put (sparesHead count) (now (out .entry)) (now (out .exit)) r ⌝ }
@@ -84,7 +84,7 @@ fn put_spares(count: usize, out: &mut [u8]) -> usize
     at + size
 }
 
-// Octet 80, octet 01, octet n, and m, how many messages there are.
+// Octet 80, octet 01, octet n, and m, the count of messages (rules 4.3 and 4.6).
 fn put_parity(n: usize, m: usize, out: &mut [u8]) -> usize
     requires { ⌜ (n < 256) × (m ≤ lengthLimit) × (3 + length (lengthOctets m) ≤ length (now out)) ⌝ }
     ensures { λ r. ⌜ Put (parityHead n m) (now (out .entry)) (now (out .exit)) r ⌝ }
@@ -96,7 +96,7 @@ fn put_parity(n: usize, m: usize, out: &mut [u8]) -> usize
     at + size
 }
 
-// What stands before the spares or messages.
+// What comes before the spares or messages, by the kind.
 fn put_kind(kind: Kind, count: usize, out: &mut [u8]) -> usize
     requires { ⌜ (KindFits kind count) × (length (kindHead kind count) ≤ length (now out)) ⌝ }
     ensures { λ r. ⌜ Put (kindHead kind count) (now (out .entry)) (now (out .exit)) r ⌝ }
@@ -107,7 +107,7 @@ fn put_kind(kind: Kind, count: usize, out: &mut [u8]) -> usize
     }
 }
 
-// All that stands before the spares or messages: the number, the newest packet, and what a kind has before them.
+// All that comes before the spares or messages: the number, the newest packet, and what the kind puts before them.
 pub fn put_front(number: u16, packet: &[u8], kind: Kind, count: usize, out: &mut [u8]) -> usize
     requires { ⌜ FrontAsked number (now packet) kind count (now out) ⌝ }
     ensures { λ r. ⌜ Put (frontOctets number (now (packet .entry)) kind count) (now (out .entry)) (now (out .exit)) r ⌝ }
@@ -117,7 +117,7 @@ pub fn put_front(number: u16, packet: &[u8], kind: Kind, count: usize, out: &mut
     head + before
 }
 
-// Spares or messages, each with its length.
+// Spares or messages, each with its length (rules 4.4 and 4.6).
 pub fn put_items(lengths: &[u16], data: &[u8], out: &mut [u8]) -> usize
     requires { ⌜ (sumOf (now lengths) ≡ length (now «data»)) × (length (now «data») ≤ lengthLimit) ×
         (itemsSize (now lengths) ≤ length (now out)) ⌝ }
@@ -158,7 +158,7 @@ pub fn item_size(n: usize) -> usize
     size + n
 }
 
-// What stands before the spares or messages.
+// What comes before the spares or messages, by the kind.
 pub fn kind_size(kind: Kind, count: usize) -> usize
     ensures { λ r. ⌜ r ≡ length (kindHead kind count) ⌝ }
 {

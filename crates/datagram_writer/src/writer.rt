@@ -1,5 +1,5 @@
-// Document 01, 'The datagram': the datagram writer. It decides everything first, the room included, and then lends the rest
-// of the buffer to the item writers in turn, each item into the part still free after the last.
+// The datagram writer (rule 4.17). It decides everything first, room included (rule 2.33). Then it lends the rest of the buffer to the item
+// writers in turn (rule 30.3).
 use crate::put::item_size;
 use crate::put::items_size;
 use crate::put::kind_size;
@@ -25,7 +25,7 @@ ghost use Rattle.datagram.specs.Inner.Heads.{Bounded, datagramSize};
 
 // ---- what is refused
 
-// The length of a spare, or of a message, is inside the sizes.
+// The length of a spare (rule 4.10) or of a message (rule 1.7) is inside the sizes.
 fn item_inside(kind: Kind, n: usize) -> bool
     ensures { λ r. ⌜ r ≡ itemInside kind n ⌝ }
 {
@@ -35,7 +35,7 @@ fn item_inside(kind: Kind, n: usize) -> bool
     }
 }
 
-// The length of every spare, or of every message.
+// The length of every spare or message is inside the sizes.
 fn items_inside(kind: Kind, lengths: &[u16]) -> bool
     ensures { λ r. ⌜ r ≡ itemsInside kind (now (lengths .entry)) ⌝ }
 {
@@ -49,7 +49,7 @@ fn items_inside(kind: Kind, lengths: &[u16]) -> bool
     true
 }
 
-// Every length is inside the sizes: the newest packet's, then those of the spares or messages.
+// Every length is inside the sizes: the newest packet's (rule 4.18), then those of the spares or messages.
 fn lengths_inside(packet: &[u8], kind: Kind, lengths: &[u16]) -> bool
     ensures { λ r. ⌜ r ≡ lengthsInside (now (packet .entry)) kind (now (lengths .entry)) ⌝ }
 {
@@ -59,7 +59,7 @@ fn lengths_inside(packet: &[u8], kind: Kind, lengths: &[u16]) -> bool
     items_inside(kind, lengths)
 }
 
-// The lengths sum to the total. What is left of the total goes down to nothing, so no sum can wrap.
+// The lengths sum to the total. The loop subtracts them from the total, so nothing wraps (rule 2.34).
 fn sums_to(lengths: &[u16], total: usize) -> bool
     ensures { λ r. ⌜ r ≡ eqb (sumOf (now (lengths .entry))) total ⌝ }
 {
@@ -78,7 +78,7 @@ fn sums_to(lengths: &[u16], total: usize) -> bool
 
 // ---- what is written
 
-// The whole datagram.
+// How many octets the whole datagram takes.
 fn datagram_size(number: u16, packet: &[u8], kind: Kind, lengths: &[u16]) -> usize
     requires { ⌜ (length (now packet) ≤ lengthLimit) × (sumOf (now lengths) ≤ lengthLimit) ⌝ }
     ensures { λ r. ⌜ r ≡ datagramSize number (now (packet .entry)) kind (now (lengths .entry)) ⌝ }
@@ -91,7 +91,7 @@ fn datagram_size(number: u16, packet: &[u8], kind: Kind, lengths: &[u16]) -> usi
     all + items
 }
 
-// The whole datagram, each item into the part still free after the last.
+// The whole datagram, each item written behind the last one (rule 30.3).
 fn put_datagram(
     number: u16,
     packet: &[u8],
@@ -110,7 +110,7 @@ fn put_datagram(
     at + items
 }
 
-// What is allowed, written if there is room.
+// An allowed datagram, written if there is room; otherwise 13 (rule 2.13).
 fn write_allowed(
     number: u16,
     packet: &[u8],
@@ -131,8 +131,8 @@ fn write_allowed(
     Written::Octets(written)
 }
 
-// A datagram of the number, the newest packet, and spares or messages, given as their lengths and one run of data. A
-// refusal writes nothing.
+// A datagram of the number, the newest packet, and spares or messages, given as their lengths and one run of data (rule 4.17). A refusal
+// writes nothing (rule 2.25).
 pub fn write(
     number: u16,
     packet: &[u8],

@@ -164,7 +164,7 @@ handed-out (done a) (answer.Refused why) old e = let z : _≡_ {A = ℕ} 0 1 = c
 handed-out (refused x) (answer.Number kind number note size) old e = let z : _≡_ {A = ℕ} 0 1 = cc in absurd (omega arith)
 handed-out (refused x) (answer.Refused why) old e = refl
 
--- what left is what document 01 makes leave
+-- what left is what the rules make leave
 pub left-is : (view : View) (call : Call) → Says view call → leftIn call ≡ leaving (moveOf call) view
 unfolding leaving
 left-is view (offer octets r) says = refl
@@ -220,7 +220,7 @@ called-went seen (solved rest owes) =
       on = by (w .on) (solved-says (w .seen) owes);
     }
 
--- so the last session holds what document 01 says
+-- so the last session holds what the rules say
 pub called-on : {s t : Session} {calls : Calls} {view : View} → SeenAs view s → Called s calls t → GoesOn view calls (viewOf t)
 called-on {calls = calls} {view = view} seen called =
     let w = called-went seen called in

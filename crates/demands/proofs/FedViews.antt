@@ -1,4 +1,4 @@
--- A session that an honest sender alone feeds, as document 01 sees it: demand 3 is proved of these views. Definitions only.
+-- The view of a session that an honest sender alone feeds: demand 3 is proved of these views. Definitions only.
 use Prim.Native.Nat.{ℕ, _<_}
 use mathlib.Core.Path.{_≡_}
 use mathlib.Core.Bool.{Bool}

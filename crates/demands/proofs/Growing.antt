@@ -61,7 +61,7 @@ grown-twice {S} {cells} {mid} {after} first second =
           (second .each q);
     }
 
--- ---- "fill only numbers still unknown"
+-- ---- a packet or spare fills only a number that is still unknown (rule 10.7)
 pub keep-known : (S : ℕ) (state : State) (p : ℕ) (octets : List ℕ) (cells : List Cell) → Known cells p → keep S state p octets cells ≡ cells
 unfolding keep
 keep-known S state p octets cells k = rw k

@@ -25,7 +25,7 @@ use Rattle.image.proofs.Laws.{image-lines, reads01, reads02}
 use Rattle.image.proofs.Claims as images
 use Rattle.demands.specs.Requests.Handover.{IsRead, Names, ImageOf}
 
--- ---- the editions that are read
+-- ---- the image versions that are read
 -- what holds of 01 and of 02 holds of each
 of-each : (P : ImageVersion → Type 0) → P imageVersion01 → P imageVersion02 → (edition : ImageVersion) → IsRead edition → P edition
 of-each P one two edition (inl e) = subst P (sym e) one

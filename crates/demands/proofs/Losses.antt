@@ -1,5 +1,5 @@
--- Document 02, request 13, of sessions and the public calls. What an honest sender sent satisfies all equations, so that the call is never
--- refused; of two sessions the one that knows and holds more allows no more values. Assumes nothing.
+-- Solving with an honest sender, of sessions and the public calls. What an honest sender sent satisfies all equations, so that the call is
+-- never refused; of two sessions the one that knows and holds more allows no more values. Assumes nothing.
 use Prim.Native.Nat.{ℕ, _+_, _-_, _≤_}
 use mathlib.Core.Path.{_≡_, refl, sym, ap, _∙_, subst}
 use mathlib.Core.Logic.{⊎-elim}

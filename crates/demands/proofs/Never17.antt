@@ -1,5 +1,5 @@
--- No session that the library handed out is refused with 17: a session in a chain of calls is within its ranges, and document
--- 01's calls on what it holds have lower refusals only, and the call of request 13 has 23. Assumes nothing.
+-- No session that the library returned is refused with 17: a session in a chain of calls is within its ranges, offer and release on what
+-- it holds have lower refusals only, and solving has 23. Assumes nothing.
 use Prim.Native.Nat.{ℕ, zero, suc, _+_, _-_, _%_, _<_}
 use mathlib.Core.Path.{_≡_, refl, sym, ap, subst, _∙_}
 use mathlib.Core.Bool.{Bool, true, false, not, cond, _&&_}
@@ -159,7 +159,7 @@ lower-handed : {a : Answer Release} → Lower a → Lower (handedOf a)
 lower-handed (value a) = value _
 lower-handed (below low) = below low
 
--- the call of request 13 is refused with 23 alone
+-- solving is refused with 23 alone
 refused-23 : (b : Bool) (v : View) → refusalIn (filledOf (cond b (done v) (refuse noSolution))) ≡ some outsideRanges → ⊥
 refused-23 true v e = Option·none-ne-some outsideRanges e
 refused-23 false v e = let same = Option·some-injective noSolution outsideRanges e in omega arith

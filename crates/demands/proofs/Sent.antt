@@ -39,7 +39,7 @@ use Rattle.demands.specs.Demand3.Feeding.{OneOrigin, datagramAt}
 use Rattle.demands.specs.Demand2.ReachedBy.{sparesIn}
 
 -- ---- the row by places
--- a row begins as many places before number 0 as the view has before the base: "the last 32 packets", "the 32 before the base"
+-- a row begins as many places before number 0 as the view has before the base: 32 (rules 1.13 and 1.14)
 pub one-origin : OneOrigin
 one-origin = refl
 

@@ -1,5 +1,5 @@
--- The call of request 13, taken apart: where it is not refused, each number in view is as it was, or it was unknown and is filled as
--- repaired with note zero; all else stays. Assumes nothing.
+-- Solving, taken apart: where it is not refused, each number in view is unchanged, or it was unknown and is filled as repaired with note
+-- zero; all else is unchanged. Assumes nothing.
 use Prim.Native.Nat.{ℕ, _%_, _≤_, _<_}
 use mathlib.Core.Path.{_≡_, refl, sym, ap, subst, _∙_}
 use mathlib.Core.Logic.{_⊎_, inl, inr, ⊎-elim}

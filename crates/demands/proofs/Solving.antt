@@ -1,4 +1,4 @@
--- The call of request 13 makes known what it makes reached: the places for which the held messages and the reached places allow one
+-- Solving makes known what it makes reached (rules 14.2 and 28.5): the places for which the held messages and the reached places allow one
 -- value. Two rows of octets that the messages do not tell apart, added to a solution, give another; and two solutions are two such rows.
 -- Assumes nothing.
 use Prim.Native.Nat.{ℕ, _+_, _-_, _≤_, _<_}

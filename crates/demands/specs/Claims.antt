@@ -1,4 +1,5 @@
--- The demands on the whole, each under its name: what the library is proved to do. Definitions only.
+-- The claims about the whole library, a field for each: what is proved of it. They are stated of the public calls, by what those promise
+-- (rules 28.1 to 28.16). Definitions only.
 use Rattle.packet.specs.Claims as packets
 use Rattle.sender.specs.Claims as sending
 use Rattle.frame.specs.Claims as frames
@@ -24,44 +25,52 @@ use Rattle.demands.specs.Requests.Fits.{Fits}
 use Rattle.demands.specs.Requests.Losses.{Losses}
 
 pub record Claims : Type 0 where
+  -- demand 1: each call refuses exactly what the rules say, and a refused call changes nothing (rules 28.1 and 28.2)
   pub demand1 : Demand1
+  -- demand 2: what is written reads back, and what a session knows, releases and counts follows from the calls (rules 28.3 to 28.7)
   pub demand2 : Demand2
+  -- demand 3, of an honest sender: more datagrams never leave fewer packets known, each known packet is the sender's, and a burst comes
+  -- back (rules 28.8 to 28.10)
   pub demand3 : Demand3
-  -- a chain of sends of the sending session, from a fresh one on, is an honest sender as demand 3 takes it
+  -- whoever sends only by this library's send, from a fresh session on, is an honest sender as demand 3 requires (rule 15.15)
   pub sendsHonest : sending.Chains
-  -- demand 3's hypotheses can be met: two lists, and a burst of two numbers
+  -- demand 3's hypotheses can be met: two lists of datagrams, and a burst of two numbers (rules 28.8 to 28.10)
   pub example : Example
   pub burst : Burst
-  -- "The datagram calls, offer and send don't read inside a packet"
+  -- the datagram calls, offer and send do not read inside a packet (rule 4.22)
   pub notInside : NotInside
+  -- for every input, each call has one outcome (rule 28.14)
   pub oneOutcome : OneOutcome
+  -- the twelve worked cases, as one table (rules 26.1 to 26.12 and 28.16)
   pub twelveCases : TwelveCases
-  -- document 02, request 2, headers packed
+  -- a packet with packed field headers, and the same fields with each header on an octet of its own (rules 26.16 and 26.34)
   pub mendedExample : MendedExample
-  -- the program: document 01's whole case, and what it writes of any input, however it is cut
+  -- the program: its whole case, and what it writes for any input, however that is cut into blocks (rules 18.12 and 26.17)
   pub program : Program
-  -- document 02, request 1, whole frames: the honest line, never 17; and what left a session, fed to a joiner
+  -- whole frames: which frames a joiner returns, and that it is never refused with 17; then frames from what left a session (rules 16.17,
+  -- 16.18 and 17.1)
   pub wholeFrames : frames.Claims
   pub framesFromSession : frameFeed.Claims
-  -- document 02, request 4: the second reader of packets agrees with the quick one
+  -- the second packet reader agrees with the packet reader (rule 8.2)
   pub secondReader : SecondReader
-  -- document 02, request 6: a trace played again with chosen losses; of what it releases demand 3 is not claimed
+  -- a trace replayed with chosen losses (rules 21.1 to 21.6); of what it releases demand 3 is not claimed (rule 21.7)
   pub replay : replays.Claims
-  -- document 02, request 7: one call in place of next and give up
+  -- release: a number that is known is never lost (rules 12.2 to 12.4)
   pub oneCall : OneCall
-  -- document 02, request 9: a session written as an image and read back, and what then holds of demands 2 and 3
+  -- a session written as an image and read back, and what demands 2 and 3 then say (rules 20.10 to 20.13 and 20.17 to 20.22)
   pub handover : Handover
-  -- document 02, request 10: images in two editions, and what fits a datagram under the raised limits
+  -- images in two versions (rules 20.8 to 20.10), and what fits in a datagram (rule 1.17)
   pub editions : Editions
   pub fits : Fits
-  -- document 02, request 11: newer peers. What is refused by each edition stands in demand 1, what reads back in demand 2; this is what is
-  -- true of a packet in both
+  -- a packet without fields and without an added value reads alike in both editions (rule 7.13). What each edition refuses is in demand
+  -- 1, and what reads back in demand 2
   pub bothEditions : packets.PlainAlike
-  -- document 02, request 12: two traces compared, when nothing is listed, a trace with itself, and both exchanged; each refusal exactly
+  -- two traces compared: what is listed of each number, when nothing is listed, both traces exchanged, and each refusal (rules 22.1 to
+  -- 22.18)
   pub comparison : comparisons.Claims
-  -- document 02, request 13: losses that no single message mends
+  -- solving: losses that no single message mends (rules 14.2, 14.6, 14.9 and 28.11)
   pub losses : Losses
-  -- document 02, request 14: a line we can sell
+  -- what k spares buy on a line that loses datagrams (rules 23.3 to 23.8)
   pub lineSold : soldLine.Claims
-  -- the calls for C programs over lent memory
+  -- the calls for C programs, over the caller's memory (rules 24.11, 24.12 and 28.14)
   pub hostCalls : host.Claims

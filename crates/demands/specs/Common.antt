@@ -1,4 +1,4 @@
--- What more than one demand speaks of: the named editions, and chains of calls.
+-- What more than one demand uses: the named editions, and chains of calls.
 pub mod NamedEdition
 pub mod History
 pub mod Calls

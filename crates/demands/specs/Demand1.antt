@@ -1,4 +1,4 @@
--- Demand 1: what is refused, with which number and where; the demand itself stands in Demand1/Demand1.antt.
+-- Demand 1: what is refused, with which number and at which place. The demand itself is in Demand1/Demand1.antt.
 pub mod Refusals
 pub mod DatagramItems
 pub mod DatagramRefusals

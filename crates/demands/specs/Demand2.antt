@@ -1,4 +1,4 @@
--- Demand 2: what holds of every chain of calls; the demand itself stands in Demand2/Demand2.antt.
+-- Demand 2: what holds of every chain of calls. The demand itself is in Demand2/Demand2.antt.
 pub mod GoesOn
 pub mod ReachedBy
 pub mod NotedBy

@@ -1,4 +1,5 @@
--- Demand 3: what an honest sender gets through; the demand itself stands in Demand3/Demand3.antt, the others show that it can be met.
+-- Demand 3: what gets through from an honest sender. The demand itself is in Demand3/Demand3.antt; Example and Burst show that its
+-- hypotheses can be met.
 pub mod Feeding
 pub mod FedCalls
 pub mod Demand3

@@ -1,5 +1,5 @@
--- "The datagram calls, offer and send don't read inside a packet": other octets of the same lengths are answered alike. Statements
--- alone.
+-- The datagram calls, offer and send do not read inside a packet: with other octets of the same lengths they do the same, or refuse alike
+-- (rule 4.22). Statements only.
 use Prim.Native.Nat.{ℕ}
 use mathlib.Core.Path.{_≡_}
 use mathlib.Core.List.{List}
@@ -19,8 +19,7 @@ use Rattle.sender.specs.declared.Sender.{Sender}
 use Rattle.sender.specs.declared.Sent.{Sent}
 use Rattle.sender.specs.declared.Settings.{Settings}
 
--- two datagrams with one number and one kind (spares, or n), whose packets have one length, and whose spares or messages have the
--- same lengths
+-- two datagrams with the same number and kind (spares, or n), with packets of one length, and with spares or messages of the same lengths
 pub record AlikeButOctets (s t : List ℕ) : Type 0 where
   pub number : ℕ
   pub kind : Kind
@@ -34,7 +33,7 @@ pub record AlikeButOctets (s t : List ℕ) : Type 0 where
   pub other : datagramToWrite number otherPacket kind lengths otherRun ≡ done t
 
 pub record NotInside : Type 0 where
-  -- the datagram writer: the same refusal, or the same number of octets
+  -- the datagram writer: the same refusal, or the same count of octets written
   pub write : (number : ℕ) (kind : Kind) (lengths packet otherPacket run otherRun : List ℕ)
       → length packet ≡ length otherPacket → length run ≡ length otherRun
       → {old new otherOld otherNew : List ℕ} {r q : Written} → length old ≡ length otherOld
@@ -43,10 +42,10 @@ pub record NotInside : Type 0 where
       → r ≡ q
   -- the datagram reader: the same number and kind, and parts at the same places
   pub read : {s t : List ℕ} → AlikeButOctets s t → {r q : DatagramRead} → DatagramReads s r → DatagramReads t q → r ≡ q
-  -- offer: accepted, or refused with the same number
+  -- offer: both accepted, or both refused with the same number
   pub offer : {session : Session} {s t : List ℕ} → AlikeButOctets s t → {r q : AfterOffer} → OfferOwes session s r → OfferOwes session t q
       → r .answer ≡ q .answer
-  -- send: the same refusal, or the same number of octets
+  -- send: the same refusal, or the same count of octets written
   pub send : {s : Sender} {settings : Settings} {packet otherPacket : List ℕ} → length packet ≡ length otherPacket
       → {old new otherOld otherNew : List ℕ} {r q : Sent} → length old ≡ length otherOld
       → Sends s settings packet old new r → Sends s settings otherPacket otherOld otherNew q

@@ -1,4 +1,4 @@
--- Two outcomes that a promise allows are equal, call by call; all of it together stands in OneOutcome/OneOutcome.antt.
+-- For each call, two outcomes that its promise allows are equal (rule 28.14). OneOutcome/OneOutcome.antt joins them into one claim.
 pub mod OneTold
 pub mod OnePencil
 pub mod OneInside

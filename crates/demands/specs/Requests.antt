@@ -1,4 +1,4 @@
--- What single requests of document 02 claim beside the demands.
+-- Claims beside the demands: the second packet reader, release, images, what fits in a datagram, solving.
 pub mod SecondReader
 pub mod OneCall
 pub mod Handover

@@ -47,7 +47,7 @@ pub fn marked(s: &[u8], item: usize, at: usize, name: usize) -> On
     }
 }
 
-// Zero bits to an octet edge, where there are some.
+// Zero bits to an octet edge, where there are any.
 pub fn padding(s: &[u8], at: usize) -> On
     requires { ⌜ length (now s) ≤ packetLimit ⌝ }
 {
@@ -63,7 +63,7 @@ pub fn padding(s: &[u8], at: usize) -> On
     }
 }
 
-// The octets that a length promised.
+// The octets that a length promises.
 fn octets(s: &[u8], edge: usize, begin: usize, size: usize) -> On
     requires { ⌜ length (now s) ≤ packetLimit ⌝ }
 {
@@ -85,7 +85,7 @@ fn octets(s: &[u8], edge: usize, begin: usize, size: usize) -> On
     }
 }
 
-// A length in two octets that hold it minus one, and the octets.
+// A length in two octets, minus one, and the octets (rule 6.8).
 fn sized(s: &[u8], edge: usize) -> On
     requires { ⌜ length (now s) ≤ packetLimit ⌝ }
 {
@@ -100,7 +100,7 @@ fn sized(s: &[u8], edge: usize) -> On
     }
 }
 
-// field-data OCTET STRING (SIZE (1..65535)) OPTIONAL, behind a header from a place up to another.
+// field-data OCTET STRING (SIZE (1..65535)) OPTIONAL, behind a header from `at` to `end`.
 fn optional(named: Named, s: &[u8], at: usize, end: usize) -> On
     requires { ⌜ length (now s) ≤ packetLimit ⌝ }
 {
@@ -137,7 +137,7 @@ fn field(named: Named, s: &[u8], at: usize) -> On
     }
 }
 
-// SEQUENCE OF: so many fields.
+// SEQUENCE OF: `count` fields.
 fn sequence(named: Named, s: &[u8], from: usize, count: usize) -> On
     requires { ⌜ length (now s) ≤ packetLimit ⌝ }
 {
@@ -157,7 +157,7 @@ fn sequence(named: Named, s: &[u8], from: usize, count: usize) -> On
     On::At(at)
 }
 
-// The bits of a refused count: two octets where the first bit is 1.
+// How many bits a refused count has: two octets where the first bit is 1 (rule 3.2).
 fn count_bits(s: &[u8], at: usize) -> usize
     requires { ⌜ length (now s) ≤ packetLimit ⌝ }
 {

@@ -1,7 +1,7 @@
 // Standard input, line by line.
 use datagram::Datagram;
 
-// What is kept of a line: more than two words and a line of hexadecimal have.
+// How many characters of a line are kept: more than two words and a line of hexadecimal need.
 pub const KEPT: usize = 2 * Datagram::LIMIT + 16;
 
 // The next character of the input, and whether there is none.
@@ -16,7 +16,7 @@ fn is_blank(c: u8) -> bool {
     (c == b' ') | (c == b'\t') | (c == b'\r')
 }
 
-// One line without its blanks, to the front of line: how many characters it has, of one that is too long as many as are kept.
+// One line without its blanks, to the front of line: how many characters it has, or how many are kept if it is too long.
 pub fn read_line(line: &mut [u8; KEPT], ended: &mut bool) -> usize {
     let mut size = 0;
     let mut turns = u64::MAX;
@@ -37,7 +37,7 @@ pub fn read_line(line: &mut [u8; KEPT], ended: &mut bool) -> usize {
     size
 }
 
-// The words that may stand before the digits.
+// How long the words are that may come before the digits (rule 19.4).
 pub const NEW: usize = 3;
 
 pub const REPAIRED: usize = 8;

@@ -1,4 +1,4 @@
-// The last line: what the packet reads as.
+// The last line: what the packet reads as, or its refusal and place (rules 19.6 and 19.7).
 use crate::names::NAME;
 use crate::names::say_data;
 use crate::names::say_indicator;
@@ -17,7 +17,7 @@ use packet::PacketKind;
 use packet::PacketRead;
 use packet::PacketReading;
 
-// A number, and behind it what opens its name.
+// A value after its word, then the bracket that opens its name.
 fn say_value(word: usize, value: usize) {
     say_word(word);
     say_number(value);
@@ -57,7 +57,7 @@ fn all_fields(fields: [Field; Field::LIMIT], count: usize) {
     }
 }
 
-// The packet, read by this edition.
+// The packet, read in this edition.
 pub fn read_by(named: Named, s: &[u8], ending: Ending) -> PacketRead {
     match named {
         Named::Old => packet_pencil::read(0, s, ending),
@@ -65,7 +65,7 @@ pub fn read_by(named: Named, s: &[u8], ending: Ending) -> PacketRead {
     }
 }
 
-// A packet that this edition refuses: whether the other reads it, and the words for that.
+// For a packet that this edition refuses: writes `word` if the other edition reads it (rule 19.7).
 fn say_other(other: Named, s: &[u8], ending: Ending, word: usize) {
     let found = read_by(other, s, ending);
     let reading = found.reading;
@@ -87,7 +87,7 @@ fn say_elsewhere(named: Named, s: &[u8], ending: Ending) {
     say(b"\n");
 }
 
-// What the packet reads as. A refusal that is met while reading is told with its octet, one of the whole packet without.
+// What the packet reads as. A refusal met while reading is written with its octet, one of the whole packet without (rules 2.27 and 2.30).
 pub fn told(named: Named, s: &[u8], ending: Ending, met: bool) {
     let found = read_by(named, s, ending);
     let fields = found.fields;

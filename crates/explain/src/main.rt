@@ -1,6 +1,6 @@
-// The program for the support desk: a packet in hexadecimal a line; it is told item by item, in the names of Annex A, of 06/98 or, behind
-// the word new, of 2002. Where each item ends, what it holds and why it is refused is what the functions of `packet_pencil` answer, and the
-// last line is its `read`.
+// The program `explain` for the support desk: it reads a packet in hexadecimal from each line, of 06/98 or, behind the word new, of 2002,
+// and writes it item by item, in the names of Annex A (rules 19.4 to 19.7). The functions of `packet_pencil` say where each item ends, what
+// it holds and why it is refused, and the last line is its `read`.
 mod fields;
 mod input;
 mod last;
@@ -29,10 +29,10 @@ use text::say_octets;
 use wording::end_line;
 use wording::say_word;
 
-// The octets that a line holds at most.
+// How many octets a line holds at most.
 const OCTETS: usize = Datagram::LIMIT;
 
-// More octets than a packet has.
+// The line of a packet with more octets than a packet may have (rule 1.1).
 fn too_long(size: usize) {
     row_of_octets(0, wording::IFP_PACKET);
     say_octets(size);
@@ -41,7 +41,7 @@ fn too_long(size: usize) {
     say(b"\n");
 }
 
-// A packet: its items by the edition, then what it reads as.
+// A packet: its items in the edition, then what it reads as (rules 19.5 and 19.6).
 fn explain(named: Named, s: &[u8], ending: Ending) {
     let fits = s.len() <= Packet::LIMIT;
     if fits {
@@ -52,7 +52,7 @@ fn explain(named: Named, s: &[u8], ending: Ending) {
     last::told(named, s, ending, fits);
 }
 
-// The packet in some digits.
+// The packet in these digits.
 fn packet(named: Named, digits: &[u8], ending: Ending) {
     let mut octets = [0u8; OCTETS];
     match line_hex::hex_to_octets(digits, &mut octets) {
@@ -61,12 +61,12 @@ fn packet(named: Named, digits: &[u8], ending: Ending) {
     }
 }
 
-// What follows a word of so many characters.
+// What follows a word of this many characters.
 fn behind(line: &[u8], word: usize) -> &[u8] {
     part(line, word, std::num::wrapping_sub_usize(line.len(), word))
 }
 
-// A line behind the word for its edition, if there was one.
+// A line behind the word for its edition, if there is one.
 fn by_edition(named: Named, line: &[u8]) {
     if is_repaired(line) {
         return packet(named, behind(line, REPAIRED), Ending::Repaired);
@@ -74,7 +74,7 @@ fn by_edition(named: Named, line: &[u8]) {
     packet(named, line, Ending::Whole)
 }
 
-// A line of so many characters: the words new and repaired may stand first, in either order.
+// A line of `size` characters: the words new and repaired may come first, in either order (rule 19.4).
 fn explain_line(kept: &[u8; KEPT], size: usize) {
     let line = part(kept, 0, size);
     if is_new(line) {
@@ -89,7 +89,7 @@ fn explain_line(kept: &[u8; KEPT], size: usize) {
     by_edition(Named::Old, line)
 }
 
-// One line of the input; an empty line stands before all but the first, and empty lines of the input are passed over.
+// One line of the input; empty ones are skipped. An empty line is written before each packet but the first.
 fn turn(first: bool, ended: &mut bool) -> bool {
     let mut line = [0u8; KEPT];
     let size = read_line(&mut line, ended);
@@ -106,7 +106,7 @@ fn turn(first: bool, ended: &mut bool) -> bool {
 fn main() {
     let mut first = true;
     let mut ended = false;
-    // Nothing says that the input ends, so the turns are counted down from a number that no run uses up.
+    // Nothing proves that the input ends, so the turns are counted down from a number that no run uses up.
     let mut turns = u64::MAX;
     while turns > 0 {
         turns -= 1;

@@ -1,7 +1,8 @@
-// Annex A's names, those that were added in 2002 too, each with what it means in plain words: a table for each type, a line for each value.
+// Annex A's names, those added in 2002 included (rules 6.28 to 6.30, 7.4, 7.14 and 7.15), each with its meaning in plain words: a table for
+// each type, a line for each value.
 use crate::text::say_line;
 
-// Where a name ends, and where its line does.
+// The character that ends a name, and the one that ends its line.
 pub const NAME: u8 = b',';
 
 pub const LINE: u8 = b'\n';

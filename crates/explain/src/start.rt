@@ -76,7 +76,7 @@ fn first_item(named: Named, s: &[u8]) -> On
     }
 }
 
-// What follows the end, from an octet on: nothing, or zeros where the packet was repaired.
+// What follows the end, from an octet on: nothing, or zeros if the packet was repaired (rules 6.11 and 6.12).
 fn after_end(named: Named, s: &[u8], at: usize, from: usize, ending: Ending) {
     if s.len() <= from {
         return;

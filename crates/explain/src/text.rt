@@ -12,7 +12,7 @@ ghost use Prim.Native.Nat.{_≤_};
 ghost use lib.ListN.{length};
 ghost use Rattle.datagram.specs.Sizes.{packetLimit};
 
-// Whether the packet goes on, and where, or was refused.
+// Where the packet goes on, or that it was refused.
 pub enum On {
     At(usize),
     Stopped,
@@ -26,7 +26,7 @@ pub fn say_number(n: usize) {
     io::print_decimal(1, n as u64);
 }
 
-// So many octets from a place on, or none where there are fewer.
+// `size` octets from `start` on, or none if there are fewer.
 pub fn part(s: &[u8], start: usize, size: usize) -> &[u8] {
     if start <= s.len() {
         if size <= s.len() - start {
@@ -37,7 +37,7 @@ pub fn part(s: &[u8], start: usize, size: usize) -> &[u8] {
     &s[..0]
 }
 
-// A line of a table, counted from 0, up to a character or its end.
+// A line of a table, counted from 0, up to a character or to the end of the line.
 pub fn say_line(table: &[u8], line: usize, last: u8) {
     let mut left = line;
     let mut start = 0;
@@ -67,7 +67,7 @@ pub fn say_hex(octets: &[u8]) {
     }
 }
 
-// A count of what a word names; its plural stands behind it in the table.
+// A count of what a word names; its plural is the next line of the table.
 pub fn say_count(n: usize, word: usize) {
     say_number(n);
     if n == 1 {
@@ -87,7 +87,7 @@ pub fn say_flag(set: bool) {
     end_line(wording::NO)
 }
 
-// Our words for a refusal, those of README's table that a packet can meet.
+// The words for each refusal that a packet can meet, as in README's table.
 fn words_for(number: u8) -> usize {
     match number {
         Refusal::ENDS_EARLY => wording::ENDS_EARLY,
@@ -101,7 +101,7 @@ fn words_for(number: u8) -> usize {
     }
 }
 
-// A refusal: its number, with the octet at which the refused item begins where it was met in reading order, and our words for it.
+// A refusal: its number, the octet at which the refused item begins if it was met in reading order, and its words (rule 19.5).
 pub fn say_refusal(why: Refusal, met: bool) {
     say_word(wording::REFUSED);
     say_number(why.number as usize);
@@ -145,7 +145,7 @@ fn say_place(at: usize) {
     say_word(wording::GAP);
 }
 
-// The bit at a place; a dash where the octets have ended.
+// The bit at a place; a dash past the end.
 fn say_bit(s: &[u8], at: usize)
     requires { ⌜ length (now s) ≤ packetLimit ⌝ }
 {
@@ -166,7 +166,7 @@ fn say_bits(s: &[u8], at: usize, end: usize)
     }
 }
 
-// The front of an item's line: its place, its bits, its name.
+// The front of an item's line: its place, its bits, its name (rule 19.5).
 pub fn row(s: &[u8], at: usize, end: usize, name: usize)
     requires { ⌜ length (now s) ≤ packetLimit ⌝ }
 {
@@ -178,7 +178,7 @@ pub fn row(s: &[u8], at: usize, end: usize, name: usize)
     say_word(wording::COLON);
 }
 
-// The same of an item that is octets as they are: they are told behind the name.
+// The same for an item of whole octets, which are written behind the name.
 pub fn row_of_octets(at: usize, name: usize) {
     say_place(at);
     say_word(wording::AS_OCTETS);
@@ -186,7 +186,7 @@ pub fn row_of_octets(at: usize, name: usize) {
     say_word(wording::COLON);
 }
 
-// The line of a refused item of so many bits.
+// The line of a refused item of this many bits.
 pub fn stopped(s: &[u8], at: usize, bits: usize, name: usize, why: Refusal) -> On
     requires { ⌜ length (now s) ≤ packetLimit ⌝ }
 {
@@ -202,7 +202,7 @@ pub enum Bit {
     Stopped,
 }
 
-// A single bit, with the front of its line, or all of it where it is refused. The next place follows on it.
+// A single bit: the front of its line, or the whole line if it is refused. What comes next begins in the bit behind it.
 pub fn row_of_bit(s: &[u8], item: usize, at: usize, name: usize) -> Bit
     requires { ⌜ length (now s) ≤ packetLimit ⌝ }
 {

@@ -1,4 +1,4 @@
-// ENUMERATED { .., ..., .. }: the bit for extension, where the edition has an extension mark there, and the value.
+// ENUMERATED { .., ..., .. }: the bit for extension, where the edition has an extension mark there, and the value (rules 6.2 and 7.5).
 use crate::names::LINE;
 use crate::names::say_data;
 use crate::names::say_indicator;
@@ -30,7 +30,7 @@ pub enum Which {
     Type,
 }
 
-// In how many bits an added value is told.
+// How many bits an added value takes, behind the bit for extension and a bit that is 0 (rule 7.5).
 const ADDED_WIDTH: usize = 6;
 
 fn values_of(named: Named, which: Which) -> Enumerated {
@@ -60,7 +60,7 @@ fn say_value(which: Which, value: usize) {
     say(b"\n");
 }
 
-// The last bits of a value, from a place on: the value that they are, or why they are refused.
+// The last bits of a value, from a place on: the value, or why it is refused.
 fn last_bits(s: &[u8], at: usize, bits: usize, which: Which, name: usize, found: Number) -> On
     requires { ⌜ length (now s) ≤ packetLimit ⌝ }
 {
@@ -74,8 +74,8 @@ fn last_bits(s: &[u8], at: usize, bits: usize, which: Which, name: usize, found:
     }
 }
 
-// A single bit that is refused, behind the front of its line: a bit for extension where no value was added, or a 1 where an added value
-// has its 0 bit.
+// A single bit that is refused, behind the front of its line: a bit for extension where no value is added, or a 1 in place of the 0 bit of
+// an added value (rules 7.6 and 7.7).
 fn refused_bit(found: Number) -> On {
     match found {
         Number::Refused(why) => {
@@ -86,7 +86,7 @@ fn refused_bit(found: Number) -> On {
     }
 }
 
-// An added value, behind its bit for extension: one 0 bit, then six bits.
+// An added value, behind its bit for extension: one 0 bit, then six bits (rule 7.5).
 fn added(s: &[u8], item: usize, at: usize, which: Which, name: usize, found: Number) -> On
     requires { ⌜ length (now s) ≤ packetLimit ⌝ }
 {
@@ -108,7 +108,7 @@ fn added(s: &[u8], item: usize, at: usize, which: Which, name: usize, found: Num
     }
 }
 
-// A value behind the bit for extension, which is 0: the bits of a value that was there before.
+// A value behind the bit for extension, which is 0: the bits of a value before the extension mark.
 fn plain(s: &[u8], at: usize, width: usize, which: Which, name: usize, found: Number) -> On
     requires { ⌜ length (now s) ≤ packetLimit ⌝ }
 {
@@ -116,8 +116,8 @@ fn plain(s: &[u8], at: usize, width: usize, which: Which, name: usize, found: Nu
     last_bits(s, at, width, which, name, found)
 }
 
-// A value of an item that begins at an octet, from a place on. Where the bit for extension is 1 and no value was added, the bit itself is
-// refused.
+// A value, from a place on, of the item that begins at the octet `item`. Where the bit for extension is 1 and no value is added, the bit
+// itself is refused (rule 7.6).
 pub fn enumerated(named: Named, s: &[u8], item: usize, at: usize, which: Which, name: usize) -> On
     requires { ⌜ length (now s) ≤ packetLimit ⌝ }
 {

@@ -1,5 +1,5 @@
--- A format: how a value is read at a place, how it is spelt there, and when it may be spelt there. A description is put together
--- from the formats here, and so says both what is read and what is written. Definitions only.
+-- A format: how a value is read at a place, how it is spelt there, and when it may be spelt there. A description is a combination of the
+-- formats here, so that it says both what is read and what is written (rules 2.28, 5.2 and 5.3). Definitions only.
 use Prim.Native.Nat.{ℕ, zero, _+_, _*_, _/_, _%_, _^_, _≤_, _<_}
 use mathlib.Core.Path.{_≡_}
 use mathlib.Core.Bool.{Bool, true, cond}
@@ -30,11 +30,11 @@ flag = record { read = reading.flag; spelling = λ b p. bit (flagBit b) ∷ []; 
 abbrev pub bits : ℕ → Format ℕ
 bits n = record { read = reading.bits n; spelling = λ v p. spelt n v; fits = λ v p. v < 2 ^ n }
 
--- to an octet edge, by zero bits
+-- to an octet edge, by zero bits (rule 5.3)
 abbrev pub align : Format (Unit {0})
 align = record { read = reading.align; spelling = λ u p. spelt (gap p) 0; fits = λ u p. Unit {0} }
 
--- the octet in which a place lies
+-- the octet that a place is in
 abbrev pub here : Format ℕ
 here = record { read = λ s i p. found (p / 8) p; spelling = λ x p. []; fits = λ x p. x ≡ p / 8 }
 
@@ -50,14 +50,14 @@ module _ {A : Type 0} where
     fits = λ a p. right a;
   }
 
--- so many octets
+-- n octets
 unfoldable pub octetsFront : ℕ → List ℕ → Finding (List ℕ)
 octetsFront n s = cond (ltb (length s) n) (stopped (refusal endsEarly)) (found (take n s) n)
 
 abbrev pub octets : ℕ → Format (List ℕ)
 octets n = octetwise (octetsFront n) (λ l. l) (λ l. length l ≡ n)
 
--- a number in two octets, the high one first, that is not over its size: the test is a part of its item
+-- a number in two octets, the high one first, that is not over its size; the test is a part of its item (rules 2.28 and 6.9)
 unfoldable pub twoFront : ℕ → List ℕ → Finding ℕ
 twoFront most s =
     let value = getD s 0 0 * 256 + getD s 1 0 in
@@ -66,7 +66,7 @@ twoFront most s =
 abbrev pub twoOctets : ℕ → Format ℕ
 twoOctets most = octetwise (twoFront most) (λ v. (v / 256) ∷ (v % 256) ∷ []) (λ v. v ≤ most)
 
--- a length or count by document 01's length rule, within its sizes
+-- a length or count by the length rule, within its sizes (rules 3.1 to 3.6)
 abbrev pub lengthFound : Answer LengthAnswer → Finding ℕ
 lengthFound (done a) = found (a .value) (a .size)
 lengthFound (refused r) = stopped r
@@ -77,15 +77,15 @@ lengthRule least most =
 
 -- ---- together
 module _ {A : Type 0} where
-  -- nothing, for a value that is known
+  -- takes no bits: the value is known
   abbrev pub known : A → Format A
   known a = record { read = give a; spelling = λ x p. []; fits = λ x p. x ≡ a }
 
-  -- an item begins here
+  -- an item begins here (rule 2.27)
   abbrev pub item : Format A → Format A
   item f = record { read = reading.item (f .read); spelling = f .spelling; fits = f .fits }
 
-  -- what passes a test, else the refusal n
+  -- what passes a test; otherwise the refusal n
   abbrev pub guarded : ℕ → (A → Bool) → Format A → Format A
   guarded n test f = record {
     read = do
@@ -96,7 +96,7 @@ module _ {A : Type 0} where
     fits = λ a p. (f .fits a p) × (test a ≡ true);
   }
 
--- on, if a test holds, else the refusal n
+-- goes on if a test holds; otherwise the refusal n
 abbrev pub demand : ℕ → Bool → Format (Unit {0})
 demand n test = record { read = check n test; spelling = λ u p. []; fits = λ u p. test ≡ true }
 
@@ -112,7 +112,7 @@ module _ {A B : Type 0} where
     fits = λ x p. (f .fits (x .0) p) × (g (x .0) .fits (x .1) (wide (f .spelling (x .0) p) + p));
   }
 
-  -- the same, as values of another type: `to` them, and back `from` them
+  -- the same, as values of another type: `to` that type, and `from` it back
   abbrev pub made : (A → B) → (B → A) → Format A → Format B
   made to from f = record {
     read = do
@@ -122,7 +122,7 @@ module _ {A B : Type 0} where
     fits = λ b p. (f .fits (from b) p) × (to (from b) ≡ b);
   }
 
--- so many of the same
+-- n of the same, one after the other
 module _ {A : Type 0} where
   unfoldable pub sequenceSpelt : Format A → List A → ℕ → List Letter
   sequenceSpelt f [] p = []

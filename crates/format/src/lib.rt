@@ -1,1 +1,1 @@
-// Definitions and proofs alone: how a format is described over bits, so that one description says what is read and what is written.
+// Definitions and proofs alone: formats over bits, in which one description says what is read and what is written.

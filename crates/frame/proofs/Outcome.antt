@@ -1,4 +1,4 @@
--- Two outcomes of a call are equal: an answer's case is told by the documents' number and values. Assumes nothing.
+-- Two outcomes of a call are equal: an answer's case follows from the rules' number and values. Assumes nothing.
 use Prim.Native.Nat.{ℕ}
 use mathlib.Core.Path.{_≡_, refl, sym, ap, ap₂, _∙_}
 use mathlib.Core.List.{List}

@@ -1,5 +1,5 @@
--- Fields and lost numbers at which another reading of document 02's request 1 was possible, or a mistake would look right: each case
--- says one answer, or the joiner after it. Definitions only.
+-- Fields and lost numbers at a limit, or where a mistake would look right: each case gives the one right answer, or the joiner after it.
+-- Definitions only.
 use Prim.Native.Nat.{ℕ, _+_, _-_}
 use mathlib.Core.Path.{_≡_}
 use mathlib.Core.Bool.{true, false}
@@ -31,44 +31,44 @@ abbrev pub savedPast : Joiner
 savedPast = record { tainted = false; size = frameLimit - 1; frame = fullFrame }
 
 pub record Cases : Type 0 where
-  -- "2 and 4 hand out a good frame; 3 and 5 a bad one", and no frame is open after it
+  -- rules 16.3, 16.4 and 16.7: type 2 returns a good frame and type 5 a bad one, and then the open frame has no octets
   pub good-out : fieldAnswer 2 2 [] (with (0xFF ∷ 0x13 ∷ [])) ≡ done (some (good (0xFF ∷ 0x13 ∷ [])))
   pub bad-out : fieldAnswer 2 5 [] (with (0xFF ∷ 0x13 ∷ [])) ≡ done (some (bad (0xFF ∷ 0x13 ∷ [])))
   pub out-after : joinerAfter 2 2 [] (with (0xFF ∷ 0x13 ∷ [])) ≡ with []
-  -- "A good frame of no octets is dropped"; a bad one is handed out
+  -- rules 16.4, 16.6 and 26.29: a good frame of no octets is dropped, and a bad one is returned
   pub good-empty : fieldAnswer 0 2 [] (with []) ≡ done none
   pub bad-empty : fieldAnswer 0 3 [] (with []) ≡ done (some (bad []))
-  -- "1, 6 or 7 drop what is open"
+  -- rule 16.5: types 1, 6 and 7 drop what is open
   pub drop-1 : joinerAfter 0 1 [] (with (0xFF ∷ [])) ≡ with []
   pub drop-6 : joinerAfter 0 6 (0x11 ∷ []) (with (0xFF ∷ [])) ≡ with []
   pub drop-7 : joinerAfter 0 7 [] (with (0xFF ∷ [])) ≡ with []
-  -- the added types: "to the joiner they are as type 6", v34rate with data or without
+  -- rules 16.5 and 16.11: so do types 8 to 11, type 11 with data or without; type 10 without data is 14
   pub drop-8 : joinerAfter 0 8 (0x11 ∷ []) (with (0xFF ∷ [])) ≡ with []
   pub drop-11 : joinerAfter 0 11 (0x11 ∷ []) (with (0xFF ∷ [])) ≡ with []
   pub drop-11-bare : fieldAnswer 0 11 [] (with (0xFF ∷ [])) ≡ done none
   pub bare-10 : fieldAnswer 0 10 [] (with []) ≡ refuse wrongData
-  -- "A loss taints everything up to and including the next field of types 1 to 5, whose frame is dropped"
+  -- rules 16.8 and 16.10: a lost number taints up to and including the next field of types 1 to 5; types 6 and 11 end no taint
   pub loss-taints : joinerAfterLoss (with (0xFF ∷ [])) ≡ heldAs tainted
   pub tainted-quiet : fieldAnswer frameLimit 2 [] (heldAs tainted) ≡ done none
   pub tainted-ends : joinerAfter frameLimit 2 [] (heldAs tainted) ≡ with []
   pub tainted-goes-on : joinerAfter 0 6 (0x11 ∷ []) (heldAs tainted) ≡ heldAs tainted
   pub tainted-goes-on-11 : joinerAfter 0 11 [] (heldAs tainted) ≡ heldAs tainted
-  -- "While tainted nothing is kept and 18 isn't given"; 12 and 14 are, and end nothing
+  -- rules 16.9, 16.11 and 26.30: while tainted nothing is kept and 18 is not given; 12 and 14 are given, and end no taint
   pub tainted-adds : fieldAnswer 0 0 (0x11 ∷ fullFrame) (heldAs tainted) ≡ done none
   pub tainted-14 : fieldAnswer 0 0 [] (heldAs tainted) ≡ refuse wrongData
   pub tainted-12 : joinerAfter 0 12 [] (heldAs tainted) ≡ heldAs tainted
-  -- "18, the frame would pass 300; it is then tainted in the same way"; data over the packet limit may come
+  -- rules 16.12 and 16.13: a field may have more data than a packet; a frame that would pass 300 octets is 18, and taints the joiner
   pub adds-over-packet : joinerAfter 0 0 (replicate (packetLimit + 1) 0x55) (with []) ≡ with (replicate (packetLimit + 1) 0x55)
   pub adds-last : fieldAnswer 0 0 fullFrame (with []) ≡ done none
   pub adds-over : fieldAnswer 0 0 (0x11 ∷ []) (with fullFrame) ≡ refuse frameTooLong
   pub too-long-taints : joinerAfter 0 0 (0x11 ∷ []) (with fullFrame) ≡ heldAs tainted
-  -- "13 last", and the frame stays open
+  -- rule 16.15: 13 leaves the frame open
   pub no-room : fieldAnswer 1 2 [] (with (0xFF ∷ 0x13 ∷ [])) ≡ refuse noRoom
   pub no-room-stays : joinerAfter 1 2 [] (with (0xFF ∷ 0x13 ∷ [])) ≡ with (0xFF ∷ 0x13 ∷ [])
-  -- "17, a saved joiner with over 300 octets, any while tainted, or octets not zero past its length", to a lost number too, and first
+  -- rules 16.14 and 16.16: over 300 octets, an octet while tainted, or an octet past the length that is not zero, are 17, which comes first
   pub octets-over : lossAnswer savedOver ≡ refuse outsideRanges
   pub octets-tainted : lossAnswer savedTainted ≡ refuse outsideRanges
   pub octets-past : lossAnswer savedPast ≡ refuse outsideRanges
   pub ranges-first : fieldAnswer 0 12 [] savedPast ≡ refuse outsideRanges
-  -- 12: "a type over 11"
+  -- rule 16.11: a type over 11 is 12
   pub type-over : fieldAnswer 0 12 [] (with []) ≡ refuse notAssigned

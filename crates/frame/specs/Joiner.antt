@@ -1,5 +1,4 @@
--- How a joiner is held, and its ranges: document 02, request 1, "Refusals: 17, a saved joiner with over 300 octets, any while
--- tainted, or octets not zero past its length". Definitions only.
+-- How a joiner is stored, and its ranges (rule 16.16). Definitions only.
 use Prim.Native.Nat.{ℕ, _-_}
 use mathlib.Core.Bool.{Bool, true, false, not, cond, _&&_, _||_}
 use mathlib.Core.List.{List, [], _++_}
@@ -13,19 +12,19 @@ use Rattle.frame.specs.declared.Joiner.{Joiner}
 unfoldable pub inStorage : List ℕ → List ℕ
 inStorage frame = frame ++ replicate (frameLimit - length frame) 0
 
--- what is kept, as it is held: while tainted no octets
+-- the joiner that stores what is kept; while tainted it has no octets
 abbrev pub heldAs : Joining → Joiner
 heldAs tainted = record { tainted = true; size = 0; frame = inStorage [] }
 heldAs (opened frame) = record { tainted = false; size = length frame; frame = inStorage frame }
 
--- what a joiner keeps
+-- what a stored joiner keeps
 abbrev pub joiningIn : Bool → ℕ → List ℕ → Joining
 joiningIn taint size storage = cond taint tainted (opened (take size storage))
 
 unfoldable pub joiningOf : Joiner → Joining
 joiningOf j = joiningIn (j .tainted) (j .size) (j .frame)
 
--- ---- the ranges
+-- ---- the ranges (rule 16.16): at most 300 octets, none while tainted, and zeros past the length
 unfoldable pub zerosAfter : List ℕ → ℕ → Bool
 zerosAfter storage size = allBelow frameLimit (λ k. ltb k size || eqb (getD storage k 0) 0)
 

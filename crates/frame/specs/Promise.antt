@@ -1,6 +1,5 @@
--- What each call of a joiner owes: document 02, request 1. Each promise settles the answer, the joiner after and all lent octets,
--- for every joiner of the struct's type and every input. "Refusals: 17, ..; 12 and 14 for a field as in a packet; 18, ..; it is
--- then tainted in the same way, the one refusal that changes state; 13 last." Definitions only.
+-- What each call of a joiner promises (rules 16.11 to 16.16). Each promise settles the answer, the joiner after the call and the caller's
+-- whole buffer, for every joiner of the struct's type and every input. Definitions only.
 use Prim.Native.Nat.{ℕ}
 use mathlib.Core.Path.{_≡_}
 use mathlib.Core.Bool.{Bool, true, not, cond}
@@ -20,13 +19,13 @@ use Rattle.frame.specs.declared.Handed.{Handed}
 use Rattle.frame.specs.declared.Handed.the-variants as handed
 
 -- ---- the answer
--- what is handed out, as an answer tells it: a frame by its size
+-- what an answer reports: nothing, or a good or bad frame by its size
 pub data Told : Type 0 where
   nothing : Told
   goodOf : ℕ → Told
   badOf : ℕ → Told
 
--- each case of the answer, in the documents' number and values
+-- each case of the answer, as the rules' number and values (rule 30.10)
 abbrev pub handedOutcome : Handed → Answer Told
 handedOutcome handed.Nothing = done nothing
 handedOutcome (handed.Good n) = done (goodOf n)
@@ -46,13 +45,13 @@ toldOf (some (bad frame)) = badOf (length frame)
 abbrev pub toldIn : Answer (Option Frame) → Answer Told
 toldIn answer = mapped toldOf answer
 
--- "18 ..; it is then tainted in the same way, the one refusal that changes state"
+-- whether a call changes the joiner: 18 is the only refusal that does (rules 2.25 and 16.13)
 abbrev pub changes : Answer (Option Frame) → Bool
 changes (done frame) = true
 changes (refused r) = eqb (r .number) frameTooLong
 
--- ---- a field, with a lent buffer of so many octets
--- "12 and 14 for a field as in a packet"
+-- ---- a field, with a buffer of `room` octets
+-- its refusals in order: 17, 12, 14, 18, 13 (rule 16.14)
 abbrev pub fieldRows : ℕ → ℕ → List ℕ → Joiner → List (Option ℕ)
 fieldRows room type octets j =
     when (not (joinerInRanges j)) outsideRanges
@@ -74,7 +73,7 @@ pub record FieldOwes (j : Joiner) (type : ℕ) (octets old new : List ℕ) (r : 
   pub lent : new ≡ over (mapped frameOctets (fieldAnswer (length old) type octets j)) old
   pub state : r .joiner ≡ joinerAfter (length old) type octets j
 
--- ---- a lost number
+-- ---- a lost number (rules 16.8 and 16.16)
 unfoldable pub lossAnswer : Joiner → Answer (Option Frame)
 lossAnswer j = unless (when (not (joinerInRanges j)) outsideRanges ∷ []) none
 
@@ -85,6 +84,6 @@ pub record LossOwes (j : Joiner) (r : Joined) : Type 0 where
   pub answer : handedOutcome (r .answer) ≡ toldIn (lossAnswer j)
   pub state : r .joiner ≡ joinerAfterLoss j
 
--- ---- a fresh joiner
+-- ---- a fresh joiner (rule 16.1)
 pub record FreshMade (j : Joiner) : Type 0 where
   pub state : j ≡ heldAs freshJoining

@@ -1,19 +1,18 @@
-// Whole HDLC frames, what they are: document 02, request 1. A joiner is fed one field or one lost number at a time and hands out
-// the sender's frames.
+// What a joiner is (rules 16.1 to 16.19). It is fed one field or one lost number at a time, and returns the sender's whole HDLC frames.
 use length::Refusal;
 ghost use mathlib.Core.Path.{_≡_};
 ghost use Rattle.frame.specs.Frame.{frameLimit};
 ghost use Rattle.frame.specs.Promise.{FreshMade};
 
-// What a joiner keeps: whether it is tainted, and the open frame, its size and its octets. Past the size they are zero.
+// What a joiner keeps: whether it is tainted, and the size and octets of the open frame. Octets past the size are zero (rule 16.16).
 pub struct Joiner {
     pub tainted: bool,
     pub size: u16,
     pub frame: [u8; Joiner::LIMIT],
 }
 
-// What is handed out: nothing, or a good or a bad frame of so many octets, which stand at the front of the lent buffer; or why
-// the call is refused.
+// What a call returns: nothing, or the size of a good or a bad frame, which is at the front of the caller's buffer; or why the call is
+// refused.
 pub enum Handed {
     Nothing,
     Good(usize),
@@ -21,14 +20,14 @@ pub enum Handed {
     Refused(Refusal),
 }
 
-// What a call answers, and the joiner after.
+// What a call returns, and the joiner after it.
 pub struct Joined {
     pub joiner: Joiner,
     pub answer: Handed,
 }
 
 impl Joiner {
-    // "an open frame of up to 300 octets"
+    // The most octets that a frame may have (rule 1.12).
     pub const LIMIT: usize = 300;
 
     pub fn limit() -> usize
@@ -37,7 +36,7 @@ impl Joiner {
         Joiner::LIMIT
     }
 
-    // A joiner that was fed nothing: a frame of no octets is open.
+    // A fresh joiner has an open frame of no octets (rule 16.1).
     pub fn fresh() -> Joiner
         ensures { λ r. ⌜ FreshMade r ⌝ }
     {

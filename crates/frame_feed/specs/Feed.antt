@@ -1,7 +1,5 @@
--- Document 02, request 1, over the receiving session: the numbers that left it, released or lost, as a joiner is fed with them. A packet
--- is read by its kind, as received or as repaired, and by request 11 in the edition that the caller names for it; its fields are fed one by
--- one. If it does not read, in the named edition or since the octet names none, it counts as one lost number, since nothing in it can be
--- trusted. Definitions only.
+-- How the numbers that left a receiving session, released or lost, are fed to a joiner (rules 17.1 to 17.3). A packet that does not read,
+-- or whose octet names no edition, is fed as one lost number, since nothing in it can be trusted. Definitions only.
 use Prim.Native.Nat.{ℕ}
 use mathlib.Core.List.{List, [], _∷_, _++_, map}
 use lib.ListN.{take}
@@ -24,8 +22,8 @@ pub data Heard : Type 0 where
   released : ℕ → State → List ℕ → Heard
   lost : Heard
 
--- what an answer of release hands out, its packet at the front of the lent buffer; a refusal is nothing. "The caller names the edition, old
--- or new, at each packet read"
+-- what release returns, with the packet at the front of the caller's buffer; a refusal is no number. The caller names the edition at each
+-- packet (rule 7.1)
 abbrev pub heardAs : ℕ → ReleaseKind → List ℕ → Heard
 heardAs edition kinds.Received octets = released edition received octets
 heardAs edition kinds.Spare octets = released edition spare octets
@@ -36,7 +34,7 @@ abbrev pub heardFrom : ℕ → Released → List ℕ → List Heard
 heardFrom edition (answer.Number kind number note size) buffer = heardAs edition kind (take size buffer) ∷ []
 heardFrom edition (answer.Refused why) buffer = []
 
--- "A received or spare packet ends at its last field. A repaired one may go on with zeros only"
+-- a packet that was released as repaired is read as repaired, and any other as received (rule 17.1)
 abbrev pub endingOf : State → Ending
 endingOf unknown = Whole
 endingOf received = Whole
@@ -48,7 +46,7 @@ endingOf blank = Whole
 abbrev pub fieldIn : List ℕ → packets.Field → Field
 fieldIn s f = record { type = f .kind; octets = dataOf s f }
 
--- what a packet is that reads so
+-- what a packet is fed as, from its reading: its fields one by one (rule 17.1), or one lost number if it is refused (rule 17.3)
 abbrev pub eventsRead : List ℕ → Answer PacketAnswer → List Event
 eventsRead s (done p) = map (λ f. aField (fieldIn s f)) (p .fields)
 eventsRead s (refused why) = aLoss ∷ []
@@ -57,11 +55,11 @@ unfoldable pub eventsOf : Heard → List Event
 eventsOf (released edition kind octets) = eventsRead octets (byEdition edition (λ e. readPacket e (endingOf kind) octets))
 eventsOf lost = aLoss ∷ []
 
--- all that left, in order
+-- all numbers that left, in order
 unfoldable pub eventsFrom : List Heard → List Event
 eventsFrom [] = []
 eventsFrom (h ∷ heard) = eventsOf h ++ eventsFrom heard
 
--- the frames that it makes, from a fresh joiner on
+-- the frames that a fresh joiner returns for them
 unfoldable pub framesFrom : List Heard → List Frame
 framesFrom heard = handedBy freshJoining (eventsFrom heard)

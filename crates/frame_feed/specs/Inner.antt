@@ -1,4 +1,4 @@
--- What the functions inside this crate owe each other: no part of the meaning. Definitions only.
+-- What the functions inside this crate promise each other. It adds nothing to the meaning. Definitions only.
 use Prim.Native.Nat.{ℕ, _+_, _≤_}
 use mathlib.Core.Path.{_≡_}
 use mathlib.Core.List.{List}

@@ -1,4 +1,4 @@
--- What each call of this crate owes. Definitions only.
+-- What each call of this crate promises (rules 17.1 to 17.3). Definitions only.
 use Prim.Native.Nat.{ℕ}
 use mathlib.Core.Path.{_≡_}
 use mathlib.Core.List.{List}
@@ -12,11 +12,11 @@ use Rattle.frame.specs.declared.Joined.{Joined}
 use Rattle.frame.specs.declared.Handed.the-variants as handed
 use Rattle.frame_feed.specs.Feed.{released, eventsOf}
 
--- what `turns` owes: a turn for each event
+-- what `turns` promises: one turn for each event
 pub record TurnsTold (edition : ℕ) (kind : State) (packet : List ℕ) (r : ℕ) : Type 0 where
   pub answer : r ≡ length (eventsOf (released edition kind packet))
 
--- a lost number is lent a buffer that it leaves; past the last event nothing is done
+-- a lost number leaves the caller's buffer unchanged; past the last event nothing is done
 pub record LossFed (j : Joiner) (old new : List ℕ) (r : Joined) : Type 0 where
   pub owes : LossOwes j r
   pub lent : new ≡ old
@@ -30,6 +30,6 @@ EventOwes (some (aField f)) j old new r = FieldOwes j (f .type) (f .octets) old 
 EventOwes (some aLoss) j old new r = LossFed j old new r
 EventOwes none j old new r = NothingFed j old new r
 
--- what `feed` owes: the event of that turn, fed to the joiner
+-- what `feed` promises: the event of that turn is fed to the joiner
 pub record FeedOwes (j : Joiner) (edition : ℕ) (kind : State) (packet : List ℕ) (turn : ℕ) (old new : List ℕ) (r : Joined) : Type 0 where
   pub owes : EventOwes (getElem? (eventsOf (released edition kind packet)) turn) j old new r

@@ -1,6 +1,6 @@
-// From a receiving session to frames: document 02, request 1, over what release answers. The caller names the edition of the ASN.1 at each
-// packet. One that reads in it is fed to the joiner field by field. One that does not, or for which no edition is named, is fed to it as
-// one lost number. A lost number, which has no octets, is fed alike.
+// From a receiving session to frames: what release returns is fed to a joiner. The caller names the edition at each packet. A packet that
+// reads in it is fed field by field (rule 17.1). A packet that does not read, or for which no edition is named, is fed as one lost number
+// (rule 17.3). A lost number, which has no octets, is fed in the same way (rule 17.2).
 mod turn;
 
 use frame::Handed;
@@ -18,8 +18,8 @@ ghost use Rattle.frame_feed.specs.Feed.{eventsOf, released};
 ghost use Rattle.frame_feed.specs.Promise.{FeedOwes};
 pub use turn::turns;
 
-// The turn-th thing that a number of this kind and packet is to the joiner, from 0: one of its fields, or a loss. Past the last one
-// nothing is done. A frame that ends is written to the front of out.
+// Feeds the joiner with one turn, counted from 0, of a number of this kind and packet: one of its fields, or a lost number. Past the last
+// turn nothing is done. A frame that is returned is written to the front of out.
 pub fn feed(
     joiner: Joiner,
     edition: u8,

@@ -1,4 +1,4 @@
-// What a released packet is to the joiner, turn by turn.
+// What a released packet is fed as, turn by turn (rules 17.1 to 17.3).
 use packet::Ending;
 use packet::Field;
 use packet::PacketReading;
@@ -17,7 +17,7 @@ pub enum Turn {
     Over,
 }
 
-// "packets read as received or as repaired by their kind".
+// A packet that was released as repaired is read as repaired, and any other as received (rule 17.1).
 fn ending_of(kind: ReleaseKind) -> Ending
     ensures { λ r. ⌜ r ≡ endingOf (stateOf kind) ⌝ }
 {
@@ -29,7 +29,7 @@ fn ending_of(kind: ReleaseKind) -> Ending
     }
 }
 
-// How many turns a released packet of this kind takes, in the edition that an octet names.
+// How many turns a released packet of this kind has, in the edition that an octet names: one for each field, or one if it does not read.
 pub fn turns(edition: u8, kind: ReleaseKind, packet: &[u8]) -> usize
     ensures { λ r. ⌜ TurnsTold edition (stateOf kind) (now (packet .entry)) r ⌝ }
 {
@@ -46,7 +46,7 @@ pub fn turns(edition: u8, kind: ReleaseKind, packet: &[u8]) -> usize
     }
 }
 
-// One of them.
+// One of these turns.
 pub fn turn_of(edition: u8, kind: ReleaseKind, packet: &[u8], turn: usize) -> Turn
     ensures { λ r. ⌜ TurnTold edition (stateOf kind) (now (packet .entry)) turn r ⌝ }
 {

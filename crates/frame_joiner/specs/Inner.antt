@@ -1,5 +1,5 @@
--- What the functions inside this crate owe each other and, the last two records, those that lend the open frame: no part of the meaning.
--- Definitions only.
+-- What the functions inside this crate promise each other. The last two records are what `feed` and `taint` promise, whose callers lend
+-- the storage. It adds nothing to the meaning. Definitions only.
 use Prim.Native.Nat.{ℕ, _+_, _-_, _≤_}
 use mathlib.Core.Path.{_≡_}
 use mathlib.Core.Bool.{Bool, true, false, not, cond}
@@ -17,13 +17,13 @@ use Rattle.frame.specs.declared.Handed.{Handed}
 use Rattle.frame.specs.declared.Handed.the-variants as handed
 use Rattle.frame_joiner.specs.declared.inside.Kept.{Kept}
 
--- a frame of this size lies in the storage
+-- the storage holds a frame of this size, and zeros past it (rule 16.16)
 pub record LaidOut (size : ℕ) (storage : List ℕ) : Type 0 where
   pub few : size ≤ frameLimit
   pub long : length storage ≡ frameLimit
   pub clean : storage ≡ inStorage (take size storage)
 
--- the joiner put together again
+-- a joiner made of its parts
 abbrev pub joinerOf : Bool → ℕ → List ℕ → Joiner
 joinerOf taint size storage = record { tainted = taint; size = size; frame = storage }
 
@@ -37,11 +37,11 @@ keptAs taint size answer = record { tainted = taint; size = size; answer = answe
 abbrev pub unchanged : Bool → ℕ → ℕ → Kept
 unchanged taint size number = keptAs taint size (handed.Refused (refusal number))
 
--- a field while tainted
+-- a field while tainted (rules 16.8 and 16.9)
 abbrev pub waited : ℕ → Kept
 waited type = keptAs (not (endsFrame type)) 0 handed.Nothing
 
--- what a function leaves: its answer, the storage and the lent buffer
+-- what a function leaves: its answer, the storage and the caller's buffer
 pub record Remains : Type 0 where
   pub kept : Kept
   pub storage : List ℕ
@@ -50,7 +50,7 @@ pub record Remains : Type 0 where
 abbrev pub leaves : Kept → List ℕ → List ℕ → Remains
 leaves kept storage lent = record { kept = kept; storage = storage; lent = lent }
 
--- octets added to the open frame, or too many
+-- octets are added to the open frame (rule 16.2), or they are too many: 18 (rule 16.13)
 abbrev pub addsTo : ℕ → List ℕ → List ℕ → List ℕ → Remains
 addsTo size octets storage old =
     cond (ltb (frameLimit - size) (length octets)) (leaves (unchanged true 0 frameTooLong) (inStorage []) old)
@@ -59,7 +59,7 @@ addsTo size octets storage old =
 pub record Adds (size : ℕ) (octets storage new : List ℕ) (r : Kept) : Type 0 where
   pub whole : (old : List ℕ) → leaves r new old ≡ addsTo size octets storage old
 
--- the open frame handed out, or no room
+-- the open frame is returned (rules 16.3 and 16.4), or there is no room: 13 (rule 16.15)
 abbrev pub givesTo : ℕ → Handed → List ℕ → List ℕ → Remains
 givesTo size answer storage old =
     cond (ltb (length old) size) (leaves (unchanged false size noRoom) storage old)
@@ -79,7 +79,7 @@ pub record Admitted (size type : ℕ) (octets storage : List ℕ) : Type 0 where
   pub assigned : type ≤ typesLimit joinerEdition
   pub right : rightData joinerEdition type (ltb 0 (length octets)) ≡ true
 
--- the two calls, on what is lent
+-- the two calls, with the storage lent by the caller
 pub record FieldFed (taint : Bool) (size type : ℕ) (octets storage newStorage old new : List ℕ) (r : Kept) : Type 0 where
   pub owes : FieldOwes (joinerOf taint size storage) type octets old new (joinedOf r newStorage)
 

@@ -1,5 +1,5 @@
-// How a joiner's storage is checked, filled and cleared: the storage is lent, tainted and size go by value. `feed` and `taint` take any
-// joiner; the others serve this crate alone.
+// How a joiner's storage is checked, filled and cleared (rules 16.1 to 16.16). The caller lends the storage, and passes `tainted` and
+// `size` by value. `feed` and `taint` take any joiner; the other functions are for this crate only.
 use datagram_writer::put_octets;
 use frame::Handed;
 use frame::Joiner;
@@ -15,14 +15,14 @@ ghost use Rattle.session_slots.specs.Store.{maskOver};
 ghost use Rattle.frame.specs.Joiner.{inStorage, rangesOf};
 ghost use Rattle.frame_joiner.specs.Inner.{LaidOut, Adds, Gives, Drops, Admitted, FieldFed, Taints, unchanged, waited};
 
-// What is left of a joiner beside its storage, and what is answered.
+// A joiner after a call, without its storage, and what the call returns.
 pub struct Kept {
     pub tainted: bool,
     pub size: u16,
     pub answer: Handed,
 }
 
-// The mask of the storage, as a slot has one.
+// The mask of the storage, in the form that `session_slots` uses for a slot.
 fn passing() -> [u8; Joiner::LIMIT + Joiner::LIMIT]
     ensures { λ r. ⌜ r ≡ maskOver frameLimit ⌝ }
 {
@@ -31,7 +31,7 @@ fn passing() -> [u8; Joiner::LIMIT + Joiner::LIMIT]
     table
 }
 
-// "17, a saved joiner with over 300 octets, any while tainted, or octets not zero past its length".
+// The ranges: at most 300 octets, none while tainted, and zeros past the length (rule 16.16).
 fn in_ranges(tainted: bool, size: usize, frame: &[u8]) -> bool
     requires { ⌜ length (now frame) ≡ frameLimit ⌝ }
     ensures { λ r. ⌜ r ≡ rangesOf tainted size (now (frame .entry)) ⌝ }
@@ -45,7 +45,7 @@ fn in_ranges(tainted: bool, size: usize, frame: &[u8]) -> bool
     bare & clean
 }
 
-// Zeros in place of the open frame.
+// Sets the octets of the open frame to zero.
 fn clear(frame: &mut [u8], size: usize)
     requires { ⌜ LaidOut size (now frame) ⌝ }
     ensures { λ _. ⌜ now (frame .exit) ≡ inStorage [] ⌝ }
@@ -53,7 +53,7 @@ fn clear(frame: &mut [u8], size: usize)
     session_slots::clear_run(&mut frame[..size]);
 }
 
-// "2 and 4 hand out a good frame; 3 and 5 a bad one".
+// Types 2 and 4 return a good frame (rule 16.3), types 3 and 5 a bad one (rule 16.4).
 fn hands_good(kind: u8) -> bool
     ensures { λ r. ⌜ r ≡ handsGood kind ⌝ }
 {
@@ -66,7 +66,7 @@ fn hands_bad(kind: u8) -> bool
     (kind == 3) | (kind == 5)
 }
 
-// A field of types 1 to 5.
+// Types 1 to 5, which end a taint (rule 16.8).
 fn ends_frame(kind: u8) -> bool
     ensures { λ r. ⌜ r ≡ endsFrame kind ⌝ }
 {
@@ -85,7 +85,7 @@ fn refused(tainted: bool, size: u16, number: u8) -> Kept
     }
 }
 
-// A field while tainted: "While tainted nothing is kept and 18 isn't given".
+// A field while tainted: nothing is kept or returned (rule 16.9).
 fn wait(kind: u8) -> Kept
     ensures { λ r. ⌜ r ≡ waited kind ⌝ }
 {
@@ -97,7 +97,7 @@ fn wait(kind: u8) -> Kept
     }
 }
 
-// "Type 0 adds", and "18, the frame would pass 300; it is then tainted in the same way".
+// Type 0 adds its data (rule 16.2). If the frame would pass 300 octets, it is 18 and the joiner is tainted (rule 16.13).
 fn add(size: usize, frame: &mut [u8], octets: &[u8]) -> Kept
     requires { ⌜ LaidOut size (now frame) ⌝ }
     ensures { λ r. ⌜ Adds size (now (octets .entry)) (now (frame .entry)) (now (frame .exit)) r ⌝ }
@@ -115,7 +115,8 @@ fn add(size: usize, frame: &mut [u8], octets: &[u8]) -> Kept
     }
 }
 
-// The open frame, handed out with this answer to the front of out; then none is open. Without room it stays open: 13.
+// Writes the open frame to the front of out and returns this answer; then the open frame has no octets (rule 16.7). Without room it is 13,
+// and the frame stays open (rule 16.15).
 fn give(size: usize, frame: &mut [u8], answer: Handed, out: &mut [u8]) -> Kept
     requires { ⌜ LaidOut size (now frame) ⌝ }
     ensures { λ r. ⌜ Gives size answer (now (frame .entry)) (now (frame .exit)) (now (out .entry)) (now (out .exit)) r ⌝ }
@@ -132,7 +133,7 @@ fn give(size: usize, frame: &mut [u8], answer: Handed, out: &mut [u8]) -> Kept
     }
 }
 
-// What is open, dropped.
+// Drops what is open (rules 16.5 and 16.8).
 fn drop_open(size: usize, frame: &mut [u8], tainted: bool) -> Kept
     requires { ⌜ LaidOut size (now frame) ⌝ }
     ensures { λ r. ⌜ Drops tainted (now (frame .exit)) r ⌝ }
@@ -145,7 +146,7 @@ fn drop_open(size: usize, frame: &mut [u8], tainted: bool) -> Kept
     }
 }
 
-// A field of an open frame.
+// A field while the joiner is not tainted (rules 16.2 to 16.7).
 fn join(size: usize, frame: &mut [u8], kind: u8, octets: &[u8], out: &mut [u8]) -> Kept
     requires { ⌜ Admitted size kind (now octets) (now frame) ⌝ }
     ensures { λ r. ⌜ FieldFed false size kind (now (octets .entry)) (now (frame .entry)) (now (frame .exit)) (now (out .entry))
@@ -163,7 +164,7 @@ fn join(size: usize, frame: &mut [u8], kind: u8, octets: &[u8], out: &mut [u8]) 
     drop_open(size, frame, false)
 }
 
-// One field, in the order of the refusals: 17, 12, 14, then 18 or 13.
+// One field, with the refusals in the order 17, 12, 14, then 18 or 13 (rule 16.14).
 pub fn feed(
     tainted: bool,
     size: u16,
@@ -191,7 +192,7 @@ pub fn feed(
     join(n, frame, kind, octets, out)
 }
 
-// One lost number: what is open is dropped, and the joiner is tainted.
+// One lost number: what is open is dropped, and the joiner is tainted (rule 16.8).
 pub fn taint(tainted: bool, size: u16, frame: &mut [u8; Joiner::LIMIT]) -> Kept
     ensures { λ r. ⌜ Taints tainted size (now (frame .entry)) (now (frame .exit)) r ⌝ }
 {

@@ -1,5 +1,5 @@
-// The calls of a joiner: document 02, request 1, as `frame` defines it. A joiner goes in by value and comes back by value with the
-// answer; any saved one may be handed in. `feed` and `taint` are the same calls with the open frame lent.
+// The calls of a joiner, as `frame` defines them (rules 16.1 to 16.16). A call takes a joiner by value, any saved one too, and returns it
+// by value with the answer. `feed` and `taint` are the same calls for a caller that lends the storage.
 mod inside;
 
 use frame::Joined;
@@ -9,8 +9,8 @@ pub use inside::feed;
 pub use inside::taint;
 ghost use Rattle.frame.specs.Promise.{FieldOwes, LossOwes};
 
-// One field of a packet: its type, and its data, of which there are no octets if it has none. A frame that it ends is written to
-// the front of out.
+// One field of a packet: its type, and the octets of its data, none if it has no data. A frame that it returns is written to the front of
+// out (rules 16.3 and 16.4).
 pub fn field(joiner: Joiner, kind: u8, octets: &[u8], out: &mut [u8]) -> Joined
     ensures { λ r. ⌜ FieldOwes joiner kind (now (octets .entry)) (now (out .entry)) (now (out .exit)) r ⌝ }
 {
@@ -31,7 +31,7 @@ pub fn field(joiner: Joiner, kind: u8, octets: &[u8], out: &mut [u8]) -> Joined
     }
 }
 
-// One lost number.
+// One lost number (rule 16.8).
 pub fn lost(joiner: Joiner) -> Joined
     ensures { λ r. ⌜ LossOwes joiner r ⌝ }
 {

@@ -1,5 +1,5 @@
--- What the program owes beside being safe and ending: which session it begins with, and of which session it leaves an image. Definitions
--- only.
+-- What the program promises beyond safety and termination: which session it begins with, and of which session it leaves an image (rule
+-- 20.23). Definitions only.
 use Prim.Native.Nat.{ℕ}
 use mathlib.Core.Path.{_≡_}
 use mathlib.Core.Bool.{true}
@@ -15,12 +15,12 @@ use Rattle.program_loop.specs.Promise.{Serves}
 use Rattle.handover.specs.declared.loading.Begun.{Begun}
 use Rattle.handover.specs.declared.playing.Played.{Played}
 
--- if all is well the text is an image, of this session; it may be served in any case
+-- if nothing went wrong, the text is an image of this session; the session is within its ranges in any case
 pub record BeginsWith (text : List ℕ) (r : Begun) : Type 0 where
   pub state : r .well ≡ true → readText text ≡ done (viewOf (r .session))
   pub within : InRanges (lentBy (r .session))
 
--- the run from a session on, and the image of the very session that it ends with
+-- the run from a session on, and the image of the session that it ends with
 pub record RunsFrom (first : View) (old new : List ℕ) (r : Played) : Type 0 where
   pub last : Lent
   pub serves : Serves first last (r .taken) (r .handed) (r .whole)

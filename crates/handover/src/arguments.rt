@@ -1,6 +1,6 @@
-// The words behind the program's name: --load and --save, each at most once and with its FILE behind it.
+// The arguments: --load and --save, each at most once and followed by its FILE.
 
-// Where the FILE of each stands among the arguments, NONE where it is not asked for; and whether nothing else stands there.
+// The place of each FILE among the arguments, NONE if it is not given; and whether there is no other argument.
 pub struct Files {
     pub load: usize,
     pub save: usize,
@@ -10,7 +10,7 @@ pub struct Files {
 // The place of the program's own name.
 pub const NONE: usize = 0;
 
-// The characters of a word that are looked at.
+// How many characters of an argument are compared with a word.
 const LONGEST: usize = 16;
 
 // Whether the argument at a place is this word.

@@ -11,7 +11,7 @@ ghost use Rattle.session_held.specs.Table.{lentBy};
 ghost use Rattle.session_held.specs.Laid.{InRanges};
 ghost use Rattle.handover.specs.Promise.{BeginsWith};
 
-// What is read of a file: one character more than an image has, by which a text that is too long is known.
+// What is read of a file: one character more than the longest image, just enough to know that a text is too long.
 const TEXT: usize = Image::LIMIT + 1;
 
 // The session, and whether nothing went wrong.
@@ -27,7 +27,7 @@ fn fresh(well: bool) -> Begun
     Begun { session, well }
 }
 
-// The session that a text is an image of; a fresh one where it is none.
+// The session that a text is an image of; a fresh one if the text is no image.
 fn restored(path: &[u8], text: &[u8]) -> Begun
     ensures { λ r. ⌜ BeginsWith (now (text .entry)) r ⌝ }
 {
@@ -49,7 +49,7 @@ fn restored(path: &[u8], text: &[u8]) -> Begun
     }
 }
 
-// .. in a file, with room for its text.
+// The session of the image in a file; `text` has room for the image.
 fn load(path: &[u8], text: &mut [u8]) -> Begun
     ensures { λ r. ⌜ InRanges (lentBy (r .session)) ⌝ }
 {

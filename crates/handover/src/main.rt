@@ -1,7 +1,7 @@
-// Document 02, request 9, "Hand a call to the other adapter": `handover [--load FILE] [--save FILE]` is the program of document 01 that
-// begins with the session of an image and leaves an image of the session at the end of its input. Without --load it begins with a fresh
-// session, without --save it leaves none. What goes wrong is said in one line on standard error. Where an image cannot be loaded, or its
-// file not be written, nothing is played; and no image is left of a run whose results could not all be written.
+// `handover [--load FILE] [--save FILE]` is the program that begins with the session of an image and leaves an image of the session at the
+// end of its input (rules 20.23 to 20.26). Without --load it begins with a fresh session, without --save it leaves no image. It reports
+// what goes wrong in one line on standard error. If an image cannot be loaded, or its file cannot be written, the program reads no line; if
+// its results cannot all be written, it leaves no image.
 mod arguments;
 mod loading;
 mod playing;
@@ -18,7 +18,7 @@ use telling::say;
 ghost use Rattle.session_held.specs.Table.{lentBy};
 ghost use Rattle.session_held.specs.Laid.{InRanges};
 
-// From a session on, with an image at the end if its file is named among the arguments.
+// Runs from a session on, and leaves an image at the end if the arguments name its file.
 fn run(session: Session, save: usize)
     requires { ⌜ InRanges (lentBy session) ⌝ }
 {

@@ -5,7 +5,8 @@ ghost use Rattle.session_held.specs.Table.{lentBy, viewOf};
 ghost use Rattle.session_held.specs.Laid.{InRanges};
 ghost use Rattle.handover.specs.Promise.{RunsFrom};
 
-// How many octets were read and how many handed over, whether the end was reached with all written, and what writing the image answers.
+// How many octets were read and how many passed to `write`, whether all results were written up to the end of the input, and what the image
+// writer returned.
 pub struct Played {
     pub taken: usize,
     pub handed: usize,

@@ -1,5 +1,5 @@
-// The image in a file. It is written to a file beside it, which then takes its name: so the file has the old image or the new one, and
-// never a part of one.
+// The image in a file. It is written to another file beside it, which is then renamed: so the file has the old image or the new one, and
+// never a part of one (rule 20.26).
 use crate::playing::Played;
 use crate::playing::play;
 use crate::telling::say_failed;
@@ -11,10 +11,11 @@ use session_held::Session;
 ghost use Rattle.session_held.specs.Table.{lentBy};
 ghost use Rattle.session_held.specs.Laid.{InRanges};
 
-// The longest name that has room for more behind it.
+// The longest name to which a suffix can be added.
 const LONGEST: usize = PATH_MAX - 4;
 
-// The name of the file beside one whose name has so many characters, and how long it is. Of one that is too long no name is made.
+// Makes the name of the file beside one whose name has `size` characters, and returns its length. A name that is too long is left
+// unchanged.
 pub fn name_beside(path: &mut [u8; PATH_MAX], size: usize) -> usize {
     if LONGEST < size {
         return PATH_MAX;
@@ -26,7 +27,7 @@ pub fn name_beside(path: &mut [u8; PATH_MAX], size: usize) -> usize {
     size + 4
 }
 
-// So many from the front, or none where there are fewer.
+// The first `size` octets, or none if there are fewer.
 fn front(s: &[u8], size: usize) -> &[u8] {
     if size <= s.len() {
         let start = 0;
@@ -35,8 +36,8 @@ fn front(s: &[u8], size: usize) -> &[u8] {
     &s[..0]
 }
 
-// Whether a file can be replaced: there is none of that name, or one that may be written and is on a disk. A device or a pipe has nothing
-// to bring to its disk, and is not replaced.
+// Whether a file can be replaced: there is none of that name, or it can be written and is on a disk. A device or a pipe cannot be synced to
+// a disk, and is not replaced.
 fn replaceable(path: &[u8]) -> bool {
     let file = os::open_update(path);
     if file < 0 {
@@ -47,7 +48,7 @@ fn replaceable(path: &[u8]) -> bool {
     on_disk
 }
 
-// Makes the file beside it: its descriptor, or less than 0 where the file cannot be written.
+// Creates the file beside it, and returns its descriptor, or less than 0 if the file cannot be written.
 fn open_beside(path: &[u8], beside: &[u8]) -> i32 {
     if !replaceable(path) {
         return -1;
@@ -55,7 +56,7 @@ fn open_beside(path: &[u8], beside: &[u8]) -> i32 {
     os::open_overwrite(beside)
 }
 
-// Whether a text is in the file.
+// Writes a text to the file, and returns whether all of it is on the disk.
 fn put(file: i32, text: &[u8]) -> bool {
     if !io::write_all(file, text) {
         return false;
@@ -63,7 +64,7 @@ fn put(file: i32, text: &[u8]) -> bool {
     libc::fsync(file) == 0
 }
 
-// Whether the image of a run is in the file. It is never refused: the session is within its ranges, and there is room for any image.
+// Writes the image of a run to the file. Its writer never refuses: the session is within its ranges, and there is room for any image.
 fn put_image(file: i32, played: Played, image: &[u8]) -> bool {
     let written = played.image;
     match written {
@@ -72,7 +73,8 @@ fn put_image(file: i32, played: Played, image: &[u8]) -> bool {
     }
 }
 
-// From a session on, and the image at the end to the file of that name, by way of the one beside it, whose name has so many characters.
+// Runs from a session on, and saves the image at the end in the file at `path`, by way of the file beside it, whose name has `size`
+// characters.
 pub fn play_and_save(session: Session, path: &[u8], name: &[u8; PATH_MAX], size: usize)
     requires { ⌜ InRanges (lentBy session) ⌝ }
 {

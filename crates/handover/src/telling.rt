@@ -1,4 +1,4 @@
-// What is said on standard error.
+// What the program writes on standard error (rule 20.24).
 use length::Refusal;
 use libc::STDERR_FILENO;
 
@@ -6,7 +6,7 @@ pub fn say(text: &[u8]) {
     io::write_all(STDERR_FILENO, text);
 }
 
-// What went wrong with a file, and the system's own word for it.
+// What went wrong with a file, and the system's own message for it.
 pub fn say_failed(path: &[u8], what: &[u8]) {
     say(b"handover: ");
     say(path);

@@ -1,5 +1,5 @@
--- What the host's calls hand over: a text that a write put into a buffer reads back as the very session, and a buffer for the longest image
--- is room for every one. Assumes nothing.
+-- Images that the host's calls write and read: a text that a write put into a buffer reads back as the same session, and a buffer of the
+-- length of the longest image is large enough for any image. Assumes nothing.
 use Prim.Native.Nat.{ℕ, _≤_}
 use mathlib.Core.Path.{_≡_, refl, sym, ap, ap₂, subst, _∙_}
 use mathlib.Core.Bool.{Bool, true, false}
@@ -33,7 +33,7 @@ use Rattle.host_answers.specs.declared.answers.Wrote.{Wrote}
 use Rattle.host.specs.declared.receiver.Head.{Head}
 use Rattle.host.specs.declared.image_calls.AfterRestore.{AfterRestore}
 
--- ---- what a write tells
+-- ---- what follows from the answer of a write
 -- by a session within its ranges, and by another
 to-write : (s : Session) → sessionInRanges s ≡ true → imageToWrite imageVersion02 (lentBy s) ≡ done (imageText imageVersion02 (viewOf s))
 unfolding imageToWrite unless
@@ -46,7 +46,7 @@ none-to-write s outside = rw outside
 abbrev toldOf : Session → List ℕ → Wrote
 toldOf s old = wroteTold (sizeOf (fitted (imageToWrite imageVersion02 (lentBy s)) old))
 
--- told as done, the session is within its ranges, and there was room
+-- if it is done, the session is within its ranges, and there was room
 done-inside : (s : Session) (old : List ℕ) → (toldOf s old) .refusal ≡ 0 → sessionInRanges s ≡ true
 done-inside s old told-done = by (sessionInRanges s) refl
   where
@@ -94,7 +94,7 @@ module _ (s : Session) (within : InRanges (lentBy s)) (small : LentOctets (lentB
         session-same after s (seen .within) within (seen .view),
       )
 
--- ---- room for every image
+-- ---- room for any image
 room-enough : (s : Session) (old : List ℕ) → Sized s → LentOctets (lentBy s) → imageLimit packetLimit ≤ length old
     → (toldOf s old) .refusal ≡ noRoom → ⊥
 room-enough s old sized small room short = by (sessionInRanges s) refl

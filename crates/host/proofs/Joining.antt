@@ -1,4 +1,4 @@
--- The host's calls on a joiner, on plain values: what the library's call owes, told in numbers. Assumes nothing.
+-- The host's calls on a joiner, on plain values: what the library's call promises, encoded as numbers. Assumes nothing.
 use Prim.Native.Nat.{ℕ}
 use mathlib.Core.Path.{_≡_, refl, sym, ap, ap₂, _∙_}
 use mathlib.Core.Bool.{Bool, true, false}
@@ -14,7 +14,7 @@ use Rattle.host_answers.specs.declared.joiner.HandedFrame.{HandedFrame}
 use Rattle.host.specs.Joiner.{memoryOf, inMemory, fieldJoined, memoryAfter, lossIn, memoryAfterLoss}
 use Rattle.host.specs.Joiner.{FieldHosted, LossHosted, JoinerMade, KeptTold}
 
--- ---- what is told
+-- ---- the answer encoded as numbers
 pub kept-told : {k : Kept} {tainted : ℕ} {frame : HandedFrame} → tainted ≡ flagOf (k .tainted) → FrameTold (k .answer) frame
     → KeptTold k (record { head = record { tainted = tainted; size = k .size }; frame = frame })
 kept-told e told = record { tainted = e; size = refl; frame = told .is }

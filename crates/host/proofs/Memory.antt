@@ -1,4 +1,4 @@
--- What stands in the host's memory: one session, one memory. Assumes nothing.
+-- What is in the caller's memory: one session, one memory. Assumes nothing.
 use Prim.Native.Nat.{ℕ}
 use mathlib.Core.Path.{_≡_, ap}
 use mathlib.Core.List.{List}

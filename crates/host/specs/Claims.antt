@@ -1,4 +1,5 @@
--- The claims of the host's calls: statements alone. Two outcomes that a promise allows are equal, in the answer and in all lent memory.
+-- The claims about the calls from C: two outcomes that a promise allows are equal, in the answer and in all of the caller's memory (rules
+-- 24.11 and 28.14). Statements only.
 use Prim.Native.Nat.{ℕ}
 use mathlib.Core.Path.{_≡_}
 use mathlib.Core.Bool.{Bool}
@@ -27,7 +28,7 @@ pub record OneOutcome : Type 0 where
       → ReleaseHosted leave h t o g old t₂ o₂ g₂ new₂ r → ReleaseHosted leave h t o g old t₃ o₃ g₃ new₃ q
       → (r ≡ q) × (t₂ ≡ t₃) × (o₂ ≡ o₃) × (g₂ ≡ g₃) × (new₂ ≡ new₃)
 
--- the same of a sending session
+-- the same for a sending session
 pub record OneSent : Type 0 where
   pub fresh : {r q : ℕ} {sizes o sizes₂ o₂ : List ℕ} → SenderMade (senderIn r sizes o) → SenderMade (senderIn q sizes₂ o₂)
       → (r ≡ q) × (sizes ≡ sizes₂) × (o ≡ o₂)

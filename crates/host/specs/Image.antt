@@ -1,5 +1,5 @@
--- What the calls of a C host on images owe: what the library's own calls owe, of the session that stands in the lent memory. Definitions
--- only.
+-- What the calls from C on images promise: what the library's own calls promise, for the session in the caller's memory (rules 20.18,
+-- 20.19, 24.3 and 24.11). Definitions only.
 use Prim.Native.Nat.{ℕ}
 use mathlib.Core.Path.{_≡_}
 use mathlib.Core.List.{List}
@@ -14,12 +14,12 @@ use Rattle.host_answers.specs.declared.answers.Wrote.{Wrote}
 use Rattle.host.specs.declared.receiver.Head.{Head}
 use Rattle.host.specs.declared.image_calls.AfterRestore.{AfterRestore}
 
--- ---- write: the session's image to the front of a lent buffer
+-- ---- write: the session's image to the front of the caller's buffer (rules 20.8 and 20.19)
 pub record ImageHosted (h : Head) (t o g old new : List ℕ) (r : Wrote) : Type 0 where
   pub answer : r ≡ wroteTold (sizeOf (fitted (imageToWrite versionWritten (lentBy (sessionIn h t o g))) old))
   pub lent : new ≡ over (fitted (imageToWrite versionWritten (lentBy (sessionIn h t o g))) old) old
 
--- ---- read: the session that the text is an image of, within its ranges; of a refused text the memory is as it was
+-- ---- read: the session that the text is an image of, within its ranges; if the text is refused, the memory is unchanged (rule 20.18)
 pub record RestoreHosted (text : List ℕ) (h : Head) (t o g t₂ o₂ g₂ : List ℕ) (r : AfterRestore) : Type 0 where
   pub answer : r .answer ≡ told (readText text)
   pub state : After (readText text) (sessionIn h t o g) (sessionIn (r .head) t₂ o₂ g₂)

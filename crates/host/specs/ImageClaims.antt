@@ -1,4 +1,4 @@
--- The claims of the host's calls on images: statements alone.
+-- The claims about the calls from C on images. Statements only.
 use Prim.Native.Nat.{ℕ, _≤_}
 use mathlib.Core.Path.{_≡_}
 use mathlib.Core.List.{List}
@@ -14,7 +14,7 @@ use Rattle.host_answers.specs.declared.answers.Wrote.{Wrote}
 use Rattle.host.specs.declared.receiver.Head.{Head}
 use Rattle.host.specs.declared.image_calls.AfterRestore.{AfterRestore}
 
--- two outcomes that a promise allows are equal, in the answer and in all lent memory
+-- two outcomes that a promise allows are equal, in the answer and in all of the caller's memory (rule 28.14)
 pub record OneRestored : Type 0 where
   pub write : {h : Head} {t o g old new₂ new₃ : List ℕ} {r q : Wrote}
       → ImageHosted h t o g old new₂ r → ImageHosted h t o g old new₃ q → (r ≡ q) × (new₂ ≡ new₃)
@@ -22,8 +22,8 @@ pub record OneRestored : Type 0 where
       → RestoreHosted text h t o g t₂ o₂ g₂ r → RestoreHosted text h t o g t₃ o₃ g₃ q
       → (r ≡ q) × (t₂ ≡ t₃) × (o₂ ≡ o₃) × (g₂ ≡ g₃)
 
--- "Reading it back gives the equal session": what a write put into a buffer, read into any memory, is the very session; and a buffer for
--- the longest image is room for every one
+-- an image that was written reads back into any memory as the same session (rules 20.11 and 24.12), and a buffer of the length of the
+-- longest image is large enough for any image (rules 20.20 and 24.13)
 pub record HandedOver : Type 0 where
   pub back : {h k : Head} {t o g old new t₁ o₁ g₁ t₂ o₂ g₂ : List ℕ} {w : Wrote} {r : AfterRestore}
       → Sized (sessionIn h t o g) → LentOctets (lentBy (sessionIn h t o g)) → ImageHosted h t o g old new w → w .refusal ≡ 0

@@ -1,5 +1,6 @@
--- What the calls of a C host on a joiner owe: what the library's own calls owe, of the joiner that stands in the lent memory, told in
--- numbers. An octet over 1 in the place of tainted is outside the ranges: 17, before all else. Definitions only.
+-- What the calls from C on a joiner promise: what the library's own calls promise, for the joiner in the caller's memory, encoded as
+-- numbers (rules 24.8, 24.9 and 24.11). If `tainted` is an octet over 1, the joiner is outside its ranges: 17, before all else (rule 24.6).
+-- Definitions only.
 use Prim.Native.Nat.{ℕ}
 use mathlib.Core.Path.{_≡_}
 use mathlib.Core.Bool.{Bool, cond}
@@ -19,7 +20,7 @@ use Rattle.host_answers.specs.Joiner.{flagOf, frameTold}
 use Rattle.host_answers.specs.declared.joiner.AfterField.{AfterField}
 use Rattle.host_answers.specs.declared.joiner.JoinerHead.{JoinerHead}
 
--- ---- the host's memory
+-- ---- the caller's memory
 -- tainted, the size of the open frame, and its octets
 pub record Memory : Type 0 where
   pub tainted : ℕ
@@ -29,19 +30,19 @@ pub record Memory : Type 0 where
 abbrev pub memoryOf : ℕ → ℕ → List ℕ → Memory
 memoryOf tainted size frame = record { tainted = tainted; size = size; frame = frame }
 
--- a joiner as it stands there
+-- a joiner as it is stored there
 abbrev pub inMemory : Joiner → Memory
 inMemory j = memoryOf (flagOf (j .tainted)) (j .size) (j .frame)
 
--- the joiner that stands there
+-- the joiner that is stored there
 abbrev pub joinerIn : Memory → Joiner
 joinerIn m = record { tainted = eqb (m .tainted) 1; size = m .size; frame = m .frame }
 
--- tainted is neither 0 nor 1
+-- `tainted` is neither 0 nor 1 (rule 24.6)
 abbrev pub noFlag : Memory → Bool
 noFlag m = ltb 1 (m .tainted)
 
--- ---- one field: the memory and the lent buffer before it, the frame and the buffer after it
+-- ---- one field: the memory and the caller's buffer before it, the frame and the buffer after it (rules 16.2 to 16.16)
 unfoldable pub fieldJoined : ℕ → ℕ → List ℕ → Memory → Answer (Option Frame)
 fieldJoined room type octets m = cond (noFlag m) (refuse outsideRanges) (fieldAnswer room type octets (joinerIn m))
 
@@ -53,7 +54,7 @@ pub record FieldHosted (type : ℕ) (octets : List ℕ) (before : Memory) (old f
   pub lent : new ≡ over (mapped frameOctets (fieldJoined (length old) type octets before)) old
   pub state : memoryOf (r .head .tainted) (r .head .size) frame ≡ memoryAfter (length old) type octets before
 
--- ---- one lost number
+-- ---- one lost number (rules 16.8 and 16.16)
 unfoldable pub lossIn : Memory → Answer (Option Frame)
 lossIn m = cond (noFlag m) (refuse outsideRanges) (lossAnswer (joinerIn m))
 
@@ -64,11 +65,11 @@ pub record LossHosted (before : Memory) (frame : List ℕ) (r : AfterField) : Ty
   pub answer : r .frame ≡ frameTold (toldIn (lossIn before))
   pub state : memoryOf (r .head .tainted) (r .head .size) frame ≡ memoryAfterLoss before
 
--- ---- a fresh joiner
+-- ---- a fresh joiner (rules 16.1 and 24.18)
 pub record JoinerMade (frame : List ℕ) (r : JoinerHead) : Type 0 where
   pub state : memoryOf (r .tainted) (r .size) frame ≡ inMemory (heldAs freshJoining)
 
--- ---- what the answer is told from
+-- ---- the library's answer encoded as numbers
 pub record KeptTold (from : Kept) (r : AfterField) : Type 0 where
   pub tainted : r .head .tainted ≡ flagOf (from .tainted)
   pub size : r .head .size ≡ from .size

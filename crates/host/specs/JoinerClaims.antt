@@ -1,4 +1,4 @@
--- The claims of the host's calls on a joiner: statements alone. Definitions only.
+-- The claims about the calls from C on a joiner. Statements only.
 use Prim.Native.Nat.{ℕ}
 use mathlib.Core.Path.{_≡_}
 use mathlib.Core.List.{List}
@@ -9,7 +9,7 @@ use Rattle.host.specs.Joiner.{Memory, memoryOf, inMemory, JoinerMade, Fi
 use Rattle.host_answers.specs.declared.joiner.AfterField.{AfterField}
 use Rattle.host_answers.specs.declared.joiner.JoinerHead.{JoinerHead}
 
--- two outcomes that a promise allows are equal, in the answer and in all lent memory
+-- two outcomes that a promise allows are equal, in the answer and in all of the caller's memory (rule 28.14)
 pub record OneJoined : Type 0 where
   pub fresh : {frame other : List ℕ} {r q : JoinerHead} → JoinerMade frame r → JoinerMade other q → (r ≡ q) × (frame ≡ other)
   pub field : {type : ℕ} {octets : List ℕ} {before : Memory} {old frame new frame₂ new₂ : List ℕ} {r q : AfterField}
@@ -18,7 +18,8 @@ pub record OneJoined : Type 0 where
   pub lost : {before : Memory} {frame frame₂ : List ℕ} {r q : AfterField} → LossHosted before frame r → LossHosted before frame₂ q
       → (r ≡ q) × (frame ≡ frame₂)
 
--- a refusal leaves the joiner's memory and the lent buffer as they were; after 18 a tainted joiner stands in the memory
+-- a refusal leaves the joiner's memory and the caller's buffer unchanged, except that 18 leaves a tainted joiner in the memory (rules 16.13
+-- and 24.9)
 pub record RefusalsLeave : Type 0 where
   pub field : {type : ℕ} {octets : List ℕ} {before : Memory} {old frame new : List ℕ} {r : AfterField}
       → FieldHosted type octets before old frame new r → (r .frame .refusal ≡ 0 → ⊥) → (r .frame .refusal ≡ frameTooLong → ⊥)

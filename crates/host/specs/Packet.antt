@@ -1,5 +1,6 @@
--- What the calls of a C host on packets owe: what `packet_reader::read` and `packet_writer::write` owe, told in numbers. No enum crosses
--- to C: a kind is an octet, 0 for an indicator and 1 for data, and how a packet came is whether it was repaired. Definitions only.
+-- What the calls from C on packets promise: what `packet_reader::read` and `packet_writer::write` promise, encoded as numbers (rule 24.11).
+-- No enum is passed to or from C: a kind is the octet 0 for an indicator or 1 for data (rule 24.5), and a bool says whether the packet was
+-- repaired. Definitions only.
 use Prim.Native.Nat.{ℕ}
 use mathlib.Core.Path.{_≡_}
 use mathlib.Core.Bool.{Bool, cond}
@@ -16,7 +17,7 @@ use Rattle.host_answers.specs.Packet.{endingNamed, kindNamed, packetTold}
 use Rattle.host_answers.specs.declared.answers.Wrote.{Wrote}
 use Rattle.host_answers.specs.declared.packet_answers.PacketFound.{PacketFound}
 
--- 15, "settings outside the sizes", for an octet that names no kind, before all else; another edition is 15 too
+-- 15 for an octet that names no kind, before all else (rule 24.5); another edition is 15 too (rule 7.2)
 abbrev pub byKind : {A : Type 0} → ℕ → (PacketKind → Answer A) → Answer A
 byKind octet answer = cond (ltb 1 octet) (refuse wrongSettings) (answer (kindNamed octet))
 
@@ -24,7 +25,7 @@ byKind octet answer = cond (ltb 1 octet) (refuse wrongSettings) (answer (kindNam
 pub record PacketHosted (edition : ℕ) (repaired : Bool) (octets : List ℕ) (r : PacketFound) : Type 0 where
   pub answer : r ≡ packetTold (byEdition edition (λ e. readPacket e (endingNamed repaired) octets))
 
--- ---- write: the octets of the packet that is asked for, or why it is refused, but for room
+-- ---- write: the octets of the packet, or the refusal without 13 (rule 6.20)
 unfoldable pub packetAsked : ℕ → ℕ → ℕ → List ℕ → List ℕ → List ℕ → Answer (List ℕ)
 packetAsked edition kind value types lengths octets =
     byKind kind (λ k. byEdition edition (λ e. packetToWrite e k value types lengths octets))

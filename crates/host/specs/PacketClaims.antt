@@ -1,5 +1,5 @@
--- The claims of the host's calls on packets: statements alone. Two outcomes that a promise allows are equal, in the answer and in all lent
--- memory.
+-- The claims about the calls from C on packets: two outcomes that a promise allows are equal, in the answer and in all of the caller's
+-- memory (rule 28.14). Statements only.
 use Prim.Native.Nat.{ℕ}
 use mathlib.Core.Path.{_≡_}
 use mathlib.Core.Bool.{Bool}

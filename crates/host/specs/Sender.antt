@@ -1,5 +1,5 @@
--- What the calls of a C host on a sending session owe: what the library's own calls owe, of the session that stands in the lent memory.
--- Definitions only.
+-- What the calls from C on a sending session promise: what the library's own calls promise, for the session in the caller's memory (rules
+-- 24.3, 24.4, 24.10 and 24.11). Definitions only.
 use Prim.Native.Nat.{ℕ}
 use mathlib.Core.Path.{_≡_}
 use mathlib.Core.Bool.{Bool}
@@ -13,16 +13,16 @@ use Rattle.host_answers.specs.Answers.{wroteTold}
 use Rattle.host_answers.specs.Settings.{settingsOf}
 use Rattle.host.specs.declared.send_calls.AfterSend.{AfterSend}
 
--- the session that stands in the host's memory
+-- the session in the caller's memory
 abbrev pub senderIn : ℕ → List ℕ → List ℕ → Sender
 senderIn sent sizes o = record { sent = sent; sizes = sizes; octets = o }
 
--- whether the session in the lent memory is within its ranges
+-- whether the session in the caller's memory is within its ranges (rule 15.13)
 pub record SenderRanges (sent : ℕ) (sizes o : List ℕ) (r : Bool) : Type 0 where
   pub answer : r ≡ senderInRanges (senderIn sent sizes o)
   pub arrays : Arrays sizes o
 
--- ---- send: sizes and o are the history before it, sizes₂ and o₂ after it
+-- ---- send (rules 15.2 to 15.12): sizes and o are the history before it, sizes₂ and o₂ after it
 pub record SendHosted (parity : Bool) (count n : ℕ) (packet : List ℕ) (sent : ℕ) (sizes o old sizes₂ o₂ new : List ℕ) (r : AfterSend)
     : Type 0 where
   pub answer : r .wrote ≡ wroteTold (sizeOf (fitted (toSend (senderIn sent sizes o) (settingsOf parity count n) packet) old))

@@ -1,5 +1,6 @@
--- What the call of a C host owes that solves all held messages together: what the library's own call owes, of the session that stands in
--- the lent memory. A call that takes any memory and one that requires the ranges owe the same. Definitions only.
+-- What the call from C that solves promises: what the library's own call promises, for the session in the caller's memory (rules 14.2, 14.7
+-- and 24.11). The call that takes any memory and its form that requires the ranges promise the same (rules 24.3 and 24.4). Definitions
+-- only.
 use Prim.Native.Nat.{ℕ}
 use mathlib.Core.Path.{_≡_}
 use mathlib.Core.List.{List}
@@ -20,7 +21,7 @@ pub record SolveHosted (h : Head) (t o g t₂ o₂ : List ℕ) (r : Answered) : 
   pub answer : r ≡ told (solveOf (sessionIn h t o g))
   pub state : After (solveOf (sessionIn h t o g)) (sessionIn h t o g) (sessionIn h t₂ o₂ g)
 
--- ---- two outcomes that the promise allows are equal
+-- ---- two outcomes that the promise allows are equal (rule 28.14)
 pub record OneSolved : Type 0 where
   pub solve : {h : Head} {t o g t₂ o₂ t₃ o₃ : List ℕ} {r q : Answered}
       → SolveHosted h t o g t₂ o₂ r → SolveHosted h t o g t₃ o₃ q → (r ≡ q) × (t₂ ≡ t₃) × (o₂ ≡ o₃)

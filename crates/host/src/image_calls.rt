@@ -1,4 +1,4 @@
-// A receiving session of a C host written as an image, and read back: document 02, request 9. Any memory and any text may come.
+// Images for C: a receiving session written as an image and read back (rules 20.18, 20.19 and 24.12). They take any memory and any text.
 use crate::receiver::Head;
 use host_answers::Answered;
 use host_answers::Wrote;
@@ -8,14 +8,14 @@ use session_held::Counts;
 use session_held::Session;
 ghost use Rattle.host.specs.Image.{ImageHosted, RestoreHosted};
 
-// What reading an image answers, and base and counts of the session that it restored.
+// What reading an image returns: the answer, and base and counts of the session after it.
 #[repr(C)]
 pub struct AfterRestore {
     pub head: Head,
     pub answer: Answered,
 }
 
-// The session's image to the front of out: 17, then 13.
+// Writes the session's image to the front of `out`. Refuses 17, then 13 (rule 20.19).
 #[no_mangle]
 pub extern "C" fn tbx_core_image_write(
     head: Head,
@@ -37,7 +37,7 @@ pub extern "C" fn tbx_core_image_write(
     written_told(answer)
 }
 
-// The session that a text is an image of, laid into the lent memory: 21, 20, then 17, and the memory stays as it was.
+// Writes the session that a text is an image of to the caller's memory. Refuses 21, 20, then 17; the memory is then unchanged (rule 20.18).
 #[no_mangle]
 pub extern "C" fn tbx_core_image_read(
     head: Head,

@@ -1,4 +1,5 @@
-// The joiner for a C host: tainted and size go by value, the open frame is lent. Any memory may come. Tainted is an octet there, 0 or 1.
+// The joiner for C: `tainted` and `size` are passed by value, the open frame by pointer. The calls take any memory (rule 24.3); `tainted`
+// is the octet 0 or 1 (rule 24.6).
 use frame::Joiner;
 use frame_joiner::Kept;
 use frame_joiner::feed;
@@ -22,7 +23,7 @@ fn kept_told(kept: Kept) -> AfterField
     AfterField { head, frame }
 }
 
-// A fresh joiner, laid into the lent memory.
+// Writes a fresh joiner to the caller's memory (rules 16.1 and 24.18).
 #[no_mangle]
 pub extern "C" fn tbx_core_joiner_fresh(frame: &mut [u8; Joiner::LIMIT]) -> JoinerHead
     ensures { λ r. ⌜ JoinerMade (now (frame .exit)) r ⌝ }
@@ -35,7 +36,7 @@ pub extern "C" fn tbx_core_joiner_fresh(frame: &mut [u8; Joiner::LIMIT]) -> Join
     JoinerHead { tainted, size }
 }
 
-// One field of a packet: a frame that it ends is written to the front of out.
+// Takes one field of a packet, and writes a frame that it ends to the front of `out` (rules 16.2 to 16.16).
 #[no_mangle]
 pub extern "C" fn tbx_core_joiner_field(
     tainted: u8,
@@ -56,7 +57,7 @@ pub extern "C" fn tbx_core_joiner_field(
     kept_told(kept)
 }
 
-// One lost number.
+// Takes one lost number (rule 16.8).
 #[no_mangle]
 pub extern "C" fn tbx_core_joiner_lost(
     tainted: u8,

@@ -1,5 +1,5 @@
-// What a C host calls (`include/tubarexi.h`): the calls of the documents on sessions in the host's own memory, which is lent, with answers
-// in numbers. Nothing is converted at a call: table and stores are what the calls inside the library borrow.
+// The functions that C calls (`include/tubarexi.h`): the public calls, on sessions in the caller's own memory, with answers encoded as
+// numbers (rules 24.1 to 24.4 and 24.11). A call converts nothing: the functions inside the library borrow the table and the stores.
 mod image_calls;
 mod joiner;
 mod packet_calls;

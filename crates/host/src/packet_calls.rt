@@ -1,4 +1,4 @@
-// Packets for a C host: no session, and nothing is kept. A kind is an octet, 0 for an indicator and 1 for data.
+// Packets for C: the calls need no session and keep nothing. A kind is the octet 0 for an indicator or 1 for data (rule 24.5).
 use host_answers::PacketFound;
 use host_answers::Wrote;
 use host_answers::ending_of;
@@ -10,7 +10,7 @@ use length::Refusal;
 use packet::PacketReading;
 ghost use Rattle.host.specs.Packet.{PacketHosted, WriteHosted};
 
-// A packet in the edition that an octet names, repaired or not.
+// Reads a packet in the edition that an octet names, as repaired or not (rules 6.13 and 7.1).
 #[no_mangle]
 pub extern "C" fn tbx_core_packet_read(octets: &[u8], edition: u8, repaired: bool) -> PacketFound
     ensures { λ r. ⌜ PacketHosted edition repaired (now (octets .entry)) r ⌝ }
@@ -42,7 +42,8 @@ pub extern "C" fn tbx_core_packet_read(octets: &[u8], edition: u8, repaired: boo
     }
 }
 
-// A packet of that kind and value, with a field for each type, written to the front of out: its length says how much of the data it has.
+// Writes a packet of this kind and value, with a field for each type, to the front of `out`. A field takes as many of the next octets of
+// the data as its length says (rule 6.20).
 #[no_mangle]
 pub extern "C" fn tbx_core_packet_write(
     edition: u8,

@@ -1,5 +1,5 @@
-// The receiving session for a C host: base and counts go by value, table and stores are lent. The functions that require the session's
-// ranges are for memory that only the library wrote; those that end in `checked` take any memory, and refuse with 17.
+// The receiving session for C: base and counts are passed by value, table and stores by pointer. The functions that require the session's
+// ranges are for memory that only the library wrote (rule 24.4); those that end in `checked` take any memory and refuse 17 (rule 24.3).
 use host_answers::Answered;
 use host_answers::Number;
 use host_answers::number_told;
@@ -12,7 +12,7 @@ ghost use Rattle.session_held.specs.Laid.{InRanges};
 ghost use Rattle.session_held.specs.Promise.{Fresh};
 ghost use Rattle.host.specs.Receiver.{sessionIn, RangesHosted, OfferHosted, ReleaseHosted};
 
-// Base and counts, as C holds them.
+// Base and counts, as C stores them.
 #[repr(C)]
 pub struct Head {
     pub base: u16,
@@ -22,14 +22,14 @@ pub struct Head {
     pub lost: u32,
 }
 
-// What a release answers, and base and counts after it.
+// What a release returns: base and counts after it, and the answer.
 #[repr(C)]
 pub struct AfterRelease {
     pub head: Head,
     pub left: Number,
 }
 
-// A fresh session, laid into the lent memory.
+// Writes a fresh session to the caller's memory (rules 9.1 and 24.18).
 #[no_mangle]
 pub extern "C" fn tbx_core_fresh(
     table: &mut [u16; Session::PLACES],
@@ -56,7 +56,7 @@ pub extern "C" fn tbx_core_fresh(
     }
 }
 
-// Whether any memory is a session within its ranges.
+// Whether the memory holds a session within its ranges (rules 13.1 to 13.11).
 #[no_mangle]
 pub extern "C" fn tbx_core_in_ranges(
     head: Head,
@@ -75,7 +75,7 @@ pub extern "C" fn tbx_core_in_ranges(
     session_check::in_ranges(head.base, counts, table, octets, messages)
 }
 
-// Any octets from the network, offered to a session within its ranges.
+// Offers any octets from the network to a session within its ranges (rules 10.1 to 10.10).
 #[no_mangle]
 pub extern "C" fn tbx_core_offer(
     head: Head,
@@ -98,7 +98,7 @@ pub extern "C" fn tbx_core_offer(
     offered_told(answer)
 }
 
-// The same for any memory.
+// The same for any memory: 17 if it holds no session within its ranges.
 #[no_mangle]
 pub extern "C" fn tbx_core_offer_checked(
     head: Head,
@@ -119,7 +119,7 @@ pub extern "C" fn tbx_core_offer_checked(
     }
 }
 
-// The number at the base of a session within its ranges leaves, its packet to the front of out.
+// Releases the number at the base of a session within its ranges, and writes its packet to the front of `out` (rules 12.2 to 12.9).
 #[no_mangle]
 pub extern "C" fn tbx_core_release(
     head: Head,
@@ -154,7 +154,7 @@ pub extern "C" fn tbx_core_release(
     AfterRelease { head: after, left }
 }
 
-// The same for any memory.
+// The same for any memory: 17 if it holds no session within its ranges.
 #[no_mangle]
 pub extern "C" fn tbx_core_release_checked(
     head: Head,

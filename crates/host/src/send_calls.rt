@@ -1,4 +1,5 @@
-// The sending session for a C host: how many packets were sent goes by value, the history is lent.
+// The sending session for C: how many packets were sent is passed by value, the history by pointer. The `checked` function takes any memory
+// (rules 24.3 and 24.4).
 use host_answers::Wrote;
 use host_answers::settings_of;
 use length::Refusal;
@@ -9,14 +10,14 @@ ghost use Rattle.sender.specs.Inner.Held.{Within};
 ghost use Rattle.sender.specs.Promise.{SenderMade};
 ghost use Rattle.host.specs.Sender.{senderIn, SenderRanges, SendHosted};
 
-// What a send answers, and how many packets were sent after it.
+// What a send returns: how many packets were sent after it, and the answer.
 #[repr(C)]
 pub struct AfterSend {
     pub sent: u32,
     pub wrote: Wrote,
 }
 
-// A fresh sending session, laid into the lent memory.
+// Writes a fresh sending session to the caller's memory (rules 15.1 and 24.18).
 #[no_mangle]
 pub extern "C" fn tbx_core_sender_fresh(
     sizes: &mut [u16; Sender::HISTORY],
@@ -33,7 +34,7 @@ pub extern "C" fn tbx_core_sender_fresh(
     sent
 }
 
-// Whether any memory is a sending session within its ranges.
+// Whether the memory holds a sending session within its ranges (rule 15.13).
 #[no_mangle]
 pub extern "C" fn tbx_core_sender_in_ranges(
     sent: u32,
@@ -46,7 +47,7 @@ pub extern "C" fn tbx_core_sender_in_ranges(
     sender_history::in_ranges(wide, sizes, octets)
 }
 
-// The packet, sent by a session within its ranges: its datagram is written to the front of out.
+// Sends a packet from a session within its ranges, and writes its datagram to the front of `out` (rules 15.2 to 15.12).
 #[no_mangle]
 pub extern "C" fn tbx_core_send(
     sent: u32,
@@ -86,7 +87,7 @@ pub extern "C" fn tbx_core_send(
     }
 }
 
-// The same for any memory.
+// The same for any memory: 17 if it holds no session within its ranges.
 #[no_mangle]
 pub extern "C" fn tbx_core_send_checked(
     sent: u32,

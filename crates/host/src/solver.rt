@@ -1,4 +1,4 @@
-// Losses that no single message mends, in a receiving session of a C host: document 02, request 13. Base, counts and messages stay.
+// Solving for C: all held messages together mend losses that no single message mends. Base, counts and messages are unchanged (rule 14.8).
 use crate::receiver::Head;
 use crate::receiver::tbx_core_in_ranges;
 use host_answers::Answered;
@@ -26,7 +26,8 @@ fn solved_told(answer: Solved) -> Answered
     }
 }
 
-// The held messages of a session within its ranges as equations: each number is filled for which they and the known octets allow one value.
+// Treats the held messages of a session within its ranges as equations, and fills each number for which they, with the known octets, allow
+// only one value (rules 14.1 to 14.3).
 #[no_mangle]
 pub extern "C" fn tbx_core_solve(
     head: Head,
@@ -48,7 +49,7 @@ pub extern "C" fn tbx_core_solve(
     solved_told(answer)
 }
 
-// The same for any memory.
+// The same for any memory: 17 if it holds no session within its ranges.
 #[no_mangle]
 pub extern "C" fn tbx_core_solve_checked(
     head: Head,

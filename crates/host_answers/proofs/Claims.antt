@@ -1,4 +1,4 @@
--- Two values of what is told are equal: from the promises. Assumes nothing.
+-- Two values that a promise allows are equal: from the promises. Assumes nothing.
 use mathlib.Core.Path.{sym, _∙_}
 use Rattle.host_answers.specs.Claims.{OneOutcome, Claims}
 

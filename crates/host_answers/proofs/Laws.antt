@@ -1,4 +1,4 @@
--- What is told of each case of an answer. Assumes nothing.
+-- How each case of an answer is encoded as numbers. Assumes nothing.
 use Prim.Native.Nat.{ℕ}
 use mathlib.Core.Path.{_≡_, refl, sym, ap, _∙_}
 use mathlib.Core.Bool.{Bool, true, false}
@@ -23,7 +23,7 @@ use Rattle.host_answers.specs.Answers.{told, releaseNumber, wroteTold, O
 use Rattle.host_answers.specs.Joiner.{frameTold, FrameTold}
 use Rattle.host_answers.specs.Settings.{SettingsTold}
 
--- what is told does not depend on the values
+-- the encoding does not depend on the values
 pub told-mapped : {A B : Type 0} (f : A → B) (a : Answer A) → told (mapped f a) ≡ told a
 told-mapped f (done a) = refl
 told-mapped f (refused why) = refl
@@ -53,7 +53,7 @@ told-kept e = record { is = ap (λ (x : Released). releaseNumber (releasedOutcom
 
 pub ruleset telling = (told-accepted, told-refused, told-left, told-kept)
 
--- ---- what a writer answers
+-- ---- a call that writes
 pub wrote-octets : {a : Written} {n : ℕ} → a ≡ written.Octets n → WrittenTold a (record { refusal = 0; place = 0; size = n })
 wrote-octets e = record { is = ap (λ (x : Written). wroteTold (writtenOutcome x)) (sym e) }
 

@@ -1,4 +1,4 @@
--- What C is told of an answer: 0 where the call is done, or the refusal's number and place. Definitions only.
+-- An answer as C gets it: 0 if the call is done, or the refusal's number and place (rules 24.1, 24.2, 24.8 and 24.10). Definitions only.
 use Prim.Native.Nat.{ℕ}
 use mathlib.Core.Path.{_≡_}
 use Rattle.length.specs.Answers.{Answer, done, refused, writtenOutcome}
@@ -16,17 +16,18 @@ abbrev pub told : {A : Type 0} → Answer A → Answered
 told (done a) = record { refusal = 0; place = 0 }
 told (refused why) = record { refusal = why .number; place = why .place }
 
--- of a release: the kind as the program's lines name it, the number, the datagram that filled it, the size of its packet
+-- a release: the kind as in the program's lines, the number, its note, the size of its packet; with a refusal all else is 0 (rules 24.8
+-- and 24.17)
 abbrev pub releaseNumber : Answer Handed → Number
 releaseNumber (done a) = record { refusal = 0; kind = kindOctet (a .kind); number = a .number; note = a .note; place = 0; size = a .size }
 releaseNumber (refused why) = record { refusal = why .number; kind = 0; number = 0; note = 0; place = why .place; size = 0 }
 
--- of a call that writes: how many octets
+-- a call that writes: how many octets it wrote, 0 with a refusal (rule 24.10)
 abbrev pub wroteTold : Answer ℕ → Wrote
 wroteTold (done n) = record { refusal = 0; place = 0; size = n }
 wroteTold (refused why) = record { refusal = why .number; place = why .place; size = 0 }
 
--- what each is told from
+-- each case of the library's answer encoded as numbers
 pub record OfferedTold (from : Offered) (r : Answered) : Type 0 where
   pub is : r ≡ told (offeredOutcome from)
 

@@ -1,4 +1,4 @@
--- The claims of what is told: statements alone. Two values that a promise allows are equal.
+-- The claims of this crate: two values that a promise allows are equal (rule 28.14). Statements only.
 use Prim.Native.Nat.{ℕ}
 use mathlib.Core.Path.{_≡_}
 use mathlib.Core.Bool.{Bool}
@@ -15,7 +15,7 @@ use Rattle.host_answers.specs.declared.answers.Number.{Number}
 use Rattle.host_answers.specs.declared.answers.Wrote.{Wrote}
 use Rattle.host_answers.specs.declared.joiner.HandedFrame.{HandedFrame}
 
--- the other functions ensure the value itself
+-- the contracts of the other functions name the value itself
 pub record OneOutcome : Type 0 where
   pub offered : {from : Offered} {r q : Answered} → OfferedTold from r → OfferedTold from q → r ≡ q
   pub released : {from : Released} {r q : Number} → ReleasedTold from r → ReleasedTold from q → r ≡ q

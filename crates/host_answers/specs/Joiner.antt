@@ -1,4 +1,4 @@
--- What C is told of a joiner's answer, and whether a joiner is tainted, as an octet. Definitions only.
+-- A joiner's answer as C gets it, and whether a joiner is tainted, as an octet (rules 24.6 and 24.8). Definitions only.
 use Prim.Native.Nat.{ℕ}
 use mathlib.Core.Path.{_≡_}
 use mathlib.Core.Bool.{Bool, cond}
@@ -9,22 +9,22 @@ use Rattle.frame.specs.declared.Handed.{Handed}
 use Rattle.host_answers.specs.declared.joiner.AfterField.{AfterField}
 use Rattle.host_answers.specs.declared.joiner.HandedFrame.{HandedFrame}
 
--- tainted, as an octet
+-- tainted, as an octet (rule 24.6)
 abbrev pub flagOf : Bool → ℕ
 flagOf b = cond b 1 0
 
--- 0 and what is handed out, 1 a good frame and 2 a bad one; or the number of the refusal
+-- 0 and what the joiner returns: 0 nothing, 1 a good frame, 2 a bad frame, and its size (rule 24.8); or the number of the refusal
 abbrev pub frameTold : Answer Told → HandedFrame
 frameTold (done nothing) = record { refusal = 0; kind = 0; size = 0 }
 frameTold (done (goodOf n)) = record { refusal = 0; kind = 1; size = n }
 frameTold (done (badOf n)) = record { refusal = 0; kind = 2; size = n }
 frameTold (refused why) = record { refusal = why .number; kind = 0; size = 0 }
 
--- what it is told from
+-- the library's answer encoded as numbers
 pub record FrameTold (from : Handed) (r : HandedFrame) : Type 0 where
   pub is : r ≡ frameTold (handedOutcome from)
 
--- 17, and nothing changed
+-- 17, with the joiner unchanged (rules 24.6 and 24.9)
 abbrev pub outside : ℕ → ℕ → AfterField
 outside tainted size =
     record { head = record { tainted = tainted; size = size }; frame = record { refusal = outsideRanges; kind = 0; size = 0 } }

@@ -1,4 +1,4 @@
--- What C is told of a packet, and how it names a kind and how a packet came. Definitions only.
+-- A packet as C gets it, and how C names a kind and a repaired packet (rules 24.5 and 24.17). Definitions only.
 use Prim.Native.Nat.{ℕ}
 use mathlib.Core.Bool.{Bool, cond}
 use mathlib.Core.List.{[]}
@@ -13,11 +13,11 @@ use Rattle.packet.specs.declared.types.Ending.{Ending}
 use Rattle.packet.specs.declared.types.Ending.the-variants.{Whole, Repaired}
 use Rattle.host_answers.specs.declared.packet_answers.PacketFound.{PacketFound}
 
--- repaired, or received or a spare
+-- repaired; otherwise received or spare
 abbrev pub endingNamed : Bool → Ending
 endingNamed repaired = cond repaired Repaired Whole
 
--- a kind as an octet, and back
+-- a kind as an octet, and back (rule 24.5)
 abbrev pub kindTold : PacketKind → ℕ
 kindTold Indicator = 0
 kindTold Data = 1
@@ -25,7 +25,7 @@ kindTold Data = 1
 abbrev pub kindNamed : ℕ → PacketKind
 kindNamed octet = cond (eqb octet 0) Indicator Data
 
--- the fields that a packet does not have are zero, and so is all but the refusal and its place where it is refused
+-- unused fields are zero (rule 6.27); with a refusal all is 0 but the refusal and its place (rule 24.17)
 abbrev pub packetTold : Answer PacketAnswer → PacketFound
 packetTold (done p) =
     record { refusal = 0; kind = kindTold (p .kind); value = p .value; place = 0; count = length (p .fields); fields = paddedFields (p .fields) }

@@ -1,11 +1,11 @@
--- The settings of a send, as C names them. Definitions only.
+-- The settings of a send, as C gives them. Definitions only.
 use Prim.Native.Nat.{ℕ}
 use mathlib.Core.Path.{_≡_}
 use mathlib.Core.Bool.{Bool, cond}
 use Rattle.sender.specs.declared.Settings.{Settings}
 use Rattle.sender.specs.declared.Settings.the-variants as settings
 
--- m messages over n packets each, or so many spares
+-- `count` messages over n packets each, or `count` spares, and then n is not looked at (rule 24.7)
 abbrev pub settingsOf : Bool → ℕ → ℕ → Settings
 settingsOf parity count n = cond parity (settings.Parity n count) (settings.Spares count)
 

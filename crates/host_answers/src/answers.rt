@@ -1,4 +1,4 @@
-// The answer of a call in numbers.
+// Answers encoded as numbers (rules 24.1, 24.2, 24.8 and 24.10).
 use length::Written;
 use session_held::ReleaseKind;
 use session_offer::Offered;
@@ -8,14 +8,14 @@ ghost use Rattle.session_held.specs.Table.{stateOf};
 ghost use Rattle.line.specs.Lines.{kindOctet};
 ghost use Rattle.host_answers.specs.Answers.{OfferedTold, ReleasedTold, WrittenTold};
 
-// 0, or the number of the refusal and its place.
+// 0, or the refusal's number and place (rules 24.1 and 24.2).
 #[repr(C)]
 pub struct Answered {
     pub refusal: u8,
     pub place: usize,
 }
 
-// What a call answers that writes to a lent buffer: 0 and how many octets it wrote, or the number of the refusal and its place.
+// The answer of a call that writes to the caller's buffer: 0 and how many octets it wrote, or the refusal's number and place (rule 24.10).
 #[repr(C)]
 pub struct Wrote {
     pub refusal: u8,
@@ -23,8 +23,8 @@ pub struct Wrote {
     pub size: usize,
 }
 
-// What a release answers: 0, or the number of the refusal and its place; the kind of the number that left, as the program's lines name it,
-// the number, the datagram that filled it and the size of its packet. All are 0 with a refusal.
+// The answer of a release: 0, or the refusal's number and place; the kind of the number that left, as in the program's lines, the number,
+// its note and the size of its packet. With a refusal these four are 0 (rules 24.8 and 24.17).
 #[repr(C)]
 pub struct Number {
     pub refusal: u8,
@@ -35,7 +35,7 @@ pub struct Number {
     pub size: usize,
 }
 
-// What is told of an offer.
+// The answer of an offer.
 pub fn offered_told(answer: Offered) -> Answered
     ensures { λ r. ⌜ OfferedTold answer r ⌝ }
 {
@@ -51,7 +51,7 @@ pub fn offered_told(answer: Offered) -> Answered
     }
 }
 
-// The kind of a number that left.
+// The kind of a number that left, as an octet (rule 24.8).
 fn kind_told(kind: ReleaseKind) -> u8
     ensures { λ r. ⌜ r ≡ kindOctet (stateOf kind) ⌝ }
 {
@@ -63,7 +63,7 @@ fn kind_told(kind: ReleaseKind) -> u8
     }
 }
 
-// What is told of a release.
+// The answer of a release.
 pub fn number_told(answer: Released) -> Number
     ensures { λ r. ⌜ ReleasedTold answer r ⌝ }
 {
@@ -95,7 +95,7 @@ pub fn number_told(answer: Released) -> Number
     }
 }
 
-// What is told of a call that writes.
+// The answer of a call that writes.
 pub fn written_told(answer: Written) -> Wrote
     ensures { λ r. ⌜ WrittenTold answer r ⌝ }
 {

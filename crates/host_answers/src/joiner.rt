@@ -1,4 +1,5 @@
-// What a joiner answers, in numbers. Whether it is tainted is an octet in the host's memory, 0 or 1: a bool there could hold what is none.
+// A joiner's answers encoded as numbers. In the caller's memory `tainted` is an octet, 0 or 1 (rule 24.6): a bool there could hold a
+// value that is neither.
 use frame::Handed;
 use length::Refusal;
 ghost use mathlib.Core.Path.{_≡_};
@@ -12,7 +13,7 @@ pub struct JoinerHead {
     pub size: u16,
 }
 
-// What is handed out: 0 nothing, 1 a good frame, 2 a bad one, and its size. Or the number of the refusal; all else is then 0.
+// What a joiner returns: 0 nothing, 1 a good frame, 2 a bad frame (rule 24.8), and its size. Or the refusal's number; all else is then 0.
 #[repr(C)]
 pub struct HandedFrame {
     pub refusal: u8,
@@ -20,14 +21,14 @@ pub struct HandedFrame {
     pub size: usize,
 }
 
-// What a call on a joiner answers, and tainted and size after it.
+// What a call on a joiner returns: `tainted` and `size` after it, and the answer.
 #[repr(C)]
 pub struct AfterField {
     pub head: JoinerHead,
     pub frame: HandedFrame,
 }
 
-// An octet that is neither 0 nor 1.
+// Whether an octet is neither 0 nor 1 (rule 24.6).
 pub fn no_flag(tainted: u8) -> bool
     ensures { λ r. ⌜ r ≡ ltb 1 tainted ⌝ }
 {
@@ -44,7 +45,7 @@ pub fn flag(tainted: bool) -> u8
     0
 }
 
-// What is told of a field or a loss.
+// The answer to a field or a lost number.
 pub fn frame_told(answer: Handed) -> HandedFrame
     ensures { λ r. ⌜ FrameTold answer r ⌝ }
 {
@@ -72,7 +73,7 @@ pub fn frame_told(answer: Handed) -> HandedFrame
     }
 }
 
-// 17 for an octet that is no flag: nothing is changed.
+// 17 for an octet that is neither 0 nor 1, with the joiner unchanged (rule 24.6).
 pub fn no_joiner(tainted: u8, size: u16) -> AfterField
     ensures { λ r. ⌜ r ≡ outside tainted size ⌝ }
 {

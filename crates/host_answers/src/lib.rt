@@ -1,5 +1,5 @@
-// How answers and choices cross to C: in numbers, since no enum crosses. The structs lie as C lays them, and each function here tells one
-// kind of answer, or reads one kind of choice.
+// Answers and choices encoded as numbers, since no enum is passed to or from C. The structs have C's layout. Each function here encodes one
+// kind of answer or decodes one kind of choice (rules 24.1, 24.2, 24.5 to 24.8).
 mod answers;
 mod joiner;
 mod packet_answers;

@@ -1,4 +1,5 @@
-// What a packet reads as, in numbers, and the choices of its calls. A kind is an octet, 0 for an indicator and 1 for data.
+// What a packet reads as, and the choices of the calls on packets, encoded as numbers. A kind is the octet 0 for an indicator or 1 for data
+// (rule 24.5).
 use packet::Ending;
 use packet::Field;
 use packet::PacketKind;
@@ -6,8 +7,8 @@ ghost use mathlib.Core.Path.{_≡_};
 ghost use lib.Dec.{ltb};
 ghost use Rattle.host_answers.specs.Packet.{endingNamed, kindTold, kindNamed};
 
-// What a packet reads as: 0, or the number of the refusal and its place; the kind, the value and how many fields it has. The first `count`
-// of the fields are the packet's, all others are zero. All are 0 with a refusal.
+// What a packet reads as: 0, or the refusal's number and place; the kind, the value and how many fields it has. The first `count` fields
+// are the packet's, all others are zero (rule 6.27). With a refusal all but its number and place is 0 (rule 24.17).
 #[repr(C)]
 pub struct PacketFound {
     pub refusal: u8,
@@ -18,7 +19,7 @@ pub struct PacketFound {
     pub fields: [Field; Field::LIMIT],
 }
 
-// How a packet came.
+// Whether a packet is read as repaired, or as received or spare.
 pub fn ending_of(repaired: bool) -> Ending
     ensures { λ r. ⌜ r ≡ endingNamed repaired ⌝ }
 {
@@ -28,7 +29,7 @@ pub fn ending_of(repaired: bool) -> Ending
     Ending::Whole
 }
 
-// A kind as an octet.
+// A kind as an octet (rule 24.5).
 pub fn kind_told(kind: PacketKind) -> u8
     ensures { λ r. ⌜ r ≡ kindTold kind ⌝ }
 {
@@ -38,7 +39,7 @@ pub fn kind_told(kind: PacketKind) -> u8
     }
 }
 
-// An octet that names no kind.
+// Whether an octet names no kind (rule 24.5).
 pub fn no_kind(octet: u8) -> bool
     ensures { λ r. ⌜ r ≡ ltb 1 octet ⌝ }
 {

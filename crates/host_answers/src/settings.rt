@@ -1,8 +1,8 @@
-// The settings of a send, as C names them.
+// The settings of a send, as C gives them.
 use sender::Settings;
 ghost use Rattle.host_answers.specs.Settings.{SettingsTold};
 
-// So many messages, each over n packets, or so many spares.
+// `count` messages over n packets each, or `count` spares, and then n is not looked at (rule 24.7).
 pub fn settings_of(parity: bool, count: u8, n: u8) -> Settings
     ensures { λ r. ⌜ SettingsTold parity count n r ⌝ }
 {

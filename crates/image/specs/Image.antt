@@ -1,6 +1,5 @@
--- Document 02, request 9: a receiving session written as an image, and read back. "Refusals: reading, 20, a line missing, extra or
--- misshapen .., then 17, and nothing is restored; writing, 17, then 13." The 13 is that of every call that writes to a lent buffer.
--- Definitions only.
+-- A receiving session written as an image, and read back. The reader refuses 21, then 20, then 17 (rules 20.12 and 20.18), the writer 17,
+-- then 13 (rule 20.19). The 13 is not here: every call that writes to the caller's buffer has the same one (rule 2.13). Definitions only.
 use Prim.Native.Nat.{ℕ, _+_, _*_, _^_, _≤_, _<_}
 use mathlib.Core.Path.{_≡_}
 use mathlib.Core.Bool.{Bool, false, not, cond, _&&_}
@@ -30,47 +29,46 @@ use Rattle.image.specs.Layout.{ImageVersion, imageVersion01, imageVersio
 unfoldable pub imageText : ImageVersion → View → List ℕ
 imageText version view = octetsFor (image version) view
 
--- 17: a session outside its ranges, as document 01 sees it
+-- 17: the session is outside its ranges
 abbrev pub inRangesOnly : View → Answer View
 inRangesOnly view = cond (inRanges view) (done view) (refuse outsideRanges)
 
--- what any text reads as: 20 over the whole image, then 17
+-- what any text reads as in one version: 20 over the whole image, then 17 (rule 20.18)
 unfoldable pub readImage : ImageVersion → List ℕ → Answer View
 readImage version text = do
   view ← readWhole (image version) text
   inRangesOnly view
 
--- document 02, request 10: "21, any other edition octet, before 20 where that octet can be read", which is where the first two characters
--- are upper-case digits
+-- whether the version octet can be read: the first two characters are digits `0` to `9` or `A` to `F` (rule 20.12)
 unfoldable pub namesEdition : List ℕ → Bool
 namesEdition [] = false
 namesEdition (high ∷ []) = false
 namesEdition (high ∷ low ∷ text) = upperDigit high && upperDigit low
 
--- the edition octet then
+-- the version octet, where it can be read
 unfoldable pub editionNamed : List ℕ → ℕ
 editionNamed [] = 0
 editionNamed (high ∷ []) = 0
 editionNamed (high ∷ low ∷ text) = digitOf high * 16 + digitOf low
 
--- what a text reads as that names an edition
+-- what a text reads as if its version octet is `octet`: 21 if that is neither 01 nor 02
 abbrev pub readBy : ℕ → List ℕ → Answer View
 readBy octet text =
     cond (eqb octet (imageVersion01 .octet)) (readImage imageVersion01 text)
     (cond (eqb octet (imageVersion02 .octet)) (readImage imageVersion02 text) (refuse otherEdition))
 
--- and any text
+-- what any text reads as
 unfoldable pub readText : List ℕ → Answer View
 readText text = cond (namesEdition text) (readBy (editionNamed text) text) (refuse badImage)
 
--- what is written of a session as it is lent: "writing, 17"
+-- what the writer writes of a session: 17 if it is outside its ranges (rule 20.19)
 abbrev pub imageRows : Lent → List (Option ℕ)
 imageRows session = when (not (lentInRanges session)) outsideRanges ∷ []
 
 unfoldable pub imageToWrite : ImageVersion → Lent → Answer (List ℕ)
 imageToWrite version session = unless (imageRows session) (imageText version (viewIn session))
 
--- ---- what an image can hold: numbers that have their octets, packets and messages within the limit
+-- ---- what an image can hold: numbers that fit their octets, packets and messages within the limit
 pub record ImageHolds (limit : ℕ) (view : View) : Type 0 where
   pub base : view .base < 256 ^ 2
   pub received : view .counts .received < 256 ^ 4
@@ -86,26 +84,26 @@ pub record ImageHolds (limit : ℕ) (view : View) : Type 0 where
   pub message : (d : ℕ) → d < keptAhead → (i : ℕ) → i < length ((heldAt (view .held) d) .messages)
       → Sendable limit (getD ((heldAt (view .held) d) .messages) i [])
 
--- what a session's numbers are by their kinds, in its ranges or not: a note is a datagram's number, and packets and messages are of
--- octets
+-- what the types of a session's numbers ensure, within its ranges or not: a note is a datagram's number, and packets and messages are lists
+-- of octets
 pub record OfOctets (view : View) : Type 0 where
   pub note : (p : ℕ) → p < keptNumbers → (cellAt (view .cells) p) .note < numbers
   pub packet : (p : ℕ) → p < keptNumbers → Octets ((cellAt (view .cells) p) .octets)
   pub message : (d : ℕ) → d < keptAhead → (i : ℕ) → i < length ((heldAt (view .held) d) .messages)
       → Octets (getD ((heldAt (view .held) d) .messages) i [])
 
--- the same of a session as it is lent: a table of 16-bit numbers, stores of octets
+-- the same of a session's memory: a table of 16-bit numbers, stores of octets
 pub record LentOctets (session : Lent) : Type 0 where
   pub table : (i : ℕ) → getD (session .table) i 0 < numbers
   pub octets : Octets (session .octets)
   pub messages : Octets (session .messages)
 
--- ---- how long it is
--- the characters of a line of so many octets
+-- ---- how long it is (rule 20.20)
+-- the characters of a line of `octets` octets
 abbrev pub lineSize : ℕ → ℕ
 lineSize octets = 2 * octets + 1
 
--- edition, base and counts
+-- version, base and counts
 abbrev pub firstImageSize : ℕ
 firstImageSize = 1 + 2 + 4 * 4
 

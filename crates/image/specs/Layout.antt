@@ -1,7 +1,6 @@
--- Document 02, request 9, the layout of an image: "first one line of edition octet 01, base in two octets, the four counts in 01's order
--- in four each, high first; then 64 lines, from 32 before the base upward, each with a state octet (0 to 4 in 01's order), accepted
--- octet 00 or 01, note in two, packet, n, m and m messages. .. before the base accepted, n and m are 00." One description, over the
--- packet limit, says what is written and what is read. Definitions only.
+-- The layout of an image (rules 20.2 to 20.9): a first line with version octet, base and counts, then a line for each of the 64 kept
+-- numbers. One description, which depends on the packet limit, defines both what is written and what is read (rule 30.11). Definitions
+-- only.
 use Prim.Native.Nat.{ℕ, _+_}
 use mathlib.Core.Bool.{Bool, true, false, cond}
 use mathlib.Core.List.{List, _++_, map}
@@ -16,12 +15,12 @@ use Rattle.session.specs.View.{View, Counts}
 use Rattle.session_held.specs.Table.{lastState, stateNumbered}
 use Rattle.image.specs.Parts.{number, octetTo, octetIs, itemTo, line}
 
--- an edition: its octet, and how many octets a packet or message may have
+-- an image version: its octet, and how many octets a packet or message may have
 pub record ImageVersion : Type 0 where
   pub octet : ℕ
   pub limit : ℕ
 
--- document 02, request 10: "Image edition 02 is written; edition 01 is still read, under the old limit"
+-- rules 20.8 and 20.9: version 02 is written; version 01, with its smaller limit, is read too
 abbrev pub oldLimit : ℕ
 oldLimit = 160
 
@@ -31,16 +30,16 @@ imageVersion01 = record { octet = 0x01; limit = oldLimit }
 abbrev pub imageVersion02 : ImageVersion
 imageVersion02 = record { octet = 0x02; limit = packetLimit }
 
--- the edition that is written
+-- the version that is written
 abbrev pub versionWritten : ImageVersion
 versionWritten = imageVersion02
 
--- ---- the first line
+-- ---- the first line (rule 20.2)
 pub record FirstImageLine : Type 0 where
   pub base : ℕ
   pub counts : Counts
 
--- by its items, and its items: the edition's octet, the base, "the four counts in 01's order"
+-- the line from its items, and its items: the version octet, the base, the counts received, spare, repaired and lost
 abbrev pub firstFrom : ℕ × (ℕ × (ℕ × (ℕ × (ℕ × ℕ)))) → FirstImageLine
 firstFrom x =
     record {
@@ -61,12 +60,12 @@ firstImageLine version =
     ⊳ λ _. number 4
     ⊳ λ _. number 4)
 
--- ---- the line of a number: what is kept of it, and what is held from the base on
+-- ---- the line of a number (rule 20.4): what the session keeps of it, and from the base on what it holds at it
 pub record Number : Type 0 where
   pub cell : Cell
   pub held : Held
 
--- by its items, and its items: state, accepted, note, packet, n, messages
+-- the line from its items, and its items: state, accepted, note, packet, n, messages
 abbrev pub numberFrom : State × (Bool × (ℕ × (List ℕ × (ℕ × List (List ℕ))))) → Number
 numberFrom x =
     record {
@@ -77,11 +76,11 @@ numberFrom x =
 abbrev pub numberItems : Number → State × (Bool × (ℕ × (List ℕ × (ℕ × List (List ℕ)))))
 numberItems k = (k .cell .state, (k .held .accepted, (k .cell .note, (k .cell .octets, (k .held .n, k .held .messages)))))
 
--- "before the base accepted, n and m are 00": the most that stands there
+-- the greatest value that may be at a number: before the base accepted, n and m are 00 (rule 20.7)
 abbrev pub fromBase : Bool → ℕ → ℕ
 fromBase ahead most = cond ahead most 0
 
--- "a state octet (0 to 4 in 01's order)"
+-- rule 20.5: the state octet
 abbrev pub stateNumber : State → ℕ
 stateNumber unknown = 0
 stateNumber received = 1
@@ -92,18 +91,18 @@ stateNumber blank = 4
 unfoldable pub state : Format State
 state = made stateNumbered stateNumber (octetTo lastState)
 
--- "accepted octet 00 or 01"
+-- rules 20.5 and 20.7: the accepted octet, 00 or 01
 unfoldable pub accepted : Bool → Format Bool
 accepted ahead = made (λ n. ltb 0 n) flagBit (octetTo (fromBase ahead 1))
 
--- "m and m messages"
+-- m, and then m messages
 unfoldable pub messages : ℕ → Bool → Format (List (List ℕ))
 messages limit ahead =
     made (λ x. x .1) (λ items. (length items, items))
     (octetTo (fromBase ahead messagesLimit)
     ⊳ λ m. sequenceOf m (itemTo limit))
 
--- the line's shape, for numbers before the base and from it on
+-- the line of a number, before the base or from the base on
 unfoldable pub numberLine : ℕ → Bool → Format Number
 numberLine limit ahead =
     made numberFrom numberItems
@@ -115,7 +114,7 @@ numberLine limit ahead =
     ⊳ λ _. messages limit ahead)
 
 -- ---- the image
--- a session by the lines of its image: the first, those before the base, those from it on
+-- a session from the lines of its image: the first, those before the base, those from the base on
 abbrev pub viewFrom : FirstImageLine × (List Number × List Number) → View
 viewFrom x =
     record {
@@ -125,7 +124,7 @@ viewFrom x =
       held = map (λ k. k .held) (x .1 .1);
     }
 
--- and its lines: of the first, of place p of the view before the base, at distance d from the base
+-- and its lines: the first, that of place p of the view before the base, that at distance d from the base
 abbrev pub firstOf : View → FirstImageLine
 firstOf view = record { base = view .base; counts = view .counts }
 
@@ -138,7 +137,7 @@ ahead view d = record { cell = cellAt (view .cells) (keptBefore + d); held = hel
 abbrev pub linesOf : View → FirstImageLine × (List Number × List Number)
 linesOf view = (firstOf view, (tab keptBefore (before view), tab keptAhead (ahead view)))
 
--- "then 64 lines, from 32 before the base upward"
+-- rule 20.3: 64 lines, from 32 before the base upward
 unfoldable pub image : ImageVersion → Format View
 image version =
     made viewFrom linesOf

@@ -1,7 +1,6 @@
--- The parts of an image, each as a format: numbers, packets and messages in whole octets, and lines of hexadecimal. Document 02,
--- request 9: "lines of upper-case hexadecimal, each ended by a line feed", numbers "high first", "Packet and messages carry their
--- length by the datagram's rule, 0 allowed". "Refusals: reading, 20, a line missing, extra or misshapen": whatever is wrong with an
--- image is this one refusal, and it has no place. Definitions only.
+-- The parts of an image, each as a format: numbers in whole octets, high first, packets and messages with their lengths, and lines of
+-- upper-case hexadecimal (rules 20.1, 20.2, 20.6, 20.14 and 20.15). Whatever is wrong with a part is 20, and it has no place (rules 2.20,
+-- 20.13 and 20.27). Definitions only.
 use Prim.Native.Nat.{ℕ, zero, suc, _+_, _*_, _/_, _%_, _^_, _≤_, _<_}
 use mathlib.Core.Bool.{Bool, cond, _&&_, _||_}
 use mathlib.Core.List.{List, [], _∷_, _++_}
@@ -21,7 +20,7 @@ use Rattle.datagram.specs.declared.reader.Part.{Part}
 use Rattle.line.specs.Hex.{octetsIn}
 use Rattle.line.specs.Lines.{lineFeed, lineOf}
 
--- ---- what is written of a value, and what octets read as, up to the last of them
+-- ---- what is written of a value, and what octets read as if the value ends where they end
 module _ {A : Type 0} where
   abbrev pub octetsFor : Format A → A → List ℕ
   octetsFor f a = inOctets (f .spelling a 0)
@@ -55,7 +54,7 @@ numberFront k s = cond (ltb (length s) k) (stopped (refusal badImage)) (found (h
 abbrev pub number : ℕ → Format ℕ
 number k = octetwise (numberFront k) (highFirstOctets k) (λ v. v < 256 ^ k)
 
--- one octet that is not over `most`
+-- one octet, at most `most`
 abbrev pub octetTo : ℕ → Format ℕ
 octetTo most = guarded badImage (λ v. leb v most) (number 1)
 
@@ -64,7 +63,7 @@ abbrev pub octetIs : ℕ → Format ℕ
 octetIs octet = guarded badImage (λ v. eqb v octet) (number 1)
 
 -- ---- packets and messages
--- "their length by the datagram's rule, 0 allowed", and their octets
+-- rule 20.6: a length by the length rule, 0 allowed, and that many octets
 abbrev pub partTaken : List ℕ → Answer Part → Finding (List ℕ)
 partTaken s (done p) = found (octetsOf s p) (after p)
 partTaken s (refused why) = stopped why

@@ -1,5 +1,5 @@
--- What the calls on images owe: document 02, request 9. Each promise settles the answer and all lent memory, for every session of the
--- struct's type and every text. Definitions only.
+-- What the calls on images promise (rules 20.18 and 20.19). Each promise settles the answer and the caller's memory, for every session of
+-- the struct's type and every text. Definitions only.
 use mathlib.Core.Path.{_≡_}
 use mathlib.Core.List.{List}
 use Prim.Native.Nat.{ℕ}
@@ -17,12 +17,12 @@ use Rattle.image.specs.declared.Restore.{Restore}
 use Rattle.image.specs.declared.Restore.the-variants as restore
 use Rattle.image.specs.declared.Restored.{Restored}
 
--- ---- write: the session's image to the front of a lent buffer
+-- ---- write: the session's image, to the front of the caller's buffer
 abbrev pub ImageWritten : Session → List ℕ → List ℕ → Written → Type 0
 ImageWritten s old new r = Puts (imageToWrite versionWritten (lentBy s)) old new r
 
 -- ---- read: the session that the text is an image of
--- each case of the answer, with the session as document 01 sees it
+-- the answer of each case, with the view of the session
 abbrev pub restoreOutcome : Restore → View → Answer View
 restoreOutcome restore.Done view = done view
 restoreOutcome (restore.Refused why) view = refused why
@@ -30,7 +30,7 @@ restoreOutcome (restore.Refused why) view = refused why
 abbrev pub restoredOutcome : Restored → Answer View
 restoredOutcome r = restoreOutcome (r .answer) (viewOf (r .session))
 
--- what is restored is within its ranges; "nothing is restored" of a refused text, and the session is a fresh one
+-- rule 20.18: a restored session is within its ranges; of a refused text nothing is restored, and the session is a fresh one
 abbrev pub Restores : Restore → Session → Type 0
 Restores restore.Done s = InRanges (lentBy s)
 Restores (restore.Refused why) s = Fresh s

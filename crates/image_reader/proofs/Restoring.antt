@@ -51,7 +51,7 @@ cleared-zeros =
       messages = λ k. zero-at messageOctets k;
     }
 
--- ---- what is laid is within the ranges exactly if document 01 sees it so
+-- ---- what is stored is within the ranges exactly if its view is
 ranges-of : (l : Lent) → Laid (l .table) (l .octets) (l .messages) → inRanges (viewIn l) ≡ true → InRanges l
 unfolding viewIn
 ranges-of l laid e =

@@ -1,5 +1,5 @@
--- A session that is filled place by place: a cleared one is so with no numbers, and what a filled one shows is its numbers, laid as
--- document 01 asks. Assumes nothing.
+-- A session that is filled place by place: a cleared one is so with no numbers, and what a filled one shows is its numbers, stored
+-- as `session_held` lays them out. Assumes nothing.
 use Prim.Native.Nat.{ℕ, _+_, _≤_, _<_}
 use mathlib.Core.Path.{_≡_, refl, sym, ap, ap₂, _∙_}
 use mathlib.Core.Bool.{Bool, true, false}

@@ -1,4 +1,4 @@
--- What the functions owe that find the packet and the messages in the octets of a number's line. Definitions only.
+-- What the functions promise that find the packet and the messages in the octets of a number's line (rule 20.6). Definitions only.
 use Prim.Native.Nat.{ℕ}
 use mathlib.Core.Path.{_≡_}
 use mathlib.Core.Bool.{true, false}
@@ -23,7 +23,7 @@ ItemCase limit s at item.Misshapen = NoItem limit s at
 pub record ItemTold (limit : ℕ) (s : List ℕ) (at : ℕ) (r : Item) : Type 0 where
   pub answer : ItemCase limit s at r
 
--- so many of them, one after the other, and where they end
+-- `count` of them, one after the other, and where the last one ends
 pub record ItemsRead (limit : ℕ) (s : List ℕ) (first count end : ℕ) (parts : List Part) : Type 0 where
   pub read : itemsAt messageLeast limit s first count ≡ done parts
   pub ends : endOf first parts ≡ end

@@ -1,5 +1,5 @@
--- How the numbers that were read stand in a session's table and stores, slot by slot: those that are not read yet are unknown and hold
--- nothing. And what the functions owe that lay them there. Definitions only.
+-- How the numbers that were read are stored in a session's table and stores, slot by slot; numbers not read yet are unknown and hold
+-- nothing. And what the functions promise that store them there. Definitions only.
 use Prim.Native.Nat.{ℕ, _+_, _≤_, _<_}
 use mathlib.Core.Path.{_≡_}
 use mathlib.Core.Bool.{Bool, true}
@@ -45,7 +45,7 @@ pub record MessageIs (t g : List ℕ) (k : ℕ) (message : List ℕ) : Type 0 wh
 abbrev pub MessagesAre : List ℕ → List ℕ → ℕ → List (List ℕ) → Type 0
 MessagesAre t g j messages = (i : ℕ) → i < messagesLimit → MessageIs t g (messageSlot j i) (getD messages i [])
 
--- slot j holds this
+-- slot j of numbers from the base on holds this mark, n and messages
 pub record HeldIs (t g : List ℕ) (j : ℕ) (h : Held) : Type 0 where
   pub mark : markIn t j ≡ flagBit (h .accepted)
   pub n : nIn t j ≡ h .n
@@ -53,7 +53,7 @@ pub record HeldIs (t g : List ℕ) (j : ℕ) (h : Held) : Type 0 where
   pub few : length (h .messages) ≤ messagesLimit
   pub messages : MessagesAre t g j (h .messages)
 
--- ---- a session with that base, of which so many numbers are read, from 32 before the base upward
+-- ---- a session with that base, of which `rows` are the numbers read so far, from 32 before the base upward (rule 20.3)
 abbrev pub notYet : layout.Number
 notYet = record { cell = unknownCell; held = nothingHeld }
 
@@ -68,7 +68,7 @@ pub record Filled (base : ℕ) (rows : List layout.Number) (t o g : List ℕ) : 
   pub kept : (p : ℕ) → p < keptNumbers → KeptIs t o (slotAt base p) ((getD rows p notYet) .cell)
   pub held : (d : ℕ) → d < keptAhead → HeldIs t g (heardSlotAt base d) ((getD rows (keptBefore + d) notYet) .held)
 
--- ---- what is owed
+-- ---- what the functions promise
 -- the octets of the part at the front of the slot, and how many they are
 pub record PartLaid (slot : ℕ) (s : List ℕ) (p : Part) (old new : List ℕ) (r : ℕ) : Type 0 where
   pub size : r ≡ length (octetsOf s p)
@@ -88,7 +88,7 @@ pub record MessagesFit (s : List ℕ) (parts : List Part) (count : ℕ) : Type 0
   pub there : count ≤ length parts
   pub each : (i : ℕ) → i < count → PartInside messageLeast messageLimit s (getD parts i nowhere)
 
--- so many messages, in slots that held none; the table before the messages' sizes and the messages of every other number stay
+-- `count` messages are stored in slots that held none; the table before the messages' sizes and the messages of other numbers are unchanged
 pub record MessagesLaid (j : ℕ) (s : List ℕ) (parts : List Part) (count : ℕ) (t g newT newG : List ℕ) : Type 0 where
   pub long : length newT ≡ length t
   pub octets : length newG ≡ length g
@@ -104,7 +104,7 @@ pub record LineFits (ahead : Bool) (s : List ℕ) (r : Number) : Type 0 where
   pub read : NumberIs limit ahead s (partsOf r)
   pub counted : length (take (r .m) (r .parts)) ≡ r .m
 
--- one number more
+-- one number more is stored
 pub record LaysNumber (base : ℕ) (ahead : Bool) (k : ℕ) (s : List ℕ) (r : Number) (t o g newT newO newG : List ℕ) : Type 0 where
   pub sized : Lengths newT newO newG
   pub lays : (rows : List layout.Number) → length rows ≡ fromBase ahead keptBefore + k → Filled base rows t o g

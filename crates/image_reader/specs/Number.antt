@@ -1,5 +1,5 @@
--- The line of a number by its items: which octets they are, and which parts of them the packet and the messages are. That these are what
--- the layout reads is proved. And what the functions owe that find them. Definitions only.
+-- The items of a number's line (rules 20.4 to 20.7): which octets they are, and which parts of the line the packet and the messages are.
+-- They are proved equal to what `Layout` of `image` reads. And what the functions promise that find them. Definitions only.
 use Prim.Native.Nat.{ℕ, _+_, _*_, _≤_}
 use mathlib.Core.Path.{_≡_}
 use mathlib.Core.Bool.{Bool, true, false}
@@ -16,7 +16,7 @@ use Rattle.image.specs.Layout.{fromBase}
 use Rattle.image_reader.specs.declared.number.Tail.{Tail}
 use Rattle.image_reader.specs.declared.number.Number.{Number}
 
--- ---- n, m and m messages from a place on, and nothing after them
+-- ---- n, m and m messages from a place on, and nothing after them (rule 20.15)
 pub record TailIs (limit : ℕ) (ahead : Bool) (s : List ℕ) (at n : ℕ) (messages : List Part) : Type 0 where
   pub room : at + 2 ≤ length s
   pub covered : n ≡ getD s at 0
@@ -50,7 +50,7 @@ pub record NumberIs (limit : ℕ) (ahead : Bool) (s : List ℕ) (x : LineParts) 
   pub packet : itemAt messageLeast limit s 4 ≡ done (x .packet)
   pub tail : TailIs limit ahead s (after (x .packet)) (x .n) (x .messages)
 
--- and the number that it is
+-- the number that these items make
 abbrev pub numberBy : List ℕ → LineParts → layout.Number
 numberBy s x =
     record {
@@ -58,7 +58,7 @@ numberBy s x =
       held = record { accepted = ltb 0 (x .mark); n = x .n; messages = map (octetsOf s) (x .messages) };
     }
 
--- as it is told
+-- the items that the code returns
 abbrev pub partsOf : Number → LineParts
 partsOf r =
     record {
@@ -75,7 +75,7 @@ pub record NumberTold (limit : ℕ) (ahead : Bool) (s : List ℕ) (r : Number) :
   pub counted : r .read ≡ true → length (take (r .m) (r .parts)) ≡ r .m
   pub none : r .read ≡ false → (x : LineParts) → NumberIs limit ahead s x → ⊥
 
--- ---- nothing told
+-- ---- nothing was read
 pub record NoTail (r : Tail) : Type 0 where
   pub refused : r .read ≡ false
 

@@ -1,4 +1,4 @@
--- What the functions owe that read an image line by line. Definitions only.
+-- What the functions promise that read an image line by line (rules 20.2, 20.3 and 20.18). Definitions only.
 use Prim.Native.Nat.{ℕ, _+_, _*_, _≤_}
 use mathlib.Core.Path.{_≡_}
 use mathlib.Core.Bool.{Bool, true, false}
@@ -25,7 +25,7 @@ use Rattle.image_reader.specs.declared.whole.Reached.{Reached}
 use Rattle.image_reader.specs.declared.whole.Reached.the-variants as reached
 
 -- ---- the first line
--- by its octets: "edition octet 01, base in two octets, the four counts in 01's order in four each, high first"
+-- rule 20.2: its octets are the version octet, the base in two octets and the four counts in four octets each, high first
 pub record FirstIs (octet : ℕ) (s : List ℕ) (f : layout.FirstImageLine) : Type 0 where
   pub long : length s ≡ firstImageSize
   pub edition : getD s 0 0 ≡ octet
@@ -35,7 +35,7 @@ pub record FirstIs (octet : ℕ) (s : List ℕ) (f : layout.FirstImageLine) : Ty
   pub repaired : f .counts .repaired ≡ highFirst 4 (drop 11 s)
   pub lost : f .counts .lost ≡ highFirst 4 (drop 15 s)
 
--- as it is told
+-- the first line that the code returns
 abbrev pub firstTold : First → layout.FirstImageLine
 firstTold r = record { base = r .base; counts = countsOf (r .counts) }
 
@@ -47,7 +47,7 @@ pub record FirstImageTold (octet : ℕ) (s : List ℕ) (end : ℕ) (r : First) :
 pub record NoFirst (r : First) : Type 0 where
   pub refused : r .read ≡ false
 
--- the first line of a text, whatever the limit of its edition
+-- the first line of a text, whatever the limit of its version
 pub record FirstLineTold (octet : ℕ) (text : List ℕ) (r : First) : Type 0 where
   pub right : r .read ≡ true → (limit : ℕ)
       → lineFront (layout.firstImageLine (record { octet = octet; limit = limit })) text ≡ found (firstTold r) (r .end)
@@ -70,7 +70,7 @@ LineCase limit ahead base k text t o g newT newO newG reached.Misshapen =
 pub record LineTold (limit : ℕ) (ahead : Bool) (base k : ℕ) (text t o g newT newO newG : List ℕ) (r : Reached) : Type 0 where
   pub answer : LineCase limit ahead base k text t o g newT newO newG r
 
--- ---- the lines before the base, or from it on
+-- ---- the lines before the base, or those from the base on
 abbrev pub numberLines : ℕ → Bool → Format (List layout.Number)
 numberLines limit ahead = sequenceOf keptAhead (line (numberLine limit ahead))
 
@@ -102,19 +102,19 @@ pub record Cleared (t o g : List ℕ) : Type 0 where
   pub octets : (k : ℕ) → getD o k 0 ≡ 0
   pub messages : (k : ℕ) → getD g k 0 ≡ 0
 
--- what read_core owes: the session that the text reads as, laid as document 01 asks; or that it is no image
+-- what read_core promises: the session that the text reads as, stored as `session_held` lays it out, or that the text is no image
 pub record CoreTold (octet limit : ℕ) (text t o g : List ℕ) (r : First) : Type 0 where
   pub right : r .read ≡ true
       → readWhole (image (record { octet = octet; limit = limit })) text ≡ done (viewIn (lent (r .base) (r .counts) t o g))
   pub laid : r .read ≡ true → Laid t o g
   pub none : r .read ≡ false → readWhole (image (record { octet = octet; limit = limit })) text ≡ refuse badImage
 
--- what reading a text in one edition owes
+-- what reading a text in one version promises
 pub record EditionRead (octet limit : ℕ) (text : List ℕ) (r : Restored) : Type 0 where
   pub answer : restoredOutcome r ≡ readImage (record { octet = octet; limit = limit }) text
   pub state : Restores (r .answer) (r .session)
 
--- a refused text: "nothing is restored"
+-- rule 20.18: a refused text restores nothing
 pub record NothingRestored (number : ℕ) (r : Restored) : Type 0 where
   pub answer : r .answer ≡ restore.Refused (refusal number)
   pub state : Fresh (r .session)

@@ -1,5 +1,5 @@
-// The packet and the messages of a number's line, as parts of its octets: "Packet and messages carry their length by the datagram's
-// rule, 0 allowed". Whatever is wrong with one of them is one refusal, so that no cause is told.
+// The packet and the messages of a number's line, as parts of its octets, each with its length by the length rule, 0 allowed (rule 20.6).
+// Whatever is wrong with one of them is 20 (rule 20.15), so no cause is returned.
 use datagram::Message;
 use datagram::Parity;
 use datagram::Part;
@@ -15,7 +15,7 @@ pub enum Item {
     Misshapen,
 }
 
-// So many of them, one after the other: whether they are there, and where the last one ends. Places past their count are empty.
+// Several of them, one after the other: whether they are there, and where the last one ends. Places past their count are empty.
 pub struct Items {
     pub read: bool,
     pub end: usize,
@@ -38,7 +38,7 @@ pub fn item_at(s: &[u8], at: usize, limit: usize) -> Item
     Item::Found(Part { start, size })
 }
 
-// The messages, of which there are `count`.
+// The messages, `count` of them.
 pub fn items_at(s: &[u8], first: usize, count: usize, limit: usize) -> Items
     requires { ⌜ first ≤ length (now s) ⌝ }
     requires { ⌜ count ≤ messagesLimit ⌝ }

@@ -1,5 +1,5 @@
-// A number that was read, laid into its slots of a session: the table and the stores hold zeros there, as in every slot of a number that
-// is not read yet.
+// Stores a number that was read in its slots of a session. The table and the stores hold zeros there, as in every slot of a number not read
+// yet.
 use crate::number::Number;
 use datagram::Parity;
 use datagram::Part;
@@ -17,7 +17,7 @@ ghost use Rattle.image.specs.Layout.{fromBase};
 ghost use Rattle.image_reader.specs.Laying.{PartLaid, KeptLaid, MessageLaid, MessagesFit, MessagesLaid, LineFits, LaysNumber};
 ghost use Rattle.image_reader.specs.Laying.{Lengths};
 
-// The octets of a part of the line s, laid at the front of a slot: hands back how many.
+// Copies the octets of a part of the line s to the front of a slot, and returns how many they are.
 fn put_part(o: &mut [u8], slot: usize, s: &[u8], part: Part) -> u16
     requires { ⌜ HasSlot slot (now o) ⌝ }
     requires { ⌜ PartInside messageLeast messageLimit (now s) part ⌝ }
@@ -79,7 +79,7 @@ fn lay_messages(
     }
 }
 
-// The mark, n and m of a number from the base on, as the line has them: they may be outside the ranges.
+// The mark, n and m of a number from the base on, as the line has them: they may be outside the ranges (rule 20.17).
 fn set_held(t: &mut [u16], j: usize, mark: u16, n: u16, m: u16)
     requires { ⌜ length (now t) ≡ places ⌝ }
     requires { ⌜ j < slotsHeard ⌝ }
@@ -90,7 +90,7 @@ fn set_held(t: &mut [u16], j: usize, mark: u16, n: u16, m: u16)
     t[Session::MS + j] = m;
 }
 
-// The place in the view of the k-th number before the base, or from it on.
+// The place in the view of the k-th number before the base, or from the base on.
 fn place_of(ahead: bool, k: usize) -> usize
     requires { ⌜ k < keptAhead ⌝ }
     ensures { λ r. ⌜ r ≡ fromBase ahead keptBefore + k ⌝ }
@@ -101,7 +101,7 @@ fn place_of(ahead: bool, k: usize) -> usize
     k
 }
 
-// The k-th number before the base, or from it on, of which s is the line.
+// The k-th number before the base, or from the base on; s is its line.
 pub fn lay(
     base: u16,
     ahead: bool,

@@ -1,6 +1,5 @@
-// An image of a receiving session read back: document 02, request 9, as `image` defines it. "Refusals: reading, 20, a line missing, extra
-// or misshapen .., then 17, and nothing is restored". And request 10: "edition 01 is still read, under the old limit ..; 21, any other
-// edition octet, before 20 where that octet can be read".
+// Reads an image of a receiving session, as `image` defines it, in version 02 or 01 (rule 20.9). The order is 21, then 20 over the whole
+// image, then 17 (rules 20.12 and 20.18).
 mod items;
 mod laying;
 mod number;
@@ -31,7 +30,7 @@ fn refused(number: u8) -> Restored
     Restored { session, answer }
 }
 
-// The session that a text is an image of, in the edition with this octet, in which packets have at most `limit` octets.
+// The session that a text is an image of, in the version with this octet, in which packets have at most `limit` octets.
 fn read_edition(text: &[u8], edition: u8, limit: usize) -> Restored
     requires { ⌜ limit ≤ packetLimit ⌝ }
     ensures { λ r. ⌜ EditionRead edition limit (now (text .entry)) r ⌝ }
@@ -60,7 +59,7 @@ fn read_edition(text: &[u8], edition: u8, limit: usize) -> Restored
     refused(Refusal::OUTSIDE_RANGES)
 }
 
-// The session that a text is an image of, by the edition that it names. Any octets may be handed in.
+// The session that a text is an image of, in the version that it names. The text may be any octets.
 pub fn read(text: &[u8]) -> Restored
     ensures { λ r. ⌜ ImageRead (now (text .entry)) r ⌝ }
 {

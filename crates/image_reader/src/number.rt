@@ -1,5 +1,5 @@
-// The line of a number: "a state octet (0 to 4 in 01's order), accepted octet 00 or 01, note in two, packet, n, m and m messages", and
-// "before the base accepted, n and m are 00". Its packet and messages are told as parts of its octets.
+// The line of a number (rules 20.4, 20.5, 20.7 and 20.13): state octet, accepted octet, note in two octets, packet, n, m and m messages.
+// Its packet and messages are returned as parts of its octets.
 use crate::items::Item;
 use crate::items::item_at;
 use crate::items::items_at;
@@ -12,12 +12,12 @@ ghost use lib.ListN.{length, getD};
 ghost use Rattle.image.specs.Layout.{fromBase};
 ghost use Rattle.image_reader.specs.Number.{TailTold, NumberTold, NoTail, NoNumber};
 
-// The most of n and of m, in the table's sixteen bits.
+// The greatest n and m, in the table's sixteen bits.
 const COVERED: u16 = Parity::PACKETS as u16;
 
 const FEW: u16 = Parity::MESSAGES as u16;
 
-// What stands after the packet, and whether that is right.
+// What follows the packet, and whether it reads.
 pub struct Tail {
     pub read: bool,
     pub n: u16,
@@ -25,7 +25,7 @@ pub struct Tail {
     pub parts: [Part; Parity::MESSAGES],
 }
 
-// A line, and whether it is right.
+// A line, and whether it reads.
 pub struct Number {
     pub read: bool,
     pub state: u16,
@@ -53,7 +53,7 @@ pub fn two(high: u8, low: u8) -> u16
     (high as u16) * 256 + (low as u16)
 }
 
-// The most that may stand in a line: before the base nothing.
+// The greatest value that a line may have: before the base it is 0.
 fn from_base(ahead: bool, most: u16) -> u16
     ensures { λ r. ⌜ r ≡ fromBase ahead most ⌝ }
 {
@@ -126,7 +126,7 @@ fn tail_at(s: &[u8], at: usize, limit: usize, ahead: bool) -> Tail
     }
 }
 
-// The octets of a line.
+// The number whose line has these octets.
 pub fn number_in(s: &[u8], limit: usize, ahead: bool) -> Number
     ensures { λ r. ⌜ NumberTold limit ahead (now (s .entry)) r ⌝ }
 {

@@ -1,5 +1,5 @@
-// The lines of an image as text: "lines of upper-case hexadecimal, each ended by a line feed". A line ends at the first character that
-// is no upper-case digit, so that one look at its characters finds its end and tells that it is of digits.
+// The lines of an image as text: upper-case hexadecimal digits, each line ended by a line feed (rule 20.1). The reader looks for the first
+// character that is no upper-case digit, so one pass both finds the end of a line and checks its digits.
 use line::Line;
 use line_hex::pair_up;
 ghost use mathlib.Core.Path.{_≡_};
@@ -25,7 +25,7 @@ fn is_upper(c: u8) -> bool
     (decimal < 10) | (letter < 6)
 }
 
-// Whether the next characters are upper-case digits: so many at a time that the compiler takes them together.
+// Whether the next `Line::NEAR` characters are upper-case digits; the compiler can check that many together.
 fn is_near(s: &[u8], at: usize) -> bool
     requires { ⌜ at + lookedAt ≤ length (now s) ⌝ }
     ensures { λ r. ⌜ r ≡ allBelow lookedAt (upperAt (now (s .entry)) at) ⌝ }
@@ -39,7 +39,7 @@ fn is_near(s: &[u8], at: usize) -> bool
     all
 }
 
-// Where the upper-case digits at the front end, of which there are some.
+// Where the upper-case digits at the front end, if all before `from` are such digits.
 fn run_from(s: &[u8], from: usize) -> usize
     requires { ⌜ UpperTo (now s) from ⌝ }
     ensures { λ r. ⌜ UpperRun (now (s .entry)) r ⌝ }
@@ -68,7 +68,7 @@ fn upper_run(s: &[u8]) -> usize
     run_from(s, at)
 }
 
-// The line at the front of a text, its octets to the front of out.
+// The line at the front of a text; its octets go to the front of out.
 pub fn take_line(text: &[u8], out: &mut [u8]) -> Taken
     ensures { λ r. ⌜ LineTaken (now (text .entry)) (now (out .entry)) (now (out .exit)) r ⌝ }
 {
@@ -92,13 +92,13 @@ pub fn take_line(text: &[u8], out: &mut [u8]) -> Taken
     Taken::Octets(count, next)
 }
 
-// The edition that a text names.
+// The version that a text names.
 pub enum Named {
     Octet(u8),
     Nothing,
 }
 
-// "where that octet can be read": the first two characters are upper-case digits.
+// The version octet can be read if the first two characters are upper-case digits (rule 20.12).
 pub fn edition_named(text: &[u8]) -> Named
     ensures { λ r. ⌜ EditionTold (now (text .entry)) r ⌝ }
 {

@@ -1,5 +1,5 @@
-// The whole of an image: its first line, the lines before the base, those from it on, and nothing after them. The edition and the packet
-// limit are arguments: one layout serves every edition.
+// The whole of an image: its first line, the lines before the base, those from the base on, and nothing after them. The version octet and
+// the packet limit are arguments: one layout serves both versions (rule 30.11).
 use crate::laying::lay;
 use crate::number::number_in;
 use crate::number::two;
@@ -18,7 +18,7 @@ ghost use Rattle.image.specs.Image.{numberLineLimit};
 ghost use Rattle.image_reader.specs.Laying.{Lengths};
 ghost use Rattle.image_reader.specs.Whole.{FirstImageTold, FirstLineTold, LineTold, LinesTold, NoFirst, Cleared, CoreTold};
 
-// The first line, and whether it is right.
+// The first line, and whether it reads.
 pub struct First {
     pub read: bool,
     pub base: u16,
@@ -59,7 +59,7 @@ fn no_first() -> First
     }
 }
 
-// "edition octet 01, base in two octets, the four counts in 01's order in four each, high first".
+// Version octet, base in two octets, the four counts in four octets each, high first (rule 20.2).
 fn first_in(s: &[u8], edition: u8, end: usize) -> First
     ensures { λ r. ⌜ FirstImageTold edition (now (s .entry)) end r ⌝ }
 {
@@ -99,7 +99,7 @@ fn first_line(text: &[u8], edition: u8) -> First
     }
 }
 
-// The line of the k-th number before the base, or from it on, at the front of a text.
+// The line of the k-th number before the base, or from the base on, at the front of a text.
 fn read_line(
     text: &[u8],
     limit: usize,
@@ -132,7 +132,7 @@ fn read_line(
     }
 }
 
-// The lines before the base, or those from it on.
+// The lines before the base, or those from the base on.
 fn read_lines(
     text: &[u8],
     from: usize,
@@ -166,7 +166,7 @@ fn read_lines(
     Reached::At(at)
 }
 
-// A text as an image of that edition, with packets and messages of at most `limit` octets, into a table and stores that hold zeros.
+// A text as an image of that version, with packets and messages of at most `limit` octets, into a table and stores that hold zeros.
 pub fn read_core(
     text: &[u8],
     edition: u8,

@@ -1,5 +1,5 @@
--- The lines of an image as the code goes by them: what the table says of the number at a place of the view, the text of its line, and how
--- long that is. It is proved to be the image that `image` defines. Definitions only.
+-- The lines of an image as the code writes them (rules 20.2 to 20.7): what the table holds of the number at a place of the view, the text
+-- of its line, and how long that is. The text is proved equal to the image that `image` defines. Definitions only.
 use Prim.Native.Nat.{ℕ, _+_, _-_, _*_, _/_, _%_, _≤_, _<_}
 use mathlib.Core.Path.{_≡_}
 use mathlib.Core.Bool.{false, cond}
@@ -27,7 +27,7 @@ use Rattle.image_writer.specs.declared.rows.Row.{Row}
 pub record Room (text old : List ℕ) (at : ℕ) : Type 0 where
   pub fits : at + length text ≤ length old
 
--- what a session within its ranges says of its table alone
+-- what follows for the table of a session within its ranges
 pub record TableFits (t : List ℕ) : Type 0 where
   pub long : length t ≡ places
   pub state : (i : ℕ) → i < slotsKept → stateIn t i ≤ lastState
@@ -35,7 +35,7 @@ pub record TableFits (t : List ℕ) : Type 0 where
   pub few : (j : ℕ) → j < slotsHeard → mIn t j ≤ messagesLimit
   pub part : (j i : ℕ) → j < slotsHeard → i < messagesLimit → messageSizeIn t (messageSlot j i) ≤ packetLimit
 
--- ---- what the table says of the number at place p of the view: "before the base accepted, n and m are 00"
+-- ---- what the table holds of the number at place p of the view; before the base accepted, n and m are 00 (rule 20.7)
 abbrev pub rowBefore : ℕ → Row
 rowBefore slot = record { slot = slot; heard = 0; accepted = false; n = 0; m = 0 }
 
@@ -56,8 +56,8 @@ pub record ImageRowTold (base : ℕ) (t : List ℕ) (p : ℕ) (r : Row) : Type 0
   pub answer : r ≡ imageRowAt base t p
   pub fits : RowFits r
 
--- ---- its line
--- state, accepted, note; packet
+-- ---- its line (rule 20.4)
+-- state, accepted octet, note; packet
 abbrev pub keptFront : List ℕ → Row → List ℕ
 keptFront t row =
     stateIn t (row .slot) % 256 ∷ flagBit (row .accepted) ∷ noteIn t (row .slot) / 256 % 256 ∷ noteIn t (row .slot) % 256 ∷ []
@@ -89,7 +89,7 @@ rowText t o g row =
 abbrev pub rowsText : ℕ → List ℕ → List ℕ → List ℕ → List ℕ
 rowsText base t o g = allTexts slotsKept (λ p. rowText t o g (imageRowAt base t p))
 
--- the first line: the edition's octet, base, counts
+-- the first line (rule 20.2): the version octet, base, counts
 abbrev pub firstText : ℕ → ℕ → Counts → List ℕ
 firstText octet base counts =
     hexOf (octet ∷ base / 256 % 256 ∷ base % 256 ∷ [])
@@ -107,7 +107,7 @@ rowSize t row = lineSize (6 + itemSize (sizeIn t (row .slot))) + messagesSize t 
 abbrev pub rowsSize : ℕ → List ℕ → ℕ
 rowsSize base t = sumOf (tab slotsKept (λ p. rowSize t (imageRowAt base t p)))
 
--- a size that is told, and the most that it can be
+-- a size that is returned, and the most that it can be
 pub record SizeWithin (size most r : ℕ) : Type 0 where
   pub answer : r ≡ size
   pub few : r ≤ most

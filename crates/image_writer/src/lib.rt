@@ -1,4 +1,4 @@
-// A receiving session written as an image: document 02, request 9, as `image` defines it.
+// Writes a receiving session as an image of version 02, as `image` defines it (rules 20.8 and 20.19).
 mod numbers;
 mod rows;
 
@@ -19,7 +19,7 @@ ghost use Rattle.image.specs.Layout.{versionWritten};
 ghost use Rattle.image.specs.Image.{imageToWrite};
 ghost use Rattle.image.specs.Promise.{ImageWritten};
 
-// The session's image to the front of out: 17 for a session outside its ranges, then 13 where it is longer than out.
+// The session's image to the front of out: 17 if the session is outside its ranges, then 13 if the image is longer than out.
 pub fn write(s: Session, out: &mut [u8]) -> Written
     ensures { λ r. ⌜ ImageWritten s (now (out .entry)) (now (out .exit)) r ⌝ }
 {
@@ -31,7 +31,8 @@ pub fn write(s: Session, out: &mut [u8]) -> Written
     write_core(base, counts, &table, &octets, &messages, out)
 }
 
-// The same of a session that is lent. It serves callers inside this repository: it requires the lengths of the table and the stores.
+// The same for a session in the caller's memory. Only callers inside this repository use it: it requires the lengths of the table and the
+// stores.
 pub fn write_core(
     base: u16,
     counts: Counts,

@@ -1,4 +1,5 @@
-// The lines of an image, in upper-case hexadecimal. Each writer lays its text into out from a place on, and answers the place after it.
+// The lines of an image, in upper-case hexadecimal (rules 20.1 to 20.6). Each function writes its text to out from a place on, and returns
+// the place after it.
 use crate::rows::Row;
 use crate::rows::row_at;
 use datagram::Packet;
@@ -45,7 +46,7 @@ fn put_count(count: u32, out: &mut [u8], at: usize) -> usize
     put_digits(&octets, out, at)
 }
 
-// The first line: edition, base and counts.
+// The first line: version, base and counts.
 pub fn put_first(base: u16, counts: Counts, out: &mut [u8], at: usize) -> usize
     requires { ⌜ Room (firstText (versionWritten .octet) base counts) (now out) at ⌝ }
     ensures { λ r. ⌜ Appends (firstText (versionWritten .octet) base counts) (now (out .entry)) at (now (out .exit)) r ⌝ }
@@ -61,7 +62,7 @@ pub fn put_first(base: u16, counts: Counts, out: &mut [u8], at: usize) -> usize
     end_line(out, end)
 }
 
-// A packet or message with its length, read where it is stored.
+// A packet or message with its length, read from its slot.
 fn put_item(store: &[u8], slot: usize, size: usize, out: &mut [u8], at: usize) -> usize
     requires { ⌜ HasSlot slot (now store) ⌝ }
     requires { ⌜ size ≤ packetLimit ⌝ }
@@ -75,7 +76,7 @@ fn put_item(store: &[u8], slot: usize, size: usize, out: &mut [u8], at: usize) -
     put_digits(&octets[..count], out, at)
 }
 
-// State, accepted, note and packet.
+// State, accepted octet, note and packet.
 fn put_kept(t: &[u16], o: &[u8], row: Row, out: &mut [u8], at: usize) -> usize
     requires { ⌜ TableFits (now t) ⌝ }
     requires { ⌜ length (now o) ≡ keptOctets ⌝ }
@@ -133,7 +134,7 @@ fn put_row(t: &[u16], o: &[u8], g: &[u8], row: Row, out: &mut [u8], at: usize) -
     end_line(out, end)
 }
 
-// "then 64 lines, from 32 before the base upward".
+// The 64 lines of the kept numbers, from 32 before the base upward (rule 20.3).
 pub fn put_rows(base: u16, t: &[u16], o: &[u8], g: &[u8], out: &mut [u8], at: usize) -> usize
     requires { ⌜ TableFits (now t) ⌝ }
     requires { ⌜ length (now o) ≡ keptOctets ⌝ }

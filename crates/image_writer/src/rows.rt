@@ -1,4 +1,4 @@
-// What the table says of the number at a place of the view, and how many characters its line has.
+// What the table holds of the number at a place of the view, and how many characters its line has.
 use datagram::Parity;
 use datagram_writer::item_size;
 use session_held::Session;
@@ -8,7 +8,7 @@ ghost use Rattle.session_held.specs.Slots.{slotsKept, slotsHeard};
 ghost use Rattle.image.specs.Image.{lineSize, longestItem, numberLineLimit};
 ghost use Rattle.image_writer.specs.Rows.{TableFits, RowFits, ImageRowTold, SizeWithin, messagesSize, rowSize, rowsSize};
 
-// The slot of a kept number; of one from the base on its other slot too, and what is heard of it.
+// The slot of a kept number; for a number from the base on also its slot for accepted mark, n and m, and these three.
 pub struct Row {
     pub slot: usize,
     pub heard: usize,
@@ -64,7 +64,7 @@ fn messages_size(t: &[u16], heard: usize, m: usize) -> usize
     size
 }
 
-// The characters of a line: state, accepted, note, n and m are six octets.
+// The characters of a line: state, accepted octet, note, n and m are six octets.
 fn row_size(t: &[u16], row: Row) -> usize
     requires { ⌜ TableFits (now t) ⌝ }
     requires { ⌜ RowFits row ⌝ }

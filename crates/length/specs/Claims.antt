@@ -1,4 +1,5 @@
--- The claims of this crate, and the words that they are said in.
+-- The claims of this crate: the length rule, proved once for packets, spares, messages and counts (rules 28.4 and 28.17); and the
+-- definitions that they use. Definitions only.
 use Prim.Native.Nat.{ℕ, _≤_, _<_}
 use mathlib.Core.Path.{_≡_}
 use mathlib.Core.List.{List, _++_}
@@ -13,16 +14,16 @@ use Rattle.length.specs.declared.Written.{Written}
 abbrev pub Octets : List ℕ → Type 0
 Octets s = (i : ℕ) → getD s i 0 < 256
 
--- a length that was written reads back to the same value and size, whatever follows it
+-- a length that was written reads back to the same value and size, whatever follows it (rules 3.7 and 28.4)
 abbrev pub WrittenReads : Type 0
 WrittenReads = (n : ℕ) (rest : List ℕ) → n ≤ lengthLimit
     → lengthAt (lengthOctets n ++ rest) ≡ done (record { value = n; size = length (lengthOctets n) })
 
--- a length that was read writes back to the same octets
+-- a length that was read writes back to the same octets (rule 28.4)
 abbrev pub ReadWrites : Type 0
 ReadWrites = (s : List ℕ) (a : LengthAnswer) → Octets s → lengthAt s ≡ done a → lengthOctets (a .value) ≡ take (a .size) s
 
--- two outcomes that a promise allows are equal
+-- two outcomes that a promise allows are equal (rule 28.14)
 pub record OneOutcome : Type 0 where
   pub read : {s : List ℕ} {r q : Length} → LengthRead s r → LengthRead s q → r ≡ q
   pub readWithin : {least most : ℕ} {s : List ℕ} {r q : Length} → WithinRead least most s r → WithinRead least most s q → r ≡ q

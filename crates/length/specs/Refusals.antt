@@ -1,33 +1,33 @@
--- Document 01, 'Refusals by number': the names that the definitions use for the numbers, and how a refusal is made and passed on.
--- Definitions only.
+-- The names that the definitions use for the numbers of refusals (rules 2.1 to 2.23), and how a refusal is made and passed up (rules 2.27,
+-- 2.30 and 2.31). There is no refusal 19 (rule 2.19). Definitions only.
 use Prim.Native.Nat.{ℕ, _+_}
 use Rattle.length.specs.declared.Refusal.{Refusal}
 
--- input ends inside an item or before one that must come; empty input
+-- the input ends inside an item or before one that must come; an empty input too (rule 2.1)
 abbrev pub endsEarly : ℕ
 endsEarly = 1
 
--- datagram over its limit, or line over its limit
+-- a datagram or a line of a trace is over its limit (rule 2.2)
 abbrev pub tooLong : ℕ
 tooLong = 2
 
--- length or count in a form not allowed
+-- a length or count has a form that is not allowed (rule 2.3)
 abbrev pub badForm : ℕ
 badForm = 3
 
--- length, count, n or m outside the sizes; integer length octet not 01
+-- a length, a count, n or m is outside the sizes; the octet before n is not 01 (rule 2.4)
 abbrev pub outsideSizes : ℕ
 outsideSizes = 4
 
--- a spare bit is set
+-- a spare bit, which must be zero, is set (rule 2.5)
 abbrev pub spareBit : ℕ
 spareBit = 5
 
--- octets left over
+-- octets are left over (rule 2.6)
 abbrev pub leftOver : ℕ
 leftOver = 6
 
--- repeated, too far ahead, late
+-- of the number of an offered datagram: accepted before, too far ahead, and late (rules 2.7 to 2.9)
 abbrev pub repeated : ℕ
 repeated = 7
 
@@ -37,69 +37,67 @@ tooFar = 8
 abbrev pub late : ℕ
 late = 9
 
--- base unknown, and no leave to skip it
+-- release without leave to skip: the number at the base is unknown (rule 2.10)
 abbrev pub baseUnknown : ℕ
 baseUnknown = 10
 
--- give up: base known. Document 02, request 7, retires it, and its number is not used again: only give up as it was (`session`, Pair)
--- has it
+-- retired: no call gives it, and its number is not used again (rule 2.11)
 abbrev pub baseKnown : ℕ
 baseKnown = 11
 
--- extension bit, or value not assigned
+-- an extension, a value or a field type is not assigned in the named edition (rule 2.12)
 abbrev pub notAssigned : ℕ
 notAssigned = 12
 
--- the result is longer than the lent buffer
+-- the result is longer than the caller's buffer (rule 2.13)
 abbrev pub noRoom : ℕ
 noRoom = 13
 
--- data where none may be, or none where it must
+-- data where none may be, or none where it must be (rule 2.14)
 abbrev pub wrongData : ℕ
 wrongData = 14
 
--- settings outside the sizes; given lengths that don't sum to the data, or not one for each field type; a line not of
--- paired hexadecimal digits
+-- settings are outside the sizes; the edition is neither old nor new; given lengths do not sum to the data, or are not one for each field
+-- type; a line is not made of paired hexadecimal digits; the kind octet of a C call is neither 0 nor 1 (rule 2.15)
 abbrev pub wrongSettings : ℕ
 wrongSettings = 15
 
--- 1,000,000 numbers have passed
+-- 1,000,000 numbers have passed (rule 2.16)
 abbrev pub allPassed : ℕ
 allPassed = 16
 
--- session outside its ranges; a joiner outside its own
+-- a session, a sending session or a joiner is outside its ranges, or an image is of such a session (rule 2.17)
 abbrev pub outsideRanges : ℕ
 outsideRanges = 17
 
--- document 02, request 1: "18, the frame would pass 300"
+-- a frame would pass 300 octets (rule 2.18)
 abbrev pub frameTooLong : ℕ
 frameTooLong = 18
 
--- request 9: "20, a line missing, extra or misshapen", of an image
+-- a line of an image is missing, extra or misshapen (rule 2.20)
 abbrev pub badImage : ℕ
 badImage = 20
 
--- request 10: "21, any other edition octet", of an image
+-- an image has another version than 01 and 02 (rule 2.21)
 abbrev pub otherEdition : ℕ
 otherEdition = 21
 
--- request 12: "22, a trace with too many lines"
+-- a trace to be compared has too many lines (rule 2.22)
 abbrev pub tooManyLines : ℕ
 tooManyLines = 22
 
--- request 13: "23, no octets satisfy all equations"
+-- no octets satisfy all equations (rule 2.23)
 abbrev pub noSolution : ℕ
 noSolution = 23
 
--- document 02, request 5: "Every refusal met in reading order shall give the octet at which the refused item begins, from the start of
--- the datagram or packet". A refusal with this number, of an item that begins at this octet
+-- refusal n of an item that begins at the octet `place`, counted from the start of the datagram or packet (rule 2.27)
 abbrev pub refusalAt : ℕ → ℕ → Refusal
 refusalAt place n = record { number = n; place = place }
 
--- "refusals not met while reading give 0"; and so does the refusal of an item at the very front
+-- refusal n with place 0: it is not met while reading (rule 2.30), or its item is at the very front
 abbrev pub refusal : ℕ → Refusal
 refusal n = refusalAt 0 n
 
--- "all who call it pass it on": the same refusal, where the octets that were read begin at the octet `start` of others
+-- the same refusal, passed up by a function that reads from octet `start` on (rule 2.31)
 abbrev pub further : ℕ → Refusal → Refusal
 further start why = refusalAt (start + why .place) (why .number)

@@ -1,5 +1,5 @@
-// A length or count at the front of some octets, what it is: document 01, 'The datagram'. One rule serves packets,
-// spares, messages and counts. The project's refusal type lives here too, below every layer that gives one.
+// What a length or count is (rules 3.1 to 3.4). One definition serves packets, spares, messages and counts (rule 28.17). The refusal type
+// is defined here too, below every crate that refuses.
 ghost use Rattle.length.specs.Promise.{Octet, RefusalMade, RefusalPlaced, RefusalTold};
 ghost use mathlib.Core.Path.{_≡_};
 ghost use Prim.Native.Nat.{_+_, _^_, _<_};
@@ -7,15 +7,16 @@ ghost use Rattle.length.specs.Refusals.{further as isFurther};
 ghost use Rattle.length.specs.Length.{twoFrom, lengthLimit};
 ghost use Rattle.length.specs.Length.{within as isWithin};
 
-// Why a call was refused: document 01's number, and where: the octet at which the refused item begins, from the start of the octets
-// that were read, and 0 for a refusal that is not met while reading. It is made here alone and passed up whole, or further on.
+// Why a call was refused: the number of the refusal (rules 2.1 to 2.23) and its place. The place is the octet at which the refused item
+// begins, counted from the start of the octets that were read (rule 2.27), and 0 if the refusal is not met while reading (rule 2.30).
+// A refusal is made only here, and passed up whole or by `further`.
 pub struct Refusal {
     pub number: u8,
     pub place: usize,
 }
 
 impl Refusal {
-    // Document 01, 'Refusals by number'.
+    // The numbers (rules 2.1 to 2.23).
     pub const ENDS_EARLY: u8 = 1;
 
     pub const TOO_LONG: u8 = 2;
@@ -36,7 +37,7 @@ impl Refusal {
 
     pub const BASE_UNKNOWN: u8 = 10;
 
-    // 11 was give up's, at a known base. Document 02, request 7, retires it: its number is not used again.
+    // 11 is retired, and its number is not used again (rule 2.11).
     pub const NOT_ASSIGNED: u8 = 12;
 
     pub const NO_ROOM: u8 = 13;
@@ -49,9 +50,9 @@ impl Refusal {
 
     pub const OUTSIDE_RANGES: u8 = 17;
 
-    // Document 02, requests 1, 9, 10, 12 and 13.
     pub const FRAME_TOO_LONG: u8 = 18;
 
+    // There is no refusal 19 (rule 2.19).
     pub const BAD_IMAGE: u8 = 20;
 
     pub const OTHER_EDITION: u8 = 21;
@@ -66,14 +67,14 @@ impl Refusal {
         Refusal { number, place: 0 }
     }
 
-    // Of an item that begins at this octet.
+    // A refusal of an item that begins at the octet `place` (rule 2.27).
     pub fn at(number: u8, place: usize) -> Refusal
         ensures { λ r. ⌜ RefusalPlaced number place r ⌝ }
     {
         Refusal { number, place }
     }
 
-    // The same, where the octets that were read begin at the octet `start` of others.
+    // The same refusal, passed up by a function that reads from octet `start` on (rule 2.31).
     pub fn further(self, start: usize) -> Refusal
         requires { ⌜ start + self .place < 2 ^ 64 ⌝ }
         ensures { λ r. ⌜ r ≡ isFurther start self ⌝ }
@@ -86,17 +87,17 @@ impl Refusal {
     }
 }
 
-// What reading a length finds at the front: its value and the octets it took, or why it is refused.
+// What reading a length finds at the front: its value and how many octets it has, or why it is refused.
 pub enum Length {
     Value(usize, usize),
     Refused(Refusal),
 }
 
 impl Length {
-    // From here on a length takes two octets.
+    // From here on a length has two octets (rule 3.2).
     pub const TWO_FROM: usize = 128;
 
-    // The largest length that two octets hold.
+    // The greatest length that two octets hold (rule 3.2).
     pub const LIMIT: usize = 16383;
 
     pub fn two_from() -> usize
@@ -111,7 +112,7 @@ impl Length {
         Length::LIMIT
     }
 
-    // Why a length is refused, to be passed up whole: it is asked of a refused one alone.
+    // Why a length is refused, to be passed up whole. Callers use it only for a refused length.
     pub fn refusal(self) -> Refusal
         ensures { λ r. ⌜ RefusalTold self r ⌝ }
     {
@@ -122,7 +123,7 @@ impl Length {
     }
 }
 
-// What a call answers that writes to the front of a lent buffer: how many octets, or why it is refused.
+// What a call returns that writes to the front of the caller's buffer: how many octets it wrote, or why it is refused.
 pub enum Written {
     Octets(usize),
     Refused(Refusal),

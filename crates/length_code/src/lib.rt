@@ -1,4 +1,4 @@
-// A length or count read from octets and written to them: document 01, 'The datagram', as `length` defines it.
+// The length reader and the length writer, as `length` defines them (rules 3.1 to 3.9).
 mod reader;
 mod writer;
 

@@ -1,11 +1,11 @@
-// The length reader: document 01, 'The datagram', as `length` defines it.
+// The length reader, as `length` defines it (rules 3.1 to 3.7). Its refusals have the place of the length (rule 3.9).
 use length::Length;
 use length::Refusal;
 use length::wide;
 use length::within;
 ghost use Rattle.length.specs.Promise.{LengthRead, WithinRead};
 
-// The length or count at the front of s.
+// The length or count at the front of s; what follows it is not read (rule 3.7).
 pub fn read(s: &[u8]) -> Length
     ensures { λ r. ⌜ LengthRead (now (s .entry)) r ⌝ }
 {
@@ -31,7 +31,7 @@ pub fn read(s: &[u8]) -> Length
     Length::Value(value, 2)
 }
 
-// The length or count at the front of s, from least to most.
+// The length or count at the front of s, from least to most: 3 or 1 for its form, then 4 (rule 3.6).
 pub fn read_within(s: &[u8], least: usize, most: usize) -> Length
     ensures { λ r. ⌜ WithinRead least most (now (s .entry)) r ⌝ }
 {

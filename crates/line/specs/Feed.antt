@@ -1,5 +1,5 @@
--- The program part way through its input: document 01, 'The program', taken in character by character, so that it does not
--- matter how the input is cut into blocks. Definitions only.
+-- The program part way through its input, which it takes character by character, so that it does not matter how the input is cut into
+-- blocks (rules 18.8 and 18.12). Definitions only.
 use Prim.Native.Nat.{ℕ, _+_}
 use mathlib.Core.Path.{_≡_}
 use mathlib.Core.Bool.{cond}
@@ -30,7 +30,7 @@ lineDone now =
     let made = step (now .begun) (now .view) in
     record { text = now .text ++ made .text; view = made .after; begun = [] }
 
--- of a line that is too long no more is kept than shows it
+-- of a line that is too long, keep just enough to know that it is too long (rule 18.11)
 abbrev pub keptLimit : ℕ
 keptLimit = lineLimit + 1
 
@@ -48,19 +48,19 @@ unfoldable pub fed : List ℕ → Going → Going
 fed [] now = now
 fed (c ∷ block) now = fed block (takenIn c now)
 
--- "A last line without a line feed counts unless it is empty"
+-- rule 18.8: a last line without a line feed counts unless it is empty
 unfoldable pub atEnd : Going → Going
 atEnd now = cond (eqb (length (now .begun)) 0) now (lineDone now)
 
--- the program part way as the code holds it: the text is the front of out, the line that has begun the front of line
+-- the program part way as the code holds it: the text is the front of out, and the line that has begun is the front of line
 abbrev pub goingIn : Lent → List ℕ → ℕ → List ℕ → ℕ → Going
 goingIn session line begun out end = record { text = take end out; view = viewIn session; begun = take begun line }
 
--- between two blocks, from a session on: some input is taken in and some text written, with the session and the line that has begun as
--- the code holds them
+-- between two blocks, from a session on: the input taken, the text written, and the session and the line that has begun as the code holds
+-- them
 pub record PartWayFrom (first : View) (input text : List ℕ) (session : Lent) (line : List ℕ) (begun : ℕ) : Type 0 where
   pub state : fed input (startingAt first) ≡ record { text = text; view = viewIn session; begun = take begun line }
 
--- from a fresh one
+-- from a fresh session on
 abbrev pub PartWay : List ℕ → List ℕ → Lent → List ℕ → ℕ → Type 0
 PartWay input text session line begun = PartWayFrom freshView input text session line begun

@@ -1,4 +1,4 @@
--- What the calls owe that take in the program's input block by block. Definitions only.
+-- What the calls promise that take the program's input block by block (rule 18.12). Definitions only.
 use Prim.Native.Nat.{ℕ, suc, _+_, _≤_, _<_}
 use mathlib.Core.Path.{_≡_}
 use mathlib.Core.Bool.{Bool, true, not, cond, _&&_}
@@ -11,7 +11,7 @@ use Rattle.line.specs.Lines.{lineFeed}
 use Rattle.line.specs.Feed.{keptLimit, Going, takenIn, fed, atEnd, goingIn}
 use Rattle.line.specs.Promise.{Able, stepLimit}
 
--- so many characters are looked at together in the search for a line feed
+-- how many characters are checked together in the search for a line feed
 abbrev pub lookedAt : ℕ
 lookedAt = 32
 
@@ -19,7 +19,7 @@ lookedAt = 32
 abbrev pub plainAt : List ℕ → ℕ → ℕ → Bool
 plainAt s at j = not (eqb (getD s (at + j) 0) lineFeed)
 
--- no line feed stands before a place
+-- no line feed comes before a place
 pub record Begun (s : List ℕ) (at : ℕ) : Type 0 where
   pub plain : (k : ℕ) → k < at → getD s k 0 ≡ lineFeed → ⊥
   pub inside : at ≤ length s
@@ -34,14 +34,14 @@ unfoldable pub lineEnd : List ℕ → ℕ
 lineEnd [] = 0
 lineEnd (c ∷ s) = cond (eqb c lineFeed) 1 (suc (lineEnd s))
 
--- how many characters of a block are taken in, with a lent buffer for so many: where the block starts, and each line in it,
--- there must be room for all that a line can write
+-- how many characters of a block are taken with a buffer of `room` characters: at the start of the block, and of each line in it, there
+-- must be room for all that a line can write
 unfoldable pub takenOf : ℕ → Bool → List ℕ → Going → ℕ
 takenOf room starts [] now = 0
 takenOf room starts (c ∷ s) now =
     cond (starts && ltb room (length (now .text) + stepLimit)) 0 (suc (takenOf room (eqb c lineFeed) s (takenIn c now)))
 
--- the lent line: the line that has begun, and zeros after it
+-- the buffer for a line: the line that has begun, and zeros after it
 pub record LineIn (l : List ℕ) (begun : ℕ) : Type 0 where
   pub size : keptLimit ≡ length l
   pub short : begun ≤ keptLimit
@@ -52,13 +52,13 @@ pub record LineKept (old : List ℕ) (begun : ℕ) (more new : List ℕ) (r : �
   pub line : take r new ≡ take keptLimit (take begun old ++ more)
   pub holds : LineIn new r
 
--- what is asked for: the session's ranges, room for so many characters, and the line that has begun
+-- what is required: the session's ranges, room for `most` characters, and the line that has begun
 pub record Feedable (most : ℕ) (session : Lent) (l : List ℕ) (begun : ℕ) (out : List ℕ) (at : ℕ) : Type 0 where
   pub able : Able most session out at
   pub line : LineIn l begun
 
--- what is owed of the first `taken` characters of s, with the program part way as before: the program part way after them,
--- within its ranges; what stands in the lent buffer from its end on stays
+-- what is promised for the first `taken` characters of s, from the state `before`: the program part way after them, with its session within
+-- its ranges; the buffer from `end` on is unchanged
 pub record Takes (before : Going) (s out : List ℕ) (session : Lent) (l : List ℕ) (begun taken : ℕ) (new : List ℕ) (end : ℕ) : Type 0 where
   pub state : goingIn session l begun new end ≡ fed (take taken s) before
   pub within : InRanges session
@@ -68,7 +68,7 @@ pub record Takes (before : Going) (s out : List ℕ) (session : Lent) (l : List 
   pub rest : drop end new ≡ drop end out
   pub long : length new ≡ length out
 
--- one line, or what there is of it
+-- one line, or as much of it as there is
 pub record TakesLine (before : Going) (s out : List ℕ) (at : ℕ) (session : Lent) (l : List ℕ) (begun taken : ℕ) (new : List ℕ)
     (end : ℕ) : Type 0 where
   pub takes : Takes before s out session l begun taken new end
@@ -76,12 +76,12 @@ pub record TakesLine (before : Going) (s out : List ℕ) (at : ℕ) (session : L
   pub some : 0 < taken
   pub later : at ≤ end
 
--- a block: all of it, or as much as the lent buffer is sure to have room for
+-- a block: all of it, or as much as the buffer surely has room for
 pub record Feeds (before : Going) (s out : List ℕ) (session : Lent) (l : List ℕ) (begun taken : ℕ) (new : List ℕ) (end : ℕ) : Type 0 where
   pub takes : Takes before s out session l begun taken new end
   pub all : taken ≡ takenOf (length out) true s before
 
--- what the end of the input owes
+-- what is promised at the end of the input
 pub record Ends (before : Going) (out : List ℕ) (session : Lent) (new : List ℕ) (end : ℕ) : Type 0 where
   pub state : goingIn session [] 0 new end ≡ atEnd before
   pub within : InRanges session

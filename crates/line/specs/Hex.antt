@@ -1,6 +1,5 @@
--- Document 01, 'The program': "Reads lines of hexadecimal, one datagram a line .. Both cases are read; upper case is
--- written". And of refusals: 2, "line over [its limit] (before 15)"; 15, "a line not of paired hexadecimal digits". A
--- line's characters are octets. Definitions only.
+-- Lines of hexadecimal. Digits of both cases are read and upper case is written (rule 18.7). A line of over 4,800 characters is 2, then one
+-- that is not made of paired digits is 15 (rules 18.10 and 18.11). A line's characters are octets (rule 18.9). Definitions only.
 use Prim.Native.Nat.{ℕ, _+_, _-_, _*_, _/_, _%_}
 use mathlib.Core.Bool.{Bool, cond, not, _&&_}
 use mathlib.Core.List.{List, [], _∷_}
@@ -14,7 +13,7 @@ use Rattle.length.specs.Length.{within}
 use Rattle.octets.specs.Place.{tab, allBelow}
 use Rattle.datagram.specs.Sizes.{datagramLimit}
 
--- a line has at most so many characters: two for each octet of the longest datagram
+-- rule 1.11: the most characters of a line, two for each octet of the longest datagram
 abbrev pub lineLimit : ℕ
 lineLimit = 2 * datagramLimit
 
@@ -36,7 +35,7 @@ digitOf c =
 unfoldable pub allDigits : List ℕ → Bool
 allDigits line = allBelow (length line) (λ k. ltb (digitOf (getD line k 0)) noDigit)
 
--- octet k stands in the digits 2k and 2k + 1, the high one first
+-- octet k is in the digits 2k and 2k + 1, the high one first
 abbrev pub pairAt : List ℕ → ℕ → ℕ
 pairAt line k = digitOf (getD line (2 * k) 0) * 16 + digitOf (getD line (2 * k + 1) 0)
 
@@ -47,7 +46,7 @@ octetsIn line = tab (length line / 2) (pairAt line)
 abbrev pub paired : List ℕ → Bool
 paired line = eqb (length line % 2) 0 && allDigits line
 
--- 2, "line over [its limit] (before 15)"; 15, "a line not of paired hexadecimal digits"
+-- rules 2.2, 2.15, 18.10 and 18.11: 2 for a line over the limit, before 15 for one that is not made of paired digits
 abbrev pub lineRows : List ℕ → List (Option ℕ)
 lineRows line = when (ltb lineLimit (length line)) tooLong ∷ when (not (paired line)) wrongSettings ∷ []
 

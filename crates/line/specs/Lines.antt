@@ -1,8 +1,6 @@
--- Document 01, 'The program': "Reads lines of hexadecimal, one datagram a line, and after each releases all it can. An empty
--- line is one give-up, then releases. Releasing stops without a line at 10 or 16. Each result is a line: kind (00 received,
--- 01 spare, 02 repaired, 03 lost), number, octets; a refusal is FF and its number as two hexadecimal digits. Both cases are
--- read; upper case is written, each line ended by a line feed. A last line without a line feed counts unless it is empty." And
--- document 02, request 5: "The program writes FF, number, then the place in four hexadecimal digits". Definitions only.
+-- What the program writes for its input (rules 18.1 to 18.9): it offers the datagram of each line and then releases all it can. An empty
+-- line is one release with leave to skip. Each number that leaves is a line, and so is each refusal, except 10 and 16 of the releases
+-- without leave. Definitions only.
 use Prim.Native.Nat.{ℕ, zero, suc, _/_, _%_}
 use mathlib.Core.Bool.{Bool, true, false, cond}
 use mathlib.Core.List.{List, [], _∷_, _++_}
@@ -21,11 +19,11 @@ use Rattle.line.specs.Hex.{hexOf, lineOctets}
 abbrev pub lineFeed : ℕ
 lineFeed = 0x0A
 
--- "kind (00 received, 01 spare, 02 repaired, 03 lost)"
+-- rule 18.5: the kind of a lost number
 abbrev pub lostKind : ℕ
 lostKind = 0x03
 
--- the kind of a number that left: an unknown one is lost, and a blank one never leaves
+-- rules 9.3 and 18.5: the kind of a number that left; an unknown one is lost, and a blank one never leaves
 abbrev pub kindOctet : State → ℕ
 kindOctet received = 0x00
 kindOctet spare = 0x01
@@ -33,15 +31,15 @@ kindOctet repaired = 0x02
 kindOctet unknown = lostKind
 kindOctet blank = lostKind
 
--- "each line ended by a line feed"
+-- rule 18.7: octets as a line, ended by a line feed
 abbrev pub lineOf : List ℕ → List ℕ
 lineOf octets = hexOf octets ++ (lineFeed ∷ [])
 
--- "kind .., number, octets"
+-- rule 18.5: kind, number, octets
 unfoldable pub resultLine : ℕ → ℕ → List ℕ → List ℕ
 resultLine kind number octets = lineOf (kind ∷ number / 256 ∷ number % 256 ∷ octets)
 
--- "FF, number, then the place in four hexadecimal digits": no place is so large that these cut it (demands: DatagramRefusals, `placed`)
+-- rule 18.6: `FF`, the number, the place in four digits, which hold every place (`placed` in `DatagramRefusals` of `demands`)
 unfoldable pub refusalLine : Refusal → List ℕ
 refusalLine r = lineOf (0xFF ∷ r .number ∷ r .place / 256 % 256 ∷ r .place % 256 ∷ [])
 
@@ -62,8 +60,7 @@ abbrev pub _then_ : Made → (View → Made) → Made
 first then second =
     record { text = first .text ++ (second (first .after)) .text; after = (second (first .after)) .after }
 
--- a number that leaves is a line. Of a refusal there is one with leave, where it answers an empty line: "Releasing stops without a line
--- at 10 or 16"
+-- a number that leaves is a line without its note (rule 18.14). A refusal is a line only with leave, at an empty line (rules 18.3 and 18.4)
 abbrev pub releaseMade : Bool → Answer Release → View → Made
 releaseMade leave (done r) view = record { text = resultLine (kindOctet (r .kind)) (r .number) (r .octets); after = r .after }
 releaseMade leave (refused x) view = record { text = cond leave (refusalLine x) []; after = view }
@@ -73,21 +70,21 @@ abbrev pub onward : Answer Release → (View → Made) → View → Made
 onward (done r) more view = releaseMade false (done r) view then more
 onward (refused x) more view = releaseMade false (refused x) view
 
--- at most so many releases, with room for any packet
+-- at most that many releases, with room for any packet
 unfoldable pub releasesF : ℕ → View → Made
 releasesF zero view = silent view
 releasesF (suc left) view = onward (release false packetLimit view) (releasesF left) view
 
--- "releases all it can": after keptAhead releases the base is a number that came into view unknown
+-- rule 18.1: all that can be released; after keptAhead releases the base is a number that came into view unknown
 abbrev pub releases : View → Made
 releases view = releasesF keptAhead view
 
--- a datagram's answer: a line for a refusal alone
+-- an offer: only a refusal is a line
 abbrev pub offerMade : Answer View → View → Made
 offerMade (done after) view = silent after
 offerMade (refused r) view = record { text = refusalLine r; after = view }
 
--- "one datagram a line"
+-- rule 18.1: one datagram a line
 unfoldable pub lineOffered : List ℕ → View → Answer View
 lineOffered line view = do
   octets ← lineOctets line
@@ -96,7 +93,7 @@ lineOffered line view = do
 unfoldable pub offerLine : List ℕ → View → Made
 offerLine line view = offerMade (lineOffered line view) view
 
--- "An empty line is one give-up": a release with leave to skip. It meets no known base, since all that can be was released before
+-- rule 18.2: an empty line is one release with leave to skip. Its base is not known, since all that can be was released before
 unfoldable pub answerLine : List ℕ → View → Made
 answerLine [] view = releaseMade true (release true packetLimit view) view
 answerLine (c ∷ line) view = offerLine (c ∷ line) view
@@ -107,7 +104,7 @@ step line view = answerLine line view then releases
 
 -- ---- the whole
 
--- "A last line without a line feed counts unless it is empty"
+-- rule 18.8: a last line without a line feed counts unless it is empty
 abbrev pub lastLine : List ℕ → List (List ℕ)
 lastLine [] = []
 lastLine (c ∷ line) = (c ∷ line) ∷ []
@@ -126,6 +123,6 @@ steps (line ∷ lines) view = step line view then steps lines
 abbrev pub programFrom : View → List ℕ → List ℕ
 programFrom view input = (steps (linesFrom [] input) view) .text
 
--- document 01's begins with a fresh one
+-- rule 18.1: the program begins with a fresh session
 unfoldable pub program : List ℕ → List ℕ
 program input = programFrom freshView input

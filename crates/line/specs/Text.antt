@@ -1,4 +1,4 @@
--- A quoted text as characters, for document 01's cases. Definitions only.
+-- A quoted text as characters, for cases. Definitions only.
 use Prim.Native.Nat.{ℕ}
 use Prim.Native.Char.{code}
 use Prim.Native.String.{String, [], _∷_}

@@ -1,4 +1,4 @@
-// Document 01, 'The program'.
+// The lines of the program (rules 18.1 to 18.12), and their limits.
 mod feed;
 mod steps;
 
@@ -16,14 +16,14 @@ use session_held::Session;
 pub struct Line {}
 
 impl Line {
-    // Document 01: "line over [its limit]".
+    // The most characters of a line (rule 1.11).
     pub const LIMIT: usize = 2 * Datagram::LIMIT;
 
-    // Of a line that is too long no more is kept than shows it.
+    // Of a line that is too long, keep just enough to know that it is too long.
     pub const KEPT: usize = Line::LIMIT + 1;
-    // So many characters are looked at together in the search for a line feed.
+    // How many characters are checked together in the search for a line feed.
     pub const NEAR: usize = 32;
-    // So many octets are made of digits together.
+    // How many octets are converted from digits together.
     pub const TOGETHER: usize = 16;
     // The most characters of a result line, of all releases after a line, and of all that a line can write.
     pub const RESULT: usize = 7 + 2 * Packet::LIMIT;
@@ -31,7 +31,7 @@ impl Line {
     pub const RELEASES: usize = Session::HEARD * Line::RESULT;
 
     pub const STEP: usize = Line::RESULT + Line::RELEASES;
-    // The kind of a lost number in a result line.
+    // The kind of a lost number in a result line (rule 18.5).
     pub const LOST: u8 = 3;
     // A line feed.
     pub const FEED: u8 = 10;

@@ -1,4 +1,4 @@
-// What a part of a step of the program answers.
+// What a part of a step of the program returns.
 use session_held::Counts;
 
 // Base and counts of the session after a part of a step, and the place after what it wrote.

@@ -1,5 +1,5 @@
-// The program's input, block by block: whole lines are answered as they come, and what is left of the last one is kept for
-// the next block. It does not matter how the input is cut.
+// The program's input, block by block: each whole line is answered as it comes, and the rest of the block is kept for the next one. It does
+// not matter how the input is cut (rule 18.12).
 use crate::steps::step;
 use line::Fed;
 use line::Line;
@@ -15,7 +15,7 @@ ghost use Rattle.line.specs.Feed.{goingIn};
 ghost use Rattle.line.specs.Promise.{stepLimit};
 ghost use Rattle.line.specs.FeedPromise.{lookedAt, plainAt, Found, Begun, LineIn, LineKept, Feedable, TakesLine, Feeds, Ends};
 
-// Whether the next characters are no line feeds: so many at a time that the compiler takes them together.
+// Whether the next `Line::NEAR` characters are no line feeds; the compiler can check that many together.
 fn is_plain(s: &[u8], at: usize) -> bool
     requires { ⌜ at + lookedAt ≤ length (now s) ⌝ }
     ensures { λ r. ⌜ r ≡ allBelow lookedAt (plainAt (now (s .entry)) at) ⌝ }
@@ -29,7 +29,7 @@ fn is_plain(s: &[u8], at: usize) -> bool
     plain
 }
 
-// Where the first line feed is, of which none stands before a place; the length if there is none.
+// Where the first line feed is, if there is none before `from`; the length if there is none at all.
 fn find_from(s: &[u8], from: usize) -> usize
     requires { ⌜ Begun (now s) from ⌝ }
     ensures { λ r. ⌜ Found (now (s .entry)) r ⌝ }
@@ -68,7 +68,7 @@ fn least(a: usize, b: usize) -> usize
     b
 }
 
-// Characters put after the line that has begun: of one that is too long no more is kept than shows it.
+// Appends characters to the line that has begun. Of a line that is too long, it keeps just enough to know that it is too long.
 pub fn keep_line(line: &mut [u8], begun: usize, more: &[u8]) -> usize
     requires { ⌜ LineIn (now line) begun ⌝ }
     ensures { λ r. ⌜ LineKept (now (line .entry)) begun (now (more .entry)) (now (line .exit)) r ⌝ }
@@ -83,7 +83,7 @@ pub fn keep_line(line: &mut [u8], begun: usize, more: &[u8]) -> usize
     begun + count
 }
 
-// The lent line with no line begun: zeros.
+// Clears the buffer for a line: no line has begun, and all is zeros.
 pub fn clear_line(line: &mut [u8], begun: usize)
     requires { ⌜ LineIn (now line) begun ⌝ }
     ensures { λ _. ⌜ LineIn (now (line .exit)) 0 ⌝ }
@@ -95,7 +95,7 @@ pub fn clear_line(line: &mut [u8], begun: usize)
     }
 }
 
-// The next line of s, or what there is of it, from where the last one ended. The line that has begun is kept in the front of line.
+// Takes the next line of s, or as much of it as there is, from where the last one ended. The line that has begun is at the front of line.
 fn take_line(
     from: Stepped,
     t: &mut [u16; Session::PLACES],
@@ -156,8 +156,8 @@ fn take_line(
     }
 }
 
-// A block of the input: its lines one after the other, their text from the front of out on, as long as that is sure to have room
-// for the next.
+// Takes a block of the input, line after line, and writes their text from the front of out on, as long as out surely has room for the next
+// line.
 pub fn take_block(
     base: u16,
     counts: Counts,
@@ -212,7 +212,7 @@ pub fn take_block(
     }
 }
 
-// The end of the input: "A last line without a line feed counts unless it is empty".
+// The end of the input: a last line without a line feed counts unless it is empty (rule 18.8).
 pub fn finish(
     base: u16,
     counts: Counts,

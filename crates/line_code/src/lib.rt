@@ -1,5 +1,5 @@
-// One line of the program, and its result lines: document 01, 'The program', as `line` defines them.
-// The program's input, block by block, and its end: document 01, 'The program', as `line` defines it.
+// The program as `line` defines it: one line and its result lines (rules 18.1 to 18.6), and its input, block by block, with its end (rules
+// 18.8 and 18.12).
 mod feed;
 mod releasing;
 mod results;

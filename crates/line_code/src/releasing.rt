@@ -1,6 +1,6 @@
-// Releases: one that answers an empty line, and those after a line: "after each releases all it can", "Releasing stops without a line at
-// 10 or 16". All stand in one loop, so that the compiler has one release to put into it. Base and counts go by value, all else of the
-// session and the buffer are lent; the session's ranges are required and kept.
+// Releases: one for an empty line, and those after each line until 10 or 16, for which no line is written (rules 18.1 to 18.4). One loop
+// does them all, so the compiler inlines one release only. Base and counts are passed by value, the rest of the session and the buffer by
+// reference. The functions require the session to be within its ranges, and keep it so.
 use crate::results::kind_octet;
 use crate::results::put_kept;
 use crate::results::put_refusal;
@@ -23,8 +23,8 @@ struct Turn {
     more: bool,
 }
 
-// One release, with leave to skip or without: the number at the base is a line, its packet read where it is stored, and with leave a
-// refusal is one too.
+// One release, with leave to skip or without: the number at the base is written as a line, its packet read from its slot. With leave a
+// refusal is written too.
 fn release(
     base: u16,
     counts: Counts,
@@ -79,8 +79,8 @@ fn release(
     }
 }
 
-// "releases all it can": after as many releases as there are numbers from the base on, the base is unknown. Where there is one turn more,
-// the first has leave to skip. A turn without leave that meets an unknown base is the last: that is looked at before the release.
+// After as many releases as there are numbers from the base on, the base is unknown. If there is one turn more, the first has leave to
+// skip. A turn without leave at an unknown base is the last one, which the loop checks before it calls release.
 pub fn releases(
     base: u16,
     counts: Counts,

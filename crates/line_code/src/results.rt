@@ -1,6 +1,5 @@
-// Result lines: "kind (00 received, 01 spare, 02 repaired, 03 lost), number, octets", for a refusal "FF, number, then the place in
-// four hexadecimal digits", "each line ended by a line feed". Each is laid into out from place at on; the answer is the place after
-// it.
+// Result lines, each ended by a line feed: kind, number and octets (rule 18.5), or for a refusal `FF`, number and place (rule 18.6). Each
+// function writes its line to out from place `at` on, and returns the place after it.
 use datagram::Packet;
 use length::Refusal;
 use line::Line;
@@ -50,7 +49,7 @@ fn put_result(kind: u8, number: u16, octets: &[u8], out: &mut [u8], at: usize) -
     end_line(out, end)
 }
 
-// The result line of a number that left, its packet of this size read where it is stored.
+// The result line of a number that left; its packet of this size is read from its slot.
 pub fn put_kept(kind: u8, number: u16, size: usize, o: &[u8], out: &mut [u8], at: usize) -> usize
     requires { ⌜ HasSlot (number % slotsKept) (now o) ⌝ }
     requires { ⌜ size ≤ packetLimit ⌝ }

@@ -1,5 +1,6 @@
-// One line of the program: its answer, then all releases. Base and counts go by value, all else of the session and the buffers are
-// lent: no range is checked and nothing copied for each line. These functions require the session's ranges and keep them.
+// One line of the program: its answer, then all releases. Base and counts are passed by value, the rest of the session and the buffers by
+// reference, so that nothing is checked against the ranges or copied for each line. The functions require the session to be within its
+// ranges, and keep it so.
 use crate::releasing::releases;
 use crate::results::put_refusal;
 use datagram::Datagram;
@@ -19,7 +20,7 @@ ghost use Rattle.line.specs.Lines.{offerMade, offerLine, step as wholeStep};
 ghost use Rattle.line.specs.Promise.{Does, Able, resultLimit, stepLimit};
 ghost use Rattle.line_code.specs.Turns.{ownAnswer, turnsAfter};
 
-// Octets offered: a line for a refusal alone. Base and counts stay as they are.
+// Offers octets: only a refusal is a line. Base and counts are unchanged.
 fn offer_octets(
     base: u16,
     counts: Counts,
@@ -44,7 +45,7 @@ fn offer_octets(
     }
 }
 
-// "one datagram a line": its octets are offered.
+// Offers the octets of a line, which is one datagram (rule 18.1).
 fn offer_line(
     base: u16,
     counts: Counts,
@@ -67,7 +68,7 @@ fn offer_line(
     }
 }
 
-// A line's own answer: an empty one has none, since its first turn of releasing is "one give-up".
+// A line's own answer. An empty line has none: its first turn of releasing has leave to skip (rule 18.2).
 fn own_answer(
     base: u16,
     counts: Counts,
@@ -88,7 +89,7 @@ fn own_answer(
     offer_line(base, counts, t, o, g, line, out, at)
 }
 
-// The turns of releasing after a line.
+// How many turns of releasing follow a line.
 fn turns_after(line: &[u8]) -> usize
     ensures { λ r. ⌜ r ≡ turnsAfter (now (line .entry)) ⌝ }
 {
@@ -98,7 +99,7 @@ fn turns_after(line: &[u8]) -> usize
     Session::HEARD
 }
 
-// One line: its answer, then releases. "An empty line is one give-up, then releases."
+// One line: its answer, then releases. An empty line is one release with leave to skip, then releases without leave (rule 18.2).
 pub fn step(
     base: u16,
     counts: Counts,

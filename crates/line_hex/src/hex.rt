@@ -1,5 +1,5 @@
-// Hexadecimal digits: "Both cases are read; upper case is written". The loops have no branch on what a digit is, so that the
-// compiler takes many characters at a time.
+// Hexadecimal digits: both cases are read, upper case is written (rule 18.7). The loops do not branch on a digit, so the compiler can take
+// many characters at a time.
 use length::Refusal;
 use length::Written;
 use line::Line;
@@ -55,7 +55,7 @@ pub fn all_digits(line: &[u8]) -> bool
     all
 }
 
-// Some octets of a line of paired digits, from octet `from` on: so many that the compiler takes them together.
+// `Line::TOGETHER` octets of a line of paired digits, from octet `from` on; the compiler can take that many together.
 fn near(line: &[u8], from: usize) -> [u8; Line::TOGETHER]
     requires { ⌜ allDigits (now line) ≡ true ⌝ }
     requires { ⌜ from + together ≤ length (now line) / 2 ⌝ }
@@ -73,7 +73,7 @@ fn near(line: &[u8], from: usize) -> [u8; Line::TOGETHER]
     chunk
 }
 
-// Puts them into out, from place `from` on.
+// Writes them to out, from place `from` on.
 fn put_near(chunk: [u8; Line::TOGETHER], out: &mut [u8], from: usize)
     requires { ⌜ from + together ≤ length (now out) ⌝ }
     ensures { λ _. ⌜ NearPut chunk from (now (out .entry)) (now (out .exit)) ⌝ }
@@ -102,7 +102,7 @@ fn pair_few(line: &[u8], out: &mut [u8])
     }
 }
 
-// The octets of a line of paired digits, to the front of out. The last ones are taken together too, some of them again.
+// The octets of a line of paired digits, to the front of out. The last chunk ends where the line ends, so it may overlap the one before it.
 pub fn pair_up(line: &[u8], out: &mut [u8])
     requires { ⌜ allDigits (now line) ≡ true ⌝ }
     requires { ⌜ length (now line) / 2 ≤ length (now out) ⌝ }
@@ -124,7 +124,8 @@ pub fn pair_up(line: &[u8], out: &mut [u8])
     put_near(chunk, out, last);
 }
 
-// The octets of a line, to the front of out: 2 for a line that is too long, then 15 for one that is not of paired digits.
+// The octets of a line, to the front of out: 2 for a line that is too long, then 15 for one that is not made of paired digits, then 13
+// (rules 18.10, 18.11 and 2.13).
 pub fn hex_to_octets(line: &[u8], out: &mut [u8]) -> Written
     ensures { λ r. ⌜ Puts (lineOctets (now (line .entry))) (now (out .entry)) (now (out .exit)) r ⌝ }
 {
@@ -147,7 +148,7 @@ pub fn hex_to_octets(line: &[u8], out: &mut [u8]) -> Written
     Written::Octets(count)
 }
 
-// Two digits for each octet, into out from place at on. Answers the place after them.
+// Writes two digits for each octet to out, from place `at` on, and returns the place after them.
 pub fn put_digits(octets: &[u8], out: &mut [u8], at: usize) -> usize
     requires { ⌜ at + 2 * length (now octets) ≤ length (now out) ⌝ }
     ensures { λ r. ⌜ Appends (hexOf (now (octets .entry))) (now (out .entry)) at (now (out .exit)) r ⌝ }

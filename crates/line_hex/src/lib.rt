@@ -1,4 +1,4 @@
-// Lines of hexadecimal, read and written: document 01, 'The program', as `line` defines them.
+// Lines of hexadecimal, read and written as `line` defines them (rules 18.7, 18.10 and 18.11).
 mod hex;
 
 pub use hex::all_digits;

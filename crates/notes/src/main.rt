@@ -1,6 +1,6 @@
-// The program for tuning spares against parity: document 02, request 8, "Which datagram saved us?". A trace from standard input, read as
-// the program of document 01 reads it. For each number that leaves it tells the kind and the datagram that filled it, as the release gives
-// them; at the end how many numbers spares and parity saved, and from how far ahead.
+// The program for tuning spares against parity (rules 19.1 to 19.3 and 19.8). It reads a trace from standard input as `receive` reads it.
+// For each number that leaves it writes the kind and the datagram that filled it, as the release returns them; at the end it writes how
+// many numbers spares and parity saved, and from how far ahead.
 mod saved;
 mod text;
 
@@ -17,7 +17,8 @@ use session_calls::Session;
 use text::part;
 use text::say_refused;
 
-// What a release answers, told: whether something left. A refusal is told with leave to skip, as the program has it.
+// Writes what a release returned, and returns whether a number left. A refusal is written only with leave to skip, as in `receive` (rules
+// 18.3 and 18.4).
 fn told(answer: Released, skip: bool, line: usize, table: &mut [u32; SAVED]) -> bool {
     match answer {
         Released::Refused(why) => {
@@ -38,7 +39,7 @@ fn told(answer: Released, skip: bool, line: usize, table: &mut [u32; SAVED]) -> 
     }
 }
 
-// One release, with leave to skip or without: the session after it, and whether something left.
+// One release, with leave to skip or without: the session after it, and whether a number left.
 struct Turn {
     session: Session,
     more: bool,
@@ -56,7 +57,7 @@ fn release(session: Session, skip: bool, line: usize, table: &mut [u32; SAVED]) 
     }
 }
 
-// "releases all it can": after as many releases as there are numbers from the base on, the base is unknown.
+// All releases after a line (rule 18.1): after as many as there are numbers from the base on, the base is unknown.
 fn releases(session: Session, line: usize, table: &mut [u32; SAVED]) -> Session {
     let mut held = session;
     let mut left: usize = Session::HEARD;
@@ -72,7 +73,7 @@ fn releases(session: Session, line: usize, table: &mut [u32; SAVED]) -> Session 
     held
 }
 
-// A datagram, offered.
+// Offers a datagram.
 fn offer(session: Session, octets: &[u8], line: usize) -> Session {
     let after = session_calls::offer(session, octets);
     let answer = after.answer;
@@ -83,7 +84,7 @@ fn offer(session: Session, octets: &[u8], line: usize) -> Session {
     held
 }
 
-// "An empty line is one give-up"; any other is a datagram in hexadecimal.
+// An empty line is one release with leave to skip (rule 18.2); any other line is a datagram in hexadecimal.
 fn answer(session: Session, digits: &[u8], line: usize, table: &mut [u32; SAVED]) -> Session {
     if digits.len() == 0 {
         let turn = release(session, true, line, table);
@@ -100,7 +101,7 @@ fn answer(session: Session, digits: &[u8], line: usize, table: &mut [u32; SAVED]
     }
 }
 
-// A line of so many characters, answered, and the releases after it.
+// Answers a line of `size` characters, and does the releases after it.
 fn answered(
     session: Session,
     digits: &[u8; Line::KEPT],
@@ -112,7 +113,7 @@ fn answered(
     releases(held, line, table)
 }
 
-// One line of the input, answered. "A last line without a line feed counts unless it is empty".
+// Answers one line of the input. A last line without a line feed counts unless it is empty (rule 18.8).
 fn take_line(
     session: Session,
     block: &mut [u8; BLOCK],
@@ -137,7 +138,7 @@ fn main() {
     let mut at = 0;
     let mut end = 0;
     let mut line = 0;
-    // Nothing says that the input ends, so the turns are counted down from a number that no run uses up.
+    // The input need not end, so the loop counts its turns down from a number that no run uses up.
     let mut turns = u64::MAX;
     while turns > 0 {
         turns -= 1;

@@ -1,19 +1,19 @@
-// Which numbers spares and parity saved, and from how far ahead: told as each leaves, and counted.
+// Which numbers spares and parity saved, and from how far ahead: each is written as it leaves, and counted (rules 19.1 to 19.3).
 use crate::text::say;
 use crate::text::say_number;
 use session_held::Counts;
 use session_held::ReleaseKind;
 
-// How far ahead of a number the datagram that filled it can be.
+// The greatest distance that has a row of its own.
 const FURTHEST: u16 = 32;
 
-// A count for each distance; the first is of datagrams with a lower number, which stand behind the number that they filled.
+// A count for each distance; the first is for datagrams that are not 1 to 32 ahead of the number that they filled (rule 19.3).
 const ROWS: usize = FURTHEST as usize + 1;
 
 // The counts of spares, then those of parity.
 pub const SAVED: usize = 2 * ROWS;
 
-// How far ahead the datagram is that filled a number; 0 where it has a lower number.
+// How far ahead of a number the datagram is that filled it; 0 if that is not 1 to 32.
 fn ahead(number: u16, note: u16) -> usize {
     let distance = std::num::wrapping_sub_u16(note, number);
     if distance <= FURTHEST {
@@ -29,14 +29,14 @@ fn say_filler(how: &[u8], note: u16) {
     say(b"\n");
 }
 
-// One more: the spares' rows begin at 0, those of parity behind them.
+// Counts one more number: the rows of spares begin at 0, those of parity behind them.
 fn count(first: usize, number: u16, note: u16, table: &mut [u32; SAVED]) {
     let row = std::num::wrapping_add_usize(first, ahead(number, note)) % SAVED;
     let before = table[row];
     table[row] = std::num::wrapping_add_u32(before, 1);
 }
 
-// A number that leaves.
+// Writes the line of a number that leaves (rule 19.1).
 pub fn told(kind: ReleaseKind, number: u16, note: u16, table: &mut [u32; SAVED]) {
     say(b"number ");
     say_number(number as usize);
@@ -63,7 +63,7 @@ fn wide(n: u32) -> usize {
     n as usize
 }
 
-// What a row begins with: its distance, or for the first one `behind`.
+// What a row begins with: its distance, or `behind` for the first one.
 fn say_place(row: usize) {
     if row == 0 {
         return say(b"behind");
@@ -72,7 +72,7 @@ fn say_place(row: usize) {
     say_number(row)
 }
 
-// A row of the table, if there is something in it: how many spares and parity saved from there.
+// A row of the table, if it is not zero: how many numbers spares and parity saved from that distance.
 fn say_row(row: usize, table: &[u32; SAVED]) {
     let place = row % ROWS;
     let spares = table[place];
@@ -95,7 +95,7 @@ fn say_rows(table: &[u32; SAVED]) {
     }
 }
 
-// The end of the trace: how many numbers spares and parity saved, and the table.
+// The end of the trace: how many numbers spares and parity saved, and the table (rule 19.2).
 pub fn say_report(counts: Counts, table: &[u32; SAVED]) {
     say_count(b"\nsaved by spares ", counts.spare);
     say_count(b", by parity ", counts.repaired);

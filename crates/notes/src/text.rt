@@ -9,7 +9,7 @@ pub fn say_number(n: usize) {
     io::print_decimal(libc::STDOUT_FILENO, n as u64);
 }
 
-// So many octets from a place on, or none where there are fewer.
+// `size` octets from a place on, or none if there are fewer.
 pub fn part(s: &[u8], start: usize, size: usize) -> &[u8] {
     if start <= s.len() {
         if size <= s.len() - start {
@@ -20,12 +20,12 @@ pub fn part(s: &[u8], start: usize, size: usize) -> &[u8] {
     &s[..0]
 }
 
-// Whether a refusal of an offer is met in reading order, so that it has a place: all up to 6 but 2.
+// Whether a refusal of an offer is met in reading order and so has a place: all up to 6 but 2 (rule 19.8).
 fn has_place(number: u8) -> bool {
     (number <= Refusal::LEFT_OVER) & (number != Refusal::TOO_LONG)
 }
 
-// A line of the trace that was refused, and where.
+// A line of the trace that was refused, and at which octet (rule 19.8).
 pub fn say_refused(line: usize, why: Refusal) {
     say(b"line ");
     say_number(line);

@@ -1,4 +1,4 @@
--- Words: some octets as one number, the first the lowest; and the exclusive or of two runs of octets. Definitions only.
+-- Words: some octets as one number, the first octet lowest; and the exclusive or of two runs of octets (rule 30.9). Definitions only.
 use Prim.Native.Nat.{ℕ, zero, suc, _+_, _*_, _^_, _≤_, _<_}
 use mathlib.Core.Path.{_≡_}
 use mathlib.Core.List.{List}
@@ -15,13 +15,13 @@ wordOf (suc n) s at = getD s at 0 + 256 * wordOf n s (suc at)
 abbrev pub OctetsAt : ℕ → List ℕ → ℕ → Type 0
 OctetsAt n s at = (j : ℕ) → at ≤ j → j < at + n → getD s j 0 < 256
 
--- n octets are read as a number
+-- r is the number that the n octets from a place on make
 pub record Reads (n : ℕ) (s : List ℕ) (at r : ℕ) : Type 0 where
   pub number : r ≡ wordOf n s at
   pub below : r < 256 ^ n
   pub octets : OctetsAt n s at
 
--- a number is written as n octets, and all others stay
+-- the number w is written as n octets from a place on, and all other octets are unchanged
 pub record Spells (n w : ℕ) (old : List ℕ) (at : ℕ) (new : List ℕ) : Type 0 where
   pub number : wordOf n new at ≡ w
   pub octets : OctetsAt n new at
@@ -33,7 +33,7 @@ pub record Spells (n w : ℕ) (old : List ℕ) (at : ℕ) (new : List ℕ) : Typ
 unfoldable pub both : List ℕ → List ℕ → List ℕ
 both src sum = tab (length sum) (λ j. bitXor (getD sum j 0) (getD src j 0))
 
--- the first k octets are added, the others are as they were
+-- the first k octets are added, and the others are unchanged
 pub record AddsTo (src start sum : List ℕ) (k : ℕ) : Type 0 where
   pub added : (j : ℕ) → j < k → getD sum j 0 ≡ bitXor (getD start j 0) (getD src j 0)
   pub rest : (j : ℕ) → k ≤ j → getD sum j 0 ≡ getD start j 0

@@ -1,7 +1,6 @@
-// Definitions and proofs: lists given by place, and the exclusive or of octets.
-// The exclusive or of two runs of octets: eight octets at a time, as one word of 64 bits, and the tail singly. Document 02, request 3.
-// The receiver's repair and the sender's messages share it. These functions serve callers inside this repository: they require that
-// the octets are there.
+// The exclusive or of two runs of octets: eight octets at a time, as one word of 64 bits, and the tail singly (rule 30.9). The receiver's
+// repairs and the sender's messages share it. These functions are for callers inside the library: they require that the octets are there.
+// `specs/` also defines lists given by place.
 ghost use mathlib.Core.Path.{_≡_};
 ghost use Prim.Native.Nat.{_+_, _*_, _/_, _≤_, _<_};
 ghost use lib.ListN.{length};
@@ -51,7 +50,7 @@ fn eight(s: &[u8], at: usize) -> u64
     high * 4294967296 + low
 }
 
-// ---- a number, as so many octets from a place on
+// ---- a number, written as one octet, two, four or eight from a place on
 
 fn put_one(s: &mut [u8], at: usize, w: u64)
     requires { ⌜ at + 1 ≤ length (now s) ⌝ }
@@ -89,7 +88,7 @@ fn put_eight(s: &mut [u8], at: usize, w: u64)
 
 // ---- the exclusive or
 
-// As far as whole words go.
+// The whole words.
 fn add_words(src: &[u8], sum: &mut [u8])
     requires { ⌜ length (now src) ≡ length (now sum) ⌝ }
     ensures { λ _. ⌜ AddsTo (now (src .entry)) (now (sum .entry)) (now (sum .exit)) (length (now (src .entry)) / 8 * 8) ⌝ }
@@ -105,7 +104,7 @@ fn add_words(src: &[u8], sum: &mut [u8])
     }
 }
 
-// src, added to sum, which is as long.
+// Adds src to sum, which has the same length.
 pub fn add(src: &[u8], sum: &mut [u8])
     requires { ⌜ length (now src) ≡ length (now sum) ⌝ }
     ensures { λ _. ⌜ now (sum .exit) ≡ both (now (src .entry)) (now (sum .entry)) ⌝ }

@@ -1,4 +1,4 @@
--- The cases of 'The packet' and of the edition of 2002, each computed. Assumes nothing.
+-- The cases of packets in the old edition and in the new, each computed. Assumes nothing.
 use mathlib.Core.Path.{refl}
 use Rattle.length.specs.Tables.{unless}
 use Rattle.length.specs.Length.{lengthAt, allowed, lengthWithin, lengthOctets}

@@ -1,4 +1,4 @@
--- The claims of this crate, and the words that they are said in.
+-- The claims of this crate (rules 6.24, 6.25, 7.13 and 28.4), and the definitions that they use.
 use Prim.Native.Nat.{ℕ, _+_, _≤_, _<_}
 use mathlib.Core.Path.{_≡_}
 use mathlib.Core.Logic.{_↔_}
@@ -18,8 +18,7 @@ use Rattle.packet.specs.declared.types.Ending.{Ending}
 use Rattle.packet.specs.declared.types.Ending.the-variants.{Whole, Repaired}
 use Rattle.packet.specs.declared.types.PacketRead.{PacketRead}
 
--- some octets, read by this edition and with this ending, are a packet of this kind and value, with fields of these types and lengths and,
--- one after the other, this data
+-- some octets, read in this edition and with this ending, are a packet of this kind and value, with fields of these types, lengths and data
 pub record PacketReadsAs (edition : Edition) (ending : Ending) (s : List ℕ) (kind : PacketKind) (value : ℕ) (types lengths octets : List ℕ)
     : Type 0 where
   pub packet : PacketAnswer
@@ -30,14 +29,14 @@ pub record PacketReadsAs (edition : Edition) (ending : Ending) (s : List ℕ) (k
   pub lengthsSame : map (λ f. f .size) (packet .fields) ≡ lengths
   pub octetsSame : allData s (packet .fields) ≡ octets
 
--- what is written reads back, as received
+-- what is written reads back, as received (rule 6.24)
 abbrev pub WrittenReads : Type 0
 WrittenReads = (edition : Edition) → SoundEdition edition
     → (kind : PacketKind) (value : ℕ) (types lengths octets w : List ℕ)
     → packetToWrite edition kind value types lengths octets ≡ done w
     → PacketReadsAs edition Whole w kind value types lengths octets
 
--- and as repaired, with any zeros after it that the packet limit leaves room for
+-- and as repaired, with any zeros behind it that the packet limit leaves room for (rule 6.12)
 abbrev pub RepairedReads : Type 0
 RepairedReads = (edition : Edition) → SoundEdition edition
     → (kind : PacketKind) (value : ℕ) (types lengths octets w : List ℕ) (n : ℕ)
@@ -45,7 +44,7 @@ RepairedReads = (edition : Edition) → SoundEdition edition
     → length w + n ≤ packetLimit
     → PacketReadsAs edition Repaired (w ++ replicate n 0) kind value types lengths octets
 
--- what reads as received writes back to the same octets
+-- what reads as received writes back to the same octets (rule 6.25)
 abbrev pub ReadWrites : Type 0
 ReadWrites = (edition : Edition) (s : List ℕ) (p : PacketAnswer)
     → Octets s
@@ -54,40 +53,40 @@ ReadWrites = (edition : Edition) (s : List ℕ) (p : PacketAnswer)
     (allData s (p .fields))
     ≡ done s
 
--- the parts of a packet that reads lie within its octets
+-- the parts of a packet that reads lie within its octets (rule 6.27)
 abbrev pub PartsWithin : Type 0
 PartsWithin = (edition : Edition) (ending : Ending) (s : List ℕ) (p : PacketAnswer)
     → readPacket edition ending s ≡ done p
     → (i : ℕ)
     → getD (p .fields) i noField .start + getD (p .fields) i noField .size ≤ length s
 
--- a repaired packet reads the same with any more zeros after it that the packet limit leaves room for
+-- a repaired packet reads the same with any more zeros behind it that the packet limit leaves room for (rule 6.12)
 abbrev pub ZerosFollow : Type 0
 ZerosFollow = (edition : Edition) (s : List ℕ) (p : PacketAnswer) (n : ℕ)
     → readPacket edition Repaired s ≡ done p
     → length s + n ≤ packetLimit
     → readPacket edition Repaired (s ++ replicate n 0) ≡ done p
 
--- so what it reads as does not depend on how many zeros follow
+-- so what it reads as does not depend on how many zeros follow (rules 6.12 and 27.1)
 abbrev pub ZerosAlike : Type 0
 ZerosAlike = (edition : Edition) (s : List ℕ) (p q : PacketAnswer) (n m : ℕ)
     → readPacket edition Repaired (s ++ replicate n 0) ≡ done p
     → readPacket edition Repaired (s ++ replicate m 0) ≡ done q
     → p ≡ q
 
--- a packet without fields and without an added value is the same in both editions. With fields it need not be: their headers are four bits
--- wide in one and five in the other, and the same octets may say something else (`old-type` and `new-type` of `NewCases`)
+-- a packet without fields and without an added value reads alike in both editions (rule 7.13). With fields it need not: a header has four
+-- bits in the old edition and five in the new, so the same octets may mean something else (`old-type` and `new-type` of `NewCases`)
 abbrev pub PlainAlike : Type 0
 PlainAlike = (ending : Ending) (s : List ℕ) (p : PacketAnswer)
     → p .fields ≡ []
     → p .value < manyValues edition98 (p .kind)
     → (readPacket edition98 ending s ≡ done p) ↔ (readPacket edition02 ending s ≡ done p)
 
--- two outcomes that a promise allows are equal
+-- two outcomes that a promise allows are equal (rule 28.14)
 pub record OneOutcome : Type 0 where
   pub read : {due : Answer PacketAnswer} {r q : PacketRead} → PacketTold due r → PacketTold due q → r ≡ q
 
--- of every edition whose values can be told apart, as those of both can
+-- what is written reads back in every edition in which no two values share their bits; `sound98` and `sound02` say this of both editions
 pub record Claims : Type 0 where
   pub sound98 : SoundEdition edition98
   pub sound02 : SoundEdition edition02

@@ -1,5 +1,5 @@
--- Small packets of the edition of 2002, read and written: document 02, request 11. Each says one answer, a refusal of an item with the
--- octet at which the item begins.
+-- Small packets of the new edition, read and written (rules 7.4 to 7.13). Each case has one answer; a refusal of an item gives the octet at
+-- which the item begins (rule 2.27).
 use Prim.Native.Nat.{ℕ}
 use mathlib.Core.Path.{_≡_}
 use mathlib.Core.List.{List, [], _∷_}
@@ -32,50 +32,56 @@ abbrev pub fieldOf : ℕ → ℕ → ℕ → Field
 fieldOf kind start size = record { kind = kind; start = start; size = size }
 
 pub record NewReadCases : Type 0 where
-  -- "the first added indicator is `20 00`"; there are 7, and 6 data kinds, "numbered on after the old"; 12 "past the last added value"
+  -- the added indicators are 16 to 22, from `20 00` on, the added data kinds 9 to 14 (rules 7.4, 7.5 and 26.26); past them 12 (rule 7.8)
   pub first-indicator : readNew (0x20 ∷ 0x00 ∷ []) ≡ plain Indicator 16
   pub last-indicator : readNew (0x21 ∷ 0x80 ∷ []) ≡ plain Indicator 22
   pub past-indicators : readNew (0x21 ∷ 0xC0 ∷ []) ≡ refuse notAssigned
   pub first-kind : readNew (0x60 ∷ 0x00 ∷ []) ≡ plain Data 9
   pub last-kind : readNew (0x61 ∷ 0x40 ∷ []) ≡ plain Data 14
   pub past-kinds : readNew (0x61 ∷ 0x80 ∷ []) ≡ refuse notAssigned
-  -- 12 "for a 1 where the 0 bit stands", which is read before the six bits are missed
+  -- 12 for a 1 in place of the 0 bit, which is read before the six bits are missed (rule 7.7)
   pub not-0 : readNew (0x30 ∷ []) ≡ refuse notAssigned
   pub cut : readNew (0x2F ∷ []) ≡ refuse endsEarly
-  -- the order at the first value is 1, 12, 5, 14; the padding after it is an item of its own
+  -- at the first value 1 or 12, then 5, then 14 (rules 6.14 and 26.26); the padding behind it is an item of its own (rule 7.11)
   pub missing-first : readNew (0xA0 ∷ []) ≡ refuse endsEarly
   pub not-0-before-14 : readNew (0xB0 ∷ 0x00 ∷ []) ≡ refuse notAssigned
   pub spare-bit : readNew (0x20 ∷ 0x01 ∷ []) ≡ refuseAt 1 spareBit
   pub spare-before-14 : readNew (0xA0 ∷ 0x01 ∷ []) ≡ refuseAt 1 spareBit
   pub indicator-with-data : readNew (0xA0 ∷ 0x00 ∷ []) ≡ refuse wrongData
-  -- "a field type has an extension bit, so a header is five bits"; one that ends early is refused at its first bit's octet
+  -- a header has five bits (rule 7.9) and is packed as in the old edition (rule 7.12); one that ends early has the place of its first bit's
+  -- octet (rules 5.7 and 26.26)
   pub mended : readNew (0xC0 ∷ 0x04 ∷ 0x80 ∷ 0x00 ∷ 0x00 ∷ 0xAA ∷ 0x14 ∷ 0x00 ∷ 0x00 ∷ 0x00 ∷ 0xBB ∷ 0x20 ∷ [])
       ≡ withFields (fieldOf 0 5 1 ∷ fieldOf 2 0 0 ∷ fieldOf 0 10 1 ∷ fieldOf 4 0 0 ∷ [])
   pub header-cut : readNew (0xC0 ∷ 0x02 ∷ 0x08 ∷ []) ≡ refuseAt 2 endsEarly
   pub header-bit : readNew (0xC0 ∷ 0x01 ∷ 0x09 ∷ []) ≡ refuseAt 2 spareBit
-  -- "Added field types always carry data here but v34rate, which may": 8 cm, 9 jm, 10 ci, 11 v34rate
+  -- of the added types cm, jm and ci always carry data, and v34rate may (rule 7.10): 8 cm, 9 jm, 10 ci, 11 v34rate (rule 7.4)
   pub cm : readNew (0xC0 ∷ 0x01 ∷ 0xC0 ∷ 0x00 ∷ 0x00 ∷ 0x00 ∷ 0x55 ∷ []) ≡ withFields (fieldOf 8 6 1 ∷ [])
   pub cm-bare : readNew (0xC0 ∷ 0x01 ∷ 0x40 ∷ 0x00 ∷ []) ≡ refuseAt 2 wrongData
   pub v34rate : readNew (0xC0 ∷ 0x01 ∷ 0xC1 ∷ 0x80 ∷ 0x00 ∷ 0x00 ∷ 0x55 ∷ []) ≡ withFields (fieldOf 11 6 1 ∷ [])
   pub v34rate-bare : readNew (0xC0 ∷ 0x01 ∷ 0x41 ∷ 0x80 ∷ []) ≡ withFields (fieldOf 11 0 0 ∷ [])
+  -- 12 past the last added type (rule 7.8) and for a 1 in place of the 0 bit; a type that is cut behind that bit is 1 (rule 7.7)
   pub past-types : readNew (0xC0 ∷ 0x01 ∷ 0xC2 ∷ 0x00 ∷ []) ≡ refuseAt 2 notAssigned
   pub type-not-0 : readNew (0xC0 ∷ 0x01 ∷ 0xE0 ∷ []) ≡ refuseAt 2 notAssigned
   pub type-cut : readNew (0xC0 ∷ 0x01 ∷ 0xDF ∷ []) ≡ refuseAt 2 endsEarly
-  -- the same octets in both editions: a field of type 1, and of type 2
+  -- the same octets have a field of type 1 in the old edition and of type 2 in the new (rule 7.13)
   pub old-type : readPacket edition98 Whole (0xC0 ∷ 0x01 ∷ 0x10 ∷ []) ≡ withFields (fieldOf 1 0 0 ∷ [])
   pub new-type : readNew (0xC0 ∷ 0x01 ∷ 0x10 ∷ []) ≡ withFields (fieldOf 2 0 0 ∷ [])
 
 pub record NewWriteCases : Type 0 where
+  -- an added value is written in the six bits (rule 7.5), and past the last one it is 12 (rule 7.8)
   pub first-indicator : writeNew Indicator 16 [] [] [] ≡ done (0x20 ∷ 0x00 ∷ [])
   pub last-indicator : writeNew Indicator 22 [] [] [] ≡ done (0x21 ∷ 0x80 ∷ [])
   pub past-indicators : writeNew Indicator 23 [] [] [] ≡ refuse notAssigned
   pub last-kind : writeNew Data 14 [] [] [] ≡ done (0x61 ∷ 0x40 ∷ [])
   pub past-kinds : writeNew Data 15 [] [] [] ≡ refuse notAssigned
-  -- "12 for added values under the old one"
+  -- an added value is 12 in the old edition (rule 7.6)
   pub added-old : packetToWrite edition98 Indicator 16 [] [] [] ≡ refuse notAssigned
+  -- headers of five bits, packed as in the old edition (rules 7.9 and 7.12)
   pub mended : writeNew Data 0 (0 ∷ 2 ∷ 0 ∷ 4 ∷ []) (1 ∷ 0 ∷ 1 ∷ 0 ∷ []) (0xAA ∷ 0xBB ∷ [])
       ≡ done (0xC0 ∷ 0x04 ∷ 0x80 ∷ 0x00 ∷ 0x00 ∷ 0xAA ∷ 0x14 ∷ 0x00 ∷ 0x00 ∷ 0x00 ∷ 0xBB ∷ 0x20 ∷ [])
+  -- cm always carries data, and v34rate may (rule 7.10)
   pub cm : writeNew Data 0 (8 ∷ []) (1 ∷ []) (0x55 ∷ []) ≡ done (0xC0 ∷ 0x01 ∷ 0xC0 ∷ 0x00 ∷ 0x00 ∷ 0x00 ∷ 0x55 ∷ [])
   pub cm-bare : writeNew Data 0 (8 ∷ []) (0 ∷ []) [] ≡ refuse wrongData
   pub v34rate-bare : writeNew Data 0 (11 ∷ []) (0 ∷ []) [] ≡ done (0xC0 ∷ 0x01 ∷ 0x41 ∷ 0x80 ∷ [])
+  -- a type over 11 is 12 (rule 6.19)
   pub past-types : writeNew Data 0 (12 ∷ []) (0 ∷ []) [] ≡ refuse notAssigned

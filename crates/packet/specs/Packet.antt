@@ -1,9 +1,6 @@
--- Document 01, 'The packet', by the ASN.1 of an edition: one description, production by production, from which both reading and
--- writing follow. "First octet, from the top: data-field present; 0 indicator or 1 data; extension; four bits of value; one zero. ..
--- With data, two octets hold its length minus one, then the data." And document 02, request 2: "a field header isn't padded: without
--- an extension it takes four bits, and after a field with no data the next header begins in the same octet. Only the count of
--- fields, data lengths and the packet's end go to an octet edge, by zero bits." And request 5: "A length, a header, padding and the octets
--- a length promises are each one item; for 6 it is the first octet left over". And what a packet reads as. Definitions only.
+-- A packet by the ASN.1 of an edition: one description, production by production, that defines both what is read and what is written (rules
+-- 5.2 to 5.6, 6.1 to 6.10 and 7.5 to 7.9), with its items and their order of refusal (rules 2.27 to 2.29, 6.14 and 6.15). Then what a
+-- packet reads as (rules 6.11 to 6.13). Definitions only.
 use Prim.Native.Nat.{ℕ, _+_, _-_, _/_}
 use mathlib.Core.Bool.{Bool, true, false, not, cond, _&&_}
 use mathlib.Core.List.{List, [], _∷_, _++_, map}
@@ -24,7 +21,7 @@ use Rattle.packet.specs.declared.types.Ending.the-variants.{Whole, Repai
 use Rattle.packet.specs.declared.types.Field.{Field}
 
 -- ---- what a packet may hold
--- "Fields in a packet 0 to 16", and where there is a count of them, "1 to 16"
+-- a packet has 0 to 16 fields (rule 1.8); where there is a count of them it is 1 to 16 (rule 6.4)
 abbrev pub fieldsLeast : ℕ
 fieldsLeast = 1
 
@@ -39,21 +36,21 @@ typesLimit edition = many (edition .types) - 1
 abbrev pub manyValues : Edition → PacketKind → ℕ
 manyValues edition kind = many (values edition kind)
 
--- "An indicator never has a data field": whether a packet of this kind may have one, or have none
+-- whether a packet of this kind may have a data field, or have none: an indicator never has one (rule 6.6)
 abbrev pub rightFields : PacketKind → Bool → Bool
 rightFields Indicator present = not present
 rightFields Data present = true
 
--- whether a field of this type may have data, or have none
+-- whether a field of this type may have data, or have none (rules 6.10 and 7.10)
 abbrev pub rightData : Edition → ℕ → Bool → Bool
 rightData edition type present = allows (edition .rule type) present
 
 -- ---- a value of an ENUMERATED type
--- one of those before the extension mark
+-- one of those before the extension mark (rule 6.3)
 unfoldable pub root : Enumerated → Format ℕ
 root e = guarded notAssigned (λ v. ltb v (e .assigned)) (bits (e .width))
 
--- one of those added after it, behind the 1 bit for extension: "one 0 bit, then six bits counted from zero"
+-- one of those added after it, behind the 1 bit for extension: one 0 bit, then six bits counted from zero (rules 7.5 to 7.8)
 unfoldable pub addition : Enumerated → Format ℕ
 addition e =
     made (λ x. let counted = x .1 .1 in e .assigned + counted) (λ v. (tt, (false, v - e .assigned)))
@@ -61,7 +58,7 @@ addition e =
     ⊳ λ _. guarded notAssigned not flag
     ⊳ λ _. guarded notAssigned (λ v. ltb v (e .added)) (bits addedWidth))
 
--- the bit for extension, where there is an extension mark
+-- the bit for extension, where there is an extension mark (rules 6.2 and 7.9)
 unfoldable pub enumerated : Enumerated → Format ℕ
 enumerated e =
     made (λ x. x .1) (λ v. (leb (e .assigned) v, v))
@@ -81,7 +78,7 @@ abbrev pub isData : PacketKind → Bool
 isData Indicator = false
 isData Data = true
 
--- from its parts in their order, and back
+-- from its parts in their order, and back (rule 6.1)
 abbrev pub typeOfMsgFrom : Bool × (Bool × ℕ) → First
 typeOfMsgFrom parts =
     let present = parts .0 in
@@ -99,7 +96,8 @@ typeOfMsg edition =
     ⊳ λ present. flag
     ⊳ λ choice. enumerated (values edition (chosen choice)))
 
--- "in the first octet extension 12, value 12, spare bit 5, indicator with data 14": one item, and in it the padding is another
+-- 1 or 12 for the value, then 5 for the padding behind it, then 14 (rule 6.14). It is one item, at place 0 (rule 6.17), and the padding in
+-- it is an item of its own (rule 7.11)
 unfoldable pub start : Edition → Format First
 start edition =
     made (λ x. x .0) (λ f. (f, (tt, tt)))
@@ -109,7 +107,7 @@ start edition =
     ⊳ λ _. demand wrongData (rightFields (f .kind) (f .present))))
 
 -- ---- Data-Field ::= SEQUENCE OF SEQUENCE { field-type ENUMERATED, field-data OCTET STRING (SIZE (1..65535)) OPTIONAL }
--- "a count of fields follows, 1 to 16 (else refusal 4)"
+-- a count by the length rule; one that is not 1 to 16 is 4 (rule 6.4)
 unfoldable pub count : Format ℕ
 count = lengthRule fieldsLeast fieldsLimit
 
@@ -117,8 +115,8 @@ pub record Header : Type 0 where
   pub type : ℕ
   pub present : Bool
 
--- the bit for field-data OPTIONAL and the field type, in whatever bit the item before ended; "a spare bit set is still 5, met after
--- its header, so for a field 14 now comes first"
+-- the bit for field-data OPTIONAL and the field type (rules 6.7 and 7.9), from the bit at which the item before ended (rule 5.6). 14 comes
+-- before 5 for the padding behind the header (rule 6.15)
 unfoldable pub header : Edition → Format Header
 header edition =
     guarded wrongData (λ h. rightData edition (h .type) (h .present))
@@ -126,17 +124,17 @@ header edition =
     (flag
     ⊳ λ present. enumerated (edition .types)))
 
--- "two octets hold its length minus one"; "the data of each at most the packet limit"
+-- two octets with the length minus one (rule 6.8); a length over the packet limit is 4 (rules 1.9 and 6.9)
 unfoldable pub size : Format ℕ
 size = made (λ n. n + 1) (λ n. n - 1) (twoOctets (packetLimit - 1))
 
--- a field as it is read and written: its type, where its data begins, and the data. Without data both are nothing
+-- a field as it is read and written: its type, where its data begins, and the data. Without data, `start` is 0 and `octets` is empty
 pub record Content : Type 0 where
   pub type : ℕ
   pub start : ℕ
   pub octets : List ℕ
 
--- the length, the octet at which the data begins, and the data
+-- the length, the octet at which the data begins, and the data (rule 6.8)
 unfoldable pub fieldData : Format (ℕ × List ℕ)
 fieldData =
     made (λ x. x .1) (λ x. (length (x .1), x))
@@ -183,7 +181,8 @@ packetFrom parts =
 abbrev pub packetParts : IfpPacket → First × (List Content × Unit {0})
 packetParts p = (record { kind = p .kind; value = p .value; present = ltb 0 (length (p .contents)) }, (p .contents, tt))
 
--- "If present, a count of fields follows"; "A data packet with no field has the top bit clear"; its end is at an octet edge
+-- if the data-field bit is set, a count of fields follows (rule 6.4); a data packet with no field has it clear (rule 6.5). The packet ends
+-- at an octet edge (rule 5.2)
 unfoldable pub packet : Edition → Format IfpPacket
 packet edition =
     made packetFrom packetParts
@@ -200,12 +199,12 @@ every test (x ∷ s) = test x && every test s
 abbrev pub allZero : List ℕ → Bool
 allZero s = every (λ x. eqb x 0) s
 
--- "A received or spare packet ends at its last field. A repaired one may go on with zeros only": what may follow
+-- what may follow the end: nothing in a received or spare packet (rule 6.11), zeros only in a repaired one (rule 6.12)
 abbrev pub mayFollow : Ending → List ℕ → Bool
 mayFollow Whole rest = eqb (length rest) 0
 mayFollow Repaired rest = allZero rest
 
--- "anything else left is refusal 6"
+-- anything else left over is 6, at the first octet behind the end (rules 2.29, 6.11 and 6.12)
 unfoldable pub wholePacket : Edition → Ending → Reader IfpPacket
 wholePacket edition ending = do
   p ← packet edition .read
@@ -224,12 +223,12 @@ abbrev pub answerOf : Finding IfpPacket → Answer PacketAnswer
 answerOf (found p at) = done (record { kind = p .kind; value = p .value; fields = map fieldOf (p .contents) })
 answerOf (stopped r) = refused r
 
--- "over [the packet limit] 4, then reading order"
+-- over the packet limit 4, then reading order (rule 6.13)
 unfoldable pub readPacket : Edition → Ending → List ℕ → Answer PacketAnswer
 readPacket edition ending s = cond (ltb packetLimit (length s)) (refuse outsideSizes) (answerOf (wholePacket edition ending s 0 0))
 
 -- ---- a field's data, as a part of the packet's octets
--- no field: what stands in the places that a packet's fields leave unused
+-- no field, in the places that a packet's fields leave unused (rule 6.27)
 abbrev pub noField : Field
 noField = record { kind = 0; start = 0; size = 0 }
 

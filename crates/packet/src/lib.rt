@@ -1,4 +1,4 @@
-// Packets, what they are: document 01, 'The packet'.
+// Packets: what they mean, and the types that their readers and their writer share (rules 6.1, 6.27 and 7.1).
 mod types;
 
 pub use types::Choice;

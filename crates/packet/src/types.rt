@@ -1,17 +1,17 @@
-// Document 01, 'The packet': what a packet is to those who read and write it.
+// What a packet is to its readers and its writer (rules 6.1, 6.27 and 7.1).
 use length::Refusal;
 ghost use mathlib.Core.Path.{_≡_};
 ghost use Rattle.packet.specs.Edition.{edition02};
 ghost use Rattle.packet.specs.Packet.{fieldsLeast, fieldsLimit, typesLimit};
 
-// A packet is an indicator or data.
+// A packet is an indicator or data (rule 6.1).
 pub enum PacketKind {
     Indicator,
     Data,
 }
 
-// An ENUMERATED type of the ASN.1: whether it has an extension mark `...`, in how many bits a value before it stands, how many values
-// stand before it, and how many were added after it.
+// An ENUMERATED type of the ASN.1: whether it has an extension mark `...`, how many bits a value before the mark has, how many values there
+// are before it, and how many were added after it.
 pub struct Enumerated {
     pub extensible: bool,
     pub width: usize,
@@ -19,26 +19,26 @@ pub struct Enumerated {
     pub added: usize,
 }
 
-// The edition of the ASN.1 that a caller names: that of 06/98, or that of 2002.
+// The edition of the ASN.1 that a caller names: that of 06/98, or that of 2002 (rule 7.1).
 pub enum Named {
     Old,
     New,
 }
 
-// What an octet names: an edition, or none.
+// What an octet names: an edition, or none (rule 7.2).
 pub enum Choice {
     Edition(Named),
     Neither,
 }
 
-// How a packet came: received or as a spare it is whole, and ends at its last field; repaired it may go on with zeros.
+// How a packet came: received or spare, it ends at its last field (rule 6.11); repaired, it may go on with zeros (rule 6.12).
 pub enum Ending {
     Whole,
     Repaired,
 }
 
-// A field of a packet: its type, 0 to 7 or 0 to 11 by edition, and its data as a part of the packet. Without data its size is 0, and so
-// is start. `kind` is the type: `type` is a word of the language. It stands so in a C host's memory.
+// A field of a packet: its type, 0 to 7 or 0 to 11 by edition, and its data as a part of the packet. Without data its start and size are 0
+// (rule 6.27). A C program uses the same layout. `kind` is the type: `type` is a word of the language.
 #[repr(C)]
 pub struct Field {
     pub kind: u8,
@@ -83,7 +83,7 @@ pub enum PacketReading {
     Refused(Refusal),
 }
 
-// The answer of `packet_reader::read`: the first `count` places of `fields` are the packet's; all others are zero.
+// The result of `packet_reader::read`: the first `count` places of `fields` are the packet's; all others are zero (rule 6.27).
 pub struct PacketRead {
     pub reading: PacketReading,
     pub fields: [Field; Field::LIMIT],

@@ -1,4 +1,4 @@
--- The claim of this crate, and the word that it is said in.
+-- The claim of this crate (rule 6.26), and the definition that it uses.
 use Prim.Native.Nat.{ℕ, _+_, _≤_}
 use mathlib.Core.Path.{_≡_}
 use mathlib.Core.Bool.{cond}
@@ -10,11 +10,11 @@ use Rattle.packet.specs.Edition.{edition98}
 use Rattle.packet.specs.Write.{withData, total, packetToWrite}
 use Rattle.packet.specs.declared.types.PacketKind.{PacketKind}
 
--- no packet of the edition of 06/98 is longer than by document 01's first rule, "Each field begins on an octet of its own": how many octets
--- a field took
+-- how many octets a field takes if its header has an octet of its own
 abbrev pub ownSize : ℕ → ℕ
 ownSize size = cond (withData size) (3 + size) 1
 
+-- no packet of the old edition is longer than with every field header on an octet of its own (rule 6.26)
 abbrev pub NeverLonger : Type 0
 NeverLonger = (kind : PacketKind) (value : ℕ) (types lengths octets w : List ℕ)
     → packetToWrite edition98 kind value types lengths octets ≡ done w

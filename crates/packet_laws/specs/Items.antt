@@ -1,5 +1,4 @@
--- What the functions of the writer owe each other: what is measured, what has room, and what lies in the lent buffer afterwards.
--- Definitions only.
+-- What the functions of `packet_writer` owe each other: what is measured, what has room, and what the buffer then holds. Definitions only.
 use Prim.Native.Nat.{ℕ, _+_, _-_, _*_, _^_, _<_, _≤_}
 use mathlib.Core.Path.{_≡_}
 use mathlib.Core.Bool.{Bool, true}
@@ -34,16 +33,16 @@ pub record BitIs (set : Bool) (r : ℕ) : Type 0 where
   pub same : r ≡ flagBit set
   pub few : r ≤ 1
 
--- in how many bits a value stands
+-- how many bits a value takes (rules 6.2, 6.7 and 7.5)
 pub record ValueWide (e : Enumerated) (value r : ℕ) : Type 0 where
   pub same : r ≡ valueWidth e value
   pub few : r ≤ 8
 
--- each of as many fields as there are types has data or not, as its type may: in both editions alike
+-- each of as many fields as there are types has data or not, as its type may, alike in both editions (rules 6.10 and 7.10)
 pub record TypesRight (types lengths : List ℕ) (r : Bool) : Type 0 where
   pub so : (named : Named) → r ≡ rightTypes (editionOf named) types lengths
 
--- the place after a field, and after some fields, small enough that it fits one number
+-- the place after a field, and after some fields, with a bound that keeps it within one number
 pub record FieldPast (e : Enumerated) (p : Place) (kind size r : ℕ) : Type 0 where
   pub answer : r ≡ pastField e p kind size
   pub small : r ≤ p + 524328
@@ -59,7 +58,7 @@ pub record FieldsPast (e : Enumerated) (p : Place) (types lengths : List ℕ) (r
   pub answer : r ≡ pastFields e p types lengths
   pub small : r ≤ p + fieldsLimit * 524328
 
--- not 12, not 14, how many octets it is, and what is to be written, measured
+-- whether it is not 12, whether it is not 14, how many octets it has, and what is to be written, measured (rule 6.20)
 pub record AllAssigned (named : Named) (kind : PacketKind) (value : ℕ) (types : List ℕ) (r : Bool) : Type 0 where
   pub so : r ≡ allAssigned (editionOf named) kind value types
 
@@ -73,7 +72,7 @@ pub record Measured (named : Named) (kind : PacketKind) (value : ℕ) (types len
   pub answer : writtenOutcome r ≡ sizeOf (packetToWrite (editionOf named) kind value types lengths octets)
 
 -- ---- writing: what has room
--- bits after those that wait, the octet edge after those, some data, and a field
+-- room for bits after those that wait, for the octet edge after them, for some data, and for a field
 pub record BitsFit (w : Waiting) (n bits : ℕ) (old : List ℕ) : Type 0 where
   pub waits : Waits w
   pub few : n ≤ 8
@@ -109,7 +108,7 @@ pub record FieldFits (e : Enumerated) (w : Waiting) (kind : ℕ) (octets old : L
   pub short : length octets ≤ packetLimit
   pub room : length (fieldOctets e w kind octets) ≤ length old
 
--- what is put after the bits that wait: the octets that are filled, and what waits then
+-- what is put after the bits that wait: the octets that are filled, and what waits then (rule 5.6)
 pub record PutAfter (octets : List ℕ) (next : Waiting) (old new : List ℕ) (size width value : ℕ) : Type 0 where
   pub put : Put octets old new size
   pub waits : waiting width value ≡ next
@@ -142,7 +141,7 @@ pub record CountedFit (e : Enumerated) (types lengths octets old : List ℕ) : T
   pub right : FieldsRight e types lengths octets
   pub room : length (countedFields e types lengths octets) ≤ length old
 
--- what may be written, and has room
+-- what is not refused, and has room
 pub record PacketFits (named : Named) (kind : PacketKind) (value : ℕ) (types lengths octets old : List ℕ) : Type 0 where
   pub allowed : packetToWrite (editionOf named) kind value types lengths octets
       ≡ done (laidOctets (editionOf named) kind value types lengths octets)

@@ -1,6 +1,6 @@
--- A packet of an edition as the code writes it, octet by octet. A value is a number in at most eight bits. A header may leave bits that
--- do not fill their octet: they wait for the next header or for the octet edge. It is proved to be what the description of `Packet`
--- spells. No part of the meaning. Definitions only.
+-- A packet of an edition as the code writes it, octet by octet. A value is a number of at most eight bits. A header may leave bits that do
+-- not fill their octet: they wait for the next header or for the octet edge (rules 5.2 and 5.6). It is proved to be what the description of
+-- `Packet` in `packet` spells. No part of the meaning. Definitions only.
 use Prim.Native.Nat.{ℕ, _+_, _-_, _*_, _/_, _%_, _^_}
 use mathlib.Core.Bool.{Bool, cond}
 use mathlib.Core.List.{List, [], _∷_, _++_}
@@ -21,16 +21,16 @@ use Rattle.packet.specs.declared.types.Enumerated.{Enumerated}
 abbrev pub markWidth : Bool → ℕ
 markWidth extensible = cond extensible 1 0
 
--- in how many bits a value stands: "one 1 bit for extension, one 0 bit, then six bits" if it was added
+-- how many bits a value takes: an added one has a 1 bit for extension, a 0 bit and six bits (rule 7.5)
 unfoldable pub valueWidth : Enumerated → ℕ → ℕ
 valueWidth e value = cond (leb (e .assigned) value) (2 + addedWidth) (markWidth (e .extensible) + e .width)
 
--- and the number that they make: "counted from zero"
+-- and the number that they make, counted from zero for an added value (rule 7.5)
 unfoldable pub valueBits : Enumerated → ℕ → ℕ
 valueBits e value = cond (leb (e .assigned) value) (2 * 2 ^ addedWidth + (value - e .assigned)) value
 
 -- ---- the first item
--- the two bits before its value, data-field present and indicator or data, and what they make with it
+-- the two bits before its value, for data-field present and for the kind, and what they make with it (rule 6.1)
 abbrev pub firstLead : First → ℕ
 firstLead first = 2 * flagBit (first .present) + flagBit (isData (first .kind))
 
@@ -41,11 +41,11 @@ unfoldable pub firstOctets : Enumerated → First → List ℕ
 firstOctets e first = fullOctets (firstBits e first) ++ closed (left (firstBits e first))
 
 -- ---- a field
--- "two octets hold its length minus one"
+-- two octets with the length minus one, high first (rule 6.8)
 abbrev pub sizeOctets : ℕ → List ℕ
 sizeOctets size = ((size - 1) / 256) ∷ ((size - 1) % 256) ∷ []
 
--- its header after what waits: the bit for data, then the type
+-- its header after what waits: the bit for data, then the type (rule 6.7)
 abbrev pub withFlag : Waiting → Bool → Waiting
 withFlag w present = joined w 1 (flagBit present)
 
@@ -58,18 +58,18 @@ headerOctets e w kind present = fullOctets (withFlag w present) ++ fullOctets (w
 unfoldable pub headerLeft : Enumerated → Waiting → ℕ → Bool → Waiting
 headerLeft e w kind present = left (withType e w kind present)
 
--- "With data, two octets hold its length minus one, then the data", from an octet edge on
+-- with data, from an octet edge on, two octets with its length minus one, then the data (rule 6.8)
 unfoldable pub fieldOctets : Enumerated → Waiting → ℕ → List ℕ → List ℕ
 fieldOctets e w kind octets =
     let present = withData (length octets) in
     headerOctets e w kind (withData (length octets))
     ++ cond present (closed (headerLeft e w kind (withData (length octets))) ++ (sizeOctets (length octets) ++ octets)) []
 
--- what waits after it
+-- what waits after it (rule 5.6)
 unfoldable pub afterField : Enumerated → Waiting → ℕ → List ℕ → Waiting
 afterField e w kind octets = cond (withData (length octets)) noneWait (headerLeft e w kind (withData (length octets)))
 
--- the fields in order, each with the next part of the data, of its length; at the end an octet edge
+-- the fields in order, each with the next part of the data, of its length; at the end an octet edge (rule 5.2)
 unfoldable pub fieldsOctets : Enumerated → Waiting → List ℕ → List ℕ → List ℕ → List ℕ
 fieldsOctets e w [] lengths octets = closed w
 fieldsOctets e w (kind ∷ types) [] octets = closed w
@@ -77,11 +77,11 @@ fieldsOctets e w (kind ∷ types) (size ∷ lengths) octets =
     fieldOctets e w kind (take size octets) ++ fieldsOctets e (afterField e w kind (take size octets)) types lengths (drop size octets)
 
 -- ---- the packet
--- the count of fields, then the fields
+-- the count of fields, then the fields (rule 6.4)
 abbrev pub countedFields : Enumerated → List ℕ → List ℕ → List ℕ → List ℕ
 countedFields e types lengths octets = lengthOctets (length types) ++ fieldsOctets e noneWait types lengths octets
 
--- the first item, then those, if there are any
+-- the first item, then those, if there are any (rule 6.5)
 unfoldable pub laidOctets : Edition → PacketKind → ℕ → List ℕ → List ℕ → List ℕ → List ℕ
 laidOctets edition kind value types lengths octets =
     let present = ltb 0 (length types) in
@@ -89,7 +89,7 @@ laidOctets edition kind value types lengths octets =
     ++ cond present (countedFields (edition .types) types lengths octets) []
 
 -- ---- how many octets it takes
--- "a header is five bits" in the new edition, and "four bits" in the old, for a type that was not added
+-- a header takes five bits in the new edition and four in the old, for a type that was not added (rules 6.7 and 7.9)
 abbrev pub headerWidth : Enumerated → ℕ → ℕ
 headerWidth e kind = 1 + valueWidth e kind
 
@@ -102,7 +102,7 @@ pastFields e p [] lengths = p
 pastFields e p (kind ∷ types) [] = p
 pastFields e p (kind ∷ types) (size ∷ lengths) = pastFields e (pastField e p kind size) types lengths
 
--- the octets of the first item, which are one or two
+-- the octets of the first item, one or two (rules 6.2 and 7.5)
 abbrev pub firstSize : Enumerated → ℕ → ℕ
 firstSize e value = edge (2 + valueWidth e value)
 

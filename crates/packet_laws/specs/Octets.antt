@@ -1,6 +1,6 @@
--- A packet of an edition as the code reads it: a place is a number of bits, and what is read there is told by the octets that hold it.
--- Bits past the end are 0. The tables of refusals go by this too; it is proved to be what the description of `Packet` says. No part of
--- the meaning. Definitions only.
+-- A packet of an edition as the code reads it: a place is a number of bits, and what is read there is computed from the octets that hold it
+-- (rule 5.1). Bits past the end are 0. The tables of refusals in `demands` use these definitions too; they are proved to be what the
+-- description of `Packet` in `packet` says. No part of the meaning. Definitions only.
 use Prim.Native.Nat.{ℕ, zero, suc, _+_, _-_, _*_, _/_, _≤_}
 use mathlib.Core.Bool.{Bool, cond}
 use mathlib.Core.List.{List, [], _∷_}
@@ -23,8 +23,8 @@ abbrev pub bitSetAt : List ℕ → Place → Bool
 bitSetAt s p = ltb 0 (bitsAt 1 s p)
 
 -- ---- a value of an ENUMERATED type, of the item that begins at an octet
--- its values can be told apart and fit an octet. The bits of those before the extension mark are at most six, so that with a bit before
--- them and the bit for extension two octets hold them wherever they stand
+-- no two of its values share their bits, and they fit an octet. The bits of those before the extension mark are at most six, so that with a
+-- bit before them and the bit for extension two octets hold them, wherever they begin
 pub record Narrow (e : Enumerated) : Type 0 where
   pub sound : SoundEnumerated e
   pub some : 1 ≤ e .width
@@ -39,15 +39,15 @@ pub record Value : Type 0 where
   pub value : ℕ
   pub next : Place
 
--- one of those before the extension mark
+-- one of those before the extension mark (rule 6.3)
 unfoldable pub rootAt : Enumerated → ℕ → List ℕ → Place → Answer Value
 rootAt e item s p =
     let value = bitsAt (e .width) s p in
     cond (ltb (8 * length s) (p + e .width)) (refuseAt item endsEarly)
     (cond (ltb value (e .assigned)) (done (record { value = value; next = p + e .width })) (refuseAt item notAssigned))
 
--- one of those added after it, behind the 1 bit for extension: "12 for added values under the old one, for a 1 where the 0 bit stands, and
--- past the last added value"
+-- one of those added after it, behind the 1 bit for extension: 12 in the old edition, for a 1 in place of the 0 bit, and past the last
+-- added value (rules 7.6 to 7.8)
 unfoldable pub addedAt : Enumerated → ℕ → List ℕ → Place → Answer Value
 addedAt e item s p =
     let value = bitsAt addedWidth s (p + 1) in
@@ -63,13 +63,13 @@ valueAt e item s p =
     (cond (bitSetAt s p) (addedAt e item s (p + 1)) (rootAt e item s (p + 1)))
     (rootAt e item s p)
 
--- how many bits a value before the extension mark takes, with the bit for extension where there is a mark: as one number they are the
--- value itself, since that bit is 0
+-- how many bits a value before the extension mark takes, with the bit for extension where there is a mark: as one number they are the value
+-- itself, since that bit is 0
 abbrev pub plainWidth : Enumerated → ℕ
 plainWidth e = cond (e .extensible) (e .width + 1) (e .width)
 
 -- ---- the first value
--- what the first two bits say
+-- the kind that the second bit says (rule 6.1)
 abbrev pub kindOf : List ℕ → PacketKind
 kindOf s = chosen (bitSetAt s 1)
 
@@ -78,7 +78,7 @@ pub record FirstAnswer : Type 0 where
   pub first : First
   pub octets : ℕ
 
--- "order at the first value 1, 12, 5, 14"
+-- 1 or 12 for the value, then 5 for the padding, then 14 (rule 6.14), which has place 0 (rule 6.17)
 unfoldable pub firstAt : Edition → List ℕ → Answer FirstAnswer
 firstAt edition s = do
   v ← valueAt (values edition (kindOf s)) 0 s 2
@@ -92,7 +92,7 @@ pub record Count : Type 0 where
   pub value : ℕ
   pub next : Place
 
--- "If present, a count of fields follows, 1 to 16 (else refusal 4)": without it there is none to read
+-- if fields are present, a count follows, and one that is not 1 to 16 is 4 (rule 6.4); otherwise there is none to read
 unfoldable pub countAt : List ℕ → ℕ → Bool → Answer Count
 countAt s at present =
     cond present
@@ -107,7 +107,7 @@ pub record HeaderAnswer : Type 0 where
   pub header : Header
   pub next : Place
 
--- "a header across an octet edge: at its first bit's octet"
+-- a header that crosses an octet edge has the place of its first bit's octet (rule 5.7); 1 or 12 for its type, then 14 (rule 6.15)
 unfoldable pub headerAt : Edition → List ℕ → Place → Answer HeaderAnswer
 headerAt edition s p = do
   v ← valueAt (edition .types) (p / 8) s (p + 1)
@@ -115,8 +115,8 @@ headerAt edition s p = do
       (done (record { header = record { type = v .value; present = bitSetAt s p }; next = v .next }))
       (refuseAt (p / 8) wrongData)
 
--- "two octets hold its length minus one, then the data": the data's length, at the front of octets that must hold it all. The
--- two octets have no form to refuse, so it is 1, then 4, then 1 for missing octets, which begin behind the two
+-- the data's length minus one in two octets, then the data (rule 6.8). The two octets have no form to refuse: 1, then 4, then 1 for missing
+-- data (rule 6.9), which begins behind the two (rule 2.28)
 unfoldable pub sizeAt : List ℕ → Answer ℕ
 sizeAt s =
     let size = getD s 0 0 * 256 + getD s 1 0 + 1 in
@@ -130,7 +130,7 @@ pub record FieldAnswer : Type 0 where
   pub field : Field
   pub next : Place
 
--- what follows a header: with data an octet edge, its length and the data, without it nothing
+-- what follows a header: with data an octet edge, its length and the data, without data nothing (rules 5.6 and 6.8)
 unfoldable pub afterHeader : List ℕ → HeaderAnswer → Answer FieldAnswer
 afterHeader s h =
     cond (h .header .present)
@@ -150,7 +150,7 @@ pub record FieldsAnswer : Type 0 where
   pub fields : List Field
   pub next : Place
 
--- so many fields from a place on
+-- n fields from a place on
 unfoldable pub fieldsAt : Edition → ℕ → List ℕ → Place → Answer FieldsAnswer
 fieldsAt edition zero s p = done (record { fields = []; next = p })
 fieldsAt edition (suc n) s p = do
@@ -159,12 +159,13 @@ fieldsAt edition (suc n) s p = do
   done (record { fields = f .field ∷ rest .fields; next = rest .next })
 
 -- ---- the packet
--- its end is at an octet edge, and then something may follow or not
+-- its end is at an octet edge (rule 5.2), behind which octets may follow or not (rules 6.11 and 6.12)
 unfoldable pub endAt : {A : Type 0} → Ending → List ℕ → Place → A → Answer A
 endAt ending s p a = do
   at ← edgeAt s p
   cond (mayFollow ending (drop at s)) (done a) (refuseAt at leftOver)
 
+-- over the packet limit 4, then reading order (rule 6.13)
 unfoldable pub packetByOctets : Edition → Ending → List ℕ → Answer PacketAnswer
 packetByOctets edition ending s =
     cond (ltb packetLimit (length s)) (refuse outsideSizes)

@@ -1,4 +1,4 @@
--- What the readers of bits owe: what the description's readers find. Definitions only.
+-- What the readers of bits owe: what the description's readers find (rules 5.1, 5.3 to 5.5 and 8.1). Definitions only.
 use Prim.Native.Nat.{ℕ, _+_, _%_}
 use mathlib.Core.Path.{_≡_}
 use mathlib.Core.Bool.{Bool}
@@ -13,7 +13,7 @@ use Rattle.packet_pencil.specs.declared.bits.Marked.the-variants as flag
 use Rattle.packet_pencil.specs.declared.bits.Edge.{Edge}
 use Rattle.packet_pencil.specs.declared.bits.Edge.the-variants as edge
 
--- what was found, as something else
+-- what was found, with a function applied to it
 abbrev pub foundAs : {A B : Type 0} → (A → B) → Finding A → Finding B
 foundAs f (found a p) = found (f a) p
 foundAs f (stopped r) = stopped r
@@ -31,12 +31,12 @@ abbrev pub edgeFound : Edge → Finding (Unit {0})
 edgeFound (edge.Found p) = found tt p
 edgeFound (edge.Refused r) = stopped r
 
--- so many bits were taken
+-- n bits were taken
 abbrev pub Past : ℕ → Place → Number → Type 0
 Past n p (number.Found v q) = q ≡ p + n
 Past n p (number.Refused r) = Unit {0}
 
--- inside the item that begins at the octet i
+-- a bit inside the item that begins at the octet i
 pub record BitTaken (s : List ℕ) (i : ℕ) (p : Place) (r : Number) : Type 0 where
   pub answer : reading.bit s i p ≡ numberFound r
   pub past : Past 1 p r
@@ -52,7 +52,7 @@ abbrev pub OnEdge : Edge → Type 0
 OnEdge (edge.Found q) = q % 8 ≡ 0
 OnEdge (edge.Refused r) = Unit {0}
 
--- an item of its own, inside whatever item
+-- padding is an item of its own, inside any item (rule 5.5)
 pub record EdgeTaken (s : List ℕ) (p : Place) (r : Edge) : Type 0 where
   pub answer : (i : ℕ) → reading.align s i p ≡ edgeFound r
   pub on : OnEdge r

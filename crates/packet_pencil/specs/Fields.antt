@@ -1,4 +1,4 @@
--- What the readers of a field and of all fields owe: what the description finds there. Definitions only.
+-- What the readers of a field and of all fields owe: what the description finds there (rules 6.7, 6.8 and 8.1). Definitions only.
 use Prim.Native.Nat.{ℕ, _/_}
 use mathlib.Core.Path.{_≡_}
 use mathlib.Core.List.{List, [], map}
@@ -24,11 +24,11 @@ abbrev pub headerFound : HeaderRead → Finding description.Header
 headerFound (header.Found k b p) = found (record { type = k; present = b }) p
 headerFound (header.Refused r) = stopped r
 
--- the item that begins with it
+-- the item begins with the header, in the octet of its first bit (rule 5.7)
 pub record HeaderTaken (named : Named) (s : List ℕ) (p : Place) (r : HeaderRead) : Type 0 where
   pub answer : description.header (editionOf named) .read s (p / 8) p ≡ headerFound r
 
--- a field, told by where its data begins and how long it is
+-- a field, by where its data begins and how long it is
 abbrev pub oneFound : One → Finding Field
 oneFound (one.Found f p) = found f p
 oneFound (one.Refused r) = stopped r
@@ -39,11 +39,11 @@ fieldFound named s i p = foundAs fieldOf (description.field (editionOf named) .r
 pub record FieldTaken (named : Named) (s : List ℕ) (p : Place) (r : One) : Type 0 where
   pub answer : (i : ℕ) → fieldFound named s i p ≡ oneFound r
 
--- so many fields
+-- n fields, one after the other
 abbrev pub fieldsFound : Named → ℕ → List ℕ → ℕ → Place → Finding (List Field)
 fieldsFound named n s i p = foundAs (map fieldOf) (reading.sequenceOf n (description.field (editionOf named) .read) s i p)
 
--- fields that were found stand in the places that there are, one after the other; those of a refused packet are all zero
+-- the fields that were found are in the first places, in order; those of a refused packet are all zero (rule 6.27)
 abbrev pub fieldsTaken : Finding (List Field) → Fields
 fieldsTaken (found fields p) = record { all = all.Found (length fields) p; fields = paddedFields fields }
 fieldsTaken (stopped r) = record { all = all.Refused r; fields = paddedFields [] }

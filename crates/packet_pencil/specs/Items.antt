@@ -1,4 +1,4 @@
--- What the readers of Annex A's small productions owe: what the description finds there. Definitions only.
+-- What the readers of Annex A's small productions owe: what the description finds (rules 6.2, 6.4, 6.8, 7.5 and 8.1). Definitions only.
 use Prim.Native.Nat.{ℕ, _+_, _/_, _%_, _≤_, _<_}
 use mathlib.Core.Path.{_≡_}
 use mathlib.Core.List.{List}
@@ -19,46 +19,46 @@ use Rattle.packet_pencil.specs.declared.bits.Number.the-variants as numb
 use Rattle.packet_pencil.specs.declared.items.Part.{Part}
 use Rattle.packet_pencil.specs.declared.items.Part.the-variants as part
 
--- a number that was found lies below a limit
+-- a number that was found is below a limit
 abbrev pub Below : ℕ → Number → Type 0
 Below limit (number.Found v p) = v < limit
 Below limit (number.Refused r) = Unit {0}
 
--- a value before the extension mark
+-- a value before the extension mark (rule 6.3)
 pub record RootTaken (e : Enumerated) (s : List ℕ) (i : ℕ) (p : Place) (r : Number) : Type 0 where
   pub answer : description.root e .read s i p ≡ numberFound r
   pub small : Below (many e) r
 
--- which of the added values, in their six bits
+-- which of the added values, in their six bits (rules 7.5 and 7.8)
 abbrev pub six : Enumerated → Format ℕ
 six e = guarded notAssigned (λ v. ltb v (e .added)) (bits addedWidth)
 
--- an added value, from them on
+-- an added value, from its six bits on
 pub record AddedTaken (e : Enumerated) (s : List ℕ) (i : ℕ) (p : Place) (r : Number) : Type 0 where
   pub answer : foundAs (λ v. e .assigned + v) (six e .read s i p) ≡ numberFound r
   pub small : Below (many e) r
 
--- and from behind the bit for extension
+-- and from behind the bit for extension (rules 7.6 and 7.7)
 pub record AdditionTaken (e : Enumerated) (s : List ℕ) (i : ℕ) (p : Place) (r : Number) : Type 0 where
   pub answer : description.addition e .read s i p ≡ numberFound r
   pub small : Below (many e) r
 
--- a value, which is one of those that there are
+-- an assigned value
 pub record ValueTaken (e : Enumerated) (s : List ℕ) (i : ℕ) (p : Place) (r : Number) : Type 0 where
   pub answer : description.enumerated e .read s i p ≡ numberFound r
   pub small : Below (many e) r
 
--- the octet at a place, past the end the end: what stands from there on is the same
+-- the octet at a place, or the end where the place is past it: the octets from there on are the same
 pub record OctetTaken (s : List ℕ) (p : Place) (r : ℕ) : Type 0 where
   pub inside : r ≤ length s
   pub rest : drop r s ≡ drop (p / 8) s
 
--- as many fields as a packet may have at the most
+-- a count of fields, at most as many as a packet may have (rule 6.4)
 pub record CountTaken (s : List ℕ) (p : Place) (r : Number) : Type 0 where
   pub answer : (i : ℕ) → description.count .read s i p ≡ numberFound r
   pub small : Below (1 + fieldsLimit) r
 
--- a length that was found is that of some data, fits a packet, and ends at an octet edge
+-- a length that was found is 1 or more, is within the packet limit, and ends at an octet edge (rules 6.8 and 6.9)
 pub record DataLength (n : ℕ) (q : Place) : Type 0 where
   pub some : 1 ≤ n
   pub few : n ≤ packetLimit
@@ -72,7 +72,7 @@ pub record SizeTaken (s : List ℕ) (p : Place) (r : Number) : Type 0 where
   pub answer : (i : ℕ) → description.size .read s i p ≡ numberFound r
   pub sized : RightLength r
 
--- data, told by where it begins and how long it is
+-- data, by where it begins and how long it is
 abbrev pub partOf : ℕ × List ℕ → ℕ × ℕ
 partOf x = (x .0, length (x .1))
 

@@ -1,5 +1,5 @@
--- What the readers of a packet's start owe: what the description finds there. What `read` owes is the quick reader's own promise,
--- `PacketTold`, and by one edition its `NamedTold`. Definitions only.
+-- What the readers of a packet's start owe: what the description finds there (rules 6.1, 6.2 and 8.1). What `read` owes is the packet
+-- reader's own promise, `PacketTold`, and in one edition its `NamedTold` (rule 8.2). Definitions only.
 use Prim.Native.Nat.{ℕ}
 use mathlib.Core.Path.{_≡_}
 use mathlib.Core.Bool.{Bool, cond}
@@ -21,7 +21,7 @@ abbrev pub firstFound : declared.First → Finding First
 firstFound (first.Found k v b p) = found (record { kind = k; value = v; present = b }) p
 firstFound (first.Refused r) = stopped r
 
--- a value of the kind that was chosen, behind whether there is a data field
+-- a value of the chosen kind, behind the bit for a data field
 abbrev pub firstWith : Bool → Bool → ℕ → First
 firstWith present isData v = record { kind = chosen isData; value = v; present = present }
 
@@ -35,7 +35,7 @@ pub record TypeTaken (named : Named) (s : List ℕ) (i : ℕ) (p : Place) (r : d
 pub record StartTaken (named : Named) (s : List ℕ) (p : Place) (r : declared.First) : Type 0 where
   pub answer : (i : ℕ) → description.start (editionOf named) .read s i p ≡ firstFound r
 
--- the data field, if there is one
+-- the data field, if there is one (rule 6.4)
 pub record AfterTaken (named : Named) (present : Bool) (s : List ℕ) (p : Place) (r : Fields) : Type 0 where
   pub answer : (i : ℕ)
       → r ≡ fieldsTaken (foundAs (map fieldOf) ((cond present (description.dataField (editionOf named)) (known [])) .read s i p))

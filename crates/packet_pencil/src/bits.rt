@@ -1,5 +1,5 @@
-// Bits, one at a time, the highest of an octet first, as X.691's aligned rules take them. A place is a number of bits, and an item is the
-// octet at which the item begins that they belong to: a refusal is given there.
+// Bits, one at a time, the highest of an octet first, as in X.691's aligned encoding (rules 5.1 and 8.1). A place is a number of bits.
+// `item` is the octet at which their item begins, and the place of a refusal (rule 2.27).
 use length::Refusal;
 use length::wide;
 ghost use Prim.Native.Nat.{_≤_};
@@ -40,7 +40,7 @@ pub fn bit(s: &[u8], item: usize, at: usize) -> Number
     Number::Found(value, next)
 }
 
-// The number in so many bits from a place on.
+// The number in n bits from a place on.
 pub fn bits(s: &[u8], item: usize, at: usize, n: usize) -> Number
     requires { ⌜ (length (now s) ≤ packetLimit) × (n ≤ 16) ⌝ }
     ensures { λ r. ⌜ BitsTaken n (now (s .entry)) item at r ⌝ }
@@ -77,7 +77,7 @@ pub fn flag(s: &[u8], item: usize, at: usize) -> Marked
     }
 }
 
-// To an octet edge, by zero bits, which are an item.
+// To an octet edge, by zero bits, which are one item; a bit set there is 5 (rules 5.3 to 5.5).
 pub fn align(s: &[u8], at: usize) -> Edge
     requires { ⌜ length (now s) ≤ packetLimit ⌝ }
     ensures { λ r. ⌜ EdgeTaken (now (s .entry)) at r ⌝ }

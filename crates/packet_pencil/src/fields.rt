@@ -36,13 +36,13 @@ pub enum All {
     Refused(Refusal),
 }
 
-// The fields that were read, those of a refused packet all zero.
+// The fields that were read; those of a refused packet are all zero (rule 6.27).
 pub struct Fields {
     pub all: All,
     pub fields: [Field; Field::LIMIT],
 }
 
-// The bit for field-data OPTIONAL, and the field type: one item. Both editions carry data by one rule.
+// The bit for field-data OPTIONAL, and the field type: one item (rules 6.7 and 7.9). Which types carry data is the same in both editions.
 pub fn header(named: Named, s: &[u8], at: usize) -> HeaderRead
     requires { ⌜ length (now s) ≤ packetLimit ⌝ }
     ensures { λ r. ⌜ HeaderTaken named (now (s .entry)) at r ⌝ }
@@ -89,7 +89,7 @@ pub fn field(named: Named, s: &[u8], at: usize) -> One
     }
 }
 
-// No fields, for this refusal.
+// No fields, with this refusal.
 fn refused(refusal: Refusal) -> Fields
     ensures { λ r. ⌜ r ≡ fieldsTaken (stopped refusal) ⌝ }
 {
@@ -100,7 +100,7 @@ fn refused(refusal: Refusal) -> Fields
     }
 }
 
-// SEQUENCE OF: so many fields, one after the other.
+// SEQUENCE OF: `count` fields, one after the other.
 fn sequence(named: Named, s: &[u8], from: usize, count: usize) -> Fields
     requires { ⌜ (length (now s) ≤ packetLimit) × (count ≤ fieldsLimit) ⌝ }
     ensures { λ r. ⌜ SequenceTaken named count (now (s .entry)) from r ⌝ }
@@ -126,7 +126,7 @@ fn sequence(named: Named, s: &[u8], from: usize, count: usize) -> Fields
     }
 }
 
-// Data-Field: the count of fields, and the fields.
+// Data-Field: the count of fields, and the fields (rule 6.4).
 pub fn data_field(named: Named, s: &[u8], at: usize) -> Fields
     requires { ⌜ length (now s) ≤ packetLimit ⌝ }
     ensures { λ r. ⌜ FieldsTaken named (now (s .entry)) at r ⌝ }

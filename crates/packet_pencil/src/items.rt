@@ -1,4 +1,4 @@
-// Annex A's small productions, each at its place: a value of an ENUMERATED type, a length of one or two octets, octets as they are.
+// Annex A's small productions, each at its place: a value of an ENUMERATED type, a length of one or two octets, plain octets (rule 8.1).
 use crate::bits::Edge;
 use crate::bits::Marked;
 use crate::bits::Number;
@@ -21,7 +21,7 @@ ghost use Rattle.packet_laws.specs.Octets.{Narrow};
 ghost use Rattle.packet_pencil.specs.Items.{RootTaken, AddedTaken, AdditionTaken, ValueTaken};
 ghost use Rattle.packet_pencil.specs.Items.{OctetTaken, CountTaken, SizeTaken, PartTaken};
 
-// In how many bits an added value is told.
+// How many bits an added value takes, behind the bit for extension and a bit that is 0 (rule 7.5).
 const ADDED_WIDTH: usize = 6;
 
 // Where a field's data begins, how many octets it has, and the place after it.
@@ -30,7 +30,7 @@ pub enum Part {
     Refused(Refusal),
 }
 
-// One of the values before the extension mark, in as many bits as they have.
+// One of the values before the extension mark, in as many bits as they have (rule 6.3).
 fn root(s: &[u8], item: usize, at: usize, values: Enumerated) -> Number
     requires { ⌜ (length (now s) ≤ packetLimit) × Narrow values ⌝ }
     ensures { λ r. ⌜ RootTaken values (now (s .entry)) item at r ⌝ }
@@ -46,7 +46,7 @@ fn root(s: &[u8], item: usize, at: usize, values: Enumerated) -> Number
     }
 }
 
-// Which of the added values, in six bits counted from zero.
+// Which of the added values, in six bits counted from zero; past the last one it is 12 (rules 7.5 and 7.8).
 fn counted(s: &[u8], item: usize, at: usize, values: Enumerated) -> Number
     requires { ⌜ (length (now s) ≤ packetLimit) × Narrow values ⌝ }
     ensures { λ r. ⌜ AddedTaken values (now (s .entry)) item at r ⌝ }
@@ -63,7 +63,7 @@ fn counted(s: &[u8], item: usize, at: usize, values: Enumerated) -> Number
     }
 }
 
-// One of the values added after the extension mark, if there are any, behind the 1 bit for extension: one 0 bit, then which of them.
+// One of the values added after the extension mark, if any, behind the bit for extension: a 0 bit, then which one (rules 7.5 to 7.8).
 fn addition(s: &[u8], item: usize, at: usize, values: Enumerated) -> Number
     requires { ⌜ (length (now s) ≤ packetLimit) × Narrow values ⌝ }
     ensures { λ r. ⌜ AdditionTaken values (now (s .entry)) item at r ⌝ }
@@ -82,7 +82,7 @@ fn addition(s: &[u8], item: usize, at: usize, values: Enumerated) -> Number
     }
 }
 
-// ENUMERATED { .., ..., .. }: where there is an extension mark, the bit for extension; then a value before the mark or after it.
+// ENUMERATED { .., ..., .. }: the bit for extension, where there is a mark; then a value before the mark or after it (rules 6.2 and 7.5).
 fn enumerated(s: &[u8], item: usize, at: usize, values: Enumerated) -> Number
     requires { ⌜ (length (now s) ≤ packetLimit) × Narrow values ⌝ }
     ensures { λ r. ⌜ ValueTaken values (now (s .entry)) item at r ⌝ }
@@ -132,7 +132,7 @@ pub fn field_type(named: Named, s: &[u8], item: usize, at: usize) -> Number
     enumerated(s, item, at, values)
 }
 
-// The octet at a place; past the end, the end.
+// The octet at a place, or the end where the place is past it.
 pub fn octet(s: &[u8], at: usize) -> usize
     ensures { λ r. ⌜ OctetTaken (now (s .entry)) at r ⌝ }
 {
@@ -143,7 +143,7 @@ pub fn octet(s: &[u8], at: usize) -> usize
     whole
 }
 
-// The count of fields of a SEQUENCE OF, 1 to 16, by the length rule.
+// The count of fields of a SEQUENCE OF, 1 to 16, by the length rule (rule 6.4).
 pub fn count(s: &[u8], at: usize) -> Number
     requires { ⌜ length (now s) ≤ packetLimit ⌝ }
     ensures { λ r. ⌜ CountTaken (now (s .entry)) at r ⌝ }
@@ -163,7 +163,7 @@ pub fn count(s: &[u8], at: usize) -> Number
     }
 }
 
-// The length of an OCTET STRING (SIZE (1..65535)): two octets hold it minus one.
+// The length of an OCTET STRING (SIZE (1..65535)): two octets with the length minus one (rules 6.8 and 6.9).
 pub fn size(s: &[u8], at: usize) -> Number
     requires { ⌜ length (now s) ≤ packetLimit ⌝ }
     ensures { λ r. ⌜ SizeTaken (now (s .entry)) at r ⌝ }

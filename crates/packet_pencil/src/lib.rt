@@ -1,10 +1,10 @@
-// A packet read as one reads it with a pencil: one bit at a time, one function for each production of Annex A.
+// The second packet reader, to be compared with the ASN.1: one bit at a time, one function for each production of Annex A (rule 8.1).
 mod bits;
 mod fields;
 mod items;
 mod whole;
 
-// For the program `explain`: the productions one by one.
+// The productions one by one, for the program `explain`.
 pub use bits::Edge;
 pub use bits::Marked;
 pub use bits::Number;

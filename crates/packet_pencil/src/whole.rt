@@ -74,7 +74,7 @@ pub fn type_of_msg(named: Named, s: &[u8], item: usize, at: usize) -> First
     }
 }
 
-// The start of a packet: its type, zero bits to an octet edge, and no data field on an indicator.
+// The start of a packet: its type, zero bits to an octet edge, and no data field on an indicator (rule 6.14).
 pub fn start(named: Named, s: &[u8], at: usize) -> First
     requires { ⌜ length (now s) ≤ packetLimit ⌝ }
     ensures { λ r. ⌜ StartTaken named (now (s .entry)) at r ⌝ }
@@ -109,7 +109,7 @@ fn optional(named: Named, s: &[u8], at: usize, present: bool) -> Fields
     }
 }
 
-// A packet of this edition: its kind, value and fields, or the first refusal in reading order.
+// A packet of this edition: its kind, value and fields, or its first refusal: 4 over the packet limit, then reading order (rule 6.13).
 fn read_named(named: Named, s: &[u8], ending: Ending) -> PacketRead
     ensures { λ r. ⌜ NamedTold named ending (now (s .entry)) r ⌝ }
 {
@@ -142,7 +142,7 @@ fn read_named(named: Named, s: &[u8], ending: Ending) -> PacketRead
     }
 }
 
-// A packet of the edition that an octet names, 0 that of 06/98 and 1 that of 2002; another octet is refused first.
+// A packet of the edition that an octet names, 0 that of 06/98 and 1 that of 2002; another octet is 15, before all (rules 7.1 and 7.2).
 pub fn read(edition: u8, s: &[u8], ending: Ending) -> PacketRead
     ensures { λ r. ⌜ PacketTold (byEdition edition (λ e. readPacket e ending (now (s .entry)))) r ⌝ }
 {

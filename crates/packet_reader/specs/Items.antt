@@ -1,5 +1,4 @@
--- What the functions of this crate owe each other: for each item's reader the answer's cases in the words of packets' `Octets`.
--- Definitions only.
+-- What this crate's functions owe each other: the cases of each item reader's answer, as `Octets` of `packet_laws` says. Definitions only.
 use Prim.Native.Nat.{ℕ, _+_, _*_, _^_, _≤_, _<_}
 use mathlib.Core.Path.{_≡_}
 use mathlib.Core.Bool.{Bool, true, cond}
@@ -45,7 +44,7 @@ pub record InPacket (s : List ℕ) (p : Place) : Type 0 where
   pub few : length s ≤ packetLimit
   pub here : p ≤ 8 * length s
 
--- a place in them, or at most so many bits after their end
+-- a place in them, or at most this many bits behind their end
 pub record NearPacket (over : ℕ) (s : List ℕ) (p : Place) : Type 0 where
   pub few : length s ≤ packetLimit
   pub near : p ≤ 8 * length s + over
@@ -60,7 +59,7 @@ pub record Power (n r : ℕ) : Type 0 where
   pub is : r ≡ 2 ^ n
   pub some : 0 < r
 
--- an octet, and zero after the last one
+-- an octet, and zero past the last one
 pub record OctetAt (s : List ℕ) (at r : ℕ) : Type 0 where
   pub same : r ≡ getD s at 0
   pub small : r < 256

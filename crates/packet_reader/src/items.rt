@@ -1,5 +1,5 @@
-// Document 01, 'The packet', item by item, in a named edition: the first item, the count of fields, a field. Each item has a function of
-// its own, which answers with the item or with the refusal that is the whole packet's, at the octet at which the item begins.
+// A packet item by item, in a named edition: the first item, the count of fields, a field. Each item has a function of its own, which
+// returns the item, or the refusal of the whole packet at the octet at which the item begins (rules 2.27 and 2.28).
 
 use crate::places::EdgeRead;
 use crate::places::bit;
@@ -54,7 +54,7 @@ pub enum FieldRead {
     Refused(Refusal),
 }
 
-// The kind that the first two bits say.
+// The kind that the second bit says (rule 6.1).
 fn kind_of(s: &[u8]) -> PacketKind
     ensures { λ r. ⌜ r ≡ kindOf (now (s .entry)) ⌝ }
 {
@@ -64,7 +64,7 @@ fn kind_of(s: &[u8]) -> PacketKind
     PacketKind::Indicator
 }
 
-// What follows the first value: zero bits to an octet edge, and whether fields may be present or not.
+// What follows the first value: zero bits to an octet edge, and whether fields may be present or not (rule 6.14).
 fn after_first(s: &[u8], kind: PacketKind, value: u8, p: usize) -> FirstRead
     requires { ⌜ InPacket (now s) p ⌝ }
     ensures { λ r. ⌜ AfterFirst (now (s .entry)) kind value p r ⌝ }
@@ -93,8 +93,8 @@ fn first_by_parts(s: &[u8], named: Named, kind: PacketKind) -> FirstRead
     }
 }
 
-// The first item of s: bits for fields present and for the kind, the value, and zero bits to an octet edge. A value before the extension
-// mark is cut at once.
+// The first item of s: bits for fields present and for the kind, the value, and zero bits to an octet edge (rules 6.1 and 6.2). A value
+// before the extension mark is read in one step.
 pub fn read_first(s: &[u8], named: Named) -> FirstRead
     requires { ⌜ length (now s) ≤ packetLimit ⌝ }
     ensures { λ r. ⌜ FirstTold named (now (s .entry)) r ⌝ }
@@ -115,7 +115,7 @@ pub fn read_first(s: &[u8], named: Named) -> FirstRead
     after_first(s, kind, octet, next)
 }
 
-// The count of fields from the octet `at` on, where the first item says that they are present.
+// The count of fields from the octet `at` on, where the first item says that they are present (rule 6.4).
 pub fn read_count(s: &[u8], at: usize, present: bool) -> CountRead
     requires { ⌜ OctetIn (now s) at ⌝ }
     ensures { λ r. ⌜ CountTold (now (s .entry)) at present r ⌝ }
@@ -134,7 +134,7 @@ pub fn read_count(s: &[u8], at: usize, present: bool) -> CountRead
     CountRead::Count(value, next)
 }
 
-// What follows a field's type, which ends at a place: whether it may have data or not. The header begins at the octet `item`.
+// What follows a field's type, which ends at a place: whether it may have data or not (rule 6.15). The header begins at the octet `item`.
 fn after_type(item: usize, kind: u8, present: bool, p: usize) -> HeaderRead
     ensures { λ r. ⌜ AfterType item kind present p r ⌝ }
 {
@@ -160,7 +160,8 @@ fn header_by_parts(s: &[u8], p: usize, named: Named) -> HeaderRead
     }
 }
 
-// The field header at a place: a bit for data present, and the field's type. With a type before the extension mark it is cut at once.
+// The field header at a place: a bit for data present, and the field's type (rules 6.7 and 7.9). A type before the extension mark is read
+// in one step with that bit.
 fn read_header(s: &[u8], p: usize, named: Named) -> HeaderRead
     requires { ⌜ InPacket (now s) p ⌝ }
     ensures { λ r. ⌜ HeaderTold named (now (s .entry)) p r ⌝ }
@@ -185,7 +186,7 @@ fn read_header(s: &[u8], p: usize, named: Named) -> HeaderRead
     after_type(p / 8, kind, present, next)
 }
 
-// The length of the data that begins after the two octets at the front of s.
+// The length of the data that begins after the two octets at the front of s (rules 6.8 and 6.9).
 fn read_size(s: &[u8]) -> SizeRead
     ensures { λ r. ⌜ SizeTold (now (s .entry)) r ⌝ }
 {
@@ -204,7 +205,7 @@ fn read_size(s: &[u8]) -> SizeRead
     SizeRead::Size(size)
 }
 
-// What follows a header with data: an octet edge, the data's length and the data.
+// What follows a header with data: an octet edge, the data's length and the data (rule 6.8).
 fn read_data(s: &[u8], kind: u8, p: usize) -> FieldRead
     requires { ⌜ InPacket (now s) p ⌝ }
     ensures { λ r. ⌜ DataTold (now (s .entry)) kind p r ⌝ }

@@ -1,10 +1,10 @@
-// The quick reader of packets: document 01, 'The packet', and document 02, requests 2 and 11, as `packet` defines them.
+// The packet reader, as `packet` defines it (rules 6.1 to 6.17 and 7.1 to 7.11).
 mod items;
 mod places;
 mod reader;
 mod values;
 
-// What may follow the last field, the places with no field and the answer of a refused packet are the second reader's too.
+// The second reader uses these too: what may follow the last field, the places with no field, and the result of a refused packet.
 pub use reader::may_follow;
 pub use reader::no_fields;
 pub use reader::read;

@@ -1,4 +1,4 @@
-// Places in bits: a bit, the number in some bits from a place on, and the octet edge at a place or after it. No bits are read one by one.
+// Places in bits: a bit, the number in some bits, the octet edge at a place or after it (rules 5.1 and 5.3). No loop goes over bits.
 
 use length::Refusal;
 use length::wide;
@@ -19,7 +19,7 @@ pub fn power(n: usize) -> usize
     1 << n
 }
 
-// An octet of s, and zero after the last one.
+// An octet of s, and zero past the last one.
 fn octet_at(s: &[u8], at: usize) -> usize
     ensures { λ r. ⌜ OctetAt (now (s .entry)) at r ⌝ }
 {
@@ -39,7 +39,7 @@ pub fn bit(s: &[u8], p: usize) -> bool
     0 < front % 2
 }
 
-// The number in n bits from a place on: the two octets from there on hold them.
+// The number in n bits from a place on, from the two octets there, which hold them.
 pub fn bits(s: &[u8], n: usize, p: usize) -> usize
     requires { ⌜ n ≤ 8 ⌝ }
     ensures { λ r. ⌜ BitsTold n (now (s .entry)) p r ⌝ }
@@ -55,7 +55,7 @@ pub fn bits(s: &[u8], n: usize, p: usize) -> usize
     front % values
 }
 
-// To an octet edge, by zero bits.
+// To an octet edge, by zero bits; a bit set there is 5 (rules 5.3 to 5.5).
 pub fn read_edge(s: &[u8], p: usize) -> EdgeRead
     requires { ⌜ InPacket (now s) p ⌝ }
     ensures { λ r. ⌜ EdgeTold (now (s .entry)) p r ⌝ }

@@ -1,4 +1,4 @@
-// Document 01, 'The packet', read in reading order: the first item, the count of fields, each field, the end.
+// A packet in reading order: the first item, the count of fields, each field, the end (rule 6.13).
 
 use crate::items::CountRead;
 use crate::items::FieldRead;
@@ -43,7 +43,7 @@ enum EndRead {
     Refused(Refusal),
 }
 
-// As many places as a packet may have fields, all zero.
+// As many places as a packet may have fields, all zero (rule 6.27).
 pub fn no_fields() -> [Field; Field::LIMIT]
     ensures { λ r. ⌜ r ≡ paddedFields [] ⌝ }
 {
@@ -54,7 +54,7 @@ pub fn no_fields() -> [Field; Field::LIMIT]
     }; Field::LIMIT]
 }
 
-// So many fields, the first of which begins at `from`.
+// `count` fields, the first of which begins at `from`.
 fn read_fields(s: &[u8], count: usize, from: usize, named: Named) -> FieldsRead
     requires { ⌜ count ≤ fieldsLimit ⌝ }
     requires { ⌜ InPacket (now s) from ⌝ }
@@ -99,7 +99,7 @@ fn all_zero(s: &[u8]) -> bool
     true
 }
 
-// Whether what is left after the last field may be there.
+// Whether octets may be left behind the last field: none in a received or spare packet, zeros only in a repaired one (rules 6.11 and 6.12).
 pub fn may_follow(left: &[u8], ending: Ending) -> bool
     ensures { λ r. ⌜ r ≡ mayFollow ending (now (left .entry)) ⌝ }
 {
@@ -109,7 +109,7 @@ pub fn may_follow(left: &[u8], ending: Ending) -> bool
     }
 }
 
-// The end of a packet: an octet edge, and after it only what may follow.
+// The end of a packet: an octet edge, and behind it only what may follow (rules 5.2, 6.11 and 6.12).
 fn read_end(s: &[u8], p: usize, ending: Ending) -> EndRead
     requires { ⌜ InPacket (now s) p ⌝ }
     ensures { λ r. ⌜ EndTold ending (now (s .entry)) p r ⌝ }
@@ -125,7 +125,7 @@ fn read_end(s: &[u8], p: usize, ending: Ending) -> EndRead
     }
 }
 
-// The answer of a refused packet.
+// The result of a refused packet.
 pub fn refused(refusal: Refusal) -> PacketRead
     ensures { λ r. ⌜ r ≡ packetRead (answers.refused refusal) ⌝ }
 {
@@ -136,7 +136,7 @@ pub fn refused(refusal: Refusal) -> PacketRead
     }
 }
 
-// A packet's kind, value and fields in the named edition, or the first refusal in reading order.
+// A packet's kind, value and fields in the named edition, or its first refusal: 4 over the packet limit, then reading order (rule 6.13).
 fn read_named(named: Named, s: &[u8], ending: Ending) -> PacketRead
     ensures { λ r. ⌜ NamedTold named ending (now (s .entry)) r ⌝ }
 {
@@ -168,7 +168,7 @@ fn read_named(named: Named, s: &[u8], ending: Ending) -> PacketRead
     }
 }
 
-// A packet's kind, value and fields in the edition that an octet names, or the first refusal in reading order: another octet first.
+// A packet's kind, value and fields in the edition that an octet names, or a refusal: 15 for another octet comes first (rule 7.2).
 pub fn read(edition: u8, s: &[u8], ending: Ending) -> PacketRead
     ensures { λ r. ⌜ PacketTold (byEdition edition (λ e. readPacket e ending (now (s .entry)))) r ⌝ }
 {

@@ -1,6 +1,6 @@
-// A value of an ENUMERATED type of the ASN.1, in whatever bit it begins: the bit for extension where there is an extension mark, then
-// one of the values before the mark or one of those added after it. It answers with the refusal that is the whole packet's, at the octet
-// at which its item begins.
+// A value of an ENUMERATED type of the ASN.1, from any bit on: the bit for extension where there is an extension mark, then one of the
+// values before the mark or one of those added after it (rules 6.2, 6.3 and 7.5 to 7.8). A refusal is that of the whole packet, at the
+// octet at which the item begins (rule 2.27).
 
 use crate::places::bit;
 use crate::places::bits;
@@ -15,10 +15,10 @@ pub enum ValueRead {
     Refused(Refusal),
 }
 
-// How many bits an added value takes, behind the bit for extension and a bit that is 0.
+// How many bits an added value takes, behind the bit for extension and a bit that is 0 (rule 7.5).
 const ADDED_WIDTH: usize = 6;
 
-// One of those before the extension mark.
+// One of those before the extension mark (rule 6.3).
 fn read_root(s: &[u8], item: usize, p: usize, e: Enumerated) -> ValueRead
     requires { ⌜ NearPacket 3 (now s) p ⌝ }
     requires { ⌜ Narrow e ⌝ }
@@ -37,7 +37,7 @@ fn read_root(s: &[u8], item: usize, p: usize, e: Enumerated) -> ValueRead
     ValueRead::Refused(Refusal::at(Refusal::NOT_ASSIGNED, item))
 }
 
-// One of those added after it.
+// One of those added after it (rules 7.5 to 7.8).
 fn read_added(s: &[u8], item: usize, p: usize, e: Enumerated) -> ValueRead
     requires { ⌜ NearPacket 3 (now s) p ⌝ }
     requires { ⌜ Narrow e ⌝ }
@@ -80,8 +80,8 @@ pub fn read_value(s: &[u8], item: usize, p: usize, e: Enumerated) -> ValueRead
     read_root(s, item, p, e)
 }
 
-// How many bits a value before the extension mark takes, with the bit for extension where there is a mark. Cut from the octets at once they
-// are the value, since that bit is 0.
+// How many bits a value before the extension mark takes, with the bit for extension where there is a mark. Read in one step they are the
+// value, since that bit is 0.
 pub fn plain_width(e: Enumerated) -> usize
     requires { ⌜ Narrow e ⌝ }
     ensures { λ r. ⌜ PlainTold e r ⌝ }

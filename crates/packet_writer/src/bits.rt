@@ -1,4 +1,4 @@
-// Bits after those that wait for the rest of their octet: `width` is how many wait, and `value` the number that they make.
+// Bits after those that wait for the rest of their octet (rule 5.6): `width` is how many wait, and `value` the number that they make.
 ghost use mathlib.Core.Path.{_≡_};
 ghost use Prim.Native.Nat.{_^_, _≤_};
 ghost use Rattle.length.specs.Promise.{Put};
@@ -20,7 +20,7 @@ fn power(k: usize) -> usize
     1 << k
 }
 
-// So many bits after those that wait.
+// `count` bits after those that wait.
 pub fn put_bits(width: usize, value: usize, count: usize, bits: usize, out: &mut [u8]) -> Filled
     requires { ⌜ BitsFit (waiting width value) count bits (now out) ⌝ }
     ensures { λ r. ⌜ BitsPut (waiting width value) count bits (now (out .entry)) (now (out .exit)) (r .octets) (r .width) (r .value) ⌝ }
@@ -47,7 +47,7 @@ pub fn put_bits(width: usize, value: usize, count: usize, bits: usize, out: &mut
     }
 }
 
-// Zero bits to an octet edge after those that wait, and how many octets are filled.
+// Zero bits to an octet edge after those that wait (rule 5.3), and how many octets are filled.
 pub fn put_edge(width: usize, value: usize, out: &mut [u8]) -> usize
     requires { ⌜ EdgeFits (waiting width value) (now out) ⌝ }
     ensures { λ r. ⌜ Put (closed (waiting width value)) (now (out .entry)) (now (out .exit)) r ⌝ }
@@ -60,7 +60,7 @@ pub fn put_edge(width: usize, value: usize, out: &mut [u8]) -> usize
     1
 }
 
-// A bit.
+// A flag as a bit.
 pub fn bit(set: bool) -> usize
     ensures { λ r. ⌜ BitIs set r ⌝ }
 {

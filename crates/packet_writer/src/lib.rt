@@ -1,4 +1,4 @@
-// The writer of packets: document 01, 'The packet', as `packet` defines it.
+// The packet writer, as `packet` defines it (rules 6.18 to 6.23).
 mod bits;
 mod sizes;
 mod writer;

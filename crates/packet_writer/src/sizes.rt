@@ -1,5 +1,5 @@
-// What is decided before a packet is written: over the whole packet and in the order of the refusals, so that a refusal has written
-// nothing. These functions serve this crate alone.
+// What is decided before a packet is written: over the whole packet and in the order of the refusals (rule 6.20), so that a refused call
+// writes nothing (rule 2.33). Only this crate uses these functions.
 use datagram::Packet;
 use length::Refusal;
 use length::Written;
@@ -27,7 +27,7 @@ pub fn data_size(length: u16) -> usize
     length as usize
 }
 
-// The sum of the lengths of at most 16 fields.
+// The sum of the lengths of at most 16 fields; nothing wraps (rule 2.34).
 fn sum_of(lengths: &[u16]) -> usize
     requires { ⌜ length (now lengths) ≤ fieldsLimit ⌝ }
     ensures { λ r. ⌜ r ≡ lengthsSum (now (lengths .entry)) ⌝ }
@@ -42,7 +42,7 @@ fn sum_of(lengths: &[u16]) -> usize
     sum
 }
 
-// In how many bits a value stands: behind the bit for extension, where there is a mark; or a 1, a 0 and six bits, if it was added.
+// How many bits a value takes: with the bit for extension, where there is a mark; an added value a 1, a 0 and six bits (rules 6.2 and 7.5).
 pub fn value_width(known: Enumerated, value: u8) -> usize
     requires { ⌜ Narrow known ⌝ }
     ensures { λ r. ⌜ ValueWide known value r ⌝ }
@@ -57,7 +57,7 @@ pub fn value_width(known: Enumerated, value: u8) -> usize
     known.width
 }
 
-// And the number that they make.
+// The number that these bits make.
 pub fn value_bits(known: Enumerated, value: u8) -> usize
     requires { ⌜ Narrow known ⌝ }
     ensures { λ r. ⌜ r ≡ valueBits known value ⌝ }
@@ -70,7 +70,7 @@ pub fn value_bits(known: Enumerated, value: u8) -> usize
     number
 }
 
-// The place after a field at a place, whose data has this length: its header, and with data an octet edge, two octets and the data.
+// The place after a field at `place` with `size` octets of data: its header and, with data, an octet edge, two octets, the data (rule 6.8).
 fn past_field(known: Enumerated, place: usize, kind: u8, size: usize) -> usize
     requires { ⌜ Narrow known × (place < 2 ^ 24) × (size < 65536) ⌝ }
     ensures { λ r. ⌜ FieldPast known place kind size r ⌝ }
@@ -101,7 +101,7 @@ fn past_fields(known: Enumerated, from: usize, types: &[u8], lengths: &[u16]) ->
     place
 }
 
-// Whether each type is one of those that there are.
+// Whether each type is assigned (rule 6.19).
 fn all_types(known: Enumerated, types: &[u8]) -> bool
     requires { ⌜ Narrow known ⌝ }
     ensures { λ r. ⌜ r ≡ every (λ t. leb t (many known - 1)) (now (types .entry)) ⌝ }
@@ -118,7 +118,7 @@ fn all_types(known: Enumerated, types: &[u8]) -> bool
     true
 }
 
-// Whether the data of each field is within the packet limit.
+// Whether the data of each field is within the packet limit (rule 6.23).
 fn all_short(lengths: &[u16]) -> bool
     ensures { λ r. ⌜ r ≡ every (λ n. leb n packetLimit) (now (lengths .entry)) ⌝ }
 {
@@ -133,7 +133,7 @@ fn all_short(lengths: &[u16]) -> bool
     true
 }
 
-// Whether each of as many fields as there are types has data or not, as its type may.
+// Whether each of as many fields as there are types has data or not, as its type may (rules 6.10 and 7.10).
 fn right_types(types: &[u8], lengths: &[u16]) -> bool
     requires { ⌜ length (now types) ≡ length (now lengths) ⌝ }
     ensures { λ r. ⌜ TypesRight (now (types .entry)) (now (lengths .entry)) r ⌝ }
@@ -150,7 +150,7 @@ fn right_types(types: &[u8], lengths: &[u16]) -> bool
     true
 }
 
-// Not 15: one length for each type, and together they are the data.
+// Not 15: there is one length for each type, and the lengths sum to the data (rule 6.20).
 fn one_each(types: &[u8], lengths: &[u16], data: &[u8]) -> bool
     requires { ⌜ length (now types) ≤ fieldsLimit ⌝ }
     ensures { λ r. ⌜ r ≡ oneEach (now (types .entry)) (now (lengths .entry)) (now («data» .entry)) ⌝ }
@@ -161,7 +161,7 @@ fn one_each(types: &[u8], lengths: &[u16], data: &[u8]) -> bool
     false
 }
 
-// Not 12: the value and each type are assigned.
+// Not 12: the value and each type are assigned (rules 2.12 and 6.19).
 fn all_assigned(named: Named, kind: PacketKind, value: u8, types: &[u8]) -> bool
     ensures { λ r. ⌜ AllAssigned named kind value (now (types .entry)) r ⌝ }
 {
@@ -175,7 +175,7 @@ fn all_assigned(named: Named, kind: PacketKind, value: u8, types: &[u8]) -> bool
     false
 }
 
-// Not 14: data where it must be, and none where none may be.
+// Not 14: data where it must be, none where none may be, and no fields on an indicator (rules 2.14 and 6.22).
 fn all_right(named: Named, kind: PacketKind, types: &[u8], lengths: &[u16]) -> bool
     requires { ⌜ length (now types) ≡ length (now lengths) ⌝ }
     ensures { λ r. ⌜ AllRight named kind (now (types .entry)) (now (lengths .entry)) r ⌝ }
@@ -187,7 +187,7 @@ fn all_right(named: Named, kind: PacketKind, types: &[u8], lengths: &[u16]) -> b
     false
 }
 
-// Not the second 4: the data of each field and the whole are within the packet limit.
+// Not the second 4: the data of each field and the whole are within the packet limit (rule 6.23).
 fn in_sizes(lengths: &[u16], size: usize) -> bool
     ensures { λ r. ⌜ r ≡ inSizes (now (lengths .entry)) size ⌝ }
 {
@@ -214,7 +214,7 @@ fn packet_size(named: Named, kind: PacketKind, value: u8, types: &[u8], lengths:
     first
 }
 
-// How many octets a packet has, or why it is refused, but for room.
+// How many octets a packet has, or its first refusal, without that for room (rule 6.20).
 pub fn measure(
     named: Named,
     kind: PacketKind,

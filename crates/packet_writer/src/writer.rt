@@ -1,5 +1,5 @@
-// Document 01, 'The packet', written with request 2's headers. Everything is decided first; then each item is put at the front of the
-// part of the buffer that is still free. A header may leave bits that wait for the rest of their octet.
+// A packet, written. Everything is decided first (rule 2.33); then each item is put at the front of the part of the buffer that is still
+// free. A header may leave bits that wait for the rest of their octet (rule 5.6).
 use crate::bits::Filled;
 use crate::bits::bit;
 use crate::bits::put_bits;
@@ -25,7 +25,7 @@ ghost use Rattle.packet_laws.specs.Laid.{firstOctets, sizeOctets, fieldsOctets,
 ghost use Rattle.packet_laws.specs.Items.{BitIs, DataFits, FirstFits, HeaderFits, HeaderPut, FieldFits};
 ghost use Rattle.packet_laws.specs.Items.{FieldPut, FieldsFit, CountedFit, PacketFits};
 
-// The length of some data and the data at the front of out, and how many octets they took.
+// The length of some data and the data at the front of out (rule 6.8), and how many octets they took.
 fn put_data(data: &[u8], out: &mut [u8]) -> usize
     requires { ⌜ DataFits (now «data») (now out) ⌝ }
     ensures { λ r. ⌜ Put (sizeOctets (length (now («data» .entry))) ++ now («data» .entry)) (now (out .entry)) (now (out .exit)) r ⌝ }
@@ -37,7 +37,7 @@ fn put_data(data: &[u8], out: &mut [u8]) -> usize
     2 + datagram_writer::put_octets(data, &mut out[2..])
 }
 
-// A header after the bits that wait: data present, and the type.
+// A header after the bits that wait: the bit for data present, and the type (rules 5.6 and 6.7).
 fn put_header(
     known: Enumerated,
     kind: u8,
@@ -63,7 +63,7 @@ fn put_header(
     }
 }
 
-// A field after the bits that wait.
+// A field after the bits that wait (rules 6.7 and 6.8).
 fn put_field(
     known: Enumerated,
     kind: u8,
@@ -128,7 +128,7 @@ fn put_fields(
     at + end
 }
 
-// The count of fields and the fields at the front of out, and how many octets they took.
+// The count of fields and the fields at the front of out (rule 6.4), and how many octets they took.
 fn put_counted(
     known: Enumerated,
     types: &[u8],
@@ -141,7 +141,7 @@ fn put_counted(
         (now (out .entry)) (now (out .exit)) r ⌝ }
 {
     let count = length_code::write(types.len(), &mut *out);
-    // at most 16 fields, and room for their count: it is never refused
+    // there are at most 16 fields and room for their count, so it is never refused
     let Written::Octets(at) = count else {
         return 0;
     };
@@ -149,7 +149,7 @@ fn put_counted(
     at + size
 }
 
-// The bit for indicator or data.
+// The bit for indicator or data (rule 6.1).
 fn kind_bit(kind: PacketKind) -> usize
     ensures { λ r. ⌜ BitIs (isData kind) r ⌝ }
 {
@@ -159,7 +159,7 @@ fn kind_bit(kind: PacketKind) -> usize
     }
 }
 
-// The first item at the front of out, and how many octets it took: fields present, indicator or data, the value, and an octet edge.
+// The first item at the front of out, and how many octets it took: fields present, the kind, the value, an octet edge (rules 6.1 and 6.2).
 fn put_first(known: Enumerated, kind: PacketKind, value: u8, present: bool, out: &mut [u8]) -> usize
     requires { ⌜ FirstFits known (record { kind = kind; value = value; present = present }) (now out) ⌝ }
     ensures { λ r. ⌜ Put (firstOctets known (record { kind = kind; value = value; present = present })) (now (out .entry))
@@ -199,7 +199,7 @@ fn put_packet(
     at + size
 }
 
-// A packet of an edition, written to the front of out. A refusal writes nothing.
+// A packet of an edition, written to the front of out (rule 2.26). A refusal writes nothing (rule 2.25).
 fn write_named(
     named: Named,
     kind: PacketKind,
@@ -224,7 +224,7 @@ fn write_named(
     }
 }
 
-// And by the edition that the caller names: "15 for another edition, first".
+// The same by the edition that the caller names; another octet is 15, before all else (rules 7.1 and 7.2).
 pub fn write(
     edition: u8,
     kind: PacketKind,

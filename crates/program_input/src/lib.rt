@@ -1,10 +1,12 @@
-// Standard input line by line, for the programs that answer each line by itself. They promise to be safe and to end.
+// Standard input line by line, for the programs that answer each line by itself; only a line feed ends a line (rule 18.9). These programs
+// promise safety and termination only.
 use libc::STDIN_FILENO;
 
-// The characters that are read at a time.
+// How many characters are read at a time.
 pub const BLOCK: usize = 65536;
 
-// The next character of the input. Of the block, `at` are taken and `end` are there: none once the input ended or a read failed.
+// The next character of the input. Of the block, `at` characters are taken and `end` were read; `end` is 0 once the input ended or a read
+// failed (rule 18.13).
 fn character(block: &mut [u8; BLOCK], at: &mut usize, end: &mut usize) -> u8 {
     let i = *at;
     if i < *end {
@@ -17,8 +19,8 @@ fn character(block: &mut [u8; BLOCK], at: &mut usize, end: &mut usize) -> u8 {
     block[0]
 }
 
-// One line without its line feed, to the front of line: how many characters it has, of one that is too long as many as there is room
-// for. Then `end` is 0 if the input ended.
+// Reads one line without its line feed to the front of line, and returns how many characters it has; of a line that is too long, as many as
+// there is room for. Then `end` is 0 if the input ended.
 pub fn read_line(
     block: &mut [u8; BLOCK],
     at: &mut usize,

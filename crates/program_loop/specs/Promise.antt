@@ -1,5 +1,5 @@
--- What taking in a block of the program's input owes, and the whole run, from a session on: as many octets were handed to `write` so
--- far as the program's text for the input so far has. Definitions only.
+-- What is promised of a block of the program's input, and of the whole run, from a session on (rules 18.12 and 18.13): as many octets were
+-- passed to `write` so far as the program's text for the input so far has. Definitions only.
 use Prim.Native.Nat.{ℕ, _%_, _^_}
 use mathlib.Core.Path.{_≡_}
 use mathlib.Core.Bool.{Bool, true}
@@ -13,7 +13,7 @@ use Rattle.line.specs.Feed.{startingAt, fed, atEnd, PartWayFrom}
 use Rattle.line.specs.Promise.{stepLimit}
 use Rattle.line.specs.FeedPromise.{Feedable}
 
--- a block of the input, and what is handed over at once, have at most so many octets: the toolchain's large buffer
+-- the most octets of a block of the input, and of what is passed to `write` at once: the toolchain's large buffer
 abbrev pub bufferSize : ℕ
 bufferSize = 65536
 
@@ -21,14 +21,14 @@ bufferSize = 65536
 abbrev pub tallied : List ℕ → ℕ
 tallied octets = length octets % 2 ^ 64
 
--- the program part way, with more text handed over; all that was handed over so far is counted
+-- the program part way, with more text passed to `write`; the counter has all octets passed so far
 pub record Onward (first : View) (input text : List ℕ) (session : Lent) (line : List ℕ) (begun handed : ℕ) : Type 0 where
   pub more : List ℕ
   pub way : PartWayFrom first input (text ++ more) session line begun
   pub count : handed ≡ tallied (text ++ more)
 
--- the program may go on; a front of the block is taken in and its text handed over, whatever was taken in and handed over before
--- it; where all was written that front is the whole block
+-- the program can go on. A front of the block is taken and its text passed to `write`, whatever was taken and passed before; if all was
+-- written, that front is the whole block
 pub record Passes (before : Lent) (line : List ℕ) (begun : ℕ) (block : List ℕ) (handed : ℕ) (after : Lent) (new : List ℕ) (kept : ℕ)
     (out : List ℕ) (sum : ℕ) (written : Bool)
     : Type 0 where
@@ -38,8 +38,8 @@ pub record Passes (before : Lent) (line : List ℕ) (begun : ℕ) (block : List 
       → Onward first (input ++ take front block) text after new kept sum
   pub whole : written ≡ true → take front block ≡ block
 
--- there is an input, as long as all that was read: as many octets as the program writes of it were handed over, and the session is
--- the one that the program ends it with
+-- there is an input, as long as all that was read: as many octets were passed to `write` as the program writes for it, and the session is
+-- the one after it
 pub record Complete (first : View) (session : Lent) (taken handed : ℕ) : Type 0 where
   pub input : List ℕ
   pub read : taken ≡ tallied input

@@ -1,6 +1,6 @@
-// Document 01, 'The program', from any session within its ranges on: lines of hexadecimal from standard input, one datagram a line; its
-// results to standard output. It reads and writes in large blocks. What a block comes to is proved in the crate `line_code`: here is only
-// read, take in, write.
+// The program from any session within its ranges on: it reads lines of hexadecimal from standard input, one datagram a line, and writes the
+// results to standard output, in large blocks (rules 18.1, 18.12 and 18.13). What a block writes is proved in `line_code`; this crate only
+// reads, calls it and writes.
 use libc::STDIN_FILENO;
 use libc::STDOUT_FILENO;
 use line::Line;
@@ -15,7 +15,8 @@ ghost use Rattle.line.specs.Promise.{stepLimit};
 ghost use Rattle.line.specs.FeedPromise.{Feedable};
 ghost use Rattle.program_loop.specs.Promise.{Passes, Serves};
 
-// The one place that reads: some octets are put at the front of the block and counted; how many, none at the end of the input.
+// The only place that reads: it puts octets at the front of the block, counts them, and returns how many they are, none at the end of the
+// input.
 fn read_on(block: &mut [u8], taken: &mut usize) -> usize
     ensures { λ r. ⌜ r ≤ length (now (block .exit)) ⌝ }
     ensures { λ r. ⌜ now (taken .exit) ≡ (now (taken .entry) + r) % 2 ^ 64 ⌝ }
@@ -27,7 +28,7 @@ fn read_on(block: &mut [u8], taken: &mut usize) -> usize
     n
 }
 
-// The one place that writes: the front of the buffer goes to `write`, and its octets are counted; whether it took them all.
+// The only place that writes: it passes the front of the buffer to `write`, counts its octets, and returns whether all were written.
 fn hand_over(out: &[u8], end: usize, handed: &mut usize) -> bool
     requires { ⌜ end ≤ length (now out) ⌝ }
     ensures { λ r. ⌜ now (handed .exit) ≡ (now (handed .entry) + end) % 2 ^ 64 ⌝ }
@@ -46,8 +47,7 @@ struct Passed {
     written: bool,
 }
 
-// From where the last block was passed a block of the input is taken in, and what it comes to is handed over, part by part up to the
-// first that fails.
+// Takes a block of the input from where the last one ended, and writes its text part by part, up to the first write that fails.
 fn pass(
     last: Passed,
     t: &mut [u16; Session::PLACES],
@@ -93,7 +93,7 @@ fn pass(
     }
 }
 
-// The session at the end, how many octets were read and how many handed over, and whether the end was reached with all written.
+// The session at the end, how many octets were read and how many passed to `write`, and whether all was written up to the end of the input.
 pub struct Served {
     pub base: u16,
     pub counts: Counts,
@@ -102,8 +102,8 @@ pub struct Served {
     pub whole: bool,
 }
 
-// Block after block, then the end of the input. A proved loop has to end, and nothing says that the input does: so it counts
-// its turns down, from a number that no run uses up.
+// Block after block, then the end of the input. A proved loop must terminate, and the input need not end: so the loop counts its turns down
+// from a number that no run uses up.
 pub fn serve(
     base: u16,
     counts: Counts,

@@ -1,4 +1,4 @@
--- What a run of the program owes: it begins with a fresh session. Definitions only.
+-- What a run of the program promises: it begins with a fresh session (rule 18.1). Definitions only.
 use mathlib.Core.List.{List}
 use Prim.Native.Nat.{ℕ}
 use Rattle.session.specs.View.{freshView}
@@ -6,7 +6,7 @@ use Rattle.session_held.specs.Table.{lent}
 use Rattle.program_loop.specs.Promise.{Serves}
 use Rattle.program_loop.specs.declared.Served.{Served}
 
--- with the table and the stores that the session has at the end
+-- the table and the stores are those of the session at the end
 pub record Receives (r : Served) : Type 0 where
   pub table : List ℕ
   pub octets : List ℕ

@@ -1,5 +1,5 @@
-// Document 01, 'The program': lines of hexadecimal from standard input, one datagram a line; its results to standard output. How they are
-// read, taken in and written is proved in the crate `program_loop`, from any session on: here it begins with a fresh one.
+// The program: lines of hexadecimal from standard input, one datagram a line, and its results to standard output (rule 18.1). How they are
+// read and written is proved in `program_loop`, from any session on; this program begins with a fresh one.
 use program_loop::Served;
 use session_held::Session;
 ghost use Rattle.receive.specs.Promise.{Receives};

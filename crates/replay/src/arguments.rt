@@ -1,16 +1,16 @@
-// The numbers to drop, as they stand in the arguments: in decimal, or `0x` and hexadecimal digits.
+// The numbers to drop, from the arguments: in decimal, or `0x` and hexadecimal digits (rule 21.8).
 use crate::telling::say;
 
-// As many numbers as there are.
+// At most as many arguments as there are numbers of 16 bits.
 pub const MOST: usize = 65536;
 
-// No count: an argument is wrong.
+// Returned in place of a count if an argument is wrong.
 pub const NONE: usize = usize::MAX;
 
-// The characters of an argument that are looked at.
+// The room for the characters of an argument.
 const LONGEST: usize = 32;
 
-// No digit, and no number.
+// Returned for a character that is no digit, and for text that is no number of 16 bits.
 const NO_DIGIT: u32 = 16;
 
 const NO_NUMBER: u32 = 65536;
@@ -20,7 +20,7 @@ fn digit(c: u8) -> u32 {
     if n < 10 {
         return n;
     }
-    // A capital letter and its small one differ in this bit alone.
+    // An upper-case letter and its lower-case letter differ in this bit alone.
     let letter = std::num::wrapping_sub_u8(c | 0x20, b'a') as u32;
     if letter < 6 {
         return letter + 10;
@@ -28,7 +28,7 @@ fn digit(c: u8) -> u32 {
     NO_DIGIT
 }
 
-// A number with one digit more; more than a number is none.
+// A number with one more digit; NO_NUMBER if the digit is not one of the base, or n is already too large.
 fn more(n: u32, digit: u32, base: u32) -> u32 {
     if (base <= digit) | (NO_NUMBER <= n) {
         return NO_NUMBER;
@@ -39,7 +39,7 @@ fn more(n: u32, digit: u32, base: u32) -> u32 {
     n % NO_NUMBER * 10 + digit % 16
 }
 
-// The number in some digits of a base; at least one.
+// The number that some digits of a base give; NO_NUMBER without a digit.
 fn number(digits: &[u8], base: u32) -> u32 {
     if digits.len() == 0 {
         return NO_NUMBER;
@@ -64,7 +64,7 @@ fn number_in(text: &[u8]) -> u32 {
     number(text, 10)
 }
 
-// The number in an argument, NO_NUMBER where it is none, which is said.
+// The number in an argument; if it is none, prints why and returns NO_NUMBER.
 fn number_at(at: usize) -> u32 {
     let mut text = [0u8; LONGEST];
     let size = os::arg(at, &mut text);
@@ -82,7 +82,7 @@ fn number_at(at: usize) -> u32 {
     NO_NUMBER
 }
 
-// The numbers in the arguments behind the trace, to the front of out: how many they are, NONE where one is wrong.
+// Writes the numbers in the arguments after the trace to the front of `out`, and returns how many there are, or NONE if one is wrong.
 pub fn numbers(out: &mut [u16; MOST]) -> usize {
     let last = os::arg_count();
     let mut at = 2;
@@ -104,7 +104,7 @@ pub fn numbers(out: &mut [u16; MOST]) -> usize {
     count
 }
 
-// So many numbers from the front, or none where there are fewer.
+// The first `count` numbers, or none if there are fewer.
 pub fn first(numbers: &[u16; MOST], count: usize) -> &[u16] {
     let all = &numbers[..];
     if count <= all.len() {

@@ -1,6 +1,6 @@
-// The program for a salesman's question, document 02, request 6: `replay TRACE NUMBER..` plays a recorded trace again without the
-// datagrams of these numbers. The lines go to standard output, the four counts to standard error. The trace is read block by block and
-// may have any length; whether a line is dropped and what it comes to is what `trace_replay_code::replay_line` answers.
+// `replay TRACE NUMBER..` plays a recorded trace again without the datagrams of these numbers. It writes the lines to standard output and
+// the four counts to standard error (rules 21.1 to 21.5 and 21.8). The trace is read block by block and may have any length;
+// `trace_replay_code::replay_line` decides whether a line is dropped, and plays it otherwise.
 mod arguments;
 mod playing;
 mod taking;
@@ -21,7 +21,7 @@ NUMBER is a datagram's number to drop, 0 to 65535 in decimal, or 0x and hexadeci
     );
 }
 
-// The trace in a file.
+// Replays the trace in a file.
 fn replay(path: &[u8], numbers: &[u16]) {
     let file = os::open_read(path);
     if file < 0 {

@@ -1,4 +1,4 @@
-// The trace block by block, then its end.
+// The trace, block by block, then its end.
 use crate::taking::Going;
 use crate::taking::end_line;
 use crate::taking::hand_over;
@@ -11,13 +11,13 @@ ghost use Rattle.session_held.specs.Laid.{InRanges};
 ghost use Rattle.line.specs.Promise.{stepLimit};
 ghost use Rattle.line.specs.FeedPromise.{Feedable};
 
-// The counts at the end, and whether all went well.
+// The counts at the end, and whether every read and write succeeded.
 pub struct Told {
     pub counts: Counts,
     pub well: bool,
 }
 
-// The end of the trace: "A last line without a line feed counts unless it is empty". Then all that waits goes out.
+// The end of the trace: a last line without a line feed counts unless it is empty (rule 21.9). Then all waiting text is written.
 fn finish(
     from: Going,
     t: &mut [u16; Session::PLACES],
@@ -50,8 +50,8 @@ fn finish(
     Told { counts, well }
 }
 
-// Block after block, then the end. A proved loop has to end, and nothing says that a file does: so it counts its turns down, from a
-// number that no run uses up.
+// Plays block after block, then the end. A proved loop must terminate, but a file may never end: so the loop counts its turns down, from a
+// number that no run can use up.
 pub fn play(
     file: i32,
     path: &[u8],

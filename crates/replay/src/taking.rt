@@ -1,5 +1,5 @@
-// The lines of a block. One that stands whole in it is dropped or stepped where it stands; of one that goes on in the next block the
-// front is kept, as `line_code` keeps it. What a line writes waits in a buffer, until there may be no room for what the next one writes.
+// The lines of a block. A line that is whole in the block is dropped or stepped in place; the front of a line that continues in the next
+// block is kept, as `line_code` keeps it. The text of a line waits in a buffer until the text of the next one might not fit.
 use libc::STDOUT_FILENO;
 use line::Line;
 use line_code::clear_line;
@@ -15,7 +15,7 @@ ghost use Rattle.line.specs.Promise.{Able, stepLimit};
 ghost use Rattle.line.specs.FeedPromise.{Feedable};
 ghost use Rattle.replay.specs.Promise.{Writes, Goes};
 
-// Base and counts of the session, how much of a line has begun, how much text waits; and whether all went well.
+// Base and counts of the session, how many characters of a line are kept, how much text waits, and whether every write succeeded.
 pub struct Going {
     pub base: u16,
     pub counts: Counts,
@@ -24,14 +24,14 @@ pub struct Going {
     pub well: bool,
 }
 
-// What waits goes out.
+// Writes the waiting text to standard output.
 pub fn hand_over(out: &[u8], end: usize) -> bool
     requires { ⌜ end ≤ length (now out) ⌝ }
 {
     io::write_all(STDOUT_FILENO, &out[..end])
 }
 
-// A whole line. Its text waits behind what waits already, or all of it goes out.
+// Takes a whole line. Its text joins the waiting text, which is written if the next line might not fit.
 pub fn end_line(
     from: Going,
     t: &mut [u16; Session::PLACES],
@@ -71,7 +71,7 @@ pub fn end_line(
     }
 }
 
-// A line up to its line feed, of which the front may be kept.
+// Takes a line up to its line feed; its front may be kept from the last block.
 fn take_line(
     from: Going,
     t: &mut [u16; Session::PLACES],
@@ -97,7 +97,7 @@ fn take_line(
     next
 }
 
-// A block of the trace: its lines one after the other, and the front of the last one kept.
+// Takes a block of the trace: its lines in order, and the front of the last one is kept.
 pub fn take_block(
     from: Going,
     t: &mut [u16; Session::PLACES],

@@ -1,4 +1,4 @@
-// What is said on standard error.
+// What is written to standard error.
 use libc::STDERR_FILENO;
 use session_held::Counts;
 
@@ -11,7 +11,7 @@ fn say_count(name: &[u8], n: u32) {
     io::print_decimal(STDERR_FILENO, n as u64);
 }
 
-// The four counts, in words.
+// Writes the four counts, in words (rules 21.2 and 21.8).
 pub fn say_counts(counts: Counts) {
     say_count(b"received ", counts.received);
     say_count(b", spare ", counts.spare);

@@ -1,4 +1,4 @@
--- About the refusals of a send: which of them it comes to, computed. Assumes nothing.
+-- About the refusals of a send: which of them it gives, computed. Assumes nothing.
 use mathlib.Core.Path.{refl}
 use Rattle.length.specs.Tables.{unless}
 use Rattle.sender.specs.Sending.{freshSending}

@@ -1,4 +1,4 @@
--- What the answer of a send inside the ranges tells: an accepted one passed every test, and its octets are those of the next
+-- What follows from the answer of a send inside the ranges: an accepted one passed every test, and its octets are those of the next
 -- datagram. Assumes nothing.
 use Prim.Native.Nat.{ℕ, _<_}
 use mathlib.Core.Path.{_≡_, refl}
@@ -19,7 +19,7 @@ use Rattle.sender.specs.Carries.{settingsInside}
 use Rattle.sender.specs.Send.{packetInside, carriedNext, datagramToSend}
 use Rattle.sender.specs.declared.Settings.{Settings}
 
--- ---- what an answer tells
+-- ---- what follows from an answer
 pub size-done : {n : ℕ} (a : Answer (List ℕ)) → done n ≡ sizeOf a → (octets : List ℕ) × (a ≡ done octets) × (n ≡ length octets)
 size-done (done octets) e = (octets, refl, cc)
 size-done (refused r) e = let z : _≡_ {A = ℕ} 0 1 = cc in absurd (omega arith)

@@ -1,5 +1,5 @@
 -- The claims of this crate, each proved by a law. Two outcomes of a send are equal because an answer's case is its number and
--- values, and within the ranges a session is what document 01 sees of it. Assumes nothing.
+-- values, and within the ranges a session is what the rules see of it. Assumes nothing.
 use Prim.Native.Nat.{ℕ}
 use mathlib.Core.Path.{_≡_, refl, sym, ap, ap₂, _∙_}
 use mathlib.Core.List.{List}

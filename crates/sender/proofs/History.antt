@@ -1,4 +1,4 @@
--- Laws of the history as it is held: what stands at a place, and that a packet's octets are those of its slot.
+-- Laws of the stored history: what is at a place, and that a packet's octets are those of its slot.
 -- Assumes nothing.
 use Prim.Native.Nat.{ℕ, zero, suc, _+_, _-_, _*_, _%_, _≤_, _<_}
 use mathlib.Core.Path.{_≡_, refl, sym, ap, _∙_}
@@ -22,13 +22,13 @@ pub length-history : (sent : ℕ) (sizes o : List ℕ) → length (historyIn sen
 unfolding historyIn
 length-history sent sizes o = length-tab historyKept (λ p. packetIn sizes o (historySlot sent p))
 
--- what stands at a place
+-- what is at a place
 pub history-at : (sent : ℕ) (sizes o : List ℕ) (p : ℕ) → p < historyKept
     → packetOf (historyIn sent sizes o) p ≡ packetIn sizes o (historySlot sent p)
 unfolding historyIn
 history-at sent sizes o p small = tab-at historyKept (λ q. packetIn sizes o (historySlot sent q)) p [] small
 
--- numbers go modulo 65,536, slots modulo 32
+-- numbers are modulo 65,536, slots modulo 32
 pub history-number : (sent : ℕ) (sizes o : List ℕ) → historyIn (sent % numbers) sizes o ≡ historyIn sent sizes o
 unfolding historyIn
 history-number sent sizes o =

@@ -24,7 +24,7 @@ use Rattle.sender.specs.declared.Settings.{Settings}
 use Rattle.sender.specs.declared.Settings.the-variants as settings
 use Rattle.sender.proofs.History.{packet-short}
 
--- spare j is packet S-1-j, message j has the members that document 01 says
+-- spare j is packet S − 1 − j (rule 4.5), and message j has the members of rule 4.12
 pub item-spare : (k : Kind) (count number : ℕ) (sizes o : List ℕ) (j : ℕ) → k ≡ kind.Spares → j < count
     → itemIn k count number sizes o j ≡ spareIn number sizes o j
 unfolding sparesFrom

@@ -1,5 +1,5 @@
--- What the outcome of a send tells, for this crate and those above: an accepted one was inside the ranges and sizes, its
--- datagram stands at the front of the buffer, and the packet is in the history; a refused one left the session as it was.
+-- What follows from the outcome of a send, for this crate and those above: an accepted one was inside the ranges and sizes, its
+-- datagram is at the front of the buffer, and the packet is in the history; a refused one left the session unchanged.
 -- Assumes nothing.
 use Prim.Native.Nat.{ℕ}
 use mathlib.Core.Path.{_≡_, refl, sym, ap, _∙_}

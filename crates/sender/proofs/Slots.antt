@@ -12,7 +12,7 @@ use Rattle.session.specs.View.{numbers}
 use Rattle.sender.specs.Sending.{historyKept}
 use Rattle.sender.specs.Sender.{historySlot, historyOctets}
 
--- the history has all that a message may cover: "a reach n·m of at most 32", "the last 32 packets"
+-- the history has all that a message may cover: a reach is at most 32, and the last 32 packets are kept (rules 1.6 and 1.14)
 pub reach-kept : reachLimit ≤ historyKept
 reach-kept = omega arith
 

@@ -1,9 +1,6 @@
--- What datagram S carries: document 01, 'The datagram': "the j-th spare of datagram S is packet S−j", "Message i (from 0) of
--- datagram S covers S+i−m, S+i−2m, up to n members; S itself is in none. It is the exclusive or of the members, shorter ones
--- padded with zeros to the longest. Numbers before the session's first count as empty." and 'The sending session': "settings
--- (k spares, or n and m)", "Fewer than k packets sent: that many spares." Packets are given by the places of a row that
--- begins far enough before S, empty at the places before the session's first; so one definition serves the session, whose row
--- is its history, and the honest sender, whose row is all it sends. Definitions only.
+-- What datagram S carries beside its packet (rules 4.5, 4.12 to 4.14 and 15.3 to 15.7). Packets are given by the places of a row
+-- that begins far enough before S and is empty at the places before the session's first number. So one definition serves the
+-- session, whose row is its history, and the honest sender, whose row is all that it sends. Definitions only.
 use Prim.Native.Nat.{ℕ, suc, _-_, _%_, min}
 use mathlib.Core.Bool.{Bool, _&&_}
 use mathlib.Core.List.{List, map}
@@ -18,24 +15,24 @@ use Rattle.session.specs.View.{numbers}
 use Rattle.sender.specs.declared.Settings.{Settings}
 use Rattle.sender.specs.declared.Settings.the-variants as settings
 
--- settings inside the sizes: "Spare copies 0 to 8. Parity messages m from 1 to 4, each over n packets, n from 1 to 8"
+-- settings inside the sizes: k from 0 to 8, or n from 1 to 8 and m from 1 to 4 (rules 1.3 to 1.5 and 15.9)
 abbrev pub settingsInside : Settings → Bool
 settingsInside (settings.Spares k) = leb k sparesLimit
 settingsInside (settings.Parity n m) = within coveredLeast coveredLimit n && within messagesLeast messagesLimit m
 
--- so many spares of the datagram at place S
+-- the first `count` spares of the datagram at place S: the j-th, j from 1, is packet S − j (rule 4.5)
 unfoldable pub sparesFrom : ℕ → (ℕ → List ℕ) → ℕ → List (List ℕ)
 sparesFrom count row S = tab count (λ j. row (S - suc j))
 
--- its m messages over n packets each
+-- its m messages, each the exclusive or of its n members (rules 4.12 to 4.14)
 unfoldable pub messagesFrom : ℕ → ℕ → (ℕ → List ℕ) → ℕ → List (List ℕ)
 messagesFrom n m row S = tab m (λ i. messageOver (map row (membersOf S n m i)))
 
--- what goes beside the packet, where `sent` packets were sent before it
+-- what goes beside the packet, where `sent` packets were sent before it: never more spares than that (rules 15.4 and 15.5)
 abbrev pub extraFrom : Settings → ℕ → (ℕ → List ℕ) → ℕ → Extra
 extraFrom (settings.Spares k) sent row S = spares (sparesFrom (min k sent) row S)
 extraFrom (settings.Parity n m) sent row S = parity n (messagesFrom n m row S)
 
--- the datagram that carries the packet, `sent` having been sent before: "All arithmetic on numbers is modulo 65,536"
+-- the datagram that carries the packet, where `sent` packets were sent before it (rule 15.3)
 abbrev pub carriedFrom : Settings → ℕ → List ℕ → (ℕ → List ℕ) → ℕ → Carried
 carriedFrom settings sent packet row S = record { number = sent % numbers; packet = packet; extra = extraFrom settings sent row S }

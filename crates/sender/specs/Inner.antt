@@ -1,4 +1,4 @@
--- What the functions inside the library owe each other: no part of the meaning.
+-- Contracts between the functions inside the library: no part of the meaning.
 pub mod Held
 pub mod Items
 pub mod Next

@@ -1,5 +1,4 @@
--- Document 01, 'The sending session': "The sending session's ranges: numbers sent at most 1,000,000; history lengths 1 to [the packet
--- limit], or 0 exactly for numbers before the first; octets past a length zero." Definitions only.
+-- The ranges of a sending session (rule 15.13). Definitions only.
 use Prim.Native.Nat.{ℕ, _+_}
 use mathlib.Core.Bool.{Bool, cond, _&&_}
 use mathlib.Core.List.{List}
@@ -13,19 +12,19 @@ use Rattle.sender.specs.Sending.{historyKept}
 use Rattle.sender.specs.Sender.{historySlot, lengthIn}
 use Rattle.sender.specs.declared.Sender.{Sender}
 
--- "history lengths 1 to [the packet limit], or 0 exactly for numbers before the first": of the number at − historyKept
+-- the length of the number at − historyKept: 0 for a number before the first, otherwise a packet's (rule 15.13)
 unfoldable pub sizeInRange : ℕ → ℕ → Bool
 sizeInRange at size = cond (ltb at historyKept) (eqb size 0) (within packetLeast packetLimit size)
 
--- the packet at place p, of the number sent − historyKept + p, and "octets past a length zero"
+-- the packet at place p, of the number sent − historyKept + p: its length is in range, and the octets past it are zero
 unfoldable pub placeInRange : ℕ → List ℕ → List ℕ → ℕ → Bool
 placeInRange sent sizes o p =
     sizeInRange (sent + p) (lengthIn sizes (historySlot sent p)) && zerosPast o (historySlot sent p) (lengthIn sizes (historySlot sent p))
 
--- the whole sentence
+-- at most 1,000,000 sent, and every place of the history in range
 unfoldable pub historyInRanges : ℕ → List ℕ → List ℕ → Bool
 historyInRanges sent sizes o = leb sent sessionLimit && allBelow historyKept (placeInRange sent sizes o)
 
--- of a session
+-- the same of a session
 abbrev pub senderInRanges : Sender → Bool
 senderInRanges s = historyInRanges (s .sent) (s .sizes) (s .octets)

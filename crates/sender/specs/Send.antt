@@ -1,6 +1,5 @@
--- Document 01, 'The sending session': "Send takes a packet and settings (k spares, or n and m) and writes the datagram", and
--- of the order of refusals: "Send 17, 16, 15, 4, 13." The 17 is the held session's (Promise), the 13 that of every call that
--- writes to a lent buffer. Definitions only.
+-- What a send within the ranges writes or refuses (rules 15.2, 15.8 to 15.10). Promise adds 17, which depends on how the session is
+-- stored, and 13, which applies to every call that writes to the caller's buffer. Definitions only.
 use Prim.Native.Nat.{ℕ}
 use mathlib.Core.Bool.{Bool, not}
 use mathlib.Core.List.{List, [], _∷_}
@@ -23,15 +22,15 @@ use Rattle.sender.specs.declared.Settings.{Settings}
 abbrev pub packetOf : List (List ℕ) → ℕ → List ℕ
 packetOf history p = getD history p []
 
--- what the next datagram carries
+-- what the next datagram carries (rules 15.3 to 15.7)
 abbrev pub carriedNext : Settings → List ℕ → Sending → Carried
 carriedNext settings packet s = carriedFrom settings (s .sent) packet (packetOf (s .history)) historyKept
 
--- a packet's length is inside the sizes
+-- a packet's length is inside the sizes (rule 1.1)
 abbrev pub packetInside : List ℕ → Bool
 packetInside packet = within packetLeast packetLimit (length packet)
 
--- "16, 15, 4": what a send within the ranges refuses, and what it writes where no row is given
+-- the refusals of a send within the ranges, in order: 16, 15, 4 (rules 15.8 to 15.10); and what it writes if none of them applies
 abbrev pub sendRows : Settings → List ℕ → Sending → List (Option ℕ)
 sendRows settings packet s =
     when (leb sessionLimit (s .sent)) allPassed

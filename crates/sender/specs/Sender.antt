@@ -1,5 +1,5 @@
--- From the held session to the one that document 01 sees: which slot a number has, and what stands there. One abstraction,
--- `sendingOf`, serves every promise. Definitions only.
+-- From the stored session to the session of the rules (rules 15.12 and 15.16): which slot a number has, and which packet is in it.
+-- Every promise uses one abstraction, `sendingOf`. Definitions only.
 use Prim.Native.Nat.{ℕ, _+_, _*_, _%_}
 use mathlib.Core.List.{List}
 use lib.ListN.{getD}
@@ -13,7 +13,7 @@ use Rattle.sender.specs.declared.Sender.{Sender}
 abbrev pub historyOctets : ℕ
 historyOctets = historyKept * packetLimit
 
--- the slot of the number at place p of the history: that number is sent − historyKept + p, and slots go by number modulo 32
+-- the slot of the number at place p of the history: that number is sent − historyKept + p, and its slot is the number modulo 32
 abbrev pub historySlot : ℕ → ℕ → ℕ
 historySlot sent p = (sent + p) % historyKept
 
@@ -29,7 +29,7 @@ packetIn sizes o i = part o i (lengthIn sizes i)
 unfoldable pub historyIn : ℕ → List ℕ → List ℕ → List (List ℕ)
 historyIn sent sizes o = tab historyKept (λ p. packetIn sizes o (historySlot sent p))
 
--- the session as document 01 sees it
+-- the session of the rules
 abbrev pub sendingIn : ℕ → List ℕ → List ℕ → Sending
 sendingIn sent sizes o = record { sent = sent; history = historyIn sent sizes o }
 

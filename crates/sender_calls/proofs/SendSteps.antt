@@ -65,7 +65,7 @@ packet-some packet some = rw (le-leb 1 (length packet) some)
 pub ruleset packets = (packet-none, packet-some)
 
 -- ---- write_held
--- what the next datagram carries, in the words of document 01 and in those of the code
+-- what the next datagram carries, in the words of the rules and in those of the code
 carried-same : (s : Settings) (sent : ℕ) (packet sizes o : List ℕ)
     → carriedIn (sent % numbers) sizes o packet (kindAsked s) (countOf s sent) ≡ carriedNext s packet (sendingIn sent sizes o)
 carried-same (settings.Spares k) sent packet sizes o =

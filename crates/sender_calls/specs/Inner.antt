@@ -1,4 +1,4 @@
--- What the send inside the ranges owes. Definitions only.
+-- What the send from a session within its ranges promises (rules 15.2, 15.11 and 15.12). Definitions only.
 use Prim.Native.Nat.{ℕ, _%_}
 use mathlib.Core.Path.{_≡_}
 use mathlib.Core.List.{List}
@@ -14,7 +14,7 @@ use Rattle.sender.specs.declared.Sender.{Sender}
 use Rattle.sender.specs.declared.Sent.{Sent}
 use Rattle.sender.specs.declared.Settings.{Settings}
 
--- the history after it: with the packet, or as it was
+-- the history after it: with the packet, or unchanged after a refusal
 abbrev pub HistoryAfter : Written → ℕ → List ℕ → List ℕ → List ℕ → List ℕ → List ℕ → Type 0
 HistoryAfter (written.Octets n) number packet sizes o sizes′ o′ = Joins number packet sizes o sizes′ o′
 HistoryAfter (written.Refused r) number packet sizes o sizes′ o′ = (sizes′ ≡ sizes) × (o′ ≡ o)
@@ -23,6 +23,6 @@ pub record SendsHeld (sent : ℕ) (settings : Settings) (packet sizes o old size
   pub puts : Puts (datagramToSend settings packet (sendingIn sent sizes o)) old new r
   pub history : HistoryAfter r (sent % numbers) packet sizes o sizes′ o′
 
--- a refused send, as it is handed back
+-- what a refused send returns: the session unchanged, and the refusal (rule 15.11)
 pub record RefusedSend (s : Sender) (why : Refusal) (r : Sent) : Type 0 where
   pub whole : r ≡ record { sender = s; answer = written.Refused why }

@@ -1,4 +1,4 @@
-// A send of a session that is within its ranges.
+// A send from a session that is within its ranges.
 use datagram::Kind;
 use datagram::Packet;
 use datagram::count_inside;
@@ -39,7 +39,7 @@ fn kind_of(settings: Settings) -> Kind
     }
 }
 
-// "Fewer than k packets sent: that many spares."
+// How many spares or messages: not more spares than packets were sent (rules 15.4 and 15.5).
 fn count_of(settings: Settings, sent: usize) -> usize
     ensures { λ r. ⌜ r ≡ countOf settings sent ⌝ }
 {
@@ -55,7 +55,7 @@ fn count_of(settings: Settings, sent: usize) -> usize
     }
 }
 
-// The number of the packet after so many.
+// The number of the packet that is sent after `sent` others (rule 15.3).
 fn number_of(sent: usize) -> u16
     ensures { λ r. ⌜ r ≡ sent % numbers ⌝ }
 {
@@ -73,7 +73,7 @@ fn packet_inside(packet: &[u8]) -> bool
     packet.len() <= Packet::LIMIT
 }
 
-// 16, 15 and 4; then the datagram, or 13.
+// Refuses 16, 15, 4 or 13, in this order (rule 15.8), or writes the datagram.
 fn write_held(
     sent: usize,
     sizes: &[u16],
@@ -101,7 +101,7 @@ fn write_held(
     write_next(number, sizes, o, packet, kind, count, out)
 }
 
-// The datagram, and the packet joins the history. A refusal changes neither.
+// Writes the datagram and puts the packet into the history (rule 15.12). A refusal changes nothing (rule 15.11).
 pub fn send_held(
     sent: usize,
     sizes: &mut [u16],

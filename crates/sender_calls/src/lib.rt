@@ -1,4 +1,4 @@
-// The calls on a sending session: document 01, 'The sending session', as `sender` defines it.
+// The calls on a sending session (rules 15.2, 15.8, 15.11 and 15.13), as `sender` defines them.
 mod inner;
 
 pub use inner::send_held;
@@ -10,7 +10,7 @@ use sender::Settings;
 ghost use Rattle.sender.specs.Promise.{RangesTold, Sends};
 ghost use Rattle.sender_calls.specs.Inner.{RefusedSend};
 
-// Whether a session is within its ranges.
+// Whether a session is within its ranges (rule 15.13).
 pub fn in_ranges(s: Sender) -> bool
     ensures { λ r. ⌜ RangesTold s r ⌝ }
 {
@@ -20,7 +20,7 @@ pub fn in_ranges(s: Sender) -> bool
     sender_history::in_ranges(sent, &sizes, &octets)
 }
 
-// "A refusal .. changes nothing."
+// A refusal returns the session unchanged (rule 15.11).
 fn unchanged(s: Sender, why: Refusal) -> Sent
     ensures { λ r. ⌜ RefusedSend s why r ⌝ }
 {
@@ -30,7 +30,7 @@ fn unchanged(s: Sender, why: Refusal) -> Sent
     }
 }
 
-// The packet, sent with these settings: its datagram is written to the front of out.
+// Sends a packet with these settings: writes its datagram to the front of `out` (rule 15.2).
 pub fn send(s: Sender, packet: &[u8], settings: Settings, out: &mut [u8]) -> Sent
     ensures { λ r. ⌜ Sends s settings (now (packet .entry)) (now (out .entry)) (now (out .exit)) r ⌝ }
 {

@@ -1,4 +1,4 @@
--- A walk over the members of a message, back by m at each turn, modulo 65,536: the number stands at the place of the member.
+-- A walk over the members of a message, back by m at each turn, modulo 65,536: the number is at the place of the member.
 -- Assumes nothing.
 use Prim.Native.Nat.{ℕ, zero, suc, _+_, _-_, _*_, _%_, _^_, _≤_, _<_}
 use mathlib.Core.Path.{_≡_, refl, sym, ap, _∙_}

@@ -1,5 +1,5 @@
-// Spares and messages, made of the history. The size of each is told first, so that the room is known before anything is
-// written.
+// Spares and messages made from the history (rules 4.5, 4.12 to 4.14). The size of each is computed first, so that the room is
+// known before anything is written (rule 2.33).
 use crate::slots::size_in;
 use crate::slots::slot_of;
 use datagram::Kind;
@@ -26,7 +26,7 @@ fn greater(a: usize, b: usize) -> usize
     a
 }
 
-// ---- messages: the members' numbers go back by m, modulo 65,536
+// ---- messages: each member's number is m less than the one before it, modulo 65,536 (rules 2.35 and 4.12)
 
 fn message_size(number: u16, sizes: &[u16], n: usize, m: usize, i: usize) -> usize
     requires { ⌜ (Sizes (now sizes)) × (Reach n m i) ⌝ }
@@ -43,7 +43,7 @@ fn message_size(number: u16, sizes: &[u16], n: usize, m: usize, i: usize) -> usi
     size
 }
 
-// The members, added up over a size; the sum stands at the front.
+// The exclusive or of the members over a size, at the front of the result (rule 4.13).
 fn message_sum(
     number: u16,
     o: &[u8],
@@ -85,9 +85,9 @@ fn put_message(
     datagram_writer::put_item(&sum[..size], out)
 }
 
-// ---- spares: the newest first
+// ---- spares: the newest first (rule 4.5)
 
-// The slot of the spare after j others, which is packet S-1-j.
+// The slot of the spare after j others, which is packet S − 1 − j.
 fn spare_slot(number: u16, j: usize) -> usize
     requires { ⌜ j < historyKept ⌝ }
     ensures { λ r. ⌜ r ≡ historySlot number (historyKept - suc j) ⌝ }
@@ -114,7 +114,7 @@ fn put_spare(number: u16, sizes: &[u16], o: &[u8], j: usize, out: &mut [u8]) -> 
     datagram_writer::put_item(&o[from..to], out)
 }
 
-// ---- both
+// ---- spares or messages
 
 fn one_size(number: u16, sizes: &[u16], kind: Kind, count: usize, j: usize) -> usize
     requires { ⌜ (Sizes (now sizes)) × (ItemOf kind count j) ⌝ }
@@ -160,7 +160,7 @@ pub fn items_size(number: u16, sizes: &[u16], kind: Kind, count: usize) -> usize
     size
 }
 
-// The spares or messages, each into the part still free after the last.
+// Writes the spares or messages, each into the rest of the buffer behind the one before (rule 30.3).
 pub fn put_items(
     number: u16,
     sizes: &[u16],

@@ -1,5 +1,5 @@
-// The history as it is held: document 01, 'The sending session', as `sender` defines it.
-// The next datagram, its spares and messages made of the history: document 01, 'The sending session', as `sender` defines it.
+// The history of a sending session, and the next datagram with the spares and messages made from it (rules 1.14, 15.4 to 15.6,
+// 15.12 and 15.13), as `sender` defines them.
 mod items;
 mod next;
 mod slots;

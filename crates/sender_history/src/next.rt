@@ -1,5 +1,5 @@
-// The next datagram: the room is asked for first, so that a refusal writes nothing; then each item goes into the part still
-// free after the last.
+// The next datagram. The room is tested first, so that a refusal writes nothing (rule 2.33); then each item goes into the rest of
+// the buffer behind the one before (rule 30.3).
 use crate::items::items_size;
 use crate::items::put_items;
 use datagram::Kind;
@@ -23,7 +23,7 @@ fn next_size(number: u16, sizes: &[u16], packet: &[u8], kind: Kind, count: usize
     front + items
 }
 
-// The datagram, where it has room.
+// Writes the datagram to a buffer that has room for it.
 fn put_next(
     number: u16,
     sizes: &[u16],
@@ -42,7 +42,7 @@ fn put_next(
     at + items
 }
 
-// The datagram, or 13.
+// Writes the datagram, or refuses 13 if the buffer is too short (rule 15.8).
 pub fn write_next(
     number: u16,
     sizes: &[u16],

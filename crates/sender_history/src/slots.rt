@@ -1,4 +1,4 @@
-// The history as it is held: the slot of a number, the ranges, and a packet that joins.
+// The stored history: the slot of a number, the ranges (rule 15.13), and how a packet joins (rule 15.12).
 use datagram::Packet;
 use sender::Sender;
 ghost use mathlib.Core.Path.{_≡_};
@@ -28,7 +28,7 @@ pub fn size_in(sizes: &[u16], slot: usize) -> usize
 
 // ---- the ranges
 
-// "history lengths 1 to [the packet limit], or 0 exactly for numbers before the first": at is how many were sent, plus the place.
+// Whether a length is in range (rule 15.13): `at` is how many packets were sent plus the place, so below 32 it is before the first.
 fn size_right(at: usize, size: usize) -> bool
     ensures { λ r. ⌜ r ≡ sizeInRange at size ⌝ }
 {
@@ -41,7 +41,7 @@ fn size_right(at: usize, size: usize) -> bool
     size <= Packet::LIMIT
 }
 
-// The packet at place p.
+// Whether the packet at place p is in range: its length, and zeros past it.
 fn place_right(sent: usize, sizes: &[u16], o: &[u8], p: usize, table: &[u8]) -> bool
     requires { ⌜ (sent + p < 4294967296) × (Arrays (now sizes) (now o)) × (now table ≡ mask) ⌝ }
     ensures { λ r. ⌜ r ≡ placeInRange sent (now (sizes .entry)) (now (o .entry)) p ⌝ }
@@ -55,7 +55,7 @@ fn place_right(sent: usize, sizes: &[u16], o: &[u8], p: usize, table: &[u8]) -> 
     session_slots::zeros_past(o, slot, size, table)
 }
 
-// The whole sentence.
+// Whether the session is within its ranges (rule 15.13).
 pub fn in_ranges(sent: usize, sizes: &[u16], o: &[u8]) -> bool
     requires { ⌜ Arrays (now sizes) (now o) ⌝ }
     ensures { λ r. ⌜ r ≡ historyInRanges sent (now (sizes .entry)) (now (o .entry)) ⌝ }
@@ -76,7 +76,7 @@ pub fn in_ranges(sent: usize, sizes: &[u16], o: &[u8]) -> bool
 
 // ---- a packet joins
 
-// The packet takes the slot of its number, from which the oldest leaves.
+// The packet takes the slot of its number, which held the oldest packet (rule 15.12).
 pub fn keep(number: u16, packet: &[u8], sizes: &mut [u16], o: &mut [u8])
     requires { ⌜ (Arrays (now sizes) (now o)) × (length (now packet) ≤ packetLimit) ⌝ }
     ensures { λ _. ⌜ Joins number (now (packet .entry)) (now (sizes .entry)) (now (o .entry)) (now (sizes .exit)) (now (o .exit)) ⌝ }

@@ -44,7 +44,7 @@ viewWith S l packet copies view =
       held = set (view .held) l (heldBy (spares copies));
     }
 
--- "distance is a subtraction that wraps"
+-- a distance is a subtraction that wraps (rule 2.35)
 wraps : (q l : ℕ) → l < keptAhead → (((q + l) % numbers ≡ q % numbers + l) ⊎ ((q + l) % numbers + numbers ≡ q % numbers + l))
 wraps q l near =
     ⊎-elim (λ (low : q % numbers + l < numbers). inl (omega arith)) (λ (high : numbers ≤ q % numbers + l). inr (omega arith))

@@ -1,15 +1,15 @@
--- The claims of this crate. Definitions only.
+-- The claims of this crate (rules 23.3 to 23.8). Definitions only.
 use Rattle.sender_to_modem.specs.Sold.{LineSold}
 use Rattle.sender_to_modem.specs.Sharp.{Sharp}
 use Rattle.sender_to_modem.specs.Host.{HostedTransfers}
 use Rattle.sender_to_modem.specs.Instance.{Instance}
 
 pub record Claims : Type 0 where
-  -- what k spares buy
+  -- what k spares buy (rules 23.3 to 23.7)
   pub lineSold : LineSold
-  -- and no more: with k + 1 lost in a row something stays waiting
+  -- and no more: with k + 1 lost in a row something stays waiting (rule 23.8)
   pub sharp : Sharp
-  -- a host that makes the calls makes such a transfer, whatever they answer
+  -- a host that makes the calls makes such a transfer, whatever they return (rules 23.1 and 23.2)
   pub hosted : HostedTransfers
-  -- worked out: k = 2, and two lost in a row
+  -- a worked case: k = 2, and two lost in a row (rule 23.3)
   pub worked : Instance

@@ -1,6 +1,6 @@
--- A transfer as a host makes it, whatever the calls answer: packets of a size that a packet may have, each sent with a lent buffer that has
--- room for any datagram; what was written is lost, or it is offered and then k + 2 releases are called. It is the transfer that is sold: no
--- send is refused, no offer is refused, and so many releases drain the receiver. Definitions and a statement.
+-- A transfer as a host makes it, whatever the calls return (rules 23.1 and 23.2): packets within the sizes, each sent with a buffer large
+-- enough for any datagram; the datagram is lost, or it is offered and then release is called k + 2 times. It is the transfer that is
+-- sold: no send and no offer is refused, and k + 2 releases drain the receiver. Definitions and a statement.
 use Prim.Native.Nat.{ℕ, zero, suc, _+_, _≤_}
 use mathlib.Core.Path.{_≡_}
 use mathlib.Core.Bool.{true, false}
@@ -23,14 +23,14 @@ use Rattle.session_calls.specs.declared.receiver.AfterRelease.{AfterRelease}
 use Rattle.sender_to_modem.specs.Marks.{Mark, arrives, lost, NeverMoreInARow}
 use Rattle.sender_to_modem.specs.Transfer.{Delivered, AfterArrival, Ran}
 
--- so many releases one after the other, without leave to skip, each with room for any packet
+-- this many releases one after the other, without leave to skip, each with a buffer large enough for any packet
 pub data ReleasesCalled : ℕ → Session → Session → Type 0 where
   none : {s : Session} → ReleasesCalled zero s s
   one : {n : ℕ} {s t : Session} {old new : List ℕ} {r : AfterRelease} → packetLimit ≤ length old → ReleaseOwes s false old new r
       → ReleasesCalled n (r .session) t
       → ReleasesCalled (suc n) s t
 
--- the datagram at the front of the lent buffer
+-- the datagram at the front of the buffer
 abbrev pub datagramWritten : Written → List ℕ → List ℕ
 datagramWritten (written.Octets n) buffer = take n buffer
 datagramWritten (written.Refused why) buffer = []
@@ -48,12 +48,13 @@ pub data Hosted (k : ℕ) : List Mark → List (List ℕ) → Sender → Session
       → OfferOwes t (datagramWritten (r .answer) new) o → ReleasesCalled (k + 2) (o .session) u
       → Hosted k (line ++ (arrives ∷ [])) (packets ++ (packet ∷ [])) (r .sender) u
 
--- the transfer that it is: its modem and its arrivals are told by what the calls answered
+-- the transfer that it is: what the modem has and the arrivals follow from what the calls returned
 pub record Transferred (k : ℕ) (line : List Mark) (packets : List (List ℕ)) (s : Sender) (t : Session) : Type 0 where
   pub modem : List Delivered
   pub arrivals : List AfterArrival
   pub ran : Ran k (record { line = line; packets = packets; sender = s; receiver = t; modem = modem; arrivals = arrivals })
 
+-- it is one, if never more than k are lost in a row and at most 1,000,000 packets are sent (rule 23.1)
 abbrev pub HostedTransfers : Type 0
 HostedTransfers = (k : ℕ) → k ≤ sparesLimit → (line : List Mark) (packets : List (List ℕ)) (s : Sender) (t : Session)
     → Hosted k line packets s t → NeverMoreInARow k line → length line ≤ sessionLimit

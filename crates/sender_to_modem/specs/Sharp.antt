@@ -1,4 +1,4 @@
--- The figure on the data sheet is sharp: with k + 1 lost in a row something stays waiting. Statements alone.
+-- The figure is sharp: with k + 1 lost in a row something stays waiting (rule 23.8). Statements only.
 use Prim.Native.Nat.{ℕ, _+_, _%_, _≤_}
 use mathlib.Core.Path.{_≡_}
 use mathlib.Core.Logic.{_⊎_}
@@ -15,17 +15,17 @@ use Rattle.sender_to_modem.specs.Transfer.{Delivered, Transfer, Ran}
 abbrev pub oneMore : ℕ → ℕ
 oneMore k = k + 1
 
--- after a line as it was sold, or at the start, so many are lost in a row and the next one arrives
+-- after a line as it is sold, or at the start, k + 1 are lost in a row and the next one arrives
 abbrev pub oneTooMany : ℕ → List Mark → List Mark
 oneTooMany k before = before ++ (replicate (oneMore k) lost ++ (arrives ∷ []))
 
--- so many packets were with the modem before, and there are no more
+-- the modem has the packets that it had before these, and no more
 pub record StaysWaiting (k before : ℕ) (x : Transfer) : Type 0 where
   pub released : map (λ (d : Delivered). d .octets) (x .modem) ≡ take before (x .packets)
   -- the base is the first that was lost, which no spare brings back
   pub base : (viewOf (x .receiver)) .base ≡ before % numbers
   pub unknown : Unknown ((viewOf (x .receiver)) .cells) keptBefore
-  -- the k after it came as spares, and the last one as received: they wait
+  -- the k behind it came as spares, and the last one as received: they wait
   pub waiting : (d : ℕ) → 1 ≤ d → d ≤ k + 1 → Known ((viewOf (x .receiver)) .cells) (keptBefore + d)
 
 abbrev pub Sharp : Type 0

@@ -1,6 +1,6 @@
--- Document 02, request 14, the run: "one fresh sending session with k from 1 to 8 throughout, a fresh receiver, datagrams in order, ..
--- releases drained with room after each, nobody giving up". It is a run of the public calls of both sessions, each on the session that
--- the one before handed back, with any packet and any lent buffer, and each with any answer that its promise allows. Definitions only.
+-- A transfer over the line (rules 23.1 and 23.2): one fresh sending session with the same k throughout, one fresh receiving session,
+-- datagrams in order, the receiver drained after each arrival, and nobody gives up a number. Each public call is made on the session that
+-- the call before returned, with any packet and any buffer, and may return anything that its promise allows. Definitions only.
 use Prim.Native.Nat.{ℕ, _≤_}
 use mathlib.Core.Path.{_≡_}
 use mathlib.Core.Bool.{false}
@@ -34,8 +34,8 @@ pub record Delivered : Type 0 where
 abbrev pub deliveredAs : State → ℕ → List ℕ → Delivered
 deliveredAs kind number octets = record { kind = kind; number = number; octets = octets }
 
--- "releases drained with room after each, nobody giving up": releases without leave to skip, each with a lent buffer that has room for any
--- packet, until one is refused. What they release goes to the modem, from the front of the lent buffer
+-- the receiver is drained (rule 23.2): releases without leave to skip, each with a buffer large enough for any packet, until one is
+-- refused. What they release goes to the modem, from the front of the buffer
 pub data Drained : Session → List Delivered → Session → Type 0 where
   ends : {s : Session} {old new : List ℕ} {r : AfterRelease} {why : Refusal} → packetLimit ≤ length old → ReleaseOwes s false old new r
       → r .answer ≡ released.Refused why
@@ -45,7 +45,7 @@ pub data Drained : Session → List Delivered → Session → Type 0 where
       → Drained (r .session) more t
       → Drained s (deliveredAs (stateOf kind) number (take size new) ∷ more) t
 
--- an arrival: how many packets had been sent by then, what offer answered, and after the draining all that the modem had by then, and the
+-- an arrival: how many packets were sent by then, what offer returned, and after the draining all that the modem had by then and the
 -- receiver
 pub record AfterArrival : Type 0 where
   pub sent : ℕ
@@ -53,7 +53,7 @@ pub record AfterArrival : Type 0 where
   pub modem : List Delivered
   pub receiver : Session
 
--- where a transfer stands: a mark for each datagram, the packets that were sent in them, both sessions, all that the modem has, and the
+-- the state of a transfer: a mark for each datagram, the packets that were sent in them, both sessions, all that the modem has, and the
 -- arrivals so far
 pub record Transfer : Type 0 where
   pub line : List Mark
@@ -67,7 +67,7 @@ pub record Transfer : Type 0 where
 pub data Ran (k : ℕ) : Transfer → Type 0 where
   begins : {s : Sender} {t : Session} → SenderMade s → Fresh t
       → Ran k (record { line = []; packets = []; sender = s; receiver = t; modem = []; arrivals = [] })
-  -- a send that is refused sends nothing
+  -- a send that is refused sends nothing and is no loss (rule 23.9)
   refuses : {x : Transfer} {packet old new : List ℕ} {r : Sent} {why : Refusal} → Ran k x
       → Sends (x .sender) (settings.Spares k) packet old new r → r .answer ≡ written.Refused why
       → Ran k

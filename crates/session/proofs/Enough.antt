@@ -93,7 +93,7 @@ module _ {made : List ℕ → Cell} (makes : Makes made) where
       (found-or-none cells messages)
 
   -- ---- repair, without a count of steps
-  -- "stop when no such message is left"
+  -- no usable message is left, so repair stops (rule 11.4)
   pub repair-closed : (cells : List Cell) (messages : List Message) → firstUsable (repair made cells messages) messages ≡ none
   unfolding repair
   repair-closed cells messages = repairF-closed (length cells) cells messages (unknowns-fit cells)
@@ -102,7 +102,7 @@ module _ {made : List ℕ → Cell} (makes : Makes made) where
   unfolding repair
   repair-done cells messages e = repairF-done made (length cells) cells messages e
 
-  -- "fill that ..; begin again"
+  -- one fill, after which the search begins again (rule 11.4)
   pub repair-fill : (cells : List Cell) (messages : List Message) (found : Message) → firstUsable cells messages ≡ some found
       → repair made cells messages ≡ repair made (fill made cells found) messages
   unfolding repair

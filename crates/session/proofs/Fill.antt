@@ -103,7 +103,7 @@ module _ (made : List ℕ → Cell) where
   unfolding fill
   fill-other cells message q other = getD-set-other cells (missing cells message) q _ blankCell other
 
-  -- "What is known is never written over."
+  -- what is known is never written over (rule 9.9)
   pub fill-known : (cells : List Cell) (message : Message) (q : ℕ) → usable cells message ≡ true → Known cells q
       → cellAt (fill made cells message) q ≡ cellAt cells q
   fill-known cells message q e k =
@@ -118,7 +118,7 @@ module _ (made : List ℕ → Cell) where
       (λ other. inl (sym (same-unknown cells (fill made cells message) q (fill-other cells message q other)) ∙ k))
       (same-or-not q (missing cells message))
 
--- repair as document 01 has it: a fill is a repaired number
+-- the repair of a session: a fill is a repaired number (rule 11.3)
 pub makes-repaired : (S : ℕ) → Makes (filledCell S repaired)
 makes-repaired S = record { known = λ octets. refl; same = λ octets. refl }
 

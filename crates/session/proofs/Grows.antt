@@ -80,7 +80,7 @@ module _ (made : List ℕ → Cell) where
   length-repair cells messages =
       repair-keeps (λ now. length now ≡ length cells) messages (λ now found e same. length-fill made now found ∙ same) cells refl
 
-  -- "What is known is never written over."
+  -- what is known is never written over (rule 9.9)
   pub repair-known : (cells : List Cell) (messages : List Message) (p : ℕ) → Known cells p
       → cellAt (repair made cells messages) p ≡ cellAt cells p
   repair-known cells messages p k =

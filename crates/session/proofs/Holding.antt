@@ -22,7 +22,7 @@ abbrev pub heldThere : View → ℕ → Held → View
 heldThere v d h = record { base = v .base; counts = v .counts; cells = v .cells; held = set (v .held) d h }
 
 -- ---- the tests of one number
--- "Messages stand only at accepted numbers"
+-- only accepted numbers have messages (rule 13.7)
 mark-none : (accepted known : Bool) (n m : ℕ) → accepted ≡ false → markRight accepted known n m ≡ true → m ≡ 0
 unfolding markRight
 mark-none accepted known n m free e = eqb-true m 0 (and-left (eqb m 0) _ (rw free at e))

@@ -48,7 +48,7 @@ held-sizes h known e =
     mark-sizes (h .accepted) known (h .n) (length (h .messages))
     (and-left (markRight (h .accepted) known (h .n) (length (h .messages))) _ e)
 
--- before the base as many numbers are kept as a message may reach back: "a reach n·m of at most 32", "the 32 before the base"
+-- before the base as many numbers are kept as a message may reach back, 32 (rules 1.6 and 1.13)
 pub reach-before : reachLimit ≤ keptBefore
 reach-before = omega arith
 

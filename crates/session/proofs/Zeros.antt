@@ -1,5 +1,5 @@
--- "Up to zeros at the end": a list is another with zeros after it exactly if it is at least as long and the same at each
--- place, past the end too, where there are zeros. Assumes nothing.
+-- Equal except for zeros at the end: a list is another with zeros after it exactly if it is at least as long and the same at each place,
+-- past the end too, where there are zeros. Assumes nothing.
 use Prim.Native.Nat.{ℕ, _+_, _-_}
 use mathlib.Core.Path.{_≡_, refl, sym, ap, _∙_}
 use mathlib.Core.Logic.{⊎-elim}

@@ -1,5 +1,5 @@
--- Document 01, 'The receiving session': "For each number from the base on it keeps whether that datagram was accepted and
--- its parity messages." Definitions only.
+-- What a session keeps of each number from the base on: whether its datagram was accepted, n, and its messages (rule 9.4). Definitions
+-- only.
 use Prim.Native.Nat.{ℕ, suc}
 use mathlib.Core.Bool.{Bool, false}
 use mathlib.Core.List.{List, [], _∷_, _++_}
@@ -9,13 +9,13 @@ use Rattle.session.specs.Cells.{keptBefore}
 use Rattle.session.specs.Members.{membersOf}
 use Rattle.session.specs.Repair.{Message}
 
--- what is kept of a number from the base on: m is the number of its messages
+-- what is kept of a number from the base on; m is how many messages it has
 pub record Held : Type 0 where
   pub accepted : Bool
   pub n : ℕ
   pub messages : List (List ℕ)
 
--- a number whose datagram was not accepted holds nothing
+-- a number whose datagram was not accepted holds nothing (rule 13.7)
 abbrev pub nothingHeld : Held
 nothingHeld = record { accepted = false; n = 0; messages = [] }
 
@@ -32,11 +32,11 @@ messageAt S held i =
 unfoldable pub messagesOf : ℕ → Held → List Message
 messagesOf S held = tab (length (held .messages)) (messageAt S held)
 
--- those of several places in a row, from S on
+-- the messages of several places in a row, from S on
 unfoldable pub messagesInRow : ℕ → List Held → List Message
 messagesInRow S [] = []
 messagesInRow S (held ∷ more) = messagesOf S held ++ messagesInRow (suc S) more
 
--- all held messages, "counted from the base on"
+-- all held messages, in the order of repair: from the base on, by distance (rule 11.2)
 unfoldable pub heldMessages : List Held → List Message
 heldMessages held = messagesInRow keptBefore held

@@ -1,8 +1,6 @@
--- Document 01, 'The receiving session', "Offer. With distance d from base to S: d up to 31 may be accepted, 32 to 32,767 is
--- refusal 8, more is 9. A number whose datagram was accepted before is 7. Accepted: its packet, then its spares in order,
--- fill only numbers still unknown, those before the base too. Then repair". And of the order: "reading order, then 8 or 9,
--- then 7". Document 02, request 8: each number that an offer fills keeps "the number of the datagram whose offer filled it. .. In a run
--- of repairs it is the datagram being offered, not the holder of the message." Definitions only.
+-- What an offer does to a session (rules 10.1 to 10.14). Each number that an offer fills keeps the number of the offered datagram as its
+-- note, in a run of repairs too (rules 9.5 and 9.8). The order of refusals is reading order, then 8 or 9, then 7 (rule 10.5); 17 comes
+-- before them, in `session_calls`. Definitions only.
 use Prim.Native.Nat.{ℕ, suc, _+_, _-_}
 use mathlib.Core.Bool.{Bool, true, cond}
 use mathlib.Core.List.{List, [], _∷_}
@@ -17,30 +15,30 @@ use Rattle.session.specs.Held.{Held, nothingHeld, heldMessages}
 use Rattle.session.specs.Repair.{repair}
 use Rattle.session.specs.View.{View, distance}
 
--- late from this distance on
+-- a number is late from this distance on (rule 10.3)
 abbrev pub lateFrom : ℕ
 lateFrom = 32768
 
--- "fill only numbers still unknown", while datagram S is offered
+-- a packet or spare fills a number only if it is still unknown (rule 10.7), while datagram S is offered
 unfoldable pub keep : ℕ → State → ℕ → List ℕ → List Cell → List Cell
 keep S state p octets cells = cond (unknownAt cells p) (set cells p (filledCell S state octets)) cells
 
--- "the j-th spare of datagram S is packet S−j": the first of the given spares stands before place p
+-- the j-th spare of datagram S is packet S − j (rule 4.5): the first of the given spares belongs to the place before p
 unfoldable pub keepSpares : ℕ → ℕ → List (List ℕ) → List Cell → List Cell
 keepSpares S p [] cells = cells
 keepSpares S p (octets ∷ more) cells = keepSpares S (p - 1) more (keep S spare (p - 1) octets cells)
 
--- the spares of datagram S, at place p, are kept
+-- the spares of datagram S, at place p, are kept in order (rule 10.6)
 abbrev pub keepExtra : ℕ → ℕ → Extra → List Cell → List Cell
 keepExtra S p (spares copies) cells = keepSpares S p copies cells
 keepExtra S p (parity n messages) cells = cells
 
--- what is held of an accepted datagram: its mark, and its parity messages
+-- what is held of an accepted datagram: its mark, n and its messages (rule 10.10)
 abbrev pub heldBy : Extra → Held
 heldBy (spares copies) = record { accepted = true; n = 0; messages = [] }
 heldBy (parity n messages) = record { accepted = true; n = n; messages = messages }
 
--- an accepted datagram, at distance d
+-- a datagram that is accepted at distance d: its packet, its spares and its messages are kept, then repair begins (rule 10.6)
 unfoldable pub accept : ℕ → Carried → View → View
 accept d datagram view =
     let S = datagram .number in
@@ -54,11 +52,11 @@ accept d datagram view =
       held = held;
     }
 
--- whether the datagram at distance d was accepted before
+-- whether the datagram at distance d was accepted before (rule 10.4)
 abbrev pub acceptedAt : View → ℕ → Bool
 acceptedAt view d = (getD (view .held) d nothingHeld) .accepted
 
--- a datagram that was read, offered to the session
+-- a datagram that was read, offered to the session (rules 10.1 to 10.4)
 unfoldable pub offered : Carried → View → Answer View
 offered datagram view =
     let d = distance (view .base) (datagram .number) in
@@ -66,7 +64,7 @@ offered datagram view =
     (cond (acceptedAt view d) (refuse repeated) (done (accept d datagram view)))
     (cond (ltb d lateFrom) (refuse tooFar) (refuse late))
 
--- any octets offered: read first, so that a refusal of the reader is the offer's
+-- any octets offered (rule 10.13): they are read first, so a refusal of the reader is one of the offer
 unfoldable pub offer : List ℕ → View → Answer View
 offer octets view = do
   parts ← readDatagram octets

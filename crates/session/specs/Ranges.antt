@@ -1,9 +1,6 @@
--- Document 01, 'Ranges of a session', of the session as the page sees it: "Base equals the sum of counts modulo 65,536, sum at most
--- 1,000,000. The number j before the base is blank exactly if j exceeds the sum; no other is blank. Unknown and blank have length
--- 0, others 1 to [the packet limit]. .. An accepted number is known. Messages stand only at accepted numbers, and with m = 0 also n = 0,
--- otherwise n, m and message lengths are within the sizes". Document 02, request 8: "For a received one [the note] is its own number;
--- for a blank or unknown one it is zero. .. The session's ranges gain the rules for received, blank and unknown." What the page says
--- of octets past a length, and of message places past m, is said of how a session is held. Definitions only.
+-- The ranges of a session, as far as its view shows them (rules 13.1 to 13.4, 13.6 to 13.8 and 13.10). The ranges of octets past a length,
+-- of message places past m, and of the numbers for states and marks depend on the layout in slots and are defined in `session_held` (rules
+-- 13.5, 13.9 and 13.11). Definitions only.
 use Prim.Native.Nat.{ℕ, _+_, _-_, _%_, _<_}
 use mathlib.Core.Path.{_≡_}
 use mathlib.Core.Bool.{Bool, true, false, not, cond, _&&_}
@@ -17,16 +14,16 @@ use Rattle.session.specs.Cells.{keptNumbers}
 use Rattle.session.specs.Held.{Held, heldAt}
 use Rattle.session.specs.View.{View, sum, numbers, numberAt, sessionLimit}
 
--- "Base equals the sum of counts modulo 65,536, sum at most 1,000,000."
+-- the base equals the sum of the counts modulo 65,536, and the sum is at most 1,000,000 (rules 13.1 and 13.2)
 unfoldable pub sumRight : View → Bool
 sumRight v = eqb (v .base) (sum (v .counts) % numbers) && leb (sum (v .counts)) sessionLimit
 
--- "The number j before the base is blank exactly if j exceeds the sum; no other is blank.": at place p of the view stands the
--- number j = keptBefore − p before the base, where p is below keptBefore
+-- whether place p must be blank (rule 13.3): it is before the base, and j = keptBefore − p, its distance to the base, exceeds the sum of
+-- the counts
 abbrev pub blankAt : ℕ → ℕ → Bool
 blankAt total p = ltb p keptBefore && ltb total (keptBefore - p)
 
--- "Unknown and blank have length 0, others 1 to [the packet limit].", and blank exactly where it must be
+-- an unknown or blank number has length 0, any other 1 to 256 (rule 13.4), and a number is blank exactly where it must be (rule 13.3)
 unfoldable pub sizeRight : State → ℕ → Bool → Bool
 sizeRight unknown size mustBeBlank = eqb size 0 && not mustBeBlank
 sizeRight received size mustBeBlank = (leb packetLeast size && leb size packetLimit) && not mustBeBlank
@@ -45,7 +42,8 @@ isFill blank = false
 abbrev pub cellRight : Cell → Bool → Bool
 cellRight c mustBeBlank = sizeRight (c .state) (length (c .octets)) mustBeBlank
 
--- "For a received one [the note] is its own number; for a blank or unknown one it is zero."; a spare or repaired one may have any
+-- the note of a received number is its own number, that of a blank or unknown number is 0, and a spare or repaired number may have any
+-- (rule 13.10)
 unfoldable pub noteRight : State → ℕ → ℕ → Bool
 noteRight unknown note number = eqb note 0
 noteRight received note number = eqb note number
@@ -56,14 +54,14 @@ noteRight blank note number = eqb note 0
 abbrev pub cellNoted : Cell → ℕ → Bool
 cellNoted c number = noteRight (c .state) (c .note) number
 
--- "An accepted number is known. Messages stand only at accepted numbers, and with m = 0 also n = 0, otherwise n [and] m .. are
--- within the sizes"
+-- an accepted number is known, only accepted numbers have messages, with m = 0 also n = 0, and otherwise n and m are within the sizes
+-- (rules 13.6 to 13.8)
 unfoldable pub markRight : Bool → Bool → ℕ → ℕ → Bool
 markRight accepted known n m =
     cond accepted known (eqb m 0)
     && cond (eqb m 0) (eqb n 0) ((leb coveredLeast n && leb n coveredLimit) && leb m messagesLimit)
 
--- ".. and message lengths are within the sizes"
+-- its message lengths are within the sizes too (rule 13.8)
 unfoldable pub heldRight : Held → Bool → Bool
 heldRight h known =
     markRight (h .accepted) known (h .n) (length (h .messages))
@@ -72,7 +70,7 @@ heldRight h known =
 abbrev pub knownAt : View → ℕ → Bool
 knownAt v p = not (unknownAt (v .cells) p)
 
--- the whole paragraph, place by place
+-- the ranges, place by place
 unfoldable pub cellsRight : View → Bool
 cellsRight v = allBelow keptNumbers (λ p. cellRight (cellAt (v .cells) p) (blankAt (sum (v .counts)) p))
 
@@ -85,8 +83,7 @@ allHeldRight v = allBelow keptAhead (λ d. heldRight (heldAt (v .held) d) (known
 unfoldable pub inRanges : View → Bool
 inRanges v = ((sumRight v && cellsRight v) && notesRight v) && allHeldRight v
 
--- a view within the ranges, as the calls inside the session require and keep it: the same place by place, with the lengths that
--- the lists have
+-- a view within its ranges, as the calls inside the session require and keep it: the ranges at each place, and the lengths of the lists
 pub record Sound (v : View) : Type 0 where
   pub small : v .base < numbers
   pub total : sumRight v ≡ true

@@ -1,6 +1,5 @@
--- Document 01, 'The receiving session': which numbers the held messages can mend, said without an order of steps. A number
--- is reached if it is known, or if a message of length 1 or more covers it and all its other members are reached.
--- Definitions only.
+-- Which numbers the held messages can repair, defined without an order of steps (rule 28.5). A number is reached if it is known, or if a
+-- message of length 1 or more covers it and all the other members of that message are reached. Definitions only.
 use Prim.Native.Nat.{ℕ, _≤_}
 use mathlib.Core.Path.{_≡_}
 use mathlib.Core.Bool.{true, false}
@@ -9,15 +8,14 @@ use lib.ListN.{length}
 use Rattle.session.specs.Cells.{Cell, unknownAt}
 use Rattle.session.specs.Repair.{Message}
 
--- the number at a place is known, or is unknown
+-- the number at a place is known, or it is unknown
 abbrev pub Known : List Cell → ℕ → Type 0
 Known cells p = unknownAt cells p ≡ false
 
 abbrev pub Unknown : List Cell → ℕ → Type 0
 Unknown cells p = unknownAt cells p ≡ true
 
--- a set of places to which no message adds another: it holds a member of a message of length 1 or more wherever it holds
--- all the others
+-- a set of places to which no message adds another: if it holds all members but one of a message of length 1 or more, it holds that one too
 abbrev pub Closed : List Message → (ℕ → Type 0) → Type 0
 Closed messages K = (message : Message) (p : ℕ) → Among message messages → 1 ≤ length (message .octets)
     → Among p (message .members) → ((q : ℕ) → Among q (message .members) → (q ≡ p → ⊥) → K q) → K p

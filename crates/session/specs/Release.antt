@@ -1,8 +1,5 @@
--- Document 01, 'The receiving session', "Next. Hands out the packet at the base with its number and kind, and the base goes
--- on by one. Give up gives the number of an unknown base, books it lost and moves the base likewise; the number stays
--- unknown." They are one call, which is told whether it may skip (document 02, request 7): "Base known: it releases, skip or
--- not. Unknown: refusal 10 without leave, booked lost with it. .. the order is 17, 16, 10, 13." And request 8: "each release gives"
--- the number of the datagram whose offer filled the number. Definitions only.
+-- How a number leaves a session (rules 12.1 to 12.13): the number at the base is released, or lost if it is unknown and may be skipped. The
+-- order of refusals is 16, 10, 13 (rule 12.9); 17 comes before them, in `session_calls`. Definitions only.
 use Prim.Native.Nat.{ℕ, _+_}
 use mathlib.Core.Bool.{Bool, not, cond, _&&_}
 use mathlib.Core.List.{List}
@@ -13,7 +10,7 @@ use Rattle.length.specs.Answers.{Answer, done, refuse, mapped}
 use Rattle.session.specs.Cells.{State, unknown, received, spare, repaired, blank, Cell, cellAt, unknownAt, keptBefore}
 use Rattle.session.specs.View.{View, Counts, sum, sessionLimit, goneOn}
 
--- one more of its kind: "received, spare, repaired (each released) and lost", which is an unknown one; a blank one never leaves
+-- one more of the kind that leaves (rules 9.10 and 12.13): an unknown number is lost, and a blank one never leaves
 abbrev pub counted : State → Counts → Counts
 counted unknown c = record { received = c .received; spare = c .spare; repaired = c .repaired; lost = c .lost + 1 }
 counted received c = record { received = c .received + 1; spare = c .spare; repaired = c .repaired; lost = c .lost }
@@ -25,11 +22,12 @@ counted blank c = c
 abbrev pub atBase : View → Cell
 atBase view = cellAt (view .cells) keptBefore
 
--- how a number leaves: the one at the base is counted, and the base goes on
+-- the number at the base leaves: it is counted, and the base moves on by one (rule 12.5)
 abbrev pub movedOn : View → View
 movedOn view = goneOn (counted ((atBase view) .state) (view .counts)) view
 
--- the number that leaves, and the session after: its kind is its state, where unknown is lost, and a lost one has no octets and note 0
+-- the number that leaves, and the session after. Its kind is its state, where unknown means lost; a lost number has no octets and note 0
+-- (rules 12.2 and 12.4)
 pub record Release : Type 0 where
   pub kind : State
   pub number : ℕ
@@ -37,8 +35,8 @@ pub record Release : Type 0 where
   pub octets : List ℕ
   pub after : View
 
--- the call, with leave to skip or without, and a lent buffer of so many octets. The number at the base leaves as it stands there:
--- leave does no more than lift refusal 10, and an unknown number, which has no octets, needs no room
+-- the call, with leave to skip or without, and with room for this many octets (rule 12.1). Whatever is at the base leaves: leave only lifts
+-- refusal 10, and an unknown number has no octets and needs no room (rules 12.3, 12.4 and 12.11)
 unfoldable pub release : Bool → ℕ → View → Answer Release
 release leave room view =
     let cell = atBase view in
@@ -54,6 +52,6 @@ release leave room view =
       after = movedOn view;
     }))))
 
--- the session after it
+-- the session after a release
 abbrev pub viewAfterRelease : Answer Release → Answer View
 viewAfterRelease answer = mapped (λ (r : Release). r .after) answer

@@ -1,7 +1,5 @@
--- Document 01, 'The receiving session': "Then repair: of the accepted numbers, counted from the base on, take the first
--- that has a message of length 1 or more with exactly one unknown member, and in it the lowest such message; fill that with
--- the exclusive or of message and other members over the message's length; begin again; stop when no such message is left.
--- What is known is never written over." Definitions only.
+-- Repair (rules 11.1 to 11.9): the first usable message fills its unknown member, and the search begins again, until no message is usable.
+-- What is known is never written over (rule 9.9). Definitions only.
 use Prim.Native.Nat.{ℕ, zero, suc}
 use mathlib.Core.Bool.{Bool, not, cond, _&&_}
 use mathlib.Core.List.{List, [], _∷_, map}
@@ -21,38 +19,38 @@ unfoldable pub passing : (ℕ → Bool) → List ℕ → List ℕ
 passing test [] = []
 passing test (p ∷ ps) = cond (test p) (p ∷ passing test ps) (passing test ps)
 
--- the unknown members of a message, and the others
+-- the unknown members of a message, and the known ones
 abbrev pub unknownMembers : List Cell → Message → List ℕ
 unknownMembers cells message = passing (unknownAt cells) (message .members)
 
 abbrev pub otherMembers : List Cell → Message → List ℕ
 otherMembers cells message = passing (λ p. not (unknownAt cells p)) (message .members)
 
--- "a message of length 1 or more with exactly one unknown member"
+-- a message is usable if it has a length of 1 or more and exactly one unknown member (rules 11.1 and 11.7)
 unfoldable pub usable : List Cell → Message → Bool
 usable cells message = leb 1 (length (message .octets)) && eqb (length (unknownMembers cells message)) 1
 
--- the first usable message, of the held ones in their order
+-- the first usable one of the held messages, in their order (rule 11.2)
 unfoldable pub firstUsable : List Cell → List Message → Option Message
 firstUsable cells [] = none
 firstUsable cells (message ∷ messages) = cond (usable cells message) (some message) (firstUsable cells messages)
 
--- "the exclusive or of message and other members over the message's length"
+-- the exclusive or of a message and its known members, over the message's length (rule 11.3)
 unfoldable pub mended : List Cell → Message → List ℕ
 mended cells message =
     exclusiveOr (length (message .octets)) (message .octets ∷ map (λ p. (cellAt cells p) .octets) (otherMembers cells message))
 
--- "fill that": the unknown member becomes what is made of these octets
+-- the unknown member is filled with what is made of these octets (rule 11.3)
 unfoldable pub fill : (List ℕ → Cell) → List Cell → Message → List Cell
 fill made cells message = set cells (getD (unknownMembers cells message) 0 0) (made (mended cells message))
 
--- "begin again; stop when no such message is left". Each fill makes one unknown number known, so that as many steps as
--- there are numbers are enough (proofs/Enough.antt).
+-- after each fill the search begins again, and it stops when no usable message is left (rule 11.4). Each fill makes one unknown number
+-- known, so as many steps as there are numbers are enough (proofs/Enough.antt).
 unfoldable pub repairF : (List ℕ → Cell) → ℕ → List Cell → List Message → List Cell
 repairF made zero cells messages = cells
 repairF made (suc k) cells messages =
     elim (firstUsable cells messages) [ none ↦ cells | some message ↦ repairF made k (fill made cells message) messages ]
 
--- how a fill is made is the caller's to say
+-- repair; `made` says how a fill is made
 unfoldable pub repair : (List ℕ → Cell) → List Cell → List Message → List Cell
 repair made cells messages = repairF made (length cells) cells messages

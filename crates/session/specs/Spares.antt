@@ -1,5 +1,5 @@
--- Document 01, 'The receiving session': "Accepted: its packet, then its spares in order, fill only numbers still unknown, those before the
--- base too." What that comes to, place by place: k spares of the datagram at place p fill exactly p − 1 to p − k. Statements alone.
+-- What the spares of an accepted datagram fill, place by place: the k spares of the datagram at place p fill the unknown ones of p − 1 to p
+-- − k, and no others (rules 4.5 and 10.7). Statements only.
 use Prim.Native.Nat.{ℕ, suc, _+_, _-_, _≤_, _<_}
 use mathlib.Core.Path.{_≡_}
 use mathlib.Core.List.{List, []}
@@ -8,13 +8,13 @@ use Rattle.session.specs.Cells.{Cell, spare, filledCell, cellAt}
 use Rattle.session.specs.Reached.{Known, Unknown}
 use Rattle.session.specs.Offer.{keepSpares}
 
--- datagram S, at place p, has these spares
+-- the cells before and after the spares of datagram S, at place p, are kept
 pub record SparesFill (S p : ℕ) (copies : List (List ℕ)) (cells after : List Cell) : Type 0 where
-  -- the j-th, from 0, fills the place j + 1 before, where that is unknown
+  -- the j-th spare, from 0, fills the place j + 1 before p, if that is unknown
   pub filled : (j : ℕ) → j < length copies → Unknown cells (p - suc j) → cellAt after (p - suc j) ≡ filledCell S spare (getD copies j [])
-  -- what is known stays
+  -- what is known is unchanged (rule 9.9)
   pub known : (i : ℕ) → Known cells i → cellAt after i ≡ cellAt cells i
-  -- and so does all from p on, and all that is further back than there are spares
+  -- so is every place from p on, and every place further back than there are spares
   pub fromHere : (i : ℕ) → p ≤ i → cellAt after i ≡ cellAt cells i
   pub further : (i : ℕ) → i + length copies < p → cellAt after i ≡ cellAt cells i
 

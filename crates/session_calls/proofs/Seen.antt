@@ -1,5 +1,4 @@
--- The public calls on a session within its ranges: each comes to what the definitions make of the session as document 01 sees it. Assumes
--- nothing.
+-- The public calls on a session within its ranges: each gives what the definitions make of the session's view. Assumes nothing.
 use Prim.Native.Nat.{ℕ}
 use mathlib.Core.Path.{_≡_, refl, sym, ap, subst, _∙_}
 use mathlib.Core.Bool.{Bool, cond}

@@ -1,5 +1,5 @@
--- The call of document 02, request 13, on plain values: outside the ranges the very session comes back with refusal 17, within them the
--- core's promise is the call's. Assumes nothing.
+-- Solve on plain values: outside the ranges the session is returned unchanged with refusal 17, within them the core's promise is the
+-- call's. Assumes nothing.
 use Prim.Native.Nat.{ℕ}
 use mathlib.Core.Path.{_≡_, refl, sym, ap, _∙_}
 use mathlib.Core.Bool.{Bool, true, false}

@@ -1,4 +1,4 @@
--- The claims of the call of document 02, request 13. Assumes nothing.
+-- The claims of solve. Assumes nothing.
 use mathlib.Core.Path.{_≡_, refl, sym, ap, ap₂, _∙_, subst}
 use mathlib.Core.Bool.{Bool, true, false, cond}
 use Rattle.octets.proofs.Laws.{and-right}

@@ -1,7 +1,6 @@
--- What the calls of the receiving session owe: document 01, 'The receiving session', and of the order of refusals "offer 17, 2,
--- then reading order, then 8 or 9, then 7"; of release, which stands for next and give up since document 02, request 7, "17, 16,
--- 10, 13". Each promise settles the answer, the session after and all lent octets, for every session of the struct's type and every
--- input. Definitions only.
+-- What offer and release promise. The order of refusals of an offer is 17, 2, then reading order, then 8 or 9, then 7 (rule 10.5); that of
+-- a release is 17, 16, 10, 13 (rule 12.9). Each promise settles the answer, the session after and the caller's buffer, for every session of
+-- the struct's type and every input (rule 28.14). Definitions only.
 use Prim.Native.Nat.{ℕ}
 use mathlib.Core.Path.{_≡_}
 use mathlib.Core.Bool.{Bool, cond}
@@ -20,17 +19,17 @@ use Rattle.session_offer.specs.Outcome.{offeredOutcome, acceptedOf}
 use Rattle.session_calls.specs.declared.receiver.AfterOffer.{AfterOffer}
 use Rattle.session_calls.specs.declared.receiver.AfterRelease.{AfterRelease}
 
--- a session within its ranges, which document 01 sees as this view
+-- a session within its ranges that has this view
 pub record SeenAs (wanted : View) (s : Session) : Type 0 where
   pub within : InRanges (lentBy s)
   pub view : viewOf s ≡ wanted
 
--- the session after a call: the view that it came to, within the ranges; after a refusal the very session before
+-- the session after a call: it has the resulting view and is within its ranges (rule 13.13); after a refusal it is unchanged (rule 2.25)
 abbrev pub After : Answer View → Session → Session → Type 0
 After (done view) before after = SeenAs view after
 After (refused why) before after = after ≡ before
 
--- 17 exactly where the session is outside its ranges; else what the call comes to on the session as document 01 sees it
+-- 17 exactly if the session is outside its ranges (rule 13.12); otherwise the answer of the call on the session's view
 abbrev pub inRangesThen : {A : Type 0} → (View → Answer A) → Session → Answer A
 inRangesThen call s = cond (sessionInRanges s) (call (viewOf s)) (refuse outsideRanges)
 
@@ -42,7 +41,7 @@ pub record OfferOwes (s : Session) (octets : List ℕ) (r : AfterOffer) : Type 0
   pub answer : offeredOutcome (r .answer) ≡ acceptedOf (offerOf octets s)
   pub state : After (offerOf octets s) s (r .session)
 
--- ---- release, with leave to skip or without, and with a lent buffer of so many octets
+-- ---- release, with leave to skip or without, and with the length of the caller's buffer
 unfoldable pub releaseOf : Bool → ℕ → Session → Answer Release
 releaseOf leave room s = inRangesThen (release leave room) s
 

@@ -1,5 +1,5 @@
--- What the call of document 02, request 13, owes: "Refusals: 17, then 23, no octets satisfy all equations; nothing changes." What `solve`
--- comes to is what the equations mean (`solve`, SolutionsClaims). Definitions only.
+-- What solve promises: it refuses with 17, then 23, and a refusal changes nothing (rule 14.7). That the answer is what the equations mean
+-- is claimed in `solve`, SolutionsClaims. Definitions only.
 use mathlib.Core.Path.{_≡_}
 use Rattle.length.specs.Answers.{Answer}
 use Rattle.session.specs.View.{View}

@@ -1,4 +1,4 @@
--- The claims of the call of document 02, request 13: statements alone.
+-- The claims of solve (rules 14.2 and 14.7). Statements only.
 use mathlib.Core.Path.{_≡_}
 use mathlib.Core.Bool.{true}
 use Rattle.length.specs.Answers.{refused}
@@ -12,13 +12,13 @@ use Rattle.session_calls.specs.Solver.{solveOf, SolveOwes}
 use Rattle.session_calls.specs.declared.solver.AfterSolve.{AfterSolve}
 
 pub record SolverClaims : Type 0 where
-  -- the call's answer is the meaning's, for every session within its ranges
+  -- the call's answer is what the equations mean, for every session within its ranges (rules 14.2 and 14.6)
   pub meansIt : (s : Session) → sessionInRanges s ≡ true → Solves (viewOf s) (solveOf s)
-  -- "nothing changes"
+  -- a refusal changes nothing (rule 14.7)
   pub refusedStays : (s : Session) (r : AfterSolve) (x : Refusal) → SolveOwes s r → solveOf s ≡ refused x → r .session ≡ s
-  -- two outcomes that the promise allows are equal
+  -- two outcomes that the promise allows are equal (rule 28.14)
   pub oneOutcome : (s : Session) (r q : AfterSolve) → SolveOwes s r → SolveOwes s q → r ≡ q
-  -- the session after is within its ranges
+  -- the session after is within its ranges (rule 13.13)
   pub afterSolve : (s : Session) (r : AfterSolve) → SolveOwes s r → sessionInRanges s ≡ true → sessionInRanges (r .session) ≡ true
-  -- a second call straight after fills nothing more
+  -- a second call directly after the first fills nothing more (rule 14.2)
   pub nothingMore : (s : Session) (r q : AfterSolve) → SolveOwes s r → r .answer ≡ solved.Filled → SolveOwes (r .session) q → q ≡ r

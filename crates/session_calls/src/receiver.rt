@@ -1,23 +1,23 @@
-// The receiving session: document 01, 'The receiving session'.
+// Offer and release (rules 10.5 and 12.9).
 use length::Refusal;
 use session_held::Session;
 use session_offer::Offered;
 use session_release::Released;
 ghost use Rattle.session_calls.specs.Receiver.{OfferOwes, ReleaseOwes};
 
-// What offer answers, and the session after.
+// What offer returns: its answer, and the session after.
 pub struct AfterOffer {
     pub session: Session,
     pub answer: Offered,
 }
 
-// What a release answers, and the session after.
+// What release returns: its answer, and the session after (rule 30.5).
 pub struct AfterRelease {
     pub session: Session,
     pub answer: Released,
 }
 
-// Any octets from the network, offered to the session.
+// Offers any octets from the network to the session (rule 10.13).
 pub fn offer(s: Session, datagram: &[u8]) -> AfterOffer
     ensures { λ r. ⌜ OfferOwes s (now (datagram .entry)) r ⌝ }
 {
@@ -51,8 +51,8 @@ pub fn offer(s: Session, datagram: &[u8]) -> AfterOffer
     }
 }
 
-// The number at the base leaves, its packet to the front of out, and the base goes on by one. An unknown base is refused, or where it
-// may be skipped, booked lost.
+// The number at the base leaves, its packet is written to the front of out, and the base moves on by one (rules 12.2 and 12.5). An unknown
+// base is refused, or lost if it may be skipped (rules 12.3 and 12.4).
 pub fn release(s: Session, skip: bool, out: &mut [u8]) -> AfterRelease
     ensures { λ r. ⌜ ReleaseOwes s skip (now (out .entry)) (now (out .exit)) r ⌝ }
 {

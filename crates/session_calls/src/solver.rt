@@ -1,16 +1,17 @@
-// Losses that no single message mends: document 02, request 13.
+// Solving, for losses that no single message repairs (rules 14.1 to 14.8).
 use length::Refusal;
 use session_held::Session;
 use solve_code::Solved;
 ghost use Rattle.session_calls.specs.Solver.{SolveOwes};
 
-// What the call answers, and the session after.
+// What solve returns: its answer, and the session after.
 pub struct AfterSolve {
     pub session: Session,
     pub answer: Solved,
 }
 
-// The held messages as equations: each unknown number in view is filled for which they and the known octets allow one value.
+// Treats the held messages as equations: an unknown number in view is filled if they and the known octets allow only one value for it (rule
+// 14.2).
 pub fn solve(s: Session) -> AfterSolve
     ensures { λ r. ⌜ SolveOwes s r ⌝ }
 {

@@ -1,5 +1,5 @@
--- The tests of one slot, taken apart and put together, and what document 01's view has of the slot. Over a layout that is right a cell
--- of the view has as many octets as its slot's size says, so a test of the slot is the view's test. Assumes nothing.
+-- The tests of one slot, taken apart and put together, and what the view has of the slot. Over a layout that is right a cell of the view
+-- has as many octets as its slot's size says, so a test of the slot is the view's test. Assumes nothing.
 use Prim.Native.Nat.{ℕ, _+_, _<_}
 use mathlib.Core.Path.{_≡_, sym, ap, _∙_}
 use mathlib.Core.Bool.{Bool, true, not, _&&_}

@@ -1,6 +1,6 @@
-// Whether a session stands within its ranges: document 01, 'Ranges of a session', decided for all that is lent. Refusal 17 is given
-// exactly where it does not. Kept numbers are looked at slot by slot, what is held by distance from the base. These functions serve
-// callers inside this repository: they require the lengths of the table and the stores.
+// Whether a session is within its ranges (rules 13.1 to 13.11): refusal 17 is given exactly if it is not (rule 13.12). Kept numbers are
+// checked slot by slot, and what is held by distance from the base. These functions serve callers inside this repository: they require the
+// lengths of the table and the stores.
 mod slots;
 
 use datagram::Packet;
@@ -25,16 +25,16 @@ ghost use Rattle.session_held.specs.Table.{places, lent};
 ghost use Rattle.session_held.specs.Laid.{lentInRanges};
 ghost use Rattle.session_check.specs.Pieces.{passedOf, SizesFit, stateTest, noteTest, packetTest, allKept, heardTest};
 
-// Numbers are counted modulo this.
+// Numbers are counted modulo this (rule 2.35).
 const NUMBERS: u64 = 65536;
-// The slots of kept numbers, and the numbers before the base among them, in the table's sixteen bits.
+// How many kept numbers there are, and how many of them are before the base, in the table's sixteen bits.
 const KEPT: u16 = Session::KEPT as u16;
 
 const BEFORE: u16 = Session::BEFORE as u16;
-// The octets of the slots of all messages of a number.
+// How many octets the slots of all messages of a number have.
 const HELD_OCTETS: usize = Parity::MESSAGES * Packet::LIMIT;
 
-// "Base equals the sum of counts modulo 65,536, sum at most 1,000,000."
+// The base equals the sum of the counts modulo 65,536, and the sum is at most 1,000,000 (rules 13.1 and 13.2).
 fn sum_right(base: u16, whole: u64) -> bool
     ensures { λ r. ⌜ r ≡ (eqb base (whole % numbers) && leb whole sessionLimit) ⌝ }
 {
@@ -43,7 +43,7 @@ fn sum_right(base: u16, whole: u64) -> bool
     (base == wrapped) & (whole <= Session::LIMIT)
 }
 
-// Of the numbers before the base that are in view, how many have been in the session.
+// How many of the 32 numbers before the base have passed; the others are blank (rule 13.3).
 fn passed(whole: u64) -> u16
     ensures { λ r. ⌜ r ≡ passedOf whole ⌝ }
 {
@@ -53,9 +53,9 @@ fn passed(whole: u64) -> u16
     BEFORE
 }
 
-// The states and lengths of all kept numbers, slot by slot. "The number j before the base is blank exactly if j exceeds the sum; no
-// other is blank.": the number in a slot stands at the place number - base + 32 of the view. Sixteen-bit numbers, and no branch that
-// leaves the loop, let eight slots be looked at together.
+// The states and lengths of all kept numbers, slot by slot. The number base - j is blank exactly if j exceeds the sum of the counts, and no
+// other is (rule 13.3): the number in a slot is at place number - base + 32 of the view. Sixteen-bit numbers, and no branch that leaves the
+// loop, allow eight slots to be checked together.
 fn all_states_right(base: u16, whole: u64, t: &[u16]) -> bool
     requires { ⌜ length (now t) ≡ places ⌝ }
     ensures { λ r. ⌜ r ≡ allBelow slotsKept (stateTest base whole (now (t .entry))) ⌝ }
@@ -75,7 +75,7 @@ fn all_states_right(base: u16, whole: u64, t: &[u16]) -> bool
     ok
 }
 
-// The notes of all kept numbers, slot by slot, likewise without a branch. The number at the first place of the view is base - 32.
+// The notes of all kept numbers, slot by slot, also without a branch (rule 13.10). The number at the first place of the view is base - 32.
 fn all_notes_right(base: u16, t: &[u16]) -> bool
     requires { ⌜ length (now t) ≡ places ⌝ }
     ensures { λ r. ⌜ r ≡ allBelow slotsKept (noteTest base (now (t .entry))) ⌝ }
@@ -96,7 +96,7 @@ fn all_notes_right(base: u16, t: &[u16]) -> bool
     ok
 }
 
-// The octets of all packets, whose lengths are right.
+// The octets of all packets, whose lengths are right (rule 13.5).
 fn all_packets_laid(t: &[u16], o: &[u8], passes: &[u8]) -> bool
     requires { ⌜ length (now t) ≡ places ⌝ }
     requires { ⌜ SizesFit (now t) ⌝ }
@@ -128,7 +128,7 @@ fn all_kept_right(base: u16, whole: u64, t: &[u16], o: &[u8], passes: &[u8]) -> 
     false
 }
 
-// All that is held, by distance from the base.
+// All that is held, by distance from the base (rules 13.5 to 13.9).
 fn all_heard_right(base: u16, t: &[u16], g: &[u8], passes: &[u8]) -> bool
     requires { ⌜ length (now t) ≡ places ⌝ }
     requires { ⌜ length (now g) ≡ messageOctets ⌝ }
@@ -149,7 +149,7 @@ fn all_heard_right(base: u16, t: &[u16], g: &[u8], passes: &[u8]) -> bool
     ok
 }
 
-// Document 01, 'Ranges of a session': the whole paragraph, and document 02, request 8, of the notes.
+// All ranges of a session (rules 13.1 to 13.11).
 pub fn in_ranges(base: u16, counts: Counts, t: &[u16], o: &[u8], g: &[u8]) -> bool
     requires { ⌜ length (now t) ≡ places ⌝ }
     requires { ⌜ length (now o) ≡ keptOctets ⌝ }

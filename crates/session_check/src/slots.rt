@@ -1,5 +1,5 @@
-// One slot of a kept number, and one of a number from the base on: what document 01 says of the number, and how the slot is laid.
-// A slot without octets is looked at without the mask, and where there is no message the slots of all are looked at in one loop.
+// The ranges of one slot of a kept number, and of one slot of a number from the base on. A slot of length 0 is checked without the mask,
+// and if a number has no messages, one loop checks all its message slots.
 use crate::HELD_OCTETS;
 use datagram::Message;
 use datagram::Packet;
@@ -19,8 +19,8 @@ ghost use Rattle.session_held.specs.Table.{places, stateNumbered};
 ghost use Rattle.session_held.specs.Laid.{messageLaid};
 ghost use Rattle.session_check.specs.Pieces.{stateRight, markedRight, heardRight, sizeless, emptyAt};
 
-// "Unknown and blank have length 0, others 1 to [the packet limit].", and the number stands for a state. There is no branch,
-// so that the loop over all slots may take several together.
+// An unknown or blank number has length 0, any other 1 to 256 (rule 13.4), and the number in the table encodes a state (rule 13.11). There
+// is no branch, so the loop over all slots may check several together.
 pub fn state_right(state: u16, size: usize, blank: bool) -> bool
     ensures { λ r. ⌜ r ≡ stateRight state size blank ⌝ }
 {
@@ -30,7 +30,8 @@ pub fn state_right(state: u16, size: usize, blank: bool) -> bool
     (empty & (size == 0)) | (filled & (fits & !blank))
 }
 
-// "For a received one [the note] is its own number; for a blank or unknown one it is zero."; a spare or repaired one may have any.
+// The note of a received number is its own number, that of a blank or unknown number is 0, and a spare or repaired number may have any
+// (rule 13.10).
 pub fn note_right(state: u16, note: u16, number: u16) -> bool
     ensures { λ r. ⌜ r ≡ noteRight (stateNumbered state) note number ⌝ }
 {
@@ -40,7 +41,7 @@ pub fn note_right(state: u16, note: u16, number: u16) -> bool
     any | (own | none)
 }
 
-// "Octets past a length are zero."
+// Octets past a length are zero (rule 13.5).
 pub fn slot_right(o: &[u8], slot: usize, size: usize, passes: &[u8]) -> bool
     requires { ⌜ HasSlot slot (now o) ⌝ }
     requires { ⌜ size ≤ packetLimit ⌝ }
@@ -53,8 +54,8 @@ pub fn slot_right(o: &[u8], slot: usize, size: usize, passes: &[u8]) -> bool
     session_slots::zeros_past(o, slot, size, passes)
 }
 
-// "An accepted number is known. Messages stand only at accepted numbers, and with m = 0 also n = 0, otherwise n [and] m .. are
-// within the sizes", and the mark is 0 or 1.
+// An accepted number is known, only accepted numbers have messages, with m = 0 also n = 0, otherwise n and m are within the sizes (rules
+// 13.6 to 13.8), and the mark is 0 or 1 (rule 13.11).
 fn mark_right(mark: u16, known: bool, n: usize, m: usize) -> bool
     ensures { λ r. ⌜ r ≡ markedRight mark known n m ⌝ }
 {
@@ -68,7 +69,7 @@ fn mark_right(mark: u16, known: bool, n: usize, m: usize) -> bool
     (mark == 0) & ((m == 0) & (n == 0))
 }
 
-// The most octets that message i of m may have: "message places past m have length 0".
+// How many octets message i of m may have: message places past m have length 0 (rules 13.8 and 13.9).
 fn most(i: usize, m: usize) -> usize
     ensures { λ r. ⌜ r ≡ cond (ltb i m) messageLimit 0 ⌝ }
 {
@@ -78,7 +79,7 @@ fn most(i: usize, m: usize) -> usize
     0
 }
 
-// A message in its slot: its length is within the sizes, and octets past it are zero.
+// A message in its slot: its length is within the limit, and octets past it are zero (rules 13.5 and 13.8).
 fn message_right(size: usize, limit: usize, g: &[u8], slot: usize, passes: &[u8]) -> bool
     requires { ⌜ HasSlot slot (now g) ⌝ }
     requires { ⌜ limit ≤ messageLimit ⌝ }
@@ -91,7 +92,7 @@ fn message_right(size: usize, limit: usize, g: &[u8], slot: usize, passes: &[u8]
     false
 }
 
-// The messages of the number whose slot is given, of which there are m.
+// All messages of the number in a slot, which has m of them.
 fn messages_right(t: &[u16], slot: usize, m: usize, g: &[u8], passes: &[u8]) -> bool
     requires { ⌜ length (now t) ≡ places ⌝ }
     requires { ⌜ slot < slotsHeard ⌝ }
@@ -113,7 +114,7 @@ fn messages_right(t: &[u16], slot: usize, m: usize, g: &[u8], passes: &[u8]) -> 
     ok
 }
 
-// Whether no message of a number has a length.
+// Whether all messages of a number have length 0.
 fn no_sizes(t: &[u16], slot: usize) -> bool
     requires { ⌜ length (now t) ≡ places ⌝ }
     requires { ⌜ slot < slotsHeard ⌝ }
@@ -130,7 +131,7 @@ fn no_sizes(t: &[u16], slot: usize) -> bool
     ok
 }
 
-// Whether the slots of all messages of a number have zeros alone.
+// Whether the slots of all messages of a number have only zeros.
 fn no_octets(g: &[u8], slot: usize) -> bool
     requires { ⌜ length (now g) ≡ messageOctets ⌝ }
     requires { ⌜ slot < slotsHeard ⌝ }
@@ -146,7 +147,7 @@ fn no_octets(g: &[u8], slot: usize) -> bool
     ok
 }
 
-// The messages of a number that has none.
+// The message slots of a number that has no messages (rules 13.5 and 13.9).
 fn no_messages(t: &[u16], slot: usize, g: &[u8]) -> bool
     requires { ⌜ length (now t) ≡ places ⌝ }
     requires { ⌜ slot < slotsHeard ⌝ }
@@ -159,7 +160,7 @@ fn no_messages(t: &[u16], slot: usize, g: &[u8]) -> bool
     false
 }
 
-// A number from the base on in its slot: mark, n and m, and its messages.
+// A number from the base on in its slot: its mark, n and m, and its messages (rules 13.5 to 13.9).
 pub fn heard_right(t: &[u16], slot: usize, known: bool, g: &[u8], passes: &[u8]) -> bool
     requires { ⌜ length (now t) ≡ places ⌝ }
     requires { ⌜ slot < slotsHeard ⌝ }

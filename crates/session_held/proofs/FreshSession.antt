@@ -1,5 +1,5 @@
--- A fresh session: its table as the code makes it, what document 01 sees in it, and that it is within the ranges. Every number of
--- the table is 0 but the states of the numbers before the first. Assumes nothing.
+-- A fresh session: its table as the code makes it, its view, and that it is within the ranges. Every number of the table is 0 except the
+-- states of the numbers before the first. Assumes nothing.
 use Prim.Native.Nat.{ℕ, zero, suc, _+_, _-_, _≤_, _<_}
 use mathlib.Core.Path.{_≡_, refl, sym, ap, ap₂, _∙_}
 use mathlib.Core.Bool.{true, cond}

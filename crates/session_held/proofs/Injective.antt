@@ -1,6 +1,5 @@
--- Within the ranges document 01's view of a session loses nothing: two that have the same view are the same, number by number and
--- octet by octet. A slot is the slot of some place; the length of what stands there gives its size, and past it there are zeros.
--- Assumes nothing.
+-- Within the ranges the view of a session loses nothing: two sessions that have the same view are the same, number by number and octet by
+-- octet. A slot is the slot of some place; the length of what is there gives its size, and past it there are zeros. Assumes nothing.
 use Prim.Native.Nat.{ℕ, _+_, _-_, _*_, _/_, _%_, _≤_, _<_}
 use mathlib.Core.Path.{_≡_, sym, ap, ap₂, _∙_}
 use mathlib.Core.List.{List, []}
@@ -188,7 +187,7 @@ module _ {l k : Lent} (w : InRanges l) (v : InRanges k) (same : viewIn l ≡ vie
       ∙ ap₂ (λ (o g : List ℕ). record { base = k .base; counts = k .counts; table = k .table; octets = o; messages = g })
       octets-same messages-same
 
--- two sessions within their ranges in which document 01 sees the same are the same
+-- two sessions within their ranges that have the same view are the same
 pub session-same : (s r : Session) → InRanges (lentBy s) → InRanges (lentBy r) → viewOf s ≡ viewOf r → s ≡ r
 session-same s r w v same =
     ap (λ (x : Lent).

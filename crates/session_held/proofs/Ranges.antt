@@ -1,5 +1,5 @@
--- The ranges of what is lent as one test and as a record, each from the other: refusal 17's check decides the test, and the calls
--- inside the session ask for the record. The layout goes slot by slot, and the view's part is the law of views. Assumes nothing.
+-- The ranges of a session's memory as one test and as a record, each from the other: refusal 17's check decides the test, and the calls
+-- inside the session require the record. The layout goes slot by slot, and the view's part is a law of `session`. Assumes nothing.
 use Prim.Native.Nat.{ℕ, _≤_, _<_}
 use mathlib.Core.Path.{_≡_}
 use mathlib.Core.Bool.{Bool, true, false, cond, _&&_}
@@ -52,7 +52,7 @@ module _ (t g : List ℕ) (j m i : ℕ) (e : messageLaid t g j m i ≡ true) whe
   pub message-fits : messageSizeIn t (messageSlot j i) ≤ packetLimit
   message-fits = most-limit (ltb i m) (messageSizeIn t (messageSlot j i)) message-most
 
-  -- "message places past m have length 0"
+  -- message places past m have length 0 (rule 13.9)
   pub message-none : m ≤ i → messageSizeIn t (messageSlot j i) ≡ 0
   message-none past =
       let none = rw (le-ltb i m past) at (leb-true (messageSizeIn t (messageSlot j i)) (cond (ltb i m) messageLimit 0) message-most) in

@@ -1,5 +1,5 @@
--- What the view shows of a slot gives the slot's numbers back: a state's number from document 01's word for it, a mark from whether a
--- datagram was accepted, the count of messages from how many there are. Assumes nothing.
+-- What the view shows of a slot determines the slot's numbers: the number that encodes a state follows from the state, a mark from whether
+-- a datagram was accepted, the count of messages from how many there are. Assumes nothing.
 use Prim.Native.Nat.{ℕ, _≤_}
 use mathlib.Core.Path.{_≡_, sym, ap, _∙_}
 use mathlib.Core.List.{List}
@@ -14,7 +14,7 @@ use Rattle.session.specs.Cells.{Cell}
 use Rattle.session.specs.Held.{Held}
 use Rattle.session_held.specs.Table.{lastState, stateIn, noteIn, markIn, nIn, mIn, stateNumbered, cellIn, heldIn}
 
--- ---- a state's number from document 01's word for it
+-- ---- the number that encodes a state, from the state
 abbrev numberOf : cells.State → ℕ
 numberOf cells.unknown = 0
 numberOf cells.received = 1

@@ -1,11 +1,11 @@
--- The kind as an answer names it and document 01's word for it: one word, one kind. Assumes nothing.
+-- The kind that an answer names and the state of the view: one state, one kind. Assumes nothing.
 use mathlib.Core.Path.{_≡_, refl, sym, ap, _∙_}
 use Rattle.session.specs.Cells as cells
 use Rattle.session_held.specs.Table.{stateOf}
 use Rattle.session_held.specs.declared.ReleaseKind.{ReleaseKind}
 use Rattle.session_held.specs.declared.ReleaseKind.the-variants.{Received, Spare, Repaired, Lost}
 
--- the kind as an answer names it, from document 01's word; a blank number has none
+-- the kind that an answer names, from the state of the view; a blank number has none
 kind-named : cells.State → ReleaseKind
 kind-named cells.unknown = Lost
 kind-named cells.received = Received

@@ -1,5 +1,5 @@
--- What the layout in slots adds to the ranges of document 01: "Octets past a length are zero", "message places past m have length
--- 0", and numbers that stand for a state or a mark. It goes by slots, without the base. Definitions only.
+-- What the layout in slots adds to the ranges of a session: octets past a length are zero, message places past m have length 0, and only
+-- certain numbers encode a state or a mark (rules 13.5, 13.9 and 13.11). All is stated by slots, without the base. Definitions only.
 use Prim.Native.Nat.{ℕ, _≤_, _<_}
 use mathlib.Core.Path.{_≡_}
 use mathlib.Core.Bool.{Bool, true, cond, _&&_}
@@ -14,17 +14,17 @@ use Rattle.session_held.specs.Slots.{slotsKept, slotsHeard, messageSlot,
 use Rattle.session_held.specs.Table.{Lent, lentBy, viewIn, places, lastState, stateIn, sizeIn, markIn, mIn, messageSizeIn}
 use Rattle.session_held.specs.declared.Session.{Session}
 
--- slot i of kept numbers
+-- slot i of kept numbers: its state, its length, and zeros past the length (rules 13.4, 13.5 and 13.11)
 unfoldable pub keptLaid : List ℕ → List ℕ → ℕ → Bool
 keptLaid table octets i = (leb (stateIn table i) lastState && leb (sizeIn table i) packetLimit) && zerosPast octets i (sizeIn table i)
 
--- message i of slot j, of which m are held: "message places past m have length 0"
+-- message i of slot j, of which m are held: a place past m has length 0 (rule 13.9), and octets past a length are zero (rule 13.5)
 unfoldable pub messageLaid : List ℕ → List ℕ → ℕ → ℕ → ℕ → Bool
 messageLaid table messages j m i =
     leb (messageSizeIn table (messageSlot j i)) (cond (ltb i m) messageLimit 0)
     && zerosPast messages (messageSlot j i) (messageSizeIn table (messageSlot j i))
 
--- slot j of numbers from the base on
+-- slot j of numbers from the base on: its mark, m and its messages (rules 13.8 and 13.11)
 unfoldable pub heardLaid : List ℕ → List ℕ → ℕ → Bool
 heardLaid table messages j =
     (leb (markIn table j) 1 && leb (mIn table j) messagesLimit)
@@ -34,14 +34,14 @@ unfoldable pub laid : Lent → Bool
 laid l =
     allBelow slotsKept (keptLaid (l .table) (l .octets)) && allBelow slotsHeard (heardLaid (l .table) (l .messages))
 
--- 17, "session outside its ranges", is given exactly where this does not hold
+-- a call refuses the session with 17 exactly if this does not hold (rule 13.12)
 unfoldable pub lentInRanges : Lent → Bool
 lentInRanges l = laid l && inRanges (viewIn l)
 
 abbrev pub sessionInRanges : Session → Bool
 sessionInRanges s = lentInRanges (lentBy s)
 
--- the same as the calls inside the session require and keep it: slot by slot
+-- the layout as the calls inside the session require and keep it: slot by slot
 pub record Laid (table kept heard : List ℕ) : Type 0 where
   pub long : length table ≡ places
   pub octets : length kept ≡ keptOctets
@@ -56,7 +56,7 @@ pub record Laid (table kept heard : List ℕ) : Type 0 where
   pub message : (j i : ℕ) → j < slotsHeard → i < messagesLimit
       → zerosPast heard (messageSlot j i) (messageSizeIn table (messageSlot j i)) ≡ true
 
--- what is lent is within the ranges: how it is laid, and what document 01 sees in it
+-- the session is within its ranges: its layout, and its view
 pub record InRanges (l : Lent) : Type 0 where
   pub laid : Laid (l .table) (l .octets) (l .messages)
   pub sound : Sound (viewIn l)

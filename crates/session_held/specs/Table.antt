@@ -1,5 +1,5 @@
--- The session as it is held and lent: base and counts by value, one table of numbers, two stores; and from there to the session
--- that document 01 sees, `viewIn`, which serves every promise. Definitions only.
+-- The session in memory: base and counts by value, one table of numbers, and two stores (rules 9.2 and 9.4). `viewIn` is the session that
+-- the rules describe, and every promise uses it. Definitions only.
 use Prim.Native.Nat.{ℕ, _+_, _*_}
 use mathlib.Core.Bool.{Bool, cond}
 use mathlib.Core.List.{List}
@@ -19,7 +19,7 @@ use Rattle.session_held.specs.declared.ReleaseKind.the-variants.{Receive
 use Rattle.session_held.specs.declared.Counts.{Counts}
 use Rattle.session_held.specs.declared.Session.{Session}
 
--- ---- where each value of a slot stands in the table: a run for each
+-- ---- the place of each value of a slot in the table: a run for each value
 abbrev pub statePlace : ℕ → ℕ
 statePlace i = i
 
@@ -44,7 +44,7 @@ messagePlace k = slotsKept + slotsKept + slotsKept + slotsHeard + slotsHeard + s
 abbrev pub places : ℕ
 places = slotsKept + slotsKept + slotsKept + slotsHeard + slotsHeard + slotsHeard + slotsMessages
 
--- what stands there
+-- the value at that place
 abbrev pub stateIn : List ℕ → ℕ → ℕ
 stateIn table i = getD table (statePlace i) 0
 
@@ -66,7 +66,7 @@ mIn table j = getD table (mPlace j) 0
 abbrev pub messageSizeIn : List ℕ → ℕ → ℕ
 messageSizeIn table k = getD table (messagePlace k) 0
 
--- ---- the numbers that stand for states; what is over 4 is outside the ranges
+-- ---- the states, encoded as numbers; a number over 4 is outside the ranges (rule 13.11)
 abbrev pub lastState : ℕ
 lastState = 4
 
@@ -74,7 +74,7 @@ unfoldable pub stateNumbered : ℕ → cells.State
 stateNumbered n =
     cond (eqb n 0) cells.unknown (cond (eqb n 1) cells.received (cond (eqb n 2) cells.spare (cond (eqb n 3) cells.repaired cells.blank)))
 
--- the state in which a number leaves, by the kind that an answer names: a lost one is unknown, and a blank one never leaves
+-- the state in which a number leaves, by the kind that an answer names (rule 30.10): a lost number is unknown, and a blank one never leaves
 abbrev pub stateOf : ReleaseKind → cells.State
 stateOf Received = cells.received
 stateOf Spare = cells.spare
@@ -84,7 +84,7 @@ stateOf Lost = cells.unknown
 abbrev pub countsOf : Counts → views.Counts
 countsOf c = record { received = c .received; spare = c .spare; repaired = c .repaired; lost = c .lost }
 
--- ---- all that is lent together
+-- ---- the memory of a session
 pub record Lent : Type 0 where
   pub base : ℕ
   pub counts : Counts
@@ -99,7 +99,7 @@ lent base counts table octets messages =
 abbrev pub lentBy : Session → Lent
 lentBy s = lent (s .base) (s .counts) (s .table) (s .octets) (s .messages)
 
--- ---- from slots to the session that document 01 sees
+-- ---- from slots to the session that the rules describe
 -- the kept number in slot i, with its octets and its note
 unfoldable pub cellIn : List ℕ → List ℕ → ℕ → Cell
 cellIn table octets i =
@@ -114,14 +114,14 @@ unfoldable pub heldIn : List ℕ → List ℕ → ℕ → held.Held
 heldIn table messages j =
     record { accepted = eqb (markIn table j) 1; n = nIn table j; messages = tab (mIn table j) (messageIn table messages j) }
 
--- the 64 numbers from 32 before the base upward, and the 32 from the base on
+-- the 64 numbers, from 32 before the base on, and what is held of the 32 from the base on (rule 1.13)
 unfoldable pub cellsOf : ℕ → List ℕ → List ℕ → List Cell
 cellsOf base table octets = tab keptNumbers (λ p. cellIn table octets (slotAt base p))
 
 unfoldable pub heldOf : ℕ → List ℕ → List ℕ → List held.Held
 heldOf base table messages = tab keptAhead (λ d. heldIn table messages (heardSlotAt base d))
 
--- the session as document 01 sees it
+-- the session that the rules describe
 unfoldable pub viewIn : Lent → View
 viewIn l =
     record {
@@ -134,14 +134,14 @@ viewIn l =
 abbrev pub viewOf : Session → View
 viewOf s = viewIn (lentBy s)
 
--- ---- the table with another number in a slot
+-- ---- the table with other values in a slot
 abbrev pub keptSet : List ℕ → ℕ → ℕ → ℕ → ℕ → List ℕ
 keptSet table i state size note = set (set (set table (statePlace i) state) (sizePlace i) size) (notePlace i) note
 
 abbrev pub heardSet : List ℕ → ℕ → ℕ → ℕ → ℕ → List ℕ
 heardSet table j mark n m = set (set (set table (markPlace j) mark) (nPlace j) n) (mPlace j) m
 
--- nothing heard of slot j
+-- no sizes of messages, and nothing held, in slot j (rule 12.7)
 abbrev pub sizesFreed : List ℕ → ℕ → List ℕ
 sizesFreed table at = set (set (set (set table at 0) (at + 1) 0) (at + 2) 0) (at + 3) 0
 

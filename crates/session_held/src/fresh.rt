@@ -1,11 +1,11 @@
-// A fresh session: document 01, 'The receiving session', "It starts at base 0. .. Numbers before the first are blank".
+// A fresh session: base 0, all counts 0, and the numbers before the first blank (rules 9.1 and 9.3).
 use crate::Counts;
 use crate::Session;
 ghost use mathlib.Core.Path.{_≡_};
 ghost use Rattle.session_held.specs.Promise.{Fresh, freshTable};
 
 impl Session {
-    // At base 0 the numbers from the base on have the first slots, all unknown, and those before the first the rest, all blank.
+    // At base 0 the numbers from the base on have the first slots and are unknown; those before the first have the rest and are blank.
     fn fresh_table() -> [u16; Session::PLACES]
         ensures { λ r. ⌜ r ≡ freshTable ⌝ }
     {
@@ -18,7 +18,7 @@ impl Session {
         table
     }
 
-    // A session that has heard nothing.
+    // A fresh session. Its stores start as long zero arrays (rules 30.1 and 30.13).
     pub fn fresh() -> Session
         ensures { λ r. ⌜ Fresh r ⌝ }
     {

@@ -1,6 +1,6 @@
-// The receiving session as it is held, and lent to the calls inside the session: base and counts by value, a table of numbers,
-// and two stores of octets, one slot for each kept packet and one for each held message. A number's slot is the number modulo the
-// count of slots, so that nothing moves when the base goes on.
+// The receiving session in memory, as the calls inside the session receive it: base and counts by value, a table of numbers, and two stores
+// of octets, with one slot for each kept packet and one for each held message. A number's slot is the number modulo the count of slots, so
+// nothing moves when the base moves on (rule 25.39).
 mod fresh;
 mod table;
 
@@ -27,7 +27,7 @@ ghost use Rattle.session.specs.View.{sessionLimit};
 ghost use Rattle.session_held.specs.Slots.{slotsKept, slotsHeard, keptOctets, messageOctets};
 ghost use Rattle.session_held.specs.Table.{places};
 
-// The kind of a number that leaves, as the answers name it. In the table a state is a number.
+// The kind of a number that leaves, as an answer names it. In the table a state is encoded as a number.
 pub enum ReleaseKind {
     Received,
     Spare,
@@ -35,7 +35,7 @@ pub enum ReleaseKind {
     Lost,
 }
 
-// The moves since the start, of each kind.
+// How many numbers left since the start, by kind (rules 9.10 and 9.11).
 pub struct Counts {
     pub received: u32,
     pub spare: u32,
@@ -52,13 +52,13 @@ pub struct Session {
 }
 
 impl Session {
-    // Document 01, 'Sizes': numbers that may pass in a session.
+    // How many numbers may pass in a session (rule 1.10).
     pub const LIMIT: u64 = 1000000;
-    // The numbers before the base, and from it on, that are kept.
+    // How many numbers are kept before the base, and from the base on (rule 1.13).
     pub const BEFORE: usize = 32;
 
     pub const HEARD: usize = 32;
-    // The same, as a distance from the base: what is nearer may be accepted.
+    // The same as a distance from the base: a datagram that is nearer may be accepted (rule 10.1).
     pub const AHEAD: u16 = Session::HEARD as u16;
 
     pub const KEPT: usize = Session::BEFORE + Session::HEARD;
@@ -69,8 +69,8 @@ impl Session {
 
     pub const MESSAGE_OCTETS: usize = Session::MESSAGES * Packet::LIMIT;
 
-    // The table has a run for each value: the states of kept numbers first, then their sizes and their notes; of numbers from the
-    // base on the marks, n and m; then the sizes of messages: message i of a number is at its slot times 4, plus i.
+    // The table has a run for each value: first the states, sizes and notes of kept numbers, then the marks, n and m of numbers from the
+    // base on, then the sizes of messages. Message i of a number is at its slot times 4, plus i.
     pub const SIZES: usize = Session::KEPT;
 
     pub const NOTES: usize = Session::SIZES + Session::KEPT;
@@ -85,7 +85,7 @@ impl Session {
 
     pub const PLACES: usize = Session::MESSAGE_SIZES + Session::MESSAGES;
 
-    // The numbers that stand for the states. Any other is outside the ranges.
+    // The states, encoded as numbers. Any other number is outside the ranges (rule 13.11).
     pub const UNKNOWN: u16 = 0;
 
     pub const RECEIVED: u16 = 1;

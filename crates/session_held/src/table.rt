@@ -1,5 +1,5 @@
-// The slots of a number, and the table by the words of document 01: what stands in a slot is read and written here alone. These
-// functions serve callers inside this repository: they require that the table is whole and the slot is there.
+// The slots of a number, and the values of the table: only these functions read and write them. They serve callers inside this repository:
+// they require that the table has its full length and that the slot exists.
 use crate::Counts;
 use crate::Session;
 use datagram::Parity;
@@ -15,7 +15,7 @@ ghost use Rattle.session_held.specs.Slots.{slotsKept, slotsHeard, slotsM
 ghost use Rattle.session_held.specs.Table.{countsOf, places, stateIn, sizeIn, noteIn, markIn, nIn, mIn, messageSizeIn, messagePlace};
 ghost use Rattle.session_held.specs.Table.{stateNumbered, keptSet, heardSet, sizesFreed, heardDropped};
 
-// The slot of a number among those kept, and among those from the base on.
+// The slot of a number among the kept ones, and among those from the base on (rule 25.39).
 pub fn kept_slot(number: u16) -> usize
     ensures { λ r. ⌜ r ≡ number % slotsKept ⌝ }
 {
@@ -28,7 +28,7 @@ pub fn heard_slot(number: u16) -> usize
     (number as usize) % Session::HEARD
 }
 
-// The moves since the start, of all kinds: four numbers of 32 bits never pass 64 bits.
+// How many numbers have passed, of all kinds: four numbers of 32 bits never pass 64 bits (rule 13.2).
 pub fn total(c: Counts) -> u64
     ensures { λ r. ⌜ r ≡ sum (countsOf c) ⌝ }
 {
@@ -39,7 +39,7 @@ pub fn total(c: Counts) -> u64
     received + spare + repaired + lost
 }
 
-// The number that stands for the state of a kept number, and how many octets its packet has.
+// The state of a kept number, encoded as a number, and how many octets its packet has.
 pub fn state_at(t: &[u16], slot: usize) -> u16
     requires { ⌜ length (now t) ≡ places ⌝ }
     requires { ⌜ slot < slotsKept ⌝ }
@@ -57,7 +57,7 @@ pub fn size_at(t: &[u16], slot: usize) -> usize
     octets::wide(size)
 }
 
-// The number of the datagram whose offer filled a kept number.
+// The note of a kept number: the number of the datagram whose offer filled it (rule 9.5).
 pub fn note_at(t: &[u16], slot: usize) -> u16
     requires { ⌜ length (now t) ≡ places ⌝ }
     requires { ⌜ slot < slotsKept ⌝ }
@@ -75,7 +75,7 @@ pub fn is_known(t: &[u16], slot: usize) -> bool
     t[slot] != Session::UNKNOWN
 }
 
-// Of a number from the base on: its mark, whether its datagram was accepted, its n and its m.
+// Of a number from the base on: its mark, whether its datagram was accepted, its n and its m (rule 9.4).
 pub fn mark_at(t: &[u16], slot: usize) -> u16
     requires { ⌜ length (now t) ≡ places ⌝ }
     requires { ⌜ slot < slotsHeard ⌝ }
@@ -120,7 +120,7 @@ pub fn message_size_at(t: &[u16], slot: usize) -> usize
     octets::wide(size)
 }
 
-// Another kept number in a slot.
+// Sets the state, the size and the note of a kept number.
 pub fn set_kept(t: &mut [u16], slot: usize, state: u16, size: u16, note: u16)
     requires { ⌜ length (now t) ≡ places ⌝ }
     requires { ⌜ slot < slotsKept ⌝ }
@@ -131,7 +131,7 @@ pub fn set_kept(t: &mut [u16], slot: usize, state: u16, size: u16, note: u16)
     t[Session::NOTES + slot] = note;
 }
 
-// A number from the base on is marked as accepted, with its n and m.
+// Marks a number from the base on as accepted, with its n and m (rule 10.10).
 pub fn set_heard(t: &mut [u16], slot: usize, n: u16, m: u16)
     requires { ⌜ length (now t) ≡ places ⌝ }
     requires { ⌜ slot < slotsHeard ⌝ }
@@ -150,7 +150,7 @@ pub fn set_message_size(t: &mut [u16], slot: usize, size: u16)
     t[Session::MESSAGE_SIZES + slot] = size;
 }
 
-// Nothing is heard of a number: no mark, no messages.
+// Drops the mark and the messages of a number (rule 12.7).
 pub fn drop_heard(t: &mut [u16], slot: usize)
     requires { ⌜ length (now t) ≡ places ⌝ }
     requires { ⌜ slot < slotsHeard ⌝ }
@@ -162,7 +162,7 @@ pub fn drop_heard(t: &mut [u16], slot: usize)
     free_sizes(t, Session::MESSAGE_SIZES + slot * Parity::MESSAGES);
 }
 
-// No size at four places.
+// Sets four sizes to 0.
 fn free_sizes(t: &mut [u16], at: usize)
     requires { ⌜ at + messagesLimit ≤ length (now t) ⌝ }
     ensures { λ _. ⌜ now (t .exit) ≡ sizesFreed (now (t .entry)) at ⌝ }

@@ -1,5 +1,5 @@
--- A datagram accepted, on plain values: what `keep`, `keep_spares`, `hold` and `mend` owe, one after the other, is document 01's `accept`.
--- Each step leaves the rest of the view as it was, so that the view after is put together from what each says of its own part.
+-- A datagram accepted, on plain values: what `keep`, `keep_spares`, `hold` and `mend` promise, one after the other, is `accept` of
+-- `session`. Each step leaves the rest of the view unchanged, so the view after is put together from what each says of its own part.
 -- Assumes nothing.
 use Prim.Native.Nat.{ℕ, _+_, _≤_, _<_}
 use mathlib.Core.Path.{_≡_, refl, ap, ap₂, _∙_}
@@ -95,7 +95,7 @@ may-keep {base} {c} {g = g} {d = d} w may =
       stands = may .place;
     }
 
--- ---- what is kept and held of both kinds, as document 01 has it
+-- ---- what is kept and held of both kinds, in the definitions of `session`
 kept-extra : (s : List ℕ) (number : ℕ) (packet : Part) (k : Kind) (count : ℕ) (items : List Part) (p : ℕ) (cells : List Cell)
     → offers.keepSpares number p (map (octetsOf s) (take (spareCount k count) items)) cells
     ≡ offers.keepExtra number p ((carriedItems s number packet k count items) .extra) cells

@@ -1,5 +1,5 @@
--- The offer's answers, on plain values: one law for each. The tests that led to an answer are those of document 01's `offered`.
--- Assumes nothing.
+-- The offer's answers, on plain values: one law for each. The tests that led to an answer are those of `offered` in `session`. Assumes
+-- nothing.
 use Prim.Native.Nat.{ℕ, _+_, _%_, _≤_, _<_}
 use mathlib.Core.Path.{_≡_, refl, sym, ap, _∙_}
 use mathlib.Core.Bool.{Bool, true, false}

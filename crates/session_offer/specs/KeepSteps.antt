@@ -1,5 +1,5 @@
--- What the inner functions of this crate require and owe: a part of a datagram laid in a slot, messages laid in their slots one
--- after the other. Definitions only.
+-- What the inner functions of `kept` require and promise: a part of a datagram is written to a slot, and messages to their slots one after
+-- the other. Definitions only.
 use Prim.Native.Nat.{ℕ, _≤_, _<_}
 use mathlib.Core.Path.{_≡_}
 use mathlib.Core.List.{List}
@@ -12,7 +12,7 @@ use Rattle.datagram.specs.declared.reader.Part.{Part}
 use Rattle.session_slots.specs.Store.{pasted}
 use Rattle.session_held.specs.Heard.{SizesLaid, OctetsLaid}
 
--- what put_part owes: the octets of the part at the front of the slot, and how many they are
+-- what put_part promises: the octets of the part are at the front of the slot, and it returns how many they are
 pub record PartPut (slot : ℕ) (s : List ℕ) (p : Part) (old new : List ℕ) (r : ℕ) : Type 0 where
   pub size : r ≡ length (octetsOf s p)
   pub octets : new ≡ pasted old slot (octetsOf s p)
@@ -24,12 +24,12 @@ partAt items i = getD items i nowhere
 abbrev pub partOctets : List ℕ → List Part → ℕ → List ℕ
 partOctets s items = λ i. octetsOf s (partAt items i)
 
--- the messages are few enough, and each is a part of the octets s within the sizes
+-- the messages are few enough, and each is a part of the octets s within the sizes (rules 1.4 and 1.7)
 pub record Fit (s : List ℕ) (items : List Part) (count : ℕ) : Type 0 where
   pub few : count ≤ messagesLimit
   pub each : (i : ℕ) → i < count → PartInside messageLeast messageLimit s (partAt items i)
 
--- what lay owes: the first `count` messages of slot j are the items
+-- what lay promises: the first `count` messages of slot j are the items
 pub record ItemsLaid (s : List ℕ) (j : ℕ) (items : List Part) (count : ℕ) (table messages newTable newMessages : List ℕ) : Type 0 where
   pub sizes : SizesLaid j count (partOctets s items) table newTable
   pub octets : OctetsLaid j count (partOctets s items) messages newMessages

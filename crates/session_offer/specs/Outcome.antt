@@ -1,4 +1,4 @@
--- What each case of offer's answer is, in document 01's number. Definitions only.
+-- What each case of offer's answer is, in the rules' number (rule 30.10). Definitions only.
 use Rattle.length.specs.Refusals.{refusal}
 use Rattle.length.specs.Answers.{Answer, done, refused, mapped}
 use Prim.Native.Nat.{ℕ}
@@ -14,6 +14,6 @@ offeredOutcome (offered.Refused r) = refused r
 abbrev pub acceptedOf : Answer View → Answer (Unit {0})
 acceptedOf answer = mapped (λ (view : View). tt) answer
 
--- the answer to a refused offer, by the refusal's number
+-- a refused offer, by the refusal's number
 abbrev pub refusedAs : ℕ → Offered
 refusedAs number = offered.Refused (refusal number)

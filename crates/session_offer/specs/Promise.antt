@@ -1,4 +1,4 @@
--- What the offer owes, over what is lent before and after: document 01, 'The receiving session', "Offer." Definitions only.
+-- What offer promises, of the session's memory before and after (rules 10.1 to 10.6). Definitions only.
 use Prim.Native.Nat.{ℕ}
 use mathlib.Core.Path.{_≡_}
 use mathlib.Core.List.{List}
@@ -10,7 +10,7 @@ use Rattle.session_held.specs.Laid.{InRanges}
 use Rattle.session_offer.specs.Outcome.{offeredOutcome, acceptedOf}
 use Rattle.session_offer.specs.declared.Offered.{Offered}
 
--- any octets offered: the answer, and the session after, within its ranges; after a refusal the very one before
+-- any octets offered: the answer, and the session after, within its ranges; a refusal leaves the memory unchanged (rule 2.25)
 pub record Offers (octets : List ℕ) (before after : Lent) (answer : Offered) : Type 0 where
   pub told : offeredOutcome answer ≡ acceptedOf (offers.offer octets (viewIn before))
   pub state : viewIn after ≡ afterwards (offers.offer octets (viewIn before)) (viewIn before)

@@ -1,4 +1,4 @@
--- What the inner functions of this crate require and owe: a datagram that was read, and one that is accepted. Definitions only.
+-- What the inner functions of offer require and promise: for a datagram that was read, and for one that is accepted. Definitions only.
 use Prim.Native.Nat.{ℕ, _+_, _≤_, _<_}
 use mathlib.Core.Path.{_≡_}
 use mathlib.Core.Bool.{false}
@@ -40,7 +40,8 @@ carriedItems s number packet kind count items =
     carriedBy s (record { number = number; packet = packet; kind = kind; items = take count items })
 
 -- ---- an accepted datagram
--- a datagram that was read may be accepted at distance d: it is near, and none was accepted there before
+-- a datagram that was read may be accepted at distance d: the distance is at most 31, and none was accepted there before (rules 10.1 and
+-- 10.4)
 pub record MayBeAccepted (l : Lent) (s : List ℕ) (number d : ℕ) (packet : Part) (kind : Kind) (count : ℕ) (items : List Part) : Type 0 where
   pub near : d < keptAhead
   pub place : number ≡ numberAt (l .base) (keptBefore + d)
@@ -48,12 +49,12 @@ pub record MayBeAccepted (l : Lent) (s : List ℕ) (number d : ℕ) (packet : Pa
   pub inside : Inside s packet kind count items
   pub there : count ≤ length items
 
--- the session after it
+-- the session after an accepted datagram (rule 10.6)
 pub record AcceptedAt (datagram : Carried) (d : ℕ) (before after : Lent) : Type 0 where
   pub state : viewIn after ≡ offers.accept d datagram (viewIn before)
   pub within : InRanges after
 
--- ---- a datagram that was read, offered
+-- ---- a datagram that was read, offered (rules 10.1 to 10.4)
 pub record OffersRead (datagram : Carried) (before after : Lent) (answer : Offered) : Type 0 where
   pub told : offeredOutcome answer ≡ acceptedOf (offers.offered datagram (viewIn before))
   pub state : viewIn after ≡ afterwards (offers.offered datagram (viewIn before)) (viewIn before)

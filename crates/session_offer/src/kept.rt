@@ -1,7 +1,6 @@
-// What the receiving session keeps of an accepted datagram: document 01, 'The receiving session', "its packet, then its spares in
-// order, fill only numbers still unknown", and "For each number from the base on it keeps whether that datagram was accepted and
-// its parity messages." These calls serve callers inside this repository: they require that what the datagram carries is within
-// the sizes. Nothing is counted here: a number is counted as it is released.
+// What a session keeps of an accepted datagram: its packet and its spares, where their numbers are still unknown (rules 10.6 and 10.7), and
+// its mark, n and messages (rule 10.10). These functions serve callers inside this repository: they require that what the datagram carries
+// is within the sizes. They count nothing: a number is counted as it is released (rule 12.13).
 use datagram::Parity;
 use datagram::Part;
 use datagram::Spares;
@@ -20,7 +19,7 @@ ghost use Rattle.session_held.specs.Table.{places, stateNumbered};
 ghost use Rattle.session_offer.specs.KeepSteps.{PartPut, Fit, ItemsLaid};
 ghost use Rattle.session_offer.specs.KeepPromise.{MayKeep, CarriesSpares, Keeps, KeepsSpares, CarriesMessages, MayHold, Holds};
 
-// The octets of a part of the datagram s, laid at the front of a slot: hands back how many.
+// Writes the octets of a part of the datagram s to the front of a slot, and returns how many they are.
 fn put_part(o: &mut [u8], slot: usize, s: &[u8], part: Part) -> u16
     requires { ⌜ HasSlot slot (now o) ⌝ }
     requires { ⌜ PartInside messageLeast messageLimit (now s) part ⌝ }
@@ -33,8 +32,8 @@ fn put_part(o: &mut [u8], slot: usize, s: &[u8], part: Part) -> u16
     size as u16
 }
 
-// A packet, which is a part of the datagram s, kept at its number as received or spare, if that number is still unknown. Its note is the
-// number of the datagram.
+// Keeps a packet, which is a part of the datagram s, at its number as received or spare, if that number is still unknown (rule 10.7). Its
+// note is the number of the datagram (rule 9.5).
 pub fn keep(t: &mut [u16], o: &mut [u8], number: u16, state: u16, note: u16, s: &[u8], part: Part)
     requires { ⌜ length (now t) ≡ places ⌝ }
     requires { ⌜ length (now o) ≡ keptOctets ⌝ }
@@ -53,7 +52,7 @@ pub fn keep(t: &mut [u16], o: &mut [u8], number: u16, state: u16, note: u16, s: 
     session_held::set_kept(t, slot, state, size, note);
 }
 
-// The spares of the datagram s with that number, its first `count` items, each kept at the number before the last.
+// Keeps the spares of the datagram s with that number, its first `count` items, each at the number before the last (rules 4.5 and 10.7).
 pub fn keep_spares(
     t: &mut [u16],
     o: &mut [u8],
@@ -79,8 +78,8 @@ pub fn keep_spares(
     }
 }
 
-// The first `count` items, which are parts of the datagram s, laid into the message slots of the number in slot j of those from
-// the base on, with their sizes.
+// Writes the first `count` items, which are parts of the datagram s, and their sizes to the message slots of the number in slot j of those
+// from the base on.
 fn lay(t: &mut [u16], g: &mut [u8], s: &[u8], j: usize, items: [Part; Spares::LIMIT], count: usize)
     requires { ⌜ length (now t) ≡ places ⌝ }
     requires { ⌜ length (now g) ≡ messageOctets ⌝ }
@@ -99,8 +98,8 @@ fn lay(t: &mut [u16], g: &mut [u8], s: &[u8], j: usize, items: [Part; Spares::LI
     }
 }
 
-// The number at a distance from the base, which is known, is marked as accepted, and its n and messages are kept: the first
-// `count` items, which are parts of the datagram s. With spares there are none, and n is 0.
+// Marks the number at a distance from the base, which is known, as accepted, and keeps its n and messages (rule 10.10): the first `count`
+// items, which are parts of the datagram s. With spares there are no messages, and n is 0.
 pub fn hold(
     base: u16,
     t: &mut [u16],

@@ -1,5 +1,5 @@
-// Offer, over a session that is lent: document 01, 'The receiving session'. It serves callers inside this repository: it requires
-// the session's ranges, which the public calls check (refusal 17), and keeps them. Base and counts stay as they are.
+// Offer, over the memory of a session (rules 10.1 to 10.6). It serves callers inside this repository: it requires that the session is
+// within its ranges, which the public calls check (refusal 17), and keeps it so. Base and counts are unchanged.
 mod kept;
 
 use datagram::Kind;
@@ -20,16 +20,16 @@ ghost use Rattle.session_offer.specs.Outcome.{refusedAs};
 ghost use Rattle.session_offer.specs.Steps.{spareCount, messageCount, coveredOf, carriedItems, MayBeAccepted, AcceptedAt, OffersRead};
 ghost use Rattle.session_offer.specs.Promise.{Offers};
 
-// A number is late from this distance on.
+// A number is late from this distance on (rule 10.3).
 const LATE_FROM: u16 = 32768;
 
-// What offer answers: accepted, or why it is refused.
+// What offer returns: accepted, or the refusal.
 pub enum Offered {
     Accepted,
     Refused(Refusal),
 }
 
-// How many of a datagram's items are spares, and how many are messages; and n, which is 0 with spares.
+// How many of a datagram's items are spares, how many are messages, and n, which is 0 with spares.
 fn spares_of(kind: Kind, count: usize) -> usize
     ensures { λ r. ⌜ r ≡ spareCount kind count ⌝ }
 {
@@ -57,8 +57,8 @@ fn covered_of(kind: Kind) -> usize
     }
 }
 
-// An accepted datagram, at its distance from the base: its packet, then its spares in order, then its mark and messages, then
-// repair. With parity there are no spares, with spares no messages.
+// Accepts a datagram at its distance from the base: its packet, its spares in order, its mark and messages, then repair (rule 10.6). With
+// parity there are no spares, and with spares no messages.
 fn accept(
     base: u16,
     counts: Counts,
@@ -88,7 +88,7 @@ fn accept(
     session_repair::mend(base, t, o, g, number);
 }
 
-// A refusal, made of its number.
+// A refusal, made from its number.
 fn refused(number: u8) -> Offered
     ensures { λ r. ⌜ r ≡ refusedAs number ⌝ }
 {
@@ -96,7 +96,7 @@ fn refused(number: u8) -> Offered
     Offered::Refused(why)
 }
 
-// A datagram that was read, offered: too far ahead, late or repeated, or accepted.
+// Offers a datagram that was read: it is too far ahead, late, repeated or accepted (rules 10.1 to 10.4).
 fn offer_read(
     base: u16,
     counts: Counts,
@@ -145,7 +145,7 @@ fn offer_read(
     Offered::Accepted
 }
 
-// Any octets offered to the session.
+// Offers any octets to the session (rule 10.13).
 pub fn offer_core(
     base: u16,
     counts: Counts,

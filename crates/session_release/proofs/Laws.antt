@@ -1,5 +1,5 @@
--- Laws for callers: what left, and where its packet is; an answer's case is told by document 01's number and values, so that two answers
--- that say the same are the same. Assumes nothing.
+-- Laws for callers: what left, and where its packet is; the rules' number and values determine the case of an answer, so two answers that
+-- say the same are the same. Assumes nothing.
 use Prim.Native.Nat.{ℕ}
 use mathlib.Core.Path.{_≡_, ap}
 use native.Mathlib.Omega.{arith}

@@ -1,4 +1,4 @@
--- What each case of a release's answer is, in document 01's number and values. Definitions only.
+-- What each case of a release's answer is, in the rules' number and values (rule 30.10). Definitions only.
 use Prim.Native.Nat.{ℕ}
 use mathlib.Core.List.{List}
 use lib.ListN.{length}
@@ -9,7 +9,7 @@ use Rattle.session_held.specs.Table.{stateOf}
 use Rattle.session_release.specs.declared.Released.{Released}
 use Rattle.session_release.specs.declared.Released.the-variants as released
 
--- what it answers of the number that leaves
+-- what a release returns of the number that leaves (rule 12.2)
 pub record Handed : Type 0 where
   pub kind : cells.State
   pub number : ℕ
@@ -24,6 +24,6 @@ abbrev pub handedOf : Answer Release → Answer Handed
 handedOf answer =
     mapped (λ (r : Release). record { kind = r .kind; number = r .number; note = r .note; size = length (r .octets) }) answer
 
--- the octets that it puts into the lent buffer
+-- the octets that a release writes to the caller's buffer
 abbrev pub octetsHanded : Answer Release → Answer (List ℕ)
 octetsHanded answer = mapped (λ (r : Release). r .octets) answer

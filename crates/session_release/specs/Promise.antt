@@ -1,4 +1,4 @@
--- What each call owes, over what is lent before and after. Definitions only.
+-- What each call promises, of the session's memory before and after (rules 12.2 to 12.9). Definitions only.
 use Prim.Native.Nat.{ℕ, _%_, _≤_, _<_}
 use mathlib.Core.Path.{_≡_}
 use mathlib.Core.Bool.{Bool}
@@ -17,24 +17,25 @@ use Rattle.session_held.specs.declared.ReleaseKind.{ReleaseKind}
 use Rattle.session_release.specs.Outcome.{releasedOutcome, handedOf, octetsHanded}
 use Rattle.session_release.specs.declared.Released.{Released}
 
--- the base may go on: the number there is of this kind, and not all numbers have passed
+-- the base may move on: the number there is of this kind, and not all numbers have passed
 pub record MayMoveOn (kind : ReleaseKind) (l : Lent) : Type 0 where
   pub same : stateOf kind ≡ (atBase (viewIn l)) .state
   pub left : sum (countsOf (l .counts)) < sessionLimit
 
--- the base went on by one: the packet of the number that left stays in its slot
+-- the base moved on by one (rule 12.5), and the packet of the number that left stays in its slot
 pub record MovesOn (before after : Lent) : Type 0 where
   pub state : viewIn after ≡ movedOn (viewIn before)
   pub within : InRanges after
   pub kept : (n : ℕ) → n ≤ packetLimit
       → part (after .octets) (before .base % slotsKept) n ≡ part (before .octets) (before .base % slotsKept) n
 
--- a packet of a number that left, in that number's slot
+-- the packet of a number that left is in that number's slot
 pub record StaysInSlot (store : List ℕ) (r : Release) : Type 0 where
   pub fits : length (r .octets) ≤ packetLimit
   pub octets : part store (r .number % slotsKept) (length (r .octets)) ≡ r .octets
 
--- a number leaves, with leave to skip or without, and with room for so many octets: the answer, the session after, and where its packet is
+-- a number leaves, with leave to skip or without, and with room for this many octets: the answer, the session after, and where its packet
+-- is; a refusal leaves the memory unchanged (rule 2.25)
 pub record Leaves (leave : Bool) (room : ℕ) (before after : Lent) (answer : Released) : Type 0 where
   pub told : releasedOutcome answer ≡ handedOf (release leave room (viewIn before))
   pub stored : (r : Release) → release leave room (viewIn before) ≡ done r → StaysInSlot (after .octets) r
@@ -42,7 +43,8 @@ pub record Leaves (leave : Bool) (room : ℕ) (before after : Lent) (answer : Re
   pub within : InRanges after
   pub stays : (x : Refusal) → release leave room (viewIn before) ≡ refused x → after ≡ before
 
--- a release, with leave to skip or without: its answer, the lent buffer old before and new after, and the session after
+-- a release, with leave to skip or without: its answer, the caller's buffer old before and new after, and the session after; a refusal
+-- leaves the memory unchanged (rule 2.25)
 pub record Releases (leave : Bool) (before after : Lent) (old new : List ℕ) (answer : Released) : Type 0 where
   pub told : releasedOutcome answer ≡ handedOf (release leave (length old) (viewIn before))
   pub written : new ≡ over (octetsHanded (release leave (length old) (viewIn before))) old

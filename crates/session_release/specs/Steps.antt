@@ -1,4 +1,4 @@
--- What the inner functions of this crate owe. Definitions only.
+-- What the inner functions of this crate promise. Definitions only.
 use Prim.Native.Nat.{ℕ, _≤_, _<_}
 use mathlib.Core.Path.{_≡_}
 use mathlib.Core.Bool.{Bool, true}
@@ -19,7 +19,7 @@ use Rattle.session_release.specs.declared.Released.the-variants as relea
 abbrev pub releaseRefused : ℕ → Counts → ℕ → ReleaseDone
 releaseRefused b c number = record { base = b; counts = c; answer = released.Refused (refusal number) }
 
--- the state that a number of the table stands for, as an answer names it
+-- the kind that an answer names, for the state that a number of the table encodes
 pub record Named (state : ℕ) (kind : ReleaseKind) : Type 0 where
   pub same : stateOf kind ≡ stateNumbered state
 

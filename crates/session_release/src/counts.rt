@@ -1,4 +1,4 @@
-// The four counts of a session: one more of a kind, and whether all numbers have passed.
+// The four counts of a session (rule 9.10): one more of a kind, and whether all numbers have passed.
 use session_held::Counts;
 use session_held::ReleaseKind;
 use session_held::Session;
@@ -11,14 +11,14 @@ ghost use Rattle.session.specs.Release.{counted};
 ghost use Rattle.session_held.specs.Table.{countsOf, stateOf};
 ghost use Rattle.session_release.specs.Steps.{Passed};
 
-// Whether 1,000,000 numbers have passed.
+// Whether 1,000,000 numbers have passed (rule 12.12).
 pub fn all_passed(c: Counts) -> bool
     ensures { λ r. ⌜ Passed c r ⌝ }
 {
     Session::LIMIT <= total(c)
 }
 
-// One more received, spare or repaired number released, and one more lost.
+// One more number released as received, spare or repaired, and one more lost.
 fn one_received(c: Counts) -> Counts
     requires { ⌜ sum (countsOf c) < sessionLimit ⌝ }
     ensures { λ r. ⌜ countsOf r ≡ counted received (countsOf c) ⌝ }
@@ -55,7 +55,7 @@ fn one_lost(c: Counts) -> Counts
     r
 }
 
-// One more of the kind of the number that leaves: a count is of releases and losses, never of arrivals.
+// One more of the kind of the number that leaves: a number is counted as it leaves, not as it arrives (rule 12.13).
 pub fn count_one(kind: ReleaseKind, c: Counts) -> Counts
     requires { ⌜ sum (countsOf c) < sessionLimit ⌝ }
     ensures { λ r. ⌜ countsOf r ≡ counted (stateOf kind) (countsOf c) ⌝ }

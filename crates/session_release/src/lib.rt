@@ -1,7 +1,6 @@
-// The call that moves the base of a receiving session: document 01, 'The receiving session', Next and Give up, which are one call
-// since document 02, request 7, over a session that is lent. It serves callers inside this repository: it requires the session's
-// ranges, which the public call checks (refusal 17), and keeps them. Only the slots of the number that leaves and of the one that
-// comes into view are written.
+// Release, over the memory of a session (rules 12.2 to 12.9). It serves callers inside this repository: it requires that the session is
+// within its ranges, which the public call checks (refusal 17), and keeps it so. It writes only the slots of the number that leaves and of
+// the one that comes into view.
 mod counts;
 
 use counts::all_passed;
@@ -22,8 +21,8 @@ ghost use Rattle.session_held.specs.Laid.{InRanges};
 ghost use Rattle.session_release.specs.Steps.{Named, Freed, releaseRefused};
 ghost use Rattle.session_release.specs.Promise.{MayMoveOn, MovesOn, Leaves, Releases};
 
-// What a release answers: the kind and the number of what left, the number of the datagram whose offer filled it and the size of its
-// packet, both 0 where it is lost; or why it is refused.
+// What a release returns: the kind, number and note of what left and the size of its packet, note and size 0 if it is lost (rules 12.2 and
+// 12.4); or the refusal.
 pub enum Released {
     Number {
         kind: ReleaseKind,
@@ -40,7 +39,7 @@ pub struct ReleaseDone {
     pub answer: Released,
 }
 
-// The kind of a number that leaves in this state: a blank one never does.
+// The kind of a number that leaves in this state; a blank number never leaves (rule 9.3).
 fn kind_of(state: u16) -> ReleaseKind
     requires { ⌜ state < lastState ⌝ }
     ensures { λ r. ⌜ Named state r ⌝ }
@@ -57,14 +56,14 @@ fn kind_of(state: u16) -> ReleaseKind
     ReleaseKind::Repaired
 }
 
-// The number after n: "All arithmetic on numbers is modulo 65,536".
+// The number after n, modulo 65,536 (rule 2.35).
 fn number_after(n: u16) -> u16
     ensures { λ r. ⌜ r ≡ following n ⌝ }
 {
     std::num::wrapping_add_u16(n, 1)
 }
 
-// The first m messages of the number in slot j of those from the base on, cleared.
+// Clears the first m messages of the number in slot j of those from the base on.
 fn free_messages(g: &mut [u8], j: usize, m: usize)
     requires { ⌜ j < slotsHeard ⌝ }
     requires { ⌜ length (now g) ≡ messageOctets ⌝ }
@@ -79,15 +78,15 @@ fn free_messages(g: &mut [u8], j: usize, m: usize)
     }
 }
 
-// Base and counts after a number left.
+// The base and the counts after a number left.
 struct Moved {
     base: u16,
     counts: Counts,
 }
 
-// How a number leaves: the one at the base, which is of this kind, is counted, and "the base goes on by one": "The number that
-// leaves drops its accepted mark and messages; the one that comes into view is unknown." The number that comes into view has the
-// slot of the oldest before the base, which leaves the view.
+// The number at the base, which is of this kind, leaves: it is counted, and the base moves on by one (rule 12.5). The number drops its
+// accepted mark and its messages, and the one that comes into view is unknown (rules 12.7 and 12.8). The number that comes into view has
+// the slot of the oldest number before the base, which leaves the view.
 fn move_on(
     base: u16,
     counts: Counts,
@@ -128,8 +127,8 @@ fn release_refused(base: u16, counts: Counts, number: u8) -> ReleaseDone
     }
 }
 
-// Refusals 16, 10 and 13 in this order, 10 where the base is unknown and may not be skipped, 13 where its packet is longer than room;
-// else the number at the base leaves, an unknown one booked lost. Its packet stays in its slot, where the caller finds it.
+// Refuses with 16, 10 or 13, in this order (rule 12.9): 10 if the base is unknown and may not be skipped, 13 if its packet is longer than
+// room. Otherwise the number at the base leaves, an unknown one as lost. Its packet stays in its slot, where the caller finds it.
 pub fn leave_core(
     base: u16,
     counts: Counts,
@@ -173,7 +172,8 @@ pub fn leave_core(
     }
 }
 
-// A release: the packet of the number that leaves goes to the front of out. A lost one has no octets, so that nothing is written.
+// A release: the packet of the number that leaves is written to the front of out (rule 12.2). A lost number has no octets, so nothing is
+// written (rule 12.4).
 pub fn release_core(
     base: u16,
     counts: Counts,

@@ -1,5 +1,5 @@
--- The numbers that go back by m are the members of a message: what is counted, found and summed over their slots is what
--- document 01 says of the members' places in the view. Assumes nothing.
+-- The numbers that go back by m are the members of a message: what is counted, found and summed over their slots is what the definitions of
+-- `session` say of the members' places in the view. Assumes nothing.
 use Prim.Native.Nat.{ℕ, zero, suc, _+_, _-_, _*_, _≤_, _<_}
 use mathlib.Core.Path.{_≡_, refl, sym, ap, ap₂, _∙_}
 use mathlib.Core.Bool.{Bool, true, false, not, cond}

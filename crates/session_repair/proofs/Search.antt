@@ -1,5 +1,5 @@
--- The search for a usable message, on plain values: what the tests of the code say of a message of document 01, and the first usable
--- one of a number's messages. Assumes nothing.
+-- The search for a usable message, on plain values: what the tests of the code say of a message of the view, and the first usable one of a
+-- number's messages. Assumes nothing.
 use Prim.Native.Nat.{ℕ, zero, suc, _+_, _*_, _≤_, _<_}
 use mathlib.Core.Path.{_≡_, refl, ap, ap₂, _∙_}
 use mathlib.Core.Bool.{true, false, cond, _&&_}
@@ -84,14 +84,14 @@ abbrev pub missingAt : ℕ → List ℕ → ℕ → ℕ → ℕ
 missingAt base t d i = missingOf (messageSizeAt base t d i) t (numberAt base (keptBefore + d + i)) (nAt base t d) (mAt base t d)
 
 module _ {t : List ℕ} (s : Searchable t) (base d : ℕ) (near : d < keptAhead) (i : ℕ) (low : i < mAt base t d) where
-  -- the count of the code is document 01's
+  -- the code's count is that of the unknown members
   unknown-count : (o g : List ℕ) → counts base t d i ≡ length (unknownMembers (cellsOf base t o) (messageHeld base t g d i))
   unfolding messageHeld membersOf
   unknown-count o g =
       counted base t o (nAt base t d) (keptBefore + d + i) (mAt base t d) (omega (arith, reach-near s base d)) (omega arith)
       (omega (arith, m-near s base d))
 
-  -- and so is its test
+  -- and its test is whether the message is usable
   pub usable-is : (o g : List ℕ) → length g ≡ messageOctets → usable (cellsOf base t o) (messageHeld base t g d i)
       ≡ eqb (missingAt base t d i) 1
   unfolding usable

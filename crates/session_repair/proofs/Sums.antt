@@ -1,5 +1,5 @@
--- The sum of a message and its members, on plain values: what the loop over the members keeps true, and that the front of the
--- sum, as long as the message, is what document 01 fills with. Assumes nothing.
+-- The sum of a message and its members, on plain values: what the loop over the members keeps true, and that the front of the sum, as long
+-- as the message, is the fill (rule 11.3). Assumes nothing.
 use Prim.Native.Nat.{ℕ, suc, _+_, _-_, _*_, _%_, _≤_, _<_}
 use mathlib.Core.Path.{_≡_, refl, sym, ap, ap₂, _∙_}
 use mathlib.Core.List.{List, _++_, map}

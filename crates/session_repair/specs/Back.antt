@@ -1,5 +1,5 @@
--- The members of a message as numbers that go back by m, and what is counted, found and summed over them. Numbers are modulo
--- 65,536, and a number's slot is the number modulo 64. Definitions only.
+-- The members of a message as numbers that go back by m (rule 4.12), and what is counted, found and summed over them. Numbers are modulo
+-- 65,536 (rule 2.35), and a number's slot is the number modulo 64 (rule 25.39). Definitions only.
 use Prim.Native.Nat.{ℕ, zero, suc, _+_, _*_, _%_, _≤_, _<_}
 use mathlib.Core.Path.{_≡_}
 use mathlib.Core.Bool.{cond}
@@ -30,7 +30,7 @@ unfoldable pub countBack : List ℕ → ℕ → ℕ → ℕ → ℕ
 countBack table x zero m = 0
 countBack table x (suc n) m = unknownOne table (slotOf (distance m x)) + countBack table (distance m x) n m
 
--- the slot of the first unknown one, or slotsKept
+-- the slot of the first unknown one of them, or slotsKept if there is none
 unfoldable pub findBack : List ℕ → ℕ → ℕ → ℕ → ℕ
 findBack table x zero m = slotsKept
 findBack table x (suc n) m =
@@ -42,21 +42,21 @@ xorBack octets x zero m j = 0
 xorBack octets x (suc n) m j =
     bitXor (getD octets (slotOf (distance m x) * packetLimit + j) 0) (xorBack octets (distance m x) n m j)
 
--- octets, to which the n numbers' slots were added
+-- octets, to which the n numbers' slots were added by exclusive or
 pub record Summed (octets : List ℕ) (x n m : ℕ) (before after : List ℕ) : Type 0 where
   pub long : length after ≡ length before
   pub each : (j : ℕ) → j < length before → getD after j 0 ≡ bitXor (getD before j 0) (xorBack octets x n m j)
 
--- the sum of f 0, f 1, .. of n numbers
+-- the sum of f 0 to f (n − 1)
 unfoldable pub sumTo : ℕ → (ℕ → ℕ) → ℕ
 sumTo zero f = 0
 sumTo (suc n) f = sumTo n f + f n
 
--- how many messages are held of all numbers
+-- how many messages all numbers have
 abbrev pub countAll : List ℕ → ℕ
 countAll table = sumTo slotsHeard (mIn table)
 
--- how many of one number
+-- how many messages one number has
 pub record MessageCount (table : List ℕ) (slot r : ℕ) : Type 0 where
   pub same : r ≡ mIn table slot
   pub small : r ≤ messagesLimit

@@ -1,5 +1,5 @@
-// Repair, as the receiving session does it: document 01, "Then repair". These functions serve callers inside this repository: they
-// require the ranges.
+// Repair of a receiving session (rules 11.1 to 11.4). These functions serve callers inside this repository: they require that the session
+// is within its ranges.
 mod searching;
 
 use datagram::Packet;
@@ -21,7 +21,7 @@ ghost use Rattle.session_held.specs.Table.{places, cellsOf};
 ghost use Rattle.session_repair.specs.Back.{Summed};
 ghost use Rattle.session_repair.specs.Promise.{AskedOctets, Points, MayMend, Fills, Mends, messageHeld, mAt, messageSizeAt};
 
-// The octets of the n numbers x - m, x - 2m, .., added to sum: as many of each as sum has.
+// Adds the octets of the n numbers x - m, x - 2m, .. to sum by exclusive or, as many of each as sum has.
 fn add_members(o: &[u8], x: u16, n: usize, m: u16, sum: &mut [u8])
     requires { ⌜ length (now o) ≡ keptOctets ⌝ }
     requires { ⌜ length (now sum) ≤ packetLimit ⌝ }
@@ -38,7 +38,7 @@ fn add_members(o: &[u8], x: u16, n: usize, m: u16, sum: &mut [u8])
     }
 }
 
-// How many octets message `index` has, of the number at a distance.
+// How many octets message `index` of the number at a distance has.
 fn size_of(base: u16, t: &[u16], distance: u16, index: usize) -> usize
     requires { ⌜ length (now t) ≡ places ⌝ }
     requires { ⌜ index < messagesLimit ⌝ }
@@ -50,8 +50,8 @@ fn size_of(base: u16, t: &[u16], distance: u16, index: usize) -> usize
     session_held::message_size_at(t, place)
 }
 
-// The exclusive or of a message and its known members over the first `width` octets: what the message asks of its unknown members
-// together. The width is the message's size to fill one unknown member (rule 11.2), and a packet's limit to solve for several (rule 14.1).
+// The exclusive or of a message and its known members over the first `width` octets: what the message requires of its unknown members
+// together (rule 14.1). The width is the message's size to fill one unknown member (rule 11.3), and a packet's limit to solve for several.
 pub fn asked(
     base: u16,
     t: &[u16],
@@ -81,7 +81,8 @@ pub fn asked(
     sum
 }
 
-// One usable message used: its unknown member becomes repaired, with the number of the datagram being offered as its note.
+// Uses one usable message: its unknown member becomes repaired (rule 11.3), and its note is the number of the datagram being offered (rule
+// 9.8).
 fn fill(
     base: u16,
     t: &mut [u16],
@@ -104,7 +105,7 @@ fn fill(
     session_held::set_kept(t, slot, Session::REPAIRED, octets, note);
 }
 
-// Repair to the end: document 01's rule, until no message is usable. The note of what it fills is the number of the datagram being offered.
+// Repairs until no message is usable (rule 11.4). The note of each fill is the number of the datagram being offered (rule 9.8).
 pub fn mend(
     base: u16,
     t: &mut [u16; Session::PLACES],

@@ -1,4 +1,4 @@
-// The search for a message that mends. It reads the table alone, never the stores.
+// The search for a usable message (rules 11.1 and 11.2). It reads only the table, never the stores.
 use datagram::Parity;
 use session_held::Session;
 ghost use mathlib.Core.Path.{_≡_};
@@ -11,7 +11,7 @@ ghost use Rattle.session_held.specs.Table.{places};
 ghost use Rattle.session_repair.specs.Back.{OneUnknown, countBack, findBack, MessageCount, countAll};
 ghost use Rattle.session_repair.specs.Promise.{Searchable, Seeable, LowestSeen, UsableFound, missingOf};
 
-// A message that mends: the distance of its number from the base, its index, and the slot of its one unknown member.
+// A usable message: the distance of its number from the base, its index, and the slot of its one unknown member.
 pub enum Usable {
     Message {
         distance: u16,
@@ -21,13 +21,13 @@ pub enum Usable {
     Nothing,
 }
 
-// In a number's messages: the lowest usable one, and the slot of its unknown member.
+// The lowest usable message of a number, and the slot of its unknown member.
 enum Lowest {
     Message { index: usize, slot: usize },
     Nothing,
 }
 
-// A count or a size as it stands in the table.
+// A count or a size, as the table keeps it.
 pub fn narrow(n: usize) -> u16
     requires { ⌜ n ≤ packetLimit ⌝ }
     ensures { λ r. ⌜ r ≡ n ⌝ }
@@ -48,7 +48,7 @@ fn unknown_one(t: &[u16], slot: usize) -> usize
     0
 }
 
-// The number m before x.
+// The number m before x, modulo 65,536 (rule 2.35).
 pub fn back(x: u16, m: u16) -> u16
     ensures { λ r. ⌜ r ≡ distance m x ⌝ }
 {
@@ -75,7 +75,7 @@ fn count_back(t: &[u16], x: u16, n: usize, m: u16) -> usize
     count
 }
 
-// The slot of the first unknown one of the n numbers x - m, x - 2m, ..; slot 64 where none is.
+// The slot of the first unknown one of the n numbers x - m, x - 2m, ..; slot 64 if there is none.
 fn find_back(t: &[u16], x: u16, n: usize, m: u16) -> usize
     requires { ⌜ length (now t) ≡ places ⌝ }
     ensures { λ r. ⌜ r ≡ findBack (now (t .entry)) x n m ⌝ }
@@ -95,7 +95,7 @@ fn find_back(t: &[u16], x: u16, n: usize, m: u16) -> usize
     Session::KEPT
 }
 
-// How many members of a message are unknown; none where it has no octets, since such a message never mends.
+// How many members of a message are unknown; 0 for a message of length 0, which never repairs (rule 11.7).
 fn missing(size: usize, t: &[u16], x: u16, n: usize, m: u16) -> usize
     requires { ⌜ length (now t) ≡ places ⌝ }
     requires { ⌜ n ≤ coveredLimit ⌝ }
@@ -107,7 +107,7 @@ fn missing(size: usize, t: &[u16], x: u16, n: usize, m: u16) -> usize
     count_back(t, x, n, m)
 }
 
-// The lowest usable message of a number that has m messages over n each.
+// The lowest usable message of a number that has m messages over n packets each (rule 11.2).
 fn lowest_among(t: &[u16], at: u16, slot: usize, n: usize, m: u16) -> Lowest
     requires { ⌜ Seeable (now t) at slot n m ⌝ }
     ensures { λ r. ⌜ LowestSeen (now (t .entry)) at r ⌝ }
@@ -131,7 +131,7 @@ fn lowest_among(t: &[u16], at: u16, slot: usize, n: usize, m: u16) -> Lowest
     Lowest::Nothing
 }
 
-// The lowest usable message of a number; most have no messages.
+// The lowest usable message of a number; most numbers have no messages.
 fn lowest_usable(t: &[u16], at: u16) -> Lowest
     requires { ⌜ Searchable (now t) ⌝ }
     ensures { λ r. ⌜ LowestSeen (now (t .entry)) at r ⌝ }
@@ -146,7 +146,7 @@ fn lowest_usable(t: &[u16], at: u16) -> Lowest
     lowest_among(t, at, slot, n, m)
 }
 
-// How many messages are held of a number, and of all numbers.
+// How many messages a number has, and how many all numbers have.
 fn count_at(t: &[u16], slot: usize) -> u16
     requires { ⌜ Searchable (now t) ⌝ }
     requires { ⌜ slot < slotsHeard ⌝ }
@@ -170,7 +170,7 @@ fn count_all(t: &[u16]) -> u16
     total
 }
 
-// The first usable message, of the numbers counted from the base on, until all messages are seen.
+// The first usable message, of the numbers counted from the base on (rule 11.2); the search ends when it has seen all messages.
 pub fn first_usable(base: u16, t: &[u16]) -> Usable
     requires { ⌜ Searchable (now t) ⌝ }
     ensures { λ r. ⌜ UsableFound base (now (t .entry)) r ⌝ }

@@ -21,7 +21,7 @@ part octets i n = take n (drop (i * packetLimit) octets)
 unfoldable pub pasted : List ℕ → ℕ → List ℕ → List ℕ
 pasted octets i b = paste octets (i * packetLimit) b (length b)
 
--- so many zeros
+-- n zeros
 unfoldable pub zeros : ℕ → List ℕ
 zeros n = replicate n 0
 
@@ -29,7 +29,7 @@ zeros n = replicate n 0
 unfoldable pub zerosFrom : List ℕ → ℕ → Bool
 zerosFrom run n = allBelow (length run) (λ j. ltb j n || eqb (getD run j 0) 0)
 
--- the octets of slot i past the first n are zero
+-- the octets of slot i past the first n are zero (rule 13.5)
 unfoldable pub zerosPast : List ℕ → ℕ → ℕ → Bool
 zerosPast octets i n = allBelow packetLimit (λ j. ltb j n || eqb (getD octets (i * packetLimit + j) 0) 0)
 
@@ -37,14 +37,15 @@ zerosPast octets i n = allBelow packetLimit (λ j. ltb j n || eqb (getD octets (
 abbrev pub allBits : ℕ
 allBits = 255
 
--- what lets every octet of a run of n pass, then what lets zero alone pass: an octet passes if it has no bit in common with the mask
+-- the mask over a run of n octets: its first half lets every octet pass, its second half only zero. An octet passes if it has no bit in
+-- common with the mask
 unfoldable pub maskOver : ℕ → List ℕ
 maskOver n = zeros n ++ replicate n allBits
 
--- that of a slot
+-- the mask of a slot
 unfoldable pub mask : List ℕ
 mask = maskOver packetLimit
 
--- octets, to which those of slot i are added by exclusive or
+-- sum, with the octets of slot i added by exclusive or
 unfoldable pub added : List ℕ → List ℕ → ℕ → List ℕ
 added sum octets i = tab (length sum) (λ j. bitXor (getD sum j 0) (getD octets (i * packetLimit + j) 0))

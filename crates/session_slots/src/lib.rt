@@ -1,6 +1,6 @@
-// A store is a run of octets cut into slots of a packet's length: the receiving session keeps its packets in one and its
-// messages in another, and the sending session its history. These functions serve callers inside this repository: they
-// require that the slot is there. What needs no slot is told of any run of octets, and serves a joiner's storage too.
+// A store is a run of octets cut into slots of a packet's length. The receiving session keeps its packets in one and its messages in
+// another, and the sending session keeps its history in one. These functions serve callers inside this repository: they require that the
+// slot exists. Those that need no slot work on any run of octets, and serve a joiner's storage too.
 use datagram::Packet;
 ghost use mathlib.Core.Path.{_≡_};
 ghost use Prim.Native.Nat.{_≤_};
@@ -12,7 +12,7 @@ ghost use Rattle.session_slots.specs.Store.{added, pasted, zeros, zerosF
 // An octet with every bit set.
 const ALL_BITS: u8 = 255;
 
-// The octets src, laid at the front of a slot.
+// Writes the octets src to the front of a slot.
 pub fn put(o: &mut [u8], slot: usize, src: &[u8])
     requires { ⌜ HasSlot slot (now o) ⌝ }
     requires { ⌜ length (now src) ≤ packetLimit ⌝ }
@@ -26,7 +26,7 @@ pub fn put(o: &mut [u8], slot: usize, src: &[u8])
     }
 }
 
-// Zeros in all of a run of octets, whatever its length.
+// Writes zeros to all of a run of octets, of any length.
 pub fn clear_run(run: &mut [u8])
     ensures { λ _. ⌜ now (run .exit) ≡ zeros (length (now (run .entry))) ⌝ }
 {
@@ -37,7 +37,7 @@ pub fn clear_run(run: &mut [u8])
     }
 }
 
-// Zeros in all of a slot.
+// Writes zeros to all of a slot.
 pub fn clear(o: &mut [u8], slot: usize)
     requires { ⌜ HasSlot slot (now o) ⌝ }
     ensures { λ _. ⌜ now (o .exit) ≡ pasted (now (o .entry)) slot (zeros packetLimit) ⌝ }
@@ -47,8 +47,8 @@ pub fn clear(o: &mut [u8], slot: usize)
     clear_run(&mut o[at..end]);
 }
 
-// The mask of a slot: what lets every octet pass, then what lets zero alone pass. An octet passes if it has no bit in common with
-// the mask.
+// The mask of a slot: its first half lets every octet pass, its second half only zero. An octet passes if it has no bit in common with the
+// mask.
 pub fn passing() -> [u8; Packet::LIMIT + Packet::LIMIT]
     ensures { λ r. ⌜ r ≡ mask ⌝ }
 {
@@ -57,8 +57,8 @@ pub fn passing() -> [u8; Packet::LIMIT + Packet::LIMIT]
     table
 }
 
-// Whether a run of octets, whatever its length, has zeros past its first n. The mask lets every octet pass below n and only zero
-// from there on, in a loop without branches.
+// Whether a run of octets, of any length, has only zeros past its first n. The mask lets every octet pass below n and only zero from there
+// on, in a loop without branches.
 pub fn zeros_in_run(run: &[u8], n: usize, table: &[u8]) -> bool
     requires { ⌜ n ≤ length (now run) ⌝ }
     requires { ⌜ now table ≡ maskOver (length (now run)) ⌝ }
@@ -74,7 +74,7 @@ pub fn zeros_in_run(run: &[u8], n: usize, table: &[u8]) -> bool
     ok
 }
 
-// Whether a slot has zeros past its first n octets.
+// Whether a slot has only zeros past its first n octets (rule 13.5).
 pub fn zeros_past(o: &[u8], slot: usize, n: usize, table: &[u8]) -> bool
     requires { ⌜ HasSlot slot (now o) ⌝ }
     requires { ⌜ n ≤ packetLimit ⌝ }
@@ -86,7 +86,7 @@ pub fn zeros_past(o: &[u8], slot: usize, n: usize, table: &[u8]) -> bool
     zeros_in_run(&o[at..end], n, table)
 }
 
-// Whether a run of octets has zeros alone: what has no octets is looked at without the mask.
+// Whether a run of octets has only zeros: where no octet may be set, no mask is needed.
 fn zero_run(run: &[u8]) -> bool
     ensures { λ r. ⌜ r ≡ zerosFrom (now (run .entry)) 0 ⌝ }
 {
@@ -99,7 +99,7 @@ fn zero_run(run: &[u8]) -> bool
     ok
 }
 
-// Whether a slot has zeros alone.
+// Whether a slot has only zeros.
 pub fn all_zero(o: &[u8], slot: usize) -> bool
     requires { ⌜ HasSlot slot (now o) ⌝ }
     ensures { λ r. ⌜ r ≡ zerosPast (now (o .entry)) slot 0 ⌝ }
@@ -109,7 +109,7 @@ pub fn all_zero(o: &[u8], slot: usize) -> bool
     zero_run(&o[at..end])
 }
 
-// The part of a slot, copied to the front of a lent buffer.
+// Copies the first n octets of a slot to the front of the caller's buffer.
 pub fn copy_out(o: &[u8], slot: usize, n: usize, out: &mut [u8])
     requires { ⌜ HasSlot slot (now o) ⌝ }
     requires { ⌜ n ≤ packetLimit ⌝ }
@@ -124,7 +124,7 @@ pub fn copy_out(o: &[u8], slot: usize, n: usize, out: &mut [u8])
     }
 }
 
-// The octets of a slot, added to sum by exclusive or: as many as sum has.
+// Adds the octets of a slot to sum by exclusive or, as many as sum has.
 pub fn add(o: &[u8], slot: usize, sum: &mut [u8])
     requires { ⌜ HasSlot slot (now o) ⌝ }
     requires { ⌜ length (now sum) ≤ packetLimit ⌝ }

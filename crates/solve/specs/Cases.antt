@@ -1,4 +1,4 @@
--- Small rows of numbers where request 13 may be read in two ways: each case says one answer.
+-- Small cases of solving where a rule could be misread. Each case cites the rule that it shows. Definitions only.
 use Prim.Native.Nat.{ℕ}
 use mathlib.Core.List.{List, [], _∷_}
 use Rattle.session.specs.Cells.{Cell, unknownCell, filledCell, received, repaired}
@@ -6,7 +6,7 @@ use Rattle.session.specs.Repair.{Message}
 use Rattle.solve.specs.Equations.{padded, Unsolvable}
 use Rattle.solve.specs.Solved.{Solved}
 
--- a message over some places; a number that came; one that the call fills
+-- a message over some places; a received number; a number that the call fills
 abbrev pub overPlaces : List ℕ → List ℕ → Message
 overPlaces members octets = record { members = members; octets = octets }
 
@@ -17,20 +17,20 @@ abbrev pub fixed : List ℕ → Cell
 fixed octets = filledCell 0 repaired (padded octets)
 
 pub record Cases : Type 0 where
-  -- two numbers are missing in every message or more, yet the messages together fix them
+  -- every message has two or more unknown members, yet the messages together determine them (rules 14.2 and 14.3)
   pub three-together : Solved (unknownCell ∷ unknownCell ∷ unknownCell ∷ [])
       (overPlaces (0 ∷ 1 ∷ []) (0x03 ∷ []) ∷ overPlaces (1 ∷ 2 ∷ []) (0x06 ∷ []) ∷ overPlaces (0 ∷ 1 ∷ 2 ∷ []) (0x07 ∷ []) ∷ [])
       (fixed (0x01 ∷ []) ∷ fixed (0x02 ∷ []) ∷ fixed (0x04 ∷ []) ∷ [])
-  -- one message over two of them leaves both as they are
+  -- one message over two unknown numbers leaves both unknown (rule 14.2)
   pub two-values : Solved (unknownCell ∷ unknownCell ∷ []) (overPlaces (0 ∷ 1 ∷ []) (0x03 ∷ []) ∷ []) (unknownCell ∷ unknownCell ∷ [])
-  -- a known number stays as it is, however long
+  -- a known number is unchanged, whatever its length (rule 14.8)
   pub known-stays : Solved (cameWith (0x01 ∷ []) ∷ unknownCell ∷ []) (overPlaces (0 ∷ 1 ∷ []) (0x03 ∷ []) ∷ [])
       (cameWith (0x01 ∷ []) ∷ fixed (0x02 ∷ []) ∷ [])
-  -- "messages of length 0 are equations like the others": this one says that the number is zeros
+  -- a message of length 0 is an equation: this one says that the number is zeros (rule 14.5)
   pub empty-message : Solved (unknownCell ∷ []) (overPlaces (0 ∷ []) [] ∷ []) (fixed [] ∷ [])
-  -- "a message whose members are all known and that doesn't fit"
+  -- a message whose members are all known and that does not fit them (rule 14.6)
   pub misfit : Unsolvable (cameWith (0x01 ∷ []) ∷ []) (overPlaces (0 ∷ []) (0x02 ∷ []) ∷ [])
-  -- "or that was cut short against a longer known member"
+  -- a message that was cut short against a longer known member (rule 14.6)
   pub cut-short : Unsolvable (cameWith (0xAA ∷ 0xBB ∷ []) ∷ []) (overPlaces (0 ∷ []) (0xAA ∷ []) ∷ [])
-  -- two messages over the same unknown numbers that differ
+  -- two different messages over the same unknown numbers (rule 14.6)
   pub differ : Unsolvable (unknownCell ∷ unknownCell ∷ []) (overPlaces (0 ∷ 1 ∷ []) (0x01 ∷ []) ∷ overPlaces (0 ∷ 1 ∷ []) (0x02 ∷ []) ∷ [])

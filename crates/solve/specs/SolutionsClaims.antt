@@ -1,4 +1,4 @@
--- The claims of this crate: statements alone.
+-- The claim about the function `solve` (rules 14.2 and 14.6). Statements alone.
 use Prim.Native.Nat.{ℕ, _<_}
 use mathlib.Core.Path.{_≡_}
 use mathlib.Core.Logic.{_↔_}
@@ -12,7 +12,7 @@ use Rattle.solve.specs.Solved.{Solves}
 use Rattle.solve.specs.Claims.{Together}
 use Rattle.solve.specs.Solve.{solve}
 
--- what the function comes to is what request 13 means, of every session within its ranges
+-- for every session within its ranges, `solve` returns what `Solves` allows (rules 14.2, 14.3, 14.6 and 14.8)
 abbrev pub MeansIt : Type 0
 MeansIt = (view : View) → Sound view → Solves view (solve view)
 

@@ -1,6 +1,6 @@
--- The call as a function of the session that document 01 sees: the table is eliminated; 23 where an empty row asks for something; each
--- unknown number that a row has alone is filled with what the row asks for. That this is what request 13 means is proved (Claims).
--- Definitions only.
+-- The solve call as a function of the session: the table is eliminated; 23 is given if an empty row asks for something (rule 14.6); each
+-- unknown number that is alone in a row is filled with what the row asks for (rules 14.2 and 14.3). `SolutionsClaims` states that this
+-- is what `Solved` defines. Definitions only.
 use Prim.Native.Nat.{ℕ}
 use mathlib.Core.Bool.{Bool, not, cond, _&&_, _||_}
 use mathlib.Core.List.{List}
@@ -18,7 +18,7 @@ use Rattle.session.specs.Held.{Held}
 use Rattle.session.specs.View.{View}
 use Rattle.solve.specs.Table.{startRows, rowAsks, rowOctets}
 
--- a row asks for nothing, or has columns
+-- a row has columns, or asks for nothing
 unfoldable pub rowFits : List Cell → List Held → List Row → ℕ → Bool
 rowFits cells held rows i =
     not (emptyTest columns (columnsOf rows i)) || allBelow packetLimit (λ k. eqb (rowAsks cells held (rowAt rows i) k) 0)
@@ -26,7 +26,7 @@ rowFits cells held rows i =
 unfoldable pub allFit : List Cell → List Held → List Row → Bool
 allFit cells held rows = allBelow tableRows (rowFits cells held rows)
 
--- the number at place p after the first n rows: filled where one of them has it alone
+-- the number at place p after the first n rows: filled if it is unknown and alone in one of them (rule 14.3)
 unfoldable pub cellAfter : List Cell → List Held → List Row → ℕ → ℕ → Cell
 cellAfter cells held rows n p =
     let row = aloneRow columns tableRows (columnsOf rows) p in
@@ -39,7 +39,7 @@ cellsAfter cells held rows n = tab keptNumbers (cellAfter cells held rows n)
 abbrev pub reducedRows : View → List Row
 reducedRows view = eliminated (startRows (view .cells) (view .held))
 
--- the session with other numbers in view
+-- the session with other numbers in view, and all else unchanged (rule 14.8)
 abbrev pub withCells : View → List Cell → View
 withCells view cells = record { base = view .base; counts = view .counts; cells = cells; held = view .held }
 

@@ -1,6 +1,5 @@
--- Document 02, request 13: "An unknown number in view is filled, as repaired, at the limit's length with note zero, exactly if the
--- equations and known octets allow one value for it. .. Refusals: 17, then 23, no octets satisfy all equations; nothing changes."
--- Definitions only.
+-- What the solve call must fill, keep and refuse, of a session within its ranges (rules 14.2 to 14.8). Refusal 17 comes before, in
+-- `session_calls`. Definitions only.
 use Prim.Native.Nat.{ℕ}
 use mathlib.Core.Path.{_≡_}
 use mathlib.Core.List.{List}
@@ -14,8 +13,8 @@ use Rattle.session.specs.Held.{heldMessages}
 use Rattle.session.specs.View.{View}
 use Rattle.solve.specs.Equations.{Solution, Solvable, Unsolvable, OneValue}
 
--- the numbers in view after the call, where some octets satisfy all equations. A solution has as many octets as the limit, so that a
--- fill is at the limit's length
+-- the numbers in view after the call, if some octets satisfy all equations. A solution has the limit's length, and so has a fill
+-- (rules 14.2, 14.3 and 14.8)
 pub record Solved (cells : List Cell) (messages : List Message) (after : List Cell) : Type 0 where
   pub some : Solvable cells messages
   pub size : length after ≡ length cells
@@ -24,14 +23,14 @@ pub record Solved (cells : List Cell) (messages : List Message) (after : List Ce
       → cellAt after p ≡ filledCell 0 repaired (x p)
   pub left : (p : ℕ) → Unknown cells p → (OneValue cells messages p → ⊥) → cellAt after p ≡ cellAt cells p
 
--- the session after it: the numbers in view are filled, and all else stays
+-- the session afterwards: numbers in view are filled, and base, counts, marks and messages are unchanged (rules 14.4 and 14.8)
 pub record SolvedTo (view after : View) : Type 0 where
   pub base : after .base ≡ view .base
   pub counts : after .counts ≡ view .counts
   pub held : after .held ≡ view .held
   pub cells : Solved (view .cells) (heldMessages (view .held)) (after .cells)
 
--- what the call may come to: filled, or 23 exactly if no octets satisfy all equations
+-- what the call may return: the filled session, or 23 exactly if no octets satisfy all equations (rule 14.6)
 abbrev pub Solves : View → Answer View → Type 0
 Solves view (done after) = SolvedTo view after
 Solves view (refused why) = Unsolvable (view .cells) (heldMessages (view .held)) × (why ≡ refusal noSolution)

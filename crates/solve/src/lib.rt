@@ -1,2 +1,2 @@
-// Definitions and proofs alone: the held messages as equations over the numbers in view (document 02, request 13).
-// Definitions and proofs alone: what the call of document 02, request 13, comes to, found by elimination.
+// Definitions and proofs only: the held messages as equations over the numbers in view, and the solve call as a function that finds its
+// result by elimination (rules 14.1 to 14.9).

@@ -1,4 +1,5 @@
--- Masks: which of 64 places are meant, a bit for each in a number of 64 bits. Definitions only.
+-- Masks: sets of places below 64, one bit for each place in a number of 64 bits. The rows of the table use them (rule 1.16).
+-- Definitions only.
 use Prim.Native.Nat.{ℕ, suc, _-_, _*_, _/_, _%_, _^_}
 use mathlib.Core.Bool.{Bool}
 use mathlib.Core.List.{List, [], _∷_}
@@ -8,7 +9,7 @@ use Rattle.octets.specs.Place.{tab}
 use Rattle.solve_algebra.specs.First.{firstPassing}
 use Rattle.solve_algebra.specs.Systems.{aloneTest}
 
--- as many as a number of 64 bits has
+-- as many places as a number of 64 bits has
 abbrev pub maskPlaces : ℕ
 maskPlaces = 64
 
@@ -16,19 +17,19 @@ maskPlaces = 64
 unfoldable pub hasPlace : ℕ → ℕ → Bool
 hasPlace mask p = eqb (mask / 2 ^ p % 2) 1
 
--- the mask of some places; a place that comes twice is gone, as in an exclusive or
+-- the mask of some places; a place that occurs twice cancels, as in an exclusive or
 unfoldable pub maskOf : List ℕ → ℕ
 maskOf [] = 0
 maskOf (p ∷ ps) = bitXor (2 ^ p) (maskOf ps)
 
--- the first place that the mask has; `maskPlaces` where it has none
+-- the first place that the mask has; `maskPlaces` if it has none
 unfoldable pub firstPlace : ℕ → ℕ
 firstPlace mask = firstPassing maskPlaces (hasPlace mask)
 
--- the place that the mask has alone; `maskPlaces` where it has none or several
+-- the only place that the mask has; `maskPlaces` if it has none or several
 unfoldable pub lonePlace : ℕ → ℕ
 lonePlace mask = firstPassing maskPlaces (aloneTest maskPlaces (hasPlace mask))
 
--- the n places at − m, at − 2m, ..
+-- the n places at − m, at − 2m, and so on: the members of a message (rule 4.12)
 unfoldable pub placesBack : ℕ → ℕ → ℕ → List ℕ
 placesBack at n m = tab n (λ t. at - suc t * m)

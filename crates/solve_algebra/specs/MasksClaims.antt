@@ -1,4 +1,4 @@
--- The claims of this crate: statements alone.
+-- The claims about masks. Statements alone.
 use Prim.Native.Nat.{ℕ, _<_}
 use mathlib.Core.Path.{_≡_}
 use mathlib.Core.Logic.{_↔_}
@@ -11,16 +11,16 @@ use Rattle.solve_algebra.specs.Systems.{Alone}
 use Rattle.solve_algebra.specs.Masks.{maskPlaces, hasPlace, maskOf, lonePlace}
 use Rattle.solve_algebra.specs.MasksPromise.{HasTold, OneMade, FirstFound, LoneFound, BackMade}
 
--- the lone place is the one that the mask has, where it has one only
+-- the lone place is p exactly if p is the only place that the mask has
 abbrev pub LoneExact : Type 0
 LoneExact = (mask p : ℕ) → p < maskPlaces → Alone maskPlaces (hasPlace mask) p ↔ (lonePlace mask ≡ p)
 
--- over the mask of some places, octet k of what stands there sums up to octet k of their exclusive or
+-- over the mask of some places, the sum of octet k at each place is octet k of the exclusive or of their octets (rule 4.13)
 abbrev pub SumsUp : Type 0
 SumsUp = (x : ℕ → List ℕ) (k : ℕ) (ps : List ℕ) → ((p : ℕ) → Among p ps → p < maskPlaces)
     → sumOver maskPlaces (hasPlace (maskOf ps)) (λ p. getD (x p) k 0) ≡ xorAt (map x ps) k
 
--- two answers that a promise allows are equal
+-- two answers that a promise allows are equal (rule 28.14)
 pub record OneOutcome : Type 0 where
   pub has : {mask place : ℕ} {r q : Bool} → HasTold mask place r → HasTold mask place q → r ≡ q
   pub one : {place r q : ℕ} → OneMade place r → OneMade place q → r ≡ q

@@ -1,4 +1,4 @@
--- What each call owes, a record for each: its answer. Definitions only.
+-- The promises of the functions on masks, a record for each. Definitions only.
 use Prim.Native.Nat.{ℕ, _^_}
 use mathlib.Core.Path.{_≡_}
 use mathlib.Core.Bool.{Bool}
@@ -16,10 +16,10 @@ pub record OneMade (place r : ℕ) : Type 0 where
 pub record FirstFound (mask r : ℕ) : Type 0 where
   pub answer : r ≡ firstPlace mask
 
--- the place that a mask has alone
+-- the only place that a mask has
 pub record LoneFound (mask r : ℕ) : Type 0 where
   pub answer : r ≡ lonePlace mask
 
--- the mask of the places that go back by m
+-- the mask of n places that go back by m (rule 4.12)
 pub record BackMade (at n m r : ℕ) : Type 0 where
   pub answer : r ≡ maskOf (placesBack at n m)

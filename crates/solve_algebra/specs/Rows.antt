@@ -1,6 +1,5 @@
--- Document 02, request 13: "The coefficient rows fit a fixed table of 128 rows." Each row has some of 64 columns, and is the sum of
--- some of 128 equations. What an equation asks for stands outside the table, so that one table serves every octet of a packet.
--- Definitions only.
+-- A fixed table of 128 rows (rule 1.16). Each row has some of 64 columns, and is the exclusive or of some of 128 equations. What an
+-- equation asks for is outside the table, so that one table serves every octet of a packet. Definitions only.
 use Prim.Native.Nat.{ℕ, _-_, _^_, _<_}
 use mathlib.Core.Path.{_≡_}
 use mathlib.Core.Bool.{Bool, cond}
@@ -32,16 +31,16 @@ columnsOf rows i c = hasPlace ((rowAt rows i) .mask) c
 unfoldable pub sourceIn : Row → ℕ → Bool
 sourceIn row e = cond (ltb e maskPlaces) (hasPlace (row .low) e) (hasPlace (row .high) (e - maskPlaces))
 
--- equation e as a row of its own
+-- equation e as a row
 unfoldable pub startRow : ℕ → ℕ → Row
 startRow mask e =
     cond (ltb e maskPlaces) (record { mask = mask; low = 2 ^ e; high = 0 }) (record { mask = mask; low = 0; high = 2 ^ (e - maskPlaces) })
 
--- what is asked of a row, where equation e asks for `asked e`
+-- what a row asks for, if equation e asks for `asked e`
 unfoldable pub askedBy : (ℕ → ℕ) → Row → ℕ
 askedBy asked row = sumOver tableRows (sourceIn row) asked
 
--- the values satisfy the row, or all rows of the table
+-- the values satisfy a row, and all rows of the table
 abbrev pub RowHolds : (ℕ → ℕ) → (ℕ → ℕ) → Row → Type 0
 RowHolds asked values row = sumOver columns (hasPlace (row .mask)) values ≡ askedBy asked row
 

@@ -1,7 +1,6 @@
-// Definitions and proofs: equations whose two sides are equal by exclusive or, and what a reduced table of them tells.
-// Document 02, request 13: "The coefficient rows fit a fixed table of 128 rows." Each row says which of 64 columns it has, and of which
-// equations it is the sum; elimination takes the table by value, swaps rows and combines them. These functions serve callers inside
-// this repository: they require that a place is one of the table's.
+// Elimination over a table of 128 rows (rules 1.16 and 30.6). A row has some of 64 columns, and is the exclusive or of some of 128
+// equations. Elimination takes the table by value, swaps rows and combines them. These functions are for callers inside this repository:
+// they require that a place is in the table.
 mod masks;
 
 pub use masks::Mask;
@@ -15,7 +14,7 @@ ghost use Rattle.solve_algebra.specs.Rows.{columns, tableRows};
 ghost use Rattle.solve_algebra.specs.Promise.{RowStarted, SourceTold, RowsCombined, PivotFound, RowsSwapped, RowCleared};
 ghost use Rattle.solve_algebra.specs.Promise.{ColumnCleared, Eliminates};
 
-// A sum of equations: the columns that are left in it, and the equations, those below 64 and those from there on.
+// A sum of equations: its columns, and the equations in it, those below 64 in `low` and the others in `high`.
 pub struct Row {
     pub mask: u64,
     pub low: u64,
@@ -32,7 +31,7 @@ impl Row {
     }
 }
 
-// Equation e as a row of its own: its columns, and e alone in the sum.
+// Equation e as a row: its columns, and e alone in the sum.
 pub fn start(mask: u64, e: u64) -> Row
     requires { ⌜ e < tableRows ⌝ }
     ensures { λ r. ⌜ RowStarted mask e r ⌝ }
@@ -58,7 +57,7 @@ pub fn has_source(row: Row, e: u64) -> bool
     masks::has(row.high, past)
 }
 
-// Two rows combined.
+// The exclusive or of two rows.
 fn combined(a: Row, b: Row) -> Row
     ensures { λ r. ⌜ RowsCombined a b r ⌝ }
 {
@@ -68,7 +67,7 @@ fn combined(a: Row, b: Row) -> Row
     Row { mask, low, high }
 }
 
-// The first row from `from` on that has the column; 128 where none has.
+// The first row from `from` on that has the column; 128 if none has it.
 fn pivot(rows: [Row; Row::COUNT], from: usize, column: u64) -> usize
     requires { ⌜ column < columns ⌝ }
     requires { ⌜ from ≤ tableRows ⌝ }
@@ -99,7 +98,7 @@ fn swapped(rows: [Row; Row::COUNT], a: usize, b: usize) -> [Row; Row::COUNT]
     next
 }
 
-// A row with the column taken out by combining it with the row that keeps the column; that row itself stays.
+// A row with the column removed by combining it with the row that keeps the column, which itself is unchanged.
 fn cleared_row(row: Row, own: Row, column: u64, keeps: bool) -> Row
     requires { ⌜ column < columns ⌝ }
     ensures { λ r. ⌜ RowCleared row own column keeps r ⌝ }
@@ -114,7 +113,7 @@ fn cleared_row(row: Row, own: Row, column: u64, keeps: bool) -> Row
     row
 }
 
-// The column taken out of every row but the one at `at`, by combining with that one.
+// The table with the column removed from every row but the one at `at`, by combining with that row.
 fn cleared(rows: [Row; Row::COUNT], at: usize, column: u64) -> [Row; Row::COUNT]
     requires { ⌜ column < columns ⌝ }
     requires { ⌜ at < tableRows ⌝ }
@@ -133,7 +132,7 @@ fn cleared(rows: [Row; Row::COUNT], at: usize, column: u64) -> [Row; Row::COUNT]
     next
 }
 
-// The table reduced: every row is empty or has a column that no other row has, and the same values satisfy it.
+// The reduced table: every row is empty or has a column that no other row has, and the same values satisfy it (rule 30.6).
 pub fn reduced(rows: [Row; Row::COUNT]) -> [Row; Row::COUNT]
     ensures { λ r. ⌜ Eliminates rows r ⌝ }
 {

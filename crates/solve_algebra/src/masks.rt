@@ -1,5 +1,5 @@
-// Masks: which of 64 places are meant, a bit for each in a number of 64 bits. These functions serve callers inside this repository:
-// they require that a place is one of the 64.
+// Masks: sets of places below 64, one bit for each place in a number of 64 bits. The rows of the table use them (rule 1.16). These
+// functions are for callers inside this repository: they require that a place is below 64.
 ghost use mathlib.Core.Path.{_≡_};
 ghost use Prim.Native.Nat.{_+_, _*_, _≤_, _<_};
 ghost use Rattle.solve_algebra.specs.Masks.{maskPlaces};
@@ -36,7 +36,7 @@ pub fn one(place: u64) -> u64
     1 << place
 }
 
-// The first place that a mask has; 64 where it has none.
+// The first place that a mask has; 64 if it has none.
 pub fn first_place(mask: u64) -> u64
     ensures { λ r. ⌜ FirstFound mask r ⌝ }
 {
@@ -50,7 +50,7 @@ pub fn first_place(mask: u64) -> u64
     p
 }
 
-// The place that a mask has alone; 64 where it has none or several.
+// The only place that a mask has; 64 if it has none or several.
 pub fn lone_place(mask: u64) -> u64
     ensures { λ r. ⌜ LoneFound mask r ⌝ }
 {
@@ -67,7 +67,7 @@ pub fn lone_place(mask: u64) -> u64
     Mask::PLACES
 }
 
-// The mask of the n places at - m, at - 2m, ..
+// The mask of the n places at - m, at - 2m, and so on: the members of a message (rule 4.12).
 pub fn places_back(at: u64, n: u64, m: u64) -> u64
     requires { ⌜ n * m ≤ at ⌝ }
     requires { ⌜ at < maskPlaces + m ⌝ }

@@ -1,4 +1,4 @@
--- What the call inside the session owes, over what is lent before and after: document 02, request 13. Definitions only.
+-- The promise of the solve call inside a session, over its memory before and after (rules 14.2 to 14.8). Definitions only.
 use mathlib.Core.Path.{_≡_}
 use Rattle.length.specs.Answers.{refused, afterwards}
 use Rattle.length.specs.declared.Refusal.{Refusal}
@@ -8,7 +8,7 @@ use Rattle.solve.specs.Solve.{solve}
 use Rattle.solve_code.specs.Outcome.{solvedOutcome, filledOf}
 use Rattle.solve_code.specs.declared.Solved.{Solved}
 
--- the answer, and the session after, within its ranges; after a refusal the very one before
+-- the answer, and the session after, within its ranges; after a refusal it is unchanged (rules 13.13 and 14.7)
 pub record Solving (before after : Lent) (answer : Solved) : Type 0 where
   pub told : solvedOutcome answer ≡ filledOf (solve (viewIn before))
   pub state : viewIn after ≡ afterwards (solve (viewIn before)) (viewIn before)

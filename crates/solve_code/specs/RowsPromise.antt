@@ -1,5 +1,5 @@
--- What each function owes, a record for each. They read the table alone, so what they owe holds of every pair of stores. Definitions
--- only.
+-- The promises of the functions that make the table of equations (rule 1.16), a record for each. They read only the session's table, so the
+-- promises hold whatever its octets are. Definitions only.
 use Prim.Native.Nat.{ℕ, _^_}
 use mathlib.Core.Path.{_≡_}
 use mathlib.Core.Bool.{Bool, cond}
@@ -10,7 +10,7 @@ use Rattle.solve_algebra.specs.declared.Row.{Row}
 use Rattle.session_held.specs.Table.{cellsOf, heldOf}
 use Rattle.solve.specs.Table.{equationAt, unknownMask, startRows}
 
--- the mask of a place, unless it is known
+-- the mask of a place, or no place if it is known
 pub record OneUnless (known : Bool) (place r : ℕ) : Type 0 where
   pub answer : r ≡ cond known 0 (2 ^ place)
 
@@ -18,7 +18,7 @@ pub record OneUnless (known : Bool) (place r : ℕ) : Type 0 where
 pub record UnknownMade (base : ℕ) (t : List ℕ) (r : ℕ) : Type 0 where
   pub answer : (o : List ℕ) → r ≡ unknownMask (cellsOf base t o)
 
--- the members of equation e that are in a mask
+-- the members of equation e that are in a mask (rule 4.12)
 pub record EquationMade (base : ℕ) (t : List ℕ) (unknown e r : ℕ) : Type 0 where
   pub answer : (g : List ℕ) → r ≡ bitAnd (maskOf ((equationAt (heldOf base t g) e) .members)) unknown
 

@@ -1,5 +1,5 @@
--- The pieces of the call: what the equations ask for, laid one after the other in 128 slots; what a row asks for, whether it fits, and
--- what it fills. Definitions only.
+-- The steps of the solve call (rules 1.16, 14.1 to 14.3 and 14.6): what the equations ask for, in 128 slots in order; what a row asks for,
+-- whether it fits, and what it fills. Definitions only.
 use Prim.Native.Nat.{ℕ, zero, suc, _+_, _*_, _≤_, _<_}
 use mathlib.Core.Path.{_≡_}
 use mathlib.Core.Bool.{Bool, not, _||_}
@@ -44,7 +44,7 @@ rowSum all row = tab packetLimit (sumAt all row)
 pub record RowSummed (all : List ℕ) (row : Row) (r : List ℕ) : Type 0 where
   pub answer : r ≡ rowSum all row
 
--- ---- whether it has columns, or asks for nothing
+-- ---- whether a row has columns or asks for nothing (rule 14.6)
 unfoldable pub fits : List ℕ → Row → Bool
 fits all row = not (emptyTest columns (hasPlace (row .mask))) || allBelow packetLimit (λ k. eqb (sumAt all row k) 0)
 
@@ -54,7 +54,7 @@ pub record RowTold (all : List ℕ) (row : Row) (r : Bool) : Type 0 where
 pub record RowsTold (all : List ℕ) (rows : List Row) (r : Bool) : Type 0 where
   pub answer : r ≡ allBelow tableRows (λ i. fits all (rowAt rows i))
 
--- ---- what it fills: the number that it has alone, if that is still unknown
+-- ---- what a row fills: its only number, if that is still unknown (rules 14.2 and 14.3)
 unfoldable pub filledRow : List ℕ → Row → List Cell → List Cell
 filledRow all row cells = keep 0 repaired (lonePlace (row .mask)) (rowSum all row) cells
 
@@ -62,7 +62,7 @@ unfoldable pub filledRows : List ℕ → List Row → ℕ → List Cell → List
 filledRows all rows zero cells = cells
 filledRows all rows (suc n) cells = filledRow all (rowAt rows n) (filledRows all rows n cells)
 
--- what the fills see is within the ranges: there are counts and messages with which it is so
+-- the memory that the fills use is part of a session within its ranges: some counts and messages complete it
 pub record MayFill (base : ℕ) (t o : List ℕ) : Type 0 where
   pub counts : Counts
   pub messages : List ℕ

@@ -1,6 +1,6 @@
-// The held messages as a table of 128 rows (document 02, request 13): row e has the unknown members of equation e, message e % 4 of the
-// number at distance e / 4. It reads the session's table alone, never the stores. These functions serve callers inside this repository:
-// they require that n and m are within the sizes.
+// The held messages as a table of 128 rows (rule 1.16): row e has the unknown members of equation e, which is message e % 4 of the number
+// at distance e / 4. Only the session's table is read, not its octets. These functions are for callers inside this repository: they require
+// that n and m are within the sizes.
 use datagram::Parity;
 use session_held::Session;
 use solve_algebra::Row;
@@ -13,7 +13,7 @@ ghost use Rattle.session_held.specs.Table.{places};
 ghost use Rattle.session_repair.specs.Promise.{Searchable};
 ghost use Rattle.solve_code.specs.RowsPromise.{OneUnless, UnknownMade, EquationMade, TableLaid};
 
-// The mask of a place, unless it is known.
+// The mask of a place, or no place if it is known.
 fn one_unless(known: bool, place: u64) -> u64
     requires { ⌜ place < masks.maskPlaces ⌝ }
     ensures { λ r. ⌜ OneUnless known place r ⌝ }
@@ -46,7 +46,7 @@ fn unknown_places(base: u16, t: &[u16]) -> u64
     mask
 }
 
-// The unknown members of equation e; none where there is no such message.
+// The unknown members of equation e (rule 4.12); none if there is no such message.
 fn equation_mask(base: u16, t: &[u16], unknown: u64, e: usize) -> u64
     requires { ⌜ Searchable (now t) ⌝ }
     requires { ⌜ e < tableRows ⌝ }

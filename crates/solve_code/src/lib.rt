@@ -1,6 +1,6 @@
-// Losses that no single message mends (document 02, request 13): what the equations ask for, whether some octets satisfy them, and the
-// fills, over a session that is lent. These functions serve callers inside this repository: they require the session's ranges, which the
-// public call checks (refusal 17), and keep them.
+// Solving (rules 14.1 to 14.8), for losses that no single message can repair: what the equations ask for, whether some octets satisfy them,
+// and the fills, over the memory of a session. These functions are for callers inside this repository: they require a session within its
+// ranges, which the public call checks (refusal 17, rule 14.7), and keep it within them.
 mod equations;
 mod sides;
 
@@ -21,7 +21,7 @@ ghost use Rattle.session_held.specs.Laid.{InRanges};
 ghost use Rattle.solve_code.specs.Steps.{RowTold, RowsTold, MayFill, RowFills, RowsFill};
 ghost use Rattle.solve_code.specs.Promise.{Solving};
 
-// What the call answers: filled, or why it is refused.
+// What the call returns: filled, or why it is refused.
 pub enum Solved {
     Filled,
     Refused(Refusal),
@@ -40,7 +40,7 @@ fn row_fits(all: &[u8], row: Row) -> bool
     session_slots::all_zero(&sum, 0)
 }
 
-// Whether some octets satisfy all equations: no row without columns asks for something.
+// Whether some octets satisfy all equations: no row without columns asks for something (rule 14.6).
 fn all_fit(all: &[u8], rows: [Row; Row::COUNT]) -> bool
     requires { ⌜ length (now all) ≡ messageOctets ⌝ }
     ensures { λ r. ⌜ RowsTold (now (all .entry)) rows r ⌝ }
@@ -56,7 +56,7 @@ fn all_fit(all: &[u8], rows: [Row; Row::COUNT]) -> bool
     ok
 }
 
-// The number that a row has alone, filled with what the row asks for if it is still unknown.
+// Fills the only number of a row with what the row asks for, if the number is still unknown (rules 14.2 and 14.3).
 fn fill_row(base: u16, t: &mut [u16], o: &mut [u8], all: &[u8], row: Row)
     requires { ⌜ MayFill base (now t) (now o) ⌝ }
     requires { ⌜ length (now all) ≡ messageOctets ⌝ }
@@ -77,7 +77,7 @@ fn fill_row(base: u16, t: &mut [u16], o: &mut [u8], all: &[u8], row: Row)
     }
 }
 
-// All that the reduced table fills.
+// Fills every number that the reduced table determines.
 fn fill_rows(base: u16, t: &mut [u16], o: &mut [u8], all: &[u8], rows: [Row; Row::COUNT])
     requires { ⌜ MayFill base (now t) (now o) ⌝ }
     requires { ⌜ length (now all) ≡ messageOctets ⌝ }
@@ -91,7 +91,8 @@ fn fill_rows(base: u16, t: &mut [u16], o: &mut [u8], all: &[u8], rows: [Row; Row
     }
 }
 
-// The unknown numbers for which the equations and the known octets allow one value, filled. Base, counts and messages stay as they are.
+// Fills the unknown numbers for which the equations and the known octets allow only one value (rule 14.2), or refuses with 23 (rule 14.6).
+// Base, counts and messages are unchanged (rule 14.8).
 pub fn solve_core(
     base: u16,
     counts: Counts,

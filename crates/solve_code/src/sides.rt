@@ -1,4 +1,4 @@
-// What each equation asks for, and what a row does, which is the sum of several.
+// What each equation asks for (rule 14.1), and what a row asks for, which is the exclusive or of several equations.
 use datagram::Packet;
 use datagram::Parity;
 use session_held::Session;
@@ -11,7 +11,7 @@ ghost use Rattle.session_held.specs.Slots.{messageOctets};
 ghost use Rattle.session_repair.specs.Promise.{MayMend};
 ghost use Rattle.solve_code.specs.Steps.{SideTold, SidesLaid, RowSummed};
 
-// What equation e asks for: the message and its known members; zeros where there is no such message.
+// What equation e asks for: the exclusive or of the message and its known members; zeros if there is no such message.
 fn side(base: u16, t: &[u16], o: &[u8], g: &[u8], e: usize) -> [u8; Packet::LIMIT]
     requires { ⌜ MayMend base (now t) (now o) (now g) ⌝ }
     requires { ⌜ e < tableRows ⌝ }
@@ -29,7 +29,7 @@ fn side(base: u16, t: &[u16], o: &[u8], g: &[u8], e: usize) -> [u8; Packet::LIMI
     [0u8; Packet::LIMIT]
 }
 
-// What all equations ask for, one after the other.
+// What all equations ask for, in order, 256 octets each.
 pub fn sides(base: u16, t: &[u16], o: &[u8], g: &[u8]) -> [u8; Session::MESSAGE_OCTETS]
     requires { ⌜ MayMend base (now t) (now o) (now g) ⌝ }
     ensures { λ r. ⌜ SidesLaid base (now (t .entry)) (now (o .entry)) (now (g .entry)) r ⌝ }

@@ -96,7 +96,7 @@ length-none : (es : List Entry) → 0 ≡ length es → es ≡ []
 length-none [] e = refl
 length-none (e ∷ es) z = absurd (omega arith)
 
--- ---- "An empty list exactly if .."
+-- ---- the list is empty exactly if the traces are alike
 alike-of-answer : {first second old new : List ℕ} {r : Compared} → Compares first second old new r → r ≡ compared.Entries 0
     → TracesAlike first second
 alike-of-answer {first} {second} {old} {new} c is =
@@ -167,7 +167,7 @@ exchange-call {first} {second} c d =
       rw (t .are, back) (mirrored (t .left) (t .right)),
     )
 
--- ---- "then 13"
+-- ---- 13 comes last
 pub room : {first second old new : List ℕ} {r : Compared} (listed : List Entry) → Compares first second old new r
     → comparison first second ≡ told listed
     → (r ≡ compared.Refused (refusal noRoom) 0 0) ↔ (length old < 2 * length listed)
@@ -194,7 +194,7 @@ room {first} {second} {old} {r = r} listed c e = (forth, back) where
       sym (answer-back r)
       ∙ ap answerOf (outcome false (lt-leb (length (numbersOf listed)) (length old) (omega (arith, numbers-twice listed))))
 
--- ---- "and the lent list stays"
+-- ---- after a refusal the caller's list is unchanged
 stays : (t : PlacedAnswer (List Entry)) (old : List ℕ) (why : Refusal) (place : Where) → stopped why place ≡ mappedPlaced length t
     → listAfter t old ≡ old
 stays (told es) old why place e = let z : _≡_ {A = ℕ} 0 1 = cc in absurd (omega arith)

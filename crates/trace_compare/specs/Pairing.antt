@@ -1,5 +1,5 @@
--- Document 02, request 12: "Lines pair by datagram number, the first to the first, the second to the second". By hand: take the lines of
--- one number out of both traces, keep their order, and lay them side by side. Definitions only.
+-- Which lines of two traces pair (rule 22.10). By hand: take the lines of one number out of both traces, keep their order, and put them
+-- side by side. Definitions only.
 use Prim.Native.Nat.{ℕ}
 use mathlib.Core.Path.{_≡_}
 use mathlib.Core.Bool.{cond}
@@ -9,7 +9,7 @@ use lib.ListN.{length, getElem?}
 use lib.Dec.{eqb}
 use Rattle.datagram.specs.Carried.{Carried}
 
--- a line of a trace that holds a datagram: which line of the trace it is, from 1, and what the datagram carries
+-- a line of a trace that holds a datagram: its line number, from 1, and what the datagram carries
 pub record TraceLine : Type 0 where
   pub line : ℕ
   pub datagram : Carried
@@ -22,12 +22,12 @@ unfoldable pub having : ℕ → List TraceLine → List TraceLine
 having number [] = []
 having number (l ∷ lines) = cond (eqb (numberOfLine l) number) (l ∷ having number lines) (having number lines)
 
--- the line of the other trace that a line pairs with, if there is one: with k lines of its number before it, the line of that number in
--- the other trace that has k before it
+-- the line of the other trace that a line pairs with, if there is one: if k lines of its number precede it, the line of that number that k
+-- others precede in the other trace
 abbrev pub mate : List TraceLine → TraceLine → List TraceLine → Option TraceLine
 mate before l other = getElem? (having (numberOfLine l) other) (length (having (numberOfLine l) before))
 
--- the same as a relation: two lines pair if both are the k-th of one number
+-- the same as a relation: two lines pair if both are the k-th line of one number
 pub record Pair (first second : List TraceLine) (l m : TraceLine) : Type 0 where
   pub number : ℕ
   pub k : ℕ

@@ -1,6 +1,5 @@
--- Document 02, request 12: "takes two traces .. Empty lines are skipped but counted. .. Traces hold up to 512 lines each. .. Refusals: 22,
--- a trace with too many lines, before the reading refusals, first trace first, which name trace and line, from 1". A trace is a text, cut
--- into lines as the program cuts its input, and a line is read as the program reads it (`line`). Definitions only.
+-- The comparison of two traces, up to the room in the caller's list (rules 1.15, 22.1, 22.13 to 22.15, 22.21 and 22.22). A trace is a text;
+-- it is cut into lines, and a line is read, by the program's own definitions (`line`). Definitions only.
 use Prim.Native.Nat.{ℕ, suc}
 use mathlib.Core.List.{List, [], _∷_}
 use mathlib.Core.Option.{Option}
@@ -18,7 +17,7 @@ use Rattle.trace_compare.specs.Pairing.{TraceLine}
 use Rattle.trace_compare.specs.Entries.{Entry, entries}
 use Rattle.trace_compare.specs.Told.{PlacedAnswer, told, stopped, at, noPlace, _>>=_}
 
--- "Traces hold up to 512 lines each"
+-- a trace has at most 512 lines (rule 1.15)
 abbrev pub linesLimit : ℕ
 linesLimit = 512
 
@@ -30,15 +29,15 @@ secondTrace = 2
 
 -- ---- reading
 
--- the datagram that some octets are
+-- the datagram that some octets hold
 unfoldable pub datagramOf : List ℕ → Answer Carried
 datagramOf octets = answers.mapped (carriedBy octets) (readDatagram octets)
 
--- the datagram that a line holds
+-- the datagram that a line holds, or why the line is refused (rule 22.22)
 unfoldable pub datagramIn : List ℕ → Answer Carried
 datagramIn line = answers._>>=_ (lineOctets line) datagramOf
 
--- the lines of a trace that hold datagrams, of which the next is line n: "Empty lines are skipped but counted"
+-- the lines that hold datagrams, where the next line has number n: empty lines are skipped but counted (rule 22.13)
 unfoldable pub linesRead : ℕ → ℕ → List (List ℕ) → PlacedAnswer (List TraceLine)
 linesRead trace n [] = told []
 linesRead trace n ([] ∷ lines) = linesRead trace (suc n) lines
@@ -47,13 +46,13 @@ linesRead trace n ((c ∷ line) ∷ lines) = do
   more ← linesRead trace (suc n) lines
   told (record { line = n; datagram = datagram } ∷ more)
 
--- "which name trace and line, from 1"
+-- a refusal names trace and line, both from 1 (rule 22.15)
 unfoldable pub traceRead : ℕ → List ℕ → PlacedAnswer (List TraceLine)
 traceRead trace text = linesRead trace 1 (linesFrom [] text)
 
 -- ---- the comparison
 
--- "22, a trace with too many lines, before the reading refusals, first trace first"
+-- 22 if either trace has too many lines, before any reading refusal (rule 22.14)
 abbrev pub tooManyRows : List ℕ → List ℕ → List (Option ℕ)
 tooManyRows first second =
     when (ltb linesLimit (length (linesFrom [] first))) tooManyLines

@@ -1,11 +1,11 @@
-// Two traces compared, what it comes to: document 02, request 12.
+// What comparing two traces returns, the limit of a trace, and the codes of an entry (rule 1.15 and rules 22.2 to 22.7).
 use length::Refusal;
 ghost use mathlib.Core.Path.{_≡_};
 ghost use Rattle.trace_compare.specs.Entries.{onlyFirst, onlySecond, packetDiffers, sparesDiffer, parityDiffers};
 ghost use Rattle.trace_compare.specs.Traces.{linesLimit};
 
-// What comparing two traces answers: how many entries it wrote to the front of the lent list; or why it is refused, and in which line of
-// which trace. The trace is 1 or 2 and the line counts from 1; both are 0 where the refusal belongs to no line.
+// What comparing two traces returns: how many entries it wrote to the front of the caller's list, or why it is refused and at which line
+// of which trace. The trace is 1 or 2 and the line counts from 1; both are 0 if the refusal belongs to no line (rule 22.15).
 pub enum Compared {
     Entries(usize),
     Refused {
@@ -19,9 +19,9 @@ pub enum Compared {
 pub struct Trace {}
 
 impl Trace {
-    // "Traces hold up to 512 lines each."
+    // A trace has at most 512 lines (rule 1.15).
     pub const LINES: usize = 512;
-    // As a refusal names them.
+    // The traces as a refusal names them (rule 22.15).
     pub const FIRST: u8 = 1;
 
     pub const SECOND: u8 = 2;
@@ -35,11 +35,11 @@ impl Trace {
     }
 }
 
-// "An entry is the number, then 1 to 5".
+// An entry is a datagram's number, then a code from 1 to 5 (rules 22.2 to 22.7).
 pub struct Entry {}
 
 impl Entry {
-    // The 16-bit numbers that an entry takes in the list.
+    // How many 16-bit numbers an entry takes in the list (rule 22.2).
     pub const SIZE: usize = 2;
 
     pub const ONLY_FIRST: u16 = 1;

@@ -1,4 +1,4 @@
--- The claims of this crate: two outcomes that a promise allows are equal. Statements alone.
+-- The claims about pairing and differences: two outcomes that a promise allows are equal (rule 28.14). Statements alone.
 use Prim.Native.Nat.{ℕ}
 use mathlib.Core.Path.{_≡_}
 use mathlib.Core.Bool.{Bool}

@@ -1,4 +1,4 @@
--- What the functions inside this crate owe each other. Definitions only.
+-- The contracts of this crate's inner functions that list the entries (rules 22.10, 22.12 and 22.14 to 22.16). Definitions only.
 use Prim.Native.Nat.{ℕ, _≤_, _<_}
 use mathlib.Core.Path.{_≡_}
 use mathlib.Core.Bool.{Bool, true, cond, _||_}
@@ -23,21 +23,21 @@ use Rattle.trace_compare_code.specs.Lines.{lineFrom, KeptTrace, datagram
 
 -- ---- lines
 
--- the octets of a line that holds a datagram, in the front of some others
+-- the octets of a line that holds a datagram, at the front of a buffer
 pub record OctetsRead (line new : List ℕ) (size : ℕ) : Type 0 where
   pub inside : size ≤ length new
   pub carries : datagramOf (take size new) ≡ datagramIn line
 
--- a datagram stands in the line that begins at a place of a trace
+-- the line that begins at a place of a trace holds a datagram
 pub record HoldsDatagram (trace : List ℕ) (at : ℕ) : Type 0 where
   pub inside : at < length trace
   pub reads : isDone (datagramIn (lineFrom trace at)) ≡ true
 
--- what is listed at line i of the first trace
+-- what is listed for line i of the first trace
 pub record PutsFirst (first second : List TraceLine) (i : ℕ) (old : List ℕ) (at : ℕ) (new : List ℕ) (r : ℕ) : Type 0 where
   pub puts : (l : TraceLine) → getElem? first i ≡ some l → Appends (numbersOf (atFirst l (mate (take i first) l second))) old at new r
 
--- and at a line of the second, by the numbers: those of the first trace, those before it, and its own
+-- what is listed for a line of the second trace, from the first trace's numbers, the numbers before the line, and its own (rule 22.4)
 abbrev pub secondRow : List ℕ → List ℕ → ℕ → List ℕ
 secondRow first before number = cond (ltb (often number before) (often number first)) [] (number ∷ onlySecond ∷ [])
 
@@ -47,15 +47,15 @@ secondRows first before (number ∷ numbers) = secondRow first before number ++ 
 
 -- ---- the whole
 
--- a refusal that belongs to no line
+-- a refusal that belongs to no line (rule 22.15)
 pub record RefusedNowhere (number : ℕ) (r : Compared) : Type 0 where
   pub answer : r ≡ compared.Refused (refusal number) 0 0
 
--- "22, a trace with too many lines"
+-- one of the traces has too many lines (rule 22.14)
 unfoldable pub tooMany : List ℕ → List ℕ → Bool
 tooMany first second = ltb linesLimit (length (linesFrom [] first)) || ltb linesLimit (length (linesFrom [] second))
 
--- the first trace was read, and neither has too many lines
+-- the first trace was read, and neither trace has too many lines
 pub record FirstRead (first second a from : List ℕ) : Type 0 where
   pub few : Few first second
   pub read : traceRead firstTrace first ≡ told (datagramLines firstTrace first)

@@ -1,4 +1,4 @@
--- What the functions of this crate owe each other that read a trace line by line. Definitions only.
+-- The contracts of this crate's functions that read a trace line by line (rules 22.13, 22.15 and 22.21). Definitions only.
 use Prim.Native.Nat.{ℕ, _+_, _-_, _≤_, _<_}
 use mathlib.Core.Path.{_≡_}
 use mathlib.Core.List.{List, [], _∷_, map}
@@ -31,7 +31,7 @@ firstLine (line ∷ lines) = line
 unfoldable pub lineFrom : List ℕ → ℕ → List ℕ
 lineFrom trace at = firstLine (linesFrom [] (drop at trace))
 
--- it ends at a place, and the next begins at another
+-- the line that begins at `at` ends at `end`, and the next one begins at `next`
 pub record LineCut (trace : List ℕ) (at end next : ℕ) : Type 0 where
   pub line : linesFrom [] (drop at trace) ≡ take (end - at) (drop at trace) ∷ linesFrom [] (drop next trace)
   pub low : at ≤ end
@@ -41,7 +41,7 @@ pub record LineCut (trace : List ℕ) (at end next : ℕ) : Type 0 where
   pub feed : end < length trace → next ≡ end + 1
   pub last : length trace ≤ end → next ≡ end
 
--- what a line holds: the number of its datagram
+-- what a line holds: the number of its datagram, or why it is refused
 abbrev pub heldOutcome : Held → Answer ℕ
 heldOutcome (held.Number number) = done number
 heldOutcome (held.Refused why) = refused why
@@ -51,12 +51,12 @@ numberTold answer = mapped (λ (c : Carried). c .number) answer
 
 -- ---- what is kept of a line
 
--- room for one more
+-- room for one more line
 pub record RoomFor (count : ℕ) (numbers starts : List ℕ) : Type 0 where
   pub number : count < length numbers
   pub place : count < length starts
 
--- what becomes of a line: an empty one is skipped, of one that holds a datagram number and place are kept
+-- what is done with a line: an empty one is skipped; number and place are kept of one that holds a datagram (rule 22.13)
 pub record KeepsLine (line : List ℕ) (at : ℕ) (numbers newNumbers starts newStarts : List ℕ) (count : ℕ) (r : Kept) : Type 0 where
   pub empty : length line ≡ 0 → (r ≡ kept.Count count) × (newNumbers ≡ numbers) × (newStarts ≡ starts)
   pub holds : (datagram : Carried) → 1 ≤ length line → datagramIn line ≡ done datagram
@@ -65,7 +65,7 @@ pub record KeepsLine (line : List ℕ) (at : ℕ) (numbers newNumbers starts new
 
 -- ---- what is kept of a trace
 
--- a line stands at a place of a trace
+-- a line begins at a place of a trace
 pub record Stands (trace : List ℕ) (at : ℕ) (l : TraceLine) : Type 0 where
   pub inside : at < length trace
   pub read : datagramIn (lineFrom trace at) ≡ done (l .datagram)
@@ -89,14 +89,14 @@ toldLines (stopped why place) = []
 unfoldable pub datagramLines : ℕ → List ℕ → List TraceLine
 datagramLines which trace = toldLines (traceRead which trace)
 
--- all of them are kept
+-- all lines that hold datagrams are kept
 pub record TraceKept (which : ℕ) (trace numbers starts : List ℕ) (count : ℕ) : Type 0 where
   pub read : traceRead which trace ≡ told (datagramLines which trace)
   pub few : count ≤ length (linesFrom [] trace)
   pub inside : count ≤ length numbers
   pub kept : KeptTrace trace (datagramLines which trace) (take count numbers) starts
 
--- or one is refused
+-- a line is refused, and the answer names it (rule 22.15)
 pub record TraceRefused (which : ℕ) (trace : List ℕ) (answer : Compared) : Type 0 where
   pub why : Refusal
   pub place : Where

@@ -1,5 +1,5 @@
--- The claims of this crate: two outcomes that a promise allows are equal. What `read_trace` leaves in its lent lists is settled as far as
--- its caller needs: the numbers of the lines, and for each a place where it stands. Statements alone.
+-- The claims about reading lines: two outcomes that a promise allows are equal (rule 28.14). The promise of `read_trace` determines its two
+-- lists only as far as the caller needs: the numbers of the lines, and a place for each. Statements alone.
 use Prim.Native.Nat.{ℕ}
 use mathlib.Core.Path.{_≡_}
 use mathlib.Core.List.{List, []}

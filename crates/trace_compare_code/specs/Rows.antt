@@ -1,4 +1,4 @@
--- What is listed of two datagrams of one number, by what is found of their octets. Definitions only.
+-- What is listed for two datagrams of one number, from what is found in their octets (rules 22.5 to 22.9). Definitions only.
 use Prim.Native.Nat.{ℕ, _-_, _≤_}
 use mathlib.Core.Path.{_≡_}
 use mathlib.Core.Bool.{Bool, true, false, cond, not, _&&_, _||_}
@@ -13,7 +13,7 @@ use Rattle.trace_compare.specs.Entries.{numbersOf, packetDiffers, sparesDiffer,
 use Rattle.trace_compare.specs.Traces.{datagramOf}
 use Rattle.trace_compare_code.specs.declared.differing.Shape.{Shape}
 
--- the 16-bit numbers that one entry takes, and those of one line of the first trace
+-- how many 16-bit numbers an entry takes (rule 22.2), and how many the entries of one line of the first trace take at most
 abbrev pub entryRoom : ℕ
 entryRoom = 2
 
@@ -28,7 +28,7 @@ abbrev pub hasSpares : Extra → Bool
 hasSpares (spares items) = true
 hasSpares (parity n items) = false
 
--- where the packet of a datagram begins and ends, and what stands behind it
+-- where the packet of a datagram begins and ends, and what follows it
 pub record Shaped (s : List ℕ) (a : Carried) (r : Shape) : Type 0 where
   pub packet : take (r .end - r .start) (drop (r .start) s) ≡ a .packet
   pub behind : drop (r .end) s ≡ extraOctets (a .extra)
@@ -39,11 +39,11 @@ pub record ShapeOf (s : List ℕ) (r : Shape) : Type 0 where
   pub high : r .end ≤ length s
   pub shaped : (a : Carried) → datagramOf s ≡ done a → Shaped s a r
 
--- an entry as it stands in the list, if it applies
+-- an entry in the list, if it applies
 unfoldable pub rowNumbers : Bool → ℕ → ℕ → List ℕ
 rowNumbers applies number code = cond applies (number ∷ code ∷ []) []
 
--- the rows of two datagrams, by what was found to be the same and whether they have spares
+-- the entries of two datagrams, from what was found equal and whether they have spares (rules 22.8 and 22.9)
 unfoldable pub rowsTold : ℕ → Bool → Bool → Bool → Bool → List ℕ
 rowsTold number packets extras first second =
     (rowNumbers (not packets) number packetDiffers ++ rowNumbers (not extras && (first || second)) number sparesDiffer)

@@ -1,5 +1,5 @@
-// In what two datagrams differ. What stands behind the packet is compared as octets: a datagram is spelt in one way, so the spares or
-// messages are the same exactly if the octets are.
+// The differences of two datagrams (rules 22.5 to 22.9). What follows the packet is compared as octets: a datagram has only one encoding,
+// so the spares or messages are equal exactly if their octets are.
 use datagram::Kind;
 use datagram::Reading;
 use trace_compare::Entry;
@@ -15,7 +15,7 @@ ghost use Rattle.length.specs.Answers.{isDone};
 ghost use Rattle.trace_compare_code.specs.Rows.{entryRoom, lineRoom, isSpares, ShapeOf, rowNumbers, rowsTold};
 ghost use Rattle.trace_compare_code.specs.Rows.{differenceNumbers};
 
-// Whether two runs of octets are the same. There is no early end, so that the compiler looks at many together.
+// Whether two runs of octets are equal. The loop has no early exit, so that the compiler can compare many octets at once.
 pub fn same(a: &[u8], b: &[u8]) -> bool
     ensures { λ r. ⌜ r ≡ isSame (now (a .entry)) (now (b .entry)) ⌝ }
 {
@@ -31,7 +31,7 @@ pub fn same(a: &[u8], b: &[u8]) -> bool
     all
 }
 
-// Where the packet of a datagram begins and ends, and whether spares stand behind it.
+// Where the packet of a datagram begins and ends, and whether spares follow it.
 struct Shape {
     start: usize,
     end: usize,
@@ -47,7 +47,7 @@ fn has_spares(kind: Kind) -> bool
     }
 }
 
-// Of octets that are known to be a datagram.
+// The shape of octets that the caller knows to hold a datagram, so they are never refused.
 fn shape_of(octets: &[u8]) -> Shape
     ensures { λ r. ⌜ ShapeOf (now (octets .entry)) r ⌝ }
 {
@@ -76,7 +76,7 @@ fn shape_of(octets: &[u8]) -> Shape
     }
 }
 
-// An entry behind those that are listed; the place after it.
+// Writes an entry behind those already listed and returns the place after it (rule 22.2).
 pub fn put_entry(list: &mut [u16], at: usize, number: u16, code: u16) -> usize
     requires { ⌜ at + entryRoom ≤ length (now list) ⌝ }
     ensures { λ r. ⌜ Appends (number ∷ code ∷ []) (now (list .entry)) at (now (list .exit)) r ⌝ }
@@ -87,7 +87,7 @@ pub fn put_entry(list: &mut [u16], at: usize, number: u16, code: u16) -> usize
     next + 1
 }
 
-// An entry, if it applies.
+// Writes an entry if it applies.
 fn put_row(applies: bool, list: &mut [u16], at: usize, number: u16, code: u16) -> usize
     requires { ⌜ at + entryRoom ≤ length (now list) ⌝ }
     ensures { λ r. ⌜ Appends (rowNumbers applies number code) (now (list .entry)) at (now (list .exit)) r ⌝ }
@@ -98,7 +98,7 @@ fn put_row(applies: bool, list: &mut [u16], at: usize, number: u16, code: u16) -
     at
 }
 
-// The entries of a pair, by what was found to be the same and whether spares stand behind the packets.
+// Writes the entries of a pair, from what was found equal and whether spares follow the packets (rules 22.8 and 22.9).
 fn put_rows(
     number: u16,
     packets: bool,
@@ -128,7 +128,7 @@ fn put_rows(
     )
 }
 
-// What two datagrams of one number differ in: their packets, their spares, their parity, in this order.
+// Writes what two datagrams of one number differ in: packets, spares, parity, in this order (rule 22.8).
 pub fn put_differences(number: u16, a: &[u8], b: &[u8], list: &mut [u16], at: usize) -> usize
     requires { ⌜ isDone (datagramOf (now a)) ≡ true ⌝ }
     requires { ⌜ isDone (datagramOf (now b)) ≡ true ⌝ }

@@ -1,7 +1,5 @@
-// The lines of a trace, cut and read to number and place: document 02, request 12, as `trace_compare` defines it.
-// In what two datagrams differ, as entries of a list, and which lines pair by their numbers: document 02, request 12, as `trace_compare`
-// defines it.
-// Two traces compared: document 02, request 12, as `trace_compare` defines it.
+// Two traces compared (rules 22.1 to 22.18), as `trace_compare` defines it: the lines are cut and read, paired by their numbers, and their
+// differences are listed.
 mod differing;
 mod listing;
 mod pairing;

@@ -1,4 +1,4 @@
-// The entries, line after line of the first trace and then of the second.
+// The entries, in order of the first trace's lines and then of the second's (rules 22.1 and 22.12).
 use crate::differing::put_entry;
 use crate::pairing::count_of;
 use crate::pairing::find_kth;
@@ -14,7 +14,7 @@ ghost use Rattle.trace_compare_code.specs.Rows.{entryRoom, lineRoom};
 ghost use Rattle.trace_compare_code.specs.Lines.{datagramLines, KeptTrace};
 ghost use Rattle.trace_compare_code.specs.Inner.{PutsFirst, secondRow, secondRows};
 
-// What is listed at a line of the first trace.
+// Writes what is listed for line i of the first trace.
 fn put_first(
     first: &[u8],
     a: &[u16],
@@ -44,7 +44,7 @@ fn put_first(
     put_entry(list, at, number, Entry::ONLY_FIRST)
 }
 
-// Line after line of the first trace.
+// Writes what is listed for all lines of the first trace, in order.
 pub fn list_first(
     first: &[u8],
     a: &[u16],
@@ -69,7 +69,7 @@ pub fn list_first(
     at
 }
 
-// What is listed at a line of the second trace: one that pairs is listed with the first.
+// Writes what is listed for line j of the second trace: nothing if it pairs, since its pair is listed with the first trace.
 fn put_second(a: &[u16], b: &[u16], j: usize, list: &mut [u16], at: usize) -> usize
     requires { ⌜ j < length (now b) ⌝ }
     requires { ⌜ at + entryRoom ≤ length (now list) ⌝ }
@@ -85,7 +85,7 @@ fn put_second(a: &[u16], b: &[u16], j: usize, list: &mut [u16], at: usize) -> us
     put_entry(list, at, number, Entry::ONLY_SECOND)
 }
 
-// Line after line of the second trace, behind what is listed of the first.
+// Writes what is listed for all lines of the second trace, behind what is listed for the first (rule 22.12).
 pub fn list_second(a: &[u16], b: &[u16], list: &mut [u16], from: usize) -> usize
     requires { ⌜ from + entryRoom * length (now b) ≤ length (now list) ⌝ }
     ensures { λ r. ⌜ Appends (secondRows (now (a .entry)) [] (now (b .entry))) (now (list .entry)) from (now (list .exit)) r ⌝ }

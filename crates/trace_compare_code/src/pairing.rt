@@ -1,8 +1,8 @@
-// Which line of the other trace a line pairs with, by the numbers alone.
+// Which line of the other trace a line pairs with, by datagram numbers alone (rule 22.10).
 ghost use mathlib.Core.Path.{_≡_};
 ghost use Rattle.trace_compare_code.specs.Numbers.{often, KthPlace};
 
-// How often a number stands in a list.
+// How often a number occurs in a list.
 pub fn count_of(numbers: &[u16], number: u16) -> usize
     ensures { λ r. ⌜ r ≡ often number (now (numbers .entry)) ⌝ }
 {
@@ -18,7 +18,7 @@ pub fn count_of(numbers: &[u16], number: u16) -> usize
     count
 }
 
-// Where the number stands that has k of its like before it; the length of the list if there is none.
+// The place of the number's occurrence that k others precede; the length of the list if there is none.
 pub fn find_kth(numbers: &[u16], number: u16, k: usize) -> usize
     ensures { λ r. ⌜ KthPlace (now (numbers .entry)) number k r ⌝ }
 {

@@ -1,4 +1,4 @@
-// The lines of a trace, each read once: the number of its datagram is kept, and the place where the line begins.
+// The lines of a trace, each read once: the datagram's number and the place where the line begins are kept (rules 22.13, 22.15 and 22.21).
 use datagram::Datagram;
 use datagram::Reading;
 use length::Refusal;
@@ -14,13 +14,13 @@ ghost use Rattle.line.specs.Lines.{linesFrom};
 ghost use Rattle.trace_compare.specs.Traces.{datagramOf, datagramIn};
 ghost use Rattle.trace_compare_code.specs.Lines.{LineCut, heldOutcome, numberTold, RoomFor, KeepsLine, RoomForLines, ReadsTrace};
 
-// Where a line ends, and where the next begins.
+// Where a line ends, and where the next one begins.
 pub struct LineAt {
     pub end: usize,
     pub next: usize,
 }
 
-// The line that begins at a place of a trace.
+// The line that begins at the place `at` of a trace.
 pub fn line_at(trace: &[u8], at: usize) -> LineAt
     requires { ⌜ at < length (now trace) ⌝ }
     ensures { λ r. ⌜ LineCut (now (trace .entry)) at (r .end) (r .next) ⌝ }
@@ -49,7 +49,7 @@ pub fn count_lines(trace: &[u8]) -> usize
     count
 }
 
-// What a line holds: the number of its datagram, or why it is refused.
+// What a line holds: the number of its datagram, or why the line is refused.
 enum Held {
     Number(u16),
     Refused(Refusal),
@@ -88,7 +88,7 @@ enum Kept {
     Refused(Refusal),
 }
 
-// A line that begins at a place: its number and its place behind those that are kept. An empty line is skipped.
+// Keeps the number and the place of a line that begins at `at`, behind those already kept. An empty line is skipped (rule 22.13).
 fn keep_line(
     line: &[u8],
     at: usize,
@@ -114,13 +114,13 @@ fn keep_line(
     }
 }
 
-// A trace as it was read: how many datagrams it has, or the answer that a line of it is refused with.
+// A trace after reading: how many datagrams it has, or the refusal of one of its lines.
 pub enum TraceRead {
     Datagrams(usize),
     Refused(Compared),
 }
 
-// All lines of a trace, the first or the second.
+// Reads all lines of a trace; `which` is the first or the second. A refusal names the trace and the line (rule 22.15).
 pub fn read_trace(which: u8, trace: &[u8], numbers: &mut [u16], starts: &mut [usize]) -> TraceRead
     requires { ⌜ RoomForLines (now trace) (now numbers) (now starts) ⌝ }
     ensures { λ r. ⌜ ReadsTrace which (now (trace .entry)) (now (numbers .exit)) (now (starts .exit)) r ⌝ }

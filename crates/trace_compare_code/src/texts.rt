@@ -1,4 +1,4 @@
-// Two lines of one number, which are known to hold datagrams. Only lines whose texts differ are read again.
+// The differences of two lines that are known to hold datagrams of one number. Only lines whose texts differ are read again (rule 22.18).
 use crate::differing::put_differences;
 use crate::differing::same;
 use crate::reading::line_at;
@@ -17,7 +17,7 @@ ghost use Rattle.trace_compare_code.specs.Rows.{lineRoom, differenceNumb
 ghost use Rattle.trace_compare_code.specs.Lines.{lineFrom};
 ghost use Rattle.trace_compare_code.specs.Inner.{OctetsRead, HoldsDatagram};
 
-// The octets of a line that is known to hold a datagram; how many.
+// Writes the octets of a line that is known to hold a datagram, and returns how many there are. The refusal never happens.
 fn octets_of(line: &[u8], out: &mut [u8]) -> usize
     requires { ⌜ isDone (datagramIn (now line)) ≡ true ⌝ }
     requires { ⌜ datagramLimit ≤ length (now out) ⌝ }
@@ -30,7 +30,7 @@ fn octets_of(line: &[u8], out: &mut [u8]) -> usize
     }
 }
 
-// Two lines that hold datagrams of one number. Only lines whose texts differ are read again.
+// Writes the differences of two lines that hold datagrams of one number.
 fn put_lines(number: u16, a: &[u8], b: &[u8], list: &mut [u16], at: usize) -> usize
     requires { ⌜ isDone (datagramIn (now a)) ≡ true ⌝ }
     requires { ⌜ isDone (datagramIn (now b)) ≡ true ⌝ }
@@ -48,7 +48,7 @@ fn put_lines(number: u16, a: &[u8], b: &[u8], list: &mut [u16], at: usize) -> us
     put_differences(number, &left[..m], &right[..n], list, at)
 }
 
-// Two lines that begin at places of their traces.
+// Writes the differences of two lines, given by the places where they begin in their traces.
 pub fn put_pair(
     number: u16,
     first: &[u8],

@@ -1,5 +1,5 @@
-// Two traces as texts. The entries are gathered in a list of their own, which has room for any, and then laid into the lent one, if they
-// fit.
+// Two traces as texts. The entries are gathered in a local list that is large enough for any two traces, and then copied to the caller's
+// list if they fit (rules 22.16 and 22.19).
 use crate::listing::list_first;
 use crate::listing::list_second;
 use crate::reading::TraceRead;
@@ -18,10 +18,10 @@ ghost use Rattle.trace_compare.specs.Promise.{Compares};
 ghost use Rattle.trace_compare_code.specs.Lines.{datagramLines, KeptTrace};
 ghost use Rattle.trace_compare_code.specs.Inner.{RefusedNowhere, ListsAll, tooMany, FirstRead};
 
-// Three entries at most for a line of the first trace, and one for a line of the second.
+// At most three entries for a line of the first trace, and one for a line of the second (rule 22.19).
 const MOST: usize = 4 * Entry::SIZE * Trace::LINES;
 
-// A refusal that belongs to no line.
+// A refusal that belongs to no line (rule 22.15).
 fn no_line(number: u8) -> Compared
     ensures { λ r. ⌜ RefusedNowhere number r ⌝ }
 {
@@ -32,7 +32,7 @@ fn no_line(number: u8) -> Compared
     }
 }
 
-// Numbers to the front of the lent list, which has room for them.
+// Copies numbers to the front of the caller's list, which has room for them.
 fn put_numbers(numbers: &[u16], list: &mut [u16]) -> usize
     requires { ⌜ length (now numbers) ≤ length (now list) ⌝ }
     ensures { λ r. ⌜ Put (now (numbers .entry)) (now (list .entry)) (now (list .exit)) r ⌝ }
@@ -45,7 +45,7 @@ fn put_numbers(numbers: &[u16], list: &mut [u16]) -> usize
     i
 }
 
-// The entries of two traces that were read.
+// Lists the entries of two traces that were read, or 13 if they do not fit.
 fn list_all(
     first: &[u8],
     a: &[u16],
@@ -72,7 +72,7 @@ fn list_all(
     Compared::Entries(size / Entry::SIZE)
 }
 
-// The second trace read and compared, once the first was read.
+// Reads the second trace and compares, after the first was read.
 fn compare_second(
     first: &[u8],
     a: &[u16],
@@ -92,7 +92,7 @@ fn compare_second(
     }
 }
 
-// Whether one of them is "a trace with too many lines".
+// Whether one of the traces has too many lines (rules 1.15 and 22.14).
 fn too_many(first: &[u8], second: &[u8]) -> bool
     ensures { λ r. ⌜ r ≡ tooMany (now (first .entry)) (now (second .entry)) ⌝ }
 {
@@ -102,7 +102,8 @@ fn too_many(first: &[u8], second: &[u8]) -> bool
     Trace::LINES < count_lines(second)
 }
 
-// What the two traces differ in goes to the front of the lent list, an entry for each difference: the number, then 1 to 5.
+// Compares two traces and writes the entries to the front of the caller's list. The order of refusals is 22, the first trace's, the
+// second's, 13 (rules 22.1, 22.2 and 22.14 to 22.16).
 pub fn compare(first: &[u8], second: &[u8], list: &mut [u16]) -> Compared
     ensures { λ r. ⌜ Compares (now (first .entry)) (now (second .entry)) (now (list .entry)) (now (list .exit)) r ⌝ }
 {

@@ -1,5 +1,5 @@
-// Which lines of a trace are dropped. The number stands in the first four digits: it is looked for in the list first, and only a line
-// with a listed number is read whole.
+// Which lines of a trace are dropped (rules 21.1, 21.3 and 21.5). The number is in the first four digits: it is looked up in the list
+// first, and only a line with a listed number is read whole.
 use datagram::Datagram;
 use datagram::Reading;
 use length::Written;
@@ -13,18 +13,18 @@ ghost use Rattle.trace_replay.specs.Replay.{numberIn, listed, dropped};
 ghost use Rattle.length.specs.Answers.{isDone};
 ghost use Rattle.trace_replay_code.specs.Inner.{FrontTold};
 
-// The number in the first four digits of a line, if there are so many.
+// The number in the first four digits of a line, if it begins with four digits.
 enum Front {
     Number(u16),
     Nothing,
 }
 
-// The digits of a number, and its octets.
+// How many digits a number has, and how many octets.
 const DIGITS: usize = 4;
 
 const OCTETS: usize = 2;
 
-// Whether a number is in the list. There is no early end, so that the compiler looks at many together.
+// Whether a number is in the list (rule 30.7). The loop has no early exit, so that the compiler can compare many numbers at once.
 fn is_listed(numbers: &[u16], number: u16) -> bool
     ensures { λ r. ⌜ r ≡ listed (now (numbers .entry)) number ⌝ }
 {
@@ -37,14 +37,14 @@ fn is_listed(numbers: &[u16], number: u16) -> bool
     found
 }
 
-// "Number: two octets, high first".
+// A number is two octets, high first (rule 4.1).
 fn number_of(high: u8, low: u8) -> u16
     ensures { λ r. ⌜ r ≡ high * 256 + low ⌝ }
 {
     (high as u16) * 256 + (low as u16)
 }
 
-// The number in the front of a line: if the line holds a datagram, it is that one's.
+// The number at the front of a line: if the line holds a datagram, it is the datagram's number.
 fn front_of(line: &[u8]) -> Front
     ensures { λ r. ⌜ FrontTold (now (line .entry)) r ⌝ }
 {
@@ -87,7 +87,7 @@ fn reads(line: &[u8]) -> bool
     }
 }
 
-// Whether a line is dropped.
+// Whether a line is dropped: its number is listed, and it reads (rules 21.1 and 21.5).
 pub fn is_dropped(numbers: &[u16], line: &[u8]) -> bool
     ensures { λ r. ⌜ r ≡ dropped (now (numbers .entry)) (now (line .entry)) ⌝ }
 {

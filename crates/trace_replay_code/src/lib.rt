@@ -1,4 +1,4 @@
-// A recorded trace played again with chosen losses: document 02, request 6, as `trace_replay` defines it.
+// A recorded trace played again with chosen losses (rules 21.1 to 21.6), as `trace_replay` defines it.
 mod dropping;
 mod playing;
 mod trace;

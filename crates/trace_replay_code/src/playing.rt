@@ -1,5 +1,5 @@
-// The lines of a trace one after the other, with the session lent as for the program's step. The text of a line is made in a buffer of its
-// own, which has room for any, and then laid into the lent one, if it fits.
+// The lines of a trace in order, over the session's memory as in the program's step. The text of a line is made in a local buffer, which is
+// large enough for any line, and then copied to the caller's buffer if it fits.
 use crate::dropping::is_dropped;
 use datagram_writer::put_octets;
 use length::Refusal;
@@ -20,7 +20,7 @@ ghost use Rattle.line.specs.Promise.{Does, Able, stepLimit};
 ghost use Rattle.trace_replay.specs.Replay.{replayStep};
 ghost use Rattle.trace_replay_code.specs.Inner.{TakesTraceLine, Lays, Plays};
 
-// One line of the trace: one that is dropped makes no line and no release, any other is the program's.
+// One line of the trace: a dropped one writes no line and triggers no release (rule 21.4), any other is the program's step (rule 21.2).
 pub fn replay_line(
     base: u16,
     counts: Counts,
@@ -55,7 +55,7 @@ struct Taken {
     next: usize,
 }
 
-// The line that begins at a place of the trace, its text to the front of the buffer.
+// Takes the line that begins at the place `at` of the trace, and writes its text to the front of the buffer.
 fn take_line(
     base: u16,
     counts: Counts,
@@ -98,7 +98,7 @@ fn take_line(
     }
 }
 
-// Text laid behind what is there, if it is to be written; the place after it.
+// Writes text at the place `at` if `writes` is set, and returns the place after it in either case.
 fn lay(writes: bool, text: &[u8], out: &mut [u8], at: usize) -> usize
     requires { ⌜ at + length (now text) ≤ length (now out) ⌝ }
     ensures { λ r. ⌜ Lays writes (now (text .entry)) (now (out .entry)) at (now (out .exit)) r ⌝ }
@@ -110,7 +110,7 @@ fn lay(writes: bool, text: &[u8], out: &mut [u8], at: usize) -> usize
     at + text.len()
 }
 
-// All lines of the trace, from a fresh session on, as long as their text fits the lent buffer.
+// Plays all lines of the trace, from a fresh session on; 13 as soon as their text no longer fits the caller's buffer (rule 21.6).
 pub fn play(
     base: u16,
     counts: Counts,

@@ -1,5 +1,5 @@
-// The whole trace, and a refusal that writes nothing: how long the text is shows only at its end. So what stands in the lent buffer is
-// kept aside and put back if the text does not fit. Only a text that is longer than what is kept aside is measured first: it is played
+// The whole trace, with a refusal that writes nothing (rule 21.6). The length of the text is known only at its end, so the caller's buffer
+// is saved first and restored if the text does not fit. Only a text longer than what can be saved is measured first: the trace is played
 // once without writing.
 use crate::playing::play;
 use datagram_writer::put_octets;
@@ -10,10 +10,10 @@ ghost use lib.ListN.{length};
 ghost use Rattle.trace_replay.specs.Promise.{Replays};
 ghost use Rattle.trace_replay_code.specs.Inner.{keptAside, Plays};
 
-// So many characters are kept aside.
+// How many characters of the caller's buffer can be saved.
 const KEPT: usize = 131072;
 
-// From a fresh session on, written to the lent buffer or not.
+// Plays the trace from a fresh session on, and writes to the caller's buffer if `writes` is set.
 fn play_fresh(numbers: &[u16], trace: &[u8], out: &mut [u8], writes: bool) -> Replayed
     ensures { λ r. ⌜ Plays (now (trace .entry)) (now (numbers .entry)) writes (now (out .entry)) (now (out .exit)) r ⌝ }
 {
@@ -36,7 +36,7 @@ fn play_fresh(numbers: &[u16], trace: &[u8], out: &mut [u8], writes: bool) -> Re
     )
 }
 
-// With what stands in the lent buffer kept aside.
+// Plays the trace with the caller's buffer saved, and restores it after a refusal.
 fn play_aside(numbers: &[u16], trace: &[u8], out: &mut [u8]) -> Replayed
     requires { ⌜ length (now out) ≤ keptAside ⌝ }
     ensures { λ r. ⌜ Replays (now (trace .entry)) (now (numbers .entry)) (now (out .entry)) (now (out .exit)) r ⌝ }
@@ -53,7 +53,7 @@ fn play_aside(numbers: &[u16], trace: &[u8], out: &mut [u8]) -> Replayed
     }
 }
 
-// Measured first.
+// Plays the trace once without writing, and again with writing if the text fits.
 fn play_measured(numbers: &[u16], trace: &[u8], out: &mut [u8]) -> Replayed
     ensures { λ r. ⌜ Replays (now (trace .entry)) (now (numbers .entry)) (now (out .entry)) (now (out .exit)) r ⌝ }
 {
@@ -64,8 +64,8 @@ fn play_measured(numbers: &[u16], trace: &[u8], out: &mut [u8]) -> Replayed
     }
 }
 
-// The trace without the lines whose datagrams have a listed number, offered to a fresh session: the program's lines go to the front of
-// the lent buffer.
+// Gives the trace, without the lines whose datagrams have a listed number, to a fresh session, and writes the program's lines to the front
+// of the caller's buffer (rules 21.1, 21.2 and 21.6).
 pub fn replay(trace: &[u8], numbers: &[u16], out: &mut [u8]) -> Replayed
     ensures { λ r. ⌜ Replays (now (trace .entry)) (now (numbers .entry)) (now (out .entry)) (now (out .exit)) r ⌝ }
 {

@@ -1,6 +1,5 @@
--- A chain of public calls of the receiving session: each on the session that the one before handed back, and each with any
--- answer that its promise allows. What the calls brought and what left by them is told by the calls and their answers alone.
--- Definitions only.
+-- A chain of public calls on a receiving session: each call is made on the session that the call before returned, and may return anything
+-- that its promise allows. What the calls brought and what left by them follows from the calls and their answers alone. Definitions only.
 use Prim.Native.Nat.{ℕ}
 use mathlib.Core.Bool.{Bool, true, false}
 use mathlib.Core.List.{List, [], _∷_, _++_}
@@ -25,13 +24,13 @@ use Rattle.session_calls.specs.declared.solver.AfterSolve.{AfterSolve}
 use Rattle.demands.specs.Common.History.{Left, leftAs}
 use Rattle.length.specs.Tables.{refusalIn}
 
--- a call and its answer, as the caller has them
+-- a call and its answer, as the caller sees them
 pub data Call : Type 0 where
-  -- these octets were offered
+  -- an offer of these octets (rule 10.13)
   offer : List ℕ → Offered → Call
-  -- a release, with leave to skip or without, and with this lent buffer before the call and after it
+  -- a release, with leave to skip or without, and the caller's buffer before the call and after it (rule 12.1)
   release : Bool → List ℕ → List ℕ → Released → Call
-  -- the call of document 02, request 13: the stored messages were solved together
+  -- solving: all held messages treated together (rule 14.1)
   solve : Solved → Call
 
 -- calls one after the other, the latest last
@@ -40,7 +39,7 @@ pub data Calls : Type 0 where
   start : Calls
   _then_ : Calls → Call → Calls
 
--- from session s these calls come to session t
+-- these calls lead from session s to session t
 pub data Called (s : Session) : Calls → Session → Type 0 where
   atStart : Called s start s
   offered : {t : Session} {calls : Calls} {octets : List ℕ} {r : AfterOffer} → Called s calls t → OfferOwes t octets r
@@ -59,21 +58,21 @@ acceptedIn (offer octets (outcome.Refused why)) = none
 acceptedIn (release leave old new r) = none
 acceptedIn (solve r) = none
 
--- it solved the stored messages together, and was not refused
+-- the call is a solve that was not refused
 abbrev pub fillsIn : Call → Bool
 fillsIn (offer octets r) = false
 fillsIn (release leave old new r) = false
 fillsIn (solve filling.Filled) = true
 fillsIn (solve (filling.Refused why)) = false
 
--- the number of the refusal that it was answered with, or none
+-- the number of the refusal that the call returned, or none
 abbrev pub callRefusal : Call → Option ℕ
 callRefusal (offer octets r) = refusalIn (offeredOutcome r)
 callRefusal (release leave old new r) = refusalIn (releasedOutcome r)
 callRefusal (solve r) = refusalIn (solvedOutcome r)
 
 -- ---- what left by a call
--- the number that an answer of release hands out, its octets at the front of the lent buffer
+-- the number that a release returned, with its octets from the front of the buffer (rules 12.2 and 12.4)
 abbrev pub handedOut : Released → List ℕ → List Left
 handedOut (answer.Number kind number note size) buffer = leftAs (stateOf kind) number note (take size buffer) ∷ []
 handedOut (answer.Refused why) buffer = []
@@ -83,7 +82,7 @@ leftIn (offer octets r) = []
 leftIn (release leave old new r) = handedOut r new
 leftIn (solve r) = []
 
--- what left by some calls, in order
+-- what left by these calls, in order
 unfoldable pub leftBy : Calls → List Left
 leftBy start = []
 leftBy (calls then call) = leftBy calls ++ leftIn call

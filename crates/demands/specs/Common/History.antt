@@ -1,6 +1,5 @@
--- The history of a receiving session, as document 01 sees it: a call, the session after it, the numbers that left, and the
--- counts of those. "Numbers leave in order, each place once, released or lost, and the counts match the history."
--- Definitions only.
+-- The history of a receiving session: a call, the session after it, the numbers that left, and their four counts (rules 9.10, 9.11 and
+-- 28.6). Definitions only.
 use Prim.Native.Nat.{ℕ, _+_}
 use mathlib.Core.List.{List, [], _∷_}
 use mathlib.Core.Bool.{Bool, true, false, cond}
@@ -12,16 +11,16 @@ use Rattle.session.specs.Release as releases
 use Rattle.session.specs.Release.{viewAfterRelease}
 use Rattle.solve.specs.Solve as solutions
 
--- one call
+-- a call without its answer
 pub data Move : Type 0 where
-  -- any octets are offered
+  -- an offer of any octets
   offer : List ℕ → Move
-  -- a release, with leave to skip or without, and with a lent buffer of so many octets
+  -- a release, with leave to skip or without, into a buffer of this many octets
   release : Bool → ℕ → Move
-  -- the stored messages are solved together
+  -- solving: all held messages treated together
   solve : Move
 
--- a number that left: released as received, spare or repaired, with its note and its octets; or lost, which is unknown
+-- a number that left: released as received, spare or repaired, with its note and octets; or lost, which has the state unknown
 pub record Left : Type 0 where
   pub kind : State
   pub number : ℕ
@@ -31,13 +30,13 @@ pub record Left : Type 0 where
 abbrev pub leftAs : State → ℕ → ℕ → List ℕ → Left
 leftAs kind number note octets = record { kind = kind; number = number; note = note; octets = octets }
 
--- the session after a call: "A refusal .. changes nothing."
+-- the session after a call; a refusal changes nothing (rule 2.25)
 unfoldable pub afterMove : Move → View → View
 afterMove (offer octets) view = afterwards (offers.offer octets view) view
 afterMove (release leave room) view = afterwards (viewAfterRelease (releases.release leave room view)) view
 afterMove solve view = afterwards (solutions.solve view) view
 
--- ---- "Four counts: received, spare, repaired (each released) and lost. Each equals the number of such moves since the start"
+-- ---- the four counts: received, spare and repaired, each released, and lost; each is how many numbers left so (rules 9.10 and 9.11)
 
 abbrev pub isReceived : State → Bool
 isReceived unknown = false
@@ -63,7 +62,7 @@ isRepaired blank = false
 abbrev pub isLost : State → Bool
 isLost = isUnknown
 
--- how many of a list are of a kind that passes a test
+-- how many numbers of a list have a kind that passes a test
 unfoldable pub howMany : (State → Bool) → List Left → ℕ
 howMany test [] = 0
 howMany test (x ∷ more) = cond (test (x .kind)) 1 0 + howMany test more

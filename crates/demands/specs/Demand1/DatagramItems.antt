@@ -1,7 +1,6 @@
--- Document 01, 'The datagram', item by item: "Number: two octets, high first. Then the newest packet: length, octets. Then one
--- octet, 00 for spares or 80 for parity; its low seven bits are zero. Spares: a count, then each with its length .. Parity: octet
--- 01, octet n, count m, then m messages, each with its length. Nothing follows." A datagram is a row of items, and some of them
--- say which items come next. Definitions only.
+-- A datagram item by item (rules 4.1 to 4.7): the number, the newest packet, the octet for spares or parity, then the spares, or octet
+-- `01`, octet n and the messages, and nothing behind them. A datagram is a row of items, and some items decide which come next.
+-- Definitions only.
 use Prim.Native.Nat.{ℕ, _≤_}
 use mathlib.Core.Path.{_≡_}
 use mathlib.Core.Bool.{cond}
@@ -14,34 +13,34 @@ use Rattle.datagram.specs.Sizes.{coveredLimit, messagesLeast, messagesLimit}
 
 -- ---- the items
 pub data Item : Type 0 where
-  -- "Number: two octets"
+  -- the number, two octets (rule 4.1)
   number : Item
-  -- the length of a packet, the newest or a spare
+  -- the length of a packet, the newest or a spare (rules 4.2 and 4.4)
   packet : Item
-  -- "one octet, 00 for spares or 80 for parity"
+  -- the octet `00` for spares or `80` for parity (rule 4.3)
   kind : Item
-  -- "Spares: a count"
+  -- the count of spares (rule 4.4)
   spares : Item
-  -- "Parity: octet 01, octet n, count m"
+  -- octet `01`, octet n and count m of parity (rule 4.6)
   octet01 : Item
   octetN : Item
   countM : Item
   -- the length of a message
   message : Item
-  -- so many octets of a packet, spare or message
+  -- this many octets of a packet, spare or message
   inside : ℕ → Item
 
 -- what an item looks like
 pub data Form : Type 0 where
-  -- so many octets, whatever they are
+  -- this many octets, with any values
   many : ℕ → Form
-  -- a length or count, from least to most
+  -- a length or count, from least to most (rules 3.1 and 3.2)
   sized : (least most : ℕ) → Form
-  -- one plain octet, from least to most
+  -- one plain octet, from least to most (rule 4.8)
   plain : (least most : ℕ) → Form
-  -- one octet, 00 or 80
+  -- one octet, `00` or `80`
   flag : Form
-  -- "Nothing follows"
+  -- nothing follows (rule 4.7)
   nothing : Form
 
 unfoldable pub formOf : Item → Form
@@ -60,8 +59,8 @@ unfoldable pub formDue : List Item → Form
 formDue [] = nothing
 formDue (item ∷ later) = formOf item
 
--- the items that come of an item with this value: of a length its octets, of a count so many lengths, of 00 and of 80 what the
--- page says of spares and of parity
+-- the items that follow from an item with this value: from a length its octets, from a count that many lengths, from `00` the count of
+-- spares, and from `80` the three items of parity
 unfoldable pub brings : Item → ℕ → List Item
 brings number value = []
 brings packet value = inside value ∷ []
@@ -75,7 +74,7 @@ brings (inside n) value = []
 
 -- ---- right items
 
--- these octets are an item of this form as it must be, with this value
+-- these octets are a right item of this form, with this value
 pub data Right : Form → List ℕ → ℕ → Type 0 where
   rightOctets : {n : ℕ} {x : List ℕ} → length x ≡ n → Right (many n) x 0
   rightSize : {least most value : ℕ} → least ≤ value → value ≤ most → Right (sized least most) (lengthOctets value) value
@@ -83,12 +82,12 @@ pub data Right : Form → List ℕ → ℕ → Type 0 where
   rightSpares : Right flag (0x00 ∷ []) 0x00
   rightParity : Right flag (0x80 ∷ []) 0x80
 
--- these octets are the right items of a datagram from its first on, and these items are due after them
+-- these octets are right items of a datagram from its first item on, and these items are due behind them
 pub data Due : List ℕ → List Item → Type 0 where
   begins : Due [] (number ∷ packet ∷ kind ∷ [])
   passes : {before x : List ℕ} {item : Item} {later : List Item} {value : ℕ} → Due before (item ∷ later)
       → Right (formOf item) x value → Due (before ++ x) (brings item value ++ later)
 
--- these octets are a datagram: right items, and none is due after them
+-- these octets are a datagram: right items, and none is due behind them
 abbrev pub WholeDatagram : List ℕ → Type 0
 WholeDatagram s = Due s []

@@ -1,6 +1,6 @@
--- Document 01, 'Refusals by number', of the datagram reader: what it refuses, and with which number, said without a reading
--- of the octets. They are right up to the first item that is wrong, what is wrong with that item is the number, and where it begins is
--- the place. A datagram of these items is what the datagram writer writes (Demand1, `isDatagram`). Statements alone.
+-- What the datagram reader refuses, and with which number (rule 4.15), stated without reading the octets in order. The octets are right
+-- up to the first wrong item; what is wrong with that item decides the number, and where it begins is the place (rule 2.27). `isDatagram`
+-- of Demand1 says that a datagram of these items is what the datagram writer writes. Statements only.
 use Prim.Native.Nat.{ℕ, _%_, _≤_, _<_}
 use mathlib.Core.Path.{_≡_}
 use mathlib.Core.Logic.{_↔_, _⊎_}
@@ -18,30 +18,30 @@ use Rattle.datagram.specs.declared.reader.DatagramRead.{DatagramRead}
 use Rattle.length.specs.Tables.{refusalIn}
 use Rattle.demands.specs.Demand1.DatagramItems.{Item, Form, many, sized, plain, flag, nothing, formOf, formDue, Due, WholeDatagram}
 
--- ---- the first item that is wrong
+-- ---- the first wrong item
 
--- an item of this form is due, these octets come, and this is the number for it
+-- an item of this form is due, these octets come instead, and they are refused with this number
 pub data Wrong : Form → List ℕ → ℕ → Type 0 where
-  -- 1: "input ends inside an item or before one that must come; empty input"
+  -- 1: the input ends inside an item or before one that must come; an empty input too (rules 2.1 and 3.5)
   fewOctets : {n : ℕ} {rest : List ℕ} → length rest < n → Wrong (many n) rest endsEarly
   noSize : {least most : ℕ} → Wrong (sized least most) [] endsEarly
   cutSize : {least most first : ℕ} → 0x80 ≤ first → first < 0xC0 → Wrong (sized least most) (first ∷ []) endsEarly
   noOctet : {least most : ℕ} → Wrong (plain least most) [] endsEarly
   noFlag : Wrong flag [] endsEarly
-  -- 3: "A first octet of C0 or more, or two octets for less than 128"
+  -- 3: a first octet of `C0` or more, or two octets for less than 128 (rules 3.3 and 3.4)
   highSize : {least most first : ℕ} {rest : List ℕ} → 0xC0 ≤ first → Wrong (sized least most) (first ∷ rest) badForm
   longSize : {least most second : ℕ} {rest : List ℕ} → second < 0x80 → Wrong (sized least most) (0x80 ∷ second ∷ rest) badForm
-  -- 4: "length, count, n or m outside the sizes; integer length octet not 01"
+  -- 4: a length, a count, n or m is outside the sizes, or the octet before n is not `01` (rules 4.8 to 4.10)
   otherSize : {least most value : ℕ} (rest : List ℕ) → (value < least) ⊎ (most < value) → value ≤ lengthLimit
       → Wrong (sized least most) (lengthOctets value ++ rest) outsideSizes
   otherOctet : {least most value : ℕ} {rest : List ℕ} → (value < least) ⊎ (most < value)
       → Wrong (plain least most) (value ∷ rest) outsideSizes
-  -- 5: "a spare bit is set"; of the octet 00 or 80, "its low seven bits are zero"
+  -- 5: one of the low seven bits of the octet `00` or `80` is set (rule 4.3)
   lowBits : {first : ℕ} {rest : List ℕ} → 0 < first % 0x80 → Wrong flag (first ∷ rest) spareBit
-  -- 6: "octets left over"
+  -- 6: octets are left over (rule 4.7)
   moreOctets : {first : ℕ} {rest : List ℕ} → Wrong nothing (first ∷ rest) leftOver
 
--- right items, then one that is wrong with this number
+-- right items, then one that is refused with this number
 pub record FirstWrong (s : List ℕ) (n : ℕ) : Type 0 where
   pub before : List ℕ
   pub rest : List ℕ
@@ -50,9 +50,9 @@ pub record FirstWrong (s : List ℕ) (n : ℕ) : Type 0 where
   pub due : Due before items
   pub wrong : Wrong (formDue items) rest n
 
--- ---- datagrams with octets too many or too few
+-- ---- datagrams with too many or too few octets
 
--- a datagram, and octets after it
+-- a datagram with octets behind it
 pub record Followed (s : List ℕ) : Type 0 where
   pub datagram : List ℕ
   pub first : ℕ
@@ -60,14 +60,14 @@ pub record Followed (s : List ℕ) : Type 0 where
   pub is : s ≡ datagram ++ (first ∷ rest)
   pub whole : WholeDatagram datagram
 
--- the front of a datagram: octets more would make it whole
+-- a front of a datagram: more octets would make it whole
 pub record Front (s : List ℕ) : Type 0 where
   pub first : ℕ
   pub rest : List ℕ
   pub octets : Octets (first ∷ rest)
   pub whole : WholeDatagram (s ++ (first ∷ rest))
 
--- right items, then the first octet alone of a length or count of two, which no second octet would bring within its sizes
+-- right items, then only the first of the two octets of a length or count, which no second octet would bring within its sizes
 pub record CutOver (s : List ℕ) : Type 0 where
   pub before : List ℕ
   pub first : ℕ
@@ -85,29 +85,28 @@ pub record CutOver (s : List ℕ) : Type 0 where
 
 -- its refusal of these octets
 pub record RefusalOf (s : List ℕ) (answer : Option ℕ) : Type 0 where
-  -- 2 exactly if they are more than the limit
+  -- 2 exactly if they are over the limit (rule 2.2)
   pub over : (answer ≡ some tooLong) ↔ (datagramLimit < length s)
   -- not refused exactly if they are a datagram
   pub whole : (answer ≡ none) ↔ WholeDatagram s
-  -- 1, 3, 4, 5 and 6 exactly if that is the number for the first item that is wrong
+  -- 1, 3, 4, 5 or 6 exactly if that is the number of the first wrong item (rule 4.15)
   pub firstWrong : (n : ℕ) → length s ≤ datagramLimit → (answer ≡ some n) ↔ FirstWrong s n
-  -- 6 exactly if they are a datagram and octets after it
+  -- 6 exactly if they are a datagram with octets behind it (rule 4.7)
   pub followed : length s ≤ datagramLimit → (answer ≡ some leftOver) ↔ Followed s
-  -- 1 exactly if they are the front of a datagram, or end inside a length or count that no second octet would bring within its
-  -- sizes
+  -- 1 exactly if they are a front of a datagram, or end inside a length or count that no second octet would bring within its sizes (rules
+  -- 2.1 and 3.6)
   pub cut : (answer ≡ some endsEarly) ↔ (Front s ⊎ CutOver s)
 
--- where: document 02, request 5, "Every refusal met in reading order shall give the octet at which the refused item begins, from the
--- start of the datagram"
+-- its place: the octet at which the refused item begins, from the start of the datagram (rule 2.27)
 pub record PlacedIn (s : List ℕ) (why : Refusal) : Type 0 where
-  -- 2 is not met in reading order: "refusals not met while reading give 0"
+  -- 2 is not met in reading order, so its place is 0 (rule 2.30)
   pub over : datagramLimit < length s → why .place ≡ 0
-  -- so many octets stand before the first item that is wrong
+  -- the place is the count of octets before the first wrong item
   pub item : length s ≤ datagramLimit → (w : FirstWrong s (why .number)) → why .place ≡ length (w .before)
-  -- four hexadecimal digits tell it
+  -- four hexadecimal digits are enough to write it (rule 18.6)
   pub few : why .place ≤ datagramLimit
 
--- octets as some datagram begins with them
+-- some datagram begins with these octets
 pub record BeginsDatagram (s : List ℕ) : Type 0 where
   pub more : List ℕ
   pub octets : Octets more
@@ -115,14 +114,14 @@ pub record BeginsDatagram (s : List ℕ) : Type 0 where
 
 pub record DatagramRefusals : Type 0 where
   pub refusal : {s : List ℕ} {r : DatagramRead} → Octets s → DatagramReads s r → RefusalOf s (refusalIn (readOutcome r))
-  -- where the refused item begins, and what stands before it
+  -- the place of the refused item; and some datagram begins with what is before it
   pub placed : {s : List ℕ} {r : DatagramRead} {why : Refusal} → Octets s → DatagramReads s r → readOutcome r ≡ refused why → PlacedIn s why
   pub begun : {s : List ℕ} {n : ℕ} (w : FirstWrong s n) → BeginsDatagram (w .before)
-  -- where octets are read, every front of them is refused with 1
+  -- if octets are a datagram, every proper front of them is refused with 1
   pub front : (s more : List ℕ) (first : ℕ) {r q : DatagramRead} → Octets (s ++ (first ∷ more))
       → DatagramReads (s ++ (first ∷ more)) q → refusalIn (readOutcome q) ≡ none
       → DatagramReads s r → refusalIn (readOutcome r) ≡ some endsEarly
-  -- octets more may help against 1 only: octets refused with another number are refused with any octets after them, ..
+  -- more octets can only help against 1: octets refused with another number are also refused with any octets behind them, ..
   pub never : (s more : List ℕ) {r q : DatagramRead} {n : ℕ} → Octets (s ++ more)
       → DatagramReads s r → refusalIn (readOutcome r) ≡ some n → (n ≡ endsEarly → ⊥)
       → DatagramReads (s ++ more) q → refusalIn (readOutcome q) ≡ none → ⊥
@@ -130,6 +129,6 @@ pub record DatagramRefusals : Type 0 where
   pub stays : (s more : List ℕ) {r q : DatagramRead} {n : ℕ} → Octets (s ++ more)
       → DatagramReads s r → refusalIn (readOutcome r) ≡ some n → (n ≡ endsEarly → ⊥) → length (s ++ more) ≤ datagramLimit
       → DatagramReads (s ++ more) q → refusalIn (readOutcome q) ≡ some n
-  -- the front of a datagram never ends inside such a length or count; but some octets do, as the length BF .. of a newest packet
+  -- a front of a datagram never ends inside such a length or count; but some octets do, as with `BF` for the length of the newest packet
   pub notBoth : {s : List ℕ} → Front s → CutOver s → ⊥
   pub cutBF : CutOver (0x00 ∷ 0x00 ∷ 0xBF ∷ [])

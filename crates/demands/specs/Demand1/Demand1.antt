@@ -1,12 +1,12 @@
--- Demand 1: "Any octets may come from the network, and any saved session from a caller. Every public call ends, and refuses what
--- document 01 says, with the number it says, and then only. A refused call leaves the session and each lent buffer as they
--- were." That a call ends is part of the proof of its contract, which asks nothing of its caller. The field of a call's name says
--- that its refusal is the first row of its table that is given, and that it is not refused where none is; the field
--- beside it (`offerUnchanged`, `releaseUnchanged`, ..) says what a refusal leaves. Readers change nothing. The refusals
--- of the datagram and the packet reader are those of their definitions, met in reading order; apart from that order is told what
--- they do not refuse (`isDatagram`, `isPacket`, `isRepaired`) and what they do (`datagramRefusals`, `packetRefusals`). The place that
--- document 02, request 5, adds to a refusal stands there too, and for the other calls in `places`. What the calls on images refuse
--- stands in Handover. Statements alone.
+-- Demand 1: any octets may come from the network and any saved session from a caller; every public call terminates, and it refuses
+-- exactly what the rules say, with the number they say (rule 28.1). A refused call leaves the session and each buffer unchanged (rule
+-- 28.2). That a call terminates is part of the proof of its contract, which requires nothing of its caller. The field with a call's name
+-- says that its refusal is the first of its table that applies, and that it is done where none applies (rule 2.24); the field beside it
+-- (`offerUnchanged`, `releaseUnchanged`, ..) says that a refusal changes nothing (rule 2.25). Readers change nothing. The datagram reader
+-- and the packet reader refuse what their definitions meet in reading order; `isDatagram`, `isPacket` and `isRepaired` say without that
+-- order what they do not refuse, and `datagramRefusals` and `packetRefusals` what they do, and at which place. The places of the other
+-- calls are in `places`. The refusals of the calls on images are in Handover, of solving in Losses, of a joiner in `frame` (`fieldRows`),
+-- and of replay and compare in the claims of their crates. Statements only.
 use Prim.Native.Nat.{ℕ, _≤_}
 use mathlib.Core.Path.{_≡_}
 use mathlib.Core.Logic.{_↔_}
@@ -64,7 +64,7 @@ use Rattle.demands.specs.Demand1.PacketRefusals.{PacketRefusals}
 use Rattle.demands.specs.Demand1.DatagramRefusals.{DatagramRefusals}
 
 -- ---- readers
--- some octets are what the datagram writer writes of some fields; or the packet writer, by an edition
+-- these octets are what the datagram writer writes for some fields, or the packet writer in this edition
 pub record IsDatagram (s : List ℕ) : Type 0 where
   pub number : ℕ
   pub packet : List ℕ
@@ -81,7 +81,7 @@ pub record IsPacket (edition : Edition) (s : List ℕ) : Type 0 where
   pub octets : List ℕ
   pub written : packetToWrite edition kind value types lengths octets ≡ done s
 
--- or the packet writer, and zeros only after it, within the packet limit
+-- or what the packet writer writes, with only zeros behind it, within the packet limit
 pub record IsRepaired (edition : Edition) (s : List ℕ) : Type 0 where
   pub packet : List ℕ
   pub zeros : ℕ
@@ -90,43 +90,52 @@ pub record IsRepaired (edition : Edition) (s : List ℕ) : Type 0 where
   pub written : IsPacket edition packet
 
 pub record Readers : Type 0 where
+  -- a length: 3 or 1 for its form (rule 3.6)
   pub length : {s : List ℕ} {r : Length} → LengthRead s r → refusalIn (lengthOutcome r) ≡ first (lengthRows s)
+  -- a datagram: 2, then reading order (rule 4.15)
   pub datagram : {s : List ℕ} {r : DatagramRead} → DatagramReads s r → refusalIn (readOutcome r) ≡ refusalIn (readDatagram s)
+  -- a packet: 15, 4 for the whole packet, then reading order (rule 6.13)
   pub packet : (octet : ℕ) (ending : Ending) (s : List ℕ) {r : PacketRead} → ReadBy octet ending s r
       → refusalIn (packetOutcome r) ≡ refusalIn (byEdition octet (λ edition. readPacket edition ending s))
-  -- a datagram reads exactly if it is one, and so does a packet of the named edition as received; one as repaired "may go on with zeros
-  -- only". That octets are below 256 (`Octets`) is so of every slice of octets
+  -- octets are read as a datagram exactly if they are one, and as a received packet of the named edition exactly if they are one; a
+  -- repaired packet may also go on with zeros (rules 6.11 and 6.12). Every slice of octets has values below 256 (`Octets`)
   pub isDatagram : {s : List ℕ} {r : DatagramRead} → Octets s → DatagramReads s r → (refusalIn (readOutcome r) ≡ none) ↔ IsDatagram s
   pub isPacket : (octet : ℕ) (named : Named) → Names octet named → (s : List ℕ) {r : PacketRead} → Octets s → ReadBy octet Whole s r
       → (refusalIn (packetOutcome r) ≡ none) ↔ IsPacket (editionOf named) s
   pub isRepaired : (octet : ℕ) (named : Named) → Names octet named → (s : List ℕ) {r : PacketRead} → Octets s
       → ReadBy octet Repaired s r → (refusalIn (packetOutcome r) ≡ none) ↔ IsRepaired (editionOf named) s
+  -- which packets are refused with which number, in the edition that the octet names
   pub packetRefusals : (octet : ℕ) (named : Named) → Names octet named → PacketRefusals octet named
-  -- document 02, request 11: "15 for another edition, first", of the packet readers and of the packet writer
+  -- 15 for another edition, first, by the packet readers and the packet writer (rule 7.2)
   pub anotherEdition : AnotherEdition
+  -- which datagrams are refused with which number
   pub datagramRefusals : DatagramRefusals
 
 -- ---- writers
--- a refused call that was to write w leaves the lent buffer as it was
+-- a refused call that was to write w leaves the caller's buffer unchanged (rule 2.25)
 abbrev pub Unchanged : Answer (List ℕ) → Type 0
 Unchanged w = (old new : List ℕ) (r : Written) (n : ℕ) → Puts w old new r → refusalIn (writtenOutcome r) ≡ some n → new ≡ old
 
 pub record Writers : Type 0 where
+  -- the length writer: 4, 13 (rule 3.8)
   pub length : (n : ℕ) {old new : List ℕ} {r : Written} → Puts (lengthToWrite n) old new r
       → refusalIn (writtenOutcome r) ≡ first (lengthWriterRows n ++ roomRow (lengthOctets n) old)
+  -- the datagram writer: 4, 15, 4, 13 (rule 4.17)
   pub datagram : (number : ℕ) (packet : List ℕ) (kind : Kind) (lengths run : List ℕ) {old new : List ℕ} {r : Written}
       → Puts (datagramToWrite number packet kind lengths run) old new r
       → refusalIn (writtenOutcome r)
       ≡ first (datagramWriterRows packet kind lengths run ++ roomRow (datagramOctets (carriedOf number packet kind lengths run)) old)
+  -- the packet writer, in the edition that the octet names: 4, 15, 12, 14, 4, 13 (rule 6.20)
   pub packet : (octet : ℕ) (named : Named) → Names octet named → (kind : packets.PacketKind) (value : ℕ) (types lengths octets : List ℕ)
       {old new : List ℕ} {r : Written} → Puts (packetBy octet kind value types lengths octets) old new r
       → refusalIn (writtenOutcome r)
       ≡ first
       (packetWriterRows (editionOf named) kind value types lengths octets
       ++ roomRow (packetOctets (editionOf named) kind value types lengths octets) old)
-  -- the octets of a line of hexadecimal: "line over [its limit] (before 15)", "a line not of paired hexadecimal digits", 13
+  -- the octets of a line of hexadecimal: 2 for a line that is too long, 15 for one without paired digits, 13 (rules 18.10 and 18.11)
   pub line : (line : List ℕ) {old new : List ℕ} {r : Written} → Puts (lineOctets line) old new r
       → refusalIn (writtenOutcome r) ≡ first (lineRows line ++ roomRow (octetsIn line) old)
+  -- a refused write leaves the caller's buffer unchanged (rule 28.2)
   pub lengthUnchanged : (n : ℕ) → Unchanged (lengthToWrite n)
   pub datagramUnchanged : (number : ℕ) (packet : List ℕ) (kind : Kind) (lengths run : List ℕ)
       → Unchanged (datagramToWrite number packet kind lengths run)
@@ -134,37 +143,41 @@ pub record Writers : Type 0 where
       → Unchanged (packetBy octet kind value types lengths octets)
   pub lineUnchanged : (line : List ℕ) → Unchanged (lineOctets line)
 
--- ---- the receiving session
+-- ---- the receiving session (rules 10.5 and 12.9)
 pub record Receiving : Type 0 where
+  -- offer: 17, 2, then reading order, then 8 or 9, then 7 (rule 10.5); refused, it returns the session unchanged (rule 28.2)
   pub offer : {s : Session} {octets : List ℕ} {r : AfterOffer} → OfferOwes s octets r
       → refusalIn (offeredOutcome (r .answer)) ≡ first (offerRows octets s)
   pub offerUnchanged : {s : Session} {octets : List ℕ} {r : AfterOffer} {n : ℕ} → OfferOwes s octets r
       → refusalIn (offeredOutcome (r .answer)) ≡ some n → r .session ≡ s
+  -- release: 17, 16, 10, 13 (rule 12.9); refused, it returns the session unchanged and does not touch the buffer (rule 28.2)
   pub release : {s : Session} {leave : Bool} {old new : List ℕ} {r : AfterRelease} → ReleaseOwes s leave old new r
       → refusalIn (releasedOutcome (r .answer)) ≡ first (releaseRows leave old s)
   pub releaseUnchanged : {s : Session} {leave : Bool} {old new : List ℕ} {r : AfterRelease} {n : ℕ} → ReleaseOwes s leave old new r
       → refusalIn (releasedOutcome (r .answer)) ≡ some n → (r .session ≡ s) × (new ≡ old)
 
--- ---- the sending session
+-- ---- the sending session (rules 15.8 and 15.11)
 pub record SendingCalls : Type 0 where
+  -- send: 17, 16, 15, 4, 13 (rule 15.8); refused, it returns the session unchanged and does not touch the buffer (rule 15.11)
   pub send : {s : Sender} {settings : Settings} {packet old new : List ℕ} {r : Sent} → Sends s settings packet old new r
       → refusalIn (writtenOutcome (r .answer))
       ≡ first (senderRows s settings packet ++ roomRow (datagramOctets (carriedNext settings packet (sendingOf s))) old)
   pub sendUnchanged : {s : Sender} {settings : Settings} {packet old new : List ℕ} {r : Sent} {n : ℕ} → Sends s settings packet old new r
       → refusalIn (writtenOutcome (r .answer)) ≡ some n → (r .sender ≡ s) × (new ≡ old)
 
--- ---- where: document 02, request 5
--- a refused call that was to write w gives 0
+-- ---- places
+-- a refused call that was to write w has place 0 (rule 2.30)
 abbrev pub Unplaced : Answer (List ℕ) → Type 0
 Unplaced w = (old new : List ℕ) (r : Written) → Puts w old new r → placeIn (writtenOutcome r) ≡ 0
 
 pub record Places : Type 0 where
-  -- "The length reader must give it first": a length is read at the very front
+  -- the length reader's place: a length is read at the very front (rule 3.9)
   pub length : {s : List ℕ} {r : Length} → LengthRead s r → placeIn (lengthOutcome r) ≡ 0
-  -- "and all who call it pass it on": offer gives the datagram reader's place; 17 before it, and 8, 9 and 7 after it, give 0
+  -- offer passes on the datagram reader's place; its other refusals, 17 before the reading and 8, 9 and 7 after it, have place 0 (rule
+  -- 2.30)
   pub offer : {s : Session} {octets : List ℕ} {r : AfterOffer} {q : DatagramRead} → OfferOwes s octets r → DatagramReads octets q
       → placeIn (offeredOutcome (r .answer)) ≡ cond (sessionInRanges s) (placeIn (readOutcome q)) 0
-  -- "refusals not met while reading give 0"
+  -- refusals that are not met while reading have place 0 (rule 2.30)
   pub release : {s : Session} {leave : Bool} {old new : List ℕ} {r : AfterRelease} → ReleaseOwes s leave old new r
       → placeIn (releasedOutcome (r .answer)) ≡ 0
   pub lengthWriter : (n : ℕ) → Unplaced (lengthToWrite n)
@@ -178,7 +191,7 @@ pub record Places : Type 0 where
   pub joinerField : {j : Joiner} {type : ℕ} {octets old new : List ℕ} {r : Joined} → FieldOwes j type octets old new r
       → placeIn (handedOutcome (r .answer)) ≡ 0
   pub joinerLost : {j : Joiner} {r : Joined} → LossOwes j r → placeIn (handedOutcome (r .answer)) ≡ 0
-  -- an image is no datagram and no packet
+  -- so have those of an image, which is neither a datagram nor a packet
   pub imageWriter : (s : Session) → Unplaced (imageToWrite imageVersion02 (lentBy s))
   pub imageReader : {text : List ℕ} {r : Restored} → ImageRead text r → placeIn (restoredOutcome r) ≡ 0
 
@@ -186,7 +199,7 @@ pub record Demand1 : Type 0 where
   pub readers : Readers
   pub writers : Writers
   pub receiving : Receiving
-  -- "offer 17, 2, then reading order": of a session within its ranges, what the datagram reader refuses is refused with its number
+  -- an offer to a session within its ranges refuses what the datagram reader refuses, with the same number (rule 10.5)
   pub offerReads : {s : Session} {octets : List ℕ} {r : AfterOffer} {q : DatagramRead} {n : ℕ} → OfferOwes s octets r
       → DatagramReads octets q → sessionInRanges s ≡ true → refusalIn (readOutcome q) ≡ some n
       → refusalIn (offeredOutcome (r .answer)) ≡ some n

@@ -1,9 +1,7 @@
--- The packet of documents 01 and 02 by an edition of the ASN.1, item by item: what it is made of, and the table of refusals of each item.
--- "Packet reader: over [the packet limit] 4, then reading order .. At a length: 3 or 1 in its form, then 4, then 1 for missing octets."
--- And request 2: "a spare bit set is still 5, met after its header, so for a field 14 now comes first". And request 11: "12 for added
--- values under the old one, for a 1 where the 0 bit stands, and past the last added value"; the order at the first value is 1, 12, 5, 14,
--- and the padding after it is an item of its own. Nothing here reads: a packet is a row of items, each of them as it must be, and each at
--- its place, so many bits after the packet's begin. Definitions only.
+-- A packet in an edition of the ASN.1, item by item: its items, and the table of refusals of each (rules 6.1 to 6.17 and 7.5 to 7.11). At
+-- the first value the order is 1 or 12, then 5, then 14 (rule 6.14); at a field header it is 1 or 12, then 14, then 5 (rule 6.15); at a
+-- count it is 3 or 1, then 4 (rule 3.6). Padding is an item of its own (rule 5.5). Nothing here reads: a packet is a row of right items,
+-- each at its place, which is counted in bits from the packet's start. Definitions only.
 use Prim.Native.Nat.{ℕ, zero, suc, _+_, _*_, _/_}
 use mathlib.Core.Path.{_≡_}
 use mathlib.Core.Bool.{Bool, not, cond, _&&_}
@@ -26,9 +24,9 @@ use Rattle.packet.specs.declared.types.Ending.the-variants.{Whole}
 use Rattle.demands.specs.Demand1.Refusals.{lengthRows}
 
 -- ---- what a packet is made of
--- the items of a packet. Whether its kind may have fields is looked at behind the first value's padding, and belongs to that value. The
--- items of a field also say how many fields come after it, and its data first how many octets it has. Padding is the zero bits up to an
--- octet edge, if any, before the item that must begin there
+-- the items of a packet. Whether the packet may have fields is decided behind the padding of the first value, and belongs to that value.
+-- Each item of a field carries how many fields come after that field, and field data carries before that how many octets it has. Padding
+-- is the zero bits, if any, up to the octet edge at which the next item must begin (rules 5.2 and 5.3)
 pub data Item : Type 0 where
   firstValue : Item
   fieldsAllowed : Item
@@ -39,12 +37,12 @@ pub data Item : Type 0 where
   fieldData : ℕ → ℕ → Item
   end : Item
 
--- the item that is due where so many fields are still to come
+-- the item that is due where this many fields are still to come
 abbrev pub fields : ℕ → Item
 fields zero = padding end
 fields (suc left) = header left
 
--- the octet at which an item begins, for one at a place
+-- the octet at which an item begins, for an item at this place (rules 5.7 and 6.17)
 abbrev pub octetOf : Item → Place → ℕ
 octetOf firstValue p = p / 8
 octetOf fieldsAllowed p = 0
@@ -56,15 +54,16 @@ octetOf (fieldData size left) p = p / 8
 octetOf end p = p / 8
 
 -- ---- a value of an ENUMERATED type, at a place
--- "one 1 bit for extension", where the type has an extension mark: an added value
+-- an added value: the type has an extension bit, and it is set (rule 7.5)
 abbrev pub isAdded : Enumerated → List ℕ → Place → Bool
 isAdded e s p = e .extensible && bitSetAt s p
 
--- the place behind the bit for extension, where there is one
+-- the place behind the extension bit, if the type has one
 abbrev pub behindMark : Enumerated → Place → Place
 behindMark e p = cond (e .extensible) (p + 1) p
 
--- "one 1 bit for extension, one 0 bit, then six bits counted from zero"; any other stands in the bits behind the mark
+-- an added value is six bits behind a 1 bit and a 0 bit, counted from zero (rule 7.5); any other value is the bits behind the extension
+-- bit
 abbrev pub valueIn : Enumerated → List ℕ → Place → ℕ
 valueIn e s p =
     cond (isAdded e s p) (e .assigned + bitsAt addedWidth s (p + 1 + 1)) (bitsAt (e .width) s (behindMark e p))
@@ -72,11 +71,11 @@ valueIn e s p =
 abbrev pub valueEnds : Enumerated → List ℕ → Place → Place
 valueEnds e s p = cond (isAdded e s p) (p + 1 + 1 + addedWidth) (behindMark e p + e .width)
 
--- "input ends inside an item or before one that must come": fewer bits are left than up to its end
+-- 1: fewer bits are left than the item needs (rule 2.1)
 abbrev pub cutShort : List ℕ → Place → Option ℕ
 cutShort s behind = when (ltb (8 * length s) behind) endsEarly
 
--- the table of an added value, from the place behind the bit for extension on, and of any other
+-- the table of an added value, from the place behind the extension bit on (rules 7.6 to 7.8), and of any other (rule 6.3)
 abbrev pub addedRows : Enumerated → List ℕ → Place → List (Option ℕ)
 addedRows e s p =
     when (ltb (e .added) 1) notAssigned
@@ -91,7 +90,7 @@ rootRows e s p = cutShort s (p + e .width) ∷ when (not (ltb (bitsAt (e .width)
 unfoldable pub valueRows : Enumerated → List ℕ → Place → List (Option ℕ)
 valueRows e s p = cond (isAdded e s p) (addedRows e s (p + 1)) (rootRows e s (behindMark e p))
 
--- ---- what stands at a place
+-- ---- what is at a place
 -- at an octet edge: the octets from there on, and the first of them
 abbrev pub octetsFrom : List ℕ → Place → List ℕ
 octetsFrom s p = drop (p / 8) s
@@ -99,21 +98,21 @@ octetsFrom s p = drop (p / 8) s
 abbrev pub octetHere : List ℕ → Place → ℕ
 octetHere s p = getD (octetsFrom s p) 0 0
 
--- "First octet, from the top: data-field present; 0 indicator or 1 data", then the value
+-- the first bit of a packet is data-field present, the second is the kind, then comes the value (rule 6.1)
 abbrev pub hasFields : List ℕ → Bool
 hasFields s = bitSetAt s 0
 
 abbrev pub firstValues : Edition → List ℕ → Enumerated
 firstValues edition s = values edition (kindOf s)
 
--- a header: the bit for data present and the field type; whether its type carries data so
+-- a header: one bit for data present, then the field type (rule 6.7); and whether that type allows data, or no data, there (rule 6.10)
 abbrev pub typeIn : Edition → List ℕ → Place → ℕ
 typeIn edition s p = valueIn (edition .types) s (p + 1)
 
 abbrev pub dataFits : Edition → List ℕ → Place → Bool
 dataFits edition s p = rightData edition (typeIn edition s p) (bitSetAt s p)
 
--- "With data, two octets hold its length minus one"
+-- the length of a field's data: two octets that hold it minus one (rule 6.8)
 abbrev pub dataSize : List ℕ → Place → ℕ
 dataSize s p = getD (octetsFrom s p) 0 0 * 256 + getD (octetsFrom s p) 1 0 + 1
 
@@ -129,8 +128,8 @@ ends edition (dataLength left) s p = p + 16
 ends edition (fieldData size left) s p = p + 8 * size
 ends edition end s p = p
 
--- and the item that is due there. "If present, a count of fields follows"; "after a field with no data the next header begins in the
--- same octet. Only the count of fields, data lengths and the packet's end go to an octet edge, by zero bits"
+-- the item that is due there. If the data-field bit is set, a count of fields follows (rule 6.4); a field header is not padded (rule
+-- 5.6); only the count of fields, data lengths and the packet's end are aligned to an octet edge (rule 5.2)
 abbrev pub dueAfter : Item → List ℕ → Place → Item
 dueAfter firstValue s p = padding fieldsAllowed
 dueAfter fieldsAllowed s p = cond (hasFields s) countOfFields (fields 0)
@@ -142,11 +141,11 @@ dueAfter (fieldData size left) s p = fields left
 dueAfter end s p = end
 
 -- ---- what each item is refused for
--- the table of an item at its place: the first row that is given refuses it. The count of fields has the form of every length; in
--- two octets it is 128 or more, and so is the first of them. A data length has no form to refuse
+-- the table of an item at its place: the first row that applies refuses it. The count of fields has the form of every length; in two
+-- octets it is 128 or more, and so is the first of them. A data length has no form to refuse (rule 6.9)
 unfoldable pub rows : Edition → Ending → Item → List ℕ → Place → List (Option ℕ)
 rows edition ending firstValue s p = valueRows (firstValues edition s) s (p + 2)
--- "An indicator never has a data field"
+-- 14: an indicator never has a data field (rule 6.6)
 rows edition ending fieldsAllowed s p = when (not (rightFields (kindOf s) (hasFields s))) wrongData ∷ []
 rows edition ending countOfFields s p =
     lengthRows (octetsFrom s p) ++ (when (not (within fieldsLeast fieldsLimit (octetHere s p))) outsideSizes ∷ [])
@@ -155,17 +154,17 @@ rows edition ending (header left) s p =
 rows edition ending (padding next) s p = when (ltb 0 (bitsAt (gap p) s p)) spareBit ∷ []
 rows edition ending (dataLength left) s p = cutShort s (p + 16) ∷ when (ltb packetLimit (dataSize s p)) outsideSizes ∷ []
 rows edition ending (fieldData size left) s p = cutShort s (p + 8 * size) ∷ []
--- "A received or spare packet ends at its last field. A repaired one may go on with zeros only; anything else left is refusal 6"
+-- 6: nothing follows a received or spare packet, and only zeros follow a repaired one (rules 6.11 and 6.12)
 rows edition ending end s p = when (not (mayFollow ending (octetsFrom s p))) leftOver ∷ []
 
 -- ---- a packet
--- from the first value on each item is as it must be, no row of its table is given, and at this place this item is due. (How the
--- packet came matters at its end alone)
+-- from the first value on each item is right, since no row of its table applies, and at this place this item is due. How the packet came
+-- matters only at its end
 pub data Due (edition : Edition) (s : List ℕ) : Place → Item → Type 0 where
   begins : Due edition s 0 firstValue
   goesOn : {p : Place} {item : Item} → Due edition s p item → first (rows edition Whole item s p) ≡ none
       → Due edition s (ends edition item s p) (dueAfter item s p)
 
--- a whole packet: after its last octet nothing more is due
+-- a whole packet: nothing more is due behind its last octet
 abbrev pub Packet : Edition → List ℕ → Type 0
 Packet edition s = Due edition s (8 * length s) end

@@ -1,6 +1,6 @@
--- What the packet reader refuses by the edition that the caller names, and with which number, said of the public call's answer: as received
--- (`Whole`) and as repaired. Octets are refused with the number of their first wrong item (`firstWrong`, over the tables of
--- `PacketItems`); the other fields say plainly what that comes to for each number. And where: document 02, request 5. Statements alone.
+-- What the packet reader refuses in the edition that the caller names, with which number and at which place, as received (`Whole`) and as
+-- repaired. It refuses octets with the number of their first wrong item (`firstWrong`, over the tables of PacketItems; rule 6.13), at
+-- that item's place (rule 2.27). The other fields say in plain terms what this means for each number. Statements only.
 use Prim.Native.Nat.{ℕ, _+_, _*_, _≤_, _<_}
 use mathlib.Core.Path.{_≡_}
 use mathlib.Core.Logic.{_↔_, _≢_}
@@ -33,41 +33,42 @@ use Rattle.demands.specs.Demand1.PacketItems.{octetOf, isAdded, behindMa
 use Rattle.demands.specs.Demand1.PacketItems.{firstValues}
 use Rattle.demands.specs.Demand1.PacketItems.{dataFits, dataSize}
 
--- the first wrong item: the table of an item that is due gives this number
+-- the first wrong item: its table gives this number
 pub record FirstWrong (edition : Edition) (ending : Ending) (s : List ℕ) (n : ℕ) : Type 0 where
   pub item : Item
   pub place : Place
   pub due : Due edition s place item
   pub wrong : first (rows edition ending item s place) ≡ some n
 
--- a whole packet stands at the front, and this follows it
+-- the octets begin with a whole packet, and this follows it
 pub record PacketThen (edition : Edition) (s rest : List ℕ) : Type 0 where
   pub place : Place
   pub due : Due edition s place end
   pub is : rest ≡ octetsFrom s place
 
--- the octets end inside a value that is not refused yet: one before the extension mark, or one added, where there are such and no 1 stands
--- for the 0 bit
+-- the octets end inside a value that is not refused so far: either it is not an added one, or the type has added ones and there is no 1
+-- in place of the 0 bit (rules 7.5 to 7.7)
 pub record CutValue (e : Enumerated) (s : List ℕ) (p : Place) : Type 0 where
   pub cut : 8 * length s < valueEnds e s p
   pub rightSoFar : isAdded e s p ≡ true → (1 ≤ e .added) × (bitSetAt s (p + 1) ≡ false)
 
--- the octets end early
+-- 1: the octets end early (rule 2.1)
 pub data EndsEarly (edition : Edition) (s : List ℕ) : Type 0 where
-  -- they are a front of a packet, if need be of one over the packet limit
+  -- they are a front of a packet, which may be one over the packet limit
   front : (more : List ℕ) → 1 ≤ length more → Packet edition (s ++ more) → EndsEarly edition s
-  -- or they end inside a length that is outside the sizes whatever follows: a count of fields after the first of its two octets,
-  -- or a data length after its first, if that is not zero
+  -- or they end inside a length that is outside the sizes whatever follows: a count of fields after the first of two octets, or a data
+  -- length after its first octet, if that is not zero (rules 3.6 and 6.9)
   inCount : (p : Place) → Due edition s p countOfFields → p + 8 ≡ 8 * length s → 0x80 ≤ octetHere s p → octetHere s p < 0xC0
       → EndsEarly edition s
   inLength : (p : Place) (left : ℕ) → Due edition s p (dataLength left) → p + 8 ≡ 8 * length s → 1 ≤ octetHere s p → EndsEarly edition s
-  -- or inside the first value or a header, some of it being there; a packet need not go on so (`2F` and `A0` of the edition of 2002)
+  -- or inside the first value or a header, some of it being there; such octets need not be a front of a packet (`2F` and `A0` in the
+  -- edition of 2002; rules 7.7 and 26.26)
   inFirst : 1 ≤ length s → CutValue (firstValues edition s) s 2 → EndsEarly edition s
   inHeader : (p : Place) (left : ℕ) → Due edition s p (header left) → p < 8 * length s → CutValue (edition .types) s (p + 1)
       → EndsEarly edition s
 
--- a value is not assigned: "12 for added values under the old one, for a 1 where the 0 bit stands, and past the last added value", or past
--- the last before the extension mark
+-- 12: a value is not assigned: an added value in an edition without any, a 1 in place of the 0 bit, a value past the last added one, or
+-- past the last of the others (rules 6.3 and 7.6 to 7.8)
 pub data Unassigned (e : Enumerated) (s : List ℕ) (p : Place) : Type 0 where
   noneAdded : isAdded e s p ≡ true → e .added < 1 → Unassigned e s p
   notZero : isAdded e s p ≡ true → bitSetAt s (p + 1) ≡ true → Unassigned e s p
@@ -79,60 +80,60 @@ pub data NotAssigned (edition : Edition) (s : List ℕ) : Type 0 where
   value : Unassigned (firstValues edition s) s 2 → NotAssigned edition s
   fieldType : (p : Place) (left : ℕ) → Due edition s p (header left) → Unassigned (edition .types) s (p + 1) → NotAssigned edition s
 
--- the first value is as it must be, with fields, and the count after it is in a form not allowed
+-- 3: the first value is right and has fields, and the count behind it has a form that is not allowed (rules 3.3 and 3.4)
 pub record BadForm (edition : Edition) (s : List ℕ) : Type 0 where
   pub place : Place
   pub due : Due edition s place countOfFields
   pub form : first (lengthRows (octetsFrom s place)) ≡ some number.badForm
 
--- a count of fields is in its form and not 1 to 16, or a data length is over the packet limit
+-- 4: a count of fields has a right form and is not 1 to 16, or a data length is over the packet limit (rules 6.4 and 6.9)
 pub data OutsideSizes (edition : Edition) (s : List ℕ) : Type 0 where
   count : (p : Place) → Due edition s p countOfFields → first (lengthRows (octetsFrom s p)) ≡ none
       → within fieldsLeast fieldsLimit (octetHere s p) ≡ false → OutsideSizes edition s
   longData : (p : Place) (left : ℕ) → Due edition s p (dataLength left) → p + 16 ≤ 8 * length s → packetLimit < dataSize s p
       → OutsideSizes edition s
 
--- a spare bit is set: one of a padding, after the first value too
+-- 5: a bit set in padding, also in that behind the first value (rule 5.4)
 pub record SpareBit (edition : Edition) (s : List ℕ) : Type 0 where
   pub place : Place
   pub next : Item
   pub due : Due edition s place (padding next)
   pub set-bits : 1 ≤ bitsAt (gap place) s place
 
--- data where none may be, or none where it must: an indicator with fields, or a field with data, or without, against its type
+-- 14: an indicator with fields, or a field that carries data, or none, against its type (rules 6.6 and 6.10)
 pub data WrongData (edition : Edition) (s : List ℕ) : Type 0 where
   indicator : (p : Place) → Due edition s p fieldsAllowed → kindOf s ≡ Indicator → hasFields s ≡ true → WrongData edition s
   field : (p : Place) (left : ℕ) → Due edition s p (header left) → first (valueRows (edition .types) s (p + 1)) ≡ none
       → dataFits edition s p ≡ false → WrongData edition s
 
--- whatever the call answered, of at most the packet limit: it refused with this number exactly in this case
+-- whatever the call returned, for at most the packet limit: it refused with this number exactly in this case
 abbrev pub Exactly : ℕ → ℕ → (List ℕ → Type 0) → Type 0
 Exactly octet n Case = (ending : Ending) (s : List ℕ) (r : PacketRead) → ReadBy octet ending s r → length s ≤ packetLimit
     → (refusalIn (packetOutcome r) ≡ some n) ↔ Case s
 
 -- of an octet that names an edition
 pub record PacketRefusals (octet : ℕ) (named : Named) : Type 0 where
-  -- "over [the packet limit] 4"; the fields below are for the others
+  -- over the packet limit it is 4 (rule 6.13); the fields below are about the other octets
   pub overLimit : (ending : Ending) (s : List ℕ) {r : PacketRead} → ReadBy octet ending s r → packetLimit < length s
       → refusalIn (packetOutcome r) ≡ some number.outsideSizes
-  -- "then reading order": refused exactly if there is a first wrong item, with its number
+  -- then reading order: refused exactly if there is a first wrong item, with its number (rule 6.13)
   pub firstWrong : (ending : Ending) (s : List ℕ) {r : PacketRead} (n : ℕ) → ReadBy octet ending s r → length s ≤ packetLimit
       → (refusalIn (packetOutcome r) ≡ some n) ↔ FirstWrong (editionOf named) ending s n
-  -- "Every refusal met in reading order shall give the octet at which the refused item begins, from the start of the .. packet": the one
-  -- in which the first wrong item begins, of which there is no more than one; "refusals not met while reading give 0"
+  -- the place of the refusal is the octet at which the first wrong item begins, and there is only one such item (rule 2.27); 4 for the
+  -- whole packet has place 0 (rule 2.30)
   pub place : (ending : Ending) (s : List ℕ) {r : PacketRead} {why : Refusal} {n : ℕ} → ReadBy octet ending s r
       → length s ≤ packetLimit
       → packetOutcome r ≡ refused why → (w : FirstWrong (editionOf named) ending s n)
       → why ≡ number.refusalAt (octetOf (w .item) (w .place)) n
   pub overPlace : (ending : Ending) (s : List ℕ) {r : PacketRead} {why : Refusal} → ReadBy octet ending s r → packetLimit < length s
       → packetOutcome r ≡ refused why → why .place ≡ 0
-  -- not refused exactly if it is a packet; as repaired, with zeros only after it. (`isPacket` and `isRepaired` of `Demand1` say that
-  -- these are what the packet writer writes)
+  -- not refused exactly if the octets are a packet; as repaired, one with only zeros behind it (rules 6.11 and 6.12). `isPacket` and
+  -- `isRepaired` of Demand1 say that these are what the packet writer writes
   pub received : (s : List ℕ) {r : PacketRead} → ReadBy octet Whole s r → length s ≤ packetLimit
       → (refusalIn (packetOutcome r) ≡ none) ↔ Packet (editionOf named) s
   pub repaired : (s : List ℕ) {r : PacketRead} → ReadBy octet Repaired s r → length s ≤ packetLimit
       → (refusalIn (packetOutcome r) ≡ none) ↔ ((rest : List ℕ) × PacketThen (editionOf named) s rest × (allZero rest ≡ true))
-  -- 6 exactly if a whole packet stands at the front and something follows; as repaired, something that is not all zeros
+  -- 6 exactly if the octets begin with a whole packet and something follows it; as repaired, something that is not all zeros
   pub leftOver : (s : List ℕ) {r : PacketRead} → ReadBy octet Whole s r → length s ≤ packetLimit
       → (refusalIn (packetOutcome r) ≡ some number.leftOver) ↔ ((rest : List ℕ) × PacketThen (editionOf named) s rest × (1 ≤ length rest))
   pub leftOverRepaired : (s : List ℕ) {r : PacketRead} → ReadBy octet Repaired s r → length s ≤ packetLimit
@@ -145,7 +146,7 @@ pub record PacketRefusals (octet : ℕ) (named : Named) : Type 0 where
   pub spareBit : Exactly octet number.spareBit (SpareBit (editionOf named))
   pub notAssigned : Exactly octet number.notAssigned (NotAssigned (editionOf named))
   pub wrongData : Exactly octet number.wrongData (WrongData (editionOf named))
-  -- octets more may help against 1 only: octets refused with another number are refused with any octets after them, ..
+  -- more octets can only help against 1: octets refused with another number are also refused with any octets behind them, ..
   pub never : (ending : Ending) (s : List ℕ) (more : List ℕ) {r t : PacketRead} {n : ℕ} → ReadBy octet ending s r
       → ReadBy octet ending (s ++ more) t → refusalIn (packetOutcome r) ≡ some n → n ≢ number.endsEarly
       → refusalIn (packetOutcome t) ≡ none → ⊥
@@ -153,7 +154,7 @@ pub record PacketRefusals (octet : ℕ) (named : Named) : Type 0 where
   pub stays : (ending : Ending) (s : List ℕ) (more : List ℕ) {r t : PacketRead} {n : ℕ} → ReadBy octet ending s r
       → ReadBy octet ending (s ++ more) t → length (s ++ more) ≤ packetLimit → refusalIn (packetOutcome r) ≡ some n
       → n ≢ number.endsEarly → refusalIn (packetOutcome t) ≡ some n
-  -- as received and as repaired differ in 6 alone
+  -- read as received and as repaired, the same octets differ only in 6 (rule 6.12)
   pub eitherWay : (s : List ℕ) {r t : PacketRead} {n : ℕ} → ReadBy octet Whole s r → ReadBy octet Repaired s t
       → n ≢ number.leftOver
       → (refusalIn (packetOutcome r) ≡ some n) ↔ (refusalIn (packetOutcome t) ≡ some n)

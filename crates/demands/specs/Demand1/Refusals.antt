@@ -1,8 +1,8 @@
--- Document 01, 'Refusals by number', as tables: for each call its refusals in the page's order, each with its number and the
--- condition under which it is given (`length`, Tables). The first row that is given is the call's answer, and where none is, the
--- call is not refused. The writers' tables stand where their definitions do, which follow from them: `lengthWriterRows`,
--- `datagramWriterRows`, `packetWriterRows`, `senderRows`, `lineRows`. Here are those of the length reader and of the receiving
--- session; what the packet reader and the datagram reader refuse stands in PacketItems and DatagramRefusals. Definitions only.
+-- The refusals of a call as a table: in the call's order, each with its number and the condition under which it applies (`length`,
+-- Tables). The call is refused with the first that applies, and done if none applies (rule 2.24). The writers' tables are beside their
+-- definitions: `lengthWriterRows`, `datagramWriterRows`, `packetWriterRows`, `senderRows`, `lineRows`. Here are the tables of the length
+-- reader and of the receiving session; those of the packet reader and the datagram reader are in PacketItems and DatagramRefusals.
+-- Definitions only.
 use Prim.Native.Nat.{ℕ, _+_, _*_}
 use mathlib.Core.Bool.{Bool, not, _&&_}
 use mathlib.Core.List.{List, [], _∷_}
@@ -22,7 +22,7 @@ use Rattle.session_held.specs.Table.{viewOf}
 use Rattle.session_held.specs.Laid.{sessionInRanges}
 use Rattle.session_held.specs.declared.Session.{Session}
 
--- ---- lengths: "At a length: 3 or 1 in its form"
+-- ---- lengths: 3 or 1 for the form (rules 3.3 to 3.6)
 unfoldable pub lengthRows : List ℕ → List (Option ℕ)
 lengthRows s =
     when (ltb (length s) 1) endsEarly
@@ -31,8 +31,8 @@ lengthRows s =
     ∷ when (leb 0x80 (getD s 0 0) && ltb (ofTwo (getD s 0 0) (getD s 1 0)) 0x80) badForm
     ∷ []
 
--- ---- "offer 17, 2, then reading order, then 8 or 9, then 7"
--- the distance from the base to the number in the first two octets
+-- ---- offer: 17, 2, then reading order, then 8 or 9, then 7 (rule 10.5)
+-- the distance from the base to the number in the first two octets (rule 10.1)
 abbrev pub distanceTo : List ℕ → Session → ℕ
 distanceTo octets s = distance ((viewOf s) .base) (getD octets 0 0 * 256 + getD octets 1 0)
 
@@ -45,7 +45,7 @@ offerRows octets s =
     ∷ when (acceptedAt (viewOf s) (distanceTo octets s)) repeated
     ∷ []
 
--- ---- release: "the order is 17, 16, 10, 13" (document 02, request 7)
+-- ---- release: 17, 16, 10, 13 (rule 12.9)
 unfoldable pub releaseRows : Bool → List ℕ → Session → List (Option ℕ)
 releaseRows leave lent s =
     when (not (sessionInRanges s)) outsideRanges

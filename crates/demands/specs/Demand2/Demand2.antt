@@ -1,10 +1,10 @@
--- Demand 2: "Reading and writing follow T.38 (06/98) Annex A in the aligned packed encoding, as document 01 writes it out. What
--- you write reads back to the same fields, and what you read as received writes back to the same octets. In a session fresh at
--- its start, the known numbers are exactly those reached from arrived, spare and parity octets by 01's repair rule. Numbers leave
--- in order, each place once, released or lost, and the counts match the history. One saved within its ranges goes on from what
--- it holds, each call as 01 says." The first sentence is what the readers and writers promise (LengthRead, DatagramReads,
--- PacketTold, Puts): their answers are those of the definitions that write document 01 out, `lengthAt`, `readDatagram` and
--- `readPacket`, `lengthToWrite`, `datagramToWrite` and `packetToWrite`. Statements alone.
+-- Demand 2. Reading and writing follow T.38 Annex A of the named edition in the aligned packed encoding (rule 28.3): this is what the
+-- readers and writers promise (LengthRead, DatagramReads, PacketTold, Puts), since their answers are those of the definitions `lengthAt`,
+-- `readDatagram` and `readPacket`, `lengthToWrite`, `datagramToWrite` and `packetToWrite`. What is written reads back to the same fields,
+-- and what is read as received writes back to the same octets (rule 28.4). In a session fresh at its start the known numbers are exactly
+-- those reached from arrived, spare and parity octets, and those that solving fixed (rule 28.5). Numbers leave in order, each place once,
+-- released or lost, and the counts match the history (rule 28.6). A session saved within its ranges goes on from what it holds, each call
+-- as the rules say (rule 28.7). Statements only.
 use Prim.Native.Nat.{ℕ, _+_, _-_, _%_, _≤_, _<_}
 use mathlib.Core.Path.{_≡_}
 use mathlib.Core.Logic.{_↔_}
@@ -36,7 +36,7 @@ use Rattle.demands.specs.Demand2.SendChain.{SenderBegins, SentFrom}
 use Rattle.demands.specs.Demand2.RoundTrips.{RoundTrips}
 
 -- ---- where a chain of calls begins
--- a session saved within its ranges; that its arrays have their lengths is so of every value of the struct's type
+-- a session saved within its ranges; every value of the struct's type has arrays of the right lengths (`Sized`)
 pub record Saved (s : Session) : Type 0 where
   pub sized : Sized s
   pub inRanges : sessionInRanges s ≡ true
@@ -46,7 +46,7 @@ pub data Begins (s : Session) : Type 0 where
   fresh : Fresh s → Begins s
   saved : Saved s → Begins s
 
--- ---- "Numbers leave in order, each place once, released or lost, and the counts match the history."
+-- ---- numbers leave in order, each place once, released or lost, and the counts match the history (rule 28.6)
 
 -- released as received, spare or repaired, or lost
 abbrev pub OneKind : Left → Type 0
@@ -62,24 +62,24 @@ grown c more =
       lost = c .lost + more .lost;
     }
 
--- what left a session, and where that took it from its base and counts
+-- what left a session, and how that moved its base and its counts
 pub record SavedLeaves (before : View) (left : List Left) (after : View) : Type 0 where
-  -- in order, each place once: the j-th number to leave, from 0, is j after the base
+  -- in order, each place once: the j-th number to leave, from 0, is the base plus j, modulo 65,536
   pub inOrder : map (λ (x : Left). x .number) left ≡ tab (length left) (λ j. (before .base + j) % numbers)
   pub kinds : (x : Left) → Among x left → OneKind x
-  -- "Each equals the number of such moves since the start"
+  -- each count grew by how many numbers left so (rule 9.11)
   pub counts : after .counts ≡ grown (before .counts) (historyCounts left)
-  -- "their sum is the base's whole advance"
+  -- their sum grew by how many numbers left, and the base advanced by as many (rules 9.11 and 12.5)
   pub advance : sum (after .counts) ≡ sum (before .counts) + length left
   pub base : after .base ≡ (before .base + length left) % numbers
 
--- the same of a session fresh at its start: from base 0 and counts of zero
+-- the same for a session fresh at its start: from base 0 and counts of zero (rule 9.1)
 abbrev pub FreshLeaves : List Left → View → Type 0
 FreshLeaves left after = SavedLeaves freshView left after
 
--- ---- "What is known is never written over."
+-- ---- what is known is never written over (rule 9.9)
 
--- a number that is known at place p in view, and what became of it by calls that made these numbers leave
+-- a number that is known at place p of the view, and what became of it by calls that made these numbers leave
 pub record StaysKnown (before : View) (left : List Left) (after : View) (p : ℕ) : Type 0 where
   -- as long as it is in view it keeps its kind, its octets and its note
   pub stays : length left ≤ p → cellAt (after .cells) (p - length left) ≡ cellAt (before .cells) p
@@ -89,35 +89,33 @@ pub record StaysKnown (before : View) (left : List Left) (after : View) (p : ℕ
       ≡ leftAs ((cellAt (before .cells) p) .state) ((before .base + (p - keptBefore)) % numbers) ((cellAt (before .cells) p) .note)
       ((cellAt (before .cells) p) .octets)
 
--- ---- the demand: of every chain of public calls, with whatever they answered, refusals among them
+-- ---- the demand: of every chain of public calls, whatever they returned, refusals included
 pub record Demand2 : Type 0 where
-  -- "What you write reads back to the same fields, and what you read as received writes back to the same octets."
+  -- what is written reads back to the same fields, and what is read as received writes back to the same octets (rule 28.4)
   pub roundTrips : RoundTrips
-  -- "In a session fresh at its start, the known numbers are exactly those reached from arrived, spare and parity octets by 01's
-  -- repair rule." Document 02, request 13: "Demand 2's known set gains these fills." What stands at place p in view is the session's place
-  -- `gone calls + p`
+  -- in a session fresh at its start the known numbers are exactly those that the calls reached: by arrived packets and spares, by repair,
+  -- and by solving (rule 28.5). Place p of the view is the session's place `gone calls + p`
   pub knownNumbers : {s t : Session} {calls : Calls} → Fresh s → Called s calls t → (p : ℕ) → p < keptNumbers
       → Known ((viewOf t) .cells) p ↔ ReachedBy calls (gone calls + p)
-  -- document 02, request 8: "each known number shall also keep the number of the datagram whose offer filled it, and each release gives
-  -- it": the one by whose offer the number was reached, and before which it was not; zero if the stored messages fixed it together (request
-  -- 13). The calls tell one note for a place
+  -- each known number keeps the number of the datagram whose offer reached it first, and each release returns it (rules 9.5, 9.8 and
+  -- 12.2); the note is 0 if solving filled the number (rule 14.3). The calls determine one note for each place
   pub notes : {s t : Session} {calls : Calls} → Fresh s → Called s calls t → (p : ℕ) → p < keptNumbers → Known ((viewOf t) .cells) p
       → NotedBy calls (gone calls + p) ((cellAt ((viewOf t) .cells) p) .note)
   pub leftNotes : {s t : Session} {calls : Calls} → Fresh s → Called s calls t → LeftNoted calls (leftBy calls)
   pub oneNote : {calls : Calls} {P n m : ℕ} → NotedBy calls P n → NotedBy calls P m → n ≡ m
-  -- "Numbers leave in order, each place once, released or lost, and the counts match the history."
+  -- numbers leave in order, each place once, released or lost, and the counts match the history (rule 28.6)
   pub leaves : {s t : Session} {calls : Calls} → Fresh s → Called s calls t → FreshLeaves (leftBy calls) (viewOf t)
   pub savedLeaves : {s t : Session} {calls : Calls} → Saved s → Called s calls t
       → SavedLeaves (viewOf s) (leftBy calls) (viewOf t)
-  -- "What is known is never written over": not by any calls that come after
+  -- what is known is never written over, whatever calls come after (rule 9.9)
   pub keeps : {s t u : Session} {calls more : Calls} → Begins s → Called s calls t → Called t more u
       → (p : ℕ) → p < keptNumbers → Known ((viewOf t) .cells) p
       → StaysKnown (viewOf t) (leftBy more) (viewOf u) p
-  -- "One saved within its ranges goes on from what it holds, each call as 01 says": one fresh at its start too, so that kind and
-  -- octets of all that is released are settled
+  -- a session saved within its ranges goes on from what it holds, each call as the rules say (rule 28.7); so does one fresh at its start,
+  -- which determines kind and octets of all that it releases
   pub goesOn : {s t : Session} {calls : Calls} → Begins s → Called s calls t → GoesOn (viewOf s) calls (viewOf t)
-  -- "17 | session outside its ranges": no session that the library handed out is ever refused with it, nor is the first; of the
-  -- receiving session, and of the sending one
+  -- no session in such a chain is ever refused with 17, the first included: the receiving session's (rules 9.12 and 13.13), and the
+  -- sending session's
   pub never17 : {s t : Session} {calls : Calls} {call : Call} → Begins s → Called s (calls then call) t
       → callRefusal call ≡ some outsideRanges
       → ⊥

@@ -1,8 +1,7 @@
--- Which numbers some calls reach in a session fresh at its start: "the known numbers are exactly those reached from arrived,
--- spare and parity octets by 01's repair rule"; and document 02, request 13: "Demand 2's known set gains these fills." It is told by the
--- calls and their answers, and by what the offered octets read as, with no word of what the session holds. Numbers repeat after 65,536,
--- so a number is named here by its place: the first number of the session has the place keptBefore, each later one the next, and the
--- places below are those before the first. Definitions only.
+-- Which numbers some calls reach in a session fresh at its start: those of arrived packets and spares, those that repair brings back, and
+-- those that solving fixed (rule 28.5). This follows from the calls, their answers and what the offered octets read as; it does not
+-- mention what the session holds. Numbers repeat after 65,536, so a number is named here by its place: the session's first number has the
+-- place keptBefore, each later one the next, and lower places are numbers before the first. Definitions only.
 use Prim.Native.Nat.{ℕ, _+_, _-_, _%_, _≤_, _<_}
 use mathlib.Core.Path.{_≡_}
 use mathlib.Core.Bool.{Bool, true}
@@ -20,7 +19,7 @@ use Rattle.session.specs.View.{numbers}
 use Rattle.session.specs.Offer.{heldBy}
 use Rattle.demands.specs.Common.Calls.{Call, Calls, _then_, acceptedIn, fillsIn, leftBy}
 
--- how many numbers have left by these calls: "the base's whole advance"
+-- how many numbers have left by these calls: the base's whole advance (rule 9.11)
 abbrev pub gone : Calls → ℕ
 gone calls = length (leftBy calls)
 
@@ -32,7 +31,7 @@ baseBy calls = keptBefore + gone calls
 abbrev pub placeNumber : ℕ → ℕ
 placeNumber S = (S - keptBefore) % numbers
 
--- "the j-th spare of datagram S is packet S−j"
+-- the place of the j-th spare of the datagram at place S (rule 4.5)
 abbrev pub spareAt : ℕ → ℕ → ℕ
 spareAt S j = S - j
 
@@ -41,12 +40,12 @@ abbrev pub sparesIn : Extra → ℕ
 sparesIn (spares copies) = length copies
 sparesIn (parity n messages) = 0
 
--- it carries a j-th spare, j from 1 on
+-- it carries a j-th spare, j from 1
 abbrev pub HasSpare : Carried → ℕ → Type 0
 HasSpare datagram j = (1 ≤ j) × (j ≤ sparesIn (datagram .extra))
 
--- the call that comes after these is an offer of this datagram, and was accepted; S is the place of its number, the one within
--- keptAhead from the base that has it: "d up to 31 may be accepted"
+-- the call that comes after these is an offer of this datagram, and was accepted. S is the place of its number: of the keptAhead places
+-- from the base on, the one with that number (rule 10.1)
 pub record Accepts (calls : Calls) (call : Call) (S : ℕ) (datagram : Carried) : Type 0 where
   pub octets : List ℕ
   pub accepted : acceptedIn call ≡ some octets
@@ -62,8 +61,8 @@ pub data Arrived : Calls → ℕ → Carried → Type 0 where
   before : {calls : Calls} {call : Call} {S : ℕ} {datagram : Carried} → Arrived calls S datagram
       → Arrived (calls then call) S datagram
 
--- a message held after these calls: message i of a datagram that arrived at place S, where S has not left. "The number that
--- leaves drops its accepted mark and messages"
+-- a message held after these calls: message i of a datagram that arrived at place S, where S has not left, since a number that leaves
+-- drops its messages (rule 12.7)
 pub record HeldBy (calls : Calls) (message : Message) : Type 0 where
   pub S : ℕ
   pub datagram : Carried
@@ -73,8 +72,8 @@ pub record HeldBy (calls : Calls) (message : Message) : Type 0 where
   pub low : i < length ((heldBy (datagram .extra)) .messages)
   pub is : message ≡ messageAt S (heldBy (datagram .extra)) i
 
--- octets x q and y q for every place q, as many as the limit: they agree at the marked places, and each message that is held after these
--- calls is the same for both
+-- two choices of octets for every place q, x q and y q, all of the limit's length: they agree at the marked places, and over the members
+-- of each held message their exclusive or is the same (rule 14.1)
 pub record AgreeAtMarked (calls : Calls) (marked : ℕ → Bool) (x y : ℕ → List ℕ) : Type 0 where
   pub firstLong : (q : ℕ) → length (x q) ≡ packetLimit
   pub secondLong : (q : ℕ) → length (y q) ≡ packetLimit
@@ -82,33 +81,32 @@ pub record AgreeAtMarked (calls : Calls) (marked : ℕ → Bool) (x y : ℕ → 
   pub messages : (message : Message) → HeldBy calls message
       → exclusiveOr packetLimit (map x (message .members)) ≡ exclusiveOr packetLimit (map y (message .members))
 
--- the held messages and the octets at the marked places allow one value for the place p
+-- the held messages and the octets at the marked places allow only one value for the place p (rule 14.2)
 abbrev pub OneValueBy : Calls → (ℕ → Bool) → ℕ → Type 0
 OneValueBy calls marked p = (x y : ℕ → List ℕ) → AgreeAtMarked calls marked x y → x p ≡ y p
 
--- the place p is among the 64 in view after these calls
+-- the place p is among the 64 in view after these calls (rules 1.13 and 14.4)
 abbrev pub InView : Calls → ℕ → Type 0
 InView calls p = (gone calls ≤ p) × (p < gone calls + keptNumbers)
 
 -- the number at a place is reached by these calls
 pub data ReachedBy : Calls → ℕ → Type 0 where
-  -- "Numbers before the first are blank: known"
+  -- numbers before the first are blank, which is known (rule 9.3)
   beforeFirst : {calls : Calls} {p : ℕ} → p < keptBefore → ReachedBy calls p
-  -- the packet of a datagram that arrived
+  -- the packet of a datagram that arrived (rule 10.6)
   packet : {calls : Calls} {S : ℕ} {datagram : Carried} → Arrived calls S datagram → ReachedBy calls S
-  -- each of its spares
+  -- each of its spares (rules 4.5 and 10.7)
   spare : {calls : Calls} {S : ℕ} {datagram : Carried} → Arrived calls S datagram → (j : ℕ) → HasSpare datagram j
       → ReachedBy calls (spareAt S j)
-  -- "Then repair": the call is an accepted offer, and the place is the one missing member of a message of length 1 or more
-  -- that is held with it; all other members are reached by then
+  -- repair: the call is an accepted offer, and the place is the one missing member of a held message of length 1 or more; all other
+  -- members are reached by then (rules 11.1 and 11.4)
   repaired : {calls : Calls} {call : Call} {S p : ℕ} {datagram : Carried} → Accepts calls call S datagram
       → (message : Message) → HeldBy (calls then call) message → 1 ≤ length (message .octets) → Among p (message .members)
       → ((q : ℕ) → Among q (message .members) → (q ≡ p → ⊥) → ReachedBy (calls then call) q)
       → ReachedBy (calls then call) p
-  -- "the messages together fix them": the call solved the stored messages, the place is in view, and the messages held and some places
-  -- reached by then allow one value for it
+  -- solving: the place is in view, and the held messages with some of the places reached by then allow only one value for it (rule 14.2)
   together : {calls : Calls} {call : Call} {p : ℕ} → fillsIn call ≡ true → InView calls p → (marked : ℕ → Bool)
       → ((q : ℕ) → marked q ≡ true → ReachedBy calls q) → OneValueBy calls marked p
       → ReachedBy (calls then call) p
-  -- what was reached stays so
+  -- what was reached stays reached
   earlier : {calls : Calls} {call : Call} {p : ℕ} → ReachedBy calls p → ReachedBy (calls then call) p

@@ -1,6 +1,5 @@
--- Demand 2: "What you write reads back to the same fields, and what you read as received writes back to the same octets." Said of
--- what the calls answered: whatever a write left in the lent buffer, whatever a read then answers of it, and the other way
--- round. Statements alone.
+-- What is written reads back to the same fields, and what is read as received writes back to the same octets (rule 28.4): whatever a
+-- write left in the caller's buffer, whatever a read of that then returns, and the other way round. Statements only.
 use Prim.Native.Nat.{ℕ, _+_, _-_, _%_, _≤_, min}
 use mathlib.Core.Path.{_≡_}
 use mathlib.Core.List.{List, _++_, map, flatten}
@@ -40,7 +39,7 @@ use Rattle.sender.specs.declared.Sent.{Sent}
 use Rattle.sender.specs.declared.Settings.the-variants as settings
 
 -- ---- written back
--- a write answered n octets: they are s, at the front of the lent buffer, and the rest stays
+-- a write returned n: the first n octets of the buffer are s, and the rest is unchanged (rule 2.26)
 pub record WrittenBack (n : ℕ) (s old new : List ℕ) (w : Written) : Type 0 where
   pub answer : w ≡ written.Octets n
   pub front : take n new ≡ s
@@ -48,7 +47,7 @@ pub record WrittenBack (n : ℕ) (s old new : List ℕ) (w : Written) : Type 0 w
 
 -- ---- lengths
 pub record LengthTrips : Type 0 where
-  -- a length that was written reads back to the same value and size, whatever follows it
+  -- a length that was written reads back to the same value and size, whatever follows it (rule 3.7)
   pub readsBack : (value : ℕ) {old new : List ℕ} {w : Written} {n : ℕ} → Puts (lengthToWrite value) old new w → w ≡ written.Octets n
       → (more : List ℕ) {r : Length} → LengthRead (take n new ++ more) r → r ≡ length.Value value n
   -- a length that was read writes back to the same octets
@@ -56,8 +55,7 @@ pub record LengthTrips : Type 0 where
       → {old new : List ℕ} {w : Written} → Puts (lengthToWrite value) old new w → n ≤ length old → WrittenBack n (take n s) old new w
 
 -- ---- datagrams
--- the read of some octets answered with this number, packet, kind (spares, or n), and spares or messages; the places past their
--- count are empty
+-- a read returned this number, packet, kind (spares, or n), and these spares or messages; the unused places are empty (rule 4.23)
 pub record DatagramSame (s : List ℕ) (number : ℕ) (packet : List ℕ) (kind : Kind) (items : List (List ℕ)) (r : DatagramRead) : Type 0 where
   pub newest : Part
   pub answer : r .reading ≡ reading.Datagram number newest kind (length items)
@@ -65,13 +63,14 @@ pub record DatagramSame (s : List ℕ) (number : ℕ) (packet : List ℕ) (kind 
   pub itemsSame : map (octetsOf s) (take (length items) (r .items)) ≡ items
   pub unused : drop (length items) (r .items) ≡ replicate (sparesLimit - length items) nowhere
 
--- the spares or messages of a reading as the writer takes them: their lengths, and one run of data
+-- the spares or messages that were read, as the writer takes them: their lengths, and one run of data (rule 4.17)
 abbrev pub lengthsRead : ℕ → DatagramRead → List ℕ
 lengthsRead count r = map (λ (p : Part). p .size) (take count (r .items))
 
 abbrev pub runRead : List ℕ → ℕ → DatagramRead → List ℕ
 runRead s count r = flatten (map (octetsOf s) (take count (r .items)))
 
+-- what was written reads back the same (rule 4.20), and what was read writes back the same (rule 4.21)
 pub record DatagramTrips : Type 0 where
   pub readsBack : (number : ℕ) (packet : List ℕ) (kind : Kind) (lengths run : List ℕ) {old new : List ℕ} {w : Written} {n : ℕ}
       → Puts (datagramToWrite number packet kind lengths run) old new w → w ≡ written.Octets n
@@ -82,7 +81,7 @@ pub record DatagramTrips : Type 0 where
       → length s ≤ length old → WrittenBack (length s) s old new w
 
 -- ---- packets
--- the fields of a reading as the writer takes them: their types, their lengths, and all their data
+-- the fields that were read, as the writer takes them: their types, their lengths, and all their data (rule 6.20)
 abbrev pub typesOf : ℕ → PacketRead → List ℕ
 typesOf count r = map (λ (f : Field). f .kind) (take count (r .fields))
 
@@ -92,8 +91,8 @@ sizesOf count r = map (λ (f : Field). f .size) (take count (r .fields))
 abbrev pub dataRead : List ℕ → ℕ → PacketRead → List ℕ
 dataRead s count r = allData s (take count (r .fields))
 
--- the read of some octets answered with this kind and value, and fields of these types and lengths and, one after the other, this
--- data; the places past their count are empty
+-- a read returned this kind and value, and fields of these types and lengths with, one after the other, this data; the unused places are
+-- empty (rule 6.27)
 pub record PacketSame (s : List ℕ) (kind : packets.PacketKind) (value : ℕ) (types lengths octets : List ℕ) (r : PacketRead) : Type 0 where
   pub answer : r .reading ≡ packetReading.Packet kind value (length types)
   pub typesSame : typesOf (length types) r ≡ types
@@ -101,12 +100,13 @@ pub record PacketSame (s : List ℕ) (kind : packets.PacketKind) (value : ℕ) (
   pub octetsSame : dataRead s (length types) r ≡ octets
   pub unused : drop (length types) (r .fields) ≡ replicate (fieldsLimit - length types) noField
 
--- in the edition that the caller names at both calls (document 02, request 11)
+-- what was written reads back the same (rule 6.24), and what was read as received writes back the same (rule 6.25), in the edition that
+-- the caller names at both calls (rule 7.1)
 pub record PacketTrips : Type 0 where
   pub readsBack : (octet : ℕ) (kind : packets.PacketKind) (value : ℕ) (types lengths octets : List ℕ) {old new : List ℕ} {w : Written} {n : ℕ}
       → Puts (packetBy octet kind value types lengths octets) old new w → w ≡ written.Octets n
       → {r : PacketRead} → ReadBy octet Whole (take n new) r → PacketSame (take n new) kind value types lengths octets r
-  -- "A repaired one may go on with zeros only"
+  -- read as repaired, it may go on with zeros (rule 6.12)
   pub readsRepaired : (octet : ℕ) (kind : packets.PacketKind) (value : ℕ) (types lengths octets : List ℕ) {old new : List ℕ} {w : Written} {n : ℕ}
       → Puts (packetBy octet kind value types lengths octets) old new w → w ≡ written.Octets n
       → (zeros : ℕ) → n + zeros ≤ packetLimit → {r : PacketRead} → ReadBy octet Repaired (take n new ++ replicate zeros 0) r
@@ -121,8 +121,8 @@ pub record PacketTrips : Type 0 where
 abbrev pub sentBefore : Sender → ℕ → List ℕ
 sentBefore s = packetOf ((sendingOf s) .history)
 
--- what a send wrote reads back as a datagram of the session's number, with that packet and the spares or messages that document 01
--- asks for. A session's arrays have their lengths, as every one has that the code holds
+-- what a send wrote reads back as a datagram with the session's number, that packet, and the spares or messages that the settings ask for
+-- (rules 15.2 to 15.7). Every session that the code holds has arrays of the right lengths
 pub record SendTrips : Type 0 where
   pub spares : {s : Sender} (k : ℕ) {packet old new : List ℕ} {t : Sent} {n : ℕ} → Arrays (s .sizes) (s .octets)
       → Sends s (settings.Spares k) packet old new t → t .answer ≡ written.Octets n

@@ -1,6 +1,6 @@
--- Demand 3's burst, worked: "one accepted datagram, still held, with m parity messages brings back any m or fewer numbers in a row
--- within its reach, if the rest of its reach is known". Five packets; datagrams 0 to 3 go without spares, datagram 4 with n=2,
--- m=2: its messages cover 2, 0 and 3, 1. Datagrams 1 and 2 never arrive. Definitions only.
+-- A worked burst: one accepted datagram, still held, with m messages brings back any m or fewer numbers in a row within its reach, if the
+-- rest of its reach is known (rule 28.10). Of five packets, datagrams 0 to 3 go without spares and datagram 4 with n = 2 and m = 2, so
+-- its messages cover 2, 0 and 3, 1 (rule 26.12). Datagrams 1 and 2 never arrive. Definitions only.
 use Prim.Native.Nat.{ℕ, _+_, _≤_, _<_}
 use mathlib.Core.Path.{_≡_}
 use mathlib.Core.Logic.{_⊎_}
@@ -29,7 +29,7 @@ burstRow = packet0 ∷ packet1 ∷ packet2 ∷ (0x0A ∷ []) ∷ (0x0C ∷ []) �
 abbrev pub datagram3 : List ℕ
 datagram3 = 0x00 ∷ 0x03 ∷ 0x01 ∷ 0x0A ∷ 0x00 ∷ 0x00 ∷ []
 
--- message 0 over packets 2 and 0, message 1 over packets 3 and 1
+-- message 0 over packets 2 and 0, message 1 over packets 3 and 1 (rules 4.12 and 4.13)
 abbrev pub burstMessages : List (List ℕ)
 burstMessages = (0x0E ∷ []) ∷ (0xCA ∷ 0x01 ∷ 0x80 ∷ 0x00 ∷ 0x00 ∷ 0x55 ∷ []) ∷ []
 
@@ -39,7 +39,7 @@ datagram4 = 0x00 ∷ 0x04 ∷ 0x01 ∷ 0x0C ∷ 0x80 ∷ 0x01 ∷ 0x02 ∷ 0x02 
 abbrev pub burstDatagrams : List (List ℕ)
 burstDatagrams = datagram0 ∷ datagram1 ∷ (0x00 ∷ 0x02 ∷ 0x01 ∷ 0x08 ∷ 0x00 ∷ 0x00 ∷ []) ∷ datagram3 ∷ datagram4 ∷ []
 
--- what the calls hand back to one who offers a fresh session s datagrams 0, 3 and 4
+-- what the calls return if a fresh session s is offered datagrams 0, 3 and 4
 pub record BurstOffered (s : Session) (zero three four : AfterOffer) : Type 0 where
   pub start : Fresh s
   pub first0 : OfferOwes s datagram0 zero
@@ -49,14 +49,14 @@ pub record BurstOffered (s : Session) (zero three four : AfterOffer) : Type 0 wh
 -- the session before datagram 4, and after it
 pub record BurstMet (before after : Session) : Type 0 where
   pub fed : Fed burstRow burstDatagrams after
-  -- two numbers in a row are missing, and of the reach of datagram 4 they alone
+  -- two numbers in a row are missing, and all others in the reach of datagram 4 are known
   pub missing1 : Unknown ((viewOf before) .cells) (keptBefore + 1)
   pub missing2 : Unknown ((viewOf before) .cells) (keptBefore + 2)
   pub others : (p : ℕ) → InReach (keptBefore + 4) 2 2 p → ((p < keptBefore + 1) ⊎ (keptBefore + 3 ≤ p)) → Known ((viewOf before) .cells) p
-  -- datagram 4 is held, with two messages: what demand 3 asks for is met
+  -- datagram 4 is held, with two messages: demand 3's hypotheses hold (rule 28.10)
   pub held : heldAt ((viewOf after) .held) 4 ≡ record { accepted = true; n = 2; messages = burstMessages }
   pub rest : RestKnown (viewOf after) 4 (keptBefore + 1) 2
-  -- both numbers are back
+  -- both numbers are back (rule 28.10)
   pub back1 : cellAt ((viewOf after) .cells) (keptBefore + 1) ≡ filledCell 4 repaired packet1
   pub back2 : cellAt ((viewOf after) .cells) (keptBefore + 2) ≡ filledCell 4 repaired packet2
 

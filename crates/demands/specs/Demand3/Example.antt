@@ -1,5 +1,5 @@
--- Demand 3's hypotheses can be met: document 01's packets 0 `06` and 1 `C0 01 80 00 00 55`, and a third, `06`. Datagrams 0 and 1
--- go without spares, datagram 2 with n=2, m=1. Datagram 0 never arrives. Definitions only.
+-- Demand 3's hypotheses can be met (rule 28.8), with the packets of rule 26.10, `06` and `C0 01 80 00 00 55`, and a third, `06`.
+-- Datagrams 0 and 1 go without spares, datagram 2 with n = 2 and m = 1. Datagram 0 never arrives. Definitions only.
 use Prim.Native.Nat.{ℕ}
 use mathlib.Core.Path.{_≡_}
 use mathlib.Core.Bool.{true}
@@ -23,8 +23,8 @@ exampleRow = packet0 ∷ packet1 ∷ packet0 ∷ []
 abbrev pub exampleDatagrams : List (List ℕ)
 exampleDatagrams = datagram0 ∷ datagram1 ∷ datagram2 ∷ []
 
--- what the calls hand back to one who offers a fresh session s datagram 2 alone, and to one who offers it datagrams 1, 2 and 1.
--- There are such: each call ends, and meets its promise
+-- what the calls return if a fresh session s is offered datagram 2 alone, and if it is offered datagrams 1, 2 and 1. Such results exist,
+-- because each call terminates and keeps its promise
 pub record HandedBack (s : Session) (alone : AfterOffer) (one two three : AfterOffer) : Type 0 where
   pub start : Fresh s
   pub only2 : OfferOwes s datagram2 alone
@@ -32,7 +32,7 @@ pub record HandedBack (s : Session) (alone : AfterOffer) (one two three : AfterO
   pub then2 : OfferOwes (one .session) datagram2 two
   pub again1 : OfferOwes (two .session) datagram1 three
 
--- demand 3's hypotheses, and what the two lists come to
+-- demand 3's hypotheses, and what is known after the two lists
 pub record Met (s one two : Session) : Type 0 where
   pub fed : Fed exampleRow exampleDatagrams s
   -- the first list is datagram 2 alone; the second holds it too, and datagram 1 twice
@@ -40,10 +40,10 @@ pub record Met (s one two : Session) : Type 0 where
   pub second : Takes exampleRow exampleDatagrams (1 ∷ 2 ∷ 1 ∷ []) s two
   -- after the first list packet 0 is not known: two numbers of the reach are missing, and m is 1
   pub missing : Unknown ((viewOf one) .cells) keptBefore
-  -- after the second it is back, with five zeros at its end, and datagram 2 is still held
+  -- after the second list it is back, with five zeros at its end (rule 26.11), and datagram 2 is still held
   pub back : cellAt ((viewOf two) .cells) keptBefore ≡ filledCell 2 repaired (0x06 ∷ 0 ∷ 0 ∷ 0 ∷ 0 ∷ 0 ∷ [])
   pub held : heldAt ((viewOf two) .held) 2 ≡ record { accepted = true; n = 2; messages = message2 ∷ [] }
-  -- of its reach all is known but for the one number that is brought back, and m is 1
+  -- in its reach everything is known except the one number that is brought back, and m is 1 (rule 28.10)
   pub rest : RestKnown (viewOf two) 2 keptBefore 1
 
 pub record Example : Type 0 where

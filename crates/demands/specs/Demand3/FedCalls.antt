@@ -1,5 +1,5 @@
--- The calls of a session that an honest sender feeds are a chain of demand 2's: demand 3 "is stated over demand 2's known set".
--- Definitions only.
+-- The calls on a session that an honest sender feeds are one of demand 2's chains of calls, so demand 3 is stated over demand 2's known
+-- set (rule 28.13). Definitions only.
 use Prim.Native.Nat.{ℕ, _+_, _<_}
 use mathlib.Core.Path.{_≡_}
 use mathlib.Core.Logic.{_↔_}
@@ -21,7 +21,7 @@ pub record CameBy (calls : Calls) (s : Session) : Type 0 where
   pub called : Called first calls s
   pub known : (p : ℕ) → p < keptNumbers → Known ((viewOf s) .cells) p ↔ ReachedBy calls (gone calls + p)
 
--- some calls, and after them an offer of the sender's datagram of each of these places
+-- some calls, then an offer of the sender's datagram of each of these places
 pub data Offering (datagrams : List (List ℕ)) : Calls → List ℕ → Calls → Type 0 where
   none : {calls : Calls} → Offering datagrams calls [] calls
   next : {calls last : Calls} {S : ℕ} {places : List ℕ} (answer : Offered)

@@ -1,6 +1,6 @@
--- One outcome of the calls that serve callers inside this repository, each of which but `clear_run` has a `requires`: a record for
--- each crate, with a field for each call, under its name and with its promise. Where a field has a hypothesis more, the call
--- requires it. Those of the second reader of packets stand in OnePencil. Statements alone.
+-- One outcome of the calls for callers inside this repository, all but `clear_run` with a `requires` (rule 28.14): a record for each
+-- crate, with a field for each call, under its name and with its promise. A further hypothesis of a field is what the call requires. The
+-- calls of the second packet reader are in OnePencil. Statements only.
 use Prim.Native.Nat.{ℕ, _/_}
 use mathlib.Core.Path.{_≡_}
 use mathlib.Core.Bool.{Bool, not}
@@ -75,7 +75,7 @@ pub record InDatagrams : Type 0 where
   pub itemSize : (n : ℕ) → One (λ (r : ℕ). r ≡ sizes.itemSize n)
   pub itemsSize : (lengths : List ℕ) → One (λ (r : ℕ). r ≡ sizes.itemsSize lengths)
 
--- `session_held`: what stands in a slot of the table is read, and written
+-- `session_held`: a slot of the table is read, and written
 pub record InHeld : Type 0 where
   pub stateAt : (t : List ℕ) (slot : ℕ) → One (λ (r : ℕ). r ≡ table.stateIn t slot)
   pub sizeAt : (t : List ℕ) (slot : ℕ) → One (λ (r : ℕ). r ≡ table.sizeIn t slot)
@@ -91,9 +91,8 @@ pub record InHeld : Type 0 where
   pub setMessageSize : (t : List ℕ) (slot size : ℕ) → One (λ (new : List ℕ). new ≡ set t (messagePlace slot) size)
   pub dropHeard : (t : List ℕ) (slot : ℕ) → One (λ (new : List ℕ). new ≡ heardDropped t slot)
 
--- the receiving session's: `session_check::in_ranges`, `keep`, `keep_spares` and `hold` of `session_offer`, `session_repair::mend`,
--- `leave_core` and `release_core` of `session_release`, `session_offer::offer_core`. All that is lent after a call is one, base and counts
--- too
+-- the receiving session: `session_check::in_ranges`; `keep`, `keep_spares`, `hold` and `offer_core` of `session_offer`;
+-- `session_repair::mend`; `leave_core` and `release_core` of `session_release`. All memory after a call is equal, base and counts too
 pub record InReceiving : Type 0 where
   pub inRanges : (base : ℕ) (counts : Counts) (t o g : List ℕ) → One (λ (r : Bool). r ≡ lentInRanges (lent base counts t o g))
   pub keep : (note state number : ℕ) (b t o : List ℕ) → MayKeep number 0 t o
@@ -120,8 +119,8 @@ pub record SameHistory {A : Type 0} (r q : A) (s l o p : List ℕ) : Type 0 wher
   pub lengths : s ≡ l
   pub octets : o ≡ p
 
--- the sending session's: `size_in`, `in_ranges` and `keep` of `sender_history`; `items_size`, `put_items` and `write_next` of
--- `sender_history`; `send_held` of `sender_calls`
+-- the sending session: `size_in`, `in_ranges`, `keep`, `items_size`, `put_items` and `write_next` of `sender_history`; `send_held` of
+-- `sender_calls`
 pub record InSending : Type 0 where
   pub sizeIn : (lengths : List ℕ) (slot : ℕ) → One (λ (r : ℕ). r ≡ sender.lengthIn lengths slot)
   pub inRanges : (sent : ℕ) (lengths o : List ℕ) → One (λ (r : Bool). r ≡ sending.historyInRanges sent lengths o)
@@ -136,8 +135,8 @@ pub record InSending : Type 0 where
       → SendsHeld sent settings packet lengths o old newS newO new r → SendsHeld sent settings packet lengths o old otherS otherO other q
       → (SameHistory r q newS otherS newO otherO) × (new ≡ other)
 
--- the program's: `put_octets` and `pair_up` of `line_hex`, `put_result` and `put_refusal` of `line_code`, `keep_line` and `clear_line`
--- of `line_code`, `replay_line` of `trace_replay_code`
+-- the program: `put_digits` and `pair_up` of `line_hex`; the result line, `put_refusal`, `keep_line` and `clear_line` of `line_code`;
+-- `replay_line` of `trace_replay_code`
 pub record InLines : Type 0 where
   pub putOctets : (octets old : List ℕ) (at : ℕ) → OneLent (Appends (hexOf octets) old at)
   pub pairUp : (line old : List ℕ) → One (λ (new : List ℕ). new ≡ octetsIn line ++ drop (length line / 2) old)

@@ -1,5 +1,5 @@
--- "Any two outcomes allowed by it are proved equal": of each public call, two outcomes that its promise allows are one: the
--- answer, the session after and the lent buffer. Statements alone.
+-- For each public call, two outcomes that its promise allows are equal: the answer, the session after and the caller's buffer (rule
+-- 28.14). Statements only.
 use Prim.Native.Nat.{ℕ}
 use mathlib.Core.Path.{_≡_}
 use mathlib.Core.List.{List}
@@ -31,25 +31,25 @@ use Rattle.trace_compare.specs.Claims as comparisons
 use Rattle.demands.specs.OneOutcome.OneTold.{One, OneTold}
 use Rattle.demands.specs.OneOutcome.OneInside.{OneInside}
 
--- two outcomes of a call that writes w to the front of a lent buffer
+-- two outcomes of a call that writes w to the front of the caller's buffer
 abbrev pub OneWrite : Answer (List ℕ) → Type 0
 OneWrite w = (old new other : List ℕ) (r q : Written) → Puts w old new r → Puts w old other q → (r ≡ q) × (new ≡ other)
 
--- `write` of `length`, `datagram_writer`, `packet_writer` and `image_writer`
+-- `write` of `length_code`, `datagram_writer`, `packet_writer` and `image_writer`
 pub record Writers : Type 0 where
   pub length : (n : ℕ) → OneWrite (lengthToWrite n)
   pub datagram : (number : ℕ) (packet : List ℕ) (kind : Kind) (lengths run : List ℕ)
       → OneWrite (datagramToWrite number packet kind lengths run)
   pub packet : (octet : ℕ) (kind : packetKinds.PacketKind) (value : ℕ) (types lengths octets : List ℕ)
       → OneWrite (packetBy octet kind value types lengths octets)
-  -- `write` of `image_writer`, and its `write_core`, of a session that is lent
+  -- `write` of `image_writer`, and its `write_core` over the caller's memory
   pub image : (session : Lent) → OneWrite (imageToWrite versionWritten session)
 
--- all public calls of the library: `read` and `read_within` of `length_code`, and `write` of `length_code`, of `datagram_reader` and
--- `datagram_writer`, of `packet_reader` and `packet_writer`, `read` of `packet_pencil`; `Session::fresh`, `offer`, `release` and `solve`;
--- `Sender::fresh`, `in_ranges` and `send`; the program's `hex_to_octets`, `step`, `take_block` and `finish`; `Joiner::fresh`, `field` and
--- `lost` of `frame_joiner`, `turns` and `feed` of `frame_feed`; `replay` of `trace_replay_code`; `compare` of `trace_compare_code`; `write`
--- of `image_writer` and `read` of `image_reader`; those that only tell; and those that serve callers inside this repository
+-- all public calls of the library: `read`, `read_within` and `write` of `length_code`; `read` of `datagram_reader`, `packet_reader`,
+-- `packet_pencil` and `image_reader`; `write` of `datagram_writer`, `packet_writer` and `image_writer`; `Session::fresh`, `offer`,
+-- `release` and `solve`; `Sender::fresh`, `in_ranges` and `send`; the program's `hex_to_octets`, `step`, `take_block` and `finish`;
+-- `Joiner::fresh`, `field` and `lost` of `frame_joiner`; `turns` and `feed` of `frame_feed`; `replay` of `trace_replay_code`; `compare`
+-- of `trace_compare_code`; the calls that only report a value; and those for callers inside this repository
 pub record OneOutcome : Type 0 where
   pub lengths : lengths.OneOutcome
   pub datagrams : datagrams.OneOutcome

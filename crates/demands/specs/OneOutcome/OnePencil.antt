@@ -1,5 +1,5 @@
--- One outcome of the second reader's productions, which the program `explain` calls one by one: a field for each, under its name and with
--- its promise. All but `octet` have a `requires`. Statements alone.
+-- One outcome of the second reader's productions, which the program `explain` calls one by one (rules 8.1 and 28.14): a field for each,
+-- under its name and with its promise. All but `octet` have a `requires`. Statements only.
 use Prim.Native.Nat.{ℕ}
 use mathlib.Core.List.{List}
 use Rattle.packet.specs.Edition.{editionOf}

@@ -1,5 +1,5 @@
--- One outcome of the calls that only tell something: each limit, a slot, a size, a flag. A record for each crate, with a field for
--- each call, under its name and with its promise. Statements alone.
+-- One outcome of the calls that only report a value: a limit, a slot, a size, a flag (rule 28.14). A record for each crate, with a field
+-- for each call, under its name and with its promise. Statements only.
 use Prim.Native.Nat.{ℕ, _%_}
 use mathlib.Core.Path.{_≡_}
 use mathlib.Core.Bool.{Bool}
@@ -42,11 +42,11 @@ use Rattle.line.specs.Promise as steps
 use Rattle.line.specs.FeedPromise.{Found}
 use Rattle.image.specs.Image as images
 
--- two answers that a promise allows are one
+-- two answers that a promise allows are equal
 abbrev pub One : {A : Type 0} → (A → Type 0) → Type 0
 One {A} promise = (r q : A) → promise r → promise q → r ≡ q
 
--- two answers that a promise allows are one, and so is all that they leave in a lent buffer
+-- two answers that a promise allows are equal, and so is all that they leave in the caller's buffer
 abbrev pub OneLent : {A : Type 0} → (List ℕ → A → Type 0) → Type 0
 OneLent {A} promise = (new other : List ℕ) (r q : A) → promise new r → promise other q → (r ≡ q) × (new ≡ other)
 
@@ -61,8 +61,8 @@ pub record ToldByLengths : Type 0 where
   pub octetWide : (octet : ℕ) → One (Octet octet)
   pub within : (least most n : ℕ) → One (λ (r : Bool). r ≡ lengths.within least most n)
 
--- `datagram`: `least` and `limit` of `Packet`, `Message` and `Spares`, `limit` of `Datagram`, the five limits of `Parity`; then
--- `count_inside`; `datagram_writer`: `kind_size` and `length_size`
+-- `datagram_sizes`: `least` and `limit` of `Packet`, `Message` and `Spares`, `limit` of `Datagram`, the five limits of `Parity`;
+-- `datagram`: `count_inside`; `datagram_writer`: `kind_size` and `length_size`
 pub record ToldByDatagrams : Type 0 where
   pub packetLeast : One (λ (r : ℕ). r ≡ sizes.packetLeast)
   pub packetLimit : One (λ (r : ℕ). r ≡ sizes.packetLimit)
@@ -91,7 +91,7 @@ pub record ToldByPackets : Type 0 where
   pub rightFields : (kind : packets.PacketKind) (present : Bool) → One (λ (r : Bool). r ≡ packet.rightFields kind present)
   pub rightData : (kind : ℕ) (present : Bool) → One (λ (r : Bool). r ≡ allows (carries kind) present)
 
--- `packet_reader`: what its `read` and the second reader share, `may_follow`, `no_fields` and `refused`
+-- `packet_reader`: what its `read` shares with the second reader, `may_follow`, `no_fields` and `refused`
 pub record ToldByPacketReader : Type 0 where
   pub mayFollow : (ending : endings.Ending) (left : List ℕ) → One (λ (r : Bool). r ≡ packet.mayFollow ending left)
   pub noFields : One (λ (r : List Field). r ≡ paddedFields [])
@@ -102,8 +102,8 @@ pub record ToldByStores : Type 0 where
   pub wide : (n : ℕ) → One (λ (r : ℕ). r ≡ n)
   pub passing : One (λ (r : List ℕ). r ≡ store.mask)
 
--- `session_held`: `limit`, `kept`, `heard`, `packet_octets`, `message_octets` and `places` of `Session`; then `kept_slot`, `heard_slot` and
--- `total`
+-- `session_held`: `limit`, `kept`, `heard`, `packet_octets`, `message_octets` and `places` of `Session`; then `kept_slot`, `heard_slot`
+-- and `total`
 pub record ToldByHeld : Type 0 where
   pub sessionLimit : One (λ (r : ℕ). r ≡ views.sessionLimit)
   pub kept : One (λ (r : ℕ). r ≡ slots.slotsKept)
@@ -115,15 +115,14 @@ pub record ToldByHeld : Type 0 where
   pub heardSlot : (number : ℕ) → One (λ (r : ℕ). r ≡ number % slots.slotsHeard)
   pub total : (c : Counts) → One (λ (r : ℕ). r ≡ views.sum (table.countsOf c))
 
--- `sending`: `limit`, `history` and `history_octets` of `Sender`; `history`: `slot_of`
+-- `sender`: `limit`, `history` and `history_octets` of `Sender`; `sender_history`: `slot_of`
 pub record ToldBySending : Type 0 where
   pub senderLimit : One (λ (r : ℕ). r ≡ views.sessionLimit)
   pub historyKept : One (λ (r : ℕ). r ≡ history.historyKept)
   pub historyOctets : One (λ (r : ℕ). r ≡ sender.historyOctets)
   pub slotOf : (number : ℕ) → One (λ (r : ℕ). r ≡ number % history.historyKept)
 
--- `line`: `limit`, `kept_limit` and `step_limit` of `Line`; `line_hex`: `all_digits`; `line_code`: `kind_octet`; `line_code`:
--- `find_feed`
+-- `line`: `limit`, `kept_limit` and `step_limit` of `Line`; `line_hex`: `all_digits`; `line_code`: `kind_octet` and `find_feed`
 pub record ToldByLines : Type 0 where
   pub lineLimit : One (λ (r : ℕ). r ≡ hex.lineLimit)
   pub keptLimit : One (λ (r : ℕ). r ≡ feed.keptLimit)

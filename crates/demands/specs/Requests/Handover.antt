@@ -1,7 +1,7 @@
--- Document 02, request 9: "Hand a call to the other adapter." What holds of a session that is written as an image and read back, by the
--- public calls and with whatever they answered. How an image looks is said in `image`, and what request 10 adds on its two editions in
--- Editions. That a session's arrays have their lengths (`Sized`), its table 16-bit numbers and its stores octets (`LentOctets`) is so of
--- every value of the struct's type, and that a text is of octets (`Octets`) of every slice of them. Statements alone.
+-- A session written as an image and read back, for another adapter to go on with (rules 20.10 to 20.13 and 20.17 to 20.22), by the public
+-- calls and whatever they returned. How an image looks is defined in `image`; its two versions are in Editions. Every value of the
+-- struct's type has arrays of the right lengths (`Sized`), 16-bit numbers in its table and octets in its stores (`LentOctets`), and every
+-- slice of octets has values below 256 (`Octets`). Statements only.
 use Prim.Native.Nat.{ℕ, _≤_, _<_}
 use mathlib.Core.Path.{_≡_}
 use mathlib.Core.Logic.{_⊎_, _↔_}
@@ -40,7 +40,7 @@ use Rattle.demands.specs.Demand3.Feeding.{sentAt, Fed, Takes}
 use Rattle.demands.specs.Demand2.RoundTrips.{WrittenBack}
 
 -- ---- the two calls
--- write of the session answered so many characters, and this text is what it wrote, unaltered
+-- the image writer returned a size, and this text is what it wrote, unaltered
 pub record Wrote (s : Session) (text : List ℕ) : Type 0 where
   pub old : List ℕ
   pub new : List ℕ
@@ -48,35 +48,35 @@ pub record Wrote (s : Session) (text : List ℕ) : Type 0 where
   pub call : ImageWritten s old new (written.Octets size)
   pub unaltered : text ≡ take size new
 
--- the answer that restores this session, and that a read of this text was answered so
+-- the answer that restores this session; and a read of this text returned it
 abbrev pub restoring : Session → Restored
 restoring t = record { session = t; answer = restore.Done }
 
 abbrev pub ReadAs : List ℕ → Session → Type 0
 ReadAs text t = ImageRead text (restoring t)
 
--- ---- the editions
--- those that are read
+-- ---- the image versions
+-- those that are read (rule 20.9)
 abbrev pub IsRead : ImageVersion → Type 0
 IsRead edition = (edition ≡ imageVersion01) ⊎ (edition ≡ imageVersion02)
 
--- a text is of this edition: its edition octet can be read, and is this edition's
+-- a text names this version: its first octet can be read, and is this version's (rule 20.12)
 pub record Names (edition : ImageVersion) (text : List ℕ) : Type 0 where
   pub reads : namesEdition text ≡ true
   pub octet : editionNamed text ≡ edition .octet
 
--- and it is the image there of a session that the edition can hold, within its ranges or not
+-- the text is this version's image of a session that the version can hold, within its ranges or not
 pub record ImageOf (edition : ImageVersion) (text : List ℕ) (view : View) : Type 0 where
   pub holds : ImageHolds (edition .limit) view
   pub written : imageText edition view ≡ text
 
--- ---- "A restore may rewind"
--- demand 2 of every chain of calls from a restored session, with the base and the counts of the image
+-- ---- a restore may rewind (rule 20.21)
+-- demand 2 of every chain of calls from a restored session, from the image's base and counts on
 pub record GoesOnFrom (image : View) (t : Session) : Type 0 where
   pub saved : Saved t
   pub holds : viewOf t ≡ image
   pub goesOn : {u : Session} {calls : Calls} → Called t calls u → GoesOn image calls (viewOf u)
-  -- numbers leave in order, each place once, from the image's base on, and its counts grow by them
+  -- numbers leave in order, each place once, from the image's base on, and its counts grow by them (rule 28.6)
   pub leaves : {u : Session} {calls : Calls} → Called t calls u → SavedLeaves image (leftBy calls) (viewOf u)
   pub keeps : {u v : Session} {calls more : Calls} → Called t calls u → Called u more v → (p : ℕ) → p < keptNumbers
       → Known ((viewOf u) .cells) p
@@ -88,7 +88,7 @@ unfoldable pub followedBy : Calls → Calls → Calls
 followedBy before start = before
 followedBy before (after then call) = followedBy before after then call
 
--- ---- "demand 3 starts at the restored state": its sentences, from this session on
+-- ---- demand 3 starts at the restored state (rule 20.22): what it says, from this session on
 pub record StartsAt (row datagrams : List (List ℕ)) (t : Session) : Type 0 where
   pub fed : Fed row datagrams t
   pub noLessKnown : (first second : List ℕ) (one two : Session) → Takes row datagrams first t one → Takes row datagrams second t two
@@ -97,61 +97,63 @@ pub record StartsAt (row datagrams : List (List ℕ)) (t : Session) : Type 0 whe
   pub knownRight : TrueCells (sentAt row (viewOf t)) ((viewOf t) .cells)
   pub burstBack : BurstBack (viewOf t)
 
--- ---- "Refusals: reading, 20 .., then 17, and nothing is restored; writing, 17, then 13", and of request 10: "21, any other edition octet,
--- before 20 where that octet can be read"
+-- ---- the image reader refuses with 21, 20, 17 and then restores nothing (rule 20.18); the image writer refuses with 17, 13 (rule 20.19)
 pub record ImageRefuses : Type 0 where
-  -- 17 of a session outside its ranges, 13 of an image longer than the lent buffer, which then stays
+  -- 17 for a session outside its ranges, 13 for an image longer than the caller's buffer, which is then unchanged (rule 20.19)
   pub write : (s : Session) {old new : List ℕ} {w : Written} → ImageWritten s old new w
       → refusalIn (writtenOutcome w) ≡ first (imageRows (lentBy s) ++ roomRow (imageText imageVersion02 (viewOf s)) old)
   pub writeUnchanged : (s : Session) → Unchanged (imageToWrite imageVersion02 (lentBy s))
-  -- with `Image::limit` characters there is always room
+  -- a buffer of `Image::limit` characters is large enough for any image (rule 20.20)
   pub roomEnough : {s : Session} {old new : List ℕ} {w : Written} → Sized s → LentOctets (lentBy s) → ImageWritten s old new w
       → imageLimit packetLimit ≤ length old → w ≡ written.Refused (refusal noRoom) → ⊥
-  -- 21: the edition octet can be read, and is of none that is read
+  -- 21: the first octet can be read, and names no version that is read (rule 20.12)
   pub anotherEdition : {text : List ℕ} {r : Restored} → ImageRead text r
       → (r .answer ≡ restore.Refused (refusal otherEdition))
       ↔ ((namesEdition text ≡ true) × ((edition : ImageVersion) → IsRead edition → Names edition text → ⊥))
-  -- 20: it cannot be read; or it is of one that is read, and the text is the image there of no session, within its ranges or not
+  -- 20: the first octet cannot be read; or it names a version that is read, and the text is that version's image of no session, within
+  -- its ranges or not (rule 20.13)
   pub misshapen : {text : List ℕ} {r : Restored} → Octets text → ImageRead text r
       → (r .answer ≡ restore.Refused (refusal badImage))
       ↔ ((namesEdition text ≡ false)
       ⊎ ((edition : ImageVersion) × IsRead edition × Names edition text × ((view : View) → ImageOf edition text view → ⊥)))
-  -- 17: it is the image, in an edition that is read, of a session outside its ranges
+  -- 17: the text is the image, in a version that is read, of a session outside its ranges (rules 20.17 and 20.18)
   pub outside : {text : List ℕ} {r : Restored} → Octets text → ImageRead text r
       → (r .answer ≡ restore.Refused (refusal outsideRanges))
       ↔ ((edition : ImageVersion) × IsRead edition × (view : View) × ImageOf edition text view × (inRanges view ≡ false))
-  -- and no other
+  -- and no other refusal (rule 20.27)
   pub only : {text : List ℕ} {r : Restored} {why : Refusal} → ImageRead text r → r .answer ≡ restore.Refused why
       → (why ≡ refusal otherEdition) ⊎ ((why ≡ refusal badImage) ⊎ (why ≡ refusal outsideRanges))
-  -- "nothing is restored": in its place stands a fresh session
+  -- a refused text restores nothing: the session that is returned is a fresh one (rule 20.18)
   pub nothing : {text : List ℕ} {r : Restored} {why : Refusal} → ImageRead text r → r .answer ≡ restore.Refused why → Fresh (r .session)
 
 pub record Handover : Type 0 where
-  -- "Reading it back gives the equal session": the very struct, and no other answer
+  -- reading an image gives a session equal to the one that was written, as a struct, and no other answer (rule 20.11)
   pub readsBack : {s : Session} {text : List ℕ} {r : Restored} → Sized s → LentOctets (lentBy s) → Wrote s text → ImageRead text r
       → r ≡ restoring s
-  -- and every session within its ranges can be handed over: some text is its image, and is read as this session
+  -- every session within its ranges can be handed over: it has an image, and that is read as this session
   pub everyOne : {s : Session} → Saved s → LentOctets (lentBy s) → (text : List ℕ) × Wrote s text × ReadAs text s
-  -- "one session has one image": two writes of it, into whatever buffers, wrote the same; what was read of the edition that is written
-  -- is written back to the same text; and two texts of one edition that were read as one session are one
+  -- one session has one image (rule 20.10): two writes of it, into any buffers, write the same text; a text that was read in the version
+  -- that is written is written back the same; and two texts of one version that were read as the same session are equal
   pub oneWritten : {s : Session} {text other : List ℕ} → Wrote s text → Wrote s other → text ≡ other
   pub writesBack : {t : Session} {text old new : List ℕ} {w : Written} → Octets text → Names imageVersion02 text → ReadAs text t
       → ImageWritten t old new w → length text ≤ length old → WrittenBack (length text) text old new w
   pub oneRead : {t : Session} {text other : List ℕ} → Octets text → Octets other → editionNamed text ≡ editionNamed other
       → ReadAs text t → ReadAs other t → text ≡ other
-  -- "A restore may rewind: releases are then once each counted from the image's own history": of any text that was read, whoever wrote it
-  -- and whenever, with what it reads as
+  -- a restore may rewind, and then each number leaves once, counted from the image's own history (rule 20.21): for any text that was
+  -- read, whoever wrote it and whenever
   pub rewinds : {text : List ℕ} {image : View} {t : Session} → readText text ≡ done image → ReadAs text t → GoesOnFrom image t
-  -- and if a session wrote it, the calls that led to that session and those on the restored one are one chain, of which all of demand 2
-  -- holds: so what left before and what leaves after is each place once. What left the first adapter after it wrote is not in it
+  -- if a session wrote the image, the calls that led to that session and those on the restored one are one chain, and all of demand 2
+  -- holds of it: each place leaves once, before the image or after it (rules 20.21 and 28.6). What left the first adapter after it wrote
+  -- is not in that chain
   pub oneHistory : {first s t u : Session} {before after : Calls} {text : List ℕ} → Begins first → Called first before s
       → LentOctets (lentBy s) → Wrote s text → ReadAs text t → Called t after u
       → Called first (followedBy before after) u
   pub onceEach : {first s t u : Session} {before after : Calls} {text : List ℕ} → Fresh first → Called first before s
       → LentOctets (lentBy s) → Wrote s text → ReadAs text t → Called t after u
       → FreshLeaves (leftBy before ++ leftBy after) (viewOf u)
-  -- "and demand 3 starts at the restored state, if a session that demand 3 covers, with the same honest sender, wrote it and the image is
-  -- unaltered"
+  -- demand 3 starts at the restored state, if the image is unaltered and was written by a session that demand 3 covers, with the same
+  -- honest sender (rule 20.22)
   pub demand3 : (row datagrams : List (List ℕ)) → HonestSender row datagrams → {s t : Session} {text : List ℕ} → Fed row datagrams s
       → LentOctets (lentBy s) → Wrote s text → ReadAs text t → StartsAt row datagrams t
+  -- what the image reader and the image writer refuse (rules 20.12, 20.13 and 20.17 to 20.20)
   pub refuses : ImageRefuses

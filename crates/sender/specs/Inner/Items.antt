@@ -1,5 +1,5 @@
--- What the writers of spares and messages ask and owe. The size of each is told from the sizes alone, whatever the octets are,
--- so that the room is known before anything is written. Definitions only.
+-- What the writers of spares and messages require and promise (rules 4.5, 4.12 to 4.14). The size of each follows from the sizes
+-- alone, whatever the octets are, so the code knows the room before it writes anything (rule 2.33). Definitions only.
 use Prim.Native.Nat.{ℕ, suc, _+_, _-_, _*_, _≤_, _<_}
 use mathlib.Core.Path.{_≡_}
 use mathlib.Core.Bool.{true}
@@ -21,13 +21,13 @@ use Rattle.sender.specs.Inner.Held.{Stored}
 
 -- ---- messages
 
--- message i of m over n packets: the reach is inside the sizes
+-- message i of m over n packets: n and m are inside the sizes (rules 1.4 and 1.5)
 pub record Reach (n m i : ℕ) : Type 0 where
   pub covered : n ≤ coveredLimit
   pub messages : m ≤ messagesLimit
   pub one : i < m
 
--- its members, of the datagram with this number
+-- its members, in the datagram with this number (rule 4.12)
 abbrev pub membersIn : ℕ → List ℕ → List ℕ → ℕ → ℕ → ℕ → List (List ℕ)
 membersIn number sizes o n m i = map (packetOf (historyIn number sizes o)) (membersOf historyKept n m i)
 
@@ -38,12 +38,12 @@ pub record MessageSize (number : ℕ) (sizes : List ℕ) (n m i size : ℕ) : Ty
   pub small : size ≤ packetLimit
   pub answer : (o : List ℕ) → Stored sizes o → size ≡ longest (membersIn number sizes o n m i)
 
--- the exclusive or of the members over a size: it stands at the front
+-- the exclusive or of the members over a size, at the front of `sum` (rule 4.13)
 pub record MessageSum (number : ℕ) (o : List ℕ) (n m i size : ℕ) (sum : List ℕ) : Type 0 where
   pub long : length sum ≡ packetLimit
   pub answer : (sizes : List ℕ) → Stored sizes o → take size sum ≡ exclusiveOr size (membersIn number sizes o n m i)
 
--- the message is one of those that there are, and there is room for it
+-- the message is one of the m, and there is room for it
 pub record MessageAsked (number : ℕ) (sizes o : List ℕ) (n m i : ℕ) (out : List ℕ) : Type 0 where
   pub reach : Reach n m i
   pub stored : Stored sizes o
@@ -51,7 +51,7 @@ pub record MessageAsked (number : ℕ) (sizes o : List ℕ) (n m i : ℕ) (out :
 
 -- ---- spares
 
--- the spare after j others
+-- the spare after j others (rule 4.5)
 abbrev pub spareIn : ℕ → List ℕ → List ℕ → ℕ → List ℕ
 spareIn number sizes o j = packetOf (historyIn number sizes o) (historyKept - suc j)
 
@@ -80,7 +80,7 @@ pub record ItemSize (kind : Kind) (count number : ℕ) (sizes : List ℕ) (j siz
   pub small : size ≤ packetLimit
   pub answer : (o : List ℕ) → Stored sizes o → size ≡ length (itemIn kind count number sizes o j)
 
--- item j is one of those that the settings give
+-- item j is one of those that the settings ask for
 pub record ItemOf (kind : Kind) (count j : ℕ) : Type 0 where
   pub counted : countInside kind count ≡ true
   pub below : j < count

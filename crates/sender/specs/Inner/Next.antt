@@ -1,5 +1,5 @@
--- What the writer of the next datagram asks and owes, and the settings as what a datagram carries beside its packet.
--- Definitions only.
+-- What the writer of the next datagram requires and promises, and the settings as what a datagram carries beside its packet
+-- (rules 15.3 to 15.6). Definitions only.
 use Prim.Native.Nat.{ℕ, _+_, _≤_, min}
 use mathlib.Core.Path.{_≡_}
 use mathlib.Core.Bool.{true}
@@ -16,7 +16,7 @@ use Rattle.sender.specs.Inner.Items.{itemsFrom, itemsIn}
 use Rattle.sender.specs.declared.Settings.{Settings}
 use Rattle.sender.specs.declared.Settings.the-variants as settings
 
--- settings as the kind of what a datagram carries, and how many of it: "Fewer than k packets sent: that many spares."
+-- settings as the kind of what a datagram carries, and how many: fewer than k spares if fewer packets were sent (rule 15.4)
 abbrev pub kindAsked : Settings → Kind
 kindAsked (settings.Spares k) = kind.Spares
 kindAsked (settings.Parity n m) = kind.Parity n
@@ -40,7 +40,7 @@ pub record NextSizes (sizes packet : List ℕ) (kind : Kind) (count : ℕ) : Typ
   pub newest : packetInside packet ≡ true
   pub counted : countInside kind count ≡ true
 
--- how many octets it takes, whatever the history's octets are
+-- how many octets the datagram takes, whatever the history's octets are
 pub record NextSize (number : ℕ) (sizes packet : List ℕ) (kind : Kind) (count size : ℕ) : Type 0 where
   pub answer : (o : List ℕ) → Stored sizes o → size ≡ length (datagramOctets (carriedIn number sizes o packet kind count))
 
