@@ -1,6 +1,6 @@
 # The library for a C program: target/host/libtubarexi.a, proved and built by `rt staticlib host`, with include/tubarexi.h and a pkg-config
 # file. `make` builds it; `make install PREFIX=/usr DESTDIR=/somewhere` installs the three. The version is the header's.
-# Without rt in PATH, as it may be under sudo, a library that was built of these sources is taken as it is.
+# Without rt in PATH, as it may be under sudo, `make` uses a library that was already built from these sources.
 PREFIX ?= /usr/local
 DESTDIR ?=
 VERSION := $(shell sed -n 's/^.define TBX_VERSION "\(.*\)"/\1/p' include/tubarexi.h)
@@ -9,7 +9,7 @@ BUILT := target/host
 all: $(BUILT)/libtubarexi.a $(BUILT)/tubarexi.pc
 
 $(BUILT)/libtubarexi.a: FORCE
-	tests/host/build
+	bin/build-host
 
 $(BUILT)/tubarexi.pc: FORCE
 	mkdir -p $(BUILT)

@@ -40,7 +40,7 @@ def records(stream):
 
 
 def numbered(found):
-    """The records with their numbers; a break is told by the number of the last whole one."""
+    """The records with their numbers; a break is reported with the number of the last whole one."""
     number = 0
     try:
         for number, (link, octets) in enumerate(found, 1):

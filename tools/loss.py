@@ -1,16 +1,16 @@
 #!/usr/bin/env python3
-"""What would a worse line have done? Plays a recorded call again, with 0 to 30 % of its datagrams dropped, for a table and a picture.
+"""What would a worse line have done? Replays a recorded call with 0 to 30 % of its datagrams dropped; prints a table, draws a picture.
 
-TRACE has a datagram a line in hexadecimal, from the start of the call on; tools/lines-of makes one of a capture. Datagrams are dropped in
-bursts of 1 to 5, with one that arrives between two; with each step the same ones are dropped, and more. What was released as received,
-from a spare copy or repaired, and what was lost, is what the proved program `replay` answers. Of these losses, `solved` are those that
-a host would bring back that has all parity messages solved together before it gives up a number; `lost` are lost even so.
+TRACE has a datagram a line in hexadecimal, from the start of the call on; tools/lines-of makes one from a capture. Datagrams are dropped in
+bursts of 1 to 5, and at least one arrives between two bursts; each step drops what the step before dropped, and more. The program
+`replay` counts what was received, came from a spare copy, was repaired or was lost. Of these losses, `solved` are those that a host brings
+back if it solves all parity messages together before it gives up a number; `lost` are lost even so.
 
-A host does not wait for ever. Here it gives up a number when one so many later (--patience) was heard: spares come within 8 numbers, so
-it waits for 8; parity may come later. Where that is so it learns from the proved program `receive`, line by line; then `replay` plays
-the trace with an empty line at each such place. Empty lines of TRACE itself, the give-ups of another host, are left out. The host that
-solves hears the same, as patiently, with the proved program `calls`. Its numbers leave sooner, and what comes for them later is refused:
-should it ever lose more for that, `solved` is below 0."""
+A host does not wait for ever. Here it gives up a number when it has heard one that many later (--patience). Spares come within 8 numbers,
+so it waits for 8; parity may come later. The program `receive`, asked line by line, shows where that is so; then `replay` plays the trace
+with an empty line at each such place. Empty lines of TRACE itself, the give-ups of another host, are left out. The host that solves hears
+the same, with the same patience, through the program `calls`. Its numbers leave sooner, and what comes for them later is refused: if it
+loses more for that, `solved` is below 0."""
 
 import argparse
 import os
@@ -93,7 +93,7 @@ def solved(trace, dropped, commands, patience):
             if number is not None and number not in dropped:
                 solver.hear(line, number)
         solver.give_up_to(trace.last)
-        return all_left(trace, 'calls', solver.told())
+        return all_left(trace, 'calls', solver.counted())
 
 
 def all_left(trace, name, counts):
@@ -169,7 +169,7 @@ def proved(name, *arguments):
                 sys.stderr.write(line.decode())
     if made.returncode:
         raise Wrong('%s cannot be run' % name)
-    return '%s %s' % (shlex.quote(str(TOP / 'tests' / 'run')), name)
+    return '%s %s' % (shlex.quote(str(TOP / 'bin' / 'run')), name)
 
 
 def remark(trace, chosen):

@@ -1,5 +1,5 @@
-"""A recorded call played again by the proved programs: `receive`, asked line by line as a host would, `replay`, whose answers count, and
-`calls`, asked as a host would that has all parity messages solved together before it gives up a number."""
+"""Replays a recorded call with the programs: `receive`, asked line by line as a host would; `replay`, whose answers count; and `calls`,
+asked as by a host that solves all parity messages together before it gives up a number."""
 
 import contextlib
 import re
@@ -22,7 +22,7 @@ class Wrong(Exception):
 
 
 class Asked:
-    """A host that hears a call and gives up what is late, as that of a fax adapter does; a program tells what leaves.
+    """A host that hears a call and gives up what is late, as that of a fax adapter does; a program reports what leaves.
 
     A number is late when one so many numbers after it has been heard."""
 
@@ -104,7 +104,7 @@ class Host(Asked):
 
 
 class Solver(Asked):
-    """A host over `calls`: before it gives up a number, it has all parity messages solved together (document 02, request 13)."""
+    """A host over `calls`: before it gives up a number, it solves all parity messages together (rule 14.2)."""
 
     def __init__(self, command, patience):
         super().__init__('calls', command, patience)
@@ -148,10 +148,10 @@ class Solver(Asked):
                 self.leaves(SKIP)
                 self.release()
 
-    def told(self):
+    def counted(self):
         """The four counts, which the numbers that left must bear out."""
         if self.written(b'14') != DONE + b''.join(b'%08X' % count for count in self.counts):
-            raise Wrong('calls tells other counts than its releases have')
+            raise Wrong('calls reports other counts than its releases have')
         return tuple(self.counts)
 
 
@@ -162,10 +162,10 @@ def replayed(command, lines, dropped):
         trace.flush()
         ended = subprocess.run('%s %s %s' % (command, trace.name, ' '.join(map(str, dropped))), shell=True, stdout=subprocess.PIPE,
                                stderr=subprocess.PIPE)
-    told = COUNTS.search(ended.stderr)
-    if ended.returncode or not told:
+    counted = COUNTS.search(ended.stderr)
+    if ended.returncode or not counted:
         raise Wrong('replay ended with status %d: %s' % (ended.returncode, ended.stderr.decode('ascii', 'replace').strip()))
-    counts = tuple(map(int, told.groups()))
+    counts = tuple(map(int, counted.groups()))
     if counts != tuple(sum(result[:2] == kind for result in ended.stdout.split(b'\n')) for kind in KINDS):
-        raise Wrong('replay tells other counts than its lines have')
+        raise Wrong('replay reports other counts than its lines have')
     return counts

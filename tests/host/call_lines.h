@@ -37,7 +37,7 @@ static inline void put_octets(const uint8_t *from, size_t count)
 }
 
 /* Writes the start of an answer, done or the refusal with its place (rule 25.3); returns whether the call was done. */
-static inline bool told(int why, size_t place)
+static inline bool answered(int why, size_t place)
 {
     put(why ? 0xFF : 0, 1);
     if (why) put((unsigned)why, 1), put(place, 2);

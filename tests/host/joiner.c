@@ -25,7 +25,7 @@ static bool fresh(void)
     if (at != size) return false;
     memset(&joiner, FILLING, sizeof joiner);
     tbx_joiner_fresh(&joiner);
-    told(0, 0);
+    answered(0, 0);
     return true;
 }
 
@@ -40,7 +40,7 @@ static bool field(void)
     if (at != size || room > ROOM_LIMIT) return false;
     memset(out, FILLING, sizeof out);
     refuse_no_flag(false, type, data, count);
-    if (told(tbx_joiner_field(&joiner, type, data, count, room ? out : NULL, room, &frame), 0)) put(frame.kind, 1), put(frame.size, 2);
+    if (answered(tbx_joiner_field(&joiner, type, data, count, room ? out : NULL, room, &frame), 0)) put(frame.kind, 1), put(frame.size, 2);
     put_octets(out, room);
     return true;
 }
@@ -51,7 +51,7 @@ static bool lost(void)
     if (at != size) return false;
     refuse_no_flag(true, 0, NULL, 0);
     int why = tbx_joiner_lost(&joiner, &frame);
-    told(why, 0);
+    answered(why, 0);
     if (frame.refusal != why || frame.kind || frame.size) printf(" and a frame");
     return true;
 }
@@ -59,7 +59,7 @@ static bool lost(void)
 static bool show(void)
 {
     if (at != size) return false;
-    told(0, 0), put(joiner.tainted, 1), put(joiner.size, 2);
+    answered(0, 0), put(joiner.tainted, 1), put(joiner.size, 2);
     put_octets(joiner.frame, joiner.size < TBX_FRAME_LIMIT ? joiner.size : TBX_FRAME_LIMIT);
     return true;
 }
@@ -72,7 +72,7 @@ static bool overwrite(void)
     else if (what == 1) joiner.size = (uint16_t)value;
     else if (what == 2 && octet < TBX_FRAME_LIMIT && value <= 255) joiner.frame[octet] = (uint8_t)value;
     else return false;
-    told(0, 0);
+    answered(0, 0);
     return true;
 }
 

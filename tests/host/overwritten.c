@@ -58,7 +58,7 @@ static void offer(void)
     size_t place;
     refuse_no_session(true, sizeof lent);
     int why = tbx_offer(&session, line + 1, size - 1, &place);
-    told(why, place);
+    answered(why, place);
 }
 
 static void release(void)
@@ -68,7 +68,7 @@ static void release(void)
     tbx_number left;
     refuse_no_session(skip, room);
     int why = tbx_release(&session, skip, lent, room, &left);
-    if (told(why, left.place)) put(left.kind, 1), put(left.number, 2), put(left.note, 2), put(left.size, 2);
+    if (answered(why, left.place)) put(left.kind, 1), put(left.number, 2), put(left.note, 2), put(left.size, 2);
     put_octets(lent, room);
 }
 
@@ -81,7 +81,7 @@ static void send(void)
     bool parity = kind == 0x80;
     unsigned items = parity ? b : a;
     refuse_no_sender(packet, count, parity, items, a, room);
-    if (told(tbx_send(&sender, packet, count, parity, (uint8_t)items, (uint8_t)a, lent, room, &written), 0)) put(written, 2);
+    if (answered(tbx_send(&sender, packet, count, parity, (uint8_t)items, (uint8_t)a, lent, room, &written), 0)) put(written, 2);
     put_octets(lent, room);
 }
 

@@ -12,7 +12,7 @@ static bool read_packet(void)
     size_t count = size - at;
     const uint8_t *packet = octets(count);
     int why = tbx_packet_read(packet, count, edition, ending == 1, &found);
-    if (!told(why, found.place)) return true;
+    if (!answered(why, found.place)) return true;
     put(found.kind, 1), put(found.value, 1), put(found.count, 1);
     for (size_t i = 0; i < found.count; i++) {
         put(found.fields[i].type, 1), put(found.fields[i].size, 2);
@@ -44,7 +44,7 @@ static bool write_packet(void)
         wrote = tbx_core_packet_write(edition, kind, value, types, type_count, lengths, length_count, data, data_size, out, room);
     /* to `calls` a line with another kind is no call; here it must be refused (rules 24.5 and 25.5) */
     if (kind > 1 && wrote.refusal == TBX_WRONG_SETTINGS && out[0] == FILLING) return false;
-    if (told(wrote.refusal, wrote.place)) put(wrote.size, 2);
+    if (answered(wrote.refusal, wrote.place)) put(wrote.size, 2);
     put_octets(out, room);
     return true;
 }

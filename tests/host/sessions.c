@@ -14,7 +14,7 @@ static uint8_t out[ROOM_LIMIT];
 /* Writes the answer of a call that writes, and the whole buffer (rule 25.4). */
 static void wrote(int why, size_t count, int width, size_t room)
 {
-    if (told(why, 0)) put(count, width);
+    if (answered(why, 0)) put(count, width);
     put_octets(out, room);
 }
 
@@ -23,14 +23,14 @@ static bool fresh(bool sends)
     if (at != size) return false;
     if (sends) memset(&sender, FILLING, sizeof sender), tbx_sender_fresh(&sender);
     else memset(&session, FILLING, sizeof session), tbx_fresh(&session);
-    return told(0, 0);
+    return answered(0, 0);
 }
 
 static bool offer(void)
 {
     size_t place = 0, count = size - at;
     int why = (checked ? tbx_offer : tbx_offer_unchecked)(&session, octets(count), count, &place);
-    told(why, place);
+    answered(why, place);
     return true;
 }
 
@@ -41,7 +41,7 @@ static bool release(void)
     size_t room = number(2);
     if (at != size || skip > 1 || room > SHORT_ROOM_LIMIT) return false;
     int why = (checked ? tbx_release : tbx_release_unchecked)(&session, skip, out, room, &left);
-    if (told(why, left.place)) put(left.kind, 1), put(left.number, 2), put(left.note, 2), put(left.size, 2);
+    if (answered(why, left.place)) put(left.kind, 1), put(left.number, 2), put(left.note, 2), put(left.size, 2);
     put_octets(out, room);
     return true;
 }
@@ -50,7 +50,7 @@ static bool counts(void)
 {
     tbx_head c = tbx_counts(&session);
     if (at != size) return false;
-    told(0, 0), put(c.received, 4), put(c.spare, 4), put(c.repaired, 4), put(c.lost, 4);
+    answered(0, 0), put(c.received, 4), put(c.spare, 4), put(c.repaired, 4), put(c.lost, 4);
     return true;
 }
 
@@ -60,7 +60,7 @@ static bool give_up(void)
     tbx_number left;
     if (at != size) return false;
     for (tbx_fresh(&session); times && !tbx_release_unchecked(&session, true, out, 0, &left); times--) {}
-    return told(0, 0);
+    return answered(0, 0);
 }
 
 static bool image_write(void)
@@ -75,14 +75,14 @@ static bool image_write(void)
 static bool image_read(void)
 {
     size_t count = size - at;
-    told(tbx_image_read(&session, octets(count), count), 0);
+    answered(tbx_image_read(&session, octets(count), count), 0);
     return true;
 }
 
 static bool solve(void)
 {
     if (at != size) return false;
-    told((checked ? tbx_solve : tbx_solve_unchecked)(&session), 0);
+    answered((checked ? tbx_solve : tbx_solve_unchecked)(&session), 0);
     return true;
 }
 
@@ -108,7 +108,7 @@ static bool send_on(void)
     size_t written;
     if (at != size) return false;
     for (tbx_sender_fresh(&sender); times && !tbx_send_unchecked(&sender, packet, 1, false, 0, 0, out, sizeof out, &written); times--) {}
-    return told(0, 0);
+    return answered(0, 0);
 }
 
 /* Makes one call; returns whether the line is one. */

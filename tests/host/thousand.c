@@ -214,7 +214,7 @@ static void progress(unsigned done, unsigned sheets)
     fprintf(stderr, "\r[%.40s] %u of %u sheets%s", bar + 40 - 40ul * done / (sheets ? sheets : 1), done, sheets, done < sheets ? "" : "\n");
 }
 
-static void tell(unsigned sheets, double seconds)
+static void report(unsigned sheets, double seconds)
 {
     unsigned long refused = 0, hurt = damaged[CUT] + damaged[BEHIND] + damaged[TOO_LONG] + damaged[ALTERED];
     for (int why = 1; why < 32; why++) refused += refusals[why];
@@ -244,6 +244,6 @@ int main(int arguments, char **argument)
         end_call(before);
     }
     progress(sheets, sheets);
-    tell(sheets, (double)(clock() - begun) / CLOCKS_PER_SEC);
+    report(sheets, (double)(clock() - begun) / CLOCKS_PER_SEC);
     return wrong != 0;
 }

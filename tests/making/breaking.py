@@ -1,7 +1,8 @@
-"""Ways to bring a receiving session outside its ranges, as a caller could: each rule broken alone, as rows of field and place."""
+"""Ways to bring a receiving session outside its ranges, as a caller could (rules 13.1 to 13.11): each rule broken alone, as rows of field
+and place."""
 
-from rules.packets import PACKET_LIMIT
-from rules.receiving import AFTER, BEFORE, BLANK, NUMBERS_LIMIT, RECEIVED, REPAIRED, SPARE, UNKNOWN
+from independent.packets import PACKET_LIMIT
+from independent.receiving import AFTER, BEFORE, BLANK, NUMBERS_LIMIT, RECEIVED, REPAIRED, SPARE, UNKNOWN
 
 KNOWN = (RECEIVED, SPARE, REPAIRED)
 TOO_GREAT = (PACKET_LIMIT + 1, PACKET_LIMIT + 1, PACKET_LIMIT + 2, 2 * PACKET_LIMIT, PACKET_LIMIT + 256, 65535)
@@ -29,7 +30,7 @@ class Session:
 
 
 def one(r, numbers):
-    """One of the numbers; none at all is told by raising LookupError."""
+    """One of the numbers; none at all is reported by raising LookupError."""
     if not numbers:
         raise LookupError
     return r.choice(numbers)
@@ -117,7 +118,7 @@ def accepted_unknown(s):
 
 
 def messages_unaccepted(s):
-    """Messages stand at a number that is not accepted."""
+    """Messages are at a number that is not accepted."""
     return [(8, dict(number=one(s.r, s.accepted(lambda mark: mark.m)), value=0))]
 
 

@@ -1,10 +1,11 @@
-"""Scenes with a receiving session, and mostly an honest sender on a line that loses, repeats and reorders."""
+"""Scenes with a receiving session (rules 10.1 to 10.7, 11.1 to 11.4 and 12.1 to 12.9), mostly with an honest sender on a line that loses,
+repeats and reorders."""
 
-from rules.arguments import shown
-from rules.datagrams import DATAGRAM_LIMIT, PARITY, SPARES, Datagram, written_datagram
-from rules.packets import PACKET_LIMIT
-from rules.receiving import AFTER, NUMBERS_LIMIT, UNKNOWN
-from rules.sending import Sending
+from independent.arguments import shown
+from independent.datagrams import DATAGRAM_LIMIT, PARITY, SPARES, Datagram, written_datagram
+from independent.packets import PACKET_LIMIT
+from independent.receiving import AFTER, NUMBERS_LIMIT, UNKNOWN
+from independent.sending import Sending
 
 from . import pieces
 

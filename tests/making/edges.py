@@ -1,16 +1,17 @@
-"""Scenes at a session's edges: numbers before the first, the wrap, the limit, datagrams that are refused; a sending session alone."""
+"""Scenes at a session's edges (rules 9.3, 26.15, 1.10 and 15.1 to 15.13): numbers before the first, the wrap, the limit, refused datagrams,
+and a sending session alone."""
 
-from rules.arguments import shown
-from rules.datagrams import DATAGRAM_LIMIT, PARITY, SPARES, written_datagram
-from rules.packets import PACKET_LIMIT
-from rules.receiving import NUMBERS_LIMIT
+from independent.arguments import shown
+from independent.datagrams import DATAGRAM_LIMIT, PARITY, SPARES, written_datagram
+from independent.packets import PACKET_LIMIT
+from independent.receiving import NUMBERS_LIMIT
 
 from . import pieces
 from .conversations import Style, send_one, start
 
 
 def damaged_offers(script):
-    """Datagrams that the reader refuses, offered; the session stays as it was."""
+    """Datagrams that the reader refuses, offered; the session stays unchanged."""
     r = script.random
     start(script)
     for _ in range(20):

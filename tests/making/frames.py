@@ -1,7 +1,8 @@
-"""Scenes with the joiner: rows of fields with losses, frames near 300 octets, wrong fields, joiners outside their ranges."""
+"""Scenes with the joiner (rules 16.1 to 16.16): rows of fields with losses, frames near 300 octets, wrong fields, joiners outside their
+ranges."""
 
-from rules.joining import ADDING, ENDING_A_TAINT, FRAME_LIMIT
-from rules.packets import PACKET_LIMIT
+from independent.joining import ADDING, ENDING_A_TAINT, FRAME_LIMIT
+from independent.packets import PACKET_LIMIT
 
 from . import pieces
 
@@ -96,7 +97,7 @@ def near_the_limit(script):
 
 
 def one_frame(script):
-    """A frame of some octets, handed out, and then an end alone, to see what was left."""
+    """A frame of some octets, returned, and then an end alone, to see what was left."""
     r = script.random
     script.field(ADDING, pieces.octets(r, r.choice((1, 2, 20))))
     script.field(r.choice((2, 3, 4, 5)))
@@ -155,7 +156,7 @@ def broken(script):
 
 
 def outside(script):
-    """A joiner outside its ranges: every field and a loss are 17, whatever else is wrong; mended, it goes on as before."""
+    """A joiner outside its ranges: every field and a loss are 17, whatever else is wrong; repaired, it goes on as before."""
     r = script.random
     for _ in range(3):
         held(script)

@@ -1,17 +1,17 @@
-"""Scenes for images (02, requests 9 and 10): sessions written with room near the size, read back in both editions and gone on with, and
-images damaged.
+"""Scenes for images (rules 20.1 to 20.19): sessions written with room near the size, read back in both versions and used further, and
+damaged images.
 
-The items of an image tell what each damage is met with, 21, 20, 17 or nothing; making the script ends if the answer is another."""
+The items of an image decide what each damage is refused with: 21, 20, 17 or nothing. Making the script stops if the answer is another."""
 
 import re
 
-from rules.arguments import shown
-from rules.datagrams import M_LIMIT, N_LIMIT, PARITY, SPARES, Datagram, written_datagram
-from rules.images import EDITION, LIMITS
-from rules.lengths import written_length
-from rules.packets import PACKET_LIMIT
-from rules.receiving import AFTER, BEFORE, BLANK, NUMBERS_LIMIT, RECEIVED, REPAIRED, SPARE, UNKNOWN
-from rules.refusals import MISSHAPEN, OTHER_EDITION, RANGES, Refusal
+from independent.arguments import shown
+from independent.datagrams import M_LIMIT, N_LIMIT, PARITY, SPARES, Datagram, written_datagram
+from independent.images import EDITION, LIMITS
+from independent.lengths import written_length
+from independent.packets import PACKET_LIMIT
+from independent.receiving import AFTER, BEFORE, BLANK, NUMBERS_LIMIT, RECEIVED, REPAIRED, SPARE, UNKNOWN
+from independent.refusals import MISSHAPEN, OTHER_EDITION, RANGES, Refusal
 
 from . import pieces
 from .breaking import KNOWN, one
@@ -30,7 +30,7 @@ NO_EDITIONS = b'00', b'03', b'03', b'04', b'0A', b'10', b'20', b'81', b'82', b'A
 
 
 def digits(value, octets=1):
-    """A number in so many octets, as digits."""
+    """A number in that many octets, as digits."""
     return pieces.digits(shown(value, octets))
 
 
@@ -240,7 +240,7 @@ def base_off(r, rows):
 
 
 def count_off(r, rows):
-    """A count is another, and base as it was."""
+    """A count is another, and base unchanged."""
     name = r.choice(COUNTS)
     rows[0][name] = digits((value(rows[0], name) + r.choice((1, 256, 1 << 24, 1 << 31, 0xFFFFFFFF))) % (1 << 32), 4)
 
@@ -397,7 +397,7 @@ def restore(script, text, number=None):
     """19, which is met with the refusal of this number, or done."""
     answer = script.restore(text)
     if number is None:
-        assert answer == DONE, 'answered %s, and the items tell a session' % answer.hex()
+        assert answer == DONE, 'answered %s, and the items say a session' % answer.hex()
     else:
         met(answer, Refusal(number))
 
@@ -448,7 +448,7 @@ def try_restored(script):
 
 
 def written(script):
-    """A session written with room near the size; it stays as it was."""
+    """A session written with room near the size; it stays unchanged."""
     r = script.random
     any_session(script)
     size = len(text_of(rows_of(script.receiving)))

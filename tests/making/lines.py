@@ -1,11 +1,11 @@
-"""Input for the program: lines of hexadecimal as a recorder might write them, good and bad."""
+"""Input for the program (rules 18.1 to 18.11): lines of hexadecimal as a recorder might write them, good and bad."""
 
 import random
 
-from rules.datagrams import DATAGRAM_LIMIT, PARITY, SPARES, written_datagram
-from rules.program import LINE_LIMIT, Program
-from rules.receiving import NUMBERS_LIMIT
-from rules.sending import Sending
+from independent.datagrams import DATAGRAM_LIMIT, PARITY, SPARES, written_datagram
+from independent.program import LINE_LIMIT, Program
+from independent.receiving import NUMBERS_LIMIT
+from independent.sending import Sending
 
 from . import pieces
 
@@ -15,7 +15,7 @@ ODD_LINES = (b'0', b'0G', b'00 01', b' ', b'\r', b'\t', b'\x00', b'\xFF\xFE', b'
 
 
 class Recording:
-    """The lines so far, the program as it stands after them, and an honest sender."""
+    """The lines so far, the program after them, and an honest sender."""
 
     def __init__(self, seed, given_up=0):
         self.random = random.Random(seed)
@@ -43,7 +43,7 @@ class Recording:
 
 
 def record(seed, count, given_up=0):
-    """A recording of so many lines or a few more, behind so many give-ups."""
+    """A recording of that many lines or a few more, behind a number of give-ups."""
     recording = Recording(seed, given_up)
     while len(recording.lines) < count:
         stretch(recording)
@@ -58,7 +58,7 @@ def program_lines(seed, count):
 
 
 def after_give_ups(given_up, lines):
-    """Lines behind so many empty ones, and their results; the give-ups are not done one by one."""
+    """Lines behind that many empty ones, and their results; the give-ups are not done one by one."""
     program = Program(given_up)
     lost = b''.join(b'03%04X\n' % (number % 65536) for number in range(given_up))
     results = b''.join(result + b'\n' for line in lines for result in program.results(line))

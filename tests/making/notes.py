@@ -1,10 +1,10 @@
-"""Scenes about notes (02, request 8): which datagram filled each number, as the view shows it and a release gives it."""
+"""Scenes about notes (rules 9.5 to 9.8): which datagram filled each number, as the view shows it and a release returns it."""
 
-from rules.arguments import shown
-from rules.datagrams import DATAGRAM_LIMIT, PARITY, SPARES
-from rules.packets import PACKET_LIMIT
-from rules.receiving import AFTER, BEFORE, NUMBERS_LIMIT, UNKNOWN
-from rules.sending import Sending
+from independent.arguments import shown
+from independent.datagrams import DATAGRAM_LIMIT, PARITY, SPARES
+from independent.packets import PACKET_LIMIT
+from independent.receiving import AFTER, BEFORE, NUMBERS_LIMIT, UNKNOWN
+from independent.sending import Sending
 
 from . import pieces
 from .outside import furnish, try_all
@@ -102,7 +102,7 @@ def into_view(script):
 
 
 def overwritten(script):
-    """For each state there is, notes as a caller could set them: 0, the number's own, one near, any; those outside are mended."""
+    """For each state there is, notes as a caller could set them: 0, the number's own, one near, any; those outside are repaired."""
     r = script.random
     furnish(script)
     if script.chance(0.5):

@@ -1,9 +1,10 @@
-"""Scenes with sessions outside their ranges: each rule is broken alone, seen refused, then mended or left behind."""
+"""Scenes with sessions outside their ranges (rules 13.1 to 13.11 and 15.13): each rule is broken alone, seen refused, then repaired or
+left."""
 
-from rules.arguments import shown
-from rules.datagrams import DATAGRAM_LIMIT, PARITY, SPARES, written_datagram
-from rules.packets import PACKET_LIMIT
-from rules.receiving import NUMBERS_LIMIT, RECEIVED, REPAIRED, SPARE
+from independent.arguments import shown
+from independent.datagrams import DATAGRAM_LIMIT, PARITY, SPARES, written_datagram
+from independent.packets import PACKET_LIMIT
+from independent.receiving import NUMBERS_LIMIT, RECEIVED, REPAIRED, SPARE
 
 from . import pieces
 from .breaking import BREAKS, KNOWN, Session
@@ -51,7 +52,7 @@ def try_all(script, chance_of_view=0.2):
 
 
 def receiving_outside(script):
-    """Several rules broken, each alone; the session is mended and goes on, or a fresh one follows."""
+    """Several rules broken, each alone; the session is repaired and goes on, or a fresh one follows."""
     r = script.random
     furnish(script)
     for broken in r.sample(BREAKS, 10):
@@ -166,7 +167,7 @@ def sending_value(session, field, number, octet):
 
 
 def sending_outside(script):
-    """A sending session with each rule broken alone, then mended."""
+    """A sending session with each rule broken alone, then repaired."""
     r = script.random
     script.call(0x22, shown(r.choice((0, 1, 20, 31, 32, 50, 65540, 999990)), 4))
     for _ in range(4):

@@ -1,8 +1,8 @@
-"""Scenes for the packing of field headers (02, request 2): packets with runs of fields without data, read and written in each edition."""
+"""Scenes for packed field headers (rule 5.6): packets with runs of fields without data, read and written in each edition."""
 
-from rules.editions import DATA_PACKET, EDITIONS, NEW, WITH_DATA, WITHOUT_DATA
-from rules.packets import FIELDS_LIMIT, PACKET_LIMIT, Packet, written_packet
-from rules.receiving import LOST, RECEIVED, REPAIRED
+from independent.editions import DATA_PACKET, EDITIONS, NEW, WITH_DATA, WITHOUT_DATA
+from independent.packets import FIELDS_LIMIT, PACKET_LIMIT, Packet, written_packet
+from independent.receiving import LOST, RECEIVED, REPAIRED
 
 from . import pieces
 from .frames import ADDED_TOO, DROPPING, frame, packets_of
@@ -26,7 +26,7 @@ def packet_in_runs(r, named, sizes=(1, 1, 2, 5)):
 
 
 def packet_of_size(r, named, size):
-    """A packet in runs whose last data makes it so many octets long, over the limit too."""
+    """A packet in runs whose last data makes it that many octets long, over the limit too."""
     given = packet_in_runs(r, named)
     fields = list(given.fields[:FIELDS_LIMIT - 2])
     fields.insert(r.randrange(len(fields) + 1), (r.choice((0, 6)), b'\x01'))
@@ -88,7 +88,7 @@ def padding_damaged(script):
 
 
 def counts_off(script):
-    """A count one too many or too few: what is then a header, padding or left over; also headers on an octet each, as it was before."""
+    """A count one too many or too few: what is then a header, padding or left over; also headers on an octet each."""
     r = script.random
     for _ in range(6):
         named = pieces.edition(r)

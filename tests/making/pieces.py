@@ -1,12 +1,12 @@
 """Packets and datagrams of every shape and edge, whole and damaged; each is drawn from a random source r."""
 
-from rules.arguments import shown
-from rules.datagrams import DATAGRAM_LIMIT, PARITY, SPARES, Datagram
-from rules.editions import DATA_PACKET, EDITIONS, INDICATOR, WITH_DATA, WITHOUT_DATA
-from rules.lengths import written_length
-from rules.packets import PACKET_LIMIT, Packet, in_bits, to_edge, written_packet, written_value
+from independent.arguments import shown
+from independent.datagrams import DATAGRAM_LIMIT, PARITY, SPARES, Datagram
+from independent.editions import DATA_PACKET, EDITIONS, INDICATOR, WITH_DATA, WITHOUT_DATA
+from independent.lengths import written_length
+from independent.packets import PACKET_LIMIT, Packet, in_bits, to_edge, written_packet, written_value
 
-EDGES = (1, 2, 3, 126, 127, 128, 129, 160, 161, PACKET_LIMIT - 2, PACKET_LIMIT - 1, PACKET_LIMIT)  # 160 was the limit before request 10
+EDGES = (1, 2, 3, 126, 127, 128, 129, 160, 161, PACKET_LIMIT - 2, PACKET_LIMIT - 1, PACKET_LIMIT)  # 160 is the limit of images of version 01
 LENGTH_FORMS = tuple(bytes.fromhex(text) for text in (
     '00', '01', '03', '04', '05', '07', '08', '09', '10', '11', '7F', '80', '8000', '807F', '8080', '80A0', '80A1', 'BFFF', 'C0', 'C101',
     'FF')) + tuple(written_length(PACKET_LIMIT + step) for step in (-1, 0, 1))

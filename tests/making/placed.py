@@ -1,25 +1,25 @@
-"""Scenes for the places of refusals (02, request 5): each item of a datagram or packet is cut or made wrong in turn.
+"""Scenes for the places of refusals (rules 2.27 to 2.29): each item of a datagram or packet is cut or made wrong in turn.
 
-The row of items tells which refusal is met, and at which octet its item begins; making the script ends if the answer is another."""
+The row of items decides which refusal is met, and at which octet its item begins. Making the script stops if the answer is another."""
 
-from rules.arguments import shown
-from rules.datagrams import DATAGRAM_LIMIT, PARITY
-from rules.editions import EDITIONS, INDICATOR, WITH_DATA, WITHOUT_DATA
-from rules.lengths import written_length
-from rules.packets import PACKET_LIMIT, in_bits, written_value
-from rules.refusals import DATA, ENDS, FORM, LEFT_OVER, NOT_ASSIGNED, SIZE, SPARE_BIT, Refusal
+from independent.arguments import shown
+from independent.datagrams import DATAGRAM_LIMIT, PARITY
+from independent.editions import EDITIONS, INDICATOR, WITH_DATA, WITHOUT_DATA
+from independent.lengths import written_length
+from independent.packets import PACKET_LIMIT, in_bits, written_value
+from independent.refusals import DATA, ENDS, FORM, LEFT_OVER, NOT_ASSIGNED, SIZE, SPARE_BIT, Refusal
 
 from . import pieces
 from .packed import packet_in_runs
 
 WRONG_FORMS = (b'\xC0', b'\xFF', b'\x80\x00', b'\x80\x7F')
 TOO_LONG = written_length(PACKET_LIMIT + 1)
-FIRST_TOO_LONG = shown(PACKET_LIMIT, 2)  # where a length minus one stands
+FIRST_TOO_LONG = shown(PACKET_LIMIT, 2)  # where a length minus one is
 UNASSIGNED_KIND = '1101001'  # data 9, in either edition
 
 
 def placed(row):
-    """A row of items as triples: role, bits, and how many bits stand before."""
+    """A row of items as triples: role, bits, and how many bits come before."""
     at = 0
     for role, item in row:
         yield role, item, at
@@ -27,7 +27,7 @@ def placed(row):
 
 
 def cut(row, length):
-    """The first octets of a row, so many, and what is met there: 1 at the item that does not end within them."""
+    """The first octets of a row, and what is met there: 1 at the item that does not end within them."""
     begins = next(at for _, item, at in placed(row) if at + len(item) > 8 * length)
     return pieces.octets_of(pieces.joined(row))[:length], Refusal(ENDS, begins // 8)
 
@@ -71,14 +71,14 @@ def wrong_in_packet(r, named, row, at):
 
 
 def not_assigned(r, values):
-    """The bits of an added value that is none: in the old edition any, else with a one where the zero stands, or past the last."""
+    """The bits of an added value that is none: in the old edition any, else with a one in place of the zero, or past the last."""
     last = values.last - values.last_of_root
     return r.choice(('11' + '{:06b}'.format(r.randrange(64)), '10{:06b}'.format(r.choice((last, last + 1, r.randrange(last, 64), 63)))))
 
 
 def met(answer, refusal):
-    """The answer is the refusal that the row tells."""
-    assert answer == refusal.octets(), 'answered %s, and the items tell %s' % (answer.hex(), refusal.octets().hex())
+    """The answer is the refusal that the row gives."""
+    assert answer == refusal.octets(), 'answered %s, and the items say %s' % (answer.hex(), refusal.octets().hex())
 
 
 def datagrams(script):

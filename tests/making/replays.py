@@ -1,12 +1,12 @@
-"""Scenes for the replay (02, request 6): traces with lists of numbers to drop, and buffers near the size of what is written."""
+"""Scenes for the replay (rules 21.1 to 21.6): traces with lists of numbers to drop, and buffers near the size of what is written."""
 
 import re
 
-from rules.arguments import shown, sized
-from rules.datagrams import DATAGRAM_LIMIT, PARITY, SPARES, written_datagram
-from rules.program import LINE_LIMIT
-from rules.replaying import replay
-from rules.sending import Sending
+from independent.arguments import shown, sized
+from independent.datagrams import DATAGRAM_LIMIT, PARITY, SPARES, written_datagram
+from independent.program import LINE_LIMIT
+from independent.replaying import replay
+from independent.sending import Sending
 
 from . import pieces
 from .lines import record
@@ -77,7 +77,7 @@ def crowded(script):
 
 
 def odd(r, line):
-    """A datagram's line made unreadable, its number as it was."""
+    """A datagram's line made unreadable, its number unchanged."""
     return r.choice((line[:-2], line[:-1], line + b'00', line + b'0', line + b'\r', line[:4] + b' ' + line[4:], line[:4] + b'00' + line[6:],
                      line[:4], line + b'0' * LINE_LIMIT))
 

@@ -2,11 +2,11 @@
 
 import random
 
-from rules.arguments import shown, sized
-from rules.calls import Calls
-from rules.datagrams import DATAGRAM_LIMIT
-from rules.joining import FRAME_LIMIT
-from rules.packets import PACKET_LIMIT
+from independent.arguments import shown, sized
+from independent.calls import Calls
+from independent.datagrams import DATAGRAM_LIMIT
+from independent.joining import FRAME_LIMIT
+from independent.packets import PACKET_LIMIT
 
 UNLIMITED = 10 ** 9  # lines of a script
 LOOKS = 50           # lines from one look at all ranges to the next
@@ -17,7 +17,7 @@ class Full(Exception):
 
 
 class Script:
-    """The lines so far, their answers, and the sessions and the joiner as they now stand."""
+    """The lines so far, their answers, and the sessions and the joiner in their present state."""
 
     def __init__(self, seed, count):
         self.random = random.Random(seed)
@@ -42,7 +42,7 @@ class Script:
         return self.calls.joiner
 
     def line(self, text):
-        """Adds a line as it stands; its answer."""
+        """Adds a line unchanged; its answer."""
         if len(self.lines) >= self.count:
             raise Full
         self.lines.append(text)
@@ -52,7 +52,7 @@ class Script:
         return self.answers[-1]
 
     def look_inside(self):
-        """A session that is taken to be inside its ranges is so."""
+        """A session that is assumed to be inside its ranges is so."""
         for session in (self.receiving, self.sending):
             assert not session.inside or session.all_in_ranges(), 'line %d has led outside the ranges' % len(self.lines)
 

@@ -1,10 +1,11 @@
-"""Scenes for the calls without a session: lengths, datagrams, packets, and lines that are no calls."""
+"""Scenes for the calls without a session (rules 3.1 to 3.8, 4.1 to 4.19 and 6.1 to 6.23): lengths, datagrams, packets, and lines that are
+no calls."""
 
-from rules.arguments import shown, sized
-from rules.datagrams import DATAGRAM_LIMIT, PARITY, write_datagram, written_datagram
-from rules.editions import DATA_PACKET, INDICATOR
-from rules.packets import PACKET_LIMIT, write_packet, written_packet
-from rules.refusals import Refusal
+from independent.arguments import shown, sized
+from independent.datagrams import DATAGRAM_LIMIT, PARITY, write_datagram, written_datagram
+from independent.editions import DATA_PACKET, INDICATOR
+from independent.packets import PACKET_LIMIT, write_packet, written_packet
+from independent.refusals import Refusal
 
 from . import pieces
 

@@ -1,11 +1,11 @@
-"""What a mending must fill (02, request 13), told in another way than the rules have it: by the sums of some messages, all of them, as
-long as these are not too many. With an honest sender the fill is the sender's packet with zeros. Making a script ends if the answer
-is another."""
+"""What a solve must fill (rules 14.1 to 14.6), found in another way than in the independent program: by the sums of all sets of messages,
+as long as these are not too many. With an honest sender the fill is the sender's packet with zeros. Making a script stops if the answer is
+another."""
 
-from rules.datagrams import exclusive_or, members_of
-from rules.packets import PACKET_LIMIT
-from rules.receiving import AFTER, BEFORE, REPAIRED, UNKNOWN
-from rules.refusals import CONTRADICTION, Refusal
+from independent.datagrams import exclusive_or, members_of
+from independent.packets import PACKET_LIMIT
+from independent.receiving import AFTER, BEFORE, REPAIRED, UNKNOWN
+from independent.refusals import CONTRADICTION, Refusal
 
 DONE, VIEW, MOST_SUMS = b'\x00', BEFORE + AFTER, 2048
 
@@ -21,7 +21,7 @@ def messages_of(session):
             yield unknown, exclusive_or([mark.messages[i].bytes()] + known, PACKET_LIMIT)
 
 
-def told_by_sums(session):
+def given_by_sums(session):
     """What each number modulo 64 must be filled with; CONTRADICTION if two sums of messages contradict; None if there are too many."""
     sums = {0: bytes(PACKET_LIMIT)}
     for unknown, total in messages_of(session):
@@ -40,34 +40,35 @@ def shown_places(session):
     return [(place.state, place.note, place.bytes(), bytes(place.octets)) for place in session.places]
 
 
-def mend(script, told=None):
-    """1A, held to the sums of messages; how many numbers were filled."""
+def solve(script, expected=None):
+    """1A, compared with the sums of messages; how many numbers were filled."""
     session = script.receiving
-    told = told_by_sums(session) if told is None else told
+    expected = given_by_sums(session) if expected is None else expected
     before, marks = shown_places(session), [(mark.accepted, mark.n, mark.m) for mark in session.marks]
     answer = script.call(0x1A)
     after = shown_places(session)
     if answer != DONE:
-        assert told in (None, CONTRADICTION) and answer == Refusal(CONTRADICTION).octets(), 'answered %s, told %s' % (answer.hex(), told)
+        right = expected in (None, CONTRADICTION) and answer == Refusal(CONTRADICTION).octets()
+        assert right, 'answered %s, expected %s' % (answer.hex(), expected)
         assert after == before, 'a refusal changed something'
         return 0
-    assert told != CONTRADICTION, 'the sums of messages contradict, and it is done'
+    assert expected != CONTRADICTION, 'the sums of messages contradict, and it is done'
     assert marks == [(mark.accepted, mark.n, mark.m) for mark in session.marks] and session.all_in_ranges()
     filled = [at for at in range(VIEW) if before[at] != after[at]]
     for at in filled:
         assert before[at][0] == UNKNOWN and after[at][:2] == (REPAIRED, 0) and len(after[at][2]) == PACKET_LIMIT
-    if told is not None:
-        assert {at: after[at][2] for at in filled} == told, 'filled %s, and the sums tell %s' % (filled, sorted(told))
+    if expected is not None:
+        assert {at: after[at][2] for at in filled} == expected, 'filled %s, and the sums give %s' % (filled, sorted(expected))
     return len(filled)
 
 
-def mended_as_sent(script, given):
-    """A mending with an honest sender: done, and each number filled is the packet that was sent."""
+def solved_as_sent(script, given):
+    """A solve with an honest sender: done, and each number filled is the packet that was sent."""
     session = script.receiving
     before = [place.state for place in session.places]
-    told = told_by_sums(session)
-    assert told != CONTRADICTION, 'the messages of an honest sender contradict'
-    mend(script, told)
+    expected = given_by_sums(session)
+    assert expected != CONTRADICTION, 'the messages of an honest sender contradict'
+    solve(script, expected)
     for at, state in enumerate(before):
         place = session.places[at]
         if state == UNKNOWN and place.state == REPAIRED:
@@ -75,15 +76,15 @@ def mended_as_sent(script, given):
     script.look(0.15)
 
 
-def mended_again(script):
-    """A second mending fills nothing more; now and then it is looked at, or handed over as an image."""
-    assert not mend(script), 'a second mending fills more'
+def solved_again(script):
+    """A second solve fills nothing more; now and then it is shown, or handed over as an image."""
+    assert not solve(script), 'a second solve fills more'
     script.look(0.3)
     if script.chance(0.1):
         answer = script.image(100000)
         if answer[0] == 0:
             script.restore(answer[5:5 + int.from_bytes(answer[1:5], 'big')])
-            assert not mend(script)
+            assert not solve(script)
 
 
 def release(script):

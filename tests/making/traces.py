@@ -1,13 +1,13 @@
-"""Scenes for two traces compared (02, request 12): one made from the other by changes, long ones, and such as do not read.
+"""Scenes for two traces compared (rules 22.1 to 22.16): one made from the other by changes, long ones, and ones that do not read.
 
-Where each number comes once, the changes tell every entry, and making the script ends if the answer has others."""
+Where each number comes once, the changes decide every entry, and making the script stops if the answer has others."""
 
-from rules.arguments import shown, sized
-from rules.comparing import FIRST_ALONE, LINES_LIMIT, PACKET, PARITY_DIFFERS, SECOND_ALONE, SPARES_DIFFER, compare
-from rules.datagrams import DATAGRAM_LIMIT, M_LIMIT, N_LIMIT, PARITY, SPARES, SPARES_LIMIT, read_datagram, written_datagram
-from rules.program import LINE_LIMIT, octets_of
-from rules.refusals import Refusal
-from rules.sending import Sending
+from independent.arguments import shown, sized
+from independent.comparing import FIRST_ALONE, LINES_LIMIT, PACKET, PARITY_DIFFERS, SECOND_ALONE, SPARES_DIFFER, compare
+from independent.datagrams import DATAGRAM_LIMIT, M_LIMIT, N_LIMIT, PARITY, SPARES, SPARES_LIMIT, read_datagram, written_datagram
+from independent.program import LINE_LIMIT, octets_of
+from independent.refusals import Refusal
+from independent.sending import Sending
 
 from . import pieces
 from .lines import record
@@ -29,7 +29,7 @@ def joined(r, lines):
     return b'\n'.join(lines) + r.choice((b'\n', b'\n', b'')) if lines else b''
 
 
-def compared(script, firsts, seconds, told=None):
+def compared(script, firsts, seconds, expected=None):
     """Two traces compared both ways, with room near what the entries need; the other way 1 and 2 are exchanged, and no more."""
     r = script.random
     first, second = joined(r, firsts), joined(r, seconds)
@@ -39,7 +39,7 @@ def compared(script, firsts, seconds, told=None):
         there = back = []
     exchanged = {FIRST_ALONE: SECOND_ALONE, SECOND_ALONE: FIRST_ALONE}
     assert sorted(there) == sorted((number, exchanged.get(what, what)) for number, what in back), 'not the same the other way'
-    assert told is None or told == there, 'the entries are %s, and the changes tell %s' % (there, told)
+    assert expected is None or expected == there, 'the entries are %s, and the changes give %s' % (there, expected)
     size = 2 * len(there)
     for cap in r.sample((size, size, size + 1, size + 5, size - 1, size - 1, size - 2, size // 2, 0, ENOUGH), 2):
         call(script, first, second, min(ENOUGH, max(0, cap)))
@@ -110,8 +110,8 @@ def altered(r, given):
     return given, what
 
 
-def told(script):
-    """Each number once: some dropped, some more, some altered; perhaps in another order, with empty lines between. All entries are told."""
+def once(script):
+    """Each number once: some dropped, some more, some altered; perhaps in another order, with empty lines between. All entries are known."""
     r = script.random
     count = r.choice((0, 1, 2, 5, 12, 30))
     numbers = r.sample(r.choice((range(65536), range(64), [256 * one for one in range(256)])), count)

@@ -6,15 +6,15 @@ its loop over vectors, and not as one instruction that repeats an octet at a tim
 import collections
 import json
 import os
-import pathlib
 import re
 import subprocess
 import sys
 
-import sourced
-from c_tools import tools
+from speed import sourced
+from support.c_tools import tools
+from support.places import BIN
 
-RUN = str(pathlib.Path(__file__).resolve().parents[1] / 'run')
+RUN = str(BIN / 'run')
 PLAIN_LOOPS = 'glibc.cpu.x86_rep_movsb_threshold=1000000000:glibc.cpu.x86_rep_stosb_threshold=1000000000'
 
 
@@ -48,7 +48,7 @@ def same_code(program, lines):
 
 
 def is_called(pattern, name):
-    """Whether a function's name is what 'crate::function' means, in whatever module of the crate it stands."""
+    """Whether a function's name is what 'crate::function' means, in whatever module of the crate it is."""
     crate, _, function = pattern.partition('::')
     return bool(re.fullmatch(r'%s::(\w+::)*%s' % (crate, function), name))
 

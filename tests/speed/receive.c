@@ -1,5 +1,5 @@
-/* The program of the scope page (01) in plain C, for counting instructions beside it: lines of hexadecimal in, result lines out.
-   Written from 01 and 02 (request 5) alone. A session here is never outside its ranges, so they are not checked. */
+/* The program of docs/RULES.md, section 18, in plain C, for counting instructions beside it: lines of hexadecimal in, result lines out.
+   Written from the rules alone. A session here is never outside its ranges, so they are not checked. */
 
 #include <stdint.h>
 #include <stdio.h>
@@ -96,7 +96,7 @@ static int read_items(struct input *in, struct datagram *d)
     return in->at == in->end ? 0 : LEFT_OVER;
 }
 
-/* A refusal met in reading order gives its place; the place stays as it was otherwise. */
+/* A refusal met in reading order gives its place; otherwise the place is unchanged. */
 static int read_datagram(const uint8_t *octets, size_t length, struct datagram *d, unsigned *place)
 {
     struct input in = { octets, octets + length, octets };

@@ -3,14 +3,13 @@
 The program is built anew and without proof from what the toolchain's compiler is given, with its options: the same code as the
 program that `rt check` links, with debug information that names the functions. For x86-64, on x86-64."""
 
-import pathlib
 import re
 import subprocess
 import sys
 
-from c_tools import missing, native, toolchain as kit
+from support.c_tools import missing, native, toolchain as kit
+from support.places import TOP
 
-TOP = pathlib.Path(__file__).resolve().parents[2]
 TARGET = 'x86_64-unknown-linux-gnu'
 # for a processor without vectors; gcc and clang take the same words
 WITHOUT_VECTORS = ('-mno-sse', '-mno-sse2', '-mno-mmx')
@@ -49,7 +48,7 @@ def watching_compiler(tools, room):
 
 
 def placed(text):
-    """LLVM's text of a program with a place for each instruction: the function that it stands in, and its line."""
+    """LLVM's text of a program with a place for each instruction: the function that it is in, and its line."""
     unit = 1 + max([int(number) for number in re.findall(r'^!(\d+) =', text, re.M)] + [0])
     file, kind, nothing, free = unit + 1, unit + 2, unit + 3, unit + 4
     out, scope, in_cases = [], None, False
@@ -66,7 +65,7 @@ def placed(text):
         elif line == '}':
             scope = None
         elif scope is not None and line.startswith('  '):
-            # the cases of a switch stand on lines of their own, up to its bracket
+            # the cases of a switch are on lines of their own, up to its bracket
             in_cases = line.endswith('[') or in_cases and not line.strip().startswith(']')
             if not in_cases:
                 notes.append('!%d = !DILocation(line: %d, scope: !%d)' % (free, number, scope))

@@ -2,10 +2,10 @@
 
 import random
 
+from independent.datagrams import DATAGRAM_LIMIT, PARITY, SPARES
+from independent.sending import Sending
 from making.lines import Recording
-from rules.datagrams import DATAGRAM_LIMIT, PARITY, SPARES
-from rules.sending import Sending
-from traffic import corpus
+from support.real import corpus
 
 CALL = 'tt_v17_ecm_v0.a2b'
 LINES = 200

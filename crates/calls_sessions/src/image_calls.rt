@@ -19,7 +19,7 @@ fn written(session: Session, cap: usize, all: &mut [u8]) {
     say_no_call()
 }
 
-// 18: writes the session as an image (rule 25.23).
+// 18: writes the session as an image (rule 25.23), and changes nothing (rule 25.46).
 pub fn write(session: Session, cap: usize) {
     let mut all = [FILLING; LONGEST];
     written(session, cap, &mut all)

@@ -1,6 +1,6 @@
 // `compare FIRST SECOND` compares two recorded traces and writes the entries of `trace_compare_code::compare`, one a line: the number in
-// four hexadecimal digits, then 1 to 5 (rules 22.1 to 22.12). If the comparison is refused, it writes `refused`, the refusal's number and
-// place, the trace and the line (rule 22.15). `./compare` makes a table of it.
+// four hexadecimal digits, then 1 to 5 (rules 22.1 and 22.23). If the comparison is refused, it writes `refused`, the refusal's number and
+// place, the trace and the line (rule 22.24). `./compare` makes a table of it.
 mod telling;
 
 use line::Line;
@@ -24,7 +24,7 @@ fn usage() {
 }
 
 // Reads the text of a file to the front of a buffer, and returns how many characters it has; if it cannot, prints why and returns NONE. It
-// tries to read one more octet, to know whether the file ended there.
+// tries to read one more octet, to know whether the file ended there (rule 22.25).
 fn read_text(path: &[u8], text: &mut [u8]) -> usize {
     let file = os::open_read(path);
     if file < 0 {

@@ -16,7 +16,7 @@ fn is_blank(c: u8) -> bool {
     (c == b' ') | (c == b'\t') | (c == b'\r')
 }
 
-// One line without its blanks, to the front of line: how many characters it has, or how many are kept if it is too long.
+// One line without its blanks (rule 19.9), to the front of line: how many characters it has, or how many are kept if it is too long.
 pub fn read_line(line: &mut [u8; KEPT], ended: &mut bool) -> usize {
     let mut size = 0;
     let mut turns = u64::MAX;

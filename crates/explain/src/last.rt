@@ -87,7 +87,7 @@ fn say_elsewhere(named: Named, s: &[u8], ending: Ending) {
     say(b"\n");
 }
 
-// What the packet reads as. A refusal met while reading is written with its octet, one of the whole packet without (rules 2.27 and 2.30).
+// What the packet reads as. A refusal met while reading is written with its octet, one of the whole packet without (rule 19.6).
 pub fn told(named: Named, s: &[u8], ending: Ending, met: bool) {
     let found = read_by(named, s, ending);
     let fields = found.fields;

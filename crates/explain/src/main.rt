@@ -89,7 +89,7 @@ fn explain_line(kept: &[u8; KEPT], size: usize) {
     by_edition(Named::Old, line)
 }
 
-// One line of the input; empty ones are skipped. An empty line is written before each packet but the first.
+// One line of the input; empty ones are skipped (rule 19.9). An empty line is written before each packet but the first.
 fn turn(first: bool, ended: &mut bool) -> bool {
     let mut line = [0u8; KEPT];
     let size = read_line(&mut line, ended);

@@ -1,7 +1,7 @@
 // `handover [--load FILE] [--save FILE]` is the program that begins with the session of an image and leaves an image of the session at the
 // end of its input (rules 20.23 to 20.26). Without --load it begins with a fresh session, without --save it leaves no image. It reports
 // what goes wrong in one line on standard error. If an image cannot be loaded, or its file cannot be written, the program reads no line; if
-// its results cannot all be written, it leaves no image.
+// its results cannot all be written, it leaves no image (rules 20.29 to 20.31).
 mod arguments;
 mod loading;
 mod playing;

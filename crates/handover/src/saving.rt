@@ -37,7 +37,7 @@ fn front(s: &[u8], size: usize) -> &[u8] {
 }
 
 // Whether a file can be replaced: there is none of that name, or it can be written and is on a disk. A device or a pipe cannot be synced to
-// a disk, and is not replaced.
+// a disk, and is not replaced (rule 20.29).
 fn replaceable(path: &[u8]) -> bool {
     let file = os::open_update(path);
     if file < 0 {

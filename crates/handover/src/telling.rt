@@ -38,7 +38,7 @@ pub fn say_long() {
     say(b"handover: the name of a FILE is too long\n")
 }
 
-// Results that could not all be written.
+// Results that could not all be written (rule 20.30).
 pub fn say_unwritten() {
     say(b"handover: standard output: cannot be written\n")
 }

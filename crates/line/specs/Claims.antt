@@ -44,7 +44,7 @@ ReleasesAll = (session : Lent) → InRanges session
     → (release false packetLimit ((releases (viewIn session)) .after) ≡ refuse baseUnknown)
     ⊎ (release false packetLimit ((releases (viewIn session)) .after) ≡ refuse allPassed)
 
--- a line that was written reads back to the same octets
+-- a line that was written reads back to the same octets (rule 18.16)
 abbrev pub WrittenReads : Type 0
 WrittenReads = (octets : List ℕ) → Octets octets → length octets ≤ datagramLimit → lineOctets (hexOf octets) ≡ done octets
 

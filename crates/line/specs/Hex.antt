@@ -35,7 +35,7 @@ digitOf c =
 unfoldable pub allDigits : List ℕ → Bool
 allDigits line = allBelow (length line) (λ k. ltb (digitOf (getD line k 0)) noDigit)
 
--- octet k is in the digits 2k and 2k + 1, the high one first
+-- octet k is in the digits 2k and 2k + 1, the high one first (rule 18.15)
 abbrev pub pairAt : List ℕ → ℕ → ℕ
 pairAt line k = digitOf (getD line (2 * k) 0) * 16 + digitOf (getD line (2 * k + 1) 0)
 
@@ -60,7 +60,7 @@ lineOctets line = unless (lineRows line) (octetsIn line)
 unfoldable pub digitFor : ℕ → ℕ
 digitFor n = cond (ltb n 10) (0x30 + n) (0x41 + (n - 10))
 
--- two digits for each octet, the high one first
+-- two digits for each octet, the high one first (rule 18.15)
 unfoldable pub hexOf : List ℕ → List ℕ
 hexOf [] = []
 hexOf (octet ∷ octets) = digitFor (octet / 16) ∷ digitFor (octet % 16) ∷ hexOf octets

@@ -45,7 +45,7 @@ lengthsSum s = total (λ x. x) s
 unfoldable pub oneEach : List ℕ → List ℕ → List ℕ → Bool
 oneEach types lengths octets = eqb (length types) (length lengths) && eqb (lengthsSum lengths) (length octets)
 
--- not 12: the value is assigned (rule 2.12), and no type is over 7, or over 11 in the new edition (rule 6.19)
+-- not 12: the value is assigned (rule 7.16), and no type is over 7, or over 11 in the new edition (rule 6.19)
 unfoldable pub allAssigned : Edition → PacketKind → ℕ → List ℕ → Bool
 allAssigned edition kind value types = ltb value (manyValues edition kind) && every (λ t. leb t (typesLimit edition)) types
 

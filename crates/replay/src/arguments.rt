@@ -1,4 +1,4 @@
-// The numbers to drop, from the arguments: in decimal, or `0x` and hexadecimal digits (rule 21.8).
+// The numbers to drop, from the arguments: in decimal, or `0x` and hexadecimal digits (rules 21.8 and 21.10).
 use crate::telling::say;
 
 // At most as many arguments as there are numbers of 16 bits.

@@ -11,7 +11,7 @@ ghost use Rattle.session_held.specs.Laid.{InRanges};
 ghost use Rattle.line.specs.Promise.{stepLimit};
 ghost use Rattle.line.specs.FeedPromise.{Feedable};
 
-// The counts at the end, and whether every read and write succeeded.
+// The counts at the end, and whether every read and write succeeded (rule 21.11).
 pub struct Told {
     pub counts: Counts,
     pub well: bool,

@@ -13,7 +13,7 @@ use Rattle.sender.specs.declared.Sender.{Sender}
 abbrev pub historyOctets : ℕ
 historyOctets = historyKept * packetLimit
 
--- the slot of the number at place p of the history: that number is sent − historyKept + p, and its slot is the number modulo 32
+-- the slot of the number at place p of the history: that number is sent − historyKept + p, its slot the number modulo 32 (rule 15.18)
 abbrev pub historySlot : ℕ → ℕ → ℕ
 historySlot sent p = (sent + p) % historyKept
 

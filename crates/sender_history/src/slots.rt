@@ -1,4 +1,4 @@
-// The stored history: the slot of a number, the ranges (rule 15.13), and how a packet joins (rule 15.12).
+// The stored history: the slot of a number (rule 15.18), the ranges (rule 15.13), and how a packet joins (rule 15.12).
 use datagram::Packet;
 use sender::Sender;
 ghost use mathlib.Core.Path.{_≡_};

@@ -1,4 +1,4 @@
--- The claims of solve (rules 14.2 and 14.7). Statements only.
+-- The claims of solve (rules 14.2, 14.7 and 14.10). Statements only.
 use mathlib.Core.Path.{_≡_}
 use mathlib.Core.Bool.{true}
 use Rattle.length.specs.Answers.{refused}
@@ -20,5 +20,5 @@ pub record SolverClaims : Type 0 where
   pub oneOutcome : (s : Session) (r q : AfterSolve) → SolveOwes s r → SolveOwes s q → r ≡ q
   -- the session after is within its ranges (rule 13.13)
   pub afterSolve : (s : Session) (r : AfterSolve) → SolveOwes s r → sessionInRanges s ≡ true → sessionInRanges (r .session) ≡ true
-  -- a second call directly after the first fills nothing more (rule 14.2)
+  -- a second call directly after the first fills nothing more (rule 14.10)
   pub nothingMore : (s : Session) (r q : AfterSolve) → SolveOwes s r → r .answer ≡ solved.Filled → SolveOwes (r .session) q → q ≡ r

@@ -1,4 +1,4 @@
--- Which slot a number has: the number modulo the count of slots, so nothing moves when the base moves on (rule 25.39). Definitions only.
+-- Which slot a number has: the number modulo the count of slots, so nothing moves when the base moves on (rule 9.13). Definitions only.
 use Prim.Native.Nat.{ℕ, _+_, _*_, _%_, _<_}
 use mathlib.Core.Path.{_≡_}
 use Rattle.datagram.specs.Sizes.{packetLimit, messagesLimit}

@@ -1,6 +1,6 @@
 // The receiving session in memory, as the calls inside the session receive it: base and counts by value, a table of numbers, and two stores
 // of octets, with one slot for each kept packet and one for each held message. A number's slot is the number modulo the count of slots, so
-// nothing moves when the base moves on (rule 25.39).
+// nothing moves when the base moves on (rule 9.13).
 mod fresh;
 mod table;
 

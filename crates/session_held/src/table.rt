@@ -15,7 +15,7 @@ ghost use Rattle.session_held.specs.Slots.{slotsKept, slotsHeard, slotsM
 ghost use Rattle.session_held.specs.Table.{countsOf, places, stateIn, sizeIn, noteIn, markIn, nIn, mIn, messageSizeIn, messagePlace};
 ghost use Rattle.session_held.specs.Table.{stateNumbered, keptSet, heardSet, sizesFreed, heardDropped};
 
-// The slot of a number among the kept ones, and among those from the base on (rule 25.39).
+// The slot of a number among the kept ones, and among those from the base on (rule 9.13).
 pub fn kept_slot(number: u16) -> usize
     ensures { λ r. ⌜ r ≡ number % slotsKept ⌝ }
 {

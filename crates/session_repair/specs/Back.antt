@@ -1,5 +1,5 @@
 -- The members of a message as numbers that go back by m (rule 4.12), and what is counted, found and summed over them. Numbers are modulo
--- 65,536 (rule 2.35), and a number's slot is the number modulo 64 (rule 25.39). Definitions only.
+-- 65,536 (rule 2.35), and a number's slot is the number modulo 64 (rule 9.13). Definitions only.
 use Prim.Native.Nat.{ℕ, zero, suc, _+_, _*_, _%_, _≤_, _<_}
 use mathlib.Core.Path.{_≡_}
 use mathlib.Core.Bool.{cond}

@@ -115,7 +115,7 @@ pub record Demand2 : Type 0 where
   -- which determines kind and octets of all that it releases
   pub goesOn : {s t : Session} {calls : Calls} → Begins s → Called s calls t → GoesOn (viewOf s) calls (viewOf t)
   -- no session in such a chain is ever refused with 17, the first included: the receiving session's (rules 9.12 and 13.13), and the
-  -- sending session's
+  -- sending session's (rule 15.17)
   pub never17 : {s t : Session} {calls : Calls} {call : Call} → Begins s → Called s (calls then call) t
       → callRefusal call ≡ some outsideRanges
       → ⊥

@@ -1,0 +1,70 @@
+"""Wrong forms of tools/lines-of, for the self-test of checks/lines_of.py. Each row is what is wrong, the file, its edit, the check that
+fails, and its words."""
+
+FILE, UDP, MAIN = 'capture_file.py', 'udp.py', 'lines-of'
+FORMS, SECTIONS = 'every form of file, link and network', 'interfaces and sections'
+CHOICE, LEFT_OUT = 'the choice of a flow', 'what is left out'
+OF_FILES = (
+    ('high first is unknown', FILE, "b'\\xA1\\xB2\\xC3\\xD4': '>', ", '', FORMS, 'pcap, high first, Ethernet, IPv4: expected'),
+    ('nanoseconds are unknown', FILE, ", b'\\x4D\\x3C\\xB2\\xA1': '<'", '', FORMS, 'pcap in nanoseconds, Ethernet, IPv4: expected'),
+    ('the link type with what is above', FILE, 'link & 0xFFFF', 'link', FORMS, 'pcap that names checks, Ethernet, IPv4'),
+    ('the length before the cut', FILE, "'8xI4x'", "'12xI'", 'stored captures', 'cut.pcap: another trace'),
+    ('records counted from 0', FILE, 'enumerate(found, 1)', 'enumerate(found)', LEFT_OUT, 'said [\'left out, No. 1: a fragment'),
+    ('one byte order for all', FILE, 'SECTION_ORDERS.get(head[8:])', "SECTION_ORDERS and '<'", FORMS, 'pcapng, high first, '),
+    ('interfaces of all sections', FILE, '            interfaces = []\n', '            pass\n', SECTIONS, 'sections: '),
+    ('a simple packet longer than captured', FILE, 'min(original, most)', 'original', SECTIONS, 'packet, cut: '),
+    ('old packets as new ones', FILE, "'H10xI4x'", "'I8xI4x'", FORMS, 'pcapng, old, Ethernet, IPv4: expected'),
+    ('a record may be of any length', FILE, 'if captured > LARGEST:', 'if False:', 'no captures', 'a record too long: '),
+    ('a block may be of any length', FILE, '12 <= length <= LARGEST', '12 <= length', 'no captures', 'a block too long: '),
+    ('the second length not checked', FILE, '!= (length,)', '== ()', 'no captures', 'two lengths: '),
+    ('a section without an order', FILE, 'if not order:', "if order == '':", 'no captures', 'traceback: TypeError'),
+    ('fields that are not there', FILE, 'len(octets) < struct.calcsize(form)', 'False', 'no captures', 'traceback: error'),
+    ('an interface that is not there', FILE, 'place >= len(interfaces)', 'False', 'no captures', 'traceback: IndexError'),
+    ('a packet longer than its block', FILE, 'captured > len(body) - 20', 'False', 'no captures', 'longer than its block: '),
+    ('packed files as any other', FILE, 'magic.startswith(GZIP)', 'not magic', 'no captures', 'an empty file: expected'),
+    ('a cut file as whole', FILE, 'len(octets) < count', 'False', 'files cut at every place', 'traceback: error'),
+    ('an interface that is not there', FILE, 'place >= len(interfaces)', 'False', 'damaged files', 'traceback: IndexError'))
+OF_DATAGRAMS = (
+    ('one kind of tag is unknown', UDP, ", b'\\x91\\x00'", '', FORMS, 'pcap, Ethernet with three tags, IPv4: expected'),
+    ('one tag alone', UDP, '    while kind in TAGS:', '    if kind in TAGS:', FORMS, 'pcap, Ethernet with two tags, IPv4: expected'),
+    ('any Ethernet type', UDP, 'return octets if kind in IP_TYPES', 'return octets if kind', CHOICE, 'no options: expected'),
+    ('cooked headers of 14 octets', UDP, 'octets[14:16], octets[16:]', 'octets[12:14], octets[14:]', FORMS, 'pcap, cooked, IPv4: '),
+    ('cooked headers of one form', UDP, '276: cooked_2', '276: cooked', FORMS, 'pcap, cooked 2, IPv4: expected'),
+    ('one order of address families', UDP, "('big', 'little')", "('little',)", FORMS, 'pcap, null, high first, IPv4: expected'),
+    ('one address family for IPv6', UDP, '(2, 24, 28, 30)', '(2, 30)', FORMS, 'pcap, null, high first, IPv6: expected'),
+    ('raw IP as a BSD numbers it', UDP, '12: raw, ', '', FORMS, 'pcap, raw of a BSD, IPv4: expected'),
+    ('IPv4 without options', UDP, '4 * (words & 15)', '20', FORMS, 'pcap, Ethernet, IPv4 with options: expected'),
+    ('an IPv4 length must be there', UDP, 'length or len(octets)', 'length', FORMS, 'pcap, Ethernet, IPv4 without a length: expected'),
+    ('an IPv6 length must be there', UDP, '[:length or None]', '[:length]', FORMS, 'pcap, Ethernet, IPv6 without a length: expected'),
+    ('IPv6 without extensions', UDP, 'while protocol in EXTENSIONS', 'while protocol == FRAGMENT', FORMS, 'IPv6 with hop-by-hop: '),
+    ('authentication as the others', UDP, ', AUTHENTICATION: 4 * payload[1] + 8', '', FORMS, 'IPv6 with three extensions: expected'),
+    ('every fragment header is a fragment', UDP, 'bool(pieces & 0xFFF9)', 'True', FORMS, 'IPv6 in one fragment: expected'),
+    ('a first fragment as a whole', UDP, 'pieces & 0x3FFF', 'pieces & 0x1FFF', LEFT_OUT, 'the first fragment: expected'),
+    ('a last fragment as a whole', UDP, 'pieces & 0x3FFF', 'pieces & 0x2000', LEFT_OUT, 'the last: expected'),
+    ('a first fragment of IPv6 as a whole', UDP, 'pieces & 0xFFF9', 'pieces & 0xFFF8', LEFT_OUT, 'the first of IPv6: expected'),
+    ('a last fragment of IPv6 as a whole', UDP, 'pieces & 0xFFF9', 'pieces & 1', LEFT_OUT, 'its last: expected'),
+    ('anything is UDP', UDP, 'ip.protocol != UDP', 'False', CHOICE, 'no options: expected'),
+    ('a UDP header in part', UDP, 'len(ip.payload) < 8', 'False', LEFT_OUT, 'traceback: error'),
+    ('a UDP length over the IP packet', UDP, 'not 8 <= length <= ip.length', 'length < 8', LEFT_OUT, 'a UDP length too long: expected'),
+    ('a UDP length under the header', UDP, 'not 8 <= length <= ip.length', 'length > ip.length', LEFT_OUT, 'one too short: expected'),
+    ('a datagram in part', UDP, 'CUT if length > len(ip.payload) else ', '', LEFT_OUT, 'a cut datagram: expected'),
+    ('an empty line', UDP, "EMPTY if length == 8 else ''", "''", LEFT_OUT, 'no octets: expected'),
+    ('what is behind a datagram', UDP, 'ip.payload[8:length]', 'ip.payload[8:]', FORMS, 'without a length: expected 4 datagrams'),
+    ('a link type that is not known', MAIN, 'record.link not in LINKS', 'False', 'remarks', 'traceback: KeyError'))
+OF_THE_COMMAND = (
+    ('small letters', MAIN, 'octets.hex().upper()', 'octets.hex()', 'stored captures', 'spares.pcap: another trace'),
+    ('small letters', MAIN, 'octets.hex().upper()', 'octets.hex()', 'damaged files', ': status 0, written '),
+    ('nothing said', MAIN, "        say('no whole", "        str('no whole", 'damaged files', ': status 1, said []'),
+    ('the quietest flow', MAIN, '-len(recorded.flows[flow])', 'len(recorded.flows[flow])', CHOICE, 'no options: expected'),
+    ('--port of one end', MAIN, 'chosen.port in (port for _, port in flow)', 'chosen.port == flow[0][1]', CHOICE, '--port 5062: expected'),
+    ('--from for --to', MAIN, '(chosen.source, chosen.destination)', '(chosen.destination, chosen.source)', CHOICE, '--from 192.0.2.1: '),
+    ('--from without its port', MAIN, ' or wanted[1] not in (None, port)', '', CHOICE, '--from 192.0.2.1:5060'),
+    ('--list without the options', MAIN, 'if meant(chosen, flow)]', 'if chosen.list or meant(chosen, flow)]', CHOICE, '--list --to'),
+    ('no datagram, and status 0', MAIN, "e))\n        return 1\n    if", "e))\n        return 0\n    if", CHOICE, 'status 0'),
+    ('what another flow left out', MAIN, 'if not flow or ends == ', 'if not flow or () != ', 'remarks', 'another flow: expected'),
+    ('what other ports left out', MAIN, 'in (None, tuple(port for _, port in flow))', '!= ()', 'remarks', 'another flow: expected'),
+    ('all numbers', MAIN, 'which[:NAMED]', 'which', 'remarks', 'many: expected'),
+    ('a cut that is not said', MAIN, 'if self.broken:', 'if False:', 'files cut at every place', 'expected to be said'),
+    ('a folder', MAIN, 'except OSError', 'except FileNotFoundError', 'as a command', 'IsADirectoryError'),
+    ('no end of the pipe', MAIN, ', signal.SIGPIPE)', ',)', 'as a command', 'BrokenPipeError'))
+EDITS = OF_FILES + OF_DATAGRAMS + OF_THE_COMMAND
