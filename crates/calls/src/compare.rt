@@ -35,12 +35,12 @@ fn compared(one: &[u8], other: &[u8], cap: usize, all: &mut [u16]) {
 }
 
 // Reads the two traces, each behind its length, and answers (rule 25.36).
-pub fn answer(s: &[u8], cap: usize) {
+pub fn answer(octets: &[u8], cap: usize) {
     let mut all = [FILLED; CAP];
     let mut at = 0;
-    let one = sized(s, &mut at, 4);
-    let other = sized(s, &mut at, 4);
-    if at == s.len() {
+    let one = sized(octets, &mut at, 4);
+    let other = sized(octets, &mut at, 4);
+    if at == octets.len() {
         return compared(one, other, cap, &mut all);
     }
     say_no_call()

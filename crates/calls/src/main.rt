@@ -67,19 +67,19 @@ fn cap_of(octets: &[u8], size: usize) -> usize {
 }
 
 // Makes the call of a line, and returns what the program holds after it.
-fn called(held: Held, call: u8, s: &[u8], lent: &mut [u8]) -> Held {
+fn called(held: Held, call: u8, octets: &[u8], lent: &mut [u8]) -> Held {
     if call < 0x10 {
-        calls_lines::answer(call, s, lent);
+        calls_lines::answer(call, octets, lent);
         return held;
     }
-    calls_sessions::answer(held, call, s, lent)
+    calls_sessions::answer(held, call, octets, lent)
 }
 
 // Makes the calls that need a larger buffer or list of their own. They change nothing that the program holds (rule 25.45).
-fn called_apart(held: Held, call: u8, s: &[u8], cap: usize) {
+fn called_apart(held: Held, call: u8, octets: &[u8], cap: usize) {
     match call {
-        0x40 => replay::answer(s, cap),
-        0x50 => compare::answer(s, cap),
+        0x40 => replay::answer(octets, cap),
+        0x50 => compare::answer(octets, cap),
         _ => calls_sessions::write_image(held, cap),
     }
 }
@@ -97,14 +97,14 @@ fn answered(held: Held, line: &[u8; KEPT], count: usize, all: &mut [u8]) -> Held
     let size = size_of(call, octets.len());
     if size != NONE {
         let cap = cap_of(octets, size);
-        let s = part(octets, 1, size);
+        let arguments = part(octets, 1, size);
         if (call == 0x18) | (call == 0x40) | (call == 0x50) {
-            called_apart(held, call, s, cap);
+            called_apart(held, call, arguments, cap);
             return held;
         }
         if cap <= all.len() {
             let start = 0;
-            return called(held, call, s, &mut all[start..cap]);
+            return called(held, call, arguments, &mut all[start..cap]);
         }
     }
     say_no_call();

@@ -45,13 +45,13 @@ fn replayed(trace: &[u8], listed: &[u16], cap: usize, all: &mut [u8]) {
 }
 
 // Reads the count, the numbers to drop, the length and the trace, and answers (rule 25.35).
-pub fn answer(s: &[u8], cap: usize) {
+pub fn answer(octets: &[u8], cap: usize) {
     let mut listed = [0u16; NUMBERS];
     let mut all = [FILLING; LONGEST];
     let mut at = 0;
-    let count = numbers(s, &mut at, 2, &mut listed);
-    let trace = sized(s, &mut at, 4);
-    if at == s.len() {
+    let count = numbers(octets, &mut at, 2, &mut listed);
+    let trace = sized(octets, &mut at, 4);
+    if at == octets.len() {
         return replayed(trace, first(&listed, count), cap, &mut all);
     }
     say_no_call()

@@ -88,14 +88,14 @@ pub fn say_no_call() {
     say(0xEE, 1);
 }
 
-// Writes a length unchanged, and behind it that many octets of `s` from `start` on, but not more than a packet may have (rule 25.43).
-pub fn say_sized(s: &[u8], start: usize, size: usize) {
+// Writes a length unchanged, and behind it that many of `octets` from `start` on, but not more than a packet may have (rule 25.43).
+pub fn say_sized(octets: &[u8], start: usize, size: usize) {
     say((size % 65536) as u32, 2);
     if size < Packet::LIMIT {
-        say_all(part(s, start, size));
+        say_all(part(octets, start, size));
         return;
     }
-    say_all(part(s, start, Packet::LIMIT));
+    say_all(part(octets, start, Packet::LIMIT));
 }
 
 // Writes the answer of a call that got a buffer, and the whole buffer, behind a refusal too (rule 25.4).

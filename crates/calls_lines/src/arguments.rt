@@ -1,22 +1,22 @@
 // The arguments of a call, read one after the other from the place `at`. Past the end an argument reads as 0 and moves `at` past the end.
 // So a line has all of its arguments and nothing more exactly if `at` equals its length at last (rule 25.5).
 
-pub fn octet(s: &[u8], at: &mut usize) -> u8 {
+pub fn octet(octets: &[u8], at: &mut usize) -> u8 {
     let i = *at;
-    if i < s.len() {
+    if i < octets.len() {
         *at = i + 1;
-        return s[i];
+        return octets[i];
     }
     *at = usize::MAX;
     0
 }
 
 // A number of `width` octets, high octet first.
-pub fn number(s: &[u8], at: &mut usize, width: usize) -> u32 {
+pub fn number(octets: &[u8], at: &mut usize, width: usize) -> u32 {
     let mut n: u32 = 0;
     let mut left = width;
     while left > 0 {
-        let low = octet(s, at);
+        let low = octet(octets, at);
         n = n % 16777216 * 256 + (low as u32);
         left -= 1;
     }
@@ -24,37 +24,37 @@ pub fn number(s: &[u8], at: &mut usize, width: usize) -> u32 {
 }
 
 // `size` octets from `start` on, or none if there are fewer.
-pub fn part(s: &[u8], start: usize, size: usize) -> &[u8] {
-    if start <= s.len() {
-        if size <= s.len() - start {
+pub fn part(octets: &[u8], start: usize, size: usize) -> &[u8] {
+    if start <= octets.len() {
+        if size <= octets.len() - start {
             let end = start + size;
-            return &s[start..end];
+            return &octets[start..end];
         }
     }
-    &s[..0]
+    &octets[..0]
 }
 
 // Octets behind their length, which has `width` octets.
-pub fn sized<'a>(s: &'a [u8], at: &mut usize, width: usize) -> &'a [u8] {
-    let size = number(s, at, width) as usize;
+pub fn sized<'a>(octets: &'a [u8], at: &mut usize, width: usize) -> &'a [u8] {
+    let size = number(octets, at, width) as usize;
     let start = *at;
-    if start <= s.len() {
-        if size <= s.len() - start {
+    if start <= octets.len() {
+        if size <= octets.len() - start {
             let end = start + size;
             *at = end;
-            return &s[start..end];
+            return &octets[start..end];
         }
     }
     *at = usize::MAX;
-    &s[..0]
+    &octets[..0]
 }
 
 // Writes numbers of two octets, behind their count of `width` octets, to the front of `out`, and returns how many they are.
-pub fn numbers(s: &[u8], at: &mut usize, width: usize, out: &mut [u16]) -> usize {
-    let count = number(s, at, width) as usize;
+pub fn numbers(octets: &[u8], at: &mut usize, width: usize, out: &mut [u16]) -> usize {
+    let count = number(octets, at, width) as usize;
     let mut i = 0;
     while i < count {
-        let n = number(s, at, 2);
+        let n = number(octets, at, 2);
         let place = i;
         i += 1;
         if place < out.len() {

@@ -14,14 +14,14 @@ pub struct Target {
 }
 
 // Field, number, in line 17 alone a message, then octet and value, which are the last six octets (rules 25.22 and 25.29).
-pub fn target_of(s: &[u8]) -> Target {
+pub fn target_of(octets: &[u8]) -> Target {
     let mut at = 0;
-    let field = octet(s, &mut at);
-    let named = number(s, &mut at, 2);
-    let message = octet(s, &mut at);
-    let mut last = std::num::wrapping_sub_usize(s.len(), 6);
-    let place = number(s, &mut last, 2);
-    let value = number(s, &mut last, 4);
+    let field = octet(octets, &mut at);
+    let named = number(octets, &mut at, 2);
+    let message = octet(octets, &mut at);
+    let mut last = std::num::wrapping_sub_usize(octets.len(), 6);
+    let place = number(octets, &mut last, 2);
+    let value = number(octets, &mut last, 4);
     Target {
         field,
         number: (named % 65536) as u16,

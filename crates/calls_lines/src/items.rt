@@ -25,8 +25,8 @@ pub const SPARES: u8 = 0;
 pub const PARITY: u8 = 128;
 
 // 01: reads a length (rule 25.8).
-fn read_length(s: &[u8]) {
-    match length_code::read(s) {
+fn read_length(octets: &[u8]) {
+    match length_code::read(octets) {
         Length::Refused(why) => say_refused(why),
         Length::Value(value, size) => {
             say_done(value, 2);
@@ -36,21 +36,21 @@ fn read_length(s: &[u8]) {
 }
 
 // 02: writes a length (rule 25.9).
-fn write_length(s: &[u8], lent: &mut [u8]) {
+fn write_length(octets: &[u8], lent: &mut [u8]) {
     let mut at = 0;
-    let value = number(s, &mut at, 2) as usize;
+    let value = number(octets, &mut at, 2) as usize;
     let answer = length_code::write(value, lent);
     say_written(answer, 1, lent);
 }
 
-fn say_items(s: &[u8], items: [Part; Spares::LIMIT], count: usize) {
+fn say_items(octets: &[u8], items: [Part; Spares::LIMIT], count: usize) {
     say((count % 256) as u32, 1);
     let mut i = 0;
     while i < Spares::LIMIT {
         let item = items[i];
         i += 1;
         if i <= count {
-            say_sized(s, item.start, item.size);
+            say_sized(octets, item.start, item.size);
         }
     }
 }
@@ -66,8 +66,8 @@ fn say_kind(kind: Kind) {
 }
 
 // 03: reads a datagram (rule 25.10).
-fn read_datagram(s: &[u8]) {
-    let found = datagram_reader::read(s);
+fn read_datagram(octets: &[u8]) {
+    let found = datagram_reader::read(octets);
     let items = found.items;
     let reading = found.reading;
     match reading {
@@ -79,9 +79,9 @@ fn read_datagram(s: &[u8]) {
             count,
         } => {
             say_done(number as usize, 2);
-            say_sized(s, packet.start, packet.size);
+            say_sized(octets, packet.start, packet.size);
             say_kind(kind);
-            say_items(s, items, count);
+            say_items(octets, items, count);
         }
     }
 }
@@ -94,17 +94,17 @@ fn kind_of(kind: u8, n: u8) -> Kind {
 }
 
 // 04: writes a datagram (rule 25.11). With spares another n than 0 is no call (rule 25.5).
-fn write_datagram(s: &[u8], lent: &mut [u8]) {
+fn write_datagram(octets: &[u8], lent: &mut [u8]) {
     let mut lengths = [0u16; 256];
     let mut at = 0;
-    let newest = (number(s, &mut at, 2) % 65536) as u16;
-    let packet = sized(s, &mut at, 2);
-    let kind = octet(s, &mut at);
-    let n = octet(s, &mut at);
-    let count = numbers(s, &mut at, 1, &mut lengths);
-    let data = sized(s, &mut at, 2);
+    let newest = (number(octets, &mut at, 2) % 65536) as u16;
+    let packet = sized(octets, &mut at, 2);
+    let kind = octet(octets, &mut at);
+    let n = octet(octets, &mut at);
+    let count = numbers(octets, &mut at, 1, &mut lengths);
+    let data = sized(octets, &mut at, 2);
     let named = (kind == PARITY) | (kind == SPARES) & (n == 0);
-    if named & (at == s.len()) {
+    if named & (at == octets.len()) {
         let listed = first(&lengths, count);
         let answer = datagram_writer::write(newest, packet, kind_of(kind, n), listed, data, lent);
         return say_written(answer, 2, lent);
@@ -112,7 +112,7 @@ fn write_datagram(s: &[u8], lent: &mut [u8]) {
     say_no_call()
 }
 
-fn say_fields(s: &[u8], fields: [Field; Field::LIMIT], count: usize) {
+fn say_fields(octets: &[u8], fields: [Field; Field::LIMIT], count: usize) {
     say((count % 256) as u32, 1);
     let mut i = 0;
     while i < Field::LIMIT {
@@ -120,7 +120,7 @@ fn say_fields(s: &[u8], fields: [Field; Field::LIMIT], count: usize) {
         i += 1;
         if i <= count {
             say(field.kind as u32, 1);
-            say_sized(s, field.start, field.size);
+            say_sized(octets, field.start, field.size);
         }
     }
 }
@@ -133,15 +133,15 @@ fn kind_octet(kind: packet::PacketKind) -> usize {
 }
 
 // What a reader finds in a packet of the edition that an octet names: the packet reader for line 05, the second reader for 07 (rule 25.14).
-fn packet_found(call: u8, edition: u8, s: &[u8], ending: Ending) -> PacketRead {
+fn packet_found(call: u8, edition: u8, octets: &[u8], ending: Ending) -> PacketRead {
     if call == 0x05 {
-        return packet_reader::read(edition, s, ending);
+        return packet_reader::read(edition, octets, ending);
     }
-    packet_pencil::read(edition, s, ending)
+    packet_pencil::read(edition, octets, ending)
 }
 
-fn say_packet(call: u8, edition: u8, s: &[u8], ending: Ending) {
-    let found = packet_found(call, edition, s, ending);
+fn say_packet(call: u8, edition: u8, octets: &[u8], ending: Ending) {
+    let found = packet_found(call, edition, octets, ending);
     let fields = found.fields;
     let reading = found.reading;
     match reading {
@@ -149,20 +149,20 @@ fn say_packet(call: u8, edition: u8, s: &[u8], ending: Ending) {
         packet::PacketReading::Packet { kind, value, count } => {
             say_done(kind_octet(kind), 1);
             say(value as u32, 1);
-            say_fields(s, fields, count);
+            say_fields(octets, fields, count);
         }
     }
 }
 
 // 05 and 07: reads a packet of the named edition, as received or as repaired (rules 25.12 and 25.14).
-fn read_packet(call: u8, s: &[u8]) {
+fn read_packet(call: u8, octets: &[u8]) {
     let mut at = 0;
-    let edition = octet(s, &mut at);
-    let ending = octet(s, &mut at);
-    if s.len() < at {
+    let edition = octet(octets, &mut at);
+    let ending = octet(octets, &mut at);
+    if octets.len() < at {
         return say_no_call();
     }
-    let packet = part(s, at, s.len() - at);
+    let packet = part(octets, at, octets.len() - at);
     match ending {
         0 => say_packet(call, edition, packet, Ending::Whole),
         1 => say_packet(call, edition, packet, Ending::Repaired),
@@ -178,16 +178,16 @@ fn packet_kind(kind: u8) -> packet::PacketKind {
 }
 
 // 06: writes a packet of the named edition (rule 25.13).
-fn write_packet(s: &[u8], lent: &mut [u8]) {
+fn write_packet(octets: &[u8], lent: &mut [u8]) {
     let mut lengths = [0u16; 256];
     let mut at = 0;
-    let edition = octet(s, &mut at);
-    let kind = octet(s, &mut at);
-    let value = octet(s, &mut at);
-    let types = sized(s, &mut at, 1);
-    let count = numbers(s, &mut at, 1, &mut lengths);
-    let data = sized(s, &mut at, 2);
-    if (kind < 2) & (at == s.len()) {
+    let edition = octet(octets, &mut at);
+    let kind = octet(octets, &mut at);
+    let value = octet(octets, &mut at);
+    let types = sized(octets, &mut at, 1);
+    let count = numbers(octets, &mut at, 1, &mut lengths);
+    let data = sized(octets, &mut at, 2);
+    if (kind < 2) & (at == octets.len()) {
         let listed = first(&lengths, count);
         let answer = packet_writer::write(
             edition,
@@ -203,13 +203,13 @@ fn write_packet(s: &[u8], lent: &mut [u8]) {
     say_no_call()
 }
 
-pub fn answer(call: u8, s: &[u8], lent: &mut [u8]) {
+pub fn answer(call: u8, octets: &[u8], lent: &mut [u8]) {
     match call {
-        0x01 => read_length(s),
-        0x02 => write_length(s, lent),
-        0x03 => read_datagram(s),
-        0x04 => write_datagram(s, lent),
-        0x05 | 0x07 => read_packet(call, s),
-        _ => write_packet(s, lent),
+        0x01 => read_length(octets),
+        0x02 => write_length(octets, lent),
+        0x03 => read_datagram(octets),
+        0x04 => write_datagram(octets, lent),
+        0x05 | 0x07 => read_packet(call, octets),
+        _ => write_packet(octets, lent),
     }
 }

@@ -27,11 +27,11 @@ fn say_handed(answer: Handed) {
 }
 
 // 31: one field (rule 25.31). After refusal 18 the call returns the tainted joiner (rule 25.7).
-fn one_field(joiner: Joiner, s: &[u8], lent: &mut [u8]) -> Joiner {
+fn one_field(joiner: Joiner, input: &[u8], lent: &mut [u8]) -> Joiner {
     let mut at = 0;
-    let kind = octet(s, &mut at);
-    let octets = sized(s, &mut at, 2);
-    if at == s.len() {
+    let kind = octet(input, &mut at);
+    let octets = sized(input, &mut at, 2);
+    if at == input.len() {
         let after = frame_joiner::field(joiner, kind, octets, lent);
         let answer = after.answer;
         say_handed(answer);
@@ -110,11 +110,11 @@ fn overwritten(joiner: Joiner, field: u8, place: usize, value: u32) -> Joiner {
 }
 
 // 34: overwrites one field of the joiner, as a caller could (rule 25.34).
-fn overwrite(joiner: Joiner, s: &[u8]) -> Joiner {
+fn overwrite(joiner: Joiner, octets: &[u8]) -> Joiner {
     let mut at = 0;
-    let field = octet(s, &mut at);
-    let place = number(s, &mut at, 2) as usize;
-    let value = number(s, &mut at, 2);
+    let field = octet(octets, &mut at);
+    let place = number(octets, &mut at, 2) as usize;
+    let value = number(octets, &mut at, 2);
     if fits(field, place, value) {
         say(0, 1);
         return overwritten(joiner, field, place, value);
@@ -123,18 +123,18 @@ fn overwrite(joiner: Joiner, s: &[u8]) -> Joiner {
     joiner
 }
 
-pub fn answer(joiner: Joiner, call: u8, s: &[u8], lent: &mut [u8]) -> Joiner {
+pub fn answer(joiner: Joiner, call: u8, octets: &[u8], lent: &mut [u8]) -> Joiner {
     match call {
         0x30 => {
             say(0, 1);
             Joiner::fresh()
         }
-        0x31 => one_field(joiner, s, lent),
+        0x31 => one_field(joiner, octets, lent),
         0x32 => one_lost(joiner),
         0x33 => {
             say_joiner(joiner);
             joiner
         }
-        _ => overwrite(joiner, s),
+        _ => overwrite(joiner, octets),
     }
 }

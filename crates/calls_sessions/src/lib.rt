@@ -31,22 +31,22 @@ impl Held {
 }
 
 // Makes the call of a line, by its group, and returns what the program holds after it.
-pub fn answer(held: Held, call: u8, s: &[u8], lent: &mut [u8]) -> Held {
+pub fn answer(held: Held, call: u8, octets: &[u8], lent: &mut [u8]) -> Held {
     let mut r = held;
     if call < 0x20 {
         let receiver = held.receiver;
-        let after = receiver::answer(receiver, call, s, lent);
+        let after = receiver::answer(receiver, call, octets, lent);
         r.receiver = after;
         return r;
     }
     if call < 0x30 {
         let sender = held.sender;
-        let after = send_calls::answer(sender, call, s, lent);
+        let after = send_calls::answer(sender, call, octets, lent);
         r.sender = after;
         return r;
     }
     let joiner = held.joiner;
-    let after = joiner::answer(joiner, call, s, lent);
+    let after = joiner::answer(joiner, call, octets, lent);
     r.joiner = after;
     r
 }

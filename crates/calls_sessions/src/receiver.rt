@@ -21,8 +21,8 @@ use session_calls::Session;
 use session_calls::Solved;
 
 // 11: offers a datagram (rule 25.16).
-fn offer(session: Session, s: &[u8]) -> Session {
-    let after = session_calls::offer(session, s);
+fn offer(session: Session, octets: &[u8]) -> Session {
+    let after = session_calls::offer(session, octets);
     let answer = after.answer;
     match answer {
         Offered::Accepted => say(0, 1),
@@ -59,9 +59,9 @@ fn say_released(answer: Released) {
 }
 
 // 12: releases a number, with leave to skip or without (rule 25.17).
-fn release(session: Session, s: &[u8], lent: &mut [u8]) -> Session {
+fn release(session: Session, octets: &[u8], lent: &mut [u8]) -> Session {
     let mut at = 0;
-    let leave = octet(s, &mut at);
+    let leave = octet(octets, &mut at);
     if 1 < leave {
         say_no_call();
         return session;
@@ -105,8 +105,8 @@ fn many(times: u32) -> Session {
 }
 
 // 17: overwrites one field, as a caller could (rule 25.22).
-fn overwrite(session: Session, s: &[u8]) -> Session {
-    let t = target_of(s);
+fn overwrite(session: Session, octets: &[u8]) -> Session {
+    let t = target_of(octets);
     let row = row_of(0x1700 + (t.field as u16));
     if fits(row, session.base, t) {
         say(0, 1);
@@ -128,14 +128,14 @@ fn solve(session: Session) -> Session {
     held
 }
 
-pub fn answer(session: Session, call: u8, s: &[u8], lent: &mut [u8]) -> Session {
+pub fn answer(session: Session, call: u8, octets: &[u8], lent: &mut [u8]) -> Session {
     match call {
         0x10 => {
             say(0, 1);
             Session::fresh()
         }
-        0x11 => offer(session, s),
-        0x12 => release(session, s, lent),
+        0x11 => offer(session, octets),
+        0x12 => release(session, octets, lent),
         0x14 => {
             say_counts(session);
             session
@@ -146,10 +146,10 @@ pub fn answer(session: Session, call: u8, s: &[u8], lent: &mut [u8]) -> Session 
         }
         0x16 => {
             let mut at = 0;
-            many(at_most(number(s, &mut at, 4)))
+            many(at_most(number(octets, &mut at, 4)))
         }
-        0x19 => restored(session, s),
+        0x19 => restored(session, octets),
         0x1A => solve(session),
-        _ => overwrite(session, s),
+        _ => overwrite(session, octets),
     }
 }

@@ -26,14 +26,14 @@ fn settings_of(kind: u8, a: u8, b: u8) -> Settings {
 }
 
 // 21: sends a packet (rule 25.27). With spares another b than 0 is no call (rule 25.5).
-fn send(sender: Sender, s: &[u8], lent: &mut [u8]) -> Sender {
+fn send(sender: Sender, octets: &[u8], lent: &mut [u8]) -> Sender {
     let mut at = 0;
-    let packet = sized(s, &mut at, 2);
-    let kind = octet(s, &mut at);
-    let a = octet(s, &mut at);
-    let b = octet(s, &mut at);
+    let packet = sized(octets, &mut at, 2);
+    let kind = octet(octets, &mut at);
+    let a = octet(octets, &mut at);
+    let b = octet(octets, &mut at);
     let named = (kind == PARITY) | (kind == SPARES) & (b == 0);
-    if named & (at == s.len()) {
+    if named & (at == octets.len()) {
         let after = sender_calls::send(sender, packet, settings_of(kind, a, b), lent);
         let answer = after.answer;
         say_written(answer, 2, lent);
@@ -91,8 +91,8 @@ fn overwritten(sender: Sender, t: Target) -> Sender {
 }
 
 // 23: overwrites one field, as a caller could (rule 25.29).
-fn overwrite(sender: Sender, s: &[u8]) -> Sender {
-    let t = target_of(s);
+fn overwrite(sender: Sender, octets: &[u8]) -> Sender {
+    let t = target_of(octets);
     let row = row_of(0x2300 + (t.field as u16));
     if fits(row, (sender.sent % 65536) as u16, t) {
         say(0, 1);
@@ -102,17 +102,17 @@ fn overwrite(sender: Sender, s: &[u8]) -> Sender {
     sender
 }
 
-pub fn answer(sender: Sender, call: u8, s: &[u8], lent: &mut [u8]) -> Sender {
+pub fn answer(sender: Sender, call: u8, octets: &[u8], lent: &mut [u8]) -> Sender {
     match call {
         0x20 => {
             say(0, 1);
             Sender::fresh()
         }
-        0x21 => send(sender, s, lent),
+        0x21 => send(sender, octets, lent),
         0x22 => {
             let mut at = 0;
-            many(at_most(number(s, &mut at, 4)))
+            many(at_most(number(octets, &mut at, 4)))
         }
-        _ => overwrite(sender, s),
+        _ => overwrite(sender, octets),
     }
 }

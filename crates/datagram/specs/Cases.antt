@@ -13,7 +13,7 @@ use Rattle.datagram.specs.declared.kind.Kind.the-variants as kind
 
 -- number 256 and the newest packet `06`, then these octets
 abbrev pub reads : List ℕ → Answer DatagramParts
-reads s = readDatagram (0x01 ∷ 0x00 ∷ 0x01 ∷ 0x06 ∷ s)
+reads octets = readDatagram (0x01 ∷ 0x00 ∷ 0x01 ∷ 0x06 ∷ octets)
 
 -- a length from 128 on, in two octets (rule 3.2)
 abbrev pub twoOctetLength : ℕ → List ℕ

@@ -20,52 +20,53 @@ use Rattle.datagram.specs.declared.kind.Kind.{Kind}
 
 -- ---- round trips
 
--- reading the octets s gives a datagram that carries c
-pub record ReadsAs (s : List ℕ) (c : Carried) : Type 0 where
+-- reading `octets` gives a datagram that carries c
+pub record ReadsAs (octets : List ℕ) (c : Carried) : Type 0 where
   pub parts : DatagramParts
-  pub read : readDatagram s ≡ done parts
-  pub carried : carriedBy s parts ≡ c
+  pub read : readDatagram octets ≡ done parts
+  pub carried : carriedBy octets parts ≡ c
 
 -- rule 4.20: what the writer writes reads back to the same number, packet, and spares or n and messages
 abbrev pub WrittenReads : Type 0
-WrittenReads = (number : ℕ) (packet : List ℕ) (k : Kind) (lengths run s : List ℕ) → datagramToWrite number packet k lengths run ≡ done s
-    → ReadsAs s (carriedOf number packet k lengths run)
+WrittenReads = (number : ℕ) (packet : List ℕ) (k : Kind) (lengths run octets : List ℕ)
+    → datagramToWrite number packet k lengths run ≡ done octets
+    → ReadsAs octets (carriedOf number packet k lengths run)
 
 -- the spares or messages of a reading, in the writer's form: their lengths, and one run of data (rule 4.17)
 abbrev pub lengthsOf : DatagramParts → List ℕ
 lengthsOf d = map (λ (p : Part). p .size) (d .items)
 
 abbrev pub runOf : List ℕ → DatagramParts → List ℕ
-runOf s d = flatten (map (octetsOf s) (d .items))
+runOf octets d = flatten (map (octetsOf octets) (d .items))
 
 -- rule 4.21: what the reader read writes back to the same octets
 abbrev pub ReadWrites : Type 0
-ReadWrites = (s : List ℕ) (d : DatagramParts) → Octets s → readDatagram s ≡ done d
-    → datagramToWrite (d .number) (octetsOf s (d .packet)) (d .kind) (lengthsOf d) (runOf s d) ≡ done s
+ReadWrites = (octets : List ℕ) (d : DatagramParts) → Octets octets → readDatagram octets ≡ done d
+    → datagramToWrite (d .number) (octetsOf octets (d .packet)) (d .kind) (lengthsOf d) (runOf octets d) ≡ done octets
 
 -- ---- the parts of an accepted datagram
 
--- a part has from least to most octets and lies within the octets s
-pub record PartInside (least most : ℕ) (s : List ℕ) (p : Part) : Type 0 where
+-- a part has from least to most octets and lies within `octets`
+pub record PartInside (least most : ℕ) (octets : List ℕ) (p : Part) : Type 0 where
   pub low : least ≤ p .size
   pub high : p .size ≤ most
-  pub inside : p .start + p .size ≤ length s
+  pub inside : p .start + p .size ≤ length octets
 
--- the newest packet, n and the count, and each spare or message are within the sizes (rules 4.9 to 4.11) and within the octets s
-pub record Inside (s : List ℕ) (packet : Part) (k : Kind) (count : ℕ) (items : List Part) : Type 0 where
-  pub newest : PartInside packetLeast packetLimit s packet
+-- the newest packet, n and the count, and each spare or message are within the sizes (rules 4.9 to 4.11) and within `octets`
+pub record Inside (octets : List ℕ) (packet : Part) (k : Kind) (count : ℕ) (items : List Part) : Type 0 where
+  pub newest : PartInside packetLeast packetLimit octets packet
   pub counted : countInside k count ≡ true
-  pub each : (j : ℕ) → j < count → PartInside (leastOf k) (mostOf k) s (getD items j nowhere)
+  pub each : (j : ℕ) → j < count → PartInside (leastOf k) (mostOf k) octets (getD items j nowhere)
 
 abbrev pub AcceptedInside : Type 0
-AcceptedInside = (s : List ℕ) (r : DatagramRead) (number : ℕ) (packet : Part) (k : Kind) (count : ℕ) → DatagramReads s r
-    → r .reading ≡ reading.Datagram number packet k count → Inside s packet k count (r .items)
+AcceptedInside = (octets : List ℕ) (r : DatagramRead) (number : ℕ) (packet : Part) (k : Kind) (count : ℕ) → DatagramReads octets r
+    → r .reading ≡ reading.Datagram number packet k count → Inside octets packet k count (r .items)
 
 -- ---- one outcome
 
 -- two outcomes that a promise allows are equal (rule 28.14)
 pub record OneOutcome : Type 0 where
-  pub read : {s : List ℕ} {r q : DatagramRead} → DatagramReads s r → DatagramReads s q → r ≡ q
+  pub read : {octets : List ℕ} {r q : DatagramRead} → DatagramReads octets r → DatagramReads octets q → r ≡ q
 
 -- ---- cases in which a mistake would look right
 

@@ -37,7 +37,7 @@ datagramRead (done d) =
     }
 datagramRead (refused r) = record { reading = reading.Refused r; items = paddedParts [] }
 
--- what `datagram_reader::read` promises for the octets s: its answer, and the whole value that it returns
-pub record DatagramReads (s : List ℕ) (r : DatagramRead) : Type 0 where
-  pub answer : readOutcome r ≡ readDatagram s
-  pub whole : r ≡ datagramRead (readDatagram s)
+-- what `datagram_reader::read` promises for `octets`: its answer, and the whole value that it returns
+pub record DatagramReads (octets : List ℕ) (r : DatagramRead) : Type 0 where
+  pub answer : readOutcome r ≡ readDatagram octets
+  pub whole : r ≡ datagramRead (readDatagram octets)

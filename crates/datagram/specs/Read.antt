@@ -31,28 +31,28 @@ after p = p .start + p .size
 
 -- a length or count from least to most, read at a place (rules 3.6 and 3.9)
 abbrev pub lengthFrom : ℕ → ℕ → List ℕ → ℕ → Answer LengthAnswer
-lengthFrom least most s at = readFrom at (lengthWithin least most (drop at s))
+lengthFrom least most octets at = readFrom at (lengthWithin least most (drop at octets))
 
 -- a plain octet from least to most, not read by the length rule (rule 4.8)
 unfoldable pub octetAt : ℕ → ℕ → List ℕ → ℕ → Answer LengthAnswer
-octetAt least most s at =
+octetAt least most octets at =
     readFrom at
-    (cond (leb (length s) at) (refuse endsEarly)
-    (allowed least most (record { value = getD s at 0; size = 1 })))
+    (cond (leb (length octets) at) (refuse endsEarly)
+    (allowed least most (record { value = getD octets at 0; size = 1 })))
 
 -- a packet, spare or message: its length, then its octets (rules 2.28 and 3.6)
 unfoldable pub itemAt : ℕ → ℕ → List ℕ → ℕ → Answer Part
-itemAt least most s at = do
-  l ← lengthFrom least most s at
-  cond (ltb (length s - (at + l .size)) (l .value)) (refuseAt (at + l .size) endsEarly)
+itemAt least most octets at = do
+  l ← lengthFrom least most octets at
+  cond (ltb (length octets - (at + l .size)) (l .value)) (refuseAt (at + l .size) endsEarly)
       (done (record { start = at + l .size; size = l .value }))
 
 -- this many of them, one after the other
 unfoldable pub itemsAt : ℕ → ℕ → List ℕ → ℕ → ℕ → Answer (List Part)
-itemsAt least most s at zero = done []
-itemsAt least most s at (suc left) = do
-  p ← itemAt least most s at
-  ps ← itemsAt least most s (after p) left
+itemsAt least most octets at zero = done []
+itemsAt least most octets at (suc left) = do
+  p ← itemAt least most octets at
+  ps ← itemsAt least most octets (after p) left
   done (p ∷ ps)
 
 -- the place behind the last of some parts, the first of which begins at a place
@@ -70,24 +70,24 @@ pub record ExtraHead : Type 0 where
 
 -- for spares a count (rules 4.4 and 4.9)
 unfoldable pub sparesAt : List ℕ → ℕ → Answer ExtraHead
-sparesAt s at = do
-  k ← lengthFrom sparesLeast sparesLimit s at
+sparesAt octets at = do
+  k ← lengthFrom sparesLeast sparesLimit octets at
   done (record { kind = kind.Spares; count = k .value; first = at + k .size })
 
 -- for parity octet 01, octet n and count m (rules 4.6, 4.8 and 4.9)
 unfoldable pub parityAt : List ℕ → ℕ → Answer ExtraHead
-parityAt s at = do
-  one ← octetAt 1 1 s at
-  n ← octetAt coveredLeast coveredLimit s (at + 1)
-  m ← lengthFrom messagesLeast messagesLimit s (at + 2)
+parityAt octets at = do
+  one ← octetAt 1 1 octets at
+  n ← octetAt coveredLeast coveredLimit octets (at + 1)
+  m ← lengthFrom messagesLeast messagesLimit octets (at + 2)
   done (record { kind = kind.Parity (n .value); count = m .value; first = at + 2 + m .size })
 
 -- one octet, 00 for spares or 80 for parity; a low bit set is 5 (rule 4.3)
 unfoldable pub extraAt : List ℕ → ℕ → Answer ExtraHead
-extraAt s at =
-    cond (leb (length s) at) (refuseAt at endsEarly)
-    (cond (eqb (getD s at 0 % 0x80) 0)
-    (cond (ltb (getD s at 0) 0x80) (sparesAt s (at + 1)) (parityAt s (at + 1)))
+extraAt octets at =
+    cond (leb (length octets) at) (refuseAt at endsEarly)
+    (cond (eqb (getD octets at 0 % 0x80) 0)
+    (cond (ltb (getD octets at 0) 0x80) (sparesAt octets (at + 1)) (parityAt octets (at + 1)))
     (refuseAt at spareBit))
 
 -- a spare is a packet (rule 4.10); a message may be empty (rule 4.11)
@@ -103,36 +103,36 @@ mostOf (kind.Parity n) = messageLimit
 
 -- the number: two octets, high first (rule 4.1), which are one item (rule 4.16)
 unfoldable pub numberOf : List ℕ → Answer ℕ
-numberOf s = cond (ltb (length s) 2) (refuse endsEarly) (done (getD s 0 0 * 256 + getD s 1 0))
+numberOf octets = cond (ltb (length octets) 2) (refuse endsEarly) (done (getD octets 0 0 * 256 + getD octets 1 0))
 
 -- the spares or messages, when all before them is read; octets behind the last are 6, at the first of them (rules 2.29 and 4.7)
 unfoldable pub wholeOf : List ℕ → ℕ → Part → ExtraHead → Answer DatagramParts
-wholeOf s number packet extra = do
-  items ← itemsAt (leastOf (extra .kind)) (mostOf (extra .kind)) s (extra .first) (extra .count)
-  cond (ltb (endOf (extra .first) items) (length s)) (refuseAt (endOf (extra .first) items) leftOver)
+wholeOf octets number packet extra = do
+  items ← itemsAt (leastOf (extra .kind)) (mostOf (extra .kind)) octets (extra .first) (extra .count)
+  cond (ltb (endOf (extra .first) items) (length octets)) (refuseAt (endOf (extra .first) items) leftOver)
       (done (record { number = number; packet = packet; kind = extra .kind; items = items }))
 
 -- the whole: 2, then in reading order (rule 4.15)
 unfoldable pub readDatagram : List ℕ → Answer DatagramParts
-readDatagram s =
-    cond (ltb datagramLimit (length s)) (refuse tooLong)
+readDatagram octets =
+    cond (ltb datagramLimit (length octets)) (refuse tooLong)
     do
-      number ← numberOf s
-      packet ← itemAt packetLeast packetLimit s 2
-      extra ← extraAt s (after packet)
-      wholeOf s number packet extra
+      number ← numberOf octets
+      packet ← itemAt packetLeast packetLimit octets 2
+      extra ← extraAt octets (after packet)
+      wholeOf octets number packet extra
 
 -- ---- the octets of the parts
 
 -- a part's octets
 abbrev pub octetsOf : List ℕ → Part → List ℕ
-octetsOf s p = take (p .size) (drop (p .start) s)
+octetsOf octets p = take (p .size) (drop (p .start) octets)
 
--- what the datagram s carries, where d was read from s
+-- what the datagram in `octets` carries, where d was read from `octets`
 unfoldable pub carriedBy : List ℕ → DatagramParts → Carried
-carriedBy s d =
+carriedBy octets d =
     record {
       number = d .number;
-      packet = octetsOf s (d .packet);
-      extra = extraOf (d .kind) (map (octetsOf s) (d .items));
+      packet = octetsOf octets (d .packet);
+      extra = extraOf (d .kind) (map (octetsOf octets) (d .items));
     }

@@ -40,13 +40,13 @@ fn number_of(high: u8, low: u8) -> u16
 }
 
 // A plain octet from least to most (rule 4.8).
-fn octet_at(s: &[u8], at: usize, least: usize, most: usize) -> Length
-    ensures { λ r. ⌜ OctetRead least most (now (s .entry)) at r ⌝ }
+fn octet_at(octets: &[u8], at: usize, least: usize, most: usize) -> Length
+    ensures { λ r. ⌜ OctetRead least most (now (octets .entry)) at r ⌝ }
 {
-    if s.len() <= at {
+    if octets.len() <= at {
         return Length::Refused(Refusal::at(Refusal::ENDS_EARLY, at));
     }
-    let value = length::wide(s[at]);
+    let value = length::wide(octets[at]);
     if length::within(least, most, value) {
         return Length::Value(value, 1);
     }
@@ -54,38 +54,38 @@ fn octet_at(s: &[u8], at: usize, least: usize, most: usize) -> Length
 }
 
 // A length or count from least to most; a refusal is passed up with its place (rule 3.9).
-fn length_at(s: &[u8], at: usize, least: usize, most: usize) -> Length
-    requires { ⌜ at ≤ length (now s) ⌝ }
-    ensures { λ r. ⌜ LengthTold least most (now (s .entry)) at r ⌝ }
+fn length_at(octets: &[u8], at: usize, least: usize, most: usize) -> Length
+    requires { ⌜ at ≤ length (now octets) ⌝ }
+    ensures { λ r. ⌜ LengthTold least most (now (octets .entry)) at r ⌝ }
 {
-    match length_code::read_within(&s[at..], least, most) {
+    match length_code::read_within(&octets[at..], least, most) {
         Length::Value(value, size) => Length::Value(value, size),
         Length::Refused(why) => Length::Refused(why.further(at)),
     }
 }
 
 // A packet, spare or message: its length, then its octets (rules 2.28 and 3.6).
-fn item_at(s: &[u8], at: usize, least: usize, most: usize) -> Item
-    requires { ⌜ at ≤ length (now s) ⌝ }
-    ensures { λ r. ⌜ ItemRead least most (now (s .entry)) at r ⌝ }
+fn item_at(octets: &[u8], at: usize, least: usize, most: usize) -> Item
+    requires { ⌜ at ≤ length (now octets) ⌝ }
+    ensures { λ r. ⌜ ItemRead least most (now (octets .entry)) at r ⌝ }
 {
-    let found = length_at(s, at, least, most);
+    let found = length_at(octets, at, least, most);
     let Length::Value(size, took) = found else {
         return Item::Refused(found.refusal());
     };
     let start = at + took;
-    if s.len() - start < size {
+    if octets.len() - start < size {
         return Item::Refused(Refusal::at(Refusal::ENDS_EARLY, start));
     }
     Item::Found(Part { start, size })
 }
 
 // For spares a count (rule 4.4).
-fn spares_at(s: &[u8], at: usize) -> Extra
-    requires { ⌜ at ≤ length (now s) ⌝ }
-    ensures { λ r. ⌜ SparesRead (now (s .entry)) at r ⌝ }
+fn spares_at(octets: &[u8], at: usize) -> Extra
+    requires { ⌜ at ≤ length (now octets) ⌝ }
+    ensures { λ r. ⌜ SparesRead (now (octets .entry)) at r ⌝ }
 {
-    let found = length_at(s, at, Spares::LEAST, Spares::LIMIT);
+    let found = length_at(octets, at, Spares::LEAST, Spares::LIMIT);
     let Length::Value(count, took) = found else {
         return Extra::Refused(found.refusal());
     };
@@ -98,21 +98,21 @@ fn spares_at(s: &[u8], at: usize) -> Extra
 }
 
 // For parity octet 01, octet n and count m (rules 4.6 and 4.8).
-fn parity_at(s: &[u8], at: usize) -> Extra
-    requires { ⌜ at ≤ length (now s) ⌝ }
-    ensures { λ r. ⌜ ParityRead (now (s .entry)) at r ⌝ }
+fn parity_at(octets: &[u8], at: usize) -> Extra
+    requires { ⌜ at ≤ length (now octets) ⌝ }
+    ensures { λ r. ⌜ ParityRead (now (octets .entry)) at r ⌝ }
 {
-    let one = octet_at(s, at, 1, 1);
+    let one = octet_at(octets, at, 1, 1);
     let Length::Value(_, _) = one else {
         return Extra::Refused(one.refusal());
     };
     let second = at + 1;
-    let covered = octet_at(s, second, Parity::PACKETS_LEAST, Parity::PACKETS);
+    let covered = octet_at(octets, second, Parity::PACKETS_LEAST, Parity::PACKETS);
     let Length::Value(n, _) = covered else {
         return Extra::Refused(covered.refusal());
     };
     let third = at + 2;
-    let found = length_at(s, third, Parity::MESSAGES_LEAST, Parity::MESSAGES);
+    let found = length_at(octets, third, Parity::MESSAGES_LEAST, Parity::MESSAGES);
     let Length::Value(count, took) = found else {
         return Extra::Refused(found.refusal());
     };
@@ -125,22 +125,22 @@ fn parity_at(s: &[u8], at: usize) -> Extra
 }
 
 // What follows the newest packet: one octet, 00 for spares or 80 for parity (rule 4.3).
-fn extra_at(s: &[u8], at: usize) -> Extra
-    ensures { λ r. ⌜ ExtraRead (now (s .entry)) at r ⌝ }
+fn extra_at(octets: &[u8], at: usize) -> Extra
+    ensures { λ r. ⌜ ExtraRead (now (octets .entry)) at r ⌝ }
 {
-    if s.len() <= at {
+    if octets.len() <= at {
         return Extra::Refused(Refusal::at(Refusal::ENDS_EARLY, at));
     }
-    let choice = length::wide(s[at]);
+    let choice = length::wide(octets[at]);
     let low = choice % 128;
     if low != 0 {
         return Extra::Refused(Refusal::at(Refusal::SPARE_BIT, at));
     }
     let next = at + 1;
     if choice < 128 {
-        return spares_at(s, next);
+        return spares_at(octets, next);
     }
-    parity_at(s, next)
+    parity_at(octets, next)
 }
 
 // The least length of an item (rules 4.10 and 4.11).
@@ -176,15 +176,15 @@ fn refused(why: Refusal) -> DatagramRead
 
 // The spares or messages, one after the other, when all before them is read. Octets behind the last are 6 (rule 4.7).
 fn whole_of(
-    s: &[u8],
+    octets: &[u8],
     number: u16,
     packet: Part,
     kind: Kind,
     count: usize,
     first: usize,
 ) -> DatagramRead
-    requires { ⌜ ItemsBegin (now s) count first ⌝ }
-    ensures { λ r. ⌜ WholeRead (now (s .entry)) number packet kind count first r ⌝ }
+    requires { ⌜ ItemsBegin (now octets) count first ⌝ }
+    ensures { λ r. ⌜ WholeRead (now (octets .entry)) number packet kind count first r ⌝ }
 {
     let low = least(kind);
     let high = most(kind);
@@ -193,7 +193,7 @@ fn whole_of(
     let mut at = first;
     let mut i = 0;
     while i < count {
-        match item_at(s, at, low, high) {
+        match item_at(octets, at, low, high) {
             Item::Refused(why) => {
                 return refused(why);
             }
@@ -204,7 +204,7 @@ fn whole_of(
         }
         i += 1;
     }
-    if at < s.len() {
+    if at < octets.len() {
         return refused(Refusal::at(Refusal::LEFT_OVER, at));
     }
     DatagramRead {
@@ -218,25 +218,25 @@ fn whole_of(
     }
 }
 
-// The datagram s: 2, then in reading order (rule 4.15).
-pub fn read(s: &[u8]) -> DatagramRead
-    ensures { λ r. ⌜ DatagramReads (now (s .entry)) r ⌝ }
+// The datagram in `octets`: 2, then in reading order (rule 4.15).
+pub fn read(octets: &[u8]) -> DatagramRead
+    ensures { λ r. ⌜ DatagramReads (now (octets .entry)) r ⌝ }
 {
-    if datagram::Datagram::LIMIT < s.len() {
+    if datagram::Datagram::LIMIT < octets.len() {
         return refused(Refusal::new(Refusal::TOO_LONG));
     }
-    if s.len() < 2 {
+    if octets.len() < 2 {
         return refused(Refusal::new(Refusal::ENDS_EARLY));
     }
-    let number = number_of(s[0], s[1]);
-    match item_at(s, 2, Packet::LEAST, Packet::LIMIT) {
+    let number = number_of(octets[0], octets[1]);
+    match item_at(octets, 2, Packet::LEAST, Packet::LIMIT) {
         Item::Refused(why) => refused(why),
         Item::Found(packet) => {
             let at = packet.start + packet.size;
-            match extra_at(s, at) {
+            match extra_at(octets, at) {
                 Extra::Refused(why) => refused(why),
                 Extra::Found { kind, count, first } => whole_of(
-                    s,
+                    octets,
                     number,
                     packet,
                     kind,

@@ -202,7 +202,7 @@ pub datagram-refusals : DatagramRefusals
 datagram-refusals =
     record {
       refusal = reads-told;
-      placed = λ {s} octets p e. placed s octets (sym (p .answer) ∙ e);
+      placed = λ {octets = s} octets p e. placed s octets (sym (p .answer) ∙ e);
       begun = λ w.
           let c = all-come (w .items) (w .before) (w .due) in
           record { more = c .more; octets = c .octets; whole = c .due };

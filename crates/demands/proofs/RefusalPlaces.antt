@@ -131,7 +131,7 @@ image-place text = by (readText text) refl where
 pub places : Places
 places =
     record {
-      length = λ {s} p. ap placeIn (p .answer) ∙ front-place (lengthAt s) (length-front s);
+      length = λ {octets = s} p. ap placeIn (p .answer) ∙ front-place (lengthAt s) (length-front s);
       offer = λ {s} {octets} p q.
           ap placeIn (p .answer) ∙ mapped-place _ (offerOf octets s) ∙ offer-place octets s
           ∙ ap (λ (k : ℕ). cond (sessionInRanges s) k 0) (sym (ap placeIn (q .answer)));

@@ -125,10 +125,10 @@ of-call same t = (λ e. t .0 (sym same ∙ e), λ p. same ∙ t .1 p)
 pub readers : Readers
 readers =
     record {
-      length = λ {s} {r} p. ap refusalIn (p .answer) ∙ length-rows s;
+      length = λ {octets = s} {r} p. ap refusalIn (p .answer) ∙ length-rows s;
       datagram = λ p. ap refusalIn (p .answer);
       packet = λ octet ending s p. ap refusalIn (p .answer);
-      isDatagram = λ {s} octets p. of-call (ap refusalIn (p .answer)) (is-datagram s octets);
+      isDatagram = λ {octets = s} octets p. of-call (ap refusalIn (p .answer)) (is-datagram s octets);
       isPacket = λ octet named names s octets p.
           of-call (ap refusalIn (read-as octet named Whole s names p .answer)) (is-packet named s octets);
       isRepaired = λ octet named names s octets p.

@@ -114,7 +114,7 @@ length-trips =
           (read .answer ∙ ap (λ (l : List ℕ). lengthAt (l ++ more)) (is .1) ∙ lengths.claims .writtenReads value more (is .0)
           ∙ ap (λ (k : ℕ). done (record { value = value; size = k })) (sym size));
       writesBack =
-          λ {s} {r} {value} {n} octets read e {old} {new} {w} puts room.
+          λ {octets = s} {r} {value} {n} octets read e {old} {new} {w} puts room.
           let a : LengthAnswer = record { value = value; size = n } in
           let is : lengthAt s ≡ done a = sym (read .answer) ∙ ap lengthOutcome e in
           let low = value-read s a octets is in
@@ -162,7 +162,7 @@ datagram-trips =
           λ number packet kind lengths run {old} {new} {w} {n} puts e {r} told.
           same-told kind (datagrams.claims .writtenReads number packet kind lengths run (take n new) (puts-octets puts e .0)) told;
       writesBack =
-          λ {s} {r} {number} {packet} {kind} {count} octets told e {old} {new} {w} puts room.
+          λ {octets = s} {r} {number} {packet} {kind} {count} octets told e {old} {new} {w} puts room.
           let d : DatagramParts = record { number = number; packet = packet; kind = kind; items = take count (r .items) } in
           let is : readDatagram s ≡ done d = sym (told .answer) ∙ ap (λ (x : Reading). datagramOutcome x (r .items)) e in
           puts-back puts (datagrams.claims .readWrites s d octets is) refl room;

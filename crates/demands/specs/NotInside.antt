@@ -20,7 +20,7 @@ use Rattle.sender.specs.declared.Sent.{Sent}
 use Rattle.sender.specs.declared.Settings.{Settings}
 
 -- two datagrams with the same number and kind (spares, or n), with packets of one length, and with spares or messages of the same lengths
-pub record AlikeButOctets (s t : List ℕ) : Type 0 where
+pub record AlikeButOctets (octets otherOctets : List ℕ) : Type 0 where
   pub number : ℕ
   pub kind : Kind
   pub lengths : List ℕ
@@ -29,8 +29,8 @@ pub record AlikeButOctets (s t : List ℕ) : Type 0 where
   pub otherPacket : List ℕ
   pub otherRun : List ℕ
   pub oneLength : length packet ≡ length otherPacket
-  pub one : datagramToWrite number packet kind lengths run ≡ done s
-  pub other : datagramToWrite number otherPacket kind lengths otherRun ≡ done t
+  pub one : datagramToWrite number packet kind lengths run ≡ done octets
+  pub other : datagramToWrite number otherPacket kind lengths otherRun ≡ done otherOctets
 
 pub record NotInside : Type 0 where
   -- the datagram writer: the same refusal, or the same count of octets written
@@ -41,9 +41,11 @@ pub record NotInside : Type 0 where
       → Puts (datagramToWrite number otherPacket kind lengths otherRun) otherOld otherNew q
       → r ≡ q
   -- the datagram reader: the same number and kind, and parts at the same places
-  pub read : {s t : List ℕ} → AlikeButOctets s t → {r q : DatagramRead} → DatagramReads s r → DatagramReads t q → r ≡ q
+  pub read : {octets otherOctets : List ℕ} → AlikeButOctets octets otherOctets → {r q : DatagramRead} → DatagramReads octets r
+      → DatagramReads otherOctets q → r ≡ q
   -- offer: both accepted, or both refused with the same number
-  pub offer : {session : Session} {s t : List ℕ} → AlikeButOctets s t → {r q : AfterOffer} → OfferOwes session s r → OfferOwes session t q
+  pub offer : {session : Session} {octets otherOctets : List ℕ} → AlikeButOctets octets otherOctets → {r q : AfterOffer}
+      → OfferOwes session octets r → OfferOwes session otherOctets q
       → r .answer ≡ q .answer
   -- send: the same refusal, or the same count of octets written
   pub send : {s : Sender} {settings : Settings} {packet otherPacket : List ℕ} → length packet ≡ length otherPacket

@@ -17,10 +17,10 @@ use Rattle.line.specs.FeedPromise.{Feeds, Ends}
 -- this much of the input is still to come, this text is written, and the program holds this session and this begun line
 pub data Running (input : List ℕ) : List ℕ → List ℕ → Lent → List ℕ → ℕ → Type 0 where
   start : {r : Session} (line : List ℕ) → Fresh r → Running input input [] (lentBy r) line 0
-  block : {text : List ℕ} {session after : Lent} {line : List ℕ} {begun : ℕ} (s more : List ℕ) {out later : List ℕ} {kept taken : ℕ}
-      {new : List ℕ} {end : ℕ} → Running input (s ++ more) text session line begun
-      → Feeds (goingIn session line begun out 0) s out after later kept taken new end
-      → Running input (drop taken s ++ more) (text ++ take end new) after later kept
+  block : {text : List ℕ} {session after : Lent} {line : List ℕ} {begun : ℕ} (octets more : List ℕ) {out later : List ℕ} {kept taken : ℕ}
+      {new : List ℕ} {end : ℕ} → Running input (octets ++ more) text session line begun
+      → Feeds (goingIn session line begun out 0) octets out after later kept taken new end
+      → Running input (drop taken octets ++ more) (text ++ take end new) after later kept
 
 pub record Program : Type 0 where
   -- the whole case (rule 26.17)

@@ -34,13 +34,13 @@ ghost use lib.ListN.{length};
 ghost use Rattle.datagram.specs.Sizes.{packetLimit};
 
 // The bit for something OPTIONAL.
-pub fn marked(s: &[u8], item: usize, at: usize, name: usize) -> On
-    requires { ⌜ length (now s) ≤ packetLimit ⌝ }
+pub fn marked(octets: &[u8], item: usize, at: usize, name: usize) -> On
+    requires { ⌜ length (now octets) ≤ packetLimit ⌝ }
 {
-    match flag(s, item, at) {
-        Marked::Refused(why) => stopped(s, at, 1, name, why),
+    match flag(octets, item, at) {
+        Marked::Refused(why) => stopped(octets, at, 1, name, why),
         Marked::Found(present, next) => {
-            row(s, at, next, name);
+            row(octets, at, next, name);
             say_flag(present);
             On::At(next)
         }
@@ -48,14 +48,14 @@ pub fn marked(s: &[u8], item: usize, at: usize, name: usize) -> On
 }
 
 // Zero bits to an octet edge, where there are any.
-pub fn padding(s: &[u8], at: usize) -> On
-    requires { ⌜ length (now s) ≤ packetLimit ⌝ }
+pub fn padding(octets: &[u8], at: usize) -> On
+    requires { ⌜ length (now octets) ≤ packetLimit ⌝ }
 {
-    match align(s, at) {
-        Edge::Refused(why) => stopped(s, at, 8 - at % 8, wording::PADDING, why),
+    match align(octets, at) {
+        Edge::Refused(why) => stopped(octets, at, 8 - at % 8, wording::PADDING, why),
         Edge::Found(edge) => {
             if at < edge {
-                row(s, at, edge, wording::PADDING);
+                row(octets, at, edge, wording::PADDING);
                 end_line(wording::ZERO_BITS);
             }
             On::At(edge)
@@ -64,21 +64,21 @@ pub fn padding(s: &[u8], at: usize) -> On
 }
 
 // The octets that a length promises.
-fn octets(s: &[u8], edge: usize, begin: usize, size: usize) -> On
-    requires { ⌜ length (now s) ≤ packetLimit ⌝ }
+fn octets(input: &[u8], edge: usize, begin: usize, size: usize) -> On
+    requires { ⌜ length (now input) ≤ packetLimit ⌝ }
 {
     row_of_octets(begin, wording::FIELD_DATA);
-    match field_data(s, edge) {
+    match field_data(input, edge) {
         Part::Refused(why) => {
             say_octets(size);
             say_word(wording::DUE);
-            say_number(std::num::wrapping_sub_usize(s.len(), octet(s, begin)));
+            say_number(std::num::wrapping_sub_usize(input.len(), octet(input, begin)));
             say_word(wording::THERE);
             say_refused(why);
             On::Stopped
         }
         Part::Found(start, length, end) => {
-            say_hex(part(s, start, length));
+            say_hex(part(input, start, length));
             say(b"\n");
             On::At(end)
         }
@@ -86,27 +86,27 @@ fn octets(s: &[u8], edge: usize, begin: usize, size: usize) -> On
 }
 
 // A length in two octets, minus one, and the octets (rule 6.8).
-fn sized(s: &[u8], edge: usize) -> On
-    requires { ⌜ length (now s) ≤ packetLimit ⌝ }
+fn sized(input: &[u8], edge: usize) -> On
+    requires { ⌜ length (now input) ≤ packetLimit ⌝ }
 {
-    match size(s, edge) {
-        Number::Refused(why) => stopped(s, edge, 16, wording::LENGTH, why),
+    match size(input, edge) {
+        Number::Refused(why) => stopped(input, edge, 16, wording::LENGTH, why),
         Number::Found(length, begin) => {
-            row(s, edge, begin, wording::LENGTH);
+            row(input, edge, begin, wording::LENGTH);
             say_octets(length);
             end_line(wording::ONE_MORE);
-            octets(s, edge, begin, length)
+            octets(input, edge, begin, length)
         }
     }
 }
 
 // field-data OCTET STRING (SIZE (1..65535)) OPTIONAL, behind a header from `at` to `end`.
-fn optional(named: Named, s: &[u8], at: usize, end: usize) -> On
-    requires { ⌜ length (now s) ≤ packetLimit ⌝ }
+fn optional(named: Named, octets: &[u8], at: usize, end: usize) -> On
+    requires { ⌜ length (now octets) ≤ packetLimit ⌝ }
 {
-    match header(named, s, at) {
+    match header(named, octets, at) {
         HeaderRead::Refused(why) => stopped(
-            s,
+            octets,
             at,
             std::num::wrapping_sub_usize(end, at),
             wording::DATA_OPTIONAL,
@@ -116,35 +116,42 @@ fn optional(named: Named, s: &[u8], at: usize, end: usize) -> On
             if !present {
                 return On::At(next);
             }
-            match padding(s, next) {
+            match padding(octets, next) {
                 On::Stopped => On::Stopped,
-                On::At(edge) => sized(s, edge),
+                On::At(edge) => sized(octets, edge),
             }
         }
     }
 }
 
 // SEQUENCE { field-type, field-data OPTIONAL }
-fn field(named: Named, s: &[u8], at: usize) -> On
-    requires { ⌜ length (now s) ≤ packetLimit ⌝ }
+fn field(named: Named, octets: &[u8], at: usize) -> On
+    requires { ⌜ length (now octets) ≤ packetLimit ⌝ }
 {
-    match marked(s, at / 8, at, wording::DATA_PRESENT) {
+    match marked(octets, at / 8, at, wording::DATA_PRESENT) {
         On::Stopped => On::Stopped,
-        On::At(next) => match enumerated(named, s, at / 8, next, Which::Type, wording::FIELD_TYPE) {
+        On::At(next) => match enumerated(
+            named,
+            octets,
+            at / 8,
+            next,
+            Which::Type,
+            wording::FIELD_TYPE,
+        ) {
             On::Stopped => On::Stopped,
-            On::At(end) => optional(named, s, at, end),
+            On::At(end) => optional(named, octets, at, end),
         },
     }
 }
 
 // SEQUENCE OF: `count` fields.
-fn sequence(named: Named, s: &[u8], from: usize, count: usize) -> On
-    requires { ⌜ length (now s) ≤ packetLimit ⌝ }
+fn sequence(named: Named, octets: &[u8], from: usize, count: usize) -> On
+    requires { ⌜ length (now octets) ≤ packetLimit ⌝ }
 {
     let mut at = from;
     let mut i = 0;
     while i < count {
-        match field(named, s, at) {
+        match field(named, octets, at) {
             On::Stopped => {
                 return On::Stopped;
             }
@@ -158,10 +165,10 @@ fn sequence(named: Named, s: &[u8], from: usize, count: usize) -> On
 }
 
 // How many bits a refused count has: two octets where the first bit is 1 (rule 3.2).
-fn count_bits(s: &[u8], at: usize) -> usize
-    requires { ⌜ length (now s) ≤ packetLimit ⌝ }
+fn count_bits(octets: &[u8], at: usize) -> usize
+    requires { ⌜ length (now octets) ≤ packetLimit ⌝ }
 {
-    match flag(s, at / 8, at) {
+    match flag(octets, at / 8, at) {
         Marked::Refused(_) => 8,
         Marked::Found(two, _) => {
             if two {
@@ -173,16 +180,22 @@ fn count_bits(s: &[u8], at: usize) -> usize
 }
 
 // Data-Field: the count of fields, and the fields.
-pub fn data_field(named: Named, s: &[u8], at: usize) -> On
-    requires { ⌜ length (now s) ≤ packetLimit ⌝ }
+pub fn data_field(named: Named, octets: &[u8], at: usize) -> On
+    requires { ⌜ length (now octets) ≤ packetLimit ⌝ }
 {
-    match count(s, at) {
-        Number::Refused(why) => stopped(s, at, count_bits(s, at), wording::DATA_FIELD, why),
+    match count(octets, at) {
+        Number::Refused(why) => stopped(
+            octets,
+            at,
+            count_bits(octets, at),
+            wording::DATA_FIELD,
+            why,
+        ),
         Number::Found(n, next) => {
-            row(s, at, next, wording::DATA_FIELD);
+            row(octets, at, next, wording::DATA_FIELD);
             say_count(n, wording::FIELD);
             say(b"\n");
-            sequence(named, s, next, n)
+            sequence(named, octets, next, n)
         }
     }
 }

@@ -58,16 +58,16 @@ fn all_fields(fields: [Field; Field::LIMIT], count: usize) {
 }
 
 // The packet, read in this edition.
-pub fn read_by(named: Named, s: &[u8], ending: Ending) -> PacketRead {
+pub fn read_by(named: Named, octets: &[u8], ending: Ending) -> PacketRead {
     match named {
-        Named::Old => packet_pencil::read(0, s, ending),
-        Named::New => packet_pencil::read(1, s, ending),
+        Named::Old => packet_pencil::read(0, octets, ending),
+        Named::New => packet_pencil::read(1, octets, ending),
     }
 }
 
 // For a packet that this edition refuses: writes `word` if the other edition reads it (rule 19.7).
-fn say_other(other: Named, s: &[u8], ending: Ending, word: usize) {
-    let found = read_by(other, s, ending);
+fn say_other(other: Named, octets: &[u8], ending: Ending, word: usize) {
+    let found = read_by(other, octets, ending);
     let reading = found.reading;
     match reading {
         PacketReading::Refused(_) => {}
@@ -79,23 +79,23 @@ fn say_other(other: Named, s: &[u8], ending: Ending, word: usize) {
     }
 }
 
-fn say_elsewhere(named: Named, s: &[u8], ending: Ending) {
+fn say_elsewhere(named: Named, octets: &[u8], ending: Ending) {
     match named {
-        Named::Old => say_other(Named::New, s, ending, wording::READS_ONLY_IN_NEW),
-        Named::New => say_other(Named::Old, s, ending, wording::READS_ONLY_IN_OLD),
+        Named::Old => say_other(Named::New, octets, ending, wording::READS_ONLY_IN_NEW),
+        Named::New => say_other(Named::Old, octets, ending, wording::READS_ONLY_IN_OLD),
     }
     say(b"\n");
 }
 
 // What the packet reads as. A refusal met while reading is written with its octet, one of the whole packet without (rule 19.6).
-pub fn told(named: Named, s: &[u8], ending: Ending, met: bool) {
-    let found = read_by(named, s, ending);
+pub fn told(named: Named, octets: &[u8], ending: Ending, met: bool) {
+    let found = read_by(named, octets, ending);
     let fields = found.fields;
     let reading = found.reading;
     match reading {
         PacketReading::Refused(why) => {
             say_refusal(why, met);
-            say_elsewhere(named, s, ending);
+            say_elsewhere(named, octets, ending);
         }
         PacketReading::Packet { kind, value, count } => {
             say_kind(kind, value as usize);

@@ -42,14 +42,14 @@ fn too_long(size: usize) {
 }
 
 // A packet: its items in the edition, then what it reads as (rules 19.5 and 19.6).
-fn explain(named: Named, s: &[u8], ending: Ending) {
-    let fits = s.len() <= Packet::LIMIT;
+fn explain(named: Named, octets: &[u8], ending: Ending) {
+    let fits = octets.len() <= Packet::LIMIT;
     if fits {
-        start::packet(named, s, ending);
+        start::packet(named, octets, ending);
     } else {
-        too_long(s.len());
+        too_long(octets.len());
     }
-    last::told(named, s, ending, fits);
+    last::told(named, octets, ending, fits);
 }
 
 // The packet in these digits.

@@ -39,13 +39,13 @@ fn data_name(named: Named) -> usize {
     }
 }
 
-fn chosen(named: Named, s: &[u8], at: usize, which: Which, name: usize) -> On
-    requires { ⌜ length (now s) ≤ packetLimit ⌝ }
+fn chosen(named: Named, octets: &[u8], at: usize, which: Which, name: usize) -> On
+    requires { ⌜ length (now octets) ≤ packetLimit ⌝ }
 {
     end_line(name);
     enumerated(
         named,
-        s,
+        octets,
         FIRST,
         std::num::wrapping_add_usize(at, 1),
         which,
@@ -53,41 +53,41 @@ fn chosen(named: Named, s: &[u8], at: usize, which: Which, name: usize) -> On
     )
 }
 
-fn type_of_msg(named: Named, s: &[u8], at: usize) -> On
-    requires { ⌜ length (now s) ≤ packetLimit ⌝ }
+fn type_of_msg(named: Named, octets: &[u8], at: usize) -> On
+    requires { ⌜ length (now octets) ≤ packetLimit ⌝ }
 {
-    match row_of_bit(s, FIRST, at, wording::TYPE_OF_MSG) {
+    match row_of_bit(octets, FIRST, at, wording::TYPE_OF_MSG) {
         Bit::Stopped => On::Stopped,
-        Bit::Set => chosen(named, s, at, Which::Data, data_name(named)),
-        Bit::Clear => chosen(named, s, at, Which::Indicator, wording::INDICATOR),
+        Bit::Set => chosen(named, octets, at, Which::Data, data_name(named)),
+        Bit::Clear => chosen(named, octets, at, Which::Indicator, wording::INDICATOR),
     }
 }
 
 // The first item: the bit for data-field OPTIONAL, and Type-of-msg.
-fn first_item(named: Named, s: &[u8]) -> On
-    requires { ⌜ length (now s) ≤ packetLimit ⌝ }
+fn first_item(named: Named, octets: &[u8]) -> On
+    requires { ⌜ length (now octets) ≤ packetLimit ⌝ }
 {
-    match marked(s, FIRST, 0, wording::PRESENT) {
+    match marked(octets, FIRST, 0, wording::PRESENT) {
         On::Stopped => On::Stopped,
-        On::At(next) => match type_of_msg(named, s, next) {
+        On::At(next) => match type_of_msg(named, octets, next) {
             On::Stopped => On::Stopped,
-            On::At(at) => padding(s, at),
+            On::At(at) => padding(octets, at),
         },
     }
 }
 
 // What follows the end, from an octet on: nothing, or zeros if the packet was repaired (rules 6.11 and 6.12).
-fn after_end(named: Named, s: &[u8], at: usize, from: usize, ending: Ending) {
-    if s.len() <= from {
+fn after_end(named: Named, octets: &[u8], at: usize, from: usize, ending: Ending) {
+    if octets.len() <= from {
         return;
     }
-    let size = s.len() - from;
+    let size = octets.len() - from;
     row_of_octets(at, wording::AFTER_END);
     say_octets(size);
     say_word(wording::COMMA);
-    say_hex(part(s, from, size));
+    say_hex(part(octets, from, size));
     say_word(wording::COLON);
-    let found = read_by(named, s, ending);
+    let found = read_by(named, octets, ending);
     let reading = found.reading;
     match reading {
         PacketReading::Refused(why) => say_refused(why),
@@ -99,40 +99,40 @@ fn after_end(named: Named, s: &[u8], at: usize, from: usize, ending: Ending) {
     }
 }
 
-fn end(named: Named, s: &[u8], at: usize, ending: Ending)
-    requires { ⌜ length (now s) ≤ packetLimit ⌝ }
+fn end(named: Named, octets: &[u8], at: usize, ending: Ending)
+    requires { ⌜ length (now octets) ≤ packetLimit ⌝ }
 {
-    match padding(s, at) {
+    match padding(octets, at) {
         On::Stopped => {}
-        On::At(edge) => after_end(named, s, edge, octet(s, edge), ending),
+        On::At(edge) => after_end(named, octets, edge, octet(octets, edge), ending),
     }
 }
 
 // The data field, where there is one, and the end.
-fn rest(named: Named, s: &[u8], ending: Ending)
-    requires { ⌜ length (now s) ≤ packetLimit ⌝ }
+fn rest(named: Named, octets: &[u8], ending: Ending)
+    requires { ⌜ length (now octets) ≤ packetLimit ⌝ }
 {
-    match start(named, s, 0) {
+    match start(named, octets, 0) {
         First::Refused(why) => {
-            stopped(s, 0, 1, wording::OPTIONAL, why);
+            stopped(octets, 0, 1, wording::OPTIONAL, why);
         }
         First::Found(_, _, present, at) => {
             if !present {
-                return end(named, s, at, ending);
+                return end(named, octets, at, ending);
             }
-            match data_field(named, s, at) {
+            match data_field(named, octets, at) {
                 On::Stopped => {}
-                On::At(next) => end(named, s, next, ending),
+                On::At(next) => end(named, octets, next, ending),
             }
         }
     }
 }
 
-pub fn packet(named: Named, s: &[u8], ending: Ending)
-    requires { ⌜ length (now s) ≤ packetLimit ⌝ }
+pub fn packet(named: Named, octets: &[u8], ending: Ending)
+    requires { ⌜ length (now octets) ≤ packetLimit ⌝ }
 {
-    match first_item(named, s) {
+    match first_item(named, octets) {
         On::Stopped => {}
-        On::At(_) => rest(named, s, ending),
+        On::At(_) => rest(named, octets, ending),
     }
 }

@@ -27,14 +27,14 @@ pub fn say_number(n: usize) {
 }
 
 // `size` octets from `start` on, or none if there are fewer.
-pub fn part(s: &[u8], start: usize, size: usize) -> &[u8] {
-    if start <= s.len() {
-        if size <= s.len() - start {
+pub fn part(octets: &[u8], start: usize, size: usize) -> &[u8] {
+    if start <= octets.len() {
+        if size <= octets.len() - start {
             let end = start + size;
-            return &s[start..end];
+            return &octets[start..end];
         }
     }
-    &s[..0]
+    &octets[..0]
 }
 
 // A line of a table, counted from 0, up to a character or to the end of the line.
@@ -146,32 +146,32 @@ fn say_place(at: usize) {
 }
 
 // The bit at a place; a dash past the end.
-fn say_bit(s: &[u8], at: usize)
-    requires { ⌜ length (now s) ≤ packetLimit ⌝ }
+fn say_bit(octets: &[u8], at: usize)
+    requires { ⌜ length (now octets) ≤ packetLimit ⌝ }
 {
-    match bit(s, at / 8, at) {
+    match bit(octets, at / 8, at) {
         Number::Refused(_) => say(b"-"),
         Number::Found(one, _) => say_number(one),
     }
 }
 
 // The bits from a place up to another.
-fn say_bits(s: &[u8], at: usize, end: usize)
-    requires { ⌜ length (now s) ≤ packetLimit ⌝ }
+fn say_bits(octets: &[u8], at: usize, end: usize)
+    requires { ⌜ length (now octets) ≤ packetLimit ⌝ }
 {
     let mut next = at;
     while next < end {
-        say_bit(s, next);
+        say_bit(octets, next);
         next += 1;
     }
 }
 
 // The front of an item's line: its place, its bits, its name (rule 19.5).
-pub fn row(s: &[u8], at: usize, end: usize, name: usize)
-    requires { ⌜ length (now s) ≤ packetLimit ⌝ }
+pub fn row(octets: &[u8], at: usize, end: usize, name: usize)
+    requires { ⌜ length (now octets) ≤ packetLimit ⌝ }
 {
     say_place(at);
-    say_bits(s, at, end);
+    say_bits(octets, at, end);
     let bits = std::num::wrapping_sub_usize(end, at);
     say_blanks(std::num::wrapping_sub_usize(18, bits));
     say_word(name);
@@ -187,10 +187,10 @@ pub fn row_of_octets(at: usize, name: usize) {
 }
 
 // The line of a refused item of this many bits.
-pub fn stopped(s: &[u8], at: usize, bits: usize, name: usize, why: Refusal) -> On
-    requires { ⌜ length (now s) ≤ packetLimit ⌝ }
+pub fn stopped(octets: &[u8], at: usize, bits: usize, name: usize, why: Refusal) -> On
+    requires { ⌜ length (now octets) ≤ packetLimit ⌝ }
 {
-    row(s, at, std::num::wrapping_add_usize(at, bits), name);
+    row(octets, at, std::num::wrapping_add_usize(at, bits), name);
     say_refused(why);
     On::Stopped
 }
@@ -203,16 +203,16 @@ pub enum Bit {
 }
 
 // A single bit: the front of its line, or the whole line if it is refused. What comes next begins in the bit behind it.
-pub fn row_of_bit(s: &[u8], item: usize, at: usize, name: usize) -> Bit
-    requires { ⌜ length (now s) ≤ packetLimit ⌝ }
+pub fn row_of_bit(octets: &[u8], item: usize, at: usize, name: usize) -> Bit
+    requires { ⌜ length (now octets) ≤ packetLimit ⌝ }
 {
-    match flag(s, item, at) {
+    match flag(octets, item, at) {
         Marked::Refused(why) => {
-            stopped(s, at, 1, name, why);
+            stopped(octets, at, 1, name, why);
             Bit::Stopped
         }
         Marked::Found(set, next) => {
-            row(s, at, next, name);
+            row(octets, at, next, name);
             if set {
                 return Bit::Set;
             }

@@ -41,13 +41,13 @@ fn values_of(named: Named, which: Which) -> Enumerated {
     }
 }
 
-fn value_at(named: Named, s: &[u8], item: usize, at: usize, which: Which) -> Number
-    requires { ⌜ length (now s) ≤ packetLimit ⌝ }
+fn value_at(named: Named, octets: &[u8], item: usize, at: usize, which: Which) -> Number
+    requires { ⌜ length (now octets) ≤ packetLimit ⌝ }
 {
     match which {
-        Which::Indicator => t30_indicator(named, s, item, at),
-        Which::Data => t30_data(named, s, item, at),
-        Which::Type => field_type(named, s, item, at),
+        Which::Indicator => t30_indicator(named, octets, item, at),
+        Which::Data => t30_data(named, octets, item, at),
+        Which::Type => field_type(named, octets, item, at),
     }
 }
 
@@ -61,13 +61,13 @@ fn say_value(which: Which, value: usize) {
 }
 
 // The last bits of a value, from a place on: the value, or why it is refused.
-fn last_bits(s: &[u8], at: usize, bits: usize, which: Which, name: usize, found: Number) -> On
-    requires { ⌜ length (now s) ≤ packetLimit ⌝ }
+fn last_bits(octets: &[u8], at: usize, bits: usize, which: Which, name: usize, found: Number) -> On
+    requires { ⌜ length (now octets) ≤ packetLimit ⌝ }
 {
     match found {
-        Number::Refused(why) => stopped(s, at, bits, name, why),
+        Number::Refused(why) => stopped(octets, at, bits, name, why),
         Number::Found(value, end) => {
-            row(s, at, end, name);
+            row(octets, at, end, name);
             say_value(which, value);
             On::At(end)
         }
@@ -87,17 +87,17 @@ fn refused_bit(found: Number) -> On {
 }
 
 // An added value, behind its bit for extension: one 0 bit, then six bits (rule 7.5).
-fn added(s: &[u8], item: usize, at: usize, which: Which, name: usize, found: Number) -> On
-    requires { ⌜ length (now s) ≤ packetLimit ⌝ }
+fn added(octets: &[u8], item: usize, at: usize, which: Which, name: usize, found: Number) -> On
+    requires { ⌜ length (now octets) ≤ packetLimit ⌝ }
 {
     end_line(wording::EXTENSION);
-    match row_of_bit(s, item, at, name) {
+    match row_of_bit(octets, item, at, name) {
         Bit::Stopped => On::Stopped,
         Bit::Set => refused_bit(found),
         Bit::Clear => {
             end_line(wording::SIX_BITS);
             last_bits(
-                s,
+                octets,
                 std::num::wrapping_add_usize(at, 1),
                 ADDED_WIDTH,
                 which,
@@ -109,32 +109,39 @@ fn added(s: &[u8], item: usize, at: usize, which: Which, name: usize, found: Num
 }
 
 // A value behind the bit for extension, which is 0: the bits of a value before the extension mark.
-fn plain(s: &[u8], at: usize, width: usize, which: Which, name: usize, found: Number) -> On
-    requires { ⌜ length (now s) ≤ packetLimit ⌝ }
+fn plain(octets: &[u8], at: usize, width: usize, which: Which, name: usize, found: Number) -> On
+    requires { ⌜ length (now octets) ≤ packetLimit ⌝ }
 {
     end_line(wording::NO_EXTENSION);
-    last_bits(s, at, width, which, name, found)
+    last_bits(octets, at, width, which, name, found)
 }
 
 // A value, from a place on, of the item that begins at the octet `item`. Where the bit for extension is 1 and no value is added, the bit
 // itself is refused (rule 7.6).
-pub fn enumerated(named: Named, s: &[u8], item: usize, at: usize, which: Which, name: usize) -> On
-    requires { ⌜ length (now s) ≤ packetLimit ⌝ }
+pub fn enumerated(
+    named: Named,
+    octets: &[u8],
+    item: usize,
+    at: usize,
+    which: Which,
+    name: usize,
+) -> On
+    requires { ⌜ length (now octets) ≤ packetLimit ⌝ }
 {
     let values = values_of(named, which);
-    let found = value_at(named, s, item, at, which);
+    let found = value_at(named, octets, item, at, which);
     if !values.extensible {
-        return last_bits(s, at, values.width, which, name, found);
+        return last_bits(octets, at, values.width, which, name, found);
     }
     let next = std::num::wrapping_add_usize(at, 1);
-    match row_of_bit(s, item, at, name) {
+    match row_of_bit(octets, item, at, name) {
         Bit::Stopped => On::Stopped,
         Bit::Set => {
             if values.added == 0 {
                 return refused_bit(found);
             }
-            added(s, item, next, which, name, found)
+            added(octets, item, next, which, name, found)
         }
-        Bit::Clear => plain(s, next, values.width, which, name, found),
+        Bit::Clear => plain(octets, next, values.width, which, name, found),
     }
 }

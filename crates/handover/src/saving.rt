@@ -28,12 +28,12 @@ pub fn name_beside(path: &mut [u8; PATH_MAX], size: usize) -> usize {
 }
 
 // The first `size` octets, or none if there are fewer.
-fn front(s: &[u8], size: usize) -> &[u8] {
-    if size <= s.len() {
+fn front(octets: &[u8], size: usize) -> &[u8] {
+    if size <= octets.len() {
         let start = 0;
-        return &s[start..size];
+        return &octets[start..size];
     }
-    &s[..0]
+    &octets[..0]
 }
 
 // Whether a file can be replaced: there is none of that name, or it can be written and is on a disk. A device or a pipe cannot be synced to

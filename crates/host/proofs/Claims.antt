@@ -28,17 +28,20 @@ use Rattle.host.proofs.Solving.{one-solved}
 one-outcome : OneOutcome
 one-outcome =
     record {
-      fresh = λ {r} {q} {t} {o} {g} {t₂} {o₂} {g₂} a b. same-memory r q (fresh-same (sessionIn r t o g) (sessionIn q t₂ o₂ g₂) a b);
+      fresh = λ {r} {q} {table} {octets} {messages} {table₂} {octets₂} {messages₂} a b.
+          same-memory r q (fresh-same (sessionIn r table octets messages) (sessionIn q table₂ octets₂ messages₂) a b);
       ranges = λ a b. a .answer ∙ sym (b .answer);
       offer =
-          λ {octets} {h} {t} {o} {g} a b.
-          let one = same-memory h h (after-same (offerOf octets (sessionIn h t o g)) (sessionIn h t o g) (a .state) (b .state)) in
+          λ {datagram} {h} {table} {octets} {messages} a b.
+          let s = sessionIn h table octets messages in
+          let one = same-memory h h (after-same (offerOf datagram s) s (a .state) (b .state)) in
           (a .answer ∙ sym (b .answer), one .1, one .2, one .3);
       release =
-          λ {leave} {h} {t} {o} {g} {old} {r = r} {q} a b.
+          λ {leave} {h} {table} {octets} {messages} {old} {r = r} {q} a b.
+          let s = sessionIn h table octets messages in
           let one =
           same-memory (r .head) (q .head)
-          (after-same (viewAfterRelease (releaseOf leave (length old) (sessionIn h t o g))) (sessionIn h t o g) (a .state) (b .state)) in (
+          (after-same (viewAfterRelease (releaseOf leave (length old) s)) s (a .state) (b .state)) in (
             ap₂ (λ (k : Head) (n : Number). record { head = k; left = n }) (one .0) (a .answer ∙ sym (b .answer)),
             one .1,
             one .2,
@@ -61,11 +64,12 @@ one-sent =
       fresh = λ {r} {q} a b. same-sender r q (sending.one-outcome .fresh a b);
       ranges = λ a b. a .answer ∙ sym (b .answer);
       send =
-          λ {parity} {count} {n} {packet} {sent} {sizes} {o} {old} {sizes₂} {o₂} {new₂} {sizes₃} {o₃} {new₃} {r} {q} a b.
+          λ {parity} {count} {n} {packet} {sent} {sizes} {octets} {old} {sizes₂} {octets₂} {new₂} {sizes₃} {octets₃} {new₃} {r} {q} a b.
           let one =
           same-sender (r .sent) (q .sent)
-          (state-one (fitted (toSend (senderIn sent sizes o) (settingsOf parity count n) packet) old) (senderIn sent sizes o) packet
-          (senderIn (r .sent) sizes₂ o₂) (senderIn (q .sent) sizes₃ o₃) (a .state) (b .state)) in (
+          (state-one (fitted (toSend (senderIn sent sizes octets) (settingsOf parity count n) packet) old)
+          (senderIn sent sizes octets) packet
+          (senderIn (r .sent) sizes₂ octets₂) (senderIn (q .sent) sizes₃ octets₃) (a .state) (b .state)) in (
             ap₂ (λ (k : ℕ) (w : Wrote). record { sent = k; wrote = w }) (one .0) (a .answer ∙ sym (b .answer)),
             one .1,
             one .2,

@@ -114,10 +114,11 @@ room-enough s old sized small room short = by (sessionInRanges s) refl
 pub handed-over : HandedOver
 handed-over =
     record {
-      back = λ {h} {k} {t} {o} {g} {old} sized small put ok read.
-          let s = sessionIn h t o g in
+      back = λ {h} {k} {table} {octets} {messages} {old} sized small put ok read.
+          let s = sessionIn h table octets messages in
           let within = session-in-ranges s (inside s old (put .answer) (put .lent) ok) sized in
           restored s within small (front s old (put .answer) (put .lent) ok) read;
-      room = λ {h} {t} {o} {g} {old} sized small put enough short.
-          room-enough (sessionIn h t o g) old sized small enough (sym (ap (λ (x : Wrote). x .refusal) (put .answer)) ∙ short);
+      room = λ {h} {table} {octets} {messages} {old} sized small put enough short.
+          room-enough (sessionIn h table octets messages) old sized small enough
+          (sym (ap (λ (x : Wrote). x .refusal) (put .answer)) ∙ short);
     }

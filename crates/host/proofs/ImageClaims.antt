@@ -13,8 +13,9 @@ one-restored =
     record {
       write = λ a b. (a .answer ∙ sym (b .answer), a .lent ∙ sym (b .lent));
       read =
-          λ {text} {h} {t} {o} {g} {r = r} {q} a b.
-          let one = same-memory (r .head) (q .head) (after-same (readText text) (sessionIn h t o g) (a .state) (b .state)) in
+          λ {text} {h} {table} {octets} {messages} {r = r} {q} a b.
+          let s = sessionIn h table octets messages in
+          let one = same-memory (r .head) (q .head) (after-same (readText text) s (a .state) (b .state)) in
           let told : r ≡ q = ap₂ (λ (k : Head) (x : Answered). record { head = k; answer = x }) (one .0) (a .answer ∙ sym (b .answer)) in
           (told, one .1, one .2, one .3);
     }

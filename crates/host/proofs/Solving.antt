@@ -59,7 +59,8 @@ pub one-solved : OneSolved
 one-solved =
     record {
       solve =
-          λ {h} {t} {o} {g} a b.
-          let one = same-memory h h (after-same (solveOf (sessionIn h t o g)) (sessionIn h t o g) (a .state) (b .state)) in
+          λ {h} {table} {octets} {messages} a b.
+          let s = sessionIn h table octets messages in
+          let one = same-memory h h (after-same (solveOf s) s (a .state) (b .state)) in
           (a .answer ∙ sym (b .answer), one .1, one .2);
     }

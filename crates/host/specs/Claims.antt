@@ -18,25 +18,28 @@ use Rattle.host.specs.declared.receiver.AfterRelease.{AfterRelease}
 use Rattle.host.specs.declared.send_calls.AfterSend.{AfterSend}
 
 pub record OneOutcome : Type 0 where
-  pub fresh : {r q : Head} {t o g t₂ o₂ g₂ : List ℕ} → Fresh (sessionIn r t o g) → Fresh (sessionIn q t₂ o₂ g₂)
-      → (r ≡ q) × (t ≡ t₂) × (o ≡ o₂) × (g ≡ g₂)
-  pub ranges : {h : Head} {t o g : List ℕ} {r q : Bool} → RangesHosted h t o g r → RangesHosted h t o g q → r ≡ q
-  pub offer : {octets : List ℕ} {h : Head} {t o g t₂ o₂ g₂ t₃ o₃ g₃ : List ℕ} {r q : Answered}
-      → OfferHosted octets h t o g t₂ o₂ g₂ r → OfferHosted octets h t o g t₃ o₃ g₃ q
-      → (r ≡ q) × (t₂ ≡ t₃) × (o₂ ≡ o₃) × (g₂ ≡ g₃)
-  pub release : {leave : Bool} {h : Head} {t o g old t₂ o₂ g₂ new₂ t₃ o₃ g₃ new₃ : List ℕ} {r q : AfterRelease}
-      → ReleaseHosted leave h t o g old t₂ o₂ g₂ new₂ r → ReleaseHosted leave h t o g old t₃ o₃ g₃ new₃ q
-      → (r ≡ q) × (t₂ ≡ t₃) × (o₂ ≡ o₃) × (g₂ ≡ g₃) × (new₂ ≡ new₃)
+  pub fresh : {r q : Head} {table octets messages table₂ octets₂ messages₂ : List ℕ} → Fresh (sessionIn r table octets messages)
+      → Fresh (sessionIn q table₂ octets₂ messages₂) → (r ≡ q) × (table ≡ table₂) × (octets ≡ octets₂) × (messages ≡ messages₂)
+  pub ranges : {h : Head} {table octets messages : List ℕ} {r q : Bool} → RangesHosted h table octets messages r
+      → RangesHosted h table octets messages q → r ≡ q
+  pub offer : {datagram : List ℕ} {h : Head} {table octets messages table₂ octets₂ messages₂ table₃ octets₃ messages₃ : List ℕ}
+      {r q : Answered} → OfferHosted datagram h table octets messages table₂ octets₂ messages₂ r
+      → OfferHosted datagram h table octets messages table₃ octets₃ messages₃ q
+      → (r ≡ q) × (table₂ ≡ table₃) × (octets₂ ≡ octets₃) × (messages₂ ≡ messages₃)
+  pub release : {leave : Bool} {h : Head} {table octets messages old table₂ octets₂ messages₂ new₂ table₃ octets₃ messages₃ new₃ : List ℕ}
+      {r q : AfterRelease} → ReleaseHosted leave h table octets messages old table₂ octets₂ messages₂ new₂ r
+      → ReleaseHosted leave h table octets messages old table₃ octets₃ messages₃ new₃ q
+      → (r ≡ q) × (table₂ ≡ table₃) × (octets₂ ≡ octets₃) × (messages₂ ≡ messages₃) × (new₂ ≡ new₃)
 
 -- the same for a sending session
 pub record OneSent : Type 0 where
-  pub fresh : {r q : ℕ} {sizes o sizes₂ o₂ : List ℕ} → SenderMade (senderIn r sizes o) → SenderMade (senderIn q sizes₂ o₂)
-      → (r ≡ q) × (sizes ≡ sizes₂) × (o ≡ o₂)
-  pub ranges : {sent : ℕ} {sizes o : List ℕ} {r q : Bool} → SenderRanges sent sizes o r → SenderRanges sent sizes o q → r ≡ q
-  pub send : {parity : Bool} {count n : ℕ} {packet : List ℕ} {sent : ℕ} {sizes o old sizes₂ o₂ new₂ sizes₃ o₃ new₃ : List ℕ}
-      {r q : AfterSend} → SendHosted parity count n packet sent sizes o old sizes₂ o₂ new₂ r
-      → SendHosted parity count n packet sent sizes o old sizes₃ o₃ new₃ q
-      → (r ≡ q) × (sizes₂ ≡ sizes₃) × (o₂ ≡ o₃) × (new₂ ≡ new₃)
+  pub fresh : {r q : ℕ} {sizes octets sizes₂ octets₂ : List ℕ} → SenderMade (senderIn r sizes octets)
+      → SenderMade (senderIn q sizes₂ octets₂) → (r ≡ q) × (sizes ≡ sizes₂) × (octets ≡ octets₂)
+  pub ranges : {sent : ℕ} {sizes octets : List ℕ} {r q : Bool} → SenderRanges sent sizes octets r → SenderRanges sent sizes octets q → r ≡ q
+  pub send : {parity : Bool} {count n : ℕ} {packet : List ℕ} {sent : ℕ} {sizes octets old sizes₂ octets₂ new₂ sizes₃ octets₃ new₃ : List ℕ}
+      {r q : AfterSend} → SendHosted parity count n packet sent sizes octets old sizes₂ octets₂ new₂ r
+      → SendHosted parity count n packet sent sizes octets old sizes₃ octets₃ new₃ q
+      → (r ≡ q) × (sizes₂ ≡ sizes₃) × (octets₂ ≡ octets₃) × (new₂ ≡ new₃)
 
 pub record Claims : Type 0 where
   pub oneOutcome : OneOutcome

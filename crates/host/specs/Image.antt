@@ -15,11 +15,12 @@ use Rattle.host.specs.declared.receiver.Head.{Head}
 use Rattle.host.specs.declared.image_calls.AfterRestore.{AfterRestore}
 
 -- ---- write: the session's image to the front of the caller's buffer (rules 20.8 and 20.19)
-pub record ImageHosted (h : Head) (t o g old new : List ℕ) (r : Wrote) : Type 0 where
-  pub answer : r ≡ wroteTold (sizeOf (fitted (imageToWrite versionWritten (lentBy (sessionIn h t o g))) old))
-  pub lent : new ≡ over (fitted (imageToWrite versionWritten (lentBy (sessionIn h t o g))) old) old
+pub record ImageHosted (h : Head) (table octets messages old new : List ℕ) (r : Wrote) : Type 0 where
+  pub answer : r ≡ wroteTold (sizeOf (fitted (imageToWrite versionWritten (lentBy (sessionIn h table octets messages))) old))
+  pub lent : new ≡ over (fitted (imageToWrite versionWritten (lentBy (sessionIn h table octets messages))) old) old
 
 -- ---- read: the session that the text is an image of, within its ranges; if the text is refused, the memory is unchanged (rule 20.18)
-pub record RestoreHosted (text : List ℕ) (h : Head) (t o g t₂ o₂ g₂ : List ℕ) (r : AfterRestore) : Type 0 where
+pub record RestoreHosted (text : List ℕ) (h : Head) (table octets messages table₂ octets₂ messages₂ : List ℕ)
+    (r : AfterRestore) : Type 0 where
   pub answer : r .answer ≡ told (readText text)
-  pub state : After (readText text) (sessionIn h t o g) (sessionIn (r .head) t₂ o₂ g₂)
+  pub state : After (readText text) (sessionIn h table octets messages) (sessionIn (r .head) table₂ octets₂ messages₂)

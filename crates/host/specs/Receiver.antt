@@ -24,22 +24,25 @@ abbrev pub countsIn : Head → Counts
 countsIn h = record { received = h .received; spare = h .spare; repaired = h .repaired; lost = h .lost }
 
 abbrev pub sessionIn : Head → List ℕ → List ℕ → List ℕ → Session
-sessionIn h t o g = record { base = h .base; counts = countsIn h; table = t; octets = o; messages = g }
+sessionIn h table octets messages = record { base = h .base; counts = countsIn h; table = table; octets = octets; messages = messages }
 
--- ---- offer (rules 10.1 to 10.10): t, o and g are the table and the stores before it, t₂, o₂ and g₂ after it
-pub record OfferHosted (octets : List ℕ) (h : Head) (t o g t₂ o₂ g₂ : List ℕ) (r : Answered) : Type 0 where
-  pub answer : r ≡ told (offerOf octets (sessionIn h t o g))
-  pub state : After (offerOf octets (sessionIn h t o g)) (sessionIn h t o g) (sessionIn h t₂ o₂ g₂)
+-- ---- offer (rules 10.1 to 10.10): table, octets and messages are the memory before it, table₂, octets₂ and messages₂ after it
+pub record OfferHosted (datagram : List ℕ) (h : Head) (table octets messages table₂ octets₂ messages₂ : List ℕ)
+    (r : Answered) : Type 0 where
+  pub answer : r ≡ told (offerOf datagram (sessionIn h table octets messages))
+  pub state : After (offerOf datagram (sessionIn h table octets messages)) (sessionIn h table octets messages)
+      (sessionIn h table₂ octets₂ messages₂)
 
 -- ---- release, with leave to skip or without (rules 12.1 to 12.12)
-pub record ReleaseHosted (leave : Bool) (h : Head) (t o g old t₂ o₂ g₂ new : List ℕ) (r : AfterRelease) : Type 0 where
-  pub answer : r .left ≡ releaseNumber (handedOf (releaseOf leave (length old) (sessionIn h t o g)))
-  pub lent : new ≡ over (octetsHanded (releaseOf leave (length old) (sessionIn h t o g))) old
-  pub state : After (viewAfterRelease (releaseOf leave (length old) (sessionIn h t o g))) (sessionIn h t o g)
-      (sessionIn (r .head) t₂ o₂ g₂)
+pub record ReleaseHosted (leave : Bool) (h : Head) (table octets messages old table₂ octets₂ messages₂ new : List ℕ)
+    (r : AfterRelease) : Type 0 where
+  pub answer : r .left ≡ releaseNumber (handedOf (releaseOf leave (length old) (sessionIn h table octets messages)))
+  pub lent : new ≡ over (octetsHanded (releaseOf leave (length old) (sessionIn h table octets messages))) old
+  pub state : After (viewAfterRelease (releaseOf leave (length old) (sessionIn h table octets messages)))
+      (sessionIn h table octets messages) (sessionIn (r .head) table₂ octets₂ messages₂)
 
 -- ---- the ranges
 -- whether the session in the caller's memory is within its ranges (rules 13.1 to 13.11); its arrays have their lengths
-pub record RangesHosted (h : Head) (t o g : List ℕ) (r : Bool) : Type 0 where
-  pub answer : r ≡ sessionInRanges (sessionIn h t o g)
-  pub sized : Sized (sessionIn h t o g)
+pub record RangesHosted (h : Head) (table octets messages : List ℕ) (r : Bool) : Type 0 where
+  pub answer : r ≡ sessionInRanges (sessionIn h table octets messages)
+  pub sized : Sized (sessionIn h table octets messages)

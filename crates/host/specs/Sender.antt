@@ -15,17 +15,17 @@ use Rattle.host.specs.declared.send_calls.AfterSend.{AfterSend}
 
 -- the session in the caller's memory
 abbrev pub senderIn : ℕ → List ℕ → List ℕ → Sender
-senderIn sent sizes o = record { sent = sent; sizes = sizes; octets = o }
+senderIn sent sizes octets = record { sent = sent; sizes = sizes; octets = octets }
 
 -- whether the session in the caller's memory is within its ranges (rule 15.13)
-pub record SenderRanges (sent : ℕ) (sizes o : List ℕ) (r : Bool) : Type 0 where
-  pub answer : r ≡ senderInRanges (senderIn sent sizes o)
-  pub arrays : Arrays sizes o
+pub record SenderRanges (sent : ℕ) (sizes octets : List ℕ) (r : Bool) : Type 0 where
+  pub answer : r ≡ senderInRanges (senderIn sent sizes octets)
+  pub arrays : Arrays sizes octets
 
--- ---- send (rules 15.2 to 15.12): sizes and o are the history before it, sizes₂ and o₂ after it
-pub record SendHosted (parity : Bool) (count n : ℕ) (packet : List ℕ) (sent : ℕ) (sizes o old sizes₂ o₂ new : List ℕ) (r : AfterSend)
-    : Type 0 where
-  pub answer : r .wrote ≡ wroteTold (sizeOf (fitted (toSend (senderIn sent sizes o) (settingsOf parity count n) packet) old))
-  pub lent : new ≡ over (fitted (toSend (senderIn sent sizes o) (settingsOf parity count n) packet) old) old
-  pub state : StateAfter (fitted (toSend (senderIn sent sizes o) (settingsOf parity count n) packet) old) (senderIn sent sizes o) packet
-      (senderIn (r .sent) sizes₂ o₂)
+-- ---- send (rules 15.2 to 15.12): sizes and octets are the history before it, sizes₂ and octets₂ after it
+pub record SendHosted (parity : Bool) (count n : ℕ) (packet : List ℕ) (sent : ℕ) (sizes octets old sizes₂ octets₂ new : List ℕ)
+    (r : AfterSend) : Type 0 where
+  pub answer : r .wrote ≡ wroteTold (sizeOf (fitted (toSend (senderIn sent sizes octets) (settingsOf parity count n) packet) old))
+  pub lent : new ≡ over (fitted (toSend (senderIn sent sizes octets) (settingsOf parity count n) packet) old) old
+  pub state : StateAfter (fitted (toSend (senderIn sent sizes octets) (settingsOf parity count n) packet) old)
+      (senderIn sent sizes octets) packet (senderIn (r .sent) sizes₂ octets₂)

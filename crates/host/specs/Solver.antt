@@ -16,12 +16,13 @@ use Rattle.host.specs.declared.receiver.Head.{Head}
 pub record SolvedTold (from : Solved) (r : Answered) : Type 0 where
   pub is : r ≡ told (solvedOutcome from)
 
--- t and o are the table and the packets before it, t₂ and o₂ after it
-pub record SolveHosted (h : Head) (t o g t₂ o₂ : List ℕ) (r : Answered) : Type 0 where
-  pub answer : r ≡ told (solveOf (sessionIn h t o g))
-  pub state : After (solveOf (sessionIn h t o g)) (sessionIn h t o g) (sessionIn h t₂ o₂ g)
+-- table and octets are the table and the packets before it, table₂ and octets₂ after it
+pub record SolveHosted (h : Head) (table octets messages table₂ octets₂ : List ℕ) (r : Answered) : Type 0 where
+  pub answer : r ≡ told (solveOf (sessionIn h table octets messages))
+  pub state : After (solveOf (sessionIn h table octets messages)) (sessionIn h table octets messages) (sessionIn h table₂ octets₂ messages)
 
 -- ---- two outcomes that the promise allows are equal (rule 28.14)
 pub record OneSolved : Type 0 where
-  pub solve : {h : Head} {t o g t₂ o₂ t₃ o₃ : List ℕ} {r q : Answered}
-      → SolveHosted h t o g t₂ o₂ r → SolveHosted h t o g t₃ o₃ q → (r ≡ q) × (t₂ ≡ t₃) × (o₂ ≡ o₃)
+  pub solve : {h : Head} {table octets messages table₂ octets₂ table₃ octets₃ : List ℕ} {r q : Answered}
+      → SolveHosted h table octets messages table₂ octets₂ r → SolveHosted h table octets messages table₃ octets₃ q
+      → (r ≡ q) × (table₂ ≡ table₃) × (octets₂ ≡ octets₃)

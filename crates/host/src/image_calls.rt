@@ -55,12 +55,12 @@ pub extern "C" fn tbx_core_image_read(
     match found {
         Restore::Done => {
             let counts = session.counts;
-            let t = session.table;
-            let o = session.octets;
-            let g = session.messages;
-            *table = t;
-            *octets = o;
-            *messages = g;
+            let new_table = session.table;
+            let new_octets = session.octets;
+            let new_messages = session.messages;
+            *table = new_table;
+            *octets = new_octets;
+            *messages = new_messages;
             let restored = Head {
                 base: session.base,
                 received: counts.received,

@@ -41,12 +41,12 @@ pub extern "C" fn tbx_core_fresh(
     let fresh = Session::fresh();
     let base = fresh.base;
     let counts = fresh.counts;
-    let t = fresh.table;
-    let o = fresh.octets;
-    let g = fresh.messages;
-    *table = t;
-    *octets = o;
-    *messages = g;
+    let new_table = fresh.table;
+    let new_octets = fresh.octets;
+    let new_messages = fresh.messages;
+    *table = new_table;
+    *octets = new_octets;
+    *messages = new_messages;
     Head {
         base,
         received: counts.received,

@@ -27,10 +27,10 @@ pub extern "C" fn tbx_core_sender_fresh(
 {
     let fresh = Sender::fresh();
     let sent = fresh.sent;
-    let z = fresh.sizes;
-    let o = fresh.octets;
-    *sizes = z;
-    *octets = o;
+    let new_sizes = fresh.sizes;
+    let new_octets = fresh.octets;
+    *sizes = new_sizes;
+    *octets = new_octets;
     sent
 }
 

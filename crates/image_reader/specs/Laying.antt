@@ -25,48 +25,48 @@ use Rattle.image_reader.specs.declared.number.Number.{Number}
 
 -- ---- slots
 -- slot i of kept numbers holds this one
-pub record KeptIs (t o : List ℕ) (i : ℕ) (c : Cell) : Type 0 where
-  pub last : stateIn t i ≤ lastState
-  pub state : stateNumbered (stateIn t i) ≡ c .state
-  pub size : sizeIn t i ≡ length (c .octets)
-  pub note : noteIn t i ≡ c .note
+pub record KeptIs (table kept : List ℕ) (i : ℕ) (c : Cell) : Type 0 where
+  pub last : stateIn table i ≤ lastState
+  pub state : stateNumbered (stateIn table i) ≡ c .state
+  pub size : sizeIn table i ≡ length (c .octets)
+  pub note : noteIn table i ≡ c .note
   pub fits : length (c .octets) ≤ packetLimit
-  pub octets : part o i (length (c .octets)) ≡ c .octets
-  pub past : zerosPast o i (length (c .octets)) ≡ true
+  pub octets : part kept i (length (c .octets)) ≡ c .octets
+  pub past : zerosPast kept i (length (c .octets)) ≡ true
 
 -- message slot k holds this message
-pub record MessageIs (t g : List ℕ) (k : ℕ) (message : List ℕ) : Type 0 where
-  pub size : messageSizeIn t k ≡ length message
+pub record MessageIs (table messages : List ℕ) (k : ℕ) (message : List ℕ) : Type 0 where
+  pub size : messageSizeIn table k ≡ length message
   pub fits : length message ≤ packetLimit
-  pub octets : part g k (length message) ≡ message
-  pub past : zerosPast g k (length message) ≡ true
+  pub octets : part messages k (length message) ≡ message
+  pub past : zerosPast messages k (length message) ≡ true
 
 -- the message slots of slot j of numbers from the base on hold these messages, and those past them are empty
 abbrev pub MessagesAre : List ℕ → List ℕ → ℕ → List (List ℕ) → Type 0
-MessagesAre t g j messages = (i : ℕ) → i < messagesLimit → MessageIs t g (messageSlot j i) (getD messages i [])
+MessagesAre table messages j these = (i : ℕ) → i < messagesLimit → MessageIs table messages (messageSlot j i) (getD these i [])
 
 -- slot j of numbers from the base on holds this mark, n and messages
-pub record HeldIs (t g : List ℕ) (j : ℕ) (h : Held) : Type 0 where
-  pub mark : markIn t j ≡ flagBit (h .accepted)
-  pub n : nIn t j ≡ h .n
-  pub m : mIn t j ≡ length (h .messages)
+pub record HeldIs (table heard : List ℕ) (j : ℕ) (h : Held) : Type 0 where
+  pub mark : markIn table j ≡ flagBit (h .accepted)
+  pub n : nIn table j ≡ h .n
+  pub m : mIn table j ≡ length (h .messages)
   pub few : length (h .messages) ≤ messagesLimit
-  pub messages : MessagesAre t g j (h .messages)
+  pub messages : MessagesAre table heard j (h .messages)
 
 -- ---- a session with that base, of which `rows` are the numbers read so far, from 32 before the base upward (rule 20.3)
 abbrev pub notYet : layout.Number
 notYet = record { cell = unknownCell; held = nothingHeld }
 
 -- the lengths of table and stores
-pub record Lengths (t o g : List ℕ) : Type 0 where
-  pub table : length t ≡ places
-  pub octets : length o ≡ keptOctets
-  pub messages : length g ≡ messageOctets
+pub record Lengths (entries kept heard : List ℕ) : Type 0 where
+  pub table : length entries ≡ places
+  pub octets : length kept ≡ keptOctets
+  pub messages : length heard ≡ messageOctets
 
-pub record Filled (base : ℕ) (rows : List layout.Number) (t o g : List ℕ) : Type 0 where
-  pub sized : Lengths t o g
-  pub kept : (p : ℕ) → p < keptNumbers → KeptIs t o (slotAt base p) ((getD rows p notYet) .cell)
-  pub held : (d : ℕ) → d < keptAhead → HeldIs t g (heardSlotAt base d) ((getD rows (keptBefore + d) notYet) .held)
+pub record Filled (base : ℕ) (rows : List layout.Number) (table octets messages : List ℕ) : Type 0 where
+  pub sized : Lengths table octets messages
+  pub kept : (p : ℕ) → p < keptNumbers → KeptIs table octets (slotAt base p) ((getD rows p notYet) .cell)
+  pub held : (d : ℕ) → d < keptAhead → HeldIs table messages (heardSlotAt base d) ((getD rows (keptBefore + d) notYet) .held)
 
 -- ---- what the functions promise
 -- the octets of the part at the front of the slot, and how many they are
@@ -74,13 +74,13 @@ pub record PartLaid (slot : ℕ) (s : List ℕ) (p : Part) (old new : List ℕ) 
   pub size : r ≡ length (octetsOf s p)
   pub octets : new ≡ pasted old slot (octetsOf s p)
 
-pub record KeptLaid (slot state note : ℕ) (s : List ℕ) (p : Part) (t o newT newO : List ℕ) : Type 0 where
-  pub table : newT ≡ keptSet t slot state (length (octetsOf s p)) note
-  pub octets : newO ≡ pasted o slot (octetsOf s p)
+pub record KeptLaid (slot state note : ℕ) (s : List ℕ) (p : Part) (entries kept newEntries newKept : List ℕ) : Type 0 where
+  pub table : newEntries ≡ keptSet entries slot state (length (octetsOf s p)) note
+  pub octets : newKept ≡ pasted kept slot (octetsOf s p)
 
-pub record MessageLaid (slot : ℕ) (s : List ℕ) (p : Part) (t g newT newG : List ℕ) : Type 0 where
-  pub table : newT ≡ set t (messagePlace slot) (length (octetsOf s p))
-  pub octets : newG ≡ pasted g slot (octetsOf s p)
+pub record MessageLaid (slot : ℕ) (s : List ℕ) (p : Part) (entries messages newEntries newMessages : List ℕ) : Type 0 where
+  pub table : newEntries ≡ set entries (messagePlace slot) (length (octetsOf s p))
+  pub octets : newMessages ≡ pasted messages slot (octetsOf s p)
 
 -- the messages are few enough, and each is a part of the line within the sizes
 pub record MessagesFit (s : List ℕ) (parts : List Part) (count : ℕ) : Type 0 where
@@ -89,13 +89,13 @@ pub record MessagesFit (s : List ℕ) (parts : List Part) (count : ℕ) : Type 0
   pub each : (i : ℕ) → i < count → PartInside messageLeast messageLimit s (getD parts i nowhere)
 
 -- `count` messages are stored in slots that held none; the table before the messages' sizes and the messages of other numbers are unchanged
-pub record MessagesLaid (j : ℕ) (s : List ℕ) (parts : List Part) (count : ℕ) (t g newT newG : List ℕ) : Type 0 where
-  pub long : length newT ≡ length t
-  pub octets : length newG ≡ length g
-  pub laid : MessagesAre t g j [] → MessagesAre newT newG j (map (octetsOf s) (take count parts))
-  pub others : (e : ℕ) → e < slotsHeard → (e ≡ j → ⊥) → (messages : List (List ℕ)) → MessagesAre t g e messages
-      → MessagesAre newT newG e messages
-  pub before : (k : ℕ) → k < messagePlace 0 → getD newT k 0 ≡ getD t k 0
+pub record MessagesLaid (j : ℕ) (s : List ℕ) (parts : List Part) (count : ℕ) (table messages newTable newMessages : List ℕ) : Type 0 where
+  pub long : length newTable ≡ length table
+  pub octets : length newMessages ≡ length messages
+  pub laid : MessagesAre table messages j [] → MessagesAre newTable newMessages j (map (octetsOf s) (take count parts))
+  pub others : (e : ℕ) → e < slotsHeard → (e ≡ j → ⊥) → (these : List (List ℕ)) → MessagesAre table messages e these
+      → MessagesAre newTable newMessages e these
+  pub before : (k : ℕ) → k < messagePlace 0 → getD newTable k 0 ≡ getD table k 0
 
 -- a line that was read, of a packet and messages that a slot can hold
 pub record LineFits (ahead : Bool) (s : List ℕ) (r : Number) : Type 0 where
@@ -105,7 +105,8 @@ pub record LineFits (ahead : Bool) (s : List ℕ) (r : Number) : Type 0 where
   pub counted : length (take (r .m) (r .parts)) ≡ r .m
 
 -- one number more is stored
-pub record LaysNumber (base : ℕ) (ahead : Bool) (k : ℕ) (s : List ℕ) (r : Number) (t o g newT newO newG : List ℕ) : Type 0 where
-  pub sized : Lengths newT newO newG
-  pub lays : (rows : List layout.Number) → length rows ≡ fromBase ahead keptBefore + k → Filled base rows t o g
-      → Filled base (rows ++ (numberBy s (partsOf r) ∷ [])) newT newO newG
+pub record LaysNumber (base : ℕ) (ahead : Bool) (k : ℕ) (s : List ℕ) (r : Number)
+    (table octets messages newTable newOctets newMessages : List ℕ) : Type 0 where
+  pub sized : Lengths newTable newOctets newMessages
+  pub lays : (rows : List layout.Number) → length rows ≡ fromBase ahead keptBefore + k → Filled base rows table octets messages
+      → Filled base (rows ++ (numberBy s (partsOf r) ∷ [])) newTable newOctets newMessages

@@ -55,58 +55,61 @@ pub record FirstLineTold (octet : ℕ) (text : List ℕ) (r : First) : Type 0 wh
       → lineFront (layout.firstImageLine (record { octet = octet; limit = limit })) text ≡ found f n → ⊥
 
 -- ---- one line of a number
-pub record LineLaid (limit : ℕ) (ahead : Bool) (base k : ℕ) (text t o g newT newO newG : List ℕ) (next : ℕ) : Type 0 where
+pub record LineLaid (limit : ℕ) (ahead : Bool) (base k : ℕ)
+    (text table octets messages newTable newOctets newMessages : List ℕ) (next : ℕ) : Type 0 where
   pub number : layout.Number
   pub read : lineFront (numberLine limit ahead) text ≡ found number next
-  pub sized : Lengths newT newO newG
-  pub lays : (rows : List layout.Number) → length rows ≡ fromBase ahead keptBefore + k → Filled base rows t o g
-      → Filled base (rows ++ (number ∷ [])) newT newO newG
+  pub sized : Lengths newTable newOctets newMessages
+  pub lays : (rows : List layout.Number) → length rows ≡ fromBase ahead keptBefore + k → Filled base rows table octets messages
+      → Filled base (rows ++ (number ∷ [])) newTable newOctets newMessages
 
 abbrev pub LineCase : ℕ → Bool → ℕ → ℕ → List ℕ → List ℕ → List ℕ → List ℕ → List ℕ → List ℕ → List ℕ → Reached → Type 0
-LineCase limit ahead base k text t o g newT newO newG (reached.At next) = LineLaid limit ahead base k text t o g newT newO newG next
-LineCase limit ahead base k text t o g newT newO newG reached.Misshapen =
+LineCase limit ahead base k text table octets messages newTable newOctets newMessages (reached.At next) =
+    LineLaid limit ahead base k text table octets messages newTable newOctets newMessages next
+LineCase limit ahead base k text table octets messages newTable newOctets newMessages reached.Misshapen =
     (number : layout.Number) (next : ℕ) → lineFront (numberLine limit ahead) text ≡ found number next → ⊥
 
-pub record LineTold (limit : ℕ) (ahead : Bool) (base k : ℕ) (text t o g newT newO newG : List ℕ) (r : Reached) : Type 0 where
-  pub answer : LineCase limit ahead base k text t o g newT newO newG r
+pub record LineTold (limit : ℕ) (ahead : Bool) (base k : ℕ)
+    (text table octets messages newTable newOctets newMessages : List ℕ) (r : Reached) : Type 0 where
+  pub answer : LineCase limit ahead base k text table octets messages newTable newOctets newMessages r
 
 -- ---- the lines before the base, or those from the base on
 abbrev pub numberLines : ℕ → Bool → Format (List layout.Number)
 numberLines limit ahead = sequenceOf keptAhead (line (numberLine limit ahead))
 
-pub record LinesLaid (limit : ℕ) (ahead : Bool) (base : ℕ) (text : List ℕ) (from : ℕ) (t o g newT newO newG : List ℕ) (end : ℕ)
-    : Type 0 where
+pub record LinesLaid (limit : ℕ) (ahead : Bool) (base : ℕ) (text : List ℕ) (from : ℕ)
+    (table octets messages newTable newOctets newMessages : List ℕ) (end : ℕ) : Type 0 where
   pub numbers : List layout.Number
   pub read : numberLines limit ahead .read text 0 (8 * from) ≡ found numbers (8 * end)
   pub many : length numbers ≡ keptAhead
   pub inside : end ≤ length text
-  pub sized : Lengths newT newO newG
-  pub lays : (rows : List layout.Number) → length rows ≡ fromBase ahead keptBefore → Filled base rows t o g
-      → Filled base (rows ++ numbers) newT newO newG
+  pub sized : Lengths newTable newOctets newMessages
+  pub lays : (rows : List layout.Number) → length rows ≡ fromBase ahead keptBefore → Filled base rows table octets messages
+      → Filled base (rows ++ numbers) newTable newOctets newMessages
 
 abbrev pub LinesCase : ℕ → Bool → ℕ → List ℕ → ℕ → List ℕ → List ℕ → List ℕ → List ℕ → List ℕ → List ℕ → Reached → Type 0
-LinesCase limit ahead base text from t o g newT newO newG (reached.At end) =
-    LinesLaid limit ahead base text from t o g newT newO newG end
-LinesCase limit ahead base text from t o g newT newO newG reached.Misshapen =
+LinesCase limit ahead base text from table octets messages newTable newOctets newMessages (reached.At end) =
+    LinesLaid limit ahead base text from table octets messages newTable newOctets newMessages end
+LinesCase limit ahead base text from table octets messages newTable newOctets newMessages reached.Misshapen =
     (numbers : List layout.Number) (p : ℕ) → numberLines limit ahead .read text 0 (8 * from) ≡ found numbers p → ⊥
 
-pub record LinesTold (limit : ℕ) (ahead : Bool) (base : ℕ) (text : List ℕ) (from : ℕ) (t o g newT newO newG : List ℕ) (r : Reached)
-    : Type 0 where
-  pub answer : LinesCase limit ahead base text from t o g newT newO newG r
+pub record LinesTold (limit : ℕ) (ahead : Bool) (base : ℕ) (text : List ℕ) (from : ℕ)
+    (table octets messages newTable newOctets newMessages : List ℕ) (r : Reached) : Type 0 where
+  pub answer : LinesCase limit ahead base text from table octets messages newTable newOctets newMessages r
 
 -- ---- the whole
 -- a table and stores that hold zeros
-pub record Cleared (t o g : List ℕ) : Type 0 where
-  pub sized : Lengths t o g
-  pub table : (k : ℕ) → getD t k 0 ≡ 0
-  pub octets : (k : ℕ) → getD o k 0 ≡ 0
-  pub messages : (k : ℕ) → getD g k 0 ≡ 0
+pub record Cleared (entries kept heard : List ℕ) : Type 0 where
+  pub sized : Lengths entries kept heard
+  pub table : (k : ℕ) → getD entries k 0 ≡ 0
+  pub octets : (k : ℕ) → getD kept k 0 ≡ 0
+  pub messages : (k : ℕ) → getD heard k 0 ≡ 0
 
 -- what read_core promises: the session that the text reads as, stored as `session_held` lays it out, or that the text is no image
-pub record CoreTold (octet limit : ℕ) (text t o g : List ℕ) (r : First) : Type 0 where
+pub record CoreTold (octet limit : ℕ) (text table octets messages : List ℕ) (r : First) : Type 0 where
   pub right : r .read ≡ true
-      → readWhole (image (record { octet = octet; limit = limit })) text ≡ done (viewIn (lent (r .base) (r .counts) t o g))
-  pub laid : r .read ≡ true → Laid t o g
+      → readWhole (image (record { octet = octet; limit = limit })) text ≡ done (viewIn (lent (r .base) (r .counts) table octets messages))
+  pub laid : r .read ≡ true → Laid table octets messages
   pub none : r .read ≡ false → readWhole (image (record { octet = octet; limit = limit })) text ≡ refuse badImage
 
 -- what reading a text in one version promises

@@ -18,76 +18,87 @@ ghost use Rattle.image_reader.specs.Laying.{PartLaid, KeptLaid, MessageL
 ghost use Rattle.image_reader.specs.Laying.{Lengths};
 
 // Copies the octets of a part of the line s to the front of a slot, and returns how many they are.
-fn put_part(o: &mut [u8], slot: usize, s: &[u8], part: Part) -> u16
-    requires { ⌜ HasSlot slot (now o) ⌝ }
+fn put_part(octets: &mut [u8], slot: usize, s: &[u8], part: Part) -> u16
+    requires { ⌜ HasSlot slot (now octets) ⌝ }
     requires { ⌜ PartInside messageLeast messageLimit (now s) part ⌝ }
-    ensures { λ r. ⌜ PartLaid slot (now (s .entry)) part (now (o .entry)) (now (o .exit)) r ⌝ }
+    ensures { λ r. ⌜ PartLaid slot (now (s .entry)) part (now (octets .entry)) (now (octets .exit)) r ⌝ }
 {
     let start = part.start;
     let size = part.size;
     let end = start + size;
-    session_slots::put(o, slot, &s[start..end]);
+    session_slots::put(octets, slot, &s[start..end]);
     size as u16
 }
 
 // A kept number.
-fn lay_kept(t: &mut [u16], o: &mut [u8], slot: usize, s: &[u8], packet: Part, state: u16, note: u16)
-    requires { ⌜ length (now t) ≡ places ⌝ }
+fn lay_kept(
+    table: &mut [u16],
+    octets: &mut [u8],
+    slot: usize,
+    s: &[u8],
+    packet: Part,
+    state: u16,
+    note: u16,
+)
+    requires { ⌜ length (now table) ≡ places ⌝ }
     requires { ⌜ slot < slotsKept ⌝ }
-    requires { ⌜ HasSlot slot (now o) ⌝ }
+    requires { ⌜ HasSlot slot (now octets) ⌝ }
     requires { ⌜ PartInside messageLeast messageLimit (now s) packet ⌝ }
-    ensures { λ _. ⌜ KeptLaid slot state note (now (s .entry)) packet (now (t .entry)) (now (o .entry)) (now (t .exit)) (now (o .exit)) ⌝ }
+    ensures { λ _. ⌜ KeptLaid slot state note (now (s .entry)) packet (now (table .entry)) (now (octets .entry)) (now (table .exit))
+        (now (octets .exit)) ⌝ }
 {
-    let size = put_part(o, slot, s, packet);
-    session_held::set_kept(t, slot, state, size, note);
+    let size = put_part(octets, slot, s, packet);
+    session_held::set_kept(table, slot, state, size, note);
 }
 
 // A message.
-fn lay_message(t: &mut [u16], g: &mut [u8], slot: usize, s: &[u8], part: Part)
-    requires { ⌜ length (now t) ≡ places ⌝ }
+fn lay_message(table: &mut [u16], messages: &mut [u8], slot: usize, s: &[u8], part: Part)
+    requires { ⌜ length (now table) ≡ places ⌝ }
     requires { ⌜ slot < slotsMessages ⌝ }
-    requires { ⌜ HasSlot slot (now g) ⌝ }
+    requires { ⌜ HasSlot slot (now messages) ⌝ }
     requires { ⌜ PartInside messageLeast messageLimit (now s) part ⌝ }
-    ensures { λ _. ⌜ MessageLaid slot (now (s .entry)) part (now (t .entry)) (now (g .entry)) (now (t .exit)) (now (g .exit)) ⌝ }
+    ensures { λ _. ⌜ MessageLaid slot (now (s .entry)) part (now (table .entry)) (now (messages .entry)) (now (table .exit))
+        (now (messages .exit)) ⌝ }
 {
-    let size = put_part(g, slot, s, part);
-    session_held::set_message_size(t, slot, size);
+    let size = put_part(messages, slot, s, part);
+    session_held::set_message_size(table, slot, size);
 }
 
 // The messages of the number in slot j of those from the base on.
 fn lay_messages(
-    t: &mut [u16],
-    g: &mut [u8],
+    table: &mut [u16],
+    messages: &mut [u8],
     j: usize,
     s: &[u8],
     parts: [Part; Parity::MESSAGES],
     count: usize,
 )
-    requires { ⌜ length (now t) ≡ places ⌝ }
-    requires { ⌜ length (now g) ≡ messageOctets ⌝ }
+    requires { ⌜ length (now table) ≡ places ⌝ }
+    requires { ⌜ length (now messages) ≡ messageOctets ⌝ }
     requires { ⌜ j < slotsHeard ⌝ }
     requires { ⌜ MessagesFit (now s) parts count ⌝ }
-    ensures { λ _. ⌜ MessagesLaid j (now (s .entry)) parts count (now (t .entry)) (now (g .entry)) (now (t .exit)) (now (g .exit)) ⌝ }
+    ensures { λ _. ⌜ MessagesLaid j (now (s .entry)) parts count (now (table .entry)) (now (messages .entry)) (now (table .exit))
+        (now (messages .exit)) ⌝ }
 {
     let at = j * Parity::MESSAGES;
     let mut i = 0;
     while i < count {
         let part = parts[i];
         let slot = at + i;
-        lay_message(t, g, slot, s, part);
+        lay_message(table, messages, slot, s, part);
         i += 1;
     }
 }
 
 // The mark, n and m of a number from the base on, as the line has them: they may be outside the ranges (rule 20.17).
-fn set_held(t: &mut [u16], j: usize, mark: u16, n: u16, m: u16)
-    requires { ⌜ length (now t) ≡ places ⌝ }
+fn set_held(table: &mut [u16], j: usize, mark: u16, n: u16, m: u16)
+    requires { ⌜ length (now table) ≡ places ⌝ }
     requires { ⌜ j < slotsHeard ⌝ }
-    ensures { λ _. ⌜ now (t .exit) ≡ heardSet (now (t .entry)) j mark n m ⌝ }
+    ensures { λ _. ⌜ now (table .exit) ≡ heardSet (now (table .entry)) j mark n m ⌝ }
 {
-    t[Session::MARKS + j] = mark;
-    t[Session::NS + j] = n;
-    t[Session::MS + j] = m;
+    table[Session::MARKS + j] = mark;
+    table[Session::NS + j] = n;
+    table[Session::MS + j] = m;
 }
 
 // The place in the view of the k-th number before the base, or from the base on.
@@ -108,15 +119,15 @@ pub fn lay(
     k: usize,
     s: &[u8],
     number: Number,
-    t: &mut [u16],
-    o: &mut [u8],
-    g: &mut [u8],
+    table: &mut [u16],
+    octets: &mut [u8],
+    messages: &mut [u8],
 )
     requires { ⌜ k < keptAhead ⌝ }
     requires { ⌜ LineFits ahead (now s) number ⌝ }
-    requires { ⌜ Lengths (now t) (now o) (now g) ⌝ }
-    ensures { λ _. ⌜ LaysNumber base ahead k (now (s .entry)) number (now (t .entry)) (now (o .entry)) (now (g .entry)) (now (t .exit))
-        (now (o .exit)) (now (g .exit)) ⌝ }
+    requires { ⌜ Lengths (now table) (now octets) (now messages) ⌝ }
+    ensures { λ _. ⌜ LaysNumber base ahead k (now (s .entry)) number (now (table .entry)) (now (octets .entry)) (now (messages .entry))
+        (now (table .exit)) (now (octets .exit)) (now (messages .exit)) ⌝ }
 {
     let first = base as usize;
     let place = place_of(ahead, k);
@@ -124,14 +135,14 @@ pub fn lay(
     let packet = number.packet;
     let state = number.state;
     let note = number.note;
-    lay_kept(t, o, slot, s, packet, state, note);
+    lay_kept(table, octets, slot, s, packet, state, note);
     if ahead {
         let j = (first + k) % Session::HEARD;
         let mark = number.mark;
         let n = number.n;
         let m = number.m;
         let parts = number.parts;
-        lay_messages(t, g, j, s, parts, octets::wide(m));
-        set_held(t, j, mark, n, m);
+        lay_messages(table, messages, j, s, parts, octets::wide(m));
+        set_held(table, j, mark, n, m);
     }
 }

@@ -107,16 +107,16 @@ fn read_line(
     base: u16,
     k: usize,
     line: &mut [u8],
-    t: &mut [u16],
-    o: &mut [u8],
-    g: &mut [u8],
+    table: &mut [u16],
+    octets: &mut [u8],
+    messages: &mut [u8],
 ) -> Reached
     requires { ⌜ limit ≤ packetLimit ⌝ }
     requires { ⌜ k < keptAhead ⌝ }
     requires { ⌜ length (now line) ≡ numberLineLimit packetLimit ⌝ }
-    requires { ⌜ Lengths (now t) (now o) (now g) ⌝ }
-    ensures { λ r. ⌜ LineTold limit ahead base k (now (text .entry)) (now (t .entry)) (now (o .entry)) (now (g .entry)) (now (t .exit))
-        (now (o .exit)) (now (g .exit)) r ⌝ }
+    requires { ⌜ Lengths (now table) (now octets) (now messages) ⌝ }
+    ensures { λ r. ⌜ LineTold limit ahead base k (now (text .entry)) (now (table .entry)) (now (octets .entry)) (now (messages .entry))
+        (now (table .exit)) (now (octets .exit)) (now (messages .exit)) r ⌝ }
 {
     match take_line(text, line) {
         Taken::Misshapen => Reached::Misshapen,
@@ -126,7 +126,16 @@ fn read_line(
             if !read {
                 return Reached::Misshapen;
             }
-            lay(base, ahead, k, &line[..count], number, t, o, g);
+            lay(
+                base,
+                ahead,
+                k,
+                &line[..count],
+                number,
+                table,
+                octets,
+                messages,
+            );
             Reached::At(next)
         }
     }
@@ -139,21 +148,31 @@ fn read_lines(
     limit: usize,
     ahead: bool,
     base: u16,
-    t: &mut [u16],
-    o: &mut [u8],
-    g: &mut [u8],
+    table: &mut [u16],
+    octets: &mut [u8],
+    messages: &mut [u8],
 ) -> Reached
     requires { ⌜ from ≤ length (now text) ⌝ }
     requires { ⌜ limit ≤ packetLimit ⌝ }
-    requires { ⌜ Lengths (now t) (now o) (now g) ⌝ }
-    ensures { λ r. ⌜ LinesTold limit ahead base (now (text .entry)) from (now (t .entry)) (now (o .entry)) (now (g .entry))
-        (now (t .exit)) (now (o .exit)) (now (g .exit)) r ⌝ }
+    requires { ⌜ Lengths (now table) (now octets) (now messages) ⌝ }
+    ensures { λ r. ⌜ LinesTold limit ahead base (now (text .entry)) from (now (table .entry)) (now (octets .entry)) (now (messages .entry))
+        (now (table .exit)) (now (octets .exit)) (now (messages .exit)) r ⌝ }
 {
     let mut line = [0u8; Image::LINE];
     let mut at = from;
     let mut k = 0;
     while k < Session::HEARD {
-        match read_line(&text[at..], limit, ahead, base, k, &mut line, t, o, g) {
+        match read_line(
+            &text[at..],
+            limit,
+            ahead,
+            base,
+            k,
+            &mut line,
+            table,
+            octets,
+            messages,
+        ) {
             Reached::Misshapen => {
                 return Reached::Misshapen;
             }
@@ -171,13 +190,13 @@ pub fn read_core(
     text: &[u8],
     edition: u8,
     limit: usize,
-    t: &mut [u16],
-    o: &mut [u8],
-    g: &mut [u8],
+    table: &mut [u16],
+    octets: &mut [u8],
+    messages: &mut [u8],
 ) -> First
     requires { ⌜ limit ≤ packetLimit ⌝ }
-    requires { ⌜ Cleared (now t) (now o) (now g) ⌝ }
-    ensures { λ r. ⌜ CoreTold edition limit (now (text .entry)) (now (t .exit)) (now (o .exit)) (now (g .exit)) r ⌝ }
+    requires { ⌜ Cleared (now table) (now octets) (now messages) ⌝ }
+    ensures { λ r. ⌜ CoreTold edition limit (now (text .entry)) (now (table .exit)) (now (octets .exit)) (now (messages .exit)) r ⌝ }
 {
     let first = first_line(text, edition);
     let read = first.read;
@@ -186,10 +205,12 @@ pub fn read_core(
     if !read {
         return no_first();
     }
-    let Reached::At(middle) = read_lines(text, start, limit, false, base, t, o, g) else {
+    let Reached::At(middle) = read_lines(text, start, limit, false, base, table, octets, messages)
+    else {
         return no_first();
     };
-    let Reached::At(end) = read_lines(text, middle, limit, true, base, t, o, g) else {
+    let Reached::At(end) = read_lines(text, middle, limit, true, base, table, octets, messages)
+    else {
         return no_first();
     };
     if end < text.len() {

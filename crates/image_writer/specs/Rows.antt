@@ -28,23 +28,24 @@ pub record Room (text old : List ℕ) (at : ℕ) : Type 0 where
   pub fits : at + length text ≤ length old
 
 -- what follows for the table of a session within its ranges
-pub record TableFits (t : List ℕ) : Type 0 where
-  pub long : length t ≡ places
-  pub state : (i : ℕ) → i < slotsKept → stateIn t i ≤ lastState
-  pub size : (i : ℕ) → i < slotsKept → sizeIn t i ≤ packetLimit
-  pub few : (j : ℕ) → j < slotsHeard → mIn t j ≤ messagesLimit
-  pub part : (j i : ℕ) → j < slotsHeard → i < messagesLimit → messageSizeIn t (messageSlot j i) ≤ packetLimit
+pub record TableFits (table : List ℕ) : Type 0 where
+  pub long : length table ≡ places
+  pub state : (i : ℕ) → i < slotsKept → stateIn table i ≤ lastState
+  pub size : (i : ℕ) → i < slotsKept → sizeIn table i ≤ packetLimit
+  pub few : (j : ℕ) → j < slotsHeard → mIn table j ≤ messagesLimit
+  pub part : (j i : ℕ) → j < slotsHeard → i < messagesLimit → messageSizeIn table (messageSlot j i) ≤ packetLimit
 
 -- ---- what the table holds of the number at place p of the view; before the base accepted, n and m are 00 (rule 20.7)
 abbrev pub rowBefore : ℕ → Row
 rowBefore slot = record { slot = slot; heard = 0; accepted = false; n = 0; m = 0 }
 
 abbrev pub rowAhead : List ℕ → ℕ → ℕ → Row
-rowAhead t slot heard = record { slot = slot; heard = heard; accepted = eqb (markIn t heard) 1; n = nIn t heard; m = mIn t heard }
+rowAhead table slot heard =
+    record { slot = slot; heard = heard; accepted = eqb (markIn table heard) 1; n = nIn table heard; m = mIn table heard }
 
 unfoldable pub imageRowAt : ℕ → List ℕ → ℕ → Row
-imageRowAt base t p =
-    cond (ltb p keptBefore) (rowBefore (slotAt base p)) (rowAhead t (slotAt base p) (heardSlotAt base (p - keptBefore)))
+imageRowAt base table p =
+    cond (ltb p keptBefore) (rowBefore (slotAt base p)) (rowAhead table (slotAt base p) (heardSlotAt base (p - keptBefore)))
 
 -- a row names slots that are there
 pub record RowFits (row : Row) : Type 0 where
@@ -52,18 +53,18 @@ pub record RowFits (row : Row) : Type 0 where
   pub heard : row .heard < slotsHeard
   pub few : row .m ≤ messagesLimit
 
-pub record ImageRowTold (base : ℕ) (t : List ℕ) (p : ℕ) (r : Row) : Type 0 where
-  pub answer : r ≡ imageRowAt base t p
+pub record ImageRowTold (base : ℕ) (table : List ℕ) (p : ℕ) (r : Row) : Type 0 where
+  pub answer : r ≡ imageRowAt base table p
   pub fits : RowFits r
 
 -- ---- its line (rule 20.4)
 -- state, accepted octet, note; packet
 abbrev pub keptFront : List ℕ → Row → List ℕ
-keptFront t row =
-    stateIn t (row .slot) % 256 ∷ flagBit (row .accepted) ∷ noteIn t (row .slot) / 256 % 256 ∷ noteIn t (row .slot) % 256 ∷ []
+keptFront table row =
+    stateIn table (row .slot) % 256 ∷ flagBit (row .accepted) ∷ noteIn table (row .slot) / 256 % 256 ∷ noteIn table (row .slot) % 256 ∷ []
 
 abbrev pub keptText : List ℕ → List ℕ → Row → List ℕ
-keptText t o row = hexOf (keptFront t row) ++ hexOf (itemOctets (part o (row .slot) (sizeIn t (row .slot))))
+keptText table octets row = hexOf (keptFront table row) ++ hexOf (itemOctets (part octets (row .slot) (sizeIn table (row .slot))))
 
 -- n and m
 abbrev pub countOctets : Row → List ℕ
@@ -75,19 +76,19 @@ allTexts n text = inRow (λ x. x) (tab n text)
 
 -- the first m messages of a slot
 abbrev pub messageText : List ℕ → List ℕ → ℕ → ℕ → List ℕ
-messageText t g heard i = hexOf (itemOctets (messageIn t g heard i))
+messageText table messages heard i = hexOf (itemOctets (messageIn table messages heard i))
 
 abbrev pub messagesText : List ℕ → List ℕ → ℕ → ℕ → List ℕ
-messagesText t g heard m = allTexts m (messageText t g heard)
+messagesText table messages heard m = allTexts m (messageText table messages heard)
 
 unfoldable pub rowText : List ℕ → List ℕ → List ℕ → Row → List ℕ
-rowText t o g row =
-    keptText t o row
-    ++ (hexOf (countOctets row) ++ (messagesText t g (row .heard) (row .m) ++ (lineFeed ∷ [])))
+rowText table octets messages row =
+    keptText table octets row
+    ++ (hexOf (countOctets row) ++ (messagesText table messages (row .heard) (row .m) ++ (lineFeed ∷ [])))
 
 -- all of them
 abbrev pub rowsText : ℕ → List ℕ → List ℕ → List ℕ → List ℕ
-rowsText base t o g = allTexts slotsKept (λ p. rowText t o g (imageRowAt base t p))
+rowsText base table octets messages = allTexts slotsKept (λ p. rowText table octets messages (imageRowAt base table p))
 
 -- the first line (rule 20.2): the version octet, base, counts
 abbrev pub firstText : ℕ → ℕ → Counts → List ℕ
@@ -99,13 +100,13 @@ firstText octet base counts =
 
 -- ---- how long it is
 abbrev pub messagesSize : List ℕ → ℕ → ℕ → ℕ
-messagesSize t heard m = sumOf (tab m (λ i. 2 * itemSize (messageSizeIn t (messageSlot heard i))))
+messagesSize table heard m = sumOf (tab m (λ i. 2 * itemSize (messageSizeIn table (messageSlot heard i))))
 
 abbrev pub rowSize : List ℕ → Row → ℕ
-rowSize t row = lineSize (6 + itemSize (sizeIn t (row .slot))) + messagesSize t (row .heard) (row .m)
+rowSize table row = lineSize (6 + itemSize (sizeIn table (row .slot))) + messagesSize table (row .heard) (row .m)
 
 abbrev pub rowsSize : ℕ → List ℕ → ℕ
-rowsSize base t = sumOf (tab slotsKept (λ p. rowSize t (imageRowAt base t p)))
+rowsSize base table = sumOf (tab slotsKept (λ p. rowSize table (imageRowAt base table p)))
 
 -- a size that is returned, and the most that it can be
 pub record SizeWithin (size most r : ℕ) : Type 0 where

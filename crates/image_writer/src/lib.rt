@@ -36,25 +36,25 @@ pub fn write(s: Session, out: &mut [u8]) -> Written
 pub fn write_core(
     base: u16,
     counts: Counts,
-    t: &[u16],
-    o: &[u8],
-    g: &[u8],
+    table: &[u16],
+    octets: &[u8],
+    messages: &[u8],
     out: &mut [u8],
 ) -> Written
-    requires { ⌜ length (now t) ≡ places ⌝ }
-    requires { ⌜ length (now o) ≡ keptOctets ⌝ }
-    requires { ⌜ length (now g) ≡ messageOctets ⌝ }
-    ensures { λ r. ⌜ Puts (imageToWrite versionWritten (lent base counts (now (t .entry)) (now (o .entry)) (now (g .entry))))
-        (now (out .entry)) (now (out .exit)) r ⌝ }
+    requires { ⌜ length (now table) ≡ places ⌝ }
+    requires { ⌜ length (now octets) ≡ keptOctets ⌝ }
+    requires { ⌜ length (now messages) ≡ messageOctets ⌝ }
+    ensures { λ r. ⌜ Puts (imageToWrite versionWritten (lent base counts (now (table .entry)) (now (octets .entry))
+        (now (messages .entry)))) (now (out .entry)) (now (out .exit)) r ⌝ }
 {
-    if !session_check::in_ranges(base, counts, t, o, g) {
+    if !session_check::in_ranges(base, counts, table, octets, messages) {
         return Written::Refused(Refusal::new(Refusal::OUTSIDE_RANGES));
     }
-    let size = 2 * Image::FIRST + 1 + rows_size(base, t);
+    let size = 2 * Image::FIRST + 1 + rows_size(base, table);
     if out.len() < size {
         return Written::Refused(Refusal::new(Refusal::NO_ROOM));
     }
     let first = put_first(base, counts, out, 0);
-    let end = put_rows(base, t, o, g, out, first);
+    let end = put_rows(base, table, octets, messages, out, first);
     Written::Octets(end)
 }

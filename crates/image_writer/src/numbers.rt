@@ -77,77 +77,99 @@ fn put_item(store: &[u8], slot: usize, size: usize, out: &mut [u8], at: usize) -
 }
 
 // State, accepted octet, note and packet.
-fn put_kept(t: &[u16], o: &[u8], row: Row, out: &mut [u8], at: usize) -> usize
-    requires { ⌜ TableFits (now t) ⌝ }
-    requires { ⌜ length (now o) ≡ keptOctets ⌝ }
+fn put_kept(table: &[u16], octets: &[u8], row: Row, out: &mut [u8], at: usize) -> usize
+    requires { ⌜ TableFits (now table) ⌝ }
+    requires { ⌜ length (now octets) ≡ keptOctets ⌝ }
     requires { ⌜ RowFits row ⌝ }
-    requires { ⌜ Room (keptText (now t) (now o) row) (now out) at ⌝ }
-    ensures { λ r. ⌜ Appends (keptText (now (t .entry)) (now (o .entry)) row) (now (out .entry)) at (now (out .exit)) r ⌝ }
+    requires { ⌜ Room (keptText (now table) (now octets) row) (now out) at ⌝ }
+    ensures { λ r. ⌜ Appends (keptText (now (table .entry)) (now (octets .entry)) row) (now (out .entry)) at (now (out .exit)) r ⌝ }
 {
     let slot = row.slot;
-    let state = (session_held::state_at(t, slot) % 256) as u8;
+    let state = (session_held::state_at(table, slot) % 256) as u8;
     let mark = row.accepted as u8;
-    let note = session_held::note_at(t, slot);
+    let note = session_held::note_at(table, slot);
     let high = (note / 256 % 256) as u8;
     let low = (note % 256) as u8;
     let front = [state, mark, high, low];
     let next = put_digits(&front, out, at);
-    let size = session_held::size_at(t, slot);
-    put_item(o, slot, size, out, next)
+    let size = session_held::size_at(table, slot);
+    put_item(octets, slot, size, out, next)
 }
 
 // The first m messages of a slot.
-fn put_messages(t: &[u16], g: &[u8], heard: usize, m: usize, out: &mut [u8], at: usize) -> usize
-    requires { ⌜ TableFits (now t) ⌝ }
-    requires { ⌜ length (now g) ≡ messageOctets ⌝ }
+fn put_messages(
+    table: &[u16],
+    messages: &[u8],
+    heard: usize,
+    m: usize,
+    out: &mut [u8],
+    at: usize,
+) -> usize
+    requires { ⌜ TableFits (now table) ⌝ }
+    requires { ⌜ length (now messages) ≡ messageOctets ⌝ }
     requires { ⌜ heard < slotsHeard ⌝ }
     requires { ⌜ m ≤ messagesLimit ⌝ }
-    requires { ⌜ Room (messagesText (now t) (now g) heard m) (now out) at ⌝ }
-    ensures { λ r. ⌜ Appends (messagesText (now (t .entry)) (now (g .entry)) heard m) (now (out .entry)) at (now (out .exit)) r ⌝ }
+    requires { ⌜ Room (messagesText (now table) (now messages) heard m) (now out) at ⌝ }
+    ensures { λ r. ⌜ Appends (messagesText (now (table .entry)) (now (messages .entry)) heard m) (now (out .entry)) at (now (out .exit)) r ⌝ }
 {
     let mut end = at;
     let mut i = 0;
     while i < m {
         let slot = heard * Parity::MESSAGES + i;
-        let size = session_held::message_size_at(t, slot);
-        end = put_item(g, slot, size, out, end);
+        let size = session_held::message_size_at(table, slot);
+        end = put_item(messages, slot, size, out, end);
         i += 1;
     }
     end
 }
 
 // The line of a number.
-fn put_row(t: &[u16], o: &[u8], g: &[u8], row: Row, out: &mut [u8], at: usize) -> usize
-    requires { ⌜ TableFits (now t) ⌝ }
-    requires { ⌜ length (now o) ≡ keptOctets ⌝ }
-    requires { ⌜ length (now g) ≡ messageOctets ⌝ }
+fn put_row(
+    table: &[u16],
+    octets: &[u8],
+    messages: &[u8],
+    row: Row,
+    out: &mut [u8],
+    at: usize,
+) -> usize
+    requires { ⌜ TableFits (now table) ⌝ }
+    requires { ⌜ length (now octets) ≡ keptOctets ⌝ }
+    requires { ⌜ length (now messages) ≡ messageOctets ⌝ }
     requires { ⌜ RowFits row ⌝ }
-    requires { ⌜ Room (rowText (now t) (now o) (now g) row) (now out) at ⌝ }
-    ensures { λ r. ⌜ Appends (rowText (now (t .entry)) (now (o .entry)) (now (g .entry)) row) (now (out .entry)) at (now (out .exit)) r ⌝ }
+    requires { ⌜ Room (rowText (now table) (now octets) (now messages) row) (now out) at ⌝ }
+    ensures { λ r. ⌜ Appends (rowText (now (table .entry)) (now (octets .entry)) (now (messages .entry)) row) (now (out .entry)) at
+        (now (out .exit)) r ⌝ }
 {
-    let one = put_kept(t, o, row, out, at);
+    let one = put_kept(table, octets, row, out, at);
     let n = (row.n % 256) as u8;
     let m = (row.m % 256) as u8;
     let counts = [n, m];
     let two = put_digits(&counts, out, one);
-    let end = put_messages(t, g, row.heard, row.m, out, two);
+    let end = put_messages(table, messages, row.heard, row.m, out, two);
     end_line(out, end)
 }
 
 // The 64 lines of the kept numbers, from 32 before the base upward (rule 20.3).
-pub fn put_rows(base: u16, t: &[u16], o: &[u8], g: &[u8], out: &mut [u8], at: usize) -> usize
-    requires { ⌜ TableFits (now t) ⌝ }
-    requires { ⌜ length (now o) ≡ keptOctets ⌝ }
-    requires { ⌜ length (now g) ≡ messageOctets ⌝ }
-    requires { ⌜ Room (rowsText base (now t) (now o) (now g)) (now out) at ⌝ }
-    ensures { λ r. ⌜ Appends (rowsText base (now (t .entry)) (now (o .entry)) (now (g .entry))) (now (out .entry)) at
+pub fn put_rows(
+    base: u16,
+    table: &[u16],
+    octets: &[u8],
+    messages: &[u8],
+    out: &mut [u8],
+    at: usize,
+) -> usize
+    requires { ⌜ TableFits (now table) ⌝ }
+    requires { ⌜ length (now octets) ≡ keptOctets ⌝ }
+    requires { ⌜ length (now messages) ≡ messageOctets ⌝ }
+    requires { ⌜ Room (rowsText base (now table) (now octets) (now messages)) (now out) at ⌝ }
+    ensures { λ r. ⌜ Appends (rowsText base (now (table .entry)) (now (octets .entry)) (now (messages .entry))) (now (out .entry)) at
         (now (out .exit)) r ⌝ }
 {
     let mut end = at;
     let mut p = 0;
     while p < Session::KEPT {
-        let row = row_at(base, t, p);
-        end = put_row(t, o, g, row, out, end);
+        let row = row_at(base, table, p);
+        end = put_row(table, octets, messages, row, out, end);
         p += 1;
     }
     end

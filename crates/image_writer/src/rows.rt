@@ -18,10 +18,10 @@ pub struct Row {
 }
 
 // Place p of the view is the number base - 32 + p.
-pub fn row_at(base: u16, t: &[u16], p: usize) -> Row
-    requires { ⌜ TableFits (now t) ⌝ }
+pub fn row_at(base: u16, table: &[u16], p: usize) -> Row
+    requires { ⌜ TableFits (now table) ⌝ }
     requires { ⌜ p < slotsKept ⌝ }
-    ensures { λ r. ⌜ ImageRowTold base (now (t .entry)) p r ⌝ }
+    ensures { λ r. ⌜ ImageRowTold base (now (table .entry)) p r ⌝ }
 {
     let base = base as usize;
     let slot = (base + Session::BEFORE + p) % Session::KEPT;
@@ -35,9 +35,9 @@ pub fn row_at(base: u16, t: &[u16], p: usize) -> Row
         };
     }
     let heard = (base + (p - Session::BEFORE)) % Session::HEARD;
-    let accepted = session_held::accepted_at(t, heard);
-    let n = session_held::n_at(t, heard);
-    let m = session_held::m_at(t, heard);
+    let accepted = session_held::accepted_at(table, heard);
+    let n = session_held::n_at(table, heard);
+    let m = session_held::m_at(table, heard);
     Row {
         slot,
         heard,
@@ -48,16 +48,16 @@ pub fn row_at(base: u16, t: &[u16], p: usize) -> Row
 }
 
 // The characters of the first m messages of a slot, with their lengths.
-fn messages_size(t: &[u16], heard: usize, m: usize) -> usize
-    requires { ⌜ TableFits (now t) ⌝ }
+fn messages_size(table: &[u16], heard: usize, m: usize) -> usize
+    requires { ⌜ TableFits (now table) ⌝ }
     requires { ⌜ heard < slotsHeard ⌝ }
     requires { ⌜ m ≤ messagesLimit ⌝ }
-    ensures { λ r. ⌜ SizeWithin (messagesSize (now (t .entry)) heard m) (messagesLimit * (2 * longestItem packetLimit)) r ⌝ }
+    ensures { λ r. ⌜ SizeWithin (messagesSize (now (table .entry)) heard m) (messagesLimit * (2 * longestItem packetLimit)) r ⌝ }
 {
     let mut size = 0;
     let mut i = 0;
     while i < m {
-        let octets = session_held::message_size_at(t, heard * Parity::MESSAGES + i);
+        let octets = session_held::message_size_at(table, heard * Parity::MESSAGES + i);
         size += 2 * item_size(octets);
         i += 1;
     }
@@ -65,28 +65,28 @@ fn messages_size(t: &[u16], heard: usize, m: usize) -> usize
 }
 
 // The characters of a line: state, accepted octet, note, n and m are six octets.
-fn row_size(t: &[u16], row: Row) -> usize
-    requires { ⌜ TableFits (now t) ⌝ }
+fn row_size(table: &[u16], row: Row) -> usize
+    requires { ⌜ TableFits (now table) ⌝ }
     requires { ⌜ RowFits row ⌝ }
-    ensures { λ r. ⌜ SizeWithin (rowSize (now (t .entry)) row) (lineSize (numberLineLimit packetLimit)) r ⌝ }
+    ensures { λ r. ⌜ SizeWithin (rowSize (now (table .entry)) row) (lineSize (numberLineLimit packetLimit)) r ⌝ }
 {
     let slot = row.slot;
-    let octets = session_held::size_at(t, slot);
+    let octets = session_held::size_at(table, slot);
     let packet = item_size(octets);
-    let messages = messages_size(t, row.heard, row.m);
+    let messages = messages_size(table, row.heard, row.m);
     2 * (6 + packet) + 1 + messages
 }
 
 // The characters of all lines but the first.
-pub fn rows_size(base: u16, t: &[u16]) -> usize
-    requires { ⌜ TableFits (now t) ⌝ }
-    ensures { λ r. ⌜ SizeWithin (rowsSize base (now (t .entry))) (slotsKept * lineSize (numberLineLimit packetLimit)) r ⌝ }
+pub fn rows_size(base: u16, table: &[u16]) -> usize
+    requires { ⌜ TableFits (now table) ⌝ }
+    ensures { λ r. ⌜ SizeWithin (rowsSize base (now (table .entry))) (slotsKept * lineSize (numberLineLimit packetLimit)) r ⌝ }
 {
     let mut size = 0;
     let mut p = 0;
     while p < Session::KEPT {
-        let row = row_at(base, t, p);
-        size += row_size(t, row);
+        let row = row_at(base, table, p);
+        size += row_size(table, row);
         p += 1;
     }
     size

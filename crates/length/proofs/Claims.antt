@@ -29,8 +29,8 @@ written-told (written.Refused x) (written.Refused y) e = cc
 pub one-outcome : OneOutcome
 one-outcome =
     record {
-      read = λ {s} {r} {q} p t. length-told r q (p .answer ∙ sym (t .answer));
-      readWithin = λ {least} {most} {s} {r} {q} p t. length-told r q (p .answer ∙ sym (t .answer));
+      read = λ {octets = s} {r} {q} p t. length-told r q (p .answer ∙ sym (t .answer));
+      readWithin = λ {least} {most} {octets = s} {r} {q} p t. length-told r q (p .answer ∙ sym (t .answer));
       written = λ {w} {old} {new} {other} {r} {q} p t. (written-told r q (p .answer ∙ sym (t .answer)), p .lent ∙ sym (t .lent));
     }
 

@@ -12,7 +12,7 @@ use Rattle.length.specs.declared.Written.{Written}
 
 -- every element of a list is an octet
 abbrev pub Octets : List ℕ → Type 0
-Octets s = (i : ℕ) → getD s i 0 < 256
+Octets octets = (i : ℕ) → getD octets i 0 < 256
 
 -- a length that was written reads back to the same value and size, whatever follows it (rules 3.7 and 28.4)
 abbrev pub WrittenReads : Type 0
@@ -21,12 +21,14 @@ WrittenReads = (n : ℕ) (rest : List ℕ) → n ≤ lengthLimit
 
 -- a length that was read writes back to the same octets (rule 28.4)
 abbrev pub ReadWrites : Type 0
-ReadWrites = (s : List ℕ) (a : LengthAnswer) → Octets s → lengthAt s ≡ done a → lengthOctets (a .value) ≡ take (a .size) s
+ReadWrites = (octets : List ℕ) (a : LengthAnswer) → Octets octets → lengthAt octets ≡ done a
+    → lengthOctets (a .value) ≡ take (a .size) octets
 
 -- two outcomes that a promise allows are equal (rule 28.14)
 pub record OneOutcome : Type 0 where
-  pub read : {s : List ℕ} {r q : Length} → LengthRead s r → LengthRead s q → r ≡ q
-  pub readWithin : {least most : ℕ} {s : List ℕ} {r q : Length} → WithinRead least most s r → WithinRead least most s q → r ≡ q
+  pub read : {octets : List ℕ} {r q : Length} → LengthRead octets r → LengthRead octets q → r ≡ q
+  pub readWithin : {least most : ℕ} {octets : List ℕ} {r q : Length} → WithinRead least most octets r → WithinRead least most octets q
+      → r ≡ q
   pub written : {w : Answer (List ℕ)} {old new other : List ℕ} {r q : Written}
       → Puts w old new r → Puts w old other q → (r ≡ q) × (new ≡ other)
 

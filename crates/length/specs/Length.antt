@@ -24,13 +24,13 @@ ofTwo first second = (first - 0x80) * 256 + second
 
 -- the length or count at the front of some octets (rules 3.1 to 3.5 and 3.7)
 unfoldable pub lengthAt : List ℕ → Answer LengthAnswer
-lengthAt s =
-    let first = getD s 0 0 in
-    let value = ofTwo (getD s 0 0) (getD s 1 0) in
-    cond (ltb (length s) 1) (refuse endsEarly)
+lengthAt octets =
+    let first = getD octets 0 0 in
+    let value = ofTwo (getD octets 0 0) (getD octets 1 0) in
+    cond (ltb (length octets) 1) (refuse endsEarly)
     (cond (ltb first twoFrom) (done (record { value = first; size = 1 }))
     (cond (leb 0xC0 first) (refuse badForm)
-    (cond (ltb (length s) 2) (refuse endsEarly)
+    (cond (ltb (length octets) 2) (refuse endsEarly)
     (cond (ltb value twoFrom) (refuse badForm)
     (done (record { value = value; size = 2 }))))))
 
@@ -44,8 +44,8 @@ allowed least most l = cond (within least most (l .value)) (done l) (refuse outs
 
 -- the length or count at the front of some octets, from least to most: 3 or 1 for its form, then 4 (rule 3.6)
 unfoldable pub lengthWithin : ℕ → ℕ → List ℕ → Answer LengthAnswer
-lengthWithin least most s = do
-  l ← lengthAt s
+lengthWithin least most octets = do
+  l ← lengthAt octets
   allowed least most l
 
 -- a length or count as octets (rules 3.1 and 3.2)

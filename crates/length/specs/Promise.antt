@@ -24,13 +24,13 @@ pub record RefusalMade (number : ℕ) (r : Refusal) : Type 0 where
 pub record RefusalPlaced (number place : ℕ) (r : Refusal) : Type 0 where
   pub answer : r ≡ refusalAt place number
 
--- what `length_code::read` promises for the octets s
-pub record LengthRead (s : List ℕ) (r : Length) : Type 0 where
-  pub answer : lengthOutcome r ≡ lengthAt s
+-- what `length_code::read` promises for `octets`
+pub record LengthRead (octets : List ℕ) (r : Length) : Type 0 where
+  pub answer : lengthOutcome r ≡ lengthAt octets
 
--- what `length_code::read_within` promises for the octets s
-pub record WithinRead (least most : ℕ) (s : List ℕ) (r : Length) : Type 0 where
-  pub answer : lengthOutcome r ≡ lengthWithin least most s
+-- what `length_code::read_within` promises for `octets`
+pub record WithinRead (least most : ℕ) (octets : List ℕ) (r : Length) : Type 0 where
+  pub answer : lengthOutcome r ≡ lengthWithin least most octets
 
 -- what `Length::refusal` promises for a length as found
 pub record RefusalTold (found : Length) (r : Refusal) : Type 0 where

@@ -5,24 +5,24 @@ use length::wide;
 use length::within;
 ghost use Rattle.length.specs.Promise.{LengthRead, WithinRead};
 
-// The length or count at the front of s; what follows it is not read (rule 3.7).
-pub fn read(s: &[u8]) -> Length
-    ensures { λ r. ⌜ LengthRead (now (s .entry)) r ⌝ }
+// The length or count at the front of `octets`; what follows it is not read (rule 3.7).
+pub fn read(octets: &[u8]) -> Length
+    ensures { λ r. ⌜ LengthRead (now (octets .entry)) r ⌝ }
 {
-    if s.len() < 1 {
+    if octets.len() < 1 {
         return Length::Refused(Refusal::new(Refusal::ENDS_EARLY));
     }
-    let first = wide(s[0]);
+    let first = wide(octets[0]);
     if first < Length::TWO_FROM {
         return Length::Value(first, 1);
     }
     if 192 <= first {
         return Length::Refused(Refusal::new(Refusal::BAD_FORM));
     }
-    if s.len() < 2 {
+    if octets.len() < 2 {
         return Length::Refused(Refusal::new(Refusal::ENDS_EARLY));
     }
-    let second = wide(s[1]);
+    let second = wide(octets[1]);
     let high = (first - 128) * 256;
     let value = high + second;
     if value < Length::TWO_FROM {
@@ -31,11 +31,11 @@ pub fn read(s: &[u8]) -> Length
     Length::Value(value, 2)
 }
 
-// The length or count at the front of s, from least to most: 3 or 1 for its form, then 4 (rule 3.6).
-pub fn read_within(s: &[u8], least: usize, most: usize) -> Length
-    ensures { λ r. ⌜ WithinRead least most (now (s .entry)) r ⌝ }
+// The length or count at the front of `octets`, from least to most: 3 or 1 for its form, then 4 (rule 3.6).
+pub fn read_within(octets: &[u8], least: usize, most: usize) -> Length
+    ensures { λ r. ⌜ WithinRead least most (now (octets .entry)) r ⌝ }
 {
-    let found = read(s);
+    let found = read(octets);
     let Length::Value(value, size) = found else {
         return found;
     };

@@ -57,12 +57,14 @@ pub record CutAnyhow : Type 0 where
 -- other, are what the program writes for all the input taken
 pub record InTurn : Type 0 where
   pub start : {r : Session} (line : List ℕ) → Fresh r → PartWay [] [] (lentBy r) line 0
-  pub block : {input text : List ℕ} {session after : Lent} {l : List ℕ} {begun : ℕ} {s out : List ℕ} {m : List ℕ} {kept taken : ℕ}
-      {new : List ℕ} {end : ℕ} → PartWay input text session l begun → Feeds (goingIn session l begun out 0) s out after m kept taken new end
-      → PartWay (input ++ take taken s) (text ++ take end new) after m kept
+  pub block : {input text : List ℕ} {session after : Lent} {l : List ℕ} {begun : ℕ} {octets out : List ℕ} {m : List ℕ} {kept taken : ℕ}
+      {new : List ℕ} {end : ℕ} → PartWay input text session l begun
+      → Feeds (goingIn session l begun out 0) octets out after m kept taken new end
+      → PartWay (input ++ take taken octets) (text ++ take end new) after m kept
   -- with room for a line, some of a block that is not empty is taken
-  pub goesOn : {session after : Lent} {l : List ℕ} {begun : ℕ} {s out : List ℕ} {m : List ℕ} {kept taken : ℕ} {new : List ℕ} {end : ℕ}
-      → Feedable stepLimit session l begun out 0 → Feeds (goingIn session l begun out 0) s out after m kept taken new end → 1 ≤ length s
+  pub goesOn : {session after : Lent} {l : List ℕ} {begun : ℕ} {octets out : List ℕ} {m : List ℕ} {kept taken : ℕ} {new : List ℕ} {end : ℕ}
+      → Feedable stepLimit session l begun out 0 → Feeds (goingIn session l begun out 0) octets out after m kept taken new end
+      → 1 ≤ length octets
       → 0 < taken
   pub finish : {input text : List ℕ} {session after : Lent} {l : List ℕ} {begun : ℕ} {out new : List ℕ} {end : ℕ}
       → PartWay input text session l begun → Ends (goingIn session l begun out 0) out after new end → program input ≡ text ++ take end new
@@ -81,9 +83,9 @@ pub record OneOutcome : Type 0 where
   pub step : {m : Made} {old : List ℕ} {at : ℕ} {r q : Stepped} {t u o p g k new written : List ℕ}
       → Does m old at (lent (r .base) (r .counts) t o g) (r .end) new → Does m old at (lent (q .base) (q .counts) u p k) (q .end) written
       → Same r q (lent (r .base) (r .counts) t o g) (lent (q .base) (q .counts) u p k) new written
-  pub takeBlock : {before : Going} {s out : List ℕ} {r q : Fed} {t u o p g k l m new written : List ℕ}
-      → Feeds before s out (lent (r .base) (r .counts) t o g) l (r .begun) (r .taken) new (r .end)
-      → Feeds before s out (lent (q .base) (q .counts) u p k) m (q .begun) (q .taken) written (q .end)
+  pub takeBlock : {before : Going} {octets out : List ℕ} {r q : Fed} {t u o p g k l m new written : List ℕ}
+      → Feeds before octets out (lent (r .base) (r .counts) t o g) l (r .begun) (r .taken) new (r .end)
+      → Feeds before octets out (lent (q .base) (q .counts) u p k) m (q .begun) (q .taken) written (q .end)
       → (Same r q (lent (r .base) (r .counts) t o g) (lent (q .base) (q .counts) u p k) new written) × (l ≡ m)
   pub finish : {before : Going} {out : List ℕ} {r q : Stepped} {t u o p g k new written : List ℕ}
       → Ends before out (lent (r .base) (r .counts) t o g) new (r .end)

@@ -17,29 +17,29 @@ lookedAt = 32
 
 -- the character at distance j from a place is no line feed
 abbrev pub plainAt : List ℕ → ℕ → ℕ → Bool
-plainAt s at j = not (eqb (getD s (at + j) 0) lineFeed)
+plainAt octets at j = not (eqb (getD octets (at + j) 0) lineFeed)
 
 -- no line feed comes before a place
-pub record Begun (s : List ℕ) (at : ℕ) : Type 0 where
-  pub plain : (k : ℕ) → k < at → getD s k 0 ≡ lineFeed → ⊥
-  pub inside : at ≤ length s
+pub record Begun (octets : List ℕ) (at : ℕ) : Type 0 where
+  pub plain : (k : ℕ) → k < at → getD octets k 0 ≡ lineFeed → ⊥
+  pub inside : at ≤ length octets
 
 -- the first line feed, or the end
-pub record Found (s : List ℕ) (at : ℕ) : Type 0 where
-  pub begun : Begun s at
-  pub feed : at < length s → getD s at 0 ≡ lineFeed
+pub record Found (octets : List ℕ) (at : ℕ) : Type 0 where
+  pub begun : Begun octets at
+  pub feed : at < length octets → getD octets at 0 ≡ lineFeed
 
 -- the place after the first line feed, or the end
 unfoldable pub lineEnd : List ℕ → ℕ
 lineEnd [] = 0
-lineEnd (c ∷ s) = cond (eqb c lineFeed) 1 (suc (lineEnd s))
+lineEnd (c ∷ rest) = cond (eqb c lineFeed) 1 (suc (lineEnd rest))
 
 -- how many characters of a block are taken with a buffer of `room` characters: at the start of the block, and of each line in it, there
 -- must be room for all that a line can write
 unfoldable pub takenOf : ℕ → Bool → List ℕ → Going → ℕ
 takenOf room starts [] now = 0
-takenOf room starts (c ∷ s) now =
-    cond (starts && ltb room (length (now .text) + stepLimit)) 0 (suc (takenOf room (eqb c lineFeed) s (takenIn c now)))
+takenOf room starts (c ∷ rest) now =
+    cond (starts && ltb room (length (now .text) + stepLimit)) 0 (suc (takenOf room (eqb c lineFeed) rest (takenIn c now)))
 
 -- the buffer for a line: the line that has begun, and zeros after it
 pub record LineIn (l : List ℕ) (begun : ℕ) : Type 0 where
@@ -57,29 +57,31 @@ pub record Feedable (most : ℕ) (session : Lent) (l : List ℕ) (begun : ℕ) (
   pub able : Able most session out at
   pub line : LineIn l begun
 
--- what is promised for the first `taken` characters of s, from the state `before`: the program part way after them, with its session within
--- its ranges; the buffer from `end` on is unchanged
-pub record Takes (before : Going) (s out : List ℕ) (session : Lent) (l : List ℕ) (begun taken : ℕ) (new : List ℕ) (end : ℕ) : Type 0 where
-  pub state : goingIn session l begun new end ≡ fed (take taken s) before
+-- what is promised for the first `taken` characters of `octets`, from the state `before`: the program part way after them, with its session
+-- within its ranges; the buffer from `end` on is unchanged
+pub record Takes (before : Going) (octets out : List ℕ) (session : Lent) (l : List ℕ) (begun taken : ℕ) (new : List ℕ) (end : ℕ)
+    : Type 0 where
+  pub state : goingIn session l begun new end ≡ fed (take taken octets) before
   pub within : InRanges session
   pub line : LineIn l begun
-  pub inside : taken ≤ length s
+  pub inside : taken ≤ length octets
   pub fits : end ≤ length out
   pub rest : drop end new ≡ drop end out
   pub long : length new ≡ length out
 
 -- one line, or as much of it as there is
-pub record TakesLine (before : Going) (s out : List ℕ) (at : ℕ) (session : Lent) (l : List ℕ) (begun taken : ℕ) (new : List ℕ)
+pub record TakesLine (before : Going) (octets out : List ℕ) (at : ℕ) (session : Lent) (l : List ℕ) (begun taken : ℕ) (new : List ℕ)
     (end : ℕ) : Type 0 where
-  pub takes : Takes before s out session l begun taken new end
-  pub all : taken ≡ lineEnd s
+  pub takes : Takes before octets out session l begun taken new end
+  pub all : taken ≡ lineEnd octets
   pub some : 0 < taken
   pub later : at ≤ end
 
 -- a block: all of it, or as much as the buffer surely has room for
-pub record Feeds (before : Going) (s out : List ℕ) (session : Lent) (l : List ℕ) (begun taken : ℕ) (new : List ℕ) (end : ℕ) : Type 0 where
-  pub takes : Takes before s out session l begun taken new end
-  pub all : taken ≡ takenOf (length out) true s before
+pub record Feeds (before : Going) (octets out : List ℕ) (session : Lent) (l : List ℕ) (begun taken : ℕ) (new : List ℕ) (end : ℕ)
+    : Type 0 where
+  pub takes : Takes before octets out session l begun taken new end
+  pub all : taken ≡ takenOf (length out) true octets before
 
 -- what is promised at the end of the input
 pub record Ends (before : Going) (out : List ℕ) (session : Lent) (new : List ℕ) (end : ℕ) : Type 0 where

@@ -98,20 +98,21 @@ pub fn clear_line(line: &mut [u8], begun: usize)
 // Takes the next line of s, or as much of it as there is, from where the last one ended. The line that has begun is at the front of line.
 fn take_line(
     from: Stepped,
-    t: &mut [u16; Session::PLACES],
-    o: &mut [u8; Session::PACKET_OCTETS],
-    g: &mut [u8; Session::MESSAGE_OCTETS],
+    table: &mut [u16; Session::PLACES],
+    octets: &mut [u8; Session::PACKET_OCTETS],
+    messages: &mut [u8; Session::MESSAGE_OCTETS],
     line: &mut [u8],
     begun: usize,
     s: &[u8],
     out: &mut [u8],
 ) -> Fed
-    requires { ⌜ Feedable stepLimit (lent (from .base) (from .counts) (now t) (now o) (now g)) (now line) begun (now out) (from .end) ⌝ }
+    requires { ⌜ Feedable stepLimit (lent (from .base) (from .counts) (now table) (now octets) (now messages)) (now line) begun (now out)
+        (from .end) ⌝ }
     requires { ⌜ 1 ≤ length (now s) ⌝ }
-    ensures { λ r. ⌜ TakesLine (goingIn (lent (from .base) (from .counts) (now (t .entry)) (now (o .entry)) (now (g .entry)))
-        (now (line .entry)) begun (now (out .entry)) (from .end)) (now (s .entry)) (now (out .entry)) (from .end)
-        (lent (r .base) (r .counts) (now (t .exit)) (now (o .exit)) (now (g .exit))) (now (line .exit)) (r .begun) (r .taken)
-        (now (out .exit)) (r .end) ⌝ }
+    ensures { λ r. ⌜ TakesLine (goingIn (lent (from .base) (from .counts) (now (table .entry)) (now (octets .entry))
+        (now (messages .entry))) (now (line .entry)) begun (now (out .entry)) (from .end)) (now (s .entry)) (now (out .entry)) (from .end)
+        (lent (r .base) (r .counts) (now (table .exit)) (now (octets .exit)) (now (messages .exit))) (now (line .exit)) (r .begun)
+        (r .taken) (now (out .exit)) (r .end) ⌝ }
 {
     let base = from.base;
     let counts = from.counts;
@@ -129,7 +130,7 @@ fn take_line(
     }
     let taken = stop + 1;
     if begun == 0 {
-        let made = step(base, counts, t, o, g, &s[..stop], out, at);
+        let made = step(base, counts, table, octets, messages, &s[..stop], out, at);
         let after = made.base;
         let moves = made.counts;
         let end = made.end;
@@ -142,7 +143,16 @@ fn take_line(
         };
     }
     let kept = keep_line(line, begun, &s[..stop]);
-    let made = step(base, counts, t, o, g, &line[..kept], out, at);
+    let made = step(
+        base,
+        counts,
+        table,
+        octets,
+        messages,
+        &line[..kept],
+        out,
+        at,
+    );
     clear_line(line, kept);
     let after = made.base;
     let moves = made.counts;
@@ -161,19 +171,19 @@ fn take_line(
 pub fn take_block(
     base: u16,
     counts: Counts,
-    t: &mut [u16; Session::PLACES],
-    o: &mut [u8; Session::PACKET_OCTETS],
-    g: &mut [u8; Session::MESSAGE_OCTETS],
+    table: &mut [u16; Session::PLACES],
+    octets: &mut [u8; Session::PACKET_OCTETS],
+    messages: &mut [u8; Session::MESSAGE_OCTETS],
     line: &mut [u8],
     begun: usize,
     block: &[u8],
     out: &mut [u8],
 ) -> Fed
-    requires { ⌜ Feedable 0 (lent base counts (now t) (now o) (now g)) (now line) begun (now out) 0 ⌝ }
-    ensures { λ r. ⌜ Feeds (goingIn (lent base counts (now (t .entry)) (now (o .entry)) (now (g .entry))) (now (line .entry)) begun
-        (now (out .entry)) 0) (now (block .entry)) (now (out .entry))
-        (lent (r .base) (r .counts) (now (t .exit)) (now (o .exit)) (now (g .exit))) (now (line .exit)) (r .begun) (r .taken)
-        (now (out .exit)) (r .end) ⌝ }
+    requires { ⌜ Feedable 0 (lent base counts (now table) (now octets) (now messages)) (now line) begun (now out) 0 ⌝ }
+    ensures { λ r. ⌜ Feeds (goingIn (lent base counts (now (table .entry)) (now (octets .entry)) (now (messages .entry)))
+        (now (line .entry)) begun (now (out .entry)) 0) (now (block .entry)) (now (out .entry))
+        (lent (r .base) (r .counts) (now (table .exit)) (now (octets .exit)) (now (messages .exit))) (now (line .exit)) (r .begun)
+        (r .taken) (now (out .exit)) (r .end) ⌝ }
 {
     let mut after = base;
     let mut moves = counts;
@@ -195,7 +205,16 @@ pub fn take_block(
             counts: moves,
             end,
         };
-        let part = take_line(from, t, o, g, line, kept, &block[taken..], out);
+        let part = take_line(
+            from,
+            table,
+            octets,
+            messages,
+            line,
+            kept,
+            &block[taken..],
+            out,
+        );
         after = part.base;
         let moved = part.counts;
         moves = moved;
@@ -216,18 +235,18 @@ pub fn take_block(
 pub fn finish(
     base: u16,
     counts: Counts,
-    t: &mut [u16; Session::PLACES],
-    o: &mut [u8; Session::PACKET_OCTETS],
-    g: &mut [u8; Session::MESSAGE_OCTETS],
+    table: &mut [u16; Session::PLACES],
+    octets: &mut [u8; Session::PACKET_OCTETS],
+    messages: &mut [u8; Session::MESSAGE_OCTETS],
     line: &[u8],
     begun: usize,
     out: &mut [u8],
     at: usize,
 ) -> Stepped
-    requires { ⌜ Feedable stepLimit (lent base counts (now t) (now o) (now g)) (now line) begun (now out) at ⌝ }
-    ensures { λ r. ⌜ Ends (goingIn (lent base counts (now (t .entry)) (now (o .entry)) (now (g .entry))) (now (line .entry)) begun
-        (now (out .entry)) at) (now (out .entry)) (lent (r .base) (r .counts) (now (t .exit)) (now (o .exit)) (now (g .exit)))
-        (now (out .exit)) (r .end) ⌝ }
+    requires { ⌜ Feedable stepLimit (lent base counts (now table) (now octets) (now messages)) (now line) begun (now out) at ⌝ }
+    ensures { λ r. ⌜ Ends (goingIn (lent base counts (now (table .entry)) (now (octets .entry)) (now (messages .entry))) (now (line .entry))
+        begun (now (out .entry)) at) (now (out .entry)) (lent (r .base) (r .counts) (now (table .exit)) (now (octets .exit))
+        (now (messages .exit))) (now (out .exit)) (r .end) ⌝ }
 {
     if begun == 0 {
         return Stepped {
@@ -236,5 +255,14 @@ pub fn finish(
             end: at,
         };
     }
-    step(base, counts, t, o, g, &line[..begun], out, at)
+    step(
+        base,
+        counts,
+        table,
+        octets,
+        messages,
+        &line[..begun],
+        out,
+        at,
+    )
 }

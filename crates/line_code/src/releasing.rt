@@ -28,18 +28,27 @@ struct Turn {
 fn release(
     base: u16,
     counts: Counts,
-    t: &mut [u16; Session::PLACES],
-    o: &mut [u8; Session::PACKET_OCTETS],
-    g: &mut [u8; Session::MESSAGE_OCTETS],
+    table: &mut [u16; Session::PLACES],
+    octets: &mut [u8; Session::PACKET_OCTETS],
+    messages: &mut [u8; Session::MESSAGE_OCTETS],
     skip: bool,
     out: &mut [u8],
     at: usize,
 ) -> Turn
-    requires { ⌜ Able resultLimit (lent base counts (now t) (now o) (now g)) (now out) at ⌝ }
-    ensures { λ r. ⌜ ReleasesOne skip (viewIn (lent base counts (now (t .entry)) (now (o .entry)) (now (g .entry)))) (now (out .entry)) at
-        (lent (r .base) (r .counts) (now (t .exit)) (now (o .exit)) (now (g .exit))) (r .end) (r .more) (now (out .exit)) ⌝ }
+    requires { ⌜ Able resultLimit (lent base counts (now table) (now octets) (now messages)) (now out) at ⌝ }
+    ensures { λ r. ⌜ ReleasesOne skip (viewIn (lent base counts (now (table .entry)) (now (octets .entry)) (now (messages .entry))))
+        (now (out .entry)) at (lent (r .base) (r .counts) (now (table .exit)) (now (octets .exit)) (now (messages .exit))) (r .end)
+        (r .more) (now (out .exit)) ⌝ }
 {
-    let done = session_release::leave_core(base, counts, t, o, g, skip, Packet::LIMIT);
+    let done = session_release::leave_core(
+        base,
+        counts,
+        table,
+        octets,
+        messages,
+        skip,
+        Packet::LIMIT,
+    );
     let after = done.base;
     let moved = done.counts;
     let answer = done.answer;
@@ -68,7 +77,7 @@ fn release(
             size,
         } => {
             let octet = kind_octet(kind);
-            let end = put_kept(octet, number, size, o, out, at);
+            let end = put_kept(octet, number, size, octets, out, at);
             Turn {
                 base: after,
                 counts: moved,
@@ -84,17 +93,18 @@ fn release(
 pub fn releases(
     base: u16,
     counts: Counts,
-    t: &mut [u16; Session::PLACES],
-    o: &mut [u8; Session::PACKET_OCTETS],
-    g: &mut [u8; Session::MESSAGE_OCTETS],
+    table: &mut [u16; Session::PLACES],
+    octets: &mut [u8; Session::PACKET_OCTETS],
+    messages: &mut [u8; Session::MESSAGE_OCTETS],
     turns: usize,
     out: &mut [u8],
     at: usize,
 ) -> Stepped
     requires { ⌜ turns ≤ keptAhead + 1 ⌝ }
-    requires { ⌜ Able (turns * resultLimit) (lent base counts (now t) (now o) (now g)) (now out) at ⌝ }
-    ensures { λ r. ⌜ Does (allTurns turns (viewIn (lent base counts (now (t .entry)) (now (o .entry)) (now (g .entry)))))
-        (now (out .entry)) at (lent (r .base) (r .counts) (now (t .exit)) (now (o .exit)) (now (g .exit))) (r .end) (now (out .exit)) ⌝ }
+    requires { ⌜ Able (turns * resultLimit) (lent base counts (now table) (now octets) (now messages)) (now out) at ⌝ }
+    ensures { λ r. ⌜ Does (allTurns turns (viewIn (lent base counts (now (table .entry)) (now (octets .entry)) (now (messages .entry)))))
+        (now (out .entry)) at (lent (r .base) (r .counts) (now (table .exit)) (now (octets .exit)) (now (messages .exit))) (r .end)
+        (now (out .exit)) ⌝ }
 {
     let mut now = base;
     let mut moves = counts;
@@ -103,7 +113,7 @@ pub fn releases(
     while left > 0 {
         let skip = Session::HEARD < left;
         let slot = session_held::kept_slot(now);
-        let known = session_held::is_known(t, slot);
+        let known = session_held::is_known(table, slot);
         let stops = !known & !skip;
         if stops {
             return Stepped {
@@ -112,7 +122,7 @@ pub fn releases(
                 end,
             };
         }
-        let turn = release(now, moves, t, o, g, skip, out, end);
+        let turn = release(now, moves, table, octets, messages, skip, out, end);
         now = turn.base;
         let moved = turn.counts;
         moves = moved;

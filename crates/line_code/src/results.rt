@@ -50,17 +50,24 @@ fn put_result(kind: u8, number: u16, octets: &[u8], out: &mut [u8], at: usize) -
 }
 
 // The result line of a number that left; its packet of this size is read from its slot.
-pub fn put_kept(kind: u8, number: u16, size: usize, o: &[u8], out: &mut [u8], at: usize) -> usize
-    requires { ⌜ HasSlot (number % slotsKept) (now o) ⌝ }
+pub fn put_kept(
+    kind: u8,
+    number: u16,
+    size: usize,
+    octets: &[u8],
+    out: &mut [u8],
+    at: usize,
+) -> usize
+    requires { ⌜ HasSlot (number % slotsKept) (now octets) ⌝ }
     requires { ⌜ size ≤ packetLimit ⌝ }
     requires { ⌜ at + (7 + 2 * size) ≤ length (now out) ⌝ }
-    ensures { λ r. ⌜ Appends (resultLine kind number (part (now (o .entry)) (number % slotsKept) size)) (now (out .entry)) at
+    ensures { λ r. ⌜ Appends (resultLine kind number (part (now (octets .entry)) (number % slotsKept) size)) (now (out .entry)) at
         (now (out .exit)) r ⌝ }
 {
     let slot = session_held::kept_slot(number);
     let from = slot * Packet::LIMIT;
     let to = from + size;
-    put_result(kind, number, &o[from..to], out, at)
+    put_result(kind, number, &octets[from..to], out, at)
 }
 
 pub fn put_refusal(why: Refusal, out: &mut [u8], at: usize) -> usize

@@ -24,21 +24,21 @@ ghost use Rattle.line_code.specs.Turns.{ownAnswer, turnsAfter};
 fn offer_octets(
     base: u16,
     counts: Counts,
-    t: &mut [u16; Session::PLACES],
-    o: &mut [u8; Session::PACKET_OCTETS],
-    g: &mut [u8; Session::MESSAGE_OCTETS],
-    octets: &[u8],
+    table: &mut [u16; Session::PLACES],
+    octets: &mut [u8; Session::PACKET_OCTETS],
+    messages: &mut [u8; Session::MESSAGE_OCTETS],
+    datagram: &[u8],
     out: &mut [u8],
     at: usize,
 ) -> usize
-    requires { ⌜ InRanges (lent base counts (now t) (now o) (now g)) ⌝ }
+    requires { ⌜ InRanges (lent base counts (now table) (now octets) (now messages)) ⌝ }
     requires { ⌜ at + resultLimit ≤ length (now out) ⌝ }
-    ensures { λ r. ⌜ Does (offerMade (offer (now (octets .entry))
-        (viewIn (lent base counts (now (t .entry)) (now (o .entry)) (now (g .entry)))))
-        (viewIn (lent base counts (now (t .entry)) (now (o .entry)) (now (g .entry))))) (now (out .entry)) at
-        (lent base counts (now (t .exit)) (now (o .exit)) (now (g .exit))) r (now (out .exit)) ⌝ }
+    ensures { λ r. ⌜ Does (offerMade (offer (now (datagram .entry))
+        (viewIn (lent base counts (now (table .entry)) (now (octets .entry)) (now (messages .entry)))))
+        (viewIn (lent base counts (now (table .entry)) (now (octets .entry)) (now (messages .entry))))) (now (out .entry)) at
+        (lent base counts (now (table .exit)) (now (octets .exit)) (now (messages .exit))) r (now (out .exit)) ⌝ }
 {
-    let answer = session_offer::offer_core(base, counts, t, o, g, octets);
+    let answer = session_offer::offer_core(base, counts, table, octets, messages, datagram);
     match answer {
         Offered::Accepted => at,
         Offered::Refused(why) => put_refusal(why, out, at),
@@ -49,21 +49,31 @@ fn offer_octets(
 fn offer_line(
     base: u16,
     counts: Counts,
-    t: &mut [u16; Session::PLACES],
-    o: &mut [u8; Session::PACKET_OCTETS],
-    g: &mut [u8; Session::MESSAGE_OCTETS],
+    table: &mut [u16; Session::PLACES],
+    octets: &mut [u8; Session::PACKET_OCTETS],
+    messages: &mut [u8; Session::MESSAGE_OCTETS],
     line: &[u8],
     out: &mut [u8],
     at: usize,
 ) -> usize
-    requires { ⌜ Able resultLimit (lent base counts (now t) (now o) (now g)) (now out) at ⌝ }
-    ensures { λ r. ⌜ Does (offerLine (now (line .entry)) (viewIn (lent base counts (now (t .entry)) (now (o .entry)) (now (g .entry)))))
-        (now (out .entry)) at (lent base counts (now (t .exit)) (now (o .exit)) (now (g .exit))) r (now (out .exit)) ⌝ }
+    requires { ⌜ Able resultLimit (lent base counts (now table) (now octets) (now messages)) (now out) at ⌝ }
+    ensures { λ r. ⌜ Does (offerLine (now (line .entry)) (viewIn (lent base counts (now (table .entry)) (now (octets .entry))
+        (now (messages .entry))))) (now (out .entry)) at (lent base counts (now (table .exit)) (now (octets .exit)) (now (messages .exit)))
+        r (now (out .exit)) ⌝ }
 {
     let mut work = [0u8; Datagram::LIMIT];
     let read = hex_to_octets(line, &mut work);
     match read {
-        Written::Octets(size) => offer_octets(base, counts, t, o, g, &work[..size], out, at),
+        Written::Octets(size) => offer_octets(
+            base,
+            counts,
+            table,
+            octets,
+            messages,
+            &work[..size],
+            out,
+            at,
+        ),
         Written::Refused(why) => put_refusal(why, out, at),
     }
 }
@@ -72,21 +82,22 @@ fn offer_line(
 fn own_answer(
     base: u16,
     counts: Counts,
-    t: &mut [u16; Session::PLACES],
-    o: &mut [u8; Session::PACKET_OCTETS],
-    g: &mut [u8; Session::MESSAGE_OCTETS],
+    table: &mut [u16; Session::PLACES],
+    octets: &mut [u8; Session::PACKET_OCTETS],
+    messages: &mut [u8; Session::MESSAGE_OCTETS],
     line: &[u8],
     out: &mut [u8],
     at: usize,
 ) -> usize
-    requires { ⌜ Able resultLimit (lent base counts (now t) (now o) (now g)) (now out) at ⌝ }
-    ensures { λ r. ⌜ Does (ownAnswer (now (line .entry)) (viewIn (lent base counts (now (t .entry)) (now (o .entry)) (now (g .entry)))))
-        (now (out .entry)) at (lent base counts (now (t .exit)) (now (o .exit)) (now (g .exit))) r (now (out .exit)) ⌝ }
+    requires { ⌜ Able resultLimit (lent base counts (now table) (now octets) (now messages)) (now out) at ⌝ }
+    ensures { λ r. ⌜ Does (ownAnswer (now (line .entry)) (viewIn (lent base counts (now (table .entry)) (now (octets .entry))
+        (now (messages .entry))))) (now (out .entry)) at (lent base counts (now (table .exit)) (now (octets .exit)) (now (messages .exit)))
+        r (now (out .exit)) ⌝ }
 {
     if line.len() == 0 {
         return at;
     }
-    offer_line(base, counts, t, o, g, line, out, at)
+    offer_line(base, counts, table, octets, messages, line, out, at)
 }
 
 // How many turns of releasing follow a line.
@@ -103,18 +114,19 @@ fn turns_after(line: &[u8]) -> usize
 pub fn step(
     base: u16,
     counts: Counts,
-    t: &mut [u16; Session::PLACES],
-    o: &mut [u8; Session::PACKET_OCTETS],
-    g: &mut [u8; Session::MESSAGE_OCTETS],
+    table: &mut [u16; Session::PLACES],
+    octets: &mut [u8; Session::PACKET_OCTETS],
+    messages: &mut [u8; Session::MESSAGE_OCTETS],
     line: &[u8],
     out: &mut [u8],
     at: usize,
 ) -> Stepped
-    requires { ⌜ Able stepLimit (lent base counts (now t) (now o) (now g)) (now out) at ⌝ }
-    ensures { λ r. ⌜ Does (wholeStep (now (line .entry)) (viewIn (lent base counts (now (t .entry)) (now (o .entry)) (now (g .entry)))))
-        (now (out .entry)) at (lent (r .base) (r .counts) (now (t .exit)) (now (o .exit)) (now (g .exit))) (r .end) (now (out .exit)) ⌝ }
+    requires { ⌜ Able stepLimit (lent base counts (now table) (now octets) (now messages)) (now out) at ⌝ }
+    ensures { λ r. ⌜ Does (wholeStep (now (line .entry)) (viewIn (lent base counts (now (table .entry)) (now (octets .entry))
+        (now (messages .entry))))) (now (out .entry)) at (lent (r .base) (r .counts) (now (table .exit)) (now (octets .exit))
+        (now (messages .exit))) (r .end) (now (out .exit)) ⌝ }
 {
-    let end = own_answer(base, counts, t, o, g, line, out, at);
+    let end = own_answer(base, counts, table, octets, messages, line, out, at);
     let turns = turns_after(line);
-    releases(base, counts, t, o, g, turns, out, end)
+    releases(base, counts, table, octets, messages, turns, out, end)
 }

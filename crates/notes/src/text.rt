@@ -10,14 +10,14 @@ pub fn say_number(n: usize) {
 }
 
 // `size` octets from a place on, or none if there are fewer.
-pub fn part(s: &[u8], start: usize, size: usize) -> &[u8] {
-    if start <= s.len() {
-        if size <= s.len() - start {
+pub fn part(octets: &[u8], start: usize, size: usize) -> &[u8] {
+    if start <= octets.len() {
+        if size <= octets.len() - start {
             let end = start + size;
-            return &s[start..end];
+            return &octets[start..end];
         }
     }
-    &s[..0]
+    &octets[..0]
 }
 
 // Whether a refusal of an offer is met in reading order and so has a place: all up to 6 but 2 (rule 19.8).

@@ -8,18 +8,18 @@ use Rattle.octets.specs.Place.{tab}
 
 -- the n octets from a place on, as a number
 unfoldable pub wordOf : ℕ → List ℕ → ℕ → ℕ
-wordOf zero s at = 0
-wordOf (suc n) s at = getD s at 0 + 256 * wordOf n s (suc at)
+wordOf zero octets at = 0
+wordOf (suc n) octets at = getD octets at 0 + 256 * wordOf n octets (suc at)
 
 -- the n octets from a place on are octets
 abbrev pub OctetsAt : ℕ → List ℕ → ℕ → Type 0
-OctetsAt n s at = (j : ℕ) → at ≤ j → j < at + n → getD s j 0 < 256
+OctetsAt n octets at = (j : ℕ) → at ≤ j → j < at + n → getD octets j 0 < 256
 
 -- r is the number that the n octets from a place on make
-pub record Reads (n : ℕ) (s : List ℕ) (at r : ℕ) : Type 0 where
-  pub number : r ≡ wordOf n s at
+pub record Reads (n : ℕ) (input : List ℕ) (at r : ℕ) : Type 0 where
+  pub number : r ≡ wordOf n input at
   pub below : r < 256 ^ n
-  pub octets : OctetsAt n s at
+  pub octets : OctetsAt n input at
 
 -- the number w is written as n octets from a place on, and all other octets are unchanged
 pub record Spells (n w : ℕ) (old : List ℕ) (at : ℕ) (new : List ℕ) : Type 0 where

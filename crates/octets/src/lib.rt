@@ -15,75 +15,75 @@ pub fn wide(n: u16) -> usize
 
 // ---- one octet, two, four or eight from a place on, as one number: the first is the lowest
 
-fn one(s: &[u8], at: usize) -> u64
-    requires { ⌜ at + 1 ≤ length (now s) ⌝ }
-    ensures { λ r. ⌜ Reads 1 (now (s .entry)) at r ⌝ }
+fn one(octets: &[u8], at: usize) -> u64
+    requires { ⌜ at + 1 ≤ length (now octets) ⌝ }
+    ensures { λ r. ⌜ Reads 1 (now (octets .entry)) at r ⌝ }
 {
-    let octet = s[at];
+    let octet = octets[at];
     octet as u64
 }
 
-fn two(s: &[u8], at: usize) -> u64
-    requires { ⌜ at + 2 ≤ length (now s) ⌝ }
-    ensures { λ r. ⌜ Reads 2 (now (s .entry)) at r ⌝ }
+fn two(octets: &[u8], at: usize) -> u64
+    requires { ⌜ at + 2 ≤ length (now octets) ⌝ }
+    ensures { λ r. ⌜ Reads 2 (now (octets .entry)) at r ⌝ }
 {
-    let low = one(s, at);
-    let high = one(s, at + 1);
+    let low = one(octets, at);
+    let high = one(octets, at + 1);
     high * 256 + low
 }
 
-fn four(s: &[u8], at: usize) -> u64
-    requires { ⌜ at + 4 ≤ length (now s) ⌝ }
-    ensures { λ r. ⌜ Reads 4 (now (s .entry)) at r ⌝ }
+fn four(octets: &[u8], at: usize) -> u64
+    requires { ⌜ at + 4 ≤ length (now octets) ⌝ }
+    ensures { λ r. ⌜ Reads 4 (now (octets .entry)) at r ⌝ }
 {
-    let low = two(s, at);
-    let high = two(s, at + 2);
+    let low = two(octets, at);
+    let high = two(octets, at + 2);
     high * 65536 + low
 }
 
-fn eight(s: &[u8], at: usize) -> u64
-    requires { ⌜ at + 8 ≤ length (now s) ⌝ }
-    ensures { λ r. ⌜ Reads 8 (now (s .entry)) at r ⌝ }
+fn eight(octets: &[u8], at: usize) -> u64
+    requires { ⌜ at + 8 ≤ length (now octets) ⌝ }
+    ensures { λ r. ⌜ Reads 8 (now (octets .entry)) at r ⌝ }
 {
-    let low = four(s, at);
-    let high = four(s, at + 4);
+    let low = four(octets, at);
+    let high = four(octets, at + 4);
     high * 4294967296 + low
 }
 
 // ---- a number, written as one octet, two, four or eight from a place on
 
-fn put_one(s: &mut [u8], at: usize, w: u64)
-    requires { ⌜ at + 1 ≤ length (now s) ⌝ }
+fn put_one(octets: &mut [u8], at: usize, w: u64)
+    requires { ⌜ at + 1 ≤ length (now octets) ⌝ }
     requires { ⌜ w < 256 ⌝ }
-    ensures { λ _. ⌜ Spells 1 w (now (s .entry)) at (now (s .exit)) ⌝ }
+    ensures { λ _. ⌜ Spells 1 w (now (octets .entry)) at (now (octets .exit)) ⌝ }
 {
-    s[at] = w as u8;
+    octets[at] = w as u8;
 }
 
-fn put_two(s: &mut [u8], at: usize, w: u64)
-    requires { ⌜ at + 2 ≤ length (now s) ⌝ }
+fn put_two(octets: &mut [u8], at: usize, w: u64)
+    requires { ⌜ at + 2 ≤ length (now octets) ⌝ }
     requires { ⌜ w < 65536 ⌝ }
-    ensures { λ _. ⌜ Spells 2 w (now (s .entry)) at (now (s .exit)) ⌝ }
+    ensures { λ _. ⌜ Spells 2 w (now (octets .entry)) at (now (octets .exit)) ⌝ }
 {
-    put_one(s, at, w % 256);
-    put_one(s, at + 1, w / 256);
+    put_one(octets, at, w % 256);
+    put_one(octets, at + 1, w / 256);
 }
 
-fn put_four(s: &mut [u8], at: usize, w: u64)
-    requires { ⌜ at + 4 ≤ length (now s) ⌝ }
+fn put_four(octets: &mut [u8], at: usize, w: u64)
+    requires { ⌜ at + 4 ≤ length (now octets) ⌝ }
     requires { ⌜ w < 4294967296 ⌝ }
-    ensures { λ _. ⌜ Spells 4 w (now (s .entry)) at (now (s .exit)) ⌝ }
+    ensures { λ _. ⌜ Spells 4 w (now (octets .entry)) at (now (octets .exit)) ⌝ }
 {
-    put_two(s, at, w % 65536);
-    put_two(s, at + 2, w / 65536);
+    put_two(octets, at, w % 65536);
+    put_two(octets, at + 2, w / 65536);
 }
 
-fn put_eight(s: &mut [u8], at: usize, w: u64)
-    requires { ⌜ at + 8 ≤ length (now s) ⌝ }
-    ensures { λ _. ⌜ Spells 8 w (now (s .entry)) at (now (s .exit)) ⌝ }
+fn put_eight(octets: &mut [u8], at: usize, w: u64)
+    requires { ⌜ at + 8 ≤ length (now octets) ⌝ }
+    ensures { λ _. ⌜ Spells 8 w (now (octets .entry)) at (now (octets .exit)) ⌝ }
 {
-    put_four(s, at, w % 4294967296);
-    put_four(s, at + 4, w / 4294967296);
+    put_four(octets, at, w % 4294967296);
+    put_four(octets, at + 4, w / 4294967296);
 }
 
 // ---- the exclusive or

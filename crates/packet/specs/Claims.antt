@@ -19,15 +19,16 @@ use Rattle.packet.specs.declared.types.Ending.the-variants.{Whole, Repai
 use Rattle.packet.specs.declared.types.PacketRead.{PacketRead}
 
 -- some octets, read in this edition and with this ending, are a packet of this kind and value, with fields of these types, lengths and data
-pub record PacketReadsAs (edition : Edition) (ending : Ending) (s : List ℕ) (kind : PacketKind) (value : ℕ) (types lengths octets : List ℕ)
+pub record PacketReadsAs (edition : Edition) (ending : Ending) (input : List ℕ) (kind : PacketKind) (value : ℕ)
+    (types lengths octets : List ℕ)
     : Type 0 where
   pub packet : PacketAnswer
-  pub reads : readPacket edition ending s ≡ done packet
+  pub reads : readPacket edition ending input ≡ done packet
   pub kindSame : packet .kind ≡ kind
   pub valueSame : packet .value ≡ value
   pub typesSame : map (λ f. f .kind) (packet .fields) ≡ types
   pub lengthsSame : map (λ f. f .size) (packet .fields) ≡ lengths
-  pub octetsSame : allData s (packet .fields) ≡ octets
+  pub octetsSame : allData input (packet .fields) ≡ octets
 
 -- what is written reads back, as received (rule 6.24)
 abbrev pub WrittenReads : Type 0
@@ -46,41 +47,41 @@ RepairedReads = (edition : Edition) → SoundEdition edition
 
 -- what reads as received writes back to the same octets (rule 6.25)
 abbrev pub ReadWrites : Type 0
-ReadWrites = (edition : Edition) (s : List ℕ) (p : PacketAnswer)
-    → Octets s
-    → readPacket edition Whole s ≡ done p
+ReadWrites = (edition : Edition) (octets : List ℕ) (p : PacketAnswer)
+    → Octets octets
+    → readPacket edition Whole octets ≡ done p
     → packetToWrite edition (p .kind) (p .value) (map (λ f. f .kind) (p .fields)) (map (λ f. f .size) (p .fields))
-    (allData s (p .fields))
-    ≡ done s
+    (allData octets (p .fields))
+    ≡ done octets
 
 -- the parts of a packet that reads lie within its octets (rule 6.27)
 abbrev pub PartsWithin : Type 0
-PartsWithin = (edition : Edition) (ending : Ending) (s : List ℕ) (p : PacketAnswer)
-    → readPacket edition ending s ≡ done p
+PartsWithin = (edition : Edition) (ending : Ending) (octets : List ℕ) (p : PacketAnswer)
+    → readPacket edition ending octets ≡ done p
     → (i : ℕ)
-    → getD (p .fields) i noField .start + getD (p .fields) i noField .size ≤ length s
+    → getD (p .fields) i noField .start + getD (p .fields) i noField .size ≤ length octets
 
 -- a repaired packet reads the same with any more zeros behind it that the packet limit leaves room for (rule 6.12)
 abbrev pub ZerosFollow : Type 0
-ZerosFollow = (edition : Edition) (s : List ℕ) (p : PacketAnswer) (n : ℕ)
-    → readPacket edition Repaired s ≡ done p
-    → length s + n ≤ packetLimit
-    → readPacket edition Repaired (s ++ replicate n 0) ≡ done p
+ZerosFollow = (edition : Edition) (octets : List ℕ) (p : PacketAnswer) (n : ℕ)
+    → readPacket edition Repaired octets ≡ done p
+    → length octets + n ≤ packetLimit
+    → readPacket edition Repaired (octets ++ replicate n 0) ≡ done p
 
 -- so what it reads as does not depend on how many zeros follow (rules 6.12 and 27.1)
 abbrev pub ZerosAlike : Type 0
-ZerosAlike = (edition : Edition) (s : List ℕ) (p q : PacketAnswer) (n m : ℕ)
-    → readPacket edition Repaired (s ++ replicate n 0) ≡ done p
-    → readPacket edition Repaired (s ++ replicate m 0) ≡ done q
+ZerosAlike = (edition : Edition) (octets : List ℕ) (p q : PacketAnswer) (n m : ℕ)
+    → readPacket edition Repaired (octets ++ replicate n 0) ≡ done p
+    → readPacket edition Repaired (octets ++ replicate m 0) ≡ done q
     → p ≡ q
 
 -- a packet without fields and without an added value reads alike in both editions (rule 7.13). With fields it need not: a header has four
 -- bits in the old edition and five in the new, so the same octets may mean something else (`old-type` and `new-type` of `NewCases`)
 abbrev pub PlainAlike : Type 0
-PlainAlike = (ending : Ending) (s : List ℕ) (p : PacketAnswer)
+PlainAlike = (ending : Ending) (octets : List ℕ) (p : PacketAnswer)
     → p .fields ≡ []
     → p .value < manyValues edition98 (p .kind)
-    → (readPacket edition98 ending s ≡ done p) ↔ (readPacket edition02 ending s ≡ done p)
+    → (readPacket edition98 ending octets ≡ done p) ↔ (readPacket edition02 ending octets ≡ done p)
 
 -- two outcomes that a promise allows are equal (rule 28.14)
 pub record OneOutcome : Type 0 where

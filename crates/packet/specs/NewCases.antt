@@ -15,7 +15,7 @@ use Rattle.packet.specs.declared.types.Ending.the-variants.{Whole}
 
 -- as received
 abbrev pub readNew : List ℕ → Answer PacketAnswer
-readNew s = readPacket edition02 Whole s
+readNew octets = readPacket edition02 Whole octets
 
 abbrev pub writeNew : PacketKind → ℕ → List ℕ → List ℕ → List ℕ → Answer (List ℕ)
 writeNew kind value types lengths octets = packetToWrite edition02 kind value types lengths octets

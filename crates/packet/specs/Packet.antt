@@ -194,10 +194,10 @@ packet edition =
 -- whether a test holds of every element of a list
 unfoldable pub every : (ℕ → Bool) → List ℕ → Bool
 every test [] = true
-every test (x ∷ s) = test x && every test s
+every test (x ∷ rest) = test x && every test rest
 
 abbrev pub allZero : List ℕ → Bool
-allZero s = every (λ x. eqb x 0) s
+allZero octets = every (λ x. eqb x 0) octets
 
 -- what may follow the end: nothing in a received or spare packet (rule 6.11), zeros only in a repaired one (rule 6.12)
 abbrev pub mayFollow : Ending → List ℕ → Bool
@@ -208,7 +208,7 @@ mayFollow Repaired rest = allZero rest
 unfoldable pub wholePacket : Edition → Ending → Reader IfpPacket
 wholePacket edition ending = do
   p ← packet edition .read
-  _ ← reading.item (λ s i at. check leftOver (mayFollow ending (drop (at / 8) s)) s i at)
+  _ ← reading.item (λ octets i at. check leftOver (mayFollow ending (drop (at / 8) octets)) octets i at)
   give p
 
 pub record PacketAnswer : Type 0 where
@@ -225,7 +225,8 @@ answerOf (stopped r) = refused r
 
 -- over the packet limit 4, then reading order (rule 6.13)
 unfoldable pub readPacket : Edition → Ending → List ℕ → Answer PacketAnswer
-readPacket edition ending s = cond (ltb packetLimit (length s)) (refuse outsideSizes) (answerOf (wholePacket edition ending s 0 0))
+readPacket edition ending octets =
+    cond (ltb packetLimit (length octets)) (refuse outsideSizes) (answerOf (wholePacket edition ending octets 0 0))
 
 -- ---- a field's data, as a part of the packet's octets
 -- no field, in the places that a packet's fields leave unused (rule 6.27)
@@ -233,9 +234,9 @@ abbrev pub noField : Field
 noField = record { kind = 0; start = 0; size = 0 }
 
 abbrev pub dataOf : List ℕ → Field → List ℕ
-dataOf s field = take (field .size) (drop (field .start) s)
+dataOf octets field = take (field .size) (drop (field .start) octets)
 
 -- the data of some fields, one after the other
 unfoldable pub allData : List ℕ → List Field → List ℕ
-allData s [] = []
-allData s (field ∷ fields) = dataOf s field ++ allData s fields
+allData octets [] = []
+allData octets (field ∷ fields) = dataOf octets field ++ allData octets fields

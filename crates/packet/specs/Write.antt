@@ -36,10 +36,10 @@ packetOctets edition kind value types lengths octets =
 -- the sum of a measure over all elements; nothing wraps (rule 2.34)
 unfoldable pub total : (ℕ → ℕ) → List ℕ → ℕ
 total measure [] = 0
-total measure (x ∷ s) = measure x + total measure s
+total measure (x ∷ rest) = measure x + total measure rest
 
 abbrev pub lengthsSum : List ℕ → ℕ
-lengthsSum s = total (λ x. x) s
+lengthsSum lengths = total (λ x. x) lengths
 
 -- not 15: one length for each field type, and the lengths sum to the data (rules 2.15 and 6.20)
 unfoldable pub oneEach : List ℕ → List ℕ → List ℕ → Bool

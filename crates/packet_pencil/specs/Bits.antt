@@ -37,22 +37,22 @@ Past n p (number.Found v q) = q ≡ p + n
 Past n p (number.Refused r) = Unit {0}
 
 -- a bit inside the item that begins at the octet i
-pub record BitTaken (s : List ℕ) (i : ℕ) (p : Place) (r : Number) : Type 0 where
-  pub answer : reading.bit s i p ≡ numberFound r
+pub record BitTaken (octets : List ℕ) (i : ℕ) (p : Place) (r : Number) : Type 0 where
+  pub answer : reading.bit octets i p ≡ numberFound r
   pub past : Past 1 p r
 
-pub record BitsTaken (n : ℕ) (s : List ℕ) (i : ℕ) (p : Place) (r : Number) : Type 0 where
-  pub answer : reading.bits n s i p ≡ numberFound r
+pub record BitsTaken (n : ℕ) (octets : List ℕ) (i : ℕ) (p : Place) (r : Number) : Type 0 where
+  pub answer : reading.bits n octets i p ≡ numberFound r
   pub past : Past n p r
 
-pub record FlagTaken (s : List ℕ) (i : ℕ) (p : Place) (r : Marked) : Type 0 where
-  pub answer : reading.flag s i p ≡ flagFound r
+pub record FlagTaken (octets : List ℕ) (i : ℕ) (p : Place) (r : Marked) : Type 0 where
+  pub answer : reading.flag octets i p ≡ flagFound r
 
 abbrev pub OnEdge : Edge → Type 0
 OnEdge (edge.Found q) = q % 8 ≡ 0
 OnEdge (edge.Refused r) = Unit {0}
 
 -- padding is an item of its own, inside any item (rule 5.5)
-pub record EdgeTaken (s : List ℕ) (p : Place) (r : Edge) : Type 0 where
-  pub answer : (i : ℕ) → reading.align s i p ≡ edgeFound r
+pub record EdgeTaken (octets : List ℕ) (p : Place) (r : Edge) : Type 0 where
+  pub answer : (i : ℕ) → reading.align octets i p ≡ edgeFound r
   pub on : OnEdge r

@@ -25,8 +25,8 @@ headerFound (header.Found k b p) = found (record { type = k; present = b }) p
 headerFound (header.Refused r) = stopped r
 
 -- the item begins with the header, in the octet of its first bit (rule 5.7)
-pub record HeaderTaken (named : Named) (s : List ℕ) (p : Place) (r : HeaderRead) : Type 0 where
-  pub answer : description.header (editionOf named) .read s (p / 8) p ≡ headerFound r
+pub record HeaderTaken (named : Named) (octets : List ℕ) (p : Place) (r : HeaderRead) : Type 0 where
+  pub answer : description.header (editionOf named) .read octets (p / 8) p ≡ headerFound r
 
 -- a field, by where its data begins and how long it is
 abbrev pub oneFound : One → Finding Field
@@ -34,22 +34,22 @@ oneFound (one.Found f p) = found f p
 oneFound (one.Refused r) = stopped r
 
 abbrev pub fieldFound : Named → List ℕ → ℕ → Place → Finding Field
-fieldFound named s i p = foundAs fieldOf (description.field (editionOf named) .read s i p)
+fieldFound named octets i p = foundAs fieldOf (description.field (editionOf named) .read octets i p)
 
-pub record FieldTaken (named : Named) (s : List ℕ) (p : Place) (r : One) : Type 0 where
-  pub answer : (i : ℕ) → fieldFound named s i p ≡ oneFound r
+pub record FieldTaken (named : Named) (octets : List ℕ) (p : Place) (r : One) : Type 0 where
+  pub answer : (i : ℕ) → fieldFound named octets i p ≡ oneFound r
 
 -- n fields, one after the other
 abbrev pub fieldsFound : Named → ℕ → List ℕ → ℕ → Place → Finding (List Field)
-fieldsFound named n s i p = foundAs (map fieldOf) (reading.sequenceOf n (description.field (editionOf named) .read) s i p)
+fieldsFound named n octets i p = foundAs (map fieldOf) (reading.sequenceOf n (description.field (editionOf named) .read) octets i p)
 
 -- the fields that were found are in the first places, in order; those of a refused packet are all zero (rule 6.27)
 abbrev pub fieldsTaken : Finding (List Field) → Fields
 fieldsTaken (found fields p) = record { all = all.Found (length fields) p; fields = paddedFields fields }
 fieldsTaken (stopped r) = record { all = all.Refused r; fields = paddedFields [] }
 
-pub record SequenceTaken (named : Named) (n : ℕ) (s : List ℕ) (p : Place) (r : Fields) : Type 0 where
-  pub answer : (i : ℕ) → r ≡ fieldsTaken (fieldsFound named n s i p)
+pub record SequenceTaken (named : Named) (n : ℕ) (octets : List ℕ) (p : Place) (r : Fields) : Type 0 where
+  pub answer : (i : ℕ) → r ≡ fieldsTaken (fieldsFound named n octets i p)
 
-pub record FieldsTaken (named : Named) (s : List ℕ) (p : Place) (r : Fields) : Type 0 where
-  pub answer : (i : ℕ) → r ≡ fieldsTaken (foundAs (map fieldOf) (description.dataField (editionOf named) .read s i p))
+pub record FieldsTaken (named : Named) (octets : List ℕ) (p : Place) (r : Fields) : Type 0 where
+  pub answer : (i : ℕ) → r ≡ fieldsTaken (foundAs (map fieldOf) (description.dataField (editionOf named) .read octets i p))

@@ -25,8 +25,8 @@ Below limit (number.Found v p) = v < limit
 Below limit (number.Refused r) = Unit {0}
 
 -- a value before the extension mark (rule 6.3)
-pub record RootTaken (e : Enumerated) (s : List ℕ) (i : ℕ) (p : Place) (r : Number) : Type 0 where
-  pub answer : description.root e .read s i p ≡ numberFound r
+pub record RootTaken (e : Enumerated) (octets : List ℕ) (i : ℕ) (p : Place) (r : Number) : Type 0 where
+  pub answer : description.root e .read octets i p ≡ numberFound r
   pub small : Below (many e) r
 
 -- which of the added values, in their six bits (rules 7.5 and 7.8)
@@ -34,28 +34,28 @@ abbrev pub six : Enumerated → Format ℕ
 six e = guarded notAssigned (λ v. ltb v (e .added)) (bits addedWidth)
 
 -- an added value, from its six bits on
-pub record AddedTaken (e : Enumerated) (s : List ℕ) (i : ℕ) (p : Place) (r : Number) : Type 0 where
-  pub answer : foundAs (λ v. e .assigned + v) (six e .read s i p) ≡ numberFound r
+pub record AddedTaken (e : Enumerated) (octets : List ℕ) (i : ℕ) (p : Place) (r : Number) : Type 0 where
+  pub answer : foundAs (λ v. e .assigned + v) (six e .read octets i p) ≡ numberFound r
   pub small : Below (many e) r
 
 -- and from behind the bit for extension (rules 7.6 and 7.7)
-pub record AdditionTaken (e : Enumerated) (s : List ℕ) (i : ℕ) (p : Place) (r : Number) : Type 0 where
-  pub answer : description.addition e .read s i p ≡ numberFound r
+pub record AdditionTaken (e : Enumerated) (octets : List ℕ) (i : ℕ) (p : Place) (r : Number) : Type 0 where
+  pub answer : description.addition e .read octets i p ≡ numberFound r
   pub small : Below (many e) r
 
 -- an assigned value
-pub record ValueTaken (e : Enumerated) (s : List ℕ) (i : ℕ) (p : Place) (r : Number) : Type 0 where
-  pub answer : description.enumerated e .read s i p ≡ numberFound r
+pub record ValueTaken (e : Enumerated) (octets : List ℕ) (i : ℕ) (p : Place) (r : Number) : Type 0 where
+  pub answer : description.enumerated e .read octets i p ≡ numberFound r
   pub small : Below (many e) r
 
 -- the octet at a place, or the end where the place is past it: the octets from there on are the same
-pub record OctetTaken (s : List ℕ) (p : Place) (r : ℕ) : Type 0 where
-  pub inside : r ≤ length s
-  pub rest : drop r s ≡ drop (p / 8) s
+pub record OctetTaken (octets : List ℕ) (p : Place) (r : ℕ) : Type 0 where
+  pub inside : r ≤ length octets
+  pub rest : drop r octets ≡ drop (p / 8) octets
 
 -- a count of fields, at most as many as a packet may have (rule 6.4)
-pub record CountTaken (s : List ℕ) (p : Place) (r : Number) : Type 0 where
-  pub answer : (i : ℕ) → description.count .read s i p ≡ numberFound r
+pub record CountTaken (octets : List ℕ) (p : Place) (r : Number) : Type 0 where
+  pub answer : (i : ℕ) → description.count .read octets i p ≡ numberFound r
   pub small : Below (1 + fieldsLimit) r
 
 -- a length that was found is 1 or more, is within the packet limit, and ends at an octet edge (rules 6.8 and 6.9)
@@ -68,8 +68,8 @@ abbrev pub RightLength : Number → Type 0
 RightLength (number.Found n q) = DataLength n q
 RightLength (number.Refused r) = Unit {0}
 
-pub record SizeTaken (s : List ℕ) (p : Place) (r : Number) : Type 0 where
-  pub answer : (i : ℕ) → description.size .read s i p ≡ numberFound r
+pub record SizeTaken (octets : List ℕ) (p : Place) (r : Number) : Type 0 where
+  pub answer : (i : ℕ) → description.size .read octets i p ≡ numberFound r
   pub sized : RightLength r
 
 -- data, by where it begins and how long it is
@@ -80,5 +80,5 @@ abbrev pub partFound : Part → Finding (ℕ × ℕ)
 partFound (part.Found start size p) = found (start, size) p
 partFound (part.Refused r) = stopped r
 
-pub record PartTaken (s : List ℕ) (p : Place) (r : Part) : Type 0 where
-  pub answer : (i : ℕ) → foundAs partOf (description.fieldData .read s i p) ≡ partFound r
+pub record PartTaken (octets : List ℕ) (p : Place) (r : Part) : Type 0 where
+  pub answer : (i : ℕ) → foundAs partOf (description.fieldData .read octets i p) ≡ partFound r

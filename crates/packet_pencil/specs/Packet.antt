@@ -25,17 +25,17 @@ firstFound (first.Refused r) = stopped r
 abbrev pub firstWith : Bool → Bool → ℕ → First
 firstWith present isData v = record { kind = chosen isData; value = v; present = present }
 
-pub record ChosenTaken (named : Named) (present isData : Bool) (s : List ℕ) (i : ℕ) (p : Place) (r : declared.First) : Type 0 where
-  pub answer : foundAs (firstWith present isData) (description.enumerated (values (editionOf named) (chosen isData)) .read s i p)
+pub record ChosenTaken (named : Named) (present isData : Bool) (octets : List ℕ) (i : ℕ) (p : Place) (r : declared.First) : Type 0 where
+  pub answer : foundAs (firstWith present isData) (description.enumerated (values (editionOf named) (chosen isData)) .read octets i p)
       ≡ firstFound r
 
-pub record TypeTaken (named : Named) (s : List ℕ) (i : ℕ) (p : Place) (r : declared.First) : Type 0 where
-  pub answer : description.typeOfMsg (editionOf named) .read s i p ≡ firstFound r
+pub record TypeTaken (named : Named) (octets : List ℕ) (i : ℕ) (p : Place) (r : declared.First) : Type 0 where
+  pub answer : description.typeOfMsg (editionOf named) .read octets i p ≡ firstFound r
 
-pub record StartTaken (named : Named) (s : List ℕ) (p : Place) (r : declared.First) : Type 0 where
-  pub answer : (i : ℕ) → description.start (editionOf named) .read s i p ≡ firstFound r
+pub record StartTaken (named : Named) (octets : List ℕ) (p : Place) (r : declared.First) : Type 0 where
+  pub answer : (i : ℕ) → description.start (editionOf named) .read octets i p ≡ firstFound r
 
 -- the data field, if there is one (rule 6.4)
-pub record AfterTaken (named : Named) (present : Bool) (s : List ℕ) (p : Place) (r : Fields) : Type 0 where
+pub record AfterTaken (named : Named) (present : Bool) (octets : List ℕ) (p : Place) (r : Fields) : Type 0 where
   pub answer : (i : ℕ)
-      → r ≡ fieldsTaken (foundAs (map fieldOf) ((cond present (description.dataField (editionOf named)) (known [])) .read s i p))
+      → r ≡ fieldsTaken (foundAs (map fieldOf) ((cond present (description.dataField (editionOf named)) (known [])) .read octets i p))

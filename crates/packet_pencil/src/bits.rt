@@ -26,14 +26,14 @@ pub enum Edge {
 }
 
 // The bit at a place.
-pub fn bit(s: &[u8], item: usize, at: usize) -> Number
-    requires { ⌜ length (now s) ≤ packetLimit ⌝ }
-    ensures { λ r. ⌜ BitTaken (now (s .entry)) item at r ⌝ }
+pub fn bit(octets: &[u8], item: usize, at: usize) -> Number
+    requires { ⌜ length (now octets) ≤ packetLimit ⌝ }
+    ensures { λ r. ⌜ BitTaken (now (octets .entry)) item at r ⌝ }
 {
-    if s.len() <= at / 8 {
+    if octets.len() <= at / 8 {
         return Number::Refused(Refusal::at(Refusal::ENDS_EARLY, item));
     }
-    let octet = wide(s[at / 8]);
+    let octet = wide(octets[at / 8]);
     let from_top = octet >> (7 - at % 8);
     let value = from_top % 2;
     let next = at + 1;
@@ -41,15 +41,15 @@ pub fn bit(s: &[u8], item: usize, at: usize) -> Number
 }
 
 // The number in n bits from a place on.
-pub fn bits(s: &[u8], item: usize, at: usize, n: usize) -> Number
-    requires { ⌜ (length (now s) ≤ packetLimit) × (n ≤ 16) ⌝ }
-    ensures { λ r. ⌜ BitsTaken n (now (s .entry)) item at r ⌝ }
+pub fn bits(octets: &[u8], item: usize, at: usize, n: usize) -> Number
+    requires { ⌜ (length (now octets) ≤ packetLimit) × (n ≤ 16) ⌝ }
+    ensures { λ r. ⌜ BitsTaken n (now (octets .entry)) item at r ⌝ }
 {
     let mut value: usize = 0;
     let mut next = at;
     let mut k: usize = 0;
     while k < n {
-        match bit(s, item, next) {
+        match bit(octets, item, next) {
             Number::Refused(refusal) => {
                 return Number::Refused(refusal);
             }
@@ -64,11 +64,11 @@ pub fn bits(s: &[u8], item: usize, at: usize, n: usize) -> Number
 }
 
 // One bit as a flag.
-pub fn flag(s: &[u8], item: usize, at: usize) -> Marked
-    requires { ⌜ length (now s) ≤ packetLimit ⌝ }
-    ensures { λ r. ⌜ FlagTaken (now (s .entry)) item at r ⌝ }
+pub fn flag(octets: &[u8], item: usize, at: usize) -> Marked
+    requires { ⌜ length (now octets) ≤ packetLimit ⌝ }
+    ensures { λ r. ⌜ FlagTaken (now (octets .entry)) item at r ⌝ }
 {
-    match bit(s, item, at) {
+    match bit(octets, item, at) {
         Number::Refused(refusal) => Marked::Refused(refusal),
         Number::Found(one, next) => {
             let set = 0 < one;
@@ -78,13 +78,13 @@ pub fn flag(s: &[u8], item: usize, at: usize) -> Marked
 }
 
 // To an octet edge, by zero bits, which are one item; a bit set there is 5 (rules 5.3 to 5.5).
-pub fn align(s: &[u8], at: usize) -> Edge
-    requires { ⌜ length (now s) ≤ packetLimit ⌝ }
-    ensures { λ r. ⌜ EdgeTaken (now (s .entry)) at r ⌝ }
+pub fn align(octets: &[u8], at: usize) -> Edge
+    requires { ⌜ length (now octets) ≤ packetLimit ⌝ }
+    ensures { λ r. ⌜ EdgeTaken (now (octets .entry)) at r ⌝ }
 {
     let gap = (8 - at % 8) % 8;
     let item = at / 8;
-    match bits(s, item, at, gap) {
+    match bits(octets, item, at, gap) {
         Number::Refused(refusal) => Edge::Refused(refusal),
         Number::Found(value, next) => {
             if value == 0 {

@@ -43,14 +43,14 @@ pub struct Fields {
 }
 
 // The bit for field-data OPTIONAL, and the field type: one item (rules 6.7 and 7.9). Which types carry data is the same in both editions.
-pub fn header(named: Named, s: &[u8], at: usize) -> HeaderRead
-    requires { ⌜ length (now s) ≤ packetLimit ⌝ }
-    ensures { λ r. ⌜ HeaderTaken named (now (s .entry)) at r ⌝ }
+pub fn header(named: Named, octets: &[u8], at: usize) -> HeaderRead
+    requires { ⌜ length (now octets) ≤ packetLimit ⌝ }
+    ensures { λ r. ⌜ HeaderTaken named (now (octets .entry)) at r ⌝ }
 {
     let item = at / 8;
-    match flag(s, item, at) {
+    match flag(octets, item, at) {
         Marked::Refused(refusal) => HeaderRead::Refused(refusal),
-        Marked::Found(present, next) => match field_type(named, s, item, next) {
+        Marked::Found(present, next) => match field_type(named, octets, item, next) {
             Number::Refused(refusal) => HeaderRead::Refused(refusal),
             Number::Found(kind, end) => {
                 let small = (kind % 256) as u8;
@@ -64,11 +64,11 @@ pub fn header(named: Named, s: &[u8], at: usize) -> HeaderRead
 }
 
 // SEQUENCE { field-type, field-data OPTIONAL }
-pub fn field(named: Named, s: &[u8], at: usize) -> One
-    requires { ⌜ length (now s) ≤ packetLimit ⌝ }
-    ensures { λ r. ⌜ FieldTaken named (now (s .entry)) at r ⌝ }
+pub fn field(named: Named, octets: &[u8], at: usize) -> One
+    requires { ⌜ length (now octets) ≤ packetLimit ⌝ }
+    ensures { λ r. ⌜ FieldTaken named (now (octets .entry)) at r ⌝ }
 {
-    match header(named, s, at) {
+    match header(named, octets, at) {
         HeaderRead::Refused(refusal) => One::Refused(refusal),
         HeaderRead::Found(kind, present, next) => {
             if !present {
@@ -81,7 +81,7 @@ pub fn field(named: Named, s: &[u8], at: usize) -> One
                     next,
                 );
             }
-            match field_data(s, next) {
+            match field_data(octets, next) {
                 Part::Refused(refusal) => One::Refused(refusal),
                 Part::Found(start, size, end) => One::Found(Field { kind, start, size }, end),
             }
@@ -101,15 +101,15 @@ fn refused(refusal: Refusal) -> Fields
 }
 
 // SEQUENCE OF: `count` fields, one after the other.
-fn sequence(named: Named, s: &[u8], from: usize, count: usize) -> Fields
-    requires { ⌜ (length (now s) ≤ packetLimit) × (count ≤ fieldsLimit) ⌝ }
-    ensures { λ r. ⌜ SequenceTaken named count (now (s .entry)) from r ⌝ }
+fn sequence(named: Named, octets: &[u8], from: usize, count: usize) -> Fields
+    requires { ⌜ (length (now octets) ≤ packetLimit) × (count ≤ fieldsLimit) ⌝ }
+    ensures { λ r. ⌜ SequenceTaken named count (now (octets .entry)) from r ⌝ }
 {
     let mut fields = no_fields();
     let mut at = from;
     let mut i: usize = 0;
     while i < count {
-        match field(named, s, at) {
+        match field(named, octets, at) {
             One::Refused(refusal) => {
                 return refused(refusal);
             }
@@ -127,12 +127,12 @@ fn sequence(named: Named, s: &[u8], from: usize, count: usize) -> Fields
 }
 
 // Data-Field: the count of fields, and the fields (rule 6.4).
-pub fn data_field(named: Named, s: &[u8], at: usize) -> Fields
-    requires { ⌜ length (now s) ≤ packetLimit ⌝ }
-    ensures { λ r. ⌜ FieldsTaken named (now (s .entry)) at r ⌝ }
+pub fn data_field(named: Named, octets: &[u8], at: usize) -> Fields
+    requires { ⌜ length (now octets) ≤ packetLimit ⌝ }
+    ensures { λ r. ⌜ FieldsTaken named (now (octets .entry)) at r ⌝ }
 {
-    match count(s, at) {
+    match count(octets, at) {
         Number::Refused(refusal) => refused(refusal),
-        Number::Found(n, next) => sequence(named, s, next, n),
+        Number::Found(n, next) => sequence(named, octets, next, n),
     }
 }

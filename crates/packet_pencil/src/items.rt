@@ -31,11 +31,11 @@ pub enum Part {
 }
 
 // One of the values before the extension mark, in as many bits as they have (rule 6.3).
-fn root(s: &[u8], item: usize, at: usize, values: Enumerated) -> Number
-    requires { ⌜ (length (now s) ≤ packetLimit) × Narrow values ⌝ }
-    ensures { λ r. ⌜ RootTaken values (now (s .entry)) item at r ⌝ }
+fn root(octets: &[u8], item: usize, at: usize, values: Enumerated) -> Number
+    requires { ⌜ (length (now octets) ≤ packetLimit) × Narrow values ⌝ }
+    ensures { λ r. ⌜ RootTaken values (now (octets .entry)) item at r ⌝ }
 {
-    match bits(s, item, at, values.width) {
+    match bits(octets, item, at, values.width) {
         Number::Refused(refusal) => Number::Refused(refusal),
         Number::Found(value, next) => {
             if value < values.assigned {
@@ -47,11 +47,11 @@ fn root(s: &[u8], item: usize, at: usize, values: Enumerated) -> Number
 }
 
 // Which of the added values, in six bits counted from zero; past the last one it is 12 (rules 7.5 and 7.8).
-fn counted(s: &[u8], item: usize, at: usize, values: Enumerated) -> Number
-    requires { ⌜ (length (now s) ≤ packetLimit) × Narrow values ⌝ }
-    ensures { λ r. ⌜ AddedTaken values (now (s .entry)) item at r ⌝ }
+fn counted(octets: &[u8], item: usize, at: usize, values: Enumerated) -> Number
+    requires { ⌜ (length (now octets) ≤ packetLimit) × Narrow values ⌝ }
+    ensures { λ r. ⌜ AddedTaken values (now (octets .entry)) item at r ⌝ }
 {
-    match bits(s, item, at, ADDED_WIDTH) {
+    match bits(octets, item, at, ADDED_WIDTH) {
         Number::Refused(refusal) => Number::Refused(refusal),
         Number::Found(which, next) => {
             if which < values.added {
@@ -64,39 +64,39 @@ fn counted(s: &[u8], item: usize, at: usize, values: Enumerated) -> Number
 }
 
 // One of the values added after the extension mark, if any, behind the bit for extension: a 0 bit, then which one (rules 7.5 to 7.8).
-fn addition(s: &[u8], item: usize, at: usize, values: Enumerated) -> Number
-    requires { ⌜ (length (now s) ≤ packetLimit) × Narrow values ⌝ }
-    ensures { λ r. ⌜ AdditionTaken values (now (s .entry)) item at r ⌝ }
+fn addition(octets: &[u8], item: usize, at: usize, values: Enumerated) -> Number
+    requires { ⌜ (length (now octets) ≤ packetLimit) × Narrow values ⌝ }
+    ensures { λ r. ⌜ AdditionTaken values (now (octets .entry)) item at r ⌝ }
 {
     if values.added == 0 {
         return Number::Refused(Refusal::at(Refusal::NOT_ASSIGNED, item));
     }
-    match flag(s, item, at) {
+    match flag(octets, item, at) {
         Marked::Refused(refusal) => Number::Refused(refusal),
         Marked::Found(large, next) => {
             if large {
                 return Number::Refused(Refusal::at(Refusal::NOT_ASSIGNED, item));
             }
-            counted(s, item, next, values)
+            counted(octets, item, next, values)
         }
     }
 }
 
 // ENUMERATED { .., ..., .. }: the bit for extension, where there is a mark; then a value before the mark or after it (rules 6.2 and 7.5).
-fn enumerated(s: &[u8], item: usize, at: usize, values: Enumerated) -> Number
-    requires { ⌜ (length (now s) ≤ packetLimit) × Narrow values ⌝ }
-    ensures { λ r. ⌜ ValueTaken values (now (s .entry)) item at r ⌝ }
+fn enumerated(octets: &[u8], item: usize, at: usize, values: Enumerated) -> Number
+    requires { ⌜ (length (now octets) ≤ packetLimit) × Narrow values ⌝ }
+    ensures { λ r. ⌜ ValueTaken values (now (octets .entry)) item at r ⌝ }
 {
     if !values.extensible {
-        return root(s, item, at, values);
+        return root(octets, item, at, values);
     }
-    match flag(s, item, at) {
+    match flag(octets, item, at) {
         Marked::Refused(refusal) => Number::Refused(refusal),
         Marked::Found(extended, next) => {
             if extended {
-                return addition(s, item, next, values);
+                return addition(octets, item, next, values);
             }
-            root(s, item, next, values)
+            root(octets, item, next, values)
         }
     }
 }
@@ -104,55 +104,55 @@ fn enumerated(s: &[u8], item: usize, at: usize, values: Enumerated) -> Number
 // 06/98: t30-indicator ENUMERATED { no-signal, .. v17-14400-long-training, ... }
 // 2002:  t30-indicator ENUMERATED { no-signal, .. v17-14400-long-training, ..., v8-ansam, v8-signal, v34-cntl-channel-1200,
 //            v34-pri-channel, v34-CC-retrain, v33-12000-training, v33-14400-training }
-pub fn t30_indicator(named: Named, s: &[u8], item: usize, at: usize) -> Number
-    requires { ⌜ length (now s) ≤ packetLimit ⌝ }
-    ensures { λ r. ⌜ ValueTaken (editionOf named .indicators) (now (s .entry)) item at r ⌝ }
+pub fn t30_indicator(named: Named, octets: &[u8], item: usize, at: usize) -> Number
+    requires { ⌜ length (now octets) ≤ packetLimit ⌝ }
+    ensures { λ r. ⌜ ValueTaken (editionOf named .indicators) (now (octets .entry)) item at r ⌝ }
 {
     let values = packet_rules::values(named, PacketKind::Indicator);
-    enumerated(s, item, at, values)
+    enumerated(octets, item, at, values)
 }
 
 // 06/98: data ENUMERATED { v21, .. v17-14400, ... }
 // 2002:  t30-data ENUMERATED { v21, .. v17-14400, ..., v8, v34-pri-rate, v34-CC-1200, v34-pri-ch, v33-12000, v33-14400 }
-pub fn t30_data(named: Named, s: &[u8], item: usize, at: usize) -> Number
-    requires { ⌜ length (now s) ≤ packetLimit ⌝ }
-    ensures { λ r. ⌜ ValueTaken (editionOf named .kinds) (now (s .entry)) item at r ⌝ }
+pub fn t30_data(named: Named, octets: &[u8], item: usize, at: usize) -> Number
+    requires { ⌜ length (now octets) ≤ packetLimit ⌝ }
+    ensures { λ r. ⌜ ValueTaken (editionOf named .kinds) (now (octets .entry)) item at r ⌝ }
 {
     let values = packet_rules::values(named, PacketKind::Data);
-    enumerated(s, item, at, values)
+    enumerated(octets, item, at, values)
 }
 
 // 06/98: field-type ENUMERATED { hdlc-data, .. t4-non-ecm-sig-end }
 // 2002:  field-type ENUMERATED { hdlc-data, .. t4-non-ecm-sig-end, ..., cm-message, jm-message, ci-message, v34rate }
-pub fn field_type(named: Named, s: &[u8], item: usize, at: usize) -> Number
-    requires { ⌜ length (now s) ≤ packetLimit ⌝ }
-    ensures { λ r. ⌜ ValueTaken (editionOf named .types) (now (s .entry)) item at r ⌝ }
+pub fn field_type(named: Named, octets: &[u8], item: usize, at: usize) -> Number
+    requires { ⌜ length (now octets) ≤ packetLimit ⌝ }
+    ensures { λ r. ⌜ ValueTaken (editionOf named .types) (now (octets .entry)) item at r ⌝ }
 {
     let values = packet_rules::types(named);
-    enumerated(s, item, at, values)
+    enumerated(octets, item, at, values)
 }
 
 // The octet at a place, or the end where the place is past it.
-pub fn octet(s: &[u8], at: usize) -> usize
-    ensures { λ r. ⌜ OctetTaken (now (s .entry)) at r ⌝ }
+pub fn octet(octets: &[u8], at: usize) -> usize
+    ensures { λ r. ⌜ OctetTaken (now (octets .entry)) at r ⌝ }
 {
     let whole = at / 8;
-    if s.len() < whole {
-        return s.len();
+    if octets.len() < whole {
+        return octets.len();
     }
     whole
 }
 
 // The count of fields of a SEQUENCE OF, 1 to 16, by the length rule (rule 6.4).
-pub fn count(s: &[u8], at: usize) -> Number
-    requires { ⌜ length (now s) ≤ packetLimit ⌝ }
-    ensures { λ r. ⌜ CountTaken (now (s .entry)) at r ⌝ }
+pub fn count(octets: &[u8], at: usize) -> Number
+    requires { ⌜ length (now octets) ≤ packetLimit ⌝ }
+    ensures { λ r. ⌜ CountTaken (now (octets .entry)) at r ⌝ }
 {
-    match align(s, at) {
+    match align(octets, at) {
         Edge::Refused(refusal) => Number::Refused(refusal),
         Edge::Found(edge) => {
-            let from = octet(s, edge);
-            match length_code::read_within(&s[from..], Field::LEAST, Field::LIMIT) {
+            let from = octet(octets, edge);
+            match length_code::read_within(&octets[from..], Field::LEAST, Field::LIMIT) {
                 Length::Refused(refusal) => Number::Refused(refusal.further(edge / 8)),
                 Length::Value(value, size) => {
                     let next = edge + 8 * size;
@@ -164,19 +164,19 @@ pub fn count(s: &[u8], at: usize) -> Number
 }
 
 // The length of an OCTET STRING (SIZE (1..65535)): two octets with the length minus one (rules 6.8 and 6.9).
-pub fn size(s: &[u8], at: usize) -> Number
-    requires { ⌜ length (now s) ≤ packetLimit ⌝ }
-    ensures { λ r. ⌜ SizeTaken (now (s .entry)) at r ⌝ }
+pub fn size(octets: &[u8], at: usize) -> Number
+    requires { ⌜ length (now octets) ≤ packetLimit ⌝ }
+    ensures { λ r. ⌜ SizeTaken (now (octets .entry)) at r ⌝ }
 {
-    match align(s, at) {
+    match align(octets, at) {
         Edge::Refused(refusal) => Number::Refused(refusal),
         Edge::Found(edge) => {
-            let from = octet(s, edge);
-            if s.len() - from < 2 {
+            let from = octet(octets, edge);
+            if octets.len() - from < 2 {
                 return Number::Refused(Refusal::at(Refusal::ENDS_EARLY, edge / 8));
             }
-            let high = wide(s[from]) * 256;
-            let size = high + wide(s[from + 1]) + 1;
+            let high = wide(octets[from]) * 256;
+            let size = high + wide(octets[from + 1]) + 1;
             if Packet::LIMIT < size {
                 return Number::Refused(Refusal::at(Refusal::OUTSIDE_SIZES, edge / 8));
             }
@@ -187,15 +187,15 @@ pub fn size(s: &[u8], at: usize) -> Number
 }
 
 // field-data OCTET STRING (SIZE (1..65535))
-pub fn field_data(s: &[u8], at: usize) -> Part
-    requires { ⌜ length (now s) ≤ packetLimit ⌝ }
-    ensures { λ r. ⌜ PartTaken (now (s .entry)) at r ⌝ }
+pub fn field_data(octets: &[u8], at: usize) -> Part
+    requires { ⌜ length (now octets) ≤ packetLimit ⌝ }
+    ensures { λ r. ⌜ PartTaken (now (octets .entry)) at r ⌝ }
 {
-    match size(s, at) {
+    match size(octets, at) {
         Number::Refused(refusal) => Part::Refused(refusal),
         Number::Found(size, begin) => {
-            let start = octet(s, begin);
-            if s.len() - start < size {
+            let start = octet(octets, begin);
+            if octets.len() - start < size {
                 return Part::Refused(Refusal::at(Refusal::ENDS_EARLY, begin / 8));
             }
             let next = begin + 8 * size;

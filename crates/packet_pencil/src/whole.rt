@@ -38,12 +38,19 @@ pub enum First {
 
 // 06/98: CHOICE { t30-indicator ENUMERATED .., data ENUMERATED .. }: the one that was chosen.
 // 2002:  CHOICE { t30-indicator ENUMERATED .., t30-data ENUMERATED .. }
-fn chosen(named: Named, s: &[u8], item: usize, at: usize, present: bool, is_data: bool) -> First
-    requires { ⌜ length (now s) ≤ packetLimit ⌝ }
-    ensures { λ r. ⌜ ChosenTaken named present «is_data» (now (s .entry)) item at r ⌝ }
+fn chosen(
+    named: Named,
+    octets: &[u8],
+    item: usize,
+    at: usize,
+    present: bool,
+    is_data: bool,
+) -> First
+    requires { ⌜ length (now octets) ≤ packetLimit ⌝ }
+    ensures { λ r. ⌜ ChosenTaken named present «is_data» (now (octets .entry)) item at r ⌝ }
 {
     if is_data {
-        return match t30_data(named, s, item, at) {
+        return match t30_data(named, octets, item, at) {
             Number::Refused(refusal) => First::Refused(refusal),
             Number::Found(value, next) => {
                 let small = (value % 256) as u8;
@@ -51,7 +58,7 @@ fn chosen(named: Named, s: &[u8], item: usize, at: usize, present: bool, is_data
             }
         };
     }
-    match t30_indicator(named, s, item, at) {
+    match t30_indicator(named, octets, item, at) {
         Number::Refused(refusal) => First::Refused(refusal),
         Number::Found(value, next) => {
             let small = (value % 256) as u8;
@@ -61,28 +68,35 @@ fn chosen(named: Named, s: &[u8], item: usize, at: usize, present: bool, is_data
 }
 
 // The bit for data-field OPTIONAL, and the Type-of-msg.
-pub fn type_of_msg(named: Named, s: &[u8], item: usize, at: usize) -> First
-    requires { ⌜ length (now s) ≤ packetLimit ⌝ }
-    ensures { λ r. ⌜ TypeTaken named (now (s .entry)) item at r ⌝ }
+pub fn type_of_msg(named: Named, octets: &[u8], item: usize, at: usize) -> First
+    requires { ⌜ length (now octets) ≤ packetLimit ⌝ }
+    ensures { λ r. ⌜ TypeTaken named (now (octets .entry)) item at r ⌝ }
 {
-    match flag(s, item, at) {
+    match flag(octets, item, at) {
         Marked::Refused(refusal) => First::Refused(refusal),
-        Marked::Found(present, next) => match flag(s, item, next) {
+        Marked::Found(present, next) => match flag(octets, item, next) {
             Marked::Refused(refusal) => First::Refused(refusal),
-            Marked::Found(is_data, value_at) => chosen(named, s, item, value_at, present, is_data),
+            Marked::Found(is_data, value_at) => chosen(
+                named,
+                octets,
+                item,
+                value_at,
+                present,
+                is_data,
+            ),
         },
     }
 }
 
 // The start of a packet: its type, zero bits to an octet edge, and no data field on an indicator (rule 6.14).
-pub fn start(named: Named, s: &[u8], at: usize) -> First
-    requires { ⌜ length (now s) ≤ packetLimit ⌝ }
-    ensures { λ r. ⌜ StartTaken named (now (s .entry)) at r ⌝ }
+pub fn start(named: Named, octets: &[u8], at: usize) -> First
+    requires { ⌜ length (now octets) ≤ packetLimit ⌝ }
+    ensures { λ r. ⌜ StartTaken named (now (octets .entry)) at r ⌝ }
 {
     let item = at / 8;
-    match type_of_msg(named, s, item, at) {
+    match type_of_msg(named, octets, item, at) {
         First::Refused(refusal) => First::Refused(refusal),
-        First::Found(kind, value, present, next) => match align(s, next) {
+        First::Found(kind, value, present, next) => match align(octets, next) {
             Edge::Refused(refusal) => First::Refused(refusal),
             Edge::Found(edge) => {
                 if packet_rules::right_fields(kind, present) {
@@ -95,12 +109,12 @@ pub fn start(named: Named, s: &[u8], at: usize) -> First
 }
 
 // data-field Data-Field OPTIONAL
-fn optional(named: Named, s: &[u8], at: usize, present: bool) -> Fields
-    requires { ⌜ length (now s) ≤ packetLimit ⌝ }
-    ensures { λ r. ⌜ AfterTaken named present (now (s .entry)) at r ⌝ }
+fn optional(named: Named, octets: &[u8], at: usize, present: bool) -> Fields
+    requires { ⌜ length (now octets) ≤ packetLimit ⌝ }
+    ensures { λ r. ⌜ AfterTaken named present (now (octets .entry)) at r ⌝ }
 {
     if present {
-        return data_field(named, s, at);
+        return data_field(named, octets, at);
     }
     let fields = no_fields();
     Fields {
@@ -110,24 +124,24 @@ fn optional(named: Named, s: &[u8], at: usize, present: bool) -> Fields
 }
 
 // A packet of this edition: its kind, value and fields, or its first refusal: 4 over the packet limit, then reading order (rule 6.13).
-fn read_named(named: Named, s: &[u8], ending: Ending) -> PacketRead
-    ensures { λ r. ⌜ NamedTold named ending (now (s .entry)) r ⌝ }
+fn read_named(named: Named, octets: &[u8], ending: Ending) -> PacketRead
+    ensures { λ r. ⌜ NamedTold named ending (now (octets .entry)) r ⌝ }
 {
-    if Packet::LIMIT < s.len() {
+    if Packet::LIMIT < octets.len() {
         return packet_reader::refused(Refusal::new(Refusal::OUTSIDE_SIZES));
     }
-    match start(named, s, 0) {
+    match start(named, octets, 0) {
         First::Refused(refusal) => packet_reader::refused(refusal),
         First::Found(kind, value, present, at) => {
-            let found = optional(named, s, at, present);
+            let found = optional(named, octets, at, present);
             let all = found.all;
             match all {
                 All::Refused(refusal) => packet_reader::refused(refusal),
-                All::Found(count, next) => match align(s, next) {
+                All::Found(count, next) => match align(octets, next) {
                     Edge::Refused(refusal) => packet_reader::refused(refusal),
                     Edge::Found(edge) => {
-                        let from = octet(s, edge);
-                        if may_follow(&s[from..], ending) {
+                        let from = octet(octets, edge);
+                        if may_follow(&octets[from..], ending) {
                             let fields = found.fields;
                             return PacketRead {
                                 reading: PacketReading::Packet { kind, value, count },
@@ -143,11 +157,11 @@ fn read_named(named: Named, s: &[u8], ending: Ending) -> PacketRead
 }
 
 // A packet of the edition that an octet names, 0 that of 06/98 and 1 that of 2002; another octet is 15, before all (rules 7.1 and 7.2).
-pub fn read(edition: u8, s: &[u8], ending: Ending) -> PacketRead
-    ensures { λ r. ⌜ PacketTold (byEdition edition (λ e. readPacket e ending (now (s .entry)))) r ⌝ }
+pub fn read(edition: u8, octets: &[u8], ending: Ending) -> PacketRead
+    ensures { λ r. ⌜ PacketTold (byEdition edition (λ e. readPacket e ending (now (octets .entry)))) r ⌝ }
 {
     match choice_of(edition) {
         Choice::Neither => packet_reader::refused(Refusal::new(Refusal::WRONG_SETTINGS)),
-        Choice::Edition(named) => read_named(named, s, ending),
+        Choice::Edition(named) => read_named(named, octets, ending),
     }
 }

@@ -40,19 +40,19 @@ use Rattle.packet_reader.specs.declared.reader.EndRead.the-variants as e
 
 -- ---- places
 -- a place inside the octets of a packet, or at their end
-pub record InPacket (s : List ℕ) (p : Place) : Type 0 where
-  pub few : length s ≤ packetLimit
-  pub here : p ≤ 8 * length s
+pub record InPacket (octets : List ℕ) (p : Place) : Type 0 where
+  pub few : length octets ≤ packetLimit
+  pub here : p ≤ 8 * length octets
 
 -- a place in them, or at most this many bits behind their end
-pub record NearPacket (over : ℕ) (s : List ℕ) (p : Place) : Type 0 where
-  pub few : length s ≤ packetLimit
-  pub near : p ≤ 8 * length s + over
+pub record NearPacket (over : ℕ) (octets : List ℕ) (p : Place) : Type 0 where
+  pub few : length octets ≤ packetLimit
+  pub near : p ≤ 8 * length octets + over
 
 -- an octet of them, or their end
-pub record OctetIn (s : List ℕ) (at : ℕ) : Type 0 where
-  pub few : length s ≤ packetLimit
-  pub here : at ≤ length s
+pub record OctetIn (octets : List ℕ) (at : ℕ) : Type 0 where
+  pub few : length octets ≤ packetLimit
+  pub here : at ≤ length octets
 
 -- a power of two
 pub record Power (n r : ℕ) : Type 0 where
@@ -60,22 +60,22 @@ pub record Power (n r : ℕ) : Type 0 where
   pub some : 0 < r
 
 -- an octet, and zero past the last one
-pub record OctetAt (s : List ℕ) (at r : ℕ) : Type 0 where
-  pub same : r ≡ getD s at 0
+pub record OctetAt (octets : List ℕ) (at r : ℕ) : Type 0 where
+  pub same : r ≡ getD octets at 0
   pub small : r < 256
 
-pub record BitTold (s : List ℕ) (p : Place) (r : Bool) : Type 0 where
-  pub answer : r ≡ bitSetAt s p
+pub record BitTold (octets : List ℕ) (p : Place) (r : Bool) : Type 0 where
+  pub answer : r ≡ bitSetAt octets p
 
-pub record BitsTold (n : ℕ) (s : List ℕ) (p : Place) (r : ℕ) : Type 0 where
-  pub answer : r ≡ bitsAt n s p
+pub record BitsTold (n : ℕ) (octets : List ℕ) (p : Place) (r : ℕ) : Type 0 where
+  pub answer : r ≡ bitsAt n octets p
 
 abbrev pub edgeOutcome : EdgeRead → Answer ℕ
 edgeOutcome (edge.Edge at) = done at
 edgeOutcome (edge.Refused r) = refused r
 
-pub record EdgeTold (s : List ℕ) (p : Place) (r : EdgeRead) : Type 0 where
-  pub answer : edgeOutcome r ≡ edgeAt s p
+pub record EdgeTold (octets : List ℕ) (p : Place) (r : EdgeRead) : Type 0 where
+  pub answer : edgeOutcome r ≡ edgeAt octets p
 
 -- ---- a value
 abbrev pub valueOutcome : ValueRead → Answer Value
@@ -87,14 +87,14 @@ pub record PlainTold (e : Enumerated) (r : ℕ) : Type 0 where
   pub few : r ≤ 7
   pub answer : r ≡ plainWidth e
 
-pub record RootTold (e : Enumerated) (item : ℕ) (s : List ℕ) (p : Place) (r : ValueRead) : Type 0 where
-  pub answer : valueOutcome r ≡ rootAt e item s p
+pub record RootTold (e : Enumerated) (item : ℕ) (octets : List ℕ) (p : Place) (r : ValueRead) : Type 0 where
+  pub answer : valueOutcome r ≡ rootAt e item octets p
 
-pub record AddedTold (e : Enumerated) (item : ℕ) (s : List ℕ) (p : Place) (r : ValueRead) : Type 0 where
-  pub answer : valueOutcome r ≡ addedAt e item s p
+pub record AddedTold (e : Enumerated) (item : ℕ) (octets : List ℕ) (p : Place) (r : ValueRead) : Type 0 where
+  pub answer : valueOutcome r ≡ addedAt e item octets p
 
-pub record ValueTold (e : Enumerated) (item : ℕ) (s : List ℕ) (p : Place) (r : ValueRead) : Type 0 where
-  pub answer : valueOutcome r ≡ valueAt e item s p
+pub record ValueTold (e : Enumerated) (item : ℕ) (octets : List ℕ) (p : Place) (r : ValueRead) : Type 0 where
+  pub answer : valueOutcome r ≡ valueAt e item octets p
 
 -- ---- items
 abbrev pub firstOutcome : FirstRead → Answer FirstAnswer
@@ -103,29 +103,29 @@ firstOutcome (first.Refused r) = refused r
 
 -- what follows the first value
 abbrev pub afterFirst : List ℕ → PacketKind → Value → Answer FirstAnswer
-afterFirst s kind v = do
-  at ← edgeAt s (v .next)
-  cond (rightFields kind (bitSetAt s 0))
-      (done (record { first = record { kind = kind; value = v .value; present = bitSetAt s 0 }; octets = at }))
+afterFirst input kind v = do
+  at ← edgeAt input (v .next)
+  cond (rightFields kind (bitSetAt input 0))
+      (done (record { first = record { kind = kind; value = v .value; present = bitSetAt input 0 }; octets = at }))
       (refuse wrongData)
 
-pub record AfterFirst (s : List ℕ) (kind : PacketKind) (value : ℕ) (p : Place) (r : FirstRead) : Type 0 where
-  pub answer : firstOutcome r ≡ afterFirst s kind (record { value = value; next = p })
+pub record AfterFirst (octets : List ℕ) (kind : PacketKind) (value : ℕ) (p : Place) (r : FirstRead) : Type 0 where
+  pub answer : firstOutcome r ≡ afterFirst octets kind (record { value = value; next = p })
 
 -- the kind of the first item of a packet
-pub record FirstHere (s : List ℕ) (kind : PacketKind) : Type 0 where
-  pub few : length s ≤ packetLimit
-  pub is : kind ≡ kindOf s
+pub record FirstHere (octets : List ℕ) (kind : PacketKind) : Type 0 where
+  pub few : length octets ≤ packetLimit
+  pub is : kind ≡ kindOf octets
 
-pub record FirstTold (named : Named) (s : List ℕ) (r : FirstRead) : Type 0 where
-  pub answer : firstOutcome r ≡ firstAt (editionOf named) s
+pub record FirstTold (named : Named) (octets : List ℕ) (r : FirstRead) : Type 0 where
+  pub answer : firstOutcome r ≡ firstAt (editionOf named) octets
 
 abbrev pub countOutcome : CountRead → Answer Count
 countOutcome (count.Count n next) = done (record { value = n; next = next })
 countOutcome (count.Refused r) = refused r
 
-pub record CountTold (s : List ℕ) (at : ℕ) (present : Bool) (r : CountRead) : Type 0 where
-  pub answer : countOutcome r ≡ countAt s at present
+pub record CountTold (octets : List ℕ) (at : ℕ) (present : Bool) (r : CountRead) : Type 0 where
+  pub answer : countOutcome r ≡ countAt octets at present
 
 abbrev pub headerOutcome : HeaderRead → Answer HeaderAnswer
 headerOutcome (header.Header k p next) = done (record { header = record { type = k; present = p }; next = next })
@@ -140,42 +140,42 @@ afterType item kind present p =
 pub record AfterType (item kind : ℕ) (present : Bool) (p : Place) (r : HeaderRead) : Type 0 where
   pub answer : headerOutcome r ≡ afterType item kind present p
 
-pub record HeaderTold (named : Named) (s : List ℕ) (p : Place) (r : HeaderRead) : Type 0 where
-  pub answer : headerOutcome r ≡ headerAt (editionOf named) s p
+pub record HeaderTold (named : Named) (octets : List ℕ) (p : Place) (r : HeaderRead) : Type 0 where
+  pub answer : headerOutcome r ≡ headerAt (editionOf named) octets p
 
 abbrev pub sizeOutcome : SizeRead → Answer ℕ
 sizeOutcome (size.Size n) = done n
 sizeOutcome (size.Refused r) = refused r
 
-pub record SizeTold (s : List ℕ) (r : SizeRead) : Type 0 where
-  pub answer : sizeOutcome r ≡ sizeAt s
+pub record SizeTold (octets : List ℕ) (r : SizeRead) : Type 0 where
+  pub answer : sizeOutcome r ≡ sizeAt octets
 
 abbrev pub fieldOutcome : FieldRead → Answer FieldAnswer
 fieldOutcome (field.Field f next) = done (record { field = f; next = next })
 fieldOutcome (field.Refused r) = refused r
 
 -- what follows a header with data
-pub record DataTold (s : List ℕ) (kind : ℕ) (p : Place) (r : FieldRead) : Type 0 where
-  pub answer : fieldOutcome r ≡ afterHeader s (record { header = record { type = kind; present = true }; next = p })
+pub record DataTold (octets : List ℕ) (kind : ℕ) (p : Place) (r : FieldRead) : Type 0 where
+  pub answer : fieldOutcome r ≡ afterHeader octets (record { header = record { type = kind; present = true }; next = p })
 
-pub record FieldTold (named : Named) (s : List ℕ) (p : Place) (r : FieldRead) : Type 0 where
-  pub answer : fieldOutcome r ≡ fieldAt (editionOf named) s p
+pub record FieldTold (named : Named) (octets : List ℕ) (p : Place) (r : FieldRead) : Type 0 where
+  pub answer : fieldOutcome r ≡ fieldAt (editionOf named) octets p
 
 -- ---- all fields, and the end
 abbrev pub fieldsRead : Answer FieldsAnswer → FieldsRead
 fieldsRead (done a) = record { end = end.Next (a .next); fields = paddedFields (a .fields) }
 fieldsRead (refused r) = record { end = end.Refused r; fields = paddedFields [] }
 
-pub record FieldsTold (named : Named) (count : ℕ) (s : List ℕ) (p : Place) (r : FieldsRead) : Type 0 where
-  pub answer : r ≡ fieldsRead (fieldsAt (editionOf named) count s p)
+pub record FieldsTold (named : Named) (count : ℕ) (octets : List ℕ) (p : Place) (r : FieldsRead) : Type 0 where
+  pub answer : r ≡ fieldsRead (fieldsAt (editionOf named) count octets p)
 
 abbrev pub endOutcome : EndRead → Answer (Unit {0})
 endOutcome ends.Ends = done tt
 endOutcome (ends.Refused r) = refused r
 
-pub record EndTold (ending : Ending) (s : List ℕ) (p : Place) (r : EndRead) : Type 0 where
-  pub answer : endOutcome r ≡ endAt ending s p tt
+pub record EndTold (ending : Ending) (octets : List ℕ) (p : Place) (r : EndRead) : Type 0 where
+  pub answer : endOutcome r ≡ endAt ending octets p tt
 
 -- ---- the packet, in the edition that was named
-pub record NamedTold (named : Named) (ending : Ending) (s : List ℕ) (r : PacketRead) : Type 0 where
-  pub told : PacketTold (readPacket (editionOf named) ending s) r
+pub record NamedTold (named : Named) (ending : Ending) (octets : List ℕ) (r : PacketRead) : Type 0 where
+  pub told : PacketTold (readPacket (editionOf named) ending octets) r

@@ -55,24 +55,24 @@ pub enum FieldRead {
 }
 
 // The kind that the second bit says (rule 6.1).
-fn kind_of(s: &[u8]) -> PacketKind
-    ensures { λ r. ⌜ r ≡ kindOf (now (s .entry)) ⌝ }
+fn kind_of(octets: &[u8]) -> PacketKind
+    ensures { λ r. ⌜ r ≡ kindOf (now (octets .entry)) ⌝ }
 {
-    if bit(s, 1) {
+    if bit(octets, 1) {
         return PacketKind::Data;
     }
     PacketKind::Indicator
 }
 
 // What follows the first value: zero bits to an octet edge, and whether fields may be present or not (rule 6.14).
-fn after_first(s: &[u8], kind: PacketKind, value: u8, p: usize) -> FirstRead
-    requires { ⌜ InPacket (now s) p ⌝ }
-    ensures { λ r. ⌜ AfterFirst (now (s .entry)) kind value p r ⌝ }
+fn after_first(octets: &[u8], kind: PacketKind, value: u8, p: usize) -> FirstRead
+    requires { ⌜ InPacket (now octets) p ⌝ }
+    ensures { λ r. ⌜ AfterFirst (now (octets .entry)) kind value p r ⌝ }
 {
-    match read_edge(s, p) {
+    match read_edge(octets, p) {
         EdgeRead::Refused(refusal) => FirstRead::Refused(refusal),
         EdgeRead::Edge(at) => {
-            let present = bit(s, 0);
+            let present = bit(octets, 0);
             if packet_rules::right_fields(kind, present) {
                 return FirstRead::First(kind, value, present, at);
             }
@@ -81,50 +81,50 @@ fn after_first(s: &[u8], kind: PacketKind, value: u8, p: usize) -> FirstRead
     }
 }
 
-// The first item of s, its value part by part.
-fn first_by_parts(s: &[u8], named: Named, kind: PacketKind) -> FirstRead
-    requires { ⌜ FirstHere (now s) kind ⌝ }
-    ensures { λ r. ⌜ FirstTold named (now (s .entry)) r ⌝ }
+// The first item of `octets`, its value part by part.
+fn first_by_parts(octets: &[u8], named: Named, kind: PacketKind) -> FirstRead
+    requires { ⌜ FirstHere (now octets) kind ⌝ }
+    ensures { λ r. ⌜ FirstTold named (now (octets .entry)) r ⌝ }
 {
     let e = packet_rules::values(named, kind);
-    match read_value(s, 0, 2, e) {
+    match read_value(octets, 0, 2, e) {
         ValueRead::Refused(refusal) => FirstRead::Refused(refusal),
-        ValueRead::Value(value, next) => after_first(s, kind, value, next),
+        ValueRead::Value(value, next) => after_first(octets, kind, value, next),
     }
 }
 
-// The first item of s: bits for fields present and for the kind, the value, and zero bits to an octet edge (rules 6.1 and 6.2). A value
-// before the extension mark is read in one step.
-pub fn read_first(s: &[u8], named: Named) -> FirstRead
-    requires { ⌜ length (now s) ≤ packetLimit ⌝ }
-    ensures { λ r. ⌜ FirstTold named (now (s .entry)) r ⌝ }
+// The first item of `octets`: bits for fields present and for the kind, the value, and zero bits to an octet edge (rules 6.1 and 6.2). A
+// value before the extension mark is read in one step.
+pub fn read_first(octets: &[u8], named: Named) -> FirstRead
+    requires { ⌜ length (now octets) ≤ packetLimit ⌝ }
+    ensures { λ r. ⌜ FirstTold named (now (octets .entry)) r ⌝ }
 {
-    let kind = kind_of(s);
+    let kind = kind_of(octets);
     let e = packet_rules::values(named, kind);
     let width = plain_width(e);
-    let all = 8 * s.len();
+    let all = 8 * octets.len();
     let next = 2 + width;
     if all < next {
-        return first_by_parts(s, named, kind);
+        return first_by_parts(octets, named, kind);
     }
-    let value = bits(s, width, 2);
+    let value = bits(octets, width, 2);
     if e.assigned <= value {
-        return first_by_parts(s, named, kind);
+        return first_by_parts(octets, named, kind);
     }
     let octet = value as u8;
-    after_first(s, kind, octet, next)
+    after_first(octets, kind, octet, next)
 }
 
 // The count of fields from the octet `at` on, where the first item says that they are present (rule 6.4).
-pub fn read_count(s: &[u8], at: usize, present: bool) -> CountRead
-    requires { ⌜ OctetIn (now s) at ⌝ }
-    ensures { λ r. ⌜ CountTold (now (s .entry)) at present r ⌝ }
+pub fn read_count(input: &[u8], at: usize, present: bool) -> CountRead
+    requires { ⌜ OctetIn (now input) at ⌝ }
+    ensures { λ r. ⌜ CountTold (now (input .entry)) at present r ⌝ }
 {
     if !present {
         let start = 8 * at;
         return CountRead::Count(0, start);
     }
-    let found = length_code::read_within(&s[at..], Field::LEAST, Field::LIMIT);
+    let found = length_code::read_within(&input[at..], Field::LEAST, Field::LIMIT);
     let Length::Value(value, size) = found else {
         let why = found.refusal();
         return CountRead::Refused(why.further(at));
@@ -145,16 +145,16 @@ fn after_type(item: usize, kind: u8, present: bool, p: usize) -> HeaderRead
 }
 
 // The field header at a place, its type part by part.
-fn header_by_parts(s: &[u8], p: usize, named: Named) -> HeaderRead
-    requires { ⌜ InPacket (now s) p ⌝ }
-    ensures { λ r. ⌜ HeaderTold named (now (s .entry)) p r ⌝ }
+fn header_by_parts(octets: &[u8], p: usize, named: Named) -> HeaderRead
+    requires { ⌜ InPacket (now octets) p ⌝ }
+    ensures { λ r. ⌜ HeaderTold named (now (octets .entry)) p r ⌝ }
 {
     let e = packet_rules::types(named);
     let start = p + 1;
-    match read_value(s, p / 8, start, e) {
+    match read_value(octets, p / 8, start, e) {
         ValueRead::Refused(refusal) => HeaderRead::Refused(refusal),
         ValueRead::Value(kind, next) => {
-            let present = bit(s, p);
+            let present = bit(octets, p);
             after_type(p / 8, kind, present, next)
         }
     }
@@ -162,23 +162,23 @@ fn header_by_parts(s: &[u8], p: usize, named: Named) -> HeaderRead
 
 // The field header at a place: a bit for data present, and the field's type (rules 6.7 and 7.9). A type before the extension mark is read
 // in one step with that bit.
-fn read_header(s: &[u8], p: usize, named: Named) -> HeaderRead
-    requires { ⌜ InPacket (now s) p ⌝ }
-    ensures { λ r. ⌜ HeaderTold named (now (s .entry)) p r ⌝ }
+fn read_header(octets: &[u8], p: usize, named: Named) -> HeaderRead
+    requires { ⌜ InPacket (now octets) p ⌝ }
+    ensures { λ r. ⌜ HeaderTold named (now (octets .entry)) p r ⌝ }
 {
     let e = packet_rules::types(named);
     let below = plain_width(e);
     let width = below + 1;
-    let all = 8 * s.len();
+    let all = 8 * octets.len();
     let next = p + width;
     if all < next {
-        return header_by_parts(s, p, named);
+        return header_by_parts(octets, p, named);
     }
-    let header = bits(s, width, p);
+    let header = bits(octets, width, p);
     let values = power(below);
     let value = header % values;
     if e.assigned <= value {
-        return header_by_parts(s, p, named);
+        return header_by_parts(octets, p, named);
     }
     let top = header >> below;
     let present = 0 < top % 2;
@@ -186,19 +186,19 @@ fn read_header(s: &[u8], p: usize, named: Named) -> HeaderRead
     after_type(p / 8, kind, present, next)
 }
 
-// The length of the data that begins after the two octets at the front of s (rules 6.8 and 6.9).
-fn read_size(s: &[u8]) -> SizeRead
-    ensures { λ r. ⌜ SizeTold (now (s .entry)) r ⌝ }
+// The length of the data that begins after the two octets at the front of `octets` (rules 6.8 and 6.9).
+fn read_size(octets: &[u8]) -> SizeRead
+    ensures { λ r. ⌜ SizeTold (now (octets .entry)) r ⌝ }
 {
-    if s.len() < 2 {
+    if octets.len() < 2 {
         return SizeRead::Refused(Refusal::new(Refusal::ENDS_EARLY));
     }
-    let high = wide(s[0]) * 256;
-    let size = high + wide(s[1]) + 1;
+    let high = wide(octets[0]) * 256;
+    let size = high + wide(octets[1]) + 1;
     if Packet::LIMIT < size {
         return SizeRead::Refused(Refusal::new(Refusal::OUTSIDE_SIZES));
     }
-    let left = s.len() - 2;
+    let left = octets.len() - 2;
     if left < size {
         return SizeRead::Refused(Refusal::at(Refusal::ENDS_EARLY, 2));
     }
@@ -206,13 +206,13 @@ fn read_size(s: &[u8]) -> SizeRead
 }
 
 // What follows a header with data: an octet edge, the data's length and the data (rule 6.8).
-fn read_data(s: &[u8], kind: u8, p: usize) -> FieldRead
-    requires { ⌜ InPacket (now s) p ⌝ }
-    ensures { λ r. ⌜ DataTold (now (s .entry)) kind p r ⌝ }
+fn read_data(octets: &[u8], kind: u8, p: usize) -> FieldRead
+    requires { ⌜ InPacket (now octets) p ⌝ }
+    ensures { λ r. ⌜ DataTold (now (octets .entry)) kind p r ⌝ }
 {
-    match read_edge(s, p) {
+    match read_edge(octets, p) {
         EdgeRead::Refused(refusal) => FieldRead::Refused(refusal),
-        EdgeRead::Edge(at) => match read_size(&s[at..]) {
+        EdgeRead::Edge(at) => match read_size(&octets[at..]) {
             SizeRead::Refused(refusal) => FieldRead::Refused(refusal.further(at)),
             SizeRead::Size(size) => {
                 let start = at + 2;
@@ -225,15 +225,15 @@ fn read_data(s: &[u8], kind: u8, p: usize) -> FieldRead
 }
 
 // The field at a place: its header, and what follows it.
-pub fn read_field(s: &[u8], p: usize, named: Named) -> FieldRead
-    requires { ⌜ InPacket (now s) p ⌝ }
-    ensures { λ r. ⌜ FieldTold named (now (s .entry)) p r ⌝ }
+pub fn read_field(octets: &[u8], p: usize, named: Named) -> FieldRead
+    requires { ⌜ InPacket (now octets) p ⌝ }
+    ensures { λ r. ⌜ FieldTold named (now (octets .entry)) p r ⌝ }
 {
-    match read_header(s, p, named) {
+    match read_header(octets, p, named) {
         HeaderRead::Refused(refusal) => FieldRead::Refused(refusal),
         HeaderRead::Header(kind, present, next) => {
             if present {
-                return read_data(s, kind, next);
+                return read_data(octets, kind, next);
             }
             FieldRead::Field(
                 Field {

@@ -19,35 +19,35 @@ pub fn power(n: usize) -> usize
     1 << n
 }
 
-// An octet of s, and zero past the last one.
-fn octet_at(s: &[u8], at: usize) -> usize
-    ensures { λ r. ⌜ OctetAt (now (s .entry)) at r ⌝ }
+// One of `octets`, and zero past the last one.
+fn octet_at(octets: &[u8], at: usize) -> usize
+    ensures { λ r. ⌜ OctetAt (now (octets .entry)) at r ⌝ }
 {
-    if at < s.len() {
-        return wide(s[at]);
+    if at < octets.len() {
+        return wide(octets[at]);
     }
     0
 }
 
 // Whether the bit at a place is set.
-pub fn bit(s: &[u8], p: usize) -> bool
-    ensures { λ r. ⌜ BitTold (now (s .entry)) p r ⌝ }
+pub fn bit(octets: &[u8], p: usize) -> bool
+    ensures { λ r. ⌜ BitTold (now (octets .entry)) p r ⌝ }
 {
-    let octet = octet_at(s, p / 8);
+    let octet = octet_at(octets, p / 8);
     let below = 7 - p % 8;
     let front = octet >> below;
     0 < front % 2
 }
 
 // The number in n bits from a place on, from the two octets there, which hold them.
-pub fn bits(s: &[u8], n: usize, p: usize) -> usize
+pub fn bits(octets: &[u8], n: usize, p: usize) -> usize
     requires { ⌜ n ≤ 8 ⌝ }
-    ensures { λ r. ⌜ BitsTold n (now (s .entry)) p r ⌝ }
+    ensures { λ r. ⌜ BitsTold n (now (octets .entry)) p r ⌝ }
 {
     let at = p / 8;
-    let high = octet_at(s, at) * 256;
+    let high = octet_at(octets, at) * 256;
     let second = at + 1;
-    let window = high + octet_at(s, second);
+    let window = high + octet_at(octets, second);
     let last = p % 8 + n;
     let below = 16 - last;
     let front = window >> below;
@@ -56,11 +56,11 @@ pub fn bits(s: &[u8], n: usize, p: usize) -> usize
 }
 
 // To an octet edge, by zero bits; a bit set there is 5 (rules 5.3 to 5.5).
-pub fn read_edge(s: &[u8], p: usize) -> EdgeRead
-    requires { ⌜ InPacket (now s) p ⌝ }
-    ensures { λ r. ⌜ EdgeTold (now (s .entry)) p r ⌝ }
+pub fn read_edge(octets: &[u8], p: usize) -> EdgeRead
+    requires { ⌜ InPacket (now octets) p ⌝ }
+    ensures { λ r. ⌜ EdgeTold (now (octets .entry)) p r ⌝ }
 {
-    let octet = octet_at(s, p / 8);
+    let octet = octet_at(octets, p / 8);
     let gap = (8 - p % 8) % 8;
     let values = power(gap);
     if 0 < octet % values {

@@ -55,16 +55,16 @@ pub fn no_fields() -> [Field; Field::LIMIT]
 }
 
 // `count` fields, the first of which begins at `from`.
-fn read_fields(s: &[u8], count: usize, from: usize, named: Named) -> FieldsRead
+fn read_fields(octets: &[u8], count: usize, from: usize, named: Named) -> FieldsRead
     requires { ⌜ count ≤ fieldsLimit ⌝ }
-    requires { ⌜ InPacket (now s) from ⌝ }
-    ensures { λ r. ⌜ FieldsTold named count (now (s .entry)) from r ⌝ }
+    requires { ⌜ InPacket (now octets) from ⌝ }
+    ensures { λ r. ⌜ FieldsTold named count (now (octets .entry)) from r ⌝ }
 {
     let mut fields = no_fields();
     let mut p = from;
     let mut i: usize = 0;
     while i < count {
-        match read_field(s, p, named) {
+        match read_field(octets, p, named) {
             FieldRead::Refused(refusal) => {
                 let none = no_fields();
                 return FieldsRead {
@@ -85,13 +85,13 @@ fn read_fields(s: &[u8], count: usize, from: usize, named: Named) -> FieldsRead
     }
 }
 
-// Whether s holds zeros only.
-fn all_zero(s: &[u8]) -> bool
-    ensures { λ r. ⌜ r ≡ allZero (now (s .entry)) ⌝ }
+// Whether `octets` holds zeros only.
+fn all_zero(octets: &[u8]) -> bool
+    ensures { λ r. ⌜ r ≡ allZero (now (octets .entry)) ⌝ }
 {
     let mut i: usize = 0;
-    while i < s.len() {
-        if 0 < s[i] {
+    while i < octets.len() {
+        if 0 < octets[i] {
             return false;
         }
         i += 1;
@@ -110,14 +110,14 @@ pub fn may_follow(left: &[u8], ending: Ending) -> bool
 }
 
 // The end of a packet: an octet edge, and behind it only what may follow (rules 5.2, 6.11 and 6.12).
-fn read_end(s: &[u8], p: usize, ending: Ending) -> EndRead
-    requires { ⌜ InPacket (now s) p ⌝ }
-    ensures { λ r. ⌜ EndTold ending (now (s .entry)) p r ⌝ }
+fn read_end(octets: &[u8], p: usize, ending: Ending) -> EndRead
+    requires { ⌜ InPacket (now octets) p ⌝ }
+    ensures { λ r. ⌜ EndTold ending (now (octets .entry)) p r ⌝ }
 {
-    match read_edge(s, p) {
+    match read_edge(octets, p) {
         EdgeRead::Refused(refusal) => EndRead::Refused(refusal),
         EdgeRead::Edge(at) => {
-            if may_follow(&s[at..], ending) {
+            if may_follow(&octets[at..], ending) {
                 return EndRead::Ends;
             }
             EndRead::Refused(Refusal::at(Refusal::LEFT_OVER, at))
@@ -137,22 +137,22 @@ pub fn refused(refusal: Refusal) -> PacketRead
 }
 
 // A packet's kind, value and fields in the named edition, or its first refusal: 4 over the packet limit, then reading order (rule 6.13).
-fn read_named(named: Named, s: &[u8], ending: Ending) -> PacketRead
-    ensures { λ r. ⌜ NamedTold named ending (now (s .entry)) r ⌝ }
+fn read_named(named: Named, octets: &[u8], ending: Ending) -> PacketRead
+    ensures { λ r. ⌜ NamedTold named ending (now (octets .entry)) r ⌝ }
 {
-    if Packet::LIMIT < s.len() {
+    if Packet::LIMIT < octets.len() {
         return refused(Refusal::new(Refusal::OUTSIDE_SIZES));
     }
-    match read_first(s, named) {
+    match read_first(octets, named) {
         FirstRead::Refused(refusal) => refused(refusal),
-        FirstRead::First(kind, value, present, at) => match read_count(s, at, present) {
+        FirstRead::First(kind, value, present, at) => match read_count(octets, at, present) {
             CountRead::Refused(refusal) => refused(refusal),
             CountRead::Count(count, from) => {
-                let all = read_fields(s, count, from, named);
+                let all = read_fields(octets, count, from, named);
                 let end = all.end;
                 match end {
                     FieldsEnd::Refused(refusal) => refused(refusal),
-                    FieldsEnd::Next(next) => match read_end(s, next, ending) {
+                    FieldsEnd::Next(next) => match read_end(octets, next, ending) {
                         EndRead::Refused(refusal) => refused(refusal),
                         EndRead::Ends => {
                             let fields = all.fields;
@@ -169,11 +169,11 @@ fn read_named(named: Named, s: &[u8], ending: Ending) -> PacketRead
 }
 
 // A packet's kind, value and fields in the edition that an octet names, or a refusal: 15 for another octet comes first (rule 7.2).
-pub fn read(edition: u8, s: &[u8], ending: Ending) -> PacketRead
-    ensures { λ r. ⌜ PacketTold (byEdition edition (λ e. readPacket e ending (now (s .entry)))) r ⌝ }
+pub fn read(edition: u8, octets: &[u8], ending: Ending) -> PacketRead
+    ensures { λ r. ⌜ PacketTold (byEdition edition (λ e. readPacket e ending (now (octets .entry)))) r ⌝ }
 {
     match packet_rules::choice_of(edition) {
-        Choice::Edition(named) => read_named(named, s, ending),
+        Choice::Edition(named) => read_named(named, octets, ending),
         Choice::Neither => refused(Refusal::new(Refusal::WRONG_SETTINGS)),
     }
 }

@@ -19,17 +19,17 @@ pub enum ValueRead {
 const ADDED_WIDTH: usize = 6;
 
 // One of those before the extension mark (rule 6.3).
-fn read_root(s: &[u8], item: usize, p: usize, e: Enumerated) -> ValueRead
-    requires { ⌜ NearPacket 3 (now s) p ⌝ }
+fn read_root(octets: &[u8], item: usize, p: usize, e: Enumerated) -> ValueRead
+    requires { ⌜ NearPacket 3 (now octets) p ⌝ }
     requires { ⌜ Narrow e ⌝ }
-    ensures { λ r. ⌜ RootTold e item (now (s .entry)) p r ⌝ }
+    ensures { λ r. ⌜ RootTold e item (now (octets .entry)) p r ⌝ }
 {
-    let all = 8 * s.len();
+    let all = 8 * octets.len();
     let next = p + e.width;
     if all < next {
         return ValueRead::Refused(Refusal::at(Refusal::ENDS_EARLY, item));
     }
-    let value = bits(s, e.width, p);
+    let value = bits(octets, e.width, p);
     if value < e.assigned {
         let octet = value as u8;
         return ValueRead::Value(octet, next);
@@ -38,24 +38,24 @@ fn read_root(s: &[u8], item: usize, p: usize, e: Enumerated) -> ValueRead
 }
 
 // One of those added after it (rules 7.5 to 7.8).
-fn read_added(s: &[u8], item: usize, p: usize, e: Enumerated) -> ValueRead
-    requires { ⌜ NearPacket 3 (now s) p ⌝ }
+fn read_added(octets: &[u8], item: usize, p: usize, e: Enumerated) -> ValueRead
+    requires { ⌜ NearPacket 3 (now octets) p ⌝ }
     requires { ⌜ Narrow e ⌝ }
-    ensures { λ r. ⌜ AddedTold e item (now (s .entry)) p r ⌝ }
+    ensures { λ r. ⌜ AddedTold e item (now (octets .entry)) p r ⌝ }
 {
     if e.added < 1 {
         return ValueRead::Refused(Refusal::at(Refusal::NOT_ASSIGNED, item));
     }
-    if bit(s, p) {
+    if bit(octets, p) {
         return ValueRead::Refused(Refusal::at(Refusal::NOT_ASSIGNED, item));
     }
-    let all = 8 * s.len();
+    let all = 8 * octets.len();
     let start = p + 1;
     let next = start + ADDED_WIDTH;
     if all < next {
         return ValueRead::Refused(Refusal::at(Refusal::ENDS_EARLY, item));
     }
-    let index = bits(s, ADDED_WIDTH, start);
+    let index = bits(octets, ADDED_WIDTH, start);
     if index < e.added {
         let value = e.assigned + index;
         let octet = value as u8;
@@ -65,19 +65,19 @@ fn read_added(s: &[u8], item: usize, p: usize, e: Enumerated) -> ValueRead
 }
 
 // A value of the item that begins at the octet `item`.
-pub fn read_value(s: &[u8], item: usize, p: usize, e: Enumerated) -> ValueRead
-    requires { ⌜ NearPacket 2 (now s) p ⌝ }
+pub fn read_value(octets: &[u8], item: usize, p: usize, e: Enumerated) -> ValueRead
+    requires { ⌜ NearPacket 2 (now octets) p ⌝ }
     requires { ⌜ Narrow e ⌝ }
-    ensures { λ r. ⌜ ValueTold e item (now (s .entry)) p r ⌝ }
+    ensures { λ r. ⌜ ValueTold e item (now (octets .entry)) p r ⌝ }
 {
     if e.extensible {
         let start = p + 1;
-        if bit(s, p) {
-            return read_added(s, item, start, e);
+        if bit(octets, p) {
+            return read_added(octets, item, start, e);
         }
-        return read_root(s, item, start, e);
+        return read_root(octets, item, start, e);
     }
-    read_root(s, item, p, e)
+    read_root(octets, item, p, e)
 }
 
 // How many bits a value before the extension mark takes, with the bit for extension where there is a mark. Read in one step they are the

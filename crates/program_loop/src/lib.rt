@@ -50,26 +50,36 @@ struct Passed {
 // Takes a block of the input from where the last one ended, and writes its text part by part, up to the first write that fails.
 fn pass(
     last: Passed,
-    t: &mut [u16; Session::PLACES],
-    o: &mut [u8; Session::PACKET_OCTETS],
-    g: &mut [u8; Session::MESSAGE_OCTETS],
+    table: &mut [u16; Session::PLACES],
+    octets: &mut [u8; Session::PACKET_OCTETS],
+    messages: &mut [u8; Session::MESSAGE_OCTETS],
     line: &mut [u8],
     block: &[u8],
     out: &mut [u8],
     handed: &mut usize,
 ) -> Passed
-    requires { ⌜ Feedable stepLimit (lent (last .base) (last .counts) (now t) (now o) (now g)) (now line) (last .begun) (now out) 0 ⌝ }
-    ensures { λ r. ⌜ Passes (lent (last .base) (last .counts) (now (t .entry)) (now (o .entry)) (now (g .entry))) (now (line .entry))
-        (last .begun) (now (block .entry)) (now (handed .entry))
-        (lent (r .base) (r .counts) (now (t .exit)) (now (o .exit)) (now (g .exit)))
-        (now (line .exit)) (r .begun) (now (out .exit)) (now (handed .exit)) (r .written) ⌝ }
+    requires { ⌜ Feedable stepLimit (lent (last .base) (last .counts) (now table) (now octets) (now messages)) (now line) (last .begun)
+        (now out) 0 ⌝ }
+    ensures { λ r. ⌜ Passes (lent (last .base) (last .counts) (now (table .entry)) (now (octets .entry)) (now (messages .entry)))
+        (now (line .entry)) (last .begun) (now (block .entry)) (now (handed .entry)) (lent (r .base) (r .counts) (now (table .exit))
+        (now (octets .exit)) (now (messages .exit))) (now (line .exit)) (r .begun) (now (out .exit)) (now (handed .exit)) (r .written) ⌝ }
 {
     let mut after = last.base;
     let mut moves = last.counts;
     let mut kept = last.begun;
     let mut from = 0;
     while from < block.len() {
-        let part = line_code::take_block(after, moves, t, o, g, line, kept, &block[from..], out);
+        let part = line_code::take_block(
+            after,
+            moves,
+            table,
+            octets,
+            messages,
+            line,
+            kept,
+            &block[from..],
+            out,
+        );
         after = part.base;
         let moved = part.counts;
         moves = moved;
@@ -107,13 +117,13 @@ pub struct Served {
 pub fn serve(
     base: u16,
     counts: Counts,
-    t: &mut [u16; Session::PLACES],
-    o: &mut [u8; Session::PACKET_OCTETS],
-    g: &mut [u8; Session::MESSAGE_OCTETS],
+    table: &mut [u16; Session::PLACES],
+    octets: &mut [u8; Session::PACKET_OCTETS],
+    messages: &mut [u8; Session::MESSAGE_OCTETS],
 ) -> Served
-    requires { ⌜ InRanges (lent base counts (now t) (now o) (now g)) ⌝ }
-    ensures { λ r. ⌜ Serves (viewIn (lent base counts (now (t .entry)) (now (o .entry)) (now (g .entry))))
-        (lent (r .base) (r .counts) (now (t .exit)) (now (o .exit)) (now (g .exit))) (r .taken) (r .handed)
+    requires { ⌜ InRanges (lent base counts (now table) (now octets) (now messages)) ⌝ }
+    ensures { λ r. ⌜ Serves (viewIn (lent base counts (now (table .entry)) (now (octets .entry)) (now (messages .entry))))
+        (lent (r .base) (r .counts) (now (table .exit)) (now (octets .exit)) (now (messages .exit))) (r .taken) (r .handed)
         (r .whole) ⌝ }
 {
     let mut line = [0u8; Line::KEPT];
@@ -137,7 +147,16 @@ pub fn serve(
                 begun,
                 written: true,
             };
-            let passed = pass(last, t, o, g, &mut line, &block[..n], &mut out, &mut handed);
+            let passed = pass(
+                last,
+                table,
+                octets,
+                messages,
+                &mut line,
+                &block[..n],
+                &mut out,
+                &mut handed,
+            );
             after = passed.base;
             let moved = passed.counts;
             moves = moved;
@@ -153,7 +172,17 @@ pub fn serve(
             }
         }
     }
-    let ended = line_code::finish(after, moves, t, o, g, &line, begun, &mut out, 0);
+    let ended = line_code::finish(
+        after,
+        moves,
+        table,
+        octets,
+        messages,
+        &line,
+        begun,
+        &mut out,
+        0,
+    );
     let last_base = ended.base;
     let last_counts = ended.counts;
     let end = ended.end;

@@ -16,12 +16,12 @@ use Rattle.sender.specs.declared.Settings.{Settings}
 
 -- the history after it: with the packet, or unchanged after a refusal
 abbrev pub HistoryAfter : Written → ℕ → List ℕ → List ℕ → List ℕ → List ℕ → List ℕ → Type 0
-HistoryAfter (written.Octets n) number packet sizes o sizes′ o′ = Joins number packet sizes o sizes′ o′
-HistoryAfter (written.Refused r) number packet sizes o sizes′ o′ = (sizes′ ≡ sizes) × (o′ ≡ o)
+HistoryAfter (written.Octets n) number packet sizes octets sizes′ octets′ = Joins number packet sizes octets sizes′ octets′
+HistoryAfter (written.Refused r) number packet sizes octets sizes′ octets′ = (sizes′ ≡ sizes) × (octets′ ≡ octets)
 
-pub record SendsHeld (sent : ℕ) (settings : Settings) (packet sizes o old sizes′ o′ new : List ℕ) (r : Written) : Type 0 where
-  pub puts : Puts (datagramToSend settings packet (sendingIn sent sizes o)) old new r
-  pub history : HistoryAfter r (sent % numbers) packet sizes o sizes′ o′
+pub record SendsHeld (sent : ℕ) (settings : Settings) (packet sizes octets old sizes′ octets′ new : List ℕ) (r : Written) : Type 0 where
+  pub puts : Puts (datagramToSend settings packet (sendingIn sent sizes octets)) old new r
+  pub history : HistoryAfter r (sent % numbers) packet sizes octets sizes′ octets′
 
 -- what a refused send returns: the session unchanged, and the refusal (rule 15.11)
 pub record RefusedSend (s : Sender) (why : Refusal) (r : Sent) : Type 0 where

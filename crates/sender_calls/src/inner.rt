@@ -77,13 +77,13 @@ fn packet_inside(packet: &[u8]) -> bool
 fn write_held(
     sent: usize,
     sizes: &[u16],
-    o: &[u8],
+    octets: &[u8],
     packet: &[u8],
     settings: Settings,
     out: &mut [u8],
 ) -> Written
-    requires { ⌜ Within sent (now sizes) (now o) ⌝ }
-    ensures { λ r. ⌜ Puts (datagramToSend settings (now (packet .entry)) (sendingIn sent (now (sizes .entry)) (now (o .entry))))
+    requires { ⌜ Within sent (now sizes) (now octets) ⌝ }
+    ensures { λ r. ⌜ Puts (datagramToSend settings (now (packet .entry)) (sendingIn sent (now (sizes .entry)) (now (octets .entry))))
         (now (out .entry)) (now (out .exit)) r ⌝ }
 {
     if Sender::LIMIT <= sent {
@@ -98,26 +98,26 @@ fn write_held(
     let number = number_of(sent);
     let kind = kind_of(settings);
     let count = count_of(settings, sent);
-    write_next(number, sizes, o, packet, kind, count, out)
+    write_next(number, sizes, octets, packet, kind, count, out)
 }
 
 // Writes the datagram and puts the packet into the history (rule 15.12). A refusal changes nothing (rule 15.11).
 pub fn send_held(
     sent: usize,
     sizes: &mut [u16],
-    o: &mut [u8],
+    octets: &mut [u8],
     packet: &[u8],
     settings: Settings,
     out: &mut [u8],
 ) -> Written
-    requires { ⌜ Within sent (now sizes) (now o) ⌝ }
-    ensures { λ r. ⌜ SendsHeld sent settings (now (packet .entry)) (now (sizes .entry)) (now (o .entry)) (now (out .entry))
-        (now (sizes .exit)) (now (o .exit)) (now (out .exit)) r ⌝ }
+    requires { ⌜ Within sent (now sizes) (now octets) ⌝ }
+    ensures { λ r. ⌜ SendsHeld sent settings (now (packet .entry)) (now (sizes .entry)) (now (octets .entry)) (now (out .entry))
+        (now (sizes .exit)) (now (octets .exit)) (now (out .exit)) r ⌝ }
 {
-    let answer = write_held(sent, sizes, o, packet, settings, out);
+    let answer = write_held(sent, sizes, octets, packet, settings, out);
     match answer {
         Written::Octets(n) => {
-            keep(number_of(sent), packet, sizes, o);
+            keep(number_of(sent), packet, sizes, octets);
             Written::Octets(n)
         }
         Written::Refused(r) => Written::Refused(r),

@@ -46,22 +46,22 @@ fn message_size(number: u16, sizes: &[u16], n: usize, m: usize, i: usize) -> usi
 // The exclusive or of the members over a size, at the front of the result (rule 4.13).
 fn message_sum(
     number: u16,
-    o: &[u8],
+    octets: &[u8],
     n: usize,
     m: usize,
     i: usize,
     size: usize,
 ) -> [u8; Packet::LIMIT]
-    requires { ⌜ (length (now o) ≡ historyOctets) × (Reach n m i) ⌝ }
+    requires { ⌜ (length (now octets) ≡ historyOctets) × (Reach n m i) ⌝ }
     requires { ⌜ size ≤ packetLimit ⌝ }
-    ensures { λ r. ⌜ MessageSum number (now (o .entry)) n m i size r ⌝ }
+    ensures { λ r. ⌜ MessageSum number (now (octets .entry)) n m i size r ⌝ }
 {
     let mut member = std::num::wrapping_add_u16(number, i as u16);
     let mut sum = [0; Packet::LIMIT];
     let mut t = 0;
     while t < n {
         member = std::num::wrapping_sub_u16(member, m as u16);
-        session_slots::add(o, slot_of(member), &mut sum[..size]);
+        session_slots::add(octets, slot_of(member), &mut sum[..size]);
         t += 1;
     }
     sum
@@ -70,18 +70,18 @@ fn message_sum(
 fn put_message(
     number: u16,
     sizes: &[u16],
-    o: &[u8],
+    octets: &[u8],
     n: usize,
     m: usize,
     i: usize,
     out: &mut [u8],
 ) -> usize
-    requires { ⌜ MessageAsked number (now sizes) (now o) n m i (now out) ⌝ }
-    ensures { λ r. ⌜ Put (itemOctets (parityIn number (now (sizes .entry)) (now (o .entry)) n m i)) (now (out .entry))
+    requires { ⌜ MessageAsked number (now sizes) (now octets) n m i (now out) ⌝ }
+    ensures { λ r. ⌜ Put (itemOctets (parityIn number (now (sizes .entry)) (now (octets .entry)) n m i)) (now (out .entry))
         (now (out .exit)) r ⌝ }
 {
     let size = message_size(number, sizes, n, m, i);
-    let sum = message_sum(number, o, n, m, i, size);
+    let sum = message_sum(number, octets, n, m, i, size);
     datagram_writer::put_item(&sum[..size], out)
 }
 
@@ -103,15 +103,15 @@ fn spare_size(number: u16, sizes: &[u16], j: usize) -> usize
     size_in(sizes, spare_slot(number, j))
 }
 
-fn put_spare(number: u16, sizes: &[u16], o: &[u8], j: usize, out: &mut [u8]) -> usize
-    requires { ⌜ SpareAsked number (now sizes) (now o) j (now out) ⌝ }
-    ensures { λ r. ⌜ Put (itemOctets (spareIn number (now (sizes .entry)) (now (o .entry)) j)) (now (out .entry)) (now (out .exit)) r ⌝ }
+fn put_spare(number: u16, sizes: &[u16], octets: &[u8], j: usize, out: &mut [u8]) -> usize
+    requires { ⌜ SpareAsked number (now sizes) (now octets) j (now out) ⌝ }
+    ensures { λ r. ⌜ Put (itemOctets (spareIn number (now (sizes .entry)) (now (octets .entry)) j)) (now (out .entry)) (now (out .exit)) r ⌝ }
 {
     let slot = spare_slot(number, j);
     let size = spare_size(number, sizes, j);
     let from = slot * Packet::LIMIT;
     let to = from + size;
-    datagram_writer::put_item(&o[from..to], out)
+    datagram_writer::put_item(&octets[from..to], out)
 }
 
 // ---- spares or messages
@@ -129,19 +129,19 @@ fn one_size(number: u16, sizes: &[u16], kind: Kind, count: usize, j: usize) -> u
 fn put_one(
     number: u16,
     sizes: &[u16],
-    o: &[u8],
+    octets: &[u8],
     kind: Kind,
     count: usize,
     j: usize,
     out: &mut [u8],
 ) -> usize
-    requires { ⌜ ItemAsked kind count number (now sizes) (now o) j (now out) ⌝ }
-    ensures { λ r. ⌜ Put (itemOctets (itemIn kind count number (now (sizes .entry)) (now (o .entry)) j)) (now (out .entry))
+    requires { ⌜ ItemAsked kind count number (now sizes) (now octets) j (now out) ⌝ }
+    ensures { λ r. ⌜ Put (itemOctets (itemIn kind count number (now (sizes .entry)) (now (octets .entry)) j)) (now (out .entry))
         (now (out .exit)) r ⌝ }
 {
     match kind {
-        Kind::Spares => put_spare(number, sizes, o, j, out),
-        Kind::Parity(n) => put_message(number, sizes, o, n, count, j, out),
+        Kind::Spares => put_spare(number, sizes, octets, j, out),
+        Kind::Parity(n) => put_message(number, sizes, octets, n, count, j, out),
     }
 }
 
@@ -164,19 +164,19 @@ pub fn items_size(number: u16, sizes: &[u16], kind: Kind, count: usize) -> usize
 pub fn put_items(
     number: u16,
     sizes: &[u16],
-    o: &[u8],
+    octets: &[u8],
     kind: Kind,
     count: usize,
     out: &mut [u8],
 ) -> usize
-    requires { ⌜ ItemsAsked kind count number (now sizes) (now o) (now out) ⌝ }
-    ensures { λ r. ⌜ Put (itemsOctets (itemsIn kind count number (now (sizes .entry)) (now (o .entry)))) (now (out .entry))
+    requires { ⌜ ItemsAsked kind count number (now sizes) (now octets) (now out) ⌝ }
+    ensures { λ r. ⌜ Put (itemsOctets (itemsIn kind count number (now (sizes .entry)) (now (octets .entry)))) (now (out .entry))
         (now (out .exit)) r ⌝ }
 {
     let mut j = 0;
     let mut at = 0;
     while j < count {
-        let size = put_one(number, sizes, o, kind, count, j, &mut out[at..]);
+        let size = put_one(number, sizes, octets, kind, count, j, &mut out[at..]);
         at += size;
         j += 1;
     }

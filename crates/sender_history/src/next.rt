@@ -27,18 +27,18 @@ fn next_size(number: u16, sizes: &[u16], packet: &[u8], kind: Kind, count: usize
 fn put_next(
     number: u16,
     sizes: &[u16],
-    o: &[u8],
+    octets: &[u8],
     packet: &[u8],
     kind: Kind,
     count: usize,
     out: &mut [u8],
 ) -> usize
-    requires { ⌜ NextRoom number (now sizes) (now o) (now packet) kind count (now out) ⌝ }
-    ensures { λ r. ⌜ Put (datagramOctets (carriedIn number (now (sizes .entry)) (now (o .entry)) (now (packet .entry)) kind count))
+    requires { ⌜ NextRoom number (now sizes) (now octets) (now packet) kind count (now out) ⌝ }
+    ensures { λ r. ⌜ Put (datagramOctets (carriedIn number (now (sizes .entry)) (now (octets .entry)) (now (packet .entry)) kind count))
         (now (out .entry)) (now (out .exit)) r ⌝ }
 {
     let at = datagram_writer::put_front(number, packet, kind, count, out);
-    let items = put_items(number, sizes, o, kind, count, &mut out[at..]);
+    let items = put_items(number, sizes, octets, kind, count, &mut out[at..]);
     at + items
 }
 
@@ -46,20 +46,20 @@ fn put_next(
 pub fn write_next(
     number: u16,
     sizes: &[u16],
-    o: &[u8],
+    octets: &[u8],
     packet: &[u8],
     kind: Kind,
     count: usize,
     out: &mut [u8],
 ) -> Written
-    requires { ⌜ NextAsked (now sizes) (now o) (now packet) kind count ⌝ }
-    ensures { λ r. ⌜ Puts (done (datagramOctets (carriedIn number (now (sizes .entry)) (now (o .entry))
+    requires { ⌜ NextAsked (now sizes) (now octets) (now packet) kind count ⌝ }
+    ensures { λ r. ⌜ Puts (done (datagramOctets (carriedIn number (now (sizes .entry)) (now (octets .entry))
         (now (packet .entry)) kind count))) (now (out .entry)) (now (out .exit)) r ⌝ }
 {
     let size = next_size(number, sizes, packet, kind, count);
     if out.len() < size {
         return Written::Refused(Refusal::new(Refusal::NO_ROOM));
     }
-    let written = put_next(number, sizes, o, packet, kind, count, out);
+    let written = put_next(number, sizes, octets, packet, kind, count, out);
     Written::Octets(written)
 }

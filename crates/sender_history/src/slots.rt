@@ -42,9 +42,9 @@ fn size_right(at: usize, size: usize) -> bool
 }
 
 // Whether the packet at place p is in range: its length, and zeros past it.
-fn place_right(sent: usize, sizes: &[u16], o: &[u8], p: usize, table: &[u8]) -> bool
-    requires { ⌜ (sent + p < 4294967296) × (Arrays (now sizes) (now o)) × (now table ≡ mask) ⌝ }
-    ensures { λ r. ⌜ r ≡ placeInRange sent (now (sizes .entry)) (now (o .entry)) p ⌝ }
+fn place_right(sent: usize, sizes: &[u16], octets: &[u8], p: usize, table: &[u8]) -> bool
+    requires { ⌜ (sent + p < 4294967296) × (Arrays (now sizes) (now octets)) × (now table ≡ mask) ⌝ }
+    ensures { λ r. ⌜ r ≡ placeInRange sent (now (sizes .entry)) (now (octets .entry)) p ⌝ }
 {
     let at = sent + p;
     let slot = at % Sender::HISTORY;
@@ -52,13 +52,13 @@ fn place_right(sent: usize, sizes: &[u16], o: &[u8], p: usize, table: &[u8]) -> 
     if !size_right(at, size) {
         return false;
     }
-    session_slots::zeros_past(o, slot, size, table)
+    session_slots::zeros_past(octets, slot, size, table)
 }
 
 // Whether the session is within its ranges (rule 15.13).
-pub fn in_ranges(sent: usize, sizes: &[u16], o: &[u8]) -> bool
-    requires { ⌜ Arrays (now sizes) (now o) ⌝ }
-    ensures { λ r. ⌜ r ≡ historyInRanges sent (now (sizes .entry)) (now (o .entry)) ⌝ }
+pub fn in_ranges(sent: usize, sizes: &[u16], octets: &[u8]) -> bool
+    requires { ⌜ Arrays (now sizes) (now octets) ⌝ }
+    ensures { λ r. ⌜ r ≡ historyInRanges sent (now (sizes .entry)) (now (octets .entry)) ⌝ }
 {
     if Sender::LIMIT < sent {
         return false;
@@ -67,7 +67,7 @@ pub fn in_ranges(sent: usize, sizes: &[u16], o: &[u8]) -> bool
     let mut ok = true;
     let mut p = 0;
     while p < Sender::HISTORY {
-        let right = place_right(sent, sizes, o, p, &table);
+        let right = place_right(sent, sizes, octets, p, &table);
         ok = ok & right;
         p += 1;
     }
@@ -77,12 +77,13 @@ pub fn in_ranges(sent: usize, sizes: &[u16], o: &[u8]) -> bool
 // ---- a packet joins
 
 // The packet takes the slot of its number, which held the oldest packet (rule 15.12).
-pub fn keep(number: u16, packet: &[u8], sizes: &mut [u16], o: &mut [u8])
-    requires { ⌜ (Arrays (now sizes) (now o)) × (length (now packet) ≤ packetLimit) ⌝ }
-    ensures { λ _. ⌜ Joins number (now (packet .entry)) (now (sizes .entry)) (now (o .entry)) (now (sizes .exit)) (now (o .exit)) ⌝ }
+pub fn keep(number: u16, packet: &[u8], sizes: &mut [u16], octets: &mut [u8])
+    requires { ⌜ (Arrays (now sizes) (now octets)) × (length (now packet) ≤ packetLimit) ⌝ }
+    ensures { λ _. ⌜ Joins number (now (packet .entry)) (now (sizes .entry)) (now (octets .entry)) (now (sizes .exit)) (now (octets .exit))
+        ⌝ }
 {
     let slot = slot_of(number);
-    session_slots::clear(o, slot);
-    session_slots::put(o, slot, packet);
+    session_slots::clear(octets, slot);
+    session_slots::put(octets, slot, packet);
     sizes[slot] = packet.len() as u16;
 }

@@ -56,17 +56,17 @@ fn passed(whole: u64) -> u16
 // The states and lengths of all kept numbers, slot by slot. The number base - j is blank exactly if j exceeds the sum of the counts, and no
 // other is (rule 13.3): the number in a slot is at place number - base + 32 of the view. Sixteen-bit numbers, and no branch that leaves the
 // loop, allow eight slots to be checked together.
-fn all_states_right(base: u16, whole: u64, t: &[u16]) -> bool
-    requires { ⌜ length (now t) ≡ places ⌝ }
-    ensures { λ r. ⌜ r ≡ allBelow slotsKept (stateTest base whole (now (t .entry))) ⌝ }
+fn all_states_right(base: u16, whole: u64, table: &[u16]) -> bool
+    requires { ⌜ length (now table) ≡ places ⌝ }
+    ensures { λ r. ⌜ r ≡ allBelow slotsKept (stateTest base whole (now (table .entry))) ⌝ }
 {
     let shift = BEFORE + KEPT - base % KEPT;
     let gone = passed(whole);
     let mut ok = true;
     let mut i = 0;
     while i < Session::KEPT {
-        let state = session_held::state_at(t, i);
-        let size = session_held::size_at(t, i);
+        let state = session_held::state_at(table, i);
+        let size = session_held::size_at(table, i);
         let place = (i as u16 + shift) % KEPT;
         let right = state_right(state, size, gone + place < BEFORE);
         ok = ok & right;
@@ -76,17 +76,17 @@ fn all_states_right(base: u16, whole: u64, t: &[u16]) -> bool
 }
 
 // The notes of all kept numbers, slot by slot, also without a branch (rule 13.10). The number at the first place of the view is base - 32.
-fn all_notes_right(base: u16, t: &[u16]) -> bool
-    requires { ⌜ length (now t) ≡ places ⌝ }
-    ensures { λ r. ⌜ r ≡ allBelow slotsKept (noteTest base (now (t .entry))) ⌝ }
+fn all_notes_right(base: u16, table: &[u16]) -> bool
+    requires { ⌜ length (now table) ≡ places ⌝ }
+    ensures { λ r. ⌜ r ≡ allBelow slotsKept (noteTest base (now (table .entry))) ⌝ }
 {
     let shift = BEFORE + KEPT - base % KEPT;
     let first = std::num::wrapping_sub_u16(base, BEFORE);
     let mut ok = true;
     let mut i = 0;
     while i < Session::KEPT {
-        let state = session_held::state_at(t, i);
-        let note = session_held::note_at(t, i);
+        let state = session_held::state_at(table, i);
+        let note = session_held::note_at(table, i);
         let place = (i as u16 + shift) % KEPT;
         let number = std::num::wrapping_add_u16(first, place);
         let right = note_right(state, note, number);
@@ -97,18 +97,18 @@ fn all_notes_right(base: u16, t: &[u16]) -> bool
 }
 
 // The octets of all packets, whose lengths are right (rule 13.5).
-fn all_packets_laid(t: &[u16], o: &[u8], passes: &[u8]) -> bool
-    requires { ⌜ length (now t) ≡ places ⌝ }
-    requires { ⌜ SizesFit (now t) ⌝ }
-    requires { ⌜ length (now o) ≡ keptOctets ⌝ }
+fn all_packets_laid(table: &[u16], octets: &[u8], passes: &[u8]) -> bool
+    requires { ⌜ length (now table) ≡ places ⌝ }
+    requires { ⌜ SizesFit (now table) ⌝ }
+    requires { ⌜ length (now octets) ≡ keptOctets ⌝ }
     requires { ⌜ now passes ≡ mask ⌝ }
-    ensures { λ r. ⌜ r ≡ allBelow slotsKept (packetTest (now (t .entry)) (now (o .entry))) ⌝ }
+    ensures { λ r. ⌜ r ≡ allBelow slotsKept (packetTest (now (table .entry)) (now (octets .entry))) ⌝ }
 {
     let mut ok = true;
     let mut i = 0;
     while i < Session::KEPT {
-        let size = session_held::size_at(t, i);
-        let right = slot_right(o, i, size, passes);
+        let size = session_held::size_at(table, i);
+        let right = slot_right(octets, i, size, passes);
         ok = ok & right;
         i += 1;
     }
@@ -116,24 +116,24 @@ fn all_packets_laid(t: &[u16], o: &[u8], passes: &[u8]) -> bool
 }
 
 // All kept numbers.
-fn all_kept_right(base: u16, whole: u64, t: &[u16], o: &[u8], passes: &[u8]) -> bool
-    requires { ⌜ length (now t) ≡ places ⌝ }
-    requires { ⌜ length (now o) ≡ keptOctets ⌝ }
+fn all_kept_right(base: u16, whole: u64, table: &[u16], octets: &[u8], passes: &[u8]) -> bool
+    requires { ⌜ length (now table) ≡ places ⌝ }
+    requires { ⌜ length (now octets) ≡ keptOctets ⌝ }
     requires { ⌜ now passes ≡ mask ⌝ }
-    ensures { λ r. ⌜ r ≡ allKept base whole (now (t .entry)) (now (o .entry)) ⌝ }
+    ensures { λ r. ⌜ r ≡ allKept base whole (now (table .entry)) (now (octets .entry)) ⌝ }
 {
-    if all_states_right(base, whole, t) {
-        return all_packets_laid(t, o, passes);
+    if all_states_right(base, whole, table) {
+        return all_packets_laid(table, octets, passes);
     }
     false
 }
 
 // All that is held, by distance from the base (rules 13.5 to 13.9).
-fn all_heard_right(base: u16, t: &[u16], g: &[u8], passes: &[u8]) -> bool
-    requires { ⌜ length (now t) ≡ places ⌝ }
-    requires { ⌜ length (now g) ≡ messageOctets ⌝ }
+fn all_heard_right(base: u16, table: &[u16], messages: &[u8], passes: &[u8]) -> bool
+    requires { ⌜ length (now table) ≡ places ⌝ }
+    requires { ⌜ length (now messages) ≡ messageOctets ⌝ }
     requires { ⌜ now passes ≡ mask ⌝ }
-    ensures { λ r. ⌜ r ≡ allBelow keptAhead (heardTest base (now (t .entry)) (now (g .entry))) ⌝ }
+    ensures { λ r. ⌜ r ≡ allBelow keptAhead (heardTest base (now (table .entry)) (now (messages .entry))) ⌝ }
 {
     let base = base as usize;
     let mut ok = true;
@@ -141,8 +141,8 @@ fn all_heard_right(base: u16, t: &[u16], g: &[u8], passes: &[u8]) -> bool
     while d < Session::HEARD {
         let slot = (base + d) % Session::HEARD;
         let place = (base + Session::BEFORE + (Session::BEFORE + d)) % Session::KEPT;
-        let known = session_held::is_known(t, place);
-        let right = heard_right(t, slot, known, g, passes);
+        let known = session_held::is_known(table, place);
+        let right = heard_right(table, slot, known, messages, passes);
         ok = ok & right;
         d += 1;
     }
@@ -150,17 +150,17 @@ fn all_heard_right(base: u16, t: &[u16], g: &[u8], passes: &[u8]) -> bool
 }
 
 // All ranges of a session (rules 13.1 to 13.11).
-pub fn in_ranges(base: u16, counts: Counts, t: &[u16], o: &[u8], g: &[u8]) -> bool
-    requires { ⌜ length (now t) ≡ places ⌝ }
-    requires { ⌜ length (now o) ≡ keptOctets ⌝ }
-    requires { ⌜ length (now g) ≡ messageOctets ⌝ }
-    ensures { λ r. ⌜ r ≡ lentInRanges (lent base counts (now (t .entry)) (now (o .entry)) (now (g .entry))) ⌝ }
+pub fn in_ranges(base: u16, counts: Counts, table: &[u16], octets: &[u8], messages: &[u8]) -> bool
+    requires { ⌜ length (now table) ≡ places ⌝ }
+    requires { ⌜ length (now octets) ≡ keptOctets ⌝ }
+    requires { ⌜ length (now messages) ≡ messageOctets ⌝ }
+    ensures { λ r. ⌜ r ≡ lentInRanges (lent base counts (now (table .entry)) (now (octets .entry)) (now (messages .entry))) ⌝ }
 {
     let whole = session_held::total(counts);
     let passes = session_slots::passing();
     let summed = sum_right(base, whole);
-    let kept = all_kept_right(base, whole, t, o, &passes);
-    let noted = all_notes_right(base, t);
-    let heard = all_heard_right(base, t, g, &passes);
+    let kept = all_kept_right(base, whole, table, octets, &passes);
+    let noted = all_notes_right(base, table);
+    let heard = all_heard_right(base, table, messages, &passes);
     ((summed & kept) & noted) & heard
 }

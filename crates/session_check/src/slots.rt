@@ -42,16 +42,16 @@ pub fn note_right(state: u16, note: u16, number: u16) -> bool
 }
 
 // Octets past a length are zero (rule 13.5).
-pub fn slot_right(o: &[u8], slot: usize, size: usize, passes: &[u8]) -> bool
-    requires { ⌜ HasSlot slot (now o) ⌝ }
+pub fn slot_right(octets: &[u8], slot: usize, size: usize, passes: &[u8]) -> bool
+    requires { ⌜ HasSlot slot (now octets) ⌝ }
     requires { ⌜ size ≤ packetLimit ⌝ }
     requires { ⌜ now passes ≡ mask ⌝ }
-    ensures { λ r. ⌜ r ≡ zerosPast (now (o .entry)) slot size ⌝ }
+    ensures { λ r. ⌜ r ≡ zerosPast (now (octets .entry)) slot size ⌝ }
 {
     if size == 0 {
-        return session_slots::all_zero(o, slot);
+        return session_slots::all_zero(octets, slot);
     }
-    session_slots::zeros_past(o, slot, size, passes)
+    session_slots::zeros_past(octets, slot, size, passes)
 }
 
 // An accepted number is known, only accepted numbers have messages, with m = 0 also n = 0, otherwise n and m are within the sizes (rules
@@ -80,34 +80,34 @@ fn most(i: usize, m: usize) -> usize
 }
 
 // A message in its slot: its length is within the limit, and octets past it are zero (rules 13.5 and 13.8).
-fn message_right(size: usize, limit: usize, g: &[u8], slot: usize, passes: &[u8]) -> bool
-    requires { ⌜ HasSlot slot (now g) ⌝ }
+fn message_right(size: usize, limit: usize, messages: &[u8], slot: usize, passes: &[u8]) -> bool
+    requires { ⌜ HasSlot slot (now messages) ⌝ }
     requires { ⌜ limit ≤ messageLimit ⌝ }
     requires { ⌜ now passes ≡ mask ⌝ }
-    ensures { λ r. ⌜ r ≡ (leb size limit && zerosPast (now (g .entry)) slot size) ⌝ }
+    ensures { λ r. ⌜ r ≡ (leb size limit && zerosPast (now (messages .entry)) slot size) ⌝ }
 {
     if size <= limit {
-        return slot_right(g, slot, size, passes);
+        return slot_right(messages, slot, size, passes);
     }
     false
 }
 
 // All messages of the number in a slot, which has m of them.
-fn messages_right(t: &[u16], slot: usize, m: usize, g: &[u8], passes: &[u8]) -> bool
-    requires { ⌜ length (now t) ≡ places ⌝ }
+fn messages_right(table: &[u16], slot: usize, m: usize, messages: &[u8], passes: &[u8]) -> bool
+    requires { ⌜ length (now table) ≡ places ⌝ }
     requires { ⌜ slot < slotsHeard ⌝ }
-    requires { ⌜ length (now g) ≡ messageOctets ⌝ }
+    requires { ⌜ length (now messages) ≡ messageOctets ⌝ }
     requires { ⌜ now passes ≡ mask ⌝ }
-    ensures { λ r. ⌜ r ≡ allBelow messagesLimit (messageLaid (now (t .entry)) (now (g .entry)) slot m) ⌝ }
+    ensures { λ r. ⌜ r ≡ allBelow messagesLimit (messageLaid (now (table .entry)) (now (messages .entry)) slot m) ⌝ }
 {
     let at = slot * Parity::MESSAGES;
     let mut ok = true;
     let mut i = 0;
     while i < Parity::MESSAGES {
         let place = at + i;
-        let size = session_held::message_size_at(t, place);
+        let size = session_held::message_size_at(table, place);
         let limit = most(i, m);
-        let right = message_right(size, limit, g, place, passes);
+        let right = message_right(size, limit, messages, place, passes);
         ok = ok & right;
         i += 1;
     }
@@ -115,16 +115,16 @@ fn messages_right(t: &[u16], slot: usize, m: usize, g: &[u8], passes: &[u8]) -> 
 }
 
 // Whether all messages of a number have length 0.
-fn no_sizes(t: &[u16], slot: usize) -> bool
-    requires { ⌜ length (now t) ≡ places ⌝ }
+fn no_sizes(table: &[u16], slot: usize) -> bool
+    requires { ⌜ length (now table) ≡ places ⌝ }
     requires { ⌜ slot < slotsHeard ⌝ }
-    ensures { λ r. ⌜ r ≡ allBelow messagesLimit (sizeless (now (t .entry)) slot) ⌝ }
+    ensures { λ r. ⌜ r ≡ allBelow messagesLimit (sizeless (now (table .entry)) slot) ⌝ }
 {
     let at = slot * Parity::MESSAGES;
     let mut ok = true;
     let mut i = 0;
     while i < Parity::MESSAGES {
-        let size = session_held::message_size_at(t, at + i);
+        let size = session_held::message_size_at(table, at + i);
         ok = ok & (size == 0);
         i += 1;
     }
@@ -132,50 +132,50 @@ fn no_sizes(t: &[u16], slot: usize) -> bool
 }
 
 // Whether the slots of all messages of a number have only zeros.
-fn no_octets(g: &[u8], slot: usize) -> bool
-    requires { ⌜ length (now g) ≡ messageOctets ⌝ }
+fn no_octets(messages: &[u8], slot: usize) -> bool
+    requires { ⌜ length (now messages) ≡ messageOctets ⌝ }
     requires { ⌜ slot < slotsHeard ⌝ }
-    ensures { λ r. ⌜ r ≡ allBelow messagesLimit (emptyAt (now (g .entry)) slot) ⌝ }
+    ensures { λ r. ⌜ r ≡ allBelow messagesLimit (emptyAt (now (messages .entry)) slot) ⌝ }
 {
     let at = slot * HELD_OCTETS;
     let mut ok = true;
     let mut k = 0;
     while k < HELD_OCTETS {
-        ok = ok & (g[at + k] == 0);
+        ok = ok & (messages[at + k] == 0);
         k += 1;
     }
     ok
 }
 
 // The message slots of a number that has no messages (rules 13.5 and 13.9).
-fn no_messages(t: &[u16], slot: usize, g: &[u8]) -> bool
-    requires { ⌜ length (now t) ≡ places ⌝ }
+fn no_messages(table: &[u16], slot: usize, messages: &[u8]) -> bool
+    requires { ⌜ length (now table) ≡ places ⌝ }
     requires { ⌜ slot < slotsHeard ⌝ }
-    requires { ⌜ length (now g) ≡ messageOctets ⌝ }
-    ensures { λ r. ⌜ r ≡ allBelow messagesLimit (messageLaid (now (t .entry)) (now (g .entry)) slot 0) ⌝ }
+    requires { ⌜ length (now messages) ≡ messageOctets ⌝ }
+    ensures { λ r. ⌜ r ≡ allBelow messagesLimit (messageLaid (now (table .entry)) (now (messages .entry)) slot 0) ⌝ }
 {
-    if no_sizes(t, slot) {
-        return no_octets(g, slot);
+    if no_sizes(table, slot) {
+        return no_octets(messages, slot);
     }
     false
 }
 
 // A number from the base on in its slot: its mark, n and m, and its messages (rules 13.5 to 13.9).
-pub fn heard_right(t: &[u16], slot: usize, known: bool, g: &[u8], passes: &[u8]) -> bool
-    requires { ⌜ length (now t) ≡ places ⌝ }
+pub fn heard_right(table: &[u16], slot: usize, known: bool, messages: &[u8], passes: &[u8]) -> bool
+    requires { ⌜ length (now table) ≡ places ⌝ }
     requires { ⌜ slot < slotsHeard ⌝ }
-    requires { ⌜ length (now g) ≡ messageOctets ⌝ }
+    requires { ⌜ length (now messages) ≡ messageOctets ⌝ }
     requires { ⌜ now passes ≡ mask ⌝ }
-    ensures { λ r. ⌜ r ≡ heardRight (now (t .entry)) (now (g .entry)) slot known ⌝ }
+    ensures { λ r. ⌜ r ≡ heardRight (now (table .entry)) (now (messages .entry)) slot known ⌝ }
 {
-    let mark = session_held::mark_at(t, slot);
-    let n = session_held::n_at(t, slot);
-    let m = session_held::m_at(t, slot);
+    let mark = session_held::mark_at(table, slot);
+    let n = session_held::n_at(table, slot);
+    let m = session_held::m_at(table, slot);
     if mark_right(mark, known, n, m) {
         if m == 0 {
-            return no_messages(t, slot, g);
+            return no_messages(table, slot, messages);
         }
-        return messages_right(t, slot, m, g, passes);
+        return messages_right(table, slot, m, messages, passes);
     }
     false
 }

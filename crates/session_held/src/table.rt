@@ -40,135 +40,135 @@ pub fn total(c: Counts) -> u64
 }
 
 // The state of a kept number, encoded as a number, and how many octets its packet has.
-pub fn state_at(t: &[u16], slot: usize) -> u16
-    requires { ⌜ length (now t) ≡ places ⌝ }
+pub fn state_at(table: &[u16], slot: usize) -> u16
+    requires { ⌜ length (now table) ≡ places ⌝ }
     requires { ⌜ slot < slotsKept ⌝ }
-    ensures { λ r. ⌜ r ≡ stateIn (now (t .entry)) slot ⌝ }
+    ensures { λ r. ⌜ r ≡ stateIn (now (table .entry)) slot ⌝ }
 {
-    t[slot]
+    table[slot]
 }
 
-pub fn size_at(t: &[u16], slot: usize) -> usize
-    requires { ⌜ length (now t) ≡ places ⌝ }
+pub fn size_at(table: &[u16], slot: usize) -> usize
+    requires { ⌜ length (now table) ≡ places ⌝ }
     requires { ⌜ slot < slotsKept ⌝ }
-    ensures { λ r. ⌜ r ≡ sizeIn (now (t .entry)) slot ⌝ }
+    ensures { λ r. ⌜ r ≡ sizeIn (now (table .entry)) slot ⌝ }
 {
-    let size = t[Session::SIZES + slot];
+    let size = table[Session::SIZES + slot];
     octets::wide(size)
 }
 
 // The note of a kept number: the number of the datagram whose offer filled it (rule 9.5).
-pub fn note_at(t: &[u16], slot: usize) -> u16
-    requires { ⌜ length (now t) ≡ places ⌝ }
+pub fn note_at(table: &[u16], slot: usize) -> u16
+    requires { ⌜ length (now table) ≡ places ⌝ }
     requires { ⌜ slot < slotsKept ⌝ }
-    ensures { λ r. ⌜ r ≡ noteIn (now (t .entry)) slot ⌝ }
+    ensures { λ r. ⌜ r ≡ noteIn (now (table .entry)) slot ⌝ }
 {
-    t[Session::NOTES + slot]
+    table[Session::NOTES + slot]
 }
 
 // Whether a kept number is known.
-pub fn is_known(t: &[u16], slot: usize) -> bool
-    requires { ⌜ length (now t) ≡ places ⌝ }
+pub fn is_known(table: &[u16], slot: usize) -> bool
+    requires { ⌜ length (now table) ≡ places ⌝ }
     requires { ⌜ slot < slotsKept ⌝ }
-    ensures { λ r. ⌜ r ≡ not (isUnknown (stateNumbered (stateIn (now (t .entry)) slot))) ⌝ }
+    ensures { λ r. ⌜ r ≡ not (isUnknown (stateNumbered (stateIn (now (table .entry)) slot))) ⌝ }
 {
-    t[slot] != Session::UNKNOWN
+    table[slot] != Session::UNKNOWN
 }
 
 // Of a number from the base on: its mark, whether its datagram was accepted, its n and its m (rule 9.4).
-pub fn mark_at(t: &[u16], slot: usize) -> u16
-    requires { ⌜ length (now t) ≡ places ⌝ }
+pub fn mark_at(table: &[u16], slot: usize) -> u16
+    requires { ⌜ length (now table) ≡ places ⌝ }
     requires { ⌜ slot < slotsHeard ⌝ }
-    ensures { λ r. ⌜ r ≡ markIn (now (t .entry)) slot ⌝ }
+    ensures { λ r. ⌜ r ≡ markIn (now (table .entry)) slot ⌝ }
 {
-    t[Session::MARKS + slot]
+    table[Session::MARKS + slot]
 }
 
-pub fn accepted_at(t: &[u16], slot: usize) -> bool
-    requires { ⌜ length (now t) ≡ places ⌝ }
+pub fn accepted_at(table: &[u16], slot: usize) -> bool
+    requires { ⌜ length (now table) ≡ places ⌝ }
     requires { ⌜ slot < slotsHeard ⌝ }
-    ensures { λ r. ⌜ r ≡ eqb (markIn (now (t .entry)) slot) 1 ⌝ }
+    ensures { λ r. ⌜ r ≡ eqb (markIn (now (table .entry)) slot) 1 ⌝ }
 {
-    t[Session::MARKS + slot] == 1
+    table[Session::MARKS + slot] == 1
 }
 
-pub fn n_at(t: &[u16], slot: usize) -> usize
-    requires { ⌜ length (now t) ≡ places ⌝ }
+pub fn n_at(table: &[u16], slot: usize) -> usize
+    requires { ⌜ length (now table) ≡ places ⌝ }
     requires { ⌜ slot < slotsHeard ⌝ }
-    ensures { λ r. ⌜ r ≡ nIn (now (t .entry)) slot ⌝ }
+    ensures { λ r. ⌜ r ≡ nIn (now (table .entry)) slot ⌝ }
 {
-    let n = t[Session::NS + slot];
+    let n = table[Session::NS + slot];
     octets::wide(n)
 }
 
-pub fn m_at(t: &[u16], slot: usize) -> usize
-    requires { ⌜ length (now t) ≡ places ⌝ }
+pub fn m_at(table: &[u16], slot: usize) -> usize
+    requires { ⌜ length (now table) ≡ places ⌝ }
     requires { ⌜ slot < slotsHeard ⌝ }
-    ensures { λ r. ⌜ r ≡ mIn (now (t .entry)) slot ⌝ }
+    ensures { λ r. ⌜ r ≡ mIn (now (table .entry)) slot ⌝ }
 {
-    let m = t[Session::MS + slot];
+    let m = table[Session::MS + slot];
     octets::wide(m)
 }
 
 // How many octets a message has.
-pub fn message_size_at(t: &[u16], slot: usize) -> usize
-    requires { ⌜ length (now t) ≡ places ⌝ }
+pub fn message_size_at(table: &[u16], slot: usize) -> usize
+    requires { ⌜ length (now table) ≡ places ⌝ }
     requires { ⌜ slot < slotsMessages ⌝ }
-    ensures { λ r. ⌜ r ≡ messageSizeIn (now (t .entry)) slot ⌝ }
+    ensures { λ r. ⌜ r ≡ messageSizeIn (now (table .entry)) slot ⌝ }
 {
-    let size = t[Session::MESSAGE_SIZES + slot];
+    let size = table[Session::MESSAGE_SIZES + slot];
     octets::wide(size)
 }
 
 // Sets the state, the size and the note of a kept number.
-pub fn set_kept(t: &mut [u16], slot: usize, state: u16, size: u16, note: u16)
-    requires { ⌜ length (now t) ≡ places ⌝ }
+pub fn set_kept(table: &mut [u16], slot: usize, state: u16, size: u16, note: u16)
+    requires { ⌜ length (now table) ≡ places ⌝ }
     requires { ⌜ slot < slotsKept ⌝ }
-    ensures { λ _. ⌜ now (t .exit) ≡ keptSet (now (t .entry)) slot state size note ⌝ }
+    ensures { λ _. ⌜ now (table .exit) ≡ keptSet (now (table .entry)) slot state size note ⌝ }
 {
-    t[slot] = state;
-    t[Session::SIZES + slot] = size;
-    t[Session::NOTES + slot] = note;
+    table[slot] = state;
+    table[Session::SIZES + slot] = size;
+    table[Session::NOTES + slot] = note;
 }
 
 // Marks a number from the base on as accepted, with its n and m (rule 10.10).
-pub fn set_heard(t: &mut [u16], slot: usize, n: u16, m: u16)
-    requires { ⌜ length (now t) ≡ places ⌝ }
+pub fn set_heard(table: &mut [u16], slot: usize, n: u16, m: u16)
+    requires { ⌜ length (now table) ≡ places ⌝ }
     requires { ⌜ slot < slotsHeard ⌝ }
-    ensures { λ _. ⌜ now (t .exit) ≡ heardSet (now (t .entry)) slot 1 n m ⌝ }
+    ensures { λ _. ⌜ now (table .exit) ≡ heardSet (now (table .entry)) slot 1 n m ⌝ }
 {
-    t[Session::MARKS + slot] = 1;
-    t[Session::NS + slot] = n;
-    t[Session::MS + slot] = m;
+    table[Session::MARKS + slot] = 1;
+    table[Session::NS + slot] = n;
+    table[Session::MS + slot] = m;
 }
 
-pub fn set_message_size(t: &mut [u16], slot: usize, size: u16)
-    requires { ⌜ length (now t) ≡ places ⌝ }
+pub fn set_message_size(table: &mut [u16], slot: usize, size: u16)
+    requires { ⌜ length (now table) ≡ places ⌝ }
     requires { ⌜ slot < slotsMessages ⌝ }
-    ensures { λ _. ⌜ now (t .exit) ≡ set (now (t .entry)) (messagePlace slot) size ⌝ }
+    ensures { λ _. ⌜ now (table .exit) ≡ set (now (table .entry)) (messagePlace slot) size ⌝ }
 {
-    t[Session::MESSAGE_SIZES + slot] = size;
+    table[Session::MESSAGE_SIZES + slot] = size;
 }
 
 // Drops the mark and the messages of a number (rule 12.7).
-pub fn drop_heard(t: &mut [u16], slot: usize)
-    requires { ⌜ length (now t) ≡ places ⌝ }
+pub fn drop_heard(table: &mut [u16], slot: usize)
+    requires { ⌜ length (now table) ≡ places ⌝ }
     requires { ⌜ slot < slotsHeard ⌝ }
-    ensures { λ _. ⌜ now (t .exit) ≡ heardDropped (now (t .entry)) slot ⌝ }
+    ensures { λ _. ⌜ now (table .exit) ≡ heardDropped (now (table .entry)) slot ⌝ }
 {
-    t[Session::MARKS + slot] = 0;
-    t[Session::NS + slot] = 0;
-    t[Session::MS + slot] = 0;
-    free_sizes(t, Session::MESSAGE_SIZES + slot * Parity::MESSAGES);
+    table[Session::MARKS + slot] = 0;
+    table[Session::NS + slot] = 0;
+    table[Session::MS + slot] = 0;
+    free_sizes(table, Session::MESSAGE_SIZES + slot * Parity::MESSAGES);
 }
 
 // Sets four sizes to 0.
-fn free_sizes(t: &mut [u16], at: usize)
-    requires { ⌜ at + messagesLimit ≤ length (now t) ⌝ }
-    ensures { λ _. ⌜ now (t .exit) ≡ sizesFreed (now (t .entry)) at ⌝ }
+fn free_sizes(table: &mut [u16], at: usize)
+    requires { ⌜ at + messagesLimit ≤ length (now table) ⌝ }
+    ensures { λ _. ⌜ now (table .exit) ≡ sizesFreed (now (table .entry)) at ⌝ }
 {
-    t[at] = 0;
-    t[at + 1] = 0;
-    t[at + 2] = 0;
-    t[at + 3] = 0;
+    table[at] = 0;
+    table[at + 1] = 0;
+    table[at + 2] = 0;
+    table[at + 3] = 0;
 }

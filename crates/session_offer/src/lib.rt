@@ -62,9 +62,9 @@ fn covered_of(kind: Kind) -> usize
 fn accept(
     base: u16,
     counts: Counts,
-    t: &mut [u16; Session::PLACES],
-    o: &mut [u8; Session::PACKET_OCTETS],
-    g: &mut [u8; Session::MESSAGE_OCTETS],
+    table: &mut [u16; Session::PLACES],
+    octets: &mut [u8; Session::PACKET_OCTETS],
+    messages: &mut [u8; Session::MESSAGE_OCTETS],
     s: &[u8],
     number: u16,
     distance: u16,
@@ -73,19 +73,19 @@ fn accept(
     count: usize,
     items: [Part; Spares::LIMIT],
 )
-    requires { ⌜ InRanges (lent base counts (now t) (now o) (now g)) ⌝ }
-    requires { ⌜ MayBeAccepted (lent base counts (now t) (now o) (now g)) (now s) number distance packet kind count items ⌝ }
+    requires { ⌜ InRanges (lent base counts (now table) (now octets) (now messages)) ⌝ }
+    requires { ⌜ MayBeAccepted (lent base counts (now table) (now octets) (now messages)) (now s) number distance packet kind count items ⌝ }
     ensures { λ _. ⌜ AcceptedAt (carriedItems (now (s .entry)) number packet kind count items) distance
-        (lent base counts (now (t .entry)) (now (o .entry)) (now (g .entry)))
-        (lent base counts (now (t .exit)) (now (o .exit)) (now (g .exit))) ⌝ }
+        (lent base counts (now (table .entry)) (now (octets .entry)) (now (messages .entry)))
+        (lent base counts (now (table .exit)) (now (octets .exit)) (now (messages .exit))) ⌝ }
 {
-    kept::keep(t, o, number, Session::RECEIVED, number, s, packet);
+    kept::keep(table, octets, number, Session::RECEIVED, number, s, packet);
     let spares = spares_of(kind, count);
-    kept::keep_spares(t, o, number, s, items, spares);
+    kept::keep_spares(table, octets, number, s, items, spares);
     let n = covered_of(kind);
     let m = messages_of(kind, count);
-    kept::hold(base, t, g, s, distance, n, items, m);
-    session_repair::mend(base, t, o, g, number);
+    kept::hold(base, table, messages, s, distance, n, items, m);
+    session_repair::mend(base, table, octets, messages, number);
 }
 
 // A refusal, made from its number.
@@ -100,9 +100,9 @@ fn refused(number: u8) -> Offered
 fn offer_read(
     base: u16,
     counts: Counts,
-    t: &mut [u16; Session::PLACES],
-    o: &mut [u8; Session::PACKET_OCTETS],
-    g: &mut [u8; Session::MESSAGE_OCTETS],
+    table: &mut [u16; Session::PLACES],
+    octets: &mut [u8; Session::PACKET_OCTETS],
+    messages: &mut [u8; Session::MESSAGE_OCTETS],
     s: &[u8],
     number: u16,
     packet: Part,
@@ -110,12 +110,12 @@ fn offer_read(
     count: usize,
     items: [Part; Spares::LIMIT],
 ) -> Offered
-    requires { ⌜ InRanges (lent base counts (now t) (now o) (now g)) ⌝ }
+    requires { ⌜ InRanges (lent base counts (now table) (now octets) (now messages)) ⌝ }
     requires { ⌜ Inside (now s) packet kind count items ⌝ }
     requires { ⌜ count ≤ length items ⌝ }
     ensures { λ r. ⌜ OffersRead (carriedItems (now (s .entry)) number packet kind count items)
-        (lent base counts (now (t .entry)) (now (o .entry)) (now (g .entry)))
-        (lent base counts (now (t .exit)) (now (o .exit)) (now (g .exit))) r ⌝ }
+        (lent base counts (now (table .entry)) (now (octets .entry)) (now (messages .entry)))
+        (lent base counts (now (table .exit)) (now (octets .exit)) (now (messages .exit))) r ⌝ }
 {
     let distance = std::num::wrapping_sub_u16(number, base);
     if Session::AHEAD <= distance {
@@ -125,15 +125,15 @@ fn offer_read(
         return refused(Refusal::LATE);
     }
     let slot = session_held::heard_slot(number);
-    if session_held::accepted_at(t, slot) {
+    if session_held::accepted_at(table, slot) {
         return refused(Refusal::REPEATED);
     }
     accept(
         base,
         counts,
-        t,
-        o,
-        g,
+        table,
+        octets,
+        messages,
         s,
         number,
         distance,
@@ -149,14 +149,14 @@ fn offer_read(
 pub fn offer_core(
     base: u16,
     counts: Counts,
-    t: &mut [u16; Session::PLACES],
-    o: &mut [u8; Session::PACKET_OCTETS],
-    g: &mut [u8; Session::MESSAGE_OCTETS],
+    table: &mut [u16; Session::PLACES],
+    octets: &mut [u8; Session::PACKET_OCTETS],
+    messages: &mut [u8; Session::MESSAGE_OCTETS],
     s: &[u8],
 ) -> Offered
-    requires { ⌜ InRanges (lent base counts (now t) (now o) (now g)) ⌝ }
-    ensures { λ r. ⌜ Offers (now (s .entry)) (lent base counts (now (t .entry)) (now (o .entry)) (now (g .entry)))
-        (lent base counts (now (t .exit)) (now (o .exit)) (now (g .exit))) r ⌝ }
+    requires { ⌜ InRanges (lent base counts (now table) (now octets) (now messages)) ⌝ }
+    ensures { λ r. ⌜ Offers (now (s .entry)) (lent base counts (now (table .entry)) (now (octets .entry)) (now (messages .entry)))
+        (lent base counts (now (table .exit)) (now (octets .exit)) (now (messages .exit))) r ⌝ }
 {
     let read = datagram_reader::read(s);
     let reading = read.reading;
@@ -167,7 +167,19 @@ pub fn offer_core(
             packet,
             kind,
             count,
-        } => offer_read(base, counts, t, o, g, s, number, packet, kind, count, items),
+        } => offer_read(
+            base,
+            counts,
+            table,
+            octets,
+            messages,
+            s,
+            number,
+            packet,
+            kind,
+            count,
+            items,
+        ),
         Reading::Refused(why) => Offered::Refused(why),
     }
 }

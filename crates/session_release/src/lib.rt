@@ -64,16 +64,16 @@ fn number_after(n: u16) -> u16
 }
 
 // Clears the first m messages of the number in slot j of those from the base on.
-fn free_messages(g: &mut [u8], j: usize, m: usize)
+fn free_messages(messages: &mut [u8], j: usize, m: usize)
     requires { ⌜ j < slotsHeard ⌝ }
-    requires { ⌜ length (now g) ≡ messageOctets ⌝ }
+    requires { ⌜ length (now messages) ≡ messageOctets ⌝ }
     requires { ⌜ m ≤ messagesLimit ⌝ }
-    ensures { λ _. ⌜ Freed j m (now (g .entry)) (now (g .exit)) ⌝ }
+    ensures { λ _. ⌜ Freed j m (now (messages .entry)) (now (messages .exit)) ⌝ }
 {
     let at = j * Parity::MESSAGES;
     let mut i = 0;
     while i < m {
-        session_slots::clear(g, at + i);
+        session_slots::clear(messages, at + i);
         i += 1;
     }
 }
@@ -91,24 +91,24 @@ fn move_on(
     base: u16,
     counts: Counts,
     kind: ReleaseKind,
-    t: &mut [u16; Session::PLACES],
-    o: &mut [u8; Session::PACKET_OCTETS],
-    g: &mut [u8; Session::MESSAGE_OCTETS],
+    table: &mut [u16; Session::PLACES],
+    octets: &mut [u8; Session::PACKET_OCTETS],
+    messages: &mut [u8; Session::MESSAGE_OCTETS],
 ) -> Moved
-    requires { ⌜ InRanges (lent base counts (now t) (now o) (now g)) ⌝ }
-    requires { ⌜ MayMoveOn kind (lent base counts (now t) (now o) (now g)) ⌝ }
-    ensures { λ r. ⌜ MovesOn (lent base counts (now (t .entry)) (now (o .entry)) (now (g .entry)))
-        (lent (r .base) (r .counts) (now (t .exit)) (now (o .exit)) (now (g .exit))) ⌝ }
+    requires { ⌜ InRanges (lent base counts (now table) (now octets) (now messages)) ⌝ }
+    requires { ⌜ MayMoveOn kind (lent base counts (now table) (now octets) (now messages)) ⌝ }
+    ensures { λ r. ⌜ MovesOn (lent base counts (now (table .entry)) (now (octets .entry)) (now (messages .entry)))
+        (lent (r .base) (r .counts) (now (table .exit)) (now (octets .exit)) (now (messages .exit))) ⌝ }
 {
     let moved = count_one(kind, counts);
     let wide = octets::wide(base);
     let comes = (wide + Session::BEFORE) % Session::KEPT;
     let leaves = session_held::heard_slot(base);
-    let m = session_held::m_at(t, leaves);
-    session_slots::clear(o, comes);
-    free_messages(g, leaves, m);
-    session_held::set_kept(t, comes, Session::UNKNOWN, 0, 0);
-    session_held::drop_heard(t, leaves);
+    let m = session_held::m_at(table, leaves);
+    session_slots::clear(octets, comes);
+    free_messages(messages, leaves, m);
+    session_held::set_kept(table, comes, Session::UNKNOWN, 0, 0);
+    session_held::drop_heard(table, leaves);
     let after = number_after(base);
     Moved {
         base: after,
@@ -132,32 +132,32 @@ fn release_refused(base: u16, counts: Counts, number: u8) -> ReleaseDone
 pub fn leave_core(
     base: u16,
     counts: Counts,
-    t: &mut [u16; Session::PLACES],
-    o: &mut [u8; Session::PACKET_OCTETS],
-    g: &mut [u8; Session::MESSAGE_OCTETS],
+    table: &mut [u16; Session::PLACES],
+    octets: &mut [u8; Session::PACKET_OCTETS],
+    messages: &mut [u8; Session::MESSAGE_OCTETS],
     skip: bool,
     room: usize,
 ) -> ReleaseDone
-    requires { ⌜ InRanges (lent base counts (now t) (now o) (now g)) ⌝ }
-    ensures { λ r. ⌜ Leaves skip room (lent base counts (now (t .entry)) (now (o .entry)) (now (g .entry)))
-        (lent (r .base) (r .counts) (now (t .exit)) (now (o .exit)) (now (g .exit))) (r .answer) ⌝ }
+    requires { ⌜ InRanges (lent base counts (now table) (now octets) (now messages)) ⌝ }
+    ensures { λ r. ⌜ Leaves skip room (lent base counts (now (table .entry)) (now (octets .entry)) (now (messages .entry)))
+        (lent (r .base) (r .counts) (now (table .exit)) (now (octets .exit)) (now (messages .exit))) (r .answer) ⌝ }
 {
     if all_passed(counts) {
         return release_refused(base, counts, Refusal::ALL_PASSED);
     }
     let slot = session_held::kept_slot(base);
-    let state = session_held::state_at(t, slot);
+    let state = session_held::state_at(table, slot);
     let waits = (state == Session::UNKNOWN) & !skip;
     if waits {
         return release_refused(base, counts, Refusal::BASE_UNKNOWN);
     }
-    let size = session_held::size_at(t, slot);
+    let size = session_held::size_at(table, slot);
     if room < size {
         return release_refused(base, counts, Refusal::NO_ROOM);
     }
-    let note = session_held::note_at(t, slot);
+    let note = session_held::note_at(table, slot);
     let kind = kind_of(state);
-    let moved = move_on(base, counts, kind, t, o, g);
+    let moved = move_on(base, counts, kind, table, octets, messages);
     let after = moved.base;
     let left = moved.counts;
     ReleaseDone {
@@ -177,17 +177,18 @@ pub fn leave_core(
 pub fn release_core(
     base: u16,
     counts: Counts,
-    t: &mut [u16; Session::PLACES],
-    o: &mut [u8; Session::PACKET_OCTETS],
-    g: &mut [u8; Session::MESSAGE_OCTETS],
+    table: &mut [u16; Session::PLACES],
+    octets: &mut [u8; Session::PACKET_OCTETS],
+    messages: &mut [u8; Session::MESSAGE_OCTETS],
     skip: bool,
     out: &mut [u8],
 ) -> ReleaseDone
-    requires { ⌜ InRanges (lent base counts (now t) (now o) (now g)) ⌝ }
-    ensures { λ r. ⌜ Releases skip (lent base counts (now (t .entry)) (now (o .entry)) (now (g .entry)))
-        (lent (r .base) (r .counts) (now (t .exit)) (now (o .exit)) (now (g .exit))) (now (out .entry)) (now (out .exit)) (r .answer) ⌝ }
+    requires { ⌜ InRanges (lent base counts (now table) (now octets) (now messages)) ⌝ }
+    ensures { λ r. ⌜ Releases skip (lent base counts (now (table .entry)) (now (octets .entry)) (now (messages .entry)))
+        (lent (r .base) (r .counts) (now (table .exit)) (now (octets .exit)) (now (messages .exit))) (now (out .entry)) (now (out .exit))
+        (r .answer) ⌝ }
 {
-    let done = leave_core(base, counts, t, o, g, skip, out.len());
+    let done = leave_core(base, counts, table, octets, messages, skip, out.len());
     let answer = done.answer;
     let Released::Number {
         kind: _,
@@ -199,6 +200,6 @@ pub fn release_core(
         return done;
     };
     let slot = session_held::kept_slot(number);
-    session_slots::copy_out(o, slot, size, out);
+    session_slots::copy_out(octets, slot, size, out);
     done
 }

@@ -13,15 +13,15 @@ ghost use Rattle.session_slots.specs.Store.{added, pasted, zeros, zerosF
 const ALL_BITS: u8 = 255;
 
 // Writes the octets src to the front of a slot.
-pub fn put(o: &mut [u8], slot: usize, src: &[u8])
-    requires { ⌜ HasSlot slot (now o) ⌝ }
+pub fn put(octets: &mut [u8], slot: usize, src: &[u8])
+    requires { ⌜ HasSlot slot (now octets) ⌝ }
     requires { ⌜ length (now src) ≤ packetLimit ⌝ }
-    ensures { λ _. ⌜ now (o .exit) ≡ pasted (now (o .entry)) slot (now (src .entry)) ⌝ }
+    ensures { λ _. ⌜ now (octets .exit) ≡ pasted (now (octets .entry)) slot (now (src .entry)) ⌝ }
 {
     let at = slot * Packet::LIMIT;
     let mut j = 0;
     while j < src.len() {
-        o[at + j] = src[j];
+        octets[at + j] = src[j];
         j += 1;
     }
 }
@@ -38,13 +38,13 @@ pub fn clear_run(run: &mut [u8])
 }
 
 // Writes zeros to all of a slot.
-pub fn clear(o: &mut [u8], slot: usize)
-    requires { ⌜ HasSlot slot (now o) ⌝ }
-    ensures { λ _. ⌜ now (o .exit) ≡ pasted (now (o .entry)) slot (zeros packetLimit) ⌝ }
+pub fn clear(octets: &mut [u8], slot: usize)
+    requires { ⌜ HasSlot slot (now octets) ⌝ }
+    ensures { λ _. ⌜ now (octets .exit) ≡ pasted (now (octets .entry)) slot (zeros packetLimit) ⌝ }
 {
     let at = slot * Packet::LIMIT;
     let end = at + Packet::LIMIT;
-    clear_run(&mut o[at..end]);
+    clear_run(&mut octets[at..end]);
 }
 
 // The mask of a slot: its first half lets every octet pass, its second half only zero. An octet passes if it has no bit in common with the
@@ -75,15 +75,15 @@ pub fn zeros_in_run(run: &[u8], n: usize, table: &[u8]) -> bool
 }
 
 // Whether a slot has only zeros past its first n octets (rule 13.5).
-pub fn zeros_past(o: &[u8], slot: usize, n: usize, table: &[u8]) -> bool
-    requires { ⌜ HasSlot slot (now o) ⌝ }
+pub fn zeros_past(octets: &[u8], slot: usize, n: usize, table: &[u8]) -> bool
+    requires { ⌜ HasSlot slot (now octets) ⌝ }
     requires { ⌜ n ≤ packetLimit ⌝ }
     requires { ⌜ now table ≡ mask ⌝ }
-    ensures { λ r. ⌜ r ≡ zerosPast (now (o .entry)) slot n ⌝ }
+    ensures { λ r. ⌜ r ≡ zerosPast (now (octets .entry)) slot n ⌝ }
 {
     let at = slot * Packet::LIMIT;
     let end = at + Packet::LIMIT;
-    zeros_in_run(&o[at..end], n, table)
+    zeros_in_run(&octets[at..end], n, table)
 }
 
 // Whether a run of octets has only zeros: where no octet may be set, no mask is needed.
@@ -100,37 +100,37 @@ fn zero_run(run: &[u8]) -> bool
 }
 
 // Whether a slot has only zeros.
-pub fn all_zero(o: &[u8], slot: usize) -> bool
-    requires { ⌜ HasSlot slot (now o) ⌝ }
-    ensures { λ r. ⌜ r ≡ zerosPast (now (o .entry)) slot 0 ⌝ }
+pub fn all_zero(octets: &[u8], slot: usize) -> bool
+    requires { ⌜ HasSlot slot (now octets) ⌝ }
+    ensures { λ r. ⌜ r ≡ zerosPast (now (octets .entry)) slot 0 ⌝ }
 {
     let at = slot * Packet::LIMIT;
     let end = at + Packet::LIMIT;
-    zero_run(&o[at..end])
+    zero_run(&octets[at..end])
 }
 
 // Copies the first n octets of a slot to the front of the caller's buffer.
-pub fn copy_out(o: &[u8], slot: usize, n: usize, out: &mut [u8])
-    requires { ⌜ HasSlot slot (now o) ⌝ }
+pub fn copy_out(octets: &[u8], slot: usize, n: usize, out: &mut [u8])
+    requires { ⌜ HasSlot slot (now octets) ⌝ }
     requires { ⌜ n ≤ packetLimit ⌝ }
     requires { ⌜ n ≤ length (now out) ⌝ }
-    ensures { λ _. ⌜ now (out .exit) ≡ part (now (o .entry)) slot n ++ drop n (now (out .entry)) ⌝ }
+    ensures { λ _. ⌜ now (out .exit) ≡ part (now (octets .entry)) slot n ++ drop n (now (out .entry)) ⌝ }
 {
     let at = slot * Packet::LIMIT;
     let mut j = 0;
     while j < n {
-        out[j] = o[at + j];
+        out[j] = octets[at + j];
         j += 1;
     }
 }
 
 // Adds the octets of a slot to sum by exclusive or, as many as sum has.
-pub fn add(o: &[u8], slot: usize, sum: &mut [u8])
-    requires { ⌜ HasSlot slot (now o) ⌝ }
+pub fn add(octets: &[u8], slot: usize, sum: &mut [u8])
+    requires { ⌜ HasSlot slot (now octets) ⌝ }
     requires { ⌜ length (now sum) ≤ packetLimit ⌝ }
-    ensures { λ _. ⌜ now (sum .exit) ≡ added (now (sum .entry)) (now (o .entry)) slot ⌝ }
+    ensures { λ _. ⌜ now (sum .exit) ≡ added (now (sum .entry)) (now (octets .entry)) slot ⌝ }
 {
     let at = slot * Packet::LIMIT;
     let end = at + sum.len();
-    octets::add(&o[at..end], sum);
+    octets::add(&octets[at..end], sum);
 }

@@ -7,7 +7,7 @@ use Rattle.solve_code.specs.RowsPromise.{TableLaid}
 
 -- two tables that the promise allows are equal (rule 28.14)
 abbrev pub OneOutcome : Type 0
-OneOutcome = (base : ℕ) (t : List ℕ) (r q : List Row) → TableLaid base t r → TableLaid base t q → r ≡ q
+OneOutcome = (base : ℕ) (table : List ℕ) (r q : List Row) → TableLaid base table r → TableLaid base table q → r ≡ q
 
 pub record Claims : Type 0 where
   pub oneOutcome : OneOutcome

@@ -15,13 +15,13 @@ pub record OneUnless (known : Bool) (place r : ℕ) : Type 0 where
   pub answer : r ≡ cond known 0 (2 ^ place)
 
 -- the mask of the unknown numbers
-pub record UnknownMade (base : ℕ) (t : List ℕ) (r : ℕ) : Type 0 where
-  pub answer : (o : List ℕ) → r ≡ unknownMask (cellsOf base t o)
+pub record UnknownMade (base : ℕ) (table : List ℕ) (r : ℕ) : Type 0 where
+  pub answer : (octets : List ℕ) → r ≡ unknownMask (cellsOf base table octets)
 
 -- the members of equation e that are in a mask (rule 4.12)
-pub record EquationMade (base : ℕ) (t : List ℕ) (unknown e r : ℕ) : Type 0 where
-  pub answer : (g : List ℕ) → r ≡ bitAnd (maskOf ((equationAt (heldOf base t g) e) .members)) unknown
+pub record EquationMade (base : ℕ) (table : List ℕ) (unknown e r : ℕ) : Type 0 where
+  pub answer : (messages : List ℕ) → r ≡ bitAnd (maskOf ((equationAt (heldOf base table messages) e) .members)) unknown
 
 -- the table of all equations
-pub record TableLaid (base : ℕ) (t : List ℕ) (r : List Row) : Type 0 where
-  pub answer : (o g : List ℕ) → r ≡ startRows (cellsOf base t o) (heldOf base t g)
+pub record TableLaid (base : ℕ) (table : List ℕ) (r : List Row) : Type 0 where
+  pub answer : (octets messages : List ℕ) → r ≡ startRows (cellsOf base table octets) (heldOf base table messages)

@@ -22,14 +22,14 @@ use Rattle.session_offer.specs.KeepPromise.{CellsNow}
 use Rattle.solve.specs.Table.{equationAt, sideAt}
 
 -- ---- what the equations ask for
-pub record SideTold (base : ℕ) (t o g : List ℕ) (e : ℕ) (r : List ℕ) : Type 0 where
+pub record SideTold (base : ℕ) (table octets messages : List ℕ) (e : ℕ) (r : List ℕ) : Type 0 where
   pub long : length r ≡ packetLimit
-  pub each : (k : ℕ) → k < packetLimit → getD r k 0 ≡ sideAt (cellsOf base t o) (equationAt (heldOf base t g) e) k
+  pub each : (k : ℕ) → k < packetLimit → getD r k 0 ≡ sideAt (cellsOf base table octets) (equationAt (heldOf base table messages) e) k
 
-pub record SidesLaid (base : ℕ) (t o g : List ℕ) (r : List ℕ) : Type 0 where
+pub record SidesLaid (base : ℕ) (table octets messages : List ℕ) (r : List ℕ) : Type 0 where
   pub long : length r ≡ messageOctets
   pub each : (e k : ℕ) → e < tableRows → k < packetLimit
-      → getD r (e * packetLimit + k) 0 ≡ sideAt (cellsOf base t o) (equationAt (heldOf base t g) e) k
+      → getD r (e * packetLimit + k) 0 ≡ sideAt (cellsOf base table octets) (equationAt (heldOf base table messages) e) k
 
 -- ---- what a row asks for
 abbrev pub laidAt : List ℕ → ℕ → ℕ → ℕ
@@ -63,15 +63,17 @@ filledRows all rows zero cells = cells
 filledRows all rows (suc n) cells = filledRow all (rowAt rows n) (filledRows all rows n cells)
 
 -- the memory that the fills use is part of a session within its ranges: some counts and messages complete it
-pub record MayFill (base : ℕ) (t o : List ℕ) : Type 0 where
+pub record MayFill (base : ℕ) (table octets : List ℕ) : Type 0 where
   pub counts : Counts
   pub messages : List ℕ
-  pub within : InRanges (lent base counts t o messages)
+  pub within : InRanges (lent base counts table octets messages)
 
-pub record RowFills (base : ℕ) (all : List ℕ) (row : Row) (t o newT newO : List ℕ) : Type 0 where
-  pub fills : (c : Counts) (g : List ℕ) → InRanges (lent base c t o g)
-      → CellsNow (lent base c t o g) (lent base c newT newO g) (filledRow all row (cellsOf base t o))
+pub record RowFills (base : ℕ) (all : List ℕ) (row : Row) (table octets newTable newOctets : List ℕ) : Type 0 where
+  pub fills : (c : Counts) (messages : List ℕ) → InRanges (lent base c table octets messages)
+      → CellsNow (lent base c table octets messages) (lent base c newTable newOctets messages)
+      (filledRow all row (cellsOf base table octets))
 
-pub record RowsFill (base : ℕ) (all : List ℕ) (rows : List Row) (t o newT newO : List ℕ) : Type 0 where
-  pub fills : (c : Counts) (g : List ℕ) → InRanges (lent base c t o g)
-      → CellsNow (lent base c t o g) (lent base c newT newO g) (filledRows all rows tableRows (cellsOf base t o))
+pub record RowsFill (base : ℕ) (all : List ℕ) (rows : List Row) (table octets newTable newOctets : List ℕ) : Type 0 where
+  pub fills : (c : Counts) (messages : List ℕ) → InRanges (lent base c table octets messages)
+      → CellsNow (lent base c table octets messages) (lent base c newTable newOctets messages)
+      (filledRows all rows tableRows (cellsOf base table octets))

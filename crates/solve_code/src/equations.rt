@@ -25,9 +25,9 @@ fn one_unless(known: bool, place: u64) -> u64
 }
 
 // Which places of the view are unknown.
-fn unknown_places(base: u16, t: &[u16]) -> u64
-    requires { ⌜ length (now t) ≡ places ⌝ }
-    ensures { λ r. ⌜ UnknownMade base (now (t .entry)) r ⌝ }
+fn unknown_places(base: u16, table: &[u16]) -> u64
+    requires { ⌜ length (now table) ≡ places ⌝ }
+    ensures { λ r. ⌜ UnknownMade base (now (table .entry)) r ⌝ }
 {
     let mut mask: u64 = 0;
     let mut p = 0;
@@ -36,7 +36,7 @@ fn unknown_places(base: u16, t: &[u16]) -> u64
         let near = ahead as u16;
         let number = std::num::wrapping_add_u16(base, near);
         let slot = session_held::kept_slot(number);
-        let known = session_held::is_known(t, slot);
+        let known = session_held::is_known(table, slot);
         let place = p as u64;
         let single = one_unless(known, place);
         let more = mask ^ single;
@@ -47,19 +47,19 @@ fn unknown_places(base: u16, t: &[u16]) -> u64
 }
 
 // The unknown members of equation e (rule 4.12); none if there is no such message.
-fn equation_mask(base: u16, t: &[u16], unknown: u64, e: usize) -> u64
-    requires { ⌜ Searchable (now t) ⌝ }
+fn equation_mask(base: u16, table: &[u16], unknown: u64, e: usize) -> u64
+    requires { ⌜ Searchable (now table) ⌝ }
     requires { ⌜ e < tableRows ⌝ }
-    ensures { λ r. ⌜ EquationMade base (now (t .entry)) unknown e r ⌝ }
+    ensures { λ r. ⌜ EquationMade base (now (table .entry)) unknown e r ⌝ }
 {
     let distance = e / Parity::MESSAGES;
     let index = e % Parity::MESSAGES;
     let near = distance as u16;
     let at = std::num::wrapping_add_u16(base, near);
     let slot = session_held::heard_slot(at);
-    let count = session_held::m_at(t, slot);
+    let count = session_held::m_at(table, slot);
     if index < count {
-        let covered = session_held::n_at(t, slot);
+        let covered = session_held::n_at(table, slot);
         let behind = distance + Session::BEFORE;
         let after = behind + index;
         let from = after as u64;
@@ -72,11 +72,11 @@ fn equation_mask(base: u16, t: &[u16], unknown: u64, e: usize) -> u64
 }
 
 // The table of all equations.
-pub fn table(base: u16, t: &[u16]) -> [Row; Row::COUNT]
-    requires { ⌜ Searchable (now t) ⌝ }
-    ensures { λ r. ⌜ TableLaid base (now (t .entry)) r ⌝ }
+pub fn table(base: u16, table: &[u16]) -> [Row; Row::COUNT]
+    requires { ⌜ Searchable (now table) ⌝ }
+    ensures { λ r. ⌜ TableLaid base (now (table .entry)) r ⌝ }
 {
-    let unknown = unknown_places(base, t);
+    let unknown = unknown_places(base, table);
     let nothing = Row {
         mask: 0,
         low: 0,
@@ -85,7 +85,7 @@ pub fn table(base: u16, t: &[u16]) -> [Row; Row::COUNT]
     let mut rows = [nothing; Row::COUNT];
     let mut e = 0;
     while e < Row::COUNT {
-        let mask = equation_mask(base, t, unknown, e);
+        let mask = equation_mask(base, table, unknown, e);
         let number = e as u64;
         let row = solve_algebra::start(mask, number);
         rows[e] = row;

@@ -57,10 +57,11 @@ fn all_fit(all: &[u8], rows: [Row; Row::COUNT]) -> bool
 }
 
 // Fills the only number of a row with what the row asks for, if the number is still unknown (rules 14.2 and 14.3).
-fn fill_row(base: u16, t: &mut [u16], o: &mut [u8], all: &[u8], row: Row)
-    requires { ⌜ MayFill base (now t) (now o) ⌝ }
+fn fill_row(base: u16, table: &mut [u16], octets: &mut [u8], all: &[u8], row: Row)
+    requires { ⌜ MayFill base (now table) (now octets) ⌝ }
     requires { ⌜ length (now all) ≡ messageOctets ⌝ }
-    ensures { λ _. ⌜ RowFills base (now (all .entry)) row (now (t .entry)) (now (o .entry)) (now (t .exit)) (now (o .exit)) ⌝ }
+    ensures { λ _. ⌜ RowFills base (now (all .entry)) row (now (table .entry)) (now (octets .entry)) (now (table .exit))
+        (now (octets .exit)) ⌝ }
 {
     let place = solve_algebra::lone_place(row.mask);
     if place < Mask::PLACES {
@@ -73,20 +74,21 @@ fn fill_row(base: u16, t: &mut [u16], o: &mut [u8], all: &[u8], row: Row)
             start: 0,
             size: Packet::LIMIT,
         };
-        session_offer::keep(t, o, number, Session::REPAIRED, 0, &sum, part);
+        session_offer::keep(table, octets, number, Session::REPAIRED, 0, &sum, part);
     }
 }
 
 // Fills every number that the reduced table determines.
-fn fill_rows(base: u16, t: &mut [u16], o: &mut [u8], all: &[u8], rows: [Row; Row::COUNT])
-    requires { ⌜ MayFill base (now t) (now o) ⌝ }
+fn fill_rows(base: u16, table: &mut [u16], octets: &mut [u8], all: &[u8], rows: [Row; Row::COUNT])
+    requires { ⌜ MayFill base (now table) (now octets) ⌝ }
     requires { ⌜ length (now all) ≡ messageOctets ⌝ }
-    ensures { λ _. ⌜ RowsFill base (now (all .entry)) rows (now (t .entry)) (now (o .entry)) (now (t .exit)) (now (o .exit)) ⌝ }
+    ensures { λ _. ⌜ RowsFill base (now (all .entry)) rows (now (table .entry)) (now (octets .entry)) (now (table .exit))
+        (now (octets .exit)) ⌝ }
 {
     let mut i = 0;
     while i < Row::COUNT {
         let row = rows[i];
-        fill_row(base, t, o, all, row);
+        fill_row(base, table, octets, all, row);
         i += 1;
     }
 }
@@ -96,20 +98,20 @@ fn fill_rows(base: u16, t: &mut [u16], o: &mut [u8], all: &[u8], rows: [Row; Row
 pub fn solve_core(
     base: u16,
     counts: Counts,
-    t: &mut [u16; Session::PLACES],
-    o: &mut [u8; Session::PACKET_OCTETS],
-    g: &[u8; Session::MESSAGE_OCTETS],
+    table: &mut [u16; Session::PLACES],
+    octets: &mut [u8; Session::PACKET_OCTETS],
+    messages: &[u8; Session::MESSAGE_OCTETS],
 ) -> Solved
-    requires { ⌜ InRanges (lent base counts (now t) (now o) (now g)) ⌝ }
-    ensures { λ r. ⌜ Solving (lent base counts (now (t .entry)) (now (o .entry)) (now (g .entry)))
-        (lent base counts (now (t .exit)) (now (o .exit)) (now (g .entry))) r ⌝ }
+    requires { ⌜ InRanges (lent base counts (now table) (now octets) (now messages)) ⌝ }
+    ensures { λ r. ⌜ Solving (lent base counts (now (table .entry)) (now (octets .entry)) (now (messages .entry)))
+        (lent base counts (now (table .exit)) (now (octets .exit)) (now (messages .entry))) r ⌝ }
 {
-    let rows = equations::table(base, t);
+    let rows = equations::table(base, table);
     let reduced = solve_algebra::reduced(rows);
-    let all = sides(base, t, o, g);
+    let all = sides(base, table, octets, messages);
     let ok = all_fit(&all, reduced);
     if ok {
-        fill_rows(base, t, o, &all, reduced);
+        fill_rows(base, table, octets, &all, reduced);
         return Solved::Filled;
     }
     let why = Refusal::new(Refusal::NO_SOLUTION);

@@ -12,32 +12,37 @@ ghost use Rattle.session_repair.specs.Promise.{MayMend};
 ghost use Rattle.solve_code.specs.Steps.{SideTold, SidesLaid, RowSummed};
 
 // What equation e asks for: the exclusive or of the message and its known members; zeros if there is no such message.
-fn side(base: u16, t: &[u16], o: &[u8], g: &[u8], e: usize) -> [u8; Packet::LIMIT]
-    requires { ⌜ MayMend base (now t) (now o) (now g) ⌝ }
+fn side(base: u16, table: &[u16], octets: &[u8], messages: &[u8], e: usize) -> [u8; Packet::LIMIT]
+    requires { ⌜ MayMend base (now table) (now octets) (now messages) ⌝ }
     requires { ⌜ e < tableRows ⌝ }
-    ensures { λ r. ⌜ SideTold base (now (t .entry)) (now (o .entry)) (now (g .entry)) e r ⌝ }
+    ensures { λ r. ⌜ SideTold base (now (table .entry)) (now (octets .entry)) (now (messages .entry)) e r ⌝ }
 {
     let distance = e / Parity::MESSAGES;
     let index = e % Parity::MESSAGES;
     let near = distance as u16;
     let at = std::num::wrapping_add_u16(base, near);
     let slot = session_held::heard_slot(at);
-    let count = session_held::m_at(t, slot);
+    let count = session_held::m_at(table, slot);
     if index < count {
-        return session_repair::asked(base, t, o, g, near, index, Packet::LIMIT);
+        return session_repair::asked(base, table, octets, messages, near, index, Packet::LIMIT);
     }
     [0u8; Packet::LIMIT]
 }
 
 // What all equations ask for, in order, 256 octets each.
-pub fn sides(base: u16, t: &[u16], o: &[u8], g: &[u8]) -> [u8; Session::MESSAGE_OCTETS]
-    requires { ⌜ MayMend base (now t) (now o) (now g) ⌝ }
-    ensures { λ r. ⌜ SidesLaid base (now (t .entry)) (now (o .entry)) (now (g .entry)) r ⌝ }
+pub fn sides(
+    base: u16,
+    table: &[u16],
+    octets: &[u8],
+    messages: &[u8],
+) -> [u8; Session::MESSAGE_OCTETS]
+    requires { ⌜ MayMend base (now table) (now octets) (now messages) ⌝ }
+    ensures { λ r. ⌜ SidesLaid base (now (table .entry)) (now (octets .entry)) (now (messages .entry)) r ⌝ }
 {
     let mut all = [0u8; Session::MESSAGE_OCTETS];
     let mut e = 0;
     while e < Row::COUNT {
-        let one = side(base, t, o, g, e);
+        let one = side(base, table, octets, messages, e);
         session_slots::put(&mut all, e, &one);
         e += 1;
     }

@@ -29,15 +29,15 @@ hasSpares (spares items) = true
 hasSpares (parity n items) = false
 
 -- where the packet of a datagram begins and ends, and what follows it
-pub record Shaped (s : List ℕ) (a : Carried) (r : Shape) : Type 0 where
-  pub packet : take (r .end - r .start) (drop (r .start) s) ≡ a .packet
-  pub behind : drop (r .end) s ≡ extraOctets (a .extra)
+pub record Shaped (octets : List ℕ) (a : Carried) (r : Shape) : Type 0 where
+  pub packet : take (r .end - r .start) (drop (r .start) octets) ≡ a .packet
+  pub behind : drop (r .end) octets ≡ extraOctets (a .extra)
   pub spares : r .spares ≡ hasSpares (a .extra)
 
-pub record ShapeOf (s : List ℕ) (r : Shape) : Type 0 where
+pub record ShapeOf (octets : List ℕ) (r : Shape) : Type 0 where
   pub low : r .start ≤ r .end
-  pub high : r .end ≤ length s
-  pub shaped : (a : Carried) → datagramOf s ≡ done a → Shaped s a r
+  pub high : r .end ≤ length octets
+  pub shaped : (a : Carried) → datagramOf octets ≡ done a → Shaped octets a r
 
 -- an entry in the list, if it applies
 unfoldable pub rowNumbers : Bool → ℕ → ℕ → List ℕ

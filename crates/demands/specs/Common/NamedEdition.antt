@@ -26,7 +26,7 @@ Names octet named = choiceOf octet ≡ choice.Edition named
 
 -- what `packet_reader::read` and `packet_pencil::read` promise
 abbrev pub ReadBy : ℕ → Ending → List ℕ → PacketRead → Type 0
-ReadBy octet ending s r = PacketTold (byEdition octet (λ edition. readPacket edition ending s)) r
+ReadBy octet ending octets r = PacketTold (byEdition octet (λ edition. readPacket edition ending octets)) r
 
 -- what `packet_writer::write` must write
 abbrev pub packetBy : ℕ → PacketKind → ℕ → List ℕ → List ℕ → List ℕ → Answer (List ℕ)
@@ -36,9 +36,9 @@ pub record AnotherEdition : Type 0 where
   -- an octet names one of the two editions, or it is over 1 (rule 7.1)
   pub named : (octet : ℕ) → (choiceOf octet ≡ choice.Neither) ↔ (1 < octet)
   -- a packet reader refuses with 15 exactly for an octet over 1, at place 0 and before anything else (rules 2.30 and 7.2)
-  pub read : (octet : ℕ) (ending : Ending) (s : List ℕ) {r : PacketRead} → ReadBy octet ending s r
+  pub read : (octet : ℕ) (ending : Ending) (octets : List ℕ) {r : PacketRead} → ReadBy octet ending octets r
       → (packetOutcome r ≡ refuse wrongSettings) ↔ (1 < octet)
-  pub readOnly : (octet : ℕ) (ending : Ending) (s : List ℕ) {r : PacketRead} → ReadBy octet ending s r
+  pub readOnly : (octet : ℕ) (ending : Ending) (octets : List ℕ) {r : PacketRead} → ReadBy octet ending octets r
       → (refusalIn (packetOutcome r) ≡ some wrongSettings) ↔ (1 < octet)
   -- and so does the packet writer, whatever it was to write
   pub written : (octet : ℕ) (kind : PacketKind) (value : ℕ) (types lengths octets : List ℕ) {old new : List ℕ} {r : Written}

@@ -90,4 +90,4 @@ pub data Due : List ℕ → List Item → Type 0 where
 
 -- these octets are a datagram: right items, and none is due behind them
 abbrev pub WholeDatagram : List ℕ → Type 0
-WholeDatagram s = Due s []
+WholeDatagram octets = Due octets []

@@ -42,40 +42,40 @@ pub data Wrong : Form → List ℕ → ℕ → Type 0 where
   moreOctets : {first : ℕ} {rest : List ℕ} → Wrong nothing (first ∷ rest) leftOver
 
 -- right items, then one that is refused with this number
-pub record FirstWrong (s : List ℕ) (n : ℕ) : Type 0 where
+pub record FirstWrong (octets : List ℕ) (n : ℕ) : Type 0 where
   pub before : List ℕ
   pub rest : List ℕ
   pub items : List Item
-  pub is : s ≡ before ++ rest
+  pub is : octets ≡ before ++ rest
   pub due : Due before items
   pub wrong : Wrong (formDue items) rest n
 
 -- ---- datagrams with too many or too few octets
 
 -- a datagram with octets behind it
-pub record Followed (s : List ℕ) : Type 0 where
+pub record Followed (octets : List ℕ) : Type 0 where
   pub datagram : List ℕ
   pub first : ℕ
   pub rest : List ℕ
-  pub is : s ≡ datagram ++ (first ∷ rest)
+  pub is : octets ≡ datagram ++ (first ∷ rest)
   pub whole : WholeDatagram datagram
 
 -- a front of a datagram: more octets would make it whole
-pub record Front (s : List ℕ) : Type 0 where
+pub record Front (input : List ℕ) : Type 0 where
   pub first : ℕ
   pub rest : List ℕ
   pub octets : Octets (first ∷ rest)
-  pub whole : WholeDatagram (s ++ (first ∷ rest))
+  pub whole : WholeDatagram (input ++ (first ∷ rest))
 
 -- right items, then only the first of the two octets of a length or count, which no second octet would bring within its sizes
-pub record CutOver (s : List ℕ) : Type 0 where
+pub record CutOver (octets : List ℕ) : Type 0 where
   pub before : List ℕ
   pub first : ℕ
   pub item : Item
   pub later : List Item
   pub least : ℕ
   pub most : ℕ
-  pub is : s ≡ before ++ (first ∷ [])
+  pub is : octets ≡ before ++ (first ∷ [])
   pub due : Due before (item ∷ later)
   pub form : formOf item ≡ sized least most
   pub ofTwoOctets : (0x80 ≤ first) × (first < 0xC0)
@@ -84,51 +84,52 @@ pub record CutOver (s : List ℕ) : Type 0 where
 -- ---- the datagram reader
 
 -- its refusal of these octets
-pub record RefusalOf (s : List ℕ) (answer : Option ℕ) : Type 0 where
+pub record RefusalOf (octets : List ℕ) (answer : Option ℕ) : Type 0 where
   -- 2 exactly if they are over the limit (rule 2.2)
-  pub over : (answer ≡ some tooLong) ↔ (datagramLimit < length s)
+  pub over : (answer ≡ some tooLong) ↔ (datagramLimit < length octets)
   -- not refused exactly if they are a datagram
-  pub whole : (answer ≡ none) ↔ WholeDatagram s
+  pub whole : (answer ≡ none) ↔ WholeDatagram octets
   -- 1, 3, 4, 5 or 6 exactly if that is the number of the first wrong item (rule 4.15)
-  pub firstWrong : (n : ℕ) → length s ≤ datagramLimit → (answer ≡ some n) ↔ FirstWrong s n
+  pub firstWrong : (n : ℕ) → length octets ≤ datagramLimit → (answer ≡ some n) ↔ FirstWrong octets n
   -- 6 exactly if they are a datagram with octets behind it (rule 4.7)
-  pub followed : length s ≤ datagramLimit → (answer ≡ some leftOver) ↔ Followed s
+  pub followed : length octets ≤ datagramLimit → (answer ≡ some leftOver) ↔ Followed octets
   -- 1 exactly if they are a front of a datagram, or end inside a length or count that no second octet would bring within its sizes (rules
   -- 2.1 and 3.6)
-  pub cut : (answer ≡ some endsEarly) ↔ (Front s ⊎ CutOver s)
+  pub cut : (answer ≡ some endsEarly) ↔ (Front octets ⊎ CutOver octets)
 
 -- its place: the octet at which the refused item begins, from the start of the datagram (rule 2.27)
-pub record PlacedIn (s : List ℕ) (why : Refusal) : Type 0 where
+pub record PlacedIn (octets : List ℕ) (why : Refusal) : Type 0 where
   -- 2 is not met in reading order, so its place is 0 (rule 2.30)
-  pub over : datagramLimit < length s → why .place ≡ 0
+  pub over : datagramLimit < length octets → why .place ≡ 0
   -- the place is the count of octets before the first wrong item
-  pub item : length s ≤ datagramLimit → (w : FirstWrong s (why .number)) → why .place ≡ length (w .before)
+  pub item : length octets ≤ datagramLimit → (w : FirstWrong octets (why .number)) → why .place ≡ length (w .before)
   -- four hexadecimal digits are enough to write it (rule 18.6)
   pub few : why .place ≤ datagramLimit
 
 -- some datagram begins with these octets
-pub record BeginsDatagram (s : List ℕ) : Type 0 where
+pub record BeginsDatagram (input : List ℕ) : Type 0 where
   pub more : List ℕ
   pub octets : Octets more
-  pub whole : WholeDatagram (s ++ more)
+  pub whole : WholeDatagram (input ++ more)
 
 pub record DatagramRefusals : Type 0 where
-  pub refusal : {s : List ℕ} {r : DatagramRead} → Octets s → DatagramReads s r → RefusalOf s (refusalIn (readOutcome r))
+  pub refusal : {octets : List ℕ} {r : DatagramRead} → Octets octets → DatagramReads octets r → RefusalOf octets (refusalIn (readOutcome r))
   -- the place of the refused item; and some datagram begins with what is before it
-  pub placed : {s : List ℕ} {r : DatagramRead} {why : Refusal} → Octets s → DatagramReads s r → readOutcome r ≡ refused why → PlacedIn s why
-  pub begun : {s : List ℕ} {n : ℕ} (w : FirstWrong s n) → BeginsDatagram (w .before)
+  pub placed : {octets : List ℕ} {r : DatagramRead} {why : Refusal} → Octets octets → DatagramReads octets r
+      → readOutcome r ≡ refused why → PlacedIn octets why
+  pub begun : {octets : List ℕ} {n : ℕ} (w : FirstWrong octets n) → BeginsDatagram (w .before)
   -- if octets are a datagram, every proper front of them is refused with 1
-  pub front : (s more : List ℕ) (first : ℕ) {r q : DatagramRead} → Octets (s ++ (first ∷ more))
-      → DatagramReads (s ++ (first ∷ more)) q → refusalIn (readOutcome q) ≡ none
-      → DatagramReads s r → refusalIn (readOutcome r) ≡ some endsEarly
+  pub front : (octets more : List ℕ) (first : ℕ) {r q : DatagramRead} → Octets (octets ++ (first ∷ more))
+      → DatagramReads (octets ++ (first ∷ more)) q → refusalIn (readOutcome q) ≡ none
+      → DatagramReads octets r → refusalIn (readOutcome r) ≡ some endsEarly
   -- more octets can only help against 1: octets refused with another number are also refused with any octets behind them, ..
-  pub never : (s more : List ℕ) {r q : DatagramRead} {n : ℕ} → Octets (s ++ more)
-      → DatagramReads s r → refusalIn (readOutcome r) ≡ some n → (n ≡ endsEarly → ⊥)
-      → DatagramReads (s ++ more) q → refusalIn (readOutcome q) ≡ none → ⊥
+  pub never : (octets more : List ℕ) {r q : DatagramRead} {n : ℕ} → Octets (octets ++ more)
+      → DatagramReads octets r → refusalIn (readOutcome r) ≡ some n → (n ≡ endsEarly → ⊥)
+      → DatagramReads (octets ++ more) q → refusalIn (readOutcome q) ≡ none → ⊥
   -- .. and with the same number, if they are still within the limit
-  pub stays : (s more : List ℕ) {r q : DatagramRead} {n : ℕ} → Octets (s ++ more)
-      → DatagramReads s r → refusalIn (readOutcome r) ≡ some n → (n ≡ endsEarly → ⊥) → length (s ++ more) ≤ datagramLimit
-      → DatagramReads (s ++ more) q → refusalIn (readOutcome q) ≡ some n
+  pub stays : (octets more : List ℕ) {r q : DatagramRead} {n : ℕ} → Octets (octets ++ more)
+      → DatagramReads octets r → refusalIn (readOutcome r) ≡ some n → (n ≡ endsEarly → ⊥) → length (octets ++ more) ≤ datagramLimit
+      → DatagramReads (octets ++ more) q → refusalIn (readOutcome q) ≡ some n
   -- a front of a datagram never ends inside such a length or count; but some octets do, as with `BF` for the length of the newest packet
-  pub notBoth : {s : List ℕ} → Front s → CutOver s → ⊥
+  pub notBoth : {octets : List ℕ} → Front octets → CutOver octets → ⊥
   pub cutBF : CutOver (0x00 ∷ 0x00 ∷ 0xBF ∷ [])

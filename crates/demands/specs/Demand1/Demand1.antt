@@ -65,45 +65,47 @@ use Rattle.demands.specs.Demand1.DatagramRefusals.{DatagramRefusals}
 
 -- ---- readers
 -- these octets are what the datagram writer writes for some fields, or the packet writer in this edition
-pub record IsDatagram (s : List ℕ) : Type 0 where
+pub record IsDatagram (octets : List ℕ) : Type 0 where
   pub number : ℕ
   pub packet : List ℕ
   pub kind : Kind
   pub lengths : List ℕ
   pub run : List ℕ
-  pub written : datagramToWrite number packet kind lengths run ≡ done s
+  pub written : datagramToWrite number packet kind lengths run ≡ done octets
 
-pub record IsPacket (edition : Edition) (s : List ℕ) : Type 0 where
+pub record IsPacket (edition : Edition) (input : List ℕ) : Type 0 where
   pub kind : packets.PacketKind
   pub value : ℕ
   pub types : List ℕ
   pub lengths : List ℕ
   pub octets : List ℕ
-  pub written : packetToWrite edition kind value types lengths octets ≡ done s
+  pub written : packetToWrite edition kind value types lengths octets ≡ done input
 
 -- or what the packet writer writes, with only zeros behind it, within the packet limit
-pub record IsRepaired (edition : Edition) (s : List ℕ) : Type 0 where
+pub record IsRepaired (edition : Edition) (octets : List ℕ) : Type 0 where
   pub packet : List ℕ
   pub zeros : ℕ
-  pub is : s ≡ packet ++ replicate zeros 0
-  pub fits : length s ≤ packetLimit
+  pub is : octets ≡ packet ++ replicate zeros 0
+  pub fits : length octets ≤ packetLimit
   pub written : IsPacket edition packet
 
 pub record Readers : Type 0 where
   -- a length: 3 or 1 for its form (rule 3.6)
-  pub length : {s : List ℕ} {r : Length} → LengthRead s r → refusalIn (lengthOutcome r) ≡ first (lengthRows s)
+  pub length : {octets : List ℕ} {r : Length} → LengthRead octets r → refusalIn (lengthOutcome r) ≡ first (lengthRows octets)
   -- a datagram: 2, then reading order (rule 4.15)
-  pub datagram : {s : List ℕ} {r : DatagramRead} → DatagramReads s r → refusalIn (readOutcome r) ≡ refusalIn (readDatagram s)
+  pub datagram : {octets : List ℕ} {r : DatagramRead} → DatagramReads octets r → refusalIn (readOutcome r) ≡ refusalIn (readDatagram octets)
   -- a packet: 15, 4 for the whole packet, then reading order (rule 6.13)
-  pub packet : (octet : ℕ) (ending : Ending) (s : List ℕ) {r : PacketRead} → ReadBy octet ending s r
-      → refusalIn (packetOutcome r) ≡ refusalIn (byEdition octet (λ edition. readPacket edition ending s))
+  pub packet : (octet : ℕ) (ending : Ending) (octets : List ℕ) {r : PacketRead} → ReadBy octet ending octets r
+      → refusalIn (packetOutcome r) ≡ refusalIn (byEdition octet (λ edition. readPacket edition ending octets))
   -- octets are read as a datagram exactly if they are one, and as a received packet of the named edition exactly if they are one; a
   -- repaired packet may also go on with zeros (rules 6.11 and 6.12). Every slice of octets has values below 256 (`Octets`)
-  pub isDatagram : {s : List ℕ} {r : DatagramRead} → Octets s → DatagramReads s r → (refusalIn (readOutcome r) ≡ none) ↔ IsDatagram s
-  pub isPacket : (octet : ℕ) (named : Named) → Names octet named → (s : List ℕ) {r : PacketRead} → Octets s → ReadBy octet Whole s r
-      → (refusalIn (packetOutcome r) ≡ none) ↔ IsPacket (editionOf named) s
-  pub isRepaired : (octet : ℕ) (named : Named) → Names octet named → (s : List ℕ) {r : PacketRead} → Octets s
-      → ReadBy octet Repaired s r → (refusalIn (packetOutcome r) ≡ none) ↔ IsRepaired (editionOf named) s
+  pub isDatagram : {octets : List ℕ} {r : DatagramRead} → Octets octets → DatagramReads octets r
+      → (refusalIn (readOutcome r) ≡ none) ↔ IsDatagram octets
+  pub isPacket : (octet : ℕ) (named : Named) → Names octet named → (octets : List ℕ) {r : PacketRead} → Octets octets
+      → ReadBy octet Whole octets r
+      → (refusalIn (packetOutcome r) ≡ none) ↔ IsPacket (editionOf named) octets
+  pub isRepaired : (octet : ℕ) (named : Named) → Names octet named → (octets : List ℕ) {r : PacketRead} → Octets octets
+      → ReadBy octet Repaired octets r → (refusalIn (packetOutcome r) ≡ none) ↔ IsRepaired (editionOf named) octets
   -- which packets are refused with which number, in the edition that the octet names
   pub packetRefusals : (octet : ℕ) (named : Named) → Names octet named → PacketRefusals octet named
   -- 15 for another edition, first, by the packet readers and the packet writer (rule 7.2)
@@ -172,7 +174,7 @@ Unplaced w = (old new : List ℕ) (r : Written) → Puts w old new r → placeIn
 
 pub record Places : Type 0 where
   -- the length reader's place: a length is read at the very front (rule 3.9)
-  pub length : {s : List ℕ} {r : Length} → LengthRead s r → placeIn (lengthOutcome r) ≡ 0
+  pub length : {octets : List ℕ} {r : Length} → LengthRead octets r → placeIn (lengthOutcome r) ≡ 0
   -- offer passes on the datagram reader's place; its other refusals, 17 before the reading and 8, 9 and 7 after it, have place 0 (rule
   -- 2.30)
   pub offer : {s : Session} {octets : List ℕ} {r : AfterOffer} {q : DatagramRead} → OfferOwes s octets r → DatagramReads octets q

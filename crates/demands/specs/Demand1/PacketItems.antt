@@ -56,7 +56,7 @@ octetOf end p = p / 8
 -- ---- a value of an ENUMERATED type, at a place
 -- an added value: the type has an extension bit, and it is set (rule 7.5)
 abbrev pub isAdded : Enumerated → List ℕ → Place → Bool
-isAdded e s p = e .extensible && bitSetAt s p
+isAdded e octets p = e .extensible && bitSetAt octets p
 
 -- the place behind the extension bit, if the type has one
 abbrev pub behindMark : Enumerated → Place → Place
@@ -65,106 +65,106 @@ behindMark e p = cond (e .extensible) (p + 1) p
 -- an added value is six bits behind a 1 bit and a 0 bit, counted from zero (rule 7.5); any other value is the bits behind the extension
 -- bit
 abbrev pub valueIn : Enumerated → List ℕ → Place → ℕ
-valueIn e s p =
-    cond (isAdded e s p) (e .assigned + bitsAt addedWidth s (p + 1 + 1)) (bitsAt (e .width) s (behindMark e p))
+valueIn e octets p =
+    cond (isAdded e octets p) (e .assigned + bitsAt addedWidth octets (p + 1 + 1)) (bitsAt (e .width) octets (behindMark e p))
 
 abbrev pub valueEnds : Enumerated → List ℕ → Place → Place
-valueEnds e s p = cond (isAdded e s p) (p + 1 + 1 + addedWidth) (behindMark e p + e .width)
+valueEnds e octets p = cond (isAdded e octets p) (p + 1 + 1 + addedWidth) (behindMark e p + e .width)
 
 -- 1: fewer bits are left than the item needs (rule 2.1)
 abbrev pub cutShort : List ℕ → Place → Option ℕ
-cutShort s behind = when (ltb (8 * length s) behind) endsEarly
+cutShort octets behind = when (ltb (8 * length octets) behind) endsEarly
 
 -- the table of an added value, from the place behind the extension bit on (rules 7.6 to 7.8), and of any other (rule 6.3)
 abbrev pub addedRows : Enumerated → List ℕ → Place → List (Option ℕ)
-addedRows e s p =
+addedRows e octets p =
     when (ltb (e .added) 1) notAssigned
-    ∷ when (bitSetAt s p) notAssigned
-    ∷ cutShort s (p + 1 + addedWidth)
-    ∷ when (not (ltb (bitsAt addedWidth s (p + 1)) (e .added))) notAssigned
+    ∷ when (bitSetAt octets p) notAssigned
+    ∷ cutShort octets (p + 1 + addedWidth)
+    ∷ when (not (ltb (bitsAt addedWidth octets (p + 1)) (e .added))) notAssigned
     ∷ []
 
 abbrev pub rootRows : Enumerated → List ℕ → Place → List (Option ℕ)
-rootRows e s p = cutShort s (p + e .width) ∷ when (not (ltb (bitsAt (e .width) s p) (e .assigned))) notAssigned ∷ []
+rootRows e octets p = cutShort octets (p + e .width) ∷ when (not (ltb (bitsAt (e .width) octets p) (e .assigned))) notAssigned ∷ []
 
 unfoldable pub valueRows : Enumerated → List ℕ → Place → List (Option ℕ)
-valueRows e s p = cond (isAdded e s p) (addedRows e s (p + 1)) (rootRows e s (behindMark e p))
+valueRows e octets p = cond (isAdded e octets p) (addedRows e octets (p + 1)) (rootRows e octets (behindMark e p))
 
 -- ---- what is at a place
 -- at an octet edge: the octets from there on, and the first of them
 abbrev pub octetsFrom : List ℕ → Place → List ℕ
-octetsFrom s p = drop (p / 8) s
+octetsFrom octets p = drop (p / 8) octets
 
 abbrev pub octetHere : List ℕ → Place → ℕ
-octetHere s p = getD (octetsFrom s p) 0 0
+octetHere octets p = getD (octetsFrom octets p) 0 0
 
 -- the first bit of a packet is data-field present, the second is the kind, then comes the value (rule 6.1)
 abbrev pub hasFields : List ℕ → Bool
-hasFields s = bitSetAt s 0
+hasFields octets = bitSetAt octets 0
 
 abbrev pub firstValues : Edition → List ℕ → Enumerated
-firstValues edition s = values edition (kindOf s)
+firstValues edition octets = values edition (kindOf octets)
 
 -- a header: one bit for data present, then the field type (rule 6.7); and whether that type allows data, or no data, there (rule 6.10)
 abbrev pub typeIn : Edition → List ℕ → Place → ℕ
-typeIn edition s p = valueIn (edition .types) s (p + 1)
+typeIn edition octets p = valueIn (edition .types) octets (p + 1)
 
 abbrev pub dataFits : Edition → List ℕ → Place → Bool
-dataFits edition s p = rightData edition (typeIn edition s p) (bitSetAt s p)
+dataFits edition octets p = rightData edition (typeIn edition octets p) (bitSetAt octets p)
 
 -- the length of a field's data: two octets that hold it minus one (rule 6.8)
 abbrev pub dataSize : List ℕ → Place → ℕ
-dataSize s p = getD (octetsFrom s p) 0 0 * 256 + getD (octetsFrom s p) 1 0 + 1
+dataSize octets p = getD (octetsFrom octets p) 0 0 * 256 + getD (octetsFrom octets p) 1 0 + 1
 
 -- ---- one item after the other
 -- the place at which an item ends. A count of 1 to 16 is one octet
 abbrev pub ends : Edition → Item → List ℕ → Place → Place
-ends edition firstValue s p = valueEnds (firstValues edition s) s (p + 2)
-ends edition fieldsAllowed s p = p
-ends edition countOfFields s p = p + 8
-ends edition (header left) s p = valueEnds (edition .types) s (p + 1)
-ends edition (padding next) s p = 8 * edge p
-ends edition (dataLength left) s p = p + 16
-ends edition (fieldData size left) s p = p + 8 * size
-ends edition end s p = p
+ends edition firstValue octets p = valueEnds (firstValues edition octets) octets (p + 2)
+ends edition fieldsAllowed octets p = p
+ends edition countOfFields octets p = p + 8
+ends edition (header left) octets p = valueEnds (edition .types) octets (p + 1)
+ends edition (padding next) octets p = 8 * edge p
+ends edition (dataLength left) octets p = p + 16
+ends edition (fieldData size left) octets p = p + 8 * size
+ends edition end octets p = p
 
 -- the item that is due there. If the data-field bit is set, a count of fields follows (rule 6.4); a field header is not padded (rule
 -- 5.6); only the count of fields, data lengths and the packet's end are aligned to an octet edge (rule 5.2)
 abbrev pub dueAfter : Item → List ℕ → Place → Item
-dueAfter firstValue s p = padding fieldsAllowed
-dueAfter fieldsAllowed s p = cond (hasFields s) countOfFields (fields 0)
-dueAfter countOfFields s p = fields (octetHere s p)
-dueAfter (header left) s p = cond (bitSetAt s p) (padding (dataLength left)) (fields left)
-dueAfter (padding next) s p = next
-dueAfter (dataLength left) s p = fieldData (dataSize s p) left
-dueAfter (fieldData size left) s p = fields left
-dueAfter end s p = end
+dueAfter firstValue octets p = padding fieldsAllowed
+dueAfter fieldsAllowed octets p = cond (hasFields octets) countOfFields (fields 0)
+dueAfter countOfFields octets p = fields (octetHere octets p)
+dueAfter (header left) octets p = cond (bitSetAt octets p) (padding (dataLength left)) (fields left)
+dueAfter (padding next) octets p = next
+dueAfter (dataLength left) octets p = fieldData (dataSize octets p) left
+dueAfter (fieldData size left) octets p = fields left
+dueAfter end octets p = end
 
 -- ---- what each item is refused for
 -- the table of an item at its place: the first row that applies refuses it. The count of fields has the form of every length; in two
 -- octets it is 128 or more, and so is the first of them. A data length has no form to refuse (rule 6.9)
 unfoldable pub rows : Edition → Ending → Item → List ℕ → Place → List (Option ℕ)
-rows edition ending firstValue s p = valueRows (firstValues edition s) s (p + 2)
+rows edition ending firstValue octets p = valueRows (firstValues edition octets) octets (p + 2)
 -- 14: an indicator never has a data field (rule 6.6)
-rows edition ending fieldsAllowed s p = when (not (rightFields (kindOf s) (hasFields s))) wrongData ∷ []
-rows edition ending countOfFields s p =
-    lengthRows (octetsFrom s p) ++ (when (not (within fieldsLeast fieldsLimit (octetHere s p))) outsideSizes ∷ [])
-rows edition ending (header left) s p =
-    valueRows (edition .types) s (p + 1) ++ (when (not (dataFits edition s p)) wrongData ∷ [])
-rows edition ending (padding next) s p = when (ltb 0 (bitsAt (gap p) s p)) spareBit ∷ []
-rows edition ending (dataLength left) s p = cutShort s (p + 16) ∷ when (ltb packetLimit (dataSize s p)) outsideSizes ∷ []
-rows edition ending (fieldData size left) s p = cutShort s (p + 8 * size) ∷ []
+rows edition ending fieldsAllowed octets p = when (not (rightFields (kindOf octets) (hasFields octets))) wrongData ∷ []
+rows edition ending countOfFields octets p =
+    lengthRows (octetsFrom octets p) ++ (when (not (within fieldsLeast fieldsLimit (octetHere octets p))) outsideSizes ∷ [])
+rows edition ending (header left) octets p =
+    valueRows (edition .types) octets (p + 1) ++ (when (not (dataFits edition octets p)) wrongData ∷ [])
+rows edition ending (padding next) octets p = when (ltb 0 (bitsAt (gap p) octets p)) spareBit ∷ []
+rows edition ending (dataLength left) octets p = cutShort octets (p + 16) ∷ when (ltb packetLimit (dataSize octets p)) outsideSizes ∷ []
+rows edition ending (fieldData size left) octets p = cutShort octets (p + 8 * size) ∷ []
 -- 6: nothing follows a received or spare packet, and only zeros follow a repaired one (rules 6.11 and 6.12)
-rows edition ending end s p = when (not (mayFollow ending (octetsFrom s p))) leftOver ∷ []
+rows edition ending end octets p = when (not (mayFollow ending (octetsFrom octets p))) leftOver ∷ []
 
 -- ---- a packet
 -- from the first value on each item is right, since no row of its table applies, and at this place this item is due. How the packet came
 -- matters only at its end
-pub data Due (edition : Edition) (s : List ℕ) : Place → Item → Type 0 where
-  begins : Due edition s 0 firstValue
-  goesOn : {p : Place} {item : Item} → Due edition s p item → first (rows edition Whole item s p) ≡ none
-      → Due edition s (ends edition item s p) (dueAfter item s p)
+pub data Due (edition : Edition) (octets : List ℕ) : Place → Item → Type 0 where
+  begins : Due edition octets 0 firstValue
+  goesOn : {p : Place} {item : Item} → Due edition octets p item → first (rows edition Whole item octets p) ≡ none
+      → Due edition octets (ends edition item octets p) (dueAfter item octets p)
 
 -- a whole packet: nothing more is due behind its last octet
 abbrev pub Packet : Edition → List ℕ → Type 0
-Packet edition s = Due edition s (8 * length s) end
+Packet edition octets = Due edition octets (8 * length octets) end

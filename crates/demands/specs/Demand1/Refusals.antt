@@ -24,11 +24,11 @@ use Rattle.session_held.specs.declared.Session.{Session}
 
 -- ---- lengths: 3 or 1 for the form (rules 3.3 to 3.6)
 unfoldable pub lengthRows : List ℕ → List (Option ℕ)
-lengthRows s =
-    when (ltb (length s) 1) endsEarly
-    ∷ when (leb 0xC0 (getD s 0 0)) badForm
-    ∷ when (leb 0x80 (getD s 0 0) && ltb (length s) 2) endsEarly
-    ∷ when (leb 0x80 (getD s 0 0) && ltb (ofTwo (getD s 0 0) (getD s 1 0)) 0x80) badForm
+lengthRows octets =
+    when (ltb (length octets) 1) endsEarly
+    ∷ when (leb 0xC0 (getD octets 0 0)) badForm
+    ∷ when (leb 0x80 (getD octets 0 0) && ltb (length octets) 2) endsEarly
+    ∷ when (leb 0x80 (getD octets 0 0) && ltb (ofTwo (getD octets 0 0) (getD octets 1 0)) 0x80) badForm
     ∷ []
 
 -- ---- offer: 17, 2, then reading order, then 8 or 9, then 7 (rule 10.5)

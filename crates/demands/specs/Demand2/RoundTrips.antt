@@ -39,10 +39,10 @@ use Rattle.sender.specs.declared.Sent.{Sent}
 use Rattle.sender.specs.declared.Settings.the-variants as settings
 
 -- ---- written back
--- a write returned n: the first n octets of the buffer are s, and the rest is unchanged (rule 2.26)
-pub record WrittenBack (n : ℕ) (s old new : List ℕ) (w : Written) : Type 0 where
+-- a write returned n: the first n octets of the buffer are `octets`, and the rest is unchanged (rule 2.26)
+pub record WrittenBack (n : ℕ) (octets old new : List ℕ) (w : Written) : Type 0 where
   pub answer : w ≡ written.Octets n
-  pub front : take n new ≡ s
+  pub front : take n new ≡ octets
   pub rest : drop n new ≡ drop n old
 
 -- ---- lengths
@@ -51,16 +51,17 @@ pub record LengthTrips : Type 0 where
   pub readsBack : (value : ℕ) {old new : List ℕ} {w : Written} {n : ℕ} → Puts (lengthToWrite value) old new w → w ≡ written.Octets n
       → (more : List ℕ) {r : Length} → LengthRead (take n new ++ more) r → r ≡ length.Value value n
   -- a length that was read writes back to the same octets
-  pub writesBack : {s : List ℕ} {r : Length} {value n : ℕ} → Octets s → LengthRead s r → r ≡ length.Value value n
-      → {old new : List ℕ} {w : Written} → Puts (lengthToWrite value) old new w → n ≤ length old → WrittenBack n (take n s) old new w
+  pub writesBack : {octets : List ℕ} {r : Length} {value n : ℕ} → Octets octets → LengthRead octets r → r ≡ length.Value value n
+      → {old new : List ℕ} {w : Written} → Puts (lengthToWrite value) old new w → n ≤ length old → WrittenBack n (take n octets) old new w
 
 -- ---- datagrams
 -- a read returned this number, packet, kind (spares, or n), and these spares or messages; the unused places are empty (rule 4.23)
-pub record DatagramSame (s : List ℕ) (number : ℕ) (packet : List ℕ) (kind : Kind) (items : List (List ℕ)) (r : DatagramRead) : Type 0 where
+pub record DatagramSame (octets : List ℕ) (number : ℕ) (packet : List ℕ) (kind : Kind) (items : List (List ℕ)) (r : DatagramRead)
+    : Type 0 where
   pub newest : Part
   pub answer : r .reading ≡ reading.Datagram number newest kind (length items)
-  pub packetSame : octetsOf s newest ≡ packet
-  pub itemsSame : map (octetsOf s) (take (length items) (r .items)) ≡ items
+  pub packetSame : octetsOf octets newest ≡ packet
+  pub itemsSame : map (octetsOf octets) (take (length items) (r .items)) ≡ items
   pub unused : drop (length items) (r .items) ≡ replicate (sparesLimit - length items) nowhere
 
 -- the spares or messages that were read, as the writer takes them: their lengths, and one run of data (rule 4.17)
@@ -68,17 +69,18 @@ abbrev pub lengthsRead : ℕ → DatagramRead → List ℕ
 lengthsRead count r = map (λ (p : Part). p .size) (take count (r .items))
 
 abbrev pub runRead : List ℕ → ℕ → DatagramRead → List ℕ
-runRead s count r = flatten (map (octetsOf s) (take count (r .items)))
+runRead octets count r = flatten (map (octetsOf octets) (take count (r .items)))
 
 -- what was written reads back the same (rule 4.20), and what was read writes back the same (rule 4.21)
 pub record DatagramTrips : Type 0 where
   pub readsBack : (number : ℕ) (packet : List ℕ) (kind : Kind) (lengths run : List ℕ) {old new : List ℕ} {w : Written} {n : ℕ}
       → Puts (datagramToWrite number packet kind lengths run) old new w → w ≡ written.Octets n
       → {r : DatagramRead} → DatagramReads (take n new) r → DatagramSame (take n new) number packet kind (cut lengths run) r
-  pub writesBack : {s : List ℕ} {r : DatagramRead} {number : ℕ} {packet : Part} {kind : Kind} {count : ℕ} → Octets s → DatagramReads s r
+  pub writesBack : {octets : List ℕ} {r : DatagramRead} {number : ℕ} {packet : Part} {kind : Kind} {count : ℕ} → Octets octets
+      → DatagramReads octets r
       → r .reading ≡ reading.Datagram number packet kind count → {old new : List ℕ} {w : Written}
-      → Puts (datagramToWrite number (octetsOf s packet) kind (lengthsRead count r) (runRead s count r)) old new w
-      → length s ≤ length old → WrittenBack (length s) s old new w
+      → Puts (datagramToWrite number (octetsOf octets packet) kind (lengthsRead count r) (runRead octets count r)) old new w
+      → length octets ≤ length old → WrittenBack (length octets) octets old new w
 
 -- ---- packets
 -- the fields that were read, as the writer takes them: their types, their lengths, and all their data (rule 6.20)
@@ -89,15 +91,16 @@ abbrev pub sizesOf : ℕ → PacketRead → List ℕ
 sizesOf count r = map (λ (f : Field). f .size) (take count (r .fields))
 
 abbrev pub dataRead : List ℕ → ℕ → PacketRead → List ℕ
-dataRead s count r = allData s (take count (r .fields))
+dataRead octets count r = allData octets (take count (r .fields))
 
 -- a read returned this kind and value, and fields of these types and lengths with, one after the other, this data; the unused places are
 -- empty (rule 6.27)
-pub record PacketSame (s : List ℕ) (kind : packets.PacketKind) (value : ℕ) (types lengths octets : List ℕ) (r : PacketRead) : Type 0 where
+pub record PacketSame (input : List ℕ) (kind : packets.PacketKind) (value : ℕ) (types lengths octets : List ℕ) (r : PacketRead)
+    : Type 0 where
   pub answer : r .reading ≡ packetReading.Packet kind value (length types)
   pub typesSame : typesOf (length types) r ≡ types
   pub lengthsSame : sizesOf (length types) r ≡ lengths
-  pub octetsSame : dataRead s (length types) r ≡ octets
+  pub octetsSame : dataRead input (length types) r ≡ octets
   pub unused : drop (length types) (r .fields) ≡ replicate (fieldsLimit - length types) noField
 
 -- what was written reads back the same (rule 6.24), and what was read as received writes back the same (rule 6.25), in the edition that
@@ -111,10 +114,11 @@ pub record PacketTrips : Type 0 where
       → Puts (packetBy octet kind value types lengths octets) old new w → w ≡ written.Octets n
       → (zeros : ℕ) → n + zeros ≤ packetLimit → {r : PacketRead} → ReadBy octet Repaired (take n new ++ replicate zeros 0) r
       → PacketSame (take n new ++ replicate zeros 0) kind value types lengths octets r
-  pub writesBack : (octet : ℕ) (s : List ℕ) {r : PacketRead} {kind : packets.PacketKind} {value count : ℕ} → Octets s → ReadBy octet Whole s r
+  pub writesBack : (octet : ℕ) (octets : List ℕ) {r : PacketRead} {kind : packets.PacketKind} {value count : ℕ} → Octets octets
+      → ReadBy octet Whole octets r
       → r .reading ≡ packetReading.Packet kind value count → {old new : List ℕ} {w : Written}
-      → Puts (packetBy octet kind value (typesOf count r) (sizesOf count r) (dataRead s count r)) old new w
-      → length s ≤ length old → WrittenBack (length s) s old new w
+      → Puts (packetBy octet kind value (typesOf count r) (sizesOf count r) (dataRead octets count r)) old new w
+      → length octets ≤ length old → WrittenBack (length octets) octets old new w
 
 -- ---- the sending session
 -- the packet at a place of a session's history

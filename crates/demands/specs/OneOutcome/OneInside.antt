@@ -97,10 +97,10 @@ pub record InReceiving : Type 0 where
   pub inRanges : (base : ℕ) (counts : Counts) (t o g : List ℕ) → One (λ (r : Bool). r ≡ lentInRanges (lent base counts t o g))
   pub keep : (note state number : ℕ) (b t o : List ℕ) → MayKeep number 0 t o
       → OneLent (λ (newO newT : List ℕ). Keeps note state number b t o newT newO)
-  pub keepSpares : (number : ℕ) (s : List ℕ) (items : List Part) (count : ℕ) (t o : List ℕ) → MayKeep number count t o
-      → OneLent (λ (newO newT : List ℕ). KeepsSpares number s items count t o newT newO)
-  pub hold : (base d : ℕ) (s : List ℕ) (n : ℕ) (items : List Part) (count : ℕ) (t g : List ℕ) → MayHold base t g d
-      → OneLent (λ (newG newT : List ℕ). Holds base d s n items count t g newT newG)
+  pub keepSpares : (number : ℕ) (octets : List ℕ) (items : List Part) (count : ℕ) (t o : List ℕ) → MayKeep number count t o
+      → OneLent (λ (newO newT : List ℕ). KeepsSpares number octets items count t o newT newO)
+  pub hold : (base d : ℕ) (octets : List ℕ) (n : ℕ) (items : List Part) (count : ℕ) (t g : List ℕ) → MayHold base t g d
+      → OneLent (λ (newG newT : List ℕ). Holds base d octets n items count t g newT newG)
   pub mend : (note base : ℕ) (t o g : List ℕ) → MayMend base t o g
       → OneLent (λ (newO newT : List ℕ). Mends note base t o g newT newO)
   pub leaveCore : {leave : Bool} {room : ℕ} {before after other : Lent} {r q : Released} → Leaves leave room before after r

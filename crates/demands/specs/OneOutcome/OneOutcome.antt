@@ -54,7 +54,7 @@ pub record OneOutcome : Type 0 where
   pub lengths : lengths.OneOutcome
   pub datagrams : datagrams.OneOutcome
   pub packets : packets.OneOutcome
-  pub secondReader : (octet : ℕ) (ending : Ending) (s : List ℕ) → One (ReadBy octet ending s)
+  pub secondReader : (octet : ℕ) (ending : Ending) (octets : List ℕ) → One (ReadBy octet ending octets)
   pub writers : Writers
   pub receiver : sessions.OneOutcome
   pub solver : (s : Session) → One (SolveOwes s)

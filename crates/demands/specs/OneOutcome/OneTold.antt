@@ -129,7 +129,7 @@ pub record ToldByLines : Type 0 where
   pub stepLimit : One (λ (r : ℕ). r ≡ steps.stepLimit)
   pub allDigits : (line : List ℕ) → One (λ (r : Bool). r ≡ hex.allDigits line)
   pub kindOctet : (kind : kinds.ReleaseKind) → One (λ (r : ℕ). r ≡ lines.kindOctet (table.stateOf kind))
-  pub findFeed : (s : List ℕ) → One (Found s)
+  pub findFeed : (octets : List ℕ) → One (Found octets)
 
 -- `frame`: `limit` of `Joiner`
 pub record ToldByFrames : Type 0 where

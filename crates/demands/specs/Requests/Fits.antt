@@ -29,9 +29,9 @@ pub record Fits : Type 0 where
       → length run ≡ sparesLimit * packetLimit → datagramLimit ≤ length old
       → Puts (datagramToWrite number packet kind.Spares (replicate sparesLimit packetLimit) run) old new w → w ≡ written.Octets fullSize
   -- and so is everything else that the datagram writer does not refuse
-  pub room : (number : ℕ) (packet : List ℕ) (kind : Kind) (lengths run : List ℕ) {s old new : List ℕ} {w : Written}
-      → datagramToWrite number packet kind lengths run ≡ done s → datagramLimit ≤ length old
-      → Puts (datagramToWrite number packet kind lengths run) old new w → w ≡ written.Octets (length s)
+  pub room : (number : ℕ) (packet : List ℕ) (kind : Kind) (lengths run : List ℕ) {octets old new : List ℕ} {w : Written}
+      → datagramToWrite number packet kind lengths run ≡ done octets → datagramLimit ≤ length old
+      → Puts (datagramToWrite number packet kind lengths run) old new w → w ≡ written.Octets (length octets)
   -- no datagram that was written is over the limit, neither the datagram writer's nor a send's (rule 1.2)
   pub limited : (number : ℕ) (packet : List ℕ) (kind : Kind) (lengths run : List ℕ) {old new : List ℕ} {w : Written} {n : ℕ}
       → Puts (datagramToWrite number packet kind lengths run) old new w → w ≡ written.Octets n → n ≤ datagramLimit

@@ -16,7 +16,7 @@ pub record SameAnswer (quick second : PacketRead) : Type 0 where
 
 -- what `packet_reader::read` returns, `packet_pencil::read` returns, whichever octet names the edition
 abbrev pub SecondReader : Type 0
-SecondReader = (octet : ℕ) (ending : Ending) (s : List ℕ) (quick second : PacketRead)
-    → ReadBy octet ending s quick
-    → ReadBy octet ending s second
+SecondReader = (octet : ℕ) (ending : Ending) (octets : List ℕ) (quick second : PacketRead)
+    → ReadBy octet ending octets quick
+    → ReadBy octet ending octets second
     → SameAnswer quick second

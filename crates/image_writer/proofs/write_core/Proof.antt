@@ -17,7 +17,7 @@ returns : tie.Need-returns
 returns c =
     let checked = c .before .before in
     let args = checked .before .before .before .before .before .args in
-    let session = lent (args .base) (args .counts) (args .t .now) (args .o .now) (args .g .now) in
+    let session = lent (args .base) (args .counts) (args .table .now) (args .octets .now) (args .messages .now) in
     write-outside session (checked .in-ranges .ensures) (c .new .ensures) (c .before .if1 .taken)
 
 mul-size : tie.Need-mul-size
@@ -31,7 +31,7 @@ rows-size-requires c κs =
     let checked = c .before in
     let start = checked .before .before .before .before .before in
     let args = start .args in
-    let session = lent (args .base) (args .counts) (args .t .now) (args .o .now) (args .g .now) in
+    let session = lent (args .base) (args .counts) (args .table .now) (args .octets .now) (args .messages .now) in
     table-fits session (checked .in-ranges .ensures) (c .if1 .left) (start .pre)
 
 add-size-2 : tie.Need-add-size-2
@@ -46,7 +46,7 @@ returns-2 c =
     let checked = sized .before .before in
     let start = checked .before .before .before .before .before in
     let args = start .args in
-    let session = lent (args .base) (args .counts) (args .t .now) (args .o .now) (args .g .now) in
+    let session = lent (args .base) (args .counts) (args .table .now) (args .octets .now) (args .messages .now) in
     write-full session (checked .in-ranges .ensures) (sized .before .if1 .left)
     (start .pre) (sized .rows-size .ensures) {old = args .out .now} (c .new2 .ensures) (omega (arith, c .before .if2 .taken))
 
@@ -56,7 +56,7 @@ put-first-requires c κs =
     let checked = sized .before .before in
     let start = checked .before .before .before .before .before in
     let args = start .args in
-    let session = lent (args .base) (args .counts) (args .t .now) (args .o .now) (args .g .now) in
+    let session = lent (args .base) (args .counts) (args .table .now) (args .octets .now) (args .messages .now) in
     room-front _ _
     (write-room session (checked .in-ranges .ensures) (sized .before .if1 .left)
     (start .pre) (sized .rows-size .ensures) (c .before .if2 .left))
@@ -68,7 +68,7 @@ put-rows-requires c κs =
     let checked = sized .before .before in
     let start = checked .before .before .before .before .before in
     let args = start .args in
-    let session = lent (args .base) (args .counts) (args .t .now) (args .o .now) (args .g .now) in
+    let session = lent (args .base) (args .counts) (args .table .now) (args .octets .now) (args .messages .now) in
     let pre = start .pre in
     let told = checked .in-ranges .ensures in
     let inside = sized .before .if1 .left in
@@ -86,7 +86,7 @@ returns-3 c =
     let checked = sized .before .before in
     let start = checked .before .before .before .before .before in
     let args = start .args in
-    let session = lent (args .base) (args .counts) (args .t .now) (args .o .now) (args .g .now) in
+    let session = lent (args .base) (args .counts) (args .table .now) (args .octets .now) (args .messages .now) in
     write-done session (checked .in-ranges .ensures) (sized .before .if1 .left)
     (start .pre) (first .put-first .ensures) (rows .put-rows .ensures)
 

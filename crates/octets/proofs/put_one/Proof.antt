@@ -5,11 +5,11 @@ use borrow.Author.Needs.{needs}
 use Rattle.octets.proofs.put_one.Statement.{statement}
 use Rattle.octets.proofs.put_one.Tie as tie
 
-cast-s : tie.Need-cast-s
-cast-s c = search needs
+cast-octets : tie.Need-cast-octets
+cast-octets c = search needs
 
-slice-write-s : tie.Need-slice-write-s
-slice-write-s c = search needs
+slice-write-octets : tie.Need-slice-write-octets
+slice-write-octets c = search needs
 
 same-length : tie.Need-same-length
 same-length c = search needs
@@ -18,4 +18,4 @@ returns : tie.Need-returns
 returns c = spells-one _ _ _ (omega arith) (c .pre .1)
 
 pub put-one-spec : {M : Type 1} → statement M
-put-one-spec = tie.close (tie.spec cast-s slice-write-s same-length returns)
+put-one-spec = tie.close (tie.spec cast-octets slice-write-octets same-length returns)

@@ -19,14 +19,14 @@ mul-at c = search needs
 loop-holds : tie.Need-loop-holds Inv-loop μ-loop
 loop-holds c = search laying-start
 
-shared-slice-read-o : tie.Need-shared-slice-read-o Inv-loop μ-loop
-shared-slice-read-o c = search needs
+shared-slice-read-octets : tie.Need-shared-slice-read-octets Inv-loop μ-loop
+shared-slice-read-octets c = search needs
 
-add-o : tie.Need-add-o Inv-loop μ-loop
-add-o c = search needs
+add-octets : tie.Need-add-octets Inv-loop μ-loop
+add-octets c = search needs
 
-slice-write-o : tie.Need-slice-write-o Inv-loop μ-loop
-slice-write-o c = search needs
+slice-write-octets : tie.Need-slice-write-octets Inv-loop μ-loop
+slice-write-octets c = search needs
 
 add-j : tie.Need-add-j Inv-loop μ-loop
 add-j c = search needs
@@ -51,9 +51,9 @@ put-spec =
     μ-loop
     mul-at
     loop-holds
-    shared-slice-read-o
-    add-o
-    slice-write-o
+    shared-slice-read-octets
+    add-octets
+    slice-write-octets
     add-j
     loop-less
     loop-again

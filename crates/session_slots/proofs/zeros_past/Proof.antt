@@ -23,7 +23,7 @@ part-zeros-in-run-end c = search needs
 zeros-in-run-requires : tie.Need-zeros-in-run-requires
 zeros-in-run-requires c κs =
     let start = c .before .before .before in
-    let o = start .args .o .now in
+    let o = start .args .octets .now in
     let slot = start .args .slot in
     (omega (arith, length-run o slot (start .pre .0)), slot-mask o slot (start .pre .0) (start .pre .1 .1))
 

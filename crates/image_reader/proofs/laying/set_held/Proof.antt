@@ -4,32 +4,32 @@ use borrow.Author.Needs.{needs}
 use Rattle.image_reader.proofs.laying.set_held.Statement.{statement}
 use Rattle.image_reader.proofs.laying.set_held.Tie as tie
 
-add-t : tie.Need-add-t
-add-t c = search needs
+add-table : tie.Need-add-table
+add-table c = search needs
 
-mul-t : tie.Need-mul-t
-mul-t c = search needs
+mul-table : tie.Need-mul-table
+mul-table c = search needs
 
-slice-write-t : tie.Need-slice-write-t
-slice-write-t c = search needs
+slice-write-table : tie.Need-slice-write-table
+slice-write-table c = search needs
 
-add-t-2 : tie.Need-add-t-2
-add-t-2 c = search needs
+add-table-2 : tie.Need-add-table-2
+add-table-2 c = search needs
 
-mul-t-2 : tie.Need-mul-t-2
-mul-t-2 c = search needs
+mul-table-2 : tie.Need-mul-table-2
+mul-table-2 c = search needs
 
-slice-write-t-2 : tie.Need-slice-write-t-2
-slice-write-t-2 c = search second-there
+slice-write-table-2 : tie.Need-slice-write-table-2
+slice-write-table-2 c = search second-there
 
-add-t-3 : tie.Need-add-t-3
-add-t-3 c = search needs
+add-table-3 : tie.Need-add-table-3
+add-table-3 c = search needs
 
-mul-t-3 : tie.Need-mul-t-3
-mul-t-3 c = search needs
+mul-table-3 : tie.Need-mul-table-3
+mul-table-3 c = search needs
 
-slice-write-t-3 : tie.Need-slice-write-t-3
-slice-write-t-3 c = search third-there
+slice-write-table-3 : tie.Need-slice-write-table-3
+slice-write-table-3 c = search third-there
 
 same-length : tie.Need-same-length
 same-length c = search needs
@@ -41,14 +41,14 @@ pub set-held-spec : {M : Type 1} → statement M
 set-held-spec =
     tie.close
     (tie.spec
-    add-t
-    mul-t
-    slice-write-t
-    add-t-2
-    mul-t-2
-    slice-write-t-2
-    add-t-3
-    mul-t-3
-    slice-write-t-3
+    add-table
+    mul-table
+    slice-write-table
+    add-table-2
+    mul-table-2
+    slice-write-table-2
+    add-table-3
+    mul-table-3
+    slice-write-table-3
     same-length
     returns)

@@ -36,9 +36,9 @@ put-item-requires c κs =
     let front = c .before .before .before .before in
     let told = front .before .before .before in
     let start = told .before .before .before .before .before .before in
-    let t = start .args .t .now in
+    let t = start .args .table .now in
     let row = start .args .row in
-    kept-asked t row (start .args .o .now) (c .before .size-at .ensures)
+    kept-asked t row (start .args .octets .now) (c .before .size-at .ensures)
     (front-put t row (told .before .before .state-at .ensures) (told .note-at .ensures) (front .put-digits .ensures))
     (start .pre .0) (start .pre .1 .0) (start .pre .1 .1 .0) (start .pre .1 .1 .1)
 
@@ -52,9 +52,9 @@ returns c =
     let front = size .before .before .before in
     let told = front .before .before .before in
     let start = told .before .before .before .before .before .before in
-    let t = start .args .t .now in
+    let t = start .args .table .now in
     let row = start .args .row in
-    kept-put t row (start .args .o .now) (size .size-at .ensures)
+    kept-put t row (start .args .octets .now) (size .size-at .ensures)
     (front-put t row (told .before .before .state-at .ensures) (told .note-at .ensures) (front .put-digits .ensures))
     (item .put-item .ensures)
 

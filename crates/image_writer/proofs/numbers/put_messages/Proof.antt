@@ -33,7 +33,8 @@ put-item-requires c κs =
     let start = turn .before .before .before .before in
     let more = told .before .loop-test .taken in
     let pre = start .pre in
-    message-asked (start .args .t .now) (start .args .g .now) (start .args .heard) (turn .loop .i) (told .message-size-at .ensures)
+    message-asked (start .args .table .now) (start .args .messages .now) (start .args .heard) (turn .loop .i)
+    (told .message-size-at .ensures)
     (pre .0) (pre .1 .0) (pre .1 .1 .0) (omega arith)
     (going-room (pre .1 .1 .1 .1) (turn .loop .inv) more)
 
@@ -50,7 +51,8 @@ loop-again c =
     let turn = told .before .before in
     let start = turn .before .before .before .before in
     going-turn (turn .loop .inv) (told .before .loop-test .taken)
-    (message-put (start .args .t .now) (start .args .g .now) (start .args .heard) (turn .loop .i) (told .message-size-at .ensures)
+    (message-put (start .args .table .now) (start .args .messages .now) (start .args .heard) (turn .loop .i)
+    (told .message-size-at .ensures)
     (item .put-item .ensures))
 
 same-length : tie.Need-same-length Inv-loop μ-loop

@@ -8,8 +8,10 @@ put-kept-requires : tie.Need-put-kept-requires
 put-kept-requires c κs =
     let start = c .before .before .before .before .before in
     let args = start .args in
-    let pre = start .pre in
-    (pre .0, (pre .1 .0, (pre .1 .1 .1 .0, row-kept (args .t .now) (args .o .now) (args .g .now) (args .row) (pre .1 .1 .1 .1))))
+    let pre = start .pre in (
+      pre .0,
+      (pre .1 .0, (pre .1 .1 .1 .0, row-kept (args .table .now) (args .octets .now) (args .messages .now) (args .row) (pre .1 .1 .1 .1))),
+    )
 
 cast-n : tie.Need-cast-n
 cast-n c = search needs
@@ -25,7 +27,7 @@ put-digits-requires c κs =
     let kept = c .before .before .before .before .before .before in
     let start = kept .before .before .before .before .before .before in
     let args = start .args in
-    row-counts (args .t .now) (args .o .now) (args .g .now) (args .row) (kept .put-kept .ensures) (start .pre .1 .1 .1 .1)
+    row-counts (args .table .now) (args .octets .now) (args .messages .now) (args .row) (kept .put-kept .ensures) (start .pre .1 .1 .1 .1)
 
 put-messages-requires : tie.Need-put-messages-requires
 put-messages-requires c κs =
@@ -35,7 +37,7 @@ put-messages-requires c κs =
     let args = start .args in
     let pre = start .pre in
     let row = pre .1 .1 .1 .0 in
-    let room = row-messages (args .t .now) (args .o .now) (args .g .now) (args .row) (kept .put-kept .ensures)
+    let room = row-messages (args .table .now) (args .octets .now) (args .messages .now) (args .row) (kept .put-kept .ensures)
     (counts .put-digits .ensures) (pre .1 .1 .1 .1) in
     (pre .0, (pre .1 .1 .0, (row .heard, (row .few, room))))
 
@@ -46,7 +48,8 @@ end-line-requires c κs =
     let kept = counts .before .before .before .before .before .before .before in
     let start = kept .before .before .before .before .before .before in
     let args = start .args in
-    row-feed (args .t .now) (args .o .now) (args .g .now) (args .row) (kept .put-kept .ensures) (counts .put-digits .ensures)
+    row-feed (args .table .now) (args .octets .now) (args .messages .now) (args .row) (kept .put-kept .ensures)
+    (counts .put-digits .ensures)
     (messages .put-messages .ensures) (start .pre .1 .1 .1 .1)
 
 same-length : tie.Need-same-length
@@ -59,7 +62,7 @@ returns c =
     let counts = messages .before .before .before .before in
     let kept = counts .before .before .before .before .before .before .before in
     let args = kept .before .before .before .before .before .before .args in
-    row-put (args .t .now) (args .o .now) (args .g .now) (args .row) (kept .put-kept .ensures) (counts .put-digits .ensures)
+    row-put (args .table .now) (args .octets .now) (args .messages .now) (args .row) (kept .put-kept .ensures) (counts .put-digits .ensures)
     (messages .put-messages .ensures) (feed .end-line .ensures)
 
 pub put-row-spec : {M : Type 1} → statement M

@@ -28,7 +28,7 @@ put-row-requires c κs =
     let pre = start .pre in
     let room = going-room (pre .1 .1 .1) (turn .loop .inv) (told .before .loop-test .taken) in
     let row = told .row-at .ensures in
-    (pre .0, (pre .1 .0, (pre .1 .1 .0, (row .fits, told-room row (start .args .o .now) (start .args .g .now) room))))
+    (pre .0, (pre .1 .0, (pre .1 .1 .0, (row .fits, told-room row (start .args .octets .now) (start .args .messages .now) room))))
 
 add-p : tie.Need-add-p Inv-loop μ-loop
 add-p c = search needs
@@ -43,7 +43,7 @@ loop-again c =
     let turn = told .before .before in
     let args = turn .before .before .before .before .before .args in
     going-turn (turn .loop .inv) (told .before .loop-test .taken)
-    (told-put (told .row-at .ensures) (args .o .now) (args .g .now) (put .put-row .ensures))
+    (told-put (told .row-at .ensures) (args .octets .now) (args .messages .now) (put .put-row .ensures))
 
 same-length : tie.Need-same-length Inv-loop μ-loop
 same-length c = c .before .loop .inv .long

@@ -36,7 +36,7 @@ item-size-requires c κs =
     let turn = c .before .before in
     let start = turn .before .before in
     let pre = start .pre in
-    let short = message-short (start .args .t .now) (start .args .heard) (turn .loop .i) (pre .0) (pre .1 .0) (omega arith)
+    let short = message-short (start .args .table .now) (start .args .heard) (turn .loop .i) (pre .0) (pre .1 .0) (omega arith)
     (c .message-size-at .ensures) in
     omega arith
 
@@ -44,7 +44,7 @@ mul-size : tie.Need-mul-size Inv-loop μ-loop
 mul-size c =
     let turn = c .before .before .before in
     let start = turn .before .before in
-    let told = message-told (start .args .t .now) (start .args .heard) (turn .loop .i) (start .pre .0) (start .pre .1 .0) (omega arith)
+    let told = message-told (start .args .table .now) (start .args .heard) (turn .loop .i) (start .pre .0) (start .pre .1 .0) (omega arith)
     (c .before .message-size-at .ensures) (c .item-size .ensures) in
     omega (arith, told .few)
 
@@ -52,7 +52,7 @@ add-size : tie.Need-add-size Inv-loop μ-loop
 add-size c =
     let turn = c .before .before .before in
     let start = turn .before .before in
-    let told = message-told (start .args .t .now) (start .args .heard) (turn .loop .i) (start .pre .0) (start .pre .1 .0) (omega arith)
+    let told = message-told (start .args .table .now) (start .args .heard) (turn .loop .i) (start .pre .0) (start .pre .1 .0) (omega arith)
     (c .before .message-size-at .ensures) (c .item-size .ensures) in
     omega (arith, told .few, turn .loop .inv .few)
 
@@ -66,7 +66,7 @@ loop-again : tie.Need-loop-again Inv-loop μ-loop
 loop-again c =
     let turn = c .before .before .before in
     let start = turn .before .before in
-    let told = message-told (start .args .t .now) (start .args .heard) (turn .loop .i) (start .pre .0) (start .pre .1 .0) (omega arith)
+    let told = message-told (start .args .table .now) (start .args .heard) (turn .loop .i) (start .pre .0) (start .pre .1 .0) (omega arith)
     (c .before .message-size-at .ensures) (c .item-size .ensures) in
     counted-turn (turn .loop .inv) (c .before .before .loop-test .taken) told
 

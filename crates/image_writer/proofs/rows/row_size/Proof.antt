@@ -11,7 +11,7 @@ size-at-requires c κs = search needs
 item-size-requires : tie.Need-item-size-requires
 item-size-requires c κs =
     let start = c .before .before in
-    let short = packet-short (start .args .t .now) (start .args .row) (start .pre .0) (start .pre .1) (c .size-at .ensures) in
+    let short = packet-short (start .args .table .now) (start .args .row) (start .pre .0) (start .pre .1) (c .size-at .ensures) in
     omega arith
 
 messages-size-requires : tie.Need-messages-size-requires
@@ -21,7 +21,7 @@ add-result : tie.Need-add-result
 add-result c =
     let item = c .before in
     let start = item .before .before .before in
-    let few = packet-few (start .args .t .now) (start .args .row) (start .pre .0) (start .pre .1) (item .before .size-at .ensures)
+    let few = packet-few (start .args .table .now) (start .args .row) (start .pre .0) (start .pre .1) (item .before .size-at .ensures)
     (item .item-size .ensures) in
     omega arith
 
@@ -29,7 +29,7 @@ mul-result : tie.Need-mul-result
 mul-result c =
     let item = c .before in
     let start = item .before .before .before in
-    let few = packet-few (start .args .t .now) (start .args .row) (start .pre .0) (start .pre .1) (item .before .size-at .ensures)
+    let few = packet-few (start .args .table .now) (start .args .row) (start .pre .0) (start .pre .1) (item .before .size-at .ensures)
     (item .item-size .ensures) in
     omega arith
 
@@ -37,7 +37,7 @@ add-result-2 : tie.Need-add-result-2
 add-result-2 c =
     let item = c .before in
     let start = item .before .before .before in
-    let few = packet-few (start .args .t .now) (start .args .row) (start .pre .0) (start .pre .1) (item .before .size-at .ensures)
+    let few = packet-few (start .args .table .now) (start .args .row) (start .pre .0) (start .pre .1) (item .before .size-at .ensures)
     (item .item-size .ensures) in
     omega arith
 
@@ -45,7 +45,7 @@ add-result-3 : tie.Need-add-result-3
 add-result-3 c =
     let item = c .before in
     let start = item .before .before .before in
-    let few = packet-few (start .args .t .now) (start .args .row) (start .pre .0) (start .pre .1) (item .before .size-at .ensures)
+    let few = packet-few (start .args .table .now) (start .args .row) (start .pre .0) (start .pre .1) (item .before .size-at .ensures)
     (item .item-size .ensures) in
     omega (arith, c .messages-size .ensures .few)
 
@@ -53,7 +53,7 @@ returns : tie.Need-returns
 returns c =
     let item = c .before in
     let start = item .before .before .before in
-    row-told (start .args .t .now) (start .args .row) (start .pre .0) (start .pre .1) (item .before .size-at .ensures)
+    row-told (start .args .table .now) (start .args .row) (start .pre .0) (start .pre .1) (item .before .size-at .ensures)
     (item .item-size .ensures) (c .messages-size .ensures)
 
 pub row-size-spec : {M : Type 1} → statement M

@@ -43,7 +43,7 @@ write-next-requires c κs =
     let numbered = counted .before .before in
     let second = numbered .before .before .before in
     let start = second .before .before .before .before .before .before .before in
-    held-asked (start .args .settings) (start .args .sent) (start .args .packet .now) (start .args .sizes .now) (start .args .o .now)
+    held-asked (start .args .settings) (start .args .sent) (start .args .packet .now) (start .args .sizes .now) (start .args .octets .now)
     (start .pre) (second .before .settings-inside .ensures) (second .if2 .left) (numbered .before .before .packet-inside .ensures)
     (numbered .before .if3 .left) (counted .before .kind-of .ensures) (counted .count-of .ensures)
 

@@ -32,7 +32,7 @@ asked-requires c κs =
         (
           omega (arith, start .pre .1),
           (
-            index-there (start .args .base) (now (start .args .t)) (start .pre .1) refl refl refl (number .wrapping-add-u16 .ensures)
+            index-there (start .args .base) (now (start .args .table)) (start .pre .1) refl refl refl (number .wrapping-add-u16 .ensures)
                 (slot .heard-slot .ensures)
                 (count .m-at .ensures)
                 (c .if1 .taken),
