@@ -1,5 +1,5 @@
 #!/usr/bin/env python3
-# check: behind
+# check: after
 # self-test: beside
 # needs: compare
 # arguments: --compare ./compare --program 'bin/run compare'

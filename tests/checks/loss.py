@@ -1,5 +1,5 @@
 #!/usr/bin/env python3
-# check: behind
+# check: after
 # self-test: beside
 # needs: receive replay calls
 # arguments: --receive 'bin/run receive' --replay 'bin/run replay' --calls 'bin/run calls'

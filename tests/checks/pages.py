@@ -1,5 +1,5 @@
 #!/usr/bin/env python3
-# check: behind
+# check: after
 # self-test: beside
 # needs: receive explain notes replay handover compare calls host
 # says: a command that a page shows fails, or prints something else than the page shows

@@ -42,7 +42,7 @@ fn read_text(path: &[u8], text: &mut [u8]) -> usize {
     if more > 0 {
         say(b"compare: ");
         say(path);
-        say(b" is longer than 512 lines can be\n");
+        say(b" is too long: it may have 512 lines\n");
         return NONE;
     }
     size

@@ -19,7 +19,7 @@ fn say_meaning(number: u8) {
         return say(b", a session outside its ranges\n");
     }
     if number == Refusal::OTHER_EDITION {
-        return say(b", an image of an edition that is not known here\n");
+        return say(b", an image of a version that is not known here\n");
     }
     say(b", a line is missing, extra or misshapen\n")
 }

@@ -75,7 +75,7 @@ fn number_at(at: usize) -> u32 {
         }
         say(b"replay: ");
         say(&text[..size]);
-        say(b" is no number to drop: 0 to 65535 in decimal, or 0x and hexadecimal digits\n");
+        say(b" is not a number to drop: 0 to 65535 in decimal, or 0x and hexadecimal digits\n");
         return NO_NUMBER;
     }
     say(b"replay: an argument is too long for a number\n");

@@ -15,7 +15,7 @@ use telling::say;
 fn usage() {
     say(
         b"usage: replay TRACE NUMBER..
-TRACE is a file of lines in hexadecimal, one datagram a line, an empty line a give-up;
+TRACE is a file of lines in hexadecimal, one datagram a line; an empty line gives up a number
 NUMBER is a datagram's number to drop, 0 to 65535 in decimal, or 0x and hexadecimal digits
 ",
     );
