@@ -4,8 +4,8 @@
 # needs: host
 # says: a program over the C interface answers otherwise, or a sheet is booked wrongly
 """The library in C programs (rules 24.1 to 24.17): builds it and them, and compares each program over the header with the independent
-program, on every stored and generated input; then some sheets of bin/thousand, the gateway, the header in C99, and the version where it is
-named."""
+program, on every stored and generated input; then some sheets of bin/thousand, the policy and the gateway over it, the stack that each call
+needs, the header in C99, its names, and the version where it is named."""
 
 import argparse
 import functools
@@ -21,13 +21,14 @@ import tempfile
 
 sys.path[0] = str(pathlib.Path(__file__).resolve().parents[1])  # the folder tests/
 
-from mutants.header import HEADER_EDITS, MISTAKES
+from mutants.header import HEADER_EDITS, MISTAKES, NO_HEADERS, POLICY_EDITS
 from support.c_tools import native, toolchain, tools
 from support.comparing import Failed, compare_calls, compare_program, comparisons
 from support.failing import Cases, altered, independent
 from support.missing import of_machines
-from support.packaged import VERSIONS, header_compiles, library_is_plain, numbers_agree, one_version
+from support.packaged import VERSIONS, header_compiles, installed, library_is_plain, named, numbers_agree, one_version
 from support.places import BIN, CORPUS, TESTS, TOP
+from support.policies import build_policy, compiled, edited
 from support.running import expected_answers, lines_of, run, text_of
 
 RUN = shlex.quote(str(BIN / 'run-host'))
@@ -41,10 +42,14 @@ PROGRAMS = (
     ('joiner', ('',), (0x30, 0x31, 0x32, 0x33, 0x34), (*SCRIPTS, 'calls on the joiner ')),
     ('sessions', ('', ' unchecked'), (0x10, 0x11, 0x12, 0x14, 0x16, 0x18, 0x19, 0x1A, 0x20, 0x21, 0x22), ('stored ', 'images of seed 0')),
 )
-ALONE = ('full',)  # C programs of host/ that look at their answers themselves
+ALONE = ('full', 'edges', 'stack')  # C programs of host/ that look at their answers themselves
 THOUSAND = '%s %%d 1 2>/dev/null' % shlex.quote(str(BIN / 'thousand'))
 SHEETS, LONG_SHEETS = 40, 1000
-GATEWAY = (('-n 30 -t 1 -w 30 -l 20 -r 20 -k 3', 30), ('-n 50 -t 1 -w 30 -l 30 -r 20 -p 3,2', 50))
+# Switches of the gateway, how many packets each end then sends, and what each end must say once.
+GATEWAY = (('-n 30 -t 1 -w 30 -l 20 -r 20 -k 3', 30, ()), ('-n 50 -t 1 -w 30 -l 30 -r 20 -p 3,2', 50, ()),
+           ('-n 250 -t 1 -w 30 -l 0 -r 0 -b 150 -i 100', 250,
+            ('the peer began again', 'the session moved', "frame 'line 124 of the page", 'frames 125')))
+NO_SWITCHES = '-n x', '-n 0', '-l 500', '-k 9', '-p 3', '-p 3,5', '-w -1', '-n 9x', 'more'
 COUNTS = re.compile(r'^(east|west): received (\d+), spare (\d+), repaired (\d+), lost (\d+),', re.MULTILINE)
 
 
@@ -92,6 +97,8 @@ def sheets_booked(command):
     said = written.decode().splitlines()
     if remark or said[-1:] != ['0 booked wrongly']:
         raise Failed('sheets: %s; %s' % (remark, ''.join(said[-1:])))
+    if re.search(r' 0\b', said[2]):
+        raise Failed('sheets: a refusal is not met; %s' % said[2])
     return ', '.join(' '.join(pair) for pair in zip(said[0].split(), said[1].split()))
 
 
@@ -104,16 +111,36 @@ def right_alone(command):
     return last
 
 
-def page_sent(command, packets):
-    """Two ends have each sent the other that many packets; each number has left."""
+def page_sent(command, packets, said=()):
+    """Two ends have each sent the other that many packets; each number has left, and each end has said these words once."""
     written, remark = run(command, b'')
     found = COUNTS.findall(written.decode())
     if remark or [name for name, *_ in found] != ['east', 'west']:
         raise Failed('gateway: it does not end with a line for each end; %s' % remark)
+    for words in said:
+        if written.decode().count(words) != 2:
+            raise Failed("gateway: it says '%s' %d times" % (words, written.decode().count(words)))
     for name, *counts in found:
         if sum(map(int, counts)) != packets:
             raise Failed('gateway: %d of %d packets have left at the end %s' % (sum(map(int, counts)), packets, name))
     return '; '.join('%s received %s, spare %s, repaired %s, lost %s' % counts for counts in found)
+
+
+def switches_refused(command):
+    """What is no number, or outside its range, is answered with the usage and status 2."""
+    for switches in NO_SWITCHES:
+        ran = subprocess.run('%s %s' % (command, switches), shell=True, stdout=subprocess.PIPE, stderr=subprocess.PIPE)
+        if ran.returncode != 2 or not ran.stderr.startswith(b'usage: '):
+            raise Failed('gateway: %s is taken, or ends with status %d' % (switches, ran.returncode))
+    return '%d refused' % len(NO_SWITCHES)
+
+
+def over_symbols():
+    """The calls as functions of the library, which other languages link with: host/receive.c, with no call inline."""
+    status, words = compiled('tests/host/receive.c', 'symbols', ['-O0', '-DTBX_CALL=extern __inline __attribute__((gnu_inline))'])
+    if status:
+        raise Failed('symbols: %s' % words)
+    return compared([RUN + ' symbols', RUN + ' symbols unchecked'], (), ('stored star', 'stored r'))
 
 
 def checks(run_by, long=False):
@@ -122,14 +149,18 @@ def checks(run_by, long=False):
     yield 'sizes and refusals', numbers_agree
     yield 'the header compiles', header_compiles
     yield 'the library has no variables', library_is_plain
+    yield 'the names', lambda: named('%s edges names' % run_by)
+    yield 'make install', installed
     for program, arguments, calls, beginnings in PROGRAMS:
         given = calls, LONG + tuple(beginnings) if long and calls else beginnings
         yield program, lambda p=program, a=arguments, g=given: compared(['%s %s%s' % (run_by, p, each) for each in a], *g)
-    for name in ALONE:
+    yield 'the calls as functions of the library', over_symbols
+    for name in (*ALONE, 'policy'):
         yield name, lambda n=name: right_alone('%s %s' % (run_by, n))
     yield 'sheets', lambda: sheets_booked(THOUSAND % (LONG_SHEETS if long else SHEETS))
-    for switches, packets in GATEWAY:
-        yield 'gateway ' + switches, lambda s=switches, p=packets: page_sent('%s gateway %s' % (run_by, s), p)
+    yield 'gateway, wrong switches', lambda: switches_refused('%s gateway' % run_by)
+    for switches, *owed in GATEWAY:
+        yield 'gateway ' + switches, lambda s=switches, o=owed: page_sent('%s gateway %s' % (run_by, s), *o)
 
 
 def build(*sources, **settings):
@@ -143,18 +174,34 @@ def build_all():
     """The same with every program."""
     names = ('thousand', *ALONE, *(row[0] for row in PROGRAMS))
     build('examples/gateway.c', 'gateway', *(word for name in names for word in ('tests/host/%s.c' % name, name)))
+    build('tests/host/policy.c', 'policy', CFLAGS='-O2 -Iexamples')
 
 
-def over_wrong_header(program, old, new):
-    """A program over a header with an edit, on the stored inputs."""
-    with tempfile.TemporaryDirectory() as directory:
-        text = (TOP / 'include/tubarexi.h').read_text()
-        if old not in text:
-            sys.exit('the header has no %s' % old)
-        pathlib.Path(directory, 'tubarexi.h').write_text(text.replace(old, new))
-        build('tests/host/%s.c' % program, 'wrong', HEADERS=directory, CFLAGS='-O1 -Wno-error -w')
-    calls = next(row[2] for row in PROGRAMS if row[0] == program)
-    compared([RUN + ' wrong'], calls, ('stored star', 'stored r'))
+def over_wrong_header(program, call, old, new):
+    """A program over a header with an edit in one place, on the stored inputs, if it takes any."""
+    text = edited((TOP / 'include/tubarexi.h').read_text(), old, new, call)
+    status, words = compiled('tests/host/%s.c' % program, 'wrong', tubarexi=text)
+    if status:
+        sys.exit(words)
+    if program in ALONE:
+        right_alone(RUN + ' wrong')
+    else:
+        arguments, calls = next(row[1:3] for row in PROGRAMS if row[0] == program)
+        compared([RUN + ' wrong' + each for each in arguments], calls, ('stored star', 'stored r'))
+
+
+def linked(library, old='', new=''):
+    """A program links with the library, over the header with an edit."""
+    text = (TOP / 'include/tubarexi.h').read_text()
+    status, words = compiled('tests/host/receive.c', 'wrong', library=library, tubarexi=edited(text, old, new) if old else text)
+    if status:
+        raise Failed(words)
+
+
+def over_wrong_policy(*edit):
+    """The scenes of host/policy.c over a policy with an edit."""
+    build_policy('wrong', edit)
+    right_alone(RUN + ' wrong')
 
 
 def module_of(name):
@@ -176,7 +223,13 @@ def self_test():
     for how in ('11 -1', '12 -1', '14 9', '21 -1'):
         test.fails('wrong calls, ' + how, 'differs stored', compared, [altered('calls ' + how)], calls, stored)
     for program, name, *edit in HEADER_EDITS:
-        test.fails('header, ' + name, 'differs stored', over_wrong_header, program, *edit)
+        words = 'status ' if program in ALONE else 'differs stored'
+        test.fails('header, ' + name, words, over_wrong_header, program, *edit)
+    for name, old, new, words in NO_HEADERS:
+        test.fails('header, ' + name, words, linked, TOP / 'target/host/libtubarexi.a', old, new)
+    test.fails('a library of another layout', 'tbx_layout_', linked, TOP / 'target/host/proved.a')
+    for name, *edit in POLICY_EDITS:
+        test.fails('policy, ' + name, 'differs: ', over_wrong_policy, *edit)
     corpus = 'cat %s/*.[ab]2[ab].hex' % shlex.quote(str(CORPUS))
     for mistake in MISTAKES:
         test.fails('sheets, ' + mistake, ' booked wrongly', sheets_booked, '%s | %s thousand 10 1 %s 2>/dev/null' % (corpus, RUN, mistake))
@@ -190,6 +243,10 @@ def self_test():
                                  ('a packet less', '9 of 10 packets have left at the end west', said % ('west', 3)),
                                  ('status 3', 'a line for each end; status 3', said % ('west', 4) + '; exit 3')):
         test.fails('gateway, ' + name, words, page_sent, command, 10)
+    test.fails('gateway, words said once', "it says 'west' 1 times", page_sent, said % ('west', 4), 10, ['west'])
+    test.fails('gateway, a wrong switch taken', 'gateway: -n x is taken', switches_refused, 'true')
+    test.fails('names, another one', 'names: of indicator', named, RUN + ' edges names | sed s/cng/ced/')
+    test.fails('names, a refusal twice', 'names: of refusals', named, RUN + " edges names | sed 's/refusal 9 .*/refusal 9 no refusal/'")
     with tempfile.TemporaryDirectory() as directory:
         top = pathlib.Path(directory)
         (top / 'include').mkdir()
@@ -212,6 +269,9 @@ def self_test():
             test.fails('a library with ' + name, 'library: ' + words, library_is_plain, top / 'made.o')
         test.fails('no library', 'library: ', library_is_plain, top / 'nowhere')
         test.fails('a header with a warning', 'header: as c99 it does not compile', header_compiles, header.parent)
+        header.write_text(edited(right, 'tbx_packet_write(enum tbx_edition edition, enum tbx_packet_kind kind,',
+                                 'tbx_packet_write(unsigned edition, unsigned kind,'))
+        test.fails('a header that takes numbers', 'header: as c99 it compiles with TBX_DATA, ', header_compiles, header.parent)
     measure = module_of('host/measure')
     test.passes('the goal met', measure.held_to_goal, 1.5)
     test.fails('the goal missed', 'worst 1.51 of C, goal 1.5', measure.held_to_goal, 1.51)
@@ -230,7 +290,8 @@ def main():
     tools('cc', 'nm')
     if not native():
         toolchain()
-    build_all()
+    if arguments.run == RUN:
+        build_all()
     if arguments.self_test:
         self_test()
         return

@@ -8,7 +8,7 @@
 #include <string.h>
 
 static tbx_session session, other, before;
-static uint8_t text[TBX_IMAGE_LIMIT + 1], kept[sizeof text];
+static char text[TBX_IMAGE_LIMIT + 1], kept[sizeof text];
 static int passed;
 
 static void expect(const char *what, bool right)
@@ -60,7 +60,7 @@ int main(void)
     tbx_fresh(&session);
     expect("nothing to solve", tbx_solve(&session) == 0);
     for (int i = 0; i < TBX_HEARD; i++) offer(i);
-    for (int i = 0; i < TBX_HEARD; i++) expect("a release", tbx_release(&session, false, text, sizeof text, &left) == 0);
+    for (int i = 0; i < TBX_HEARD; i++) expect("a release", tbx_release(&session, false, (uint8_t *)text, sizeof text, &left) == 0);
     for (int i = TBX_HEARD; i < TBX_KEPT; i++) offer(i);
     before = session;
     expect("messages that do not fit", tbx_solve(&session) == TBX_NO_SOLUTION && same(&session, &before));
@@ -71,7 +71,7 @@ int main(void)
     expect("one too few", tbx_image_write(&session, text, TBX_IMAGE_LIMIT - 1, &written) == TBX_NO_ROOM && written == 0);
     expect("a refusal that writes", !memcmp(text, kept, sizeof text));
     expect("room for every image", tbx_image_write(&session, text, sizeof text, &written) == 0 && written == TBX_IMAGE_LIMIT);
-    expect("the rest of the buffer", text[TBX_IMAGE_LIMIT] == 0xA5 && text[TBX_IMAGE_LIMIT - 1] == '\n' && same(&session, &before));
+    expect("the rest of the buffer", text[TBX_IMAGE_LIMIT] == (char)0xA5 && text[TBX_IMAGE_LIMIT - 1] == '\n' && same(&session, &before));
 
     memset(&other, 0xA5, sizeof other);
     expect("no session written", tbx_image_write(&other, kept, sizeof kept, &written) == TBX_OUTSIDE_RANGES && written == 0);

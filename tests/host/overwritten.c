@@ -47,7 +47,8 @@ static void refuse_no_sender(const uint8_t *packet, size_t count, bool parity, u
     turn++;
     broken = sender;
     broken.sizes[slot] = (uint16_t)value;
-    int why = tbx_send(&broken, packet, count, parity, (uint8_t)items, (uint8_t)n, lent, room, &written);
+    int why = parity ? tbx_send_parity(&broken, packet, count, n, items, lent, room, &written)
+                     : tbx_send_spares(&broken, packet, count, items, lent, room, &written);
     bool left = broken.sent == sender.sent && broken.sizes[slot] == value && !memcmp(broken.octets, sender.octets, sizeof sender.octets);
     if (why != TBX_OUTSIDE_RANGES || written || !left || tbx_sender_in_ranges(&broken) || lent[0] != FILLING)
         printf("no sender, and taken: ");
@@ -81,7 +82,9 @@ static void send(void)
     bool parity = kind == 0x80;
     unsigned items = parity ? b : a;
     refuse_no_sender(packet, count, parity, items, a, room);
-    if (answered(tbx_send(&sender, packet, count, parity, (uint8_t)items, (uint8_t)a, lent, room, &written), 0)) put(written, 2);
+    int why = parity ? tbx_send_parity(&sender, packet, count, a, b, lent, room, &written)
+                     : tbx_send_spares(&sender, packet, count, a, lent, room, &written);
+    if (answered(why, 0)) put(written, 2);
     put_octets(lent, room);
 }
 
@@ -146,7 +149,7 @@ static void again_and_again(bool sends)
     else tbx_fresh(&session);
     if (times > TBX_NUMBERS) times = TBX_NUMBERS;
     while (times-- > 0)
-        if (sends ? tbx_send_unchecked(&sender, packet, 1, false, 0, 0, lent, sizeof lent, &written)
+        if (sends ? tbx_send_spares_unchecked(&sender, packet, 1, 0, lent, sizeof lent, &written)
                   : tbx_release_unchecked(&session, true, lent, sizeof lent, &left)) break;
     put(0, 1);
 }

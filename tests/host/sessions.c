@@ -67,7 +67,7 @@ static bool image_write(void)
 {
     size_t written, room = number(4);
     if (at != size || room > ROOM_LIMIT) return false;
-    int why = tbx_image_write(&session, out, room, &written);
+    int why = tbx_image_write(&session, (char *)out, room, &written);
     wrote(why, written, 4, room);
     return true;
 }
@@ -75,7 +75,7 @@ static bool image_write(void)
 static bool image_read(void)
 {
     size_t count = size - at;
-    answered(tbx_image_read(&session, octets(count), count), 0);
+    answered(tbx_image_read(&session, (const char *)octets(count), count), 0);
     return true;
 }
 
@@ -95,8 +95,9 @@ static bool send(void)
     size_t room = number(2);
     bool parity = kind == 0x80;
     if (at != size || room > SHORT_ROOM_LIMIT || kind & 0x7F || (!parity && b)) return false;
-    uint8_t items = (uint8_t)(parity ? b : a);
-    int why = (checked ? tbx_send : tbx_send_unchecked)(&sender, packet, count, parity, items, (uint8_t)a, out, room, &written);
+    unsigned first = (unsigned)a, second = (unsigned)b;
+    int why = parity ? (checked ? tbx_send_parity : tbx_send_parity_unchecked)(&sender, packet, count, first, second, out, room, &written)
+                     : (checked ? tbx_send_spares : tbx_send_spares_unchecked)(&sender, packet, count, first, out, room, &written);
     wrote(why, written, 2, room);
     return true;
 }
@@ -107,7 +108,7 @@ static bool send_on(void)
     unsigned long times = number(4);
     size_t written;
     if (at != size) return false;
-    for (tbx_sender_fresh(&sender); times && !tbx_send_unchecked(&sender, packet, 1, false, 0, 0, out, sizeof out, &written); times--) {}
+    for (tbx_sender_fresh(&sender); times && !tbx_send_spares_unchecked(&sender, packet, 1, 0, out, sizeof out, &written); times--) {}
     return answered(0, 0);
 }
 

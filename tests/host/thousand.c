@@ -9,7 +9,7 @@
 #include <stdlib.h>
 #include <time.h>
 
-enum { CORPUS = 4096, RING = 256, PATIENCE = 24, UNKNOWN = TBX_LOST };
+enum { CORPUS = 4096, RING = 256, UNKNOWN = TBX_LOST };
 
 typedef struct { size_t size; uint8_t octets[TBX_PACKET_LIMIT]; } packet;
 
@@ -22,6 +22,7 @@ static tbx_session session;
 static tbx_sender sender;
 static sent_packet ring[RING];
 static unsigned long now, sent, booked, burst; /* in this call: ticks, packets sent, numbers that left; datagrams still to be lost */
+static unsigned long patience; /* how many ticks a number is waited for: in some sheets longer than the window lasts (refusal 8) */
 static unsigned long numbers, kinds[4], refusals[32], dropped, wrong;
 static const char *mistake = "";
 
@@ -67,13 +68,13 @@ static int release_one(bool skip, uint8_t *out, tbx_number *left)
     return 0;
 }
 
-/* Releases what is known, and skips an unknown number that was sent more than PATIENCE ticks ago. */
+/* Releases what is known, and skips an unknown number that was sent more than `patience` ticks ago. */
 static void release(void)
 {
     uint8_t out[TBX_PACKET_LIMIT];
     tbx_number left;
     while (booked < sent) {
-        bool skip = now > booked + PATIENCE;
+        bool skip = now > booked + patience;
         int why = release_one(skip, out, &left);
         must(why ? why == TBX_BASE_UNKNOWN && !skip && ring[booked % RING].kind == UNKNOWN : right(&left, out));
         if (why) return;
@@ -154,7 +155,8 @@ static void send_packet(const packet *p, bool parity, unsigned count, unsigned n
     uint8_t octets[TBX_DATAGRAM_LIMIT];
     size_t size;
     ring[sent % RING] = (sent_packet){ .is = *p, .parity = parity, .count = count, .n = n, .kind = UNKNOWN };
-    must(!tbx_send(&sender, p->octets, p->size, parity, (uint8_t)count, (uint8_t)n, octets, sizeof octets, &size));
+    must(!(parity ? tbx_send_parity(&sender, p->octets, p->size, n, count, octets, sizeof octets, &size)
+                  : tbx_send_spares(&sender, p->octets, p->size, count, octets, sizeof octets, &size)));
     if (!burst && !chance(25)) burst = 1 + chance(chance(12) ? 4 : 40);
     if (burst) burst--;
     else {
@@ -170,6 +172,7 @@ static void send_sheet(void)
     size_t from = chance((unsigned)corpus_count), count = 200 + chance(600);
     bool parity = chance(2);
     unsigned items = parity ? 1 + chance(4) : chance(9), n = 1 + chance(8);
+    patience = chance(8) ? 24 : TBX_HEARD + 16;
     for (size_t i = 0; i < count; i++) {
         packet p = corpus[(from + i) % corpus_count];
         if (p.size > 8) p.octets[8 + chance((unsigned)p.size - 8)] ^= (uint8_t)chance(256);

@@ -17,7 +17,7 @@ version) echo "$RT_VERSION"; exit "${RT_STATUS:-0}" ;;
 staticlib) mkdir -p target/staticlib && echo "$RT_VERSION" >target/staticlib/libhost.a ;;
 esac
 '''
-NEEDED = 'awk', 'cat', 'cp', 'dirname', 'find', 'flock', 'grep', 'mkdir', 'readlink', 'sed', 'sh', 'sha256sum', 'sort', 'xargs'
+NEEDED = 'awk', 'cat', 'cp', 'dirname', 'find', 'flock', 'grep', 'mkdir', 'mv', 'readlink', 'sed', 'sh', 'sha256sum', 'sort', 'xargs'
 
 
 class Machine:
@@ -89,7 +89,7 @@ def of_toolchain(test, top):
 
 def of_scripts(test, top):
     """Without the toolchain nothing is called not proved: a library that is built is taken, everything else says what is missing."""
-    without, with_rt = Machine(top, 'x86_64'), Machine(top, 'x86_64', rt=RT)
+    without, with_rt = Machine(top, 'x86_64'), Machine(top, 'x86_64', rt=RT, gcc=COMPILER % ('x86_64', 0), ar='')
     none = 'no Rattle toolchain is here: rt is not in PATH\n'
     test.ends('run without rt', 4, 'run: ' + none, [str(BIN / 'run'), str(BIN / 'run')], env=without.environment)
     test.ends('prove without rt', 4, 'receive: ' + none, [str(BIN / 'prove'), 'receive'], env=without.environment)
@@ -97,8 +97,8 @@ def of_scripts(test, top):
               [sys.executable, str(TESTS / 'host/measure')], env=without.environment)
     for name in ('build-host', 'c-tools'):
         shutil.copy(BIN / name, top / 'bin' / name)
-    (top / 'crates').mkdir()
-    for name in ('crates.txt', 'crates/one'):
+    (top / 'crates').mkdir(), (top / 'include').mkdir()
+    for name in ('crates.txt', 'crates/one', 'include/tubarexi.c', 'include/tubarexi.h'):
         (top / name).write_text('')
     command, needed = ['bin/build-host'], 'host: rt is not in PATH: the Rattle toolchain is needed to prove and build libtubarexi.a\n'
     test.ends('build, nothing there, without rt', 4, needed, command, cwd=top, env=without.environment)
